@@ -1,0 +1,23 @@
+-- A circuit's graph. A circuit is given by how many nodes it has and by two parallel lists, the link starts and the link ends.
+use mathlib.Core.Bool.{Bool, true, false, _&&_, _||_}
+use mathlib.Core.List.{List, [], _∷_}
+use mathlib.Core.Path.{_≡_}
+use Prim.Native.Nat.{ℕ, _<_}
+use lib.Dec.{eqb}
+use lib.ListN.{length, getD}
+use Rattle.graph.specs.Graph.{Graph}
+
+-- The i-th link goes from the i-th start to the i-th end.
+pub record LinkAt (starts ends : List ℕ) (v w i : ℕ) : Type 0 where
+  pub inStarts : i < length starts
+  pub inEnds : i < length ends
+  pub start : getD starts i 0 ≡ v
+  pub end : getD ends i 0 ≡ w
+
+-- "A link goes from one node to another or to itself, from what drives to what is driven."
+unfoldable pub HasLink : List ℕ → List ℕ → ℕ → ℕ → Type 0
+HasLink starts ends v w = (i : ℕ) × LinkAt starts ends v w i
+
+-- "A circuit has N nodes, numbered from 0, .. and M links."
+unfoldable pub graphOf : ℕ → List ℕ → List ℕ → Graph
+graphOf n starts ends = record { Node = λ v. v < n; Link = HasLink starts ends }

@@ -1,0 +1,4 @@
+pub mod Graph
+pub mod Circuit
+pub mod Neighbours
+pub mod Search

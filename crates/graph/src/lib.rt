@@ -1,0 +1,1 @@
+// Neighbour tables of a directed graph, and the breadth-first search over them.

@@ -1,0 +1,4 @@
+pub mod Closed
+pub mod Simulation
+pub mod Perfect
+pub mod Quotient
