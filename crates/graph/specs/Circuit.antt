@@ -21,3 +21,12 @@ HasLink starts ends v w = (i : ℕ) × LinkAt starts ends v w i
 -- "A circuit has N nodes, numbered from 0, .. and M links."
 unfoldable pub graphOf : ℕ → List ℕ → List ℕ → Graph
 graphOf n starts ends = record { Node = λ v. v < n; Link = HasLink starts ends }
+
+-- A circuit's content: the kind of each node, and the links. "A pattern and a board are both circuits."
+pub record Circuit : Type 0 where
+  pub kinds : List ℕ
+  pub starts : List ℕ
+  pub ends : List ℕ
+
+unfoldable pub circuitGraph : Circuit → Graph
+circuitGraph c = graphOf (length (c .kinds)) (c .starts) (c .ends)

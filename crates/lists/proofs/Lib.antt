@@ -1,2 +1,4 @@
 pub mod Tests
 pub mod Tables
+pub mod Rows
+pub mod Below

@@ -35,6 +35,14 @@ pub either-cases : (a b : Bool) → T (a || b) → T a ⊎ T b
 either-cases true b t = inl tt
 either-cases false b t = inr t
 
+pub both-false : (a b : Bool) → T a → (a && b) ≡ false → b ≡ false
+both-false true b t e = e
+both-false false b t e = absurd t
+
+pub refuted : (b : Bool) → not b ≡ false → T b
+refuted true e = tt
+refuted false e = subst T e tt
+
 pub T-true : {b : Bool} → T b → b ≡ true
 T-true {b = true} t = refl
 T-true {b = false} t = absurd t

@@ -1,7 +1,9 @@
 -- Tests over lists and below a bound, and lists made from a rule: the few list functions that definitions of every layer use.
 use mathlib.Core.Bool.{Bool, true, false, _&&_, _||_}
 use mathlib.Core.List.{List, [], _∷_}
-use Prim.Native.Nat.{ℕ, zero, suc, _+_, max}
+use mathlib.Core.Path.{_≡_}
+use Prim.Native.Nat.{ℕ, zero, suc, _+_, _<_, max}
+use lib.ListN.{length, getD}
 
 -- every element passes the test
 unfoldable pub all : (ℕ → Bool) → List ℕ → Bool
@@ -27,6 +29,10 @@ anyBelow (suc n) p = p zero || anyBelow n (λ i. p (suc i))
 unfoldable pub tabulate : ℕ → (ℕ → ℕ) → List ℕ
 tabulate zero f = []
 tabulate (suc n) f = f zero ∷ tabulate n (λ i. f (suc i))
+
+-- x is an entry of the list
+abbrev pub Occurs : List ℕ → ℕ → Type 0
+Occurs xs x = (i : ℕ) × (i < length xs) × (getD xs i 0 ≡ x)
 
 -- the sum of a list
 unfoldable pub sum : List ℕ → ℕ

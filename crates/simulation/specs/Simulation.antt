@@ -1,11 +1,12 @@
 -- Dual simulation, as document 01 reads it. The pattern P and the graph H are graphs; Agree u v says that part u and node v have equal kinds.
 use Prim.Native.Nat.{ℕ}
 use Rattle.graph.specs.Graph.{Graph}
+use Rattle.simulation.specs.Closed.{Relation, _⊆_}
 
 -- "A dual simulation of a pattern in a graph H (a board or a subgraph of one) is a set of pairs (part u, node v) in which every pair has
 -- equal kinds; for each pattern link from u to u', H has a link from v to some v' with (u', v') in the set; for each pattern link from u'
 -- to u, H has a link from some v' to v with (u', v') in the set; and each part occurs in a pair, unless the set is empty."
-pub record DualSimulation (P : Graph) (Agree : ℕ → ℕ → Type 0) (H : Graph) (S : ℕ → ℕ → Type 0) : Type 0 where
+pub record DualSimulation (P : Graph) (Agree : Relation) (H : Graph) (S : Relation) : Type 0 where
   pub part : (u v : ℕ) → S u v → P .Node u
   pub node : (u v : ℕ) → S u v → H .Node v
   pub kinds : (u v : ℕ) → S u v → Agree u v
@@ -14,6 +15,21 @@ pub record DualSimulation (P : Graph) (Agree : ℕ → ℕ → Type 0) (H : Grap
   pub occurs : (u v : ℕ) → S u v → (x : ℕ) → P .Node x → (y : ℕ) × S x y
 
 -- The largest dual simulation: it is one, and every other lies inside it.
-pub record Largest (P : Graph) (Agree : ℕ → ℕ → Type 0) (H : Graph) (S : ℕ → ℕ → Type 0) : Type 1 where
+pub record Largest (P : Graph) (Agree : Relation) (H : Graph) (S : Relation) : Type 1 where
   pub holds : DualSimulation P Agree H S
-  pub contains : (R : ℕ → ℕ → Type 0) → DualSimulation P Agree H R → (u v : ℕ) → R u v → S u v
+  pub contains : (R : Relation) → DualSimulation P Agree H R → R ⊆ S
+
+-- The same as a closed set. A pair of a part and a node is a candidate when they have equal kinds: "R0 is the set of pairs with equal kinds."
+pub record Candidate (P : Graph) (Agree : Relation) (H : Graph) (u v : ℕ) : Type 0 where
+  pub part : P .Node u
+  pub node : H .Node v
+  pub kinds : Agree u v
+
+-- The labels of a dual simulation are the two directions in which a link can be followed.
+pub data Direction : Type 0 where
+  forwards : Direction
+  backwards : Direction
+
+unfoldable pub Along : Relation → Direction → Relation
+Along Link forwards v w = Link v w
+Along Link backwards v w = Link w v

@@ -1,0 +1,6 @@
+pub mod Digits
+pub mod Numbers
+pub mod Tests
+pub mod Counts
+pub mod Members
+pub mod Unions

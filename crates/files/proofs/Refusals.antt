@@ -1,0 +1,156 @@
+-- Laws of lists of conditions, and what it says of a file that none of its conditions holds. Assumes nothing.
+use mathlib.Core.Bool.{Bool, true, false, _&&_, not, cond}
+use mathlib.Core.List.{List, [], _∷_, _++_}
+use mathlib.Core.Path.{_≡_, refl, sym, ap, _∙_, subst}
+use Prim.Native.Nat.{ℕ, _+_, _*_, _≤_, _<_}
+use borrow.Author.Tests.{lt-ltb, le-ltb, eq-eqb, ne-eqb, ltb-false, eqb-true, not-false}
+use lib.Dec.{T, eqb, ltb, leb, leb→le}
+use lib.ListN.{length, drop}
+use Rattle.lists.specs.List.{all}
+use Rattle.lists.proofs.Tests.{refuted, both-false, both-left, both-right}
+use Rattle.graph.specs.Search.{connected}
+use Rattle.files.specs.declared.Refusal.{Refusal}
+use Rattle.files.specs.declared.Role.{Role}
+use Rattle.files.specs.declared.Role.the-variants.{Pattern, Board}
+use Rattle.files.specs.Layout.{fields, nodesOf, linksOf, lengthOf, startsAt, endsAt, startsOf, endsOf}
+use Rattle.files.specs.Links.{linksBelow, rising}
+use Rattle.files.specs.Refusals.{Condition, Verdict, accept, refuse, first, fileConditions, asksConnected, linkNumber}
+use Rattle.files.specs.Role.{inRange, fileOf}
+
+-- ---- the first of a list of conditions
+
+pub first-accept : (cs ds : List Condition) → first cs ≡ accept → first (cs ++ ds) ≡ first ds
+unfolding first
+first-accept [] ds e = refl
+first-accept (c ∷ cs) ds e = go (c .holds) e (first-accept cs ds)
+  where
+    go : (b : Bool) → cond b (refuse (record { number = c .number; file = c .file })) (first cs) ≡ accept → (first cs ≡ accept → first (cs ++ ds) ≡ first ds)
+        → cond b (refuse (record { number = c .number; file = c .file })) (first (cs ++ ds)) ≡ first ds
+    go true e r = cc
+    go false e r = r e
+
+pub first-refuse : (cs ds : List Condition) (x : Refusal) → first cs ≡ refuse x → first (cs ++ ds) ≡ refuse x
+unfolding first
+first-refuse [] ds x e = cc
+first-refuse (c ∷ cs) ds x e = go (c .holds) e (first-refuse cs ds x)
+  where
+    go : (b : Bool) → cond b (refuse (record { number = c .number; file = c .file })) (first cs) ≡ refuse x → (first cs ≡ refuse x → first (cs ++ ds) ≡ refuse x)
+        → cond b (refuse (record { number = c .number; file = c .file })) (first (cs ++ ds)) ≡ refuse x
+    go true e r = e
+    go false e r = r e
+
+-- no condition of an accepted list holds
+pub first-holds : (c : Condition) (cs : List Condition) → first (c ∷ cs) ≡ accept → (c .holds ≡ false) × (first cs ≡ accept)
+unfolding first
+first-holds c cs e = go (c .holds) e
+  where
+    go : (b : Bool) → cond b (refuse (record { number = c .number; file = c .file })) (first cs) ≡ accept → (b ≡ false) × (first cs ≡ accept)
+    go true e = (cc, cc)
+    go false e = (refl, e)
+
+-- ---- the links' number, as the tests come out in their order
+
+module _ (r : Role) (n : ℕ) (starts ends : List ℕ) where
+  pub number-starts : all (λ v. ltb v n) starts ≡ false → linkNumber r n starts ends ≡ 4
+  unfolding linkNumber linksBelow
+  number-starts a = simp a
+
+  pub number-ends : all (λ v. ltb v n) starts ≡ true → all (λ v. ltb v n) ends ≡ false → linkNumber r n starts ends ≡ 4
+  unfolding linkNumber linksBelow
+  number-ends a b = simp (a, b)
+
+  pub number-rising : all (λ v. ltb v n) starts ≡ true → all (λ v. ltb v n) ends ≡ true → rising starts ends ≡ false → linkNumber r n starts ends ≡ 5
+  unfolding linkNumber linksBelow
+  number-rising a b e = simp (a, b, e)
+
+  pub number-connected : all (λ v. ltb v n) starts ≡ true → all (λ v. ltb v n) ends ≡ true → rising starts ends ≡ true → (d : Bool)
+      → (asksConnected r && not (connected n starts ends)) ≡ d → linkNumber r n starts ends ≡ cond d 6 0
+  unfolding linkNumber linksBelow
+  number-connected a b e d f = simp (a, b, e, f)
+
+-- ---- the conditions on a file, one after another: the number of bytes, the range, the length, the links
+
+-- a refusal in a role
+unfoldable pub turned : Role → ℕ → Verdict
+turned r k = refuse (record { number = k; file = fileOf r })
+
+-- the verdict that the links' number gives
+unfoldable pub byNumber : Role → ℕ → Verdict
+byNumber r k = cond (eqb k 0) accept (turned r k)
+
+pub number-turned : (r : Role) (k : ℕ) → (k ≡ 0 → ⊥) → byNumber r k ≡ turned r k
+unfolding byNumber
+number-turned r k h = simp (ne-eqb _ _ h)
+
+pub number-accept : (r : Role) (k : ℕ) → k ≡ 0 → byNumber r k ≡ accept
+unfolding byNumber
+number-accept r k h = simp (eq-eqb _ _ h)
+
+-- The tests in their order, with N and M as the code has read them.
+module _ (r : Role) (file : List ℕ) where
+  pub verdict-1 : length file < 4 → first (fileConditions r file) ≡ turned r 1
+  unfolding first fileConditions turned
+  verdict-1 a = simp (lt-ltb _ _ a)
+
+  module _ (n m : ℕ) (isN : n ≡ nodesOf file) (isM : m ≡ linksOf file) (a : 4 ≤ length file) where
+    pub verdict-2 : inRange r n m ≡ false → first (fileConditions r file) ≡ turned r 2
+    unfolding first fileConditions turned
+    verdict-2 b = simp (le-ltb _ _ a, rw (isN, isM) at b)
+
+    pub verdict-3 : inRange r n m ≡ true → (length file ≡ lengthOf n m → ⊥) → first (fileConditions r file) ≡ turned r 3
+    unfolding first fileConditions turned
+    verdict-3 b e = simp (le-ltb _ _ a, rw (isN, isM) at b, ne-eqb _ _ (rw (isN, isM) at e))
+
+    links-verdict : (x y z : Bool) → cond (not x) (turned r 4) (cond (not y) (turned r 5) (cond z (turned r 6) accept)) ≡ byNumber r (cond x (cond y (cond z 6 0) 5) 4)
+    unfolding byNumber
+    links-verdict true true true = refl
+    links-verdict true true false = refl
+    links-verdict true false z = refl
+    links-verdict false y z = refl
+
+    pub verdict-links : inRange r n m ≡ true → length file ≡ lengthOf n m
+        → first (fileConditions r file) ≡ byNumber r (linkNumber r n (fields (drop (startsAt n) file) m) (fields (drop (endsAt n m) file) m))
+    unfolding first fileConditions turned linkNumber startsOf endsOf
+    verdict-links b e =
+        rw (isN, isM)
+        (simp (le-ltb _ _ a, rw (isN, isM) at b, eq-eqb _ _ (rw (isN, isM) at e))
+        (links-verdict
+        (linksBelow (nodesOf file) (startsOf file) (endsOf file))
+        (rising (startsOf file) (endsOf file))
+        (asksConnected r && not (connected (nodesOf file) (startsOf file) (endsOf file)))))
+
+-- ---- an accepted file
+
+-- What is known of a file of which none of the conditions 1 to 6 holds.
+pub record Accepted (r : Role) (file : List ℕ) : Type 0 where
+  pub bytes : 4 ≤ length file
+  pub range : T (inRange r (nodesOf file) (linksOf file))
+  pub size : length file ≡ lengthOf (nodesOf file) (linksOf file)
+  pub below : T (linksBelow (nodesOf file) (startsOf file) (endsOf file))
+  pub rises : T (rising (startsOf file) (endsOf file))
+  pub joined : T (asksConnected r) → T (connected (nodesOf file) (startsOf file) (endsOf file))
+
+pub accepted : (r : Role) (file : List ℕ) → first (fileConditions r file) ≡ accept → Accepted r file
+unfolding fileConditions
+accepted r file e =
+    let h1 = first-holds _ _ e in
+    let h2 = first-holds _ _ (h1 .1) in
+    let h3 = first-holds _ _ (h2 .1) in
+    let h4 = first-holds _ _ (h3 .1) in
+    let h5 = first-holds _ _ (h4 .1) in
+    let h6 = first-holds _ _ (h5 .1) in
+    record {
+      bytes = ltb-false _ _ (h1 .0);
+      range = refuted (inRange r (nodesOf file) (linksOf file)) (h2 .0);
+      size = eqb-true _ _ (not-false _ (h3 .0));
+      below = refuted (linksBelow (nodesOf file) (startsOf file) (endsOf file)) (h4 .0);
+      rises = refuted (rising (startsOf file) (endsOf file)) (h5 .0);
+      joined = λ t. refuted (connected (nodesOf file) (startsOf file) (endsOf file)) (both-false (asksConnected r) _ t (h6 .0));
+    }
+
+-- ---- the ranges of the roles, as orders
+
+pub range-pattern : (r : Role) (n m : ℕ) → r ≡ Pattern → T (inRange r n m) → (0 < n) × (n ≤ 32) × (m ≤ 256)
+range-pattern r n m e t =
+    let u : T (inRange Pattern n m) = subst (λ (x : Role). T (inRange x n m)) e t in
+    (leb→le 1 n (both-left (leb 1 n) _ u), leb→le n 32 (both-left (leb n 32) _ (both-right (leb 1 n) _ u)), leb→le m 256 (both-right (leb n 32) _ (both-right (leb 1 n) _ u)))

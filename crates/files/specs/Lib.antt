@@ -1,0 +1,5 @@
+pub mod Role
+pub mod Layout
+pub mod Links
+pub mod Refusals
+pub mod Reading

@@ -1,0 +1,36 @@
+-- Laws of lists whose entries are below a bound. Assumes nothing.
+use mathlib.Core.List.{List, [], _∷_, _++_}
+use Prim.Native.Nat.{ℕ, zero, suc, _+_, _<_, suc-le-suc}
+use native.Mathlib.Nat.{not-suc-le-zero, zero-lt-suc, le-of-suc-le-suc}
+use native.Mathlib.Omega.{arith}
+use lib.ListN.{take, drop, length-take, length-drop}
+use lib.Seq.{getD-take, getD-drop}
+use Rattle.graph.specs.Bfs.{Below}
+
+-- where a list's entries are below n, so are those past its first a
+pub below-drop : (n : ℕ) (xs : List ℕ) (a : ℕ) → Below n xs → Below n (drop a xs)
+unfolding Below
+below-drop n xs a b i h =
+    let l = simp length-drop at h in
+    rw (getD-drop a xs i 0) (b (a + i) (omega arith))
+
+-- and its first k
+pub below-take : (n : ℕ) (xs : List ℕ) (k : ℕ) → Below n xs → Below n (take k xs)
+unfolding Below
+below-take n xs k b i h =
+    let l = simp length-take at h in
+    let h′ : i < k = omega arith in
+    rw (getD-take k xs i 0) (b i (omega arith))
+
+-- a list after another
+pub below-append : (n : ℕ) (xs ys : List ℕ) → Below n xs → Below n ys → Below n (xs ++ ys)
+unfolding Below
+below-append n [] ys a b i h = b i h
+below-append n (x ∷ xs) ys a b zero h = a zero (zero-lt-suc _)
+below-append n (x ∷ xs) ys a b (suc i) h = below-append n xs ys (λ j k. a (suc j) (suc-le-suc k)) b i (le-of-suc-le-suc h)
+
+-- a list of one
+pub below-one : (n v : ℕ) → v < n → Below n (v ∷ [])
+unfolding Below
+below-one n v h zero l = h
+below-one n v h (suc i) l = absurd (not-suc-le-zero (le-of-suc-le-suc l))

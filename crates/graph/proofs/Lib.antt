@@ -1,0 +1,11 @@
+pub mod Walks
+pub mod Ball
+pub mod Distance
+pub mod Groups
+pub mod CountingSort
+pub mod Below
+pub mod Lookup
+pub mod BfsSteps
+pub mod BfsScan
+pub mod Bfs
+pub mod Measures

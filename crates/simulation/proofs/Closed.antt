@@ -1,0 +1,135 @@
+-- Laws of closed sets, over any labels, agreement, steps and moves: union, restriction, weaker requirements, composition. Assumes nothing.
+use Prim.Native.Nat.{ℕ}
+use Rattle.simulation.specs.Closed.{Relation, _⊆_, Closed, Occurring, LargestClosed, Union, Restrict, Compose}
+
+-- the union of closed sets is closed
+pub union-closed :
+    {D I : Type 0} {Agree : Relation} {Step Move : D → Relation} (F : I → Relation) →
+    ((i : I) → Closed Agree Step Move (F i)) → Closed Agree Step Move (Union F)
+unfolding Union
+union-closed F c =
+    record {
+      agree = λ u v m. c (m .0) .agree u v (m .1);
+      partner = λ d u v u′ m p.
+          let (v′, l, s) = c (m .0) .partner d u v u′ (m .1) p in
+          (v′, l, (m .0, s));
+    }
+
+-- and every part occurs in it, if every part occurs in each of the sets
+pub union-occurring :
+    {I : Type 0} {Part : ℕ → Type 0} (F : I → Relation) → ((i : I) → Occurring Part (F i)) → Occurring Part (Union F)
+unfolding Union
+union-occurring F o =
+    record {
+      occurs = λ u v m x p.
+          let (y, s) = o (m .0) .occurs u v (m .1) x p in
+          (y, (m .0, s));
+    }
+
+-- A closed set cut to some nodes is closed for fewer moves, where these still answer the steps from the nodes kept, and lead to such.
+pub restrict-closed :
+    {D : Type 0} {Agree Agree′ : Relation} {Step Move Move′ : D → Relation} {S : Relation} (N : ℕ → Type 0) →
+    ((u v : ℕ) → Agree u v → N v → Agree′ u v) →
+    ((d : D) (u v u′ v′ : ℕ) → S u v → S u′ v′ → N v → Step d u u′ → Move d v v′ → Move′ d v v′ × N v′) →
+    Closed Agree Step Move S → Closed Agree′ Step Move′ (Restrict S N)
+unfolding Restrict
+restrict-closed N agrees answers c =
+    record {
+      agree = λ u v m. agrees u v (c .agree u v (m .0)) (m .1);
+      partner = λ d u v u′ m p.
+          let (v′, l, s) = c .partner d u v u′ (m .0) p in
+          let (l′, n) = answers d u v u′ v′ (m .0) s (m .1) p l in
+          (v′, l′, (s, n));
+    }
+
+-- A closed set stays closed for a wider agreement and weaker requirements: each new step is an old one, perhaps with another label, whose
+-- moves are all moves of the new label.
+pub weaken :
+    {D D′ : Type 0} {Agree Agree′ : Relation} {Step Move : D → Relation} {Step′ Move′ : D′ → Relation} {S : Relation} →
+    Agree ⊆ Agree′ → ((d′ : D′) (u u′ : ℕ) → Step′ d′ u u′ → (d : D) × Step d u u′ × (Move d ⊆ Move′ d′)) →
+    Closed Agree Step Move S → Closed Agree′ Step′ Move′ S
+weaken wider weaker c =
+    record {
+      agree = λ u v s. wider u v (c .agree u v s);
+      partner = λ d′ u v u′ s p′.
+          let (d, p, more) = weaker d′ u u′ p′ in
+          let (v′, l, s′) = c .partner d u v u′ s p in
+          (v′, more v v′ l, s′);
+    }
+
+-- with the labels kept: a wider agreement, fewer steps, more moves
+pub wider-agreement :
+    {D : Type 0} {Agree Agree′ : Relation} {Step Move : D → Relation} {S : Relation} →
+    Agree ⊆ Agree′ → Closed Agree Step Move S → Closed Agree′ Step Move S
+wider-agreement wider = weaken wider (λ d u u′ p. (d, p, λ v v′ l. l))
+
+pub fewer-steps :
+    {D : Type 0} {Agree : Relation} {Step Step′ Move : D → Relation} {S : Relation} →
+    ((d : D) → Step′ d ⊆ Step d) → Closed Agree Step Move S → Closed Agree Step′ Move S
+fewer-steps fewer = weaken (λ u v a. a) (λ d u u′ p. (d, fewer d u u′ p, λ v v′ l. l))
+
+pub more-moves :
+    {D : Type 0} {Agree : Relation} {Step Move Move′ : D → Relation} {S : Relation} →
+    ((d : D) → Move d ⊆ Move′ d) → Closed Agree Step Move S → Closed Agree Step Move′ S
+more-moves more = weaken (λ u v a. a) (λ d u u′ p. (d, p, more d))
+
+-- The same set, said in another way.
+pub closed-same-set :
+    {D : Type 0} {Agree : Relation} {Step Move : D → Relation} {R S : Relation} →
+    R ⊆ S → S ⊆ R → Closed Agree Step Move R → Closed Agree Step Move S
+closed-same-set there back c =
+    record {
+      agree = λ u v s. c .agree u v (back u v s);
+      partner = λ d u v u′ s p.
+          let (v′, l, r) = c .partner d u v u′ (back u v s) p in
+          (v′, l, there u′ v′ r);
+    }
+
+pub occurring-same-set : {Part : ℕ → Type 0} {R S : Relation} → R ⊆ S → S ⊆ R → Occurring Part R → Occurring Part S
+occurring-same-set there back o =
+    record {
+      occurs = λ u v s x p.
+          let (y, r) = o .occurs u v (back u v s) x p in
+          (y, there x y r);
+    }
+
+-- The composite of closed sets is closed: what answers a step in the middle is itself answered.
+pub compose-closed :
+    {D : Type 0} {A B C : Relation} {Step Mid Move : D → Relation} {T S : Relation} →
+    ((u x v : ℕ) → A u x → B x v → C u v) →
+    Closed A Step Mid T → Closed B Mid Move S → Closed C Step Move (Compose T S)
+unfolding Compose
+compose-closed both t s =
+    record {
+      agree = λ u v m. both u (m .0) v (t .agree u (m .0) (m .1)) (s .agree (m .0) v (m .2));
+      partner = λ d u v u′ m p.
+          let (x′, q, t′) = t .partner d u (m .0) u′ (m .1) p in
+          let (v′, l, s′) = s .partner d (m .0) v x′ (m .2) q in
+          (v′, l, (x′, t′, s′));
+    }
+
+-- and every part occurs in it, if every part occurs in both
+pub compose-occurring :
+    {Part Middle : ℕ → Type 0} {T S : Relation} → ((u x : ℕ) → T u x → Middle x) →
+    Occurring Part T → Occurring Middle S → Occurring Part (Compose T S)
+unfolding Compose
+compose-occurring inMiddle t s =
+    record {
+      occurs = λ u v m y p.
+          let (x, t′) = t .occurs u (m .0) (m .1) y p in
+          let (v′, s′) = s .occurs (m .0) v (m .2) x (inMiddle y x t′) in
+          (v′, (x, t′, s′));
+    }
+
+-- There is at most one largest closed set.
+pub largest-closed-unique :
+    {D : Type 0} {Agree : Relation} {Step Move : D → Relation} {R S : Relation} →
+    LargestClosed Agree Step Move R → LargestClosed Agree Step Move S → R ⊆ S
+largest-closed-unique r s = s .contains _ (r .closed)
+
+-- The largest closed set grows as the requirements get weaker.
+pub largest-closed-grows :
+    {D D′ : Type 0} {Agree Agree′ : Relation} {Step Move : D → Relation} {Step′ Move′ : D′ → Relation} {R S : Relation} →
+    Agree ⊆ Agree′ → ((d′ : D′) (u u′ : ℕ) → Step′ d′ u u′ → (d : D) × Step d u u′ × (Move d ⊆ Move′ d′)) →
+    LargestClosed Agree Step Move R → LargestClosed Agree′ Step′ Move′ S → R ⊆ S
+largest-closed-grows wider weaker r s = s .contains _ (weaken wider weaker (r .closed))

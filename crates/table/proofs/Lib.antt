@@ -1,0 +1,9 @@
+pub mod Selected
+pub mod Answers
+pub mod Sets
+pub mod Row
+pub mod Rest
+pub mod Counts
+pub mod Meaning
+pub mod Host
+pub mod Examples

@@ -1,0 +1,19 @@
+-- The circuits of document 01's examples.
+use mathlib.Core.List.{[], _∷_}
+use Rattle.graph.specs.Circuit.{Circuit}
+
+-- "T: 0:10, 1:20, 2:30, links 0-1, 1-2."
+unfoldable pub circuitT : Circuit
+circuitT = record { kinds = 10 ∷ 20 ∷ 30 ∷ []; starts = 0 ∷ 1 ∷ []; ends = 1 ∷ 2 ∷ [] }
+
+-- "B: 0:10, 1:20, 2:30, 3:20, 4:30, 5:10, links 0-1, 1-2, 3-4."
+unfoldable pub circuitB : Circuit
+circuitB = record { kinds = 10 ∷ 20 ∷ 30 ∷ 20 ∷ 30 ∷ 10 ∷ []; starts = 0 ∷ 1 ∷ 3 ∷ []; ends = 1 ∷ 2 ∷ 4 ∷ [] }
+
+-- E5: "Pattern 0:10, 1:20, links 0-1, 1-0"
+unfoldable pub twoWay : Circuit
+twoWay = record { kinds = 10 ∷ 20 ∷ []; starts = 0 ∷ 1 ∷ []; ends = 1 ∷ 0 ∷ [] }
+
+-- E5: "the ring 0:10, 1:20, 2:10, 3:20, links 0-1, 1-2, 2-3, 3-0"
+unfoldable pub ring : Circuit
+ring = record { kinds = 10 ∷ 20 ∷ 10 ∷ 20 ∷ []; starts = 0 ∷ 1 ∷ 2 ∷ 3 ∷ []; ends = 1 ∷ 2 ∷ 3 ∷ 0 ∷ [] }
