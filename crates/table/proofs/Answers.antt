@@ -12,7 +12,7 @@ use Rattle.graph.specs.Neighbours.{select}
 use Rattle.simulation.specs.Closed.{Relation}
 use Rattle.simulation.specs.Simulation.{Direction, forwards, backwards, Along}
 use Rattle.table.specs.Row.{inTable, answered, supported}
-use Rattle.table.proofs.Selected.{select-mem, link-swap}
+use Rattle.graph.proofs.Groups.{select-mem, link-swap}
 
 -- the set of pairs that a table holds
 abbrev pub InTable : List ℕ → Relation

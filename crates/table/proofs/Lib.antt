@@ -1,4 +1,3 @@
-pub mod Selected
 pub mod Answers
 pub mod Sets
 pub mod Row
@@ -6,4 +5,12 @@ pub mod Rest
 pub mod Counts
 pub mod Meaning
 pub mod Host
+pub mod StrikeFill
+pub mod StrikeNodes
+pub mod StrikeSets
+pub mod StrikeMasks
+pub mod StrikeStretch
+pub mod StrikeRow
+pub mod StrikeRounds
+pub mod StrikeRefine
 pub mod Examples

@@ -1,3 +1,6 @@
 pub mod Host
 pub mod Row
+pub mod Fill
+pub mod Strike
+pub mod Refine
 pub mod Examples

@@ -1,0 +1,59 @@
+// What the programs that run stored cases share: taking a case apart, and writing what a call answered and left in its tables.
+use files::File;
+use files::Refusal;
+ghost use Prim.Native.Nat.{_+_, _≤_};
+ghost use lib.ListN.{length};
+
+// A table's content as one number.
+pub fn digest(table: &[u16]) -> u64 {
+    let mut sum: u64 = 0;
+    let mut i = 0;
+    while i < table.len() {
+        sum = (sum % 65521 * 31 + table[i] as u64) % 65521;
+        i += 1;
+    }
+    sum
+}
+
+// Sets every entry to a number that no call is asked to write.
+pub fn refill(table: &mut [u16]) {
+    let mut i = 0;
+    while i < table.len() {
+        table[i] = 7777;
+        i += 1;
+    }
+}
+
+pub fn show_number(n: u64) {
+    io::write_all(1, b" ");
+    io::print_decimal(1, n);
+}
+
+pub fn show_refusal(refusal: Refusal) {
+    io::write_all(1, b"refused");
+    show_number(refusal.number as u64);
+    let file = refusal.file;
+    match file {
+        File::Pattern => io::write_all(1, b" pattern"),
+        File::Board => io::write_all(1, b" board"),
+        File::Neither => io::write_all(1, b" neither"),
+    }
+    ;
+}
+
+pub fn end_line() {
+    io::write_all(1, b"\n");
+}
+
+// A 16-bit number of a case, high byte first.
+pub fn number(b: &[u8], at: usize) -> usize
+    requires { ⌜ at + 2 ≤ length (now b) ⌝ }
+{
+    (b[at] as usize) * 256 + b[at + 1] as usize
+}
+
+pub fn least(a: usize, b: usize) -> usize
+    ensures { λ r. ⌜ r ≤ b ⌝ }
+{
+    if a < b { a } else { b }
+}

@@ -1,0 +1,117 @@
+-- Document 01's examples of places, by computation. Assumes nothing.
+use mathlib.Core.List.{List, [], _∷_}
+use mathlib.Core.Path.{_≡_, refl}
+use Prim.Native.Nat.{ℕ}
+use lib.Dec.{T}
+use Rattle.lists.specs.List.{all, any, anyBelow, tabulate, sum, maximum}
+use Rattle.lists.specs.Below.{countBelow}
+use Rattle.bits.specs.Bits.{bit, numberOf, sizeOf}
+use Rattle.graph.specs.Circuit.{Circuit}
+use Rattle.graph.specs.Neighbours.{select}
+use Rattle.graph.specs.Search.{beside, inside, ball, misses, distances, radius}
+use Rattle.table.specs.Row.{inTable, agrees, startTable, answered, supported, strike, row, pairs, same, started, lastTable, kept, rounds}
+use Rattle.table.specs.Examples.{circuitT, circuitB, twoWay, ring}
+use Rattle.place.specs.Match.{radiusOf, ballOf, ballTable, found, matches, keepFrom, linkMatches, matchStarts, matchEnds, component, placeNodes, placeLinks}
+use Rattle.place.specs.Examples.{circuitY, oneLink}
+
+-- all that is opened where a place is computed
+opened : Unit {0}
+unfolding all any anyBelow tabulate sum maximum countBelow bit numberOf sizeOf select beside inside ball misses distances radius inTable agrees startTable answered supported strike row pairs same started lastTable kept rounds radiusOf ballOf ballTable found matches keepFrom linkMatches matchStarts matchEnds component placeNodes placeLinks
+opened = tt
+
+-- there is a place around w at radius r, with these bytes for its nodes and its links
+abbrev pub Shows : Circuit → Circuit → ℕ → ℕ → List ℕ → List ℕ → Type 0
+Shows pattern board w r nodes links = T (found pattern board w r) × (placeNodes pattern board w r ≡ nodes) × (placeLinks pattern board w r ≡ links)
+
+-- ---- the radii of the patterns
+
+pub radius-T : radiusOf circuitT ≡ 2
+unfolding opened circuitT
+radius-T = refl
+
+pub radius-twoWay : radiusOf twoWay ≡ 1
+unfolding opened twoWay
+radius-twoWay = refl
+
+pub radius-Y : radiusOf circuitY ≡ 2
+unfolding opened circuitY
+radius-Y = refl
+
+pub radius-oneLink : radiusOf oneLink ≡ 1
+unfolding opened oneLink
+radius-oneLink = refl
+
+-- ---- "E3 T on B at 0, 1 and 2: nodes 0, 1, 2 and both their links."
+
+pub E3-0 : Shows circuitT circuitB 0 2 (1 ∷ 1 ∷ 1 ∷ 0 ∷ 0 ∷ 0 ∷ []) (1 ∷ 1 ∷ 0 ∷ [])
+unfolding opened circuitT circuitB
+E3-0 = (tt, refl, refl)
+
+pub E3-1 : Shows circuitT circuitB 1 2 (1 ∷ 1 ∷ 1 ∷ 0 ∷ 0 ∷ 0 ∷ []) (1 ∷ 1 ∷ 0 ∷ [])
+unfolding opened circuitT circuitB
+E3-1 = (tt, refl, refl)
+
+pub E3-2 : Shows circuitT circuitB 2 2 (1 ∷ 1 ∷ 1 ∷ 0 ∷ 0 ∷ 0 ∷ []) (1 ∷ 1 ∷ 0 ∷ [])
+unfolding opened circuitT circuitB
+E3-2 = (tt, refl, refl)
+
+-- ---- "E4 T on B at 3: 9, started 2, kept 0, rounds 2."
+
+pub E4-none : T (found circuitT circuitB 3 2) → ⊥
+unfolding opened circuitT circuitB
+E4-none t = t
+
+pub E4-started : started circuitT circuitB (ballOf circuitB 3 2) ≡ 2
+unfolding opened circuitT circuitB
+E4-started = refl
+
+pub E4-kept : kept circuitT circuitB (ballOf circuitB 3 2) ≡ 0
+unfolding opened circuitT circuitB
+E4-kept = refl
+
+pub E4-rounds : rounds circuitT circuitB (ballOf circuitB 3 2) ≡ 2
+unfolding opened circuitT circuitB
+E4-rounds = refl
+
+-- ---- "E5 Pattern 0:10, 1:20, links 0-1, 1-0, on the ring ..: table 1, 2, 1, 2, yet 9 at each centre."
+
+pub E5-0 : T (found twoWay ring 0 1) → ⊥
+unfolding opened twoWay ring
+E5-0 t = t
+
+pub E5-1 : T (found twoWay ring 1 1) → ⊥
+unfolding opened twoWay ring
+E5-1 t = t
+
+pub E5-2 : T (found twoWay ring 2 1) → ⊥
+unfolding opened twoWay ring
+E5-2 t = t
+
+pub E5-3 : T (found twoWay ring 3 1) → ⊥
+unfolding opened twoWay ring
+E5-3 t = t
+
+-- ---- "E7 Y on itself at 1, radius 2: nodes 0, 1, 2. The merged pattern at radius 1 would give 0, 1."
+
+pub E7-Y : Shows circuitY circuitY 1 2 (1 ∷ 1 ∷ 1 ∷ []) (1 ∷ 1 ∷ [])
+unfolding opened circuitY
+E7-Y = (tt, refl, refl)
+
+pub E7-merged : Shows oneLink circuitY 1 1 (1 ∷ 1 ∷ 0 ∷ []) (1 ∷ 0 ∷ [])
+unfolding opened oneLink circuitY
+E7-merged = (tt, refl, refl)
+
+-- at Y's radius it gives what Y gives
+pub E7-given : Shows oneLink circuitY 1 2 (1 ∷ 1 ∷ 1 ∷ []) (1 ∷ 1 ∷ [])
+unfolding opened oneLink circuitY
+E7-given = (tt, refl, refl)
+
+-- ---- "E9 Pattern 0:10, 1:20, link 0-1, on a board that also has 1-0: nodes 0, 1, link 0-1 only."
+
+pub E9-0 : Shows oneLink twoWay 0 1 (1 ∷ 1 ∷ []) (1 ∷ 0 ∷ [])
+unfolding opened oneLink twoWay
+E9-0 = (tt, refl, refl)
+
+pub E9-1 : Shows oneLink twoWay 1 1 (1 ∷ 1 ∷ []) (1 ∷ 0 ∷ [])
+unfolding opened oneLink twoWay
+E9-1 = (tt, refl, refl)

@@ -1,0 +1,1 @@
+// The place around a centre: the largest perfect subgraph, or none.

@@ -1,0 +1,41 @@
+-- Laws of the list of all nodes. Assumes nothing.
+use mathlib.Core.Bool.{true, cond}
+use mathlib.Core.Path.{_≡_}
+use Prim.Native.Nat.{ℕ, _≤_, _<_}
+use native.Mathlib.Omega.{arith}
+use lib.Dec.{eqb, eqb-refl}
+use lib.ListN.{length, getD}
+use Rattle.lists.specs.List.{any, tabulate}
+use Rattle.lists.proofs.Tests.{T-true, at-any}
+use Rattle.lists.proofs.Tables.{length-tabulate, getD-tabulate, tabulate-same}
+use Rattle.table.specs.Fill.{listed, marksOf, Distinct, allNodes, NodeList}
+
+module _ (n : ℕ) where
+  pub length-all : length (allNodes n) ≡ n
+  unfolding allNodes
+  length-all = length-tabulate n (λ v. v)
+
+  all-at : (v : ℕ) → v < n → getD (allNodes n) v 0 ≡ v
+  unfolding allNodes
+  all-at v h = getD-tabulate n (λ v. v) v 0 h
+
+  -- it has each node once
+  pub all-list : n ≤ 65536 → NodeList n (allNodes n)
+  unfolding Distinct
+  all-list short =
+      record {
+        below = λ i h. let l = rw length-all at h in rw (all-at i l) l;
+        distinct = λ i j h k e. let l = rw length-all at k in omega (arith, all-at i (omega arith), all-at j l, e);
+        short = rw length-all short;
+      }
+
+  all-listed : (v : ℕ) → v < n → listed (allNodes n) v ≡ true
+  unfolding listed
+  all-listed v h =
+      T-true {b = any (λ w. eqb w v) (allNodes n)}
+      (at-any (λ w. eqb w v) (allNodes n) v (rw length-all h) (rw (all-at v h) (eqb-refl v)))
+
+  -- so that every node is marked
+  pub all-marks : marksOf n (allNodes n) ≡ tabulate n (λ v. 1)
+  unfolding marksOf
+  all-marks = tabulate-same n (λ v. cond (listed (allNodes n) v) 1 0) (λ v. 1) (λ v h. rw (all-listed v h))

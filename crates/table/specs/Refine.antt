@@ -1,0 +1,21 @@
+-- What the refinement of a first table to the largest dual simulation promises.
+use mathlib.Core.List.{List}
+use mathlib.Core.Path.{_≡_}
+use Prim.Native.Nat.{ℕ}
+use Rattle.graph.specs.Circuit.{Circuit}
+use Rattle.table.specs.Row.{started, kept, struck, rounds, lastTable}
+use Rattle.table.specs.declared.rounds.Counts.{Counts}
+
+abbrev pub circuit : List ℕ → List ℕ → List ℕ → Circuit
+circuit kinds starts ends = record { kinds = kinds; starts = starts; ends = ends }
+
+-- "The call returns four counts: started, the pairs of R0; kept, the pairs left; struck, started minus kept; rounds, how many sets differ
+-- from the one before."
+unfoldable pub countsOf : Circuit → Circuit → List ℕ → Counts
+countsOf pattern host taken =
+    record { started = started pattern host taken; kept = kept pattern host taken; struck = struck pattern host taken; rounds = rounds pattern host taken }
+
+-- the four counts, and the table of the row's last set
+pub record Refined (pattern host : Circuit) (taken table : List ℕ) (counts : Counts) : Type 0 where
+  pub counted : counts ≡ countsOf pattern host taken
+  pub last : table ≡ lastTable pattern host taken

@@ -1,0 +1,147 @@
+"""Makes the cases that the proved programs are run on, and what each must print, from model.py.
+
+    python3 tools/cases.py            writes crates/NAME/data/cases and crates/NAME/stdout
+    python3 tools/cases.py --check    says whether what is stored is what it would write
+"""
+import random
+import sys
+from pathlib import Path
+
+import model
+from model import Circuit, encode
+
+ROOT = Path(__file__).resolve().parent.parent
+T = Circuit([10, 20, 30], [0, 1], [1, 2])
+B = Circuit([10, 20, 30, 20, 30, 10], [0, 1, 3], [1, 2, 4])
+
+
+def digest(table):
+    total = 0
+    for x in table:
+        total = (total * 31 + x) % 65521
+    return total
+
+
+def path(n, kind=7):
+    return Circuit([kind] * n, list(range(n - 1)), list(range(1, n)))
+
+
+def full(n, m, rng):
+    """n nodes, and m links of which some join every node to node 0."""
+    chosen = {(i // 2, i) for i in range(1, n)}
+    while len(chosen) < m:
+        chosen.add((rng.randrange(n), rng.randrange(n)))
+    pairs = sorted(chosen)
+    return Circuit([rng.randrange(65536) for _ in range(n)], [a for a, _ in pairs], [b for _, b in pairs])
+
+
+def raw(*numbers):
+    return b"".join(bytes((x % 256, x // 256)) for x in numbers)
+
+
+def read_cases():
+    rng = random.Random(1)
+    out = []
+
+    def case(role, data, k=40, s=40, e=40):
+        out.append((role, k, s, e, bytes(data)))
+
+    both = ("pattern", "board")
+    # the table of refusals in document 01
+    for text in ("020001", "00000000", "01000000", "010001000A0000000100", "010002000A000000000000000000", "020000000A001400"):
+        for role in both:
+            case(role, bytes.fromhex(text))
+    case("board", encode(B), 2)
+    case("pattern", encode(T), 2)
+    # 0 to 5 bytes
+    for size in range(6):
+        for role in both:
+            case(role, b"\x00" * size)
+            case(role, b"\x01" * size)
+    # lengths one short and one long, and all lengths around a small file
+    for role, circuit in (("pattern", T), ("board", B)):
+        data = encode(circuit)
+        for size in range(len(data) + 1):
+            case(role, data[:size])
+        case(role, data + b"\x00")
+        # each table exactly long enough, and one short
+        n, m = len(circuit.kinds), len(circuit.starts)
+        for k, s, e in ((n, m, m), (n - 1, m, m), (n, m - 1, m), (n, m, m - 1), (0, 0, 0), (n + 1, m + 1, m + 1)):
+            case(role, data, k, s, e)
+        # 65,535 in each field
+        for at in range(0, len(data), 2):
+            case(role, data[:at] + b"\xff\xff" + data[at + 2:])
+        # 8 comes after 4, 5 and 6
+        case(role, raw(1, 1, 9, 0, 1), 0, 0, 0)
+        case(role, raw(1, 2, 9, 0, 0, 0, 0), 0, 0, 0)
+    case("pattern", raw(2, 0, 9, 9), 0, 0, 0)
+    # 4 anywhere before 5 anywhere; a start out of range, an end out of range
+    case("board", raw(3, 3, 1, 1, 1, 0, 0, 1, 1, 1, 3))
+    case("board", raw(3, 2, 1, 1, 1, 0, 3, 1, 1))
+    case("board", raw(3, 2, 1, 1, 1, 0, 1, 1, 3))
+    # links: equal, falling by start, falling by end, a self-link, both directions
+    for starts, ends in (([0, 0], [1, 1]), ([1, 0], [0, 1]), ([0, 0], [2, 1]), ([0, 0], [0, 1]), ([0, 1], [1, 0]), ([2, 2], [0, 2])):
+        for role in both:
+            case(role, encode(Circuit([1, 2, 3], starts, ends)))
+    # connected only against the links' directions; two halves; kind 0
+    case("pattern", encode(Circuit([0, 0, 0], [1, 2], [0, 0])))
+    case("pattern", encode(Circuit([0, 0, 0, 0], [0, 2], [1, 3])))
+    case("board", encode(Circuit([0, 0, 0, 0], [0, 2], [1, 3])))
+    # N and M at 0, 1, the maxima and one past them
+    case("board", raw(0, 0))
+    case("board", raw(0, 1, 0, 0))
+    case("pattern", raw(1, 0, 5))
+    case("pattern", raw(1, 1, 5, 0, 0))
+    for n in (32, 33):
+        for role in both:
+            case(role, encode(path(n)))
+    case("pattern", encode(full(32, 256, rng)), 40, 300, 300)
+    case("pattern", encode(full(32, 257, rng)), 40, 300, 300)
+    case("pattern", encode(Circuit([7] * 32, [], [])))
+    for n in (512, 513):
+        case("board", encode(path(n)), 600, 600, 600)
+    case("board", encode(full(512, 4096, rng)), 600, 4200, 4200)
+    case("board", raw(512, 4097))
+    case("board", raw(513, 4096))
+    # damaged files: one byte changed
+    for role, circuit in (("pattern", T), ("board", B), ("pattern", full(5, 9, rng)), ("board", full(6, 12, rng))):
+        data = encode(circuit)
+        for _ in range(60):
+            at = rng.randrange(len(data))
+            case(role, data[:at] + bytes((rng.randrange(256),)) + data[at + 1:])
+    return out
+
+
+def write_read_cases():
+    blob, lines = b"", []
+    for role, k, s, e, data in read_cases():
+        blob += bytes((0 if role == "pattern" else 1,))
+        for x in (k, s, e, len(data)):
+            blob += bytes((x // 256, x % 256))
+        blob += data
+        tables = [[7777] * x for x in (k, s, e)]
+        reply = model.read(role, data, *tables)
+        lines.append(" ".join(str(x) for x in (*reply, *map(digest, tables))))
+    assert len(blob) <= 65536, len(blob)
+    return {"crates/read_cases/data/cases": blob, "crates/read_cases/stdout": ("\n".join(lines) + "\n").encode()}
+
+
+def main():
+    made = {}
+    made.update(write_read_cases())
+    stale = []
+    for name, content in made.items():
+        target = ROOT / name
+        if "--check" in sys.argv:
+            if not target.exists() or target.read_bytes() != content:
+                stale.append(name)
+        else:
+            target.parent.mkdir(parents=True, exist_ok=True)
+            target.write_bytes(content)
+    for name in stale:
+        print(f"{name} is not what tools/cases.py makes")
+    return 1 if stale else 0
+
+
+if __name__ == "__main__":
+    sys.exit(main())

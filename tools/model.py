@@ -1,0 +1,96 @@
+"""Document 01's definitions in plain Python, written from the paper and from nothing else: sets, lists and simple loops.
+
+The vectors that the proved programs are run on are made from it (cases.py). It is no part of the product and shares no code with it.
+"""
+from collections import namedtuple
+
+Circuit = namedtuple("Circuit", "kinds starts ends")
+
+LIMITS = {"pattern": (1, 32, 256), "board": (0, 512, 4096)}  # least N, most N, most M
+
+
+def field(data, at):
+    return data[at] + 256 * data[at + 1]
+
+
+def fields(data, at, count):
+    return [field(data, at + 2 * i) for i in range(count)]
+
+
+def encode(circuit):
+    numbers = [len(circuit.kinds), len(circuit.starts), *circuit.kinds, *circuit.starts, *circuit.ends]
+    return b"".join(bytes((x % 256, x // 256)) for x in numbers)
+
+
+def links(circuit):
+    return list(zip(circuit.starts, circuit.ends))
+
+
+def neighbours(circuit):
+    near = [set() for _ in circuit.kinds]
+    for v, w in links(circuit):
+        near[v].add(w)
+        near[w].add(v)
+    return near
+
+
+def distances(circuit, centre):
+    """Each reachable node's distance from the centre, directions ignored."""
+    near = neighbours(circuit)
+    found = {centre: 0}
+    frontier = [centre]
+    while frontier:
+        reached = []
+        for v in frontier:
+            for w in sorted(near[v]):
+                if w not in found:
+                    found[w] = found[v] + 1
+                    reached.append(w)
+        frontier = reached
+    return found
+
+
+def connected(circuit):
+    return len(distances(circuit, 0)) == len(circuit.kinds)
+
+
+def link_refusal(role, circuit):
+    n = len(circuit.kinds)
+    if any(v >= n for v in [*circuit.starts, *circuit.ends]):
+        return 4
+    pairs = links(circuit)
+    if any(not a < b for a, b in zip(pairs, pairs[1:])):
+        return 5
+    if role == "pattern" and not connected(circuit):
+        return 6
+    return 0
+
+
+def out_of_range(role, n, m):
+    least, most, most_links = LIMITS[role]
+    return not (least <= n <= most and m <= most_links)
+
+
+def parse(role, data):
+    """A circuit, or the number of the first of the conditions 1 to 6 that holds."""
+    if len(data) < 4:
+        return 1
+    n, m = field(data, 0), field(data, 2)
+    if out_of_range(role, n, m):
+        return 2
+    if len(data) != 4 + 2 * n + 4 * m:
+        return 3
+    circuit = Circuit(fields(data, 4, n), fields(data, 4 + 2 * n, m), fields(data, 4 + 2 * n + 2 * m, m))
+    return link_refusal(role, circuit) or circuit
+
+
+def read(role, data, kinds, starts, ends):
+    """The reply of the reading call; kinds, starts and ends are lists that it fills in place."""
+    circuit = parse(role, data)
+    if isinstance(circuit, int):
+        return ("refused", circuit, role)
+    n, m = len(circuit.kinds), len(circuit.starts)
+    if len(kinds) < n or len(starts) < m or len(ends) < m:
+        return ("refused", 8, "neither")
+    kinds[:n], starts[:m], ends[:m] = circuit.kinds, circuit.starts, circuit.ends
+    return ("read", n, m)
