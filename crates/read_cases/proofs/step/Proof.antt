@@ -12,85 +12,85 @@ use Rattle.read_cases.proofs.role_of.Reads as role-of-reads
 use Rattle.read_cases.proofs.run.Reads as run-reads
 
 shared-slice-read-role-of : tie.Need-shared-slice-read-role-of
-shared-slice-read-role-of c = search needs
+shared-slice-read-role-of c = omega arith
 
 role-of-requires : tie.Need-role-of-requires
-role-of-requires c κs = search needs
+role-of-requires c κs = tt
 
 add-number : tie.Need-add-number
-add-number c = search needs
+add-number c = omega arith
 
 number-requires : tie.Need-number-requires
-number-requires c κs = search needs
+number-requires c κs = omega arith
 
 least-requires : tie.Need-least-requires
-least-requires c κs = search needs
+least-requires c κs = tt
 
 add-number-2 : tie.Need-add-number-2
-add-number-2 c = search needs
+add-number-2 c = omega arith
 
 number-requires-2 : tie.Need-number-requires-2
-number-requires-2 c κs = search needs
+number-requires-2 c κs = omega arith
 
 least-requires-2 : tie.Need-least-requires-2
-least-requires-2 c κs = search needs
+least-requires-2 c κs = tt
 
 add-number-3 : tie.Need-add-number-3
-add-number-3 c = search needs
+add-number-3 c = omega arith
 
 number-requires-3 : tie.Need-number-requires-3
-number-requires-3 c κs = search needs
+number-requires-3 c κs = omega arith
 
 least-requires-3 : tie.Need-least-requires-3
-least-requires-3 c κs = search needs
+least-requires-3 c κs = tt
 
 add-from : tie.Need-add-from
-add-from c = search needs
+add-from c = omega arith
 
 add-number-4 : tie.Need-add-number-4
-add-number-4 c = search needs
+add-number-4 c = omega arith
 
 number-requires-4 : tie.Need-number-requires-4
-number-requires-4 c κs = search needs
+number-requires-4 c κs = omega arith
 
 sub-least : tie.Need-sub-least
-sub-least c = search needs
+sub-least c = omega arith
 
 least-requires-4 : tie.Need-least-requires-4
-least-requires-4 c κs = search needs
+least-requires-4 c κs = tt
 
 add-to : tie.Need-add-to
-add-to c = search needs
+add-to c = omega arith
 
 sub-run : tie.Need-sub-run
-sub-run c = search needs
+sub-run c = omega arith
 
 part-run-start : tie.Need-part-run-start
-part-run-start c = search needs
+part-run-start c = omega arith
 
 part-run-end : tie.Need-part-run-end
-part-run-end c = search needs
+part-run-end c = omega arith
 
 slice-relend-prefix-run : tie.Need-slice-relend-prefix-run
-slice-relend-prefix-run c = search needs
+slice-relend-prefix-run c = omega arith
 
 slice-aggregate-run : tie.Need-slice-aggregate-run
 slice-aggregate-run c = simp length-take (omega arith)
 
 slice-relend-prefix-run-2 : tie.Need-slice-relend-prefix-run-2
-slice-relend-prefix-run-2 c = search needs
+slice-relend-prefix-run-2 c = omega arith
 
 slice-aggregate-run-2 : tie.Need-slice-aggregate-run-2
 slice-aggregate-run-2 c = simp length-take (omega arith)
 
 slice-relend-prefix-run-3 : tie.Need-slice-relend-prefix-run-3
-slice-relend-prefix-run-3 c = search needs
+slice-relend-prefix-run-3 c = omega arith
 
 slice-aggregate-run-3 : tie.Need-slice-aggregate-run-3
 slice-aggregate-run-3 c = simp length-take (omega arith)
 
 run-requires : tie.Need-run-requires
-run-requires c κs = search needs
+run-requires c κs = tt
 
 same-length : tie.Need-same-length
 same-length c = search needs
@@ -102,7 +102,7 @@ same-length-3 : tie.Need-same-length-3
 same-length-3 c = search needs
 
 returns : tie.Need-returns
-returns c = search needs
+returns c = omega arith
 
 pub step-spec : {M : Type 1} → statement M
 step-spec =
