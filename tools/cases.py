@@ -126,9 +126,102 @@ def write_read_cases():
     return {"crates/read_cases/data/cases": blob, "crates/read_cases/stdout": ("\n".join(lines) + "\n").encode()}
 
 
+def circuit_of(n, pairs):
+    """n nodes with the links given, in the file's order and each once."""
+    pairs = sorted(set(pairs))
+    return Circuit([7 * v % 65536 for v in range(n)], [a for a, _ in pairs], [b for _, b in pairs])
+
+
+def ring(n):
+    return circuit_of(n, [(v, (v + 1) % n) for v in range(n)])
+
+
+def both_ways(circuit):
+    pairs = model.links(circuit)
+    return circuit_of(len(circuit.kinds), pairs + [(b, a) for a, b in pairs])
+
+
+def turned(circuit):
+    return circuit_of(len(circuit.kinds), [(b, a) for a, b in model.links(circuit)])
+
+
+def shapes(n):
+    """Connected circuits of n nodes: path, path with links in turn each way, ring, star, tree, comb, and with self-links."""
+    out = [path(n), turned(path(n)), circuit_of(n, [(v, v + 1) if v % 2 else (v + 1, v) for v in range(n - 1)])]
+    out += [ring(n), circuit_of(n, [(0, v) for v in range(1, n)]), circuit_of(n, [(v, n - 1) for v in range(n - 1)])]
+    out += [circuit_of(n, [((v - 1) // 2, v) for v in range(1, n)])]
+    out += [circuit_of(n, [(v, v + 2) for v in range(0, n - 2, 2)] + [(v + 1, v) for v in range(0, n - 1, 2)])]
+    out += [circuit_of(n, [(v, v) for v in range(n)] + model.links(path(n)))]
+    return out
+
+
+def distance_cases():
+    rng = random.Random(2)
+    out = []
+
+    def case(data, *queries):
+        out.append((bytes(data), queries))
+
+    # the table of refusals in document 01, with a centre and a table that would be refused too
+    for text in ("", "020001", "00000000", "01000000", "010001000A0000000100", "010002000A000000000000000000", "020000000A001400"):
+        case(bytes.fromhex(text), (0, 1, 40), (9, 1, 0))
+    # each centre of small circuits, at radius 0, 1, the pattern's and 65,535; tables just long enough, short, and longer
+    y = circuit_of(3, [(0, 1), (0, 2)])
+    for circuit in (T, B, y, ring(4), circuit_of(4, [(0, 1), (0, 2), (2, 3)]), circuit_of(5, [(1, 0), (1, 2), (3, 2), (3, 4), (4, 4)])):
+        n = len(circuit.kinds)
+        wide = model.radius(encode(circuit))[1]
+        case(encode(circuit), *((c, r, n) for c in range(n + 2) for r in (0, 1, wide, 65535)), (0, 1, n - 1), (0, 1, 0), (0, 1, n + 3), (n, 1, n - 1))
+    # centres past every board, also where their low 16 bits are a node
+    case(encode(B), *((c, 2, 6) for c in (5, 6, 7, 512, 65535, 65536, 65537, 131072, 2**31, 2**32 - 1)))
+    # N = 0 and N = 1
+    case(raw(0, 0), (0, 0, 0), (0, 0, 5), (1, 65535, 5), (65536, 1, 0))
+    for numbers in ((1, 0, 5), (1, 1, 5, 0, 0)):
+        case(raw(*numbers), (0, 0, 1), (0, 65535, 1), (0, 0, 0), (1, 0, 1), (1, 0, 0))
+    # the radius of patterns of every shape; the ball at, below and above it
+    for n in (2, 3, 5, 8, 31, 32):
+        for circuit in shapes(n):
+            wide = model.radius(encode(circuit))[1]
+            case(encode(circuit), *((c, r, n) for c in (0, n // 2, n - 1) for r in (wide - 1 if wide else 0, wide, wide + 1)))
+    case(encode(both_ways(circuit_of(16, [(a, b) for a in range(16) for b in range(a)]))), (3, 0, 16), (3, 1, 16))
+    case(encode(full(32, 256, rng)), (0, 1, 32), (31, 2, 32))
+    case(encode(both_ways(path(32))), (0, 30, 32), (0, 31, 32))
+    for n in range(2, 33, 3):
+        circuit = full(n, n + rng.randrange(min(n * (n - 1) // 2, 20) + 1), rng)
+        case(encode(circuit), (rng.randrange(n), rng.randrange(4), n), (rng.randrange(n), 2, 40))
+    # boards that are not connected, with lone nodes and self-links
+    for _ in range(20):
+        n = rng.randrange(1, 40)
+        pairs = [(rng.randrange(n), rng.randrange(n)) for _ in range(rng.randrange(n + 8))]
+        case(encode(circuit_of(n, pairs)), *((rng.randrange(n), r, n + rng.randrange(3)) for r in (0, 1, 2, 5, 65535)))
+    # 512 nodes: a path each way, a ring, a star, two halves; 4,096 links
+    halves = circuit_of(512, [(v, v + 1) for v in range(511) if v != 255])
+    for circuit in (path(512), turned(path(512)), ring(512), circuit_of(512, [(0, v) for v in range(1, 512)]), halves):
+        case(encode(circuit), *((c, r, 512) for c in (0, 255, 511) for r in (0, 1, 2, 254, 255, 256, 510, 511, 65535)), (512, 1, 512), (511, 1, 511), (0, 3, 600))
+    case(encode(full(512, 4096, rng)), *((c, r, 600) for c in (0, 100, 511) for r in (0, 1, 2, 3, 65535)))
+    return out
+
+
+def write_distance_cases():
+    blob, lines = b"", []
+    for data, queries in distance_cases():
+        blob += bytes((len(data) // 256, len(data) % 256, len(queries)))
+        for c, r, size in queries:
+            for x in (c // 65536, c % 65536, r, size):
+                blob += bytes((x // 256, x % 256))
+        blob += data
+        lines.append(" ".join(map(str, model.radius(data))))
+        for c, r, size in queries:
+            table = [77] * size
+            reply = model.ball(data, c, r, table)
+            lines.append(" ".join(map(str, (*reply, digest(table + [77] * (600 - size))))))
+    assert len(blob) <= 65536, len(blob)
+    return {"crates/distance_cases/data/cases": blob, "crates/distance_cases/stdout": ("\n".join(lines) + "\n").encode()}
+
+
 def main():
     made = {}
     made.update(write_read_cases())
+    made.update(write_distance_cases())
     stale = []
     for name, content in made.items():
         target = ROOT / name

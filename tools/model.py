@@ -94,3 +94,26 @@ def read(role, data, kinds, starts, ends):
         return ("refused", 8, "neither")
     kinds[:n], starts[:m], ends[:m] = circuit.kinds, circuit.starts, circuit.ends
     return ("read", n, m)
+
+
+def radius(data):
+    """The reply of the radius call."""
+    circuit = parse("pattern", data)
+    if isinstance(circuit, int):
+        return ("refused", circuit, "pattern")
+    return ("radius", max(max(distances(circuit, v).values()) for v in range(len(circuit.kinds))))
+
+
+def ball(data, centre, r, out):
+    """The reply of the ball lookup; out is a list that it fills in place."""
+    circuit = parse("board", data)
+    if isinstance(circuit, int):
+        return ("refused", circuit, "board")
+    n = len(circuit.kinds)
+    if centre >= n:
+        return ("refused", 7, "neither")
+    if len(out) < n:
+        return ("refused", 8, "neither")
+    found = distances(circuit, centre)
+    out[:n] = [1 if v in found and found[v] <= r else 0 for v in range(n)]
+    return ("ball", n)

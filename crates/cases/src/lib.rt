@@ -1,8 +1,15 @@
 // What the programs that run stored cases share: taking a case apart, and writing what a call answered and left in its tables.
 use files::File;
 use files::Refusal;
-ghost use Prim.Native.Nat.{_+_, _≤_};
+ghost use Prim.Native.Nat.{_+_, _≤_, _<_};
 ghost use lib.ListN.{length};
+
+// A byte as a number.
+pub fn wide(x: u8) -> usize
+    ensures { λ r. ⌜ r < 256 ⌝ }
+{
+    x as usize
+}
 
 // A table's content as one number.
 pub fn digest(table: &[u16]) -> u64 {
@@ -20,6 +27,25 @@ pub fn refill(table: &mut [u16]) {
     let mut i = 0;
     while i < table.len() {
         table[i] = 7777;
+        i += 1;
+    }
+}
+
+// The same of bytes.
+pub fn digest_bytes(table: &[u8]) -> u64 {
+    let mut sum: usize = 0;
+    let mut i = 0;
+    while i < table.len() {
+        sum = (sum % 65521 * 31 + wide(table[i])) % 65521;
+        i += 1;
+    }
+    sum as u64
+}
+
+pub fn refill_bytes(table: &mut [u8]) {
+    let mut i = 0;
+    while i < table.len() {
+        table[i] = 77;
         i += 1;
     }
 }
@@ -48,8 +74,9 @@ pub fn end_line() {
 // A 16-bit number of a case, high byte first.
 pub fn number(b: &[u8], at: usize) -> usize
     requires { ⌜ at + 2 ≤ length (now b) ⌝ }
+    ensures { λ r. ⌜ r < 65536 ⌝ }
 {
-    (b[at] as usize) * 256 + b[at + 1] as usize
+    wide(b[at]) * 256 + wide(b[at + 1])
 }
 
 pub fn least(a: usize, b: usize) -> usize

@@ -1,24 +1,29 @@
--- What the reading call comes to, by cases of the verdict. Assumes nothing.
-use mathlib.Core.List.{List, _++_}
+-- What the reading call comes to, by cases of the verdict, and what its caller knows of it, by cases of the answer. Assumes nothing.
+use mathlib.Core.List.{List, [], _∷_, _++_}
 use mathlib.Core.Logic.{_⊎_, inl, inr}
-use mathlib.Core.Path.{_≡_, refl}
+use mathlib.Core.Path.{_≡_, refl, sym, ap, _∙_}
 use Prim.Native.Nat.{ℕ, _≤_, _<_}
 use mathlib.Core.Bool.{Bool, true, false, _||_, cond}
 use borrow.Author.Tests.{le-ltb}
 use lib.Dec.{T, ltb, lt→ltb}
+use Rattle.lists.specs.List.{all}
 use Rattle.lists.proofs.Tests.{either-left, either-right}
-use Rattle.files.proofs.Fields.{length-fields}
-use lib.ListN.{length, drop}
+use Rattle.files.proofs.Fields.{length-fields, length-kinds, length-starts, length-ends}
+use native.Mathlib.Nat.{le-trans}
+use native.Mathlib.Omega.{arith}
+use lib.ListN.{length, take, drop}
+use lib.Seq.{take-at}
 use Rattle.files.specs.declared.File.the-variants.{Neither}
 use Rattle.files.specs.declared.Refusal.{Refusal}
 use Rattle.files.specs.declared.ReadAnswer.{ReadAnswer}
 use Rattle.files.specs.declared.ReadAnswer.the-variants.{Read, Refused}
 use Rattle.files.specs.declared.Role.{Role}
-use Rattle.files.specs.Reading.{reading, readConditions, readAnswer, filled}
+use Rattle.files.specs.Reading.{ReadOutcome, reading, readConditions, readAnswer, filled}
+use Rattle.files.specs.Reply.{Reply, reply, readReply}
 use Rattle.files.specs.Layout.{nodesOf, linksOf, kindsOf, startsOf, endsOf}
 use Rattle.files.specs.Refusals.{Verdict, accept, refuse, first, fileConditions, shortTable}
-use Rattle.files.specs.Role.{fileOf}
-use Rattle.files.proofs.Refusals.{turned, first-accept, first-refuse}
+use Rattle.files.specs.Role.{minNodes, maxNodes, maxLinks, fileOf}
+use Rattle.files.proofs.Refusals.{turned, first-accept, first-refuse, first-left, accepted, accepted-links, range-orders}
 
 pub answer-turned : (r : Role) (k n m : ℕ) (v : Verdict) → v ≡ turned r k → readAnswer v n m ≡ Refused (record { number = k; file = fileOf r })
 unfolding readAnswer turned
@@ -38,6 +43,23 @@ pub answer-read : (n m : ℕ) (v : Verdict) (k l : ℕ) → readAnswer v n m ≡
 unfolding readAnswer
 answer-read n m accept k l e = (refl, cc, cc)
 answer-read n m (refuse y) k l e = (cc, cc, cc)
+
+-- the same in document 01's terms
+answer-reply : (v : Verdict) (n m : ℕ) → readReply (readAnswer v n m) ≡ reply v (n ∷ m ∷ [])
+unfolding readAnswer readReply reply
+answer-reply accept n m = refl
+answer-reply (refuse x) n m = refl
+
+-- a reply says which answer it was
+pub readReply-injective : (a b : ReadAnswer) → readReply a ≡ readReply b → a ≡ b
+unfolding readReply
+readReply-injective (Read n m) (Read n′ m′) e = let v = ap (λ (r : Reply). r .values) e in cc
+readReply-injective (Read n m) (Refused x) e = let v = ap (λ (r : Reply). r .verdict) e in cc
+readReply-injective (Refused x) (Read n m) e = let v = ap (λ (r : Reply). r .verdict) e in cc
+readReply-injective (Refused x) (Refused y) e = let v = ap (λ (r : Reply). r .verdict) e in cc
+
+refused-accept : (x : Refusal) → refuse x ≡ accept → ⊥
+refused-accept x e = let z : _≡_ {A = ℕ} 0 1 = cc in omega arith
 
 -- ---- the call, by cases
 
@@ -77,3 +99,65 @@ module _ (r : Role) (file kinds starts ends : List ℕ) where
         }
     unfolding reading readConditions first shortTable readAnswer filled kindsOf startsOf endsOf
     reading-filled a b d = rw (first-accept _ _ e) (simp (le-ltb _ _ a, le-ltb _ _ b, le-ltb _ _ d, length-fields))
+
+  -- the reader's answer in document 01's terms
+  pub reading-reply : readReply (reading r file kinds starts ends .answer)
+      ≡ reply (first (readConditions r file (length kinds) (length starts) (length ends))) (nodesOf file ∷ linksOf file ∷ [])
+  unfolding reading
+  reading-reply = answer-reply (first (readConditions r file (length kinds) (length starts) (length ends))) (nodesOf file) (linksOf file)
+
+-- ---- what a caller knows of the outcome, by cases of the answer
+
+-- What is known after a file was read: the file is sound, and its content stands at the front of each table.
+pub record Loaded (r : Role) (file : List ℕ) (n m : ℕ) (kinds starts ends : List ℕ) : Type 0 where
+  pub verdict : first (fileConditions r file) ≡ accept
+  pub nodes : n ≡ nodesOf file
+  pub links : m ≡ linksOf file
+  pub kindsFirst : take n kinds ≡ kindsOf file
+  pub startsFirst : take m starts ≡ startsOf file
+  pub endsFirst : take m ends ≡ endsOf file
+
+-- Tables that have room for every file of a role: to a caller that lends these, each refusal is the file's.
+pub record Room (r : Role) (kinds starts ends : List ℕ) : Type 0 where
+  pub forKinds : maxNodes r ≤ length kinds
+  pub forStarts : maxLinks r ≤ length starts
+  pub forEnds : maxLinks r ≤ length ends
+
+-- what a table has at its front after an accepted call
+filled-front : (v : Verdict) (values old l : List ℕ) (k : ℕ) → v ≡ accept → l ≡ filled v values old → length values ≡ k → take k l ≡ values
+unfolding filled
+filled-front accept values old l k a e h = ap (take k) e ∙ take-at values (drop (length values) old) k h
+filled-front (refuse x) values old l k a e h = absurd (refused-accept x a)
+
+module _ (r : Role) (file kinds starts ends : List ℕ) (o : ReadOutcome) (e : o ≡ reading r file kinds starts ends) where
+  pub loaded : (n m : ℕ) → o .answer ≡ Read n m → Loaded r file n m (o .kinds) (o .starts) (o .ends)
+  unfolding reading readConditions
+  loaded n m a =
+      let v = first (readConditions r file (length kinds) (length starts) (length ends)) in
+      let (ok, isN, isM) = answer-read (nodesOf file) (linksOf file) v n m (sym (ap (λ (x : ReadOutcome). x .answer) e) ∙ a) in
+      record {
+        verdict = first-left (fileConditions r file) _ ok;
+        nodes = isN;
+        links = isM;
+        kindsFirst = filled-front v (kindsOf file) kinds (o .kinds) n ok (ap (λ (x : ReadOutcome). x .kinds) e) (length-kinds file ∙ sym isN);
+        startsFirst = filled-front v (startsOf file) starts (o .starts) m ok (ap (λ (x : ReadOutcome). x .starts) e) (length-starts file ∙ sym isM);
+        endsFirst = filled-front v (endsOf file) ends (o .ends) m ok (ap (λ (x : ReadOutcome). x .ends) e) (length-ends file ∙ sym isM);
+      }
+
+  pub turned-away : Room r kinds starts ends → (x : Refusal) → o .answer ≡ Refused x → first (fileConditions r file) ≡ refuse x
+  turned-away room x a = go (first (fileConditions r file)) refl
+    where
+      go : (v : Verdict) → first (fileConditions r file) ≡ v → first (fileConditions r file) ≡ refuse x
+      go accept h =
+          let (_, n, m) = range-orders r (nodesOf file) (linksOf file) (accepted r file h .range) in
+          let f = reading-filled r file kinds starts ends h (le-trans n (room .forKinds)) (le-trans m (room .forStarts)) (le-trans m (room .forEnds)) in
+          cc
+      go (refuse y) h = let f = reading-refused r file kinds starts ends y h in cc
+
+-- what the makers of neighbour tables ask of a file that was read: its range, and its links
+module _ {r : Role} {file : List ℕ} {n m : ℕ} {kinds starts ends : List ℕ} (l : Loaded r file n m kinds starts ends) where
+  pub loaded-range : (minNodes r ≤ n) × (n ≤ maxNodes r) × (m ≤ maxLinks r)
+  loaded-range = rw (l .nodes, l .links) (range-orders r (nodesOf file) (linksOf file) (accepted r file (l .verdict) .range))
+
+  pub loaded-links : T (all (λ v. ltb v n) (take m starts)) × T (all (λ v. ltb v n) (take m ends))
+  loaded-links = rw (l .startsFirst, l .endsFirst, l .nodes) (accepted-links r file (accepted r file (l .verdict)))

@@ -15,7 +15,7 @@ use Rattle.files.specs.declared.Role.the-variants.{Pattern, Board}
 use Rattle.files.specs.Layout.{fields, nodesOf, linksOf, lengthOf, startsAt, endsAt, startsOf, endsOf}
 use Rattle.files.specs.Links.{linksBelow, rising}
 use Rattle.files.specs.Refusals.{Condition, Verdict, accept, refuse, first, fileConditions, asksConnected, linkNumber}
-use Rattle.files.specs.Role.{inRange, fileOf}
+use Rattle.files.specs.Role.{minNodes, maxNodes, maxLinks, inRange, fileOf}
 
 -- ---- the first of a list of conditions
 
@@ -37,6 +37,17 @@ first-refuse (c ∷ cs) ds x e = go (c .holds) e (first-refuse cs ds x)
     go : (b : Bool) → cond b (refuse (record { number = c .number; file = c .file })) (first cs) ≡ refuse x → (first cs ≡ refuse x → first (cs ++ ds) ≡ refuse x)
         → cond b (refuse (record { number = c .number; file = c .file })) (first (cs ++ ds)) ≡ refuse x
     go true e r = e
+    go false e r = r e
+
+-- of an accepted list the first part is accepted
+pub first-left : (cs ds : List Condition) → first (cs ++ ds) ≡ accept → first cs ≡ accept
+unfolding first
+first-left [] ds e = refl
+first-left (c ∷ cs) ds e = go (c .holds) e (first-left cs ds)
+  where
+    go : (b : Bool) → cond b (refuse (record { number = c .number; file = c .file })) (first (cs ++ ds)) ≡ accept → (first (cs ++ ds) ≡ accept → first cs ≡ accept)
+        → cond b (refuse (record { number = c .number; file = c .file })) (first cs) ≡ accept
+    go true e r = cc
     go false e r = r e
 
 -- no condition of an accepted list holds
@@ -148,9 +159,24 @@ accepted r file e =
       joined = λ t. refuted (connected (nodesOf file) (startsOf file) (endsOf file)) (both-false (asksConnected r) _ t (h6 .0));
     }
 
+-- its links, as what makes or searches neighbour tables asks of them
+pub accepted-links : (r : Role) (file : List ℕ) → Accepted r file → T (all (λ v. ltb v (nodesOf file)) (startsOf file)) × T (all (λ v. ltb v (nodesOf file)) (endsOf file))
+unfolding linksBelow
+accepted-links r file a =
+    let n = nodesOf file in
+    let starts = all (λ v. ltb v n) (startsOf file) in
+    let ends = all (λ v. ltb v n) (endsOf file) in
+    (both-left starts ends (a .below), both-right starts ends (a .below))
+
 -- ---- the ranges of the roles, as orders
 
+pub range-orders : (r : Role) (n m : ℕ) → T (inRange r n m) → (minNodes r ≤ n) × (n ≤ maxNodes r) × (m ≤ maxLinks r)
+range-orders r n m t =
+    let least = leb (minNodes r) n in
+    let most = leb n (maxNodes r) in
+    let links = leb m (maxLinks r) in
+    let rest : T (most && links) = both-right least (most && links) t in
+    (leb→le _ _ (both-left least (most && links) t), leb→le _ _ (both-left most links rest), leb→le _ _ (both-right most links rest))
+
 pub range-pattern : (r : Role) (n m : ℕ) → r ≡ Pattern → T (inRange r n m) → (0 < n) × (n ≤ 32) × (m ≤ 256)
-range-pattern r n m e t =
-    let u : T (inRange Pattern n m) = subst (λ (x : Role). T (inRange x n m)) e t in
-    (leb→le 1 n (both-left (leb 1 n) _ u), leb→le n 32 (both-left (leb n 32) _ (both-right (leb 1 n) _ u)), leb→le m 256 (both-right (leb n 32) _ (both-right (leb 1 n) _ u)))
+range-pattern r n m e t = range-orders Pattern n m (subst (λ (x : Role). T (inRange x n m)) e t)

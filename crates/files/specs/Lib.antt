@@ -3,3 +3,4 @@ pub mod Layout
 pub mod Links
 pub mod Refusals
 pub mod Reading
+pub mod Reply

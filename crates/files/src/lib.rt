@@ -7,6 +7,7 @@ ghost use lib.Dec.{leb};
 ghost use lib.ListN.{length, drop};
 ghost use Rattle.files.specs.Layout.{fields, kindsAt, startsAt, endsAt, lengthOf};
 ghost use Rattle.files.specs.Reading.{reading};
+ghost use Rattle.files.specs.Reply.{refusalOf};
 ghost use Rattle.files.specs.Role.{inRange};
 
 mod check;
@@ -39,6 +40,19 @@ pub enum Role {
 pub enum ReadAnswer {
     Read(usize, usize),
     Refused(Refusal),
+}
+
+// The refusal that an answer holds, for a caller that passes it up; number 0 of neither file where it holds none.
+pub fn refusal_of(answer: ReadAnswer) -> Refusal
+    ensures { λ r. ⌜ r ≡ refusalOf answer ⌝ }
+{
+    match answer {
+        ReadAnswer::Read(_, _) => Refusal {
+            number: 0,
+            file: File::Neither,
+        },
+        ReadAnswer::Refused(x) => x,
+    }
 }
 
 // From `least` to `most` nodes, and at most `links` links.

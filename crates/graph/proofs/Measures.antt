@@ -1,5 +1,5 @@
--- The breadth-first search over the neighbour tables of a circuit finds the distances that specs/Search computes, and reaches every node
--- exactly when the circuit is connected. Assumes nothing.
+-- The breadth-first search over the neighbour tables of a circuit finds the distances and the radius that specs/Search computes, and
+-- reaches every node exactly when the circuit is connected. Assumes nothing.
 use mathlib.Core.Bool.{Bool, true}
 use mathlib.Core.List.{List, [], _∷_, _++_, append-nil}
 use mathlib.Core.Logic.{_⊎_, inl, inr, ⊎-elim, _↔_}
@@ -9,13 +9,14 @@ use native.Mathlib.Nat.{not-suc-le-zero}
 use native.Mathlib.Omega.{arith}
 use lib.Dec.{T, eqb, ltb, eqb→eq, eqb-refl}
 use lib.ListN.{length, getD}
-use Rattle.lists.specs.List.{all, Occurs}
+use Rattle.lists.specs.List.{all, Occurs, tabulate, maximum}
+use Rattle.lists.proofs.Tables.{tabulate-same}
 use Rattle.lists.proofs.Tests.{same-test}
-use Rattle.graph.specs.Bfs.{Below, Adjacency, Measured, bfs, adjacent}
+use Rattle.graph.specs.Bfs.{Below, Adjacency, Measured, bfs, adjacent, eccentricity}
 use Rattle.graph.specs.Circuit.{LinkAt, HasLink, graphOf}
 use Rattle.graph.specs.Graph.{Walk, Distance, Connected}
 use Rattle.graph.specs.Neighbours.{select, groupsFrom, grouped, offsetsOf, stretch}
-use Rattle.graph.specs.Search.{far, distances, connected}
+use Rattle.graph.specs.Search.{far, distances, connected, radius}
 use Rattle.graph.proofs.Ball.{Within, within-all}
 use Rattle.graph.proofs.Below.{below-append}
 use Rattle.graph.proofs.Bfs.{bfs-measured, bfs-ready, all-reached, adjacency-of}
@@ -105,3 +106,8 @@ module _ (n : ℕ) (ss es : List ℕ) (long : length ss ≡ length es) (inStarts
         same-test
         (λ t. connected-iff nodes .1 (joins (eqb→eq _ _ t)))
         (λ t. subst (λ (k : ℕ). T (eqb k n)) (sym (everywhere .1 (λ v l e. let w = connected-iff nodes .0 t c v h l in not-far v (w .0) l (w .1) e))) (eqb-refl n))
+
+  -- the largest eccentricity that the search finds is the radius
+  pub bfs-radius : (xs ys : List ℕ) → n < far → maximum (tabulate n (eccentricity (around xs ys) n)) ≡ radius n ss es
+  unfolding eccentricity radius
+  bfs-radius xs ys few = ap maximum (tabulate-same n _ _ (λ c h. ap maximum (bfs-distances xs ys c h few n)))

@@ -1,0 +1,72 @@
+-- What the two calls come to, by cases of the conditions. Assumes nothing.
+use mathlib.Core.Bool.{cond}
+use mathlib.Core.List.{List, [], _∷_, _++_}
+use mathlib.Core.Path.{_≡_, sym, ap, subst, _∙_}
+use Prim.Native.Nat.{ℕ, _≤_, _<_}
+use borrow.Author.Tests.{lt-ltb, le-ltb}
+use lib.Dec.{eqb}
+use lib.ListN.{length, getD, drop, List·getD-append}
+use Rattle.lists.specs.List.{tabulate}
+use Rattle.lists.proofs.Tables.{tabulate-same}
+use Rattle.graph.specs.Search.{far, ball, distances, radius}
+use Rattle.graph.proofs.Ball.{Within, length-ball}
+use Rattle.graph.proofs.Distance.{ball-distances, length-distances}
+use Rattle.files.specs.declared.File.the-variants.{Neither}
+use Rattle.files.specs.declared.Refusal.{Refusal}
+use Rattle.files.specs.declared.Role.the-variants.{Pattern, Board}
+use Rattle.files.specs.Layout.{nodesOf, startsOf, endsOf}
+use Rattle.files.specs.Reading.{filled}
+use Rattle.files.specs.Refusals.{accept, refuse, first, fileConditions, centreOutside, shortTable}
+use Rattle.files.specs.Reply.{reply}
+use Rattle.files.proofs.Refusals.{first-accept, first-refuse}
+use Rattle.distance.specs.Calls.{radiusCall, ballConditions, ballEntries, ballCall, mark}
+
+-- ---- the radius
+
+module _ (file : List ℕ) where
+  pub radius-refused : (x : Refusal) → first (fileConditions Pattern file) ≡ refuse x → radiusCall file ≡ record { verdict = refuse x; values = [] }
+  unfolding radiusCall reply
+  radius-refused x e = rw e
+
+  pub radius-replied : first (fileConditions Pattern file) ≡ accept
+      → radiusCall file ≡ record { verdict = accept; values = radius (nodesOf file) (startsOf file) (endsOf file) ∷ [] }
+  unfolding radiusCall reply
+  radius-replied e = rw e
+
+-- ---- the ball
+
+module _ (file : List ℕ) (centre r : ℕ) (out : List ℕ) where
+  pub ball-refused : (x : Refusal) → first (fileConditions Board file) ≡ refuse x
+      → ballCall file centre r out ≡ record { reply = record { verdict = refuse x; values = [] }; out = out }
+  unfolding ballCall ballConditions reply filled
+  ball-refused x e = rw (first-refuse _ _ x e)
+
+  module _ (e : first (fileConditions Board file) ≡ accept) where
+    pub ball-outside : nodesOf file ≤ centre
+        → ballCall file centre r out ≡ record { reply = record { verdict = refuse (record { number = 7; file = Neither }); values = [] }; out = out }
+    unfolding ballCall ballConditions first centreOutside reply filled
+    ball-outside h = rw (first-accept _ _ e) (simp (le-ltb _ _ h))
+
+    pub ball-short : centre < nodesOf file → length out < nodesOf file
+        → ballCall file centre r out ≡ record { reply = record { verdict = refuse (record { number = 8; file = Neither }); values = [] }; out = out }
+    unfolding ballCall ballConditions first centreOutside shortTable reply filled
+    ball-short h l = rw (first-accept _ _ e) (simp (lt-ltb _ _ h, lt-ltb _ _ l))
+
+    pub ball-filled : centre < nodesOf file → nodesOf file ≤ length out
+        → ballCall file centre r out
+        ≡ record {
+          reply = record { verdict = accept; values = nodesOf file ∷ [] };
+          out = ball (nodesOf file) (startsOf file) (endsOf file) centre r ++ drop (nodesOf file) out;
+        }
+    unfolding ballCall ballConditions ballEntries first centreOutside shortTable reply filled
+    ball-filled h l = rw (first-accept _ _ e) (simp (lt-ltb _ _ h, le-ltb _ _ l, length-ball))
+
+-- ---- the bytes from the distances
+
+-- the ball's bytes are the marks of the distances, whatever stands behind these
+pub ball-marks : {n : ℕ} {ss es : List ℕ} → Within n ss es → (c r : ℕ) → n ≤ far → (dist rest : List ℕ) → dist ≡ distances n ss es c r ++ rest
+    → tabulate n (λ v. mark (getD dist v 0)) ≡ ball n ss es c r
+unfolding mark
+ball-marks {n} {ss} {es} links c r few dist rest e =
+    tabulate-same n _ _ (λ v h. ap (λ (x : ℕ). cond (eqb x far) 0 1) (ap (λ (l : List ℕ). getD l v 0) e ∙ List·getD-append (distances n ss es c r) rest 0 v (subst (λ (k : ℕ). v < k) (sym (length-distances n ss es c r)) h)))
+    ∙ sym (ball-distances links c r few)

@@ -1,0 +1,47 @@
+-- Document 01's examples of the two calls, from the bytes of their files. Assumes nothing.
+use mathlib.Core.List.{List, [], _∷_}
+use mathlib.Core.Path.{_≡_, refl}
+use Prim.Native.Nat.{ℕ}
+use Rattle.lists.specs.List.{all, allBelow, tabulate, maximum}
+use Rattle.graph.specs.Search.{beside, inside, ball, misses, distances, connected, radius}
+use Rattle.files.specs.declared.File.the-variants.{Neither}
+use Rattle.files.specs.Layout.{field, fields, nodesOf, linksOf, startsOf, endsOf}
+use Rattle.files.specs.Links.{linksBelow, earlier, rising}
+use Rattle.files.specs.Reading.{filled}
+use Rattle.files.specs.Refusals.{accept, refuse, first, fileConditions, asksConnected, centreOutside, shortTable}
+use Rattle.files.specs.Reply.{reply}
+use Rattle.distance.specs.Calls.{radiusCall, ballConditions, ballEntries, ballCall}
+
+-- T: 0:10, 1:20, 2:30, links 0-1, 1-2
+pub fileT : List ℕ
+fileT = 3 ∷ 0 ∷ 2 ∷ 0 ∷ 10 ∷ 0 ∷ 20 ∷ 0 ∷ 30 ∷ 0 ∷ 0 ∷ 0 ∷ 1 ∷ 0 ∷ 1 ∷ 0 ∷ 2 ∷ 0 ∷ []
+
+-- one part, of kind 10
+pub fileOne : List ℕ
+fileOne = 1 ∷ 0 ∷ 0 ∷ 0 ∷ 10 ∷ 0 ∷ []
+
+-- B: 0:10, 1:20, 2:30, 3:20, 4:30, 5:10, links 0-1, 1-2, 3-4
+pub fileB : List ℕ
+fileB =
+    6 ∷ 0 ∷ 3 ∷ 0 ∷ 10 ∷ 0 ∷ 20 ∷ 0 ∷ 30 ∷ 0 ∷ 20 ∷ 0 ∷ 30 ∷ 0 ∷ 10 ∷ 0 ∷ 0 ∷ 0 ∷ 1 ∷ 0 ∷ 3 ∷ 0 ∷ 1 ∷ 0 ∷ 2 ∷ 0 ∷ 4 ∷ 0 ∷ []
+
+-- E1: "T has radius 2; one part has 0."
+pub E1-T-call : radiusCall fileT ≡ record { verdict = accept; values = 2 ∷ [] }
+unfolding fileT radiusCall reply first fileConditions asksConnected linksBelow rising earlier nodesOf linksOf startsOf endsOf fields field radius connected maximum distances misses ball tabulate inside beside all allBelow
+E1-T-call = refl
+
+pub E1-one-call : radiusCall fileOne ≡ record { verdict = accept; values = 0 ∷ [] }
+unfolding fileOne radiusCall reply first fileConditions asksConnected linksBelow rising earlier nodesOf linksOf startsOf endsOf fields field radius connected maximum distances misses ball tabulate inside beside all allBelow
+E1-one-call = refl
+
+-- 7: "B below, centre 6", at any radius and with any table
+pub B-centre-6 : (r : ℕ) (out : List ℕ)
+    → ballCall fileB 6 r out ≡ record { reply = record { verdict = refuse (record { number = 7; file = Neither }); values = [] }; out = out }
+unfolding fileB ballCall ballConditions filled reply first fileConditions centreOutside shortTable asksConnected linksBelow rising earlier nodesOf linksOf startsOf endsOf fields field tabulate all allBelow
+B-centre-6 r out = refl
+
+-- the ball of radius 1 around node 1 of B, in a table of seven bytes: the seventh keeps its content
+pub B-ball : ballCall fileB 1 1 (9 ∷ 9 ∷ 9 ∷ 9 ∷ 9 ∷ 9 ∷ 9 ∷ [])
+    ≡ record { reply = record { verdict = accept; values = 6 ∷ [] }; out = 1 ∷ 1 ∷ 1 ∷ 0 ∷ 0 ∷ 0 ∷ 9 ∷ [] }
+unfolding fileB ballCall ballConditions ballEntries filled reply first fileConditions centreOutside shortTable asksConnected linksBelow rising earlier nodesOf linksOf startsOf endsOf fields field tabulate all allBelow ball inside beside
+B-ball = refl

@@ -1,0 +1,69 @@
+// Distances in circuit files: a pattern's radius, and the ball around a node of a board.
+ghost use mathlib.Core.Path.{_≡_};
+ghost use Rattle.distance.specs.Calls.{radiusReply, radiusCall, ballReply, ballCall};
+use files::Board;
+use files::File;
+use files::Pattern;
+use files::ReadAnswer;
+use files::Refusal;
+use files::Role;
+
+mod around;
+mod wide;
+
+use crate::around::fill_ball;
+use crate::wide::radius_of;
+
+// A pattern's radius, or why the file was turned away.
+pub enum RadiusAnswer {
+    Radius(usize),
+    Refused(Refusal),
+}
+
+// The board's N, or why the call was turned away.
+pub enum BallAnswer {
+    Ball(usize),
+    Refused(Refusal),
+}
+
+// The radius of a pattern: the largest distance between two of its parts.
+pub fn radius(file: &[u8]) -> RadiusAnswer
+    ensures { λ r. ⌜ radiusReply r ≡ radiusCall (now (file .entry)) ⌝ }
+{
+    let mut kinds = [0u16; Pattern::MAX_NODES];
+    let mut starts = [0u16; Pattern::MAX_LINKS];
+    let mut ends = [0u16; Pattern::MAX_LINKS];
+    let answer = files::read(Role::Pattern, file, &mut kinds, &mut starts, &mut ends);
+    let ReadAnswer::Read(n, m) = answer else {
+        return RadiusAnswer::Refused(files::refusal_of(answer));
+    };
+    RadiusAnswer::Radius(radius_of(n, m, &starts, &ends))
+}
+
+// The ball around a node of a board: a byte for each node, 1 inside and 0 outside, first in `out`; or the refusal, which leaves `out` as it
+// was.
+pub fn ball(file: &[u8], centre: usize, radius: u16, out: &mut [u8]) -> BallAnswer
+    ensures { λ r. ⌜ record { reply = ballReply r; out = now (out .exit) } ≡ ballCall (now (file .entry)) centre radius (now (out .entry)) ⌝ }
+{
+    let mut kinds = [0u16; Board::MAX_NODES];
+    let mut starts = [0u16; Board::MAX_LINKS];
+    let mut ends = [0u16; Board::MAX_LINKS];
+    let answer = files::read(Role::Board, file, &mut kinds, &mut starts, &mut ends);
+    let ReadAnswer::Read(n, m) = answer else {
+        return BallAnswer::Refused(files::refusal_of(answer));
+    };
+    if n <= centre {
+        return BallAnswer::Refused(Refusal {
+            number: 7,
+            file: File::Neither,
+        });
+    }
+    if out.len() < n {
+        return BallAnswer::Refused(Refusal {
+            number: 8,
+            file: File::Neither,
+        });
+    }
+    fill_ball(n, m, &starts, &ends, centre as u16, radius, out);
+    BallAnswer::Ball(n)
+}

@@ -1,0 +1,107 @@
+-- `distance_cases::query` keeps to its slices. Assumes nothing.
+use native.Mathlib.Omega.{arith}
+use lib.ListN.{length-take}
+use borrow.Author.Needs.{needs}
+use Rattle.distance_cases.proofs.query.Statement.{statement}
+use Rattle.distance_cases.proofs.query.Tie as tie
+
+number-requires : tie.Need-number-requires
+number-requires c κs = search needs
+
+mul-centre : tie.Need-mul-centre
+mul-centre c = search needs
+
+add-number : tie.Need-add-number
+add-number c = search needs
+
+number-requires-2 : tie.Need-number-requires-2
+number-requires-2 c κs = search needs
+
+add-centre : tie.Need-add-centre
+add-centre c = search needs
+
+add-number-2 : tie.Need-add-number-2
+add-number-2 c = search needs
+
+number-requires-3 : tie.Need-number-requires-3
+number-requires-3 c κs = search needs
+
+cast-radius : tie.Need-cast-radius
+cast-radius c = search needs
+
+add-number-3 : tie.Need-add-number-3
+add-number-3 c = search needs
+
+number-requires-4 : tie.Need-number-requires-4
+number-requires-4 c κs = search needs
+
+least-requires : tie.Need-least-requires
+least-requires c κs = search needs
+
+refill-requires : tie.Need-refill-requires
+refill-requires c κs = search needs
+
+slice-relend-prefix-ball : tie.Need-slice-relend-prefix-ball
+slice-relend-prefix-ball c = search needs
+
+slice-aggregate-ball : tie.Need-slice-aggregate-ball
+slice-aggregate-ball c = simp length-take (omega arith)
+
+ball-requires : tie.Need-ball-requires
+ball-requires c κs = search needs
+
+show-ball-requires : tie.Need-show-ball-requires
+show-ball-requires c κs = search needs
+
+slice-aggregate-write-all : tie.Need-slice-aggregate-write-all
+slice-aggregate-write-all c = search needs
+
+write-all-requires : tie.Need-write-all-requires
+write-all-requires c κs = search needs
+
+digest-requires : tie.Need-digest-requires
+digest-requires c κs = search needs
+
+print-decimal-requires : tie.Need-print-decimal-requires
+print-decimal-requires c κs = search needs
+
+slice-aggregate-write-all-2 : tie.Need-slice-aggregate-write-all-2
+slice-aggregate-write-all-2 c = search needs
+
+write-all-requires-2 : tie.Need-write-all-requires-2
+write-all-requires-2 c κs = search needs
+
+same-length : tie.Need-same-length
+same-length c = search needs
+
+returns : tie.Need-returns
+returns c = search needs
+
+pub query-spec : {M : Type 1} → statement M
+query-spec =
+    tie.close
+    (tie.spec
+    number-requires
+    mul-centre
+    add-number
+    number-requires-2
+    add-centre
+    add-number-2
+    number-requires-3
+    cast-radius
+    add-number-3
+    number-requires-4
+    least-requires
+    refill-requires
+    slice-relend-prefix-ball
+    slice-aggregate-ball
+    ball-requires
+    show-ball-requires
+    slice-aggregate-write-all
+    write-all-requires
+    digest-requires
+    print-decimal-requires
+    slice-aggregate-write-all-2
+    write-all-requires-2
+    same-length
+    returns)
