@@ -1,6 +1,6 @@
 -- Laws of the numbers below a bound that pass a test. Assumes nothing.
-use mathlib.Core.Bool.{Bool, true, false, _&&_, _||_, not, cond, and-true}
-use mathlib.Core.List.{List, [], _∷_}
+use mathlib.Core.Bool.{Bool, true, false, _&&_, _||_, not, cond, and-true, or-false, or-assoc}
+use mathlib.Core.List.{List, [], _∷_, _++_}
 use mathlib.Core.Path.{_≡_, refl, sym, ap, ap₂, _∙_}
 use Prim.Native.Nat.{ℕ, zero, suc, _+_, _≤_, _<_, zero-le, suc-le-suc}
 use native.Mathlib.Nat.{le-of-suc-le-suc, not-suc-le-zero, zero-lt-suc, zero-add, le-antisymm, lt-of-not-le, lt-of-le-of-lt}
@@ -48,6 +48,30 @@ collect-same zero p q f e = refl
 collect-same (suc n) p q f e =
     ap₂ (λ (a : Bool) (b : List ℕ). cond a (f zero ∷ b) b) (e zero (zero-lt-suc n))
     (collect-same n (λ i. p (suc i)) (λ i. q (suc i)) (λ i. f (suc i)) (λ i h. e (suc i) (suc-le-suc h)))
+
+-- ---- one number more at the end
+
+pub anyBelow-suc : (n : ℕ) (p : ℕ → Bool) → anyBelow (suc n) p ≡ anyBelow n p || p n
+unfolding anyBelow
+anyBelow-suc zero p = or-false (p zero)
+anyBelow-suc (suc n) p =
+    ap (λ (b : Bool). p zero || b) (anyBelow-suc n (λ i. p (suc i))) ∙ sym (or-assoc (p zero) (anyBelow n (λ i. p (suc i))) (p (suc n)))
+
+pub countBelow-suc : (n : ℕ) (p : ℕ → Bool) → countBelow (suc n) p ≡ countBelow n p + cond (p n) 1 0
+unfolding countBelow
+countBelow-suc zero p = omega arith
+countBelow-suc (suc n) p = omega (arith, countBelow-suc n (λ i. p (suc i)))
+
+pub collect-suc : (n : ℕ) (p : ℕ → Bool) (f : ℕ → ℕ) → collect (suc n) p f ≡ collect n p f ++ cond (p n) (f n ∷ []) []
+unfolding collect
+collect-suc zero p f = refl
+collect-suc (suc n) p f =
+    ap (λ (xs : List ℕ). cond (p zero) (f zero ∷ xs) xs) (collect-suc n (λ i. p (suc i)) (λ i. f (suc i)))
+    ∙ go (p zero) (collect n (λ i. p (suc i)) (λ i. f (suc i))) (cond (p (suc n)) (f (suc n) ∷ []) [])
+  where
+    go : (b : Bool) (xs ys : List ℕ) → cond b (f zero ∷ (xs ++ ys)) (xs ++ ys) ≡ cond b (f zero ∷ xs) xs ++ ys
+    go true xs ys = refl
+    go false xs ys = refl
 
 -- ---- how many
 

@@ -36,19 +36,25 @@ unfolding tabulate
 tabulate-suc zero f = refl
 tabulate-suc (suc n) f = ap (λ (l : List ℕ). f zero ∷ l) (tabulate-suc n (λ i. f (suc i)))
 
--- ---- a loop that fills a list from the front by a rule, one store a turn: what is stored so far, and what is still there of the old list
+-- ---- a loop that fills a list from the front, one store a turn: what is stored so far, and what is still there of the old list
 
+-- one store more, after m entries
+pub stored-more : (xs d : List ℕ) (m x : ℕ) → length xs ≡ m → m < length d → set (xs ++ drop m d) m x ≡ (xs ++ (x ∷ [])) ++ drop (m + 1) d
+stored-more xs d m x e h =
+    ap (λ (l : List ℕ). set (xs ++ l) m x) (drop-cons d m 0 h)
+    ∙ set-at xs (getD d m 0) (drop (suc m) d) x m e
+    ∙ sym (append-snoc xs x (drop (suc m) d))
+    ∙ sym (ap (λ (k : ℕ). (xs ++ (x ∷ [])) ++ drop k d) (add-one m))
+
+-- the same where a rule gives the entries
 pub filled-none : (f : ℕ → ℕ) (d : List ℕ) → d ≡ tabulate 0 f ++ drop 0 d
 unfolding tabulate
 filled-none f d = refl
 
 pub filled-more : (n : ℕ) (f : ℕ → ℕ) (d : List ℕ) → n < length d → set (tabulate n f ++ drop n d) n (f n) ≡ tabulate (n + 1) f ++ drop (n + 1) d
 filled-more n f d h =
-    ap (λ (l : List ℕ). set (tabulate n f ++ l) n (f n)) (drop-cons d n 0 h)
-    ∙ set-at (tabulate n f) (getD d n 0) (drop (suc n) d) (f n) n (length-tabulate n f)
-    ∙ sym (append-snoc (tabulate n f) (f n) (drop (suc n) d))
-    ∙ sym (ap (λ (l : List ℕ). l ++ drop (suc n) d) (tabulate-suc n f))
-    ∙ sym (ap (λ (k : ℕ). tabulate k f ++ drop k d) (add-one n))
+    stored-more (tabulate n f) d n (f n) (length-tabulate n f) h
+    ∙ ap (λ (l : List ℕ). l ++ drop (n + 1) d) (sym (tabulate-suc n f) ∙ sym (ap (λ (k : ℕ). tabulate k f) (add-one n)))
 
 -- the length of a list while it is filled
 pub length-filled : (n : ℕ) (f : ℕ → ℕ) (d : List ℕ) → n ≤ length d → length (tabulate n f ++ drop n d) ≡ length d

@@ -1,6 +1,6 @@
--- The numbers below a bound that pass a test: how many, which is the least, and their list.
+-- The numbers below a bound that pass a test: how many, which is the least, and their list; and lists one after another.
 use mathlib.Core.Bool.{Bool, cond}
-use mathlib.Core.List.{List, [], _∷_}
+use mathlib.Core.List.{List, [], _∷_, _++_}
 use Prim.Native.Nat.{ℕ, zero, suc, _+_}
 
 -- how many numbers below n pass the test
@@ -19,3 +19,8 @@ collect zero p f = []
 collect (suc n) p f =
     let rest = collect n (λ i. p (suc i)) (λ i. f (suc i)) in
     cond (p zero) (f zero ∷ rest) rest
+
+-- the lists g 0, g 1, .., g (n - 1), one after another
+unfoldable pub concatBelow : ℕ → (ℕ → List ℕ) → List ℕ
+concatBelow zero g = []
+concatBelow (suc n) g = concatBelow n g ++ g n

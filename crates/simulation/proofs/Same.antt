@@ -2,7 +2,7 @@
 -- Assumes nothing.
 use mathlib.Core.Logic.{Iff·rfl, Iff·symm, Iff·trans}
 use Prim.Native.Nat.{ℕ}
-use Rattle.graph.specs.Graph.{Graph, Subgraph, Contains, Connected}
+use Rattle.graph.specs.Graph.{Graph, Subgraph, Contains, Connected, Distance, Radius}
 use Rattle.simulation.specs.Closed.{Relation, _⊆_}
 use Rattle.simulation.specs.Simulation.{DualSimulation, Largest}
 use Rattle.simulation.specs.Perfect.{MatchGraph, PerfectIn, PlaceIn, SameGraph, SameAgree}
@@ -42,11 +42,29 @@ subgraph-same g h s =
       ends = λ v w l. g .nodes w .0 (s .ends v w (g .links v w .1 l));
     }
 
-connected-same : {G G′ : Graph} → SameGraph G G′ → Connected G → Connected G′
+pub connected-same : {G G′ : Graph} → SameGraph G G′ → Connected G → Connected G′
 unfolding Connected
 connected-same g connected v w n m =
     let (k, walk) = connected v w (g .nodes v .1 n) (g .nodes w .1 m) in
     (k, wider-walk (λ x y. g .links x y .0) walk)
+
+distance-same : {G G′ : Graph} {v w d : ℕ} → SameGraph G G′ → Distance G v w d → Distance G′ v w d
+distance-same g p =
+    record {
+      walk = wider-walk (λ x y. g .links x y .0) (p .walk);
+      shortest = λ k q. p .shortest k (wider-walk (λ x y. g .links x y .1) q);
+    }
+
+pub radius-same : {G G′ : Graph} {r : ℕ} → SameGraph G G′ → Radius G r → Radius G′ r
+radius-same g p =
+    record {
+      reached = λ v w n m.
+          let (d, near, le) = p .reached v w (g .nodes v .1 n) (g .nodes w .1 m) in
+          (d, distance-same g near, le);
+      attained =
+          let (v, w, n, m, far) = p .attained in
+          (v, w, g .nodes v .0 n, g .nodes w .0 m, distance-same g far);
+    }
 
 -- ── Dual simulations ──
 

@@ -1,0 +1,75 @@
+-- A circuit that can be the content of a pattern file. Assumes nothing.
+use mathlib.Core.List.{List}
+use mathlib.Core.Path.{_≡_, refl, sym, _∙_}
+use Prim.Native.Nat.{ℕ, _≤_, _<_}
+use lib.Dec.{T, ltb}
+use lib.ListN.{length}
+use Rattle.lists.specs.List.{all}
+use Rattle.lists.proofs.Tests.{both-left, both-right}
+use Rattle.graph.specs.Circuit.{Circuit, circuitGraph}
+use Rattle.graph.specs.Graph.{Connected, Radius}
+use Rattle.graph.specs.Search.{connected}
+use Rattle.graph.proofs.Ball.{Within, within-all}
+use Rattle.graph.proofs.Distance.{connected-iff, radius-is}
+use Rattle.files.specs.declared.Role.the-variants.{Pattern}
+use Rattle.files.specs.Links.{linksBelow, rising}
+use Rattle.files.specs.Role.{inRange}
+use Rattle.files.specs.Refusals.{asksConnected}
+use Rattle.files.proofs.Refusals.{Accepted, range-pattern}
+use Rattle.place.specs.Match.{radiusOf}
+use Rattle.place.proofs.Ball.{Admissible}
+use Rattle.place.proofs.Accepted.{circuitOf, length-kinds, length-starts, length-ends}
+
+-- Every condition on a pattern that is not about the bytes of a file: numbers 2, 4, 5 and 6, and "as many starts as ends".
+pub record PatternContent (p : Circuit) : Type 0 where
+  pub range : T (inRange Pattern (length (p .kinds)) (length (p .starts)))
+  pub parallel : length (p .starts) ≡ length (p .ends)
+  pub below : T (linksBelow (length (p .kinds)) (p .starts) (p .ends))
+  pub rises : T (rising (p .starts) (p .ends))
+  pub joined : T (connected (length (p .kinds)) (p .starts) (p .ends))
+
+-- an accepted pattern file holds such a circuit
+pub accepted-content : {file : List ℕ} → Accepted Pattern file → PatternContent (circuitOf file)
+unfolding asksConnected
+accepted-content {file} a =
+    record {
+      range = rw (length-kinds, length-starts) (a .range);
+      parallel = length-starts file ∙ sym (length-ends file);
+      below = rw length-kinds (a .below);
+      rises = a .rises;
+      joined = rw length-kinds (a .joined tt);
+    }
+
+-- ---- what follows
+
+module _ {p : Circuit} (c : PatternContent p) where
+  sizes : (0 < length (p .kinds)) × (length (p .kinds) ≤ 32) × (length (p .starts) ≤ 256)
+  sizes = range-pattern Pattern (length (p .kinds)) (length (p .starts)) refl (c .range)
+
+  pub some-parts : 0 < length (p .kinds)
+  some-parts = sizes .0
+
+  pub most-parts : length (p .kinds) ≤ 32
+  most-parts = sizes .1
+
+  pub most-links : length (p .starts) ≤ 256
+  most-links = sizes .2
+
+  pub content-within : Within (length (p .kinds)) (p .starts) (p .ends)
+  unfolding linksBelow
+  content-within =
+      let starts = all (λ v. ltb v (length (p .kinds))) (p .starts) in
+      let ends = all (λ v. ltb v (length (p .kinds))) (p .ends) in
+      within-all (length (p .kinds)) (p .starts) (p .ends) (both-left starts ends (c .below)) (both-right starts ends (c .below))
+
+  pub content-connected : Connected (circuitGraph p)
+  unfolding circuitGraph
+  content-connected = connected-iff content-within .0 (c .joined)
+
+  pub content-radius : Radius (circuitGraph p) (radiusOf p)
+  unfolding circuitGraph radiusOf
+  content-radius = radius-is content-within some-parts (c .joined)
+
+  -- it is admissible as a pattern on every board whose links join its nodes
+  pub content-admissible : {board : Circuit} → Within (length (board .kinds)) (board .starts) (board .ends) → Admissible p board
+  content-admissible links = record { most = most-parts; parallel = c .parallel; connected = content-connected; links = links }

@@ -1,0 +1,61 @@
+-- Document 01's examples of merging, by computation. Assumes nothing.
+use mathlib.Core.List.{[], _∷_}
+use mathlib.Core.Path.{_≡_, refl, ap, _∙_}
+use Rattle.lists.specs.List.{all, any, allBelow, anyBelow, tabulate, sum}
+use Rattle.lists.specs.Below.{countBelow, leastBelow, collect}
+use Rattle.bits.specs.Bits.{bit, numberOf, sizeOf}
+use Rattle.graph.specs.Neighbours.{select}
+use Rattle.graph.specs.Search.{inside, beside, ball, connected}
+use Rattle.table.specs.Host.{everything}
+use Rattle.table.specs.Row.{inTable, agrees, startTable, answered, supported, strike, row, pairs, started, lastTable}
+use Rattle.files.specs.Links.{linksBelow, earlier, rising}
+use Rattle.place.specs.Match.{radiusOf}
+use Rattle.place.specs.Examples.{circuitY, oneLink}
+use Rattle.place.proofs.Examples.{radius-Y, radius-oneLink}
+use Rattle.merge.specs.Merged.{equivalent, leader, isLeader, classIn, selfTable, classOf, classCount, classes, joins, linked, linkedPair, merged}
+use Rattle.merge.specs.Examples.{circuitE8}
+use Rattle.merge.proofs.Content.{PatternContent}
+
+-- all that is opened where a merged pattern is computed
+opened : Unit {0}
+unfolding all any anyBelow tabulate sum countBelow leastBelow collect bit numberOf sizeOf select inside everything inTable agrees startTable answered supported strike row pairs started lastTable equivalent leader isLeader classIn selfTable classOf classCount classes joins linked linkedPair merged
+opened = tt
+
+-- ---- "E6 Y: 0:10, 1:20, 2:20, links 0-1, 0-2: classes 0, 1, 1; the merged radius is 1, Y's is 2."
+
+-- Y can be a pattern
+pub content-Y : PatternContent circuitY
+unfolding opened circuitY all allBelow linksBelow rising earlier beside ball connected
+content-Y = record { range = tt; parallel = refl; below = tt; rises = tt; joined = tt }
+
+pub E6-table : selfTable circuitY ≡ 1 ∷ 6 ∷ 6 ∷ []
+unfolding opened circuitY
+E6-table = refl
+
+pub E6-classes : classes circuitY ≡ 0 ∷ 1 ∷ 1 ∷ []
+unfolding opened circuitY
+E6-classes = refl
+
+pub E6-merged : merged circuitY ≡ oneLink
+unfolding opened circuitY oneLink
+E6-merged = refl
+
+pub E6-radius : radiusOf circuitY ≡ 2
+E6-radius = radius-Y
+
+pub E6-merged-radius : radiusOf (merged circuitY) ≡ 1
+E6-merged-radius = ap radiusOf E6-merged ∙ radius-oneLink
+
+-- ---- "E8 0:10, 1:20, 2:20, 3:30, links 0-1, 0-2, 2-3: no merging."
+
+pub E8-table : selfTable circuitE8 ≡ 1 ∷ 2 ∷ 6 ∷ 8 ∷ []
+unfolding opened circuitE8
+E8-table = refl
+
+pub E8-classes : classes circuitE8 ≡ 0 ∷ 1 ∷ 2 ∷ 3 ∷ []
+unfolding opened circuitE8
+E8-classes = refl
+
+pub E8-merged : merged circuitE8 ≡ circuitE8
+unfolding opened circuitE8
+E8-merged = refl

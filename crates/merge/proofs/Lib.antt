@@ -1,0 +1,7 @@
+pub mod Content
+pub mod Classes
+pub mod Merging
+pub mod Accepted
+pub mod Places
+pub mod Steps
+pub mod Examples

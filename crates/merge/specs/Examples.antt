@@ -1,0 +1,7 @@
+-- The circuits of document 01's examples of merging that the place's examples do not have.
+use mathlib.Core.List.{[], _∷_}
+use Rattle.graph.specs.Circuit.{Circuit}
+
+-- E8: "0:10, 1:20, 2:20, 3:30, links 0-1, 0-2, 2-3"
+unfoldable pub circuitE8 : Circuit
+circuitE8 = record { kinds = 10 ∷ 20 ∷ 20 ∷ 30 ∷ []; starts = 0 ∷ 0 ∷ 2 ∷ []; ends = 1 ∷ 2 ∷ 3 ∷ [] }

@@ -1,0 +1,1 @@
+// The merged pattern: the quotient of a pattern by mutual matching.
