@@ -1,9 +1,19 @@
--- `distance_cases::query` keeps to its slices. Assumes nothing.
+-- `distance_cases::query` is safe. Assumes nothing.
 use native.Mathlib.Omega.{arith}
 use lib.ListN.{length-take}
 use borrow.Author.Needs.{needs}
 use Rattle.distance_cases.proofs.query.Statement.{statement}
 use Rattle.distance_cases.proofs.query.Tie as tie
+use Rattle.distance_cases.proofs.query.Reads as reads
+use Rattle.distance_cases.proofs.query.Lts as lts
+use Rattle.cases.proofs.digest_bytes.Reads as digest-bytes-reads
+use Rattle.cases.proofs.end_line.Reads as end-line-reads
+use Rattle.cases.proofs.least.Reads as least-reads
+use Rattle.cases.proofs.number.Reads as number-reads
+use Rattle.cases.proofs.refill_bytes.Reads as refill-bytes-reads
+use Rattle.cases.proofs.show_number.Reads as show-number-reads
+use Rattle.distance.proofs.ball.Reads as ball-reads
+use Rattle.distance_cases.proofs.show_ball.Reads as show-ball-reads
 
 number-requires : tie.Need-number-requires
 number-requires c κs = search needs
@@ -38,8 +48,8 @@ number-requires-4 c κs = search needs
 least-requires : tie.Need-least-requires
 least-requires c κs = search needs
 
-refill-requires : tie.Need-refill-requires
-refill-requires c κs = search needs
+refill-bytes-requires : tie.Need-refill-bytes-requires
+refill-bytes-requires c κs = search needs
 
 slice-relend-prefix-ball : tie.Need-slice-relend-prefix-ball
 slice-relend-prefix-ball c = search needs
@@ -53,23 +63,14 @@ ball-requires c κs = search needs
 show-ball-requires : tie.Need-show-ball-requires
 show-ball-requires c κs = search needs
 
-slice-aggregate-write-all : tie.Need-slice-aggregate-write-all
-slice-aggregate-write-all c = search needs
+digest-bytes-requires : tie.Need-digest-bytes-requires
+digest-bytes-requires c κs = search needs
 
-write-all-requires : tie.Need-write-all-requires
-write-all-requires c κs = search needs
+show-number-requires : tie.Need-show-number-requires
+show-number-requires c κs = search needs
 
-digest-requires : tie.Need-digest-requires
-digest-requires c κs = search needs
-
-print-decimal-requires : tie.Need-print-decimal-requires
-print-decimal-requires c κs = search needs
-
-slice-aggregate-write-all-2 : tie.Need-slice-aggregate-write-all-2
-slice-aggregate-write-all-2 c = search needs
-
-write-all-requires-2 : tie.Need-write-all-requires-2
-write-all-requires-2 c κs = search needs
+end-line-requires : tie.Need-end-line-requires
+end-line-requires c κs = search needs
 
 same-length : tie.Need-same-length
 same-length c = search needs
@@ -92,16 +93,13 @@ query-spec =
     add-number-3
     number-requires-4
     least-requires
-    refill-requires
+    refill-bytes-requires
     slice-relend-prefix-ball
     slice-aggregate-ball
     ball-requires
     show-ball-requires
-    slice-aggregate-write-all
-    write-all-requires
-    digest-requires
-    print-decimal-requires
-    slice-aggregate-write-all-2
-    write-all-requires-2
+    digest-bytes-requires
+    show-number-requires
+    end-line-requires
     same-length
     returns)
