@@ -11,7 +11,7 @@ use lib.Seq.{getD-take, take-at}
 use Rattle.lists.specs.List.{all, allBelow, tabulate}
 use Rattle.lists.proofs.Tests.{all-at, at-all, allBelow-at, at-allBelow, T-true, T-false}
 use Rattle.lists.proofs.Tables.{length-tabulate, getD-tabulate, tabulate-same, filled-none, filled-more}
-use Rattle.files.specs.Layout.{field, fields}
+use Rattle.files.specs.Layout.{field, fields, nodesOf, linksOf, kindsOf, startsOf, endsOf}
 use Rattle.files.specs.Links.{earlier, rising, inOrder}
 
 pub length-fields : (s : List ℕ) (k : ℕ) → length (fields s k) ≡ k
@@ -21,6 +21,18 @@ length-fields s k = length-tabulate k (λ i. field s (2 * i))
 pub getD-fields : (s : List ℕ) (k i : ℕ) → i < k → getD (fields s k) i 0 ≡ field s (2 * i)
 unfolding fields
 getD-fields s k i h = getD-tabulate k (λ i. field s (2 * i)) i 0 h
+
+pub length-kinds : (file : List ℕ) → length (kindsOf file) ≡ nodesOf file
+unfolding kindsOf
+length-kinds file = length-fields _ (nodesOf file)
+
+pub length-starts : (file : List ℕ) → length (startsOf file) ≡ linksOf file
+unfolding startsOf
+length-starts file = length-fields _ (linksOf file)
+
+pub length-ends : (file : List ℕ) → length (endsOf file) ≡ linksOf file
+unfolding endsOf
+length-ends file = length-fields _ (linksOf file)
 
 -- the first k fields lie in the first 2 k bytes
 pub fields-take : (s : List ℕ) (k : ℕ) → fields (take (2 * k) s) k ≡ fields s k

@@ -9,8 +9,9 @@ ghost use Rattle.files.specs.Layout.{fields, kindsAt, startsAt, endsAt, 
 ghost use Rattle.files.specs.Reading.{reading};
 ghost use Rattle.files.specs.Role.{inRange};
 
-mod check;
-mod part;
+pub mod check;
+pub mod connected;
+pub mod part;
 
 use crate::check::check;
 use crate::part::store;

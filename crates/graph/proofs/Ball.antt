@@ -39,14 +39,14 @@ pub within-all : (n : ℕ) (ss es : List ℕ) → T (all (λ s. ltb s n) ss) →
 within-all n ss es s e = within n ss es (λ i h. ltb→lt _ n (all-at (λ x. ltb x n) ss s i h)) (λ i h. ltb→lt _ n (all-at (λ x. ltb x n) es e i h))
 
 -- a link past the first is a link of the rest, and the other way round
-link-later : {s e : ℕ} {ss es : List ℕ} {v w i : ℕ} → LinkAt ss es v w i → LinkAt (s ∷ ss) (e ∷ es) v w (suc i)
+pub link-later : {s e : ℕ} {ss es : List ℕ} {v w i : ℕ} → LinkAt ss es v w i → LinkAt (s ∷ ss) (e ∷ es) v w (suc i)
 link-later l = record { inStarts = suc-le-suc (l .inStarts); inEnds = suc-le-suc (l .inEnds); start = l .start; end = l .end }
 
-link-earlier : {s e : ℕ} {ss es : List ℕ} {v w i : ℕ} → LinkAt (s ∷ ss) (e ∷ es) v w (suc i) → LinkAt ss es v w i
+pub link-earlier : {s e : ℕ} {ss es : List ℕ} {v w i : ℕ} → LinkAt (s ∷ ss) (e ∷ es) v w (suc i) → LinkAt ss es v w i
 link-earlier l = record { inStarts = le-of-suc-le-suc (l .inStarts); inEnds = le-of-suc-le-suc (l .inEnds); start = l .start; end = l .end }
 
 -- the first link, when it goes from v to w
-link-first : {s e : ℕ} (ss es : List ℕ) {v w : ℕ} → s ≡ v → e ≡ w → LinkAt (s ∷ ss) (e ∷ es) v w zero
+pub link-first : {s e : ℕ} (ss es : List ℕ) {v w : ℕ} → s ≡ v → e ≡ w → LinkAt (s ∷ ss) (e ∷ es) v w zero
 link-first ss es p q = record { inStarts = zero-lt-suc _; inEnds = zero-lt-suc _; start = p; end = q }
 
 -- ---- beside
