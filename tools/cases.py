@@ -218,10 +218,82 @@ def write_distance_cases():
     return {"crates/distance_cases/data/cases": blob, "crates/distance_cases/stdout": ("\n".join(lines) + "\n").encode()}
 
 
+def write_cases():
+    rng = random.Random(2)
+    out = []
+
+    def case(role, kinds, starts, ends, room=300):
+        out.append((role, kinds, starts, ends, room))
+
+    both = ("pattern", "board")
+    for role in both:
+        # nothing given; a kind alone; kind 0 and the largest; a self-link; both directions
+        case(role, [], [], [])
+        case(role, [], [0], [0])
+        case(role, [0], [], [])
+        case(role, [65535], [0], [0])
+        case(role, [258, 513], [0, 1], [1, 0])
+        # not as many starts as ends, one more and one fewer, before what is wrong with the links
+        for starts, ends in (([0], []), ([], [0]), ([0, 1], [1]), ([0], [1, 0]), ([9, 9], [9]), ([1, 0], [0, 1, 2])):
+            case(role, [1, 2, 3], starts, ends)
+        # a start and an end that are no node, first and last; 4 anywhere before 5 anywhere
+        for starts, ends in (([3], [0]), ([0], [3]), ([0, 3], [1, 1]), ([0, 1], [1, 65535]), ([1, 0, 2], [1, 1, 3]), ([0, 0], [3, 3])):
+            case(role, [1, 2, 3], starts, ends)
+        # links: equal, falling by start, falling by end, rising by end alone
+        for starts, ends in (([0, 0], [1, 1]), ([1, 0], [0, 1]), ([0, 0], [2, 1]), ([0, 0], [0, 1]), ([0, 0, 1, 1], [1, 2, 0, 0])):
+            case(role, [1, 2, 3], starts, ends)
+        # connected against the links' directions; two halves; no link
+        case(role, [0, 0, 0], [1, 2], [0, 0])
+        case(role, [0, 0, 0, 0], [0, 2], [1, 3])
+        case(role, [7, 7], [], [])
+        # 8 comes after 2 to 6
+        for kinds, starts, ends in (([], [0], []), ([1], [0], []), ([1], [0], [1]), ([1], [0, 0], [0, 0]), ([1, 2], [], [])):
+            case(role, kinds, starts, ends, 0)
+        # room: each number of bytes around the file's length
+        for circuit in (T, B):
+            size = len(encode(circuit))
+            for room in (0, 1, 3, 4, size - 2, size - 1, size, size + 1, size + 9):
+                case(role, *circuit, room)
+    # N and M at the maxima and one past them
+    for n in (31, 32, 33, 34):
+        for role in both:
+            case(role, *path(n))
+    case("pattern", *full(32, 256, rng), 1500)
+    case("pattern", *full(32, 257, rng), 1500)
+    case("pattern", [7] * 32, [], [])
+    for n in (511, 512, 513):
+        case("board", *path(n), 4000)
+    case("board", *full(512, 4096, rng), 17412)
+    case("board", [7], [0] * 4096, [0] * 4095)
+    case("board", [7], [0] * 4097, [])
+    # small circuits, some of them sound
+    for _ in range(200):
+        n, m = rng.randrange(1, 5), rng.randrange(5)
+        pairs = [(rng.randrange(n + (rng.random() < 0.1)), rng.randrange(n)) for _ in range(m)]
+        if rng.random() < 0.8:
+            pairs = sorted(set(pairs))
+        case(rng.choice(both), [rng.randrange(65536) for _ in range(n)], [a for a, _ in pairs], [b for _, b in pairs], rng.randrange(20, 40))
+    return out
+
+
+def write_write_cases():
+    blob, lines = b"", []
+    for role, kinds, starts, ends, room in write_cases():
+        blob += bytes((0 if role == "pattern" else 1,))
+        for x in (len(kinds), len(starts), len(ends), room, *kinds, *starts, *ends):
+            blob += bytes((x // 256, x % 256))
+        table = [77] * room
+        reply = model.write(role, kinds, starts, ends, table)
+        lines.append(" ".join(str(x) for x in (*reply, digest(table))))
+    assert len(blob) <= 65536, len(blob)
+    return {"crates/write_cases/data/cases": blob, "crates/write_cases/stdout": ("\n".join(lines) + "\n").encode()}
+
+
 def main():
     made = {}
     made.update(write_read_cases())
     made.update(write_distance_cases())
+    made.update(write_write_cases())
     stale = []
     for name, content in made.items():
         target = ROOT / name

@@ -117,3 +117,20 @@ def ball(data, centre, r, out):
     found = distances(circuit, centre)
     out[:n] = [1 if v in found and found[v] <= r else 0 for v in range(n)]
     return ("ball", n)
+
+
+def write(role, kinds, starts, ends, out):
+    """The reply of the writing call; out is a list of bytes that it fills in place."""
+    if out_of_range(role, len(kinds), len(starts)):
+        return ("refused", 2, role)
+    if len(starts) != len(ends):
+        return ("refused", 3, role)
+    circuit = Circuit(kinds, starts, ends)
+    number = link_refusal(role, circuit)
+    if number:
+        return ("refused", number, role)
+    data = encode(circuit)
+    if len(out) < len(data):
+        return ("refused", 8, "neither")
+    out[:len(data)] = data
+    return ("written", len(data))

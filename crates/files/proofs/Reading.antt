@@ -4,7 +4,7 @@ use mathlib.Core.Logic.{_⊎_, inl, inr}
 use mathlib.Core.Path.{_≡_, refl, sym, ap, _∙_}
 use Prim.Native.Nat.{ℕ, _≤_, _<_}
 use mathlib.Core.Bool.{Bool, true, false, _||_, cond}
-use borrow.Author.Tests.{le-ltb}
+use borrow.Author.Tests.{le-ltb, ltb-false}
 use lib.Dec.{T, ltb, lt→ltb}
 use Rattle.lists.specs.List.{all}
 use Rattle.lists.proofs.Tests.{either-left, either-right}
@@ -23,7 +23,7 @@ use Rattle.files.specs.Reply.{Reply, reply, readReply}
 use Rattle.files.specs.Layout.{nodesOf, linksOf, kindsOf, startsOf, endsOf}
 use Rattle.files.specs.Refusals.{Verdict, accept, refuse, first, fileConditions, shortTable}
 use Rattle.files.specs.Role.{minNodes, maxNodes, maxLinks, fileOf}
-use Rattle.files.proofs.Refusals.{turned, first-accept, first-refuse, first-left, accepted, accepted-links, range-orders}
+use Rattle.files.proofs.Refusals.{turned, first-accept, first-refuse, first-parts, first-holds, accepted, accepted-links, range-orders}
 
 pub answer-turned : (r : Role) (k n m : ℕ) (v : Verdict) → v ≡ turned r k → readAnswer v n m ≡ Refused (record { number = k; file = fileOf r })
 unfolding readAnswer turned
@@ -75,6 +75,15 @@ short-table a b d k s e (inl h) = either-left (ltb k a) _ (lt→ltb _ _ h)
 short-table a b d k s e (inr (inl h)) = either-right (ltb k a) _ (either-left (ltb s b) _ (lt→ltb _ _ h))
 short-table a b d k s e (inr (inr h)) = either-right (ltb k a) _ (either-right (ltb s b) _ (lt→ltb _ _ h))
 
+-- What is known of an accepted call.
+pub record Filled (r : Role) (file kinds starts ends : List ℕ) (n m : ℕ) : Type 0 where
+  pub sound : first (fileConditions r file) ≡ accept
+  pub nodes : n ≡ nodesOf file
+  pub links : m ≡ linksOf file
+  pub kindsFit : nodesOf file ≤ length kinds
+  pub startsFit : linksOf file ≤ length starts
+  pub endsFit : linksOf file ≤ length ends
+
 module _ (r : Role) (file kinds starts ends : List ℕ) where
   pub reading-refused : (x : Refusal) → first (fileConditions r file) ≡ refuse x
       → reading r file kinds starts ends ≡ record { answer = Refused x; kinds = kinds; starts = starts; ends = ends }
@@ -106,6 +115,24 @@ module _ (r : Role) (file kinds starts ends : List ℕ) where
   unfolding reading
   reading-reply = answer-reply (first (readConditions r file (length kinds) (length starts) (length ends))) (nodesOf file) (linksOf file)
 
+  -- an accepted call: no condition on the file holds, the tables are long enough, and the reply has N and M
+  pub reading-accepted : (n m : ℕ) → reading r file kinds starts ends .answer ≡ Read n m → Filled r file kinds starts ends n m
+  unfolding reading readConditions shortTable
+  reading-accepted n m e =
+      let a = answer-read _ _ _ n m e in
+      let h = first-parts (fileConditions r file) _ (a .0) in
+      let k = first-holds _ _ (h .1) in
+      let s = first-holds _ _ (k .1) in
+      let t = first-holds _ _ (s .1) in
+      record {
+        sound = h .0;
+        nodes = a .1;
+        links = a .2;
+        kindsFit = ltb-false _ _ (k .0);
+        startsFit = ltb-false _ _ (s .0);
+        endsFit = ltb-false _ _ (t .0);
+      }
+
 -- ---- what a caller knows of the outcome, by cases of the answer
 
 -- What is known after a file was read: the file is sound, and its content stands at the front of each table.
@@ -136,7 +163,7 @@ module _ (r : Role) (file kinds starts ends : List ℕ) (o : ReadOutcome) (e : o
       let v = first (readConditions r file (length kinds) (length starts) (length ends)) in
       let (ok, isN, isM) = answer-read (nodesOf file) (linksOf file) v n m (sym (ap (λ (x : ReadOutcome). x .answer) e) ∙ a) in
       record {
-        verdict = first-left (fileConditions r file) _ ok;
+        verdict = first-parts (fileConditions r file) _ ok .0;
         nodes = isN;
         links = isM;
         kindsFirst = filled-front v (kindsOf file) kinds (o .kinds) n ok (ap (λ (x : ReadOutcome). x .kinds) e) (length-kinds file ∙ sym isN);

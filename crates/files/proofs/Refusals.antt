@@ -1,8 +1,9 @@
 -- Laws of lists of conditions, and what it says of a file that none of its conditions holds. Assumes nothing.
 use mathlib.Core.Bool.{Bool, true, false, _&&_, not, cond}
 use mathlib.Core.List.{List, [], _∷_, _++_}
-use mathlib.Core.Path.{_≡_, refl, sym, ap, _∙_, subst}
-use Prim.Native.Nat.{ℕ, _+_, _*_, _≤_, _<_}
+use mathlib.Core.Path.{_≡_, refl, sym, _∙_, subst}
+use Prim.Native.Nat.{ℕ, _≤_, _<_}
+use native.Mathlib.Omega.{arith}
 use borrow.Author.Tests.{lt-ltb, le-ltb, eq-eqb, ne-eqb, ltb-false, eqb-true, not-false}
 use lib.Dec.{T, eqb, ltb, leb, leb→le}
 use lib.ListN.{length, drop}
@@ -14,7 +15,7 @@ use Rattle.files.specs.declared.Role.{Role}
 use Rattle.files.specs.declared.Role.the-variants.{Pattern, Board}
 use Rattle.files.specs.Layout.{fields, nodesOf, linksOf, lengthOf, startsAt, endsAt, startsOf, endsOf}
 use Rattle.files.specs.Links.{linksBelow, rising}
-use Rattle.files.specs.Refusals.{Condition, Verdict, accept, refuse, first, fileConditions, asksConnected, linkNumber}
+use Rattle.files.specs.Refusals.{Condition, Verdict, accept, refuse, first, linkConditions, fileConditions, asksConnected, linkNumber}
 use Rattle.files.specs.Role.{minNodes, maxNodes, maxLinks, inRange, fileOf}
 
 -- ---- the first of a list of conditions
@@ -39,17 +40,6 @@ first-refuse (c ∷ cs) ds x e = go (c .holds) e (first-refuse cs ds x)
     go true e r = e
     go false e r = r e
 
--- of an accepted list the first part is accepted
-pub first-left : (cs ds : List Condition) → first (cs ++ ds) ≡ accept → first cs ≡ accept
-unfolding first
-first-left [] ds e = refl
-first-left (c ∷ cs) ds e = go (c .holds) e (first-left cs ds)
-  where
-    go : (b : Bool) → cond b (refuse (record { number = c .number; file = c .file })) (first (cs ++ ds)) ≡ accept → (first (cs ++ ds) ≡ accept → first cs ≡ accept)
-        → cond b (refuse (record { number = c .number; file = c .file })) (first cs) ≡ accept
-    go true e r = cc
-    go false e r = r e
-
 -- no condition of an accepted list holds
 pub first-holds : (c : Condition) (cs : List Condition) → first (c ∷ cs) ≡ accept → (c .holds ≡ false) × (first cs ≡ accept)
 unfolding first
@@ -58,6 +48,14 @@ first-holds c cs e = go (c .holds) e
     go : (b : Bool) → cond b (refuse (record { number = c .number; file = c .file })) (first cs) ≡ accept → (b ≡ false) × (first cs ≡ accept)
     go true e = (cc, cc)
     go false e = (refl, e)
+
+-- a list that is accepted is accepted part by part
+pub first-parts : (cs ds : List Condition) → first (cs ++ ds) ≡ accept → (first cs ≡ accept) × (first ds ≡ accept)
+first-parts cs ds e = go (first cs) refl
+  where
+    go : (v : Verdict) → first cs ≡ v → (first cs ≡ accept) × (first ds ≡ accept)
+    go accept h = (h, sym (first-accept cs ds h) ∙ e)
+    go (refuse x) h = let z : refuse x ≡ accept = sym (first-refuse cs ds x h) ∙ e in (cc, cc)
 
 -- ---- the links' number, as the tests come out in their order
 
@@ -97,6 +95,18 @@ pub number-accept : (r : Role) (k : ℕ) → k ≡ 0 → byNumber r k ≡ accept
 unfolding byNumber
 number-accept r k h = simp (eq-eqb _ _ h)
 
+-- the first of the conditions on the links is the one that their number says
+pub verdict-number : (r : Role) (n : ℕ) (starts ends : List ℕ) → first (linkConditions r n starts ends) ≡ byNumber r (linkNumber r n starts ends)
+unfolding first linkConditions linkNumber byNumber turned
+verdict-number r n starts ends =
+    go (linksBelow n starts ends) (rising starts ends) (asksConnected r && not (connected n starts ends))
+  where
+    go : (x y z : Bool) → cond (not x) (turned r 4) (cond (not y) (turned r 5) (cond z (turned r 6) accept)) ≡ byNumber r (cond x (cond y (cond z 6 0) 5) 4)
+    go true true true = refl
+    go true true false = refl
+    go true false z = refl
+    go false y z = refl
+
 -- The tests in their order, with N and M as the code has read them.
 module _ (r : Role) (file : List ℕ) where
   pub verdict-1 : length file < 4 → first (fileConditions r file) ≡ turned r 1
@@ -112,23 +122,11 @@ module _ (r : Role) (file : List ℕ) where
     unfolding first fileConditions turned
     verdict-3 b e = simp (le-ltb _ _ a, rw (isN, isM) at b, ne-eqb _ _ (rw (isN, isM) at e))
 
-    links-verdict : (x y z : Bool) → cond (not x) (turned r 4) (cond (not y) (turned r 5) (cond z (turned r 6) accept)) ≡ byNumber r (cond x (cond y (cond z 6 0) 5) 4)
-    unfolding byNumber
-    links-verdict true true true = refl
-    links-verdict true true false = refl
-    links-verdict true false z = refl
-    links-verdict false y z = refl
-
     pub verdict-links : inRange r n m ≡ true → length file ≡ lengthOf n m
-        → first (fileConditions r file) ≡ byNumber r (linkNumber r n (fields (drop (startsAt n) file) m) (fields (drop (endsAt n m) file) m))
-    unfolding first fileConditions turned linkNumber startsOf endsOf
+        → first (fileConditions r file) ≡ first (linkConditions r n (fields (drop (startsAt n) file) m) (fields (drop (endsAt n m) file) m))
+    unfolding first fileConditions startsOf endsOf
     verdict-links b e =
-        rw (isN, isM)
-        (simp (le-ltb _ _ a, rw (isN, isM) at b, eq-eqb _ _ (rw (isN, isM) at e))
-        (links-verdict
-        (linksBelow (nodesOf file) (startsOf file) (endsOf file))
-        (rising (startsOf file) (endsOf file))
-        (asksConnected r && not (connected (nodesOf file) (startsOf file) (endsOf file)))))
+        rw (isN, isM) (simp (le-ltb _ _ a, rw (isN, isM) at b, eq-eqb _ _ (rw (isN, isM) at e)))
 
 -- ---- an accepted file
 
@@ -142,7 +140,7 @@ pub record Accepted (r : Role) (file : List ℕ) : Type 0 where
   pub joined : T (asksConnected r) → T (connected (nodesOf file) (startsOf file) (endsOf file))
 
 pub accepted : (r : Role) (file : List ℕ) → first (fileConditions r file) ≡ accept → Accepted r file
-unfolding fileConditions
+unfolding fileConditions linkConditions
 accepted r file e =
     let h1 = first-holds _ _ e in
     let h2 = first-holds _ _ (h1 .1) in
@@ -180,3 +178,12 @@ range-orders r n m t =
 
 pub range-pattern : (r : Role) (n m : ℕ) → r ≡ Pattern → T (inRange r n m) → (0 < n) × (n ≤ 32) × (m ≤ 256)
 range-pattern r n m e t = range-orders Pattern n m (subst (λ (x : Role). T (inRange x n m)) e t)
+
+-- what every role's range leaves
+pub range-bounds : (r : Role) (n m : ℕ) → T (inRange r n m) → (n ≤ 512) × (m ≤ 4096)
+range-bounds Pattern n m t =
+    let h = range-orders Pattern n m t in
+    (omega arith, omega arith)
+range-bounds Board n m t =
+    let h = range-orders Board n m t in
+    (omega arith, omega arith)

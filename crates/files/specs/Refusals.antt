@@ -1,7 +1,7 @@
 -- The numbers of refusal, as document 01's table has them: each condition with its number and the file that it means, in the order in
 -- which they are tried.
-use mathlib.Core.Bool.{Bool, true, false, _&&_, _||_, not, cond}
-use mathlib.Core.List.{List, [], _∷_, _++_}
+use mathlib.Core.Bool.{Bool, true, false, _&&_, not, cond}
+use mathlib.Core.List.{List, [], _∷_}
 use Prim.Native.Nat.{ℕ}
 use lib.Dec.{eqb, ltb}
 use lib.ListN.{length}
@@ -35,20 +35,22 @@ unfoldable pub asksConnected : Role → Bool
 asksConnected role.Pattern = true
 asksConnected role.Board = false
 
--- 1 file under 4 bytes; 2 N or M outside its role's range; 3 length not 4 + 2N + 4M; 4 a link end or start not below N; 5 links not
--- strictly rising; 6 pattern not connected
+-- 4 a link end or start not below N; 5 links not strictly rising; 6 pattern not connected. Reading and writing both ask these.
+unfoldable pub linkConditions : Role → ℕ → List ℕ → List ℕ → List Condition
+linkConditions r n starts ends =
+    record { number = 4; file = fileOf r; holds = not (linksBelow n starts ends) } ∷
+    record { number = 5; file = fileOf r; holds = not (rising starts ends) } ∷
+    record { number = 6; file = fileOf r; holds = asksConnected r && not (connected n starts ends) } ∷ []
+
+-- 1 file under 4 bytes; 2 N or M outside its role's range; 3 length not 4 + 2N + 4M; then the links
 unfoldable pub fileConditions : Role → List ℕ → List Condition
 fileConditions r file =
     let n = nodesOf file in
     let m = linksOf file in
-    let starts = startsOf file in
-    let ends = endsOf file in
     record { number = 1; file = fileOf r; holds = ltb (length file) 4 } ∷
     record { number = 2; file = fileOf r; holds = not (inRange r n m) } ∷
     record { number = 3; file = fileOf r; holds = not (eqb (length file) (lengthOf n m)) } ∷
-    record { number = 4; file = fileOf r; holds = not (linksBelow n starts ends) } ∷
-    record { number = 5; file = fileOf r; holds = not (rising starts ends) } ∷
-    record { number = 6; file = fileOf r; holds = asksConnected r && not (connected n starts ends) } ∷ []
+    linkConditions r n (startsOf file) (endsOf file)
 
 -- the number of the first condition on the links that holds, 4, 5 or 6, and 0 where none does
 unfoldable pub linkNumber : Role → ℕ → List ℕ → List ℕ → ℕ

@@ -1,10 +1,10 @@
 // The conditions 1 to 6 on a file, tried in their order. Nothing is written.
 ghost use mathlib.Core.Path.{_≡_};
-ghost use Prim.Native.Nat.{ℕ, _+_, _*_, _<_, _≤_};
+ghost use Prim.Native.Nat.{_+_, _*_, _<_, _≤_};
 ghost use lib.Dec.{T, ltb};
 ghost use lib.ListN.{length};
 ghost use Rattle.lists.specs.List.{all};
-ghost use Rattle.graph.specs.Search.{far, connected};
+ghost use Rattle.graph.specs.Search.{connected};
 ghost use Rattle.files.specs.Layout.{fields, nodesOf, linksOf};
 ghost use Rattle.files.specs.Role.{inRange, fileOf};
 ghost use Rattle.files.specs.Refusals.{linkNumber, first, fileConditions};
@@ -15,29 +15,38 @@ use crate::Pattern;
 use crate::ReadAnswer;
 use crate::Refusal;
 use crate::Role;
+use crate::connected::connected;
 use crate::part::all_below;
 use crate::part::field_at;
 use crate::part::links_rise;
 use crate::part::store;
 use crate::part::stretch;
 
+// The refusal of a file in a role.
+pub fn refusal(role: Role, number: u8) -> Refusal
+    ensures { λ r. ⌜ r ≡ record { number = number; file = fileOf role } ⌝ }
+{
+    match role {
+        Role::Pattern => Refusal {
+            number,
+            file: File::Pattern,
+        },
+        Role::Board => Refusal {
+            number,
+            file: File::Board,
+        },
+    }
+}
+
 // The answer that turns a file away.
 fn refused(role: Role, number: u8) -> ReadAnswer
     ensures { λ r. ⌜ r ≡ ReadAnswer.Refused (record { number = number; file = fileOf role }) ⌝ }
 {
-    match role {
-        Role::Pattern => ReadAnswer::Refused(Refusal {
-            number,
-            file: File::Pattern,
-        }),
-        Role::Board => ReadAnswer::Refused(Refusal {
-            number,
-            file: File::Board,
-        }),
-    }
+    ReadAnswer::Refused(refusal(role, number))
 }
 
-fn in_range(role: Role, nodes: usize, links: usize) -> bool
+// N and M are in the role's range.
+pub fn in_range(role: Role, nodes: usize, links: usize) -> bool
     ensures { λ r. ⌜ r ≡ inRange role nodes links ⌝ }
 {
     match role {
@@ -46,42 +55,17 @@ fn in_range(role: Role, nodes: usize, links: usize) -> bool
     }
 }
 
-// The links of a pattern join all its nodes, directions ignored. The tables lent are scratch: starts and ends, neighbour tables, and
-// the distances and the queue of the search.
-fn joined_in(
-    n: usize,
-    m: usize,
-    starts: &[u8],
-    ends: &[u8],
-    s: &mut [u16],
-    e: &mut [u16],
-    fo: &mut [u16],
-    ft: &mut [u16],
-    bo: &mut [u16],
-    bt: &mut [u16],
-    dist: &mut [u16],
-    queue: &mut [u16],
-) -> bool
+// The links of a pattern join all its nodes, directions ignored. The tables lent are scratch, for the starts and the ends as numbers.
+fn joined_in(n: usize, m: usize, starts: &[u8], ends: &[u8], s: &mut [u16], e: &mut [u16]) -> bool
     requires { ⌜ (2 * m ≤ length (now starts)) × (2 * m ≤ length (now ends)) ⌝ }
     requires { ⌜ T (all (λ v. ltb v n) (fields (now starts) m)) × T (all (λ v. ltb v n) (fields (now ends) m)) ⌝ }
-    requires { ⌜ (0 < n) × (n < far) × (m ≤ 65535) ⌝ }
-    requires { ⌜ (m ≤ length (now s)) × (m ≤ length (now e)) × (m ≤ length (now ft)) × (m ≤ length (now bt)) ⌝ }
-    requires { ⌜ (n < length (now fo)) × (n < length (now bo)) × (n ≤ length (now dist)) × (n ≤ length (now queue)) ⌝ }
+    requires { ⌜ (0 < n) × (n ≤ 32) × (m ≤ 256) ⌝ }
+    requires { ⌜ (m ≤ length (now s)) × (m ≤ length (now e)) ⌝ }
     ensures { λ r. ⌜ r ≡ connected n (fields (now (starts .entry)) m) (fields (now (ends .entry)) m) ⌝ }
 {
     store(starts, m, s);
     store(ends, m, e);
-    graph::joined::joined(
-        n,
-        &s[..m],
-        &e[..m],
-        fo,
-        &mut ft[..m],
-        bo,
-        &mut bt[..m],
-        dist,
-        queue,
-    )
+    connected(n, &s[..m], &e[..m])
 }
 
 // The same, with tables of its own.
@@ -93,26 +77,7 @@ fn joined(n: usize, m: usize, starts: &[u8], ends: &[u8]) -> bool
 {
     let mut s = [0u16; Pattern::MAX_LINKS];
     let mut e = [0u16; Pattern::MAX_LINKS];
-    let mut fo = [0u16; Pattern::MAX_NODES + 1];
-    let mut ft = [0u16; Pattern::MAX_LINKS];
-    let mut bo = [0u16; Pattern::MAX_NODES + 1];
-    let mut bt = [0u16; Pattern::MAX_LINKS];
-    let mut dist = [0u16; Pattern::MAX_NODES];
-    let mut queue = [0u16; Pattern::MAX_NODES];
-    joined_in(
-        n,
-        m,
-        starts,
-        ends,
-        &mut s,
-        &mut e,
-        &mut fo,
-        &mut ft,
-        &mut bo,
-        &mut bt,
-        &mut dist,
-        &mut queue,
-    )
+    joined_in(n, m, starts, ends, &mut s, &mut e)
 }
 
 // 4, 5 or 6, the first that the links give, or 0.

@@ -39,7 +39,7 @@ pub fn all_below(part: &[u8], k: usize, n: usize) -> bool
 }
 
 // One link, a start and an end, comes before another.
-fn comes_before(start: u16, end: u16, next_start: u16, next_end: u16) -> bool
+pub fn comes_before(start: u16, end: u16, next_start: u16, next_end: u16) -> bool
     ensures { λ r. ⌜ r ≡ earlier start end «next_start» «next_end» ⌝ }
 {
     if start < next_start {

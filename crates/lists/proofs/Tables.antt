@@ -2,7 +2,7 @@
 use mathlib.Core.List.{List, [], _∷_, _++_, append-nil}
 use mathlib.Core.Path.{_≡_, refl, sym, ap, _∙_}
 use Prim.Native.Nat.{ℕ, zero, suc, _+_, _≤_, _<_}
-use native.Mathlib.Nat.{le-of-suc-le-suc, not-suc-le-zero, add-sub-of-le, le-of-eq}
+use native.Mathlib.Nat.{zero-add, suc-add, le-of-suc-le-suc, not-suc-le-zero, add-sub-of-le, le-of-eq}
 use native.Mathlib.Numerals.{add-one}
 use native.Mathlib.Omega.{arith}
 use lib.ListN.{length, getD, take, drop, set, length-append, length-drop, drop-of-length-le}
@@ -35,6 +35,16 @@ pub tabulate-suc : (n : ℕ) (f : ℕ → ℕ) → tabulate (suc n) f ≡ tabula
 unfolding tabulate
 tabulate-suc zero f = refl
 tabulate-suc (suc n) f = ap (λ (l : List ℕ). f zero ∷ l) (tabulate-suc n (λ i. f (suc i)))
+
+-- a table in two parts
+pub tabulate-append : (i j : ℕ) (f : ℕ → ℕ) → tabulate (i + j) f ≡ tabulate i f ++ tabulate j (λ k. f (i + k))
+unfolding tabulate
+tabulate-append zero j f =
+    ap (λ (k : ℕ). tabulate k f) (zero-add j) ∙ tabulate-same j f (λ k. f (0 + k)) (λ k h. ap f (sym (zero-add k)))
+tabulate-append (suc i) j f =
+    ap (λ (k : ℕ). tabulate k f) (suc-add i j)
+    ∙ ap (λ (l : List ℕ). f zero ∷ l) (tabulate-append i j (λ k. f (suc k)))
+    ∙ ap (λ (l : List ℕ). f zero ∷ (tabulate i (λ k. f (suc k)) ++ l)) (tabulate-same j (λ k. f (suc (i + k))) (λ k. f (suc i + k)) (λ k h. ap f (sym (suc-add i k))))
 
 -- ---- a loop that fills a list from the front, one store a turn: what is stored so far, and what is still there of the old list
 

@@ -8,7 +8,7 @@ use Rattle.files.specs.declared.ReadAnswer.the-variants.{Read}
 use Rattle.files.specs.Layout.{nodesOf, linksOf}
 use Rattle.files.specs.Refusals.{first, fileConditions, linkNumber}
 use Rattle.files.proofs.Reading.{answer-turned, answer-accept}
-use Rattle.files.proofs.Refusals.{verdict-1, verdict-2, verdict-3, verdict-links, byNumber, number-turned, number-accept}
+use Rattle.files.proofs.Refusals.{verdict-1, verdict-2, verdict-3, verdict-links, verdict-number, byNumber, number-turned, number-accept}
 use borrow.Author.Needs.{needs}
 use Rattle.files.proofs.check.check.Statement.{statement}
 use Rattle.files.proofs.check.check.Tie as tie
@@ -116,6 +116,7 @@ by-links c =
     verdict-links _ _ _ _ (c .before .before .before .before .before .before .before .field-at .ensures) (c .before .before .before .before .before .before .field-at2 .ensures) (c .before .before .before .before .before .before .before .before .if1 .left)
     (sym (c .before .before .before .before .before .in-range .ensures) ∙ not-false _ (c .before .before .before .before .if2 .left))
     (omega arith)
+    ∙ verdict-number _ _ _ _
     ∙ ap (byNumber (c .before .before .before .before .before .before .before .before .before .before .args .role)) (sym (c .link-number .ensures ∙ ap₂ (linkNumber (c .before .before .before .before .before .before .before .before .before .before .args .role) (c .before .before .before .before .before .before .before .field-at .result)) (c .before .before .stretch .ensures .1) (c .before .stretch2 .ensures .1)))
 
 returns-4 : tie.Need-returns-4

@@ -1,0 +1,5 @@
+pub mod Stores
+pub mod LinkTests
+pub mod FileFields
+pub mod Writing
+pub mod RoundTrip
