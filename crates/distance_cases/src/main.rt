@@ -1,7 +1,14 @@
 // Runs the two calls of `distance` on each file of `cases` (tools/cases.py makes it): the radius once, as a pattern, and the ball lookup, as
 // a board, at each centre, radius and table length that the case names. Writes a line for each call: what it answered, and for a ball a
 // digest of the whole table, so that a byte that was touched shows.
-use cases::{digest_bytes, end_line, least, number, refill_bytes, show_number, show_refusal, wide};
+use cases::digest_bytes;
+use cases::end_line;
+use cases::least;
+use cases::number;
+use cases::refill_bytes;
+use cases::show_number;
+use cases::show_refusal;
+use cases::wide;
 use distance::BallAnswer;
 use distance::RadiusAnswer;
 ghost use Prim.Native.Nat.{_+_, _*_, _≤_};
