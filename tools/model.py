@@ -134,3 +134,50 @@ def write(role, kinds, starts, ends, out):
         return ("refused", 8, "neither")
     out[:len(data)] = data
     return ("written", len(data))
+def start_set(pattern, board):
+    """R0: the pairs (part, node) with equal kinds."""
+    return {(u, v) for u, k in enumerate(pattern.kinds) for v, j in enumerate(board.kinds) if k == j}
+
+
+def next_set(pattern, board, pairs):
+    """The pairs of a set whose links have partners in that set, each looked up in the set whole."""
+    out = {v: set() for v in range(len(board.kinds))}
+    into = {v: set() for v in range(len(board.kinds))}
+    for v, w in links(board):
+        out[v].add(w)
+        into[w].add(v)
+    kept = set()
+    for u, v in pairs:
+        drives = all(any((y, w) in pairs for w in out[v]) for x, y in links(pattern) if x == u)
+        driven = all(any((x, w) in pairs for w in into[v]) for x, y in links(pattern) if y == u)
+        if drives and driven:
+            kept.add((u, v))
+    return kept
+
+
+def largest(pattern, board):
+    """The last set of the row, and the counts started, kept, struck and rounds."""
+    first = last = start_set(pattern, board)
+    rounds = 0
+    while True:
+        new = next_set(pattern, board, last)
+        if new == last:
+            return last, (len(first), len(last), len(first) - len(last), rounds)
+        last = new
+        rounds += 1
+
+
+def match_table(pattern_data, board_data, table):
+    """The reply of the whole-board call; the table is a list that it fills in place."""
+    pattern = parse("pattern", pattern_data)
+    if isinstance(pattern, int):
+        return ("refused", pattern, "pattern")
+    board = parse("board", board_data)
+    if isinstance(board, int):
+        return ("refused", board, "board")
+    n = len(board.kinds)
+    if len(table) < n:
+        return ("refused", 8, "neither")
+    pairs, counts = largest(pattern, board)
+    table[:n] = [sum(2**u for u, w in pairs if w == v) for v in range(n)]
+    return ("matched", *counts)

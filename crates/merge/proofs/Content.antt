@@ -18,7 +18,8 @@ use Rattle.files.specs.Refusals.{asksConnected}
 use Rattle.files.proofs.Refusals.{Accepted, range-pattern}
 use Rattle.place.specs.Match.{radiusOf}
 use Rattle.place.proofs.Ball.{Admissible}
-use Rattle.place.proofs.Accepted.{circuitOf, length-kinds, length-starts, length-ends}
+use Rattle.files.specs.Circuit.{circuitOf}
+use Rattle.files.proofs.Fields.{length-kinds, length-starts, length-ends}
 
 -- Every condition on a pattern that is not about the bytes of a file: numbers 2, 4, 5 and 6, and "as many starts as ends".
 pub record PatternContent (p : Circuit) : Type 0 where
