@@ -1,3 +1,4 @@
 pub mod Fields
 pub mod Refusals
+pub mod Accepted
 pub mod Reading

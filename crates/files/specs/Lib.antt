@@ -1,5 +1,6 @@
 pub mod Role
 pub mod Layout
 pub mod Links
+pub mod Circuit
 pub mod Refusals
 pub mod Reading

@@ -3,6 +3,8 @@ use mathlib.Core.Bool.{Bool, true, false, cond}
 use mathlib.Core.List.{List, [], _∷_, _++_}
 use Prim.Native.Nat.{ℕ}
 use lib.ListN.{length, drop}
+use Rattle.files.specs.declared.File.the-variants.{Neither}
+use Rattle.files.specs.declared.Refusal.{Refusal}
 use Rattle.files.specs.declared.ReadAnswer.{ReadAnswer}
 use Rattle.files.specs.declared.ReadAnswer.the-variants.{Read, Refused}
 use Rattle.files.specs.declared.Role.{Role}
@@ -18,6 +20,11 @@ readConditions role file kinds starts ends =
 unfoldable pub readAnswer : Verdict → ℕ → ℕ → ReadAnswer
 readAnswer accept n m = Read n m
 readAnswer (refuse x) n m = Refused x
+
+-- the refusal that an answer holds; of an answer that is none, one without a number
+abbrev pub refusalOf : ReadAnswer → Refusal
+refusalOf (Read n m) = record { number = 0; file = Neither }
+refusalOf (Refused x) = x
 
 -- "All lent tables keep their content" where the call is refused; "Accepted calls leave entries past those needed."
 unfoldable pub filled : Verdict → List ℕ → List ℕ → List ℕ

@@ -55,6 +55,10 @@ unfoldable pub linkNumber : Role → ℕ → List ℕ → List ℕ → ℕ
 linkNumber r n starts ends =
     cond (linksBelow n starts ends) (cond (rising starts ends) (cond (asksConnected r && not (connected n starts ends)) 6 0) 5) 4
 
+-- 7 centre not below the board's N
+unfoldable pub centreOutside : ℕ → ℕ → Condition
+centreOutside n centre = record { number = 7; file = Neither; holds = not (ltb centre n) }
+
 -- 8 a lent output table too short: needed is what its first number says, lent the second
 unfoldable pub shortTable : ℕ → ℕ → Condition
 shortTable needed lent = record { number = 8; file = Neither; holds = ltb lent needed }

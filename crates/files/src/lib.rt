@@ -6,7 +6,7 @@ ghost use Prim.Native.Nat.{ℕ, _+_, _*_, _≤_};
 ghost use lib.Dec.{leb};
 ghost use lib.ListN.{length, drop};
 ghost use Rattle.files.specs.Layout.{fields, kindsAt, startsAt, endsAt, lengthOf};
-ghost use Rattle.files.specs.Reading.{reading};
+ghost use Rattle.files.specs.Reading.{reading, refusalOf};
 ghost use Rattle.files.specs.Role.{inRange};
 
 mod check;
@@ -39,6 +39,19 @@ pub enum Role {
 pub enum ReadAnswer {
     Read(usize, usize),
     Refused(Refusal),
+}
+
+// The refusal that an answer holds, to be passed up by a call whose own answer is another type. Where the answer is none, its number is 0.
+pub fn refusal_of(answer: ReadAnswer) -> Refusal
+    ensures { λ r. ⌜ r ≡ refusalOf answer ⌝ }
+{
+    match answer {
+        ReadAnswer::Read(_, _) => Refusal {
+            number: 0,
+            file: File::Neither,
+        },
+        ReadAnswer::Refused(x) => x,
+    }
 }
 
 // From `least` to `most` nodes, and at most `links` links.

@@ -9,3 +9,4 @@ pub mod BfsSteps
 pub mod BfsScan
 pub mod Bfs
 pub mod Measures
+pub mod Reached

@@ -1,5 +1,5 @@
--- The breadth-first search over the neighbour tables of a circuit finds the distances that specs/Search computes, and reaches every node
--- exactly when the circuit is connected. Assumes nothing.
+-- The breadth-first search over the neighbour tables of a circuit finds the distances and the radius that specs/Search computes, and
+-- reaches every node exactly when the circuit is connected. Assumes nothing.
 use mathlib.Core.Bool.{Bool, true}
 use mathlib.Core.List.{List, [], _∷_, _++_, append-nil}
 use mathlib.Core.Logic.{_⊎_, inl, inr, ⊎-elim, _↔_}
@@ -9,13 +9,14 @@ use native.Mathlib.Nat.{not-suc-le-zero}
 use native.Mathlib.Omega.{arith}
 use lib.Dec.{T, eqb, ltb, eqb→eq, eqb-refl}
 use lib.ListN.{length, getD}
-use Rattle.lists.specs.List.{all, Occurs}
+use Rattle.lists.specs.List.{all, Occurs, tabulate, maximum}
+use Rattle.lists.proofs.Tables.{tabulate-same}
 use Rattle.lists.proofs.Tests.{same-test}
-use Rattle.graph.specs.Bfs.{Below, Adjacency, Measured, bfs, adjacent}
+use Rattle.graph.specs.Bfs.{Below, Adjacency, Measured, bfs, adjacent, eccentricity}
 use Rattle.graph.specs.Circuit.{LinkAt, HasLink, graphOf}
 use Rattle.graph.specs.Graph.{Walk, Distance, Connected}
 use Rattle.graph.specs.Neighbours.{select, groupsFrom, grouped, offsetsOf, stretch}
-use Rattle.graph.specs.Search.{far, distances, connected}
+use Rattle.graph.specs.Search.{far, distances, connected, radius}
 use Rattle.graph.proofs.Ball.{Within, within-all}
 use Rattle.graph.proofs.Below.{below-append}
 use Rattle.graph.proofs.Bfs.{bfs-measured, bfs-ready, all-reached, adjacency-of}
@@ -43,6 +44,21 @@ grouped-below n m keys values b = groups-below n zero m keys values b
 
 -- ---- the search
 
+-- what a search finds along the links that an adjacency function lists are the distances
+pub search-distances :
+    {n : ℕ} {ss es : List ℕ} → Within n ss es → (adj : ℕ → List ℕ) → Adjacency n adj (HasLink ss es) → (c : ℕ) → c < n → n < far → (r : ℕ) →
+    bfs adj n c r .dist ≡ distances n ss es c r
+unfolding graphOf
+search-distances {n} {ss} {es} links adj a c h few r =
+    distances-unique links c r (bfs adj n c r .dist)
+    (bfs-ready n c adj (HasLink ss es) few h a r .size)
+    (λ v l. up-to v _ (bfs-measured n c adj (HasLink ss es) few h a r v l))
+  where
+    up-to : (v x : ℕ) → Measured (HasLink ss es) c r v x → DistanceUpTo (graphOf n ss es) c r v x
+    up-to v x (inl m) = inl m
+    up-to v x (inr m) = inr (record { walk = m .0; shortest = m .1 }, m .2)
+
+
 module _ (n : ℕ) (ss es : List ℕ) (long : length ss ≡ length es) (inStarts : T (all (λ v. ltb v n) ss)) (inEnds : T (all (λ v. ltb v n) es)) where
   nodes : Within n ss es
   nodes = within-all n ss es inStarts inEnds
@@ -64,17 +80,9 @@ module _ (n : ℕ) (ss es : List ℕ) (long : length ss ≡ length es) (inStarts
       (λ v w h. subst (λ (l : List ℕ). Occurs l w ↔ HasLink ss es w v) (sym (stretch-is es ss ys v (sym long) h)) (select-mem-back ss es v w))
 
   module _ (xs ys : List ℕ) (c : ℕ) (h : c < n) (few : n < far) where
-    up-to : (r v x : ℕ) → Measured (HasLink ss es) c r v x → DistanceUpTo (graphOf n ss es) c r v x
-    unfolding graphOf
-    up-to r v x (inl m) = inl m
-    up-to r v x (inr m) = inr (record { walk = m .0; shortest = m .1 }, m .2)
-
     -- what the search finds are the distances
     pub bfs-distances : (r : ℕ) → bfs (around xs ys) n c r .dist ≡ distances n ss es c r
-    bfs-distances r =
-        distances-unique nodes c r (bfs (around xs ys) n c r .dist)
-        (bfs-ready n c (around xs ys) (HasLink ss es) few h (adjacency xs ys) r .size)
-        (λ v l. up-to r v _ (bfs-measured n c (around xs ys) (HasLink ss es) few h (adjacency xs ys) r v l))
+    bfs-distances r = search-distances nodes (around xs ys) (adjacency xs ys) c h few r
 
     measured : (v : ℕ) → v < n → Measured (HasLink ss es) c far v (getD (bfs (around xs ys) n c far .dist) v 0)
     measured v l = bfs-measured n c (around xs ys) (HasLink ss es) few h (adjacency xs ys) far v l
@@ -105,3 +113,8 @@ module _ (n : ℕ) (ss es : List ℕ) (long : length ss ≡ length es) (inStarts
         same-test
         (λ t. connected-iff nodes .1 (joins (eqb→eq _ _ t)))
         (λ t. subst (λ (k : ℕ). T (eqb k n)) (sym (everywhere .1 (λ v l e. let w = connected-iff nodes .0 t c v h l in not-far v (w .0) l (w .1) e))) (eqb-refl n))
+
+  -- the largest eccentricity that the search finds is the radius
+  pub bfs-radius : (xs ys : List ℕ) → n < far → maximum (tabulate n (eccentricity (around xs ys) n)) ≡ radius n ss es
+  unfolding eccentricity radius
+  bfs-radius xs ys few = ap maximum (tabulate-same n _ _ (λ c h. ap maximum (bfs-distances xs ys c h few n)))

@@ -4,8 +4,9 @@ use mathlib.Core.Path.{_≡_, refl, sym, ap, _∙_}
 use Prim.Native.Nat.{ℕ, zero, suc, _+_, _≤_, _<_}
 use native.Mathlib.Nat.{le-of-suc-le-suc, not-suc-le-zero, add-sub-of-le, le-of-eq}
 use native.Mathlib.Numerals.{add-one}
-use lib.ListN.{length, getD, drop, set, length-append, length-drop, drop-of-length-le}
-use lib.Seq.{ext-getD, drop-cons, set-at, append-snoc}
+use native.Mathlib.Omega.{arith}
+use lib.ListN.{length, getD, take, drop, set, length-append, length-drop, drop-of-length-le}
+use lib.Seq.{ext-getD, drop-cons, set-at, append-snoc, take-at}
 use Rattle.lists.specs.List.{tabulate}
 
 pub length-tabulate : (n : ℕ) (f : ℕ → ℕ) → length (tabulate n f) ≡ n
@@ -58,3 +59,9 @@ length-filled n f d h =
 -- a list that fills another one whole leaves nothing of it
 pub whole : (xs old : List ℕ) (k : ℕ) → length old ≡ k → xs ++ drop k old ≡ xs
 whole xs old k e = ap (λ (l : List ℕ). xs ++ l) (drop-of-length-le old (le-of-eq e)) ∙ append-nil xs
+
+-- what was put at the front of a list that keeps its length
+pub front : (xs old l : List ℕ) (k : ℕ) → l ≡ xs ++ drop k old → length l ≡ length old → k ≤ length old → take k l ≡ xs
+front xs old l k e kept h =
+    let size : length l ≡ length xs + length (drop k old) = ap length e ∙ length-append xs (drop k old) in
+    ap (take k) e ∙ take-at xs (drop k old) k (omega (arith, length-drop k old))

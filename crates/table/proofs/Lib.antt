@@ -13,4 +13,7 @@ pub mod StrikeStretch
 pub mod StrikeRow
 pub mod StrikeRounds
 pub mod StrikeRefine
+pub mod Prepare
+pub mod Matching
+pub mod Promise
 pub mod Examples

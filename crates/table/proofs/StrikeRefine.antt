@@ -18,7 +18,8 @@ use Rattle.table.proofs.StrikeFill.{length-table, cleared-table, fill-t
 use Rattle.table.proofs.StrikeRow.{start-row}
 use Rattle.table.proofs.StrikeRounds.{settled-count, settled-table, settled-kept, settled-rounds}
 
-length-masks : (n : ℕ) (keys values : List ℕ) → length (masksOf n keys values) ≡ n
+-- there is a mask for each part
+pub length-masks : (n : ℕ) (keys values : List ℕ) → length (masksOf n keys values) ≡ n
 unfolding masksOf
 length-masks n keys values = length-tabulate n (λ u. numberOf 32 (listed (select keys values u)))
 

@@ -16,8 +16,9 @@ use Rattle.bits.proofs.Numbers.{number-same, number-wider}
 use Rattle.graph.specs.Circuit.{Circuit}
 use Rattle.graph.specs.Neighbours.{select, stretch}
 use Rattle.graph.specs.Search.{inside}
+use Rattle.graph.specs.Bfs.{Below}
 use Rattle.table.specs.Row.{inTable, agrees, answered, supported, startTable, strike, row}
-use Rattle.table.specs.Fill.{listed, marksOf, Below, Cleared, tableAt}
+use Rattle.table.specs.Fill.{listed, marksOf, Cleared, tableAt}
 use Rattle.table.specs.Strike.{masksOf, startNode, Tables, survivors, strikeNode, strikeTable, strikeTimes, Prepared}
 use Rattle.table.proofs.Row.{Table, row-fits, row-untaken}
 use Rattle.table.proofs.StrikeMasks.{select-below, bit-mask}
@@ -80,6 +81,7 @@ module _ (pattern host : Circuit) (t : Tables) (p : Prepared pattern host t) whe
   n = length (pattern .kinds)
 
   below-word : (xs : List ℕ) → Below n xs → Below 32 xs
+  unfolding Below
   below-word xs l i h = lt-of-lt-of-le (l i h) (p .parts)
 
   forward-answered : (old : List ℕ) (u v : ℕ) → u < n → v < length (host .kinds)

@@ -3,4 +3,5 @@ pub mod Row
 pub mod Fill
 pub mod Strike
 pub mod Refine
+pub mod Call
 pub mod Examples

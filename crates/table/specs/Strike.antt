@@ -10,7 +10,8 @@ use Rattle.lists.specs.List.{tabulate}
 use Rattle.bits.specs.Bits.{bit, numberOf, subsetOf, unionAt}
 use Rattle.graph.specs.Circuit.{Circuit}
 use Rattle.graph.specs.Neighbours.{select, stretch}
-use Rattle.table.specs.Fill.{listed, Below, Cleared, tableAt}
+use Rattle.table.specs.Fill.{listed, Cleared, tableAt}
+use Rattle.graph.specs.Bfs.{Below}
 use Rattle.table.specs.Row.{pairs}
 
 -- For each of n parts the set of the values that stand beside it as a key: the parts that it drives (keys the starts), or those that

@@ -1,7 +1,7 @@
 // Sets of parts for each part: those that it drives, or those that drive it.
 ghost use mathlib.Core.Path.{_≡_};
 ghost use lib.ListN.{length, replicate};
-ghost use Rattle.table.specs.Fill.{Below};
+ghost use Rattle.graph.specs.Bfs.{Below};
 ghost use Rattle.table.specs.Strike.{masksOf};
 
 // Makes every set empty.

@@ -4,7 +4,8 @@ ghost use Prim.Native.Nat.{_≤_};
 ghost use lib.Dec.{eqb};
 ghost use lib.ListN.{length, getD};
 ghost use Rattle.bits.specs.Bits.{numberOf};
-ghost use Rattle.table.specs.Fill.{Below, Filled};
+ghost use Rattle.graph.specs.Bfs.{Below};
+ghost use Rattle.table.specs.Fill.{Filled};
 ghost use Rattle.table.specs.Strike.{startNode};
 
 // The set of the parts of a kind.

@@ -5,7 +5,8 @@ ghost use Prim.Native.Nat.{_^_, _≤_, _<_};
 ghost use lib.ListN.{length};
 ghost use Rattle.bits.specs.Bits.{unionAt};
 ghost use Rattle.graph.specs.Neighbours.{stretch};
-ghost use Rattle.table.specs.Fill.{Below, Filled};
+ghost use Rattle.graph.specs.Bfs.{Below};
+ghost use Rattle.table.specs.Fill.{Filled};
 ghost use Rattle.table.specs.Strike.{tables, survivors, strikeNode, NeighbourTable, Ready};
 
 // The union of the sets of a list of nodes.
