@@ -26,7 +26,7 @@ pub enum TableAnswer {
 }
 
 // Fills what the rounds look up: the pattern's masks, and the board's forward and backward neighbour tables.
-fn prepare(
+pub fn prepare(
     part_kinds: &[u16],
     part_starts: &[u16],
     part_ends: &[u16],
