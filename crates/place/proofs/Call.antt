@@ -21,7 +21,7 @@ use Rattle.files.specs.Circuit.{circuitOf}
 use Rattle.files.specs.Layout.{nodesOf, linksOf}
 use Rattle.files.specs.Reading.{filled}
 use Rattle.files.specs.Refusals.{Condition, Verdict, accept, refuse, first, fileConditions, centreOutside}
-use Rattle.files.proofs.Accepted.{length-kinds, length-starts}
+use Rattle.files.proofs.Fields.{length-kinds, length-starts}
 use Rattle.files.proofs.Refusals.{Accepted, accepted, first-parts, first-holds, refuses-iff}
 use Rattle.table.specs.Call.{noCounts}
 use Rattle.table.specs.Host.{EqualKinds}
