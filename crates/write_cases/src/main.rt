@@ -1,48 +1,20 @@
 // Writes the circuit of each case of the file `cases` (tools/cases.py makes it) to as many bytes as the case names, and prints a line for
 // each: what the writer answered, and a digest of the bytes lent, so that a byte that was touched shows.
-use files::File;
-use files::Refusal;
+use cases::digest_bytes;
+use cases::end_line;
+use cases::refill_bytes;
+use cases::show_number;
+use cases::show_refusal;
 use files::Role;
 use writing::WriteAnswer;
 ghost use Prim.Native.Nat.{_+_, _*_, _≤_, _<_};
 ghost use lib.ListN.{length};
 
-// The content of the bytes as one number.
-fn digest(bytes: &[u8]) -> u64 {
-    let mut sum: u64 = 0;
-    let mut i = 0;
-    while i < bytes.len() {
-        sum = (sum % 65521 * 31 + bytes[i] as u64) % 65521;
-        i += 1;
-    }
-    sum
-}
-
-fn refill(bytes: &mut [u8]) {
-    let mut i = 0;
-    while i < bytes.len() {
-        bytes[i] = 77;
-        i += 1;
-    }
-}
-
-fn show_refusal(refusal: Refusal) {
-    io::write_all(1, b"refused ");
-    io::print_decimal(1, refusal.number as u64);
-    let file = refusal.file;
-    match file {
-        File::Pattern => io::write_all(1, b" pattern"),
-        File::Board => io::write_all(1, b" board"),
-        File::Neither => io::write_all(1, b" neither"),
-    }
-    ;
-}
-
 fn show_answer(answer: WriteAnswer) {
     match answer {
         WriteAnswer::Written(size) => {
-            io::write_all(1, b"written ");
-            io::print_decimal(1, size as u64);
+            io::write_all(1, b"written");
+            show_number(size as u64);
         }
         WriteAnswer::Refused(x) => show_refusal(x),
     }
@@ -90,11 +62,10 @@ fn run(
     load(b, 0, kinds);
     load(b, 2 * n, starts);
     load(b, 2 * n + 2 * m, ends);
-    refill(out);
+    refill_bytes(out);
     show_answer(writing::write(role, kinds, starts, ends, out));
-    io::write_all(1, b" ");
-    io::print_decimal(1, digest(out));
-    io::write_all(1, b"\n");
+    show_number(digest_bytes(out));
+    end_line();
 }
 
 fn least(a: usize, b: usize) -> usize
