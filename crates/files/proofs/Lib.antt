@@ -1,4 +1,5 @@
 pub mod Fields
 pub mod Refusals
+pub mod Accepted
 pub mod Reading
 pub mod Rising

@@ -3,27 +3,30 @@ use mathlib.Core.List.{List, [], _∷_, _++_}
 use mathlib.Core.Logic.{_⊎_, inl, inr}
 use mathlib.Core.Path.{_≡_, refl, sym, ap, _∙_}
 use Prim.Native.Nat.{ℕ, _≤_, _<_}
+use native.Mathlib.Nat.{le-trans}
+use native.Mathlib.Omega.{arith}
 use mathlib.Core.Bool.{Bool, true, false, _||_, cond}
 use borrow.Author.Tests.{le-ltb, ltb-false}
 use lib.Dec.{T, ltb, lt→ltb}
 use Rattle.lists.specs.List.{all}
 use Rattle.lists.proofs.Tests.{either-left, either-right}
 use Rattle.files.proofs.Fields.{length-fields, length-kinds, length-starts, length-ends}
-use native.Mathlib.Nat.{le-trans}
-use native.Mathlib.Omega.{arith}
 use lib.ListN.{length, take, drop}
 use lib.Seq.{take-at}
+use Rattle.graph.specs.Circuit.{Circuit}
 use Rattle.files.specs.declared.File.the-variants.{Neither}
 use Rattle.files.specs.declared.Refusal.{Refusal}
 use Rattle.files.specs.declared.ReadAnswer.{ReadAnswer}
 use Rattle.files.specs.declared.ReadAnswer.the-variants.{Read, Refused}
 use Rattle.files.specs.declared.Role.{Role}
+use Rattle.files.specs.Circuit.{circuitOf, Bounded}
 use Rattle.files.specs.Reading.{ReadOutcome, reading, readConditions, readAnswer, filled}
 use Rattle.files.specs.Reply.{Reply, reply, readReply}
 use Rattle.files.specs.Layout.{nodesOf, linksOf, kindsOf, startsOf, endsOf}
 use Rattle.files.specs.Refusals.{Verdict, accept, refuse, first, fileConditions, shortTable}
 use Rattle.files.specs.Role.{minNodes, maxNodes, maxLinks, fileOf}
 use Rattle.files.proofs.Refusals.{turned, first-accept, first-refuse, first-parts, first-holds, accepted, accepted-links, range-orders}
+use Rattle.files.proofs.Accepted.{accepted-bounded}
 
 pub answer-turned : (r : Role) (k n m : ℕ) (v : Verdict) → v ≡ turned r k → readAnswer v n m ≡ Refused (record { number = k; file = fileOf r })
 unfolding readAnswer turned
@@ -86,14 +89,14 @@ pub record Filled (r : Role) (file kinds starts ends : List ℕ) (n m : ℕ) : T
 
 module _ (r : Role) (file kinds starts ends : List ℕ) where
   pub reading-refused : (x : Refusal) → first (fileConditions r file) ≡ refuse x
-      → reading r file kinds starts ends ≡ record { answer = Refused x; kinds = kinds; starts = starts; ends = ends }
-  unfolding reading readConditions readAnswer filled
+      → reading r file kinds starts ends ≡ record { answer = Refused x; reply = readReply (Refused x); kinds = kinds; starts = starts; ends = ends }
+  unfolding reading readConditions readAnswer readReply reply filled
   reading-refused x e = rw (first-refuse _ _ x e)
 
   module _ (e : first (fileConditions r file) ≡ accept) where
     pub reading-short : (length kinds < nodesOf file) ⊎ ((length starts < linksOf file) ⊎ (length ends < linksOf file))
-        → reading r file kinds starts ends ≡ record { answer = Refused (record { number = 8; file = Neither }); kinds = kinds; starts = starts; ends = ends }
-    unfolding reading readConditions first shortTable readAnswer filled
+        → reading r file kinds starts ends ≡ record { answer = Refused (record { number = 8; file = Neither }); reply = readReply (Refused (record { number = 8; file = Neither })); kinds = kinds; starts = starts; ends = ends }
+    unfolding reading readConditions first shortTable readAnswer readReply reply filled
     reading-short h =
         rw (first-accept _ _ e)
         (rw (short-three (ltb (length kinds) (nodesOf file)) (ltb (length starts) (linksOf file)) (ltb (length ends) (linksOf file)) _ _ (short-table _ _ _ _ _ _ h)))
@@ -102,11 +105,12 @@ module _ (r : Role) (file kinds starts ends : List ℕ) where
         → reading r file kinds starts ends
         ≡ record {
           answer = Read (nodesOf file) (linksOf file);
+          reply = readReply (Read (nodesOf file) (linksOf file));
           kinds = kindsOf file ++ drop (nodesOf file) kinds;
           starts = startsOf file ++ drop (linksOf file) starts;
           ends = endsOf file ++ drop (linksOf file) ends;
         }
-    unfolding reading readConditions first shortTable readAnswer filled kindsOf startsOf endsOf
+    unfolding reading readConditions first shortTable readAnswer readReply reply filled kindsOf startsOf endsOf
     reading-filled a b d = rw (first-accept _ _ e) (simp (le-ltb _ _ a, le-ltb _ _ b, le-ltb _ _ d, length-fields))
 
   -- the reader's answer in document 01's terms
@@ -136,13 +140,13 @@ module _ (r : Role) (file kinds starts ends : List ℕ) where
 -- ---- what a caller knows of the outcome, by cases of the answer
 
 -- What is known after a file was read: the file is sound, and its content stands at the front of each table.
-pub record Loaded (r : Role) (file : List ℕ) (n m : ℕ) (kinds starts ends : List ℕ) : Type 0 where
+pub record Loaded (r : Role) (file : List ℕ) (n m : ℕ) (o : ReadOutcome) : Type 0 where
   pub verdict : first (fileConditions r file) ≡ accept
   pub nodes : n ≡ nodesOf file
   pub links : m ≡ linksOf file
-  pub kindsFirst : take n kinds ≡ kindsOf file
-  pub startsFirst : take m starts ≡ startsOf file
-  pub endsFirst : take m ends ≡ endsOf file
+  pub kindsFirst : take n (o .kinds) ≡ kindsOf file
+  pub startsFirst : take m (o .starts) ≡ startsOf file
+  pub endsFirst : take m (o .ends) ≡ endsOf file
 
 -- Tables that have room for every file of a role: to a caller that lends these, each refusal is the file's.
 pub record Room (r : Role) (kinds starts ends : List ℕ) : Type 0 where
@@ -157,7 +161,7 @@ filled-front accept values old l k a e h = ap (take k) e ∙ take-at values (dro
 filled-front (refuse x) values old l k a e h = absurd (refused-accept x a)
 
 module _ (r : Role) (file kinds starts ends : List ℕ) (o : ReadOutcome) (e : o ≡ reading r file kinds starts ends) where
-  pub loaded : (n m : ℕ) → o .answer ≡ Read n m → Loaded r file n m (o .kinds) (o .starts) (o .ends)
+  pub loaded : (n m : ℕ) → o .answer ≡ Read n m → Loaded r file n m o
   unfolding reading readConditions
   loaded n m a =
       let v = first (readConditions r file (length kinds) (length starts) (length ends)) in
@@ -182,9 +186,24 @@ module _ (r : Role) (file kinds starts ends : List ℕ) (o : ReadOutcome) (e : o
       go (refuse y) h = let f = reading-refused r file kinds starts ends y h in cc
 
 -- what the makers of neighbour tables ask of a file that was read: its range, and its links
-module _ {r : Role} {file : List ℕ} {n m : ℕ} {kinds starts ends : List ℕ} (l : Loaded r file n m kinds starts ends) where
+module _ {r : Role} {file : List ℕ} {n m : ℕ} {o : ReadOutcome} (l : Loaded r file n m o) where
   pub loaded-range : (minNodes r ≤ n) × (n ≤ maxNodes r) × (m ≤ maxLinks r)
   loaded-range = rw (l .nodes, l .links) (range-orders r (nodesOf file) (linksOf file) (accepted r file (l .verdict) .range))
 
-  pub loaded-links : T (all (λ v. ltb v n) (take m starts)) × T (all (λ v. ltb v n) (take m ends))
+  pub loaded-links : T (all (λ v. ltb v n) (take m (o .starts))) × T (all (λ v. ltb v n) (take m (o .ends)))
   loaded-links = rw (l .startsFirst, l .endsFirst, l .nodes) (accepted-links r file (accepted r file (l .verdict)))
+
+-- ---- the circuit that was read
+
+-- the circuit at the front of the three tables
+abbrev pub frontOf : ℕ → ℕ → ReadOutcome → Circuit
+frontOf n m o = record { kinds = take n (o .kinds); starts = take m (o .starts); ends = take m (o .ends) }
+
+module _ {r : Role} {file : List ℕ} {n m : ℕ} {o : ReadOutcome} (l : Loaded r file n m o) where
+  -- it is the file's,
+  pub loaded-circuit : frontOf n m o ≡ circuitOf file
+  loaded-circuit = rw (l .kindsFirst, l .startsFirst, l .endsFirst)
+
+  -- and within the role's maxima
+  pub loaded-bounded : Bounded r (frontOf n m o)
+  loaded-bounded = rw loaded-circuit (accepted-bounded (accepted r file (l .verdict)))

@@ -1,14 +1,15 @@
 -- Laws of lists of conditions, and what it says of a file that none of its conditions holds. Assumes nothing.
 use mathlib.Core.Bool.{Bool, true, false, _&&_, not, cond}
-use mathlib.Core.List.{List, [], _∷_, _++_}
-use mathlib.Core.Path.{_≡_, refl, sym, _∙_, subst}
+use mathlib.Core.List.{List, [], _∷_, _++_, List·Memᴰ, List·Memᴰ·head, List·Memᴰ·tail, List·Memᴰ·not-nil, List·Memᴰ·cases-cons}
+use mathlib.Core.Logic.{_↔_, ⊎-elim}
+use mathlib.Core.Path.{_≡_, refl, sym, ap, _∙_, subst}
 use Prim.Native.Nat.{ℕ, _≤_, _<_}
 use native.Mathlib.Omega.{arith}
 use borrow.Author.Tests.{lt-ltb, le-ltb, eq-eqb, ne-eqb, ltb-false, eqb-true, not-false}
 use lib.Dec.{T, eqb, ltb, leb, leb→le}
 use lib.ListN.{length, drop}
 use Rattle.lists.specs.List.{all}
-use Rattle.lists.proofs.Tests.{refuted, both-false, both-left, both-right}
+use Rattle.lists.proofs.Tests.{refuted, both-false, both-left, both-right, true-T, false-T}
 use Rattle.graph.specs.Search.{connected}
 use Rattle.files.specs.declared.Refusal.{Refusal}
 use Rattle.files.specs.declared.Role.{Role}
@@ -40,6 +41,9 @@ first-refuse (c ∷ cs) ds x e = go (c .holds) e (first-refuse cs ds x)
     go true e r = e
     go false e r = r e
 
+accept-not-refuse : {x : Refusal} → accept ≡ refuse x → ⊥
+accept-not-refuse e = let z : _≡_ {A = ℕ} 0 1 = cc in omega arith
+
 -- no condition of an accepted list holds
 pub first-holds : (c : Condition) (cs : List Condition) → first (c ∷ cs) ≡ accept → (c .holds ≡ false) × (first cs ≡ accept)
 unfolding first
@@ -56,6 +60,34 @@ first-parts cs ds e = go (first cs) refl
     go : (v : Verdict) → first cs ≡ v → (first cs ≡ accept) × (first ds ≡ accept)
     go accept h = (h, sym (first-accept cs ds h) ∙ e)
     go (refuse x) h = let z : refuse x ≡ accept = sym (first-refuse cs ds x h) ∙ e in (cc, cc)
+
+none-holds : (cs : List Condition) → first cs ≡ accept → (c : Condition) → List·Memᴰ c cs → T (c .holds) → ⊥
+none-holds [] e c m t = absurd (List·Memᴰ·not-nil m)
+none-holds (d ∷ ds) e c m t =
+    let (fails, rest) = first-holds d ds e in
+    ⊎-elim (λ same. false-T (ap (λ (k : Condition). k .holds) same ∙ fails) t) (λ later. none-holds ds rest c later t) (List·Memᴰ·cases-cons m)
+
+refuses-some : (cs : List Condition) (x : Refusal) → first cs ≡ refuse x → (c : Condition) × List·Memᴰ c cs × T (c .holds)
+unfolding first
+refuses-some [] x e = absurd (accept-not-refuse e)
+refuses-some (c ∷ cs) x e = go (c .holds) refl e (refuses-some cs x)
+  where
+    go : (b : Bool) → c .holds ≡ b → cond b (refuse (record { number = c .number; file = c .file })) (first cs) ≡ refuse x
+        → (first cs ≡ refuse x → (d : Condition) × List·Memᴰ d cs × T (d .holds)) → (d : Condition) × List·Memᴰ d (c ∷ cs) × T (d .holds)
+    go true h e rest = (c, List·Memᴰ·head refl, true-T h)
+    go false h e rest = let (d, m, t) = rest e in (d, List·Memᴰ·tail m, t)
+
+some-refuses : (cs : List Condition) (c : Condition) → List·Memᴰ c cs → T (c .holds) → (x : Refusal) × (first cs ≡ refuse x)
+some-refuses [] c m t = absurd (List·Memᴰ·not-nil m)
+some-refuses (d ∷ ds) c m t = go (first (d ∷ ds)) refl
+  where
+    go : (v : Verdict) → first (d ∷ ds) ≡ v → (x : Refusal) × (first (d ∷ ds) ≡ refuse x)
+    go (refuse x) e = (x, e)
+    go accept e = absurd (none-holds (d ∷ ds) e c m t)
+
+-- a list of conditions refuses exactly when one of them holds
+pub refuses-iff : (cs : List Condition) → ((x : Refusal) × (first cs ≡ refuse x)) ↔ ((c : Condition) × List·Memᴰ c cs × T (c .holds))
+refuses-iff cs = (λ (x, e). refuses-some cs x e, λ (c, m, t). some-refuses cs c m t)
 
 -- ---- the links' number, as the tests come out in their order
 

@@ -1,15 +1,16 @@
 -- What the test on the links' order means: each link comes before every later one. Assumes nothing.
 use mathlib.Core.List.{List}
-use mathlib.Core.Logic.{_⊎_, inl, inr, ⊎-elim}
+use mathlib.Core.Bool.{_&&_}
+use mathlib.Core.Logic.{_⊎_, inl, inr, ⊎-elim, _↔_}
 use mathlib.Core.Path.{_≡_, subst, _∙_}
-use Prim.Native.Nat.{ℕ, zero, suc, _-_, _≤_, _<_}
-use borrow.Author.Tests.{ltb-false}
+use Prim.Native.Nat.{ℕ, zero, suc, _+_, _-_, _≤_, _<_}
+use borrow.Author.Tests.{ltb-false, eq-eqb}
 use native.Mathlib.Nat.{not-suc-le-zero}
 use native.Mathlib.Numerals.{add-one}
 use native.Mathlib.Omega.{arith}
-use lib.Dec.{T, eqb, ltb, ltb→lt, eqb→eq}
+use lib.Dec.{T, eqb, ltb, lt→ltb, ltb→lt, eqb→eq}
 use lib.ListN.{length, getD}
-use Rattle.lists.proofs.Tests.{both-left, both-right, either-cases, allBelow-at, T-false, decide}
+use Rattle.lists.proofs.Tests.{both, both-left, both-right, either-left, either-right, either-cases, allBelow-at, at-allBelow, true-T, T-false, decide}
 use Rattle.graph.specs.Rising.{LinksRise}
 use Rattle.graph.proofs.RisingLinks.{Before}
 use Rattle.files.specs.Links.{earlier, rising}
@@ -49,3 +50,22 @@ module _ (starts ends : List ℕ) (t : T (rising starts ends)) where
   pub rising-links : LinksRise starts ends
   unfolding LinksRise
   rising-links = later
+
+-- links that rise pass the test of the files
+pub rise-test : (starts ends : List ℕ) → LinksRise starts ends → T (rising starts ends)
+unfolding rising earlier LinksRise
+rise-test starts ends rise =
+    at-allBelow (length starts - 1) _
+    (λ i h.
+    let s = getD starts i 0 in
+    let s′ = getD starts (i + 1) 0 in
+    let e = getD ends i 0 in
+    let e′ = getD ends (i + 1) 0 in
+    ⊎-elim
+    (λ l. either-left (ltb s s′) (eqb s s′ && ltb e e′) (lt→ltb s s′ l))
+    (λ (q, l). either-right (ltb s s′) (eqb s s′ && ltb e e′) (both (eqb s s′) (ltb e e′) (true-T (eq-eqb s s′ q)) (lt→ltb e e′ l)))
+    (rise i (i + 1) (omega arith) (omega arith)))
+
+-- "links not strictly rising" is that, and no more
+pub rising-iff : (starts ends : List ℕ) → T (rising starts ends) ↔ LinksRise starts ends
+rising-iff starts ends = (rising-links starts ends, rise-test starts ends)

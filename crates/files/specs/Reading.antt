@@ -8,6 +8,7 @@ use Rattle.files.specs.declared.ReadAnswer.the-variants.{Read, Refused}
 use Rattle.files.specs.declared.Role.{Role}
 use Rattle.files.specs.Layout.{nodesOf, linksOf, kindsOf, startsOf, endsOf}
 use Rattle.files.specs.Refusals.{Condition, Verdict, accept, refuse, first, fileConditions, shortTable}
+use Rattle.files.specs.Reply.{Reply, reply}
 
 -- "Needed: reading N, M, M"
 unfoldable pub readConditions : Role → List ℕ → ℕ → ℕ → ℕ → List Condition
@@ -24,9 +25,10 @@ unfoldable pub filled : Verdict → List ℕ → List ℕ → List ℕ
 filled accept values old = values ++ drop (length values) old
 filled (refuse x) values old = old
 
--- the reply, and the three tables as the call leaves them
+-- the answer, what it is in document 01's terms (Reply `readReply`), and the three tables as the call leaves them
 pub record ReadOutcome : Type 0 where
   pub answer : ReadAnswer
+  pub reply : Reply
   pub kinds : List ℕ
   pub starts : List ℕ
   pub ends : List ℕ
@@ -36,6 +38,7 @@ reading role file kinds starts ends =
     let verdict = first (readConditions role file (length kinds) (length starts) (length ends)) in
     record {
       answer = readAnswer verdict (nodesOf file) (linksOf file);
+      reply = reply verdict (nodesOf file ∷ linksOf file ∷ []);
       kinds = filled verdict (kindsOf file) kinds;
       starts = filled verdict (startsOf file) starts;
       ends = filled verdict (endsOf file) ends;

@@ -30,7 +30,7 @@ unfoldable pub first : List Condition → Verdict
 first [] = accept
 first (c ∷ cs) = cond (c .holds) (refuse (record { number = c .number; file = c .file })) (first cs)
 
--- "6: pattern not connected"
+-- 6 "pattern not connected"
 unfoldable pub asksConnected : Role → Bool
 asksConnected role.Pattern = true
 asksConnected role.Board = false

@@ -7,7 +7,7 @@ ghost use lib.Dec.{leb};
 ghost use lib.ListN.{length, drop};
 ghost use Rattle.files.specs.Layout.{fields, kindsAt, startsAt, endsAt, lengthOf};
 ghost use Rattle.files.specs.Reading.{reading};
-ghost use Rattle.files.specs.Reply.{refusalOf};
+ghost use Rattle.files.specs.Reply.{readReply, refusalOf};
 ghost use Rattle.files.specs.Role.{inRange};
 
 pub mod check;
@@ -155,7 +155,7 @@ pub fn read(
     starts: &mut [u16],
     ends: &mut [u16],
 ) -> ReadAnswer
-    ensures { λ r. ⌜ record { answer = r; kinds = now (kinds .exit); starts = now (starts .exit); ends = now (ends .exit) }
+    ensures { λ r. ⌜ record { answer = r; reply = readReply r; kinds = now (kinds .exit); starts = now (starts .exit); ends = now (ends .exit) }
         ≡ reading role (now (file .entry)) (now (kinds .entry)) (now (starts .entry)) (now (ends .entry)) ⌝ }
 {
     let answer = check(role, file);

@@ -10,3 +10,4 @@ pub mod BfsScan
 pub mod Bfs
 pub mod Measures
 pub mod RisingLinks
+pub mod Reached

@@ -44,6 +44,20 @@ grouped-below n m keys values b = groups-below n zero m keys values b
 
 -- ---- the search
 
+-- what a search finds along the links that an adjacency function lists are the distances
+pub search-distances :
+    {n : ℕ} {ss es : List ℕ} → Within n ss es → (adj : ℕ → List ℕ) → Adjacency n adj (HasLink ss es) → (c : ℕ) → c < n → n < far → (r : ℕ) →
+    bfs adj n c r .dist ≡ distances n ss es c r
+unfolding graphOf
+search-distances {n} {ss} {es} links adj a c h few r =
+    distances-unique links c r (bfs adj n c r .dist)
+    (bfs-ready n c adj (HasLink ss es) few h a r .size)
+    (λ v l. up-to v _ (bfs-measured n c adj (HasLink ss es) few h a r v l))
+  where
+    up-to : (v x : ℕ) → Measured (HasLink ss es) c r v x → DistanceUpTo (graphOf n ss es) c r v x
+    up-to v x (inl m) = inl m
+    up-to v x (inr m) = inr (record { walk = m .0; shortest = m .1 }, m .2)
+
 module _ (n : ℕ) (ss es : List ℕ) (long : length ss ≡ length es) (inStarts : T (all (λ v. ltb v n) ss)) (inEnds : T (all (λ v. ltb v n) es)) where
   nodes : Within n ss es
   nodes = within-all n ss es inStarts inEnds
@@ -65,17 +79,9 @@ module _ (n : ℕ) (ss es : List ℕ) (long : length ss ≡ length es) (inStarts
       (λ v w h. subst (λ (l : List ℕ). Occurs l w ↔ HasLink ss es w v) (sym (stretch-is es ss ys v (sym long) h)) (select-mem-back ss es v w))
 
   module _ (xs ys : List ℕ) (c : ℕ) (h : c < n) (few : n < far) where
-    up-to : (r v x : ℕ) → Measured (HasLink ss es) c r v x → DistanceUpTo (graphOf n ss es) c r v x
-    unfolding graphOf
-    up-to r v x (inl m) = inl m
-    up-to r v x (inr m) = inr (record { walk = m .0; shortest = m .1 }, m .2)
-
     -- what the search finds are the distances
     pub bfs-distances : (r : ℕ) → bfs (around xs ys) n c r .dist ≡ distances n ss es c r
-    bfs-distances r =
-        distances-unique nodes c r (bfs (around xs ys) n c r .dist)
-        (bfs-ready n c (around xs ys) (HasLink ss es) few h (adjacency xs ys) r .size)
-        (λ v l. up-to r v _ (bfs-measured n c (around xs ys) (HasLink ss es) few h (adjacency xs ys) r v l))
+    bfs-distances r = search-distances nodes (around xs ys) (adjacency xs ys) c h few r
 
     measured : (v : ℕ) → v < n → Measured (HasLink ss es) c far v (getD (bfs (around xs ys) n c far .dist) v 0)
     measured v l = bfs-measured n c (around xs ys) (HasLink ss es) few h (adjacency xs ys) far v l

@@ -14,7 +14,7 @@ pub record LinkAt (starts ends : List ℕ) (v w i : ℕ) : Type 0 where
   pub start : getD starts i 0 ≡ v
   pub end : getD ends i 0 ≡ w
 
--- "A link goes from one node to another or to itself, from what drives to what is driven."
+-- "A link goes from one node to another or to itself, from what drives to what is driven; .."
 unfoldable pub HasLink : List ℕ → List ℕ → ℕ → ℕ → Type 0
 HasLink starts ends v w = (i : ℕ) × LinkAt starts ends v w i
 

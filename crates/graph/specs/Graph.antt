@@ -42,7 +42,8 @@ Ball G w r = record { Node = InBall G w r; Link = λ v v′. G .Link v v′ × I
 unfoldable pub Connected : Graph → Type 0
 Connected G = (v w : ℕ) → G .Node v → G .Node w → (n : ℕ) × Walk (G .Link) v w n
 
--- "A pattern's radius is the largest distance between two of its parts; it is 0 for one part."
+-- "A pattern's radius is the largest distance between two of its parts; it is 0 for one part." (Radius is document 01's term: the field
+-- calls it the diameter.)
 pub record Radius (G : Graph) (r : ℕ) : Type 0 where
   pub reached : (v w : ℕ) → G .Node v → G .Node w → (d : ℕ) × Distance G v w d × d ≤ r
   pub attained : (v : ℕ) × (w : ℕ) × G .Node v × G .Node w × Distance G v w r

@@ -124,7 +124,7 @@ fn levels(
 }
 
 // Sets every entry to x.
-fn fill(s: &mut [u16], x: u16)
+pub fn fill(s: &mut [u16], x: u16)
     ensures { λ _. ⌜ now (s .exit) ≡ replicate (length (now (s .entry))) x ⌝ }
 {
     let mut i = 0;

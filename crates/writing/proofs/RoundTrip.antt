@@ -18,6 +18,7 @@ use Rattle.files.specs.declared.Role.{Role}
 use Rattle.files.specs.Layout.{kindsOf, startsOf, endsOf, lengthOf}
 use Rattle.files.specs.Reading.{ReadOutcome, reading, filled}
 use Rattle.files.specs.Refusals.{accept, refuse, first, linkConditions, fileConditions}
+use Rattle.files.specs.Reply.{readReply}
 use Rattle.files.specs.Role.{inRange}
 use Rattle.files.proofs.Fields.{length-kinds, length-starts, length-ends}
 use Rattle.files.proofs.Reading.{reading-refused, reading-filled, reading-accepted}
@@ -26,7 +27,7 @@ use Rattle.files.proofs.Refusals as file
 use Rattle.files.proofs.Rising.{rising-links}
 use Rattle.writing.specs.declared.WriteAnswer.the-variants.{Written, Refused}
 use Rattle.writing.specs.Bytes.{fileBytes}
-use Rattle.writing.specs.Writing.{circuitConditions, WriteOutcome, writing}
+use Rattle.writing.specs.Writing.{circuitConditions, WriteOutcome, writing, writeReply}
 use Rattle.writing.proofs.FileFields.{nodes-written, links-written, kinds-written, starts-written, ends-written, starts-stretch, ends-stretch, length-written, file-below, file-again}
 use Rattle.writing.proofs.Writing.{verdict-links, sound, writing-refused, writing-filled, writing-accepted}
 
@@ -47,8 +48,8 @@ same-verdict r kinds starts ends t pairs =
 -- So the two calls refuse alike, whatever is lent: the writing call the circuit, the reading call its file.
 pub refused-alike : (r : Role) (kinds starts ends out ks ss es : List ℕ) → T (inRange r (length kinds) (length starts)) → length starts ≡ length ends
     → (x : Refusal) → first (circuitConditions r kinds starts ends) ≡ refuse x
-    → (writing r kinds starts ends out ≡ record { answer = Refused x; out = out })
-    × (reading r (fileBytes kinds starts ends) ks ss es ≡ record { answer = read.Refused x; kinds = ks; starts = ss; ends = es })
+    → (writing r kinds starts ends out ≡ record { answer = Refused x; reply = writeReply (Refused x); out = out })
+    × (reading r (fileBytes kinds starts ends) ks ss es ≡ record { answer = read.Refused x; reply = readReply (read.Refused x); kinds = ks; starts = ss; ends = es })
 refused-alike r kinds starts ends out ks ss es t pairs x e =
     (writing-refused r kinds starts ends out x e, reading-refused r _ ks ss es x (sym (same-verdict r kinds starts ends t pairs) ∙ e))
 
@@ -85,6 +86,7 @@ module _ (r : Role) (kinds starts ends out : List ℕ) (size : ℕ) (e : writing
       → reading r (take size (writing r kinds starts ends out .out)) ks ss es
       ≡ record {
         answer = read.Read (length kinds) (length starts);
+        reply = readReply (read.Read (length kinds) (length starts));
         kinds = kinds ++ drop (length kinds) ks;
         starts = starts ++ drop (length starts) ss;
         ends = ends ++ drop (length ends) es;
@@ -115,7 +117,7 @@ module _ (r : Role) (file : List ℕ) (bytes : T (all (λ b. ltb b 256) file)) w
 
     -- so that, with room, writing gives the same bytes back
     pub accepted-writes : (out : List ℕ) → length file ≤ length out
-        → writing r (kindsOf file) (startsOf file) (endsOf file) out ≡ record { answer = Written (length file); out = file ++ drop (length file) out }
+        → writing r (kindsOf file) (startsOf file) (endsOf file) out ≡ record { answer = Written (length file); reply = writeReply (Written (length file)); out = file ++ drop (length file) out }
     unfolding filled
     accepted-writes out room =
         let size : lengthOf (length (kindsOf file)) (length (startsOf file)) ≡ length file = rw (length-kinds file, length-starts file) (sym (accepted r file e .size)) in
@@ -124,7 +126,7 @@ module _ (r : Role) (file : List ℕ) (bytes : T (all (λ b. ltb b 256) file)) w
   -- the same of the tables that the reading call fills
   pub read-writes : (ks ss es out : List ℕ) (n m : ℕ) → reading r file ks ss es .answer ≡ read.Read n m → length file ≤ length out
       → writing r (take n (reading r file ks ss es .kinds)) (take m (reading r file ks ss es .starts)) (take m (reading r file ks ss es .ends)) out
-      ≡ record { answer = Written (length file); out = file ++ drop (length file) out }
+      ≡ record { answer = Written (length file); reply = writeReply (Written (length file)); out = file ++ drop (length file) out }
   read-writes ks ss es out n m e room =
       let f = reading-accepted r file ks ss es n m e in
       let o = reading-filled r file ks ss es (f .sound) (f .kindsFit) (f .startsFit) (f .endsFit) in

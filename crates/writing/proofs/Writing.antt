@@ -13,11 +13,12 @@ use Rattle.files.specs.declared.Role.{Role}
 use Rattle.files.specs.Layout.{lengthOf}
 use Rattle.files.specs.Reading.{filled}
 use Rattle.files.specs.Refusals.{Verdict, accept, refuse, first, linkConditions, shortTable}
+use Rattle.files.specs.Reply.{reply}
 use Rattle.files.specs.Role.{inRange, fileOf}
 use Rattle.files.proofs.Refusals.{turned, first-accept, first-refuse, first-parts, first-holds}
 use Rattle.writing.specs.declared.WriteAnswer.the-variants.{Written, Refused}
 use Rattle.writing.specs.Bytes.{fileBytes}
-use Rattle.writing.specs.Writing.{circuitConditions, writeConditions, writeAnswer, writing}
+use Rattle.writing.specs.Writing.{circuitConditions, writeConditions, writeAnswer, writing, writeReply}
 
 -- ---- the answer and its verdict
 
@@ -77,20 +78,20 @@ sound r kinds starts ends e =
 
 module _ (r : Role) (kinds starts ends out : List ℕ) where
   pub writing-refused : (x : Refusal) → first (circuitConditions r kinds starts ends) ≡ refuse x
-      → writing r kinds starts ends out ≡ record { answer = Refused x; out = out }
-  unfolding writing writeConditions writeAnswer filled
+      → writing r kinds starts ends out ≡ record { answer = Refused x; reply = writeReply (Refused x); out = out }
+  unfolding writing writeConditions writeAnswer writeReply reply filled
   writing-refused x e = rw (first-refuse _ _ x e)
 
   module _ (e : first (circuitConditions r kinds starts ends) ≡ accept) where
     pub writing-short : length out < lengthOf (length kinds) (length starts)
-        → writing r kinds starts ends out ≡ record { answer = Refused (record { number = 8; file = Neither }); out = out }
-    unfolding writing writeConditions first shortTable writeAnswer filled
+        → writing r kinds starts ends out ≡ record { answer = Refused (record { number = 8; file = Neither }); reply = writeReply (Refused (record { number = 8; file = Neither })); out = out }
+    unfolding writing writeConditions first shortTable writeAnswer writeReply reply filled
     writing-short h = rw (first-accept _ _ e) (simp (lt-ltb _ _ h))
 
     pub writing-filled : lengthOf (length kinds) (length starts) ≤ length out
         → writing r kinds starts ends out
-        ≡ record { answer = Written (lengthOf (length kinds) (length starts)); out = filled accept (fileBytes kinds starts ends) out }
-    unfolding writing writeConditions first shortTable writeAnswer
+        ≡ record { answer = Written (lengthOf (length kinds) (length starts)); reply = writeReply (Written (lengthOf (length kinds) (length starts))); out = filled accept (fileBytes kinds starts ends) out }
+    unfolding writing writeConditions first shortTable writeAnswer writeReply reply
     writing-filled h = rw (first-accept _ _ e) (simp (le-ltb _ _ h))
 
   -- an accepted call has room, and no condition on the circuit holds

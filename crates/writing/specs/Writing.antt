@@ -8,6 +8,7 @@ use Rattle.files.specs.declared.Role.{Role}
 use Rattle.files.specs.Layout.{lengthOf}
 use Rattle.files.specs.Reading.{filled}
 use Rattle.files.specs.Refusals.{Condition, Verdict, accept, refuse, first, linkConditions, shortTable}
+use Rattle.files.specs.Reply.{Reply, reply}
 use Rattle.files.specs.Role.{inRange, fileOf}
 use Rattle.writing.specs.declared.WriteAnswer.{WriteAnswer}
 use Rattle.writing.specs.declared.WriteAnswer.the-variants.{Written, Refused}
@@ -31,9 +32,15 @@ unfoldable pub writeAnswer : Verdict → ℕ → WriteAnswer
 writeAnswer accept size = Written size
 writeAnswer (refuse x) size = Refused x
 
--- the reply, and the bytes lent as the call leaves them
+-- number and values of each case of its answer
+unfoldable pub writeReply : WriteAnswer → Reply
+writeReply (Written size) = record { verdict = accept; values = size ∷ [] }
+writeReply (Refused x) = record { verdict = refuse x; values = [] }
+
+-- the answer, what it is in document 01's terms, and the bytes lent as the call leaves them
 pub record WriteOutcome : Type 0 where
   pub answer : WriteAnswer
+  pub reply : Reply
   pub out : List ℕ
 
 unfoldable pub writing : Role → List ℕ → List ℕ → List ℕ → List ℕ → WriteOutcome
@@ -41,5 +48,6 @@ writing role kinds starts ends out =
     let verdict = first (writeConditions role kinds starts ends (length out)) in
     record {
       answer = writeAnswer verdict (lengthOf (length kinds) (length starts));
+      reply = reply verdict (lengthOf (length kinds) (length starts) ∷ []);
       out = filled verdict (fileBytes kinds starts ends) out;
     }

@@ -6,7 +6,7 @@ ghost use Rattle.files.specs.Layout.{lengthOf};
 ghost use Rattle.files.specs.Reading.{filled};
 ghost use Rattle.files.specs.Refusals.{Verdict};
 ghost use Rattle.writing.specs.Bytes.{fileBytes};
-ghost use Rattle.writing.specs.Writing.{writing};
+ghost use Rattle.writing.specs.Writing.{writing, writeReply};
 
 mod bytes;
 mod check;
@@ -42,7 +42,7 @@ fn fill(kinds: &[u16], starts: &[u16], ends: &[u16], out: &mut [u8])
 
 // Writes a circuit's file in a role to the front of the bytes lent: the file's length; or the refusal, which leaves every byte as it was.
 pub fn write(role: Role, kinds: &[u16], starts: &[u16], ends: &[u16], out: &mut [u8]) -> WriteAnswer
-    ensures { λ r. ⌜ record { answer = r; out = now (out .exit) }
+    ensures { λ r. ⌜ record { answer = r; reply = writeReply r; out = now (out .exit) }
         ≡ writing role (now (kinds .entry)) (now (starts .entry)) (now (ends .entry)) (now (out .entry)) ⌝ }
 {
     let answer = check(role, kinds, starts, ends);
