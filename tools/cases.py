@@ -289,11 +289,177 @@ def write_write_cases():
     return {"crates/write_cases/data/cases": blob, "crates/write_cases/stdout": ("\n".join(lines) + "\n").encode()}
 
 
+def circuit(kinds, pairs):
+    pairs = sorted(set(pairs))
+    return Circuit(list(kinds), [a for a, _ in pairs], [b for _, b in pairs])
+
+
+def cycle(n, kind=7):
+    return circuit([kind] * n, [(i, (i + 1) % n) for i in range(n)])
+
+
+def star(n, kind=7):
+    """One node that drives n - 1 others."""
+    return circuit([kind] * n, [(0, i) for i in range(1, n)])
+
+
+def long_row(k, size):
+    """A pattern and a board whose row is about k * size sets long, where k and size have no common divisor.
+
+    The pattern is a cycle of k parts, the first of which also drives a part of another kind; the board is a cycle whose nodes all drive a
+    node of that kind, but for the first. The one pair that fails leaves the pair before it without a partner, and so on round both cycles.
+    A node with a link to itself, of which every part occurs, keeps the striking from running the other way too.
+    """
+    pattern = circuit([7] * k + [8], [(i, (i + 1) % k) for i in range(k)] + [(0, k)])
+    other, loop = size, size + 1
+    pairs = [(i, (i + 1) % size) for i in range(size)] + [(i, other) for i in range(1, size)]
+    board = circuit([7] * size + [8, 7], pairs + [(loop, loop), (loop, other), (loop, 1 % size)])
+    return pattern, board
+
+
+def dense(rng, n, m, kinds):
+    """n nodes of so many kinds and exactly m links, which join all of them."""
+    pairs = {(rng.randrange(i), i) for i in range(1, n)}
+    while len(pairs) < m:
+        pairs.add((rng.randrange(n), rng.randrange(n)))
+    return circuit([rng.randrange(kinds) for _ in range(n)], pairs)
+
+
+def some_circuit(rng, n, m, kinds, whole):
+    pairs = {(rng.randrange(i), i) if rng.random() < 0.5 else (i, rng.randrange(i)) for i in range(1, n)} if whole else set()
+    pairs |= {(rng.randrange(n), rng.randrange(n)) for _ in range(m)}
+    return circuit([rng.randrange(kinds) for _ in range(n)], pairs)
+
+
+def table_cases():
+    rng = random.Random(2)
+    out = []
+
+    def case(pattern, board, lent=None):
+        files = [x if isinstance(x, bytes) else encode(x) for x in (pattern, board)]
+        out.append((len(board.kinds) if lent is None else lent, *files))
+
+    two_way = circuit([10, 20], [(0, 1), (1, 0)])
+    ring = circuit([10, 20, 10, 20], [(0, 1), (1, 2), (2, 3), (3, 0)])
+    # E2, E5, and E9's pattern; the table exactly long enough, longer, one short, absent
+    for lent in (6, 7, 600, 5, 0):
+        case(T, B, lent)
+    case(two_way, ring)
+    case(two_way, ring, 3)
+    case(circuit([10, 20], [(0, 1)]), circuit([10, 20], [(0, 1), (1, 0)]))
+    # striking in one round only, and striking from a set that is partly new, both give other tables here
+    case(path(4), path(9))
+    case(path(9), path(4))
+    case(path(3), cycle(5))
+    # forward links alone, backward links alone
+    case(star(3), circuit([7] * 5, [(0, 1), (0, 2), (3, 4)]))
+    case(circuit([1, 2, 2], [(1, 0), (2, 0)]), circuit([1, 2, 1, 2, 2], [(1, 0), (3, 2), (4, 2), (0, 3)]))
+    # a self-link with and without its partner
+    loop = circuit([7], [(0, 0)])
+    case(loop, circuit([7, 7, 7], [(0, 0), (1, 2)]))
+    case(loop, circuit([7, 7], [(0, 1), (1, 0)]))
+    case(loop, path(20))
+    case(path(3), circuit([7], [(0, 0)]))
+    case(circuit([7, 7], [(0, 0), (0, 1)]), circuit([7, 7, 7], [(0, 0), (0, 1), (1, 2)]))
+    # M = 0 in either file; boards with N = 0, whose table may be of any length; one node
+    case(path(1), circuit([7, 8, 7], []))
+    case(path(2), circuit([7, 8, 7], []))
+    case(path(1), circuit([8, 9], []))
+    case(path(1), path(6))
+    case(path(1), circuit([], []))
+    case(path(2), path(1))
+    case(loop, path(1))
+    case(T, circuit([], []), 0)
+    case(T, circuit([], []), 3)
+    # kind 0, which is like any other, in the pattern, on the board, and in both; the largest kind
+    case(path(2, 0), circuit([0, 1, 0, 2], [(0, 1), (1, 2), (0, 2), (3, 2)]))
+    case(path(2, 5), circuit([0, 5, 5, 0], [(0, 1), (1, 2), (2, 3)]))
+    case(path(2, 0), path(4))
+    case(path(2), path(4, 0))
+    case(path(2, 0), path(4, 0))
+    case(circuit([0, 65535], [(0, 1)]), circuit([65535, 0, 255, 65535, 65280], [(0, 1), (1, 2), (1, 3), (3, 4)]))
+    # the table N - 1, N and N + 1 long, on boards with one kind
+    for board in (path(1), path(9), circuit([7, 7], [])):
+        for lent in (-1, 0, 1):
+            case(path(1), board, len(board.kinds) + lent)
+            case(path(2), board, len(board.kinds) + lent)
+    # 32 and 33 parts, 256 and 257 pattern links; 512 and 513 nodes, 4,096 and 4,097 board links
+    case(path(32), path(40))
+    case(path(33), path(40))
+    case(cycle(32), cycle(64))
+    case(star(32), star(40))
+    case(cycle(32), cycle(512))
+    case(dense(rng, 32, 256, 1), dense(rng, 20, 190, 1))
+    case(dense(rng, 32, 257, 1), path(2))
+    case(dense(rng, 32, 256, 3), dense(rng, 512, 4096, 3))
+    case(T, raw(512, 4097), 512)
+    case(path(3), path(512))
+    case(path(3), path(512), 511)
+    case(path(3), path(513), 600)
+    case(cycle(2), path(512))
+    # rows of many sets
+    case(cycle(3), path(50))
+    case(cycle(4), circuit([7] * 40, [(i, i + 1) for i in range(39)] + [(39, 0), (5, 5)]))
+    for k, size in ((2, 5), (3, 7), (5, 12), (7, 30), (11, 61), (31, 510)):
+        case(*long_row(k, size))
+    # each refusal of the pattern, of the board, and of both; 8 comes last
+    bad = [b"\x02\x00\x01", raw(0, 0), raw(1, 0), raw(1, 1, 10, 0, 1), raw(1, 2, 10, 0, 0, 0, 0), raw(2, 0, 10, 20)]
+    for x in bad:
+        case(x, B, 6)
+        case(x, B, 0)
+        case(T, x, 6)
+        case(T, x, 0)
+        for y in bad:
+            case(x, y, 6)
+        case(x, bad[0], 0)
+    case(encode(T) + b"\x00", B, 6)
+    case(T, encode(B)[:-1], 6)
+    # small random ones, most of them with many matches
+    for _ in range(150):
+        kinds = rng.randrange(1, 4)
+        pattern = some_circuit(rng, rng.randrange(1, 6), rng.randrange(0, 4), kinds, True)
+        board = some_circuit(rng, rng.randrange(1, 14), rng.randrange(0, 40), kinds, False)
+        case(pattern, board, len(board.kinds) + rng.randrange(3))
+    for _ in range(12):
+        kinds = rng.randrange(1, 3)
+        pattern = some_circuit(rng, rng.randrange(4, 33), rng.randrange(0, 30), kinds, True)
+        board = some_circuit(rng, rng.randrange(20, 60), rng.randrange(100, 300), kinds, False)
+        case(pattern, board)
+    return out
+
+
+def check_row(pattern, board):
+    """The model's quick row against the definition, where the definition is quick enough; rows that must be long are."""
+    pattern, board = model.parse("pattern", pattern), model.parse("board", board)
+    if isinstance(pattern, int) or isinstance(board, int):
+        return 0
+    last, counts = model.largest(pattern, board)
+    if counts[0] * counts[3] < 100000:
+        sets = model.row(pattern, board)
+        assert (sets[-1], counts[3]) == (last, len(sets) - 1)
+    return counts[3]
+
+
+def write_table_cases():
+    blob, lines = b"", []
+    assert max(check_row(*files) for _, *files in table_cases()) > 10000
+    for lent, pattern, board in table_cases():
+        for x in (lent, len(pattern), len(board)):
+            blob += bytes((x // 256, x % 256))
+        blob += pattern + board
+        table = [7777] * lent
+        reply = model.match_table(pattern, board, table)
+        lines.append(" ".join(str(x) for x in (*reply, digest(table))))
+    assert len(blob) <= 131072, len(blob)
+    return {"crates/table_cases/data/cases": blob, "crates/table_cases/stdout": ("\n".join(lines) + "\n").encode()}
+
+
 def main():
     made = {}
     made.update(write_read_cases())
     made.update(write_distance_cases())
     made.update(write_write_cases())
+    made.update(write_table_cases())
     stale = []
     for name, content in made.items():
         target = ROOT / name

@@ -134,3 +134,69 @@ def write(role, kinds, starts, ends, out):
         return ("refused", 8, "neither")
     out[:len(data)] = data
     return ("written", len(data))
+
+
+def start_set(pattern, board):
+    """R0: the pairs (part, node) with equal kinds."""
+    return {(u, v) for u, k in enumerate(pattern.kinds) for v, j in enumerate(board.kinds) if k == j}
+
+
+def directed(circuit):
+    """What each node drives, and what drives each node."""
+    out, into = [set() for _ in circuit.kinds], [set() for _ in circuit.kinds]
+    for v, w in links(circuit):
+        out[v].add(w)
+        into[w].add(v)
+    return out, into
+
+
+def stays(ways, pairs, u, v):
+    """Whether each link of part u, from it or to it, has a partner at node v in the set."""
+    return all(any((x, w) in pairs for w in nodes[v]) for parts, nodes in ways for x in parts[u])
+
+
+def row(pattern, board):
+    """The row of sets as defined: each keeps those pairs of the last whose links have partners in the last whole."""
+    ways = list(zip(directed(pattern), directed(board)))
+    sets = [start_set(pattern, board)]
+    while True:
+        new = {(u, v) for u, v in sets[-1] if stays(ways, sets[-1], u, v)}
+        if new == sets[-1]:
+            return sets
+        sets.append(new)
+
+
+def largest(pattern, board):
+    """The last set of the row, and the counts started, kept, struck and rounds.
+
+    The same row without looking at every pair in each round: after the first, only a pair with a link to or from a pair struck in the
+    round before can have lost a partner. All pairs of a round are tested before any is struck.
+    """
+    ways = list(zip(directed(pattern), directed(board)))
+    pairs = start_set(pattern, board)
+    started, rounds, doubtful = len(pairs), 0, set(pairs)
+    while True:
+        struck = [(u, v) for u, v in doubtful if (u, v) in pairs and not stays(ways, pairs, u, v)]
+        if not struck:
+            return pairs, (started, len(pairs), started - len(pairs), rounds)
+        pairs.difference_update(struck)
+        rounds += 1
+        doubtful = {(x, w) for u, v in struck for parts, nodes in ways for x in parts[u] for w in nodes[v]}
+
+
+def match_table(pattern_data, board_data, table):
+    """The reply of the whole-board call; the table is a list that it fills in place."""
+    pattern = parse("pattern", pattern_data)
+    if isinstance(pattern, int):
+        return ("refused", pattern, "pattern")
+    board = parse("board", board_data)
+    if isinstance(board, int):
+        return ("refused", board, "board")
+    n = len(board.kinds)
+    if len(table) < n:
+        return ("refused", 8, "neither")
+    pairs, counts = largest(pattern, board)
+    table[:n] = [0] * n
+    for u, v in pairs:
+        table[v] += 2**u
+    return ("matched", *counts)

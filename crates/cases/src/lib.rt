@@ -50,6 +50,25 @@ pub fn refill_bytes(table: &mut [u8]) {
     }
 }
 
+// The same for a table of sets.
+pub fn digest_sets(table: &[u32]) -> u64 {
+    let mut sum: u64 = 0;
+    let mut i = 0;
+    while i < table.len() {
+        sum = (sum % 65521 * 31 + table[i] as u64) % 65521;
+        i += 1;
+    }
+    sum
+}
+
+pub fn refill_sets(table: &mut [u32]) {
+    let mut i = 0;
+    while i < table.len() {
+        table[i] = 7777;
+        i += 1;
+    }
+}
+
 pub fn show_number(n: u64) {
     io::write_all(1, b" ");
     io::print_decimal(1, n);

@@ -14,9 +14,9 @@ use Rattle.lists.specs.Below.{countBelow}
 use Rattle.lists.proofs.Tests.{both, both-left, both-right, T-true}
 use Rattle.lists.proofs.Rows.{rests, falls-to-rest}
 use Rattle.graph.specs.Circuit.{Circuit}
-use Rattle.table.specs.Row.{strike, row, pairs, same, started, lastTable, kept, struck, rounds}
+use Rattle.table.specs.Row.{strike, row, pairs, same, started, lastTable, kept, struck, rounds, startTable}
 use Rattle.table.proofs.Sets.{fits-word, pairs-progress, pairs-ones}
-use Rattle.table.proofs.Row.{Table, strike-fits, strike-inside, row-fits}
+use Rattle.table.proofs.Row.{Table, strike-fits, strike-inside, row-fits, start-fits}
 use Rattle.table.proofs.Rest.{Falls, FirstRest, falls-count, first-rest, count-first}
 
 -- ---- the test whether two tables are the same
@@ -158,3 +158,8 @@ module _ (pattern host : Circuit) (taken : List ℕ) (most : length (pattern .ki
   pub kept-ones : kept pattern host taken ≡ sum (map ones (lastTable pattern host taken))
   unfolding kept lastTable
   kept-ones = pairs-ones (lastTable pattern host taken) (fits-word most (row-fits pattern host taken (started pattern host taken)))
+
+  -- "started, the pairs of R0": so counted too
+  pub started-ones : started pattern host taken ≡ sum (map ones (startTable pattern host taken))
+  unfolding started
+  started-ones = pairs-ones (startTable pattern host taken) (fits-word most (start-fits pattern host taken))

@@ -31,7 +31,7 @@ pub within-joins : (c : Circuit) → Within (length (c .kinds)) (c .starts) (c .
 unfolding circuitGraph graphOf
 within-joins c w = record { starts = w .starts; ends = w .ends }
 
-everything-taken : (c : Circuit) (v : ℕ) → v < length (c .kinds) → Taken c (everything c) v
+pub everything-taken : (c : Circuit) (v : ℕ) → v < length (c .kinds) → Taken c (everything c) v
 unfolding everything inside
 everything-taken c v h = record { below = h; marked = rw (getD-tabulate (length (c .kinds)) (λ v. 1) v 0 h) tt }
 

@@ -1,16 +1,19 @@
 pub mod Answers
 pub mod Sets
 pub mod Row
-pub mod Rest
+mod Rest
 pub mod Counts
 pub mod Meaning
 pub mod Host
-pub mod StrikeFill
-pub mod StrikeNodes
-pub mod StrikeSets
-pub mod StrikeMasks
-pub mod StrikeStretch
-pub mod StrikeRow
-pub mod StrikeRounds
-pub mod StrikeRefine
+pub mod PreparedMasks
+mod StrikeFill
+pub mod NodeLists
+mod StrikeSets
+mod StrikeMasks
+mod StrikeStretch
+mod StrikeRow
+mod StrikeRounds
+mod StrikeRefine
+pub mod Narrow
+pub mod Prepare
 pub mod Examples

@@ -117,7 +117,7 @@ module _ (pattern host : Circuit) (taken : List ℕ) where
       same-bits (getD (row pattern host taken k) v 0) 0 (λ u. T-false (λ m. f (row-candidate k u v m .node .marked)) ∙ sym (bit-of-zero u))
 
   -- a link of the circuit between nodes of H is one of H, whichever way it is followed
-  host-along : (d : Direction) (v w : ℕ) → Links host d v w → hostGraph host taken .Node v → hostGraph host taken .Node w → Moves host taken d v w
+  pub host-along : (d : Direction) (v w : ℕ) → Links host d v w → hostGraph host taken .Node v → hostGraph host taken .Node w → Moves host taken d v w
   unfolding hostGraph Along
   host-along forwards v w l n m = (l, n, m)
   host-along backwards v w l n m = (l, m, n)

@@ -16,8 +16,9 @@ use Rattle.lists.proofs.Tables.{is-tabulate, length-tabulate, getD-tabulate}
 use Rattle.lists.proofs.Below.{countBelow-le, countBelow-same}
 use Rattle.bits.specs.Bits.{bit, sizeOf}
 use Rattle.bits.proofs.Digits.{bit-of-zero}
+use Rattle.graph.specs.Bfs.{Below}
 use Rattle.table.specs.Row.{pairs}
-use Rattle.table.specs.Fill.{listed, Below, Distinct, Cleared, fillAt, sizesAt, Filled, tableAt}
+use Rattle.table.specs.Fill.{listed, Distinct, Cleared, fillAt, sizesAt, Filled, tableAt}
 
 -- ---- what is written
 
@@ -107,7 +108,7 @@ pairs-set (x ∷ xs) (suc v) y h e = omega (arith, pairs-set xs v y (le-of-suc-l
 
 pairs-fill : (f : ℕ → ℕ) (nodes xs : List ℕ) → Distinct nodes → Below (length xs) nodes → ((i : ℕ) → i < length nodes → getD xs (getD nodes i 0) 0 ≡ zero)
     → pairs (fillAt f nodes xs) ≡ pairs xs + sizesAt f nodes
-unfolding fillAt sizesAt Distinct
+unfolding fillAt sizesAt Distinct Below
 pairs-fill f [] xs d l e = omega arith
 pairs-fill f (v ∷ vs) xs d l e =
     let first : pairs (set xs v (f v)) ≡ pairs xs + sizeOf (f v) = pairs-set xs v (f v) (l zero (zero-lt-suc _)) (e zero (zero-lt-suc _)) in
@@ -119,6 +120,7 @@ pairs-fill f (v ∷ vs) xs d l e =
 
 -- the table of the rule has as many pairs as were counted while it was written
 pub pairs-table : (n : ℕ) (f : ℕ → ℕ) (nodes : List ℕ) → Distinct nodes → Below n nodes → pairs (tableAt n f nodes) ≡ sizesAt f nodes
+unfolding Below
 pairs-table n f nodes d l =
     let zeros : List ℕ = replicate n 0 in
     let long : length zeros ≡ n = length-replicate n 0 in

@@ -1,10 +1,9 @@
 -- Laws of the masks: the sets of the parts that a part drives, or that drive it, built link by link. Assumes nothing.
 use mathlib.Core.Bool.{Bool, true, false, _||_, cond, or-assoc, or-false}
 use mathlib.Core.List.{List, [], _∷_}
-use mathlib.Core.Logic.{⊎-elim}
 use mathlib.Core.Path.{_≡_, refl, sym, ap, _∙_, subst}
-use Prim.Native.Nat.{ℕ, zero, suc, _+_, _^_, _≤_, _<_, suc-le-suc}
-use native.Mathlib.Nat.{zero-lt-suc, not-le-of-lt}
+use Prim.Native.Nat.{ℕ, zero, suc, _+_, _^_, _≤_, _<_}
+use native.Mathlib.Nat.{not-le-of-lt}
 use native.Mathlib.Numerals.{add-one}
 use lib.Bits.{bitOr}
 use lib.Dec.{T, eqb, eqb→eq}
@@ -12,14 +11,16 @@ use lib.ListN.{length, getD, drop, set, replicate, length-set, length-replicate,
 use lib.Seq.{drop-cons, getD-set-same, getD-set-other}
 use borrow.Author.Tests.{eqb-true, eqb-false, eq-eqb}
 use Rattle.lists.specs.List.{any}
-use Rattle.lists.proofs.Tests.{T-false, true-T, same-test, either-cases}
+use Rattle.lists.proofs.Tests.{T-false, true-T, same-test, any-at}
 use Rattle.lists.proofs.Tables.{is-tabulate, getD-tabulate}
 use Rattle.bits.specs.Bits.{bit, numberOf}
 use Rattle.bits.proofs.Digits.{bit-of-zero, bit-or, bit-single, same-bits}
 use Rattle.bits.proofs.Numbers.{bit-number-all}
 use Rattle.graph.specs.Neighbours.{select}
-use Rattle.table.specs.Fill.{listed, Below}
-use Rattle.table.specs.Strike.{masksOf}
+use Rattle.graph.proofs.Groups.{select-link}
+use Rattle.graph.specs.Bfs.{Below}
+use Rattle.table.specs.Fill.{listed}
+use Rattle.table.specs.Prepared.{masksOf}
 
 eqb-sym : (a b : ℕ) → eqb a b ≡ eqb b a
 eqb-sym a b = same-test (λ t. true-T (eq-eqb b a (sym (eqb→eq a b t)))) (λ t. true-T (eq-eqb a b (sym (eqb→eq b a t))))
@@ -68,14 +69,11 @@ bit-add (k ∷ ks) (x ∷ xs) out u h y = bit-add ks xs (set out k (bitOr (getD 
 
 -- they are below n, where all values are
 pub select-below : (n : ℕ) (ks xs : List ℕ) (u y : ℕ) → Below n xs → T (listed (select ks xs u) y) → y < n
-unfolding select listed any
-select-below n [] xs u y l t = absurd t
-select-below n (k ∷ ks) [] u y l t = absurd t
-select-below n (k ∷ ks) (x ∷ xs) u y l t = go (eqb k u) t (select-below n ks xs u y (λ i h. l (suc i) (suc-le-suc h)))
-  where
-    go : (b : Bool) → T (listed (cond b (x ∷ select ks xs u) (select ks xs u)) y) → (T (listed (select ks xs u) y) → y < n) → y < n
-    go false t r = r t
-    go true t r = ⊎-elim (λ e. subst (λ (z : ℕ). z < n) (eqb→eq x y e) (l zero (zero-lt-suc _))) r (either-cases (eqb x y) (listed (select ks xs u) y) t)
+unfolding listed Below
+select-below n ks xs u y l t =
+    let (i, h, e) = any-at (λ w. eqb w y) (select ks xs u) t in
+    let (j, k) = select-link ks xs u i h in
+    subst (λ (z : ℕ). z < n) (k .end ∙ eqb→eq (getD (select ks xs u) i 0) y e) (l j (k .inEnds))
 
 -- part y is in the mask of part u when it stands beside it
 pub bit-mask : (n : ℕ) (ks xs : List ℕ) (u y : ℕ) → Below 32 xs → u < n → bit (getD (masksOf n ks xs) u 0) y ≡ listed (select ks xs u) y

@@ -5,30 +5,19 @@ use Prim.Native.Nat.{ℕ, _-_, _^_, _≤_, _<_}
 use native.Mathlib.Nat.{not-suc-le-zero}
 use native.Mathlib.Omega.{arith}
 use lib.ListN.{length, getD}
-use Rattle.lists.proofs.Tables.{length-tabulate}
-use Rattle.bits.specs.Bits.{numberOf}
 use Rattle.graph.specs.Circuit.{Circuit}
-use Rattle.graph.specs.Neighbours.{select}
 use Rattle.table.specs.Row.{startTable, pairs, started, kept, struck, rounds}
-use Rattle.table.specs.Fill.{listed, marksOf, NodeList, Cleared, Filled, tableAt}
-use Rattle.table.specs.Strike.{masksOf, startNode, Tables, strikeTimes, Prepared, Round, Settled}
+use Rattle.table.specs.Fill.{marksOf, NodeList, Cleared, Filled, tableAt}
+use Rattle.table.specs.Prepared.{Tables, Prepared}
+use Rattle.table.specs.Strike.{startNode, strikeTimes, Round, Settled}
 use Rattle.table.specs.Refine.{countsOf, Refined}
+use Rattle.table.proofs.PreparedMasks.{length-succ, length-pred}
 use Rattle.table.proofs.Row.{start-fits}
 use Rattle.table.proofs.StrikeFill.{length-table, cleared-table, fill-table, pairs-table}
 use Rattle.table.proofs.StrikeRow.{start-row}
 use Rattle.table.proofs.StrikeRounds.{settled-count, settled-table, settled-kept, settled-rounds}
 
-length-masks : (n : ℕ) (keys values : List ℕ) → length (masksOf n keys values) ≡ n
-unfolding masksOf
-length-masks n keys values = length-tabulate n (λ u. numberOf 32 (listed (select keys values u)))
-
 module _ {pattern host : Circuit} {t : Tables} (p : Prepared pattern host t) where
-  pub length-succ : length (t .succ) ≡ length (pattern .kinds)
-  length-succ = ap length (p .succ) ∙ length-masks (length (pattern .kinds)) (pattern .starts) (pattern .ends)
-
-  length-pred : length (t .pred) ≡ length (pattern .kinds)
-  length-pred = ap length (p .pred) ∙ length-masks (length (pattern .kinds)) (pattern .ends) (pattern .starts)
-
   -- What `start` writes into an empty table and returns.
   module _ {nodes : List ℕ} (list : NodeList (length (host .kinds)) nodes) {empty table : List ℕ} {first : ℕ} (clear : Cleared nodes empty)
       (long : length empty ≡ length (host .kinds)) (fill : Filled (startNode (pattern .kinds) (host .kinds)) nodes empty table first) where
@@ -65,8 +54,8 @@ module _ {pattern host : Circuit} {t : Tables} (p : Prepared pattern host t) whe
               record {
                 forward = rw first-long (p .forward);
                 backward = rw first-long (p .backward);
-                drives = λ v. rw length-succ (first-small v);
-                driven = λ v. rw length-pred (first-small v);
+                drives = λ v. rw (length-succ p) (first-small v);
+                driven = λ v. rw (length-pred p) (first-small v);
               };
           cleared = rw made (cleared-table (length (host .kinds)) rule nodes);
           free = free;

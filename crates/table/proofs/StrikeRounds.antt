@@ -18,7 +18,8 @@ use Rattle.bits.proofs.Numbers.{subset-le}
 use Rattle.graph.specs.Circuit.{Circuit}
 use Rattle.table.specs.Row.{inTable, pairs, startTable, row, lastTable, kept, rounds}
 use Rattle.table.specs.Fill.{listed, marksOf, NodeList, Cleared, Filled, tableAt}
-use Rattle.table.specs.Strike.{Tables, strikeNode, strikeTable, strikeTimes, Ready, Prepared, Round, Settled}
+use Rattle.table.specs.Prepared.{Tables, Ready, Prepared}
+use Rattle.table.specs.Strike.{strikeNode, strikeTable, strikeTimes, Round, Settled}
 use Rattle.table.proofs.Sets.{pairs-progress}
 use Rattle.table.proofs.Rest.{FirstRest, falls-count}
 use Rattle.table.proofs.Counts.{first-last, first-rounds}

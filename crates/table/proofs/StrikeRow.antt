@@ -16,9 +16,11 @@ use Rattle.bits.proofs.Numbers.{number-same, number-wider}
 use Rattle.graph.specs.Circuit.{Circuit}
 use Rattle.graph.specs.Neighbours.{select, stretch}
 use Rattle.graph.specs.Search.{inside}
+use Rattle.graph.specs.Bfs.{Below}
 use Rattle.table.specs.Row.{inTable, agrees, answered, supported, startTable, strike, row}
-use Rattle.table.specs.Fill.{listed, marksOf, Below, Cleared, tableAt}
-use Rattle.table.specs.Strike.{masksOf, startNode, Tables, survivors, strikeNode, strikeTable, strikeTimes, Prepared}
+use Rattle.table.specs.Fill.{listed, marksOf, Cleared, tableAt}
+use Rattle.table.specs.Prepared.{masksOf, Tables, Prepared}
+use Rattle.table.specs.Strike.{startNode, survivors, strikeNode, strikeTable, strikeTimes}
 use Rattle.table.proofs.Row.{Table, row-fits, row-untaken}
 use Rattle.table.proofs.StrikeMasks.{select-below, bit-mask}
 use Rattle.table.proofs.StrikeSets.{strike-none}
@@ -80,6 +82,7 @@ module _ (pattern host : Circuit) (t : Tables) (p : Prepared pattern host t) whe
   n = length (pattern .kinds)
 
   below-word : (xs : List ℕ) → Below n xs → Below 32 xs
+  unfolding Below
   below-word xs l i h = lt-of-lt-of-le (l i h) (p .parts)
 
   forward-answered : (old : List ℕ) (u v : ℕ) → u < n → v < length (host .kinds)
@@ -120,7 +123,7 @@ module _ (pattern host : Circuit) (t : Tables) (p : Prepared pattern host t) whe
 
 -- ---- the first table
 
-inside-marks : (n : ℕ) (nodes : List ℕ) (v : ℕ) → v < n → inside (marksOf n nodes) v ≡ listed nodes v
+pub inside-marks : (n : ℕ) (nodes : List ℕ) (v : ℕ) → v < n → inside (marksOf n nodes) v ≡ listed nodes v
 unfolding inside marksOf
 inside-marks n nodes v h = ap (λ (x : ℕ). eqb x 1) (getD-tabulate n (λ v. cond (listed nodes v) 1 0) v 0 h) ∙ go (listed nodes v)
   where

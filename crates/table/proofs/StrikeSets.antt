@@ -15,7 +15,8 @@ use Rattle.bits.proofs.Numbers.{bit-number, number-lt, number-same, number-bit}
 use Rattle.bits.proofs.Tests.{bitOr-assoc}
 use Rattle.bits.proofs.Members.{first-trailing, bit-without, trailing-lt, trailing-bit}
 use Rattle.graph.specs.Neighbours.{stretch}
-use Rattle.table.specs.Strike.{Tables, survivors, strikeNode}
+use Rattle.table.specs.Prepared.{Tables}
+use Rattle.table.specs.Strike.{survivors, strikeNode}
 
 -- ---- the first part of a set that is not empty
 

@@ -7,6 +7,7 @@ use lib.Dec.{eqb}
 use lib.ListN.{length, getD, set}
 use Rattle.lists.specs.List.{any, tabulate}
 use Rattle.bits.specs.Bits.{sizeOf}
+use Rattle.graph.specs.Bfs.{Below}
 
 -- v is in the list
 unfoldable pub listed : List ℕ → ℕ → Bool
@@ -15,10 +16,6 @@ listed nodes v = any (λ w. eqb w v) nodes
 -- a byte per node, 1 for those of the list
 unfoldable pub marksOf : ℕ → List ℕ → List ℕ
 marksOf n nodes = tabulate n (λ v. cond (listed nodes v) 1 0)
-
--- every entry of a list is below n
-abbrev pub Below : ℕ → List ℕ → Type 0
-Below n xs = (i : ℕ) → i < length xs → getD xs i 0 < n
 
 -- no two entries of a list are equal
 unfoldable pub Distinct : List ℕ → Type 0

@@ -3,8 +3,9 @@ use mathlib.Core.List.{List}
 use mathlib.Core.Path.{_≡_}
 use Prim.Native.Nat.{ℕ}
 use Rattle.graph.specs.Circuit.{Circuit}
+use Rattle.table.specs.Host.{everything}
 use Rattle.table.specs.Row.{started, kept, struck, rounds, lastTable}
-use Rattle.table.specs.declared.rounds.Counts.{Counts}
+use Rattle.table.specs.declared.largest.Counts.{Counts}
 
 abbrev pub circuit : List ℕ → List ℕ → List ℕ → Circuit
 circuit kinds starts ends = record { kinds = kinds; starts = starts; ends = ends }
@@ -19,3 +20,7 @@ countsOf pattern host taken =
 pub record Refined (pattern host : Circuit) (taken table : List ℕ) (counts : Counts) : Type 0 where
   pub counted : counts ≡ countsOf pattern host taken
   pub last : table ≡ lastTable pattern host taken
+
+-- the four counts and the table of the row's last set, over the whole board
+abbrev pub MatchedOn : Circuit → Circuit → List ℕ → Counts → Type 0
+MatchedOn pattern board table counts = Refined pattern board (everything board) table counts

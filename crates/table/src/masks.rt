@@ -1,8 +1,8 @@
 // Sets of parts for each part: those that it drives, or those that drive it.
 ghost use mathlib.Core.Path.{_≡_};
 ghost use lib.ListN.{length, replicate};
-ghost use Rattle.table.specs.Fill.{Below};
-ghost use Rattle.table.specs.Strike.{masksOf};
+ghost use Rattle.graph.specs.Bfs.{Below};
+ghost use Rattle.table.specs.Prepared.{masksOf};
 
 // Makes every set empty.
 pub fn clear(sets: &mut [u32])

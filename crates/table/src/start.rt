@@ -4,7 +4,8 @@ ghost use Prim.Native.Nat.{_≤_};
 ghost use lib.Dec.{eqb};
 ghost use lib.ListN.{length, getD};
 ghost use Rattle.bits.specs.Bits.{numberOf};
-ghost use Rattle.table.specs.Fill.{Below, Filled};
+ghost use Rattle.graph.specs.Bfs.{Below};
+ghost use Rattle.table.specs.Fill.{Filled};
 ghost use Rattle.table.specs.Strike.{startNode};
 
 // The set of the parts of a kind.
@@ -41,4 +42,23 @@ pub fn start(nodes: &[u16], part_kinds: &[u16], node_kinds: &[u16], table: &mut 
         i += 1;
     }
     started
+}
+
+// Writes at each node of the list the set that another table has there, and returns how many pairs these are.
+pub fn copy(nodes: &[u16], from: &[u32], table: &mut [u32]) -> u32
+    requires { ⌜ length (now nodes) ≤ 65536 ⌝ }
+    requires { ⌜ Below (length (now table)) (now nodes) ⌝ }
+    requires { ⌜ Below (length (now from)) (now nodes) ⌝ }
+    ensures { λ r. ⌜ Filled (λ v. getD (now (from .entry)) v 0) (now (nodes .entry)) (now (table .entry)) (now (table .exit)) r ⌝ }
+{
+    let mut copied: u32 = 0;
+    let mut i = 0;
+    while i < nodes.len() {
+        let v = nodes[i] as usize;
+        let set = from[v];
+        table[v] = set;
+        copied = copied + bits::size(set);
+        i += 1;
+    }
+    copied
 }

@@ -5,8 +5,10 @@ ghost use Prim.Native.Nat.{_^_, _≤_, _<_};
 ghost use lib.ListN.{length};
 ghost use Rattle.bits.specs.Bits.{unionAt};
 ghost use Rattle.graph.specs.Neighbours.{stretch};
-ghost use Rattle.table.specs.Fill.{Below, Filled};
-ghost use Rattle.table.specs.Strike.{tables, survivors, strikeNode, NeighbourTable, Ready};
+ghost use Rattle.graph.specs.Bfs.{Below};
+ghost use Rattle.table.specs.Fill.{Filled};
+ghost use Rattle.table.specs.Prepared.{tables, NeighbourTable, Ready};
+ghost use Rattle.table.specs.Strike.{survivors, strikeNode};
 
 // The union of the sets of a list of nodes.
 fn reach(part: &[u16], sets: &[u32]) -> u32

@@ -7,7 +7,8 @@ use borrow.Author.Needs.{needs}
 use denote.Ref.{now}
 use lib.Bits.{bitOr}
 use lib.ListN.{length, getD, drop, set, length-set}
-use Rattle.table.specs.Strike.{masksOf}
+use Rattle.graph.specs.Bfs.{Below}
+use Rattle.table.specs.Prepared.{masksOf}
 use Rattle.table.proofs.StrikeMasks.{addLinks, add-next, add-end, add-masks}
 use Rattle.table.proofs.masks.masks.Statement.{statement}
 use Rattle.table.proofs.masks.masks.Tie as tie
@@ -41,6 +42,7 @@ known : (c : tie.In-loop Inv-loop μ-loop) →
     (getD (now (a .keys)) (loop .loop .i) 0 < length (loop .loop .out))
     × (loop .loop .i < length (now (a .values)))
     × (getD (now (a .values)) (loop .loop .i) 0 < 32)
+unfolding Below
 known c =
     let loop = c .before in
     let start = loop .before .before .before .before .before .before .before .before in

@@ -6,6 +6,7 @@ use native.Mathlib.Omega.{arith}
 use borrow.Author.Needs.{needs}
 use denote.Ref.{now}
 use lib.ListN.{length, getD}
+use Rattle.graph.specs.Bfs.{Below}
 use Rattle.table.specs.Strike.{startNode}
 use Rattle.table.proofs.StrikeFill.{Filling, filling-start, filling-fits, filling-next, filling-end}
 use Rattle.table.proofs.start.start.Statement.{statement}
@@ -37,6 +38,7 @@ known : (c : tie.In-loop Inv-loop μ-loop) →
     let a = loop .before .before .before .before .before .args in
     let v = getD (now (a .nodes)) (loop .loop .i) 0 in
     (v < length (loop .loop .table)) × (v < length (now (a .node-kinds)))
+unfolding Below
 known c =
     let loop = c .before in
     let p = loop .before .before .before .before .before .pre in

@@ -4,9 +4,10 @@ use Prim.Native.Nat.{_+_, _-_, _≤_}
 use native.Mathlib.Omega.{arith}
 use borrow.Author.Needs.{needs}
 use denote.Ref.{now}
-use lib.ListN.{length, getD}
+use lib.ListN.{length, getD, drop}
 use Rattle.bits.specs.Bits.{unionAt}
-use Rattle.table.proofs.StrikeStretch.{part-below, offsets-rise, offsets-end, stretch-part}
+use Rattle.graph.proofs.Below.{below-drop, below-take}
+use Rattle.table.proofs.StrikeStretch.{offsets-rise, offsets-end, stretch-part}
 use Rattle.table.proofs.strike.around.Statement.{statement}
 use Rattle.table.proofs.strike.around.Tie as tie
 
@@ -55,9 +56,11 @@ part-reach-end c = omega (arith, ordered c, c .shared-slice-known5 .given (c .be
 reach-requires : tie.Need-reach-requires
 reach-requires c κs =
     let start = c .before .before .before .before .before .before in
+    let n = length (now (start .args .sets)) in
+    let links = now (start .args .links) in
     let from = getD (now (start .args .offsets)) (start .args .v) 0 in
     let to = getD (now (start .args .offsets)) (start .args .v + 1) 0 in
-    part-below (length (now (start .args .sets))) (now (start .args .links)) from (to - from) (start .pre .0 .nodes)
+    below-take n (drop from links) (to - from) (below-drop n links from (start .pre .0 .nodes))
 
 returns : tie.Need-returns
 returns c =

@@ -12,6 +12,7 @@ use lib.ListN.{length, getD, drop, drop-of-length-le}
 use lib.Seq.{drop-cons}
 use Rattle.bits.specs.Bits.{unionAt}
 use Rattle.bits.proofs.Tests.{bitOr-assoc}
+use Rattle.graph.specs.Bfs.{Below}
 use Rattle.table.proofs.strike.reach.Statement.{statement}
 use Rattle.table.proofs.strike.reach.Tie as tie
 
@@ -44,11 +45,13 @@ cast-w : tie.Need-cast-w Inv-loop μ-loop
 cast-w c = omega (arith, c .shared-slice-known .given (c .before .before .loop .i))
 
 mul-union : tie.Need-mul-union Inv-loop μ-loop
+unfolding Below
 mul-union c =
     let h = c .before .before .before .pre (c .before .before .loop .i) (omega arith) in
     search needs
 
 shared-slice-read-union : tie.Need-shared-slice-read-union Inv-loop μ-loop
+unfolding Below
 shared-slice-read-union c = c .before .before .before .before .pre (c .before .before .before .loop .i) (omega arith)
 
 add-i : tie.Need-add-i Inv-loop μ-loop

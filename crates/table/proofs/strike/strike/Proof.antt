@@ -5,7 +5,9 @@ use native.Mathlib.Omega.{arith}
 use borrow.Author.Needs.{needs}
 use denote.Ref.{now}
 use lib.ListN.{length, getD}
-use Rattle.table.specs.Strike.{tables, strikeNode}
+use Rattle.graph.specs.Bfs.{Below}
+use Rattle.table.specs.Prepared.{tables}
+use Rattle.table.specs.Strike.{strikeNode}
 use Rattle.table.proofs.StrikeFill.{Filling, filling-start, filling-fits, filling-next, filling-end}
 use Rattle.table.proofs.strike.strike.Statement.{statement}
 use Rattle.table.proofs.strike.strike.Tie as tie
@@ -34,6 +36,7 @@ known : (c : tie.In-loop Inv-loop μ-loop) →
     let a = loop .before .before .before .before .before .before .before .before .before .before .args in
     let v = getD (now (a .nodes)) (loop .loop .i) 0 in
     (v < length (now (a .old))) × (v < length (loop .loop .new))
+unfolding Below
 known c =
     let loop = c .before in
     let p = loop .before .before .before .before .before .before .before .before .before .before .pre in

@@ -2,7 +2,7 @@
 use mathlib.Core.Path.{sym}
 use borrow.Author.Needs.{needs}
 use denote.Ref.{now}
-use Rattle.table.specs.Strike.{tables}
+use Rattle.table.specs.Prepared.{tables}
 use Rattle.table.proofs.StrikeSets.{strike-none, strike-unions}
 use Rattle.table.proofs.strike.strike_node.Statement.{statement}
 use Rattle.table.proofs.strike.strike_node.Tie as tie

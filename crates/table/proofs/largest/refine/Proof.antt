@@ -1,13 +1,14 @@
--- `table::rounds::refine` meets its contract: empty tables, the first table, the rounds, and the counts. Assumes nothing.
+-- `table::largest::refine` meets its contract: empty tables, the first table, the rounds, and the counts. Assumes nothing.
 use mathlib.Core.Path.{_≡_, _∙_}
 use borrow.Author.Needs.{needs}
 use denote.Ref.{now}
 use lib.ListN.{length}
 use Rattle.table.specs.Fill.{Cleared}
 use Rattle.table.proofs.StrikeFill.{cleared-none}
-use Rattle.table.proofs.StrikeRefine.{length-succ, first-long, first-round, refined-less, refined}
-use Rattle.table.proofs.rounds.refine.Statement.{statement}
-use Rattle.table.proofs.rounds.refine.Tie as tie
+use Rattle.table.proofs.PreparedMasks.{length-succ}
+use Rattle.table.proofs.StrikeRefine.{first-long, first-round, refined-less, refined}
+use Rattle.table.proofs.largest.refine.Statement.{statement}
+use Rattle.table.proofs.largest.refine.Tie as tie
 
 abbrev entry : tie.After-clear → tie.Start
 entry c = c .before .before .before .before .before .before .before .before .before .before .before .before .before .before .before .before .before

@@ -8,6 +8,7 @@ use lib.ListN.{length, getD}
 use Rattle.lists.specs.List.{any, tabulate}
 use Rattle.lists.proofs.Tests.{T-true, at-any}
 use Rattle.lists.proofs.Tables.{length-tabulate, getD-tabulate, tabulate-same}
+use Rattle.graph.specs.Bfs.{Below}
 use Rattle.table.specs.Fill.{listed, marksOf, Distinct, allNodes, NodeList}
 
 module _ (n : ℕ) where
@@ -21,7 +22,7 @@ module _ (n : ℕ) where
 
   -- it has each node once
   pub all-list : n ≤ 65536 → NodeList n (allNodes n)
-  unfolding Distinct
+  unfolding Distinct Below
   all-list short =
       record {
         below = λ i h. let l = rw length-all at h in rw (all-at i l) l;

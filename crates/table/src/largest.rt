@@ -1,12 +1,16 @@
 // Striking round after round until a round strikes nothing: the largest dual simulation, and the four counts.
 use crate::masks::clear;
+use crate::start::copy;
 use crate::start::start;
 use crate::strike::strike;
 ghost use mathlib.Core.Path.{_≡_};
 ghost use Prim.Native.Nat.{_≤_};
 ghost use lib.ListN.{length};
 ghost use Rattle.table.specs.Fill.{marksOf, NodeList};
-ghost use Rattle.table.specs.Strike.{tables, Prepared, Round, Settled};
+ghost use Rattle.table.specs.Host.{everything};
+ghost use Rattle.table.specs.Row.{lastTable};
+ghost use Rattle.table.specs.Prepared.{tables, Prepared};
+ghost use Rattle.table.specs.Strike.{Round, Settled};
 ghost use Rattle.table.specs.Refine.{circuit, Refined};
 
 // The pairs at first, those left and those struck, and how many rounds struck a pair.
@@ -18,7 +22,7 @@ pub struct Counts {
 }
 
 // Where the rounds end.
-pub struct Rest {
+struct Rest {
     pub kept: u32,
     pub rounds: u32,
 }
@@ -95,4 +99,36 @@ pub fn refine(
         struck: started - end.kept,
         rounds: end.rounds,
     }
+}
+
+// The same set from the whole circuit's, `whole`: only pairs of that table are looked at, and nothing is counted.
+pub fn refine_within(
+    part_kinds: &[u16],
+    part_starts: &[u16],
+    part_ends: &[u16],
+    node_kinds: &[u16],
+    node_starts: &[u16],
+    node_ends: &[u16],
+    whole: &[u32],
+    nodes: &[u16],
+    succ: &[u32],
+    pred: &[u32],
+    fo: &[u16],
+    ft: &[u16],
+    bo: &[u16],
+    bt: &[u16],
+    table: &mut [u32],
+    spare: &mut [u32],
+)
+    requires { ⌜ Prepared (circuit (now «part_kinds») (now «part_starts») (now «part_ends»)) (circuit (now «node_kinds») (now «node_starts») (now «node_ends»)) (tables (now succ) (now pred) (now fo) (now ft) (now bo) (now bt)) ⌝ }
+    requires { ⌜ NodeList (length (now «node_kinds»)) (now nodes) ⌝ }
+    requires { ⌜ length (now table) ≡ length (now «node_kinds») ⌝ }
+    requires { ⌜ length (now spare) ≡ length (now «node_kinds») ⌝ }
+    requires { ⌜ now whole ≡ lastTable (circuit (now «part_kinds») (now «part_starts») (now «part_ends»)) (circuit (now «node_kinds») (now «node_starts») (now «node_ends»)) (everything (circuit (now «node_kinds») (now «node_starts») (now «node_ends»))) ⌝ }
+    ensures { λ _. ⌜ now (table .exit) ≡ lastTable (circuit (now («part_kinds» .entry)) (now («part_starts» .entry)) (now («part_ends» .entry))) (circuit (now («node_kinds» .entry)) (now («node_starts» .entry)) (now («node_ends» .entry))) (marksOf (length (now («node_kinds» .entry))) (now (nodes .entry))) ⌝ }
+{
+    clear(table);
+    clear(spare);
+    let started = copy(nodes, whole, table);
+    settle(nodes, succ, pred, fo, ft, bo, bt, table, spare, started);
 }

@@ -1,4 +1,4 @@
--- `table::rounds::settle` meets its contract. The loop's invariant: `table` is the table after `rounds` rounds, each of which struck a pair,
+-- `table::largest::settle` meets its contract. The loop's invariant: `table` is the table after `rounds` rounds, each of which struck a pair,
 -- and has `kept` pairs; `spare` may be written over. The measure is `kept`, which falls with each round. Assumes nothing.
 use mathlib.Core.List.{List}
 use mathlib.Core.Path.{_≡_, refl, _∙_}
@@ -7,10 +7,11 @@ use native.Mathlib.Omega.{arith}
 use denote.Ref.{now}
 use lib.ListN.{length}
 use Rattle.table.specs.Fill.{NodeList}
-use Rattle.table.specs.Strike.{Tables, tables, Round}
+use Rattle.table.specs.Prepared.{Tables, tables}
+use Rattle.table.specs.Strike.{Round}
 use Rattle.table.proofs.StrikeRounds.{round-count, round-less, round-next, round-same, round-last}
-use Rattle.table.proofs.rounds.settle.Statement.{statement}
-use Rattle.table.proofs.rounds.settle.Tie as tie
+use Rattle.table.proofs.largest.settle.Statement.{statement}
+use Rattle.table.proofs.largest.settle.Tie as tie
 
 abbrev Inv-loop : tie.InvT-loop
 Inv-loop nodes succ pred fo ft bo bt table₀ spare₀ started kept₀ rounds₀ table spare kept rounds =

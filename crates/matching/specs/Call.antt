@@ -1,0 +1,41 @@
+-- The exported call on two files, whole: its reply and the table's later content, from the inputs alone.
+use mathlib.Core.List.{List, [], _∷_, _++_}
+use Prim.Native.Nat.{ℕ}
+use lib.ListN.{length}
+use Rattle.graph.specs.Circuit.{Circuit}
+use Rattle.files.specs.declared.Role.the-variants.{Pattern, Board}
+use Rattle.files.specs.Circuit.{circuitOf}
+use Rattle.files.specs.Layout.{nodesOf}
+use Rattle.files.specs.Reading.{filled}
+use Rattle.files.specs.Refusals.{Condition, accept, refuse, first, fileConditions, shortTable}
+use Rattle.matching.specs.declared.TableAnswer.{TableAnswer}
+use Rattle.matching.specs.declared.TableAnswer.the-variants.{Matched, Refused}
+use Rattle.table.specs.declared.largest.Counts.{Counts}
+use Rattle.table.specs.Host.{everything}
+use Rattle.table.specs.Refine.{countsOf}
+use Rattle.table.specs.Reply.{Reply, noCounts, replied}
+use Rattle.table.specs.Row.{lastTable}
+
+-- "Rising numbers are the order, the pattern's 1 to 6 before the board's. Needed: .. match table N"
+unfoldable pub matchConditions : List ℕ → List ℕ → ℕ → List Condition
+matchConditions pattern board lent =
+    fileConditions Pattern pattern ++ (fileConditions Board board ++ (shortTable (nodesOf board) lent ∷ []))
+
+-- each case of the answer, so read: a refusal has no counts
+unfoldable pub replyOf : TableAnswer → Reply
+replyOf (Matched counts) = record { verdict = accept; counts = counts }
+replyOf (Refused x) = record { verdict = refuse x; counts = noCounts }
+
+-- the reply, and the table as the call leaves it
+pub record TableOutcome : Type 0 where
+  pub reply : Reply
+  pub table : List ℕ
+
+-- The pattern on the whole board: the four counts, and the last set of the row at the front of the table, whose entries past N stay. On a
+-- refusal the whole table stays.
+unfoldable pub matching : List ℕ → List ℕ → List ℕ → TableOutcome
+matching pattern board table =
+    let verdict = first (matchConditions pattern board (length table)) in
+    let p = circuitOf pattern in
+    let b = circuitOf board in
+    record { reply = replied verdict (countsOf p b (everything b)); table = filled verdict (lastTable p b (everything b)) table }

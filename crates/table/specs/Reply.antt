@@ -1,0 +1,17 @@
+-- What the calls that match reply: the verdict, and the four counts.
+use Rattle.files.specs.Refusals.{Verdict, accept, refuse}
+use Rattle.table.specs.declared.largest.Counts.{Counts}
+
+-- "counts are 0"
+unfoldable pub noCounts : Counts
+noCounts = record { started = 0; kept = 0; struck = 0; rounds = 0 }
+
+-- What document 01 says of a reply: accepted, or refused by a number and with the file that is meant; and the four counts.
+pub record Reply : Type 0 where
+  pub verdict : Verdict
+  pub counts : Counts
+
+-- the reply to a verdict, where acceptance has these counts
+unfoldable pub replied : Verdict → Counts → Reply
+replied accept counts = record { verdict = accept; counts = counts }
+replied (refuse x) counts = record { verdict = refuse x; counts = noCounts }

@@ -1,0 +1,112 @@
+-- `table_cases::step` is safe: the two files lie within the cases, and the part lent within the table. Assumes nothing.
+use native.Mathlib.Omega.{arith}
+use lib.ListN.{length-take}
+use borrow.Author.Needs.{needs}
+use Rattle.table_cases.proofs.step.Statement.{statement}
+use Rattle.table_cases.proofs.step.Tie as tie
+use Rattle.table_cases.proofs.step.Reads as reads
+use Rattle.table_cases.proofs.step.Lts as lts
+use Rattle.cases.proofs.least.Reads as least-reads
+use Rattle.cases.proofs.number.Reads as number-reads
+use Rattle.table_cases.proofs.run.Reads as run-reads
+
+number-requires : tie.Need-number-requires
+number-requires c κs = search needs
+
+least-requires : tie.Need-least-requires
+least-requires c κs = search needs
+
+add-from : tie.Need-add-from
+add-from c = search needs
+
+add-number : tie.Need-add-number
+add-number c = search needs
+
+number-requires-2 : tie.Need-number-requires-2
+number-requires-2 c κs = search needs
+
+sub-least : tie.Need-sub-least
+sub-least c = search needs
+
+least-requires-2 : tie.Need-least-requires-2
+least-requires-2 c κs = search needs
+
+add-middle : tie.Need-add-middle
+add-middle c = search needs
+
+add-number-2 : tie.Need-add-number-2
+add-number-2 c = search needs
+
+number-requires-3 : tie.Need-number-requires-3
+number-requires-3 c κs = search needs
+
+sub-least-2 : tie.Need-sub-least-2
+sub-least-2 c = search needs
+
+least-requires-3 : tie.Need-least-requires-3
+least-requires-3 c κs = search needs
+
+add-to : tie.Need-add-to
+add-to c = search needs
+
+sub-run : tie.Need-sub-run
+sub-run c = search needs
+
+part-run-start : tie.Need-part-run-start
+part-run-start c = search needs
+
+part-run-end : tie.Need-part-run-end
+part-run-end c = search needs
+
+sub-run-2 : tie.Need-sub-run-2
+sub-run-2 c = search needs
+
+part-run-start-2 : tie.Need-part-run-start-2
+part-run-start-2 c = search needs
+
+part-run-end-2 : tie.Need-part-run-end-2
+part-run-end-2 c = search needs
+
+slice-relend-prefix-run : tie.Need-slice-relend-prefix-run
+slice-relend-prefix-run c = search needs
+
+slice-aggregate-run : tie.Need-slice-aggregate-run
+slice-aggregate-run c = simp length-take (omega arith)
+
+run-requires : tie.Need-run-requires
+run-requires c κs = search needs
+
+same-length : tie.Need-same-length
+same-length c = search needs
+
+returns : tie.Need-returns
+returns c = search needs
+
+pub step-spec : {M : Type 1} → statement M
+step-spec =
+    tie.close
+    (tie.spec
+    number-requires
+    least-requires
+    add-from
+    add-number
+    number-requires-2
+    sub-least
+    least-requires-2
+    add-middle
+    add-number-2
+    number-requires-3
+    sub-least-2
+    least-requires-3
+    add-to
+    sub-run
+    part-run-start
+    part-run-end
+    sub-run-2
+    part-run-start-2
+    part-run-end-2
+    slice-relend-prefix-run
+    slice-aggregate-run
+    run-requires
+    same-length
+    returns)
