@@ -4,4 +4,8 @@ pub mod Marks
 pub mod Place
 pub mod Masks
 pub mod Accepted
+pub mod Spread
+pub mod Matched
+pub mod Bytes
+pub mod Outcome
 pub mod Examples

@@ -9,10 +9,9 @@ use native.Mathlib.Decide.{decLt}
 use native.Mathlib.Omega.{arith}
 use lib.Dec.{T, eqb, eqb→eq, eqb-refl}
 use lib.ListN.{length, getD, List·getD-eq-default}
-use Rattle.lists.specs.List.{any, tabulate}
 use Rattle.lists.proofs.Tests.{both, both-left, both-right, false-T, same-test, anyBelow-at, at-anyBelow}
-use Rattle.lists.proofs.Tables.{length-tabulate, getD-tabulate}
-use Rattle.bits.specs.Bits.{bit, numberOf, intersects, unionOver}
+use Rattle.lists.proofs.Tables.{getD-tabulate}
+use Rattle.bits.specs.Bits.{bit, intersects, unionOver}
 use Rattle.bits.proofs.Digits.{bit-of-zero, bit-below}
 use Rattle.bits.proofs.Numbers.{bit-number}
 use Rattle.bits.proofs.Tests.{intersects-at}
@@ -20,8 +19,11 @@ use Rattle.bits.proofs.Unions.{bit-unionOver}
 use Rattle.graph.specs.Circuit.{Circuit, HasLink}
 use Rattle.graph.specs.Neighbours.{select}
 use Rattle.graph.proofs.Groups.{link-swap}
+use Rattle.table.specs.Fill.{listed}
 use Rattle.table.specs.Row.{inTable}
+use Rattle.table.specs.Prepared.{masksOf}
 use Rattle.table.proofs.Answers.{any-select}
+use Rattle.table.proofs.PreparedMasks.{length-masks}
 use Rattle.place.specs.Match.{matches}
 use Rattle.place.proofs.Links.{matches-iff}
 
@@ -32,30 +34,27 @@ use Rattle.place.proofs.Links.{matches-iff}
 pub record MaskTable (keys values masks : List ℕ) : Type 0 where
   pub holds : (u x : ℕ) → u < 32 → x < 32 → T (bit (getD masks u 0) x) ↔ HasLink keys values u x
 
--- such a table, for n parts
-abbrev pub maskTable : ℕ → List ℕ → List ℕ → List ℕ
-maskTable n keys values = tabulate n (λ u. numberOf 32 (λ x. any (λ y. eqb y x) (select keys values u)))
-
--- it is one where all keys are below n
+-- the masks that the table crate makes are such tables, where all keys are below n
 module _ (n : ℕ) (keys values : List ℕ) where
-  mask-bit : (u x : ℕ) → u < n → x < 32 → bit (getD (maskTable n keys values) u 0) x ≡ any (λ y. eqb y x) (select keys values u)
-  mask-bit u x h l = ap (λ m. bit m x) (getD-tabulate n _ u 0 h) ∙ bit-number 32 (λ x. any (λ y. eqb y x) (select keys values u)) x l
+  mask-bit : (u x : ℕ) → u < n → x < 32 → bit (getD (masksOf n keys values) u 0) x ≡ listed (select keys values u) x
+  unfolding masksOf
+  mask-bit u x h l = ap (λ m. bit m x) (getD-tabulate n _ u 0 h) ∙ bit-number 32 (listed (select keys values u)) x l
 
-  mask-past : (u x : ℕ) → (u < n → ⊥) → T (bit (getD (maskTable n keys values) u 0) x) → ⊥
+  mask-past : (u x : ℕ) → (u < n → ⊥) → T (bit (getD (masksOf n keys values) u 0) x) → ⊥
   mask-past u x f =
-      let short = length-tabulate n (λ u. numberOf 32 (λ x. any (λ y. eqb y x) (select keys values u))) in
-      false-T (ap (λ m. bit m x) (List·getD-eq-default (maskTable n keys values) 0 (omega (arith, short))) ∙ bit-of-zero x)
+      false-T (ap (λ m. bit m x) (List·getD-eq-default (masksOf n keys values) 0 (omega (arith, length-masks n keys values))) ∙ bit-of-zero x)
 
-  pub mask-table : ((u x : ℕ) → HasLink keys values u x → u < n) → MaskTable keys values (maskTable n keys values)
+  pub mask-table : ((u x : ℕ) → HasLink keys values u x → u < n) → MaskTable keys values (masksOf n keys values)
+  unfolding listed
   mask-table keyed = record { holds = λ u x h l. (to u x l (decLt u n), from u x l) }
     where
-      to : (u x : ℕ) → x < 32 → Dec (u < n) → T (bit (getD (maskTable n keys values) u 0) x) → HasLink keys values u x
+      to : (u x : ℕ) → x < 32 → Dec (u < n) → T (bit (getD (masksOf n keys values) u 0) x) → HasLink keys values u x
       to u x l (yes h) t =
           let (y, m, e) = any-select (λ y. eqb y x) keys values u .0 (subst T (mask-bit u x h l) t) in
           subst (HasLink keys values u) (eqb→eq y x e) m
       to u x l (no f) t = absurd (mask-past u x f t)
 
-      from : (u x : ℕ) → x < 32 → HasLink keys values u x → T (bit (getD (maskTable n keys values) u 0) x)
+      from : (u x : ℕ) → x < 32 → HasLink keys values u x → T (bit (getD (masksOf n keys values) u 0) x)
       from u x l m = subst T (sym (mask-bit u x (keyed u x m) l)) (any-select (λ y. eqb y x) keys values u .1 (x, m, eqb-refl x))
 
 -- ---- the test of a link by whole sets

@@ -1,2 +1,5 @@
 pub mod Match
+pub mod Spread
+pub mod Bytes
+pub mod Outcome
 pub mod Examples

@@ -1,0 +1,165 @@
+-- Over prepared tables the search follows the match graph's links, so that what it reaches is the centre's component; and the ball's list
+-- is the list of the first search. Assumes nothing.
+use mathlib.Core.Bool.{Bool, true, false, not, cond}
+use mathlib.Core.List.{List, [], _∷_, _++_}
+use mathlib.Core.Logic.{_⊎_, _↔_, inl, inr, ⊎-elim}
+use mathlib.Core.Path.{_≡_, refl, sym, ap, _∙_, subst}
+use Prim.Native.Nat.{ℕ, _^_, _≤_, _<_}
+use native.Mathlib.Nat.{le-of-lt}
+use native.Mathlib.Omega.{arith}
+use borrow.Author.Tests.{eq-eqb, ne-eqb}
+use lib.Dec.{T, eqb, eqb→eq}
+use lib.ListN.{length, getD, take}
+use Rattle.lists.specs.List.{Occurs, any, tabulate}
+use Rattle.lists.proofs.Tests.{same-test, true-T, any-at, at-any}
+use Rattle.lists.proofs.Tables.{tabulate-same}
+use Rattle.bits.specs.Bits.{intersects, unionOver}
+use Rattle.graph.specs.Bfs.{bfs, adjacent, Below, Adjacency, Found}
+use Rattle.graph.specs.Circuit.{Circuit, HasLink}
+use Rattle.graph.specs.Neighbours.{select, stretch}
+use Rattle.graph.specs.Search.{far, ball, inside, distances}
+use Rattle.graph.proofs.Ball.{Within, within}
+use Rattle.graph.proofs.Bfs.{adjacency-of, bfs-ready}
+use Rattle.graph.proofs.BfsScan.{occurs-append}
+use Rattle.graph.proofs.Distance.{ball-distances}
+use Rattle.graph.proofs.Groups.{select-mem, select-mem-back}
+use Rattle.graph.proofs.Measures.{search-distances}
+use Rattle.graph.proofs.Reached.{bfs-listed}
+use Rattle.table.specs.Fill.{listed, marksOf, Distinct, NodeList}
+use Rattle.table.specs.Prepared.{Tables, masksOf, Prepared}
+use Rattle.place.specs.Match.{ballOf, matches, matchStarts, matchEnds, component}
+use Rattle.place.specs.Spread.{meeting, matched, Reached, Spread}
+use Rattle.place.proofs.Links.{match-kept, match-within}
+use Rattle.place.proofs.Masks.{MaskTable, mask-table, matches-forward, matches-backward}
+use Rattle.place.proofs.Spread.{meeting-occurs, matched-below, spread-ball}
+
+-- the masks that the table layer prepares are such tables
+masks-hold : (n : ℕ) (keys values masks : List ℕ) → masks ≡ masksOf n keys values → Below n keys → MaskTable keys values masks
+unfolding Below HasLink
+masks-hold n keys values masks e below =
+    subst (MaskTable keys values) (sym e) (mask-table n keys values (λ u x (i, l). subst (λ y. y < n) (l .start) (below i (l .inStarts))))
+
+module _ {pattern board : Circuit} {t : Tables} (p : Prepared pattern board t) (links : Within (length (board .kinds)) (board .starts) (board .ends)) where
+  abbrev n : ℕ
+  n = length (board .kinds)
+
+  forward-link : (v w : ℕ) → v < n → Occurs (stretch (t .forwardOffsets) (t .forward) v) w ↔ HasLink (board .starts) (board .ends) v w
+  forward-link v w h = rw (p .drives v h) (select-mem (board .starts) (board .ends) v w)
+
+  backward-link : (v w : ℕ) → v < n → Occurs (stretch (t .backwardOffsets) (t .backward) v) w ↔ HasLink (board .starts) (board .ends) w v
+  backward-link v w h = rw (p .driven v h) (select-mem-back (board .starts) (board .ends) v w)
+
+  -- ---- the ball
+
+  -- the neighbours of a node over the tables as they stand
+  abbrev around : ℕ → List ℕ
+  around = adjacent (t .forwardOffsets) (t .forward) (t .backwardOffsets) (t .backward)
+
+  board-adjacency : Adjacency n around (HasLink (board .starts) (board .ends))
+  unfolding Below
+  board-adjacency =
+      adjacency-of n (t .forwardOffsets) (t .forward) (t .backwardOffsets) (t .backward) (HasLink (board .starts) (board .ends))
+      (p .forward .nodes) (p .backward .nodes) forward-link backward-link
+
+  module _ (c r : ℕ) (h : c < n) (few : n < far) where
+    -- the nodes that the first search lists
+    abbrev ballList : List ℕ
+    ballList = bfs around n c r .reached
+
+    ball-list : NodeList n ballList
+    unfolding Distinct Below
+    ball-list =
+        let k = bfs-ready n c around (HasLink (board .starts) (board .ends)) few h board-adjacency r in
+        let l = bfs-listed n around c r h few (board-adjacency .inside) in
+        record { below = k .inside; distinct = l .distinct; short = omega (arith, k .counted) }
+
+    -- a node is listed exactly where its entry is not `far`
+    listed-test : (v : ℕ) → v < n → any (λ w. eqb w v) ballList ≡ not (eqb (getD (bfs around n c r .dist) v 0) far)
+    listed-test v m =
+        let l = bfs-listed n around c r h few (board-adjacency .inside) in
+        same-test
+        (λ t. let (i, b, e) = any-at (λ w. eqb w v) ballList t in true-T (ap not (ne-eqb _ far (l .near v (i, b, eqb→eq _ _ e)))))
+        (λ t.
+        let (i, b, e) = l .complete v m (λ q. subst T (ap not (eq-eqb _ far q)) t) in
+        at-any (λ w. eqb w v) ballList i b (true-T (eq-eqb _ _ e)))
+
+    -- the list is the ball
+    ball-marks : marksOf n ballList ≡ ballOf board c r
+    unfolding marksOf ballOf listed
+    ball-marks =
+        tabulate-same n _ _ (λ v m. ap (λ (b : Bool). cond b 1 0) (listed-test v m ∙ ap (λ (l : List ℕ). not (eqb (getD l v 0) far)) entries) ∙ turned (eqb (getD (distances n (board .starts) (board .ends) c r) v 0) far))
+        ∙ sym (ball-distances links c r (le-of-lt few))
+      where
+        entries : bfs around n c r .dist ≡ distances n (board .starts) (board .ends) c r
+        entries = search-distances links around board-adjacency c h few r
+
+        turned : (b : Bool) → _≡_ {A = ℕ} (cond (not b) 1 0) (cond b 0 1)
+        turned true = refl
+        turned false = refl
+
+    -- so the first nodes of the queue are, when the search is done
+    module _ (k : ℕ) (dist₀ dist queue : List ℕ) (f : Found n k dist₀ dist queue (bfs around n c r)) where
+      pub found-short : k ≤ n
+      found-short = let e = bfs-ready n c around (HasLink (board .starts) (board .ends)) few h board-adjacency r .counted in omega (arith, f .count)
+
+      pub found-list : NodeList n (take k queue)
+      found-list = rw (f .nodes) ball-list
+
+      pub found-marks : marksOf n (take k queue) ≡ ballOf board c r
+      found-marks = ap (marksOf n) (f .nodes) ∙ ball-marks
+
+  -- ---- the component
+
+  module _ (parallel : length (pattern .starts) ≡ length (pattern .ends)) (sets : List ℕ) (small : (v : ℕ) → getD sets v 0 < 2 ^ 32) where
+    -- a node is looked at along a link exactly where the link matches
+    pub forward-test : (v w : ℕ) → intersects (unionOver (t .succ) (getD sets v 0)) (getD sets w 0) ≡ matches pattern sets v w
+    forward-test v w =
+        sym (matches-forward pattern parallel sets small (masks-hold _ (pattern .starts) (pattern .ends) (t .succ) (p .succ) (p .starts)) v w)
+
+    backward-test : (v w : ℕ) → intersects (unionOver (t .pred) (getD sets v 0)) (getD sets w 0) ≡ matches pattern sets w v
+    backward-test v w =
+        sym (matches-backward pattern parallel sets small (masks-hold _ (pattern .ends) (pattern .starts) (t .pred) (p .pred) (p .ends)) w v)
+
+    abbrev Linked : ℕ → ℕ → Type 0
+    Linked = HasLink (matchStarts pattern board sets) (matchEnds pattern board sets)
+
+    forward-matched : (v w : ℕ) → v < n → Occurs (meeting (unionOver (t .succ) (getD sets v 0)) sets (stretch (t .forwardOffsets) (t .forward) v)) w ↔ Linked v w
+    forward-matched v w h =
+        let kept = match-kept pattern board sets v w in
+        let looked = meeting-occurs (unionOver (t .succ) (getD sets v 0)) sets (stretch (t .forwardOffsets) (t .forward) v) w in (
+          λ o. let (l, m) = looked .0 o in kept .1 (forward-link v w h .0 l, subst T (forward-test v w) m),
+          λ k. let (l, m) = kept .0 k in looked .1 (forward-link v w h .1 l, subst T (sym (forward-test v w)) m),
+        )
+
+    backward-matched : (v w : ℕ) → v < n → Occurs (meeting (unionOver (t .pred) (getD sets v 0)) sets (stretch (t .backwardOffsets) (t .backward) v)) w ↔ Linked w v
+    backward-matched v w h =
+        let kept = match-kept pattern board sets w v in
+        let looked = meeting-occurs (unionOver (t .pred) (getD sets v 0)) sets (stretch (t .backwardOffsets) (t .backward) v) w in (
+          λ o. let (l, m) = looked .0 o in kept .1 (backward-link v w h .0 l, subst T (backward-test v w) m),
+          λ k. let (l, m) = kept .0 k in looked .1 (backward-link v w h .1 l, subst T (sym (backward-test v w)) m),
+        )
+
+    -- the search follows the links of the match graph, either way
+    pub matched-adjacency : Adjacency n (matched t sets) Linked
+    unfolding matched Below
+    matched-adjacency =
+        record {
+          inside = λ v h. matched-below n t sets (p .forward .nodes) (p .backward .nodes) v;
+          joined = λ v w h.
+              let both = occurs-append w (meeting (unionOver (t .succ) (getD sets v 0)) sets (stretch (t .forwardOffsets) (t .forward) v))
+              (meeting (unionOver (t .pred) (getD sets v 0)) sets (stretch (t .backwardOffsets) (t .backward) v)) in (
+                λ o. ⊎-elim (λ a. inl (forward-matched v w h .0 a)) (λ a. inr (backward-matched v w h .0 a)) (both .0 o),
+                λ l. both .1 (⊎-elim (λ a. inl (forward-matched v w h .1 a)) (λ a. inr (backward-matched v w h .1 a)) l),
+              );
+        }
+
+    -- What it reaches is the centre's component.
+    pub spread-component :
+        (c : ℕ) → c < n → (dist : List ℕ) → Spread n c (matched t sets) dist → (v : ℕ) → v < n →
+        inside (component pattern board sets c) v ≡ not (eqb (getD dist v 0) far)
+    unfolding component
+    spread-component c h dist g v m =
+        let reached = spread-ball (match-within pattern board sets links) matched-adjacency h g v m in
+        same-test
+        (λ b. true-T (ap not (ne-eqb _ far (reached .0 b))))
+        (λ b. reached .1 (λ q. subst T (ap not (eq-eqb _ far q)) b))

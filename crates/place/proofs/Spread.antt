@@ -1,0 +1,244 @@
+-- The search for the component: its steps on tables, the loop's invariant, and that what it reaches is what walks join to the centre.
+-- Assumes nothing.
+use mathlib.Core.Bool.{Bool, true, false, cond}
+use mathlib.Core.List.{List, [], _∷_}
+use mathlib.Core.Logic.{_⊎_, _↔_, inl, inr, ⊎-elim}
+use mathlib.Core.Path.{_≡_, refl, sym, ap, _∙_, subst}
+use Prim.Native.Nat.{ℕ, zero, suc, _+_, _≤_, _<_, suc-le-suc}
+use native.Mathlib.Nat.{le-refl, le-step, zero-lt-suc, not-suc-le-zero, le-of-suc-le-suc}
+use native.Mathlib.Numerals.{add-one}
+use native.Mathlib.Omega.{arith}
+use lib.Dec.{T}
+use lib.ListN.{length, getD, drop, drop-of-length-le}
+use lib.Seq.{drop-cons, getD-take}
+use Rattle.lists.specs.List.{Occurs}
+use Rattle.lists.proofs.Tests.{T-true, true-T}
+use Rattle.bits.specs.Bits.{intersects, unionOver}
+use Rattle.graph.specs.Bfs.{State, visit, scan, start, Below, Ready, Adjacency, stateOf}
+use Rattle.graph.specs.Circuit.{HasLink}
+use Rattle.graph.specs.Graph.{Walk, stay, step}
+use Rattle.graph.specs.Neighbours.{stretch}
+use Rattle.graph.specs.Search.{far, inside, ball}
+use Rattle.graph.proofs.Ball.{Within, component-iff}
+use Rattle.graph.proofs.Below.{below-append}
+use Rattle.graph.proofs.Lookup.{stretch-below}
+use Rattle.graph.proofs.BfsSteps.{scan-append, extends-scan, extends-take, ready-scan}
+use Rattle.graph.proofs.BfsScan.{lt-or-le, elem, elem-occurs, occurs-elem, after-cases, after-new, scan-dist}
+use Rattle.graph.proofs.Reached.{Near, Listed, listed-scan, listed-start}
+use Rattle.table.specs.Prepared.{Tables}
+use Rattle.place.specs.Spread.{meeting, look, matched, Reached, ClosedSet, Spread}
+
+-- ---- the nodes of a list that the search looks at
+
+module _ (set : ℕ) (sets : List ℕ) where
+  -- they are those entries of the list whose sets have a part of `set`
+  pub meeting-occurs : (vs : List ℕ) (w : ℕ) → Occurs (meeting set sets vs) w ↔ (Occurs vs w × T (intersects set (getD sets w 0)))
+  unfolding meeting
+  meeting-occurs [] w = (λ (i, h, e). absurd (not-suc-le-zero h), λ ((i, h, e), t). absurd (not-suc-le-zero h))
+  meeting-occurs (v ∷ vs) w = go (intersects set (getD sets v 0)) refl (meeting-occurs vs w)
+    where
+      later : (xs : List ℕ) (x : ℕ) → Occurs xs w → Occurs (x ∷ xs) w
+      later xs x (i, h, e) = (suc i, suc-le-suc h, e)
+
+      first : (xs : List ℕ) (x : ℕ) → Occurs (x ∷ xs) w → (x ≡ w) ⊎ Occurs xs w
+      first xs x (zero, h, e) = inl e
+      first xs x (suc i, h, e) = inr (i, le-of-suc-le-suc h, e)
+
+      go :
+          (b : Bool) → intersects set (getD sets v 0) ≡ b → (Occurs (meeting set sets vs) w ↔ (Occurs vs w × T (intersects set (getD sets w 0)))) →
+          Occurs (cond b (v ∷ meeting set sets vs) (meeting set sets vs)) w ↔ (Occurs (v ∷ vs) w × T (intersects set (getD sets w 0)))
+      go true q r = (
+        λ o.
+            ⊎-elim
+            (λ e. ((zero, zero-lt-suc _, e), subst (λ x. T (intersects set (getD sets x 0))) e (subst T (sym q) tt)))
+            (λ p. let (m, t) = r .0 p in (later vs v m, t))
+            (first (meeting set sets vs) v o),
+        λ (o, t). ⊎-elim (λ e. (zero, zero-lt-suc _, e)) (λ p. later (meeting set sets vs) v (r .1 (p, t))) (first vs v o),
+      )
+      go false q r = (
+        λ o. let (m, t) = r .0 o in (later vs v m, t),
+        λ (o, t).
+            ⊎-elim
+            (λ e. absurd (subst T (ap (λ x. intersects set (getD sets x 0)) (sym e) ∙ q) t))
+            (λ p. r .1 (p, t))
+            (first vs v o),
+      )
+
+  pub meeting-below : (n : ℕ) (vs : List ℕ) → Below n vs → Below n (meeting set sets vs)
+  unfolding Below
+  meeting-below n vs b i h = let ((j, l, e), _) = meeting-occurs vs _ .0 (i, h, refl) in subst (λ x. x < n) e (b j l)
+
+  -- ---- a list of looks is a list of visits
+
+  look-scan : (s : State) (v : ℕ) (vs : List ℕ) → scan 0 s (meeting set sets (v ∷ vs)) ≡ scan 0 (look set sets s v) (meeting set sets vs)
+  unfolding meeting look scan
+  look-scan s v vs = go (intersects set (getD sets v 0))
+    where
+      go : (b : Bool) → scan 0 s (cond b (v ∷ meeting set sets vs) (meeting set sets vs)) ≡ scan 0 (cond b (visit 0 s v) s) (meeting set sets vs)
+      go true = refl
+      go false = refl
+
+  -- what is left of the list, one look further
+  pub follow-next :
+      (s s′ : State) (vs : List ℕ) (i : ℕ) → i < length vs → s′ ≡ look set sets s (getD vs i 0) →
+      scan 0 s′ (meeting set sets (drop (i + 1) vs)) ≡ scan 0 s (meeting set sets (drop i vs))
+  follow-next s s′ vs i h e = rw (e, add-one, drop-cons vs i 0) (sym (look-scan s (getD vs i 0) (drop (suc i) vs)))
+
+  pub follow-end : (s : State) (vs : List ℕ) (i : ℕ) → length vs ≤ i → scan 0 s (meeting set sets (drop i vs)) ≡ s
+  unfolding scan meeting
+  follow-end s vs i h = rw (drop-of-length-le vs h)
+
+  pub look-taken : (s : State) (v : ℕ) → T (intersects set (getD sets v 0)) → look set sets s v ≡ visit 0 s v
+  unfolding look
+  look-taken s v t = rw (T-true {b = intersects set (getD sets v 0)} t)
+
+  pub look-left : (s : State) (v : ℕ) → intersects set (getD sets v 0) ≡ false → look set sets s v ≡ s
+  unfolding look
+  look-left s v e = rw e
+
+-- the looks along a node's two stretches are visits of the nodes that matching links join to it
+pub matched-scan :
+    (t : Tables) (sets : List ℕ) (v : ℕ) (s s₁ s₂ : State) (out back : ℕ) (p₁ p₂ : List ℕ) →
+    out ≡ unionOver (t .succ) (getD sets v 0) → back ≡ unionOver (t .pred) (getD sets v 0) →
+    p₁ ≡ stretch (t .forwardOffsets) (t .forward) v → p₂ ≡ stretch (t .backwardOffsets) (t .backward) v →
+    s₁ ≡ scan 0 s (meeting out sets p₁) → s₂ ≡ scan 0 s₁ (meeting back sets p₂) → s₂ ≡ scan 0 s (matched t sets v)
+unfolding matched
+matched-scan t sets v s s₁ s₂ out back p₁ p₂ d₁ d₂ e₁ e₂ f₁ f₂ =
+    rw (f₂, f₁, d₁, d₂, e₁, e₂)
+    (sym
+    (scan-append 0 s (meeting (unionOver (t .succ) (getD sets v 0)) sets (stretch (t .forwardOffsets) (t .forward) v))
+    (meeting (unionOver (t .pred) (getD sets v 0)) sets (stretch (t .backwardOffsets) (t .backward) v))))
+
+-- which are nodes where the tables have nodes only
+pub matched-below : (n : ℕ) (t : Tables) (sets : List ℕ) → Below n (t .forward) → Below n (t .backward) → (v : ℕ) → Below n (matched t sets v)
+unfolding matched
+matched-below n t sets f b v =
+    below-append n _ _ (meeting-below _ sets n _ (stretch-below (t .forwardOffsets) (t .forward) v n f))
+    (meeting-below _ sets n _ (stretch-below (t .backwardOffsets) (t .backward) v n b))
+
+-- a node of the queue is among those reached, in the same place
+pub queue-node : (dist queue : List ℕ) (tail i : ℕ) → i < tail → getD (stateOf dist queue tail .reached) i 0 ≡ getD queue i 0
+unfolding stateOf
+queue-node dist queue tail i h = getD-take tail queue i 0 h
+
+-- ---- the loop, over any adjacency function: i of the nodes reached have been looked from
+
+pub record Spreading (n c : ℕ) (adj : ℕ → List ℕ) (i : ℕ) (s : State) : Type 0 where
+  pub ready : Ready n s
+  pub listed : Listed n s
+  pub centre : Near s c
+  pub done : (j w : ℕ) → j < i → Occurs (adj (getD (s .reached) j 0)) w → Near s w
+  pub least : (p : ℕ → Bool) → T (p c) → ClosedSet n adj p → (v : ℕ) → v < n → Near s v → T (p v)
+
+module _ (n c : ℕ) (adj : ℕ → List ℕ) where
+  -- only the centre is reached
+  pub spreading-start : c < n → Ready n (start n c) → Spreading n c adj 0 (start n c)
+  unfolding start
+  spreading-start h k =
+      let l = listed-start n c h in
+      record {
+        ready = k;
+        listed = l;
+        centre = l .near c (zero, zero-lt-suc _, refl);
+        done = λ j w m. absurd (not-suc-le-zero m);
+        least = λ p t closed v m f. subst (λ x. T (p x)) (only v (l .complete v m f)) t;
+      }
+    where
+      only : (v : ℕ) → Occurs (c ∷ []) v → c ≡ v
+      only v (zero, m, e) = e
+      only v (suc j, m, e) = absurd (not-suc-le-zero (le-of-suc-le-suc m))
+
+  -- one turn: the neighbours of the next node are visited
+  module _ (i : ℕ) (s : State) (g : Spreading n c adj i s) (more : i < length (s .reached)) (b : Below n (adj (getD (s .reached) i 0))) where
+    abbrev node : ℕ
+    node = getD (s .reached) i 0
+
+    abbrev next : State
+    next = scan 0 s (adj node)
+
+    node-inside : node < n
+    unfolding Below
+    node-inside = g .ready .inside i more
+
+    -- what has been reached stays so, and what is visited is reached now
+    stays : (w : ℕ) → Near s w → Near next w
+    stays w f q =
+        after-cases (λ (y : ℕ). y ≡ far → ⊥) 0 (getD (s .dist) w 0) (elem w (adj node)) (λ e. absurd (f e)) f (sym (scan-dist 0 s (adj node) w) ∙ q)
+
+    visited : (w : ℕ) → Occurs (adj node) w → Near next w
+    visited w o q =
+        stays w
+        (λ e. let z = scan-dist 0 s (adj node) w ∙ after-new 0 (getD (s .dist) w 0) (elem w (adj node)) e (T-true (occurs-elem w (adj node) o)) in omega arith)
+        q
+
+    -- the nodes reached before stand where they stood
+    same-node : (j : ℕ) → j < length (s .reached) → getD (next .reached) j 0 ≡ getD (s .reached) j 0
+    same-node j h =
+        let m = length (s .reached) in
+        sym (getD-take m (next .reached) j 0 h) ∙ ap (λ (l : List ℕ). getD l j 0) (extends-take m s next (extends-scan 0 s (adj node)) (le-refl m))
+        ∙ getD-take m (s .reached) j 0 h
+
+    next-done : (j w : ℕ) → j < i + 1 → Occurs (adj (getD (next .reached) j 0)) w → Near next w
+    next-done j w h o =
+        let h′ : j < length (s .reached) = omega arith in
+        let o′ : Occurs (adj (getD (s .reached) j 0)) w = subst (λ x. Occurs (adj x) w) (same-node j h′) o in
+        ⊎-elim
+        (λ m. stays w (g .done j w m o′))
+        (λ m. visited w (subst (λ x. Occurs (adj (getD (s .reached) x 0)) w) (omega arith) o′))
+        (lt-or-le j i)
+
+    next-least : (p : ℕ → Bool) → T (p c) → ClosedSet n adj p → (w : ℕ) → w < n → Near next w → T (p w)
+    next-least p t closed w h f =
+        after-cases (λ (y : ℕ). (y ≡ far → ⊥) → T (p w)) 0 (getD (s .dist) w 0) (elem w (adj node))
+        (λ _ e _. closed node w node-inside (g .least p t closed node node-inside (g .listed .near node (i, more, refl))) (elem-occurs w (adj node) (true-T e)))
+        (λ k. g .least p t closed w h k)
+        (λ q. f (scan-dist 0 s (adj node) w ∙ q))
+
+    pub spreading-next : Spreading n c adj (i + 1) next
+    spreading-next =
+        record {
+          ready = ready-scan n 0 s (adj node) (g .ready) b (omega arith);
+          listed = listed-scan n 0 s (adj node) (g .ready) (g .listed) b (omega arith);
+          centre = stays c (g .centre);
+          done = next-done;
+          least = next-least;
+        }
+
+  -- where all nodes reached have been looked from, the search is done
+  pub spreading-end : (i : ℕ) (s : State) → Spreading n c adj i s → length (s .reached) ≤ i → Spread n c adj (s .dist)
+  spreading-end i s g none =
+      record {
+        size = g .ready .size;
+        centre = g .centre;
+        closed = λ v w h f o.
+            let (j, m, e) = g .listed .complete v h f in
+            g .done j w (omega arith) (subst (λ x. Occurs (adj x) w) (sym e) o);
+        least = g .least;
+      }
+
+-- ---- what it reaches
+
+module _ {n : ℕ} {ss es : List ℕ} (links : Within n ss es) {adj : ℕ → List ℕ} (a : Adjacency n adj (HasLink ss es)) {c : ℕ} (h : c < n) {dist : List ℕ} (g : Spread n c adj dist) where
+  -- a walk leads to nodes that it reaches
+  walk-reached : {v w k : ℕ} → Walk (HasLink ss es) v w k → v ≡ c → (w < n) × Reached dist w
+  unfolding Below
+  walk-reached stay e = (subst (λ x. x < n) (sym e) h, subst (Reached dist) (sym e) (g .centre))
+  walk-reached (step {w = f} {x = w} p l) e =
+      let (m, r) = walk-reached p e in
+      let o = a .joined f w m .1 l in
+      (subst (λ x. x < n) (o .2) (a .inside f m (o .0) (o .1)), g .closed f w m r o)
+
+  -- and each node that it reaches has a walk: they are the ball of a radius that all walks are within
+  pub spread-ball : (v : ℕ) → v < n → T (inside (ball n ss es c n) v) ↔ Reached dist v
+  unfolding Below
+  spread-ball v m = (
+    λ t. walk-reached (joined v .0 t .1 .1) refl .1,
+    g .least (inside (ball n ss es c n)) (joined c .1 (h, (zero, stay)))
+        (λ x w k t o.
+        let (j, p) = joined x .0 t .1 in
+        joined w .1 (subst (λ y. y < n) (o .2) (a .inside x k (o .0) (o .1)), (suc j, step p (a .joined x w k .0 o))))
+        v m,
+  )
+    where
+      joined : (v : ℕ) → T (inside (ball n ss es c n) v) ↔ ((v < n) × ((k : ℕ) × Walk (HasLink ss es) c v k))
+      joined = component-iff links c n (le-step (le-refl n))

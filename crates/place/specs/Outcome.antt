@@ -1,0 +1,56 @@
+-- What finding a place comes to: the reply, and each lent table's later content, from the inputs alone.
+use mathlib.Core.Bool.{cond}
+use mathlib.Core.List.{List}
+use mathlib.Core.Path.{_≡_}
+use Prim.Native.Nat.{ℕ}
+use lib.ListN.{length}
+use Rattle.graph.specs.Circuit.{Circuit}
+use Rattle.files.specs.declared.File.the-variants.{Neither}
+use Rattle.files.specs.Reading.{filled}
+use Rattle.files.specs.Refusals.{Verdict, accept, refuse}
+use Rattle.table.specs.Refine.{countsOf}
+use Rattle.table.specs.Reply.{Reply}
+use Rattle.place.specs.declared.PlaceAnswer.{PlaceAnswer}
+use Rattle.place.specs.declared.PlaceAnswer.the-variants.{Placed, Refused}
+use Rattle.place.specs.Bytes.{PartsBelow, nodeBytes, linkBytes}
+use Rattle.place.specs.Match.{ballOf, found, placeNodes, placeLinks, placeTable}
+
+-- number, file and counts of each case of the answer
+unfoldable pub placeReply : PlaceAnswer → Reply
+placeReply (Placed counts) = record { verdict = accept; counts = counts }
+placeReply (Refused x counts) = record { verdict = refuse x; counts = counts }
+
+-- the reply, and the three tables as the call leaves them
+pub record PlaceOutcome : Type 0 where
+  pub reply : Reply
+  pub nodes : List ℕ
+  pub links : List ℕ
+  pub table : List ℕ
+
+-- ---- the place around a centre, of sound circuits and tables that are long enough
+
+-- 9 no place around the centre
+unfoldable pub placeVerdict : Circuit → Circuit → ℕ → ℕ → Verdict
+placeVerdict pattern board w r = cond (found pattern board w r) accept (refuse (record { number = 9; file = Neither }))
+
+-- "The call returns the four counts for the whole ball and fills a byte per board node and one per board link .., and a table"; "9 carries
+-- the ball's counts" too.
+unfoldable pub placeAround : Circuit → Circuit → ℕ → ℕ → List ℕ → List ℕ → List ℕ → PlaceOutcome
+placeAround pattern board w r nodes links table =
+    let verdict = placeVerdict pattern board w r in
+    record {
+      reply = record { verdict = verdict; counts = countsOf pattern board (ballOf board w r) };
+      nodes = filled verdict (placeNodes pattern board w r) nodes;
+      links = filled verdict (placeLinks pattern board w r) links;
+      table = filled verdict (placeTable pattern board w r) table;
+    }
+
+-- ---- the place before it is written out
+
+-- What finding leaves in its own tables, where there is a place: `dist` is `far` outside it, and `sets` is the ball's table.
+pub record Located (pattern board : Circuit) (w r : ℕ) (succ dist sets : List ℕ) : Type 0 where
+  pub nodes : nodeBytes dist ≡ placeNodes pattern board w r
+  pub links : linkBytes (board .starts) (board .ends) succ dist sets ≡ placeLinks pattern board w r
+  pub parts : PartsBelow (length succ) sets
+  pub size : length dist ≡ length (board .kinds)
+  pub long : length sets ≡ length (board .kinds)

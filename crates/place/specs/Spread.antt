@@ -1,0 +1,44 @@
+-- The search for the centre's component: links are followed where they match, which is tested by whole sets. It stops where nothing is
+-- new; proofs/Spread ties what it leaves to walks.
+use mathlib.Core.Bool.{Bool, cond}
+use mathlib.Core.List.{List, [], _∷_, _++_}
+use mathlib.Core.Path.{_≡_}
+use Prim.Native.Nat.{ℕ, _<_}
+use lib.Dec.{T}
+use lib.ListN.{length, getD}
+use Rattle.lists.specs.List.{Occurs}
+use Rattle.bits.specs.Bits.{intersects, unionOver}
+use Rattle.graph.specs.Bfs.{State, visit}
+use Rattle.graph.specs.Neighbours.{stretch}
+use Rattle.graph.specs.Search.{far}
+use Rattle.table.specs.Prepared.{Tables}
+
+-- those nodes of a list whose sets have a part of `set`
+unfoldable pub meeting : ℕ → List ℕ → List ℕ → List ℕ
+meeting set sets [] = []
+meeting set sets (v ∷ vs) = cond (intersects set (getD sets v 0)) (v ∷ meeting set sets vs) (meeting set sets vs)
+
+-- a look at one node of such a list: it is visited where its set has a part of `set`
+unfoldable pub look : ℕ → List ℕ → State → ℕ → State
+look set sets s v = cond (intersects set (getD sets v 0)) (visit 0 s v) s
+
+-- The nodes that a matching link joins to node v, directions ignored. What the parts of v's set drive is one union, what drives them another.
+unfoldable pub matched : Tables → List ℕ → ℕ → List ℕ
+matched t sets v =
+    meeting (unionOver (t .succ) (getD sets v 0)) sets (stretch (t .forwardOffsets) (t .forward) v)
+    ++ meeting (unionOver (t .pred) (getD sets v 0)) sets (stretch (t .backwardOffsets) (t .backward) v)
+
+-- the entry of node v is not `far`: the search has reached it
+abbrev pub Reached : List ℕ → ℕ → Type 0
+Reached dist v = getD dist v 0 ≡ far → ⊥
+
+-- a set that has, with a node, what the adjacency function lists for it
+abbrev pub ClosedSet : ℕ → (ℕ → List ℕ) → (ℕ → Bool) → Type 0
+ClosedSet n adj p = (v w : ℕ) → v < n → T (p v) → Occurs (adj v) w → T (p w)
+
+-- What the search leaves among n nodes: those reached are the least closed set that has the centre.
+pub record Spread (n c : ℕ) (adj : ℕ → List ℕ) (dist : List ℕ) : Type 0 where
+  pub size : length dist ≡ n
+  pub centre : Reached dist c
+  pub closed : (v w : ℕ) → v < n → Reached dist v → Occurs (adj v) w → Reached dist w
+  pub least : (p : ℕ → Bool) → T (p c) → ClosedSet n adj p → (v : ℕ) → v < n → Reached dist v → T (p v)
