@@ -22,27 +22,13 @@ use Rattle.graph.proofs.Distance.{connected-iff}
 use Rattle.simulation.proofs.Same.{same-symm, connected-same, radius-same}
 use Rattle.simulation.proofs.Quotient.{quotient-connected, quotient-radius}
 use Rattle.files.specs.Layout.{lengthOf}
-use Rattle.files.specs.Links.{linksBelow, earlier, rising}
+use Rattle.files.specs.Links.{linksBelow, rising}
+use Rattle.files.proofs.Rising.{rise-test}
 use Rattle.place.specs.Match.{radiusOf}
 use Rattle.merge.specs.Merged.{classOf, classCount, linkedPair, merged}
 use Rattle.merge.proofs.Content.{PatternContent, most-parts, most-links, content-connected, content-radius}
 use Rattle.merge.proofs.Classes.{classCount-le, classCount-pos}
 use Rattle.merge.proofs.Merging.{length-merged-kinds, length-merged-starts, length-merged-ends, linked-iff, merged-at, merged-link, merged-graph}
-
--- links that rise pass the test of the files
-rise-test : (starts ends : List ℕ) → LinksRise starts ends → T (rising starts ends)
-unfolding rising earlier LinksRise
-rise-test starts ends rise =
-    at-allBelow (length starts - 1) _
-    (λ i h.
-    let s = getD starts i 0 in
-    let s′ = getD starts (i + 1) 0 in
-    let e = getD ends i 0 in
-    let e′ = getD ends (i + 1) 0 in
-    ⊎-elim
-    (λ l. either-left (ltb s s′) (eqb s s′ && ltb e e′) (lt→ltb s s′ l))
-    (λ (q, l). either-right (ltb s s′) (eqb s s′ && ltb e e′) (both (eqb s s′) (ltb e e′) (true-T (eq-eqb s s′ q)) (lt→ltb e e′ l)))
-    (rise i (i + 1) (omega arith) (omega arith)))
 
 module _ {p : Circuit} (c : PatternContent p) where
   -- ---- sizes

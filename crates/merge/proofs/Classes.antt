@@ -10,6 +10,7 @@ use lib.Dec.{T, eqb→eq}
 use lib.ListN.{length, getD}
 use Rattle.lists.specs.Below.{countBelow}
 use Rattle.lists.proofs.Tests.{both, both-left, both-right, true-T, same-test}
+use Rattle.lists.proofs.Tables.{length-tabulate, getD-tabulate}
 use Rattle.lists.proofs.Below.{leastBelow-min, leastBelow-at, leastBelow-same, countBelow-le}
 use Rattle.lists.proofs.Ranks.{rank-lt, rank-injective, rank-rises, rank-onto, collect-rank}
 use Rattle.graph.specs.Circuit.{Circuit, graphOf, circuitGraph}
@@ -17,11 +18,13 @@ use Rattle.simulation.specs.Closed.{Relation}
 use Rattle.simulation.specs.Simulation.{Largest}
 use Rattle.simulation.specs.Quotient.{Mutual, SharesClass, AgreeLaws, LinksJoin}
 use Rattle.simulation.proofs.Quotient.{mutual-equivalence}
-use Rattle.table.specs.Host.{EqualKinds}
+use Rattle.table.specs.Host.{everything, EqualKinds}
 use Rattle.table.specs.Row.{inTable}
 use Rattle.table.proofs.Answers.{InTable}
 use Rattle.table.proofs.Host.{within-joins, board-largest}
-use Rattle.merge.specs.Merged.{equivalent, leader, isLeader, classIn, selfTable, classOf, leaders, classCount}
+use Rattle.table.proofs.Meaning.{last-fits}
+use Rattle.table.proofs.Sets.{Fits}
+use Rattle.merge.specs.Merged.{equivalent, leader, isLeader, classIn, selfTable, classOf, leaders, classCount, classes}
 use Rattle.merge.proofs.Content.{PatternContent, some-parts, most-parts, content-within, content-connected}
 
 -- the pairs of the pattern's table on itself
@@ -43,6 +46,21 @@ leads p = isLeader (length (p .kinds)) (selfTable p)
 pub kinds-laws : (p board : Circuit) → AgreeLaws (circuitGraph p) (EqualKinds p p) (EqualKinds p board)
 unfolding EqualKinds
 kinds-laws p board = record { reflexive = λ u n. refl; transitive = λ u x y e d. e ∙ d; compose = λ u x v e d. e ∙ d }
+
+module _ (p : Circuit) where
+  -- the table on itself has a set of parts for each part
+  pub self-fits : Fits (length (p .kinds)) (length (p .kinds)) (selfTable p)
+  unfolding selfTable
+  self-fits = last-fits p p (everything p)
+
+  -- the list of classes has at each part its class
+  pub length-classes : length (classes p) ≡ length (p .kinds)
+  unfolding classes
+  length-classes = length-tabulate _ _
+
+  pub class-at : (u : ℕ) → u < length (p .kinds) → getD (classes p) u 0 ≡ classOf p u
+  unfolding classes
+  class-at u h = getD-tabulate (length (p .kinds)) (classOf p) u 0 h
 
 module _ {p : Circuit} (c : PatternContent p) where
   -- ---- the table on itself
@@ -152,7 +170,7 @@ module _ {p : Circuit} (c : PatternContent p) where
   leaders-class u h = collect-rank (length (p .kinds)) (leads p) (λ u. u) (leaderOf p u) 0 (leader-lt u h) (leader-leads u h)
 
   -- every number below their count is the class of a leader,
-  class-onto : (a : ℕ) → a < classCount p → (u : ℕ) × (u < length (p .kinds)) × T (leads p u) × (classOf p u ≡ a)
+  pub class-onto : (a : ℕ) → a < classCount p → (u : ℕ) × (u < length (p .kinds)) × T (leads p u) × (classOf p u ≡ a)
   unfolding classOf classIn classCount isLeader
   class-onto a h =
       let (u, l, t, e) = rank-onto (length (p .kinds)) (leads p) a h in

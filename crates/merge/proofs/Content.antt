@@ -2,7 +2,8 @@
 use mathlib.Core.List.{List}
 use mathlib.Core.Path.{_≡_, refl, sym, _∙_}
 use Prim.Native.Nat.{ℕ, _≤_, _<_}
-use lib.Dec.{T, ltb}
+use native.Mathlib.Nat.{le-trans}
+use lib.Dec.{T, ltb, lit≤}
 use lib.ListN.{length}
 use Rattle.lists.specs.List.{all}
 use Rattle.lists.proofs.Tests.{both-left, both-right}
@@ -11,14 +12,15 @@ use Rattle.graph.specs.Graph.{Connected, Radius}
 use Rattle.graph.specs.Search.{connected}
 use Rattle.graph.proofs.Ball.{Within, within-all}
 use Rattle.graph.proofs.Distance.{connected-iff, radius-is}
-use Rattle.files.specs.declared.Role.the-variants.{Pattern}
+use Rattle.files.specs.declared.Role.the-variants.{Pattern, Board}
 use Rattle.files.specs.Links.{linksBelow, rising}
 use Rattle.files.specs.Role.{inRange}
 use Rattle.files.specs.Refusals.{asksConnected}
 use Rattle.files.proofs.Refusals.{Accepted, range-pattern}
 use Rattle.place.specs.Match.{radiusOf}
 use Rattle.place.proofs.Ball.{Admissible}
-use Rattle.place.proofs.Accepted.{circuitOf, length-kinds, length-starts, length-ends}
+use Rattle.files.specs.Circuit.{circuitOf, Bounded}
+use Rattle.files.proofs.Fields.{length-kinds, length-starts, length-ends}
 
 -- Every condition on a pattern that is not about the bytes of a file: numbers 2, 4, 5 and 6, and "as many starts as ends".
 pub record PatternContent (p : Circuit) : Type 0 where
@@ -54,6 +56,14 @@ module _ {p : Circuit} (c : PatternContent p) where
 
   pub most-links : length (p .starts) ≤ 256
   most-links = sizes .2
+
+  -- it is within the maxima of a pattern, and so within those of a board
+  pub content-bounded : Bounded Pattern p
+  content-bounded = record { nodes = most-parts; links = most-links; parallel = c .parallel; below = c .below }
+
+  pub content-board : Bounded Board p
+  content-board =
+      record { nodes = le-trans most-parts (lit≤ tt); links = le-trans most-links (lit≤ tt); parallel = c .parallel; below = c .below }
 
   pub content-within : Within (length (p .kinds)) (p .starts) (p .ends)
   unfolding linksBelow

@@ -1,0 +1,61 @@
+// The merging call: the merged pattern of a pattern file.
+use crate::circuits::merge_circuit;
+use files::File;
+use files::Pattern;
+use files::ReadAnswer;
+use files::Refusal;
+use files::Role;
+ghost use mathlib.Core.Path.{_≡_};
+ghost use Prim.Native.Nat.{_≤_};
+ghost use lib.ListN.{length};
+ghost use Rattle.merging.specs.Call.{mergeReply, merging};
+
+mod circuits;
+mod classes;
+mod links;
+
+// What merging a pattern comes to: the number of classes and the merged file's length, or why it was turned away.
+pub enum MergeAnswer {
+    Merged(usize, usize),
+    Refused(Refusal),
+}
+
+// The call with tables for the pattern. The file is read and both lengths are tested before anything is written to the lent tables.
+fn merge_in(
+    pattern: &[u8],
+    classes: &mut [u8],
+    out: &mut [u8],
+    pk: &mut [u16],
+    ps: &mut [u16],
+    pe: &mut [u16],
+) -> MergeAnswer
+    requires { ⌜ (32 ≤ length (now pk)) × (256 ≤ length (now ps)) × (256 ≤ length (now pe)) ⌝ }
+    ensures { λ r. ⌜ record { reply = mergeReply r; classes = now (classes .exit); out = now (out .exit) } ≡ merging (now (pattern .entry)) (now (classes .entry)) (now (out .entry)) ⌝ }
+{
+    let drawn = files::read(Role::Pattern, pattern, pk, ps, pe);
+    let ReadAnswer::Read(n, m) = drawn else {
+        return MergeAnswer::Refused(files::refusal_of(drawn));
+    };
+    let short = Refusal {
+        number: 8,
+        file: File::Neither,
+    };
+    if classes.len() < n {
+        return MergeAnswer::Refused(short);
+    }
+    if out.len() < pattern.len() {
+        return MergeAnswer::Refused(short);
+    }
+    merge_circuit(&pk[..n], &ps[..m], &pe[..m], &mut classes[..n], out)
+}
+
+// Merges the parts of a pattern file that match each other: the number of classes and the merged file's length, with the class of each
+// part, a byte each, and the merged file at the front of the two tables; or the refusal, which leaves them as they were.
+pub fn merge(pattern: &[u8], classes: &mut [u8], out: &mut [u8]) -> MergeAnswer
+    ensures { λ r. ⌜ record { reply = mergeReply r; classes = now (classes .exit); out = now (out .exit) } ≡ merging (now (pattern .entry)) (now (classes .entry)) (now (out .entry)) ⌝ }
+{
+    let mut pk = [0u16; Pattern::MAX_NODES];
+    let mut ps = [0u16; Pattern::MAX_LINKS];
+    let mut pe = [0u16; Pattern::MAX_LINKS];
+    merge_in(pattern, classes, out, &mut pk, &mut ps, &mut pe)
+}
