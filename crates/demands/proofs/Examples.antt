@@ -1,0 +1,62 @@
+-- Document 01's examples, all of them. Assumes nothing.
+use mathlib.Core.Path.{_≡_, refl, sym, ap, _∙_}
+use Prim.Native.Nat.{ℕ}
+use lib.Dec.{T}
+use Rattle.lists.specs.List.{tabulate, maximum}
+use Rattle.lists.proofs.Tests.{T-false}
+use Rattle.graph.specs.Search.{distances, misses, ball, beside, inside, radius}
+use Rattle.table.specs.Examples.{circuitT, circuitB, twoWay, ring}
+use Rattle.table.specs.Refine.{countsOf}
+use Rattle.table.specs.Row.{struck}
+use Rattle.table.proofs.Examples as table
+use Rattle.place.specs.Match.{radiusOf, found, placeNodes}
+use Rattle.place.specs.Outcome.{placeVerdict, placeAround}
+use Rattle.place.proofs.Examples as place
+use Rattle.merge.proofs.Examples as merge
+use Rattle.demands.specs.Examples.{PlaceIs, NoPlace, onePart, onePartLooped, E1, E2, E3, E4, E5, E6, E7, E8, E9, examples, AllHold}
+
+e1 : E1
+unfolding E1 onePart onePartLooped radiusOf radius maximum distances misses ball beside inside tabulate
+e1 = (place.radius-T, λ kind. refl, λ kind. refl)
+
+e2 : E2
+unfolding E2 countsOf
+e2 = (table.E2-table, rw (table.E2-started, table.E2-kept, table.E2-struck, table.E2-rounds))
+
+e3 : E3
+unfolding E3 PlaceIs
+e3 = (rw place.radius-T place.E3-0, rw place.radius-T place.E3-1, rw place.radius-T place.E3-2)
+
+e4 : E4
+unfolding E4 placeAround placeVerdict countsOf struck
+e4 nodes links table = rw (place.radius-T, T-false {b = found circuitT circuitB 3 2} place.E4-none, place.E4-started, place.E4-kept, place.E4-rounds)
+
+-- a centre of the ring that is not found has number 9
+none : (w : ℕ) → (T (found twoWay ring w 1) → ⊥) → NoPlace twoWay ring w
+unfolding NoPlace placeVerdict
+none w f = rw (place.radius-twoWay, T-false {b = found twoWay ring w 1} f)
+
+e5 : E5
+unfolding E5
+e5 = (table.E5-table, none 0 place.E5-0, none 1 place.E5-1, none 2 place.E5-2, none 3 place.E5-3)
+
+e6 : E6
+unfolding E6
+e6 = (merge.E6-classes, merge.E6-merged-radius, merge.E6-radius)
+
+e7 : E7
+unfolding E7
+e7 = ((place.E7-Y .0, place.E7-Y .1), (rw merge.E6-merged (place.E7-merged .0), rw merge.E6-merged (place.E7-merged .1)))
+
+e8 : E8
+unfolding E8
+e8 = (merge.E8-classes, merge.E8-merged)
+
+e9 : E9
+unfolding E9 PlaceIs
+e9 = (rw place.radius-oneLink place.E9-0, rw place.radius-oneLink place.E9-1)
+
+-- E1 to E9 hold.
+pub examples-hold : AllHold examples
+unfolding AllHold examples
+examples-hold = (e1, (e2, (e3, (e4, (e5, (e6, (e7, (e8, (e9, tt)))))))))

@@ -1,0 +1,72 @@
+-- Document 01's examples of files: T and B as bytes, and the table of refusals, as statements about the definitions, in a single list.
+-- proofs/Files proves the list.
+use mathlib.Core.List.{List, [], _∷_}
+use mathlib.Core.Path.{_≡_}
+use Prim.Native.Nat.{ℕ}
+use lib.ListN.{length}
+use Rattle.files.specs.declared.File.{File}
+use Rattle.files.specs.declared.File.the-variants as file
+use Rattle.files.specs.declared.Role.the-variants.{Pattern, Board}
+use Rattle.files.specs.Circuit.{circuitOf}
+use Rattle.files.specs.Reading.{reading}
+use Rattle.files.specs.Refusals.{Verdict, refuse, first, fileConditions}
+use Rattle.table.specs.Examples.{circuitT, circuitB}
+use Rattle.writing.specs.Bytes.{fileBytes}
+use Rattle.distance.specs.Calls.{ballConditions}
+use Rattle.demands.specs.Examples.{Statements, done, _also_}
+
+-- T: "0:10, 1:20, 2:30, links 0-1, 1-2."
+unfoldable pub fileT : List ℕ
+fileT = 3 ∷ 0 ∷ 2 ∷ 0 ∷ 10 ∷ 0 ∷ 20 ∷ 0 ∷ 30 ∷ 0 ∷ 0 ∷ 0 ∷ 1 ∷ 0 ∷ 1 ∷ 0 ∷ 2 ∷ 0 ∷ []
+
+-- B: "0:10, 1:20, 2:30, 3:20, 4:30, 5:10, links 0-1, 1-2, 3-4."
+unfoldable pub fileB : List ℕ
+fileB =
+    6 ∷ 0 ∷ 3 ∷ 0 ∷ 10 ∷ 0 ∷ 20 ∷ 0 ∷ 30 ∷ 0 ∷ 20 ∷ 0 ∷ 30 ∷ 0 ∷ 10 ∷ 0 ∷ 0 ∷ 0 ∷ 1 ∷ 0 ∷ 3 ∷ 0 ∷ 1 ∷ 0 ∷ 2 ∷ 0 ∷ 4 ∷ 0 ∷ []
+
+-- number and file
+unfoldable pub refused : ℕ → File → Verdict
+refused k f = refuse (record { number = k; file = f })
+
+-- the bytes of T and of B are those of their circuits, and their circuits those of the bytes
+unfoldable pub ReadT : Type 0
+ReadT = (circuitOf fileT ≡ circuitT) × (fileBytes (circuitT .kinds) (circuitT .starts) (circuitT .ends) ≡ fileT)
+
+unfoldable pub ReadB : Type 0
+ReadB = (circuitOf fileB ≡ circuitB) × (fileBytes (circuitB .kinds) (circuitB .starts) (circuitB .ends) ≡ fileB)
+
+-- 1 "file under 4 bytes": `02 00 01`
+unfoldable pub R1 : Type 0
+R1 = (first (fileConditions Pattern (2 ∷ 0 ∷ 1 ∷ [])) ≡ refused 1 file.Pattern) × (first (fileConditions Board (2 ∷ 0 ∷ 1 ∷ [])) ≡ refused 1 file.Board)
+
+-- 2 "N or M outside its role's range": pattern `00 00 00 00`
+unfoldable pub R2 : Type 0
+R2 = first (fileConditions Pattern (0 ∷ 0 ∷ 0 ∷ 0 ∷ [])) ≡ refused 2 file.Pattern
+
+-- 3 "length not 4 + 2N + 4M": `01 00 00 00`
+unfoldable pub R3 : Type 0
+R3 = first (fileConditions Pattern (1 ∷ 0 ∷ 0 ∷ 0 ∷ [])) ≡ refused 3 file.Pattern
+
+-- 4 "a link end or start not below N": `01 00 01 00 0A 00 00 00 01 00`
+unfoldable pub R4 : Type 0
+R4 = first (fileConditions Board (1 ∷ 0 ∷ 1 ∷ 0 ∷ 10 ∷ 0 ∷ 0 ∷ 0 ∷ 1 ∷ 0 ∷ [])) ≡ refused 4 file.Board
+
+-- 5 "links not strictly rising": `01 00 02 00 0A 00 00 00 00 00 00 00 00 00`
+unfoldable pub R5 : Type 0
+R5 = first (fileConditions Board (1 ∷ 0 ∷ 2 ∷ 0 ∷ 10 ∷ 0 ∷ 0 ∷ 0 ∷ 0 ∷ 0 ∷ 0 ∷ 0 ∷ 0 ∷ 0 ∷ [])) ≡ refused 5 file.Board
+
+-- 6 "pattern not connected": `02 00 00 00 0A 00 14 00`
+unfoldable pub R6 : Type 0
+R6 = first (fileConditions Pattern (2 ∷ 0 ∷ 0 ∷ 0 ∷ 10 ∷ 0 ∷ 20 ∷ 0 ∷ [])) ≡ refused 6 file.Pattern
+
+-- 7 "centre not below the board's N": "B below, centre 6", with whatever table
+unfoldable pub R7 : Type 0
+R7 = (lent : ℕ) → first (ballConditions fileB 6 lent) ≡ refused 7 file.Neither
+
+-- 8 "a lent output table too short": "2 kinds for N = 3"
+unfoldable pub R8 : Type 0
+R8 = reading Pattern fileT (0 ∷ 0 ∷ []) (0 ∷ 0 ∷ []) (0 ∷ 0 ∷ []) .reply .verdict ≡ refused 8 file.Neither
+
+-- 9 is E4's
+unfoldable pub fileExamples : Statements
+fileExamples = ReadT also ReadB also R1 also R2 also R3 also R4 also R5 also R6 also R7 also R8 also done
