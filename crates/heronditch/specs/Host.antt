@@ -1,0 +1,104 @@
+-- The calls as a host program sees them: each reply is a struct of numbers, in which number 0 stands for acceptance. What is below gives
+-- document 01's reply in that form; the calls themselves are those of the crates below.
+use mathlib.Core.List.{List, [], _∷_}
+use Prim.Native.Nat.{ℕ}
+use lib.ListN.{length, getD}
+use Rattle.files.specs.declared.File.{File}
+use Rattle.files.specs.declared.File.the-variants.{Pattern, Board, Neither}
+use Rattle.files.specs.Reading.{ReadOutcome, filled}
+use Rattle.files.specs.Refusals.{Verdict, accept, refuse, first, shortTable}
+use Rattle.files.specs.Reply as files
+use Rattle.distance.specs.Calls.{BallOutcome}
+use Rattle.writing.specs.Writing.{WriteOutcome}
+use Rattle.table.specs.Reply as table
+use Rattle.matching.specs.Call.{TableOutcome}
+use Rattle.place.specs.Outcome.{PlaceOutcome}
+use Rattle.merging.specs.Call.{MergeOutcome}
+use Rattle.heronditch.specs.declared.reply.Reply.{Reply}
+use Rattle.heronditch.specs.declared.reply.Counted.{Counted}
+
+-- ---- replies
+
+-- the file that a refusal means
+unfoldable pub fileNumber : File → ℕ
+fileNumber Neither = 0
+fileNumber Pattern = 1
+fileNumber Board = 2
+
+-- acceptance is number 0 of neither file
+unfoldable pub numberOf : Verdict → ℕ
+numberOf accept = 0
+numberOf (refuse x) = x .number
+
+unfoldable pub meantFile : Verdict → ℕ
+meantFile accept = 0
+meantFile (refuse x) = fileNumber (x .file)
+
+-- up to two values replied with; a slot without one is 0
+unfoldable pub slots : files.Reply → Reply
+slots r =
+    record { number = numberOf (r .verdict); file = meantFile (r .verdict); first = getD (r .values) 0 0; second = getD (r .values) 1 0 }
+
+-- the four counts replied with
+unfoldable pub counted : table.Reply → Counted
+counted r =
+    record {
+      number = numberOf (r .verdict);
+      file = meantFile (r .verdict);
+      started = r .counts .started;
+      kept = r .counts .kept;
+      struck = r .counts .struck;
+      rounds = r .counts .rounds;
+    }
+
+-- ---- the calls: the reply, and each lent table as the call leaves it
+
+pub record HostRead : Type 0 where
+  pub reply : Reply
+  pub kinds : List ℕ
+  pub starts : List ℕ
+  pub ends : List ℕ
+
+unfoldable pub hostRead : ReadOutcome → HostRead
+hostRead o = record { reply = slots (o .reply); kinds = o .kinds; starts = o .starts; ends = o .ends }
+
+pub record HostOut : Type 0 where
+  pub reply : Reply
+  pub out : List ℕ
+
+unfoldable pub hostWrite : WriteOutcome → HostOut
+hostWrite o = record { reply = slots (o .reply); out = o .out }
+
+unfoldable pub hostBall : BallOutcome → HostOut
+hostBall o = record { reply = slots (o .reply); out = o .out }
+
+pub record HostTable : Type 0 where
+  pub reply : Counted
+  pub table : List ℕ
+
+unfoldable pub hostMatch : TableOutcome → HostTable
+hostMatch o = record { reply = counted (o .reply); table = o .table }
+
+pub record HostPlace : Type 0 where
+  pub reply : Counted
+  pub nodes : List ℕ
+  pub links : List ℕ
+  pub table : List ℕ
+
+unfoldable pub hostPlace : PlaceOutcome → HostPlace
+hostPlace o = record { reply = counted (o .reply); nodes = o .nodes; links = o .links; table = o .table }
+
+pub record HostMerge : Type 0 where
+  pub reply : Reply
+  pub classes : List ℕ
+  pub out : List ℕ
+
+unfoldable pub hostMerge : MergeOutcome → HostMerge
+hostMerge o = record { reply = slots (o .reply); classes = o .classes; out = o .out }
+
+-- The neighbour lookup hands out a stretch of one of two tables. C has no form for that: the stretch is copied to the front of the lent
+-- table, and its length replied; 8 where it does not fit.
+unfoldable pub hostNeighbours : List ℕ → List ℕ → HostOut
+hostNeighbours part out =
+    let verdict = first (shortTable (length part) (length out) ∷ []) in
+    record { reply = slots (files.reply verdict (length part ∷ [])); out = filled verdict part out }

@@ -1,0 +1,191 @@
+// The calls for programs in other languages: a slice crosses as a pointer and a length, and each reply is a struct of numbers.
+ghost use mathlib.Core.Path.{_≡_};
+ghost use Rattle.graph.specs.declared.neighbours.Direction.the-variants as direction;
+ghost use Rattle.graph.specs.Lookup.{neighboursOf};
+ghost use Rattle.files.specs.declared.Role.the-variants as role;
+ghost use Rattle.files.specs.Reading.{reading};
+ghost use Rattle.distance.specs.Calls.{radiusCall, ballCall};
+ghost use Rattle.writing.specs.Writing.{writing};
+ghost use Rattle.matching.specs.Call.{matching};
+ghost use Rattle.files.specs.Circuit.{circuitOf};
+ghost use Rattle.place.specs.Match.{radiusOf};
+ghost use Rattle.finding.specs.Call.{placeAt};
+ghost use Rattle.merging.specs.Call.{merging};
+ghost use Rattle.heronditch.specs.Host.{slots, hostRead, hostWrite, hostBall, hostMatch, hostPlace, hostMerge, hostNeighbours};
+use crate::copied::copy_out;
+use crate::reply::Counted;
+use crate::reply::Reply;
+use crate::reply::of_ball;
+use crate::reply::of_match;
+use crate::reply::of_merge;
+use crate::reply::of_place;
+use crate::reply::of_radius;
+use crate::reply::of_read;
+use crate::reply::of_write;
+use files::Role;
+use graph::neighbours::Direction;
+use graph::neighbours::neighbours;
+
+mod copied;
+pub mod reply;
+
+#[no_mangle]
+pub extern "C" fn heronditch_read_pattern(
+    file: &[u8],
+    kinds: &mut [u16],
+    starts: &mut [u16],
+    ends: &mut [u16],
+) -> Reply
+    ensures { λ r. ⌜ record { reply = r; kinds = now (kinds .exit); starts = now (starts .exit); ends = now (ends .exit) }
+        ≡ hostRead (reading role.Pattern (now (file .entry)) (now (kinds .entry)) (now (starts .entry)) (now (ends .entry))) ⌝ }
+{
+    of_read(files::read(Role::Pattern, file, kinds, starts, ends))
+}
+
+#[no_mangle]
+pub extern "C" fn heronditch_read_board(
+    file: &[u8],
+    kinds: &mut [u16],
+    starts: &mut [u16],
+    ends: &mut [u16],
+) -> Reply
+    ensures { λ r. ⌜ record { reply = r; kinds = now (kinds .exit); starts = now (starts .exit); ends = now (ends .exit) }
+        ≡ hostRead (reading role.Board (now (file .entry)) (now (kinds .entry)) (now (starts .entry)) (now (ends .entry))) ⌝ }
+{
+    of_read(files::read(Role::Board, file, kinds, starts, ends))
+}
+
+#[no_mangle]
+pub extern "C" fn heronditch_write_pattern(
+    kinds: &[u16],
+    starts: &[u16],
+    ends: &[u16],
+    out: &mut [u8],
+) -> Reply
+    ensures { λ r. ⌜ record { reply = r; out = now (out .exit) }
+        ≡ hostWrite (writing role.Pattern (now (kinds .entry)) (now (starts .entry)) (now (ends .entry)) (now (out .entry))) ⌝ }
+{
+    of_write(writing::write(Role::Pattern, kinds, starts, ends, out))
+}
+
+#[no_mangle]
+pub extern "C" fn heronditch_write_board(
+    kinds: &[u16],
+    starts: &[u16],
+    ends: &[u16],
+    out: &mut [u8],
+) -> Reply
+    ensures { λ r. ⌜ record { reply = r; out = now (out .exit) }
+        ≡ hostWrite (writing role.Board (now (kinds .entry)) (now (starts .entry)) (now (ends .entry)) (now (out .entry))) ⌝ }
+{
+    of_write(writing::write(Role::Board, kinds, starts, ends, out))
+}
+
+#[no_mangle]
+pub extern "C" fn heronditch_radius(pattern: &[u8]) -> Reply
+    ensures { λ r. ⌜ r ≡ slots (radiusCall (now (pattern .entry))) ⌝ }
+{
+    of_radius(distance::radius(pattern))
+}
+
+#[no_mangle]
+pub extern "C" fn heronditch_ball(board: &[u8], centre: usize, radius: u16, out: &mut [u8]) -> Reply
+    ensures { λ r. ⌜ record { reply = r; out = now (out .exit) } ≡ hostBall (ballCall (now (board .entry)) centre radius (now (out .entry))) ⌝ }
+{
+    of_ball(distance::ball(board, centre, radius, out))
+}
+
+#[no_mangle]
+pub extern "C" fn heronditch_match(pattern: &[u8], board: &[u8], table: &mut [u32]) -> Counted
+    ensures { λ r. ⌜ record { reply = r; table = now (table .exit) } ≡ hostMatch (matching (now (pattern .entry)) (now (board .entry)) (now (table .entry))) ⌝ }
+{
+    of_match(matching::match_table(pattern, board, table))
+}
+
+#[no_mangle]
+pub extern "C" fn heronditch_place(
+    pattern: &[u8],
+    board: &[u8],
+    centre: usize,
+    nodes: &mut [u8],
+    links: &mut [u8],
+    table: &mut [u32],
+) -> Counted
+    ensures { λ r. ⌜ record { reply = r; nodes = now (nodes .exit); links = now (links .exit); table = now (table .exit) }
+        ≡ hostPlace (placeAt (now (pattern .entry)) (now (board .entry)) centre (radiusOf (circuitOf (now (pattern .entry)))) (now (nodes .entry)) (now (links .entry)) (now (table .entry))) ⌝ }
+{
+    of_place(finding::place(pattern, board, centre, nodes, links, table))
+}
+
+#[no_mangle]
+pub extern "C" fn heronditch_place_within(
+    pattern: &[u8],
+    board: &[u8],
+    centre: usize,
+    radius: u16,
+    nodes: &mut [u8],
+    links: &mut [u8],
+    table: &mut [u32],
+) -> Counted
+    ensures { λ r. ⌜ record { reply = r; nodes = now (nodes .exit); links = now (links .exit); table = now (table .exit) }
+        ≡ hostPlace (placeAt (now (pattern .entry)) (now (board .entry)) centre radius (now (nodes .entry)) (now (links .entry)) (now (table .entry))) ⌝ }
+{
+    of_place(finding::place_within(pattern, board, centre, radius, nodes, links, table))
+}
+
+#[no_mangle]
+pub extern "C" fn heronditch_merge(pattern: &[u8], classes: &mut [u8], out: &mut [u8]) -> Reply
+    ensures { λ r. ⌜ record { reply = r; classes = now (classes .exit); out = now (out .exit) } ≡ hostMerge (merging (now (pattern .entry)) (now (classes .entry)) (now (out .entry))) ⌝ }
+{
+    of_merge(merging::merge(pattern, classes, out))
+}
+
+#[no_mangle]
+pub extern "C" fn heronditch_drives<'a>(
+    forward_offsets: &[u16],
+    forward: &'a [u16],
+    backward_offsets: &[u16],
+    backward: &'a [u16],
+    node: usize,
+    out: &mut [u16],
+) -> Reply
+    ensures { λ r. ⌜ record { reply = r; out = now (out .exit) }
+        ≡ hostNeighbours (neighboursOf direction.Forward (now («forward_offsets» .entry)) (now (forward .entry)) (now («backward_offsets» .entry)) (now (backward .entry)) node) (now (out .entry)) ⌝ }
+{
+    copy_out(
+        neighbours(
+            Direction::Forward,
+            forward_offsets,
+            forward,
+            backward_offsets,
+            backward,
+            node,
+        ),
+        out,
+    )
+}
+
+#[no_mangle]
+pub extern "C" fn heronditch_driven<'a>(
+    forward_offsets: &[u16],
+    forward: &'a [u16],
+    backward_offsets: &[u16],
+    backward: &'a [u16],
+    node: usize,
+    out: &mut [u16],
+) -> Reply
+    ensures { λ r. ⌜ record { reply = r; out = now (out .exit) }
+        ≡ hostNeighbours (neighboursOf direction.Backward (now («forward_offsets» .entry)) (now (forward .entry)) (now («backward_offsets» .entry)) (now (backward .entry)) node) (now (out .entry)) ⌝ }
+{
+    copy_out(
+        neighbours(
+            Direction::Backward,
+            forward_offsets,
+            forward,
+            backward_offsets,
+            backward,
+            node,
+        ),
+        out,
+    )
+}

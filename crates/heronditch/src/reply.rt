@@ -1,0 +1,172 @@
+// Replies as a host program sees them: structs of numbers, in place of the enums.
+ghost use mathlib.Core.Path.{_≡_};
+ghost use Rattle.files.specs.Reply.{readReply};
+ghost use Rattle.distance.specs.Calls.{radiusReply, ballReply};
+ghost use Rattle.writing.specs.Writing.{writeReply};
+ghost use Rattle.matching.specs.Call.{replyOf};
+ghost use Rattle.place.specs.Outcome.{placeReply};
+ghost use Rattle.merging.specs.Call.{mergeReply};
+ghost use Rattle.heronditch.specs.Host.{fileNumber, slots, counted};
+use distance::BallAnswer;
+use distance::RadiusAnswer;
+use files::File;
+use files::ReadAnswer;
+use files::Refusal;
+use matching::TableAnswer;
+use merging::MergeAnswer;
+use place::PlaceAnswer;
+use table::largest::Counts;
+use writing::WriteAnswer;
+
+// Number 0 for acceptance or the refusal's number; the file that it means (0 neither, 1 pattern, 2 board); the values replied with.
+#[repr(C)]
+pub struct Reply {
+    pub number: u32,
+    pub file: u32,
+    pub first: usize,
+    pub second: usize,
+}
+
+// The same with the four counts.
+#[repr(C)]
+pub struct Counted {
+    pub number: u32,
+    pub file: u32,
+    pub started: u32,
+    pub kept: u32,
+    pub struck: u32,
+    pub rounds: u32,
+}
+
+// The number that stands for a file.
+fn file_number(file: File) -> u32
+    ensures { λ r. ⌜ r ≡ fileNumber file ⌝ }
+{
+    match file {
+        File::Neither => 0,
+        File::Pattern => 1,
+        File::Board => 2,
+    }
+}
+
+pub fn accepted(first: usize, second: usize) -> Reply
+    ensures { λ r. ⌜ r ≡ record { number = 0; file = 0; first = first; second = second } ⌝ }
+{
+    Reply {
+        number: 0,
+        file: 0,
+        first,
+        second,
+    }
+}
+
+pub fn refused(x: Refusal) -> Reply
+    ensures { λ r. ⌜ r ≡ record { number = x .number; file = fileNumber (x .file); first = 0; second = 0 } ⌝ }
+{
+    let file = x.file;
+    Reply {
+        number: x.number as u32,
+        file: file_number(file),
+        first: 0,
+        second: 0,
+    }
+}
+
+pub fn of_read(answer: ReadAnswer) -> Reply
+    ensures { λ r. ⌜ r ≡ slots (readReply answer) ⌝ }
+{
+    match answer {
+        ReadAnswer::Read(n, m) => accepted(n, m),
+        ReadAnswer::Refused(x) => refused(x),
+    }
+}
+
+pub fn of_write(answer: WriteAnswer) -> Reply
+    ensures { λ r. ⌜ r ≡ slots (writeReply answer) ⌝ }
+{
+    match answer {
+        WriteAnswer::Written(size) => accepted(size, 0),
+        WriteAnswer::Refused(x) => refused(x),
+    }
+}
+
+pub fn of_radius(answer: RadiusAnswer) -> Reply
+    ensures { λ r. ⌜ r ≡ slots (radiusReply answer) ⌝ }
+{
+    match answer {
+        RadiusAnswer::Radius(d) => accepted(d, 0),
+        RadiusAnswer::Refused(x) => refused(x),
+    }
+}
+
+pub fn of_ball(answer: BallAnswer) -> Reply
+    ensures { λ r. ⌜ r ≡ slots (ballReply answer) ⌝ }
+{
+    match answer {
+        BallAnswer::Ball(n) => accepted(n, 0),
+        BallAnswer::Refused(x) => refused(x),
+    }
+}
+
+fn with_counts(k: Counts) -> Counted
+    ensures { λ r. ⌜ r ≡ record { number = 0; file = 0; started = k .started; kept = k .kept; struck = k .struck; rounds = k .rounds } ⌝ }
+{
+    Counted {
+        number: 0,
+        file: 0,
+        started: k.started,
+        kept: k.kept,
+        struck: k.struck,
+        rounds: k.rounds,
+    }
+}
+
+// A refusal with counts, as number 9 has them.
+fn refused_with(x: Refusal, k: Counts) -> Counted
+    ensures { λ r. ⌜ r ≡ record { number = x .number; file = fileNumber (x .file); started = k .started; kept = k .kept; struck = k .struck; rounds = k .rounds } ⌝ }
+{
+    let file = x.file;
+    Counted {
+        number: x.number as u32,
+        file: file_number(file),
+        started: k.started,
+        kept: k.kept,
+        struck: k.struck,
+        rounds: k.rounds,
+    }
+}
+
+pub fn of_match(answer: TableAnswer) -> Counted
+    ensures { λ r. ⌜ r ≡ counted (replyOf answer) ⌝ }
+{
+    match answer {
+        TableAnswer::Matched(k) => with_counts(k),
+        TableAnswer::Refused(x) => refused_with(
+            x,
+            Counts {
+                started: 0,
+                kept: 0,
+                struck: 0,
+                rounds: 0,
+            },
+        ),
+    }
+}
+
+pub fn of_place(answer: PlaceAnswer) -> Counted
+    ensures { λ r. ⌜ r ≡ counted (placeReply answer) ⌝ }
+{
+    match answer {
+        PlaceAnswer::Placed(k) => with_counts(k),
+        PlaceAnswer::Refused(x, k) => refused_with(x, k),
+    }
+}
+
+pub fn of_merge(answer: MergeAnswer) -> Reply
+    ensures { λ r. ⌜ r ≡ slots (mergeReply answer) ⌝ }
+{
+    match answer {
+        MergeAnswer::Merged(count, size) => accepted(count, size),
+        MergeAnswer::Refused(x) => refused(x),
+    }
+}

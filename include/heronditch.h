@@ -1,0 +1,122 @@
+/* heronditch.h: finding a known circuit (the pattern) on a circuit board.
+ *
+ * Link with libheronditch.a (made by `tools/library`), which needs nothing but the C library's memset. The calls are proved: what each
+ * replies and leaves in the lent tables is an equation from its inputs, for every input (docs/PROMISES.md). What is said here is what
+ * those equations say.
+ *
+ * Every call:
+ *   - takes each array as a pointer and a number of elements. A pointer may be NULL where that number is 0; else it must point to that
+ *     many elements, aligned as their type asks for. Arrays lent for output overlap no other array of the call.
+ *   - replies with number 0 when it accepts, else with the number of the refusal and the file it means. A refusal changes nothing that was
+ *     lent, and all other slots of the reply are 0, except that 9 carries the counts of the ball.
+ *   - when it accepts, writes only the first entries of what was lent, as many as are said below; later entries keep their content.
+ *   - uses no heap and no global state: it may be used from several threads at once, and from a signal handler.
+ *   - ends: its work is bounded for every input.
+ *   - needs at most HERONDITCH_STACK bytes of stack.
+ *
+ * Numbers of refusal. Where several hold, the pattern's 1 to 6 come first, then the board's 1 to 5, then 7, 8 and 9:
+ *   1  a file of under 4 bytes                         6  the pattern is not connected
+ *   2  the number of nodes or links out of range       7  the centre is not a node of the board
+ *   3  a length that is not 4 + 2 N + 4 M;             8  a lent table is too short
+ *      on writing, not as many ends as starts          9  no place around the centre
+ *   4  a link to or from a node that is not there
+ *   5  links that do not rise strictly, by start and then by end
+ */
+#ifndef HERONDITCH_H
+#define HERONDITCH_H
+
+#include <stddef.h>
+#include <stdint.h>
+
+#ifdef __cplusplus
+extern "C" {
+#endif
+
+/* which file a refusal means */
+#define HERONDITCH_NEITHER 0
+#define HERONDITCH_PATTERN 1
+#define HERONDITCH_BOARD 2
+
+/* the largest circuits: parts and links of a pattern, nodes and links of a board, bytes of their files */
+#define HERONDITCH_PARTS 32
+#define HERONDITCH_PATTERN_LINKS 256
+#define HERONDITCH_PATTERN_BYTES (4 + 2 * HERONDITCH_PARTS + 4 * HERONDITCH_PATTERN_LINKS)
+#define HERONDITCH_NODES 512
+#define HERONDITCH_BOARD_LINKS 4096
+#define HERONDITCH_BOARD_BYTES (4 + 2 * HERONDITCH_NODES + 4 * HERONDITCH_BOARD_LINKS)
+
+/* stack that a call needs, measured and rounded up (tests/c/stack.c) */
+#define HERONDITCH_STACK 65536
+
+/* a reply with up to two values; a slot that a call does not use is 0 */
+typedef struct {
+    uint32_t number;
+    uint32_t file;
+    size_t first;
+    size_t second;
+} heronditch_reply;
+
+/* a reply with the counts of matching: pairs (part, node) of equal kind, those kept, those struck, and the rounds that struck some */
+typedef struct {
+    uint32_t number;
+    uint32_t file;
+    uint32_t started;
+    uint32_t kept;
+    uint32_t struck;
+    uint32_t rounds;
+} heronditch_counts;
+
+/* Reads a file: N kinds, M link starts and M link ends. Replies with N and M. Lend 32, 256, 256 entries for a pattern, 512, 4096, 4096
+ * for a board, to have room for every file. */
+heronditch_reply heronditch_read_pattern(const uint8_t *file, size_t file_len, uint16_t *kinds, size_t kinds_len, uint16_t *starts,
+                                         size_t starts_len, uint16_t *ends, size_t ends_len);
+heronditch_reply heronditch_read_board(const uint8_t *file, size_t file_len, uint16_t *kinds, size_t kinds_len, uint16_t *starts,
+                                       size_t starts_len, uint16_t *ends, size_t ends_len);
+
+/* Writes the file of a circuit, 4 + 2 N + 4 M bytes. Replies with that length. */
+heronditch_reply heronditch_write_pattern(const uint16_t *kinds, size_t kinds_len, const uint16_t *starts, size_t starts_len,
+                                          const uint16_t *ends, size_t ends_len, uint8_t *out, size_t out_len);
+heronditch_reply heronditch_write_board(const uint16_t *kinds, size_t kinds_len, const uint16_t *starts, size_t starts_len,
+                                        const uint16_t *ends, size_t ends_len, uint8_t *out, size_t out_len);
+
+/* Looks up what a node drives, or what drives it: the stretch of the forward table from forward_offsets[node] up to
+ * forward_offsets[node + 1], or of the backward table likewise, copied to the front of out. Replies with its length. It is empty where the
+ * node has no two offsets, or where they fall back or pass the table's end. */
+heronditch_reply heronditch_drives(const uint16_t *forward_offsets, size_t forward_offsets_len, const uint16_t *forward, size_t forward_len,
+                                   const uint16_t *backward_offsets, size_t backward_offsets_len, const uint16_t *backward,
+                                   size_t backward_len, size_t node, uint16_t *out, size_t out_len);
+heronditch_reply heronditch_driven(const uint16_t *forward_offsets, size_t forward_offsets_len, const uint16_t *forward, size_t forward_len,
+                                   const uint16_t *backward_offsets, size_t backward_offsets_len, const uint16_t *backward,
+                                   size_t backward_len, size_t node, uint16_t *out, size_t out_len);
+
+/* Replies with the pattern's radius: the largest distance between two of its parts. */
+heronditch_reply heronditch_radius(const uint8_t *pattern, size_t pattern_len);
+
+/* Marks the ball around a node of the board: N bytes, 1 inside, else 0. Replies with N. */
+heronditch_reply heronditch_ball(const uint8_t *board, size_t board_len, size_t centre, uint16_t radius, uint8_t *out, size_t out_len);
+
+/* Matches the pattern on the whole board: N numbers, in which bit u of entry v says that part u matches node v. */
+heronditch_counts heronditch_match(const uint8_t *pattern, size_t pattern_len, const uint8_t *board, size_t board_len, uint32_t *table,
+                                   size_t table_len);
+
+/* Finds the pattern around a node of the board, at the pattern's radius: N node bytes and M link bytes, 1 in the place, else 0, and N
+ * numbers as above over the place's nodes, 0 elsewhere. The counts are those of the whole ball. */
+heronditch_counts heronditch_place(const uint8_t *pattern, size_t pattern_len, const uint8_t *board, size_t board_len, size_t centre,
+                                   uint8_t *nodes, size_t nodes_len, uint8_t *links, size_t links_len, uint32_t *table,
+                                   size_t table_len);
+
+/* The same at a radius given. */
+heronditch_counts heronditch_place_within(const uint8_t *pattern, size_t pattern_len, const uint8_t *board, size_t board_len,
+                                          size_t centre, uint16_t radius, uint8_t *nodes, size_t nodes_len, uint8_t *links,
+                                          size_t links_len, uint32_t *table, size_t table_len);
+
+/* Merges the parts of a pattern that match each other: the class of each of its N parts, and the merged pattern's file. Lend N bytes and
+ * as many bytes as the pattern's file has. Replies with the number of classes and the merged file's length. */
+heronditch_reply heronditch_merge(const uint8_t *pattern, size_t pattern_len, uint8_t *classes, size_t classes_len, uint8_t *out,
+                                  size_t out_len);
+
+#ifdef __cplusplus
+}
+#endif
+
+#endif

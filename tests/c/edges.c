@@ -1,0 +1,173 @@
+/* The edges of the interface, tried from C: no arrays, arrays of length 0, tables of exactly the needed length and of one entry less, and
+ * entries past those needed. Prints 'edges: N checks' and exits 0, or says which check failed and exits 1. */
+#include <stdio.h>
+#include <string.h>
+
+#include "heronditch.h"
+
+/* T and B of the specification */
+static const uint8_t T[] = {3, 0, 2, 0, 10, 0, 20, 0, 30, 0, 0, 0, 1, 0, 1, 0, 2, 0};
+static const uint8_t B[] = {6, 0, 3, 0, 10, 0, 20, 0, 30, 0, 20, 0, 30, 0, 10, 0, 0, 0, 1, 0, 3, 0, 1, 0, 2, 0, 4, 0};
+
+static int checks, failed;
+
+static void check(int ok, const char *what)
+{
+    checks++;
+    if (!ok) {
+        failed++;
+        printf("failed: %s\n", what);
+    }
+}
+
+static int is_reply(heronditch_reply r, uint32_t number, uint32_t file, size_t first, size_t second)
+{
+    return r.number == number && r.file == file && r.first == first && r.second == second;
+}
+
+static int is_counts(heronditch_counts c, uint32_t number, uint32_t file, uint32_t started, uint32_t kept, uint32_t struck,
+                     uint32_t rounds)
+{
+    return c.number == number && c.file == file && c.started == started && c.kept == kept && c.struck == struck && c.rounds == rounds;
+}
+
+/* every byte of a table still holds the filling */
+static int untouched(const void *table, size_t from, size_t to)
+{
+    const unsigned char *b = table;
+    for (size_t i = from; i < to; i++)
+        if (b[i] != 0xA5)
+            return 0;
+    return 1;
+}
+
+static void no_arrays(void)
+{
+    check(is_reply(heronditch_read_pattern(NULL, 0, NULL, 0, NULL, 0, NULL, 0), 1, HERONDITCH_PATTERN, 0, 0), "read_pattern of nothing");
+    check(is_reply(heronditch_read_board(NULL, 0, NULL, 0, NULL, 0, NULL, 0), 1, HERONDITCH_BOARD, 0, 0), "read_board of nothing");
+    check(is_reply(heronditch_write_pattern(NULL, 0, NULL, 0, NULL, 0, NULL, 0), 2, HERONDITCH_PATTERN, 0, 0), "write_pattern of nothing");
+    check(is_reply(heronditch_write_board(NULL, 0, NULL, 0, NULL, 0, NULL, 0), 8, HERONDITCH_NEITHER, 0, 0), "write_board of nothing");
+    check(is_reply(heronditch_radius(NULL, 0), 1, HERONDITCH_PATTERN, 0, 0), "radius of nothing");
+    check(is_reply(heronditch_ball(NULL, 0, 0, 0, NULL, 0), 1, HERONDITCH_BOARD, 0, 0), "ball of nothing");
+    check(is_counts(heronditch_match(NULL, 0, NULL, 0, NULL, 0), 1, HERONDITCH_PATTERN, 0, 0, 0, 0), "match of nothing");
+    check(is_counts(heronditch_match(T, sizeof T, NULL, 0, NULL, 0), 1, HERONDITCH_BOARD, 0, 0, 0, 0), "match on nothing");
+    check(is_counts(heronditch_place(NULL, 0, NULL, 0, 0, NULL, 0, NULL, 0, NULL, 0), 1, HERONDITCH_PATTERN, 0, 0, 0, 0),
+          "place of nothing");
+    check(is_counts(heronditch_place(T, sizeof T, B, sizeof B, 0, NULL, 0, NULL, 0, NULL, 0), 8, HERONDITCH_NEITHER, 0, 0, 0, 0),
+          "place with nothing lent");
+    check(is_counts(heronditch_place_within(T, sizeof T, NULL, 0, 0, 0, NULL, 0, NULL, 0, NULL, 0), 1, HERONDITCH_BOARD, 0, 0, 0, 0),
+          "place_within on nothing");
+    check(is_reply(heronditch_merge(NULL, 0, NULL, 0, NULL, 0), 1, HERONDITCH_PATTERN, 0, 0), "merge of nothing");
+    static const uint8_t none[] = {0, 0, 0, 0};
+    check(is_reply(heronditch_read_board(none, 4, NULL, 0, NULL, 0, NULL, 0), 0, HERONDITCH_NEITHER, 0, 0), "a board of no node");
+    check(is_counts(heronditch_match(T, sizeof T, none, 4, NULL, 0), 0, HERONDITCH_NEITHER, 0, 0, 0, 0), "match on no node");
+    check(is_counts(heronditch_place(T, sizeof T, none, 4, 0, NULL, 0, NULL, 0, NULL, 0), 7, HERONDITCH_NEITHER, 0, 0, 0, 0),
+          "place on no node");
+}
+
+/* the place call with tables of these lengths, at a centre; checks what is past the needed entries */
+static void place_with(size_t nodes_len, size_t links_len, size_t table_len, size_t centre, uint32_t number, const char *what)
+{
+    uint8_t nodes[8], links[8];
+    uint32_t table[8];
+    memset(nodes, 0xA5, sizeof nodes);
+    memset(links, 0xA5, sizeof links);
+    memset(table, 0xA5, sizeof table);
+    heronditch_counts c =
+        heronditch_place(T, sizeof T, B, sizeof B, centre, nodes, nodes_len, links, links_len, table, table_len);
+    check(c.number == number && c.file == HERONDITCH_NEITHER, what);
+    size_t n = number == 0 ? 6 : 0, m = number == 0 ? 3 : 0;
+    check(untouched(nodes, n, sizeof nodes) && untouched(links, m, sizeof links) && untouched(table, 4 * n, sizeof table), what);
+    if (number == 0) {
+        static const uint8_t in[] = {1, 1, 1, 0, 0, 0}, on[] = {1, 1, 0};
+        static const uint32_t sets[] = {1, 2, 4, 0, 0, 0};
+        check(!memcmp(nodes, in, 6) && !memcmp(links, on, 3) && !memcmp(table, sets, 24), what);
+    }
+}
+
+static void lengths(void)
+{
+    place_with(6, 3, 6, 0, 0, "exactly the needed lengths");
+    place_with(8, 8, 8, 1, 0, "longer tables");
+    place_with(5, 3, 6, 0, 8, "one node byte less");
+    place_with(6, 2, 6, 0, 8, "one link byte less");
+    place_with(6, 3, 5, 0, 8, "one set less");
+    place_with(5, 2, 5, 6, 7, "7 comes before 8");
+    place_with(6, 3, 6, 3, 9, "no place");
+    place_with(6, 3, 6, SIZE_MAX, 7, "the largest centre");
+    uint32_t table[6];
+    check(is_counts(heronditch_match(T, sizeof T, B, sizeof B, table, 6), 0, HERONDITCH_NEITHER, 6, 3, 3, 2), "counts of T on B");
+    check(is_counts(heronditch_match(T, sizeof T, B, sizeof B, table, 5), 8, HERONDITCH_NEITHER, 0, 0, 0, 0), "a short table");
+    uint8_t nodes[6], links[3];
+    check(is_counts(heronditch_place(T, sizeof T, B, sizeof B, 3, nodes, 6, links, 3, table, 6), 9, HERONDITCH_NEITHER, 2, 0, 2, 2),
+          "9 carries the ball's counts");
+    check(is_counts(heronditch_place_within(T, sizeof T, B, sizeof B, 0, 0, nodes, 6, links, 3, table, 6), 9, HERONDITCH_NEITHER, 1, 0, 1, 1),
+          "radius 0");
+    check(is_counts(heronditch_place_within(T, sizeof T, B, sizeof B, 0, 65535, nodes, 6, links, 3, table, 6), 0, HERONDITCH_NEITHER, 3, 3, 0, 0),
+          "the largest radius");
+    uint8_t out[sizeof T + 1];
+    memset(out, 0xA5, sizeof out);
+    uint8_t classes[4] = {0xA5, 0xA5, 0xA5, 0xA5};
+    check(is_reply(heronditch_merge(T, sizeof T, classes, 2, out, sizeof T), 8, HERONDITCH_NEITHER, 0, 0), "one class less");
+    check(is_reply(heronditch_merge(T, sizeof T, classes, 3, out, sizeof T - 1), 8, HERONDITCH_NEITHER, 0, 0), "one byte less");
+    check(untouched(out, 0, sizeof out) && untouched(classes, 0, 4), "merge refused changes nothing");
+    check(is_reply(heronditch_merge(T, sizeof T, classes, 4, out, sizeof out), 0, HERONDITCH_NEITHER, 3, sizeof T), "T merged is T");
+    check(!memcmp(out, T, sizeof T) && out[sizeof T] == 0xA5 && classes[3] == 0xA5, "later bytes stay");
+}
+
+/* a small generator, the same on every machine */
+static uint32_t state = 1;
+static size_t draw(size_t below)
+{
+    state = state * 1664525u + 1013904223u;
+    return (state >> 16) % below;
+}
+
+/* the stretch of one direction, by the specification's words */
+static size_t stretch(const uint16_t *offsets, size_t n, const uint16_t *table, size_t size, size_t node, const uint16_t **at)
+{
+    *at = table;
+    if (n == 0 || node >= n - 1 || offsets[node + 1] < offsets[node] || offsets[node + 1] > size)
+        return 0;
+    *at = table + offsets[node];
+    return (size_t)(offsets[node + 1] - offsets[node]);
+}
+
+/* offsets and tables at random, sound or not, and an output that fits, or is one short */
+static void lookups(void)
+{
+    int same = 1;
+    for (int i = 0; i < 20000; i++) {
+        uint16_t offsets[2][6], table[2][8], out[9], want[9];
+        size_t n[2], m[2];
+        for (size_t d = 0; d < 2; d++) {
+            n[d] = draw(7), m[d] = draw(9);
+            for (size_t k = 0; k < n[d]; k++)
+                offsets[d][k] = (uint16_t)draw(10);
+            for (size_t k = 0; k < m[d]; k++)
+                table[d][k] = (uint16_t)draw(100);
+        }
+        size_t node = draw(7), d = draw(2);
+        const uint16_t *at;
+        size_t length = stretch(offsets[d], n[d], table[d], m[d], node, &at);
+        size_t lent = length > 0 && draw(2) ? length - 1 : length;
+        memset(out, 0xA5, sizeof out);
+        memset(want, 0xA5, sizeof want);
+        if (lent >= length)
+            memcpy(want, at, 2 * length);
+        heronditch_reply r =
+            (d ? heronditch_driven : heronditch_drives)(offsets[0], n[0], table[0], m[0], offsets[1], n[1], table[1], m[1], node, out, lent);
+        same = same && is_reply(r, lent < length ? 8 : 0, HERONDITCH_NEITHER, lent < length ? 0 : length, 0) && !memcmp(out, want, sizeof out);
+    }
+    check(same, "20,000 neighbour lookups");
+    check(is_reply(heronditch_drives(NULL, 0, NULL, 0, NULL, 0, NULL, 0, SIZE_MAX, NULL, 0), 0, HERONDITCH_NEITHER, 0, 0), "a lookup of nothing");
+}
+
+int main(void)
+{
+    no_arrays();
+    lengths();
+    lookups();
+    printf("edges: %d checks, %d failed\n", checks, failed);
+    return failed != 0;
+}
