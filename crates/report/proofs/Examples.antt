@@ -1,0 +1,145 @@
+-- Document 01's example of a report, T on B, from the bytes of the two files; and the two lines of refused files that it implies. Assumes
+-- nothing.
+use mathlib.Core.Bool.{Bool, true, false}
+use mathlib.Core.List.{List, [], _∷_, _++_}
+use mathlib.Core.Path.{_≡_, refl, ap, ap₂, _∙_}
+use Prim.Native.Nat.{ℕ}
+use lib.Dec.{T}
+use Rattle.lists.specs.List.{all, any, allBelow, anyBelow, tabulate, sum, maximum}
+use Rattle.lists.specs.Below.{countBelow, concatBelow}
+use Rattle.lists.proofs.Tests.{T-true, T-false}
+use Rattle.bits.specs.Bits.{bit, numberOf, sizeOf}
+use Rattle.text.specs.Text.{bytes, digits, decimal}
+use Rattle.graph.specs.Neighbours.{select}
+use Rattle.graph.specs.Search.{beside, inside, ball, misses, distances, connected, radius}
+use Rattle.files.specs.Circuit.{circuitOf}
+use Rattle.files.specs.declared.Role.the-variants.{Pattern, Board}
+use Rattle.files.specs.Layout.{field, fields, nodesOf, linksOf, kindsOf, startsOf, endsOf}
+use Rattle.files.specs.Links.{linksBelow, earlier, rising}
+use Rattle.files.specs.Refusals.{Verdict, accept, first, linkConditions, fileConditions, asksConnected}
+use Rattle.table.specs.Row.{inTable, agrees, startTable, answered, supported, strike, row, pairs, started, lastTable}
+use Rattle.table.specs.Examples.{circuitT, circuitB}
+use Rattle.place.specs.Match.{radiusOf, ballOf, ballTable, found, matches, keepFrom, linkMatches, matchStarts, matchEnds, component, placeNodes, placeLinks}
+use Rattle.place.proofs.Examples.{Shows, radius-T, E3-0, E3-1, E3-2, E4-none}
+use Rattle.report.specs.Report.{marked, linkItem, nodeItems, linkItems, placeLine, hasPlace, centreLine, endLine, fileWord, refusalLine, linesOf, reportFor, reportOf}
+
+-- T: 0:10, 1:20, 2:30, links 0-1, 1-2
+unfoldable pub fileT : List ℕ
+fileT = 3 ∷ 0 ∷ 2 ∷ 0 ∷ 10 ∷ 0 ∷ 20 ∷ 0 ∷ 30 ∷ 0 ∷ 0 ∷ 0 ∷ 1 ∷ 0 ∷ 1 ∷ 0 ∷ 2 ∷ 0 ∷ []
+
+-- B: 0:10, 1:20, 2:30, 3:20, 4:30, 5:10, links 0-1, 1-2, 3-4
+unfoldable pub fileB : List ℕ
+fileB = 6 ∷ 0 ∷ 3 ∷ 0 ∷ 10 ∷ 0 ∷ 20 ∷ 0 ∷ 30 ∷ 0 ∷ 20 ∷ 0 ∷ 30 ∷ 0 ∷ 10 ∷ 0 ∷ 0 ∷ 0 ∷ 1 ∷ 0 ∷ 3 ∷ 0 ∷ 1 ∷ 0 ∷ 2 ∷ 0 ∷ 4 ∷ 0 ∷ []
+
+-- both files are accepted, and hold T and B
+T-and-B : first (fileConditions Pattern fileT ++ fileConditions Board fileB) ≡ accept
+unfolding fileT fileB first fileConditions linkConditions asksConnected linksBelow rising earlier nodesOf linksOf startsOf endsOf fields field connected ball tabulate inside beside all allBelow
+T-and-B = refl
+
+holds-T : circuitOf fileT ≡ circuitT
+unfolding fileT circuitT kindsOf startsOf endsOf nodesOf linksOf fields field tabulate
+holds-T = refl
+
+holds-B : circuitOf fileB ≡ circuitB
+unfolding fileB circuitB kindsOf startsOf endsOf nodesOf linksOf fields field tabulate
+holds-B = refl
+
+-- all that is opened where a place is computed
+opened : Unit {0}
+unfolding all any anyBelow tabulate sum countBelow bit numberOf sizeOf select beside inside ball inTable agrees startTable answered supported strike row pairs started lastTable ballOf ballTable found
+opened = tt
+
+-- ---- the centres
+
+-- whether there is a place around the centre, and its line
+record Line (c : ℕ) (on : Bool) (text : List ℕ) : Type 0 where
+  place : hasPlace circuitT circuitB c ≡ on
+  line : centreLine circuitT circuitB c ≡ text
+
+-- with nodes 0, 1, 2 and both their links
+shown : (c : ℕ) (text : List ℕ) → Shows circuitT circuitB c 2 (1 ∷ 1 ∷ 1 ∷ 0 ∷ 0 ∷ 0 ∷ []) (1 ∷ 1 ∷ 0 ∷ [])
+    → placeLine c (nodeItems (1 ∷ 1 ∷ 1 ∷ 0 ∷ 0 ∷ 0 ∷ [])) (linkItems (circuitB .starts) (circuitB .ends) (1 ∷ 1 ∷ 0 ∷ [])) ≡ text → Line c true text
+unfolding centreLine hasPlace
+shown c text (t, n, l) e = record { place = rw radius-T (T-true {b = found circuitT circuitB c 2} t); line = rw (radius-T, T-true {b = found circuitT circuitB c 2} t, n, l) e }
+
+-- without a place
+empty : (c : ℕ) → (T (found circuitT circuitB c 2) → ⊥) → Line c false []
+unfolding centreLine hasPlace
+empty c t = record { place = rw radius-T (T-false {b = found circuitT circuitB c 2} t); line = rw (radius-T, T-false {b = found circuitT circuitB c 2} t) }
+
+line-0 : Line 0 true (bytes "place 0: 0 1 2 / 0-1 1-2\n")
+unfolding circuitB placeLine nodeItems linkItems linkItem marked concatBelow inside bytes decimal digits
+line-0 = shown 0 _ E3-0 refl
+
+line-1 : Line 1 true (bytes "place 1: 0 1 2 / 0-1 1-2\n")
+unfolding circuitB placeLine nodeItems linkItems linkItem marked concatBelow inside bytes decimal digits
+line-1 = shown 1 _ E3-1 refl
+
+line-2 : Line 2 true (bytes "place 2: 0 1 2 / 0-1 1-2\n")
+unfolding circuitB placeLine nodeItems linkItems linkItem marked concatBelow inside bytes decimal digits
+line-2 = shown 2 _ E3-2 refl
+
+line-4 : Line 4 false []
+unfolding opened circuitT circuitB
+line-4 = empty 4 (λ t. t)
+
+line-5 : Line 5 false []
+unfolding opened circuitT circuitB
+line-5 = empty 5 (λ t. t)
+
+T-on-B-lines : linesOf circuitT circuitB
+    ≡ bytes "place 0: 0 1 2 / 0-1 1-2\nplace 1: 0 1 2 / 0-1 1-2\nplace 2: 0 1 2 / 0-1 1-2\nend 3 of 6\n"
+unfolding circuitB linesOf concatBelow countBelow endLine decimal digits bytes
+T-on-B-lines =
+    let line-3 = empty 3 E4-none in
+    rw (line-0 .line, line-1 .line, line-2 .line, line-3 .line, line-4 .line, line-5 .line, line-0 .place, line-1 .place, line-2 .place, line-3 .place, line-4 .place, line-5 .place)
+
+-- "For T on B": the four lines
+pub T-on-B : reportOf fileT fileB
+    ≡ bytes "place 0: 0 1 2 / 0-1 1-2\nplace 1: 0 1 2 / 0-1 1-2\nplace 2: 0 1 2 / 0-1 1-2\nend 3 of 6\n"
+unfolding reportOf reportFor
+T-on-B =
+    ap (λ (v : Verdict). reportFor v (circuitOf fileT) (circuitOf fileB)) T-and-B ∙ ap₂ linesOf holds-T holds-B ∙ T-on-B-lines
+
+-- "Every line ends with one byte `0A`."
+pub line-end : bytes "\n" ≡ 0x0A ∷ []
+unfolding bytes
+line-end = refl
+
+-- ---- refused files: "as `refused 3 pattern`", whatever the board; "absent counts as empty"
+
+-- all that is opened where files are read
+reading : Unit {0}
+unfolding first fileConditions linkConditions asksConnected linksBelow rising earlier nodesOf linksOf kindsOf startsOf endsOf fields field connected ball tabulate inside beside all allBelow
+reading = tt
+
+-- all that is opened where a report is put together
+writing : Unit {0}
+unfolding reportOf reportFor linesOf refusalLine fileWord concatBelow countBelow endLine decimal digits bytes
+writing = tt
+
+pub refused-pattern : (board : List ℕ) → reportOf (1 ∷ 0 ∷ 0 ∷ 0 ∷ []) board ≡ bytes "refused 3 pattern\n"
+unfolding reading writing
+refused-pattern board = refl
+
+pub absent-pattern : (board : List ℕ) → reportOf [] board ≡ bytes "refused 1 pattern\n"
+unfolding reading writing
+absent-pattern board = refl
+
+pub absent-board : reportOf fileT [] ≡ bytes "refused 1 board\n"
+unfolding reading writing fileT
+absent-board = refl
+
+-- ---- a board without nodes, and a place without links
+
+pub empty-board : reportOf fileT (0 ∷ 0 ∷ 0 ∷ 0 ∷ []) ≡ bytes "end 0 of 0\n"
+unfolding reading writing fileT
+empty-board = refl
+
+-- one part, of kind 10
+unfoldable pub fileOne : List ℕ
+fileOne = 1 ∷ 0 ∷ 0 ∷ 0 ∷ 10 ∷ 0 ∷ []
+
+pub no-links : reportOf fileOne fileOne ≡ bytes "place 0: 0 /\nend 1 of 1\n"
+unfolding reading writing opened fileOne radiusOf radius distances misses maximum matches keepFrom linkMatches matchStarts matchEnds component placeNodes placeLinks anyBelow placeLine nodeItems linkItems linkItem marked hasPlace centreLine
+no-links = refl

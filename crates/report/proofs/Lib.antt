@@ -1,0 +1,6 @@
+pub mod Concat
+pub mod Pieces
+pub mod Order
+pub mod Centre
+pub mod Lengths
+pub mod Examples

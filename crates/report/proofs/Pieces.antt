@@ -1,0 +1,59 @@
+-- The lines and their items piece by piece, as the program puts them. Assumes nothing.
+use mathlib.Core.Bool.{true, false}
+use mathlib.Core.List.{List, [], _++_, append-assoc}
+use mathlib.Core.Path.{_≡_}
+use Prim.Native.Nat.{ℕ}
+use lib.ListN.{getD}
+use Rattle.bits.specs.Bits.{intersects, unionOver}
+use Rattle.text.specs.Text.{bytes, decimal}
+use Rattle.graph.specs.Neighbours.{stretch}
+use Rattle.files.specs.declared.Refusal.{Refusal}
+use Rattle.place.specs.Bytes.{drivenBy}
+use Rattle.report.specs.Report.{linkItem, placeLine, endLine, fileWord, refusalLine}
+use Rattle.report.specs.Lines.{reached, nodeText, linkText, drivenText, startText}
+
+-- ---- items
+
+-- a node that the search missed has none; one that it reached has a space and its number
+pub node-missed : (dist : List ℕ) (v : ℕ) → reached dist v ≡ false → nodeText dist v ≡ []
+unfolding nodeText
+node-missed dist v e = rw e
+
+pub node-reached : (dist : List ℕ) (v : ℕ) → reached dist v ≡ true → nodeText dist v ≡ bytes " " ++ decimal v
+unfolding nodeText
+node-reached dist v e = rw e
+
+-- a link that does not match has none; one that does has a space, its start, a hyphen and its end
+pub link-apart : (driven set v w : ℕ) → intersects driven set ≡ false → linkText driven set v w ≡ []
+unfolding linkText
+link-apart driven set v w e = rw e
+
+pub link-meets : (driven set v w : ℕ) → intersects driven set ≡ true → linkText driven set v w ≡ bytes " " ++ (decimal v ++ (bytes "-" ++ decimal w))
+unfolding linkText linkItem
+link-meets driven set v w e = rw e (simp append-assoc)
+
+module _ (fo ft succ dist sets : List ℕ) (v : ℕ) where
+  -- a node that the search missed starts no link of the place; one that it reached starts those of its stretch that match
+  pub start-missed : reached dist v ≡ false → startText fo ft succ dist sets v ≡ []
+  unfolding startText
+  start-missed e = rw e
+
+  pub start-reached : (driven : ℕ) (nodes : List ℕ) → reached dist v ≡ true → driven ≡ unionOver succ (getD sets v 0) → nodes ≡ stretch fo ft v →
+      startText fo ft succ dist sets v ≡ drivenText driven sets v nodes
+  unfolding startText drivenBy
+  start-reached driven nodes e d p = rw (e, d, p)
+
+-- ---- lines, from the first piece to the last
+
+pub line-pieces : (c : ℕ) (nodes links : List ℕ) →
+    placeLine c nodes links ≡ bytes "place " ++ (decimal c ++ (bytes ":" ++ (nodes ++ (bytes " /" ++ (links ++ bytes "\n")))))
+unfolding placeLine
+line-pieces c nodes links = simp append-assoc
+
+pub end-pieces : (k n : ℕ) → endLine k n ≡ bytes "end " ++ (decimal k ++ (bytes " of " ++ (decimal n ++ bytes "\n")))
+unfolding endLine
+end-pieces k n = simp append-assoc
+
+pub refusal-pieces : (x : Refusal) → refusalLine x ≡ bytes "refused " ++ (decimal (x .number) ++ (fileWord (x .file) ++ bytes "\n"))
+unfolding refusalLine
+refusal-pieces x = simp append-assoc

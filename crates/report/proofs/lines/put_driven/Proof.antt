@@ -1,0 +1,83 @@
+-- `report::lines::put_driven` meets its contract. The loop's invariant: the links to the first i nodes of the list are put. The measure is how
+-- many are left. Assumes nothing.
+use mathlib.Core.List.{List}
+use mathlib.Core.Path.{_≡_, ap}
+use Prim.Native.Nat.{ℕ, _-_, _≤_}
+use native.Mathlib.Omega.{arith}
+use borrow.Author.Needs.{needs}
+use denote.Ref.{now}
+use lib.ListN.{length, getD}
+use Rattle.lists.specs.Below.{concatBelow}
+use Rattle.text.specs.Text.{Put}
+use Rattle.text.proofs.Text.{put-nothing, put-then, put-same, put-length, fits-then}
+use Rattle.graph.specs.Bfs.{Below}
+use Rattle.report.specs.Lines.{linkText, drivenText}
+use Rattle.report.proofs.Concat.{concat-more, fits-piece}
+use Rattle.report.proofs.lines.put_driven.Statement.{statement}
+use Rattle.report.proofs.lines.put_driven.Tie as tie
+
+-- the link to the i-th node of the list
+abbrev linkTo : List ℕ → ℕ → List ℕ → ℕ → ℕ → List ℕ
+linkTo nodes driven sets v i = linkText driven (getD sets (getD nodes i 0) 0) v (getD nodes i 0)
+
+abbrev Inv-loop : tie.InvT-loop
+Inv-loop nodes driven sets v out₀ at end₀ i₀ out end i = (i ≤ length nodes) × Put out₀ at (concatBelow i (linkTo nodes driven sets v)) out end
+
+abbrev μ-loop : tie.MeasureT-loop
+μ-loop nodes driven sets v out₀ at end₀ i₀ out end i = length nodes - i
+
+loop-holds : tie.Need-loop-holds Inv-loop μ-loop
+unfolding concatBelow
+loop-holds c = (omega arith, put-nothing)
+
+mul-w : tie.Need-mul-w Inv-loop μ-loop
+mul-w c = search needs
+
+shared-slice-read-w : tie.Need-shared-slice-read-w Inv-loop μ-loop
+shared-slice-read-w c = search needs
+
+cast-w : tie.Need-cast-w Inv-loop μ-loop
+cast-w c = omega (arith, c .shared-slice-known3 .given (c .before .before .loop .i))
+
+mul-put-link : tie.Need-mul-put-link Inv-loop μ-loop
+mul-put-link c = omega (arith, c .shared-slice-known3 .given (c .before .before .loop .i))
+
+shared-slice-read-put-link : tie.Need-shared-slice-read-put-link Inv-loop μ-loop
+unfolding Below
+shared-slice-read-put-link c = c .before .before .before .before .before .before .before .pre .0 (c .before .before .before .loop .i) (omega arith)
+
+put-link-requires : tie.Need-put-link-requires Inv-loop μ-loop
+unfolding drivenText
+put-link-requires c κs =
+    let s = c .before .before .before .before .before .before .before .before in
+    let a = s .args in
+    let loop = c .before .before .before .before .loop in
+    fits-then (loop .inv .1) (fits-piece (length (now (a .nodes))) (loop .i) (linkTo (now (a .nodes)) (a .driven) (now (a .sets)) (a .v)) (omega arith) (s .pre .1))
+
+add-i : tie.Need-add-i Inv-loop μ-loop
+add-i c = omega arith
+
+loop-less : tie.Need-loop-less Inv-loop μ-loop
+loop-less c = omega arith
+
+loop-again : tie.Need-loop-again Inv-loop μ-loop
+loop-again c =
+    let a = c .before .before .before .before .before .before .before .before .before .before .before .args in
+    let loop = c .before .before .before .before .before .before .before .loop in
+    (omega arith, put-same (concat-more (loop .i) (linkTo (now (a .nodes)) (a .driven) (now (a .sets)) (a .v))) (put-then (loop .inv .1) (c .before .before .put-link .ensures)))
+
+same-length : tie.Need-same-length Inv-loop μ-loop
+same-length c = put-length (c .before .loop .inv .1)
+
+returns : tie.Need-returns Inv-loop μ-loop
+unfolding drivenText
+returns c =
+    let a = c .before .before .before .before .before .args in
+    let loop = c .before .loop in
+    let e : loop .i ≡ length (now (a .nodes)) = omega arith in
+    put-same (ap (λ (n : ℕ). concatBelow n (linkTo (now (a .nodes)) (a .driven) (now (a .sets)) (a .v))) e) (loop .inv .1)
+
+pub put-driven-spec : {M : Type 1} → statement M
+put-driven-spec =
+    tie.close
+    (tie.spec Inv-loop μ-loop loop-holds mul-w shared-slice-read-w cast-w mul-put-link shared-slice-read-put-link put-link-requires add-i loop-less loop-again same-length returns)

@@ -1,0 +1,50 @@
+-- The line of a found centre as the program puts it, node by node, from what the search for the component leaves: the entries `dist`, `far`
+-- outside it, the ball's sets, and the neighbour and mask tables. What the contracts of the inner functions cite; proofs/Centre ties it to
+-- the report's text.
+use mathlib.Core.Bool.{Bool, not, cond}
+use mathlib.Core.List.{List, [], _++_}
+use Prim.Native.Nat.{ℕ}
+use lib.Dec.{eqb}
+use lib.ListN.{length, getD}
+use Rattle.lists.specs.Below.{concatBelow}
+use Rattle.bits.specs.Bits.{intersects}
+use Rattle.text.specs.Text.{bytes, decimal}
+use Rattle.graph.specs.Neighbours.{stretch}
+use Rattle.graph.specs.Search.{far}
+use Rattle.place.specs.Bytes.{drivenBy}
+use Rattle.report.specs.Report.{linkItem, placeLine}
+
+-- the search reached node v: its entry is not `far`
+unfoldable pub reached : List ℕ → ℕ → Bool
+reached dist v = not (eqb (getD dist v 0) far)
+
+-- each node
+unfoldable pub nodeText : List ℕ → ℕ → List ℕ
+nodeText dist v = cond (reached dist v) (bytes " " ++ decimal v) []
+
+unfoldable pub nodesText : List ℕ → List ℕ
+nodesText dist = concatBelow (length dist) (nodeText dist)
+
+-- the link from v to w, where what the parts of v's set drive has a part of w's set
+unfoldable pub linkText : ℕ → ℕ → ℕ → ℕ → List ℕ
+linkText driven set v w = cond (intersects driven set) (bytes " " ++ linkItem v w) []
+
+-- the links from v to the nodes of a list
+unfoldable pub drivenText : ℕ → List ℕ → ℕ → List ℕ → List ℕ
+drivenText driven sets v nodes = concatBelow (length nodes) (λ i. linkText driven (getD sets (getD nodes i 0) 0) v (getD nodes i 0))
+
+-- the links that start at v
+unfoldable pub startText : List ℕ → List ℕ → List ℕ → List ℕ → List ℕ → ℕ → List ℕ
+startText fo ft succ dist sets v = cond (reached dist v) (drivenText (drivenBy succ sets v) sets v (stretch fo ft v)) []
+
+-- each link, by its start
+unfoldable pub linksText : List ℕ → List ℕ → List ℕ → List ℕ → List ℕ → List ℕ
+linksText fo ft succ dist sets = concatBelow (length dist) (startText fo ft succ dist sets)
+
+-- the line
+unfoldable pub lineText : List ℕ → List ℕ → List ℕ → List ℕ → List ℕ → ℕ → List ℕ
+lineText fo ft succ dist sets c = placeLine c (nodesText dist) (linksText fo ft succ dist sets)
+
+-- No line of an accepted board is longer: 6 + 3 + 1 bytes up to the colon, 512 nodes of 4, 2 for the slash, 4,096 links of 8, and 1.
+abbrev pub longestLine : ℕ
+longestLine = 34829

@@ -1,0 +1,199 @@
+// The report's lines, each put into a table of bytes from an offset on; the offset after the line is returned.
+ghost use mathlib.Core.Path.{_≡_};
+ghost use Prim.Native.Nat.{_<_};
+ghost use lib.ListN.{length};
+ghost use Rattle.text.specs.Text.{Put, Fits};
+ghost use Rattle.graph.specs.Bfs.{Below};
+ghost use Rattle.place.specs.Bytes.{PartsBelow};
+ghost use Rattle.report.specs.Report.{endLine, refusalLine, fileWord};
+ghost use Rattle.report.specs.Lines.{reached, nodeText, nodesText, linkText, drivenText, startText, linksText, lineText};
+use files::File;
+use files::Refusal;
+use graph::neighbours::stretch;
+use text::put_byte;
+use text::put_bytes;
+use text::put_number;
+
+// Whether the search reached node v.
+fn reached(dist: &[u16], v: usize) -> bool
+    requires { ⌜ v < length (now dist) ⌝ }
+    ensures { λ r. ⌜ r ≡ reached (now (dist .entry)) v ⌝ }
+{
+    dist[v] != 65535
+}
+
+// Node v, if the search reached it.
+fn put_node(dist: &[u16], v: usize, out: &mut [u8], at: usize) -> usize
+    requires { ⌜ v < length (now dist) ⌝ }
+    requires { ⌜ Fits (now out) at (nodeText (now dist) v) ⌝ }
+    ensures { λ r. ⌜ Put (now (out .entry)) at (nodeText (now (dist .entry)) v) (now (out .exit)) r ⌝ }
+{
+    if !reached(dist, v) {
+        return at;
+    }
+    let next = put_byte(b' ', out, at);
+    put_number(v, out, next)
+}
+
+// Each node that the search reached.
+fn put_nodes(dist: &[u16], out: &mut [u8], at: usize) -> usize
+    requires { ⌜ Fits (now out) at (nodesText (now dist)) ⌝ }
+    ensures { λ r. ⌜ Put (now (out .entry)) at (nodesText (now (dist .entry))) (now (out .exit)) r ⌝ }
+{
+    let mut end = at;
+    let mut v = 0;
+    while v < dist.len() {
+        end = put_node(dist, v, out, end);
+        v += 1;
+    }
+    end
+}
+
+// The link from v to w, if what the parts of v's set drive has a part of w's set.
+fn put_link(driven: u32, set: u32, v: usize, w: usize, out: &mut [u8], at: usize) -> usize
+    requires { ⌜ Fits (now out) at (linkText driven set v w) ⌝ }
+    ensures { λ r. ⌜ Put (now (out .entry)) at (linkText driven set v w) (now (out .exit)) r ⌝ }
+{
+    if !bits::meets(driven, set) {
+        return at;
+    }
+    let start = put_byte(b' ', out, at);
+    let hyphen = put_number(v, out, start);
+    let end = put_byte(b'-', out, hyphen);
+    put_number(w, out, end)
+}
+
+// The links from v to the nodes of a list.
+fn put_driven(
+    nodes: &[u16],
+    driven: u32,
+    sets: &[u32],
+    v: usize,
+    out: &mut [u8],
+    at: usize,
+) -> usize
+    requires { ⌜ Below (length (now sets)) (now nodes) ⌝ }
+    requires { ⌜ Fits (now out) at (drivenText driven (now sets) v (now nodes)) ⌝ }
+    ensures { λ r. ⌜ Put (now (out .entry)) at (drivenText driven (now (sets .entry)) v (now (nodes .entry))) (now (out .exit)) r ⌝ }
+{
+    let mut end = at;
+    let mut i = 0;
+    while i < nodes.len() {
+        let w = nodes[i] as usize;
+        end = put_link(driven, sets[w], v, w, out, end);
+        i += 1;
+    }
+    end
+}
+
+// The links that start at v, if the search reached it. What its parts drive is one union, which serves all of them.
+fn put_start(
+    fo: &[u16],
+    ft: &[u16],
+    succ: &[u32],
+    dist: &[u16],
+    sets: &[u32],
+    v: usize,
+    out: &mut [u8],
+    at: usize,
+) -> usize
+    requires { ⌜ length (now sets) ≡ length (now dist) ⌝ }
+    requires { ⌜ Below (length (now sets)) (now ft) ⌝ }
+    requires { ⌜ PartsBelow (length (now succ)) (now sets) ⌝ }
+    requires { ⌜ v < length (now dist) ⌝ }
+    requires { ⌜ Fits (now out) at (startText (now fo) (now ft) (now succ) (now dist) (now sets) v) ⌝ }
+    ensures { λ r. ⌜ Put (now (out .entry)) at (startText (now (fo .entry)) (now (ft .entry)) (now (succ .entry)) (now (dist .entry)) (now (sets .entry)) v) (now (out .exit)) r ⌝ }
+{
+    if !reached(dist, v) {
+        return at;
+    }
+    let driven = bits::union_of(succ, sets[v]);
+    put_driven(stretch(fo, ft, v), driven, sets, v, out, at)
+}
+
+// Each link of the place: a file's links rise by their starts, so that its order is node by node.
+fn put_links(
+    fo: &[u16],
+    ft: &[u16],
+    succ: &[u32],
+    dist: &[u16],
+    sets: &[u32],
+    out: &mut [u8],
+    at: usize,
+) -> usize
+    requires { ⌜ length (now sets) ≡ length (now dist) ⌝ }
+    requires { ⌜ Below (length (now sets)) (now ft) ⌝ }
+    requires { ⌜ PartsBelow (length (now succ)) (now sets) ⌝ }
+    requires { ⌜ Fits (now out) at (linksText (now fo) (now ft) (now succ) (now dist) (now sets)) ⌝ }
+    ensures { λ r. ⌜ Put (now (out .entry)) at (linksText (now (fo .entry)) (now (ft .entry)) (now (succ .entry)) (now (dist .entry)) (now (sets .entry))) (now (out .exit)) r ⌝ }
+{
+    let mut end = at;
+    let mut v = 0;
+    while v < dist.len() {
+        end = put_start(fo, ft, succ, dist, sets, v, out, end);
+        v += 1;
+    }
+    end
+}
+
+// The line of the centre c, around which there is a place.
+pub fn put_line(
+    fo: &[u16],
+    ft: &[u16],
+    succ: &[u32],
+    dist: &[u16],
+    sets: &[u32],
+    c: usize,
+    out: &mut [u8],
+    at: usize,
+) -> usize
+    requires { ⌜ length (now sets) ≡ length (now dist) ⌝ }
+    requires { ⌜ Below (length (now sets)) (now ft) ⌝ }
+    requires { ⌜ PartsBelow (length (now succ)) (now sets) ⌝ }
+    requires { ⌜ Fits (now out) at (lineText (now fo) (now ft) (now succ) (now dist) (now sets) c) ⌝ }
+    ensures { λ r. ⌜ Put (now (out .entry)) at (lineText (now (fo .entry)) (now (ft .entry)) (now (succ .entry)) (now (dist .entry)) (now (sets .entry)) c) (now (out .exit)) r ⌝ }
+{
+    let centre = put_bytes(b"place ", out, at);
+    let colon = put_number(c, out, centre);
+    let nodes = put_byte(b':', out, colon);
+    let slash = put_nodes(dist, out, nodes);
+    let links = put_bytes(b" /", out, slash);
+    let end = put_links(fo, ft, succ, dist, sets, out, links);
+    put_byte(b'\n', out, end)
+}
+
+// The last line: k of n centres have a place.
+pub fn put_end(k: usize, n: usize, out: &mut [u8], at: usize) -> usize
+    requires { ⌜ Fits (now out) at (endLine k n) ⌝ }
+    ensures { λ r. ⌜ Put (now (out .entry)) at (endLine k n) (now (out .exit)) r ⌝ }
+{
+    let count = put_bytes(b"end ", out, at);
+    let of = put_number(k, out, count);
+    let all = put_bytes(b" of ", out, of);
+    let end = put_number(n, out, all);
+    put_byte(b'\n', out, end)
+}
+
+// Which file is meant.
+fn put_file(file: File, out: &mut [u8], at: usize) -> usize
+    requires { ⌜ Fits (now out) at (fileWord file) ⌝ }
+    ensures { λ r. ⌜ Put (now (out .entry)) at (fileWord file) (now (out .exit)) r ⌝ }
+{
+    match file {
+        File::Pattern => put_bytes(b" pattern", out, at),
+        File::Board => put_bytes(b" board", out, at),
+        File::Neither => at,
+    }
+}
+
+// The line of a refused file.
+pub fn put_refusal(x: Refusal, out: &mut [u8], at: usize) -> usize
+    requires { ⌜ Fits (now out) at (refusalLine x) ⌝ }
+    ensures { λ r. ⌜ Put (now (out .entry)) at (refusalLine x) (now (out .exit)) r ⌝ }
+{
+    let number = put_bytes(b"refused ", out, at);
+    let file = put_number(x.number as usize, out, number);
+    let meant = x.file;
+    let end = put_file(meant, out, file);
+    put_byte(b'\n', out, end)
+}

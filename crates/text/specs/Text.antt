@@ -1,0 +1,34 @@
+-- Text as bytes: words and decimal numerals; and text written into a table from an offset on.
+use mathlib.Core.Bool.{cond}
+use mathlib.Core.List.{List, [], _∷_, _++_}
+use mathlib.Core.Path.{_≡_}
+use Prim.Native.Char.{code}
+use Prim.Native.Nat.{ℕ, zero, suc, _+_, _/_, _%_, _≤_}
+use Prim.Native.String.{String}
+use Prim.Native.String as string
+use lib.Dec.{ltb}
+use lib.ListN.{length}
+use lib.Seq.{sets}
+
+-- A word's bytes: the number of each character, which is its byte where the characters are ASCII's.
+unfoldable pub bytes : String → List ℕ
+bytes string.[] = []
+bytes (string._∷_ c s) = code c ∷ bytes s
+
+-- The decimal numeral of a number, as bytes: the digits of what is left after the last digit, then the last digit, 48 being the byte of 0. The first number
+-- bounds the steps; a number is more than enough for itself.
+unfoldable pub digits : ℕ → ℕ → List ℕ
+digits zero x = []
+digits (suc k) x = cond (ltb x 10) ((48 + x) ∷ []) (digits k (x / 10) ++ ((48 + x % 10) ∷ []))
+
+unfoldable pub decimal : ℕ → List ℕ
+decimal x = digits (suc x) x
+
+-- what writing a text from an offset on leaves: the table with the text's bytes stored one after another, and the offset after the text
+pub record Put (before : List ℕ) (at : ℕ) (text after : List ℕ) (past : ℕ) : Type 0 where
+  pub table : after ≡ sets before at text
+  pub end : past ≡ at + length text
+
+-- there is room for the text from the offset on
+pub record Fits (out : List ℕ) (at : ℕ) (text : List ℕ) : Type 0 where
+  pub room : at + length text ≤ length out
