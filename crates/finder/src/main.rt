@@ -1,0 +1,103 @@
+// The report program: reads `pattern.cir` and `board.cir` in the folder it is run in, an absent file as an empty one, and prints the report.
+// Where a file is there and cannot be read, it says so in one line and prints nothing else.
+use files::Board;
+use files::Pattern;
+use reporting::ReportAnswer;
+use reporting::report;
+ghost use Rattle.io.specs.Counts.{Counts};
+
+// A byte more than the longest file that is accepted in each role: what is cut off there is refused as the whole file is, by its header or
+// its length.
+const PATTERN_BYTES: usize = 4 + 2 * Pattern::MAX_NODES + 4 * Pattern::MAX_LINKS + 1;
+
+const BOARD_BYTES: usize = 4 + 2 * Board::MAX_NODES + 4 * Board::MAX_LINKS + 1;
+
+// What is put at a time; a longer report takes further pieces.
+const PIECE_BYTES: usize = 262144;
+
+// What became of reading a file: whether it could be read, and how many of its bytes stand at the front of the buffer.
+struct Held {
+    is_read: bool,
+    size: usize,
+}
+
+// Reads from an open file until the buffer is full or the file ends. A read that fails is told from the end by one read more.
+fn fill(fd: i32, buf: &mut [u8]) -> Held
+    ensures { λ r. ⌜ Counts (r .size) (now (buf .exit)) ⌝ }
+{
+    let size = io::read_full(fd, buf);
+    if size == buf.len() {
+        return Held {
+            is_read: true,
+            size,
+        };
+    }
+    let mut more = [0u8; 1];
+    let is_read = libc::read(fd, &mut more) == 0;
+    Held { is_read, size }
+}
+
+// The bytes of a file by its name, none where it is absent.
+fn load(name: &[u8], buf: &mut [u8]) -> Held
+    ensures { λ r. ⌜ Counts (r .size) (now (buf .exit)) ⌝ }
+{
+    let fd = os::open_read(name);
+    if fd < 0 {
+        return Held {
+            is_read: os::errno() == libc::ENOENT,
+            size: 0,
+        };
+    }
+    let held = fill(fd, buf);
+    libc::close(fd);
+    held
+}
+
+fn cannot_read(name: &[u8]) {
+    io::write_all(1, b"cannot read ");
+    io::write_all(1, name);
+    io::write_all(1, b"\n");
+}
+
+// Prints the report piece by piece, by way of the buffer, until nothing is left of it.
+fn print_report(pattern: &[u8], board: &[u8], out: &mut [u8]) {
+    let mut from: usize = 0;
+    let mut found: u16 = 0;
+    loop {
+        let answer = report(pattern, board, from, found, out);
+        let ReportAnswer::Put(part) = answer else {
+            return;
+        };
+        let size = part.size;
+        if size == 0 {
+            return;
+        }
+        io::write_all(1, &out[..size]);
+        from = part.next;
+        found = part.found as u16;
+    }
+}
+
+// The buffers are lent whole, so that their bytes are not looked at one by one in the proof.
+fn run(pattern: &mut [u8], board: &mut [u8], out: &mut [u8]) {
+    let first = load(b"pattern.cir", pattern);
+    if !first.is_read {
+        cannot_read(b"pattern.cir");
+        return;
+    }
+    let second = load(b"board.cir", board);
+    if !second.is_read {
+        cannot_read(b"board.cir");
+        return;
+    }
+    let parts = first.size;
+    let nodes = second.size;
+    print_report(&pattern[..parts], &board[..nodes], out);
+}
+
+fn main() {
+    let mut pattern = [0u8; PATTERN_BYTES];
+    let mut board = [0u8; BOARD_BYTES];
+    let mut out = [0u8; PIECE_BYTES];
+    run(&mut pattern, &mut board, &mut out);
+}

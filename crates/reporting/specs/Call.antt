@@ -1,0 +1,104 @@
+-- The report call, whole: its reply and the buffer's later content, from the inputs alone. A report may be far longer than a buffer, so it is
+-- put piece by piece: a call puts the lines of the centres from a centre on, as long as there is room for the longest line, and answers
+-- where to go on. proofs/Promise shows that the pieces, one after another, are the report.
+use mathlib.Core.Bool.{Bool, _&&_, not, cond}
+use mathlib.Core.List.{List, [], _∷_, _++_}
+use Prim.Native.Nat.{ℕ, suc, _+_, _-_}
+use lib.Dec.{eqb, leb}
+use lib.ListN.{length}
+use Rattle.lists.specs.Below.{countBelow, leastBelow, concatBelow}
+use Rattle.graph.specs.Circuit.{Circuit}
+use Rattle.files.specs.declared.Refusal.{Refusal}
+use Rattle.files.specs.declared.Role.the-variants.{Pattern, Board}
+use Rattle.files.specs.Circuit.{circuitOf}
+use Rattle.files.specs.Reading.{filled}
+use Rattle.files.specs.Refusals.{Verdict, accept, refuse, first, fileConditions, shortTable}
+use Rattle.files.specs.Reply.{Reply, reply}
+use Rattle.report.specs.Lines.{longestLine}
+use Rattle.report.specs.Report.{hasPlace, centreLine, endLine, refusalLine}
+use Rattle.reporting.specs.declared.ReportAnswer.{ReportAnswer}
+use Rattle.reporting.specs.declared.ReportAnswer.the-variants as answer
+
+-- ---- the lines of some centres
+
+-- the lines of j centres from a centre on, and how many of those have a place
+unfoldable pub linesFrom : Circuit → Circuit → ℕ → ℕ → List ℕ
+linesFrom pattern board from j = concatBelow j (λ i. centreLine pattern board (from + i))
+
+unfoldable pub placesFrom : Circuit → Circuit → ℕ → ℕ → ℕ
+placesFrom pattern board from j = countBelow j (λ i. hasPlace pattern board (from + i))
+
+-- after so many bytes there is room for the longest line
+abbrev pub roomy : ℕ → ℕ → Bool
+roomy room size = leb (size + longestLine) room
+
+-- how many lines are put: those of the centres that are left, or fewer, where before one of them there is not room for the longest line
+unfoldable pub linesTaken : Circuit → Circuit → ℕ → ℕ → ℕ
+linesTaken pattern board from room =
+    leastBelow (length (board .kinds) - from) (λ j. not (roomy room (length (linesFrom pattern board from j))))
+
+-- ---- pieces of the report
+
+-- a piece: its text, where to go on after it, and how many centres before that one have a place
+pub record Piece : Type 0 where
+  pub text : List ℕ
+  pub next : ℕ
+  pub found : ℕ
+
+-- the lines that there is room for, from a centre before which some centres had a place
+unfoldable pub centresPiece : Circuit → Circuit → ℕ → ℕ → ℕ → Piece
+centresPiece pattern board from found room =
+    let j = linesTaken pattern board from room in
+    record { text = linesFrom pattern board from j; next = from + j; found = found + placesFrom pattern board from j }
+
+-- the last line follows: N is reached, and there is room for the longest line
+unfoldable pub ends : ℕ → ℕ → ℕ → ℕ → Bool
+ends n room next size = eqb next n && roomy room size
+
+-- the piece with the last line, where that follows; N + 1 is past the end
+unfoldable pub closed : ℕ → ℕ → Piece → Piece
+closed n room p =
+    cond (ends n room (p .next) (length (p .text)))
+    (record { text = p .text ++ endLine (p .found) n; next = suc n; found = p .found })
+    p
+
+-- the piece of a pattern and a board
+unfoldable pub linesPiece : Circuit → Circuit → ℕ → ℕ → ℕ → Piece
+linesPiece pattern board from found room = closed (length (board .kinds)) room (centresPiece pattern board from found room)
+
+-- "A refused file gives one line": that is the whole report
+unfoldable pub refusalPiece : Refusal → ℕ → ℕ → Piece
+refusalPiece x from found =
+    cond (eqb from 0) (record { text = refusalLine x; next = 1; found = found }) (record { text = []; next = from; found = found })
+
+-- whether a file is refused; "the pattern's 1 to 6 before the board's"
+abbrev pub verdictOf : List ℕ → List ℕ → Verdict
+verdictOf pattern board = first (fileConditions Pattern pattern ++ fileConditions Board board)
+
+-- the piece of two files, by that
+unfoldable pub pieceFor : Verdict → Circuit → Circuit → ℕ → ℕ → ℕ → Piece
+pieceFor accept pattern board from found room = linesPiece pattern board from found room
+pieceFor (refuse x) pattern board from found room = refusalPiece x from found
+
+unfoldable pub pieceOf : List ℕ → List ℕ → ℕ → ℕ → ℕ → Piece
+pieceOf pattern board from found room = pieceFor (verdictOf pattern board) (circuitOf pattern) (circuitOf board) from found room
+
+-- ---- the call
+
+-- number and values of each case of the answer: where to go on, how many centres had a place, and how many bytes were put
+unfoldable pub reportReply : ReportAnswer → Reply
+reportReply (answer.Put part) = record { verdict = accept; values = part .next ∷ part .found ∷ part .size ∷ [] }
+reportReply (answer.Refused x) = record { verdict = refuse x; values = [] }
+
+-- the reply, and the buffer as the call leaves it
+pub record ReportOutcome : Type 0 where
+  pub reply : Reply
+  pub out : List ℕ
+
+-- Only a buffer that is too short for the longest line is refused, by 8; what a refused file comes to is text. Bytes after the piece keep
+-- their content.
+unfoldable pub reporting : List ℕ → List ℕ → ℕ → ℕ → List ℕ → ReportOutcome
+reporting pattern board from found out =
+    let verdict = first (shortTable longestLine (length out) ∷ []) in
+    let p = pieceOf pattern board from found (length out) in
+    record { reply = reply verdict (p .next ∷ p .found ∷ length (p .text) ∷ []); out = filled verdict (p .text) out }

@@ -1,0 +1,128 @@
+// The report call: the report of a pattern file on a board file, put piece by piece into a lent buffer.
+use crate::circuits::put_piece;
+use files::Board;
+use files::File;
+use files::Pattern;
+use files::ReadAnswer;
+use files::Refusal;
+use files::Role;
+use report::lines::put_refusal;
+ghost use mathlib.Core.Path.{_≡_};
+ghost use Prim.Native.Nat.{_≤_};
+ghost use lib.ListN.{length};
+ghost use Rattle.report.specs.Lines.{longestLine};
+ghost use Rattle.reporting.specs.Call.{refusalPiece, pieceOf, reportReply, reporting};
+ghost use Rattle.reporting.specs.Pieces.{Wrote};
+
+pub mod centres;
+pub mod circuits;
+
+// No line of a report is longer: a buffer has to be as long, and a line is put where so many bytes are left.
+pub const LONGEST: usize = 34829;
+
+// A piece that was put: where to go on, how many centres before that one have a place, and how many bytes the piece has.
+pub struct Part {
+    pub next: usize,
+    pub found: usize,
+    pub size: usize,
+}
+
+// What the call comes to: a piece of the report, or why it was turned away.
+pub enum ReportAnswer {
+    Put(Part),
+    Refused(Refusal),
+}
+
+// The line of a refused file, which is the whole report.
+fn put_refused(x: Refusal, from: usize, found: u16, out: &mut [u8]) -> Part
+    requires { ⌜ longestLine ≤ length (now out) ⌝ }
+    ensures { λ r. ⌜ Wrote (now (out .entry)) (refusalPiece x from found) (now (out .exit)) r ⌝ }
+{
+    let count = found as usize;
+    if from != 0 {
+        return Part {
+            next: from,
+            found: count,
+            size: 0,
+        };
+    }
+    let size = put_refusal(x, out, 0);
+    Part {
+        next: 1,
+        found: count,
+        size,
+    }
+}
+
+// The call with tables for the two circuits, and a buffer that is long enough.
+fn report_in(
+    pattern: &[u8],
+    board: &[u8],
+    from: usize,
+    found: u16,
+    out: &mut [u8],
+    pk: &mut [u16],
+    ps: &mut [u16],
+    pe: &mut [u16],
+    nk: &mut [u16],
+    ns: &mut [u16],
+    ne: &mut [u16],
+) -> Part
+    requires { ⌜ longestLine ≤ length (now out) ⌝ }
+    requires { ⌜ (32 ≤ length (now pk)) × (256 ≤ length (now ps)) × (256 ≤ length (now pe)) ⌝ }
+    requires { ⌜ (512 ≤ length (now nk)) × (4096 ≤ length (now ns)) × (4096 ≤ length (now ne)) ⌝ }
+    ensures { λ r. ⌜ Wrote (now (out .entry)) (pieceOf (now (pattern .entry)) (now (board .entry)) from found (length (now (out .entry)))) (now (out .exit)) r ⌝ }
+{
+    let drawn = files::read(Role::Pattern, pattern, pk, ps, pe);
+    let ReadAnswer::Read(parts, joins) = drawn else {
+        return put_refused(files::refusal_of(drawn), from, found, out);
+    };
+    let given = files::read(Role::Board, board, nk, ns, ne);
+    let ReadAnswer::Read(n, m) = given else {
+        return put_refused(files::refusal_of(given), from, found, out);
+    };
+    put_piece(
+        &pk[..parts],
+        &ps[..joins],
+        &pe[..joins],
+        &nk[..n],
+        &ns[..m],
+        &ne[..m],
+        from,
+        found,
+        out,
+    )
+}
+
+// A piece of the report, from the centre `from` on, before which `found` centres had a place, at the front of the buffer: the lines of as
+// many centres as there is room for, and the last line where the centres are done; the first piece is from 0 with 0 found. Nothing is put
+// exactly when the report is at its end. A buffer that is too short for the longest line is refused, and left as it was.
+pub fn report(pattern: &[u8], board: &[u8], from: usize, found: u16, out: &mut [u8]) -> ReportAnswer
+    ensures { λ a. ⌜ record { reply = reportReply a; out = now (out .exit) } ≡ reporting (now (pattern .entry)) (now (board .entry)) from found (now (out .entry)) ⌝ }
+{
+    if out.len() < LONGEST {
+        return ReportAnswer::Refused(Refusal {
+            number: 8,
+            file: File::Neither,
+        });
+    }
+    let mut pk = [0u16; Pattern::MAX_NODES];
+    let mut ps = [0u16; Pattern::MAX_LINKS];
+    let mut pe = [0u16; Pattern::MAX_LINKS];
+    let mut nk = [0u16; Board::MAX_NODES];
+    let mut ns = [0u16; Board::MAX_LINKS];
+    let mut ne = [0u16; Board::MAX_LINKS];
+    ReportAnswer::Put(report_in(
+        pattern,
+        board,
+        from,
+        found,
+        out,
+        &mut pk,
+        &mut ps,
+        &mut pe,
+        &mut nk,
+        &mut ns,
+        &mut ne,
+    ))
+}
