@@ -1,0 +1,344 @@
+//! The host library as a finder.
+
+use std::ptr::{null, null_mut};
+
+use second::calls::PlaceTables;
+use second::circuit::Role;
+use second::compare::finder::{Finder, Words};
+
+/// The reply of the calls without counts.
+#[repr(C)]
+struct Reply {
+    number: u32,
+    file: u32,
+    first: usize,
+    second: usize,
+}
+
+/// The reply of the calls with counts.
+#[repr(C)]
+struct Counts {
+    number: u32,
+    file: u32,
+    started: u32,
+    kept: u32,
+    struck: u32,
+    rounds: u32,
+}
+
+/// Reads a file in one role.
+type Read = unsafe extern "C" fn(
+    *const u8,
+    usize,
+    *mut u16,
+    usize,
+    *mut u16,
+    usize,
+    *mut u16,
+    usize,
+) -> Reply;
+
+/// Writes a file in one role.
+type Write = unsafe extern "C" fn(
+    *const u16,
+    usize,
+    *const u16,
+    usize,
+    *const u16,
+    usize,
+    *mut u8,
+    usize,
+) -> Reply;
+
+extern "C" {
+    fn heronditch_read_pattern(
+        file: *const u8,
+        file_length: usize,
+        kinds: *mut u16,
+        kinds_length: usize,
+        starts: *mut u16,
+        starts_length: usize,
+        ends: *mut u16,
+        ends_length: usize,
+    ) -> Reply;
+    fn heronditch_read_board(
+        file: *const u8,
+        file_length: usize,
+        kinds: *mut u16,
+        kinds_length: usize,
+        starts: *mut u16,
+        starts_length: usize,
+        ends: *mut u16,
+        ends_length: usize,
+    ) -> Reply;
+    fn heronditch_write_pattern(
+        kinds: *const u16,
+        kinds_length: usize,
+        starts: *const u16,
+        starts_length: usize,
+        ends: *const u16,
+        ends_length: usize,
+        out: *mut u8,
+        out_length: usize,
+    ) -> Reply;
+    fn heronditch_write_board(
+        kinds: *const u16,
+        kinds_length: usize,
+        starts: *const u16,
+        starts_length: usize,
+        ends: *const u16,
+        ends_length: usize,
+        out: *mut u8,
+        out_length: usize,
+    ) -> Reply;
+    fn heronditch_radius(pattern: *const u8, pattern_length: usize) -> Reply;
+    fn heronditch_ball(
+        board: *const u8,
+        board_length: usize,
+        centre: usize,
+        radius: u16,
+        out: *mut u8,
+        out_length: usize,
+    ) -> Reply;
+    fn heronditch_match(
+        pattern: *const u8,
+        pattern_length: usize,
+        board: *const u8,
+        board_length: usize,
+        table: *mut u32,
+        table_length: usize,
+    ) -> Counts;
+    fn heronditch_place(
+        pattern: *const u8,
+        pattern_length: usize,
+        board: *const u8,
+        board_length: usize,
+        centre: usize,
+        nodes: *mut u8,
+        nodes_length: usize,
+        links: *mut u8,
+        links_length: usize,
+        table: *mut u32,
+        table_length: usize,
+    ) -> Counts;
+    fn heronditch_place_within(
+        pattern: *const u8,
+        pattern_length: usize,
+        board: *const u8,
+        board_length: usize,
+        centre: usize,
+        radius: u16,
+        nodes: *mut u8,
+        nodes_length: usize,
+        links: *mut u8,
+        links_length: usize,
+        table: *mut u32,
+        table_length: usize,
+    ) -> Counts;
+    fn heronditch_merge(
+        pattern: *const u8,
+        pattern_length: usize,
+        classes: *mut u8,
+        classes_length: usize,
+        out: *mut u8,
+        out_length: usize,
+    ) -> Reply;
+}
+
+impl Reply {
+    fn words(self) -> Words {
+        let word = |value: usize| u32::try_from(value).expect("a value above 32 bits");
+        [
+            self.number,
+            self.file,
+            word(self.first),
+            word(self.second),
+            0,
+            0,
+        ]
+    }
+}
+
+impl Counts {
+    fn words(self) -> Words {
+        [
+            self.number,
+            self.file,
+            self.started,
+            self.kept,
+            self.struck,
+            self.rounds,
+        ]
+    }
+}
+
+/// A slice's pointer. An empty one crosses as a null pointer, as a C program
+/// may well hand it over.
+fn given<T>(slice: &[T]) -> *const T {
+    if slice.is_empty() {
+        null()
+    } else {
+        slice.as_ptr()
+    }
+}
+
+/// A lent slice's pointer, null like the one above when it is empty.
+fn lent<T>(slice: &mut [T]) -> *mut T {
+    if slice.is_empty() {
+        null_mut()
+    } else {
+        slice.as_mut_ptr()
+    }
+}
+
+/// The host library. Every slice crosses as its own pointer and length, which
+/// is all that makes the calls below sound.
+pub struct Host;
+
+impl Finder for Host {
+    fn read(
+        &self,
+        role: Role,
+        file: &[u8],
+        kinds: &mut [u16],
+        starts: &mut [u16],
+        ends: &mut [u16],
+    ) -> Words {
+        let read: Read = match role {
+            Role::Pattern => heronditch_read_pattern,
+            Role::Board => heronditch_read_board,
+        };
+        unsafe {
+            read(
+                given(file),
+                file.len(),
+                lent(kinds),
+                kinds.len(),
+                lent(starts),
+                starts.len(),
+                lent(ends),
+                ends.len(),
+            )
+        }
+        .words()
+    }
+
+    fn write(
+        &self,
+        role: Role,
+        kinds: &[u16],
+        starts: &[u16],
+        ends: &[u16],
+        out: &mut [u8],
+    ) -> Words {
+        let write: Write = match role {
+            Role::Pattern => heronditch_write_pattern,
+            Role::Board => heronditch_write_board,
+        };
+        unsafe {
+            write(
+                given(kinds),
+                kinds.len(),
+                given(starts),
+                starts.len(),
+                given(ends),
+                ends.len(),
+                lent(out),
+                out.len(),
+            )
+        }
+        .words()
+    }
+
+    fn radius(&self, pattern: &[u8]) -> Words {
+        unsafe { heronditch_radius(given(pattern), pattern.len()) }.words()
+    }
+
+    fn ball(&self, board: &[u8], centre: usize, radius: u16, out: &mut [u8]) -> Words {
+        unsafe {
+            heronditch_ball(
+                given(board),
+                board.len(),
+                centre,
+                radius,
+                lent(out),
+                out.len(),
+            )
+        }
+        .words()
+    }
+
+    fn match_table(&self, pattern: &[u8], board: &[u8], table: &mut [u32]) -> Words {
+        unsafe {
+            heronditch_match(
+                given(pattern),
+                pattern.len(),
+                given(board),
+                board.len(),
+                lent(table),
+                table.len(),
+            )
+        }
+        .words()
+    }
+
+    fn place(&self, pattern: &[u8], board: &[u8], centre: usize, out: PlaceTables) -> Words {
+        unsafe {
+            heronditch_place(
+                given(pattern),
+                pattern.len(),
+                given(board),
+                board.len(),
+                centre,
+                lent(out.nodes),
+                out.nodes.len(),
+                lent(out.links),
+                out.links.len(),
+                lent(out.table),
+                out.table.len(),
+            )
+        }
+        .words()
+    }
+
+    fn place_within(
+        &self,
+        pattern: &[u8],
+        board: &[u8],
+        centre: usize,
+        radius: u16,
+        out: PlaceTables,
+    ) -> Words {
+        unsafe {
+            heronditch_place_within(
+                given(pattern),
+                pattern.len(),
+                given(board),
+                board.len(),
+                centre,
+                radius,
+                lent(out.nodes),
+                out.nodes.len(),
+                lent(out.links),
+                out.links.len(),
+                lent(out.table),
+                out.table.len(),
+            )
+        }
+        .words()
+    }
+
+    fn merge(&self, pattern: &[u8], classes: &mut [u8], out: &mut [u8]) -> Words {
+        unsafe {
+            heronditch_merge(
+                given(pattern),
+                pattern.len(),
+                lent(classes),
+                classes.len(),
+                lent(out),
+                out.len(),
+            )
+        }
+        .words()
+    }
+}

@@ -1,0 +1,248 @@
+//! The calls with their replies and lent tables. Every call first works out
+//! its whole result or a refusal, and only then fills what was lent; entries
+//! past those needed keep their content.
+
+use crate::circuit::{both, gather, parse, Circuit, File, Refusal, Role};
+use crate::graph::{ball as ball_of, radius as radius_of, Subgraph};
+use crate::merged::merged;
+use crate::place::{place as place_of, Place};
+use crate::simulation::{largest, Counts};
+
+/// The reply of a call without counts: number 0 when accepted, and up to two
+/// values, 0 where there is none.
+#[derive(Clone, Copy, Debug, PartialEq, Eq)]
+pub struct Reply {
+    pub number: u32,
+    pub file: File,
+    pub first: usize,
+    pub second: usize,
+}
+
+impl Reply {
+    /// An accepted call's reply.
+    fn accepted(first: usize, second: usize) -> Reply {
+        Reply {
+            number: 0,
+            file: File::Neither,
+            first,
+            second,
+        }
+    }
+}
+
+impl From<Refusal> for Reply {
+    fn from(refusal: Refusal) -> Reply {
+        Reply {
+            number: refusal.number,
+            file: refusal.file,
+            first: 0,
+            second: 0,
+        }
+    }
+}
+
+/// The reply of a call with counts: number 0 when accepted.
+#[derive(Clone, Copy, Debug, PartialEq, Eq)]
+pub struct Counted {
+    pub number: u32,
+    pub file: File,
+    pub counts: Counts,
+}
+
+impl Counted {
+    /// An accepted call's reply.
+    fn accepted(counts: Counts) -> Counted {
+        Counted {
+            number: 0,
+            file: File::Neither,
+            counts,
+        }
+    }
+}
+
+impl From<Refusal> for Counted {
+    fn from(refusal: Refusal) -> Counted {
+        Counted {
+            number: refusal.number,
+            file: refusal.file,
+            counts: Counts::default(),
+        }
+    }
+}
+
+/// The one of two replies that the call came to.
+fn either<R: From<Refusal>>(result: Result<R, Refusal>) -> R {
+    result.unwrap_or_else(R::from)
+}
+
+/// Refusal 8 unless every lent table is as long as needed.
+fn long_enough(lent_and_needed: &[(usize, usize)]) -> Result<(), Refusal> {
+    if lent_and_needed.iter().any(|(lent, needed)| lent < needed) {
+        return Err(Refusal::neither(8));
+    }
+    Ok(())
+}
+
+/// Fills the first entries of a lent table.
+fn fill<T>(table: &mut [T], values: impl IntoIterator<Item = T>) {
+    for (entry, value) in table.iter_mut().zip(values) {
+        *entry = value;
+    }
+}
+
+/// A number that its definition keeps below 2^16, as a 16-bit field.
+fn field(number: usize) -> u16 {
+    u16::try_from(number).expect("a 16-bit number")
+}
+
+/// Reads a file in a role; replies with N and M.
+pub fn read(
+    role: Role,
+    file: &[u8],
+    kinds: &mut [u16],
+    starts: &mut [u16],
+    ends: &mut [u16],
+) -> Reply {
+    either(parse(role, file).and_then(|circuit| {
+        let (n, m) = (circuit.kinds.len(), circuit.links.len());
+        long_enough(&[(kinds.len(), n), (starts.len(), m), (ends.len(), m)])?;
+        fill(kinds, circuit.kinds.iter().copied());
+        fill(starts, circuit.links.iter().map(|link| field(link.0)));
+        fill(ends, circuit.links.iter().map(|link| field(link.1)));
+        Ok(Reply::accepted(n, m))
+    }))
+}
+
+/// Writes a file in a role; replies with its length.
+pub fn write(role: Role, kinds: &[u16], starts: &[u16], ends: &[u16], out: &mut [u8]) -> Reply {
+    either(gather(role, kinds, starts, ends).and_then(|circuit| {
+        let bytes = circuit.bytes();
+        long_enough(&[(out.len(), bytes.len())])?;
+        out[..bytes.len()].copy_from_slice(&bytes);
+        Ok(Reply::accepted(bytes.len(), 0))
+    }))
+}
+
+/// Replies with a pattern's radius.
+pub fn radius(pattern: &[u8]) -> Reply {
+    either(parse(Role::Pattern, pattern).map(|circuit| Reply::accepted(radius_of(&circuit), 0)))
+}
+
+/// Fills a byte per board node, 1 inside the ball; replies with N.
+pub fn ball(board: &[u8], centre: usize, radius: u16, out: &mut [u8]) -> Reply {
+    either(parse(Role::Board, board).and_then(|board| {
+        let n = board.kinds.len();
+        inside(centre, &board)?;
+        long_enough(&[(out.len(), n)])?;
+        let ball = ball_of(&board, centre, radius.into());
+        fill(out, ball.nodes.into_iter().map(u8::from));
+        Ok(Reply::accepted(n, 0))
+    }))
+}
+
+/// Refusal 7 unless the centre is a node of the board.
+fn inside(centre: usize, board: &Circuit) -> Result<(), Refusal> {
+    if centre >= board.kinds.len() {
+        return Err(Refusal::neither(7));
+    }
+    Ok(())
+}
+
+/// Fills the match table on the whole board; replies with the counts.
+pub fn match_table(pattern: &[u8], board: &[u8], table: &mut [u32]) -> Counted {
+    either(both(pattern, board).and_then(|(pattern, board)| {
+        let n = board.kinds.len();
+        long_enough(&[(table.len(), n)])?;
+        let (pairs, counts) = largest(&pattern, &board, &Subgraph::whole(&board));
+        fill(table, (0..n).map(|v| pairs.word(v)));
+        Ok(Counted::accepted(counts))
+    }))
+}
+
+/// What the two place calls fill: a byte per board node, a byte per board
+/// link, and the table over the place's nodes.
+pub struct PlaceTables<'a> {
+    pub nodes: &'a mut [u8],
+    pub links: &'a mut [u8],
+    pub table: &'a mut [u32],
+}
+
+impl PlaceTables<'_> {
+    /// Refusal 8 unless all three are long enough for the board.
+    fn long_enough(&self, board: &Circuit) -> Result<(), Refusal> {
+        let (n, m) = (board.kinds.len(), board.links.len());
+        let (nodes, links, table) = (self.nodes.len(), self.links.len(), self.table.len());
+        long_enough(&[(nodes, n), (links, m), (table, n)])
+    }
+
+    /// Fills all three.
+    fn fill(self, place: Place) {
+        fill(self.nodes, place.graph.nodes.into_iter().map(u8::from));
+        fill(self.links, place.graph.links.into_iter().map(u8::from));
+        fill(self.table, place.table);
+    }
+}
+
+/// The place around a centre at the pattern's radius.
+pub fn place(pattern: &[u8], board: &[u8], centre: usize, out: PlaceTables) -> Counted {
+    either(
+        both(pattern, board)
+            .and_then(|(pattern, board)| found(&pattern, &board, centre, radius_of(&pattern), out)),
+    )
+}
+
+/// The place around a centre at a radius given.
+pub fn place_within(
+    pattern: &[u8],
+    board: &[u8],
+    centre: usize,
+    radius: u16,
+    out: PlaceTables,
+) -> Counted {
+    either(
+        both(pattern, board)
+            .and_then(|(pattern, board)| found(&pattern, &board, centre, radius.into(), out)),
+    )
+}
+
+/// Refusals 7 and 8, then the place, or 9 with the ball's counts.
+fn found(
+    pattern: &Circuit,
+    board: &Circuit,
+    centre: usize,
+    radius: usize,
+    out: PlaceTables,
+) -> Result<Counted, Refusal> {
+    inside(centre, board)?;
+    out.long_enough(board)?;
+    let (place, counts) = place_of(pattern, board, centre, radius);
+    let Some(place) = place else {
+        return Ok(Counted {
+            number: 9,
+            file: File::Neither,
+            counts,
+        });
+    };
+    out.fill(place);
+    Ok(Counted::accepted(counts))
+}
+
+/// Fills the class of each part and the merged file; replies with the number
+/// of classes and that file's length.
+pub fn merge(pattern: &[u8], classes: &mut [u8], out: &mut [u8]) -> Reply {
+    either(parse(Role::Pattern, pattern).and_then(|circuit| {
+        long_enough(&[
+            (classes.len(), circuit.kinds.len()),
+            (out.len(), pattern.len()),
+        ])?;
+        let (class, merged) = merged(&circuit);
+        let bytes = merged.bytes();
+        let (count, length) = (merged.kinds.len(), bytes.len());
+        fill(
+            classes,
+            class.into_iter().map(|c| u8::try_from(c).expect("a byte")),
+        );
+        fill(out, bytes);
+        Ok(Reply::accepted(count, length))
+    }))
+}

@@ -1,0 +1,297 @@
+//! A call as a value: what is handed over, how long the lent tables are, and
+//! what the call came to.
+
+use std::fmt;
+
+use super::finder::{Finder, Words};
+use crate::calls::PlaceTables;
+use crate::circuit::{Circuit, Role};
+use crate::random::Random;
+
+/// One call with all it is given but the lent tables.
+#[derive(Clone, Copy)]
+pub enum Call<'a> {
+    Read {
+        role: Role,
+        file: &'a [u8],
+    },
+    Write {
+        role: Role,
+        kinds: &'a [u16],
+        starts: &'a [u16],
+        ends: &'a [u16],
+    },
+    Radius {
+        pattern: &'a [u8],
+    },
+    Ball {
+        board: &'a [u8],
+        centre: usize,
+        radius: u16,
+    },
+    Match {
+        pattern: &'a [u8],
+        board: &'a [u8],
+    },
+    Place {
+        pattern: &'a [u8],
+        board: &'a [u8],
+        centre: usize,
+    },
+    PlaceWithin {
+        pattern: &'a [u8],
+        board: &'a [u8],
+        centre: usize,
+        radius: u16,
+    },
+    Merge {
+        pattern: &'a [u8],
+    },
+}
+
+/// N and M as a file's first four bytes have them, 0 where it is shorter, and
+/// cut down where no accepted file has so many.
+fn sizes(file: &[u8]) -> (usize, usize) {
+    let [n_low, n_high, m_low, m_high, ..] = *file else {
+        return (0, 0);
+    };
+    let n = u16::from_le_bytes([n_low, n_high]);
+    let m = u16::from_le_bytes([m_low, m_high]);
+    (usize::from(n).min(520), usize::from(m).min(4100))
+}
+
+impl Call<'_> {
+    /// The call's name in the host library, without its first word.
+    pub fn name(&self) -> &'static str {
+        match self {
+            Call::Read { role, .. } if *role == Role::Pattern => "read_pattern",
+            Call::Read { .. } => "read_board",
+            Call::Write { role, .. } if *role == Role::Pattern => "write_pattern",
+            Call::Write { .. } => "write_board",
+            Call::Radius { .. } => "radius",
+            Call::Ball { .. } => "ball",
+            Call::Match { .. } => "match",
+            Call::Place { .. } => "place",
+            Call::PlaceWithin { .. } => "place_within",
+            Call::Merge { .. } => "merge",
+        }
+    }
+
+    /// How long each lent table has to be, as far as the sizes tell.
+    pub fn needed(&self) -> Vec<usize> {
+        match *self {
+            Call::Read { file, .. } => {
+                let (n, m) = sizes(file);
+                vec![n, m, m]
+            }
+            Call::Write { kinds, starts, .. } => {
+                vec![Circuit::length(
+                    kinds.len().min(520),
+                    starts.len().min(4100),
+                )]
+            }
+            Call::Radius { .. } => vec![],
+            Call::Ball { board, .. } | Call::Match { board, .. } => vec![sizes(board).0],
+            Call::Place { board, .. } | Call::PlaceWithin { board, .. } => {
+                let (n, m) = sizes(board);
+                vec![n, m, n]
+            }
+            Call::Merge { pattern } => {
+                let (n, m) = sizes(pattern);
+                vec![n, Circuit::length(n, m)]
+            }
+        }
+    }
+}
+
+/// Bytes in hexadecimal.
+struct Hex<'a>(&'a [u8]);
+
+impl fmt::Display for Hex<'_> {
+    fn fmt(&self, f: &mut fmt::Formatter) -> fmt::Result {
+        self.0.iter().try_for_each(|byte| write!(f, "{byte:02x}"))
+    }
+}
+
+impl fmt::Display for Call<'_> {
+    fn fmt(&self, f: &mut fmt::Formatter) -> fmt::Result {
+        write!(f, "call {}", self.name())?;
+        match *self {
+            Call::Read { file, .. } => write!(f, "\nfile {}", Hex(file)),
+            Call::Write {
+                kinds,
+                starts,
+                ends,
+                ..
+            } => write!(f, "\nkinds {kinds:?}\nstarts {starts:?}\nends {ends:?}"),
+            Call::Radius { pattern } | Call::Merge { pattern } => {
+                write!(f, "\npattern {}", Hex(pattern))
+            }
+            Call::Ball {
+                board,
+                centre,
+                radius,
+            } => write!(f, " centre {centre} radius {radius}\nboard {}", Hex(board)),
+            Call::Match { pattern, board } => both(f, pattern, board),
+            Call::Place {
+                pattern,
+                board,
+                centre,
+            } => {
+                write!(f, " centre {centre}")?;
+                both(f, pattern, board)
+            }
+            Call::PlaceWithin {
+                pattern,
+                board,
+                centre,
+                radius,
+            } => {
+                write!(f, " centre {centre} radius {radius}")?;
+                both(f, pattern, board)
+            }
+        }
+    }
+}
+
+/// A line for each of two files.
+fn both(f: &mut fmt::Formatter, pattern: &[u8], board: &[u8]) -> fmt::Result {
+    write!(f, "\npattern {}\nboard {}", Hex(pattern), Hex(board))
+}
+
+/// How long each lent table is, and what they are filled with: entry by entry
+/// the draws of a generator.
+#[derive(Clone)]
+pub struct Lent {
+    pub lengths: Vec<usize>,
+    pub filling: u64,
+}
+
+impl fmt::Display for Lent {
+    fn fmt(&self, f: &mut fmt::Formatter) -> fmt::Result {
+        write!(f, "{:?}, filling {}", self.lengths, self.filling)
+    }
+}
+
+impl Lent {
+    /// A table as it is lent: its length and filling, cut to the entry's type.
+    fn table<T>(&self, number: usize, cut: fn(u64) -> T) -> Vec<T> {
+        let mut random = Random::of_case(self.filling, number as u64);
+        let entries = 0..self.lengths[number];
+        entries.map(|_| cut(random.draw())).collect()
+    }
+
+    fn bytes(&self, number: usize) -> Vec<u8> {
+        self.table(number, |bits| bits as u8)
+    }
+
+    fn fields(&self, number: usize) -> Vec<u16> {
+        self.table(number, |bits| bits as u16)
+    }
+
+    fn words(&self, number: usize) -> Vec<u32> {
+        self.table(number, |bits| bits as u32)
+    }
+}
+
+/// What a call came to: its reply and the later content of each lent table.
+#[derive(Clone, PartialEq, Eq)]
+pub struct Outcome {
+    pub reply: Words,
+    pub tables: Vec<Vec<u32>>,
+}
+
+impl Outcome {
+    /// The reply in words.
+    pub fn told(&self) -> String {
+        let [number, file, a, b, c, d] = self.reply;
+        let file = ["neither", "pattern", "board"].get(file as usize);
+        let file = file.unwrap_or(&"a file of no such number");
+        format!("number {number}, {file}, values {a} {b} {c} {d}")
+    }
+
+    /// The first entry of a table that differs, in words.
+    pub fn first_difference(&self, other: &Outcome) -> String {
+        let tables = self.tables.iter().zip(&other.tables).enumerate();
+        for (number, (one, two)) in tables {
+            if let Some(at) = one.iter().zip(two).position(|(a, b)| a != b) {
+                let (a, b) = (one[at], two[at]);
+                return format!("\ntable {number}, entry {at}: finder {a}, second {b}");
+            }
+        }
+        String::new()
+    }
+}
+
+/// A table's entries as 32-bit numbers.
+fn wide<T: Into<u32>>(table: Vec<T>) -> Vec<u32> {
+    table.into_iter().map(Into::into).collect()
+}
+
+/// Runs a call with freshly filled tables.
+pub fn run(finder: &dyn Finder, call: &Call, lent: &Lent) -> Outcome {
+    let (reply, tables) = match *call {
+        Call::Read { role, file } => {
+            let (mut a, mut b, mut c) = (lent.fields(0), lent.fields(1), lent.fields(2));
+            let reply = finder.read(role, file, &mut a, &mut b, &mut c);
+            (reply, vec![wide(a), wide(b), wide(c)])
+        }
+        Call::Write {
+            role,
+            kinds,
+            starts,
+            ends,
+        } => {
+            let mut out = lent.bytes(0);
+            let reply = finder.write(role, kinds, starts, ends, &mut out);
+            (reply, vec![wide(out)])
+        }
+        Call::Radius { pattern } => (finder.radius(pattern), vec![]),
+        Call::Ball {
+            board,
+            centre,
+            radius,
+        } => {
+            let mut out = lent.bytes(0);
+            let reply = finder.ball(board, centre, radius, &mut out);
+            (reply, vec![wide(out)])
+        }
+        Call::Match { pattern, board } => {
+            let mut table = lent.words(0);
+            let reply = finder.match_table(pattern, board, &mut table);
+            (reply, vec![table])
+        }
+        Call::Merge { pattern } => {
+            let (mut classes, mut out) = (lent.bytes(0), lent.bytes(1));
+            let reply = finder.merge(pattern, &mut classes, &mut out);
+            (reply, vec![wide(classes), wide(out)])
+        }
+        Call::Place { .. } | Call::PlaceWithin { .. } => run_place(finder, call, lent),
+    };
+    Outcome { reply, tables }
+}
+
+/// Runs one of the two place calls.
+fn run_place(finder: &dyn Finder, call: &Call, lent: &Lent) -> (Words, Vec<Vec<u32>>) {
+    let (mut a, mut b, mut c) = (lent.bytes(0), lent.bytes(1), lent.words(2));
+    let out = PlaceTables {
+        nodes: &mut a,
+        links: &mut b,
+        table: &mut c,
+    };
+    let reply = match *call {
+        Call::Place {
+            pattern,
+            board,
+            centre,
+        } => finder.place(pattern, board, centre, out),
+        Call::PlaceWithin {
+            pattern,
+            board,
+            centre,
+            radius,
+        } => finder.place_within(pattern, board, centre, radius, out),
+        _ => unreachable!("not a place call"),
+    };
+    (reply, vec![wide(a), wide(b), c])
+}

@@ -1,0 +1,207 @@
+//! One numbered random case: a pattern, a board, centres, a radius, tables to
+//! write, and every call on them.
+
+use super::boards::{board, pattern, Size};
+use super::call::{Call, Lent};
+use super::damage::{spoil, upset};
+use super::finder::Finder;
+use super::tally::Tally;
+use super::{agree, laws, Difference};
+use crate::circuit::{Circuit, Role};
+use crate::graph;
+use crate::random::Random;
+
+/// Three tables to write in a role.
+pub struct Tables {
+    pub role: Role,
+    pub kinds: Vec<u16>,
+    pub starts: Vec<u16>,
+    pub ends: Vec<u16>,
+}
+
+/// What a case hands to the calls.
+pub struct Case {
+    pub pattern: Vec<u8>,
+    pub board: Vec<u8>,
+    pub centres: Vec<usize>,
+    pub radius: u16,
+    pub tables: Tables,
+}
+
+/// A random size, the large ones seldom.
+fn size(random: &mut Random) -> Size {
+    match random.below(400) {
+        0 => Size::Full,
+        1..=15 => Size::Medium,
+        16..=200 => Size::Small,
+        _ => Size::Tiny,
+    }
+}
+
+/// A random centre, now and then outside the board.
+fn centre(random: &mut Random, nodes: usize) -> usize {
+    let inside = random.below(nodes.max(1));
+    if !random.once_in(10) {
+        return inside;
+    }
+    let high = 1 << random.pick(&[8, 16, 32, 63]);
+    random.pick(&[nodes, nodes + 1, inside | high, usize::MAX, 512])
+}
+
+/// A random radius around the pattern's own, or at an edge.
+fn radius(random: &mut Random, own: usize) -> u16 {
+    let near = (own + random.below(3)).saturating_sub(1);
+    let near = u16::try_from(near).expect("a small radius");
+    let any = random.draw() as u16;
+    random.pick(&[0, 1, 2, 3, near, near, near, 255, 256, 511, 512, 65535, any])
+}
+
+/// A circuit's file, now and then damaged.
+fn file(random: &mut Random, role: Role, circuit: &Circuit, sound: usize) -> Vec<u8> {
+    let mut circuit = circuit.clone();
+    let damaged = random.once_in(sound);
+    if damaged && random.once_in(2) {
+        upset(random, role, &mut circuit);
+        return circuit.bytes();
+    }
+    let mut bytes = circuit.bytes();
+    if damaged {
+        spoil(random, &mut bytes);
+    }
+    bytes
+}
+
+/// A circuit's three tables, now and then damaged.
+fn tables(random: &mut Random, role: Role, circuit: &Circuit) -> Tables {
+    let mut circuit = circuit.clone();
+    if random.once_in(2) {
+        upset(random, role, &mut circuit);
+    }
+    let field = |number: usize| u16::try_from(number).expect("a 16-bit field");
+    let mut starts: Vec<u16> = circuit.links.iter().map(|link| field(link.0)).collect();
+    let mut ends: Vec<u16> = circuit.links.iter().map(|link| field(link.1)).collect();
+    if random.once_in(12) {
+        let table = random.pick(&[0, 1]);
+        let table = [&mut starts, &mut ends]
+            .into_iter()
+            .nth(table)
+            .expect("one of two");
+        let length = table.len();
+        table.resize(random.pick(&[length.saturating_sub(1), length + 1]), 0);
+    }
+    Tables {
+        role,
+        kinds: circuit.kinds,
+        starts,
+        ends,
+    }
+}
+
+impl Case {
+    /// A random case.
+    pub fn random(random: &mut Random) -> Case {
+        let size = size(random);
+        let pattern = pattern(random, size);
+        let board = board(random, size, &pattern);
+        let centres = (0..random.between(1, 3)).map(|_| centre(random, board.kinds.len()));
+        let centres = centres.collect();
+        let radius = radius(random, graph::radius(&pattern));
+        let tables = if random.once_in(2) {
+            tables(random, Role::Pattern, &pattern)
+        } else {
+            tables(random, Role::Board, &board)
+        };
+        Case {
+            pattern: file(random, Role::Pattern, &pattern, 5),
+            board: file(random, Role::Board, &board, 8),
+            centres,
+            radius,
+            tables,
+        }
+    }
+
+    /// Every call on the case.
+    pub fn calls(&self) -> Vec<Call<'_>> {
+        let mut calls = self.calls_without_centre();
+        let (pattern, board, radius) = (&self.pattern[..], &self.board[..], self.radius);
+        for &centre in &self.centres {
+            calls.push(Call::Ball {
+                board,
+                centre,
+                radius,
+            });
+            calls.push(Call::Place {
+                pattern,
+                board,
+                centre,
+            });
+            calls.push(Call::PlaceWithin {
+                pattern,
+                board,
+                centre,
+                radius,
+            });
+        }
+        calls
+    }
+
+    /// The calls that take no centre. Each file is also read in the other role,
+    /// and the pattern is also matched on itself.
+    fn calls_without_centre(&self) -> Vec<Call<'_>> {
+        let (pattern, board) = (&self.pattern[..], &self.board[..]);
+        let read = |role, file| Call::Read { role, file };
+        let tables = &self.tables;
+        vec![
+            read(Role::Pattern, pattern),
+            read(Role::Board, board),
+            read(Role::Pattern, board),
+            read(Role::Board, pattern),
+            Call::Write {
+                role: tables.role,
+                kinds: &tables.kinds,
+                starts: &tables.starts,
+                ends: &tables.ends,
+            },
+            Call::Radius { pattern },
+            Call::Match { pattern, board },
+            Call::Match {
+                pattern,
+                board: pattern,
+            },
+            Call::Merge { pattern },
+        ]
+    }
+}
+
+/// Random lengths for the lent tables: as needed or longer, and now and then
+/// one too short.
+pub fn lend(random: &mut Random, call: &Call) -> Lent {
+    let needed = call.needed();
+    let longer = [0, 0, 0, 1, 2, 7];
+    let mut lengths: Vec<usize> = needed.iter().map(|n| n + random.pick(&longer)).collect();
+    if !needed.is_empty() && random.once_in(9) {
+        let at = random.below(needed.len());
+        let less = random.pick(&[1, 1, 1, 2, needed[at]]);
+        lengths[at] = needed[at].saturating_sub(less);
+    }
+    Lent {
+        lengths,
+        filling: random.draw(),
+    }
+}
+
+/// Runs one numbered case: every call against the second finder, and the laws.
+pub fn check(
+    finder: &dyn Finder,
+    seed: u64,
+    number: u64,
+    tally: &mut Tally,
+) -> Result<(), Difference> {
+    let mut random = Random::of_case(seed, number);
+    let case = Case::random(&mut random);
+    for call in case.calls() {
+        let lent = lend(&mut random, &call);
+        agree(finder, &call, &lent, tally)?;
+    }
+    laws::check(finder, &case, tally)
+}

@@ -1,0 +1,125 @@
+//! What both finders offer: every call, with lent tables and one form of reply.
+
+use crate::calls::{self, Counted, PlaceTables, Reply};
+use crate::circuit::Role;
+
+/// A reply in one form for all calls: the number, the file, and the values or
+/// counts, 0 where there is none.
+pub type Words = [u32; 6];
+
+/// Every call of a finder.
+pub trait Finder {
+    fn read(
+        &self,
+        role: Role,
+        file: &[u8],
+        kinds: &mut [u16],
+        starts: &mut [u16],
+        ends: &mut [u16],
+    ) -> Words;
+    fn write(
+        &self,
+        role: Role,
+        kinds: &[u16],
+        starts: &[u16],
+        ends: &[u16],
+        out: &mut [u8],
+    ) -> Words;
+    fn radius(&self, pattern: &[u8]) -> Words;
+    fn ball(&self, board: &[u8], centre: usize, radius: u16, out: &mut [u8]) -> Words;
+    fn match_table(&self, pattern: &[u8], board: &[u8], table: &mut [u32]) -> Words;
+    fn place(&self, pattern: &[u8], board: &[u8], centre: usize, out: PlaceTables) -> Words;
+    fn place_within(
+        &self,
+        pattern: &[u8],
+        board: &[u8],
+        centre: usize,
+        radius: u16,
+        out: PlaceTables,
+    ) -> Words;
+    fn merge(&self, pattern: &[u8], classes: &mut [u8], out: &mut [u8]) -> Words;
+}
+
+/// A number of a reply; none passes 32 bits.
+fn word(number: usize) -> u32 {
+    u32::try_from(number).expect("a 32-bit number")
+}
+
+impl From<Reply> for Words {
+    fn from(reply: Reply) -> Words {
+        let (first, second) = (word(reply.first), word(reply.second));
+        [reply.number, reply.file.code(), first, second, 0, 0]
+    }
+}
+
+impl From<Counted> for Words {
+    fn from(reply: Counted) -> Words {
+        let counts = reply.counts;
+        [
+            reply.number,
+            reply.file.code(),
+            word(counts.started),
+            word(counts.kept),
+            word(counts.struck),
+            word(counts.rounds),
+        ]
+    }
+}
+
+/// The second finder.
+pub struct Second;
+
+impl Finder for Second {
+    fn read(
+        &self,
+        role: Role,
+        file: &[u8],
+        kinds: &mut [u16],
+        starts: &mut [u16],
+        ends: &mut [u16],
+    ) -> Words {
+        calls::read(role, file, kinds, starts, ends).into()
+    }
+
+    fn write(
+        &self,
+        role: Role,
+        kinds: &[u16],
+        starts: &[u16],
+        ends: &[u16],
+        out: &mut [u8],
+    ) -> Words {
+        calls::write(role, kinds, starts, ends, out).into()
+    }
+
+    fn radius(&self, pattern: &[u8]) -> Words {
+        calls::radius(pattern).into()
+    }
+
+    fn ball(&self, board: &[u8], centre: usize, radius: u16, out: &mut [u8]) -> Words {
+        calls::ball(board, centre, radius, out).into()
+    }
+
+    fn match_table(&self, pattern: &[u8], board: &[u8], table: &mut [u32]) -> Words {
+        calls::match_table(pattern, board, table).into()
+    }
+
+    fn place(&self, pattern: &[u8], board: &[u8], centre: usize, out: PlaceTables) -> Words {
+        calls::place(pattern, board, centre, out).into()
+    }
+
+    fn place_within(
+        &self,
+        pattern: &[u8],
+        board: &[u8],
+        centre: usize,
+        radius: u16,
+        out: PlaceTables,
+    ) -> Words {
+        calls::place_within(pattern, board, centre, radius, out).into()
+    }
+
+    fn merge(&self, pattern: &[u8], classes: &mut [u8], out: &mut [u8]) -> Words {
+        calls::merge(pattern, classes, out).into()
+    }
+}

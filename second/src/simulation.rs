@@ -1,0 +1,122 @@
+//! The row of sets of pairs, the largest dual simulation, and the counts.
+
+use crate::circuit::Circuit;
+use crate::graph::Subgraph;
+
+/// A set of pairs: `rows[u][v]` says whether it has (part u, node v).
+#[derive(Clone, Debug, PartialEq, Eq)]
+pub struct Pairs {
+    pub rows: Vec<Vec<bool>>,
+}
+
+impl Pairs {
+    /// R0: the pairs of equal kinds, over the nodes of a subgraph of the board.
+    pub fn first(pattern: &Circuit, board: &Circuit, graph: &Subgraph) -> Pairs {
+        let row = |part: &u16| {
+            let nodes = board.kinds.iter().zip(&graph.nodes);
+            nodes.map(|(node, &taken)| taken && node == part).collect()
+        };
+        Pairs {
+            rows: pattern.kinds.iter().map(row).collect(),
+        }
+    }
+
+    /// How many pairs the set has.
+    pub fn count(&self) -> usize {
+        self.rows.iter().flatten().filter(|&&is| is).count()
+    }
+
+    /// Whether the node occurs in a pair.
+    pub fn occurs(&self, node: usize) -> bool {
+        self.rows.iter().any(|row| row[node])
+    }
+
+    /// The sum of 2^u over the parts u of a node.
+    pub fn word(&self, node: usize) -> u32 {
+        let parts = self.rows.iter().enumerate();
+        parts.map(|(u, row)| u32::from(row[node]) << u).sum()
+    }
+
+    /// The next set of the row: the pairs whose links all have partners here.
+    fn next(&self, pattern: &Circuit, links: &[(usize, usize)]) -> Pairs {
+        let mut next = self.clone();
+        for &(u, t) in &pattern.links {
+            let (drives, driven) = self.partners(u, t, links);
+            keep(&mut next.rows[u], &drives);
+            keep(&mut next.rows[t], &driven);
+        }
+        next
+    }
+
+    /// For a pattern link from u to t: the nodes with a link to a node paired
+    /// with t, and the nodes with a link from a node paired with u.
+    fn partners(&self, u: usize, t: usize, links: &[(usize, usize)]) -> (Vec<bool>, Vec<bool>) {
+        let (from, to) = (&self.rows[u], &self.rows[t]);
+        let mut drives = vec![false; from.len()];
+        let mut driven = vec![false; from.len()];
+        for &(v, w) in links {
+            drives[v] |= to[w];
+            driven[w] |= from[v];
+        }
+        (drives, driven)
+    }
+}
+
+/// Strikes from a row what is not in another.
+fn keep(row: &mut [bool], other: &[bool]) {
+    for (is, &also) in row.iter_mut().zip(other) {
+        *is &= also;
+    }
+}
+
+/// The four counts of a row.
+#[derive(Clone, Copy, Debug, Default, PartialEq, Eq)]
+pub struct Counts {
+    pub started: usize,
+    pub kept: usize,
+    pub struck: usize,
+    pub rounds: usize,
+}
+
+/// The last set of the row for a pattern in a subgraph of a board, which is
+/// the largest dual simulation, and the counts of the row.
+pub fn largest(pattern: &Circuit, board: &Circuit, graph: &Subgraph) -> (Pairs, Counts) {
+    let links = graph.pairs(board);
+    let first = Pairs::first(pattern, board, graph);
+    let mut last = first.clone();
+    let mut rounds = 0;
+    loop {
+        let next = last.next(pattern, &links);
+        if next == last {
+            break;
+        }
+        last = next;
+        rounds += 1;
+    }
+    let (started, kept) = (first.count(), last.count());
+    let counts = Counts {
+        started,
+        kept,
+        struck: started - kept,
+        rounds,
+    };
+    (last, counts)
+}
+
+/// The match graph of a set of pairs in a subgraph of a board.
+pub fn match_graph(
+    pattern: &Circuit,
+    board: &Circuit,
+    graph: &Subgraph,
+    pairs: &Pairs,
+) -> Subgraph {
+    let meant = |&(v, w): &(usize, usize)| {
+        let ends = |&(u, t): &(usize, usize)| pairs.rows[u][v] && pairs.rows[t][w];
+        pattern.links.iter().any(ends)
+    };
+    let links = board.links.iter().zip(&graph.links);
+    Subgraph {
+        nodes: (0..board.kinds.len()).map(|v| pairs.occurs(v)).collect(),
+        links: links.map(|(link, &taken)| taken && meant(link)).collect(),
+    }
+}

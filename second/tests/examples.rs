@@ -1,0 +1,202 @@
+//! The specification's examples E1 to E9, its examples of refusals and its
+//! report, with the values written there.
+
+mod common;
+
+use common::circuit;
+use second::calls::{self, Counted, PlaceTables, Reply};
+use second::circuit::{Circuit, File, Role};
+use second::report::report;
+use second::simulation::Counts;
+
+/// T of the specification.
+fn t() -> Vec<u8> {
+    circuit(&[10, 20, 30], &[(0, 1), (1, 2)]).bytes()
+}
+
+/// B of the specification.
+fn b() -> Vec<u8> {
+    circuit(&[10, 20, 30, 20, 30, 10], &[(0, 1), (1, 2), (3, 4)]).bytes()
+}
+
+/// Y of the specification.
+fn y() -> Circuit {
+    circuit(&[10, 20, 20], &[(0, 1), (0, 2)])
+}
+
+fn counts(started: usize, kept: usize, struck: usize, rounds: usize) -> Counts {
+    Counts {
+        started,
+        kept,
+        struck,
+        rounds,
+    }
+}
+
+/// A place call's reply, with its node bytes, link bytes and table.
+type Found = (Counted, Vec<u8>, Vec<u8>, Vec<u32>);
+
+/// The place at a radius, or at the pattern's own.
+fn place(pattern: &[u8], board: &[u8], centre: usize, radius: Option<u16>) -> Found {
+    let field = |at: usize| usize::from(u16::from_le_bytes([board[at], board[at + 1]]));
+    let (n, m) = (field(0), field(2));
+    let (mut nodes, mut links, mut table) = (vec![7; n], vec![7; m], vec![7; n]);
+    let out = PlaceTables {
+        nodes: &mut nodes,
+        links: &mut links,
+        table: &mut table,
+    };
+    let reply = match radius {
+        Some(radius) => calls::place_within(pattern, board, centre, radius, out),
+        None => calls::place(pattern, board, centre, out),
+    };
+    (reply, nodes, links, table)
+}
+
+fn merge(pattern: &[u8]) -> (Reply, Vec<u8>, Vec<u8>) {
+    let (mut classes, mut out) = (vec![7; 32], vec![7; pattern.len()]);
+    let reply = calls::merge(pattern, &mut classes, &mut out);
+    (reply, classes, out)
+}
+
+#[test]
+fn e1_radius() {
+    assert_eq!(calls::radius(&t()).first, 2);
+    assert_eq!(calls::radius(&circuit(&[10], &[]).bytes()).first, 0);
+    assert_eq!(calls::radius(&circuit(&[10], &[(0, 0)]).bytes()).first, 0);
+}
+
+#[test]
+fn e2_table() {
+    let mut table = [9; 7];
+    let reply = calls::match_table(&t(), &b(), &mut table);
+    assert_eq!(reply.number, 0);
+    assert_eq!(reply.counts, counts(6, 3, 3, 2));
+    assert_eq!(table, [1, 2, 4, 0, 0, 0, 9]);
+}
+
+#[test]
+fn e3_places() {
+    for centre in 0..3 {
+        let (reply, nodes, links, table) = place(&t(), &b(), centre, None);
+        assert_eq!(reply.number, 0);
+        assert_eq!(nodes, [1, 1, 1, 0, 0, 0]);
+        assert_eq!(links, [1, 1, 0]);
+        assert_eq!(table, [1, 2, 4, 0, 0, 0]);
+    }
+}
+
+#[test]
+fn e4_no_place() {
+    let (reply, nodes, links, table) = place(&t(), &b(), 3, None);
+    assert_eq!((reply.number, reply.file), (9, File::Neither));
+    assert_eq!(reply.counts, counts(2, 0, 2, 2));
+    assert_eq!((nodes, links, table), (vec![7; 6], vec![7; 3], vec![7; 6]));
+}
+
+#[test]
+fn e5_ring() {
+    let pattern = circuit(&[10, 20], &[(0, 1), (1, 0)]).bytes();
+    let ring = circuit(&[10, 20, 10, 20], &[(0, 1), (1, 2), (2, 3), (3, 0)]).bytes();
+    let mut table = [9; 4];
+    assert_eq!(calls::match_table(&pattern, &ring, &mut table).number, 0);
+    assert_eq!(table, [1, 2, 1, 2]);
+    for centre in 0..4 {
+        assert_eq!(place(&pattern, &ring, centre, None).0.number, 9);
+    }
+}
+
+#[test]
+fn e6_merging() {
+    let (reply, classes, out) = merge(&y().bytes());
+    assert_eq!((reply.number, reply.first, reply.second), (0, 2, 12));
+    assert_eq!(classes[..4], [0, 1, 1, 7]);
+    assert_eq!(out[..12], circuit(&[10, 20], &[(0, 1)]).bytes());
+    assert_eq!(out[12..], [7; 6]);
+    assert_eq!(calls::radius(&out[..12]).first, 1);
+    assert_eq!(calls::radius(&y().bytes()).first, 2);
+}
+
+#[test]
+fn e7_merged_radius() {
+    let (y, merged) = (y().bytes(), merge(&y().bytes()).2[..12].to_vec());
+    assert_eq!(place(&y, &y, 1, Some(2)).1, [1, 1, 1]);
+    assert_eq!(place(&merged, &y, 1, Some(2)).1, [1, 1, 1]);
+    assert_eq!(place(&merged, &y, 1, None).1, [1, 1, 0]);
+}
+
+#[test]
+fn e8_no_merging() {
+    let pattern = circuit(&[10, 20, 20, 30], &[(0, 1), (0, 2), (2, 3)]).bytes();
+    let (reply, classes, out) = merge(&pattern);
+    assert_eq!((reply.first, reply.second), (4, pattern.len()));
+    assert_eq!(classes[..4], [0, 1, 2, 3]);
+    assert_eq!(out, pattern);
+}
+
+#[test]
+fn e9_links_of_the_match_graph() {
+    let pattern = circuit(&[10, 20], &[(0, 1)]).bytes();
+    let board = circuit(&[10, 20], &[(0, 1), (1, 0)]).bytes();
+    let (reply, nodes, links, _) = place(&pattern, &board, 0, None);
+    assert_eq!(reply.number, 0);
+    assert_eq!((nodes, links), (vec![1, 1], vec![1, 0]));
+}
+
+#[test]
+fn refusals_about_one_file() {
+    let examples: [(Role, u32, &[u8]); 6] = [
+        (Role::Pattern, 1, &[2, 0, 1]),
+        (Role::Pattern, 2, &[0, 0, 0, 0]),
+        (Role::Pattern, 3, &[1, 0, 0, 0]),
+        (Role::Pattern, 4, &[1, 0, 1, 0, 10, 0, 0, 0, 1, 0]),
+        (
+            Role::Pattern,
+            5,
+            &[1, 0, 2, 0, 10, 0, 0, 0, 0, 0, 0, 0, 0, 0],
+        ),
+        (Role::Pattern, 6, &[2, 0, 0, 0, 10, 0, 20, 0]),
+    ];
+    for (role, number, file) in examples {
+        let reply = calls::read(role, file, &mut [], &mut [], &mut []);
+        assert_eq!((reply.number, reply.file), (number, File::Pattern));
+        let reply = calls::read(Role::Board, file, &mut [0; 9], &mut [0; 9], &mut [0; 9]);
+        let expected = if [2, 6].contains(&number) { 0 } else { number };
+        assert_eq!(reply.number, expected);
+        let board_line = match expected {
+            0 => format!("end 0 of {}\n", reply.first),
+            number => format!("refused {number} board\n"),
+        };
+        assert_eq!(report(&t(), file), board_line);
+        assert_eq!(report(file, b"\xff"), format!("refused {number} pattern\n"));
+    }
+}
+
+#[test]
+fn refusals_about_no_one_file() {
+    assert_eq!(place(&t(), &b(), 6, None).0.number, 7);
+    assert_eq!(place(&t(), &b(), usize::MAX, Some(3)).0.number, 7);
+    let reply = calls::read(Role::Pattern, &t(), &mut [0; 2], &mut [0; 2], &mut [0; 2]);
+    assert_eq!((reply.number, reply.file), (8, File::Neither));
+    let reply = calls::write(Role::Board, &[1], &[0], &[], &mut []);
+    assert_eq!((reply.number, reply.file), (3, File::Board));
+}
+
+#[test]
+fn report_of_the_specification() {
+    let text = "place 0: 0 1 2 / 0-1 1-2\n\
+                place 1: 0 1 2 / 0-1 1-2\n\
+                place 2: 0 1 2 / 0-1 1-2\n\
+                end 3 of 6\n";
+    assert_eq!(report(&t(), &b()), text);
+}
+
+#[test]
+fn report_at_the_edges() {
+    let one = circuit(&[10], &[]).bytes();
+    let none = circuit(&[], &[]).bytes();
+    assert_eq!(report(&one, &one), "place 0: 0 /\nend 1 of 1\n");
+    assert_eq!(report(&one, &none), "end 0 of 0\n");
+    assert_eq!(report(&[], &[]), "refused 1 pattern\n");
+    assert_eq!(report(&one, &[]), "refused 1 board\n");
+}

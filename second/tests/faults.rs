@@ -1,0 +1,556 @@
+//! The comparison finds faults: a finder with one planted fault differs from
+//! the second finder on the edges or on the first few thousand random cases.
+//! The faults are the specification's tempting mistakes and fakes, and slips
+//! in limits, orders and tables.
+
+use second::calls::PlaceTables;
+use second::circuit::{both, parse, Circuit, Role};
+use second::compare::finder::{Finder, Second, Words};
+use second::compare::tally::Tally;
+use second::compare::{case, edges};
+use second::graph::{ball, distances, radius, Subgraph};
+use second::merged::merged;
+use second::simulation::{largest, match_graph, Pairs};
+
+/// The planted faults.
+#[derive(Clone, Copy, Debug, PartialEq, Eq)]
+enum Fault {
+    None,
+    // Mistakes that tempt.
+    OneRound,
+    EveryLink,
+    MergedRadius,
+    WholeBoardFirst,
+    ForwardDistance,
+    BothMatchGraphs,
+    // Fakes.
+    OwnClasses,
+    RoundsInvented,
+    StruckInvented,
+    NineAlways,
+    FixedPlace,
+    TablesUnfilled,
+    ReaderRefusesAll,
+    // Slips.
+    NineWithoutCounts,
+    BallsTable,
+    PlacesKept,
+    RefusalClears,
+    LaterCleared,
+    MergedLengthEnough,
+    ThirtyThreeParts,
+    ThirtyOneParts,
+    NodesOver,
+    NodesUnder,
+    PatternLinksOver,
+    PatternLinksUnder,
+    BoardLinksOver,
+    BoardLinksUnder,
+    FiveBeforeFour,
+    BoardBeforePattern,
+    EightBeforeSeven,
+    NineBeforeEight,
+    EightNamesPattern,
+    CentreCut,
+    RadiusCut,
+    KindCut,
+    SelfLinksIgnored,
+    WritingCut,
+    WritingUneven,
+}
+
+const FAULTS: [Fault; 38] = [
+    Fault::OneRound,
+    Fault::EveryLink,
+    Fault::MergedRadius,
+    Fault::WholeBoardFirst,
+    Fault::ForwardDistance,
+    Fault::BothMatchGraphs,
+    Fault::OwnClasses,
+    Fault::RoundsInvented,
+    Fault::StruckInvented,
+    Fault::NineAlways,
+    Fault::FixedPlace,
+    Fault::TablesUnfilled,
+    Fault::ReaderRefusesAll,
+    Fault::NineWithoutCounts,
+    Fault::BallsTable,
+    Fault::PlacesKept,
+    Fault::RefusalClears,
+    Fault::LaterCleared,
+    Fault::MergedLengthEnough,
+    Fault::ThirtyThreeParts,
+    Fault::ThirtyOneParts,
+    Fault::NodesOver,
+    Fault::NodesUnder,
+    Fault::PatternLinksOver,
+    Fault::PatternLinksUnder,
+    Fault::BoardLinksOver,
+    Fault::BoardLinksUnder,
+    Fault::FiveBeforeFour,
+    Fault::BoardBeforePattern,
+    Fault::EightBeforeSeven,
+    Fault::NineBeforeEight,
+    Fault::EightNamesPattern,
+    Fault::CentreCut,
+    Fault::RadiusCut,
+    Fault::KindCut,
+    Fault::SelfLinksIgnored,
+    Fault::WritingCut,
+    Fault::WritingUneven,
+];
+
+/// The second finder with a planted fault.
+struct Faulty(Fault);
+
+/// A file's N and M, 0 if it has none.
+fn sizes(file: &[u8]) -> (usize, usize) {
+    let field = |at: usize| {
+        file.get(at..at + 2)
+            .map_or(0, |two| usize::from(two[0]) + 256 * usize::from(two[1]))
+    };
+    (field(0), field(2))
+}
+
+/// A file's circuit without the checks, changed, and made a file again.
+fn changed(role: Role, file: &[u8], change: impl Fn(&mut Circuit)) -> Vec<u8> {
+    let Ok(mut circuit) = parse(role, file) else {
+        return file.to_vec();
+    };
+    change(&mut circuit);
+    circuit.bytes()
+}
+
+impl Faulty {
+    /// The number of a refusal about sizes with a limit that is off by one.
+    fn limit(&self, role: Role, file: &[u8]) -> Option<bool> {
+        let (n, m) = sizes(file);
+        let pattern = role == Role::Pattern;
+        match self.0 {
+            Fault::ThirtyThreeParts if pattern && n == 33 => Some(true),
+            Fault::ThirtyOneParts if pattern && n == 32 => Some(false),
+            Fault::NodesOver if !pattern && n == 513 => Some(true),
+            Fault::NodesUnder if !pattern && n == 512 => Some(false),
+            Fault::PatternLinksOver if pattern && m == 257 => Some(true),
+            Fault::PatternLinksUnder if pattern && m == 256 => Some(false),
+            Fault::BoardLinksOver if !pattern && m == 4097 => Some(true),
+            Fault::BoardLinksUnder if !pattern && m == 4096 => Some(false),
+            _ => None,
+        }
+    }
+
+    /// The set of pairs by which a place is found, and the ball.
+    fn pairs(&self, pattern: &Circuit, board: &Circuit, ball: &Subgraph) -> Pairs {
+        match self.0 {
+            Fault::OneRound => once(pattern, board, ball),
+            Fault::WholeBoardFirst => {
+                let (mut pairs, _) = largest(pattern, board, &Subgraph::whole(board));
+                for row in &mut pairs.rows {
+                    row.iter_mut()
+                        .zip(&ball.nodes)
+                        .for_each(|(is, &inside)| *is &= inside);
+                }
+                pairs
+            }
+            _ => largest(pattern, board, ball).0,
+        }
+    }
+
+    /// A place by the faulty rules.
+    fn found(
+        &self,
+        pattern: &Circuit,
+        board: &Circuit,
+        centre: usize,
+        radius: usize,
+    ) -> Option<(Subgraph, Vec<u32>)> {
+        let ball = match self.0 {
+            Fault::ForwardDistance => forward_ball(board, centre, radius),
+            _ => ball(board, centre, radius),
+        };
+        let centre = if self.0 == Fault::FixedPlace {
+            0
+        } else {
+            centre
+        };
+        let pairs = self.pairs(pattern, board, &ball);
+        if !pairs.occurs(centre) || self.0 == Fault::NineAlways {
+            return None;
+        }
+        let mut graph = match_graph(pattern, board, &ball, &pairs);
+        let n = board.kinds.len();
+        if self.0 != Fault::BothMatchGraphs {
+            let far = distances(n, &graph.pairs(board), centre);
+            (0..n).for_each(|v| graph.nodes[v] = far[v].is_some());
+        }
+        let whole = self.0 == Fault::EveryLink;
+        for (at, &(v, w)) in board.links.iter().enumerate() {
+            graph.links[at] = (graph.links[at] || whole) && graph.nodes[v] && graph.nodes[w];
+        }
+        let all = self.0 == Fault::BallsTable;
+        let word = |v: usize| {
+            if graph.nodes[v] || all {
+                pairs.word(v)
+            } else {
+                0
+            }
+        };
+        let table = (0..n).map(word).collect();
+        Some((graph, table))
+    }
+
+    /// The faulty place call, where the sound one gives 0 or 9.
+    fn refill(
+        &self,
+        files: (&Circuit, &Circuit),
+        centre: usize,
+        radius: usize,
+        words: Words,
+        out: PlaceTables,
+    ) -> Words {
+        let mut words = words;
+        match self.found(files.0, files.1, centre, radius) {
+            None => words[0] = 9,
+            Some((graph, table)) => {
+                words[0] = 0;
+                let bytes = |table: Vec<bool>| table.into_iter().map(u8::from).collect::<Vec<u8>>();
+                out.nodes[..graph.nodes.len()].copy_from_slice(&bytes(graph.nodes));
+                out.links[..graph.links.len()].copy_from_slice(&bytes(graph.links));
+                out.table[..table.len()].copy_from_slice(&table);
+            }
+        }
+        words
+    }
+
+    /// Faults in a reply with counts.
+    fn counts(&self, words: Words) -> Words {
+        let [number, file, started, kept, struck, rounds] = words;
+        match self.0 {
+            Fault::RoundsInvented => [number, file, started, kept, struck, rounds.min(1)],
+            Fault::StruckInvented => [number, file, started, kept, struck.min(rounds), rounds],
+            Fault::NineWithoutCounts if number == 9 => [9, file, 0, 0, 0, 0],
+            Fault::EightNamesPattern if number == 8 => [8, 1, 0, 0, 0, 0],
+            _ => words,
+        }
+    }
+
+    /// A place call with the fault. The sound call, on copies of the tables,
+    /// says what the reply should be.
+    fn place_call(&self, call: &PlaceCall, out: PlaceTables) -> Words {
+        let call = &self.seen(call);
+        let words = call.sound(&out);
+        match (words[0], both(&call.pattern, call.board)) {
+            (0 | 9, Ok(files)) => self.answer(call, &files, words, out),
+            (_, files) => self.refused(call, files.ok(), words, out),
+        }
+    }
+
+    /// A place call as the faulty finder sees it.
+    fn seen<'a>(&self, call: &PlaceCall<'a>) -> PlaceCall<'a> {
+        let cut = |fault: Fault, number: usize, bound: usize| match self.0 == fault {
+            true => number % bound,
+            false => number,
+        };
+        PlaceCall {
+            pattern: self.pattern(&call.pattern),
+            board: call.board,
+            centre: cut(Fault::CentreCut, call.centre, 65536),
+            radius: call
+                .radius
+                .map(|r| cut(Fault::RadiusCut, r.into(), 256) as u16),
+        }
+    }
+
+    /// The faulty answer where the sound one has number 0 or 9.
+    fn answer(
+        &self,
+        call: &PlaceCall,
+        files: &(Circuit, Circuit),
+        words: Words,
+        out: PlaceTables,
+    ) -> Words {
+        let (pattern, board) = files;
+        let own = match self.0 {
+            Fault::MergedRadius => radius(&merged(pattern).1),
+            _ => radius(pattern),
+        };
+        let r = call.radius.map_or(own, usize::from);
+        let mut words = words;
+        if self.0 == Fault::PlacesKept && words[0] == 0 {
+            let place = second::place::place(pattern, board, call.centre, r).0;
+            words[3] = place.map_or(0, |place| place.table.iter().map(|w| w.count_ones()).sum());
+        }
+        if self.0 == Fault::TablesUnfilled {
+            return words;
+        }
+        let PlaceTables {
+            nodes,
+            links,
+            table,
+        } = out;
+        let inner = PlaceTables {
+            nodes: &mut *nodes,
+            links,
+            table,
+        };
+        let words = self.refill((pattern, board), call.centre, r, words, inner);
+        if self.0 == Fault::LaterCleared && words[0] == 0 {
+            nodes[sizes_of(board).0..].fill(0);
+        }
+        self.counts(words)
+    }
+
+    /// The faulty refusal.
+    fn refused(
+        &self,
+        call: &PlaceCall,
+        files: Option<(Circuit, Circuit)>,
+        words: Words,
+        out: PlaceTables,
+    ) -> Words {
+        let short = out.nodes.len() < sizes(call.board).0;
+        match (self.0, words[0], files) {
+            (Fault::EightBeforeSeven, 7, _) if short => [8, 0, 0, 0, 0, 0],
+            (Fault::NineBeforeEight, 8, Some(files)) => nine_first(call, &files, words),
+            (Fault::RefusalClears, ..) => {
+                out.nodes.fill(0);
+                words
+            }
+            _ => self.counts(words),
+        }
+    }
+
+    /// The pattern as the faulty finder sees it.
+    fn pattern(&self, pattern: &[u8]) -> Vec<u8> {
+        match self.0 {
+            Fault::KindCut => changed(Role::Pattern, pattern, |circuit| {
+                circuit.kinds.iter_mut().for_each(|kind| *kind %= 256)
+            }),
+            Fault::SelfLinksIgnored => changed(Role::Pattern, pattern, |circuit| {
+                circuit.links.retain(|link| link.0 != link.1)
+            }),
+            _ => pattern.to_vec(),
+        }
+    }
+}
+
+/// A place call's arguments, the radius if one is given.
+struct PlaceCall<'a> {
+    pattern: Vec<u8>,
+    board: &'a [u8],
+    centre: usize,
+    radius: Option<u16>,
+}
+
+impl PlaceCall<'_> {
+    /// The second finder's reply, on copies of the tables.
+    fn sound(&self, out: &PlaceTables) -> Words {
+        let (mut nodes, mut links, mut table) =
+            (out.nodes.to_vec(), out.links.to_vec(), out.table.to_vec());
+        let out = PlaceTables {
+            nodes: &mut nodes,
+            links: &mut links,
+            table: &mut table,
+        };
+        match self.radius {
+            None => Second.place(&self.pattern, self.board, self.centre, out),
+            Some(r) => Second.place_within(&self.pattern, self.board, self.centre, r, out),
+        }
+    }
+}
+
+/// 9 for a centre without a place although a table is too short.
+fn nine_first(call: &PlaceCall, (pattern, board): &(Circuit, Circuit), words: Words) -> Words {
+    let r = call.radius.map_or(radius(pattern), usize::from);
+    let (place, counts) = second::place::place(pattern, board, call.centre, r);
+    let counts = [counts.started, counts.kept, counts.struck, counts.rounds].map(|c| c as u32);
+    match place {
+        None => [9, 0, counts[0], counts[1], counts[2], counts[3]],
+        Some(_) => words,
+    }
+}
+
+/// A circuit's N and M.
+fn sizes_of(circuit: &Circuit) -> (usize, usize) {
+    (circuit.kinds.len(), circuit.links.len())
+}
+
+/// The pairs after a single round: those whose links have partners in R0.
+fn once(pattern: &Circuit, board: &Circuit, graph: &Subgraph) -> Pairs {
+    let first = Pairs::first(pattern, board, graph);
+    let links = graph.pairs(board);
+    let mut next = first.clone();
+    for &(u, t) in &pattern.links {
+        for v in 0..board.kinds.len() {
+            next.rows[u][v] &= links.iter().any(|&(a, b)| a == v && first.rows[t][b]);
+            next.rows[t][v] &= links.iter().any(|&(a, b)| b == v && first.rows[u][a]);
+        }
+    }
+    next
+}
+
+/// The ball with distances along the links' directions only.
+fn forward_ball(board: &Circuit, centre: usize, radius: usize) -> Subgraph {
+    let mut nodes = vec![false; board.kinds.len()];
+    nodes[centre] = true;
+    for _ in 0..radius.min(nodes.len()) {
+        let last = nodes.clone();
+        board
+            .links
+            .iter()
+            .filter(|link| last[link.0])
+            .for_each(|link| nodes[link.1] = true);
+    }
+    let inside = |&(v, w): &(usize, usize)| nodes[v] && nodes[w];
+    let links = board.links.iter().map(inside).collect();
+    Subgraph { nodes, links }
+}
+
+impl Finder for Faulty {
+    fn read(
+        &self,
+        role: Role,
+        file: &[u8],
+        kinds: &mut [u16],
+        starts: &mut [u16],
+        ends: &mut [u16],
+    ) -> Words {
+        let words = Second.read(role, file, kinds, starts, ends);
+        let (n, m) = sizes(file);
+        match (self.0, words[0], self.limit(role, file)) {
+            (Fault::ReaderRefusesAll, ..) => [1, 1 + u32::from(role == Role::Board), 0, 0, 0, 0],
+            (_, 2, Some(true)) => [0, 0, n as u32, m as u32, 0, 0],
+            (_, 0, Some(false)) => [2, 1 + u32::from(role == Role::Board), 0, 0, 0, 0],
+            (Fault::FiveBeforeFour, 4, _) if m > 1 => {
+                let at = |k: usize| sizes(&file[4 + 2 * n + 2 * k..]).0;
+                let fall = (1..m).any(|k| (at(k - 1), at(m + k - 1)) >= (at(k), at(m + k)));
+                [if fall { 5 } else { 4 }, words[1], 0, 0, 0, 0]
+            }
+            _ => words,
+        }
+    }
+
+    fn write(
+        &self,
+        role: Role,
+        kinds: &[u16],
+        starts: &[u16],
+        ends: &[u16],
+        out: &mut [u8],
+    ) -> Words {
+        match self.0 {
+            Fault::WritingCut => {
+                let cut = |length: usize| length % 65536;
+                let (n, m) = (cut(kinds.len()), cut(starts.len()));
+                let ends = if ends.len() == starts.len() {
+                    &ends[..m]
+                } else {
+                    ends
+                };
+                Second.write(role, &kinds[..n], &starts[..m], ends, out)
+            }
+            Fault::WritingUneven if ends.len() > starts.len() => {
+                Second.write(role, kinds, starts, &ends[..starts.len()], out)
+            }
+            _ => Second.write(role, kinds, starts, ends, out),
+        }
+    }
+
+    fn radius(&self, pattern: &[u8]) -> Words {
+        Second.radius(pattern)
+    }
+
+    fn ball(&self, board: &[u8], centre: usize, radius: u16, out: &mut [u8]) -> Words {
+        Second.ball(board, centre, radius, out)
+    }
+
+    fn match_table(&self, pattern: &[u8], board: &[u8], table: &mut [u32]) -> Words {
+        let words = Second.match_table(&self.pattern(pattern), board, table);
+        let sound = parse(Role::Board, board);
+        match (self.0, words, sound) {
+            (Fault::BoardBeforePattern, [_, 1, ..], Err(refusal)) => {
+                [refusal.number, 2, 0, 0, 0, 0]
+            }
+            _ => self.counts(words),
+        }
+    }
+
+    fn place(&self, pattern: &[u8], board: &[u8], centre: usize, out: PlaceTables) -> Words {
+        let call = PlaceCall {
+            pattern: pattern.to_vec(),
+            board,
+            centre,
+            radius: None,
+        };
+        self.place_call(&call, out)
+    }
+
+    fn place_within(
+        &self,
+        pattern: &[u8],
+        board: &[u8],
+        centre: usize,
+        radius: u16,
+        out: PlaceTables,
+    ) -> Words {
+        let call = PlaceCall {
+            pattern: pattern.to_vec(),
+            board,
+            centre,
+            radius: Some(radius),
+        };
+        self.place_call(&call, out)
+    }
+
+    fn merge(&self, pattern: &[u8], classes: &mut [u8], out: &mut [u8]) -> Words {
+        let words = Second.merge(pattern, classes, out);
+        let Ok(circuit) = parse(Role::Pattern, pattern) else {
+            return words;
+        };
+        let (n, m) = sizes_of(&circuit);
+        match (self.0, words[0]) {
+            (Fault::OwnClasses, 0) => {
+                (0..n).for_each(|u| classes[u] = u as u8);
+                out[..pattern.len()].copy_from_slice(pattern);
+                [0, 0, n as u32, pattern.len() as u32, 0, 0]
+            }
+            (Fault::MergedLengthEnough, 8) if classes.len() >= n => {
+                let mut longer = vec![0; Circuit::length(n, m)];
+                let words = Second.merge(pattern, classes, &mut longer);
+                let length = out.len().min(longer.len());
+                out[..length].copy_from_slice(&longer[..length]);
+                words
+            }
+            _ => words,
+        }
+    }
+}
+
+/// The number of the first of so many random cases that tells the finders apart.
+fn first_case(finder: &Faulty, cases: u64) -> Option<u64> {
+    let mut tally = Tally::default();
+    (0..cases).find(|&number| case::check(finder, 1, number, &mut tally).is_err())
+}
+
+#[test]
+fn no_fault_no_difference() {
+    let mut tally = Tally::default();
+    edges::check(&Faulty(Fault::None), &mut tally).expect("no difference");
+    for number in 0..2000 {
+        case::check(&Faulty(Fault::None), 1, number, &mut tally).expect("no difference");
+    }
+    println!("{tally}");
+    assert!((0..10).all(|number| tally.given(number) > 1000));
+    assert!(tally.of("place", 0) > 1000);
+}
+
+#[test]
+fn every_fault_is_found() {
+    for fault in FAULTS {
+        let finder = Faulty(fault);
+        let case = first_case(&finder, 3000);
+        println!("{fault:?}: random case {case:?}");
+        let found = case.is_some() || edges::check(&finder, &mut Tally::default()).is_err();
+        assert!(found, "{fault:?} is not found");
+    }
+}
