@@ -1,0 +1,362 @@
+#!/usr/bin/env python3
+"""Turns circuits written as text into .cir files and back.
+
+  circuit.py make [--as ROLE] TEXT OUT.cir   write the file of a text
+  circuit.py show FILE.cir                   print a text that makes the file
+  circuit.py tell TEXT [REPORT]              print a report with a board's names
+
+The text has one statement a line; '#' begins a comment, and the order of
+statements is free:
+
+  kind NAME NUMBER     a name for a kind, which is a number from 0 to 65535
+  node NAME KIND       a node and its kind, a number or a name for one
+  NAME -> NAME         a link from the node that drives to the one driven
+  NAME <- NAME         the same link written from its other end
+  NAME <-> NAME        a link each way
+  A -> B <-> C         several of these on one line
+
+Nodes are numbered from 0 in the order of their 'node' lines. Links are sorted.
+Numbers are decimal, or hexadecimal after 0x. A name has no white space and
+none of '#', '<' and '>'. 'kind' and 'node' name no node, and a name for a kind
+does not begin with a digit.
+
+With --as pattern or --as board the circuit must also fit that role: a pattern
+has 1 to 32 nodes, at most 256 links and is connected; a board has at most 512
+nodes and 4096 links.
+
+Errors in a text are told with its name and line number, all of them at once.
+"""
+
+import argparse
+import signal
+import struct
+import sys
+
+ARROWS = ("->", "<-", "<->")
+MOST = 65535
+LIMITS = {"pattern": (1, 32, 256), "board": (0, 512, 4096)}
+STATEMENTS = "expected 'kind NAME NUMBER', 'node NAME KIND' or 'NAME -> NAME'"
+
+
+class Faults(Exception):
+    """What is wrong with an input, a message each."""
+
+    def __init__(self, messages):
+        super().__init__("\n".join(messages))
+
+
+class Circuit:
+    """The names and kinds of the nodes, and the links, sorted."""
+
+    def __init__(self, names, kinds, links):
+        self.names = names
+        self.kinds = kinds
+        self.links = sorted(links)
+
+    def file(self):
+        """The bytes of the .cir file."""
+        fields = [len(self.kinds), len(self.links), *self.kinds]
+        fields += [start for start, _ in self.links]
+        fields += [end for _, end in self.links]
+        return struct.pack(f"<{len(fields)}H", *fields)
+
+
+def number_of(word):
+    """The number a word stands for, or None."""
+    digits, base = (word[2:], 16) if word.lower().startswith("0x") else (word, 10)
+    if not digits.isascii() or not digits.isalnum():
+        return None
+    try:
+        return int(digits, base)
+    except ValueError:
+        return None
+
+
+def good_name(name):
+    """Whether a word can name a node or a kind."""
+    return not set(name) & set("#<>") and name not in ("kind", "node")
+
+
+class Reader:
+    """Reads a text statement by statement, and gathers what is wrong."""
+
+    def __init__(self, name):
+        self.name = name
+        self.line = 0
+        self.faults = []
+        self.kinds = {}  # name: (number, line)
+        self.nodes = {}  # name: (kind as written, line)
+        self.links = []  # (start, end, line), the nodes by name
+
+    def fault(self, message, line=None):
+        """Notes something wrong, in this line or the one told."""
+        self.faults.append((line or self.line, message))
+
+    def statement(self, text):
+        """Reads one line."""
+        words = text.split("#", 1)[0].split()
+        if not words:
+            return
+        if any(word in ARROWS for word in words):
+            self.link_line(words)
+        elif words[0] == "kind":
+            self.kind_line(words)
+        elif words[0] == "node":
+            self.node_line(words)
+        elif any(set(word) & set("<>") for word in words):
+            self.fault("an arrow is one of ->, <- and <->, with a space on each side")
+        else:
+            self.fault(f"'{words[0]}' begins no statement: {STATEMENTS}")
+
+    def kind_line(self, words):
+        """kind NAME NUMBER"""
+        if len(words) != 3:
+            return self.fault("expected 'kind NAME NUMBER'")
+        _, name, word = words
+        number = number_of(word)
+        if name[0].isdigit() or not good_name(name):
+            self.fault(f"'{name}' can't name a kind")
+        elif number is None or number > MOST:
+            self.fault(f"'{word}' is not a number from 0 to {MOST}")
+        elif name in self.kinds:
+            self.fault(f"kind '{name}' is named twice, first in line {self.kinds[name][1]}")
+        else:
+            self.kinds[name] = (number, self.line)
+
+    def node_line(self, words):
+        """node NAME KIND"""
+        if len(words) != 3:
+            return self.fault("expected 'node NAME KIND'")
+        _, name, kind = words
+        if not good_name(name):
+            self.fault(f"'{name}' can't name a node")
+        elif name in self.nodes:
+            self.fault(f"node '{name}' is named twice, first in line {self.nodes[name][1]}")
+        else:
+            self.nodes[name] = (kind, self.line)
+
+    def link_line(self, words):
+        """NAME ARROW NAME, and further arrows and names"""
+        names, arrows = words[0::2], words[1::2]
+        sound = len(words) % 2 == 1 and all(arrow in ARROWS for arrow in arrows)
+        bad = [name for name in names if name in ARROWS or set(name) & set("<>")]
+        if not sound or bad:
+            return self.fault("expected 'NAME -> NAME', names and arrows by turns, with spaces between")
+        for left, arrow, right in zip(names, arrows, names[1:]):
+            if arrow == "<->" and left == right:
+                self.fault(f"a link from '{left}' to itself is written '{left} -> {left}'")
+                continue
+            if arrow != "<-":
+                self.links.append((left, right, self.line))
+            if arrow != "->":
+                self.links.append((right, left, self.line))
+
+    def kind_number(self, name):
+        """The number of a node's kind, 0 if it has none."""
+        word, line = self.nodes[name]
+        number = number_of(word)
+        if number is None and word in self.kinds:
+            return self.kinds[word][0]
+        if number is None:
+            self.fault(f"no kind is named '{word}'", line)
+        elif number > MOST:
+            self.fault(f"'{word}' is not a number from 0 to {MOST}", line)
+        else:
+            return number
+        return 0
+
+    def numbered_links(self, numbers):
+        """The links by node numbers, with the line of each."""
+        links = {}
+        for start, end, line in self.links:
+            unknown = [name for name in dict.fromkeys((start, end)) if name not in numbers]
+            for name in unknown:
+                self.fault(f"no node is named '{name}'", line)
+            if unknown:
+                continue
+            link = (numbers[start], numbers[end])
+            if link in links:
+                self.fault(f"link '{start} -> {end}' stands twice, first in line {links[link]}", line)
+            links.setdefault(link, line)
+        return links
+
+    def circuit(self):
+        """The circuit of all that was read."""
+        names = list(self.nodes)
+        kinds = [self.kind_number(name) for name in names]
+        links = self.numbered_links({name: number for number, name in enumerate(names)})
+        for what, count in (("nodes", len(names)), ("links", len(links))):
+            if count > MOST:
+                self.fault(f"{count} {what}, and a file holds at most {MOST}")
+        if self.faults:
+            raise Faults([f"{self.name}:{line}: {text}" for line, text in sorted(self.faults)])
+        return Circuit(names, kinds, links)
+
+
+def read_text(text, name):
+    """The circuit of a text."""
+    reader = Reader(name)
+    lines = text.replace("\r\n", "\n").replace("\r", "\n").split("\n")
+    for reader.line, line in enumerate(lines, 1):
+        reader.statement(line)
+    return reader.circuit()
+
+
+def load_text(path):
+    """The circuit of a text file."""
+    with open(path, "rb") as file:
+        data = file.read()
+    try:
+        return read_text(data.decode("utf-8-sig"), path)
+    except UnicodeDecodeError as error:
+        line = data[: error.start].count(b"\n") + 1
+        raise Faults([f"{path}:{line}: not a UTF-8 text"]) from None
+
+
+def unreached(circuit):
+    """The names of the nodes that no path joins to node 0, directions ignored."""
+    neighbours = {number: [] for number in range(len(circuit.kinds))}
+    for start, end in circuit.links:
+        neighbours[start].append(end)
+        neighbours[end].append(start)
+    reached, waiting = {0}, [0]
+    while waiting:
+        for other in neighbours[waiting.pop()]:
+            if other not in reached:
+                reached.add(other)
+                waiting.append(other)
+    return [name for number, name in enumerate(circuit.names) if number not in reached]
+
+
+def check_role(circuit, role, path):
+    """Demands that a circuit fits a role."""
+    least, most, most_links = LIMITS[role]
+    nodes, links = len(circuit.kinds), len(circuit.links)
+    if not least <= nodes <= most:
+        raise Faults([f"{path}: {nodes} nodes, and a {role} has {least} to {most}"])
+    if links > most_links:
+        raise Faults([f"{path}: {links} links, and a {role} has at most {most_links}"])
+    apart = unreached(circuit) if role == "pattern" else []
+    if apart:
+        raise Faults([f"{path}: a pattern is connected, but no path joins "
+                      f"'{apart[0]}' to '{circuit.names[0]}'"])
+
+
+def read_file(data, name):
+    """The circuit of a .cir file, its nodes named n0, n1 and so on."""
+    if len(data) < 4:
+        raise Faults([f"{name}: {len(data)} bytes, and a circuit file has at least 4"])
+    nodes, links = struct.unpack_from("<HH", data)
+    length = 4 + 2 * nodes + 4 * links
+    if len(data) != length:
+        raise Faults([f"{name}: {len(data)} bytes, and a circuit file of "
+                      f"{nodes} nodes and {links} links has {length}"])
+    fields = struct.unpack(f"<{nodes + 2 * links}H", data[4:])
+    kinds, starts, ends = fields[:nodes], fields[nodes:nodes + links], fields[nodes + links:]
+    pairs = list(zip(starts, ends))
+    for number, (start, end) in enumerate(pairs):
+        if max(start, end) >= nodes:
+            raise Faults([f"{name}: link {number} is {start}-{end}, and there are {nodes} nodes"])
+    for number, (one, next_one) in enumerate(zip(pairs, pairs[1:]), 1):
+        if one >= next_one:
+            raise Faults([f"{name}: link {number}, {next_one[0]}-{next_one[1]}, "
+                          f"does not come after {one[0]}-{one[1]}"])
+    return Circuit([f"n{number}" for number in range(nodes)], list(kinds), pairs)
+
+
+def text_of(circuit):
+    """A text that makes the circuit's file."""
+    lines = [f"# {len(circuit.kinds)} nodes, {len(circuit.links)} links"]
+    lines += [f"node {name} {kind}" for name, kind in zip(circuit.names, circuit.kinds)]
+    links = set(circuit.links)
+    for start, end in circuit.links:
+        two_way = start != end and (end, start) in links
+        if two_way and start > end:
+            continue
+        arrow = "<->" if two_way else "->"
+        lines.append(f"{circuit.names[start]} {arrow} {circuit.names[end]}")
+    return "\n".join(lines) + "\n"
+
+
+def told(report, circuit):
+    """A report with the names of a board's nodes in place of their numbers."""
+    lines = []
+    for line in report.splitlines():
+        words = line.split()
+        if words[:1] == ["place"]:
+            try:
+                words = [named(word, circuit.names) for word in words]
+            except (ValueError, IndexError):
+                raise Faults([f"not a report on this board: {line}"]) from None
+        lines.append(" ".join(words) + "\n")
+    return "".join(lines)
+
+
+def named(word, names):
+    """A word of a report's place line by names."""
+    if word in ("place", "/"):
+        return word
+    if word.endswith(":"):
+        return names[int(word[:-1])] + ":"
+    return "->".join(names[int(number)] for number in word.split("-"))
+
+
+def make(arguments):
+    """The command 'make'."""
+    circuit = load_text(arguments.text)
+    if arguments.role:
+        check_role(circuit, arguments.role, arguments.text)
+    with open(arguments.out, "wb") as file:
+        file.write(circuit.file())
+
+
+def show(arguments):
+    """The command 'show'."""
+    with open(arguments.file, "rb") as file:
+        data = file.read()
+    sys.stdout.write(text_of(read_file(data, arguments.file)))
+
+
+def tell(arguments):
+    """The command 'tell'."""
+    circuit = load_text(arguments.text)
+    with open(arguments.report or 0, encoding="utf-8") as file:
+        sys.stdout.write(told(file.read(), circuit))
+
+
+def command_line():
+    """The parser of the command line."""
+    summary, form = __doc__.split("\n\n", 1)
+    parser = argparse.ArgumentParser(
+        description=summary, epilog=form, formatter_class=argparse.RawDescriptionHelpFormatter)
+    commands = parser.add_subparsers(required=True, metavar="COMMAND")
+    one = commands.add_parser("make", help="write the .cir file of a text")
+    one.add_argument("--as", dest="role", choices=sorted(LIMITS), help="demand that the circuit fits this role")
+    one.add_argument("text", metavar="TEXT")
+    one.add_argument("out", metavar="OUT.cir")
+    one.set_defaults(run=make)
+    one = commands.add_parser("show", help="print a text that makes a .cir file")
+    one.add_argument("file", metavar="FILE.cir")
+    one.set_defaults(run=show)
+    one = commands.add_parser("tell", help="print a report with a board's names")
+    one.add_argument("text", metavar="TEXT")
+    one.add_argument("report", metavar="REPORT", nargs="?", help="standard input if left out")
+    one.set_defaults(run=tell)
+    return parser
+
+
+def main():
+    """Runs a command; status 1 if its input is wrong, 2 if it is called wrongly."""
+    if hasattr(signal, "SIGPIPE"):
+        signal.signal(signal.SIGPIPE, signal.SIG_DFL)
+    arguments = command_line().parse_args()
+    try:
+        arguments.run(arguments)
+    except Faults as faults:
+        sys.exit(str(faults))
+    except OSError as error:
+        sys.exit(f"{error.filename}: {error.strerror}")
+
+
+if __name__ == "__main__":
+    main()

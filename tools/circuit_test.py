@@ -1,0 +1,204 @@
+#!/usr/bin/env python3
+"""Tests circuit.py on fixed texts, files and reports; status 1 on a failure."""
+
+import pathlib
+import struct
+import subprocess
+import sys
+import tempfile
+
+TOOL = pathlib.Path(__file__).with_name("circuit.py")
+
+T_FILE = "030002000a0014001e000000010001000200"
+B_FILE = "060003000a0014001e0014001e000a00" "000001000300" "010002000400"
+
+# Texts and the files they make, in hexadecimal.
+GOOD = [
+    ("T", "node a 10\nnode b 20\nnode c 30\na -> b\nb -> c\n", T_FILE),
+    ("names for kinds, any order, comments",
+     "# T\nb -> c  # last\n a -> b\nnode a first\nnode b 0x14\n\nnode c 30\nkind first 10\n", T_FILE),
+    ("a chain", "node a 10\nnode b 20\nnode c 30\na -> b -> c", T_FILE),
+    ("from the other end", "node a 10\nnode b 20\nnode c 30\nc <- b <- a", T_FILE),
+    ("lines of other systems, a byte order mark",
+     "\ufeffnode a 10\r\nnode b 20\rnode c 30\r\na -> b -> c\r\n", T_FILE),
+    ("B", "node a 10\nnode b 20\nnode c 30\nnode d 20\nnode e 30\nnode f 10\nd -> e\nb -> c\na -> b", B_FILE),
+    ("nothing", "", "00000000"),
+    ("one node", "node x 0", "010000000000"),
+    ("the largest kind", "node x 65535", "01000000ffff"),
+    ("a self-link", "node x 7\nx -> x", "01000100070000000000"),
+    ("two ways", "node x 1\nnode y 2\nx <-> y", "02000200" "01000200" "00000100" "01000000"),
+    ("odd names", "node +9V 1\nnode Q1.b 2\nnode ü 3\nkind R:10k 4\nnode - R:10k\n"
+     "+9V -> Q1.b\nü <- -", "04000200" "0100020003000400" "00000300" "01000200"),
+]
+
+# Texts that make no file, and what is said, line numbers included.
+BAD = [
+    ("node a", ["1: expected 'node NAME KIND'"]),
+    ("node a 1 2", ["1: expected 'node NAME KIND'"]),
+    ("\nnode a x", ["2: no kind is named 'x'"]),
+    ("node a 65536", ["1: '65536' is not a number from 0 to 65535"]),
+    ("node a -1", ["1: no kind is named '-1'"]),
+    ("node node 1", ["1: 'node' can't name a node"]),
+    ("node a 1\n\nnode a 2", ["3: node 'a' is named twice, first in line 1"]),
+    ("kind r", ["1: expected 'kind NAME NUMBER'"]),
+    ("kind r 1 2", ["1: expected 'kind NAME NUMBER'"]),
+    ("kind r x", ["1: 'x' is not a number from 0 to 65535"]),
+    ("kind r 65536", ["1: '65536' is not a number from 0 to 65535"]),
+    ("kind 1r 5", ["1: '1r' can't name a kind"]),
+    ("kind r 1\nkind r 1", ["2: kind 'r' is named twice, first in line 1"]),
+    ("a", ["1: 'a' begins no statement"]),
+    ("nodes a 1", ["1: 'nodes' begins no statement"]),
+    ("node a 1\na->a", ["2: an arrow is one of"]),
+    ("node a 1\na - > a", ["2: an arrow is one of"]),
+    ("node a 1\na ->", ["2: expected 'NAME -> NAME'"]),
+    ("node a 1\n-> a", ["2: expected 'NAME -> NAME'"]),
+    ("node a 1\na -> -> a", ["2: expected 'NAME -> NAME'"]),
+    ("node a 1\na a -> a", ["2: expected 'NAME -> NAME'"]),
+    ("node a 1\na -> b", ["2: no node is named 'b'"]),
+    ("node a 1\nb -> b", ["2: no node is named 'b'"]),
+    ("node a 1\na -> a\na -> a", ["3: link 'a -> a' stands twice, first in line 2"]),
+    ("node a 1\nnode b 1\na <-> b\nb -> a", ["4: link 'b -> a' stands twice, first in line 3"]),
+    ("node a 1\na <-> a", ["2: a link from 'a' to itself is written 'a -> a'"]),
+    ("nod a 1\nnode b k\nb -> c", ["1: 'nod' begins", "2: no kind is named 'k'", "3: no node is named 'c'"]),
+]
+
+# Texts that make a file, but not in the role told.
+BAD_ROLES = [
+    ("pattern", "", "0 nodes, and a pattern has 1 to 32"),
+    ("pattern", "".join(f"node {n} 1\n" for n in range(33)), "33 nodes, and a pattern has 1 to 32"),
+    ("pattern", "node a 1\nnode b 1\nb -> b", "no path joins 'b' to 'a'"),
+    ("board", "".join(f"node {n} 1\n" for n in range(513)), "513 nodes, and a board has 0 to 512"),
+    ("pattern", "".join(f"node {n} 1\n" for n in range(17))
+     + "".join(f"{at // 17} -> {at % 17}\n" for at in range(257)),
+     "257 links, and a pattern has at most 256"),
+    ("board", "".join(f"node {n} 1\n" for n in range(65))
+     + "".join(f"{at // 65} -> {at % 65}\n" for at in range(4097)),
+     "4097 links, and a board has at most 4096"),
+]
+
+# Files that are not shown, and what is said.
+BAD_FILES = [
+    ("020001", "3 bytes, and a circuit file has at least 4"),
+    ("01000000", "4 bytes, and a circuit file of 1 nodes and 0 links has 6"),
+    ("010001000a0000000100", "link 0 is 0-1, and there are 1 nodes"),
+    ("010002000a000000000000000000", "link 1, 0-0, does not come after 0-0"),
+]
+
+REPORT = "place 0: 0 1 2 / 0-1 1-2\nplace 5: 5 /\nend 2 of 6\n"
+NAMED = "place a: a b c / a->b b->c\nplace f: f /\nend 2 of 6\n"
+
+failures = []
+
+
+def check(name, good, seen=""):
+    """Counts a failure unless the test is good."""
+    if not good:
+        failures.append(name)
+        print(f"FAILED {name}: {seen}")
+
+
+def run(*arguments, given=None):
+    """Runs the tool."""
+    command = [sys.executable, TOOL, *arguments]
+    return subprocess.run(command, input=given, capture_output=True, text=True, encoding="utf-8", check=False)
+
+
+def file_of(folder, text, *options):
+    """What 'make' says, and the file it makes, if any."""
+    source, out = folder / "in.txt", folder / "out.cir"
+    source.write_bytes(text.encode("utf-8"))
+    out.unlink(missing_ok=True)
+    done = run("make", *options, source, out)
+    return done, out.read_bytes() if out.exists() else None
+
+
+def shown(folder, data):
+    """What 'show' prints of a file."""
+    path = folder / "given.cir"
+    path.write_bytes(data)
+    return run("show", path)
+
+
+def test_good(folder):
+    """Good texts make their file, and what is shown makes it again."""
+    for name, text, expected in GOOD:
+        done, made = file_of(folder, text)
+        check(name, done.returncode == 0 and made == bytes.fromhex(expected), (done, made))
+        text = shown(folder, bytes.fromhex(expected)).stdout
+        check(f"{name}, shown", file_of(folder, text)[1] == bytes.fromhex(expected), text)
+    text = shown(folder, bytes.fromhex("0200030001000200000000000100000001000000")).stdout
+    check("two ways are shown as such", text.endswith("n0 -> n0\nn0 <-> n1\n"), text)
+
+
+def test_bad(folder):
+    """Bad texts make no file and are told with their lines."""
+    for text, messages in BAD:
+        done, made = file_of(folder, text)
+        lines = done.stderr.splitlines()
+        starts = [f"{folder / 'in.txt'}:{message}" for message in messages]
+        told = len(lines) == len(starts) and all(map(str.startswith, lines, starts))
+        check(repr(text), done.returncode == 1 and made is None and told, done.stderr)
+    (folder / "in.txt").write_bytes(b"# one\n# \xff\n")
+    done = run("make", folder / "in.txt", folder / "out.cir")
+    check("not UTF-8", done.returncode == 1 and "in.txt:2: not a UTF-8 text" in done.stderr, done)
+
+
+def test_roles(folder):
+    """A circuit that does not fit its role is told, and only if the role is."""
+    for role, text, message in BAD_ROLES:
+        done, made = file_of(folder, text, "--as", role)
+        check(message, done.returncode == 1 and made is None and message in done.stderr, done)
+        check(f"no role, {message}", file_of(folder, text)[1] is not None)
+    for role in ("pattern", "board"):
+        done, made = file_of(folder, GOOD[0][1], "--as", role)
+        check(f"T as {role}", made == bytes.fromhex(T_FILE), done)
+    done, made = file_of(folder, "", "--as", "board")
+    check("a board without nodes", made == bytes(4), done)
+
+
+def test_files(folder):
+    """Faulty files are told; the largest file is shown and made again."""
+    for data, message in BAD_FILES:
+        done = shown(folder, bytes.fromhex(data))
+        good = done.returncode == 1 and message in done.stderr and not done.stdout
+        check(message, good, done)
+    links = [(at // 64, at * 7 % 64) for at in range(4096)]
+    fields = [512, 4096, *range(1000, 1512), *(v for v, _ in sorted(links)), *(w for _, w in sorted(links))]
+    data = struct.pack(f"<{len(fields)}H", *fields)
+    made = file_of(folder, shown(folder, data).stdout, "--as", "board")[1]
+    check("a board of the largest size", made == data)
+
+
+def test_tell(folder):
+    """A report is told by names, from a file and from standard input."""
+    text, report = folder / "board.txt", folder / "report.txt"
+    text.write_text(GOOD[5][1], encoding="utf-8")
+    report.write_text(REPORT, encoding="utf-8")
+    check("a report", run("tell", text, report).stdout == NAMED)
+    check("a report given", run("tell", text, given=REPORT).stdout == NAMED)
+    check("a refusal", run("tell", text, given="refused 3 board\n").stdout == "refused 3 board\n")
+    done = run("tell", text, given="place 9: 9 /\n")
+    check("another board's report", done.returncode == 1 and "not a report" in done.stderr, done)
+
+
+def test_calls(folder):
+    """Wrong calls and missing files."""
+    check("no command", run().returncode == 2)
+    check("an unknown role", run("make", "--as", "lid", "a", "b").returncode == 2)
+    done = run("show", folder / "none.cir")
+    check("no such file", done.returncode == 1 and "none.cir: No such file" in done.stderr, done)
+    check("help", "NAME <-> NAME" in run("--help").stdout)
+
+
+def main():
+    """Runs all tests."""
+    with tempfile.TemporaryDirectory() as name:
+        for test in (test_good, test_bad, test_roles, test_files, test_tell, test_calls):
+            test(pathlib.Path(name))
+    if failures:
+        sys.exit(f"{len(failures)} failed")
+    print("circuit.py: all tests passed")
+
+
+if __name__ == "__main__":
+    main()
