@@ -1,0 +1,112 @@
+/* Makes one call on the two files of a folder, by the proved library or in plain C: the match table, or the place around each of some
+ * centres. bench/run counts the instructions inside the calls. With `compare` both are called, and must reply and leave the same. */
+#include <stdio.h>
+#include <stdlib.h>
+#include <string.h>
+
+#include "heronditch.h"
+#include "native.h"
+
+struct file {
+    uint8_t bytes[65536];
+    size_t size;
+};
+
+static struct file pattern, board;
+
+/* What a call replies with, and what is lent to it. */
+struct result {
+    native_counts counts;
+    uint32_t table[NATIVE_NODES];
+    uint8_t nodes[NATIVE_NODES], links[NATIVE_LINKS];
+};
+
+static void load(const char *folder, const char *name, struct file *to)
+{
+    char path[4096];
+    snprintf(path, sizeof path, "%s/%s", folder, name);
+    FILE *f = fopen(path, "rb");
+    if (!f) {
+        perror(path);
+        exit(2);
+    }
+    to->size = fread(to->bytes, 1, sizeof to->bytes, f);
+    fclose(f);
+}
+
+static native_counts counts_of(heronditch_counts c)
+{
+    return (native_counts){c.number, c.file, c.started, c.kept, c.struck, c.rounds};
+}
+
+#define FILES pattern.bytes, pattern.size, board.bytes, board.size
+#define TABLE r->table, NATIVE_NODES
+#define TABLES r->nodes, NATIVE_NODES, r->links, NATIVE_LINKS, TABLE
+
+static void proved_match(size_t centre, struct result *r)
+{
+    (void)centre;
+    r->counts = counts_of(heronditch_match(FILES, TABLE));
+}
+
+static void plain_match(size_t centre, struct result *r)
+{
+    (void)centre;
+    r->counts = native_match(FILES, TABLE);
+}
+
+static void proved_place(size_t centre, struct result *r)
+{
+    r->counts = counts_of(heronditch_place(FILES, centre, TABLES));
+}
+
+static void plain_place(size_t centre, struct result *r)
+{
+    r->counts = native_place(FILES, centre, TABLES);
+}
+
+/* The result of a call that is lent tables full of ones. */
+static void make(void (*call)(size_t, struct result *), size_t centre, struct result *r)
+{
+    memset(r, 0xff, sizeof *r);
+    call(centre, r);
+}
+
+static struct {
+    const char *name;
+    void (*proved)(size_t, struct result *), (*plain)(size_t, struct result *);
+} jobs[] = {{"match", proved_match, plain_match}, {"place", proved_place, plain_place}};
+
+/* Makes the calls for some centres, and prints how many were accepted, and the counts of the last. */
+static int run(unsigned job, const char *how, size_t first, size_t last)
+{
+    static struct result one, two;
+    bool both = !strcmp(how, "compare"), proved = !strcmp(how, "proved");
+    unsigned accepted = 0;
+    for (size_t centre = first; centre <= last; centre++) {
+        make(both || proved ? jobs[job].proved : jobs[job].plain, centre, &one);
+        if (both) {
+            make(jobs[job].plain, centre, &two);
+            if (memcmp(&one, &two, sizeof one)) {
+                printf("centre %zu: not the same\n", centre);
+                return 1;
+            }
+        }
+        accepted += one.counts.number == 0;
+    }
+    printf("%u %u %u %u %u\n", accepted, one.counts.number, one.counts.started, one.counts.kept, one.counts.rounds);
+    return 0;
+}
+
+int main(int argc, char **argv)
+{
+    if (argc == 6) {
+        load(argv[3], "pattern.cir", &pattern);
+        load(argv[3], "board.cir", &board);
+        for (unsigned job = 0; job < sizeof jobs / sizeof *jobs; job++)
+            if (!strcmp(argv[1], jobs[job].name))
+                return run(job, argv[2], strtoul(argv[4], NULL, 10), strtoul(argv[5], NULL, 10));
+    }
+    fprintf(stderr, "usage: %s match|place proved|plain|compare FOLDER FIRST-CENTRE LAST-CENTRE\n", argv[0]);
+    return 2;
+}

@@ -1,0 +1,143 @@
+/* The report in plain C, tuned, for the comparison of cost: `native_report [FOLDER]` reads pattern.cir and board.cir once, makes the whole
+ * board's match table once, passes over the centres and pairs that are not in it, and prints through a large buffer. It is no part of the
+ * product. */
+#include <errno.h>
+#include <stdio.h>
+#include <stdlib.h>
+#include <string.h>
+#include <unistd.h>
+
+#include "native.h"
+
+enum {
+    FILE_BYTES = 4 + 2 * NATIVE_NODES + 4 * NATIVE_LINKS,
+    LINE_BYTES = 16 + 4 * NATIVE_NODES + 8 * NATIVE_LINKS, /* more than any line has */
+    BUFFER_BYTES = 1 << 20
+};
+
+/* A file's bytes, and one more where it is too long for any circuit. */
+struct file {
+    uint8_t bytes[FILE_BYTES + 1];
+    size_t size;
+};
+
+/* The text that is not written yet. */
+static char buffer[BUFFER_BYTES];
+static size_t used;
+
+/* The decimal digits of each node. */
+static struct {
+    char digits[4];
+    uint32_t length;
+} names[NATIVE_NODES];
+
+static void fail(const char *what)
+{
+    perror(what);
+    exit(1);
+}
+
+/* Reads a file; one that is not there counts as empty. */
+static void load(const char *name, struct file *to)
+{
+    FILE *f = fopen(name, "rb");
+    to->size = 0;
+    if (!f && errno != ENOENT)
+        fail(name);
+    if (!f)
+        return;
+    to->size = fread(to->bytes, 1, sizeof to->bytes, f);
+    if (ferror(f))
+        fail(name);
+    fclose(f);
+}
+
+static void flush(void)
+{
+    for (size_t done = 0; done < used;) {
+        ssize_t written = write(STDOUT_FILENO, buffer + done, used - done);
+        if (written < 0 && errno != EINTR)
+            fail("standard output");
+        done += written < 0 ? 0 : (size_t)written;
+    }
+    used = 0;
+}
+
+static void make_names(unsigned n)
+{
+    for (unsigned v = 0; v < n; v++) {
+        char text[16];
+        names[v].length = (uint32_t)snprintf(text, sizeof text, "%u", v);
+        memcpy(names[v].digits, text, sizeof names[v].digits);
+    }
+}
+
+/* Four bytes are copied at once; those after the digits are written over. */
+static inline char *put_node(char mark, unsigned v, char *at)
+{
+    *at++ = mark;
+    memcpy(at, names[v].digits, sizeof names[v].digits);
+    return at + names[v].length;
+}
+
+/* The line of a centre with a place. */
+static void put_line(const native_finder *f, unsigned centre, const uint8_t *nodes, const uint8_t *links)
+{
+    if (sizeof buffer - used < LINE_BYTES)
+        flush();
+    char *at = buffer + used;
+    memcpy(at, "place", 5);
+    at = put_node(' ', centre, at + 5);
+    *at++ = ':';
+    for (unsigned v = 0; v < f->board.n; v++)
+        if (nodes[v])
+            at = put_node(' ', v, at);
+    *at++ = ' ';
+    *at++ = '/';
+    for (unsigned v = 0; v < f->board.n; v++)
+        for (unsigned i = f->forward_at[v]; nodes[v] && i < f->forward_at[v + 1]; i++)
+            if (links[i])
+                at = put_node('-', f->board.ends[i], put_node(' ', v, at));
+    *at++ = '\n';
+    used = (size_t)(at - buffer);
+}
+
+/* The lines of all centres, and the last line. */
+static void put_report(native_finder *f)
+{
+    uint32_t whole[NATIVE_NODES];
+    uint8_t nodes[NATIVE_NODES], links[NATIVE_LINKS];
+    unsigned found = 0, radius = native_radius(f);
+    native_neighbours(f);
+    native_whole(f, whole);
+    make_names(f->board.n);
+    for (unsigned centre = 0; centre < f->board.n; centre++)
+        if (native_locate(f, whole, centre, radius, nodes, links)) {
+            put_line(f, centre, nodes, links);
+            found++;
+        }
+    if (sizeof buffer - used < LINE_BYTES)
+        flush();
+    used += (size_t)snprintf(buffer + used, LINE_BYTES, "end %u of %u\n", found, f->board.n);
+}
+
+int main(int argc, char **argv)
+{
+    static struct file pattern, board;
+    static native_finder f;
+    if (argc > 2) {
+        fprintf(stderr, "usage: %s [FOLDER]\n", argv[0]);
+        return 2;
+    }
+    if (argc == 2 && chdir(argv[1]))
+        fail(argv[1]);
+    load("pattern.cir", &pattern);
+    load("board.cir", &board);
+    native_counts said = native_read(pattern.bytes, pattern.size, board.bytes, board.size, &f);
+    if (said.number)
+        used = (size_t)snprintf(buffer, sizeof buffer, "refused %u %s\n", said.number, said.file == NATIVE_PATTERN ? "pattern" : "board");
+    else
+        put_report(&f);
+    flush();
+    return 0;
+}
