@@ -4,7 +4,7 @@
 mod common;
 
 use common::circuit;
-use second::calls::{self, PlaceTables};
+use second::calls::{self, PlaceTables, Reply};
 use second::circuit::{File, Role};
 
 /// A pattern of 3 parts and 3 links, the last two to be merged.
@@ -39,6 +39,12 @@ fn starting<T: From<u8> + Clone>(values: &[T], length: usize) -> Vec<T> {
     table
 }
 
+/// Refused with 8 of neither file, and no values.
+fn too_short(reply: &Reply) {
+    assert_eq!((reply.number, reply.file), (8, File::Neither));
+    assert_eq!((reply.first, reply.second), (0, 0));
+}
+
 #[test]
 fn reading() {
     for role in [Role::Pattern, Role::Board] {
@@ -55,8 +61,7 @@ fn reading() {
                 );
                 assert_eq!(tables, read);
             } else {
-                assert_eq!((reply.number, reply.file), (8, File::Neither));
-                assert_eq!((reply.first, reply.second), (0, 0));
+                too_short(&reply);
                 assert_eq!(tables, (filled(a), filled(b), filled(c)));
             }
         }
@@ -74,10 +79,7 @@ fn writing() {
                 assert_eq!((reply.number, reply.first, reply.second), (0, 22, 0));
                 assert_eq!(out, starting(&pattern(), length));
             } else {
-                assert_eq!(
-                    (reply.number, reply.file, reply.first),
-                    (8, File::Neither, 0)
-                );
+                too_short(&reply);
                 assert_eq!(out, filled(length));
             }
         }
@@ -93,10 +95,7 @@ fn ball() {
             assert_eq!((reply.number, reply.first), (0, 3));
             assert_eq!(out, starting(&[1, 1, 0], length));
         } else {
-            assert_eq!(
-                (reply.number, reply.file, reply.first),
-                (8, File::Neither, 0)
-            );
+            too_short(&reply);
             assert_eq!(out, filled(length));
         }
     }
@@ -159,8 +158,7 @@ fn merging() {
             assert_eq!(classes, starting(&[0, 1, 1], a));
             assert_eq!(out, starting(&merged, b));
         } else {
-            assert_eq!((reply.number, reply.file), (8, File::Neither));
-            assert_eq!((reply.first, reply.second), (0, 0));
+            too_short(&reply);
             assert_eq!((classes, out), (filled(a), filled(b)));
         }
     }

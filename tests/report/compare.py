@@ -7,18 +7,13 @@ files. Exits 1 on a difference, naming the folder, which is kept.
 import os
 import random
 import shutil
-import struct
 import subprocess
 import sys
 import tempfile
 from pathlib import Path
 
-
-def encode(kinds, links):
-    """The file of a circuit."""
-    links = sorted(links)
-    fields = [len(kinds), len(links), *kinds, *(a for a, _ in links), *(b for _, b in links)]
-    return struct.pack(f"<{len(fields)}H", *fields)
+sys.path.insert(0, str(Path(__file__).resolve().parents[2] / "bench"))
+from boards import circuit_file as encode  # noqa: E402
 
 
 def tree(rng, parts):
