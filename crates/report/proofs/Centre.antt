@@ -4,10 +4,9 @@ use mathlib.Core.Bool.{Bool, true, false, not, cond}
 use mathlib.Core.List.{List, [], _++_}
 use mathlib.Core.Logic.{⊎-elim}
 use mathlib.Core.Path.{_≡_, refl, sym, ap, ap₂, subst, _∙_}
-use Prim.Native.Nat.{ℕ, _^_, _<_}
+use Prim.Native.Nat.{ℕ, _<_}
 use native.Mathlib.Nat.{zero-lt-suc}
 use native.Mathlib.Omega.{arith}
-use borrow.Author.Tests.{eq-eqb, ne-eqb}
 use lib.Dec.{eqb}
 use lib.ListN.{length, getD}
 use Rattle.lists.specs.Below.{concatBelow}
@@ -21,16 +20,10 @@ use Rattle.graph.specs.Circuit.{Circuit}
 use Rattle.graph.specs.Neighbours.{select, stretch}
 use Rattle.graph.specs.Rising.{LinksRise}
 use Rattle.graph.specs.Search.{far, inside}
-use Rattle.graph.proofs.Ball.{Within, within}
 use Rattle.table.specs.Prepared.{Tables, Prepared}
-use Rattle.table.proofs.Sets.{fits-word}
 use Rattle.place.specs.Bytes.{nodeBytes, drivenBy, linkByte, linkBytes}
-use Rattle.place.specs.Match.{radiusOf, ballTable, found, placeNodes, placeLinks}
+use Rattle.place.specs.Match.{radiusOf}
 use Rattle.place.specs.Outcome.{Located}
-use Rattle.place.specs.Spread.{matched, Spread}
-use Rattle.place.proofs.Ball.{ball-fits}
-use Rattle.place.proofs.Bytes.{bytes-nodes, bytes-links}
-use Rattle.place.proofs.Matched.{forward-test, spread-component}
 use Rattle.report.specs.Lines.{reached, nodeText, nodesText, linkText, drivenText, startText, linksText, lineText}
 use Rattle.report.specs.Report.{marked, linkItem, nodeItems, linkItems, placeLine, hasPlace, centreLine}
 use Rattle.report.proofs.Concat.{concat-none}
@@ -100,53 +93,6 @@ links-order starts ends fo ft succ dist sets e below rise grouped =
 -- ---- the centre's line
 
 -- no place: no line
-pub centre-none : (pattern board : Circuit) (c : ℕ) (sets : List ℕ) → sets ≡ ballTable pattern board c (radiusOf pattern) → getD sets c 0 ≡ 0
-    → centreLine pattern board c ≡ []
-unfolding centreLine hasPlace found
-centre-none pattern board c sets e z = rw (eq-eqb _ 0 (ap (λ (l : List ℕ). getD l c 0) (sym e) ∙ z))
-
--- What is asked of the circuits and the tables: the board's links join its nodes and are in the file's order.
-module _
-    {pattern board : Circuit} {t : Tables} (p : Prepared pattern board t) (partners : length (pattern .starts) ≡ length (pattern .ends))
-    (parallel : length (board .starts) ≡ length (board .ends)) (starts : Below (length (board .kinds)) (board .starts))
-    (ends : Below (length (board .kinds)) (board .ends)) (rise : LinksRise (board .starts) (board .ends)) (c : ℕ) (h : c < length (board .kinds))
-  where
-    joins : Within (length (board .kinds)) (board .starts) (board .ends)
-    unfolding Below
-    joins = within (length (board .kinds)) (board .starts) (board .ends) starts ends
-
-    -- when the search for the component is done, the line that is put is the place's, at whatever radius
-    module _ (r : ℕ) (dist : List ℕ) (g : Spread (length (board .kinds)) c (matched t (ballTable pattern board c r)) dist) where
-      small : (v : ℕ) → getD (ballTable pattern board c r) v 0 < 2 ^ 32
-      small = fits-word (p .parts) (ball-fits pattern board c r)
-
-      found-nodes : (v : ℕ) → v < length (board .kinds) → inside (placeNodes pattern board c r) v ≡ not (eqb (getD dist v 0) far)
-      unfolding placeNodes
-      found-nodes = spread-component p joins partners (ballTable pattern board c r) small c h dist g
-
-      nodes-placed : nodesText dist ≡ nodeItems (placeNodes pattern board c r)
-      nodes-placed = sym (nodes-text dist) ∙ ap nodeItems (bytes-nodes pattern board c r dist (g .size) found-nodes)
-
-      links-placed : linksText (t .forwardOffsets) (t .forward) (t .succ) dist (ballTable pattern board c r)
-          ≡ linkItems (board .starts) (board .ends) (placeLinks pattern board c r)
-      links-placed =
-          sym
-          (links-order (board .starts) (board .ends) (t .forwardOffsets) (t .forward) (t .succ) dist (ballTable pattern board c r) parallel (rw (g .size) starts)
-          rise (λ v l. p .drives v (subst (λ m. v < m) (g .size) l)))
-          ∙ ap (linkItems (board .starts) (board .ends))
-          (bytes-links pattern board c r dist (g .size) found-nodes (t .succ) starts (forward-test p joins partners (ballTable pattern board c r) small))
-
-    -- The centre occurs in its ball's table, and the search for its component is done: the line that is put is the centre's.
-    pub centre-some : (sets dist : List ℕ) → sets ≡ ballTable pattern board c (radiusOf pattern) → (getD sets c 0 ≡ 0 → ⊥)
-        → Spread (length (board .kinds)) c (matched t sets) dist
-        → lineText (t .forwardOffsets) (t .forward) (t .succ) dist sets c ≡ centreLine pattern board c
-    unfolding centreLine hasPlace found lineText
-    centre-some sets dist e f g =
-        rw (ne-eqb _ 0 (λ q. f (ap (λ (l : List ℕ). getD l c 0) e ∙ q)), e)
-        (ap₂ (placeLine c) (nodes-placed (radiusOf pattern) dist (rw e at g)) (links-placed (radiusOf pattern) dist (rw e at g)))
-
--- ---- from what finding leaves
-
 pub centre-missed : (pattern board : Circuit) (c : ℕ) → hasPlace pattern board c ≡ false → centreLine pattern board c ≡ []
 unfolding centreLine
 centre-missed pattern board c e = rw e
