@@ -8,14 +8,14 @@ ghost use Rattle.table.specs.Refine.{circuit, Refined};
 ghost use Rattle.table.specs.Prepared.{tables, Prepared};
 ghost use Rattle.place.specs.Match.{ballOf};
 ghost use Rattle.place.specs.Outcome.{placeReply, placeAround};
+use component::component;
 use files::File;
 use files::Refusal;
-use graph::search::search;
+use marking::fill;
 use place::PlaceAnswer;
-use place::component::component;
-use place::marking::fill;
-use table::largest::Counts;
-use table::largest::refine;
+use refining::refine;
+use search::search;
+use table::Counts;
 
 // The four counts of the ball around c at radius r and, in `sets`, the largest dual simulation in it. `dist`, `queue` and `spare` are scratch.
 fn match_ball(

@@ -1,7 +1,7 @@
 // Sets of pattern parts as 32-bit numbers: part u is in the set when bit u is 1.
 ghost use mathlib.Core.Path.{_≡_};
 ghost use Prim.Native.Nat.{_^_, _<_};
-ghost use lib.ListN.{length};
+ghost use lib.ListN.{length, replicate};
 ghost use Rattle.bits.specs.Bits.{bit, subsetOf, intersects, firstOf, withoutFirst, sizeOf, unionOver};
 
 // Whether part u is in the set.
@@ -68,4 +68,15 @@ pub fn union_of(masks: &[u32], set: u32) -> u32
         left = left & (left - 1);
     }
     union
+}
+
+// Makes every set empty.
+pub fn clear(sets: &mut [u32])
+    ensures { λ _. ⌜ now (sets .exit) ≡ replicate (length (now (sets .entry))) 0 ⌝ }
+{
+    let mut i = 0;
+    while i < sets.len() {
+        sets[i] = 0;
+        i += 1;
+    }
 }

@@ -1,16 +1,11 @@
 -- What the two calls come to, by cases of the conditions. Assumes nothing.
-use mathlib.Core.Bool.{cond}
 use mathlib.Core.List.{List, [], _∷_, _++_}
-use mathlib.Core.Path.{_≡_, sym, ap, subst, _∙_}
+use mathlib.Core.Path.{_≡_}
 use Prim.Native.Nat.{ℕ, _≤_, _<_}
 use borrow.Author.Tests.{lt-ltb, le-ltb}
-use lib.Dec.{eqb}
-use lib.ListN.{length, getD, drop, List·getD-append}
-use Rattle.lists.specs.List.{tabulate}
-use Rattle.lists.proofs.Tables.{tabulate-same}
-use Rattle.graph.specs.Search.{far, ball, distances, radius}
-use Rattle.graph.proofs.Ball.{Within, length-ball}
-use Rattle.graph.proofs.Distance.{ball-distances, length-distances}
+use lib.ListN.{length, drop}
+use Rattle.graph.specs.Search.{ball, radius}
+use Rattle.graph.proofs.Ball.{length-ball}
 use Rattle.files.specs.declared.File.the-variants.{Neither}
 use Rattle.files.specs.declared.Refusal.{Refusal}
 use Rattle.files.specs.declared.Role.the-variants.{Pattern, Board}
@@ -19,7 +14,7 @@ use Rattle.files.specs.Reading.{filled}
 use Rattle.files.specs.Refusals.{accept, refuse, first, fileConditions, centreOutside, shortTable}
 use Rattle.files.specs.Reply.{reply}
 use Rattle.files.proofs.Refusals.{first-accept, first-refuse}
-use Rattle.distance.specs.Calls.{radiusCall, ballConditions, ballEntries, ballCall, mark}
+use Rattle.distance.specs.Calls.{radiusCall, ballConditions, ballEntries, ballCall}
 
 -- ---- the radius
 
@@ -60,13 +55,3 @@ module _ (file : List ℕ) (centre r : ℕ) (out : List ℕ) where
         }
     unfolding ballCall ballConditions ballEntries first centreOutside shortTable reply filled
     ball-filled h l = rw (first-accept _ _ e) (simp (lt-ltb _ _ h, le-ltb _ _ l, length-ball))
-
--- ---- the bytes from the distances
-
--- the ball's bytes are the marks of the distances, whatever stands behind these
-pub ball-marks : {n : ℕ} {ss es : List ℕ} → Within n ss es → (c r : ℕ) → n ≤ far → (dist rest : List ℕ) → dist ≡ distances n ss es c r ++ rest
-    → tabulate n (λ v. mark (getD dist v 0)) ≡ ball n ss es c r
-unfolding mark
-ball-marks {n} {ss} {es} links c r few dist rest e =
-    tabulate-same n _ _ (λ v h. ap (λ (x : ℕ). cond (eqb x far) 0 1) (ap (λ (l : List ℕ). getD l v 0) e ∙ List·getD-append (distances n ss es c r) rest 0 v (subst (λ (k : ℕ). v < k) (sym (length-distances n ss es c r)) h)))
-    ∙ sym (ball-distances links c r few)

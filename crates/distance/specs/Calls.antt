@@ -1,10 +1,8 @@
 -- The radius call and the ball lookup, whole: the reply, and the lent table's later content, from the inputs alone.
-use mathlib.Core.Bool.{cond}
 use mathlib.Core.List.{List, [], _∷_, _++_}
 use Prim.Native.Nat.{ℕ}
-use lib.Dec.{eqb}
 use lib.ListN.{length}
-use Rattle.graph.specs.Search.{far, ball, radius}
+use Rattle.graph.specs.Search.{ball, radius}
 use Rattle.files.specs.declared.Role.the-variants.{Pattern, Board}
 use Rattle.files.specs.Layout.{nodesOf, startsOf, endsOf}
 use Rattle.files.specs.Reading.{filled}
@@ -41,10 +39,6 @@ ballConditions file centre lent =
 -- what is filled in for the nodes
 unfoldable pub ballEntries : List ℕ → ℕ → ℕ → List ℕ
 ballEntries file centre r = ball (nodesOf file) (startsOf file) (endsOf file) centre r
-
--- the byte of a node at a distance: 0 where that is `far`, else 1
-unfoldable pub mark : ℕ → ℕ
-mark distance = cond (eqb distance far) 0 1
 
 -- the reply, and the table as the call leaves it
 pub record BallOutcome : Type 0 where

@@ -1,18 +1,14 @@
 // Distances in circuit files: a pattern's radius, and the ball around a node of a board.
 ghost use mathlib.Core.Path.{_≡_};
 ghost use Rattle.distance.specs.Calls.{radiusReply, radiusCall, ballReply, ballCall};
+use extent::ball::fill_ball;
+use extent::radius::radius_of;
 use files::Board;
 use files::File;
 use files::Pattern;
 use files::ReadAnswer;
 use files::Refusal;
 use files::Role;
-
-mod around;
-mod wide;
-
-use crate::around::fill_ball;
-use crate::wide::radius_of;
 
 // A pattern's radius, or why the file was turned away.
 pub enum RadiusAnswer {
@@ -33,7 +29,7 @@ pub fn radius(file: &[u8]) -> RadiusAnswer
     let mut kinds = [0u16; Pattern::MAX_NODES];
     let mut starts = [0u16; Pattern::MAX_LINKS];
     let mut ends = [0u16; Pattern::MAX_LINKS];
-    let answer = files::read(Role::Pattern, file, &mut kinds, &mut starts, &mut ends);
+    let answer = reading::read(Role::Pattern, file, &mut kinds, &mut starts, &mut ends);
     let ReadAnswer::Read(n, m) = answer else {
         return RadiusAnswer::Refused(files::refusal_of(answer));
     };
@@ -48,7 +44,7 @@ pub fn ball(file: &[u8], centre: usize, radius: u16, out: &mut [u8]) -> BallAnsw
     let mut kinds = [0u16; Board::MAX_NODES];
     let mut starts = [0u16; Board::MAX_LINKS];
     let mut ends = [0u16; Board::MAX_LINKS];
-    let answer = files::read(Role::Board, file, &mut kinds, &mut starts, &mut ends);
+    let answer = reading::read(Role::Board, file, &mut kinds, &mut starts, &mut ends);
     let ReadAnswer::Read(n, m) = answer else {
         return BallAnswer::Refused(files::refusal_of(answer));
     };

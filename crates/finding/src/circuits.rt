@@ -4,7 +4,7 @@ use around::place_around;
 use files::Board;
 use files::Pattern;
 use place::PlaceAnswer;
-use table::lookups::prepare;
+use preparing::lookups::prepare;
 ghost use mathlib.Core.Path.{_≡_};
 ghost use Prim.Native.Nat.{_≤_, _<_};
 ghost use lib.ListN.{length};
@@ -36,7 +36,7 @@ fn radius_for(
     match reach {
         Reach::Own => {
             let m = starts.len();
-            graph::measure::radius(
+            measure::radius(
                 kinds.len(),
                 starts,
                 ends,

@@ -7,7 +7,7 @@ use files::ReadAnswer;
 use files::Refusal;
 use files::Role;
 use place::PlaceAnswer;
-use table::largest::Counts;
+use table::Counts;
 ghost use mathlib.Core.Path.{_≡_};
 ghost use Prim.Native.Nat.{_≤_};
 ghost use lib.ListN.{length};
@@ -61,11 +61,11 @@ fn find_in(
     ensures { λ a. ⌜ record { reply = placeReply a; nodes = now (nodes .exit); links = now (links .exit); table = now (table .exit) }
         ≡ placeAt (now (pattern .entry)) (now (board .entry)) centre (radiusFor reach (circuitOf (now (pattern .entry)))) (now (nodes .entry)) (now (links .entry)) (now (table .entry)) ⌝ }
 {
-    let drawn = files::read(Role::Pattern, pattern, pk, ps, pe);
+    let drawn = reading::read(Role::Pattern, pattern, pk, ps, pe);
     let ReadAnswer::Read(parts, joins) = drawn else {
         return turned_away(files::refusal_of(drawn));
     };
-    let given = files::read(Role::Board, board, nk, ns, ne);
+    let given = reading::read(Role::Board, board, nk, ns, ne);
     let ReadAnswer::Read(n, m) = given else {
         return turned_away(files::refusal_of(given));
     };

@@ -2,7 +2,6 @@ pub mod Graph
 pub mod Circuit
 pub mod Rising
 pub mod Neighbours
-pub mod Lookup
 pub mod Counting
 pub mod Search
 pub mod Bfs

@@ -1,6 +1,1 @@
-// Neighbour tables of a directed graph, the breadth-first search over them, and the distances and the radius that it gives.
-pub mod group;
-pub mod joined;
-pub mod measure;
-pub mod neighbours;
-pub mod search;
+// Directed graphs: what walks, distances, balls and the radius are, and what neighbour tables and the search over them come to. No code.

@@ -1,7 +1,7 @@
 // The calls for programs in other languages: a slice crosses as a pointer and a length, and each reply is a struct of numbers.
 ghost use mathlib.Core.Path.{_≡_};
-ghost use Rattle.graph.specs.declared.neighbours.Direction.the-variants as direction;
-ghost use Rattle.graph.specs.Lookup.{neighboursOf};
+ghost use Rattle.adjacency.specs.declared.neighbours.Direction.the-variants as direction;
+ghost use Rattle.adjacency.specs.Lookup.{neighboursOf};
 ghost use Rattle.files.specs.declared.Role.the-variants as role;
 ghost use Rattle.files.specs.Reading.{reading};
 ghost use Rattle.distance.specs.Calls.{radiusCall, ballCall};
@@ -22,9 +22,9 @@ use crate::reply::of_place;
 use crate::reply::of_radius;
 use crate::reply::of_read;
 use crate::reply::of_write;
+use adjacency::neighbours::Direction;
+use adjacency::neighbours::neighbours;
 use files::Role;
-use graph::neighbours::Direction;
-use graph::neighbours::neighbours;
 
 mod copied;
 pub mod reply;
@@ -39,7 +39,7 @@ pub extern "C" fn heronditch_read_pattern(
     ensures { λ r. ⌜ record { reply = r; kinds = now (kinds .exit); starts = now (starts .exit); ends = now (ends .exit) }
         ≡ hostRead (reading role.Pattern (now (file .entry)) (now (kinds .entry)) (now (starts .entry)) (now (ends .entry))) ⌝ }
 {
-    of_read(files::read(Role::Pattern, file, kinds, starts, ends))
+    of_read(reading::read(Role::Pattern, file, kinds, starts, ends))
 }
 
 #[no_mangle]
@@ -52,7 +52,7 @@ pub extern "C" fn heronditch_read_board(
     ensures { λ r. ⌜ record { reply = r; kinds = now (kinds .exit); starts = now (starts .exit); ends = now (ends .exit) }
         ≡ hostRead (reading role.Board (now (file .entry)) (now (kinds .entry)) (now (starts .entry)) (now (ends .entry))) ⌝ }
 {
-    of_read(files::read(Role::Board, file, kinds, starts, ends))
+    of_read(reading::read(Role::Board, file, kinds, starts, ends))
 }
 
 #[no_mangle]

@@ -15,7 +15,7 @@ use files::Refusal;
 use matching::TableAnswer;
 use merging::MergeAnswer;
 use place::PlaceAnswer;
-use table::largest::Counts;
+use table::Counts;
 use writing::WriteAnswer;
 
 // Number 0 for acceptance or the refusal's number; the file that it means (0 neither, 1 pattern, 2 board); the values replied with.

@@ -15,7 +15,7 @@ use Rattle.files.proofs.Fields.{length-kinds}
 use Rattle.files.proofs.Refusals.{first-accept, first-refuse}
 use Rattle.files.proofs.Reading.{Loaded, frontOf, loaded-circuit}
 use Rattle.matching.specs.declared.TableAnswer.the-variants.{Matched, Refused}
-use Rattle.table.specs.declared.largest.Counts.{Counts}
+use Rattle.table.specs.declared.Counts.{Counts}
 use Rattle.matching.specs.Call.{matchConditions, replyOf, matching}
 use Rattle.table.specs.Host.{everything}
 use Rattle.table.specs.Refine.{countsOf, MatchedOn}

@@ -24,14 +24,14 @@ use Rattle.files.proofs.Accepted.{accepted-bounded, accepted-within, accepted-c
 use Rattle.files.proofs.Refusals.{Accepted, accepted, first-parts, refuses-iff}
 use Rattle.matching.specs.declared.TableAnswer.{TableAnswer}
 use Rattle.matching.specs.declared.TableAnswer.the-variants.{Matched, Refused}
-use Rattle.table.specs.declared.largest.Counts.{Counts}
+use Rattle.table.specs.declared.Counts.{Counts}
 use Rattle.matching.specs.Call.{matchConditions, replyOf, matching}
 use Rattle.table.specs.Host.{everything, EqualKinds}
 use Rattle.table.specs.Refine.{countsOf}
 use Rattle.table.specs.Reply.{Reply, noCounts, replied}
 use Rattle.table.specs.Row.{inTable, startTable, lastTable}
 use Rattle.table.proofs.Answers.{InTable}
-use Rattle.table.proofs.Counts.{started-sum, rounds-struck, started-ones, kept-ones}
+use Rattle.table.proofs.Counting.{started-sum, rounds-struck, started-ones, kept-ones}
 use Rattle.table.proofs.Host.{board-largest, within-joins}
 use Rattle.matching.proofs.Matching.{length-last}
 

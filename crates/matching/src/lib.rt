@@ -1,18 +1,16 @@
 // The match-table call: a pattern file on the whole board of another file.
-use crate::circuits::match_circuits;
 use files::Board;
 use files::File;
 use files::Pattern;
 use files::ReadAnswer;
 use files::Refusal;
 use files::Role;
-use table::largest::Counts;
+use table::Counts;
+use whole::match_circuits;
 ghost use mathlib.Core.Path.{_≡_};
 ghost use Prim.Native.Nat.{_≤_};
 ghost use lib.ListN.{length};
 ghost use Rattle.matching.specs.Call.{replyOf, matching};
-
-pub mod circuits;
 
 // What the call comes to: the four counts, or why it was turned away.
 pub enum TableAnswer {
@@ -36,11 +34,11 @@ fn match_in(
     requires { ⌜ (512 ≤ length (now nk)) × (4096 ≤ length (now ns)) × (4096 ≤ length (now ne)) ⌝ }
     ensures { λ r. ⌜ record { reply = replyOf r; table = now (table .exit) } ≡ matching (now (pattern .entry)) (now (board .entry)) (now (table .entry)) ⌝ }
 {
-    let drawn = files::read(Role::Pattern, pattern, pk, ps, pe);
+    let drawn = reading::read(Role::Pattern, pattern, pk, ps, pe);
     let ReadAnswer::Read(parts, joins) = drawn else {
         return TableAnswer::Refused(files::refusal_of(drawn));
     };
-    let given = files::read(Role::Board, board, nk, ns, ne);
+    let given = reading::read(Role::Board, board, nk, ns, ne);
     let ReadAnswer::Read(n, m) = given else {
         return TableAnswer::Refused(files::refusal_of(given));
     };

@@ -18,7 +18,7 @@ use Rattle.files.specs.Links.{linksBelow, rising}
 use Rattle.files.specs.Reading.{filled}
 use Rattle.files.specs.Refusals.{accept, first, linkConditions, asksConnected}
 use Rattle.files.proofs.Refusals.{first-holds}
-use Rattle.table.specs.declared.largest.Counts.{Counts}
+use Rattle.table.specs.declared.Counts.{Counts}
 use Rattle.table.specs.Refine.{circuit, MatchedOn}
 use Rattle.table.proofs.Prepare.{all-below, bounded-starts, bounded-ends}
 use Rattle.writing.specs.declared.WriteAnswer.the-variants.{Written, Refused}
@@ -33,7 +33,7 @@ use Rattle.merge.proofs.Merging.{length-merged-kinds}
 use Rattle.merge.proofs.Accepted.{merged-content, merged-links-le, merged-length-le}
 use Rattle.merge.proofs.Steps.{self-led, marks-classes, merged-starts, merged-ends}
 use Rattle.merging.specs.Call.{mergedBytes}
-use Rattle.merging.specs.Passes.{SelfTable, leaderCount, classNumbers, leaderKinds}
+use Rattle.classes.specs.Passes.{SelfTable, leaderCount, classNumbers, leaderKinds}
 
 -- ---- a circuit that writing does not refuse as a pattern is a pattern's content, and the other way round
 

@@ -1,12 +1,12 @@
 // The merged pattern of a pattern that was read.
 use crate::MergeAnswer;
-use crate::classes::leader_kinds;
-use crate::classes::number_classes;
-use crate::links::mark_rows;
-use crate::links::scan;
+use classes::leader_kinds;
+use classes::links::mark_rows;
+use classes::links::scan;
+use classes::number_classes;
 use files::Pattern;
 use files::Role;
-use matching::circuits::match_circuits;
+use whole::match_circuits;
 use writing::WriteAnswer;
 ghost use mathlib.Core.Path.{_≡_};
 ghost use Prim.Native.Nat.{_≤_};
@@ -17,7 +17,7 @@ ghost use Rattle.files.specs.Refusals.{Verdict, first};
 ghost use Rattle.table.specs.Refine.{circuit};
 ghost use Rattle.writing.specs.Writing.{circuitConditions};
 ghost use Rattle.merging.specs.Call.{MergedFrom};
-ghost use Rattle.merging.specs.Passes.{Quotient};
+ghost use Rattle.classes.specs.Passes.{Quotient};
 
 // The class of each part, and the merged pattern at the front of three tables; returns its size. The pattern's table on itself and the
 // rows of linked classes are scratch.

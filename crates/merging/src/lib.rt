@@ -11,8 +11,6 @@ ghost use lib.ListN.{length};
 ghost use Rattle.merging.specs.Call.{mergeReply, merging};
 
 mod circuits;
-mod classes;
-mod links;
 
 // What merging a pattern comes to: the number of classes and the merged file's length, or why it was turned away.
 pub enum MergeAnswer {
@@ -32,7 +30,7 @@ fn merge_in(
     requires { ⌜ (32 ≤ length (now pk)) × (256 ≤ length (now ps)) × (256 ≤ length (now pe)) ⌝ }
     ensures { λ r. ⌜ record { reply = mergeReply r; classes = now (classes .exit); out = now (out .exit) } ≡ merging (now (pattern .entry)) (now (classes .entry)) (now (out .entry)) ⌝ }
 {
-    let drawn = files::read(Role::Pattern, pattern, pk, ps, pe);
+    let drawn = reading::read(Role::Pattern, pattern, pk, ps, pe);
     let ReadAnswer::Read(n, m) = drawn else {
         return MergeAnswer::Refused(files::refusal_of(drawn));
     };

@@ -12,7 +12,7 @@ use Rattle.graph.specs.Search.{far, inside}
 use Rattle.graph.proofs.Ball.{Within}
 use Rattle.files.specs.declared.File.the-variants.{Neither}
 use Rattle.files.specs.Reading.{filled}
-use Rattle.table.specs.declared.largest.Counts.{Counts}
+use Rattle.table.specs.declared.Counts.{Counts}
 use Rattle.table.specs.Refine.{Refined}
 use Rattle.table.specs.Prepared.{Tables, Prepared, Ready}
 use Rattle.table.proofs.Sets.{fits-word}

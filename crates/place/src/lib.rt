@@ -1,10 +1,6 @@
 // The place around a centre: the perfect subgraph in the centre's ball that contains every other.
-pub mod component;
-pub mod locate;
-pub mod marking;
-
 use files::Refusal;
-use table::largest::Counts;
+use table::Counts;
 
 // The four counts of the ball, or why the call was turned away, with counts of 0 or, where there is no place, the ball's.
 pub enum PlaceAnswer {

@@ -36,7 +36,7 @@ fn run(role: Role, file: &[u8], kinds: &mut [u16], starts: &mut [u16], ends: &mu
     refill(kinds);
     refill(starts);
     refill(ends);
-    show_answer(files::read(role, file, kinds, starts, ends));
+    show_answer(reading::read(role, file, kinds, starts, ends));
     show_number(digest(kinds));
     show_number(digest(starts));
     show_number(digest(ends));

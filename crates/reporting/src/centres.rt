@@ -1,7 +1,7 @@
 // The lines of one centre after another, and the last line, put at the front of a buffer.
 use crate::LONGEST;
 use crate::Part;
-use place::locate::locate;
+use locating::locate;
 use report::lines::put_end;
 use report::lines::put_line;
 ghost use mathlib.Core.Bool.{_&&_, cond};

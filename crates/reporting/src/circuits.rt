@@ -4,9 +4,9 @@ use crate::centres::put_centres;
 use crate::centres::put_last;
 use files::Board;
 use files::Pattern;
-use table::largest::refine;
-use table::lookups::prepare;
-use table::nodes::list_all;
+use preparing::lookups::prepare;
+use preparing::nodes::list_all;
+use refining::refine;
 ghost use mathlib.Core.Path.{_≡_};
 ghost use Prim.Native.Nat.{_≤_, _<_};
 ghost use lib.ListN.{length};
@@ -36,7 +36,7 @@ fn radius(
     ensures { λ r. ⌜ r ≡ radiusOf (circuit (now (kinds .entry)) (now (starts .entry)) (now (ends .entry))) ⌝ }
 {
     let m = starts.len();
-    graph::measure::radius(
+    measure::radius(
         kinds.len(),
         starts,
         ends,

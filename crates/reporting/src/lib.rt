@@ -73,11 +73,11 @@ fn report_in(
     requires { ⌜ (512 ≤ length (now nk)) × (4096 ≤ length (now ns)) × (4096 ≤ length (now ne)) ⌝ }
     ensures { λ r. ⌜ Wrote (now (out .entry)) (pieceOf (now (pattern .entry)) (now (board .entry)) from found (length (now (out .entry)))) (now (out .exit)) r ⌝ }
 {
-    let drawn = files::read(Role::Pattern, pattern, pk, ps, pe);
+    let drawn = reading::read(Role::Pattern, pattern, pk, ps, pe);
     let ReadAnswer::Read(parts, joins) = drawn else {
         return put_refused(files::refusal_of(drawn), from, found, out);
     };
-    let given = files::read(Role::Board, board, nk, ns, ne);
+    let given = reading::read(Role::Board, board, nk, ns, ne);
     let ReadAnswer::Read(n, m) = given else {
         return put_refused(files::refusal_of(given), from, found, out);
     };

@@ -15,7 +15,7 @@ use Rattle.table.specs.Host.{hostGraph, EqualKinds}
 use Rattle.table.specs.Row.{row, started, lastTable}
 use Rattle.table.proofs.Answers.{InTable}
 use Rattle.table.proofs.Row.{Table, Candidates, Steps, Moves, row-fits, row-candidate, row-in}
-use Rattle.table.proofs.Counts.{row-last}
+use Rattle.table.proofs.Counting.{row-last}
 
 -- the largest closed set, said in another way
 largest-same-set :

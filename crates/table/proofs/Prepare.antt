@@ -16,7 +16,7 @@ use Rattle.files.specs.declared.Role.{Role}
 use Rattle.files.specs.declared.Role.the-variants.{Pattern, Board}
 use Rattle.files.specs.Circuit.{Bounded}
 use Rattle.files.proofs.Accepted.{starts-below, ends-below}
-use Rattle.table.specs.declared.largest.Counts.{Counts}
+use Rattle.table.specs.declared.Counts.{Counts}
 use Rattle.table.specs.Fill.{marksOf, allNodes}
 use Rattle.table.specs.Host.{everything}
 use Rattle.table.specs.Refine.{Refined, MatchedOn}

@@ -2,7 +2,6 @@ pub mod Host
 pub mod Row
 pub mod Fill
 pub mod Prepared
-pub mod Strike
 pub mod Refine
 pub mod Reply
 pub mod Examples

@@ -5,7 +5,7 @@ use Prim.Native.Nat.{ℕ}
 use Rattle.graph.specs.Circuit.{Circuit}
 use Rattle.table.specs.Host.{everything}
 use Rattle.table.specs.Row.{started, kept, struck, rounds, lastTable}
-use Rattle.table.specs.declared.largest.Counts.{Counts}
+use Rattle.table.specs.declared.Counts.{Counts}
 
 abbrev pub circuit : List ℕ → List ℕ → List ℕ → Circuit
 circuit kinds starts ends = record { kinds = kinds; starts = starts; ends = ends }

@@ -1,6 +1,6 @@
 -- What the calls that match reply: the verdict, and the four counts.
 use Rattle.files.specs.Refusals.{Verdict, accept, refuse}
-use Rattle.table.specs.declared.largest.Counts.{Counts}
+use Rattle.table.specs.declared.Counts.{Counts}
 
 -- "counts are 0"
 unfoldable pub noCounts : Counts

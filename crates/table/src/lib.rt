@@ -1,7 +1,9 @@
-// The match table: the largest dual simulation of a pattern in a board, by striking pairs in rounds.
-pub mod largest;
-pub mod lookups;
-pub mod masks;
-pub mod nodes;
-mod start;
-mod strike;
+// The match table: what it is, by its row of sets. The code that makes it is in `preparing`, `striking` and `refining`.
+
+// The pairs at first, those left and those struck, and how many rounds struck a pair.
+pub struct Counts {
+    pub started: u32,
+    pub kept: u32,
+    pub struck: u32,
+    pub rounds: u32,
+}

@@ -9,7 +9,7 @@ use cases::show_number;
 use cases::show_refusal;
 use matching::TableAnswer;
 use matching::match_table;
-use table::largest::Counts;
+use table::Counts;
 ghost use Prim.Native.Nat.{_+_, _≤_};
 ghost use lib.ListN.{length};
 

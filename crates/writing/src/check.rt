@@ -9,10 +9,10 @@ ghost use Rattle.writing.specs.Writing.{circuitConditions, writeAnswer};
 use crate::WriteAnswer;
 use crate::links::all_below;
 use crate::links::links_rise;
+use checking::in_range;
+use checking::refusal;
+use connected::connected;
 use files::Role;
-use files::check::in_range;
-use files::check::refusal;
-use files::connected::connected;
 
 // 4, 5 or 6, the first that the links give, or 0.
 fn link_number(role: Role, n: usize, starts: &[u16], ends: &[u16]) -> u8

@@ -4,7 +4,7 @@ ghost use lib.Dec.{ltb};
 ghost use lib.ListN.{length};
 ghost use Rattle.lists.specs.List.{all};
 ghost use Rattle.files.specs.Links.{rising};
-use files::part::comes_before;
+use fields::comes_before;
 
 // Each number is below n.
 pub fn all_below(numbers: &[u16], n: usize) -> bool

@@ -1,0 +1,3 @@
+pub mod Leaders
+pub mod Numbering
+pub mod Scanning
