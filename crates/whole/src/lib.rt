@@ -11,11 +11,11 @@ ghost use lib.ListN.{length};
 ghost use Rattle.files.specs.Circuit.{Bounded};
 ghost use Rattle.files.specs.declared.Role.the-variants as role;
 ghost use Rattle.table.specs.Refine.{circuit, MatchedOn};
-ghost use Rattle.table.specs.Prepared.{tables, Room};
+ghost use Rattle.table.specs.Prepared.{tables, Prepared, Room};
 
-// The largest dual simulation of a pattern in a board. What is lent besides the table is scratch: the masks, the neighbour tables, the list
-// of all nodes and a second table of sets.
-fn run(
+// The largest dual simulation of a pattern in a board. What is lent besides the table is scratch: the masks and the neighbour tables, which
+// are left prepared, the list of all nodes, and a second table of sets.
+pub fn prepare_and_match(
     part_kinds: &[u16],
     part_starts: &[u16],
     part_ends: &[u16],
@@ -37,6 +37,7 @@ fn run(
     requires { ⌜ Room (length (now «part_kinds»)) (length (now «node_kinds»)) (length (now «node_starts»)) (tables (now succ) (now pred) (now fo) (now ft) (now bo) (now bt)) ⌝ }
     requires { ⌜ (length (now table) ≡ length (now «node_kinds»)) × (length (now nodes) ≡ length (now «node_kinds»)) × (length (now spare) ≡ length (now «node_kinds»)) ⌝ }
     ensures { λ r. ⌜ MatchedOn (circuit (now («part_kinds» .entry)) (now («part_starts» .entry)) (now («part_ends» .entry))) (circuit (now («node_kinds» .entry)) (now («node_starts» .entry)) (now («node_ends» .entry))) (now (table .exit)) r ⌝ }
+    ensures { λ r. ⌜ Prepared (circuit (now («part_kinds» .entry)) (now («part_starts» .entry)) (now («part_ends» .entry))) (circuit (now («node_kinds» .entry)) (now («node_starts» .entry)) (now («node_ends» .entry))) (tables (now (succ .exit)) (now (pred .exit)) (now (fo .exit)) (now (ft .exit)) (now (bo .exit)) (now (bt .exit))) ⌝ }
 {
     prepare(
         part_kinds,
@@ -100,7 +101,7 @@ fn run_in(
     let parts = part_kinds.len();
     let n = node_kinds.len();
     let m = node_starts.len();
-    run(
+    prepare_and_match(
         part_kinds,
         part_starts,
         part_ends,

@@ -1,4 +1,4 @@
--- `table::masks::clear` meets its contract. The loop's invariant: the entries before i are 0, and the others as they were. The measure is
+-- `bits::clear` meets its contract. The loop's invariant: the entries before i are 0, and the others as they were. The measure is
 -- how many are left. Assumes nothing.
 use mathlib.Core.List.{List, _++_, append-nil}
 use mathlib.Core.Path.{_≡_, refl, _∙_}

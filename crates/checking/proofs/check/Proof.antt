@@ -1,4 +1,4 @@
--- `files::check::check` meets its contract: each return is the verdict that the tests before it give. Assumes nothing.
+-- `checking::check` meets its contract: each return is the verdict that the tests before it give. Assumes nothing.
 use borrow.Author.Tests.{not-true, not-false}
 use denote.Ref.{now}
 use mathlib.Core.Path.{_≡_, sym, ap, ap₂, _∙_}

@@ -1,4 +1,4 @@
--- `files::check::in_range` meets its contract, by cases on the role. Assumes nothing.
+-- `checking::in_range` meets its contract, by cases on the role. Assumes nothing.
 use mathlib.Core.Path.{_∙_}
 use borrow.Author.Needs.{needs}
 use Rattle.checking.proofs.in_range.Statement.{statement}

@@ -1,4 +1,4 @@
--- `files::check::joined` meets its contract: its tables are long enough for every pattern. Assumes nothing.
+-- `checking::joined` meets its contract: its tables are long enough for every pattern. Assumes nothing.
 use native.Mathlib.Omega.{arith}
 use borrow.Author.Needs.{needs}
 use Rattle.checking.proofs.joined.Statement.{statement}

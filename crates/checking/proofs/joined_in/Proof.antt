@@ -1,4 +1,4 @@
--- `files::check::joined_in` meets its contract: the links stored as numbers are the file's. Assumes nothing.
+-- `checking::joined_in` meets its contract: the links stored as numbers are the file's. Assumes nothing.
 use denote.Ref.{now}
 use mathlib.Core.List.{List}
 use mathlib.Core.Path.{_≡_, sym, subst, ap₂, _∙_}

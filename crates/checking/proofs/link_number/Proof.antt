@@ -1,4 +1,4 @@
--- `files::check::link_number` meets its contract: each return rewrites with the tests that led there. Assumes nothing.
+-- `checking::link_number` meets its contract: each return rewrites with the tests that led there. Assumes nothing.
 use borrow.Author.Tests.{not-true, not-false}
 use mathlib.Core.Bool.{true, false}
 use mathlib.Core.Path.{sym, _∙_}

@@ -1,4 +1,4 @@
--- `files::check::refusal` meets its contract, by cases on the role. Assumes nothing.
+-- `checking::refusal` meets its contract, by cases on the role. Assumes nothing.
 use borrow.Author.Needs.{needs}
 use Rattle.checking.proofs.refusal.Statement.{statement}
 use Rattle.checking.proofs.refusal.Tie as tie

@@ -1,4 +1,4 @@
--- `merging::classes::leader` meets its contract. The loop's invariant: the leader is the least of the parts that are left whose own set has
+-- `classes::leader` meets its contract. The loop's invariant: the leader is the least of the parts that are left whose own set has
 -- u. The measure is what is left, as a number. Assumes nothing.
 use denote.Ref.{now}
 use mathlib.Core.Path.{_≡_, sym, ap, _∙_}

@@ -1,4 +1,4 @@
--- `merging::classes::leader_kinds` meets its contract. The loop's invariant: the kinds of those parts before u that lead their class are
+-- `classes::leader_kinds` meets its contract. The loop's invariant: the kinds of those parts before u that lead their class are
 -- stored, and `next` is how many they are. The measure is how many parts are left. Assumes nothing.
 use denote.Ref.{now}
 use mathlib.Core.List.{List}

@@ -1,4 +1,4 @@
--- `merging::classes::number_classes` meets its contract. The loop's invariant: the parts before u have their classes, and `next` is the
+-- `classes::number_classes` meets its contract. The loop's invariant: the parts before u have their classes, and `next` is the
 -- number of classes that they lead. The measure is how many parts are left. Assumes nothing.
 use denote.Ref.{now}
 use mathlib.Core.List.{List}

@@ -1,4 +1,4 @@
--- `place::component::component` meets its contract. Its stores set the tables up for the state in which only the centre is reached. The
+-- `component::component` meets its contract. Its stores set the tables up for the state in which only the centre is reached. The
 -- loop's invariant is that of the search; the measure is how many nodes have not been looked from. Assumes nothing.
 use mathlib.Core.Path.{_≡_, sym, ap, subst, _∙_}
 use Prim.Native.Nat.{ℕ, _-_, _+_, _≤_, _<_}

@@ -1,4 +1,4 @@
--- `place::component::expand` meets its contract: the looks along the two stretches are visits of what matching links join to the node.
+-- `component::expand` meets its contract: the looks along the two stretches are visits of what matching links join to the node.
 -- Assumes nothing.
 use mathlib.Core.List.{List}
 use mathlib.Core.Path.{_≡_, sym, subst, _∙_}

@@ -1,4 +1,4 @@
--- `place::component::look` meets its contract, by the laws of a look. Assumes nothing.
+-- `component::look` meets its contract, by the laws of a look. Assumes nothing.
 use mathlib.Core.Path.{sym, _∙_}
 use borrow.Author.Needs.{needs}
 use denote.Ref.{now}

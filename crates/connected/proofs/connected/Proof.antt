@@ -1,4 +1,4 @@
--- `files::connected::connected` meets its contract: its tables are long enough for every pattern. Assumes nothing.
+-- `connected::connected` meets its contract: its tables are long enough for every pattern. Assumes nothing.
 use native.Mathlib.Omega.{arith}
 use borrow.Author.Needs.{needs}
 use Rattle.connected.proofs.connected.Statement.{statement}

@@ -1,4 +1,4 @@
--- `files::connected::connected_in` meets its contract: it hands on the parts that are needed. Assumes nothing.
+-- `connected::connected_in` meets its contract: it hands on the parts that are needed. Assumes nothing.
 use native.Mathlib.Omega.{arith}
 use lib.ListN.{length-take}
 use borrow.Author.Needs.{needs}

@@ -1,4 +1,4 @@
--- `files::part::all_below` meets its contract. The loop's invariant: each field passed is below n. Assumes nothing.
+-- `fields::all_below` meets its contract. The loop's invariant: each field passed is below n. Assumes nothing.
 use borrow.Author.Count.{below-none, below-more}
 use borrow.Author.Needs.{needs}
 use mathlib.Core.Path.{_≡_, sym, subst}

@@ -1,4 +1,4 @@
--- `files::part::comes_before` meets its contract: each return rewrites with the tests that led there. Assumes nothing.
+-- `fields::comes_before` meets its contract: each return rewrites with the tests that led there. Assumes nothing.
 use borrow.Author.Tests.{lt-ltb, le-ltb, eq-eqb, ne-eqb}
 use mathlib.Core.Path.{_≡_}
 use native.Mathlib.Omega.{arith}

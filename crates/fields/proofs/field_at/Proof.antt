@@ -1,4 +1,4 @@
--- `files::part::field_at` meets its contract: a byte is below 256, so that two of them fit 16 bits. Assumes nothing.
+-- `fields::field_at` meets its contract: a byte is below 256, so that two of them fit 16 bits. Assumes nothing.
 use borrow.Author.Needs.{needs}
 use mathlib.Core.Path.{refl}
 use native.Mathlib.Omega.{arith}

@@ -1,4 +1,4 @@
--- `files::part::in_order` meets its contract: what it asks of the four fields is what they are. Assumes nothing.
+-- `fields::in_order` meets its contract: what it asks of the four fields is what they are. Assumes nothing.
 use mathlib.Core.Path.{_∙_}
 use Rattle.files.specs.Links.{inOrder}
 use borrow.Author.Needs.{needs}

@@ -1,4 +1,4 @@
--- `files::part::links_rise` meets its contract. The loop's invariant: each link passed comes before the next. Assumes nothing.
+-- `fields::links_rise` meets its contract. The loop's invariant: each link passed comes before the next. Assumes nothing.
 use borrow.Author.Count.{below-none, below-more}
 use borrow.Author.Tests.{not-true, not-false}
 use mathlib.Core.Path.{_≡_, sym, subst, _∙_}

@@ -1,4 +1,4 @@
--- `files::part::stretch` meets its contract: the part has the fields that begin at the offset. Assumes nothing.
+-- `fields::stretch` meets its contract: the part has the fields that begin at the offset. Assumes nothing.
 use native.Mathlib.Omega.{arith}
 use lib.ListN.{length-take, length-drop}
 use Rattle.files.proofs.Fields.{fields-part}

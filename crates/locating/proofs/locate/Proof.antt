@@ -1,4 +1,4 @@
--- `place::locate::locate` meets its contract: the ball's table, and where the centre occurs in it its component. Assumes nothing.
+-- `locating::locate` meets its contract: the ball's table, and where the centre occurs in it its component. Assumes nothing.
 use mathlib.Core.Path.{_≡_, refl, sym, _∙_}
 use native.Mathlib.Omega.{arith}
 use borrow.Author.Needs.{needs}

@@ -1,4 +1,4 @@
--- `place::locate::narrow` meets its contract: the nodes that the search lists are the ball. Assumes nothing.
+-- `locating::narrow` meets its contract: the nodes that the search lists are the ball. Assumes nothing.
 use Prim.Native.Nat.{_≤_}
 use native.Mathlib.Omega.{arith}
 use borrow.Author.Needs.{needs}

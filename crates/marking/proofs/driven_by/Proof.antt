@@ -1,4 +1,4 @@
--- `place::marking::driven_by` meets its contract. Assumes nothing.
+-- `marking::driven_by` meets its contract. Assumes nothing.
 use mathlib.Core.Path.{sym, ap, _∙_}
 use borrow.Author.Needs.{needs}
 use denote.Ref.{now}

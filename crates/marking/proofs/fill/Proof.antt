@@ -1,4 +1,4 @@
--- `place::marking::fill` meets its contract: each table is filled by its own function. Assumes nothing.
+-- `marking::fill` meets its contract: each table is filled by its own function. Assumes nothing.
 use borrow.Author.Needs.{needs}
 use Rattle.marking.proofs.fill.Statement.{statement}
 use Rattle.marking.proofs.fill.Tie as tie

@@ -1,4 +1,4 @@
--- `place::marking::fill_links` meets its contract. The loop's invariant: what the last start's parts drive is known, the bytes before i are
+-- `marking::fill_links` meets its contract. The loop's invariant: what the last start's parts drive is known, the bytes before i are
 -- written, and the others as they were. The measure is how many are left. Assumes nothing.
 use mathlib.Core.List.{_++_}
 use mathlib.Core.Path.{_≡_, refl, subst}

@@ -1,4 +1,4 @@
--- `place::marking::link_byte` meets its contract, by the tests as they come out. Assumes nothing.
+-- `marking::link_byte` meets its contract, by the tests as they come out. Assumes nothing.
 use mathlib.Core.Path.{sym, _∙_}
 use borrow.Author.Needs.{needs}
 use borrow.Author.Tests.{eq-eqb, ne-eqb}

@@ -1,4 +1,4 @@
--- `graph::measure::distances` meets its contract: the search over the tables just made finds the distances. Assumes nothing.
+-- `measure::distances` meets its contract: the search over the tables just made finds the distances. Assumes nothing.
 use mathlib.Core.Path.{sym, subst}
 use Rattle.graph.specs.Bfs.{Below}
 use Rattle.graph.proofs.Measures.{grouped-below, bfs-distances}

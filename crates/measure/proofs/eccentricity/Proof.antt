@@ -1,4 +1,4 @@
--- `graph::measure::eccentricity` meets its contract: the largest of the distances that the search leaves first. Assumes nothing.
+-- `measure::eccentricity` meets its contract: the largest of the distances that the search leaves first. Assumes nothing.
 use denote.Ref.{now}
 use mathlib.Core.Path.{_≡_, ap, _∙_}
 use native.Mathlib.Omega.{arith}

@@ -1,4 +1,4 @@
--- `graph::joined::joined` meets its contract: the search over the tables just made reaches every node exactly when the circuit is
+-- `measure::joined` meets its contract: the search over the tables just made reaches every node exactly when the circuit is
 -- connected. Assumes nothing.
 use mathlib.Core.Path.{sym, subst}
 use Rattle.graph.specs.Bfs.{Below}

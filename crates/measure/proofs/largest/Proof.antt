@@ -1,4 +1,4 @@
--- `graph::measure::largest` meets its contract. The loop's invariant: `most` is the largest of the entries passed. The measure is how
+-- `measure::largest` meets its contract. The loop's invariant: `most` is the largest of the entries passed. The measure is how
 -- many are left. Assumes nothing.
 use mathlib.Core.Path.{_≡_, sym, _∙_, ap}
 use Prim.Native.Nat.{ℕ, _-_, _≤_, max}

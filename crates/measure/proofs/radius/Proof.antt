@@ -1,4 +1,4 @@
--- `graph::measure::radius` meets its contract: the searches over the tables just made find the radius. Assumes nothing.
+-- `measure::radius` meets its contract: the searches over the tables just made find the radius. Assumes nothing.
 use mathlib.Core.Path.{sym, subst, _∙_}
 use Rattle.graph.specs.Bfs.{Below}
 use Rattle.graph.proofs.Measures.{grouped-below, bfs-radius}

@@ -1,4 +1,4 @@
--- `graph::measure::widest` meets its contract. The loop's invariant: `most` is the largest eccentricity of the nodes passed. The measure
+-- `measure::widest` meets its contract. The loop's invariant: `most` is the largest eccentricity of the nodes passed. The measure
 -- is how many nodes are left. Assumes nothing.
 use denote.Ref.{now}
 use mathlib.Core.Path.{_≡_, refl, sym, ap, _∙_}

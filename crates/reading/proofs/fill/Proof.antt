@@ -1,4 +1,4 @@
--- `files::fill` meets its contract: each stretch is stored in its table. Assumes nothing.
+-- `reading::fill` meets its contract: each stretch is stored in its table. Assumes nothing.
 use borrow.Author.Needs.{needs}
 use Rattle.reading.proofs.fill.Statement.{statement}
 use Rattle.reading.proofs.fill.Tie as tie

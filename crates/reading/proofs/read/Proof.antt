@@ -1,4 +1,4 @@
--- `files::read` meets its contract: the call is refused, is short of a table, or fills all three. Assumes nothing.
+-- `reading::read` meets its contract: the call is refused, is short of a table, or fills all three. Assumes nothing.
 use denote.Ref.{now}
 use mathlib.Core.Logic.{inl, inr}
 use mathlib.Core.Path.{_≡_, sym, subst, _∙_}

@@ -1,4 +1,4 @@
--- `table::largest::refine` meets its contract: empty tables, the first table, the rounds, and the counts. Assumes nothing.
+-- `refining::refine` meets its contract: empty tables, the first table, the rounds, and the counts. Assumes nothing.
 use mathlib.Core.Path.{_≡_, _∙_}
 use borrow.Author.Needs.{needs}
 use denote.Ref.{now}

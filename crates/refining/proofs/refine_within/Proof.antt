@@ -1,4 +1,4 @@
--- `table::largest::refine_within` meets its contract: empty tables, the whole table's sets at the listed nodes, and the rounds. Assumes
+-- `refining::refine_within` meets its contract: empty tables, the whole table's sets at the listed nodes, and the rounds. Assumes
 -- nothing.
 use mathlib.Core.Path.{_≡_, _∙_}
 use borrow.Author.Needs.{needs}

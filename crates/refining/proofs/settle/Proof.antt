@@ -1,4 +1,4 @@
--- `table::largest::settle` meets its contract. The loop's invariant: `table` is the table after `rounds` rounds, each of which struck a pair,
+-- `refining::settle` meets its contract. The loop's invariant: `table` is the table after `rounds` rounds, each of which struck a pair,
 -- and has `kept` pairs; `spare` may be written over. The measure is `kept`, which falls with each round. Assumes nothing.
 use mathlib.Core.List.{List}
 use mathlib.Core.Path.{_≡_, refl, _∙_}

@@ -1,4 +1,4 @@
--- `graph::search::expand` meets its contract: the visits of the two stretches are those of both, one after the other. Assumes nothing.
+-- `search::expand` meets its contract: the visits of the two stretches are those of both, one after the other. Assumes nothing.
 use Rattle.graph.proofs.Lookup.{stretch-below}
 use Rattle.graph.proofs.BfsSteps.{expanded}
 use borrow.Author.Needs.{needs}

@@ -1,4 +1,4 @@
--- `graph::search::fill` meets its contract. The loop's invariant: the entries before i are x, and the others as they were. The measure
+-- `search::fill` meets its contract. The loop's invariant: the entries before i are x, and the others as they were. The measure
 -- is how many are left. Assumes nothing.
 use mathlib.Core.List.{List, _++_, append-nil}
 use mathlib.Core.Path.{_≡_, refl, _∙_}

@@ -1,4 +1,4 @@
--- `graph::search::level` meets its contract. The loop's invariant: from the state that the tables stand for, what is left of the level
+-- `search::level` meets its contract. The loop's invariant: from the state that the tables stand for, what is left of the level
 -- leads to the state that all of it leads to, and the nodes of the level still stand in the queue. The measure is how many are left.
 -- Assumes nothing.
 use mathlib.Core.Path.{_≡_, refl, sym, _∙_}

@@ -1,4 +1,4 @@
--- `graph::search::levels` meets its contract. The loop's invariant: from the state that the tables stand for, the levels that are left
+-- `search::levels` meets its contract. The loop's invariant: from the state that the tables stand for, the levels that are left
 -- lead to the state that all of them lead to; and each level so far reached a node, so that d is at most as large as `lo`. The measure is
 -- how many levels are left. Assumes nothing.
 use mathlib.Core.Path.{_≡_, refl, sym, _∙_}

@@ -1,4 +1,4 @@
--- `graph::search::run` meets its contract: its stores set the tables up for the state in which only the centre is reached.
+-- `search::run` meets its contract: its stores set the tables up for the state in which only the centre is reached.
 -- Assumes nothing.
 use mathlib.Core.Path.{_∙_}
 use lib.ListN.{length, length-set}

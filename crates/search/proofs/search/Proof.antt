@@ -1,4 +1,4 @@
--- `graph::search::search` meets its contract: it lends `run` the first n entries of each table. Assumes nothing.
+-- `search::search` meets its contract: it lends `run` the first n entries of each table. Assumes nothing.
 use mathlib.Core.List.{List}
 use mathlib.Core.Path.{_≡_, sym, _∙_}
 use Prim.Native.Nat.{ℕ, _-_, _≤_}

@@ -1,4 +1,4 @@
--- `graph::search::visit` meets its contract, by the laws of a visit. Assumes nothing.
+-- `search::visit` meets its contract, by the laws of a visit. Assumes nothing.
 use borrow.Author.Needs.{needs}
 use denote.Ref.{now}
 use Rattle.graph.proofs.BfsSteps.{queue-room, visited-new, visited-old}

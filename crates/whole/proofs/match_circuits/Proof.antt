@@ -1,4 +1,4 @@
--- `matching::circuits::match_circuits` meets its contract: its scratch tables are long enough for every pattern and board. Assumes nothing.
+-- `whole::match_circuits` meets its contract: its scratch tables are long enough for every pattern and board. Assumes nothing.
 use native.Mathlib.Omega.{arith}
 use borrow.Author.Needs.{needs}
 use Rattle.whole.proofs.match_circuits.Statement.{statement}

@@ -1,4 +1,4 @@
--- `graph::neighbours::neighbours` meets its contract: in each arm of the match the direction is known. Assumes nothing.
+-- `adjacency::neighbours::neighbours` meets its contract: in each arm of the match the direction is known. Assumes nothing.
 use borrow.Author.Needs.{needs}
 use Rattle.adjacency.proofs.neighbours.neighbours.Statement.{statement}
 use Rattle.adjacency.proofs.neighbours.neighbours.Tie as tie

@@ -1,5 +1,5 @@
--- `graph::neighbours::stretch` meets its contract: each test that fails leaves the stretch empty, and past them all the offsets are sound.
--- Assumes nothing.
+-- `adjacency::neighbours::stretch` meets its contract: each test that fails leaves the stretch empty, and past them all the offsets are
+-- sound. Assumes nothing.
 use mathlib.Core.List.{List}
 use mathlib.Core.Path.{_≡_, sym, ap}
 use Prim.Native.Nat.{ℕ, suc, _+_}

@@ -1,4 +1,4 @@
--- `graph::joined::neighbour_tables` meets its contract: one grouping serves both directions. Assumes nothing.
+-- `adjacency::tables::neighbour_tables` meets its contract: one grouping serves both directions. Assumes nothing.
 use mathlib.Core.Path.{sym, _∙_}
 use native.Mathlib.Omega.{arith}
 use Rattle.lists.proofs.Tables.{whole}

@@ -1,4 +1,4 @@
--- `distance::around::fill_ball` meets its contract: its tables are long enough for every board. Assumes nothing.
+-- `extent::ball::fill_ball` meets its contract: its tables are long enough for every board. Assumes nothing.
 use native.Mathlib.Omega.{arith}
 use borrow.Author.Needs.{needs}
 use Rattle.extent.proofs.ball.fill_ball.Statement.{statement}

@@ -1,4 +1,4 @@
--- `distance::around::fill_in` meets its contract: the marks of the distances are the ball. Assumes nothing.
+-- `extent::ball::fill_in` meets its contract: the marks of the distances are the ball. Assumes nothing.
 use denote.Ref.{now}
 use mathlib.Core.List.{List, _++_}
 use mathlib.Core.Path.{_≡_, ap, _∙_}

@@ -1,4 +1,4 @@
--- `distance::around::mark` meets its contract. Assumes nothing.
+-- `extent::ball::mark` meets its contract. Assumes nothing.
 use borrow.Author.Tests.{eq-eqb, ne-eqb}
 use Rattle.extent.specs.Marks.{mark}
 use Rattle.extent.proofs.ball.mark.Statement.{statement}

@@ -1,4 +1,4 @@
--- `distance::around::mark_all` meets its contract. The loop's invariant: the bytes before v are the marks, and the others as they were.
+-- `extent::ball::mark_all` meets its contract. The loop's invariant: the bytes before v are the marks, and the others as they were.
 -- The measure is how many are left. Assumes nothing.
 use mathlib.Core.List.{_++_}
 use mathlib.Core.Path.{_≡_, refl, subst}

@@ -1,4 +1,4 @@
--- `distance::wide::radius_in` meets its contract: the links' parts of the tables are lent to the graph's own radius. Assumes nothing.
+-- `extent::radius::radius_in` meets its contract: the links' parts of the tables are lent to the graph's own radius. Assumes nothing.
 use native.Mathlib.Omega.{arith}
 use lib.ListN.{length-take}
 use borrow.Author.Needs.{needs}

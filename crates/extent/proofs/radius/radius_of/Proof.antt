@@ -1,4 +1,4 @@
--- `distance::wide::radius_of` meets its contract: its tables are long enough for every pattern. Assumes nothing.
+-- `extent::radius::radius_of` meets its contract: its tables are long enough for every pattern. Assumes nothing.
 use native.Mathlib.Omega.{arith}
 use borrow.Author.Needs.{needs}
 use Rattle.extent.proofs.radius.radius_of.Statement.{statement}

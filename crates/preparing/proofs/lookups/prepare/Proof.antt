@@ -1,4 +1,4 @@
--- `table::lookups::prepare` meets its contract: the neighbour tables and the masks, as their own contracts give them. Assumes nothing.
+-- `preparing::lookups::prepare` meets its contract: the neighbour tables and the masks, as their own contracts give them. Assumes nothing.
 use mathlib.Core.Path.{_≡_, sym, subst}
 use native.Mathlib.Nat.{le-trans}
 use native.Mathlib.Omega.{arith}

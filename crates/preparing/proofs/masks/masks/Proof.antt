@@ -1,5 +1,5 @@
--- `table::masks::masks` meets its contract. The loop's invariant: the links that are left, added to the sets so far, make the masks. The
--- measure is how many are left. Assumes nothing.
+-- `preparing::masks::masks` meets its contract. The loop's invariant: the links that are left, added to the sets so far, make the masks.
+-- The measure is how many are left. Assumes nothing.
 use mathlib.Core.Path.{_≡_, refl, sym, ap, _∙_}
 use Prim.Native.Nat.{ℕ, _+_, _-_, _≤_, _<_}
 use native.Mathlib.Omega.{arith}

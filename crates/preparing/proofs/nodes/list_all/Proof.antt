@@ -1,5 +1,5 @@
--- `table::nodes::list_all` meets its contract. The loop's invariant: the entries before v are the nodes, and the others as they were. The
--- measure is how many are left. Assumes nothing.
+-- `preparing::nodes::list_all` meets its contract. The loop's invariant: the entries before v are the nodes, and the others as they were.
+-- The measure is how many are left. Assumes nothing.
 use mathlib.Core.List.{List, _++_, append-nil}
 use mathlib.Core.Path.{_≡_, refl, _∙_}
 use Prim.Native.Nat.{ℕ, _-_, _≤_}

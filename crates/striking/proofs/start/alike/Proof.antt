@@ -1,4 +1,4 @@
--- `table::start::alike` meets its contract. The loop's invariant: the set so far is that of the parts before u. The measure is how many
+-- `striking::start::alike` meets its contract. The loop's invariant: the set so far is that of the parts before u. The measure is how many
 -- parts are left. Assumes nothing.
 use mathlib.Core.Logic.{⊎-elim}
 use mathlib.Core.Path.{_≡_, refl, ap, ap₂, _∙_}

@@ -1,4 +1,4 @@
--- `table::start::copy` meets its contract, as `start` does: the turns that are left lead to the whole table and the whole count. Assumes
+-- `striking::start::copy` meets its contract, as `start` does: the turns that are left lead to the whole table and the whole count. Assumes
 -- nothing.
 use mathlib.Core.Path.{_≡_, refl}
 use Prim.Native.Nat.{_-_, _<_}

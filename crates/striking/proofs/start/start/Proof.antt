@@ -1,5 +1,5 @@
--- `table::start::start` meets its contract. The loop's invariant: the turns that are left lead to the whole table and the whole count. The
--- measure is how many are left. Assumes nothing.
+-- `striking::start::start` meets its contract. The loop's invariant: the turns that are left lead to the whole table and the whole count.
+-- The measure is how many are left. Assumes nothing.
 use mathlib.Core.Path.{_≡_}
 use Prim.Native.Nat.{_-_, _<_}
 use native.Mathlib.Omega.{arith}

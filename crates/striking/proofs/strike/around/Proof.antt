@@ -1,4 +1,4 @@
--- `table::strike::around` meets its contract: what lies between a node's two offsets is its stretch. Assumes nothing.
+-- `striking::strike::around` meets its contract: what lies between a node's two offsets is its stretch. Assumes nothing.
 use mathlib.Core.Path.{sym, ap, _∙_}
 use Prim.Native.Nat.{_+_, _-_, _≤_}
 use native.Mathlib.Omega.{arith}

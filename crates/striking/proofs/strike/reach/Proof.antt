@@ -1,5 +1,5 @@
--- `table::strike::reach` meets its contract. The loop's invariant: the union so far, with the sets of the nodes that are left, is the whole
--- union. The measure is how many are left. Assumes nothing.
+-- `striking::strike::reach` meets its contract. The loop's invariant: the union so far, with the sets of the nodes that are left, is the
+-- whole union. The measure is how many are left. Assumes nothing.
 use mathlib.Core.List.{List}
 use mathlib.Core.Path.{_≡_, sym, _∙_}
 use Prim.Native.Nat.{ℕ, _+_, _-_, _≤_, _<_}

@@ -1,5 +1,5 @@
--- `table::strike::strike` meets its contract. The loop's invariant: the turns that are left lead to the whole table and the whole count. The
--- measure is how many are left. Assumes nothing.
+-- `striking::strike::strike` meets its contract. The loop's invariant: the turns that are left lead to the whole table and the whole count.
+-- The measure is how many are left. Assumes nothing.
 use Prim.Native.Nat.{_-_, _<_}
 use native.Mathlib.Omega.{arith}
 use borrow.Author.Needs.{needs}

@@ -1,4 +1,5 @@
--- `table::strike::strike_node` meets its contract. Of an empty set nothing survives, so that its neighbours need no look. Assumes nothing.
+-- `striking::strike::strike_node` meets its contract. Of an empty set nothing survives, so that its neighbours need no look. Assumes
+-- nothing.
 use mathlib.Core.Path.{sym}
 use borrow.Author.Needs.{needs}
 use denote.Ref.{now}

@@ -1,5 +1,5 @@
--- `table::strike::surviving` meets its contract. The loop's invariant: what is kept so far, with the survivors of the parts that are left,
--- is the survivors of the set. The measure is what is left, as a number. Assumes nothing.
+-- `striking::strike::surviving` meets its contract. The loop's invariant: what is kept so far, with the survivors of the parts that are
+-- left, is the survivors of the set. The measure is what is left, as a number. Assumes nothing.
 use mathlib.Core.Logic.{⊎-elim}
 use mathlib.Core.Path.{_≡_, sym, ap, _∙_}
 use Prim.Native.Nat.{ℕ, zero, _^_, _≤_, _<_}

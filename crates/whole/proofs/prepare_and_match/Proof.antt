@@ -1,12 +1,12 @@
--- `matching::circuits::run` meets its contract: the tables are prepared, every node is listed, and the pairs are struck. Assumes nothing.
+-- `whole::prepare_and_match` meets its contract: the tables are prepared, every node is listed, and the pairs are struck. Assumes nothing.
 use mathlib.Core.Path.{_≡_, _∙_}
 use native.Mathlib.Nat.{le-trans}
 use lib.Dec.{lit≤}
 use Rattle.table.specs.Fill.{allNodes, NodeList}
 use Rattle.table.proofs.Prepare.{listed-all, refined-everything}
 use Rattle.table.proofs.NodeLists.{all-list}
-use Rattle.whole.proofs.run.Statement.{statement}
-use Rattle.whole.proofs.run.Tie as tie
+use Rattle.whole.proofs.prepare_and_match.Statement.{statement}
+use Rattle.whole.proofs.prepare_and_match.Tie as tie
 
 abbrev entry : tie.After-prepare-arg6 → tie.Start
 entry c = c .before .before .before .before .before .before .before .before .before .before .before .before .before .before .before .before .before .before .before .before .before
@@ -71,10 +71,10 @@ returns : tie.Need-returns
 returns c =
     let all = listed (refined c .before) in
     let p = entry (prepared (all .before) .before) .pre in
-    refined-everything (listed-all (p .1 .1 .1 .1) (all .list-all .ensures)) (refined c .refine .ensures)
+    (refined-everything (listed-all (p .1 .1 .1 .1) (all .list-all .ensures)) (refined c .refine .ensures), prepared (all .before) .prepare .ensures)
 
-pub run-spec : {M : Type 1} → statement M
-run-spec =
+pub prepare-and-match-spec : {M : Type 1} → statement M
+prepare-and-match-spec =
     tie.close
     (tie.spec
     prepare-requires
