@@ -27,15 +27,23 @@ use Rattle.place.proofs.Bytes.{bytes-nodes, bytes-links, sets-table}
 use Rattle.place.proofs.Marks.{nodes-marks, links-marks, length-table}
 use Rattle.place.proofs.Matched.{forward-test, spread-component}
 
+-- whether the centre is found is whether its set in the ball's table is not empty
+pub found-none : (pattern board : Circuit) (w r : ℕ) (sets : List ℕ) → sets ≡ ballTable pattern board w r → getD sets w 0 ≡ 0 → found pattern board w r ≡ false
+unfolding found
+found-none pattern board w r sets e z = rw (eq-eqb _ 0 (ap (λ (l : List ℕ). getD l w 0) (sym e) ∙ z))
+
+pub found-some : (pattern board : Circuit) (w r : ℕ) (sets : List ℕ) → sets ≡ ballTable pattern board w r → (getD sets w 0 ≡ 0 → ⊥) → found pattern board w r ≡ true
+unfolding found
+found-some pattern board w r sets e f = rw (ne-eqb _ 0 (λ q. f (ap (λ (l : List ℕ). getD l w 0) e ∙ q)))
+
 -- The centre is not found: number 9 with the ball's counts, and the tables as they were.
 pub around-none :
     (pattern board : Circuit) (w r : ℕ) (sets : List ℕ) (counts : Counts) → Refined pattern board (ballOf board w r) sets counts →
     getD sets w 0 ≡ 0 → (nodes links table : List ℕ) →
     record { reply = placeReply (Refused (record { number = 9; file = Neither }) counts); nodes = nodes; links = links; table = table }
     ≡ placeAround pattern board w r nodes links table
-unfolding placeAround placeVerdict found ballTable placeReply filled
-around-none pattern board w r sets counts k e nodes links table =
-    rw (eq-eqb _ 0 (ap (λ (l : List ℕ). getD l w 0) (sym (k .last)) ∙ e), k .counted)
+unfolding placeAround placeVerdict ballTable placeReply filled
+around-none pattern board w r sets counts k e nodes links table = rw (found-none pattern board w r sets (k .last) e, k .counted)
 
 module _ {pattern board : Circuit} {t : Tables} (p : Prepared pattern board t) (w r : ℕ) (sets : List ℕ) (e : sets ≡ ballTable pattern board w r) where
   -- the ball's sets have parts only, and the tables serve its nodes
@@ -78,43 +86,7 @@ module _
     unfolding placeNodes
     place-reached dist g = spread-component p joins parallel (ballTable pattern board w r) small w h dist g
 
-    -- The centre is found, and the search for its component is done: the tables are filled with the place.
-    pub around-some :
-        (sets dist : List ℕ) (counts : Counts) → Refined pattern board (ballOf board w r) sets counts → (getD sets w 0 ≡ 0 → ⊥) →
-        Spread (length (board .kinds)) w (matched t sets) dist → (nodes links table nodes′ links′ table′ : List ℕ) →
-        nodes′ ≡ nodeBytes dist ++ drop (length dist) nodes →
-        links′ ≡ linkBytes (board .starts) (board .ends) (t .succ) dist sets ++ drop (length (board .starts)) links →
-        table′ ≡ nodeSets dist sets ++ drop (length dist) table →
-        record { reply = placeReply (Placed counts); nodes = nodes′; links = links′; table = table′ } ≡ placeAround pattern board w r nodes links table
-    unfolding placeAround placeVerdict found ballTable placeReply filled
-    around-some sets dist counts k f g nodes links table nodes′ links′ table′ en el et =
-        rw (ne-eqb _ 0 (λ q. f (ap (λ (l : List ℕ). getD l w 0) (k .last) ∙ q)), k .counted, nodes-are, links-are, table-is)
-      where
-        e : sets ≡ ballTable pattern board w r
-        e = k .last
-
-        reached : (v : ℕ) → v < length (board .kinds) → inside (placeNodes pattern board w r) v ≡ not (eqb (getD dist v 0) far)
-        reached = place-reached dist (rw e at g)
-
-        nodes-are : nodes′ ≡ placeNodes pattern board w r ++ drop (length (placeNodes pattern board w r)) nodes
-        nodes-are =
-            en ∙ ap₂ (λ (xs : List ℕ) (m : ℕ). xs ++ drop m nodes) (bytes-nodes pattern board w r dist (g .size) reached)
-            (g .size ∙ sym (nodes-marks pattern board w r .size))
-
-        links-are : links′ ≡ placeLinks pattern board w r ++ drop (length (placeLinks pattern board w r)) links
-        links-are =
-            el ∙ ap (λ (xs : List ℕ). linkBytes (board .starts) (board .ends) (t .succ) dist xs ++ drop (length (board .starts)) links) e
-            ∙ ap₂ (λ (xs : List ℕ) (m : ℕ). xs ++ drop m links)
-            (bytes-links pattern board w r dist (g .size) reached (t .succ) below (forward-test p joins parallel (ballTable pattern board w r) small))
-            (sym (links-marks pattern board w r .size))
-
-        table-is : table′ ≡ placeTable pattern board w r ++ drop (length (placeTable pattern board w r)) table
-        table-is =
-            et ∙ ap (λ (xs : List ℕ). nodeSets dist xs ++ drop (length dist) table) e
-            ∙ ap₂ (λ (xs : List ℕ) (m : ℕ). xs ++ drop m table) (sets-table pattern board w r dist (g .size) reached)
-            (g .size ∙ sym (length-table pattern board w r))
-
-    -- The same, before anything is written out.
+    -- the ball's table and the search tell the place's nodes and links, before anything is written out
     pub located :
         (sets dist : List ℕ) → sets ≡ ballTable pattern board w r → Spread (length (board .kinds)) w (matched t sets) dist →
         Located pattern board w r (t .succ) dist sets
@@ -130,11 +102,30 @@ module _
           long = sets-long p w r sets e;
         }
 
--- whether the centre is found is whether its set in the ball's table is not empty
-pub found-none : (pattern board : Circuit) (w r : ℕ) (sets : List ℕ) → sets ≡ ballTable pattern board w r → getD sets w 0 ≡ 0 → found pattern board w r ≡ false
-unfolding found
-found-none pattern board w r sets e z = rw (eq-eqb _ 0 (ap (λ (l : List ℕ). getD l w 0) (sym e) ∙ z))
+    -- The centre is found, and the search for its component is done: the tables are filled with the place.
+    pub around-some :
+        (sets dist : List ℕ) (counts : Counts) → Refined pattern board (ballOf board w r) sets counts → (getD sets w 0 ≡ 0 → ⊥) →
+        Spread (length (board .kinds)) w (matched t sets) dist → (nodes links table nodes′ links′ table′ : List ℕ) →
+        nodes′ ≡ nodeBytes dist ++ drop (length dist) nodes →
+        links′ ≡ linkBytes (board .starts) (board .ends) (t .succ) dist sets ++ drop (length (board .starts)) links →
+        table′ ≡ nodeSets dist sets ++ drop (length dist) table →
+        record { reply = placeReply (Placed counts); nodes = nodes′; links = links′; table = table′ } ≡ placeAround pattern board w r nodes links table
+    unfolding placeAround placeVerdict ballTable placeReply filled
+    around-some sets dist counts k f g nodes links table nodes′ links′ table′ en el et =
+        rw (found-some pattern board w r sets (k .last) f, k .counted, nodes-are, links-are, table-is)
+      where
+        there : Located pattern board w r (t .succ) dist sets
+        there = located sets dist (k .last) g
 
-pub found-some : (pattern board : Circuit) (w r : ℕ) (sets : List ℕ) → sets ≡ ballTable pattern board w r → (getD sets w 0 ≡ 0 → ⊥) → found pattern board w r ≡ true
-unfolding found
-found-some pattern board w r sets e f = rw (ne-eqb _ 0 (λ q. f (ap (λ (l : List ℕ). getD l w 0) e ∙ q)))
+        nodes-are : nodes′ ≡ placeNodes pattern board w r ++ drop (length (placeNodes pattern board w r)) nodes
+        nodes-are = en ∙ ap₂ (λ (xs : List ℕ) (m : ℕ). xs ++ drop m nodes) (there .nodes) (g .size ∙ sym (nodes-marks pattern board w r .size))
+
+        links-are : links′ ≡ placeLinks pattern board w r ++ drop (length (placeLinks pattern board w r)) links
+        links-are = el ∙ ap₂ (λ (xs : List ℕ) (m : ℕ). xs ++ drop m links) (there .links) (sym (links-marks pattern board w r .size))
+
+        table-is : table′ ≡ placeTable pattern board w r ++ drop (length (placeTable pattern board w r)) table
+        table-is =
+            et ∙ ap (λ (xs : List ℕ). nodeSets dist xs ++ drop (length dist) table) (k .last)
+            ∙ ap₂ (λ (xs : List ℕ) (m : ℕ). xs ++ drop m table)
+            (sets-table pattern board w r dist (g .size) (place-reached dist (rw (k .last) at g)))
+            (g .size ∙ sym (length-table pattern board w r))
