@@ -11,7 +11,8 @@ use Rattle.table.specs.Examples.{circuitT, circuitB}
 use Rattle.writing.specs.Bytes.{bytesOf, fileBytes}
 use Rattle.distance.specs.Calls.{ballConditions}
 use Rattle.demands.specs.Examples.{AllHold}
-use Rattle.demands.specs.Files.{fileT, fileB, refused, ReadT, ReadB, R1, R2, R3, R4, R5, R6, R7, R8, fileExamples}
+use Rattle.files.specs.Examples.{fileT, fileB}
+use Rattle.demands.specs.Files.{refused, ReadT, ReadB, R1, R2, R3, R4, R5, R6, R7, R8, fileExamples}
 
 readT : ReadT
 unfolding ReadT fileT circuitT kindsOf startsOf endsOf nodesOf linksOf fields field fileBytes bytesOf tabulate

@@ -1,6 +1,6 @@
 -- Document 01's examples of files: T and B as bytes, and the table of refusals, as statements about the definitions, in a single list.
 -- proofs/Files proves the list.
-use mathlib.Core.List.{List, [], _∷_}
+use mathlib.Core.List.{[], _∷_}
 use mathlib.Core.Path.{_≡_}
 use Prim.Native.Nat.{ℕ}
 use lib.ListN.{length}
@@ -8,21 +8,13 @@ use Rattle.files.specs.declared.File.{File}
 use Rattle.files.specs.declared.File.the-variants as file
 use Rattle.files.specs.declared.Role.the-variants.{Pattern, Board}
 use Rattle.files.specs.Circuit.{circuitOf}
+use Rattle.files.specs.Examples.{fileT, fileB}
 use Rattle.files.specs.Reading.{reading}
 use Rattle.files.specs.Refusals.{Verdict, refuse, first, fileConditions}
 use Rattle.table.specs.Examples.{circuitT, circuitB}
 use Rattle.writing.specs.Bytes.{fileBytes}
 use Rattle.distance.specs.Calls.{ballConditions}
 use Rattle.demands.specs.Examples.{Statements, done, _also_}
-
--- T: "0:10, 1:20, 2:30, links 0-1, 1-2."
-unfoldable pub fileT : List ℕ
-fileT = 3 ∷ 0 ∷ 2 ∷ 0 ∷ 10 ∷ 0 ∷ 20 ∷ 0 ∷ 30 ∷ 0 ∷ 0 ∷ 0 ∷ 1 ∷ 0 ∷ 1 ∷ 0 ∷ 2 ∷ 0 ∷ []
-
--- B: "0:10, 1:20, 2:30, 3:20, 4:30, 5:10, links 0-1, 1-2, 3-4."
-unfoldable pub fileB : List ℕ
-fileB =
-    6 ∷ 0 ∷ 3 ∷ 0 ∷ 10 ∷ 0 ∷ 20 ∷ 0 ∷ 30 ∷ 0 ∷ 20 ∷ 0 ∷ 30 ∷ 0 ∷ 10 ∷ 0 ∷ 0 ∷ 0 ∷ 1 ∷ 0 ∷ 3 ∷ 0 ∷ 1 ∷ 0 ∷ 2 ∷ 0 ∷ 4 ∷ 0 ∷ []
 
 -- number and file
 unfoldable pub refused : ℕ → File → Verdict

@@ -5,25 +5,13 @@ use Prim.Native.Nat.{ℕ}
 use Rattle.lists.specs.List.{all, allBelow, tabulate, maximum}
 use Rattle.graph.specs.Search.{beside, inside, ball, misses, distances, connected, radius}
 use Rattle.files.specs.declared.File.the-variants.{Neither}
+use Rattle.files.specs.Examples.{fileT, fileB, fileOne}
 use Rattle.files.specs.Layout.{field, fields, nodesOf, linksOf, startsOf, endsOf}
 use Rattle.files.specs.Links.{linksBelow, earlier, rising}
 use Rattle.files.specs.Reading.{filled}
 use Rattle.files.specs.Refusals.{accept, refuse, first, linkConditions, fileConditions, asksConnected, centreOutside, shortTable}
 use Rattle.files.specs.Reply.{reply}
 use Rattle.distance.specs.Calls.{radiusCall, ballConditions, ballEntries, ballCall}
-
--- T: 0:10, 1:20, 2:30, links 0-1, 1-2
-pub fileT : List ℕ
-fileT = 3 ∷ 0 ∷ 2 ∷ 0 ∷ 10 ∷ 0 ∷ 20 ∷ 0 ∷ 30 ∷ 0 ∷ 0 ∷ 0 ∷ 1 ∷ 0 ∷ 1 ∷ 0 ∷ 2 ∷ 0 ∷ []
-
--- one part, of kind 10
-pub fileOne : List ℕ
-fileOne = 1 ∷ 0 ∷ 0 ∷ 0 ∷ 10 ∷ 0 ∷ []
-
--- B: 0:10, 1:20, 2:30, 3:20, 4:30, 5:10, links 0-1, 1-2, 3-4
-pub fileB : List ℕ
-fileB =
-    6 ∷ 0 ∷ 3 ∷ 0 ∷ 10 ∷ 0 ∷ 20 ∷ 0 ∷ 30 ∷ 0 ∷ 20 ∷ 0 ∷ 30 ∷ 0 ∷ 10 ∷ 0 ∷ 0 ∷ 0 ∷ 1 ∷ 0 ∷ 3 ∷ 0 ∷ 1 ∷ 0 ∷ 2 ∷ 0 ∷ 4 ∷ 0 ∷ []
 
 -- E1: "T has radius 2; one part has 0."
 pub E1-T-call : radiusCall fileT ≡ record { verdict = accept; values = 2 ∷ [] }

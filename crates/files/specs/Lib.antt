@@ -5,3 +5,4 @@ pub mod Circuit
 pub mod Refusals
 pub mod Reading
 pub mod Reply
+pub mod Examples

@@ -3,7 +3,7 @@ use mathlib.Core.Bool.{Bool, true, false, _&&_, _||_, not, cond, and-true, or-fa
 use mathlib.Core.List.{List, [], _∷_, _++_}
 use mathlib.Core.Path.{_≡_, refl, sym, ap, ap₂, _∙_}
 use Prim.Native.Nat.{ℕ, zero, suc, _+_, _≤_, _<_, zero-le, suc-le-suc}
-use native.Mathlib.Nat.{le-of-suc-le-suc, not-suc-le-zero, zero-lt-suc, zero-add, le-antisymm, lt-of-not-le, lt-of-le-of-lt}
+use native.Mathlib.Nat.{le-of-suc-le-suc, not-suc-le-zero, zero-lt-suc, zero-add, add-zero, add-suc, le-antisymm, lt-of-not-le, lt-of-le-of-lt}
 use native.Mathlib.Numerals.{one-add}
 use native.Mathlib.Omega.{arith}
 use lib.Dec.{T, eqb, eqb·suc-zero, eqb·suc-suc}
@@ -61,6 +61,13 @@ pub countBelow-suc : (n : ℕ) (p : ℕ → Bool) → countBelow (suc n) p ≡ c
 unfolding countBelow
 countBelow-suc zero p = omega arith
 countBelow-suc (suc n) p = omega (arith, countBelow-suc n (λ i. p (suc i)))
+
+-- how many of the first m and of the rest pass
+pub countBelow-add : (m n : ℕ) (p : ℕ → Bool) → countBelow (m + n) p ≡ countBelow m p + countBelow n (λ i. p (m + i))
+unfolding countBelow
+countBelow-add m zero p = rw add-zero (sym (add-zero (countBelow m p)))
+countBelow-add m (suc n) p =
+    rw add-suc (omega (arith, countBelow-suc (m + n) p, countBelow-suc n (λ i. p (m + i)), countBelow-add m n p))
 
 pub collect-suc : (n : ℕ) (p : ℕ → Bool) (f : ℕ → ℕ) → collect (suc n) p f ≡ collect n p f ++ cond (p n) (f n ∷ []) []
 unfolding collect
@@ -151,6 +158,11 @@ leastBelow-at (suc n) p h = go (p zero) refl (leastBelow-at n (λ i. p (suc i)))
     go : (b : Bool) → p zero ≡ b → {m : ℕ} → (m < n → T (p (suc m))) → cond b zero (suc m) < suc n → T (p (cond b zero (suc m)))
     go true e r h = true-T e
     go false e r h = r (le-of-suc-le-suc h)
+
+-- where none below n passes, it is n
+pub leastBelow-all : (n : ℕ) (p : ℕ → Bool) → ((i : ℕ) → i < n → p i ≡ false) → leastBelow n p ≡ n
+leastBelow-all n p none =
+    le-antisymm (leastBelow-le n p) (le-of-suc-le-suc (lt-of-not-le (λ l. false-T (none (leastBelow n p) l) (leastBelow-at n p l))))
 
 -- a number below n that passes, with none below it that does, is the least
 pub leastBelow-is : (n : ℕ) (p : ℕ → Bool) (t : ℕ) → t < n → T (p t) → ((i : ℕ) → i < t → p i ≡ false) → leastBelow n p ≡ t

@@ -14,6 +14,7 @@ use Rattle.graph.specs.Neighbours.{select}
 use Rattle.graph.specs.Search.{beside, inside, ball, misses, distances, connected, radius}
 use Rattle.files.specs.Circuit.{circuitOf}
 use Rattle.files.specs.declared.Role.the-variants.{Pattern, Board}
+use Rattle.files.specs.Examples.{fileT, fileB, fileOne}
 use Rattle.files.specs.Layout.{field, fields, nodesOf, linksOf, kindsOf, startsOf, endsOf}
 use Rattle.files.specs.Links.{linksBelow, earlier, rising}
 use Rattle.files.specs.Refusals.{Verdict, accept, first, linkConditions, fileConditions, asksConnected}
@@ -22,14 +23,6 @@ use Rattle.table.specs.Examples.{circuitT, circuitB}
 use Rattle.place.specs.Match.{radiusOf, ballOf, ballTable, found, matches, keepFrom, linkMatches, matchStarts, matchEnds, component, placeNodes, placeLinks}
 use Rattle.place.proofs.Examples.{Shows, radius-T, E3-0, E3-1, E3-2, E4-none}
 use Rattle.report.specs.Report.{marked, linkItem, nodeItems, linkItems, placeLine, hasPlace, centreLine, endLine, fileWord, refusalLine, linesOf, reportFor, reportOf}
-
--- T: 0:10, 1:20, 2:30, links 0-1, 1-2
-unfoldable pub fileT : List ℕ
-fileT = 3 ∷ 0 ∷ 2 ∷ 0 ∷ 10 ∷ 0 ∷ 20 ∷ 0 ∷ 30 ∷ 0 ∷ 0 ∷ 0 ∷ 1 ∷ 0 ∷ 1 ∷ 0 ∷ 2 ∷ 0 ∷ []
-
--- B: 0:10, 1:20, 2:30, 3:20, 4:30, 5:10, links 0-1, 1-2, 3-4
-unfoldable pub fileB : List ℕ
-fileB = 6 ∷ 0 ∷ 3 ∷ 0 ∷ 10 ∷ 0 ∷ 20 ∷ 0 ∷ 30 ∷ 0 ∷ 20 ∷ 0 ∷ 30 ∷ 0 ∷ 10 ∷ 0 ∷ 0 ∷ 0 ∷ 1 ∷ 0 ∷ 3 ∷ 0 ∷ 1 ∷ 0 ∷ 2 ∷ 0 ∷ 4 ∷ 0 ∷ []
 
 -- both files are accepted, and hold T and B
 T-and-B : first (fileConditions Pattern fileT ++ fileConditions Board fileB) ≡ accept
@@ -135,10 +128,6 @@ absent-board = refl
 pub empty-board : reportOf fileT (0 ∷ 0 ∷ 0 ∷ 0 ∷ []) ≡ bytes "end 0 of 0\n"
 unfolding reading writing fileT
 empty-board = refl
-
--- one part, of kind 10
-unfoldable pub fileOne : List ℕ
-fileOne = 1 ∷ 0 ∷ 0 ∷ 0 ∷ 10 ∷ 0 ∷ []
 
 pub no-links : reportOf fileOne fileOne ≡ bytes "place 0: 0 /\nend 1 of 1\n"
 unfolding reading writing opened fileOne radiusOf radius distances misses maximum matches keepFrom linkMatches matchStarts matchEnds component placeNodes placeLinks anyBelow placeLine nodeItems linkItems linkItem marked hasPlace centreLine

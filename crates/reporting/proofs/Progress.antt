@@ -5,14 +5,14 @@ use mathlib.Core.List.{List, [], _++_}
 use mathlib.Core.Logic.{_⊎_, inl, inr}
 use mathlib.Core.Path.{_≡_, refl, sym, ap, _∙_}
 use Prim.Native.Nat.{ℕ, suc, _+_, _-_, _≤_, _<_, zero-le}
-use native.Mathlib.Nat.{le-refl, le-antisymm, lt-of-not-le, sub-self, add-sub-of-le, eq-or-lt-of-le, le-of-suc-le-suc}
+use native.Mathlib.Nat.{le-refl, sub-self, add-sub-of-le, eq-or-lt-of-le, le-of-suc-le-suc}
 use native.Mathlib.Omega.{arith}
 use borrow.Author.Tests.{leb-true, ltb-true, ltb-false}
 use lib.Dec.{T, eqb, ltb, ltb→lt}
 use lib.ListN.{length}
 use Rattle.lists.specs.Below.{countBelow, leastBelow, concatBelow}
-use Rattle.lists.proofs.Below.{countBelow-suc, countBelow-le, leastBelow-le, leastBelow-at, leastBelow-is}
-use Rattle.lists.proofs.Tests.{both-left, both-right, true-T, T-true, false-T}
+use Rattle.lists.proofs.Below.{countBelow-suc, countBelow-le, leastBelow-le, leastBelow-is, leastBelow-all}
+use Rattle.lists.proofs.Tests.{both-left, both-right, true-T, T-true}
 use Rattle.text.specs.Text.{Put}
 use Rattle.text.proofs.Text.{put-nothing, put-then, put-same, put-length}
 use Rattle.graph.specs.Circuit.{Circuit}
@@ -32,11 +32,6 @@ pub record Progress (pattern board : Circuit) (from found : ℕ) (before : List 
   pub counted : count ≡ found + placesFrom pattern board from (c - from)
   pub room : (j : ℕ) → j < c - from → roomy (length before) (length (linesFrom pattern board from j)) ≡ true
   pub fits : at ≤ length before
-
--- a test that no number below n passes
-least-none : (n : ℕ) (p : ℕ → Bool) → ((i : ℕ) → i < n → p i ≡ false) → leastBelow n p ≡ n
-least-none n p none =
-    le-antisymm (leastBelow-le n p) (le-of-suc-le-suc (lt-of-not-le (λ l. false-T (none (leastBelow n p) l) (leastBelow-at n p l))))
 
 module _ (pattern board : Circuit) (from found : ℕ) where
   abbrev lines : ℕ → List ℕ
@@ -144,7 +139,7 @@ module _ (pattern board : Circuit) (from found : ℕ) where
         go false h f =
             let past : n ≤ c = ltb-false c n h in
             let e : n - from ≡ c - from = omega (arith, p .within, p .begun) in
-            rw e (least-none (c - from) _ full)
+            rw e (leastBelow-all (c - from) _ full)
 
     wrote : (ltb c n && roomy (length before) at) ≡ false
         → Wrote before (centresPiece pattern board from found (length before)) after (record { next = c; found = count; size = at })

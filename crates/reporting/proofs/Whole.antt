@@ -5,14 +5,14 @@ use mathlib.Core.List.{List, [], _++_, append-nil, append-assoc}
 use mathlib.Core.Logic.{_↔_, _⊎_, inl, inr}
 use mathlib.Core.Path.{_≡_, refl, sym, ap, ap₂, _∙_}
 use Prim.Native.Nat.{ℕ, zero, suc, _+_, _-_, _≤_, _<_, zero-le}
-use native.Mathlib.Nat.{le-refl, le-trans, lt-of-not-le, add-zero, add-suc, zero-lt-suc, eq-or-lt-of-le}
+use native.Mathlib.Nat.{le-refl, le-trans, lt-of-not-le, add-zero, zero-lt-suc, eq-or-lt-of-le}
 use native.Mathlib.Decide.{decLt}
 use native.Mathlib.Omega.{arith}
 use borrow.Author.Tests.{le-leb, lt-leb, leb-true, leb-false, eqb-true, eqb-false, not-true}
 use lib.Dec.{eqb, leb, eqb→eq}
 use lib.ListN.{length, length-append}
 use Rattle.lists.specs.Below.{countBelow, concatBelow}
-use Rattle.lists.proofs.Below.{countBelow-suc, countBelow-le, leastBelow-le, leastBelow-at}
+use Rattle.lists.proofs.Below.{countBelow-le, leastBelow-le, leastBelow-at, countBelow-add}
 use Rattle.lists.proofs.Tests.{both-left, true-T, T-true}
 use Rattle.text.specs.Text.{bytes}
 use Rattle.graph.specs.Circuit.{Circuit}
@@ -24,12 +24,6 @@ use Rattle.report.proofs.Concat.{concat-add}
 use Rattle.reporting.specs.Call.{linesFrom, placesFrom, roomy, linesTaken, Piece, centresPiece, ends, closed, linesPiece, refusalPiece, pieceFor}
 use Rattle.reporting.specs.Whole.{itemsFor, prefixFor, placesFor, Follows}
 use Rattle.reporting.proofs.Pieces.{ends-elsewhere}
-
--- how many of the first m and of the rest pass a test
-count-add : (m n : ℕ) (p : ℕ → Bool) → countBelow (m + n) p ≡ countBelow m p + countBelow n (λ i. p (m + i))
-unfolding countBelow
-count-add m zero p = rw add-zero (sym (add-zero (countBelow m p)))
-count-add m (suc n) p = rw add-suc (omega (arith, countBelow-suc (m + n) p, countBelow-suc n (λ i. p (m + i)), count-add m n p))
 
 -- the lines that end a report are not empty
 end-some : (k n : ℕ) → 0 < length (endLine k n)
@@ -75,7 +69,7 @@ module _ (pattern board : Circuit) where
 
   places-join : (from j : ℕ) → count from + placesFrom pattern board from j ≡ count (from + j)
   unfolding placesFrom
-  places-join from j = sym (count-add from j (hasPlace pattern board))
+  places-join from j = sym (countBelow-add from j (hasPlace pattern board))
 
   -- no lines of no centres
   no-lines : (from : ℕ) → linesFrom pattern board from 0 ≡ []
