@@ -13,7 +13,7 @@ const PATTERN_BYTES: usize = 4 + 2 * Pattern::MAX_NODES + 4 * Pattern::MAX_LINKS
 const BOARD_BYTES: usize = 4 + 2 * Board::MAX_NODES + 4 * Board::MAX_LINKS + 1;
 
 // What is put at a time; a longer report takes further pieces.
-const PIECE_BYTES: usize = 262144;
+const PIECE_BYTES: usize = 524288;
 
 // What became of reading a file: whether it could be read, and how many of its bytes stand at the front of the buffer.
 struct Held {

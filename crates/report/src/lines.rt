@@ -1,8 +1,9 @@
-// The report's lines, each put into a table of bytes from an offset on; the offset after the line is returned.
+// The report's lines, each put into a table of bytes from an offset on; the offset after the line is returned. `names` has a name for each
+// node.
 ghost use mathlib.Core.Path.{_≡_};
-ghost use Prim.Native.Nat.{_<_};
+ghost use Prim.Native.Nat.{_≤_, _<_};
 ghost use lib.ListN.{length};
-ghost use Rattle.text.specs.Text.{Put, Fits};
+ghost use Rattle.text.specs.Text.{Put, Fits, Names};
 ghost use Rattle.graph.specs.Bfs.{Below};
 ghost use Rattle.place.specs.Bytes.{PartsBelow};
 ghost use Rattle.report.specs.Report.{endLine, refusalLine, fileWord};
@@ -12,6 +13,7 @@ use files::File;
 use files::Refusal;
 use text::put_byte;
 use text::put_bytes;
+use text::put_name;
 use text::put_number;
 
 // Whether the search reached node v.
@@ -23,7 +25,8 @@ fn reached(dist: &[u16], v: usize) -> bool
 }
 
 // Node v, if the search reached it.
-fn put_node(dist: &[u16], v: usize, out: &mut [u8], at: usize) -> usize
+fn put_node(names: &[u32], dist: &[u16], v: usize, out: &mut [u8], at: usize) -> usize
+    requires { ⌜ Names (now names) × (length (now dist) ≤ length (now names)) ⌝ }
     requires { ⌜ v < length (now dist) ⌝ }
     requires { ⌜ Fits (now out) at (nodeText (now dist) v) ⌝ }
     ensures { λ r. ⌜ Put (now (out .entry)) at (nodeText (now (dist .entry)) v) (now (out .exit)) r ⌝ }
@@ -31,40 +34,48 @@ fn put_node(dist: &[u16], v: usize, out: &mut [u8], at: usize) -> usize
     if !reached(dist, v) {
         return at;
     }
-    let next = put_byte(b' ', out, at);
-    put_number(v, out, next)
+    put_name(names, b' ', v, out, at)
 }
 
 // Each node that the search reached.
-fn put_nodes(dist: &[u16], out: &mut [u8], at: usize) -> usize
+fn put_nodes(names: &[u32], dist: &[u16], out: &mut [u8], at: usize) -> usize
+    requires { ⌜ Names (now names) × (length (now dist) ≤ length (now names)) ⌝ }
     requires { ⌜ Fits (now out) at (nodesText (now dist)) ⌝ }
     ensures { λ r. ⌜ Put (now (out .entry)) at (nodesText (now (dist .entry))) (now (out .exit)) r ⌝ }
 {
     let mut end = at;
     let mut v = 0;
     while v < dist.len() {
-        end = put_node(dist, v, out, end);
+        end = put_node(names, dist, v, out, end);
         v += 1;
     }
     end
 }
 
 // The link from v to w, if what the parts of v's set drive has a part of w's set.
-fn put_link(driven: u32, set: u32, v: usize, w: usize, out: &mut [u8], at: usize) -> usize
+fn put_link(
+    names: &[u32],
+    driven: u32,
+    set: u32,
+    v: usize,
+    w: usize,
+    out: &mut [u8],
+    at: usize,
+) -> usize
+    requires { ⌜ Names (now names) × (v < length (now names)) × (w < length (now names)) ⌝ }
     requires { ⌜ Fits (now out) at (linkText driven set v w) ⌝ }
     ensures { λ r. ⌜ Put (now (out .entry)) at (linkText driven set v w) (now (out .exit)) r ⌝ }
 {
     if !bits::meets(driven, set) {
         return at;
     }
-    let start = put_byte(b' ', out, at);
-    let hyphen = put_number(v, out, start);
-    let end = put_byte(b'-', out, hyphen);
-    put_number(w, out, end)
+    let hyphen = put_name(names, b' ', v, out, at);
+    put_name(names, b'-', w, out, hyphen)
 }
 
 // The links from v to the nodes of a list.
 fn put_driven(
+    names: &[u32],
     nodes: &[u16],
     driven: u32,
     sets: &[u32],
@@ -72,6 +83,7 @@ fn put_driven(
     out: &mut [u8],
     at: usize,
 ) -> usize
+    requires { ⌜ Names (now names) × (length (now sets) ≤ length (now names)) × (v < length (now names)) ⌝ }
     requires { ⌜ Below (length (now sets)) (now nodes) ⌝ }
     requires { ⌜ Fits (now out) at (drivenText driven (now sets) v (now nodes)) ⌝ }
     ensures { λ r. ⌜ Put (now (out .entry)) at (drivenText driven (now (sets .entry)) v (now (nodes .entry))) (now (out .exit)) r ⌝ }
@@ -80,7 +92,7 @@ fn put_driven(
     let mut i = 0;
     while i < nodes.len() {
         let w = nodes[i] as usize;
-        end = put_link(driven, sets[w], v, w, out, end);
+        end = put_link(names, driven, sets[w], v, w, out, end);
         i += 1;
     }
     end
@@ -88,6 +100,7 @@ fn put_driven(
 
 // The links that start at v, if the search reached it. What its parts drive is one union, which serves all of them.
 fn put_start(
+    names: &[u32],
     fo: &[u16],
     ft: &[u16],
     succ: &[u32],
@@ -97,6 +110,7 @@ fn put_start(
     out: &mut [u8],
     at: usize,
 ) -> usize
+    requires { ⌜ Names (now names) × (length (now dist) ≤ length (now names)) ⌝ }
     requires { ⌜ length (now sets) ≡ length (now dist) ⌝ }
     requires { ⌜ Below (length (now sets)) (now ft) ⌝ }
     requires { ⌜ PartsBelow (length (now succ)) (now sets) ⌝ }
@@ -108,11 +122,12 @@ fn put_start(
         return at;
     }
     let driven = bits::union_of(succ, sets[v]);
-    put_driven(stretch(fo, ft, v), driven, sets, v, out, at)
+    put_driven(names, stretch(fo, ft, v), driven, sets, v, out, at)
 }
 
 // Each link of the place: a file's links rise by their starts, so that its order is node by node.
 fn put_links(
+    names: &[u32],
     fo: &[u16],
     ft: &[u16],
     succ: &[u32],
@@ -121,6 +136,7 @@ fn put_links(
     out: &mut [u8],
     at: usize,
 ) -> usize
+    requires { ⌜ Names (now names) × (length (now dist) ≤ length (now names)) ⌝ }
     requires { ⌜ length (now sets) ≡ length (now dist) ⌝ }
     requires { ⌜ Below (length (now sets)) (now ft) ⌝ }
     requires { ⌜ PartsBelow (length (now succ)) (now sets) ⌝ }
@@ -130,7 +146,7 @@ fn put_links(
     let mut end = at;
     let mut v = 0;
     while v < dist.len() {
-        end = put_start(fo, ft, succ, dist, sets, v, out, end);
+        end = put_start(names, fo, ft, succ, dist, sets, v, out, end);
         v += 1;
     }
     end
@@ -138,6 +154,7 @@ fn put_links(
 
 // The line of the centre c, around which there is a place.
 pub fn put_line(
+    names: &[u32],
     fo: &[u16],
     ft: &[u16],
     succ: &[u32],
@@ -147,6 +164,7 @@ pub fn put_line(
     out: &mut [u8],
     at: usize,
 ) -> usize
+    requires { ⌜ Names (now names) × (length (now dist) ≤ length (now names)) ⌝ }
     requires { ⌜ length (now sets) ≡ length (now dist) ⌝ }
     requires { ⌜ Below (length (now sets)) (now ft) ⌝ }
     requires { ⌜ PartsBelow (length (now succ)) (now sets) ⌝ }
@@ -156,9 +174,9 @@ pub fn put_line(
     let centre = put_bytes(b"place ", out, at);
     let colon = put_number(c, out, centre);
     let nodes = put_byte(b':', out, colon);
-    let slash = put_nodes(dist, out, nodes);
+    let slash = put_nodes(names, dist, out, nodes);
     let links = put_bytes(b" /", out, slash);
-    let end = put_links(fo, ft, succ, dist, sets, out, links);
+    let end = put_links(names, fo, ft, succ, dist, sets, out, links);
     put_byte(b'\n', out, end)
 }
 

@@ -1,4 +1,4 @@
--- The last line after the lines of the centres, and the one line of a refused file. Assumes nothing.
+-- The last line after the lines of the centres, nothing after that, and the one line of a refused file. Assumes nothing.
 use mathlib.Core.Bool.{Bool, true, false, _&&_, cond}
 use mathlib.Core.List.{List, [], _++_, append-nil}
 use mathlib.Core.Path.{_≡_, refl, _∙_}
@@ -6,19 +6,23 @@ use Prim.Native.Nat.{ℕ, suc, _+_, _-_, _≤_, _<_}
 use native.Mathlib.Nat.{zero-add}
 use native.Mathlib.Numerals.{add-one}
 use native.Mathlib.Omega.{arith}
-use borrow.Author.Tests.{eq-eqb, ne-eqb, leb-true}
+use borrow.Author.Tests.{eq-eqb, ne-eqb, le-ltb, leb-true}
 use lib.Dec.{eqb, leb, leb→le, le→leb}
 use lib.ListN.{length, length-append}
 use Rattle.lists.proofs.Tests.{both-right, true-T, same-test}
 use Rattle.text.specs.Text.{Put, Fits}
 use Rattle.text.proofs.Text.{put-nothing, put-then, put-same, put-length}
+use Rattle.graph.specs.Circuit.{Circuit}
 use Rattle.files.specs.declared.Refusal.{Refusal}
+use Rattle.files.specs.declared.Role.the-variants.{Board}
+use Rattle.files.specs.Circuit.{Bounded}
 use Rattle.report.specs.Lines.{longestLine}
 use Rattle.report.specs.Report.{endLine, refusalLine}
 use Rattle.report.proofs.Lengths.{end-length, refusal-length}
 use Rattle.reporting.specs.declared.Part.{Part}
-use Rattle.reporting.specs.Call.{roomy, Piece, ends, closed, refusalPiece}
+use Rattle.reporting.specs.Call.{roomy, Piece, ends, closed, linesPiece, refusalPiece}
 use Rattle.reporting.specs.Pieces.{Wrote, Closed}
+use Rattle.reporting.proofs.Progress.{progress-start, progress-end, piece-small}
 
 -- ---- what is left of the room
 
@@ -102,6 +106,17 @@ closed-wrote {before} {middle} {after} {p} {part} {r} n few low w c =
         }
     go false e put next =
         record { fits = w .fits; put = put-same (append-nil (p .text)) (put-then (w .put) put); next = next ∙ w .next; found = c .found ∙ w .found }
+
+-- ---- past the last line nothing is put
+
+pub past-wrote : (pattern board : Circuit) (from found : ℕ) (out : List ℕ) → Bounded Board board → found < 65536
+    → length (board .kinds) < from → Wrote out (linesPiece pattern board from found (length out)) out (record { next = from; found = found; size = 0 })
+unfolding linesPiece
+past-wrote pattern board from found out b few past =
+    let n = length (board .kinds) in
+    closed-wrote n (piece-small pattern board from found b few (length out)) (omega (arith, b .nodes))
+    (progress-end pattern board from found (progress-start pattern board from found out) false (rw (le-ltb from n (omega arith))) refl)
+    (last-elsewhere out (record { next = from; found = found; size = 0 }) n (λ e. omega arith))
 
 -- ---- a refused file
 

@@ -1,15 +1,17 @@
 // The lines of one centre after another, and the last line, put at the front of a buffer.
 use crate::LONGEST;
 use crate::Part;
+use files::Board;
 use locating::locate;
 use report::lines::put_end;
 use report::lines::put_line;
+use text::make_names;
 ghost use mathlib.Core.Bool.{_&&_, cond};
 ghost use mathlib.Core.Path.{_≡_};
 ghost use Prim.Native.Nat.{_+_, _≤_, _<_};
 ghost use lib.Dec.{eqb, ltb};
 ghost use lib.ListN.{length};
-ghost use Rattle.text.specs.Text.{Put};
+ghost use Rattle.text.specs.Text.{Put, Names};
 ghost use Rattle.table.specs.Refine.{circuit};
 ghost use Rattle.table.specs.Prepared.{tables};
 ghost use Rattle.report.specs.Lines.{longestLine};
@@ -63,6 +65,7 @@ fn put_centre(
     ft: &[u16],
     bo: &[u16],
     bt: &[u16],
+    names: &[u32],
     c: u16,
     r: u16,
     dist: &mut [u16],
@@ -76,6 +79,7 @@ fn put_centre(
     requires { ⌜ Scratch (length (now «node_kinds»)) (now dist) (now queue) (now sets) (now spare) ⌝ }
     requires { ⌜ c < length (now «node_kinds») ⌝ }
     requires { ⌜ at + longestLine ≤ length (now out) ⌝ }
+    requires { ⌜ Names (now names) × (length (now «node_kinds») ≤ length (now names)) ⌝ }
     ensures { λ r. ⌜ Put (now (out .entry)) at (centreLine (circuit (now («part_kinds» .entry)) (now («part_starts» .entry)) (now («part_ends» .entry))) (circuit (now («node_kinds» .entry)) (now («node_starts» .entry)) (now («node_ends» .entry))) c) (now (out .exit)) r ⌝ }
 {
     let v = c as usize;
@@ -105,7 +109,7 @@ fn put_centre(
     ) {
         return at;
     }
-    put_line(fo, ft, succ, dist, sets, v, out, at)
+    put_line(names, fo, ft, succ, dist, sets, v, out, at)
 }
 
 // The lines of the centres from `from` on, before which `found` centres had a place, as long as there is room for the longest line.
@@ -136,6 +140,8 @@ pub fn put_centres(
     requires { ⌜ Scratch (length (now «node_kinds»)) (now dist) (now queue) (now sets) (now spare) ⌝ }
     ensures { λ r. ⌜ Wrote (now (out .entry)) (centresPiece (circuit (now («part_kinds» .entry)) (now («part_starts» .entry)) (now («part_ends» .entry))) (circuit (now («node_kinds» .entry)) (now («node_starts» .entry)) (now («node_ends» .entry))) from found (length (now (out .entry)))) (now (out .exit)) r ⌝ }
 {
+    let mut names = [0u32; Board::MAX_NODES];
+    make_names(&mut names);
     let n = node_kinds.len();
     let mut c = from;
     let mut count = found as usize;
@@ -155,6 +161,7 @@ pub fn put_centres(
             ft,
             bo,
             bt,
+            &names,
             c as u16,
             r,
             dist,

@@ -198,7 +198,7 @@ fn run_in(
     )
 }
 
-// The same at the pattern's radius, with scratch tables of its own.
+// The same at the pattern's radius, with scratch tables of its own. Past the last line nothing is left to put.
 pub fn put_piece(
     part_kinds: &[u16],
     part_starts: &[u16],
@@ -213,6 +213,13 @@ pub fn put_piece(
     requires { ⌜ Drawn (circuit (now «part_kinds») (now «part_starts») (now «part_ends»)) (circuit (now «node_kinds») (now «node_starts») (now «node_ends»)) ⌝ }
     ensures { λ p. ⌜ Wrote (now (out .entry)) (linesPiece (circuit (now («part_kinds» .entry)) (now («part_starts» .entry)) (now («part_ends» .entry))) (circuit (now («node_kinds» .entry)) (now («node_starts» .entry)) (now («node_ends» .entry))) from found (length (now (out .entry)))) (now (out .exit)) p ⌝ }
 {
+    if node_kinds.len() < from {
+        return Part {
+            next: from,
+            found: found as usize,
+            size: 0,
+        };
+    }
     let mut whole = [0u32; Board::MAX_NODES];
     let mut succ = [0u32; Pattern::MAX_NODES];
     let mut pred = [0u32; Pattern::MAX_NODES];

@@ -1,16 +1,18 @@
--- Laws of text written into a table, pieces one after another, the room that they need, and the whole table; and of decimal numerals.
+-- Laws of text written into a table, pieces one after another, the room that they need, and the whole table; of decimal numerals; and of
+-- names.
 -- Assumes nothing.
 use mathlib.Core.Bool.{Bool, true, false, cond}
 use mathlib.Core.List.{List, [], _∷_, _++_}
-use mathlib.Core.Path.{_≡_, refl, ap, _∙_}
+use mathlib.Core.Path.{_≡_, refl, sym, ap, _∙_}
 use Prim.Native.Nat.{ℕ, zero, suc, _+_, _*_, _/_, _%_, _^_, _≤_, _<_}
 use native.Mathlib.Nat.{le-of-eq, zero-add, pow-suc}
 use native.Mathlib.Omega.{arith}
 use borrow.Author.Tests.{ltb-true, ltb-false, lt-ltb, le-ltb}
 use lib.Dec.{ltb}
-use lib.ListN.{length, set, drop, length-append}
+use lib.ListN.{length, getD, set, drop, length-append}
 use lib.Seq.{sets, length-sets, sets-eq}
-use Rattle.text.specs.Text.{bytes, digits, decimal, Put, Fits}
+use Rattle.lists.proofs.Tables.{getD-tabulate}
+use Rattle.text.specs.Text.{bytes, digits, decimal, fourBytes, nameOf, Names, Put, Fits}
 
 -- ---- writing
 
@@ -26,6 +28,15 @@ put-one o at b = record { table = refl; end = refl }
 -- nothing
 pub put-nothing : {o : List ℕ} {at : ℕ} → Put o at [] o at
 put-nothing = record { table = refl; end = omega arith }
+
+-- four bytes
+pub put-four-bytes : (o : List ℕ) (at a b c d : ℕ) →
+    Put o at (a ∷ b ∷ c ∷ d ∷ []) (set (set (set (set o at a) (at + 1) b) (at + 2) c) (at + 3) d) (at + 4)
+put-four-bytes o at a b c d =
+    let e1 : at + 1 ≡ suc at = omega arith in
+    let e2 : at + 2 ≡ suc (suc at) = omega arith in
+    let e3 : at + 3 ≡ suc (suc (suc at)) = omega arith in
+    record { table = rw (e1, e2, e3); end = refl }
 
 -- two texts one after another
 pub put-then : {o o1 o2 xs ys : List ℕ} {at p q : ℕ} → Put o at xs o1 p → Put o1 p ys o2 q → Put o at (xs ++ ys) o2 q
@@ -88,6 +99,14 @@ decimal-more x h = rw (le-ltb x 10 h) (ap (λ (l : List ℕ). l ++ ((48 + x % 10
 pub decimal-two : (x : ℕ) → 10 ≤ x → x < 100 → decimal x ≡ ((48 + x / 10) ∷ []) ++ ((48 + x % 10) ∷ [])
 decimal-two x h l = decimal-more x h ∙ ap (λ (d : List ℕ). d ++ ((48 + x % 10) ∷ [])) (decimal-digit (x / 10) (omega arith))
 
+-- three digits
+decimal-three : (x : ℕ) → 100 ≤ x → x < 1000 → decimal x ≡ (48 + x / 100) ∷ (48 + x / 10 % 10) ∷ (48 + x % 10) ∷ []
+decimal-three x h l =
+    let hundreds : x / 10 / 10 ≡ x / 100 = omega arith in
+    decimal-more x (omega arith)
+    ∙ ap (λ (d : List ℕ). d ++ ((48 + x % 10) ∷ [])) (decimal-two (x / 10) (omega arith) (omega arith))
+    ∙ ap (λ (d : ℕ). (48 + d) ∷ (48 + x / 10 % 10) ∷ (48 + x % 10) ∷ []) hundreds
+
 -- how long numerals get: each digit more needs ten times the number
 length-more : (x : ℕ) → 10 ≤ x → length (decimal x) ≡ length (decimal (x / 10)) + 1
 length-more x h = ap length (decimal-more x h) ∙ length-append (decimal (x / 10)) _
@@ -110,3 +129,34 @@ length-decimal (suc k) x h = go (ltb x 10) refl (length-decimal k (x / 10))
 pub numerals : (decimal 0 ≡ bytes "0") × (decimal 10 ≡ bytes "10") × (decimal 512 ≡ bytes "512")
 unfolding decimal digits bytes
 numerals = (refl, refl, refl)
+
+-- ---- names
+
+-- the bytes of a number made of four
+four-bytes : (a b c d : ℕ) → a < 256 → b < 256 → c < 256 → fourBytes (256 * b + 65536 * c + 16777216 * d + a) ≡ a ∷ b ∷ c ∷ d ∷ []
+unfolding fourBytes
+four-bytes a b c d ha hb hc =
+    let x = 256 * b + 65536 * c + 16777216 * d + a in
+    let e0 : x % 256 ≡ a = omega arith in
+    let q1 : x / 256 ≡ b + 256 * (c + 256 * d) = omega arith in
+    let e1 : (b + 256 * (c + 256 * d)) % 256 ≡ b = omega arith in
+    let q2 : x / 65536 ≡ c + 256 * d = omega arith in
+    let e2 : (c + 256 * d) % 256 ≡ c = omega arith in
+    let q3 : x / 16777216 ≡ d = omega arith in
+    rw (e0, q1, e1, q2, e2, q3)
+
+-- a byte added to the name of a number of three digits: the byte and the number
+pub name-bytes : (b x : ℕ) → b < 256 → 100 ≤ x → x < 1000 → fourBytes (nameOf x + b) ≡ b ∷ decimal x
+unfolding nameOf
+name-bytes b x small h l =
+    four-bytes b (48 + x / 100) (48 + x / 10 % 10) (48 + x % 10) small (omega arith) (omega arith)
+    ∙ sym (ap (λ (d : List ℕ). b ∷ d) (decimal-three x h l))
+
+-- such a sum has 32 bits
+pub name-small : (b x : ℕ) → b < 256 → x < 1000 → nameOf x + b < 4294967296
+unfolding nameOf
+name-small b x small l = omega arith
+
+-- an entry of a table of names
+pub name-at : {names : List ℕ} → Names names → (x : ℕ) → x < length names → getD names x 0 ≡ nameOf x
+name-at {names} t x h = ap (λ (l : List ℕ). getD l x 0) (t .table) ∙ getD-tabulate (length names) nameOf x 0 h

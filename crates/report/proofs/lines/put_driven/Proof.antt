@@ -21,10 +21,10 @@ abbrev linkTo : List ℕ → ℕ → List ℕ → ℕ → ℕ → List ℕ
 linkTo nodes driven sets v i = linkText driven (getD sets (getD nodes i 0) 0) v (getD nodes i 0)
 
 abbrev Inv-loop : tie.InvT-loop
-Inv-loop nodes driven sets v out₀ at end₀ i₀ out end i = (i ≤ length nodes) × Put out₀ at (concatBelow i (linkTo nodes driven sets v)) out end
+Inv-loop names nodes driven sets v out₀ at end₀ i₀ out end i = (i ≤ length nodes) × Put out₀ at (concatBelow i (linkTo nodes driven sets v)) out end
 
 abbrev μ-loop : tie.MeasureT-loop
-μ-loop nodes driven sets v out₀ at end₀ i₀ out end i = length nodes - i
+μ-loop names nodes driven sets v out₀ at end₀ i₀ out end i = length nodes - i
 
 loop-holds : tie.Need-loop-holds Inv-loop μ-loop
 unfolding concatBelow
@@ -37,22 +37,26 @@ shared-slice-read-w : tie.Need-shared-slice-read-w Inv-loop μ-loop
 shared-slice-read-w c = search needs
 
 cast-w : tie.Need-cast-w Inv-loop μ-loop
-cast-w c = omega (arith, c .shared-slice-known3 .given (c .before .before .loop .i))
+cast-w c = omega (arith, c .shared-slice-known4 .given (c .before .before .loop .i))
 
 mul-put-link : tie.Need-mul-put-link Inv-loop μ-loop
-mul-put-link c = omega (arith, c .shared-slice-known3 .given (c .before .before .loop .i))
+mul-put-link c = omega (arith, c .shared-slice-known4 .given (c .before .before .loop .i))
 
 shared-slice-read-put-link : tie.Need-shared-slice-read-put-link Inv-loop μ-loop
 unfolding Below
-shared-slice-read-put-link c = c .before .before .before .before .before .before .before .pre .0 (c .before .before .before .loop .i) (omega arith)
+shared-slice-read-put-link c = c .before .before .before .before .before .before .before .before .pre .1 .0 (c .before .before .before .loop .i) (omega arith)
 
 put-link-requires : tie.Need-put-link-requires Inv-loop μ-loop
-unfolding drivenText
+unfolding Below drivenText
 put-link-requires c κs =
-    let s = c .before .before .before .before .before .before .before .before in
+    let s = c .before .before .before .before .before .before .before .before .before in
     let a = s .args in
+    let p = s .pre in
     let loop = c .before .before .before .before .loop in
-    fits-then (loop .inv .1) (fits-piece (length (now (a .nodes))) (loop .i) (linkTo (now (a .nodes)) (a .driven) (now (a .sets)) (a .v)) (omega arith) (s .pre .1))
+    let below = p .1 .0 (loop .i) (omega arith) in (
+      (p .0 .0, p .0 .2, omega (arith, below, p .0 .1)),
+      fits-then (loop .inv .1) (fits-piece (length (now (a .nodes))) (loop .i) (linkTo (now (a .nodes)) (a .driven) (now (a .sets)) (a .v)) (omega arith) (p .1 .1)),
+    )
 
 add-i : tie.Need-add-i Inv-loop μ-loop
 add-i c = omega arith
@@ -62,7 +66,7 @@ loop-less c = omega arith
 
 loop-again : tie.Need-loop-again Inv-loop μ-loop
 loop-again c =
-    let a = c .before .before .before .before .before .before .before .before .before .before .before .args in
+    let a = c .before .before .before .before .before .before .before .before .before .before .before .before .args in
     let loop = c .before .before .before .before .before .before .before .loop in
     (omega arith, put-same (concat-more (loop .i) (linkTo (now (a .nodes)) (a .driven) (now (a .sets)) (a .v))) (put-then (loop .inv .1) (c .before .before .put-link .ensures)))
 
@@ -72,7 +76,7 @@ same-length c = put-length (c .before .loop .inv .1)
 returns : tie.Need-returns Inv-loop μ-loop
 unfolding drivenText
 returns c =
-    let a = c .before .before .before .before .before .args in
+    let a = c .before .before .before .before .before .before .args in
     let loop = c .before .loop in
     let e : loop .i ≡ length (now (a .nodes)) = omega arith in
     put-same (ap (λ (n : ℕ). concatBelow n (linkTo (now (a .nodes)) (a .driven) (now (a .sets)) (a .v))) e) (loop .inv .1)

@@ -31,21 +31,21 @@ slice-aggregate-put-bytes c = search needs
 
 room : (s : tie.Start) → let a = s .args in
     Fits (now (a .out)) (a .at) (bytes "place " ++ (decimal (a .c) ++ (bytes ":" ++ (nodes s ++ (bytes " /" ++ (links s ++ bytes "\n"))))))
-room s = fits-same (pieces s) (s .pre .1 .1 .1)
+room s = fits-same (pieces s) (s .pre .1 .1 .1 .1)
 
 put-bytes-requires : tie.Need-put-bytes-requires
 unfolding bytes
-put-bytes-requires c κs = fits-first (bytes "place ") _ (room (c .before .before .before .before .before .before .before .before))
+put-bytes-requires c κs = fits-first (bytes "place ") _ (room (c .before .before .before .before .before .before .before .before .before))
 
-room-centre : (c : tie.After-put-bytes) → let s = c .before .before .before .before .before .before .before .before .before in
+room-centre : (c : tie.After-put-bytes) → let s = c .before .before .before .before .before .before .before .before .before .before in
     Fits (c .put-bytes .last .1 .0) (c .put-bytes .result) (decimal (s .args .c) ++ (bytes ":" ++ (nodes s ++ (bytes " /" ++ (links s ++ bytes "\n")))))
 unfolding bytes
-room-centre c = fits-then (c .put-bytes .ensures) (room (c .before .before .before .before .before .before .before .before .before))
+room-centre c = fits-then (c .put-bytes .ensures) (room (c .before .before .before .before .before .before .before .before .before .before))
 
 put-number-requires : tie.Need-put-number-requires
 put-number-requires c κs = fits-first _ _ (room-centre (c .before .before .before))
 
-room-colon : (c : tie.After-put-number) → let s = c .before .before .before .before .before .before .before .before .before .before .before .before .before in
+room-colon : (c : tie.After-put-number) → let s = c .before .before .before .before .before .before .before .before .before .before .before .before .before .before in
     Fits (c .put-number .last .1 .0) (c .put-number .result) (bytes ":" ++ (nodes s ++ (bytes " /" ++ (links s ++ bytes "\n"))))
 room-colon c = fits-then (c .put-number .ensures) (room-centre (c .before .before .before .before))
 
@@ -53,16 +53,18 @@ put-byte-requires : tie.Need-put-byte-requires
 unfolding bytes
 put-byte-requires c κs = fits-first (bytes ":") _ (room-colon (c .before .before .before))
 
-room-nodes : (c : tie.After-put-byte) → let s = c .before .before .before .before .before .before .before .before .before .before .before .before .before .before .before .before .before in
+room-nodes : (c : tie.After-put-byte) → let s = c .before .before .before .before .before .before .before .before .before .before .before .before .before .before .before .before .before .before in
     Fits (c .put-byte .last .1 .0) (c .put-byte .result) (nodes s ++ (bytes " /" ++ (links s ++ bytes "\n")))
 unfolding bytes
 room-nodes c = fits-then (c .put-byte .ensures) (room-colon (c .before .before .before .before))
 
 put-nodes-requires : tie.Need-put-nodes-requires
-put-nodes-requires c κs = fits-first _ _ (room-nodes (c .before .before .before))
+put-nodes-requires c κs =
+    let s = c .before .before .before .before .before .before .before .before .before .before .before .before .before .before .before .before .before .before .before .before .before in
+    (s .pre .0, fits-first _ _ (room-nodes (c .before .before .before)))
 
-room-slash : (c : tie.After-put-nodes) → let s = c .before .before .before .before .before .before .before .before .before .before .before .before .before .before .before .before .before .before .before .before .before in
-    Fits (c .put-nodes .last .1 .0) (c .put-nodes .result) (bytes " /" ++ (links s ++ bytes "\n"))
+room-slash : (c : tie.After-put-nodes) → let s = c .before .before .before .before .before .before .before .before .before .before .before .before .before .before .before .before .before .before .before .before .before .before in
+    Fits (c .put-nodes .last .1 .1 .0) (c .put-nodes .result) (bytes " /" ++ (links s ++ bytes "\n"))
 room-slash c = fits-then (c .put-nodes .ensures) (room-nodes (c .before .before .before .before))
 
 slice-aggregate-put-bytes-2 : tie.Need-slice-aggregate-put-bytes-2
@@ -72,12 +74,12 @@ put-bytes-requires-2 : tie.Need-put-bytes-requires-2
 unfolding bytes
 put-bytes-requires-2 c κs = fits-first (bytes " /") _ (room-slash (c .before .before .before .before))
 
-room-links : (c : tie.After-put-bytes2) → Fits (c .put-bytes2 .last .1 .0) (c .put-bytes2 .result) (links (c .before .before .before .before .before .before .before .before .before .before .before .before .before .before .before .before .before .before .before .before .before .before .before .before .before .before) ++ bytes "\n")
+room-links : (c : tie.After-put-bytes2) → Fits (c .put-bytes2 .last .1 .0) (c .put-bytes2 .result) (links (c .before .before .before .before .before .before .before .before .before .before .before .before .before .before .before .before .before .before .before .before .before .before .before .before .before .before .before) ++ bytes "\n")
 unfolding bytes
 room-links c = fits-then (c .put-bytes2 .ensures) (room-slash (c .before .before .before .before .before))
 
 put-links-requires : tie.Need-put-links-requires
-put-links-requires c κs = let p = c .before .before .before .before .before .before .before .before .before .before .before .before .before .before .before .before .before .before .before .before .before .before .before .before .before .before .before .before .before .pre in (p .0, (p .1 .0, (p .1 .1 .0, fits-first _ _ (room-links (c .before .before .before)))))
+put-links-requires c κs = let p = c .before .before .before .before .before .before .before .before .before .before .before .before .before .before .before .before .before .before .before .before .before .before .before .before .before .before .before .before .before .before .pre in (p .0, (p .1 .0, (p .1 .1 .0, (p .1 .1 .1 .0, fits-first _ _ (room-links (c .before .before .before))))))
 
 put-byte-requires-2 : tie.Need-put-byte-requires-2
 unfolding bytes
@@ -89,7 +91,7 @@ same-length c = search needs
 returns : tie.Need-returns
 unfolding bytes
 returns c =
-    put-same (sym (pieces (c .before .before .before .before .before .before .before .before .before .before .before .before .before .before .before .before .before .before .before .before .before .before .before .before .before .before .before .before .before .before .before .before .before .before .before .before)))
+    put-same (sym (pieces (c .before .before .before .before .before .before .before .before .before .before .before .before .before .before .before .before .before .before .before .before .before .before .before .before .before .before .before .before .before .before .before .before .before .before .before .before .before)))
     (put-then (c .before .before .before .before .before .before .before .before .before .before .before .before .before .before .before .before .before .before .before .before .before .before .before .before .before .before .before .put-bytes .ensures)
     (put-then (c .before .before .before .before .before .before .before .before .before .before .before .before .before .before .before .before .before .before .before .before .before .before .before .put-number .ensures)
     (put-then (c .before .before .before .before .before .before .before .before .before .before .before .before .before .before .before .before .before .before .before .put-byte .ensures)

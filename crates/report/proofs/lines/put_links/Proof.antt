@@ -15,10 +15,10 @@ use Rattle.report.proofs.lines.put_links.Statement.{statement}
 use Rattle.report.proofs.lines.put_links.Tie as tie
 
 abbrev Inv-loop : tie.InvT-loop
-Inv-loop fo ft succ dist sets out₀ at end₀ v₀ out end v = (v ≤ length dist) × Put out₀ at (concatBelow v (startText fo ft succ dist sets)) out end
+Inv-loop names fo ft succ dist sets out₀ at end₀ v₀ out end v = (v ≤ length dist) × Put out₀ at (concatBelow v (startText fo ft succ dist sets)) out end
 
 abbrev μ-loop : tie.MeasureT-loop
-μ-loop fo ft succ dist sets out₀ at end₀ v₀ out end v = length dist - v
+μ-loop names fo ft succ dist sets out₀ at end₀ v₀ out end v = length dist - v
 
 -- the links that start at a node
 abbrev starting : tie.Start Inv-loop μ-loop → ℕ → List ℕ
@@ -31,10 +31,10 @@ loop-holds c = (omega arith, put-nothing)
 put-start-requires : tie.Need-put-start-requires Inv-loop μ-loop
 unfolding linksText
 put-start-requires c κs =
-    let s = c .before .before .before .before .before .before .before .before .before in
+    let s = c .before .before .before .before .before .before .before .before .before .before in
     let p = s .pre in
     let loop = c .before .before .loop in
-    (p .0, (p .1 .0, (p .1 .1 .0, (omega arith, fits-then (loop .inv .1) (fits-piece (length (now (s .args .dist))) (loop .v) (starting s) (omega arith) (p .1 .1 .1))))))
+    (p .0, (p .1 .0, (p .1 .1 .0, (p .1 .1 .1 .0, (omega arith, fits-then (loop .inv .1) (fits-piece (length (now (s .args .dist))) (loop .v) (starting s) (omega arith) (p .1 .1 .1 .1)))))))
 
 add-v : tie.Need-add-v Inv-loop μ-loop
 add-v c = omega arith
@@ -45,7 +45,7 @@ loop-less c = omega arith
 loop-again : tie.Need-loop-again Inv-loop μ-loop
 loop-again c =
     let loop = c .before .before .before .before .before .loop in
-    (omega arith, put-same (concat-more (loop .v) (starting (c .before .before .before .before .before .before .before .before .before .before .before .before))) (put-then (loop .inv .1) (c .before .before .put-start .ensures)))
+    (omega arith, put-same (concat-more (loop .v) (starting (c .before .before .before .before .before .before .before .before .before .before .before .before .before))) (put-then (loop .inv .1) (c .before .before .put-start .ensures)))
 
 same-length : tie.Need-same-length Inv-loop μ-loop
 same-length c = put-length (c .before .loop .inv .1)
@@ -53,7 +53,7 @@ same-length c = put-length (c .before .loop .inv .1)
 returns : tie.Need-returns Inv-loop μ-loop
 unfolding linksText
 returns c =
-    let s = c .before .before .before .before .before .before .before .before in
+    let s = c .before .before .before .before .before .before .before .before .before in
     let loop = c .before .loop in
     let e : loop .v ≡ length (now (s .args .dist)) = omega arith in
     put-same (ap (λ (n : ℕ). concatBelow n (starting s)) e) (loop .inv .1)

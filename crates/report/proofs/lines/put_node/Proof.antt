@@ -1,11 +1,12 @@
--- `report::lines::put_node` meets its contract: a space and the node. Assumes nothing.
+-- `report::lines::put_node` meets its contract: the node after a space. Assumes nothing.
 use mathlib.Core.List.{_++_}
 use mathlib.Core.Path.{_≡_, sym, _∙_}
+use native.Mathlib.Omega.{arith}
 use borrow.Author.Needs.{needs}
 use borrow.Author.Tests.{not-true, not-false}
 use denote.Ref.{now}
 use Rattle.text.specs.Text.{bytes, decimal}
-use Rattle.text.proofs.Text.{put-nothing, put-then, put-same, fits-same, fits-first, fits-then}
+use Rattle.text.proofs.Text.{put-nothing, put-same, fits-same}
 use Rattle.report.specs.Lines.{nodeText}
 use Rattle.report.proofs.Pieces.{node-missed, node-reached}
 use Rattle.report.proofs.lines.put_node.Statement.{statement}
@@ -16,29 +17,28 @@ reached-requires c κs = search needs
 
 returns : tie.Need-returns
 returns c =
-    let a = c .before .before .before .before .args in
+    let a = c .before .before .before .before .before .args in
     put-same (sym (node-missed (now (a .dist)) (a .v) (sym (c .before .reached .ensures) ∙ not-true _ (c .if1 .taken)))) put-nothing
 
 -- the node is reached
-text : (c : tie.Else1) → let a = c .before .before .before .before .args in nodeText (now (a .dist)) (a .v) ≡ bytes " " ++ decimal (a .v)
-text c = let a = c .before .before .before .before .args in node-reached (now (a .dist)) (a .v) (sym (c .before .reached .ensures) ∙ not-false _ (c .if1 .left))
+text : (c : tie.Else1) → let a = c .before .before .before .before .before .args in
+    nodeText (now (a .dist)) (a .v) ≡ bytes " " ++ decimal (a .v)
+text c =
+    let a = c .before .before .before .before .before .args in
+    node-reached (now (a .dist)) (a .v) (sym (c .before .reached .ensures) ∙ not-false _ (c .if1 .left))
 
-put-byte-requires : tie.Need-put-byte-requires
+put-name-requires : tie.Need-put-name-requires
 unfolding bytes
-put-byte-requires c κs = fits-first (bytes " ") _ (fits-same (text (c .before)) (c .before .before .before .before .before .pre .1))
-
-put-number-requires : tie.Need-put-number-requires
-unfolding bytes
-put-number-requires c κs = fits-then (c .before .before .before .put-byte .ensures) (fits-same (text (c .before .before .before .before .before)) (c .before .before .before .before .before .before .before .before .before .pre .1))
+put-name-requires c κs =
+    let s = c .before .before .before .before .before .before in
+    (s .pre .0 .0, (omega (arith, s .pre .0 .1, s .pre .1 .0), fits-same (text (c .before)) (s .pre .1 .1)))
 
 same-length : tie.Need-same-length
 same-length c = search needs
 
 returns-2 : tie.Need-returns-2
 unfolding bytes
-returns-2 c = put-same (sym (text (c .before .before .before .before .before .before .before .before))) (put-then (c .before .before .before .before .before .before .put-byte .ensures) (c .before .before .put-number .ensures))
+returns-2 c = put-same (sym (text (c .before .before .before .before))) (c .before .before .put-name .ensures)
 
 pub put-node-spec : {M : Type 1} → statement M
-put-node-spec =
-    tie.close
-    (tie.spec reached-requires returns put-byte-requires put-number-requires same-length returns-2)
+put-node-spec = tie.close (tie.spec reached-requires returns put-name-requires same-length returns-2)

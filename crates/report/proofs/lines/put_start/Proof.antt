@@ -1,5 +1,6 @@
 -- `report::lines::put_start` meets its contract. Assumes nothing.
 use mathlib.Core.Path.{_≡_, sym, _∙_}
+use native.Mathlib.Omega.{arith}
 use borrow.Author.Needs.{needs}
 use borrow.Author.Tests.{not-true, not-false}
 use denote.Ref.{now}
@@ -15,7 +16,7 @@ reached-requires c κs = search needs
 
 returns : tie.Need-returns
 returns c =
-    let a = c .before .before .before .before .before .before .before .before .args in
+    let a = c .before .before .before .before .before .before .before .before .before .args in
     put-same
     (sym (start-missed (now (a .fo)) (now (a .ft)) (now (a .succ)) (now (a .dist)) (now (a .sets)) (a .v) (sym (c .before .reached .ensures) ∙ not-true _ (c .if1 .taken))))
     put-nothing
@@ -27,23 +28,28 @@ shared-slice-read-union-of : tie.Need-shared-slice-read-union-of
 shared-slice-read-union-of c = search needs
 
 union-of-requires : tie.Need-union-of-requires
-union-of-requires c κs = c .before .before .before .before .before .before .before .before .before .pre .1 .1 .0 (c .before .before .before .before .before .before .before .before .before .args .v)
+union-of-requires c κs =
+    let s = c .before .before .before .before .before .before .before .before .before .before in
+    s .pre .1 .1 .1 .0 (s .args .v)
 
 stretch-requires : tie.Need-stretch-requires
 stretch-requires c κs = search needs
 
 -- the text of the links, from the union and the stretch
-text : (c : tie.After-stretch) → let a = c .before .before .before .before .before .before .before .before .before .before .before .args in
+text : (c : tie.After-stretch) → let a = c .before .before .before .before .before .before .before .before .before .before .before .before .args in
     startText (now (a .fo)) (now (a .ft)) (now (a .succ)) (now (a .dist)) (now (a .sets)) (a .v)
     ≡ drivenText (c .before .union-of .result) (now (a .sets)) (a .v) (now (c .stretch .result))
 text c =
-    let a = c .before .before .before .before .before .before .before .before .before .before .before .args in
+    let a = c .before .before .before .before .before .before .before .before .before .before .before .before .args in
     start-reached (now (a .fo)) (now (a .ft)) (now (a .succ)) (now (a .dist)) (now (a .sets)) (a .v) _ _ (sym (c .before .before .before .before .reached .ensures) ∙ not-false _ (c .before .before .before .if1 .left)) (c .before .union-of .ensures) (c .stretch .ensures)
 
 put-driven-requires : tie.Need-put-driven-requires
 put-driven-requires c κs =
-    let s = c .before .before .before .before .before .before .before .before .before .before .before .before in
-    (rw (c .before .stretch .ensures) (stretch-below _ _ _ _ (s .pre .1 .0)), fits-same (text (c .before)) (s .pre .1 .1 .1 .1))
+    let s = c .before .before .before .before .before .before .before .before .before .before .before .before .before in
+    let p = s .pre in (
+      (p .0 .0, omega (arith, p .0 .1, p .1 .0), omega (arith, p .0 .1, p .1 .1 .1 .1 .0)),
+      (rw (c .before .stretch .ensures) (stretch-below _ _ _ _ (p .1 .1 .0)), fits-same (text (c .before)) (p .1 .1 .1 .1 .1)),
+    )
 
 same-length : tie.Need-same-length
 same-length c = search needs

@@ -13,7 +13,7 @@ use Rattle.reporting.proofs.centres.put_centre.Statement.{statement}
 use Rattle.reporting.proofs.centres.put_centre.Tie as tie
 
 abbrev entry : tie.After-slice-known5 → tie.Start
-entry c = c .before .before .before .before .before .before .before .before .before .before .before .before .before .before .before .before .before .before
+entry c = c .before .before .before .before .before .before .before .before .before .before .before .before .before .before .before .before .before .before .before
 
 mul-if1 : tie.Need-mul-if1
 mul-if1 c = search needs
@@ -72,13 +72,17 @@ put-line-requires c κs =
     let source = s .pre .0 in
     let there = not-false _ (here .if2 .left) in
     let place = sought (here .before) .locate .ensures in
-    let l = place .1 there in (
-      l .long ∙ sym (l .size),
+    let l = place .1 there in
+    let names = s .pre .1 .1 .1 .1 in (
+      (names .0, omega (arith, names .1, l .size)),
       (
-        rw (l .long) (source .ready .forward .nodes),
+        l .long ∙ sym (l .size),
         (
-          l .parts,
-          fits-same (sym (source-line source (s .args .c) _ (place .0) there l)) (centre-fits _ _ (s .args .c) (source .drawn .nodes) (s .pre .1 .1 .0) (s .pre .1 .1 .1)),
+          rw (l .long) (source .ready .forward .nodes),
+          (
+            l .parts,
+            fits-same (sym (source-line source (s .args .c) _ (place .0) there l)) (centre-fits _ _ (s .args .c) (source .drawn .nodes) (s .pre .1 .1 .0) (s .pre .1 .1 .1 .0)),
+          ),
         ),
       ),
     )

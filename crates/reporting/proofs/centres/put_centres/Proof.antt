@@ -4,7 +4,9 @@ use mathlib.Core.Bool.{true}
 use mathlib.Core.Path.{_≡_, sym, _∙_}
 use Prim.Native.Nat.{_+_, _-_, _≤_, _<_}
 use native.Mathlib.Omega.{arith}
+use borrow.Author.Needs.{needs}
 use denote.Ref.{now}
+use lib.Dec.{lit≤}
 use lib.ListN.{length}
 use Rattle.text.proofs.Text.{put-length}
 use Rattle.table.specs.Refine.{circuit}
@@ -17,14 +19,20 @@ use Rattle.reporting.proofs.centres.put_centres.Statement.{statement}
 use Rattle.reporting.proofs.centres.put_centres.Tie as tie
 
 abbrev Inv-loop : tie.InvT-loop
-Inv-loop part-kinds part-starts part-ends node-kinds node-starts node-ends whole succ pred fo ft bo bt from found r dist₀ queue₀ sets₀ spare₀ out₀ n c₀ count₀ at₀ dist queue sets spare out c count at =
+Inv-loop part-kinds part-starts part-ends node-kinds node-starts node-ends whole succ pred fo ft bo bt from found r dist₀ queue₀ sets₀ spare₀ out₀ names n c₀ count₀ at₀ dist queue sets spare out c count at =
     Progress (circuit part-kinds part-starts part-ends) (circuit node-kinds node-starts node-ends) from found out₀ c count at out × Scratch (length node-kinds) dist queue sets spare
 
 abbrev μ-loop : tie.MeasureT-loop
-μ-loop part-kinds part-starts part-ends node-kinds node-starts node-ends whole succ pred fo ft bo bt from found r dist₀ queue₀ sets₀ spare₀ out₀ n c₀ count₀ at₀ dist queue sets spare out c count at = length node-kinds - c
+μ-loop part-kinds part-starts part-ends node-kinds node-starts node-ends whole succ pred fo ft bo bt from found r dist₀ queue₀ sets₀ spare₀ out₀ names n c₀ count₀ at₀ dist queue sets spare out c count at = length node-kinds - c
 
-abbrev entry : tie.After-slice-known5 Inv-loop μ-loop → tie.Start Inv-loop μ-loop
-entry c = c .before .before .before .before .before .before .before .before .before .before .before .before .before .before .before .before .before .before
+abbrev entry : tie.After-names2 Inv-loop μ-loop → tie.Start Inv-loop μ-loop
+entry c = c .before .before .before .before .before .before .before .before .before .before .before .before .before .before .before .before .before .before .before .before .before
+
+slice-aggregate-make-names : tie.Need-slice-aggregate-make-names Inv-loop μ-loop
+slice-aggregate-make-names c = search needs
+
+make-names-requires : tie.Need-make-names-requires Inv-loop μ-loop
+make-names-requires c κs = lit≤ tt
 
 loop-holds : tie.Need-loop-holds Inv-loop μ-loop
 loop-holds c = (progress-start _ _ _ _ _, entry c .pre .1)
@@ -44,25 +52,32 @@ goes : (c : tie.Then1 Inv-loop μ-loop) →
     (turn c .loop .c < length (now (start c .args .node-kinds))) × (roomy (length (now (start c .args .out))) (turn c .loop .at) ≡ true)
 goes c = progress-goes _ _ _ _ (turn c .loop .inv .0) _ (c .before .goes-on .ensures) (c .if1 .taken)
 
+slice-aggregate-put-centre : tie.Need-slice-aggregate-put-centre Inv-loop μ-loop
+slice-aggregate-put-centre c = search needs
+
 cast-put-centre : tie.Need-cast-put-centre Inv-loop μ-loop
-cast-put-centre c = omega (arith, goes c .0, start c .pre .0 .drawn .nodes .nodes)
+cast-put-centre c = omega (arith, goes (c .before) .0, start (c .before) .pre .0 .drawn .nodes .nodes)
 
 put-centre-requires : tie.Need-put-centre-requires Inv-loop μ-loop
 put-centre-requires c κs =
-    let here = c .before .before .before .before .before in
+    let here = c .before .before .before .before .before .before in
     let at = turn here .loop .inv .0 in
+    let named = turn here .before .before .make-names in
     let (more, spacious) = goes here in
     let room : turn here .loop .at + longestLine ≤ length (now (start here .args .out)) = leb-true _ _ spacious in
-    (start here .pre .0, (turn here .loop .inv .1, (more, omega (arith, put-length (at .put)))))
+    let source = start here .pre .0 in (
+      source,
+      (turn here .loop .inv .1, (more, (omega (arith, put-length (at .put)), (named .ensures, omega (arith, named .kept .0, source .drawn .nodes .nodes))))),
+    )
 
 counted-requires : tie.Need-counted-requires Inv-loop μ-loop
 counted-requires c κs =
-    let here = c .before .before .before .before .before .before .before .before .before .before .before .before .before .before .before .before in
+    let here = c .before .before .before .before .before .before .before .before .before .before .before .before .before .before .before .before .before in
     let s = start here in
     progress-small _ _ _ _ (turn here .loop .inv .0) (s .pre .0 .drawn .nodes) (s .fits .found .fits)
 
 abbrev turned : tie.After-counted Inv-loop μ-loop → tie.Then1 Inv-loop μ-loop
-turned c = c .before .before .before .before .before .before .before .before .before .before .before .before .before .before .before .before .before
+turned c = c .before .before .before .before .before .before .before .before .before .before .before .before .before .before .before .before .before .before
 
 add-c : tie.Need-add-c Inv-loop μ-loop
 add-c c = omega (arith, goes (turned c) .0, start (turned c) .pre .0 .drawn .nodes .nodes)
@@ -78,10 +93,10 @@ loop-again c =
     let (more, spacious) = goes here in (
       progress-step _ _ _ _ (loop .inv .0) (start here .pre .0 .drawn .nodes) more spacious (put .ensures) (c .counted .ensures),
       record {
-        distances = put .kept .1 .1 .1 .1 .1 .1 .1 .1 .1 .1 .1 .1 .1 .1 .1 .0 ∙ loop .inv .1 .distances;
-        queued = put .kept .1 .1 .1 .1 .1 .1 .1 .1 .1 .1 .1 .1 .1 .1 .1 .1 .0 ∙ loop .inv .1 .queued;
-        ball = put .kept .1 .1 .1 .1 .1 .1 .1 .1 .1 .1 .1 .1 .1 .1 .1 .1 .1 .0 ∙ loop .inv .1 .ball;
-        other = put .kept .1 .1 .1 .1 .1 .1 .1 .1 .1 .1 .1 .1 .1 .1 .1 .1 .1 .1 .0 ∙ loop .inv .1 .other;
+        distances = put .kept .1 .1 .1 .1 .1 .1 .1 .1 .1 .1 .1 .1 .1 .1 .1 .1 .0 ∙ loop .inv .1 .distances;
+        queued = put .kept .1 .1 .1 .1 .1 .1 .1 .1 .1 .1 .1 .1 .1 .1 .1 .1 .1 .0 ∙ loop .inv .1 .queued;
+        ball = put .kept .1 .1 .1 .1 .1 .1 .1 .1 .1 .1 .1 .1 .1 .1 .1 .1 .1 .1 .0 ∙ loop .inv .1 .ball;
+        other = put .kept .1 .1 .1 .1 .1 .1 .1 .1 .1 .1 .1 .1 .1 .1 .1 .1 .1 .1 .1 .0 ∙ loop .inv .1 .other;
       },
     )
 
@@ -114,8 +129,11 @@ put-centres-spec =
     (tie.spec
     Inv-loop
     μ-loop
+    slice-aggregate-make-names
+    make-names-requires
     loop-holds
     goes-on-requires
+    slice-aggregate-put-centre
     cast-put-centre
     put-centre-requires
     counted-requires

@@ -1,13 +1,20 @@
--- `reporting::circuits::put_piece` meets its contract: the pattern's radius, and scratch tables long enough for every pattern and board. Assumes
--- nothing.
+-- `reporting::circuits::put_piece` meets its contract: nothing past the last line, else the pattern's radius, and scratch tables long enough
+-- for every pattern and board. Assumes nothing.
 use native.Mathlib.Omega.{arith}
 use borrow.Author.Needs.{needs}
+use denote.Ref.{now}
 use lib.Dec.{lit≤}
+use Rattle.reporting.proofs.Pieces.{past-wrote}
 use Rattle.reporting.proofs.circuits.put_piece.Statement.{statement}
 use Rattle.reporting.proofs.circuits.put_piece.Tie as tie
 
 abbrev entry : tie.After-queue → tie.Start
-entry c = c .before .before .before .before .before .before .before .before .before .before .before .before .before
+entry c = c .before .before .before .before .before .before .before .before .before .before .before .before .before .before
+
+returns : tie.Need-returns
+returns c =
+    let s = c .before .before .before .before .before .before .before .before in
+    past-wrote _ _ (s .args .from) (s .args .found) (now (s .args .out)) (s .pre .nodes) (s .fits .found .fits) (c .if1 .taken)
 
 slice-aggregate-radius : tie.Need-slice-aggregate-radius
 slice-aggregate-radius c = search needs
@@ -88,13 +95,14 @@ placed c = c .before .before .before .before .before .before .before .before .be
 same-length : tie.Need-same-length
 same-length c = placed c .run-in .kept .1 .1 .1 .1 .1 .1 .1 .1 .1 .1 .1 .1 .1 .1 .1 .1 .1 .1 .1 .1 .0
 
-returns : tie.Need-returns
-returns c = placed c .run-in .ensures
+returns-2 : tie.Need-returns-2
+returns-2 c = placed c .run-in .ensures
 
 pub put-piece-spec : {M : Type 1} → statement M
 put-piece-spec =
     tie.close
     (tie.spec
+    returns
     slice-aggregate-radius
     slice-aggregate-radius-2
     slice-aggregate-radius-3
@@ -115,4 +123,4 @@ put-piece-spec =
     slice-aggregate-run-in-11
     run-in-requires
     same-length
-    returns)
+    returns-2)
