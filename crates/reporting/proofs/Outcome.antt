@@ -20,10 +20,10 @@ use Rattle.files.proofs.Refusals.{first-accept, first-refuse, accepted}
 use Rattle.files.proofs.Reading.{Loaded, frontOf, loaded-circuit, loaded-bounded}
 use Rattle.files.proofs.Rising.{rising-links}
 use Rattle.report.specs.Lines.{longestLine}
-use Rattle.reporting.specs.declared.Part.{Part}
+use Rattle.centres.specs.declared.Part.{Part}
 use Rattle.reporting.specs.declared.ReportAnswer.the-variants as answer
-use Rattle.reporting.specs.Call.{linesPiece, refusalPiece, pieceFor, pieceOf, reportReply, reporting}
-use Rattle.reporting.specs.Pieces.{Drawn, Wrote}
+use Rattle.reporting.specs.Call.{refusalPiece, pieceFor, pieceOf, reportReply, reporting}
+use Rattle.centres.specs.Pieces.{linesPiece, Drawn, Wrote}
 
 -- ---- the piece of two files
 

@@ -21,10 +21,11 @@ use Rattle.files.proofs.Accepted.{accepted-bounded}
 use Rattle.files.proofs.Refusals.{accepted, first-parts}
 use Rattle.report.specs.Lines.{longestLine}
 use Rattle.report.specs.Report.{reportOf}
-use Rattle.reporting.specs.declared.Part.{Part}
+use Rattle.centres.specs.declared.Part.{Part}
 use Rattle.reporting.specs.declared.ReportAnswer.{ReportAnswer}
 use Rattle.reporting.specs.declared.ReportAnswer.the-variants as answer
-use Rattle.reporting.specs.Call.{verdictOf, Piece, pieceOf, reportReply, ReportOutcome, reporting}
+use Rattle.reporting.specs.Call.{verdictOf, pieceOf, reportReply, ReportOutcome, reporting}
+use Rattle.centres.specs.Pieces.{Piece}
 use Rattle.reporting.specs.Whole.{itemsFor, placesFor, itemsOf, prefixOf, placesOf, Follows, nextOf, foundOf, sizeOf, textOf, Stage, called}
 use Rattle.reporting.proofs.Whole.{piece-follows, piece-none, prefix-start, places-start, prefix-all, places-small}
 

@@ -21,9 +21,10 @@ use Rattle.files.specs.Refusals.{Verdict, accept, refuse}
 use Rattle.report.specs.Lines.{longestLine}
 use Rattle.report.specs.Report.{hasPlace, centreLine, endLine, refusalLine, linesOf, reportFor}
 use Rattle.report.proofs.Concat.{concat-add}
-use Rattle.reporting.specs.Call.{linesFrom, placesFrom, roomy, linesTaken, Piece, centresPiece, ends, closed, linesPiece, refusalPiece, pieceFor}
+use Rattle.reporting.specs.Call.{refusalPiece, pieceFor}
+use Rattle.centres.specs.Pieces.{linesFrom, placesFrom, roomy, linesTaken, Piece, centresPiece, ends, closed, linesPiece}
 use Rattle.reporting.specs.Whole.{itemsFor, prefixFor, placesFor, Follows}
-use Rattle.reporting.proofs.Pieces.{ends-elsewhere}
+use Rattle.centres.proofs.Pieces.{ends-elsewhere}
 
 -- the lines that end a report are not empty
 end-some : (k n : ℕ) → 0 < length (endLine k n)

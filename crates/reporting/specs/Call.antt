@@ -1,12 +1,11 @@
 -- The report call, whole: its reply and the buffer's later content, from the inputs alone. A report may be far longer than a buffer, so it is
 -- put piece by piece: a call puts the lines of the centres from a centre on, as long as there is room for the longest line, and answers
 -- where to go on. proofs/Promise shows that the pieces, one after another, are the report.
-use mathlib.Core.Bool.{Bool, _&&_, not, cond}
+use mathlib.Core.Bool.{cond}
 use mathlib.Core.List.{List, [], _∷_, _++_}
-use Prim.Native.Nat.{ℕ, suc, _+_, _-_}
-use lib.Dec.{eqb, leb}
+use Prim.Native.Nat.{ℕ}
+use lib.Dec.{eqb}
 use lib.ListN.{length}
-use Rattle.lists.specs.Below.{countBelow, leastBelow, concatBelow}
 use Rattle.graph.specs.Circuit.{Circuit}
 use Rattle.files.specs.declared.Refusal.{Refusal}
 use Rattle.files.specs.declared.Role.the-variants.{Pattern, Board}
@@ -15,56 +14,10 @@ use Rattle.files.specs.Reading.{filled}
 use Rattle.files.specs.Refusals.{Verdict, accept, refuse, first, fileConditions, shortTable}
 use Rattle.files.specs.Reply.{Reply, reply}
 use Rattle.report.specs.Lines.{longestLine}
-use Rattle.report.specs.Report.{hasPlace, centreLine, endLine, refusalLine}
+use Rattle.report.specs.Report.{refusalLine}
+use Rattle.centres.specs.Pieces.{Piece, linesPiece}
 use Rattle.reporting.specs.declared.ReportAnswer.{ReportAnswer}
 use Rattle.reporting.specs.declared.ReportAnswer.the-variants as answer
-
--- ---- the lines of some centres
-
--- the lines of j centres from a centre on, and how many of those have a place
-unfoldable pub linesFrom : Circuit → Circuit → ℕ → ℕ → List ℕ
-linesFrom pattern board from j = concatBelow j (λ i. centreLine pattern board (from + i))
-
-unfoldable pub placesFrom : Circuit → Circuit → ℕ → ℕ → ℕ
-placesFrom pattern board from j = countBelow j (λ i. hasPlace pattern board (from + i))
-
--- after so many bytes there is room for the longest line
-abbrev pub roomy : ℕ → ℕ → Bool
-roomy room size = leb (size + longestLine) room
-
--- how many lines are put: those of the centres that are left, or fewer, where before one of them there is not room for the longest line
-unfoldable pub linesTaken : Circuit → Circuit → ℕ → ℕ → ℕ
-linesTaken pattern board from room =
-    leastBelow (length (board .kinds) - from) (λ j. not (roomy room (length (linesFrom pattern board from j))))
-
--- ---- pieces of the report
-
--- a piece: its text, where to go on after it, and how many centres before that one have a place
-pub record Piece : Type 0 where
-  pub text : List ℕ
-  pub next : ℕ
-  pub found : ℕ
-
--- the lines that there is room for, from a centre before which some centres had a place
-unfoldable pub centresPiece : Circuit → Circuit → ℕ → ℕ → ℕ → Piece
-centresPiece pattern board from found room =
-    let j = linesTaken pattern board from room in
-    record { text = linesFrom pattern board from j; next = from + j; found = found + placesFrom pattern board from j }
-
--- the last line follows: N is reached, and there is room for the longest line
-unfoldable pub ends : ℕ → ℕ → ℕ → ℕ → Bool
-ends n room next size = eqb next n && roomy room size
-
--- the piece with the last line, where that follows; N + 1 is past the end
-unfoldable pub closed : ℕ → ℕ → Piece → Piece
-closed n room p =
-    cond (ends n room (p .next) (length (p .text)))
-    (record { text = p .text ++ endLine (p .found) n; next = suc n; found = p .found })
-    p
-
--- the piece of a pattern and a board
-unfoldable pub linesPiece : Circuit → Circuit → ℕ → ℕ → ℕ → Piece
-linesPiece pattern board from found room = closed (length (board .kinds)) room (centresPiece pattern board from found room)
 
 -- "A refused file gives one line": that is the whole report
 unfoldable pub refusalPiece : Refusal → ℕ → ℕ → Piece

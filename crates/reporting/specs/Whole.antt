@@ -11,7 +11,8 @@ use Rattle.graph.specs.Circuit.{Circuit}
 use Rattle.files.specs.Circuit.{circuitOf}
 use Rattle.files.specs.Refusals.{Verdict, accept, refuse}
 use Rattle.report.specs.Report.{hasPlace, centreLine, refusalLine, linesOf}
-use Rattle.reporting.specs.Call.{verdictOf, Piece, ReportOutcome, reporting}
+use Rattle.reporting.specs.Call.{verdictOf, ReportOutcome, reporting}
+use Rattle.centres.specs.Pieces.{Piece}
 
 -- ---- the items
 

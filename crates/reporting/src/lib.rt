@@ -1,31 +1,20 @@
 // The report call: the report of a pattern file on a board file, put piece by piece into a lent buffer.
-use crate::circuits::put_piece;
+use centres::LONGEST;
+use centres::Part;
 use files::Board;
 use files::File;
 use files::Pattern;
 use files::ReadAnswer;
 use files::Refusal;
 use files::Role;
+use pieces::put_piece;
 use report::lines::put_refusal;
 ghost use mathlib.Core.Path.{_≡_};
 ghost use Prim.Native.Nat.{_≤_};
 ghost use lib.ListN.{length};
 ghost use Rattle.report.specs.Lines.{longestLine};
 ghost use Rattle.reporting.specs.Call.{refusalPiece, pieceOf, reportReply, reporting};
-ghost use Rattle.reporting.specs.Pieces.{Wrote};
-
-pub mod centres;
-pub mod circuits;
-
-// No line of a report is longer: a buffer has to be as long, and a line is put where so many bytes are left.
-pub const LONGEST: usize = 34829;
-
-// A piece that was put: where to go on, how many centres before that one have a place, and how many bytes the piece has.
-pub struct Part {
-    pub next: usize,
-    pub found: usize,
-    pub size: usize,
-}
+ghost use Rattle.centres.specs.Pieces.{Wrote};
 
 // What the call comes to: a piece of the report, or why it was turned away.
 pub enum ReportAnswer {

@@ -1,12 +1,12 @@
--- `reporting::circuits::put_piece` meets its contract: nothing past the last line, else the pattern's radius, and scratch tables long enough
+-- `pieces::put_piece` meets its contract: nothing past the last line, else the pattern's radius, and scratch tables long enough
 -- for every pattern and board. Assumes nothing.
 use native.Mathlib.Omega.{arith}
 use borrow.Author.Needs.{needs}
 use denote.Ref.{now}
 use lib.Dec.{lit≤}
-use Rattle.reporting.proofs.Pieces.{past-wrote}
-use Rattle.reporting.proofs.circuits.put_piece.Statement.{statement}
-use Rattle.reporting.proofs.circuits.put_piece.Tie as tie
+use Rattle.centres.proofs.Pieces.{past-wrote}
+use Rattle.pieces.proofs.put_piece.Statement.{statement}
+use Rattle.pieces.proofs.put_piece.Tie as tie
 
 abbrev entry : tie.After-queue → tie.Start
 entry c = c .before .before .before .before .before .before .before .before .before .before .before .before .before .before

@@ -1,4 +1,4 @@
--- `reporting::centres::put_centre` meets its contract: nothing where the whole board's table or finding says that there is no place, else the line
+-- `centres::put_centre` meets its contract: nothing where the whole board's table or finding says that there is no place, else the line
 -- from what finding leaves. Assumes nothing.
 use mathlib.Core.Path.{sym, _∙_}
 use native.Mathlib.Nat.{lt-of-le-of-lt}
@@ -8,9 +8,9 @@ use borrow.Author.Tests.{not-true, not-false}
 use lib.Dec.{lit≤}
 use Rattle.text.proofs.Text.{put-nothing, put-same, fits-same}
 use Rattle.report.proofs.Lengths.{centre-fits}
-use Rattle.reporting.proofs.Centre.{source-starts, source-ends, source-long, whole-missed, source-missed, source-line}
-use Rattle.reporting.proofs.centres.put_centre.Statement.{statement}
-use Rattle.reporting.proofs.centres.put_centre.Tie as tie
+use Rattle.centres.proofs.Centre.{source-starts, source-ends, source-long, whole-missed, source-missed, source-line}
+use Rattle.centres.proofs.put_centre.Statement.{statement}
+use Rattle.centres.proofs.put_centre.Tie as tie
 
 abbrev entry : tie.After-slice-known5 → tie.Start
 entry c = c .before .before .before .before .before .before .before .before .before .before .before .before .before .before .before .before .before .before .before

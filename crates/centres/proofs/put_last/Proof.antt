@@ -1,12 +1,12 @@
--- `reporting::centres::put_last` meets its contract: nothing where the centres are not done or there is no room, else the last line. Assumes
+-- `centres::put_last` meets its contract: nothing where the centres are not done or there is no room, else the last line. Assumes
 -- nothing.
 use mathlib.Core.Path.{sym, _∙_}
 use borrow.Author.Needs.{needs}
 use borrow.Author.Tests.{not-true, not-false}
 use denote.Ref.{now}
-use Rattle.reporting.proofs.Pieces.{last-elsewhere, last-full, last-put, last-fits}
-use Rattle.reporting.proofs.centres.put_last.Statement.{statement}
-use Rattle.reporting.proofs.centres.put_last.Tie as tie
+use Rattle.centres.proofs.Pieces.{last-elsewhere, last-full, last-put, last-fits}
+use Rattle.centres.proofs.put_last.Statement.{statement}
+use Rattle.centres.proofs.put_last.Tie as tie
 
 returns : tie.Need-returns
 returns c = last-elsewhere _ _ _ (c .if1 .taken)

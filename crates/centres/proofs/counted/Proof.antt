@@ -1,9 +1,9 @@
--- `reporting::centres::counted` meets its contract: one more exactly where the offset has moved. Assumes nothing.
+-- `centres::counted` meets its contract: one more exactly where the offset has moved. Assumes nothing.
 use native.Mathlib.Omega.{arith}
 use borrow.Author.Needs.{needs}
 use borrow.Author.Tests.{eq-eqb, ne-eqb}
-use Rattle.reporting.proofs.centres.counted.Statement.{statement}
-use Rattle.reporting.proofs.centres.counted.Tie as tie
+use Rattle.centres.proofs.counted.Statement.{statement}
+use Rattle.centres.proofs.counted.Tie as tie
 
 returns : tie.Need-returns
 returns c = let a = c .before .args in rw (eq-eqb (a .next) (a .at) (c .if1 .taken)) (omega arith)

@@ -29,7 +29,7 @@ use Rattle.place.proofs.Outcome.{found-none}
 use Rattle.report.specs.Lines.{lineText}
 use Rattle.report.specs.Report.{hasPlace, centreLine}
 use Rattle.report.proofs.Centre.{centre-missed, centre-long, centre-located}
-use Rattle.reporting.specs.Pieces.{Source}
+use Rattle.centres.specs.Pieces.{Source}
 
 module _ {pattern board : Circuit} {t : Tables} {table : List ℕ} {r : ℕ} (s : Source pattern board t table r) where
   -- the board's links join its nodes

@@ -1,11 +1,11 @@
--- `reporting::circuits::run_in` meets its contract: scratch tables of the roles' maxima, cut to what two circuits need. Assumes nothing.
+-- `pieces::run_in` meets its contract: scratch tables of the roles' maxima, cut to what two circuits need. Assumes nothing.
 use denote.Ref.{now}
 use mathlib.Core.Path.{sym}
 use native.Mathlib.Nat.{le-trans, lt-of-le-of-lt}
 use lib.ListN.{length}
 use lib.Seq.{length-take-le, length-front}
-use Rattle.reporting.proofs.circuits.run_in.Statement.{statement}
-use Rattle.reporting.proofs.circuits.run_in.Tie as tie
+use Rattle.pieces.proofs.run_in.Statement.{statement}
+use Rattle.pieces.proofs.run_in.Tie as tie
 
 abbrev entry : tie.After-slice-known12 → tie.Start
 entry c = c .before .before .before .before .before .before .before .before .before .before .before .before .before .before .before .before .before .before

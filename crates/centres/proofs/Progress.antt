@@ -21,9 +21,8 @@ use Rattle.files.specs.Circuit.{Bounded}
 use Rattle.report.specs.Lines.{longestLine}
 use Rattle.report.specs.Report.{hasPlace, centreLine}
 use Rattle.report.proofs.Lengths.{centre-length}
-use Rattle.reporting.specs.Call.{linesFrom, placesFrom, roomy, linesTaken, centresPiece}
-use Rattle.reporting.specs.Pieces.{Wrote}
-use Rattle.reporting.proofs.Centre.{line-counts}
+use Rattle.centres.specs.Pieces.{linesFrom, placesFrom, roomy, linesTaken, centresPiece, Wrote}
+use Rattle.centres.proofs.Centre.{line-counts}
 
 pub record Progress (pattern board : Circuit) (from found : ℕ) (before : List ℕ) (c count at : ℕ) (after : List ℕ) : Type 0 where
   pub begun : from ≤ c

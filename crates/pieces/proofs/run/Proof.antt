@@ -1,4 +1,4 @@
--- `reporting::circuits::run` meets its contract: the tables are prepared, the whole board is matched, the lines of the centres are put, and the
+-- `pieces::run` meets its contract: the tables are prepared, the whole board is matched, the lines of the centres are put, and the
 -- last line. Assumes nothing.
 use mathlib.Core.Path.{_∙_}
 use native.Mathlib.Nat.{le-trans}
@@ -10,11 +10,11 @@ use Prim.Native.Nat.{_<_}
 use Rattle.table.proofs.Prepare.{listed-all, refined-everything}
 use Rattle.table.proofs.NodeLists.{all-list}
 use Rattle.table.specs.Refine.{circuit}
-use Rattle.reporting.specs.Call.{centresPiece, linesPiece}
-use Rattle.reporting.proofs.Pieces.{wrote-within, closed-wrote}
-use Rattle.reporting.proofs.Progress.{piece-small}
-use Rattle.reporting.proofs.circuits.run.Statement.{statement}
-use Rattle.reporting.proofs.circuits.run.Tie as tie
+use Rattle.centres.specs.Pieces.{centresPiece, linesPiece}
+use Rattle.centres.proofs.Pieces.{wrote-within, closed-wrote}
+use Rattle.centres.proofs.Progress.{piece-small}
+use Rattle.pieces.proofs.run.Statement.{statement}
+use Rattle.pieces.proofs.run.Tie as tie
 
 abbrev entry : tie.After-prepare-arg6 → tie.Start
 entry c = c .before .before .before .before .before .before .before .before .before .before .before .before .before .before .before .before .before .before .before .before .before .before .before .before

@@ -1,8 +1,8 @@
--- `reporting::centres::goes_on` meets its contract: both tests, one after the other. Assumes nothing.
+-- `centres::goes_on` meets its contract: both tests, one after the other. Assumes nothing.
 use borrow.Author.Needs.{needs}
 use borrow.Author.Tests.{lt-ltb, le-ltb}
-use Rattle.reporting.proofs.centres.goes_on.Statement.{statement}
-use Rattle.reporting.proofs.centres.goes_on.Tie as tie
+use Rattle.centres.proofs.goes_on.Statement.{statement}
+use Rattle.centres.proofs.goes_on.Tie as tie
 
 returns : tie.Need-returns
 returns c = let a = c .before .args in rw (le-ltb (a .c) (a .n) (c .if1 .taken))

@@ -19,10 +19,10 @@ use Rattle.files.specs.Circuit.{Bounded}
 use Rattle.report.specs.Lines.{longestLine}
 use Rattle.report.specs.Report.{endLine, refusalLine}
 use Rattle.report.proofs.Lengths.{end-length, refusal-length}
-use Rattle.reporting.specs.declared.Part.{Part}
-use Rattle.reporting.specs.Call.{roomy, Piece, ends, closed, linesPiece, refusalPiece}
-use Rattle.reporting.specs.Pieces.{Wrote, Closed}
-use Rattle.reporting.proofs.Progress.{progress-start, progress-end, piece-small}
+use Rattle.centres.specs.declared.Part.{Part}
+use Rattle.reporting.specs.Call.{refusalPiece}
+use Rattle.centres.specs.Pieces.{roomy, Piece, ends, closed, linesPiece, Wrote, Closed}
+use Rattle.centres.proofs.Progress.{progress-start, progress-end, piece-small}
 
 -- ---- what is left of the room
 

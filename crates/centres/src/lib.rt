@@ -1,6 +1,4 @@
 // The lines of one centre after another, and the last line, put at the front of a buffer.
-use crate::LONGEST;
-use crate::Part;
 use files::Board;
 use locating::locate;
 use report::lines::put_end;
@@ -16,8 +14,17 @@ ghost use Rattle.table.specs.Refine.{circuit};
 ghost use Rattle.table.specs.Prepared.{tables};
 ghost use Rattle.report.specs.Lines.{longestLine};
 ghost use Rattle.report.specs.Report.{centreLine};
-ghost use Rattle.reporting.specs.Call.{roomy, centresPiece};
-ghost use Rattle.reporting.specs.Pieces.{Source, Scratch, Wrote, Closed};
+ghost use Rattle.centres.specs.Pieces.{roomy, centresPiece, Source, Scratch, Wrote, Closed};
+
+// No line of a report is longer: a buffer has to be as long, and a line is put where so many bytes are left.
+pub const LONGEST: usize = 34829;
+
+// A piece that was put: where to go on, how many centres before that one have a place, and how many bytes the piece has.
+pub struct Part {
+    pub next: usize,
+    pub found: usize,
+    pub size: usize,
+}
 
 // Whether there is room for the longest line after `at` bytes.
 fn roomy(at: usize, room: usize) -> bool

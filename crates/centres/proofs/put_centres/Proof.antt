@@ -1,4 +1,4 @@
--- `reporting::centres::put_centres` meets its contract. The loop's invariant: the lines of the centres before c are put and those with a place
+-- `centres::put_centres` meets its contract. The loop's invariant: the lines of the centres before c are put and those with a place
 -- counted (Progress), and the scratch tables keep their lengths. The measure is how many centres are left. Assumes nothing.
 use mathlib.Core.Bool.{true}
 use mathlib.Core.Path.{_≡_, sym, _∙_}
@@ -12,11 +12,10 @@ use Rattle.text.proofs.Text.{put-length}
 use Rattle.table.specs.Refine.{circuit}
 use Rattle.report.specs.Lines.{longestLine}
 use borrow.Author.Tests.{leb-true}
-use Rattle.reporting.specs.Call.{roomy}
-use Rattle.reporting.specs.Pieces.{Scratch}
-use Rattle.reporting.proofs.Progress.{Progress, progress-start, progress-small, progress-goes, progress-step, progress-end}
-use Rattle.reporting.proofs.centres.put_centres.Statement.{statement}
-use Rattle.reporting.proofs.centres.put_centres.Tie as tie
+use Rattle.centres.specs.Pieces.{roomy, Scratch}
+use Rattle.centres.proofs.Progress.{Progress, progress-start, progress-small, progress-goes, progress-step, progress-end}
+use Rattle.centres.proofs.put_centres.Statement.{statement}
+use Rattle.centres.proofs.put_centres.Tie as tie
 
 abbrev Inv-loop : tie.InvT-loop
 Inv-loop part-kinds part-starts part-ends node-kinds node-starts node-ends whole succ pred fo ft bo bt from found r dist₀ queue₀ sets₀ spare₀ out₀ names n c₀ count₀ at₀ dist queue sets spare out c count at =

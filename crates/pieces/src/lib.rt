@@ -1,7 +1,7 @@
 // A piece of the report of a pattern and a board, both read.
-use crate::Part;
-use crate::centres::put_centres;
-use crate::centres::put_last;
+use centres::Part;
+use centres::put_centres;
+use centres::put_last;
 use files::Board;
 use files::Pattern;
 use preparing::lookups::prepare;
@@ -15,8 +15,7 @@ ghost use Rattle.files.specs.declared.Role.the-variants as role;
 ghost use Rattle.table.specs.Refine.{circuit};
 ghost use Rattle.table.specs.Prepared.{tables, Room};
 ghost use Rattle.place.specs.Match.{radiusOf};
-ghost use Rattle.reporting.specs.Call.{linesPiece};
-ghost use Rattle.reporting.specs.Pieces.{Drawn, Scratch, Wrote};
+ghost use Rattle.centres.specs.Pieces.{linesPiece, Drawn, Scratch, Wrote};
 
 // The pattern's radius. The tables are scratch, with room for a pattern.
 fn radius(

@@ -1,4 +1,4 @@
--- `reporting::circuits::radius` meets its contract: the pattern's radius, measured. Assumes nothing.
+-- `pieces::radius` meets its contract: the pattern's radius, measured. Assumes nothing.
 use mathlib.Core.Path.{sym}
 use native.Mathlib.Nat.{le-trans, lt-of-le-of-lt}
 use borrow.Author.Needs.{needs}
@@ -6,8 +6,8 @@ use lib.Dec.{lit≤}
 use lib.Seq.{length-take-le}
 use Rattle.table.proofs.Prepare.{bounded-starts, bounded-ends}
 use Rattle.place.specs.Match.{radiusOf}
-use Rattle.reporting.proofs.circuits.radius.Statement.{statement}
-use Rattle.reporting.proofs.circuits.radius.Tie as tie
+use Rattle.pieces.proofs.radius.Statement.{statement}
+use Rattle.pieces.proofs.radius.Tie as tie
 
 abbrev entry : tie.After-radius-arg → tie.Start
 entry c = c .before .before .before .before .before .before .before .before .before .before

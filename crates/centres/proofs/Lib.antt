@@ -1,0 +1,3 @@
+pub mod Centre
+pub mod Pieces
+pub mod Progress
