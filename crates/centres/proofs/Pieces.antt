@@ -1,4 +1,4 @@
--- The last line after the lines of the centres, nothing after that, and the one line of a refused file. Assumes nothing.
+-- The last line after the lines of the centres, and nothing after that. Assumes nothing.
 use mathlib.Core.Bool.{Bool, true, false, _&&_, cond}
 use mathlib.Core.List.{List, [], _++_, append-nil}
 use mathlib.Core.Path.{_≡_, refl, _∙_}
@@ -13,14 +13,12 @@ use Rattle.lists.proofs.Tests.{both-right, true-T, same-test}
 use Rattle.text.specs.Text.{Put, Fits}
 use Rattle.text.proofs.Text.{put-nothing, put-then, put-same, put-length}
 use Rattle.graph.specs.Circuit.{Circuit}
-use Rattle.files.specs.declared.Refusal.{Refusal}
 use Rattle.files.specs.declared.Role.the-variants.{Board}
 use Rattle.files.specs.Circuit.{Bounded}
 use Rattle.report.specs.Lines.{longestLine}
-use Rattle.report.specs.Report.{endLine, refusalLine}
-use Rattle.report.proofs.Lengths.{end-length, refusal-length}
+use Rattle.report.specs.Report.{endLine}
+use Rattle.report.proofs.Lengths.{end-length}
 use Rattle.centres.specs.declared.Part.{Part}
-use Rattle.reporting.specs.Call.{refusalPiece}
 use Rattle.centres.specs.Pieces.{roomy, Piece, ends, closed, linesPiece, Wrote, Closed}
 use Rattle.centres.proofs.Progress.{progress-start, progress-end, piece-small}
 
@@ -117,19 +115,3 @@ past-wrote pattern board from found out b few past =
     closed-wrote n (piece-small pattern board from found b few (length out)) (omega (arith, b .nodes))
     (progress-end pattern board from found (progress-start pattern board from found out) false (rw (le-ltb from n (omega arith))) refl)
     (last-elsewhere out (record { next = from; found = found; size = 0 }) n (λ e. omega arith))
-
--- ---- a refused file
-
-module _ (x : Refusal) (out : List ℕ) (from found : ℕ) where
-  pub refused-later : (from ≡ 0 → ⊥) → Wrote out (refusalPiece x from found) out (record { next = from; found = found; size = 0 })
-  unfolding refusalPiece
-  refused-later h =
-      rw (ne-eqb from 0 h) (record { fits = record { room = omega arith }; put = put-nothing; next = refl; found = refl })
-
-  pub refused-fits : x .number < 1000 → longestLine ≤ length out → Fits out 0 (refusalLine x)
-  refused-fits small room = record { room = omega (arith, refusal-length x small) }
-
-  pub refused-first : {after : List ℕ} {size : ℕ} → from ≡ 0 → Fits out 0 (refusalLine x) → Put out 0 (refusalLine x) after size
-      → Wrote out (refusalPiece x from found) after (record { next = 1; found = found; size = size })
-  unfolding refusalPiece
-  refused-first e room p = rw (eq-eqb from 0 e) (record { fits = room; put = p; next = refl; found = refl })

@@ -4,9 +4,7 @@ use centres::put_centres;
 use centres::put_last;
 use files::Board;
 use files::Pattern;
-use preparing::lookups::prepare;
-use preparing::nodes::list_all;
-use refining::refine;
+use whole::prepare_and_match;
 ghost use mathlib.Core.Path.{_≡_};
 ghost use Prim.Native.Nat.{_≤_, _<_};
 ghost use lib.ListN.{length};
@@ -80,36 +78,21 @@ fn run(
     requires { ⌜ r ≡ radiusOf (circuit (now «part_kinds») (now «part_starts») (now «part_ends»)) ⌝ }
     ensures { λ p. ⌜ Wrote (now (out .entry)) (linesPiece (circuit (now («part_kinds» .entry)) (now («part_starts» .entry)) (now («part_ends» .entry))) (circuit (now («node_kinds» .entry)) (now («node_starts» .entry)) (now («node_ends» .entry))) from found (length (now (out .entry)))) (now (out .exit)) p ⌝ }
 {
-    prepare(
+    prepare_and_match(
         part_kinds,
         part_starts,
         part_ends,
         node_kinds,
         node_starts,
         node_ends,
-        succ,
-        pred,
-        fo,
-        ft,
-        bo,
-        bt,
-    );
-    list_all(queue);
-    refine(
-        part_kinds,
-        part_starts,
-        part_ends,
-        node_kinds,
-        node_starts,
-        node_ends,
-        queue,
-        succ,
-        pred,
-        fo,
-        ft,
-        bo,
-        bt,
         whole,
+        succ,
+        pred,
+        fo,
+        ft,
+        bo,
+        bt,
+        queue,
         spare,
     );
     let part = put_centres(

@@ -1,14 +1,9 @@
--- `pieces::run` meets its contract: the tables are prepared, the whole board is matched, the lines of the centres are put, and the
--- last line. Assumes nothing.
-use mathlib.Core.Path.{_∙_}
-use native.Mathlib.Nat.{le-trans}
-use native.Mathlib.Omega.{arith}
+-- `pieces::run` meets its contract: the whole board is matched, the lines of the centres are put, and the last line. Assumes nothing.
 use denote.Ref.{now}
-use lib.Dec.{lit≤}
-use lib.ListN.{length}
+use mathlib.Core.Path.{_∙_}
 use Prim.Native.Nat.{_<_}
-use Rattle.table.proofs.Prepare.{listed-all, refined-everything}
-use Rattle.table.proofs.NodeLists.{all-list}
+use native.Mathlib.Omega.{arith}
+use lib.ListN.{length}
 use Rattle.table.specs.Refine.{circuit}
 use Rattle.centres.specs.Pieces.{centresPiece, linesPiece}
 use Rattle.centres.proofs.Pieces.{wrote-within, closed-wrote}
@@ -16,59 +11,30 @@ use Rattle.centres.proofs.Progress.{piece-small}
 use Rattle.pieces.proofs.run.Statement.{statement}
 use Rattle.pieces.proofs.run.Tie as tie
 
-abbrev entry : tie.After-prepare-arg6 → tie.Start
-entry c = c .before .before .before .before .before .before .before .before .before .before .before .before .before .before .before .before .before .before .before .before .before .before .before .before
+abbrev entry : tie.After-prepare-and-match-arg9 → tie.Start
+entry c = c .before .before .before .before .before .before .before .before .before .before .before .before .before .before .before .before .before .before .before .before .before .before .before .before .before .before .before
 
-prepare-requires : tie.Need-prepare-requires
-prepare-requires c κs =
+prepare-and-match-requires : tie.Need-prepare-and-match-requires
+prepare-and-match-requires c κs =
     let p = entry c .pre in
-    (p .0 .parts, (p .0 .nodes, p .1 .0))
-
--- what the rounds look up is ready
-abbrev prepared : tie.After-list-all-arg → tie.After-prepare
-prepared c = c .before .before .before .before .before .before .before .before .before .before .before .before .before
-
-list-all-requires : tie.Need-list-all-requires
-list-all-requires c κs =
-    let p = entry (prepared c .before) .pre in
-    rw (p .1 .1 .0 .queued) (le-trans (p .0 .nodes .nodes) (lit≤ tt))
-
--- every node is listed
-abbrev listed : tie.After-refine-arg9 → tie.After-list-all
-listed c = c .before .before .before .before .before .before .before .before .before .before .before
-
-refine-requires : tie.Need-refine-requires
-refine-requires c κs =
-    let all = listed c in
-    let ready = prepared (all .before) in
-    let p = entry (ready .before) .pre in
-    let few = le-trans (p .0 .nodes .nodes) (lit≤ tt) in (
-      ready .prepare .ensures,
-      (rw (listed-all (p .1 .1 .0 .queued) (all .list-all .ensures)) (all-list _ few), (p .1 .1 .1 .0, p .1 .1 .0 .other)),
-    )
+    let scratch = p .1 .1 .0 in
+    (p .0 .parts, (p .0 .nodes, (p .1 .0, (p .1 .1 .1 .0, scratch .queued, scratch .other))))
 
 -- the whole board is matched
-abbrev refined : tie.After-put-centres-arg12 → tie.After-refine
-refined c = c .before .before .before .before .before .before .before .before .before .before .before .before .before .before .before .before
+abbrev matched : tie.After-put-centres-arg12 → tie.After-prepare-and-match
+matched c = c .before .before .before .before .before .before .before .before .before .before .before .before .before .before .before .before .before .before .before .before .before .before .before .before .before .before .before .before .before .before
 
 put-centres-requires : tie.Need-put-centres-requires
 put-centres-requires c κs =
-    let matched = refined c in
-    let all = listed (matched .before) in
-    let ready = prepared (all .before) in
-    let p = entry (ready .before) .pre in
+    let ready = matched c .prepare-and-match in
+    let p = entry (matched c .before) .pre in
     let scratch = p .1 .1 .0 in (
-      record {
-        drawn = p .0;
-        ready = ready .prepare .ensures;
-        whole = refined-everything (listed-all (scratch .queued) (all .list-all .ensures)) (matched .refine .ensures) .last;
-        own = p .1 .1 .1 .1;
-      },
+      record { drawn = p .0; ready = ready .ensures .1; whole = ready .ensures .0 .last; own = p .1 .1 .1 .1 },
       record {
         distances = scratch .distances;
-        queued = all .list-all .kept .0 ∙ scratch .queued;
+        queued = ready .kept .1 .1 .1 .1 .1 .1 .1 .1 .1 .1 .1 .1 .1 .0 ∙ scratch .queued;
         ball = scratch .ball;
-        other = matched .refine .kept .1 .1 .1 .1 .1 .1 .1 .1 .1 .1 .1 .1 .1 .1 .0 ∙ scratch .other;
+        other = ready .kept .1 .1 .1 .1 .1 .1 .1 .1 .1 .1 .1 .1 .1 .1 .0 ∙ scratch .other;
       },
     )
 
@@ -76,11 +42,11 @@ put-centres-requires c κs =
 abbrev lined : tie.After-put-last-arg → tie.After-put-centres
 lined c = c .before .before .before .before .before .before .before .before .before .before .before
 
-abbrev matched : tie.After-put-last-arg → tie.After-refine
-matched c = refined (lined c .before)
+abbrev ready : tie.After-put-last-arg → tie.After-prepare-and-match
+ready c = matched (lined c .before)
 
 abbrev start : tie.After-put-last-arg → tie.Start
-start c = entry (prepared (listed (matched c .before) .before) .before)
+start c = entry (ready c .before)
 
 -- and the count is small
 small : (c : tie.After-put-last-arg) →
@@ -102,37 +68,37 @@ abbrev last : tie.After-slice-known27 → tie.After-put-last-arg
 last c = done c .before
 
 same-length : tie.Need-same-length
-same-length c = matched (last c) .refine .kept .1 .1 .1 .1 .1 .1 .1 .1 .1 .1 .1 .1 .1 .0
+same-length c = ready (last c) .prepare-and-match .kept .1 .1 .1 .1 .1 .1 .0
 
 same-length-2 : tie.Need-same-length-2
-same-length-2 c = prepared (listed (matched (last c) .before) .before) .prepare .kept .1 .1 .1 .1 .1 .1 .0
+same-length-2 c = ready (last c) .prepare-and-match .kept .1 .1 .1 .1 .1 .1 .1 .0
 
 same-length-3 : tie.Need-same-length-3
-same-length-3 c = prepared (listed (matched (last c) .before) .before) .prepare .kept .1 .1 .1 .1 .1 .1 .1 .0
+same-length-3 c = ready (last c) .prepare-and-match .kept .1 .1 .1 .1 .1 .1 .1 .1 .0
 
 same-length-4 : tie.Need-same-length-4
-same-length-4 c = prepared (listed (matched (last c) .before) .before) .prepare .kept .1 .1 .1 .1 .1 .1 .1 .1 .0
+same-length-4 c = ready (last c) .prepare-and-match .kept .1 .1 .1 .1 .1 .1 .1 .1 .1 .0
 
 same-length-5 : tie.Need-same-length-5
-same-length-5 c = prepared (listed (matched (last c) .before) .before) .prepare .kept .1 .1 .1 .1 .1 .1 .1 .1 .1 .0
+same-length-5 c = ready (last c) .prepare-and-match .kept .1 .1 .1 .1 .1 .1 .1 .1 .1 .1 .0
 
 same-length-6 : tie.Need-same-length-6
-same-length-6 c = prepared (listed (matched (last c) .before) .before) .prepare .kept .1 .1 .1 .1 .1 .1 .1 .1 .1 .1 .0
+same-length-6 c = ready (last c) .prepare-and-match .kept .1 .1 .1 .1 .1 .1 .1 .1 .1 .1 .1 .0
 
 same-length-7 : tie.Need-same-length-7
-same-length-7 c = prepared (listed (matched (last c) .before) .before) .prepare .kept .1 .1 .1 .1 .1 .1 .1 .1 .1 .1 .1 .0
+same-length-7 c = ready (last c) .prepare-and-match .kept .1 .1 .1 .1 .1 .1 .1 .1 .1 .1 .1 .1 .0
 
 same-length-8 : tie.Need-same-length-8
 same-length-8 c = lined (last c) .put-centres .kept .1 .1 .1 .1 .1 .1 .1 .1 .1 .1 .1 .1 .1 .1 .1 .1 .0
 
 same-length-9 : tie.Need-same-length-9
-same-length-9 c = lined (last c) .put-centres .kept .1 .1 .1 .1 .1 .1 .1 .1 .1 .1 .1 .1 .1 .1 .1 .1 .1 .0 ∙ listed (matched (last c) .before) .list-all .kept .0
+same-length-9 c = lined (last c) .put-centres .kept .1 .1 .1 .1 .1 .1 .1 .1 .1 .1 .1 .1 .1 .1 .1 .1 .1 .0 ∙ ready (last c) .prepare-and-match .kept .1 .1 .1 .1 .1 .1 .1 .1 .1 .1 .1 .1 .1 .0
 
 same-length-10 : tie.Need-same-length-10
 same-length-10 c = lined (last c) .put-centres .kept .1 .1 .1 .1 .1 .1 .1 .1 .1 .1 .1 .1 .1 .1 .1 .1 .1 .1 .0
 
 same-length-11 : tie.Need-same-length-11
-same-length-11 c = lined (last c) .put-centres .kept .1 .1 .1 .1 .1 .1 .1 .1 .1 .1 .1 .1 .1 .1 .1 .1 .1 .1 .1 .0 ∙ matched (last c) .refine .kept .1 .1 .1 .1 .1 .1 .1 .1 .1 .1 .1 .1 .1 .1 .0
+same-length-11 c = lined (last c) .put-centres .kept .1 .1 .1 .1 .1 .1 .1 .1 .1 .1 .1 .1 .1 .1 .1 .1 .1 .1 .1 .0 ∙ ready (last c) .prepare-and-match .kept .1 .1 .1 .1 .1 .1 .1 .1 .1 .1 .1 .1 .1 .1 .0
 
 same-length-12 : tie.Need-same-length-12
 same-length-12 c = done c .put-last .kept .1 .1 .0 ∙ lined (last c) .put-centres .kept .1 .1 .1 .1 .1 .1 .1 .1 .1 .1 .1 .1 .1 .1 .1 .1 .1 .1 .1 .1 .0
@@ -146,9 +112,7 @@ pub run-spec : {M : Type 1} → statement M
 run-spec =
     tie.close
     (tie.spec
-    prepare-requires
-    list-all-requires
-    refine-requires
+    prepare-and-match-requires
     put-centres-requires
     put-last-requires
     same-length

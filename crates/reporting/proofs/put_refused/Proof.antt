@@ -4,7 +4,7 @@ use native.Mathlib.Omega.{arith}
 use denote.Ref.{now}
 use Rattle.text.specs.Text.{Fits}
 use Rattle.report.specs.Report.{refusalLine}
-use Rattle.centres.proofs.Pieces.{refused-later, refused-fits, refused-first}
+use Rattle.reporting.proofs.Refused.{refused-later, refused-fits, refused-first}
 use Rattle.reporting.proofs.put_refused.Statement.{statement}
 use Rattle.reporting.proofs.put_refused.Tie as tie
 
