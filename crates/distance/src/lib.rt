@@ -33,7 +33,8 @@ pub fn radius(file: &[u8]) -> RadiusAnswer
     let ReadAnswer::Read(n, m) = answer else {
         return RadiusAnswer::Refused(files::refusal_of(answer));
     };
-    RadiusAnswer::Radius(radius_of(n, m, &starts, &ends))
+    let radius = radius_of(n, m, &starts, &ends) as usize;
+    RadiusAnswer::Radius(radius)
 }
 
 // The ball around a node of a board: a byte for each node, 1 inside and 0 outside, first in `out`; or the refusal, which leaves `out` as it

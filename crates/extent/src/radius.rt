@@ -41,7 +41,7 @@ fn radius_in(
 }
 
 // The same of a pattern's links, with tables of its own.
-pub fn radius_of(n: usize, m: usize, starts: &[u16], ends: &[u16]) -> usize
+pub fn radius_of(n: usize, m: usize, starts: &[u16], ends: &[u16]) -> u16
     requires { ⌜ (m ≤ length (now starts)) × (m ≤ length (now ends)) ⌝ }
     requires { ⌜ T (all (λ v. ltb v n) (take m (now starts))) × T (all (λ v. ltb v n) (take m (now ends))) ⌝ }
     requires { ⌜ (n ≤ 32) × (m ≤ 256) ⌝ }
@@ -64,5 +64,5 @@ pub fn radius_of(n: usize, m: usize, starts: &[u16], ends: &[u16]) -> usize
         &mut bt,
         &mut dist,
         &mut queue,
-    ) as usize
+    )
 }

@@ -1,15 +1,13 @@
 -- What the reading call comes to, by cases of the verdict, and what its caller knows of it, by cases of the answer. Assumes nothing.
 use mathlib.Core.List.{List, [], _∷_, _++_}
-use mathlib.Core.Logic.{_⊎_, inl, inr}
+use mathlib.Core.Logic.{_⊎_}
 use mathlib.Core.Path.{_≡_, refl, sym, ap, _∙_}
 use Prim.Native.Nat.{ℕ, _≤_, _<_}
 use native.Mathlib.Nat.{le-trans}
 use native.Mathlib.Omega.{arith}
-use mathlib.Core.Bool.{Bool, true, false, _||_, cond}
-use borrow.Author.Tests.{le-ltb, ltb-false}
-use lib.Dec.{T, ltb, lt→ltb}
+use borrow.Author.Tests.{ltb-false}
+use lib.Dec.{T, ltb}
 use Rattle.lists.specs.List.{all}
-use Rattle.lists.proofs.Tests.{either-left, either-right}
 use Rattle.files.proofs.Fields.{length-fields, length-kinds, length-starts, length-ends}
 use lib.ListN.{length, take, drop}
 use lib.Seq.{take-at}
@@ -25,7 +23,7 @@ use Rattle.files.specs.Reply.{Reply, reply, readReply}
 use Rattle.files.specs.Layout.{nodesOf, linksOf, kindsOf, startsOf, endsOf}
 use Rattle.files.specs.Refusals.{Verdict, accept, refuse, first, fileConditions, shortTable}
 use Rattle.files.specs.Role.{minNodes, maxNodes, maxLinks, fileOf}
-use Rattle.files.proofs.Refusals.{turned, first-accept, first-refuse, first-parts, first-holds, accepted, accepted-links, range-orders}
+use Rattle.files.proofs.Refusals.{turned, first-accept, first-refuse, first-parts, first-holds, tables-short, tables-fit, accepted, accepted-links, range-orders}
 use Rattle.files.proofs.Accepted.{accepted-bounded}
 
 pub answer-turned : (r : Role) (k n m : ℕ) (v : Verdict) → v ≡ turned r k → readAnswer v n m ≡ Refused (record { number = k; file = fileOf r })
@@ -66,18 +64,6 @@ refused-accept x e = let z : _≡_ {A = ℕ} 0 1 = cc in omega arith
 
 -- ---- the call, by cases
 
--- one short table of three is enough
-short-three : (x y z : Bool) (v w : Verdict) → T (x || (y || z)) → cond x v (cond y v (cond z v w)) ≡ v
-short-three true y z v w t = refl
-short-three false true z v w t = refl
-short-three false false true v w t = refl
-short-three false false false v w t = absurd t
-
-short-table : (a b d k s e : ℕ) → (k < a) ⊎ ((s < b) ⊎ (e < d)) → T (ltb k a || (ltb s b || ltb e d))
-short-table a b d k s e (inl h) = either-left (ltb k a) _ (lt→ltb _ _ h)
-short-table a b d k s e (inr (inl h)) = either-right (ltb k a) _ (either-left (ltb s b) _ (lt→ltb _ _ h))
-short-table a b d k s e (inr (inr h)) = either-right (ltb k a) _ (either-right (ltb s b) _ (lt→ltb _ _ h))
-
 -- What is known of an accepted call.
 pub record Filled (r : Role) (file kinds starts ends : List ℕ) (n m : ℕ) : Type 0 where
   pub sound : first (fileConditions r file) ≡ accept
@@ -96,10 +82,8 @@ module _ (r : Role) (file kinds starts ends : List ℕ) where
   module _ (e : first (fileConditions r file) ≡ accept) where
     pub reading-short : (length kinds < nodesOf file) ⊎ ((length starts < linksOf file) ⊎ (length ends < linksOf file))
         → reading r file kinds starts ends ≡ record { answer = Refused (record { number = 8; file = Neither }); reply = readReply (Refused (record { number = 8; file = Neither })); kinds = kinds; starts = starts; ends = ends }
-    unfolding reading readConditions first shortTable readAnswer readReply reply filled
-    reading-short h =
-        rw (first-accept _ _ e)
-        (rw (short-three (ltb (length kinds) (nodesOf file)) (ltb (length starts) (linksOf file)) (ltb (length ends) (linksOf file)) _ _ (short-table _ _ _ _ _ _ h)))
+    unfolding reading readConditions readAnswer readReply reply filled
+    reading-short h = rw (first-accept _ _ e, tables-short _ _ _ _ _ _ h)
 
     pub reading-filled : nodesOf file ≤ length kinds → linksOf file ≤ length starts → linksOf file ≤ length ends
         → reading r file kinds starts ends
@@ -110,8 +94,8 @@ module _ (r : Role) (file kinds starts ends : List ℕ) where
           starts = startsOf file ++ drop (linksOf file) starts;
           ends = endsOf file ++ drop (linksOf file) ends;
         }
-    unfolding reading readConditions first shortTable readAnswer readReply reply filled kindsOf startsOf endsOf
-    reading-filled a b d = rw (first-accept _ _ e) (simp (le-ltb _ _ a, le-ltb _ _ b, le-ltb _ _ d, length-fields))
+    unfolding reading readConditions readAnswer readReply reply filled kindsOf startsOf endsOf
+    reading-filled a b d = rw (first-accept _ _ e, tables-fit _ _ _ _ _ _ a b d) (simp length-fields)
 
   -- the reader's answer in document 01's terms
   pub reading-reply : readReply (reading r file kinds starts ends .answer)

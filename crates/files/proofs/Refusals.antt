@@ -1,7 +1,7 @@
 -- Laws of lists of conditions, and what it says of a file that none of its conditions holds. Assumes nothing.
 use mathlib.Core.Bool.{Bool, true, false, _&&_, not, cond}
 use mathlib.Core.List.{List, [], _∷_, _++_, List·Memᴰ, List·Memᴰ·head, List·Memᴰ·tail, List·Memᴰ·not-nil, List·Memᴰ·cases-cons}
-use mathlib.Core.Logic.{_↔_, ⊎-elim}
+use mathlib.Core.Logic.{_⊎_, inl, inr, _↔_, ⊎-elim}
 use mathlib.Core.Path.{_≡_, refl, sym, ap, _∙_, subst}
 use Prim.Native.Nat.{ℕ, _≤_, _<_}
 use native.Mathlib.Omega.{arith}
@@ -11,12 +11,13 @@ use lib.ListN.{length, drop}
 use Rattle.lists.specs.List.{all}
 use Rattle.lists.proofs.Tests.{refuted, both-false, both-left, both-right, true-T, false-T}
 use Rattle.graph.specs.Search.{connected}
+use Rattle.files.specs.declared.File.the-variants.{Neither}
 use Rattle.files.specs.declared.Refusal.{Refusal}
 use Rattle.files.specs.declared.Role.{Role}
 use Rattle.files.specs.declared.Role.the-variants.{Pattern, Board}
 use Rattle.files.specs.Layout.{fields, nodesOf, linksOf, lengthOf, startsAt, endsAt, startsOf, endsOf}
 use Rattle.files.specs.Links.{linksBelow, rising}
-use Rattle.files.specs.Refusals.{Condition, Verdict, accept, refuse, first, linkConditions, fileConditions, asksConnected, linkNumber}
+use Rattle.files.specs.Refusals.{Condition, Verdict, accept, refuse, first, linkConditions, fileConditions, asksConnected, linkNumber, shortTable}
 use Rattle.files.specs.Role.{minNodes, maxNodes, maxLinks, inRange, fileOf}
 
 -- ---- the first of a list of conditions
@@ -88,6 +89,25 @@ some-refuses (d ∷ ds) c m t = go (first (d ∷ ds)) refl
 -- a list of conditions refuses exactly when one of them holds
 pub refuses-iff : (cs : List Condition) → ((x : Refusal) × (first cs ≡ refuse x)) ↔ ((c : Condition) × List·Memᴰ c cs × T (c .holds))
 refuses-iff cs = (λ (x, e). refuses-some cs x e, λ (c, m, t). some-refuses cs c m t)
+
+-- ---- three lent tables
+
+either-way : (x : Bool) (v : Verdict) → cond x v v ≡ v
+either-way true v = refl
+either-way false v = refl
+
+module _ (a b d k s e : ℕ) where
+  -- one short table of three is enough
+  pub tables-short : (k < a) ⊎ ((s < b) ⊎ (e < d))
+      → first (shortTable a k ∷ shortTable b s ∷ shortTable d e ∷ []) ≡ refuse (record { number = 8; file = Neither })
+  unfolding first shortTable
+  tables-short (inl h) = rw (lt-ltb _ _ h)
+  tables-short (inr (inl h)) = rw (lt-ltb _ _ h) (either-way (ltb k a) _)
+  tables-short (inr (inr h)) = rw (lt-ltb _ _ h, either-way (ltb s b)) (either-way (ltb k a) _)
+
+  pub tables-fit : a ≤ k → b ≤ s → d ≤ e → first (shortTable a k ∷ shortTable b s ∷ shortTable d e ∷ []) ≡ accept
+  unfolding first shortTable
+  tables-fit x y z = rw (le-ltb _ _ x, le-ltb _ _ y, le-ltb _ _ z)
 
 -- ---- the links' number, as the tests come out in their order
 

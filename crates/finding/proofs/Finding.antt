@@ -1,119 +1,75 @@
--- What the call on two files comes to, by cases: a refused pattern, a refused board, a centre outside, a short table, or what is found.
--- Assumes nothing.
-use mathlib.Core.Bool.{Bool, true, false, _||_, cond}
+-- What the call comes to, by cases: a refused file, a centre outside, a short table, or what is found. Assumes nothing.
 use mathlib.Core.List.{List}
-use mathlib.Core.Logic.{_⊎_, inl, inr}
-use mathlib.Core.Path.{_≡_, refl, sym, _∙_}
+use mathlib.Core.Logic.{_⊎_}
+use mathlib.Core.Path.{_≡_, _∙_}
 use Prim.Native.Nat.{ℕ, _≤_, _<_}
 use borrow.Author.Tests.{lt-ltb, le-ltb}
-use lib.Dec.{T, ltb, lt→ltb}
 use lib.ListN.{length}
-use Rattle.lists.proofs.Tests.{either-left, either-right}
+use Rattle.graph.specs.Circuit.{Circuit}
+use Rattle.files.specs.declared.Board.{Board}
 use Rattle.files.specs.declared.File.the-variants.{Neither}
+use Rattle.files.specs.declared.Pattern.{Pattern}
 use Rattle.files.specs.declared.Refusal.{Refusal}
-use Rattle.files.specs.declared.Role.the-variants.{Pattern, Board}
 use Rattle.files.specs.Circuit.{circuitOf}
-use Rattle.files.specs.Layout.{nodesOf, linksOf}
-use Rattle.files.specs.Reading.{ReadOutcome}
-use Rattle.files.specs.Refusals.{Verdict, accept, refuse, first, fileConditions, centreOutside, shortTable}
-use Rattle.files.proofs.Refusals.{first-accept, first-refuse}
-use Rattle.files.proofs.Reading.{Loaded, frontOf, loaded-circuit}
+use Rattle.files.specs.Refusals.{Verdict, accept, refuse, first, centreOutside}
+use Rattle.files.proofs.Fields.{length-kinds, length-starts}
+use Rattle.files.proofs.Refusals.{tables-short, tables-fit}
+use Rattle.pair.specs.Pair.{pairConditions, front, BothRead}
+use Rattle.pair.proofs.Both.{files-refused, files-accepted}
 use Rattle.table.specs.Reply.{noCounts}
 use Rattle.place.specs.declared.PlaceAnswer.the-variants.{Refused}
-use Rattle.finding.specs.declared.Reach.{Reach}
 use Rattle.place.specs.Outcome.{PlaceOutcome, placeReply, placeAround}
-use Rattle.finding.specs.Call.{inputConditions, decided, placeAt, radiusFor}
+use Rattle.finding.specs.declared.Reach.{Reach}
+use Rattle.finding.specs.Call.{placeConditions, inputConditions, decided, placeAt, radiusFor, placeOn}
 
--- one short table of three is enough
-short-three : (x y z : Bool) (v u : Verdict) → T (x || (y || z)) → cond x v (cond y v (cond z v u)) ≡ v
-short-three true y z v u t = refl
-short-three false true z v u t = refl
-short-three false false true v u t = refl
-short-three false false false v u t = absurd t
+-- a call that is turned away leaves the three tables as they were
+abbrev pub untouched : Refusal → List ℕ → List ℕ → List ℕ → PlaceOutcome
+untouched x nodes links table = record { reply = placeReply (Refused x noCounts); nodes = nodes; links = links; table = table }
 
-module _ (pattern board : List ℕ) (w : ℕ) (nodes links table : List ℕ) where
-  -- ---- the verdict on the inputs
+-- ---- two circuits
 
+module _ (reach : Reach) (p b : Circuit) (w : ℕ) (nodes links table : List ℕ) where
   abbrev verdict : Verdict
-  verdict = first (inputConditions pattern board w (length nodes) (length links) (length table))
+  verdict = first (placeConditions (length (b .kinds)) (length (b .starts)) w (length nodes) (length links) (length table))
 
-  verdict-pattern : (x : Refusal) → first (fileConditions Pattern pattern) ≡ refuse x → verdict ≡ refuse x
-  unfolding inputConditions
-  verdict-pattern x e = first-refuse _ _ x e
+  refused : {x : Refusal} → verdict ≡ refuse x → untouched x nodes links table ≡ placeOn reach p b w nodes links table
+  unfolding placeOn decided placeReply
+  refused e = rw e
 
-  module _ (sound : first (fileConditions Pattern pattern) ≡ accept) where
-    verdict-board : (x : Refusal) → first (fileConditions Board board) ≡ refuse x → verdict ≡ refuse x
-    unfolding inputConditions
-    verdict-board x e = first-accept _ _ sound ∙ first-refuse _ _ x e
+  searched : {o : PlaceOutcome} → verdict ≡ accept → o ≡ placeAround p b w (radiusFor reach p) nodes links table → o ≡ placeOn reach p b w nodes links table
+  unfolding placeOn decided
+  searched e q = q ∙ rw e
 
-    module _ (sound′ : first (fileConditions Board board) ≡ accept) where
-      verdict-centre : nodesOf board ≤ w → verdict ≡ refuse (record { number = 7; file = Neither })
-      unfolding inputConditions first centreOutside
-      verdict-centre h = rw (first-accept _ _ sound, first-accept _ _ sound′) (simp (le-ltb _ _ h))
+  pub on-centre : length (b .kinds) ≤ w → untouched (record { number = 7; file = Neither }) nodes links table ≡ placeOn reach p b w nodes links table
+  unfolding first centreOutside
+  on-centre h = refused (rw (le-ltb _ _ h))
 
-      verdict-short :
-          w < nodesOf board → (length nodes < nodesOf board) ⊎ ((length links < linksOf board) ⊎ (length table < nodesOf board)) →
-          verdict ≡ refuse (record { number = 8; file = Neither })
-      unfolding inputConditions first centreOutside shortTable
-      verdict-short h s =
-          rw (first-accept _ _ sound, first-accept _ _ sound′)
-          (rw (lt-ltb _ _ h)
-          (short-three (ltb (length nodes) (nodesOf board)) (ltb (length links) (linksOf board)) (ltb (length table) (nodesOf board)) _ _ (short s)))
-        where
-          short : (length nodes < nodesOf board) ⊎ ((length links < linksOf board) ⊎ (length table < nodesOf board)) → T (ltb (length nodes) (nodesOf board) || (ltb (length links) (linksOf board) || ltb (length table) (nodesOf board)))
-          short (inl a) = either-left (ltb (length nodes) (nodesOf board)) _ (lt→ltb _ _ a)
-          short (inr (inl a)) = either-right (ltb (length nodes) (nodesOf board)) _ (either-left (ltb (length links) (linksOf board)) _ (lt→ltb _ _ a))
-          short (inr (inr a)) = either-right (ltb (length nodes) (nodesOf board)) _ (either-right (ltb (length links) (linksOf board)) _ (lt→ltb _ _ a))
+  module _ (inside : w < length (b .kinds)) where
+    pub on-short : (length nodes < length (b .kinds)) ⊎ ((length links < length (b .starts)) ⊎ (length table < length (b .kinds)))
+        → untouched (record { number = 8; file = Neither }) nodes links table ≡ placeOn reach p b w nodes links table
+    unfolding first centreOutside
+    on-short h = refused (rw (lt-ltb _ _ inside) (tables-short _ _ _ _ _ _ h))
 
-      verdict-accept :
-          w < nodesOf board → nodesOf board ≤ length nodes → linksOf board ≤ length links → nodesOf board ≤ length table → verdict ≡ accept
-      unfolding inputConditions first centreOutside shortTable
-      verdict-accept h a b d = rw (first-accept _ _ sound, first-accept _ _ sound′) (simp (lt-ltb _ _ h, le-ltb _ _ a, le-ltb _ _ b, le-ltb _ _ d))
+    pub on-placed : length (b .kinds) ≤ length nodes → length (b .starts) ≤ length links → length (b .kinds) ≤ length table → {o : PlaceOutcome}
+        → o ≡ placeAround p b w (radiusFor reach p) nodes links table → o ≡ placeOn reach p b w nodes links table
+    unfolding first centreOutside
+    on-placed n m t = searched (rw (lt-ltb _ _ inside) (tables-fit _ _ _ _ _ _ n m t))
 
-  -- ---- the outcome
+-- ---- two files
 
-  refused : (r : ℕ) (x : Refusal) → verdict ≡ refuse x
-      → record { reply = placeReply (Refused x noCounts); nodes = nodes; links = links; table = table } ≡ placeAt pattern board w r nodes links table
-  unfolding placeAt decided placeReply
-  refused r x e = rw e
+module _ (reach : Reach) (pattern board : List ℕ) (w : ℕ) (nodes links table : List ℕ) where
+  -- what the call comes to
+  abbrev outcome : PlaceOutcome
+  outcome = placeAt pattern board w (radiusFor reach (circuitOf pattern)) nodes links table
 
-  searched : (r : ℕ) {o : PlaceOutcome} → verdict ≡ accept
-      → o ≡ placeAround (circuitOf pattern) (circuitOf board) w r nodes links table → o ≡ placeAt pattern board w r nodes links table
-  unfolding placeAt decided
-  searched r e q = q ∙ rw e
+  pub find-refused : {x : Refusal} → first (pairConditions pattern board) ≡ refuse x → untouched x nodes links table ≡ outcome
+  unfolding placeAt inputConditions decided placeReply
+  find-refused e = rw (files-refused pattern board _ e)
 
-  -- ---- as the call goes
+  find-accepted : first (pairConditions pattern board) ≡ accept → placeOn reach (circuitOf pattern) (circuitOf board) w nodes links table ≡ outcome
+  unfolding placeOn placeAt inputConditions
+  find-accepted e = rw (files-accepted pattern board _ e, length-kinds board, length-starts board)
 
-  module _ (reach : Reach) where
-    -- the radius that is asked for
-    abbrev r : ℕ
-    r = radiusFor reach (circuitOf pattern)
-
-    pub find-pattern : (x : Refusal) → first (fileConditions Pattern pattern) ≡ refuse x
-        → record { reply = placeReply (Refused x noCounts); nodes = nodes; links = links; table = table } ≡ placeAt pattern board w r nodes links table
-    find-pattern x e = refused r x (verdict-pattern x e)
-
-    -- The pattern's file was read.
-    module _ {parts joins : ℕ} {o : ReadOutcome} (drawn : Loaded Pattern pattern parts joins o) where
-      pub find-board : (x : Refusal) → first (fileConditions Board board) ≡ refuse x
-          → record { reply = placeReply (Refused x noCounts); nodes = nodes; links = links; table = table } ≡ placeAt pattern board w r nodes links table
-      find-board x e = refused r x (verdict-board (drawn .verdict) x e)
-
-      -- Both were read.
-      module _ {n m : ℕ} {o′ : ReadOutcome} (given : Loaded Board board n m o′) where
-        pub find-centre : n ≤ w
-            → record { reply = placeReply (Refused (record { number = 7; file = Neither }) noCounts); nodes = nodes; links = links; table = table } ≡ placeAt pattern board w r nodes links table
-        find-centre h = refused r _ (verdict-centre (drawn .verdict) (given .verdict) (rw (← given .nodes) h))
-
-        module _ (inside : w < n) where
-          pub find-short : (length nodes < n) ⊎ ((length links < m) ⊎ (length table < n))
-              → record { reply = placeReply (Refused (record { number = 8; file = Neither }) noCounts); nodes = nodes; links = links; table = table } ≡ placeAt pattern board w r nodes links table
-          find-short h = refused r _ (verdict-short (drawn .verdict) (given .verdict) (rw (← given .nodes) inside) (rw (← given .nodes, ← given .links) h))
-
-          pub find-placed : n ≤ length nodes → m ≤ length links → n ≤ length table → {p : PlaceOutcome}
-              → p ≡ placeAround (frontOf parts joins o) (frontOf n m o′) w (radiusFor reach (frontOf parts joins o)) nodes links table
-              → p ≡ placeAt pattern board w r nodes links table
-          find-placed a b d q =
-              searched r
-              (verdict-accept (drawn .verdict) (given .verdict) (rw (← given .nodes) inside) (rw (← given .nodes) a) (rw (← given .links) b) (rw (← given .nodes) d))
-              (rw (loaded-circuit drawn, loaded-circuit given) at q)
+  pub find-read : {p : Pattern} {b : Board} {parts host : Circuit} → BothRead pattern board p b parts host → {o : PlaceOutcome}
+      → o ≡ placeOn reach (front (p .nodes) (p .links) parts) (front (b .nodes) (b .links) host) w nodes links table → o ≡ outcome
+  find-read read e = (rw (read .drawn .content, read .given .content) at e) ∙ find-accepted (read .verdict)

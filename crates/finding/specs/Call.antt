@@ -13,15 +13,14 @@ use Rattle.place.specs.Outcome.{PlaceOutcome, placeAround}
 use Rattle.finding.specs.declared.Reach.{Reach}
 use Rattle.finding.specs.declared.Reach.the-variants.{Own, Given}
 
--- the pattern's 1 to 6 before the board's; 7 for the centre; 8 for the tables: "Needed: .. place N, M, N"
+-- 7 for the centre; 8 for the tables: "Needed: .. place N, M, N"
+abbrev pub placeConditions : ℕ → ℕ → ℕ → ℕ → ℕ → ℕ → List Condition
+placeConditions n m w nodes links table = centreOutside n w ∷ shortTable n nodes ∷ shortTable m links ∷ shortTable n table ∷ []
+
+-- the pattern's 1 to 6 before the board's, then 7 and 8
 unfoldable pub inputConditions : List ℕ → List ℕ → ℕ → ℕ → ℕ → ℕ → List Condition
 inputConditions pattern board w nodes links table =
-    fileConditions Pattern pattern
-    ++ (fileConditions Board board
-    ++ (centreOutside (nodesOf board) w ∷
-    shortTable (nodesOf board) nodes ∷
-    shortTable (linksOf board) links ∷
-    shortTable (nodesOf board) table ∷ []))
+    fileConditions Pattern pattern ++ (fileConditions Board board ++ placeConditions (nodesOf board) (linksOf board) w nodes links table)
 
 -- "All lent tables keep their content; counts are 0" where a condition on the inputs holds; else it is as the place has it
 unfoldable pub decided : Verdict → List ℕ → List ℕ → List ℕ → PlaceOutcome → PlaceOutcome
@@ -39,3 +38,9 @@ placeAt pattern board w r nodes links table =
 unfoldable pub radiusFor : Reach → Circuit → ℕ
 radiusFor Own pattern = radiusOf pattern
 radiusFor (Given r) pattern = r
+
+-- the call on two circuits that were read
+unfoldable pub placeOn : Reach → Circuit → Circuit → ℕ → List ℕ → List ℕ → List ℕ → PlaceOutcome
+placeOn reach pattern board w nodes links table =
+    decided (first (placeConditions (length (board .kinds)) (length (board .starts)) w (length nodes) (length links) (length table))) nodes links table
+    (placeAround pattern board w (radiusFor reach pattern) nodes links table)

@@ -1,28 +1,38 @@
 // The place calls: a pattern file, the board of another file and a centre, at the pattern's radius or at a radius given.
-use crate::circuits::place_circuits;
+use extent::radius::radius_of;
 use files::Board;
 use files::File;
 use files::Pattern;
-use files::ReadAnswer;
 use files::Refusal;
-use files::Role;
+use pair::PairAnswer;
+use pair::read_pair;
 use place::PlaceAnswer;
+use placing::place_circuits;
 use table::Counts;
 ghost use mathlib.Core.Path.{_≡_};
-ghost use Prim.Native.Nat.{_≤_};
-ghost use lib.ListN.{length};
-ghost use Rattle.files.specs.Circuit.{circuitOf};
+ghost use Rattle.files.specs.Circuit.{circuitOf, Bounded};
+ghost use Rattle.files.specs.declared.Role.the-variants as role;
+ghost use Rattle.table.specs.Refine.{circuit};
 ghost use Rattle.table.specs.Reply.{noCounts};
 ghost use Rattle.place.specs.Match.{radiusOf};
 ghost use Rattle.place.specs.Outcome.{placeReply};
-ghost use Rattle.finding.specs.Call.{radiusFor, placeAt};
-
-mod circuits;
+ghost use Rattle.finding.specs.Call.{radiusFor, placeOn, placeAt};
 
 // At which radius a place is asked for: the pattern's own, or one given.
 pub enum Reach {
     Own,
     Given(u16),
+}
+
+// The radius that is asked for.
+fn radius_for(reach: Reach, kinds: &[u16], starts: &[u16], ends: &[u16]) -> u16
+    requires { ⌜ Bounded role.Pattern (circuit (now kinds) (now starts) (now ends)) ⌝ }
+    ensures { λ r. ⌜ r ≡ radiusFor reach (circuit (now (kinds .entry)) (now (starts .entry)) (now (ends .entry))) ⌝ }
+{
+    match reach {
+        Reach::Own => radius_of(kinds.len(), starts.len(), starts, ends),
+        Reach::Given(r) => r,
+    }
 }
 
 // The answer that turns a call away before anything is searched.
@@ -40,35 +50,26 @@ fn turned_away(x: Refusal) -> PlaceAnswer
     )
 }
 
-// The call with tables for the two circuits. Everything is tested, and the place found, before anything is written to the lent tables.
-fn find_in(
+// The call on two circuits that were read. Everything is tested, and the place found, before anything is written to the lent tables.
+fn find_on(
     reach: Reach,
-    pattern: &[u8],
-    board: &[u8],
+    part_kinds: &[u16],
+    part_starts: &[u16],
+    part_ends: &[u16],
+    node_kinds: &[u16],
+    node_starts: &[u16],
+    node_ends: &[u16],
     centre: usize,
     nodes: &mut [u8],
     links: &mut [u8],
     table: &mut [u32],
-    pk: &mut [u16],
-    ps: &mut [u16],
-    pe: &mut [u16],
-    nk: &mut [u16],
-    ns: &mut [u16],
-    ne: &mut [u16],
 ) -> PlaceAnswer
-    requires { ⌜ (32 ≤ length (now pk)) × (256 ≤ length (now ps)) × (256 ≤ length (now pe)) ⌝ }
-    requires { ⌜ (512 ≤ length (now nk)) × (4096 ≤ length (now ns)) × (4096 ≤ length (now ne)) ⌝ }
+    requires { ⌜ Bounded role.Pattern (circuit (now «part_kinds») (now «part_starts») (now «part_ends»)) ⌝ }
+    requires { ⌜ Bounded role.Board (circuit (now «node_kinds») (now «node_starts») (now «node_ends»)) ⌝ }
     ensures { λ a. ⌜ record { reply = placeReply a; nodes = now (nodes .exit); links = now (links .exit); table = now (table .exit) }
-        ≡ placeAt (now (pattern .entry)) (now (board .entry)) centre (radiusFor reach (circuitOf (now (pattern .entry)))) (now (nodes .entry)) (now (links .entry)) (now (table .entry)) ⌝ }
+        ≡ placeOn reach (circuit (now («part_kinds» .entry)) (now («part_starts» .entry)) (now («part_ends» .entry))) (circuit (now («node_kinds» .entry)) (now («node_starts» .entry)) (now («node_ends» .entry))) centre (now (nodes .entry)) (now (links .entry)) (now (table .entry)) ⌝ }
 {
-    let drawn = reading::read(Role::Pattern, pattern, pk, ps, pe);
-    let ReadAnswer::Read(parts, joins) = drawn else {
-        return turned_away(files::refusal_of(drawn));
-    };
-    let given = reading::read(Role::Board, board, nk, ns, ne);
-    let ReadAnswer::Read(n, m) = given else {
-        return turned_away(files::refusal_of(given));
-    };
+    let n = node_kinds.len();
     if n <= centre {
         return turned_away(Refusal {
             number: 7,
@@ -82,28 +83,29 @@ fn find_in(
     if nodes.len() < n {
         return turned_away(short);
     }
-    if links.len() < m {
+    if links.len() < node_starts.len() {
         return turned_away(short);
     }
     if table.len() < n {
         return turned_away(short);
     }
+    let r = radius_for(reach, part_kinds, part_starts, part_ends);
     place_circuits(
-        reach,
-        &pk[..parts],
-        &ps[..joins],
-        &pe[..joins],
-        &nk[..n],
-        &ns[..m],
-        &ne[..m],
+        part_kinds,
+        part_starts,
+        part_ends,
+        node_kinds,
+        node_starts,
+        node_ends,
         centre as u16,
+        r,
         nodes,
         links,
         table,
     )
 }
 
-// The same with tables of its own.
+// The call on two files.
 fn find(
     reach: Reach,
     pattern: &[u8],
@@ -122,21 +124,38 @@ fn find(
     let mut nk = [0u16; Board::MAX_NODES];
     let mut ns = [0u16; Board::MAX_LINKS];
     let mut ne = [0u16; Board::MAX_LINKS];
-    find_in(
-        reach,
+    let read = read_pair(
         pattern,
         board,
-        centre,
-        nodes,
-        links,
-        table,
         &mut pk,
         &mut ps,
         &mut pe,
         &mut nk,
         &mut ns,
         &mut ne,
-    )
+    );
+    match read {
+        PairAnswer::Refused(x) => turned_away(x),
+        PairAnswer::Read(p, b) => {
+            let parts = p.nodes;
+            let joins = p.links;
+            let n = b.nodes;
+            let m = b.links;
+            find_on(
+                reach,
+                &pk[..parts],
+                &ps[..joins],
+                &pe[..joins],
+                &nk[..n],
+                &ns[..m],
+                &ne[..m],
+                centre,
+                nodes,
+                links,
+                table,
+            )
+        }
+    }
 }
 
 // The place around the centre at the pattern's radius: the ball's four counts, with a byte per board node and one per board link, 1 in the

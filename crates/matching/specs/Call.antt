@@ -7,7 +7,7 @@ use Rattle.files.specs.declared.Role.the-variants.{Pattern, Board}
 use Rattle.files.specs.Circuit.{circuitOf}
 use Rattle.files.specs.Layout.{nodesOf}
 use Rattle.files.specs.Reading.{filled}
-use Rattle.files.specs.Refusals.{Condition, accept, refuse, first, fileConditions, shortTable}
+use Rattle.files.specs.Refusals.{Condition, Verdict, accept, refuse, first, fileConditions, shortTable}
 use Rattle.matching.specs.declared.TableAnswer.{TableAnswer}
 use Rattle.matching.specs.declared.TableAnswer.the-variants.{Matched, Refused}
 use Rattle.table.specs.declared.Counts.{Counts}
@@ -33,9 +33,14 @@ pub record TableOutcome : Type 0 where
 
 -- The pattern on the whole board: the four counts, and the last set of the row at the front of the table, whose entries past N stay. On a
 -- refusal the whole table stays.
-unfoldable pub matching : List ℕ → List ℕ → List ℕ → TableOutcome
-matching pattern board table =
-    let verdict = first (matchConditions pattern board (length table)) in
-    let p = circuitOf pattern in
-    let b = circuitOf board in
+abbrev pub matchedBy : Verdict → Circuit → Circuit → List ℕ → TableOutcome
+matchedBy verdict p b table =
     record { reply = replied verdict (countsOf p b (everything b)); table = filled verdict (lastTable p b (everything b)) table }
+
+-- the call on two circuits that were read: the table may be short
+unfoldable pub matchOn : Circuit → Circuit → List ℕ → TableOutcome
+matchOn p b table = matchedBy (first (shortTable (length (b .kinds)) (length table) ∷ [])) p b table
+
+-- the call on two files
+unfoldable pub matching : List ℕ → List ℕ → List ℕ → TableOutcome
+matching pattern board table = matchedBy (first (matchConditions pattern board (length table))) (circuitOf pattern) (circuitOf board) table

@@ -2,15 +2,18 @@
 use files::Board;
 use files::File;
 use files::Pattern;
-use files::ReadAnswer;
 use files::Refusal;
-use files::Role;
+use pair::PairAnswer;
+use pair::read_pair;
 use table::Counts;
 use whole::match_circuits;
 ghost use mathlib.Core.Path.{_≡_};
 ghost use Prim.Native.Nat.{_≤_};
 ghost use lib.ListN.{length};
-ghost use Rattle.matching.specs.Call.{replyOf, matching};
+ghost use Rattle.files.specs.Circuit.{Bounded};
+ghost use Rattle.files.specs.declared.Role.the-variants as role;
+ghost use Rattle.table.specs.Refine.{circuit};
+ghost use Rattle.matching.specs.Call.{replyOf, matchOn, matching};
 
 // What the call comes to: the four counts, or why it was turned away.
 pub enum TableAnswer {
@@ -18,30 +21,22 @@ pub enum TableAnswer {
     Refused(Refusal),
 }
 
-// The call with tables for the two circuits. Both files are read and the table's length is tested before anything is written to it.
-fn match_in(
-    pattern: &[u8],
-    board: &[u8],
+// The call on two circuits that were read. The table's length is tested before anything is written to it.
+fn match_on(
+    part_kinds: &[u16],
+    part_starts: &[u16],
+    part_ends: &[u16],
+    node_kinds: &[u16],
+    node_starts: &[u16],
+    node_ends: &[u16],
     table: &mut [u32],
-    pk: &mut [u16],
-    ps: &mut [u16],
-    pe: &mut [u16],
-    nk: &mut [u16],
-    ns: &mut [u16],
-    ne: &mut [u16],
 ) -> TableAnswer
-    requires { ⌜ (32 ≤ length (now pk)) × (256 ≤ length (now ps)) × (256 ≤ length (now pe)) ⌝ }
-    requires { ⌜ (512 ≤ length (now nk)) × (4096 ≤ length (now ns)) × (4096 ≤ length (now ne)) ⌝ }
-    ensures { λ r. ⌜ record { reply = replyOf r; table = now (table .exit) } ≡ matching (now (pattern .entry)) (now (board .entry)) (now (table .entry)) ⌝ }
+    requires { ⌜ Bounded role.Pattern (circuit (now «part_kinds») (now «part_starts») (now «part_ends»)) ⌝ }
+    requires { ⌜ Bounded role.Board (circuit (now «node_kinds») (now «node_starts») (now «node_ends»)) ⌝ }
+    ensures { λ r. ⌜ record { reply = replyOf r; table = now (table .exit) }
+        ≡ matchOn (circuit (now («part_kinds» .entry)) (now («part_starts» .entry)) (now («part_ends» .entry))) (circuit (now («node_kinds» .entry)) (now («node_starts» .entry)) (now («node_ends» .entry))) (now (table .entry)) ⌝ }
 {
-    let drawn = reading::read(Role::Pattern, pattern, pk, ps, pe);
-    let ReadAnswer::Read(parts, joins) = drawn else {
-        return TableAnswer::Refused(files::refusal_of(drawn));
-    };
-    let given = reading::read(Role::Board, board, nk, ns, ne);
-    let ReadAnswer::Read(n, m) = given else {
-        return TableAnswer::Refused(files::refusal_of(given));
-    };
+    let n = node_kinds.len();
     if table.len() < n {
         return TableAnswer::Refused(Refusal {
             number: 8,
@@ -49,12 +44,12 @@ fn match_in(
         });
     }
     TableAnswer::Matched(match_circuits(
-        &pk[..parts],
-        &ps[..joins],
-        &pe[..joins],
-        &nk[..n],
-        &ns[..m],
-        &ne[..m],
+        part_kinds,
+        part_starts,
+        part_ends,
+        node_kinds,
+        node_starts,
+        node_ends,
         &mut table[..n],
     ))
 }
@@ -70,15 +65,32 @@ pub fn match_table(pattern: &[u8], board: &[u8], table: &mut [u32]) -> TableAnsw
     let mut nk = [0u16; Board::MAX_NODES];
     let mut ns = [0u16; Board::MAX_LINKS];
     let mut ne = [0u16; Board::MAX_LINKS];
-    match_in(
+    let read = read_pair(
         pattern,
         board,
-        table,
         &mut pk,
         &mut ps,
         &mut pe,
         &mut nk,
         &mut ns,
         &mut ne,
-    )
+    );
+    match read {
+        PairAnswer::Refused(x) => TableAnswer::Refused(x),
+        PairAnswer::Read(p, b) => {
+            let parts = p.nodes;
+            let joins = p.links;
+            let n = b.nodes;
+            let m = b.links;
+            match_on(
+                &pk[..parts],
+                &ps[..joins],
+                &pe[..joins],
+                &nk[..n],
+                &ns[..m],
+                &ne[..m],
+                table,
+            )
+        }
+    }
 }

@@ -49,6 +49,9 @@ radius-of-requires c κs =
     let (_, n, m) = loaded-range l in
     ((omega arith, omega arith), (loaded-links l, (n, m)))
 
+cast-radius : tie.Need-cast-radius
+cast-radius c = search needs
+
 returns-2 : tie.Need-returns-2
 unfolding radiusReply
 returns-2 c =
@@ -70,4 +73,5 @@ radius-spec =
     slice-aggregate-radius-of
     slice-aggregate-radius-of-2
     radius-of-requires
+    cast-radius
     returns-2)

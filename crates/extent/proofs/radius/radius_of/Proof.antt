@@ -27,9 +27,6 @@ radius-in-requires c κs =
     let p = c .before .before .before .before .before .before .before .before .pre in
     ((omega arith, omega arith, omega arith), (p .1 .0, ((omega arith, omega arith, omega arith, omega arith), (omega arith, omega arith, omega arith))))
 
-cast-result : tie.Need-cast-result
-cast-result c = search needs
-
 returns : tie.Need-returns
 returns c = search needs
 
@@ -44,5 +41,4 @@ radius-of-spec =
     slice-aggregate-radius-in-5
     slice-aggregate-radius-in-6
     radius-in-requires
-    cast-result
     returns)

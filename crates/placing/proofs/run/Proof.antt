@@ -1,9 +1,9 @@
--- `finding::circuits::run` meets its contract: the tables are prepared, and the place is found from them. Assumes nothing.
+-- `placing::run` meets its contract: the tables are prepared, and the place is found from them. Assumes nothing.
 use native.Mathlib.Nat.{lt-of-le-of-lt}
 use lib.Dec.{lit≤}
 use Rattle.table.proofs.Prepare.{all-below, bounded-starts, bounded-ends}
-use Rattle.finding.proofs.circuits.run.Statement.{statement}
-use Rattle.finding.proofs.circuits.run.Tie as tie
+use Rattle.placing.proofs.run.Statement.{statement}
+use Rattle.placing.proofs.run.Tie as tie
 
 abbrev entry : tie.After-prepare-arg6 → tie.Start
 entry c = c .before .before .before .before .before .before .before .before .before .before .before .before .before .before .before .before .before .before .before .before .before .before .before .before .before

@@ -1,5 +1,4 @@
 // The place of a pattern around a centre of a board, both read.
-use crate::Reach;
 use around::place_around;
 use files::Board;
 use files::Pattern;
@@ -13,44 +12,6 @@ ghost use Rattle.files.specs.declared.Role.the-variants as role;
 ghost use Rattle.table.specs.Refine.{circuit};
 ghost use Rattle.table.specs.Prepared.{tables, Room};
 ghost use Rattle.place.specs.Outcome.{placeReply, placeAround};
-ghost use Rattle.finding.specs.Call.{radiusFor};
-
-// The radius that is asked for. The tables are scratch, with room for a pattern.
-fn radius_for(
-    reach: Reach,
-    kinds: &[u16],
-    starts: &[u16],
-    ends: &[u16],
-    fo: &mut [u16],
-    ft: &mut [u16],
-    bo: &mut [u16],
-    bt: &mut [u16],
-    dist: &mut [u16],
-    queue: &mut [u16],
-) -> u16
-    requires { ⌜ Bounded role.Pattern (circuit (now kinds) (now starts) (now ends)) ⌝ }
-    requires { ⌜ (32 < length (now fo)) × (256 ≤ length (now ft)) × (32 < length (now bo)) × (256 ≤ length (now bt)) ⌝ }
-    requires { ⌜ (32 ≤ length (now dist)) × (32 ≤ length (now queue)) ⌝ }
-    ensures { λ r. ⌜ r ≡ radiusFor reach (circuit (now (kinds .entry)) (now (starts .entry)) (now (ends .entry))) ⌝ }
-{
-    match reach {
-        Reach::Own => {
-            let m = starts.len();
-            measure::radius(
-                kinds.len(),
-                starts,
-                ends,
-                fo,
-                &mut ft[..m],
-                bo,
-                &mut bt[..m],
-                dist,
-                queue,
-            )
-        }
-        Reach::Given(r) => r,
-    }
-}
 
 // The place around c at radius r. What is lent besides the three tables is scratch of the lengths that the circuits need: the masks, the
 // neighbour tables, and what the search and the refinement use.
@@ -126,40 +87,37 @@ fn run(
     )
 }
 
-// The same with scratch tables that are at least long enough: each is cut to what is needed.
-fn run_in(
+// The same with scratch tables of its own, each cut to what is needed.
+pub fn place_circuits(
     part_kinds: &[u16],
     part_starts: &[u16],
     part_ends: &[u16],
     node_kinds: &[u16],
     node_starts: &[u16],
     node_ends: &[u16],
-    succ: &mut [u32],
-    pred: &mut [u32],
-    fo: &mut [u16],
-    ft: &mut [u16],
-    bo: &mut [u16],
-    bt: &mut [u16],
     c: u16,
     r: u16,
-    dist: &mut [u16],
-    queue: &mut [u16],
-    sets: &mut [u32],
-    spare: &mut [u32],
     nodes: &mut [u8],
     links: &mut [u8],
     table: &mut [u32],
 ) -> PlaceAnswer
     requires { ⌜ Bounded role.Pattern (circuit (now «part_kinds») (now «part_starts») (now «part_ends»)) ⌝ }
     requires { ⌜ Bounded role.Board (circuit (now «node_kinds») (now «node_starts») (now «node_ends»)) ⌝ }
-    requires { ⌜ (32 ≤ length (now succ)) × (32 ≤ length (now pred)) × (512 < length (now fo)) × (512 < length (now bo)) ⌝ }
-    requires { ⌜ (4096 ≤ length (now ft)) × (4096 ≤ length (now bt)) × (512 ≤ length (now dist)) × (512 ≤ length (now queue)) ⌝ }
-    requires { ⌜ (512 ≤ length (now sets)) × (512 ≤ length (now spare)) ⌝ }
     requires { ⌜ c < length (now «node_kinds») ⌝ }
     requires { ⌜ (length (now «node_kinds») ≤ length (now nodes)) × (length (now «node_starts») ≤ length (now links)) × (length (now «node_kinds») ≤ length (now table)) ⌝ }
     ensures { λ a. ⌜ record { reply = placeReply a; nodes = now (nodes .exit); links = now (links .exit); table = now (table .exit) }
         ≡ placeAround (circuit (now («part_kinds» .entry)) (now («part_starts» .entry)) (now («part_ends» .entry))) (circuit (now («node_kinds» .entry)) (now («node_starts» .entry)) (now («node_ends» .entry))) c r (now (nodes .entry)) (now (links .entry)) (now (table .entry)) ⌝ }
 {
+    let mut succ = [0u32; Pattern::MAX_NODES];
+    let mut pred = [0u32; Pattern::MAX_NODES];
+    let mut fo = [0u16; Board::MAX_NODES + 1];
+    let mut ft = [0u16; Board::MAX_LINKS];
+    let mut bo = [0u16; Board::MAX_NODES + 1];
+    let mut bt = [0u16; Board::MAX_LINKS];
+    let mut dist = [0u16; Board::MAX_NODES];
+    let mut queue = [0u16; Board::MAX_NODES];
+    let mut sets = [0u32; Board::MAX_NODES];
+    let mut spare = [0u32; Board::MAX_NODES];
     let parts = part_kinds.len();
     let n = node_kinds.len();
     let m = node_starts.len();
@@ -172,9 +130,9 @@ fn run_in(
         node_ends,
         &mut succ[..parts],
         &mut pred[..parts],
-        fo,
+        &mut fo,
         &mut ft[..m],
-        bo,
+        &mut bo,
         &mut bt[..m],
         c,
         r,
@@ -182,74 +140,6 @@ fn run_in(
         &mut queue[..n],
         &mut sets[..n],
         &mut spare[..n],
-        nodes,
-        links,
-        table,
-    )
-}
-
-// The place around c at the radius that is asked for, with scratch tables of its own.
-pub fn place_circuits(
-    reach: Reach,
-    part_kinds: &[u16],
-    part_starts: &[u16],
-    part_ends: &[u16],
-    node_kinds: &[u16],
-    node_starts: &[u16],
-    node_ends: &[u16],
-    c: u16,
-    nodes: &mut [u8],
-    links: &mut [u8],
-    table: &mut [u32],
-) -> PlaceAnswer
-    requires { ⌜ Bounded role.Pattern (circuit (now «part_kinds») (now «part_starts») (now «part_ends»)) ⌝ }
-    requires { ⌜ Bounded role.Board (circuit (now «node_kinds») (now «node_starts») (now «node_ends»)) ⌝ }
-    requires { ⌜ c < length (now «node_kinds») ⌝ }
-    requires { ⌜ (length (now «node_kinds») ≤ length (now nodes)) × (length (now «node_starts») ≤ length (now links)) × (length (now «node_kinds») ≤ length (now table)) ⌝ }
-    ensures { λ a. ⌜ record { reply = placeReply a; nodes = now (nodes .exit); links = now (links .exit); table = now (table .exit) }
-        ≡ placeAround (circuit (now («part_kinds» .entry)) (now («part_starts» .entry)) (now («part_ends» .entry))) (circuit (now («node_kinds» .entry)) (now («node_starts» .entry)) (now («node_ends» .entry))) c (radiusFor reach (circuit (now («part_kinds» .entry)) (now («part_starts» .entry)) (now («part_ends» .entry)))) (now (nodes .entry)) (now (links .entry)) (now (table .entry)) ⌝ }
-{
-    let mut succ = [0u32; Pattern::MAX_NODES];
-    let mut pred = [0u32; Pattern::MAX_NODES];
-    let mut fo = [0u16; Board::MAX_NODES + 1];
-    let mut ft = [0u16; Board::MAX_LINKS];
-    let mut bo = [0u16; Board::MAX_NODES + 1];
-    let mut bt = [0u16; Board::MAX_LINKS];
-    let mut dist = [0u16; Board::MAX_NODES];
-    let mut queue = [0u16; Board::MAX_NODES];
-    let mut sets = [0u32; Board::MAX_NODES];
-    let mut spare = [0u32; Board::MAX_NODES];
-    let r = radius_for(
-        reach,
-        part_kinds,
-        part_starts,
-        part_ends,
-        &mut fo,
-        &mut ft,
-        &mut bo,
-        &mut bt,
-        &mut dist,
-        &mut queue,
-    );
-    run_in(
-        part_kinds,
-        part_starts,
-        part_ends,
-        node_kinds,
-        node_starts,
-        node_ends,
-        &mut succ,
-        &mut pred,
-        &mut fo,
-        &mut ft,
-        &mut bo,
-        &mut bt,
-        c,
-        r,
-        &mut dist,
-        &mut queue,
-        &mut sets,
-        &mut spare,
         nodes,
         links,
         table,

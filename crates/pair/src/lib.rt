@@ -1,0 +1,47 @@
+// A pattern file and a board file, read for a call on both.
+use files::Board;
+use files::Pattern;
+use files::ReadAnswer;
+use files::Refusal;
+use files::Role;
+ghost use Prim.Native.Nat.{_≤_};
+ghost use lib.ListN.{length};
+ghost use Rattle.pair.specs.Pair.{PairRead};
+
+// What reading the two comes to: their sizes, or why one was turned away.
+pub enum PairAnswer {
+    Read(Pattern, Board),
+    Refused(Refusal),
+}
+
+// Reads the pattern, then the board: their sizes, with the two circuits at the front of the tables, three for each; or the first refusal.
+pub fn read_pair(
+    pattern: &[u8],
+    board: &[u8],
+    pk: &mut [u16],
+    ps: &mut [u16],
+    pe: &mut [u16],
+    nk: &mut [u16],
+    ns: &mut [u16],
+    ne: &mut [u16],
+) -> PairAnswer
+    requires { ⌜ (32 ≤ length (now pk)) × (256 ≤ length (now ps)) × (256 ≤ length (now pe)) ⌝ }
+    requires { ⌜ (512 ≤ length (now nk)) × (4096 ≤ length (now ns)) × (4096 ≤ length (now ne)) ⌝ }
+    ensures { λ r. ⌜ PairRead (now (pattern .entry)) (now (board .entry)) r
+        (record { kinds = now (pk .exit); starts = now (ps .exit); ends = now (pe .exit) }) (record { kinds = now (nk .exit); starts = now (ns .exit); ends = now (ne .exit) }) ⌝ }
+{
+    let drawn = reading::read(Role::Pattern, pattern, pk, ps, pe);
+    let ReadAnswer::Read(parts, joins) = drawn else {
+        return PairAnswer::Refused(files::refusal_of(drawn));
+    };
+    let given = reading::read(Role::Board, board, nk, ns, ne);
+    let ReadAnswer::Read(n, m) = given else {
+        return PairAnswer::Refused(files::refusal_of(given));
+    };
+    let p = Pattern {
+        nodes: parts,
+        links: joins,
+    };
+    let b = Board { nodes: n, links: m };
+    PairAnswer::Read(p, b)
+}
