@@ -21,7 +21,8 @@ use Rattle.table.proofs.Answers.{InTable}
 use Rattle.table.proofs.Host.{everything-taken}
 use Rattle.table.proofs.Meaning.{last-fits}
 use Rattle.refining.proofs.Narrow.{last-wider}
-use Rattle.table.proofs.Prepare.{all-below, bounded-starts, bounded-ends}
+use Rattle.graph.proofs.Groups.{all-below}
+use Rattle.files.proofs.Accepted.{bounded-starts, bounded-ends}
 use Rattle.place.specs.Match.{radiusOf, ballOf, ballTable, found}
 use Rattle.place.specs.Outcome.{Located}
 use Rattle.place.proofs.Ball.{ball-fits}

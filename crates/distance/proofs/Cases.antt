@@ -1,18 +1,20 @@
 -- What the two calls come to, by cases of the conditions. Assumes nothing.
 use mathlib.Core.List.{List, [], _∷_, _++_}
-use mathlib.Core.Path.{_≡_}
+use mathlib.Core.Path.{_≡_, sym}
 use Prim.Native.Nat.{ℕ, _≤_, _<_}
 use borrow.Author.Tests.{lt-ltb, le-ltb}
-use lib.ListN.{length, drop}
+use lib.ListN.{length, take, drop}
 use Rattle.graph.specs.Search.{ball, radius}
 use Rattle.graph.proofs.Ball.{length-ball}
 use Rattle.files.specs.declared.File.the-variants.{Neither}
 use Rattle.files.specs.declared.Refusal.{Refusal}
 use Rattle.files.specs.declared.Role.the-variants.{Pattern, Board}
 use Rattle.files.specs.Layout.{nodesOf, startsOf, endsOf}
-use Rattle.files.specs.Reading.{filled}
+use Rattle.files.specs.Reading.{ReadOutcome, filled}
 use Rattle.files.specs.Refusals.{accept, refuse, first, fileConditions, centreOutside, shortTable}
 use Rattle.files.specs.Reply.{reply}
+use Rattle.files.proofs.Fields.{length-kinds}
+use Rattle.files.proofs.Reading.{Loaded}
 use Rattle.files.proofs.Refusals.{first-accept, first-refuse}
 use Rattle.distance.specs.Calls.{radiusCall, ballConditions, ballEntries, ballCall}
 
@@ -55,3 +57,13 @@ module _ (file : List ℕ) (centre r : ℕ) (out : List ℕ) where
         }
     unfolding ballCall ballConditions ballEntries first centreOutside shortTable reply filled
     ball-filled h l = rw (first-accept _ _ e) (simp (lt-ltb _ _ h, le-ltb _ _ l, length-ball))
+
+-- ---- the ball of a file that was read, filled in from the fronts of its tables
+
+pub ball-read : (file : List ℕ) (centre r : ℕ) (out : List ℕ) {n m : ℕ} {o : ReadOutcome} → Loaded Board file n m o → centre < n → n ≤ length out
+    → {after : List ℕ}
+    → after ≡ ball (length (take n (o .kinds))) (take m (o .starts)) (take m (o .ends)) centre r ++ drop (length (take n (o .kinds))) out
+    → record { reply = record { verdict = accept; values = n ∷ [] }; out = after } ≡ ballCall file centre r out
+ball-read file centre r out l inside room e =
+    rw (e, l .kindsFirst, l .startsFirst, l .endsFirst, length-kinds, l .nodes)
+    (sym (ball-filled file centre r out (l .verdict) (rw (← l .nodes) inside) (rw (← l .nodes) room)))

@@ -33,7 +33,7 @@ pub fn radius(file: &[u8]) -> RadiusAnswer
     let ReadAnswer::Read(n, m) = answer else {
         return RadiusAnswer::Refused(files::refusal_of(answer));
     };
-    let radius = radius_of(n, m, &starts, &ends) as usize;
+    let radius = radius_of(&kinds[..n], &starts[..m], &ends[..m]) as usize;
     RadiusAnswer::Radius(radius)
 }
 
@@ -61,6 +61,13 @@ pub fn ball(file: &[u8], centre: usize, radius: u16, out: &mut [u8]) -> BallAnsw
             file: File::Neither,
         });
     }
-    fill_ball(n, m, &starts, &ends, centre as u16, radius, out);
+    fill_ball(
+        &kinds[..n],
+        &starts[..m],
+        &ends[..m],
+        centre as u16,
+        radius,
+        out,
+    );
     BallAnswer::Ball(n)
 }

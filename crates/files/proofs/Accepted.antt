@@ -6,7 +6,7 @@ use lib.Dec.{T, ltb}
 use lib.ListN.{length}
 use Rattle.lists.specs.List.{all}
 use Rattle.lists.proofs.Tests.{both-left, both-right}
-use Rattle.graph.specs.Circuit.{circuitGraph}
+use Rattle.graph.specs.Circuit.{Circuit, circuitGraph}
 use Rattle.graph.specs.Graph.{Connected}
 use Rattle.graph.proofs.Ball.{Within, within-all}
 use Rattle.graph.proofs.Distance.{connected-iff}
@@ -33,6 +33,14 @@ module _ (n : ℕ) (starts ends : List ℕ) (below : T (linksBelow n starts ends
 
   pub links-within : Within n starts ends
   links-within = within-all n starts ends starts-below ends-below
+
+-- the same of a bounded circuit
+module _ {role : Role} {c : Circuit} (b : Bounded role c) where
+  pub bounded-starts : T (all (λ v. ltb v (length (c .kinds))) (c .starts))
+  bounded-starts = starts-below (length (c .kinds)) (c .starts) (c .ends) (b .below)
+
+  pub bounded-ends : T (all (λ v. ltb v (length (c .kinds))) (c .ends))
+  bounded-ends = ends-below (length (c .kinds)) (c .starts) (c .ends) (b .below)
 
 -- ---- an accepted file
 

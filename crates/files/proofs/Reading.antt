@@ -9,7 +9,7 @@ use borrow.Author.Tests.{ltb-false}
 use lib.Dec.{T, ltb}
 use Rattle.lists.specs.List.{all}
 use Rattle.files.proofs.Fields.{length-fields, length-kinds, length-starts, length-ends}
-use lib.ListN.{length, take, drop}
+use lib.ListN.{length, take, drop, length-take}
 use lib.Seq.{take-at}
 use Rattle.graph.specs.Circuit.{Circuit}
 use Rattle.files.specs.declared.File.the-variants.{Neither}
@@ -176,6 +176,19 @@ module _ {r : Role} {file : List ℕ} {n m : ℕ} {o : ReadOutcome} (l : Loaded 
 
   pub loaded-links : T (all (λ v. ltb v n) (take m (o .starts))) × T (all (λ v. ltb v n) (take m (o .ends)))
   loaded-links = rw (l .startsFirst, l .endsFirst, l .nodes) (accepted-links r file (accepted r file (l .verdict)))
+
+-- a front as long as it should be has room
+pub front-room : (k : ℕ) (l : List ℕ) → length (take k l) ≡ k → k ≤ length l
+front-room k l e = omega (arith, rw length-take at e)
+
+-- the fronts of the tables are as long as the counts say
+module _ {r : Role} {file : List ℕ} {n m : ℕ} {o : ReadOutcome} (l : Loaded r file n m o) where
+  pub loaded-size : (length (take n (o .kinds)) ≡ n) × (length (take m (o .starts)) ≡ m) × (length (take m (o .ends)) ≡ m)
+  loaded-size = (
+    ap length (l .kindsFirst) ∙ length-kinds file ∙ sym (l .nodes),
+    ap length (l .startsFirst) ∙ length-starts file ∙ sym (l .links),
+    ap length (l .endsFirst) ∙ length-ends file ∙ sym (l .links),
+  )
 
 -- ---- the circuit that was read
 

@@ -30,7 +30,7 @@ fn radius_for(reach: Reach, kinds: &[u16], starts: &[u16], ends: &[u16]) -> u16
     ensures { λ r. ⌜ r ≡ radiusFor reach (circuit (now (kinds .entry)) (now (starts .entry)) (now (ends .entry))) ⌝ }
 {
     match reach {
-        Reach::Own => radius_of(kinds.len(), starts.len(), starts, ends),
+        Reach::Own => radius_of(kinds, starts, ends),
         Reach::Given(r) => r,
     }
 }

@@ -1,11 +1,16 @@
 -- Laws of lists whose entries are below a bound. Assumes nothing.
 use mathlib.Core.List.{List, [], _∷_, _++_}
-use Prim.Native.Nat.{ℕ, zero, suc, _+_, _<_, suc-le-suc}
-use native.Mathlib.Nat.{not-suc-le-zero, zero-lt-suc, le-of-suc-le-suc}
+use Prim.Native.Nat.{ℕ, zero, suc, _+_, _≤_, _<_, suc-le-suc}
+use native.Mathlib.Nat.{lt-of-lt-of-le, not-suc-le-zero, zero-lt-suc, le-of-suc-le-suc}
 use native.Mathlib.Omega.{arith}
 use lib.ListN.{take, drop, length-take, length-drop}
 use lib.Seq.{getD-take, getD-drop}
 use Rattle.graph.specs.Bfs.{Below}
+
+-- below a bound is below every larger one
+pub below-wider : (m n : ℕ) (xs : List ℕ) → m ≤ n → Below m xs → Below n xs
+unfolding Below
+below-wider m n xs h b i l = lt-of-lt-of-le (b i l) h
 
 -- where a list's entries are below n, so are those past its first a
 pub below-drop : (n : ℕ) (xs : List ℕ) (a : ℕ) → Below n xs → Below n (drop a xs)

@@ -20,7 +20,8 @@ use Rattle.files.specs.Refusals.{accept, first, linkConditions, asksConnected}
 use Rattle.files.proofs.Refusals.{first-holds}
 use Rattle.table.specs.declared.Counts.{Counts}
 use Rattle.table.specs.Refine.{circuit, MatchedOn}
-use Rattle.table.proofs.Prepare.{all-below, bounded-starts, bounded-ends}
+use Rattle.graph.proofs.Groups.{all-below}
+use Rattle.files.proofs.Accepted.{bounded-starts, bounded-ends}
 use Rattle.writing.specs.declared.WriteAnswer.the-variants.{Written, Refused}
 use Rattle.writing.specs.Writing.{circuitConditions, WriteOutcome, writing, writeReply}
 use Rattle.writing.proofs.FileFields.{length-written}

@@ -2,8 +2,7 @@
 use mathlib.Core.List.{List, _++_, append-assoc}
 use mathlib.Core.Path.{_≡_, sym, ap, subst, _∙_}
 use Prim.Native.Nat.{ℕ, _≤_}
-use native.Mathlib.Omega.{arith}
-use lib.ListN.{length, take, length-take}
+use lib.ListN.{length, take}
 use Rattle.graph.specs.Circuit.{Circuit}
 use Rattle.files.specs.declared.Board.{Board}
 use Rattle.files.specs.declared.Pattern.{Pattern}
@@ -15,7 +14,7 @@ use Rattle.files.specs.Reading.{ReadOutcome}
 use Rattle.files.specs.Refusals.{Condition, accept, refuse, first, fileConditions}
 use Rattle.files.proofs.Accepted.{accepted-bounded}
 use Rattle.files.proofs.Fields.{length-kinds, length-starts, length-ends}
-use Rattle.files.proofs.Reading.{Loaded, loaded-circuit}
+use Rattle.files.proofs.Reading.{Loaded, front-room, loaded-circuit}
 use Rattle.files.proofs.Refusals.{first-accept, first-refuse, first-parts, accepted}
 use Rattle.pair.specs.declared.PairAnswer.{PairAnswer}
 use Rattle.pair.specs.declared.PairAnswer.the-variants.{Read, Refused}
@@ -69,10 +68,7 @@ module _ {file : List ℕ} {n m : ℕ} {t : Circuit} (s : Stands file n m t) whe
   )
 
   pub stands-room : (n ≤ length (t .kinds)) × (m ≤ length (t .starts)) × (m ≤ length (t .ends))
-  stands-room = let (k, a, b) = stands-size in (room n _ k, room m _ a, room m _ b)
-    where
-      room : (k : ℕ) (l : List ℕ) → length (take k l) ≡ k → k ≤ length l
-      room k l e = omega (arith, rw length-take at e)
+  stands-room = let (k, a, b) = stands-size in (front-room n _ k, front-room m _ a, front-room m _ b)
 
 module _ {pattern board : List ℕ} {p : Pattern} {b : Board} {parts nodes : Circuit} (read : BothRead pattern board p b parts nodes) where
   pub both-accepted : (first (fileConditions role.Pattern pattern) ≡ accept) × (first (fileConditions role.Board board) ≡ accept)

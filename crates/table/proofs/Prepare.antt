@@ -2,36 +2,23 @@
 use mathlib.Core.List.{List, _++_, append-nil, []}
 use mathlib.Core.Path.{_≡_, sym, ap, subst, _∙_}
 use Prim.Native.Nat.{ℕ, suc, _≤_, _<_}
-use native.Mathlib.Nat.{lt-of-lt-of-le}
 use native.Mathlib.Omega.{arith}
 use lib.Dec.{T, ltb}
 use lib.ListN.{length, getD, length-append}
 use Rattle.lists.specs.List.{all}
-use Rattle.graph.specs.Bfs.{Below}
 use Rattle.graph.specs.Circuit.{Circuit}
 use Rattle.graph.specs.Neighbours.{select, stretch, offsetsOf, grouped}
-use Rattle.graph.proofs.Groups.{key-below, below-le, below-mono, length-grouped, length-offsets, offset-at, stretch-select}
+use Rattle.graph.proofs.Groups.{all-below, below-le, below-mono, length-grouped, length-offsets, offset-at, stretch-select}
 use Rattle.graph.proofs.Measures.{grouped-below}
-use Rattle.files.specs.declared.Role.{Role}
 use Rattle.files.specs.declared.Role.the-variants.{Pattern, Board}
 use Rattle.files.specs.Circuit.{Bounded}
-use Rattle.files.proofs.Accepted.{starts-below, ends-below}
+use Rattle.files.proofs.Accepted.{bounded-starts, bounded-ends}
 use Rattle.table.specs.declared.Counts.{Counts}
 use Rattle.table.specs.Fill.{marksOf, allNodes}
 use Rattle.table.specs.Host.{everything}
 use Rattle.table.specs.Refine.{Refined, MatchedOn}
 use Rattle.table.specs.Prepared.{masksOf, tables, NeighbourTable, Prepared}
 use Rattle.table.proofs.NodeLists.{all-marks}
-
--- ---- entries that pass the test are below the bound
-
-pub all-below : (n : ℕ) (xs : List ℕ) → T (all (λ v. ltb v n) xs) → Below n xs
-unfolding Below
-all-below n xs t i h = key-below n xs i t h
-
-pub below-wider : (m n : ℕ) (xs : List ℕ) → m ≤ n → Below m xs → Below n xs
-unfolding Below
-below-wider m n xs h b i l = lt-of-lt-of-le (b i l) h
 
 -- ---- one direction
 
@@ -50,15 +37,6 @@ module _ (n : ℕ) (keys values rest : List ℕ) (parallel : length keys ≡ len
   grouped-stretch v h =
       ap (λ (t : List ℕ). stretch (offsetsOf n keys ++ rest) t v) (sym (append-nil (grouped n keys values)))
       ∙ stretch-select n keys values rest [] v parallel h
-
--- ---- the nodes that a bounded circuit's links join
-
-module _ {role : Role} {c : Circuit} (b : Bounded role c) where
-  pub bounded-starts : T (all (λ v. ltb v (length (c .kinds))) (c .starts))
-  bounded-starts = starts-below (length (c .kinds)) (c .starts) (c .ends) (b .below)
-
-  pub bounded-ends : T (all (λ v. ltb v (length (c .kinds))) (c .ends))
-  bounded-ends = ends-below (length (c .kinds)) (c .starts) (c .ends) (b .below)
 
 -- ---- all that a round looks up
 

@@ -6,7 +6,6 @@ use preparing::nodes::list_all;
 use refining::refine;
 use table::Counts;
 ghost use mathlib.Core.Path.{_≡_};
-ghost use Prim.Native.Nat.{_≤_, _<_};
 ghost use lib.ListN.{length};
 ghost use Rattle.files.specs.Circuit.{Bounded};
 ghost use Rattle.files.specs.declared.Role.the-variants as role;
@@ -73,54 +72,7 @@ pub fn prepare_and_match(
     )
 }
 
-// The same with scratch tables that are at least long enough: each is cut to what is needed.
-fn run_in(
-    part_kinds: &[u16],
-    part_starts: &[u16],
-    part_ends: &[u16],
-    node_kinds: &[u16],
-    node_starts: &[u16],
-    node_ends: &[u16],
-    table: &mut [u32],
-    succ: &mut [u32],
-    pred: &mut [u32],
-    fo: &mut [u16],
-    ft: &mut [u16],
-    bo: &mut [u16],
-    bt: &mut [u16],
-    nodes: &mut [u16],
-    spare: &mut [u32],
-) -> Counts
-    requires { ⌜ Bounded role.Pattern (circuit (now «part_kinds») (now «part_starts») (now «part_ends»)) ⌝ }
-    requires { ⌜ Bounded role.Board (circuit (now «node_kinds») (now «node_starts») (now «node_ends»)) ⌝ }
-    requires { ⌜ (length (now table) ≡ length (now «node_kinds»)) ⌝ }
-    requires { ⌜ (32 ≤ length (now succ)) × (32 ≤ length (now pred)) × (512 < length (now fo)) × (512 < length (now bo)) ⌝ }
-    requires { ⌜ (4096 ≤ length (now ft)) × (4096 ≤ length (now bt)) × (512 ≤ length (now nodes)) × (512 ≤ length (now spare)) ⌝ }
-    ensures { λ r. ⌜ MatchedOn (circuit (now («part_kinds» .entry)) (now («part_starts» .entry)) (now («part_ends» .entry))) (circuit (now («node_kinds» .entry)) (now («node_starts» .entry)) (now («node_ends» .entry))) (now (table .exit)) r ⌝ }
-{
-    let parts = part_kinds.len();
-    let n = node_kinds.len();
-    let m = node_starts.len();
-    prepare_and_match(
-        part_kinds,
-        part_starts,
-        part_ends,
-        node_kinds,
-        node_starts,
-        node_ends,
-        table,
-        &mut succ[..parts],
-        &mut pred[..parts],
-        fo,
-        &mut ft[..m],
-        bo,
-        &mut bt[..m],
-        &mut nodes[..n],
-        &mut spare[..n],
-    )
-}
-
-// The largest dual simulation of a pattern in a board, with scratch tables of its own.
+// The same with scratch tables of its own, each cut to what is needed.
 pub fn match_circuits(
     part_kinds: &[u16],
     part_starts: &[u16],
@@ -143,7 +95,10 @@ pub fn match_circuits(
     let mut bt = [0u16; Board::MAX_LINKS];
     let mut nodes = [0u16; Board::MAX_NODES];
     let mut spare = [0u32; Board::MAX_NODES];
-    run_in(
+    let parts = part_kinds.len();
+    let n = node_kinds.len();
+    let m = node_starts.len();
+    prepare_and_match(
         part_kinds,
         part_starts,
         part_ends,
@@ -151,13 +106,13 @@ pub fn match_circuits(
         node_starts,
         node_ends,
         table,
-        &mut succ,
-        &mut pred,
+        &mut succ[..parts],
+        &mut pred[..parts],
         &mut fo,
-        &mut ft,
+        &mut ft[..m],
         &mut bo,
-        &mut bt,
-        &mut nodes,
-        &mut spare,
+        &mut bt[..m],
+        &mut nodes[..n],
+        &mut spare[..n],
     )
 }

@@ -2,12 +2,29 @@
 use denote.Ref.{now}
 use mathlib.Core.Path.{_≡_, sym}
 use native.Mathlib.Omega.{arith}
-use Rattle.files.proofs.Reading.{loaded, loaded-range, loaded-links, turned-away}
-use Rattle.distance.specs.Calls.{ballReply}
-use Rattle.distance.proofs.Cases.{ball-refused, ball-outside, ball-short, ball-filled}
 use borrow.Author.Needs.{needs}
+use Rattle.files.specs.declared.Role.the-variants.{Board}
+use Rattle.files.specs.Reading.{ReadOutcome}
+use Rattle.files.specs.Reply.{readReply}
+use Rattle.files.proofs.Reading.{Loaded, loaded, front-room, loaded-size, loaded-range, loaded-bounded, turned-away}
+use Rattle.distance.specs.Calls.{ballReply}
+use Rattle.distance.proofs.Cases.{ball-refused, ball-outside, ball-short, ball-read}
 use Rattle.distance.proofs.ball.Statement.{statement}
 use Rattle.distance.proofs.ball.Tie as tie
+
+abbrev entry : tie.After-read → tie.Start
+entry c = c .before .before .before .before .before .before
+
+-- what reading the file left
+abbrev outcome : tie.After-read → ReadOutcome
+outcome c = let l = c .read .last .1 .1 in record { answer = c .read .result; reply = readReply (c .read .result); kinds = l .0; starts = l .1 .0; ends = l .1 .1 .0 }
+
+abbrev reading : tie.After-answer → tie.After-read
+reading c = c .before .before .before .before .before
+
+-- it was read
+held : (c : tie.After-answer) → Loaded Board (now (entry (reading c) .args .file)) (c .answer .given .0 .0) (c .answer .given .0 .1 .0) (outcome (reading c))
+held c = loaded Board _ _ _ _ _ (reading c .read .ensures) _ _ (c .answer .given .1)
 
 slice-aggregate-read : tie.Need-slice-aggregate-read
 slice-aggregate-read c = search needs
@@ -34,47 +51,56 @@ returns : tie.Need-returns
 unfolding ballReply
 returns c =
     let told = c .before .enum-told .given .1 in
-    let turned = turned-away _ (now (c .before .before .before .before .before .before .before .before .before .before .before .before .args .file)) _ _ _ _ (c .before .before .before .before .before .before .read .ensures) (record { forKinds = omega arith; forStarts = omega arith; forEnds = omega arith }) _ told in
+    let read = c .before .before .before .before .before .before in
+    let turned = turned-away Board (now (entry read .args .file)) _ _ _ _ (read .read .ensures) (record { forKinds = omega arith; forStarts = omega arith; forEnds = omega arith }) _ told in
     rw (c .refusal-of .ensures, told) (sym (ball-refused _ _ _ _ _ turned))
 
 returns-2 : tie.Need-returns-2
 unfolding ballReply
 returns-2 c =
-    let l = loaded _ _ _ _ _ _ (c .before .before .before .before .before .before .before .read .ensures) _ _ (c .before .before .answer .given .1) in
+    let l = held (c .before .before) in
     sym (ball-outside _ _ _ _ (l .verdict) (omega arith))
 
 returns-3 : tie.Need-returns-3
 unfolding ballReply
 returns-3 c =
-    let l = loaded _ _ _ _ _ _ (c .before .before .before .before .before .before .before .before .read .ensures) _ _ (c .before .before .before .answer .given .1) in
+    let l = held (c .before .before .before) in
     sym (ball-short _ _ _ _ (l .verdict) (omega arith) (omega arith))
 
+array-share-prefix-kinds : tie.Need-array-share-prefix-kinds
+array-share-prefix-kinds c = front-room _ _ (loaded-size (held (c .before .before .before)) .0)
+
 slice-aggregate-fill-ball : tie.Need-slice-aggregate-fill-ball
-slice-aggregate-fill-ball c = search needs
+slice-aggregate-fill-ball c = sym (loaded-size (held (c .before .before .before .before)) .0)
+
+array-share-prefix-starts : tie.Need-array-share-prefix-starts
+array-share-prefix-starts c = front-room _ _ (loaded-size (held (c .before .before .before .before)) .1)
 
 slice-aggregate-fill-ball-2 : tie.Need-slice-aggregate-fill-ball-2
-slice-aggregate-fill-ball-2 c = search needs
+slice-aggregate-fill-ball-2 c = sym (loaded-size (held (c .before .before .before .before .before)) .1)
+
+array-share-prefix-ends : tie.Need-array-share-prefix-ends
+array-share-prefix-ends c = front-room _ _ (loaded-size (held (c .before .before .before .before .before)) .2)
+
+slice-aggregate-fill-ball-3 : tie.Need-slice-aggregate-fill-ball-3
+slice-aggregate-fill-ball-3 c = sym (loaded-size (held (c .before .before .before .before .before .before)) .2)
 
 cast-fill-ball : tie.Need-cast-fill-ball
 cast-fill-ball c =
-    let l = loaded _ _ _ _ _ _ (c .before .before .before .before .before .before .before .before .before .before .read .ensures) _ _ (c .before .before .before .before .before .answer .given .1) in
-    let (_, n, _) = loaded-range l in
+    let (_, n, _) = loaded-range (held (c .before .before .before .before .before .before)) in
     omega arith
 
 fill-ball-requires : tie.Need-fill-ball-requires
 fill-ball-requires c κs =
-    let l = loaded _ _ _ _ _ _ (c .before .before .before .before .before .before .before .before .before .before .before .read .ensures) _ _ (c .before .before .before .before .before .before .answer .given .1) in
-    let (_, n, m) = loaded-range l in
-    ((omega arith, omega arith), (loaded-links l, (omega arith, n, m, omega arith)))
+    let l = held (c .before .before .before .before .before .before .before) in
+    (loaded-bounded l, (rw (loaded-size l .0) (omega arith), rw (loaded-size l .0) (omega arith)))
 
 same-length : tie.Need-same-length
 same-length c = search needs
 
 returns-4 : tie.Need-returns-4
 unfolding ballReply
-returns-4 c =
-    let l = loaded _ _ _ _ _ _ (c .before .before .before .before .before .before .before .before .before .before .before .before .before .before .read .ensures) _ _ (c .before .before .before .before .before .before .before .before .before .answer .given .1) in
-    rw (c .before .before .fill-ball .ensures, l .startsFirst, l .endsFirst, l .nodes) (sym (ball-filled _ _ _ _ (l .verdict) (omega arith) (omega arith)))
+returns-4 c = ball-read _ _ _ _ (held (c .before .before .before .before .before .before .before .before .before .before)) (omega arith) (omega arith) (c .before .before .fill-ball .ensures)
 
 pub ball-spec : {M : Type 1} → statement M
 ball-spec =
@@ -90,8 +116,12 @@ ball-spec =
     returns
     returns-2
     returns-3
+    array-share-prefix-kinds
     slice-aggregate-fill-ball
+    array-share-prefix-starts
     slice-aggregate-fill-ball-2
+    array-share-prefix-ends
+    slice-aggregate-fill-ball-3
     cast-fill-ball
     fill-ball-requires
     same-length

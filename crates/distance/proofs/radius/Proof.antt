@@ -1,13 +1,31 @@
--- `distance::radius` meets its contract: the file is refused, or its links give the radius. Assumes nothing.
+-- `distance::radius` meets its contract: the file is refused, or its circuit gives the radius. Assumes nothing.
 use denote.Ref.{now}
-use mathlib.Core.Path.{_≡_, sym, ap, ap₂, _∙_}
+use mathlib.Core.Path.{_≡_, sym}
 use native.Mathlib.Omega.{arith}
-use Rattle.files.proofs.Reading.{loaded, loaded-range, loaded-links, turned-away}
+use borrow.Author.Needs.{needs}
+use Rattle.files.specs.declared.Role.the-variants.{Pattern}
+use Rattle.files.specs.Reading.{ReadOutcome}
+use Rattle.files.specs.Reply.{readReply}
+use Rattle.files.proofs.Fields.{length-kinds}
+use Rattle.files.proofs.Reading.{Loaded, loaded, front-room, loaded-size, loaded-bounded, turned-away}
 use Rattle.distance.specs.Calls.{radiusReply}
 use Rattle.distance.proofs.Cases.{radius-refused, radius-replied}
-use borrow.Author.Needs.{needs}
 use Rattle.distance.proofs.radius.Statement.{statement}
 use Rattle.distance.proofs.radius.Tie as tie
+
+abbrev entry : tie.After-read → tie.Start
+entry c = c .before .before .before .before .before
+
+-- what reading the file left
+abbrev outcome : tie.After-read → ReadOutcome
+outcome c = let l = c .read .last .1 .1 in record { answer = c .read .result; reply = readReply (c .read .result); kinds = l .0; starts = l .1 .0; ends = l .1 .1 .0 }
+
+abbrev reading : tie.After-answer → tie.After-read
+reading c = c .before .before .before .before .before
+
+-- it was read
+held : (c : tie.After-answer) → Loaded Pattern (now (entry (reading c) .args .file)) (c .answer .given .0 .0) (c .answer .given .0 .1 .0) (outcome (reading c))
+held c = loaded Pattern _ _ _ _ _ (reading c .read .ensures) _ _ (c .answer .given .1)
 
 slice-aggregate-read : tie.Need-slice-aggregate-read
 slice-aggregate-read c = search needs
@@ -34,20 +52,30 @@ returns : tie.Need-returns
 unfolding radiusReply
 returns c =
     let told = c .before .enum-told .given .1 in
-    let turned = turned-away _ (now (c .before .before .before .before .before .before .before .before .before .before .before .args .file)) _ _ _ _ (c .before .before .before .before .before .before .read .ensures) (record { forKinds = omega arith; forStarts = omega arith; forEnds = omega arith }) _ told in
+    let read = c .before .before .before .before .before .before in
+    let turned = turned-away Pattern (now (entry read .args .file)) _ _ _ _ (read .read .ensures) (record { forKinds = omega arith; forStarts = omega arith; forEnds = omega arith }) _ told in
     rw (c .refusal-of .ensures, told) (sym (radius-refused _ _ turned))
 
+array-share-prefix-kinds : tie.Need-array-share-prefix-kinds
+array-share-prefix-kinds c = front-room _ _ (loaded-size (held (c .before)) .0)
+
 slice-aggregate-radius-of : tie.Need-slice-aggregate-radius-of
-slice-aggregate-radius-of c = search needs
+slice-aggregate-radius-of c = sym (loaded-size (held (c .before .before)) .0)
+
+array-share-prefix-starts : tie.Need-array-share-prefix-starts
+array-share-prefix-starts c = front-room _ _ (loaded-size (held (c .before .before)) .1)
 
 slice-aggregate-radius-of-2 : tie.Need-slice-aggregate-radius-of-2
-slice-aggregate-radius-of-2 c = search needs
+slice-aggregate-radius-of-2 c = sym (loaded-size (held (c .before .before .before)) .1)
+
+array-share-prefix-ends : tie.Need-array-share-prefix-ends
+array-share-prefix-ends c = front-room _ _ (loaded-size (held (c .before .before .before)) .2)
+
+slice-aggregate-radius-of-3 : tie.Need-slice-aggregate-radius-of-3
+slice-aggregate-radius-of-3 c = sym (loaded-size (held (c .before .before .before .before)) .2)
 
 radius-of-requires : tie.Need-radius-of-requires
-radius-of-requires c κs =
-    let l = loaded _ _ _ _ _ _ (c .before .before .before .before .before .before .before .before .read .ensures) _ _ (c .before .before .before .answer .given .1) in
-    let (_, n, m) = loaded-range l in
-    ((omega arith, omega arith), (loaded-links l, (n, m)))
+radius-of-requires c κs = loaded-bounded (held (c .before .before .before .before))
 
 cast-radius : tie.Need-cast-radius
 cast-radius c = search needs
@@ -55,8 +83,8 @@ cast-radius c = search needs
 returns-2 : tie.Need-returns-2
 unfolding radiusReply
 returns-2 c =
-    let l = loaded _ _ _ _ _ _ (c .before .before .before .before .before .before .before .before .before .read .ensures) _ _ (c .before .before .before .before .answer .given .1) in
-    rw (c .radius-of .ensures, l .startsFirst, l .endsFirst, l .nodes) (sym (radius-replied _ (l .verdict)))
+    let l = held (c .before .before .before .before .before) in
+    rw (c .radius-of .ensures, l .kindsFirst, l .startsFirst, l .endsFirst, length-kinds) (sym (radius-replied _ (l .verdict)))
 
 pub radius-spec : {M : Type 1} → statement M
 radius-spec =
@@ -70,8 +98,12 @@ radius-spec =
     enum-told
     refusal-of-requires
     returns
+    array-share-prefix-kinds
     slice-aggregate-radius-of
+    array-share-prefix-starts
     slice-aggregate-radius-of-2
+    array-share-prefix-ends
+    slice-aggregate-radius-of-3
     radius-of-requires
     cast-radius
     returns-2)

@@ -5,7 +5,7 @@ use native.Mathlib.Nat.{le-refl, le-of-eq}
 use borrow.Author.Needs.{needs}
 use lib.ListN.{length, take}
 use lib.Seq.{take-length, take-all}
-use Rattle.table.proofs.Prepare.{bounded-starts, bounded-ends}
+use Rattle.files.proofs.Accepted.{bounded-starts, bounded-ends}
 use Rattle.place.specs.Match.{radiusOf}
 use Rattle.finding.specs.Call.{radiusFor}
 use Rattle.finding.proofs.radius_for.Statement.{statement}

@@ -1,7 +1,8 @@
 -- `placing::run` meets its contract: the tables are prepared, and the place is found from them. Assumes nothing.
 use native.Mathlib.Nat.{lt-of-le-of-lt}
 use lib.Dec.{lit≤}
-use Rattle.table.proofs.Prepare.{all-below, bounded-starts, bounded-ends}
+use Rattle.graph.proofs.Groups.{all-below}
+use Rattle.files.proofs.Accepted.{bounded-starts, bounded-ends}
 use Rattle.placing.proofs.run.Statement.{statement}
 use Rattle.placing.proofs.run.Tie as tie
 

@@ -4,7 +4,10 @@ use native.Mathlib.Nat.{le-trans}
 use native.Mathlib.Omega.{arith}
 use borrow.Author.Needs.{needs}
 use lib.Dec.{lit≤}
-use Rattle.table.proofs.Prepare.{all-below, below-wider, bounded-starts, bounded-ends, prepared}
+use Rattle.graph.proofs.Groups.{all-below}
+use Rattle.graph.proofs.Below.{below-wider}
+use Rattle.files.proofs.Accepted.{bounded-starts, bounded-ends}
+use Rattle.table.proofs.Prepare.{prepared}
 use Rattle.preparing.proofs.lookups.prepare.Statement.{statement}
 use Rattle.preparing.proofs.lookups.prepare.Tie as tie
 
