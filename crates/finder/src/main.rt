@@ -6,8 +6,7 @@ use reporting::ReportAnswer;
 use reporting::report;
 ghost use Rattle.io.specs.Counts.{Counts};
 
-// A byte more than the longest file that is accepted in each role: what is cut off there is refused as the whole file is, by its header or
-// its length.
+// A byte more than the longest file that is accepted in each role: the report of what is read so is the report of the files (proofs/Cut).
 const PATTERN_BYTES: usize = 4 + 2 * Pattern::MAX_NODES + 4 * Pattern::MAX_LINKS + 1;
 
 const BOARD_BYTES: usize = 4 + 2 * Board::MAX_NODES + 4 * Board::MAX_LINKS + 1;

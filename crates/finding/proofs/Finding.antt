@@ -36,11 +36,13 @@ module _ (reach : Reach) (p b : Circuit) (w : ℕ) (nodes links table : List ℕ
   unfolding placeOn decided placeReply
   refused e = rw e
 
-  searched : {o : PlaceOutcome} → verdict ≡ accept → o ≡ placeAround p b w (radiusFor reach p) nodes links table → o ≡ placeOn reach p b w nodes links table
+  searched : {o : PlaceOutcome} → verdict ≡ accept → o ≡ placeAround p b w (radiusFor reach p) nodes links table
+      → o ≡ placeOn reach p b w nodes links table
   unfolding placeOn decided
   searched e q = q ∙ rw e
 
-  pub on-centre : length (b .kinds) ≤ w → untouched (record { number = 7; file = Neither }) nodes links table ≡ placeOn reach p b w nodes links table
+  pub on-centre : length (b .kinds) ≤ w
+      → untouched (record { number = 7; file = Neither }) nodes links table ≡ placeOn reach p b w nodes links table
   unfolding first centreOutside
   on-centre h = refused (rw (le-ltb _ _ h))
 
@@ -50,8 +52,8 @@ module _ (reach : Reach) (p b : Circuit) (w : ℕ) (nodes links table : List ℕ
     unfolding first centreOutside
     on-short h = refused (rw (lt-ltb _ _ inside) (tables-short _ _ _ _ _ _ h))
 
-    pub on-placed : length (b .kinds) ≤ length nodes → length (b .starts) ≤ length links → length (b .kinds) ≤ length table → {o : PlaceOutcome}
-        → o ≡ placeAround p b w (radiusFor reach p) nodes links table → o ≡ placeOn reach p b w nodes links table
+    pub on-placed : length (b .kinds) ≤ length nodes → length (b .starts) ≤ length links → length (b .kinds) ≤ length table
+        → {o : PlaceOutcome} → o ≡ placeAround p b w (radiusFor reach p) nodes links table → o ≡ placeOn reach p b w nodes links table
     unfolding first centreOutside
     on-placed n m t = searched (rw (lt-ltb _ _ inside) (tables-fit _ _ _ _ _ _ n m t))
 
@@ -66,7 +68,8 @@ module _ (reach : Reach) (pattern board : List ℕ) (w : ℕ) (nodes links table
   unfolding placeAt inputConditions decided placeReply
   find-refused e = rw (files-refused pattern board _ e)
 
-  find-accepted : first (pairConditions pattern board) ≡ accept → placeOn reach (circuitOf pattern) (circuitOf board) w nodes links table ≡ outcome
+  find-accepted : first (pairConditions pattern board) ≡ accept
+      → placeOn reach (circuitOf pattern) (circuitOf board) w nodes links table ≡ outcome
   unfolding placeOn placeAt inputConditions
   find-accepted e = rw (files-accepted pattern board _ e, length-kinds board, length-starts board)
 

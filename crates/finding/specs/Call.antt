@@ -42,5 +42,5 @@ radiusFor (Given r) pattern = r
 -- the call on two circuits that were read
 unfoldable pub placeOn : Reach → Circuit → Circuit → ℕ → List ℕ → List ℕ → List ℕ → PlaceOutcome
 placeOn reach pattern board w nodes links table =
-    decided (first (placeConditions (length (board .kinds)) (length (board .starts)) w (length nodes) (length links) (length table))) nodes links table
-    (placeAround pattern board w (radiusFor reach pattern) nodes links table)
+    let own = placeConditions (length (board .kinds)) (length (board .starts)) w (length nodes) (length links) (length table) in
+    decided (first own) nodes links table (placeAround pattern board w (radiusFor reach pattern) nodes links table)

@@ -26,7 +26,8 @@ use Rattle.table.specs.Row.{lastTable}
 use Rattle.table.proofs.Meaning.{last-fits}
 
 -- the table has an entry for each node
-pub length-last : (pattern board : List ℕ) → length (lastTable (circuitOf pattern) (circuitOf board) (everything (circuitOf board))) ≡ nodesOf board
+pub length-last : (pattern board : List ℕ)
+    → length (lastTable (circuitOf pattern) (circuitOf board) (everything (circuitOf board))) ≡ nodesOf board
 length-last pattern board = last-fits (circuitOf pattern) (circuitOf board) (everything (circuitOf board)) .size ∙ length-kinds board
 
 -- ---- two circuits
@@ -50,7 +51,8 @@ module _ (pattern board table : List ℕ) where
   unfolding matching matchConditions replied replyOf filled
   matching-refused e = rw (files-refused pattern board _ e)
 
-  matching-accepted : first (pairConditions pattern board) ≡ accept → matchOn (circuitOf pattern) (circuitOf board) table ≡ matching pattern board table
+  matching-accepted : first (pairConditions pattern board) ≡ accept
+      → matchOn (circuitOf pattern) (circuitOf board) table ≡ matching pattern board table
   unfolding matchOn matching matchConditions
   matching-accepted e = rw (files-accepted pattern board _ e, length-kinds board)
 

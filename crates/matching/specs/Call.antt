@@ -10,7 +10,6 @@ use Rattle.files.specs.Reading.{filled}
 use Rattle.files.specs.Refusals.{Condition, Verdict, accept, refuse, first, fileConditions, shortTable}
 use Rattle.matching.specs.declared.TableAnswer.{TableAnswer}
 use Rattle.matching.specs.declared.TableAnswer.the-variants.{Matched, Refused}
-use Rattle.table.specs.declared.Counts.{Counts}
 use Rattle.table.specs.Host.{everything}
 use Rattle.table.specs.Refine.{countsOf}
 use Rattle.table.specs.Reply.{Reply, noCounts, replied}

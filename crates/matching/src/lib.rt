@@ -8,8 +8,6 @@ use pair::read_pair;
 use table::Counts;
 use whole::match_circuits;
 ghost use mathlib.Core.Path.{_≡_};
-ghost use Prim.Native.Nat.{_≤_};
-ghost use lib.ListN.{length};
 ghost use Rattle.files.specs.Circuit.{Bounded};
 ghost use Rattle.files.specs.declared.Role.the-variants as role;
 ghost use Rattle.table.specs.Refine.{circuit};

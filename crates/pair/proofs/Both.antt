@@ -84,7 +84,8 @@ module _ {pattern board : List ℕ} {p : Pattern} {b : Board} {parts nodes : Cir
 -- ---- the conditions of a call on both files: those on the files, then its own
 
 module _ (pattern board : List ℕ) (own : List Condition) where
-  files-first : first (fileConditions role.Pattern pattern ++ (fileConditions role.Board board ++ own)) ≡ first (pairConditions pattern board ++ own)
+  files-first : first (fileConditions role.Pattern pattern ++ (fileConditions role.Board board ++ own))
+      ≡ first (pairConditions pattern board ++ own)
   unfolding pairConditions
   files-first = ap first (sym (append-assoc (fileConditions role.Pattern pattern) _ _))
 

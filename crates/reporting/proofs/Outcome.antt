@@ -1,24 +1,25 @@
--- What the call on two files comes to, by cases: a refused pattern, a refused board, or a piece of the lines; and a buffer that is too short.
--- Assumes nothing.
+-- What the call on two files comes to, by cases: a refused file, or a piece of the lines; and a buffer that is too short. Assumes nothing.
 use mathlib.Core.List.{List}
-use mathlib.Core.Path.{_≡_, ap, _∙_}
+use mathlib.Core.Path.{_≡_, ap}
 use Prim.Native.Nat.{ℕ, _≤_, _<_}
 use native.Mathlib.Nat.{zero-add}
 use borrow.Author.Tests.{lt-ltb, le-ltb}
 use lib.ListN.{length}
 use Rattle.text.proofs.Text.{put-whole}
+use Rattle.graph.specs.Circuit.{Circuit}
+use Rattle.files.specs.declared.Board.{Board}
 use Rattle.files.specs.declared.File.the-variants.{Neither}
-use Rattle.files.specs.declared.ReadAnswer.{ReadAnswer}
-use Rattle.files.specs.declared.ReadAnswer.the-variants as read
+use Rattle.files.specs.declared.Pattern.{Pattern}
 use Rattle.files.specs.declared.Refusal.{Refusal}
-use Rattle.files.specs.declared.Role.the-variants.{Pattern, Board}
+use Rattle.files.specs.declared.Role.the-variants as role
 use Rattle.files.specs.Layout.{startsOf, endsOf}
-use Rattle.files.specs.Reading.{ReadOutcome, filled}
-use Rattle.files.specs.Refusals.{refuse, first, fileConditions, shortTable}
-use Rattle.files.specs.Reply.{reply, refusalOf}
-use Rattle.files.proofs.Refusals.{first-accept, first-refuse, accepted}
-use Rattle.files.proofs.Reading.{Loaded, frontOf, loaded-circuit, loaded-bounded}
+use Rattle.files.specs.Reading.{filled}
+use Rattle.files.specs.Refusals.{refuse, first, shortTable}
+use Rattle.files.specs.Reply.{reply}
+use Rattle.files.proofs.Refusals.{accepted}
 use Rattle.files.proofs.Rising.{rising-links}
+use Rattle.pair.specs.Pair.{pairConditions, front, BothRead}
+use Rattle.pair.proofs.Both.{both-accepted, pattern-bounded, board-bounded}
 use Rattle.report.specs.Lines.{longestLine}
 use Rattle.centres.specs.declared.Part.{Part}
 use Rattle.reporting.specs.declared.ReportAnswer.the-variants as answer
@@ -28,38 +29,27 @@ use Rattle.centres.specs.Pieces.{linesPiece, Drawn, Wrote}
 -- ---- the piece of two files
 
 module _ (pattern board : List ℕ) (from found : ℕ) {before after : List ℕ} {part : Part} where
-  -- the pattern is refused: the refusal x is the one that the answer to reading it holds
-  pub wrote-pattern : {x y : Refusal} {a : ReadAnswer} → x ≡ refusalOf a → a ≡ read.Refused y → first (fileConditions Pattern pattern) ≡ refuse y
-      → Wrote before (refusalPiece x from found) after part → Wrote before (pieceOf pattern board from found (length before)) after part
+  pub wrote-refused : {x : Refusal} → first (pairConditions pattern board) ≡ refuse x → Wrote before (refusalPiece x from found) after part
+      → Wrote before (pieceOf pattern board from found (length before)) after part
   unfolding pieceOf pieceFor
-  wrote-pattern {x} {y} e q v w =
-      rw (first-refuse (fileConditions Pattern pattern) (fileConditions Board board) y v) (rw (e ∙ ap refusalOf q) at w)
+  wrote-refused e w = rw e w
 
-  -- The pattern's file was read.
-  module _ {parts joins : ℕ} {o : ReadOutcome} (drawn : Loaded Pattern pattern parts joins o) where
-    pub wrote-board : {x y : Refusal} {a : ReadAnswer} → x ≡ refusalOf a → a ≡ read.Refused y → first (fileConditions Board board) ≡ refuse y
-        → Wrote before (refusalPiece x from found) after part → Wrote before (pieceOf pattern board from found (length before)) after part
-    unfolding pieceOf pieceFor
-    wrote-board {x} {y} e q v w =
-        rw (first-accept (fileConditions Pattern pattern) (fileConditions Board board) (drawn .verdict), v) (rw (e ∙ ap refusalOf q) at w)
-
-    -- Both were read.
-    module _ {n m : ℕ} {o′ : ReadOutcome} (given : Loaded Board board n m o′) where
-      pub wrote-lines : Wrote before (linesPiece (frontOf parts joins o) (frontOf n m o′) from found (length before)) after part
-          → Wrote before (pieceOf pattern board from found (length before)) after part
-      unfolding pieceOf pieceFor
-      wrote-lines w =
-          rw (first-accept (fileConditions Pattern pattern) (fileConditions Board board) (drawn .verdict), given .verdict)
-          (rw (loaded-circuit drawn, loaded-circuit given) at w)
+  pub wrote-lines : {p : Pattern} {b : Board} {parts nodes : Circuit} → BothRead pattern board p b parts nodes
+      → Wrote before (linesPiece (front (p .nodes) (p .links) parts) (front (b .nodes) (b .links) nodes) from found (length before)) after part
+      → Wrote before (pieceOf pattern board from found (length before)) after part
+  unfolding pieceOf pieceFor
+  wrote-lines read w = rw (read .verdict) (rw (read .drawn .content, read .given .content) at w)
 
 -- two files that were read hold circuits that a report is drawn from
-pub loaded-drawn : {pattern board : List ℕ} {parts joins n m : ℕ} {o o′ : ReadOutcome} → Loaded Pattern pattern parts joins o → Loaded Board board n m o′
-    → Drawn (frontOf parts joins o) (frontOf n m o′)
-loaded-drawn {board = board} drawn given =
+pub both-drawn : {pattern board : List ℕ} {p : Pattern} {b : Board} {parts nodes : Circuit} → BothRead pattern board p b parts nodes
+    → Drawn (front (p .nodes) (p .links) parts) (front (b .nodes) (b .links) nodes)
+both-drawn {board = board} read =
     record {
-      parts = loaded-bounded drawn;
-      nodes = loaded-bounded given;
-      rise = rw (given .startsFirst, given .endsFirst) (rising-links (startsOf board) (endsOf board) (accepted Board board (given .verdict) .rises));
+      parts = pattern-bounded read;
+      nodes = board-bounded read;
+      rise =
+          rw (ap (λ (c : Circuit). c .starts) (read .given .content), ap (λ (c : Circuit). c .ends) (read .given .content))
+          (rising-links (startsOf board) (endsOf board) (accepted role.Board board (both-accepted read .1) .rises));
     }
 
 -- ---- the call

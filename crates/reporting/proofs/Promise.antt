@@ -19,6 +19,7 @@ use Rattle.files.specs.Refusals.{Verdict, accept, refuse, first, fileConditions
 use Rattle.files.specs.Reply.{Reply, reply}
 use Rattle.files.proofs.Accepted.{accepted-bounded}
 use Rattle.files.proofs.Refusals.{accepted, first-parts}
+use Rattle.pair.specs.Pair.{pairConditions}
 use Rattle.report.specs.Lines.{longestLine}
 use Rattle.report.specs.Report.{reportOf}
 use Rattle.centres.specs.declared.Part.{Part}
@@ -125,6 +126,7 @@ module _ (pattern board : List ℕ) (from found : ℕ) (out : List ℕ) where
 module _ (pattern board : List ℕ) where
   -- the board of two accepted files
   few : verdictOf pattern board ≡ accept → length (circuitOf board .kinds) ≤ 512
+  unfolding pairConditions
   few e = accepted-bounded (accepted Board board (first-parts (fileConditions Pattern pattern) (fileConditions Board board) e .1)) .nodes
 
   -- There are at most 513 items: so many calls are enough.
@@ -177,7 +179,7 @@ module _ (pattern board : List ℕ) (buffers : ℕ → List ℕ) (rooms : (k : �
 
   -- all items are put: that is the report
   whole : (k : ℕ) → itemsOf pattern board ≤ stage k .next → stage k .text ≡ reportOf pattern board
-  unfolding reportOf
+  unfolding reportOf pairConditions
   whole k h =
       reached k .text ∙ ap (prefixOf pattern board) (le-antisymm (reached k .within) h)
       ∙ prefix-all (verdictOf pattern board) (circuitOf pattern) (circuitOf board)

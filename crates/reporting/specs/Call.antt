@@ -2,17 +2,17 @@
 -- put piece by piece: a call puts the lines of the centres from a centre on, as long as there is room for the longest line, and answers
 -- where to go on. proofs/Promise shows that the pieces, one after another, are the report.
 use mathlib.Core.Bool.{cond}
-use mathlib.Core.List.{List, [], _∷_, _++_}
+use mathlib.Core.List.{List, [], _∷_}
 use Prim.Native.Nat.{ℕ}
 use lib.Dec.{eqb}
 use lib.ListN.{length}
 use Rattle.graph.specs.Circuit.{Circuit}
 use Rattle.files.specs.declared.Refusal.{Refusal}
-use Rattle.files.specs.declared.Role.the-variants.{Pattern, Board}
 use Rattle.files.specs.Circuit.{circuitOf}
 use Rattle.files.specs.Reading.{filled}
-use Rattle.files.specs.Refusals.{Verdict, accept, refuse, first, fileConditions, shortTable}
+use Rattle.files.specs.Refusals.{Verdict, accept, refuse, first, shortTable}
 use Rattle.files.specs.Reply.{Reply, reply}
+use Rattle.pair.specs.Pair.{pairConditions}
 use Rattle.report.specs.Lines.{longestLine}
 use Rattle.report.specs.Report.{refusalLine}
 use Rattle.centres.specs.Pieces.{Piece, linesPiece}
@@ -26,7 +26,7 @@ refusalPiece x from found =
 
 -- whether a file is refused; "the pattern's 1 to 6 before the board's"
 abbrev pub verdictOf : List ℕ → List ℕ → Verdict
-verdictOf pattern board = first (fileConditions Pattern pattern ++ fileConditions Board board)
+verdictOf pattern board = first (pairConditions pattern board)
 
 -- the piece of two files, by that
 unfoldable pub pieceFor : Verdict → Circuit → Circuit → ℕ → ℕ → ℕ → Piece

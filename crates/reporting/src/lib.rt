@@ -4,9 +4,9 @@ use centres::Part;
 use files::Board;
 use files::File;
 use files::Pattern;
-use files::ReadAnswer;
 use files::Refusal;
-use files::Role;
+use pair::PairAnswer;
+use pair::read_pair;
 use pieces::put_piece;
 use report::lines::put_refusal;
 ghost use mathlib.Core.Path.{_≡_};
@@ -43,44 +43,47 @@ fn put_refused(x: Refusal, from: usize, found: u16, out: &mut [u8]) -> Part
     }
 }
 
-// The call with tables for the two circuits, and a buffer that is long enough.
-fn report_in(
-    pattern: &[u8],
-    board: &[u8],
-    from: usize,
-    found: u16,
-    out: &mut [u8],
-    pk: &mut [u16],
-    ps: &mut [u16],
-    pe: &mut [u16],
-    nk: &mut [u16],
-    ns: &mut [u16],
-    ne: &mut [u16],
-) -> Part
+// The piece of two files, where the buffer is long enough.
+fn put_files(pattern: &[u8], board: &[u8], from: usize, found: u16, out: &mut [u8]) -> Part
     requires { ⌜ longestLine ≤ length (now out) ⌝ }
-    requires { ⌜ (32 ≤ length (now pk)) × (256 ≤ length (now ps)) × (256 ≤ length (now pe)) ⌝ }
-    requires { ⌜ (512 ≤ length (now nk)) × (4096 ≤ length (now ns)) × (4096 ≤ length (now ne)) ⌝ }
     ensures { λ r. ⌜ Wrote (now (out .entry)) (pieceOf (now (pattern .entry)) (now (board .entry)) from found (length (now (out .entry)))) (now (out .exit)) r ⌝ }
 {
-    let drawn = reading::read(Role::Pattern, pattern, pk, ps, pe);
-    let ReadAnswer::Read(parts, joins) = drawn else {
-        return put_refused(files::refusal_of(drawn), from, found, out);
-    };
-    let given = reading::read(Role::Board, board, nk, ns, ne);
-    let ReadAnswer::Read(n, m) = given else {
-        return put_refused(files::refusal_of(given), from, found, out);
-    };
-    put_piece(
-        &pk[..parts],
-        &ps[..joins],
-        &pe[..joins],
-        &nk[..n],
-        &ns[..m],
-        &ne[..m],
-        from,
-        found,
-        out,
-    )
+    let mut pk = [0u16; Pattern::MAX_NODES];
+    let mut ps = [0u16; Pattern::MAX_LINKS];
+    let mut pe = [0u16; Pattern::MAX_LINKS];
+    let mut nk = [0u16; Board::MAX_NODES];
+    let mut ns = [0u16; Board::MAX_LINKS];
+    let mut ne = [0u16; Board::MAX_LINKS];
+    let read = read_pair(
+        pattern,
+        board,
+        &mut pk,
+        &mut ps,
+        &mut pe,
+        &mut nk,
+        &mut ns,
+        &mut ne,
+    );
+    match read {
+        PairAnswer::Refused(x) => put_refused(x, from, found, out),
+        PairAnswer::Read(p, b) => {
+            let parts = p.nodes;
+            let joins = p.links;
+            let n = b.nodes;
+            let m = b.links;
+            put_piece(
+                &pk[..parts],
+                &ps[..joins],
+                &pe[..joins],
+                &nk[..n],
+                &ns[..m],
+                &ne[..m],
+                from,
+                found,
+                out,
+            )
+        }
+    }
 }
 
 // A piece of the report, from the centre `from` on, before which `found` centres had a place, at the front of the buffer: the lines of as
@@ -95,23 +98,5 @@ pub fn report(pattern: &[u8], board: &[u8], from: usize, found: u16, out: &mut [
             file: File::Neither,
         });
     }
-    let mut pk = [0u16; Pattern::MAX_NODES];
-    let mut ps = [0u16; Pattern::MAX_LINKS];
-    let mut pe = [0u16; Pattern::MAX_LINKS];
-    let mut nk = [0u16; Board::MAX_NODES];
-    let mut ns = [0u16; Board::MAX_LINKS];
-    let mut ne = [0u16; Board::MAX_LINKS];
-    ReportAnswer::Put(report_in(
-        pattern,
-        board,
-        from,
-        found,
-        out,
-        &mut pk,
-        &mut ps,
-        &mut pe,
-        &mut nk,
-        &mut ns,
-        &mut ne,
-    ))
+    ReportAnswer::Put(put_files(pattern, board, from, found, out))
 }

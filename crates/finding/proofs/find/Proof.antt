@@ -1,6 +1,6 @@
--- `finding::find` meets its contract: a file is refused, or the place is sought on the two circuits at the fronts of the tables. Assumes nothing.
+-- `finding::find` meets its contract: a file is refused, or the place is sought on the two circuits that were read. Assumes nothing.
 use denote.Ref.{now}
-use mathlib.Core.Path.{_≡_, sym}
+use mathlib.Core.Path.{sym}
 use borrow.Author.Needs.{needs}
 use Rattle.graph.specs.Circuit.{Circuit}
 use Rattle.pair.specs.Pair.{BothRead}
@@ -56,7 +56,8 @@ abbrev reading : tie.After-read2 → tie.After-read-pair
 reading c = c .before .before .before .before .before .before .before .before
 
 both : (c : tie.After-read2)
-    → BothRead (now (entry (reading c) .args .pattern)) (now (entry (reading c) .args .board)) (c .read2 .given .0 .0) (c .read2 .given .0 .1 .0) (parts (reading c)) (nodes (reading c))
+    → let a = entry (reading c) .args in
+    BothRead (now (a .pattern)) (now (a .board)) (c .read2 .given .0 .0) (c .read2 .given .0 .1 .0) (parts (reading c)) (nodes (reading c))
 both c = both-read _ _ _ _ (reading c .read-pair .ensures) (c .read2 .given .1)
 
 -- ---- the place
@@ -98,7 +99,9 @@ slice-aggregate-find-on-6 : tie.Need-slice-aggregate-find-on-6
 slice-aggregate-find-on-6 c = sym (stands-size (both (c .before .before .before .before .before .before .before) .given) .2)
 
 find-on-requires : tie.Need-find-on-requires
-find-on-requires c κs = let read = both (c .before .before .before .before .before .before .before .before .before .before) in (pattern-bounded read, board-bounded read)
+find-on-requires c κs =
+    let read = both (c .before .before .before .before .before .before .before .before .before .before) in
+    (pattern-bounded read, board-bounded read)
 
 returns : tie.Need-returns
 returns c =
@@ -118,7 +121,8 @@ same-length-3 c = search needs
 returns-2 : tie.Need-returns-2
 returns-2 c =
     let found = c .before .before .before .before .before .before in
-    find-read _ _ _ _ _ _ _ (both (found .before .before .before .before .before .before .before .before .before .before .before)) (found .find-on .ensures)
+    let read = found .before .before .before .before .before .before .before .before .before .before .before in
+    find-read _ _ _ _ _ _ _ (both read) (found .find-on .ensures)
 
 pub find-spec : {M : Type 1} → statement M
 find-spec =

@@ -1,7 +1,5 @@
 -- `finding::find_on` meets its contract: the centre is outside, or a table is short, or the place is sought. Assumes nothing.
 use mathlib.Core.Logic.{inl, inr}
-use mathlib.Core.Path.{_≡_}
-use native.Mathlib.Omega.{arith}
 use borrow.Author.Needs.{needs}
 use Rattle.finding.proofs.Finding.{on-centre, on-short, on-placed}
 use Rattle.finding.proofs.find_on.Statement.{statement}
@@ -17,19 +15,25 @@ turned-away-requires-2 : tie.Need-turned-away-requires-2
 turned-away-requires-2 c κs = search needs
 
 returns-2 : tie.Need-returns-2
-returns-2 c = let test = c .before in rw (c .turned-away2 .ensures) (on-short _ _ _ _ _ _ _ (test .before .if1 .left) (inl (test .if2 .taken)))
+returns-2 c =
+    let test = c .before in
+    rw (c .turned-away2 .ensures) (on-short _ _ _ _ _ _ _ (test .before .if1 .left) (inl (test .if2 .taken)))
 
 turned-away-requires-3 : tie.Need-turned-away-requires-3
 turned-away-requires-3 c κs = search needs
 
 returns-3 : tie.Need-returns-3
-returns-3 c = let test = c .before in rw (c .turned-away3 .ensures) (on-short _ _ _ _ _ _ _ (test .before .before .if1 .left) (inr (inl (test .if3 .taken))))
+returns-3 c =
+    let test = c .before in
+    rw (c .turned-away3 .ensures) (on-short _ _ _ _ _ _ _ (test .before .before .if1 .left) (inr (inl (test .if3 .taken))))
 
 turned-away-requires-4 : tie.Need-turned-away-requires-4
 turned-away-requires-4 c κs = search needs
 
 returns-4 : tie.Need-returns-4
-returns-4 c = let test = c .before in rw (c .turned-away4 .ensures) (on-short _ _ _ _ _ _ _ (test .before .before .before .if1 .left) (inr (inr (test .if4 .taken))))
+returns-4 c =
+    let test = c .before in
+    rw (c .turned-away4 .ensures) (on-short _ _ _ _ _ _ _ (test .before .before .before .if1 .left) (inr (inr (test .if4 .taken))))
 
 -- the centre is a node, and the tables are long enough
 abbrev inside : tie.Else4 → tie.Else1

@@ -1,5 +1,5 @@
 -- `matching::match_on` meets its contract: the table is short, or the circuits are matched. Assumes nothing.
-use mathlib.Core.Path.{_≡_, sym}
+use mathlib.Core.Path.{sym}
 use borrow.Author.Needs.{needs}
 use lib.Seq.{length-take-le}
 use Rattle.matching.proofs.Matching.{on-short, on-matched}

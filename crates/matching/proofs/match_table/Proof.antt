@@ -1,6 +1,6 @@
--- `matching::match_table` meets its contract: a file is refused, or the two circuits at the fronts of the tables are matched. Assumes nothing.
+-- `matching::match_table` meets its contract: a file is refused, or the two circuits that were read are matched. Assumes nothing.
 use denote.Ref.{now}
-use mathlib.Core.Path.{_≡_, sym}
+use mathlib.Core.Path.{sym}
 use borrow.Author.Needs.{needs}
 use Rattle.graph.specs.Circuit.{Circuit}
 use Rattle.pair.specs.Pair.{BothRead}
@@ -53,7 +53,8 @@ abbrev reading : tie.After-read2 → tie.After-read-pair
 reading c = c .before .before .before .before .before .before .before .before
 
 both : (c : tie.After-read2)
-    → BothRead (now (entry (reading c) .args .pattern)) (now (entry (reading c) .args .board)) (c .read2 .given .0 .0) (c .read2 .given .0 .1 .0) (parts (reading c)) (nodes (reading c))
+    → let a = entry (reading c) .args in
+    BothRead (now (a .pattern)) (now (a .board)) (c .read2 .given .0 .0) (c .read2 .given .0 .1 .0) (parts (reading c)) (nodes (reading c))
 both c = both-read _ _ _ _ (reading c .read-pair .ensures) (c .read2 .given .1)
 
 -- ---- the match
@@ -95,7 +96,9 @@ slice-aggregate-match-on-6 : tie.Need-slice-aggregate-match-on-6
 slice-aggregate-match-on-6 c = sym (stands-size (both (c .before .before .before .before .before .before .before) .given) .2)
 
 match-on-requires : tie.Need-match-on-requires
-match-on-requires c κs = let read = both (c .before .before .before .before .before .before .before .before) in (pattern-bounded read, board-bounded read)
+match-on-requires c κs =
+    let read = both (c .before .before .before .before .before .before .before .before) in
+    (pattern-bounded read, board-bounded read)
 
 returns : tie.Need-returns
 returns c =
@@ -109,7 +112,8 @@ same-length c = search needs
 returns-2 : tie.Need-returns-2
 returns-2 c =
     let matched = c .before .before in
-    matching-read _ _ _ (both (matched .before .before .before .before .before .before .before .before .before)) (matched .match-on .ensures)
+    let read = matched .before .before .before .before .before .before .before .before .before in
+    matching-read _ _ _ (both read) (matched .match-on .ensures)
 
 pub match-table-spec : {M : Type 1} → statement M
 match-table-spec =

@@ -1,6 +1,5 @@
 -- `pair::read_pair` meets its contract: the pattern is refused, or the board, or both are read. Assumes nothing.
 use denote.Ref.{now}
-use mathlib.Core.Path.{_≡_}
 use borrow.Author.Needs.{needs}
 use Rattle.files.specs.declared.Role.the-variants.{Pattern, Board}
 use Rattle.files.specs.Reading.{ReadOutcome}
@@ -17,7 +16,9 @@ entry c = c .before .before .before .before .before .before .before .before .bef
 
 -- what reading it left
 abbrev drawn : tie.After-read → ReadOutcome
-drawn c = record { answer = c .read .result; reply = readReply (c .read .result); kinds = c .read .last .1 .1 .0; starts = c .read .last .1 .1 .1 .0; ends = c .read .last .1 .1 .1 .1 .0 }
+drawn c =
+    let l = c .read .last .1 .1 in
+    record { answer = c .read .result; reply = readReply (c .read .result); kinds = l .0; starts = l .1 .0; ends = l .1 .1 .0 }
 
 read-requires : tie.Need-read-requires
 read-requires c κs = search needs
@@ -45,8 +46,10 @@ returns c =
     let told = c .before in
     let read = told .before .before .before .before .before .before .before .before in
     let room = entry read .pre .0 in
-    rw (c .refusal-of .ensures, told .enum-told .given .1)
-    (pair-pattern _ _ _ (turned-away Pattern _ _ _ _ _ (read .read .ensures) (record { forKinds = room .0; forStarts = room .1; forEnds = room .2 }) _ (told .enum-told .given .1)) _ _)
+    let away =
+    turned-away Pattern _ _ _ _ (drawn read) (read .read .ensures) (record { forKinds = room .0; forStarts = room .1; forEnds = room .2 }) _
+    (told .enum-told .given .1) in
+    rw (c .refusal-of .ensures, told .enum-told .given .1) (pair-pattern _ _ _ away _ _)
 
 abbrev first-read : tie.After-drawn → tie.After-read
 first-read c = c .before .before .before .before .before .before .before .before
@@ -63,7 +66,9 @@ before-board c = c .before .before .before .before .before
 
 -- what reading it left
 abbrev given : tie.After-read2 → ReadOutcome
-given c = record { answer = c .read2 .result; reply = readReply (c .read2 .result); kinds = c .read2 .last .1 .1 .0; starts = c .read2 .last .1 .1 .1 .0; ends = c .read2 .last .1 .1 .1 .1 .0 }
+given c =
+    let l = c .read2 .last .1 .1 in
+    record { answer = c .read2 .result; reply = readReply (c .read2 .result); kinds = l .0; starts = l .1 .0; ends = l .1 .1 .0 }
 
 read-requires-2 : tie.Need-read-requires-2
 read-requires-2 c κs = search needs
@@ -100,9 +105,10 @@ returns-2 c =
     let told = c .before in
     let read = told .before .before .before .before .before .before .before .before in
     let room = entry (first-read (before-board read)) .pre .1 in
-    rw (c .refusal-of2 .ensures, told .enum-told2 .given .1)
-    (pair-board _ _ (pattern-read (before-board read)) _
-    (turned-away Board _ _ _ _ _ (read .read2 .ensures) (record { forKinds = room .0; forStarts = room .1; forEnds = room .2 }) _ (told .enum-told2 .given .1)) _ _)
+    let away =
+    turned-away Board _ _ _ _ (given read) (read .read2 .ensures) (record { forKinds = room .0; forStarts = room .1; forEnds = room .2 }) _
+    (told .enum-told2 .given .1) in
+    rw (c .refusal-of2 .ensures, told .enum-told2 .given .1) (pair-board _ _ (pattern-read (before-board read)) _ away _ _)
 
 -- ---- both
 
@@ -128,7 +134,8 @@ returns-3 : tie.Need-returns-3
 returns-3 c =
     let told = c .before in
     let read = told .before .before .before .before .before .before .before .before in
-    pair-read _ _ (pattern-read (before-board read)) {o′ = given read} (loaded Board _ _ _ _ _ (read .read2 .ensures) _ _ (told .given .given .1))
+    let board = loaded Board _ _ _ _ (given read) (read .read2 .ensures) _ _ (told .given .given .1) in
+    pair-read _ _ (pattern-read (before-board read)) board
 
 pub read-pair-spec : {M : Type 1} → statement M
 read-pair-spec =

@@ -1,5 +1,5 @@
 -- `placing::place_circuits` meets its contract: its scratch tables have room for every pattern and board. Assumes nothing.
-use mathlib.Core.Path.{_≡_, sym}
+use mathlib.Core.Path.{sym}
 use native.Mathlib.Nat.{lt-of-le-of-lt}
 use borrow.Author.Needs.{needs}
 use lib.Dec.{lit≤}
@@ -44,25 +44,33 @@ array-borrow-prefix-dist : tie.Need-array-borrow-prefix-dist
 array-borrow-prefix-dist c = search needs
 
 slice-aggregate-run-7 : tie.Need-slice-aggregate-run-7
-slice-aggregate-run-7 c = sym (length-take-le _ _ (entry (c .before .before .before .before .before .before .before) .pre .1 .0 .nodes))
+slice-aggregate-run-7 c =
+    let start = entry (c .before .before .before .before .before .before .before) in
+    sym (length-take-le _ _ (start .pre .1 .0 .nodes))
 
 array-borrow-prefix-queue : tie.Need-array-borrow-prefix-queue
 array-borrow-prefix-queue c = search needs
 
 slice-aggregate-run-8 : tie.Need-slice-aggregate-run-8
-slice-aggregate-run-8 c = sym (length-take-le _ _ (entry (c .before .before .before .before .before .before .before .before) .pre .1 .0 .nodes))
+slice-aggregate-run-8 c =
+    let start = entry (c .before .before .before .before .before .before .before .before) in
+    sym (length-take-le _ _ (start .pre .1 .0 .nodes))
 
 array-borrow-prefix-sets : tie.Need-array-borrow-prefix-sets
 array-borrow-prefix-sets c = search needs
 
 slice-aggregate-run-9 : tie.Need-slice-aggregate-run-9
-slice-aggregate-run-9 c = sym (length-take-le _ _ (entry (c .before .before .before .before .before .before .before .before .before) .pre .1 .0 .nodes))
+slice-aggregate-run-9 c =
+    let start = entry (c .before .before .before .before .before .before .before .before .before) in
+    sym (length-take-le _ _ (start .pre .1 .0 .nodes))
 
 array-borrow-prefix-spare : tie.Need-array-borrow-prefix-spare
 array-borrow-prefix-spare c = search needs
 
 slice-aggregate-run-10 : tie.Need-slice-aggregate-run-10
-slice-aggregate-run-10 c = sym (length-take-le _ _ (entry (c .before .before .before .before .before .before .before .before .before .before) .pre .1 .0 .nodes))
+slice-aggregate-run-10 c =
+    let start = entry (c .before .before .before .before .before .before .before .before .before .before) in
+    sym (length-take-le _ _ (start .pre .1 .0 .nodes))
 
 run-requires : tie.Need-run-requires
 run-requires c κs =

@@ -1,0 +1,84 @@
+-- Of a file the program reads at most a byte more than the longest that its role accepts: the report of what is read so is the report of
+-- the whole files. Assumes nothing.
+use mathlib.Core.Bool.{Bool, true, false}
+use mathlib.Core.List.{List}
+use mathlib.Core.Path.{_≡_, refl, sym, ap, ap₂, _∙_}
+use Prim.Native.Nat.{ℕ, _+_, _*_, _<_}
+use native.Mathlib.Decide.{decLt}
+use native.Mathlib.Omega.{arith}
+use lib.ListN.{length, take}
+use lib.Seq.{take-all, getD-take, length-take-le}
+use Rattle.lists.proofs.Tests.{true-T}
+use Rattle.files.specs.declared.Role.{Role}
+use Rattle.files.specs.declared.Role.the-variants.{Pattern, Board}
+use Rattle.files.specs.Layout.{field, nodesOf, linksOf, lengthOf}
+use Rattle.files.specs.Refusals.{Condition, Verdict, accept, refuse, first, fileConditions}
+use Rattle.files.specs.Role.{maxNodes, maxLinks, inRange}
+use Rattle.files.proofs.Refusals.{first-accept, first-refuse, accepted, range-orders, verdict-2, verdict-3}
+use Rattle.report.specs.Report.{reportFor, reportOf}
+
+-- a byte more than the longest file that is accepted, and what is read of a file so
+abbrev pub most : Role → ℕ
+most r = lengthOf (maxNodes r) (maxLinks r) + 1
+
+abbrev pub cut : Role → List ℕ → List ℕ
+cut r file = take (most r) file
+
+module _ (r : Role) (file : List ℕ) where
+  -- the header is read whole
+  same-field : (at : ℕ) → at + 1 < most r → field file at ≡ field (cut r file) at
+  unfolding field
+  same-field at h = sym (ap₂ (λ (a b : ℕ). a + 256 * b) (getD-take (most r) file at 0 (omega arith)) (getD-take (most r) file (at + 1) 0 h))
+
+  -- so a file that is cut is refused by it, or by a length that is too long for it
+  long-verdict : most r < length file → first (fileConditions r (cut r file)) ≡ first (fileConditions r file)
+  unfolding nodesOf linksOf
+  long-verdict h = go (inRange r (nodesOf file) (linksOf file)) refl
+    where
+      size : length (cut r file) ≡ most r
+      size = length-take-le (most r) file (omega arith)
+
+      nodes : nodesOf file ≡ nodesOf (cut r file)
+      nodes = same-field 0 (omega arith)
+
+      links : linksOf file ≡ linksOf (cut r file)
+      links = same-field 2 (omega arith)
+
+      go : (b : Bool) → inRange r (nodesOf file) (linksOf file) ≡ b → first (fileConditions r (cut r file)) ≡ first (fileConditions r file)
+      go false e = verdict-2 r (cut r file) _ _ nodes links (omega (arith, size)) e ∙ sym (verdict-2 r file _ _ refl refl (omega arith) e)
+      go true e =
+          let (_, fewNodes, fewLinks) = range-orders r (nodesOf file) (linksOf file) (true-T e) in
+          verdict-3 r (cut r file) _ _ nodes links (omega (arith, size)) e (λ q. omega (arith, size))
+          ∙ sym (verdict-3 r file _ _ refl refl (omega arith) e (λ q. omega arith))
+
+  -- A file is refused as what is read of it is.
+  pub cut-verdict : first (fileConditions r (cut r file)) ≡ first (fileConditions r file)
+  cut-verdict = go (decLt (most r) (length file))
+    where
+      go : Dec (most r < length file) → first (fileConditions r (cut r file)) ≡ first (fileConditions r file)
+      go (yes h) = long-verdict h
+      go (no h) = ap (λ (f : List ℕ). first (fileConditions r f)) (take-all (most r) file (omega arith))
+
+  -- An accepted one is read whole.
+  pub accepted-whole : first (fileConditions r file) ≡ accept → cut r file ≡ file
+  accepted-whole e =
+      let a = accepted r file e in
+      let (_, fewNodes, fewLinks) = range-orders r (nodesOf file) (linksOf file) (a .range) in
+      take-all (most r) file (omega (arith, a .size))
+
+-- The report of what is read of two files is theirs.
+pub cut-report : (pattern board : List ℕ) → reportOf (cut Pattern pattern) (cut Board board) ≡ reportOf pattern board
+unfolding reportOf reportFor
+cut-report pattern board = go (first (fileConditions Pattern pattern)) refl (first (fileConditions Board board)) refl
+  where
+    readBoard : List Condition
+    readBoard = fileConditions Board (cut Board board)
+
+    go : (v : Verdict) → first (fileConditions Pattern pattern) ≡ v → (w : Verdict) → first (fileConditions Board board) ≡ w
+        → reportOf (cut Pattern pattern) (cut Board board) ≡ reportOf pattern board
+    go accept e accept f = ap₂ reportOf (accepted-whole Pattern pattern e) (accepted-whole Board board f)
+    go accept e (refuse x) f =
+        rw (first-accept _ readBoard (cut-verdict Pattern pattern ∙ e), cut-verdict Board board)
+        (rw (first-accept _ (fileConditions Board board) e, f))
+    go (refuse x) e w f =
+        rw (first-refuse _ readBoard x (cut-verdict Pattern pattern ∙ e), first-refuse _ (fileConditions Board board) x e)
