@@ -55,20 +55,7 @@ pub fn in_range(role: Role, nodes: usize, links: usize) -> bool
     }
 }
 
-// The links of a pattern join all its nodes, directions ignored. The tables lent are scratch, for the starts and the ends as numbers.
-fn joined_in(n: usize, m: usize, starts: &[u8], ends: &[u8], s: &mut [u16], e: &mut [u16]) -> bool
-    requires { ⌜ (2 * m ≤ length (now starts)) × (2 * m ≤ length (now ends)) ⌝ }
-    requires { ⌜ T (all (λ v. ltb v n) (fields (now starts) m)) × T (all (λ v. ltb v n) (fields (now ends) m)) ⌝ }
-    requires { ⌜ (0 < n) × (n ≤ 32) × (m ≤ 256) ⌝ }
-    requires { ⌜ (m ≤ length (now s)) × (m ≤ length (now e)) ⌝ }
-    ensures { λ r. ⌜ r ≡ connected n (fields (now (starts .entry)) m) (fields (now (ends .entry)) m) ⌝ }
-{
-    store(starts, m, s);
-    store(ends, m, e);
-    connected(n, &s[..m], &e[..m])
-}
-
-// The same, with tables of its own.
+// The links of a pattern join all its nodes, directions ignored: the starts and the ends are stored as numbers for the search.
 fn joined(n: usize, m: usize, starts: &[u8], ends: &[u8]) -> bool
     requires { ⌜ (2 * m ≤ length (now starts)) × (2 * m ≤ length (now ends)) ⌝ }
     requires { ⌜ T (all (λ v. ltb v n) (fields (now starts) m)) × T (all (λ v. ltb v n) (fields (now ends) m)) ⌝ }
@@ -77,7 +64,9 @@ fn joined(n: usize, m: usize, starts: &[u8], ends: &[u8]) -> bool
 {
     let mut s = [0u16; Pattern::MAX_LINKS];
     let mut e = [0u16; Pattern::MAX_LINKS];
-    joined_in(n, m, starts, ends, &mut s, &mut e)
+    store(starts, m, &mut s);
+    store(ends, m, &mut e);
+    connected(n, &s[..m], &e[..m])
 }
 
 // 4, 5 or 6, the first that the links give, or 0.
