@@ -13,9 +13,9 @@ use files::File;
 use files::Refusal;
 use marking::fill;
 use place::PlaceAnswer;
-use refining::refine;
 use search::search;
 use table::Counts;
+use table::largest::refine;
 
 // The four counts of the ball around c at radius r and, in `sets`, the largest dual simulation in it. `dist`, `queue` and `spare` are scratch.
 fn match_ball(

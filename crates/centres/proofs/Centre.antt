@@ -20,7 +20,7 @@ use Rattle.table.specs.Prepared.{Tables}
 use Rattle.table.proofs.Answers.{InTable}
 use Rattle.table.proofs.Host.{everything-taken}
 use Rattle.table.proofs.Meaning.{last-fits}
-use Rattle.refining.proofs.Narrow.{last-wider}
+use Rattle.table.proofs.Narrow.{last-wider}
 use Rattle.graph.proofs.Groups.{all-below}
 use Rattle.files.proofs.Accepted.{bounded-starts, bounded-ends}
 use Rattle.place.specs.Match.{radiusOf, ballOf, ballTable, found}

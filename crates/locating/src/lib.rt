@@ -13,8 +13,8 @@ ghost use Rattle.table.specs.Prepared.{tables, Prepared};
 ghost use Rattle.place.specs.Match.{ballTable, found};
 ghost use Rattle.place.specs.Outcome.{Located};
 use component::component;
-use refining::refine_within;
 use search::search;
+use table::largest::refine_within;
 
 // The largest dual simulation in the ball around c at radius r, into `sets`. `dist`, `queue` and `spare` are scratch.
 fn narrow(

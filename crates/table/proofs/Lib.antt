@@ -1,13 +1,19 @@
 pub mod Answers
 pub mod Sets
 pub mod Row
-pub mod Rest
+mod Rest
 pub mod Counting
 pub mod Meaning
 pub mod Host
 pub mod PreparedMasks
-pub mod Fill
+mod StrikeFill
 pub mod NodeLists
 pub mod Masks
 pub mod Prepare
 pub mod Examples
+mod StrikeSets
+mod StrikeStretch
+mod StrikeRow
+mod StrikeRounds
+mod StrikeRefine
+pub mod Narrow

@@ -5,3 +5,4 @@ pub mod Prepared
 pub mod Refine
 pub mod Reply
 pub mod Examples
+pub mod Strike

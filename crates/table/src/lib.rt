@@ -1,4 +1,8 @@
-// The match table: what it is, by its row of sets. The code that makes it is in `preparing`, `striking` and `refining`.
+// The match table, by striking pairs in rounds.
+
+pub mod largest;
+mod start;
+mod strike;
 
 // The pairs at first, those left and those struck, and how many rounds struck a pair.
 pub struct Counts {

@@ -1,3 +1,0 @@
-// The match table's first sets, and one round of striking.
-pub mod start;
-pub mod strike;

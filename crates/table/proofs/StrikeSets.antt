@@ -1,0 +1,139 @@
+-- Laws of the parts of a set that pass a test: what `surviving` keeps. Assumes nothing.
+use mathlib.Core.Bool.{Bool, true, false, _&&_, _||_, not, cond, and-true, and-false, or-false}
+use mathlib.Core.Path.{_≡_, refl, sym, ap, ap₂, _∙_}
+use mathlib.Core.List.{List}
+use Prim.Native.Nat.{ℕ, zero, _^_, _<_}
+use lib.Bits.{bitOr, or-lt, or-zero-r}
+use lib.Dec.{T, eqb}
+use lib.ListN.{getD}
+use lib.Pow.{pow-pos, pow-lt}
+use borrow.Author.Tests.{eqb-true}
+use Rattle.lists.proofs.Tests.{both-left, T-true}
+use Rattle.bits.specs.Bits.{bit, numberOf, Subset, subsetOf, firstOf, withoutFirst, unionAt}
+use Rattle.bits.proofs.Digits.{bit-of-zero, bit-below, bit-or, bit-single, same-bits-below}
+use Rattle.bits.proofs.Numbers.{bit-number, number-lt, number-same, number-bit}
+use Rattle.bits.proofs.Tests.{bitOr-assoc}
+use Rattle.bits.proofs.Members.{first-trailing, bit-without, trailing-lt, trailing-bit}
+use Rattle.graph.specs.Neighbours.{stretch}
+use Rattle.table.specs.Prepared.{Tables}
+use Rattle.table.specs.Strike.{survivors, strikeNode}
+
+-- ---- the first part of a set that is not empty
+
+module _ (x : ℕ) (p : zero < x) (h : x < 2 ^ 32) where
+  pub first-lt : firstOf x < 32
+  first-lt = rw (← first-trailing) (trailing-lt 32 x p h)
+
+  pub first-bit : T (bit x (firstOf x))
+  first-bit = rw (← first-trailing) (trailing-bit 32 x p h)
+
+-- it is below n, where the set has only parts below n
+pub first-below : (n x : ℕ) → zero < x → x < 2 ^ 32 → x < 2 ^ n → firstOf x < n
+first-below n x p h l = bit-below n x (firstOf x) l (first-bit x p h)
+
+-- ---- the parts that pass a test
+
+module _ (q : ℕ → Bool) where
+  abbrev passing : ℕ → ℕ
+  passing x = numberOf 32 (λ u. bit x u && q u)
+
+  passing-bit : (x u : ℕ) → u < 32 → bit (passing x) u ≡ bit x u && q u
+  passing-bit x u h = bit-number 32 (λ v. bit x v && q v) u h
+
+  passing-none : passing zero ≡ zero
+  passing-none = number-same 32 (λ u. bit zero u && q u) (bit zero) (λ u h. rw bit-of-zero) ∙ number-bit 32 zero (pow-pos 32)
+
+  passing-subset : (x : ℕ) → Subset (passing x) x
+  passing-subset x u t = both-left (bit x u) (q u) (rw (passing-bit x u (bit-below 32 (passing x) u (number-lt 32 (λ v. bit x v && q v)) t)) at t)
+
+  -- the first part alone, where it passes
+  abbrev here : ℕ → ℕ
+  here x = cond (q (firstOf x)) (2 ^ firstOf x) zero
+
+  module _ (x : ℕ) (p : zero < x) (h : x < 2 ^ 32) where
+    here-lt : here x < 2 ^ 32
+    here-lt = go (q (firstOf x))
+      where
+        go : (b : Bool) → cond b (2 ^ firstOf x) zero < 2 ^ 32
+        go true = pow-lt (first-lt x p h)
+        go false = pow-pos 32
+
+    here-bit : (u : ℕ) → bit (here x) u ≡ q (firstOf x) && eqb u (firstOf x)
+    here-bit u = go (q (firstOf x))
+      where
+        go : (b : Bool) → bit (cond b (2 ^ firstOf x) zero) u ≡ b && eqb u (firstOf x)
+        go true = bit-single (firstOf x) u
+        go false = bit-of-zero u
+
+    -- one turn of a loop over the parts
+    passing-next : bitOr (here x) (passing (withoutFirst x)) ≡ passing x
+    passing-next =
+        same-bits-below 32 (bitOr (here x) (passing (withoutFirst x))) (passing x)
+        (or-lt 32 (here x) (passing (withoutFirst x)) here-lt (number-lt 32 (λ v. bit (withoutFirst x) v && q v))) (number-lt 32 (λ v. bit x v && q v))
+        (λ u l.
+        bit-or (here x) (passing (withoutFirst x)) u
+        ∙ ap₂ (λ (a b : Bool). a || b) (here-bit u) (passing-bit (withoutFirst x) u l ∙ ap (λ (b : Bool). b && q u) (bit-without x p h u))
+        ∙ go u (eqb u (firstOf x)) refl
+        ∙ sym (passing-bit x u l))
+      where
+        go : (u : ℕ) (b : Bool) → eqb u (firstOf x) ≡ b → (q (firstOf x) && b) || ((bit x u && not b) && q u) ≡ bit x u && q u
+        go u true e = rw (eqb-true u (firstOf x) e, T-true {b = bit x (firstOf x)} (first-bit x p h), and-true, or-false)
+        go u false e = rw (and-false, and-true)
+
+-- ---- survivors
+
+module _ (succ pred : List ℕ) (f b : ℕ) where
+  stays : ℕ → Bool
+  stays u = subsetOf (getD succ u 0) f && subsetOf (getD pred u 0) b
+
+  pub survivors-none : survivors succ pred f b zero ≡ zero
+  unfolding survivors stays
+  survivors-none = passing-none stays
+
+  pub survivors-subset : (x : ℕ) → Subset (survivors succ pred f b x) x
+  unfolding survivors stays
+  survivors-subset x = passing-subset stays x
+
+  -- One turn of the loop over the parts x that are left: the first of them stays or does not.
+  module _ (x : ℕ) (p : zero < x) (h : x < 2 ^ 32) where
+    turn : (kept : ℕ) (t : Bool) → stays (firstOf x) ≡ t
+        → bitOr (bitOr kept (cond t (2 ^ firstOf x) zero)) (survivors succ pred f b (withoutFirst x)) ≡ bitOr kept (survivors succ pred f b x)
+    unfolding survivors stays
+    turn kept t e =
+        bitOr-assoc kept (cond t (2 ^ firstOf x) zero) (survivors succ pred f b (withoutFirst x))
+        ∙ ap (bitOr kept)
+        (ap (λ (y : Bool). bitOr (cond y (2 ^ firstOf x) zero) (survivors succ pred f b (withoutFirst x))) (sym e) ∙ passing-next stays x p h)
+
+    pub turn-stays : (kept : ℕ) → subsetOf (getD succ (firstOf x) 0) f ≡ true → subsetOf (getD pred (firstOf x) 0) b ≡ true
+        → bitOr (bitOr kept (2 ^ firstOf x)) (survivors succ pred f b (withoutFirst x)) ≡ bitOr kept (survivors succ pred f b x)
+    unfolding stays
+    turn-stays kept d e = turn kept true (rw (d, e))
+
+    turn-goes : (kept : ℕ) → stays (firstOf x) ≡ false → bitOr kept (survivors succ pred f b (withoutFirst x)) ≡ bitOr kept (survivors succ pred f b x)
+    turn-goes kept e = ap (λ (k : ℕ). bitOr k (survivors succ pred f b (withoutFirst x))) (sym (or-zero-r kept)) ∙ turn kept false e
+
+    pub turn-first : (kept : ℕ) → subsetOf (getD succ (firstOf x) 0) f ≡ false
+        → bitOr kept (survivors succ pred f b (withoutFirst x)) ≡ bitOr kept (survivors succ pred f b x)
+    unfolding stays
+    turn-first kept d = turn-goes kept (rw d)
+
+    pub turn-second : (kept : ℕ) → subsetOf (getD pred (firstOf x) 0) b ≡ false
+        → bitOr kept (survivors succ pred f b (withoutFirst x)) ≡ bitOr kept (survivors succ pred f b x)
+    unfolding stays
+    turn-second kept e = turn-goes kept (rw (e, and-false))
+
+-- ---- one node
+
+-- where a node has no part, none is left
+pub strike-none : (t : Tables) (old : List ℕ) (v : ℕ) → getD old v 0 ≡ zero → strikeNode t old v ≡ zero
+unfolding strikeNode
+strike-none t old v e =
+    let f = unionAt old (stretch (t .forwardOffsets) (t .forward) v) in
+    let b = unionAt old (stretch (t .backwardOffsets) (t .backward) v) in
+    ap (survivors (t .succ) (t .pred) f b) e ∙ survivors-none (t .succ) (t .pred) f b
+
+-- the next set of a node, from the two unions over its neighbours
+pub strike-unions : (t : Tables) (old : List ℕ) (v : ℕ) {f b r : ℕ} → f ≡ unionAt old (stretch (t .forwardOffsets) (t .forward) v)
+    → b ≡ unionAt old (stretch (t .backwardOffsets) (t .backward) v) → r ≡ survivors (t .succ) (t .pred) f b (getD old v 0) → r ≡ strikeNode t old v
+unfolding strikeNode
+strike-unions t old v d e q = q ∙ ap₂ (λ (f b : ℕ). survivors (t .succ) (t .pred) f b (getD old v 0)) d e

@@ -1,0 +1,64 @@
+// The first table: each node's parts of the same kind.
+ghost use mathlib.Core.Path.{_≡_};
+ghost use Prim.Native.Nat.{_≤_};
+ghost use lib.Dec.{eqb};
+ghost use lib.ListN.{length, getD};
+ghost use Rattle.bits.specs.Bits.{numberOf};
+ghost use Rattle.graph.specs.Bfs.{Below};
+ghost use Rattle.table.specs.Fill.{Filled};
+ghost use Rattle.table.specs.Strike.{startNode};
+
+// The set of the parts of a kind.
+fn alike(part_kinds: &[u16], kind: u16) -> u32
+    requires { ⌜ length (now «part_kinds») ≤ 32 ⌝ }
+    ensures { λ r. ⌜ r ≡ numberOf (length (now («part_kinds» .entry))) (λ u. eqb (getD (now («part_kinds» .entry)) u 0) kind) ⌝ }
+{
+    let mut set: u32 = 0;
+    let mut u = 0;
+    while u < part_kinds.len() {
+        if part_kinds[u] == kind {
+            set = set | bits::single(u as u32);
+        }
+        u += 1;
+    }
+    set
+}
+
+// Writes at each node of the list its parts of the same kind, and returns how many pairs these are.
+pub fn start(nodes: &[u16], part_kinds: &[u16], node_kinds: &[u16], table: &mut [u32]) -> u32
+    requires { ⌜ length (now «part_kinds») ≤ 32 ⌝ }
+    requires { ⌜ length (now nodes) ≤ 65536 ⌝ }
+    requires { ⌜ Below (length (now table)) (now nodes) ⌝ }
+    requires { ⌜ Below (length (now «node_kinds»)) (now nodes) ⌝ }
+    ensures { λ r. ⌜ Filled (startNode (now («part_kinds» .entry)) (now («node_kinds» .entry))) (now (nodes .entry)) (now (table .entry)) (now (table .exit)) r ⌝ }
+{
+    let mut started: u32 = 0;
+    let mut i = 0;
+    while i < nodes.len() {
+        let v = nodes[i] as usize;
+        let set = alike(part_kinds, node_kinds[v]);
+        table[v] = set;
+        started = started + bits::size(set);
+        i += 1;
+    }
+    started
+}
+
+// Writes at each node of the list the set that another table has there, and returns how many pairs these are.
+pub fn copy(nodes: &[u16], from: &[u32], table: &mut [u32]) -> u32
+    requires { ⌜ length (now nodes) ≤ 65536 ⌝ }
+    requires { ⌜ Below (length (now table)) (now nodes) ⌝ }
+    requires { ⌜ Below (length (now from)) (now nodes) ⌝ }
+    ensures { λ r. ⌜ Filled (λ v. getD (now (from .entry)) v 0) (now (nodes .entry)) (now (table .entry)) (now (table .exit)) r ⌝ }
+{
+    let mut copied: u32 = 0;
+    let mut i = 0;
+    while i < nodes.len() {
+        let v = nodes[i] as usize;
+        let set = from[v];
+        table[v] = set;
+        copied = copied + bits::size(set);
+        i += 1;
+    }
+    copied
+}

@@ -1,0 +1,113 @@
+// One round of striking. A part stays at a node when each part that it drives occurs at some node that the node drives, and the same
+// backward. Which parts occur there is one union of sets for each direction, so a round looks at each link twice and at each pair once.
+ghost use mathlib.Core.Path.{_≡_};
+ghost use Prim.Native.Nat.{_^_, _≤_, _<_};
+ghost use lib.ListN.{length};
+ghost use Rattle.bits.specs.Bits.{unionAt};
+ghost use Rattle.graph.specs.Neighbours.{stretch};
+ghost use Rattle.graph.specs.Bfs.{Below};
+ghost use Rattle.table.specs.Fill.{Filled};
+ghost use Rattle.table.specs.Prepared.{tables, NeighbourTable, Ready};
+ghost use Rattle.table.specs.Strike.{survivors, strikeNode};
+
+// The union of the sets of a list of nodes.
+fn reach(part: &[u16], sets: &[u32]) -> u32
+    requires { ⌜ Below (length (now sets)) (now part) ⌝ }
+    ensures { λ r. ⌜ r ≡ unionAt (now (sets .entry)) (now (part .entry)) ⌝ }
+{
+    let mut union: u32 = 0;
+    let mut i = 0;
+    while i < part.len() {
+        let w = part[i] as usize;
+        union = union | sets[w];
+        i += 1;
+    }
+    union
+}
+
+// Those parts of the set that drive only parts of f, and that only parts of b drive.
+fn surviving(set: u32, succ: &[u32], pred: &[u32], f: u32, b: u32) -> u32
+    requires { ⌜ set < 2 ^ length (now succ) ⌝ }
+    requires { ⌜ set < 2 ^ length (now pred) ⌝ }
+    ensures { λ r. ⌜ r ≡ survivors (now (succ .entry)) (now (pred .entry)) f b set ⌝ }
+{
+    let mut kept: u32 = 0;
+    let mut left = set;
+    while left != 0 {
+        let u = bits::first(left);
+        let i = u as usize;
+        if bits::subset(succ[i], f) {
+            if bits::subset(pred[i], b) {
+                kept = kept | bits::single(u);
+            }
+        }
+        left = bits::without_first(left);
+    }
+    kept
+}
+
+// The union of the sets of node v's neighbours in one direction.
+fn around(offsets: &[u16], links: &[u16], sets: &[u32], v: usize) -> u32
+    requires { ⌜ NeighbourTable (length (now sets)) (now offsets) (now links) ⌝ }
+    requires { ⌜ v < length (now sets) ⌝ }
+    ensures { λ r. ⌜ r ≡ unionAt (now (sets .entry)) (stretch (now (offsets .entry)) (now (links .entry)) v) ⌝ }
+{
+    let next = v + 1;
+    let from = offsets[v] as usize;
+    let to = offsets[next] as usize;
+    reach(&links[from..to], sets)
+}
+
+// The next set of node v.
+fn strike_node(
+    succ: &[u32],
+    pred: &[u32],
+    fo: &[u16],
+    ft: &[u16],
+    bo: &[u16],
+    bt: &[u16],
+    old: &[u32],
+    v: usize,
+) -> u32
+    requires { ⌜ Ready (tables (now succ) (now pred) (now fo) (now ft) (now bo) (now bt)) (now old) ⌝ }
+    requires { ⌜ v < length (now old) ⌝ }
+    ensures { λ r. ⌜ r ≡ strikeNode (tables (now (succ .entry)) (now (pred .entry)) (now (fo .entry)) (now (ft .entry)) (now (bo .entry)) (now (bt .entry))) (now (old .entry)) v ⌝ }
+{
+    let set = old[v];
+    if set == 0 {
+        return 0;
+    }
+    let f = around(fo, ft, old, v);
+    let b = around(bo, bt, old, v);
+    surviving(set, succ, pred, f, b)
+}
+
+// Writes the next set of each node of the list into `new`, each from the table `old` whole, and returns how many pairs these sets have.
+pub fn strike(
+    nodes: &[u16],
+    succ: &[u32],
+    pred: &[u32],
+    fo: &[u16],
+    ft: &[u16],
+    bo: &[u16],
+    bt: &[u16],
+    old: &[u32],
+    new: &mut [u32],
+) -> u32
+    requires { ⌜ Ready (tables (now succ) (now pred) (now fo) (now ft) (now bo) (now bt)) (now old) ⌝ }
+    requires { ⌜ length (now nodes) ≤ 65536 ⌝ }
+    requires { ⌜ Below (length (now old)) (now nodes) ⌝ }
+    requires { ⌜ length (now new) ≡ length (now old) ⌝ }
+    ensures { λ r. ⌜ Filled (strikeNode (tables (now (succ .entry)) (now (pred .entry)) (now (fo .entry)) (now (ft .entry)) (now (bo .entry)) (now (bt .entry))) (now (old .entry))) (now (nodes .entry)) (now (new .entry)) (now (new .exit)) r ⌝ }
+{
+    let mut kept: u32 = 0;
+    let mut i = 0;
+    while i < nodes.len() {
+        let v = nodes[i] as usize;
+        let set = strike_node(succ, pred, fo, ft, bo, bt, old, v);
+        new[v] = set;
+        kept = kept + bits::size(set);
+        i += 1;
+    }
+    kept
+}
