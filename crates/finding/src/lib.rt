@@ -134,28 +134,26 @@ fn find(
         &mut ns,
         &mut ne,
     );
-    match read {
-        PairAnswer::Refused(x) => turned_away(x),
-        PairAnswer::Read(p, b) => {
-            let parts = p.nodes;
-            let joins = p.links;
-            let n = b.nodes;
-            let m = b.links;
-            find_on(
-                reach,
-                &pk[..parts],
-                &ps[..joins],
-                &pe[..joins],
-                &nk[..n],
-                &ns[..m],
-                &ne[..m],
-                centre,
-                nodes,
-                links,
-                table,
-            )
-        }
-    }
+    let PairAnswer::Read(p, b) = read else {
+        return turned_away(pair::refusal_of(read));
+    };
+    let parts = p.nodes;
+    let joins = p.links;
+    let n = b.nodes;
+    let m = b.links;
+    find_on(
+        reach,
+        &pk[..parts],
+        &ps[..joins],
+        &pe[..joins],
+        &nk[..n],
+        &ns[..m],
+        &ne[..m],
+        centre,
+        nodes,
+        links,
+        table,
+    )
 }
 
 // The place around the centre at the pattern's radius: the ball's four counts, with a byte per board node and one per board link, 1 in the

@@ -73,22 +73,20 @@ pub fn match_table(pattern: &[u8], board: &[u8], table: &mut [u32]) -> TableAnsw
         &mut ns,
         &mut ne,
     );
-    match read {
-        PairAnswer::Refused(x) => TableAnswer::Refused(x),
-        PairAnswer::Read(p, b) => {
-            let parts = p.nodes;
-            let joins = p.links;
-            let n = b.nodes;
-            let m = b.links;
-            match_on(
-                &pk[..parts],
-                &ps[..joins],
-                &pe[..joins],
-                &nk[..n],
-                &ns[..m],
-                &ne[..m],
-                table,
-            )
-        }
-    }
+    let PairAnswer::Read(p, b) = read else {
+        return TableAnswer::Refused(pair::refusal_of(read));
+    };
+    let parts = p.nodes;
+    let joins = p.links;
+    let n = b.nodes;
+    let m = b.links;
+    match_on(
+        &pk[..parts],
+        &ps[..joins],
+        &pe[..joins],
+        &nk[..n],
+        &ns[..m],
+        &ne[..m],
+        table,
+    )
 }

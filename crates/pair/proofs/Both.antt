@@ -18,7 +18,7 @@ use Rattle.files.proofs.Reading.{Loaded, front-room, loaded-circuit}
 use Rattle.files.proofs.Refusals.{first-accept, first-refuse, first-parts, accepted}
 use Rattle.pair.specs.declared.PairAnswer.{PairAnswer}
 use Rattle.pair.specs.declared.PairAnswer.the-variants.{Read, Refused}
-use Rattle.pair.specs.Pair.{pairConditions, front, Stands, BothRead, PairRead}
+use Rattle.pair.specs.Pair.{pairConditions, refusalOf, front, Stands, BothRead, PairRead}
 
 -- ---- as the reading goes
 
@@ -54,9 +54,10 @@ module _ (pattern board : List ℕ) (parts nodes : Circuit) {a : PairAnswer} (r 
   unfolding PairRead
   both-read e = subst (λ (x : PairAnswer). PairRead pattern board x parts nodes) e r
 
-  pub refused-pair : {x : Refusal} → a ≡ Refused x → first (pairConditions pattern board) ≡ refuse x
+  -- what is passed up is the first refusal
+  pub refused-pair : {x y : Refusal} → x ≡ refusalOf a → a ≡ Refused y → first (pairConditions pattern board) ≡ refuse x
   unfolding PairRead
-  refused-pair e = subst (λ (x : PairAnswer). PairRead pattern board x parts nodes) e r
+  refused-pair {x} e q = rw (e ∙ ap refusalOf q) (subst (λ (z : PairAnswer). PairRead pattern board z parts nodes) q r)
 
 -- the fronts of the tables are as long as the counts say, and the tables have room for them
 module _ {file : List ℕ} {n m : ℕ} {t : Circuit} (s : Stands file n m t) where

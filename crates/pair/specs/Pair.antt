@@ -5,7 +5,9 @@ use Prim.Native.Nat.{ℕ}
 use lib.ListN.{take}
 use Rattle.graph.specs.Circuit.{Circuit}
 use Rattle.files.specs.declared.Board.{Board}
+use Rattle.files.specs.declared.File.the-variants.{Neither}
 use Rattle.files.specs.declared.Pattern.{Pattern}
+use Rattle.files.specs.declared.Refusal.{Refusal}
 use Rattle.files.specs.declared.Role.the-variants as role
 use Rattle.files.specs.Circuit.{circuitOf}
 use Rattle.files.specs.Layout.{nodesOf, linksOf}
@@ -16,6 +18,11 @@ use Rattle.pair.specs.declared.PairAnswer.the-variants.{Read, Refused}
 -- "Rising numbers are the order, the pattern's 1 to 6 before the board's."
 unfoldable pub pairConditions : List ℕ → List ℕ → List Condition
 pairConditions pattern board = fileConditions role.Pattern pattern ++ fileConditions role.Board board
+
+-- the refusal that an answer holds; where it holds none, number 0 of neither file
+abbrev pub refusalOf : PairAnswer → Refusal
+refusalOf (Read p b) = record { number = 0; file = Neither }
+refusalOf (Refused x) = x
 
 -- n kinds and m links at the front of three tables
 abbrev pub front : ℕ → ℕ → Circuit → Circuit

@@ -1,17 +1,32 @@
 // A pattern file and a board file, read for a call on both.
 use files::Board;
+use files::File;
 use files::Pattern;
 use files::ReadAnswer;
 use files::Refusal;
 use files::Role;
+ghost use mathlib.Core.Path.{_≡_};
 ghost use Prim.Native.Nat.{_≤_};
 ghost use lib.ListN.{length};
-ghost use Rattle.pair.specs.Pair.{PairRead};
+ghost use Rattle.pair.specs.Pair.{refusalOf, PairRead};
 
 // What reading the two comes to: their sizes, or why one was turned away.
 pub enum PairAnswer {
     Read(Pattern, Board),
     Refused(Refusal),
+}
+
+// The refusal that an answer holds, for a caller that passes it up; number 0 of neither file where it holds none.
+pub fn refusal_of(answer: PairAnswer) -> Refusal
+    ensures { λ r. ⌜ r ≡ refusalOf answer ⌝ }
+{
+    match answer {
+        PairAnswer::Read(_, _) => Refusal {
+            number: 0,
+            file: File::Neither,
+        },
+        PairAnswer::Refused(x) => x,
+    }
 }
 
 // Reads the pattern, then the board: their sizes, with the two circuits at the front of the tables, three for each; or the first refusal.

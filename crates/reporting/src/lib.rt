@@ -64,26 +64,24 @@ fn put_files(pattern: &[u8], board: &[u8], from: usize, found: u16, out: &mut [u
         &mut ns,
         &mut ne,
     );
-    match read {
-        PairAnswer::Refused(x) => put_refused(x, from, found, out),
-        PairAnswer::Read(p, b) => {
-            let parts = p.nodes;
-            let joins = p.links;
-            let n = b.nodes;
-            let m = b.links;
-            put_piece(
-                &pk[..parts],
-                &ps[..joins],
-                &pe[..joins],
-                &nk[..n],
-                &ns[..m],
-                &ne[..m],
-                from,
-                found,
-                out,
-            )
-        }
-    }
+    let PairAnswer::Read(p, b) = read else {
+        return put_refused(pair::refusal_of(read), from, found, out);
+    };
+    let parts = p.nodes;
+    let joins = p.links;
+    let n = b.nodes;
+    let m = b.links;
+    put_piece(
+        &pk[..parts],
+        &ps[..joins],
+        &pe[..joins],
+        &nk[..n],
+        &ns[..m],
+        &ne[..m],
+        from,
+        found,
+        out,
+    )
 }
 
 // A piece of the report, from the centre `from` on, before which `found` centres had a place, at the front of the buffer: the lines of as

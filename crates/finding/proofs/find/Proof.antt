@@ -48,17 +48,20 @@ enum-known-read c = search needs
 turned-away-requires : tie.Need-turned-away-requires
 turned-away-requires c κs = search needs
 
-enum-known-read-2 : tie.Need-enum-known-read-2
-enum-known-read-2 c = search needs
+enum-told : tie.Need-enum-told
+enum-told c = search needs
+
+refusal-of-requires : tie.Need-refusal-of-requires
+refusal-of-requires c κs = search needs
 
 -- both were read
-abbrev reading : tie.After-read2 → tie.After-read-pair
+abbrev reading : tie.After-read → tie.After-read-pair
 reading c = c .before .before .before .before .before .before .before .before
 
-both : (c : tie.After-read2)
+both : (c : tie.After-read)
     → let a = entry (reading c) .args in
-    BothRead (now (a .pattern)) (now (a .board)) (c .read2 .given .0 .0) (c .read2 .given .0 .1 .0) (parts (reading c)) (nodes (reading c))
-both c = both-read _ _ _ _ (reading c .read-pair .ensures) (c .read2 .given .1)
+    BothRead (now (a .pattern)) (now (a .board)) (c .read .given .0 .0) (c .read .given .0 .1 .0) (parts (reading c)) (nodes (reading c))
+both c = both-read _ _ _ _ (reading c .read-pair .ensures) (c .read .given .1)
 
 -- ---- the place
 
@@ -105,9 +108,11 @@ find-on-requires c κs =
 
 returns : tie.Need-returns
 returns c =
-    let told = c .before .before in
+    let passed = c .before in
+    let told = passed .before in
     let read = told .before .before .before .before .before .before .before .before in
-    rw (c .turned-away .ensures) (find-refused _ _ _ _ _ _ _ (refused-pair _ _ _ _ (read .read-pair .ensures) (told .read .given .1)))
+    rw (c .turned-away .ensures)
+    (find-refused _ _ _ _ _ _ _ (refused-pair _ _ _ _ (read .read-pair .ensures) (passed .refusal-of .ensures) (told .enum-told .given .1)))
 
 same-length : tie.Need-same-length
 same-length c = search needs
@@ -136,8 +141,10 @@ find-spec =
     slice-aggregate-read-pair-6
     read-pair-requires
     enum-known-read
+    enum-told
+    refusal-of-requires
     turned-away-requires
-    enum-known-read-2
+    returns
     array-share-prefix-pk
     slice-aggregate-find-on
     array-share-prefix-ps
@@ -151,7 +158,6 @@ find-spec =
     array-share-prefix-ne
     slice-aggregate-find-on-6
     find-on-requires
-    returns
     same-length
     same-length-2
     same-length-3

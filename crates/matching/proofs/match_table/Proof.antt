@@ -45,17 +45,20 @@ read-pair-requires c κs = search needs
 enum-known-read : tie.Need-enum-known-read
 enum-known-read c = search needs
 
-enum-known-read-2 : tie.Need-enum-known-read-2
-enum-known-read-2 c = search needs
+enum-told : tie.Need-enum-told
+enum-told c = search needs
+
+refusal-of-requires : tie.Need-refusal-of-requires
+refusal-of-requires c κs = search needs
 
 -- both were read
-abbrev reading : tie.After-read2 → tie.After-read-pair
+abbrev reading : tie.After-read → tie.After-read-pair
 reading c = c .before .before .before .before .before .before .before .before
 
-both : (c : tie.After-read2)
+both : (c : tie.After-read)
     → let a = entry (reading c) .args in
-    BothRead (now (a .pattern)) (now (a .board)) (c .read2 .given .0 .0) (c .read2 .given .0 .1 .0) (parts (reading c)) (nodes (reading c))
-both c = both-read _ _ _ _ (reading c .read-pair .ensures) (c .read2 .given .1)
+    BothRead (now (a .pattern)) (now (a .board)) (c .read .given .0 .0) (c .read .given .0 .1 .0) (parts (reading c)) (nodes (reading c))
+both c = both-read _ _ _ _ (reading c .read-pair .ensures) (c .read .given .1)
 
 -- ---- the match
 
@@ -104,7 +107,7 @@ returns : tie.Need-returns
 returns c =
     let told = c .before in
     let read = told .before .before .before .before .before .before .before .before in
-    matching-refused _ _ _ (refused-pair _ _ _ _ (read .read-pair .ensures) (told .read .given .1))
+    matching-refused _ _ _ (refused-pair _ _ _ _ (read .read-pair .ensures) (c .refusal-of .ensures) (told .enum-told .given .1))
 
 same-length : tie.Need-same-length
 same-length c = search needs
@@ -127,7 +130,9 @@ match-table-spec =
     slice-aggregate-read-pair-6
     read-pair-requires
     enum-known-read
-    enum-known-read-2
+    enum-told
+    refusal-of-requires
+    returns
     array-share-prefix-pk
     slice-aggregate-match-on
     array-share-prefix-ps
@@ -141,6 +146,5 @@ match-table-spec =
     array-share-prefix-ne
     slice-aggregate-match-on-6
     match-on-requires
-    returns
     same-length
     returns-2)

@@ -49,16 +49,19 @@ enum-known-read c = search needs
 put-refused-requires : tie.Need-put-refused-requires
 put-refused-requires c κs = search needs
 
-enum-known-read-2 : tie.Need-enum-known-read-2
-enum-known-read-2 c = search needs
+enum-told : tie.Need-enum-told
+enum-told c = search needs
+
+refusal-of-requires : tie.Need-refusal-of-requires
+refusal-of-requires c κs = search needs
 
 -- both were read
-abbrev reading : tie.After-read2 → tie.After-read-pair
+abbrev reading : tie.After-read → tie.After-read-pair
 reading c = c .before .before .before .before .before .before .before .before
 
-both : (c : tie.After-read2)
-    → BothRead (now (entry (reading c) .args .pattern)) (now (entry (reading c) .args .board)) (c .read2 .given .0 .0) (c .read2 .given .0 .1 .0) (parts (reading c)) (nodes (reading c))
-both c = both-read _ _ _ _ (reading c .read-pair .ensures) (c .read2 .given .1)
+both : (c : tie.After-read)
+    → BothRead (now (entry (reading c) .args .pattern)) (now (entry (reading c) .args .board)) (c .read .given .0 .0) (c .read .given .0 .1 .0) (parts (reading c)) (nodes (reading c))
+both c = both-read _ _ _ _ (reading c .read-pair .ensures) (c .read .given .1)
 
 -- ---- the piece
 
@@ -107,9 +110,10 @@ same-length c = search needs
 returns : tie.Need-returns
 returns c =
     let put = c .before .before in
-    let told = put .before .before .before in
+    let passed = put .before .before in
+    let told = passed .before in
     let read = told .before .before .before .before .before .before .before .before in
-    wrote-refused _ _ _ _ (refused-pair _ _ (parts read) (nodes read) (read .read-pair .ensures) (told .read .given .1)) (put .put-refused .ensures)
+    wrote-refused _ _ _ _ (refused-pair _ _ (parts read) (nodes read) (read .read-pair .ensures) (passed .refusal-of .ensures) (told .enum-told .given .1)) (put .put-refused .ensures)
 
 same-length-2 : tie.Need-same-length-2
 same-length-2 c = search needs
@@ -131,8 +135,11 @@ put-files-spec =
     slice-aggregate-read-pair-6
     read-pair-requires
     enum-known-read
+    enum-told
+    refusal-of-requires
     put-refused-requires
-    enum-known-read-2
+    same-length
+    returns
     array-share-prefix-pk
     slice-aggregate-put-piece
     array-share-prefix-ps
@@ -146,7 +153,5 @@ put-files-spec =
     array-share-prefix-ne
     slice-aggregate-put-piece-6
     put-piece-requires
-    same-length
-    returns
     same-length-2
     returns-2)
