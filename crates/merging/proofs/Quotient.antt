@@ -11,6 +11,7 @@ use Rattle.lists.proofs.Tests.{T-true, refuted}
 use Rattle.graph.specs.Bfs.{Below}
 use Rattle.graph.specs.Circuit.{Circuit}
 use Rattle.graph.specs.Search.{connected}
+use Rattle.files.specs.declared.Pattern as pattern
 use Rattle.files.specs.declared.Refusal.{Refusal}
 use Rattle.files.specs.declared.Role.the-variants.{Pattern}
 use Rattle.files.specs.Layout.{lengthOf}
@@ -34,7 +35,7 @@ use Rattle.merge.proofs.Merging.{length-merged-kinds}
 use Rattle.merge.proofs.Accepted.{merged-content, merged-links-le, merged-length-le}
 use Rattle.merge.proofs.Steps.{self-led, marks-classes, merged-starts, merged-ends}
 use Rattle.merging.specs.Call.{mergedBytes}
-use Rattle.classes.specs.Passes.{SelfTable, leaderCount, classNumbers, leaderKinds}
+use Rattle.classes.specs.Passes.{SelfTable, Quotient, leaderCount, classNumbers, leaderKinds}
 
 -- ---- a circuit that writing does not refuse as a pattern is a pattern's content, and the other way round
 
@@ -165,6 +166,16 @@ module _ {p : Circuit} (c : PatternContent p) where
       (ap (take k) ek ∙ front-set mk₀ _ k (ap length kinds ∙ length-merged-kinds p ∙ sym isK) (le-trans few hk) ∙ kinds)
       (ap (take m) es ∙ front-set ms₀ _ m (ap length starts ∙ sym (isM ∙ links-count rows k marked isK)) (le-trans short hs) ∙ starts)
       (ap (take m) ee ∙ front-set me₀ _ m (sym isM) (le-trans short he) ∙ ends)
+
+  -- each front has the size that was counted
+  pub quotient-size :
+      {bytes kinds starts ends : List ℕ} {size : pattern.Pattern} → Quotient p bytes kinds starts ends size →
+      (length (take (size .nodes) kinds) ≡ size .nodes) × (length (take (size .links) starts) ≡ size .links) × (length (take (size .links) ends) ≡ size .links)
+  quotient-size q = (
+    ap (λ (x : Circuit). length (x .kinds)) (q .content) ∙ length-merged-kinds p ∙ sym (q .counted),
+    ap (λ (x : Circuit). length (x .starts)) (q .content) ∙ sym (q .linked),
+    ap (λ (x : Circuit). length (x .ends)) (q .content) ∙ sym (merged-content c .parallel) ∙ sym (q .linked),
+  )
 
   -- ---- written, it is the merged file
 

@@ -46,47 +46,7 @@ fn quotient(
 }
 
 // The class of each part, and the merged file at the front of bytes that have room for the pattern's own file. A merged pattern is a
-// pattern, so that writing it is not refused. The other tables are scratch.
-fn merge_over(
-    kinds: &[u16],
-    starts: &[u16],
-    ends: &[u16],
-    classes: &mut [u8],
-    out: &mut [u8],
-    table: &mut [u32],
-    rows: &mut [u32],
-    mk: &mut [u16],
-    ms: &mut [u16],
-    me: &mut [u16],
-) -> MergeAnswer
-    requires { ⌜ first (circuitConditions role.Pattern (now kinds) (now starts) (now ends)) ≡ Verdict.accept ⌝ }
-    requires { ⌜ (length (now classes) ≡ length (now kinds)) × (lengthOf (length (now kinds)) (length (now starts)) ≤ length (now out)) ⌝ }
-    requires { ⌜ (32 ≤ length (now table)) × (length (now rows) ≡ 32) ⌝ }
-    requires { ⌜ (32 ≤ length (now mk)) × (256 ≤ length (now ms)) × (256 ≤ length (now me)) ⌝ }
-    ensures { λ r. ⌜ MergedFrom (circuit (now (kinds .entry)) (now (starts .entry)) (now (ends .entry))) r (now (classes .exit)) (now (out .entry)) (now (out .exit)) ⌝ }
-{
-    let n = kinds.len();
-    let size = quotient(
-        kinds,
-        starts,
-        ends,
-        classes,
-        &mut table[..n],
-        rows,
-        mk,
-        ms,
-        me,
-    );
-    let count = size.nodes;
-    let links = size.links;
-    let written = writing::write(Role::Pattern, &mk[..count], &ms[..links], &me[..links], out);
-    match written {
-        WriteAnswer::Written(length) => MergeAnswer::Merged(count, length),
-        WriteAnswer::Refused(x) => MergeAnswer::Refused(x),
-    }
-}
-
-// The same with scratch tables of its own.
+// pattern, so that writing it is not refused.
 pub fn merge_circuit(
     kinds: &[u16],
     starts: &[u16],
@@ -103,16 +63,23 @@ pub fn merge_circuit(
     let mut mk = [0u16; Pattern::MAX_NODES];
     let mut ms = [0u16; Pattern::MAX_LINKS];
     let mut me = [0u16; Pattern::MAX_LINKS];
-    merge_over(
+    let n = kinds.len();
+    let size = quotient(
         kinds,
         starts,
         ends,
         classes,
-        out,
-        &mut table,
+        &mut table[..n],
         &mut rows,
         &mut mk,
         &mut ms,
         &mut me,
-    )
+    );
+    let count = size.nodes;
+    let links = size.links;
+    let written = writing::write(Role::Pattern, &mk[..count], &ms[..links], &me[..links], out);
+    match written {
+        WriteAnswer::Written(length) => MergeAnswer::Merged(count, length),
+        WriteAnswer::Refused(x) => MergeAnswer::Refused(x),
+    }
 }

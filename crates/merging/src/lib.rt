@@ -6,8 +6,6 @@ use files::ReadAnswer;
 use files::Refusal;
 use files::Role;
 ghost use mathlib.Core.Path.{_≡_};
-ghost use Prim.Native.Nat.{_≤_};
-ghost use lib.ListN.{length};
 ghost use Rattle.merging.specs.Call.{mergeReply, merging};
 
 mod circuits;
@@ -18,19 +16,16 @@ pub enum MergeAnswer {
     Refused(Refusal),
 }
 
-// The call with tables for the pattern. The file is read and both lengths are tested before anything is written to the lent tables.
-fn merge_in(
-    pattern: &[u8],
-    classes: &mut [u8],
-    out: &mut [u8],
-    pk: &mut [u16],
-    ps: &mut [u16],
-    pe: &mut [u16],
-) -> MergeAnswer
-    requires { ⌜ (32 ≤ length (now pk)) × (256 ≤ length (now ps)) × (256 ≤ length (now pe)) ⌝ }
+// Merges the parts of a pattern file that match each other: the number of classes and the merged file's length, with the class of each
+// part, a byte each, and the merged file at the front of the two tables; or the refusal, which leaves them as they were. The file is read
+// and both lengths are tested before anything is written to the lent tables.
+pub fn merge(pattern: &[u8], classes: &mut [u8], out: &mut [u8]) -> MergeAnswer
     ensures { λ r. ⌜ record { reply = mergeReply r; classes = now (classes .exit); out = now (out .exit) } ≡ merging (now (pattern .entry)) (now (classes .entry)) (now (out .entry)) ⌝ }
 {
-    let drawn = reading::read(Role::Pattern, pattern, pk, ps, pe);
+    let mut pk = [0u16; Pattern::MAX_NODES];
+    let mut ps = [0u16; Pattern::MAX_LINKS];
+    let mut pe = [0u16; Pattern::MAX_LINKS];
+    let drawn = reading::read(Role::Pattern, pattern, &mut pk, &mut ps, &mut pe);
     let ReadAnswer::Read(n, m) = drawn else {
         return MergeAnswer::Refused(files::refusal_of(drawn));
     };
@@ -45,15 +40,4 @@ fn merge_in(
         return MergeAnswer::Refused(short);
     }
     merge_circuit(&pk[..n], &ps[..m], &pe[..m], &mut classes[..n], out)
-}
-
-// Merges the parts of a pattern file that match each other: the number of classes and the merged file's length, with the class of each
-// part, a byte each, and the merged file at the front of the two tables; or the refusal, which leaves them as they were.
-pub fn merge(pattern: &[u8], classes: &mut [u8], out: &mut [u8]) -> MergeAnswer
-    ensures { λ r. ⌜ record { reply = mergeReply r; classes = now (classes .exit); out = now (out .exit) } ≡ merging (now (pattern .entry)) (now (classes .entry)) (now (out .entry)) ⌝ }
-{
-    let mut pk = [0u16; Pattern::MAX_NODES];
-    let mut ps = [0u16; Pattern::MAX_LINKS];
-    let mut pe = [0u16; Pattern::MAX_LINKS];
-    merge_in(pattern, classes, out, &mut pk, &mut ps, &mut pe)
 }
