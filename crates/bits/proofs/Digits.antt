@@ -4,10 +4,9 @@ use mathlib.Core.Path.{_≡_, refl, sym, ap, ap₂, _∙_}
 use Prim.Native.Nat.{ℕ, zero, suc, _+_, _-_, _*_, _/_, _%_, _^_, _≤_, _<_, suc-le-suc}
 use native.Mathlib.Nat.{one-mul, mod-eq-of-lt, le-add-right, le-add-left, lt-of-not-le, le-of-suc-le-suc, not-suc-le-zero, zero-lt-suc, lt-of-lt-of-le, div-one, zero-div, div-eq-of-lt, mod-lt, div-add-mod', pow-suc, mul-div-cancel, mul-mod-left}
 use native.Mathlib.Numerals.{one-add, add-one}
-use native.Mathlib.Decide.{decLt}
 use native.Mathlib.Omega.{arith}
 use lib.Arith.{lt-one}
-use lib.Bits.{bitAnd, bitOr, bitXor, and-shr, or-shr, xor-shr, and-mod, or-mod, xor-mod}
+use lib.Bits.{bitAnd, bitOr, bitXor, and-shr, or-shr, and-mod, or-mod}
 use lib.Dec.{T, eqb, eqb·zero-suc, eqb·suc-zero, eqb·suc-suc}
 use lib.Pow.{pow-pos, pow-lt, pow-mono, shr-shr, shr-lt}
 use Rattle.lists.proofs.Tests.{false-T}
@@ -117,9 +116,6 @@ bit-and = bit-op bitAnd (λ x y. x && y) and-shr and-mod and-table
 pub bit-or : (a b u : ℕ) → bit (bitOr a b) u ≡ bit a u || bit b u
 bit-or = bit-op bitOr (λ x y. x || y) or-shr or-mod or-table
 
-pub bit-xor : (a b u : ℕ) → bit (bitXor a b) u ≡ xor (bit a u) (bit b u)
-bit-xor = bit-op bitXor xor xor-shr xor-mod xor-table
-
 complement-low : (m a : ℕ) → a < m * 2 → ((m * 2 - 1) - a) % 2 ≡ 1 - a % 2
 complement-low m a h = omega arith
 
@@ -138,14 +134,6 @@ bit-complement (suc k) a zero h l =
 bit-complement (suc k) a (suc u) h l =
     bit-high ((2 ^ suc k - 1) - a) u
     ∙ rw (pow-suc, complement-half (2 ^ k) a (rw pow-suc at h), bit-high a u) (bit-complement k (a / 2) u (half-lt k h) (le-of-suc-le-suc l))
-
--- the digits of `a & !b`
-pub bit-and-not : (k a b u : ℕ) → a < 2 ^ k → b < 2 ^ k → bit (bitAnd a ((2 ^ k - 1) - b)) u ≡ bit a u && not (bit b u)
-bit-and-not k a b u ha hb = bit-and a ((2 ^ k - 1) - b) u ∙ go (decLt u k)
-  where
-    go : Dec (u < k) → bit a u && bit ((2 ^ k - 1) - b) u ≡ bit a u && not (bit b u)
-    go (yes l) = rw (bit-complement k b u hb l)
-    go (no l) = rw (bit-above k a u ha (omega arith))
 
 -- ---- one digit
 

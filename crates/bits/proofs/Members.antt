@@ -1,5 +1,5 @@
 -- The lowest digit that is set, the number without it, and the members of a set in rising order. Assumes nothing.
-use mathlib.Core.Bool.{Bool, true, false, _&&_, _||_, not, cond}
+use mathlib.Core.Bool.{Bool, true, false, _&&_, not, cond}
 use mathlib.Core.List.{[], _∷_}
 use mathlib.Core.Path.{_≡_, refl, sym, ap, ap₂, _∙_}
 use Prim.Native.Nat.{ℕ, zero, suc, _+_, _-_, _/_, _%_, _^_, _<_}
@@ -7,17 +7,16 @@ use native.Mathlib.Nat.{lt-of-not-le, lt-of-lt-of-le, lt-of-le-of-lt, ne-of-gt, 
 use native.Mathlib.Omega.{arith}
 use lib.Arith.{lt-one}
 use lib.Bits.{bitAnd, and-step, and-le-l, and-le-r}
-use lib.Count.{ones, trailingZeros, under}
+use lib.Count.{trailingZeros, under}
 use lib.Dec.{T, eqb}
 use lib.ListN.{length}
-use Rattle.lists.specs.List.{all, any, allBelow, anyBelow}
+use Rattle.lists.specs.List.{any, anyBelow}
 use Rattle.lists.specs.Below.{leastBelow, collect}
-use Rattle.lists.proofs.Below.{leastBelow-same, leastBelow-none, leastBelow-at, collect-none, collect-first, any-collect, all-collect, length-collect}
+use Rattle.lists.proofs.Below.{leastBelow-same, leastBelow-none, leastBelow-at, collect-none, collect-first, any-collect, length-collect}
 use Rattle.bits.specs.Bits.{bit, numberOf, firstOf, withoutFirst, sizeOf, members}
 use Rattle.bits.proofs.Digits.{bit-high, bit-of-zero, bit-below, low-digit, half-lt, no-bits, same-bits-below}
 use Rattle.bits.proofs.Numbers.{bit-number, number-lt, bit-sub}
 use Rattle.bits.proofs.Tests.{bitAnd-self}
-use Rattle.bits.proofs.Counts.{ones-sub}
 
 -- ---- the lowest digit that is set
 
@@ -84,10 +83,6 @@ module _ (k x : ℕ) (p : zero < x) (h : x < 2 ^ k) where
   pub bit-and-pred : (u : ℕ) → bit (bitAnd x (x - 1)) u ≡ bit x u && not (eqb u (trailingZeros k x))
   bit-and-pred u = ap (λ (y : ℕ). bit y u) and-pred-sub ∙ bit-sub x (trailingZeros k x) u (trailing-bit k x p h)
 
-  -- it has one digit less
-  pub ones-and-pred : ones (bitAnd x (x - 1)) + 1 ≡ ones x
-  ones-and-pred = ap (λ (y : ℕ). ones y + 1) and-pred-sub ∙ ones-sub x (trailingZeros k x) (trailing-bit k x p h)
-
   -- it is the set of the other digits
   pub and-pred-number : bitAnd x (x - 1) ≡ numberOf k (λ u. bit x u && not (eqb u (leastBelow k (bit x))))
   and-pred-number =
@@ -151,7 +146,3 @@ length-members x = length-collect 32 (bit x) (λ u. u)
 pub any-members : (q : ℕ → Bool) (x : ℕ) → any q (members x) ≡ anyBelow 32 (λ u. bit x u && q u)
 unfolding members
 any-members q x = any-collect q 32 (bit x) (λ u. u)
-
-pub all-members : (q : ℕ → Bool) (x : ℕ) → all q (members x) ≡ allBelow 32 (λ u. not (bit x u) || q u)
-unfolding members
-all-members q x = all-collect q 32 (bit x) (λ u. u)

@@ -6,9 +6,9 @@ use lib.Bits.{bitAnd, bitOr, and-lt}
 use lib.Dec.{T, eqb, eqb→eq, not-T, T-not}
 use borrow.Author.Tests.{eq-eqb}
 use Rattle.lists.specs.List.{allBelow, anyBelow}
-use Rattle.lists.proofs.Tests.{both, both-left, both-right, T-true, T-false, true-T, false-T, same-test, at-allBelow, allBelow-at, at-anyBelow, anyBelow-at}
+use Rattle.lists.proofs.Tests.{both-left, both-right, T-true, T-false, true-T, false-T, same-test, at-allBelow, allBelow-at, at-anyBelow, anyBelow-at}
 use Rattle.lists.proofs.Below.{anyBelow-same}
-use Rattle.bits.specs.Bits.{bit, Subset, subsetOf, intersects}
+use Rattle.bits.specs.Bits.{bit, Subset, intersects}
 use Rattle.bits.proofs.Digits.{bit-of-zero, bit-below, no-bits, same-bits, bit-and, bit-or}
 
 -- ---- the operations' laws, from those of each digit
@@ -67,15 +67,6 @@ subset-test k a b h =
     same-test (λ t. subset-each k a b (subset-and a b (eqb→eq (bitAnd a b) a t)))
     (λ t. true-T (eq-eqb (bitAnd a b) a (and-subset a b (each-subset k a b h t))))
 
--- the same in the words of the definition
-pub subsetOf-subset : (a b : ℕ) → a < 2 ^ 32 → T (subsetOf a b) → Subset a b
-unfolding subsetOf
-subsetOf-subset a b h t = each-subset 32 a b h t
-
-pub subset-subsetOf : (a b : ℕ) → Subset a b → T (subsetOf a b)
-unfolding subsetOf
-subset-subsetOf a b s = subset-each 32 a b s
-
 -- ---- a common digit
 
 pub intersect-test : (k a b : ℕ) → a < 2 ^ k → b < 2 ^ k → not (eqb (bitAnd a b) zero) ≡ anyBelow k (λ u. bit a u && bit b u)
@@ -89,7 +80,3 @@ unfolding intersects
 intersects-at a b t =
     let w = anyBelow-at 32 (λ u. bit a u && bit b u) t in
     (w .0, both-left (bit a (w .0)) (bit b (w .0)) (w .2), both-right (bit a (w .0)) (bit b (w .0)) (w .2))
-
-pub at-intersects : (a b u : ℕ) → a < 2 ^ 32 → T (bit a u) → T (bit b u) → T (intersects a b)
-unfolding intersects
-at-intersects a b u h s t = at-anyBelow 32 (λ v. bit a v && bit b v) u (bit-below 32 a u h s) (both (bit a u) (bit b u) s t)

@@ -29,11 +29,6 @@ unfolding unionAt
 unionAt-lt n masks [] h = pow-pos n
 unionAt-lt n masks (u ∷ us) h = or-lt n (getD masks u 0) (unionAt masks us) (h u) (unionAt-lt n masks us h)
 
--- sets of n parts have a union of n parts
-pub unionOver-lt : (n : ℕ) (masks : List ℕ) (x : ℕ) → ((u : ℕ) → getD masks u 0 < 2 ^ n) → unionOver masks x < 2 ^ n
-unfolding unionOver
-unionOver-lt n masks x h = unionAt-lt n masks (members x) h
-
 pub unionOver-none : (masks : List ℕ) → unionOver masks zero ≡ zero
 unfolding unionOver unionAt
 unionOver-none masks = ap (unionAt masks) members-none

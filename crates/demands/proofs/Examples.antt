@@ -1,5 +1,5 @@
 -- Document 01's examples, all of them. Assumes nothing.
-use mathlib.Core.Path.{_≡_, refl, sym, ap, _∙_}
+use mathlib.Core.Path.{refl}
 use Prim.Native.Nat.{ℕ}
 use lib.Dec.{T}
 use Rattle.lists.specs.List.{tabulate, maximum}
@@ -9,7 +9,7 @@ use Rattle.table.specs.Examples.{circuitT, circuitB, twoWay, ring}
 use Rattle.table.specs.Refine.{countsOf}
 use Rattle.table.specs.Row.{struck}
 use Rattle.table.proofs.Examples as table
-use Rattle.place.specs.Match.{radiusOf, found, placeNodes}
+use Rattle.place.specs.Match.{radiusOf, found}
 use Rattle.place.specs.Outcome.{placeVerdict, placeAround}
 use Rattle.place.proofs.Examples as place
 use Rattle.merge.proofs.Examples as merge

@@ -1,5 +1,5 @@
 -- Document 01's examples of files and its table of refusals, by computation. Assumes nothing.
-use mathlib.Core.Path.{_≡_, refl}
+use mathlib.Core.Path.{refl}
 use Rattle.lists.specs.List.{all, allBelow, tabulate}
 use Rattle.graph.specs.Search.{beside, inside, ball, connected}
 use Rattle.files.specs.Layout.{field, fields, nodesOf, linksOf, kindsOf, startsOf, endsOf}

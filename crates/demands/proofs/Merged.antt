@@ -1,13 +1,13 @@
 -- Demand 3 on merging, whole: what the merging call writes, handed to the place call with the first pattern's radius given, is refused with
 -- 9 exactly when the first pattern is, and else marks the same nodes and links. Assumes nothing.
-use mathlib.Core.Bool.{Bool, true, false, cond}
+use mathlib.Core.Bool.{Bool, false, cond}
 use mathlib.Core.List.{List, [], _∷_}
-use mathlib.Core.Logic.{_↔_, Iff·rfl}
+use mathlib.Core.Logic.{Iff·rfl}
 use mathlib.Core.Path.{_≡_, refl, sym, ap, _∙_}
 use Prim.Native.Nat.{ℕ, _≤_, _<_}
 use native.Mathlib.Omega.{arith}
 use borrow.Author.Tests.{le-ltb}
-use lib.ListN.{length, getD, take}
+use lib.ListN.{length}
 use Rattle.graph.specs.Circuit.{circuitGraph, graphOf}
 use Rattle.graph.proofs.Distance.{distance-below}
 use Rattle.files.specs.declared.Role.the-variants.{Pattern, Board}
@@ -17,7 +17,7 @@ use Rattle.files.specs.Refusals.{Condition, accept, refuse, first, fileConditio
 use Rattle.files.specs.Reply.{reply}
 use Rattle.files.proofs.Fields.{length-kinds}
 use Rattle.files.proofs.Refusals.{Accepted, accepted, first-parts, first-accept, first-holds}
-use Rattle.place.specs.Match.{radiusOf, found, placeNodes, placeLinks}
+use Rattle.place.specs.Match.{radiusOf, found}
 use Rattle.place.specs.Outcome.{placeVerdict}
 use Rattle.place.proofs.Accepted.{accepted-admissible}
 use Rattle.finding.specs.Call.{inputConditions}
@@ -25,7 +25,7 @@ use Rattle.finding.proofs.Promise.{pattern-accepted, board-accepted, verdict-is
 use Rattle.distance.specs.Calls.{radiusCall}
 use Rattle.merge.proofs.Content.{accepted-content, content-within, content-radius, most-parts}
 use Rattle.merge.proofs.Places.{SameAnswer, merged-answer}
-use Rattle.merging.specs.Call.{mergedBytes, MergeOutcome, merging}
+use Rattle.merging.specs.Call.{mergedBytes, merging}
 use Rattle.merging.proofs.Promise.{merged-verdict, merged-circuit, values-are, out-front}
 use Rattle.demands.specs.Merged.{mergedFile, nine, SameFound, Lent, Sound, placed}
 

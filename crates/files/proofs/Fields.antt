@@ -1,14 +1,14 @@
 -- Laws of the fields of a stretch, for the loops that go through them. Assumes nothing.
 use mathlib.Core.Bool.{Bool, true, false}
 use mathlib.Core.List.{List, _++_}
-use mathlib.Core.Path.{_≡_, refl, sym, ap, ap₂, _∙_, subst}
-use Prim.Native.Nat.{ℕ, suc, _+_, _*_, _-_, _≤_, _<_}
+use mathlib.Core.Path.{_≡_, sym, ap, ap₂, _∙_, subst}
+use Prim.Native.Nat.{ℕ, _+_, _*_, _-_, _≤_, _<_}
 use native.Mathlib.Nat.{add-sub-cancel-left}
 use native.Mathlib.Omega.{arith}
 use lib.Dec.{T, ltb, lt→ltb, ltb→lt}
 use lib.ListN.{length, getD, take, drop, set}
 use lib.Seq.{getD-take, take-at}
-use Rattle.lists.specs.List.{all, allBelow, tabulate}
+use Rattle.lists.specs.List.{all, allBelow}
 use Rattle.lists.proofs.Tests.{all-at, at-all, allBelow-at, at-allBelow, T-true, T-false}
 use Rattle.lists.proofs.Tables.{length-tabulate, getD-tabulate, tabulate-same, filled-none, filled-more}
 use Rattle.files.specs.Layout.{field, fields, nodesOf, linksOf, kindsOf, startsOf, endsOf}

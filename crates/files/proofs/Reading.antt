@@ -6,8 +6,6 @@ use Prim.Native.Nat.{ℕ, _≤_, _<_}
 use native.Mathlib.Nat.{le-trans}
 use native.Mathlib.Omega.{arith}
 use borrow.Author.Tests.{ltb-false}
-use lib.Dec.{T, ltb}
-use Rattle.lists.specs.List.{all}
 use Rattle.files.proofs.Fields.{length-fields, length-kinds, length-starts, length-ends}
 use lib.ListN.{length, take, drop, length-take}
 use lib.Seq.{take-at}
@@ -23,7 +21,7 @@ use Rattle.files.specs.Reply.{Reply, reply, readReply}
 use Rattle.files.specs.Layout.{nodesOf, linksOf, kindsOf, startsOf, endsOf}
 use Rattle.files.specs.Refusals.{Verdict, accept, refuse, first, fileConditions, shortTable}
 use Rattle.files.specs.Role.{minNodes, maxNodes, maxLinks, fileOf}
-use Rattle.files.proofs.Refusals.{turned, first-accept, first-refuse, first-parts, first-holds, tables-short, tables-fit, accepted, accepted-links, range-orders}
+use Rattle.files.proofs.Refusals.{turned, first-accept, first-refuse, first-parts, first-holds, tables-short, tables-fit, accepted, range-orders}
 use Rattle.files.proofs.Accepted.{accepted-bounded}
 
 pub answer-turned : (r : Role) (k n m : ℕ) (v : Verdict) → v ≡ turned r k → readAnswer v n m ≡ Refused (record { number = k; file = fileOf r })
@@ -173,9 +171,6 @@ module _ (r : Role) (file kinds starts ends : List ℕ) (o : ReadOutcome) (e : o
 module _ {r : Role} {file : List ℕ} {n m : ℕ} {o : ReadOutcome} (l : Loaded r file n m o) where
   pub loaded-range : (minNodes r ≤ n) × (n ≤ maxNodes r) × (m ≤ maxLinks r)
   loaded-range = rw (l .nodes, l .links) (range-orders r (nodesOf file) (linksOf file) (accepted r file (l .verdict) .range))
-
-  pub loaded-links : T (all (λ v. ltb v n) (take m (o .starts))) × T (all (λ v. ltb v n) (take m (o .ends)))
-  loaded-links = rw (l .startsFirst, l .endsFirst, l .nodes) (accepted-links r file (accepted r file (l .verdict)))
 
 -- a front as long as it should be has room
 pub front-room : (k : ℕ) (l : List ℕ) → length (take k l) ≡ k → k ≤ length l

@@ -1,5 +1,4 @@
 -- The call that reads a circuit file, whole: its reply and each table's later content, from the inputs alone.
-use mathlib.Core.Bool.{Bool, true, false, cond}
 use mathlib.Core.List.{List, [], _∷_, _++_}
 use Prim.Native.Nat.{ℕ}
 use lib.ListN.{length, drop}

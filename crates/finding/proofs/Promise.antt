@@ -2,7 +2,7 @@
 -- tables mark is the place, and the table is the largest dual simulation in it. Assumes nothing.
 use mathlib.Core.List.{List, _++_, List·Memᴰ}
 use mathlib.Core.Logic.{_↔_, _⊎_, inl, inr, ⊎-elim}
-use mathlib.Core.Path.{_≡_, refl, sym, ap, _∙_}
+use mathlib.Core.Path.{_≡_, sym, ap, _∙_}
 use Prim.Native.Nat.{ℕ, _<_}
 use native.Mathlib.Omega.{arith}
 use borrow.Author.Tests.{ltb-true, not-false}
@@ -20,7 +20,7 @@ use Rattle.files.specs.declared.Role.the-variants.{Pattern, Board}
 use Rattle.files.specs.Circuit.{circuitOf}
 use Rattle.files.specs.Layout.{nodesOf, linksOf}
 use Rattle.files.specs.Reading.{filled}
-use Rattle.files.specs.Refusals.{Condition, Verdict, accept, refuse, first, fileConditions, centreOutside}
+use Rattle.files.specs.Refusals.{Condition, accept, refuse, first, fileConditions, centreOutside}
 use Rattle.files.proofs.Fields.{length-kinds, length-starts}
 use Rattle.files.proofs.Refusals.{Accepted, accepted, first-parts, first-holds, refuses-iff}
 use Rattle.table.specs.Reply.{noCounts}

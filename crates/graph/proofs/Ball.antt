@@ -12,7 +12,7 @@ use lib.ListN.{length, getD}
 use Rattle.lists.specs.List.{tabulate, sum, all}
 use Rattle.lists.proofs.Tests.{both, both-left, both-right, either-left, either-right, either-cases, true-T, all-at}
 use Rattle.lists.proofs.Tables.{length-tabulate, getD-tabulate}
-use Rattle.lists.proofs.Rows.{rests, rises-to-rest, getD-le-sum, sum-bits, sum-progress}
+use Rattle.lists.proofs.Rows.{rises-to-rest, getD-le-sum, sum-bits, sum-progress}
 use Rattle.graph.specs.Graph.{Walk, stay, step}
 use Rattle.graph.specs.Circuit.{LinkAt, HasLink}
 use Rattle.graph.specs.Search.{beside, inside, ball}
@@ -222,10 +222,6 @@ module _ (n : ℕ) (ss es : List ℕ) (c : ℕ) where
   -- where a row repeats, the next one does
   ball-stops : (r : ℕ) → ball n ss es c (suc r) ≡ ball n ss es c r → ball n ss es c (suc (suc r)) ≡ ball n ss es c (suc r)
   ball-stops r e = ball-suc (suc r) ∙ ap (grown n ss es) e ∙ sym (ball-suc r)
-
-  -- where a row repeats, the rows rest
-  pub ball-rests : (r : ℕ) → ball n ss es c (suc r) ≡ ball n ss es c r → (s : ℕ) → r ≤ s → ball n ss es c s ≡ ball n ss es c r
-  ball-rests = rests (ball n ss es c) ball-stops
 
   -- the number of ones grows, or the row repeats
   pub ball-progress : (r : ℕ) → (sum (ball n ss es c r) < sum (ball n ss es c (suc r))) ⊎ (ball n ss es c (suc r) ≡ ball n ss es c r)

@@ -1,10 +1,9 @@
 -- The breadth-first search over the neighbour tables of a circuit finds the distances and the radius that specs/Search computes, and
 -- reaches every node exactly when the circuit is connected. Assumes nothing.
-use mathlib.Core.Bool.{Bool, true}
-use mathlib.Core.List.{List, [], _∷_, _++_, append-nil}
+use mathlib.Core.List.{List, [], _++_, append-nil}
 use mathlib.Core.Logic.{_⊎_, inl, inr, ⊎-elim, _↔_}
 use mathlib.Core.Path.{_≡_, sym, ap, subst, _∙_}
-use Prim.Native.Nat.{ℕ, zero, suc, _+_, _≤_, _<_}
+use Prim.Native.Nat.{ℕ, zero, suc, _+_, _<_}
 use native.Mathlib.Nat.{not-suc-le-zero}
 use native.Mathlib.Omega.{arith}
 use lib.Dec.{T, eqb, ltb, eqb→eq, eqb-refl}
@@ -13,8 +12,8 @@ use Rattle.lists.specs.List.{all, Occurs, tabulate, maximum}
 use Rattle.lists.proofs.Tables.{tabulate-same}
 use Rattle.lists.proofs.Tests.{same-test}
 use Rattle.graph.specs.Bfs.{Below, Adjacency, Measured, bfs, adjacent, eccentricity}
-use Rattle.graph.specs.Circuit.{LinkAt, HasLink, graphOf}
-use Rattle.graph.specs.Graph.{Walk, Distance, Connected}
+use Rattle.graph.specs.Circuit.{HasLink, graphOf}
+use Rattle.graph.specs.Graph.{Walk, Connected}
 use Rattle.graph.specs.Neighbours.{select, groupsFrom, grouped, offsetsOf, stretch}
 use Rattle.graph.specs.Search.{far, distances, connected, radius}
 use Rattle.graph.proofs.Ball.{Within, within-all}

@@ -8,7 +8,7 @@ use native.Mathlib.Numerals.{one-add}
 use native.Mathlib.Omega.{arith}
 use lib.Dec.{T, eqb, eqb·suc-zero, eqb·suc-suc}
 use lib.ListN.{length}
-use Rattle.lists.specs.List.{all, any, allBelow, anyBelow}
+use Rattle.lists.specs.List.{any, allBelow, anyBelow}
 use Rattle.lists.specs.Below.{countBelow, leastBelow, collect}
 use Rattle.lists.proofs.Tests.{T-true, true-T, false-T}
 
@@ -191,16 +191,6 @@ any-collect q (suc n) p f = go (p zero) (collect n (λ i. p (suc i)) (λ i. f (s
   where
     go : (b : Bool) (xs : List ℕ) {r : Bool} → any q xs ≡ r → any q (cond b (f zero ∷ xs) xs) ≡ (b && q (f zero)) || r
     go true xs e = ap (λ (r : Bool). q (f zero) || r) e
-    go false xs e = e
-
--- every element of the list passes a test q
-pub all-collect : (q : ℕ → Bool) (n : ℕ) (p : ℕ → Bool) (f : ℕ → ℕ) → all q (collect n p f) ≡ allBelow n (λ i. not (p i) || q (f i))
-unfolding all collect allBelow
-all-collect q zero p f = refl
-all-collect q (suc n) p f = go (p zero) (collect n (λ i. p (suc i)) (λ i. f (suc i))) (all-collect q n (λ i. p (suc i)) (λ i. f (suc i)))
-  where
-    go : (b : Bool) (xs : List ℕ) {r : Bool} → all q xs ≡ r → all q (cond b (f zero ∷ xs) xs) ≡ (not b || q (f zero)) && r
-    go true xs e = ap (λ (r : Bool). q (f zero) && r) e
     go false xs e = e
 
 -- the list is empty where no number below n passes

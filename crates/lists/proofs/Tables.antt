@@ -2,7 +2,7 @@
 use mathlib.Core.List.{List, [], _∷_, _++_, append-nil}
 use mathlib.Core.Path.{_≡_, refl, sym, ap, _∙_}
 use Prim.Native.Nat.{ℕ, zero, suc, _+_, _≤_, _<_}
-use native.Mathlib.Nat.{zero-add, suc-add, le-of-suc-le-suc, not-suc-le-zero, add-sub-of-le, le-of-eq}
+use native.Mathlib.Nat.{zero-add, suc-add, le-of-suc-le-suc, not-suc-le-zero, le-of-eq}
 use native.Mathlib.Numerals.{add-one}
 use native.Mathlib.Omega.{arith}
 use lib.ListN.{length, getD, take, drop, set, length-append, length-drop, drop-of-length-le}
@@ -65,12 +65,6 @@ pub filled-more : (n : ℕ) (f : ℕ → ℕ) (d : List ℕ) → n < length d �
 filled-more n f d h =
     stored-more (tabulate n f) d n (f n) (length-tabulate n f) h
     ∙ ap (λ (l : List ℕ). l ++ drop (n + 1) d) (sym (tabulate-suc n f) ∙ sym (ap (λ (k : ℕ). tabulate k f) (add-one n)))
-
--- the length of a list while it is filled
-pub length-filled : (n : ℕ) (f : ℕ → ℕ) (d : List ℕ) → n ≤ length d → length (tabulate n f ++ drop n d) ≡ length d
-length-filled n f d h =
-    length-append (tabulate n f) (drop n d) ∙ ap (λ (k : ℕ). k + length (drop n d)) (length-tabulate n f) ∙ ap (λ (k : ℕ). n + k) (length-drop n d)
-    ∙ add-sub-of-le h
 
 -- a list that fills another one whole leaves nothing of it
 pub whole : (xs old : List ℕ) (k : ℕ) → length old ≡ k → xs ++ drop k old ≡ xs

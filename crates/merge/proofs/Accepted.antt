@@ -1,18 +1,16 @@
 -- Merging a pattern gives a pattern: the merged circuit meets every condition on the content of a pattern file, is no longer and has no
 -- larger radius. Assumes nothing.
 use mathlib.Core.Bool.{_&&_}
-use mathlib.Core.List.{List}
 use mathlib.Core.Logic.{_⊎_, inl, inr, ⊎-elim}
 use mathlib.Core.Path.{_≡_, refl, sym, ap, ap₂, _∙_}
 use Prim.Native.Nat.{ℕ, _+_, _*_, _-_, _/_, _%_, _≤_, _<_}
 use native.Mathlib.Nat.{le-trans, div-add-mod'}
 use native.Mathlib.Omega.{arith}
-use borrow.Author.Tests.{eq-eqb}
-use lib.Dec.{T, eqb, ltb, leb, lt→ltb, le→leb}
+use lib.Dec.{T, ltb, leb, lt→ltb, le→leb}
 use lib.ListN.{length, getD}
 use Rattle.lists.specs.List.{all}
 use Rattle.lists.specs.Below.{countBelow}
-use Rattle.lists.proofs.Tests.{both, either-left, either-right, true-T, at-all, at-allBelow}
+use Rattle.lists.proofs.Tests.{both, at-all}
 use Rattle.lists.proofs.Ranks.{rank-onto, rank-rises, count-images, pair-order}
 use Rattle.graph.specs.Circuit.{Circuit, HasLink, circuitGraph}
 use Rattle.graph.specs.Graph.{Connected}
@@ -22,7 +20,7 @@ use Rattle.graph.proofs.Distance.{connected-iff}
 use Rattle.simulation.proofs.Same.{same-symm, connected-same, radius-same}
 use Rattle.simulation.proofs.Quotient.{quotient-connected, quotient-radius}
 use Rattle.files.specs.Layout.{lengthOf}
-use Rattle.files.specs.Links.{linksBelow, rising}
+use Rattle.files.specs.Links.{linksBelow}
 use Rattle.files.proofs.Rising.{rise-test}
 use Rattle.place.specs.Match.{radiusOf}
 use Rattle.merge.specs.Merged.{classOf, classCount, linkedPair, merged}

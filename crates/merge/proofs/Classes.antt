@@ -187,12 +187,6 @@ module _ {p : Circuit} (c : PatternContent p) where
       ap (λ x. getD (leaders p) x 0) (sym e) ∙ leaders-class u l ∙ eqb→eq (leaderOf p u) u t in
       rw at (l, t, e)
 
-  pub leader-unique :
-      (u v : ℕ) → u < length (p .kinds) → v < length (p .kinds) → T (leads p u) → T (leads p v) → classOf p u ≡ classOf p v → u ≡ v
-  unfolding isLeader
-  leader-unique u v h l s t e =
-      sym (eqb→eq (leaderOf p u) u s) ∙ leader-same u v (class-iff u v h l .0 e) ∙ eqb→eq (leaderOf p v) v t
-
   pub classCount-le : classCount p ≤ length (p .kinds)
   unfolding classCount
   classCount-le = countBelow-le (length (p .kinds)) (leads p)

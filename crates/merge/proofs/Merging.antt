@@ -15,7 +15,7 @@ use Rattle.graph.specs.Circuit.{Circuit, LinkAt, HasLink, graphOf, circuitGraph
 use Rattle.simulation.specs.Perfect.{SameGraph}
 use Rattle.simulation.specs.Quotient.{QuotientGraph, QuotientAgree, Merging}
 use Rattle.table.specs.Host.{EqualKinds}
-use Rattle.merge.specs.Merged.{classIn, classOf, leaders, classCount, joins, linked, linkedPair, merged}
+use Rattle.merge.specs.Merged.{classIn, classOf, classCount, joins, linked, linkedPair, merged}
 use Rattle.merge.proofs.Content.{PatternContent}
 use Rattle.merge.proofs.Classes.{SelfPairs, Equivalent, leaderOf, leads, kinds-laws, content-joins, self-largest, equivalent-iff, leader-lt, leader-member, leader-leads, shares-class, class-lt, leaders-at, classCount-pos}
 
@@ -145,12 +145,6 @@ module _ {p : Circuit} (c : PatternContent p) where
   merged-kind u h =
       collect-rank _ (leads p) (λ u. getD (p .kinds) u 0) (leaderOf p u) 0 (leader-lt c u h) (leader-leads c u h)
       ∙ sym (class-kinds u (leaderOf p u) (leader-member c u h))
-
-  -- which is that of its smallest part
-  pub kinds-at : (a : ℕ) → a < classCount p → getD (merged p .kinds) a 0 ≡ getD (p .kinds) (getD (leaders p) a 0) 0
-  kinds-at a h =
-      let (l, t, e) = leaders-at c a h in
-      ap (λ x. getD (merged p .kinds) x 0) (sym e) ∙ merged-kind (getD (leaders p) a 0) l
 
   pub merged-agree : (board : Circuit) → QuotientAgree (circuitGraph p) (classOf p) (EqualKinds p board) (EqualKinds (merged p) board)
   unfolding EqualKinds circuitGraph graphOf

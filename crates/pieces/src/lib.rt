@@ -8,8 +8,6 @@ use files::Pattern;
 use whole::prepare_and_match;
 ghost use mathlib.Core.Path.{_≡_};
 ghost use lib.ListN.{length};
-ghost use Rattle.files.specs.Circuit.{Bounded};
-ghost use Rattle.files.specs.declared.Role.the-variants as role;
 ghost use Rattle.table.specs.Refine.{circuit};
 ghost use Rattle.table.specs.Prepared.{tables, Room};
 ghost use Rattle.place.specs.Match.{radiusOf};

@@ -8,7 +8,6 @@ use native.Mathlib.Decide.{decLt}
 use native.Mathlib.Omega.{arith}
 use lib.Dec.{T}
 use lib.ListN.{length, getD, List·getD-eq-default}
-use lib.Pow.{pow-pos}
 use Rattle.lists.proofs.Tests.{both, both-left, both-right, T-true, T-false, false-T, decide}
 use Rattle.lists.proofs.Tables.{length-tabulate, getD-tabulate}
 use Rattle.bits.specs.Bits.{bit}
@@ -18,9 +17,8 @@ use Rattle.graph.specs.Search.{inside}
 use Rattle.graph.proofs.Ball.{length-ball, ball-bits, inside-bits, bits-le, inside-below}
 use Rattle.table.specs.Row.{inTable}
 use Rattle.table.proofs.Answers.{InTable}
-use Rattle.table.proofs.Row.{Table}
 use Rattle.place.specs.Match.{ballTable, linkMatches, component, placeNodes, placeLinks, placeTable}
-use Rattle.place.proofs.Ball.{BallPairs, ball-fits}
+use Rattle.place.proofs.Ball.{BallPairs}
 
 -- A row of n bytes, each 0 or 1.
 pub record Marks (n : ℕ) (row : List ℕ) : Type 0 where
@@ -86,15 +84,3 @@ module _ (pattern board : Circuit) (w r : ℕ) where
         (decide (inside (placeNodes pattern board w r) v)),
     λ (s, t). subst (λ x. T (bit x u)) (sym (table-inside v t)) s,
   )
-
-  -- and it has a number per node, of as many bits as the pattern has parts
-  pub table-fits : Table pattern board (placeTable pattern board w r)
-  table-fits =
-      record {
-        size = length-table;
-        small = λ v.
-            ⊎-elim
-            (λ t. rw (table-inside v t) (ball-fits pattern board w r .small v))
-            (λ f. rw (table-outside v f) (pow-pos (length (pattern .kinds))))
-            (decide (inside (placeNodes pattern board w r) v));
-      }

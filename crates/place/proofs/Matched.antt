@@ -1,7 +1,7 @@
 -- Over prepared tables the search follows the match graph's links, so that what it reaches is the centre's component; and the ball's list
 -- is the list of the first search. Assumes nothing.
 use mathlib.Core.Bool.{Bool, true, false, not, cond}
-use mathlib.Core.List.{List, [], _∷_, _++_}
+use mathlib.Core.List.{List, []}
 use mathlib.Core.Logic.{_⊎_, _↔_, inl, inr, ⊎-elim}
 use mathlib.Core.Path.{_≡_, refl, sym, ap, _∙_, subst}
 use Prim.Native.Nat.{ℕ, _^_, _≤_, _<_}
@@ -10,15 +10,15 @@ use native.Mathlib.Omega.{arith}
 use borrow.Author.Tests.{eq-eqb, ne-eqb}
 use lib.Dec.{T, eqb, eqb→eq}
 use lib.ListN.{length, getD, take}
-use Rattle.lists.specs.List.{Occurs, any, tabulate}
+use Rattle.lists.specs.List.{Occurs, any}
 use Rattle.lists.proofs.Tests.{same-test, true-T, any-at, at-any}
 use Rattle.lists.proofs.Tables.{tabulate-same}
 use Rattle.bits.specs.Bits.{intersects, unionOver}
 use Rattle.graph.specs.Bfs.{bfs, adjacent, Below, Adjacency, Found}
 use Rattle.graph.specs.Circuit.{Circuit, HasLink}
-use Rattle.graph.specs.Neighbours.{select, stretch}
+use Rattle.graph.specs.Neighbours.{stretch}
 use Rattle.graph.specs.Search.{far, ball, inside, distances}
-use Rattle.graph.proofs.Ball.{Within, within}
+use Rattle.graph.proofs.Ball.{Within}
 use Rattle.graph.proofs.Bfs.{adjacency-of, bfs-ready}
 use Rattle.graph.proofs.BfsScan.{occurs-append}
 use Rattle.graph.proofs.Distance.{ball-distances}
@@ -28,7 +28,7 @@ use Rattle.graph.proofs.Reached.{bfs-listed}
 use Rattle.table.specs.Fill.{listed, marksOf, Distinct, NodeList}
 use Rattle.table.specs.Prepared.{Tables, masksOf, Prepared}
 use Rattle.place.specs.Match.{ballOf, matches, matchStarts, matchEnds, component}
-use Rattle.place.specs.Spread.{meeting, matched, Reached, Spread}
+use Rattle.place.specs.Spread.{meeting, matched, Spread}
 use Rattle.place.proofs.Links.{match-kept, match-within}
 use Rattle.place.proofs.Masks.{MaskTable, mask-table, matches-forward, matches-backward}
 use Rattle.place.proofs.Spread.{meeting-occurs, matched-below, spread-ball}

@@ -14,18 +14,17 @@ use Rattle.lists.proofs.Tests.{T-true, false-T}
 use Rattle.bits.specs.Bits.{bit}
 use Rattle.bits.proofs.Digits.{bit-of-zero}
 use Rattle.graph.specs.Circuit.{Circuit, graphOf, circuitGraph}
-use Rattle.simulation.specs.Closed.{_⊆_, Closed}
-use Rattle.simulation.specs.Simulation.{Direction}
+use Rattle.simulation.specs.Closed.{_⊆_}
 use Rattle.simulation.proofs.Simulation.{along-wider}
 use Rattle.table.specs.Host.{Taken, hostGraph, everything}
 use Rattle.table.specs.Row.{inTable, pairs, strike, lastTable}
 use Rattle.table.specs.Fill.{listed, marksOf, NodeList, Cleared, Filled, tableAt}
 use Rattle.table.specs.Prepared.{Tables, Prepared}
 use Rattle.table.specs.Strike.{strikeTable, strikeTimes, Round, Settled}
-use Rattle.table.proofs.Answers.{InTable, Answered, Links}
+use Rattle.table.proofs.Answers.{InTable}
 use Rattle.table.proofs.Host.{everything-taken}
 use Rattle.table.proofs.Meaning.{last-fits, last-candidate, last-closed}
-use Rattle.table.proofs.Row.{Table, Candidates, Steps, Moves, host-along, strike-fits, strike-in, strike-inside}
+use Rattle.table.proofs.Row.{Table, Candidates, host-along, strike-fits, strike-in, strike-inside}
 use Rattle.table.proofs.Sets.{in-node, same-pairs, fits-node}
 use Rattle.table.proofs.StrikeFill.{length-table, getD-table, cleared-table, fill-table, pairs-table}
 use Rattle.table.proofs.PreparedMasks.{length-succ, length-pred}

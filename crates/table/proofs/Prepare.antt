@@ -1,10 +1,10 @@
 -- The neighbour tables and masks of two bounded circuits are what a round needs. Assumes nothing.
 use mathlib.Core.List.{List, _++_, append-nil, []}
 use mathlib.Core.Path.{_≡_, sym, ap, subst, _∙_}
-use Prim.Native.Nat.{ℕ, suc, _≤_, _<_}
+use Prim.Native.Nat.{ℕ, suc, _<_}
 use native.Mathlib.Omega.{arith}
 use lib.Dec.{T, ltb}
-use lib.ListN.{length, getD, length-append}
+use lib.ListN.{length, length-append}
 use Rattle.lists.specs.List.{all}
 use Rattle.graph.specs.Circuit.{Circuit}
 use Rattle.graph.specs.Neighbours.{select, stretch, offsetsOf, grouped}

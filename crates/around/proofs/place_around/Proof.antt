@@ -1,13 +1,11 @@
 -- `around::place_around` meets its contract: the ball's table, and where the centre occurs in it its component. Assumes nothing.
 use mathlib.Core.Path.{_≡_, sym, _∙_}
-use Prim.Native.Nat.{_<_}
 use native.Mathlib.Omega.{arith}
 use borrow.Author.Needs.{needs}
 use denote.Ref.{now}
 use lib.ListN.{length}
 use Rattle.graph.specs.Bfs.{Below}
 use Rattle.graph.proofs.Ball.{Within, within}
-use Rattle.table.specs.Refine.{circuit}
 use Rattle.place.specs.Match.{ballTable}
 use Rattle.place.proofs.Outcome.{around-none, around-some, sets-parts, sets-ready}
 use Rattle.around.proofs.place_around.Statement.{statement}

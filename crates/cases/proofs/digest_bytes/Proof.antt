@@ -1,13 +1,9 @@
 -- `cases::digest_bytes` is safe and ends. Assumes nothing.
-use native.Mathlib.Omega.{arith}
 use Prim.Native.Nat.{_≤_, _-_}
 use lib.ListN.{length}
 use borrow.Author.Needs.{needs}
 use Rattle.cases.proofs.digest_bytes.Statement.{statement}
 use Rattle.cases.proofs.digest_bytes.Tie as tie
-use Rattle.cases.proofs.digest_bytes.Reads as reads
-use Rattle.cases.proofs.digest_bytes.Lts as lts
-use Rattle.cases.proofs.wide.Reads as wide-reads
 
 abbrev Inv-loop : tie.InvT-loop
 Inv-loop table sum₀ i₀ sum i = i ≤ length table

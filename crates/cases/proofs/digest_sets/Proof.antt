@@ -5,8 +5,6 @@ use lib.ListN.{length}
 use borrow.Author.Needs.{needs}
 use Rattle.cases.proofs.digest_sets.Statement.{statement}
 use Rattle.cases.proofs.digest_sets.Tie as tie
-use Rattle.cases.proofs.digest_sets.Reads as reads
-use Rattle.cases.proofs.digest_sets.Lts as lts
 
 abbrev Inv-loop : tie.InvT-loop
 Inv-loop table sum₀ i₀ sum i = i ≤ length table

@@ -12,13 +12,6 @@ use Rattle.files.proofs.Refusals.{verdict-1, verdict-2, verdict-3, verdict-link
 use borrow.Author.Needs.{needs}
 use Rattle.checking.proofs.check.Statement.{statement}
 use Rattle.checking.proofs.check.Tie as tie
-use Rattle.checking.proofs.check.Reads as reads
-use Rattle.checking.proofs.check.Lts as lts
-use Rattle.checking.proofs.in_range.Reads as in-range-reads
-use Rattle.checking.proofs.link_number.Reads as link-number-reads
-use Rattle.checking.proofs.refused.Reads as refused-reads
-use Rattle.fields.proofs.field_at.Reads as field-at-reads
-use Rattle.fields.proofs.stretch.Reads as stretch-reads
 
 refused-requires : tie.Need-refused-requires
 refused-requires c κs = search needs

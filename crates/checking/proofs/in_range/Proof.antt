@@ -3,12 +3,6 @@ use mathlib.Core.Path.{_∙_}
 use borrow.Author.Needs.{needs}
 use Rattle.checking.proofs.in_range.Statement.{statement}
 use Rattle.checking.proofs.in_range.Tie as tie
-use Rattle.checking.proofs.in_range.Reads as reads
-use Rattle.checking.proofs.in_range.Lts as lts
-use Rattle.files.proofs.Board.in_range.Reads as Board-in-range-reads
-use Rattle.files.proofs.Board.new.Reads as Board-new-reads
-use Rattle.files.proofs.Pattern.in_range.Reads as Pattern-in-range-reads
-use Rattle.files.proofs.Pattern.new.Reads as Pattern-new-reads
 
 -- src/check.rt:27:26
 enum-told : tie.Need-enum-told

@@ -8,11 +8,6 @@ use Rattle.files.proofs.Refusals.{number-starts, number-ends, number-rising, nu
 use borrow.Author.Needs.{needs}
 use Rattle.checking.proofs.link_number.Statement.{statement}
 use Rattle.checking.proofs.link_number.Tie as tie
-use Rattle.checking.proofs.link_number.Reads as reads
-use Rattle.checking.proofs.link_number.Lts as lts
-use Rattle.checking.proofs.joined.Reads as joined-reads
-use Rattle.fields.proofs.all_below.Reads as all-below-reads
-use Rattle.fields.proofs.links_rise.Reads as links-rise-reads
 
 all-below-requires : tie.Need-all-below-requires
 all-below-requires c κs = search needs

@@ -1,12 +1,12 @@
 -- `component::component` meets its contract. Its stores set the tables up for the state in which only the centre is reached. The
 -- loop's invariant is that of the search; the measure is how many nodes have not been looked from. Assumes nothing.
 use mathlib.Core.Path.{_≡_, sym, ap, subst, _∙_}
-use Prim.Native.Nat.{ℕ, _-_, _+_, _≤_, _<_}
+use Prim.Native.Nat.{ℕ, _-_, _+_, _<_}
 use native.Mathlib.Omega.{arith}
 use borrow.Author.Needs.{needs}
 use denote.Ref.{now}
 use lib.ListN.{length, getD, length-set}
-use Rattle.graph.specs.Bfs.{State, scan, start, Below, stateOf, Searching}
+use Rattle.graph.specs.Bfs.{scan, Below, stateOf, Searching}
 use Rattle.graph.proofs.BfsSteps.{ready-start, started, reached-length}
 use Rattle.table.specs.Prepared.{tables}
 use Rattle.place.specs.Spread.{matched}

@@ -1,12 +1,10 @@
 -- `component::expand` meets its contract: the looks along the two stretches are visits of what matching links join to the node.
 -- Assumes nothing.
-use mathlib.Core.List.{List}
-use mathlib.Core.Path.{_≡_, sym, subst, _∙_}
-use Prim.Native.Nat.{ℕ}
+use mathlib.Core.Path.{sym, _∙_}
 use borrow.Author.Needs.{needs}
 use denote.Ref.{now}
 use lib.ListN.{length}
-use Rattle.graph.specs.Bfs.{Below, stateOf}
+use Rattle.graph.specs.Bfs.{Below}
 use Rattle.graph.proofs.Lookup.{stretch-below}
 use Rattle.table.specs.Prepared.{tables}
 use Rattle.place.proofs.Spread.{matched-scan}

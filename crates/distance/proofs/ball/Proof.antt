@@ -1,6 +1,6 @@
 -- `distance::ball` meets its contract: the file is refused, or the centre is, or the table, or the ball is filled in. Assumes nothing.
 use denote.Ref.{now}
-use mathlib.Core.Path.{_≡_, sym}
+use mathlib.Core.Path.{sym}
 use native.Mathlib.Omega.{arith}
 use borrow.Author.Needs.{needs}
 use Rattle.files.specs.declared.Role.the-variants.{Board}

@@ -1,6 +1,6 @@
 -- `distance::radius` meets its contract: the file is refused, or its circuit gives the radius. Assumes nothing.
 use denote.Ref.{now}
-use mathlib.Core.Path.{_≡_, sym}
+use mathlib.Core.Path.{sym}
 use native.Mathlib.Omega.{arith}
 use borrow.Author.Needs.{needs}
 use Rattle.files.specs.declared.Role.the-variants.{Pattern}

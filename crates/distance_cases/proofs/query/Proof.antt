@@ -4,16 +4,6 @@ use lib.ListN.{length-take}
 use borrow.Author.Needs.{needs}
 use Rattle.distance_cases.proofs.query.Statement.{statement}
 use Rattle.distance_cases.proofs.query.Tie as tie
-use Rattle.distance_cases.proofs.query.Reads as reads
-use Rattle.distance_cases.proofs.query.Lts as lts
-use Rattle.cases.proofs.digest_bytes.Reads as digest-bytes-reads
-use Rattle.cases.proofs.end_line.Reads as end-line-reads
-use Rattle.cases.proofs.least.Reads as least-reads
-use Rattle.cases.proofs.number.Reads as number-reads
-use Rattle.cases.proofs.refill_bytes.Reads as refill-bytes-reads
-use Rattle.cases.proofs.show_number.Reads as show-number-reads
-use Rattle.distance.proofs.ball.Reads as ball-reads
-use Rattle.distance_cases.proofs.show_ball.Reads as show-ball-reads
 
 number-requires : tie.Need-number-requires
 number-requires c κs = search needs

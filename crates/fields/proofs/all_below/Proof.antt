@@ -1,15 +1,13 @@
 -- `fields::all_below` meets its contract. The loop's invariant: each field passed is below n. Assumes nothing.
 use borrow.Author.Count.{below-none, below-more}
 use borrow.Author.Needs.{needs}
-use mathlib.Core.Path.{_≡_, sym, subst}
+use mathlib.Core.Path.{sym, subst}
 use native.Mathlib.Omega.{arith}
 use Prim.Native.Nat.{ℕ, _*_, _-_, _≤_, _<_}
 use Rattle.files.specs.Layout.{field}
 use Rattle.files.proofs.Fields.{all-fields, not-all-fields}
 use Rattle.fields.proofs.all_below.Statement.{statement}
 use Rattle.fields.proofs.all_below.Tie as tie
-use Rattle.fields.proofs.all_below.Reads as reads
-use Rattle.fields.proofs.all_below.Lts as lts
 
 abbrev Inv-loop : tie.InvT-loop
 Inv-loop part k n i₀ i = (i ≤ k) × ((j : ℕ) → j < i → field part (2 * j) < n)

@@ -1,9 +1,6 @@
 -- `fields::comes_before` meets its contract: each return rewrites with the tests that led there. Assumes nothing.
 use borrow.Author.Tests.{lt-ltb, le-ltb, eq-eqb, ne-eqb}
-use mathlib.Core.Path.{_≡_}
 use native.Mathlib.Omega.{arith}
-use lib.Dec.{ltb, eqb}
-use mathlib.Core.Bool.{true, false}
 use Rattle.files.specs.Links.{earlier}
 use Rattle.fields.proofs.comes_before.Statement.{statement}
 use Rattle.fields.proofs.comes_before.Tie as tie

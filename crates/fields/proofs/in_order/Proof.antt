@@ -4,10 +4,6 @@ use Rattle.files.specs.Links.{inOrder}
 use borrow.Author.Needs.{needs}
 use Rattle.fields.proofs.in_order.Statement.{statement}
 use Rattle.fields.proofs.in_order.Tie as tie
-use Rattle.fields.proofs.in_order.Reads as reads
-use Rattle.fields.proofs.in_order.Lts as lts
-use Rattle.fields.proofs.comes_before.Reads as comes-before-reads
-use Rattle.fields.proofs.field_at.Reads as field-at-reads
 
 -- src/part.rt:50:18
 field-at-requires : tie.Need-field-at-requires

@@ -1,18 +1,15 @@
 -- `fields::links_rise` meets its contract. The loop's invariant: each link passed comes before the next. Assumes nothing.
 use borrow.Author.Count.{below-none, below-more}
 use borrow.Author.Tests.{not-true, not-false}
-use mathlib.Core.Path.{_≡_, sym, subst, _∙_}
+use mathlib.Core.Path.{sym, _∙_}
 use native.Mathlib.Omega.{arith}
-use Prim.Native.Nat.{ℕ, _+_, _*_, _-_, _≤_, _<_}
+use Prim.Native.Nat.{ℕ, _-_, _≤_, _<_}
 use lib.Dec.{T}
 use Rattle.lists.proofs.Tests.{true-T, false-T}
 use Rattle.files.specs.Links.{inOrder}
 use Rattle.files.proofs.Fields.{rising-fields, not-rising-fields}
 use Rattle.fields.proofs.links_rise.Statement.{statement}
 use Rattle.fields.proofs.links_rise.Tie as tie
-use Rattle.fields.proofs.links_rise.Reads as reads
-use Rattle.fields.proofs.links_rise.Lts as lts
-use Rattle.fields.proofs.in_order.Reads as in-order-reads
 
 abbrev Inv-loop : tie.InvT-loop
 Inv-loop starts ends k i₀ i = (i ≤ k) × ((j : ℕ) → j < i → T (inOrder starts ends j))

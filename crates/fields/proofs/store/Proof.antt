@@ -1,16 +1,13 @@
 use mathlib.Core.List.{_++_}
 use mathlib.Core.Path.{_≡_, refl, subst}
 use native.Mathlib.Omega.{arith}
-use Prim.Native.Nat.{ℕ, _+_, _*_, _-_, _≤_, _<_}
-use lib.ListN.{length, drop, set, length-set}
+use Prim.Native.Nat.{ℕ, _+_, _-_, _≤_}
+use lib.ListN.{length, drop, length-set}
 use denote.Ref.{now}
 use Rattle.files.proofs.Fields.{stored-none, stored-more}
-use Rattle.files.specs.Layout.{field, fields}
+use Rattle.files.specs.Layout.{fields}
 use Rattle.fields.proofs.store.Statement.{statement}
 use Rattle.fields.proofs.store.Tie as tie
-use Rattle.fields.proofs.store.Reads as reads
-use Rattle.fields.proofs.store.Lts as lts
-use Rattle.fields.proofs.field_at.Reads as field-at-reads
 
 abbrev Inv-loop : tie.InvT-loop
 Inv-loop part k out₀ i₀ out i = (i ≤ k) × (length out ≡ length out₀) × (out ≡ fields part i ++ drop i out₀)

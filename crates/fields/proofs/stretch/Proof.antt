@@ -5,8 +5,6 @@ use Rattle.files.proofs.Fields.{fields-part}
 use borrow.Author.Needs.{needs}
 use Rattle.fields.proofs.stretch.Statement.{statement}
 use Rattle.fields.proofs.stretch.Tie as tie
-use Rattle.fields.proofs.stretch.Reads as reads
-use Rattle.fields.proofs.stretch.Lts as lts
 
 mul-end : tie.Need-mul-end
 mul-end c = search needs

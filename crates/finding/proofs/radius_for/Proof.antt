@@ -1,5 +1,5 @@
 -- `finding::radius_for` meets its contract: the pattern's own radius, or the one given. Assumes nothing.
-use mathlib.Core.Path.{_≡_, refl}
+use mathlib.Core.Path.{refl}
 use borrow.Author.Needs.{needs}
 use Rattle.place.specs.Match.{radiusOf}
 use Rattle.finding.specs.Call.{radiusFor}

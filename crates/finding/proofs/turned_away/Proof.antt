@@ -1,5 +1,5 @@
 -- `finding::turned_away` meets its contract: a refusal before the search has counts of 0. Assumes nothing.
-use mathlib.Core.Path.{_≡_, refl}
+use mathlib.Core.Path.{refl}
 use Rattle.table.specs.Reply.{noCounts}
 use Rattle.finding.proofs.turned_away.Statement.{statement}
 use Rattle.finding.proofs.turned_away.Tie as tie

@@ -1,6 +1,6 @@
 -- `measure::eccentricity` meets its contract: the largest of the distances that the search leaves first. Assumes nothing.
 use denote.Ref.{now}
-use mathlib.Core.Path.{_≡_, ap, _∙_}
+use mathlib.Core.Path.{ap, _∙_}
 use native.Mathlib.Omega.{arith}
 use lib.ListN.{length-take}
 use Rattle.lists.specs.List.{maximum}

@@ -6,10 +6,6 @@ use Rattle.graph.proofs.Measures.{grouped-below, bfs-connected}
 use borrow.Author.Needs.{needs}
 use Rattle.measure.proofs.joined.Statement.{statement}
 use Rattle.measure.proofs.joined.Tie as tie
-use Rattle.measure.proofs.joined.Reads as reads
-use Rattle.measure.proofs.joined.Lts as lts
-use Rattle.adjacency.proofs.tables.neighbour_tables.Reads as neighbour-tables-reads
-use Rattle.search.proofs.search.Reads as search-reads
 
 neighbour-tables-requires : tie.Need-neighbour-tables-requires
 neighbour-tables-requires c κs =

@@ -1,7 +1,7 @@
 -- `pieces::put_piece` meets its contract: nothing past the last line, else the pattern's radius, and scratch tables with room for every
 -- pattern and board. Assumes nothing.
 use denote.Ref.{now}
-use mathlib.Core.Path.{_≡_, sym}
+use mathlib.Core.Path.{sym}
 use native.Mathlib.Nat.{lt-of-le-of-lt}
 use borrow.Author.Needs.{needs}
 use lib.Dec.{lit≤}

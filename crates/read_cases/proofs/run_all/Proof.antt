@@ -5,9 +5,6 @@ use Prim.Native.Nat.{_-_, _≤_}
 use lib.ListN.{length}
 use Rattle.read_cases.proofs.run_all.Statement.{statement}
 use Rattle.read_cases.proofs.run_all.Tie as tie
-use Rattle.read_cases.proofs.run_all.Reads as reads
-use Rattle.read_cases.proofs.run_all.Lts as lts
-use Rattle.read_cases.proofs.step.Reads as step-reads
 
 abbrev Inv-loop : tie.InvT-loop
 Inv-loop b kinds₀ starts₀ ends₀ at₀ kinds starts ends at =

@@ -4,12 +4,6 @@ use lib.ListN.{length-take}
 use borrow.Author.Needs.{needs}
 use Rattle.read_cases.proofs.step.Statement.{statement}
 use Rattle.read_cases.proofs.step.Tie as tie
-use Rattle.read_cases.proofs.step.Reads as reads
-use Rattle.read_cases.proofs.step.Lts as lts
-use Rattle.cases.proofs.least.Reads as least-reads
-use Rattle.cases.proofs.number.Reads as number-reads
-use Rattle.read_cases.proofs.role_of.Reads as role-of-reads
-use Rattle.read_cases.proofs.run.Reads as run-reads
 
 shared-slice-read-role-of : tie.Need-shared-slice-read-role-of
 shared-slice-read-role-of c = omega arith

@@ -2,10 +2,6 @@
 use borrow.Author.Needs.{needs}
 use Rattle.reading.proofs.fill.Statement.{statement}
 use Rattle.reading.proofs.fill.Tie as tie
-use Rattle.reading.proofs.fill.Reads as reads
-use Rattle.reading.proofs.fill.Lts as lts
-use Rattle.fields.proofs.store.Reads as store-reads
-use Rattle.fields.proofs.stretch.Reads as stretch-reads
 
 stretch-requires : tie.Need-stretch-requires
 stretch-requires c κs = search needs

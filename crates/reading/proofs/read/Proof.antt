@@ -12,10 +12,6 @@ use Rattle.files.proofs.Refusals.{accepted}
 use borrow.Author.Needs.{needs}
 use Rattle.reading.proofs.read.Statement.{statement}
 use Rattle.reading.proofs.read.Tie as tie
-use Rattle.reading.proofs.read.Reads as reads
-use Rattle.reading.proofs.read.Lts as lts
-use Rattle.checking.proofs.check.Reads as check-reads
-use Rattle.reading.proofs.fill.Reads as fill-reads
 
 check-requires : tie.Need-check-requires
 check-requires c κs = search needs

@@ -1,7 +1,7 @@
 -- `reporting::put_files` meets its contract: the line of a refused file is put, or a piece of the lines of the two circuits at the fronts of the
 -- tables. Assumes nothing.
 use denote.Ref.{now}
-use mathlib.Core.Path.{_≡_, sym}
+use mathlib.Core.Path.{sym}
 use borrow.Author.Needs.{needs}
 use Rattle.graph.specs.Circuit.{Circuit}
 use Rattle.pair.specs.Pair.{BothRead}

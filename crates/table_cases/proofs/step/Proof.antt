@@ -4,11 +4,6 @@ use lib.ListN.{length-take}
 use borrow.Author.Needs.{needs}
 use Rattle.table_cases.proofs.step.Statement.{statement}
 use Rattle.table_cases.proofs.step.Tie as tie
-use Rattle.table_cases.proofs.step.Reads as reads
-use Rattle.table_cases.proofs.step.Lts as lts
-use Rattle.cases.proofs.least.Reads as least-reads
-use Rattle.cases.proofs.number.Reads as number-reads
-use Rattle.table_cases.proofs.run.Reads as run-reads
 
 number-requires : tie.Need-number-requires
 number-requires c κs = search needs

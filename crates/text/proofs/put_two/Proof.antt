@@ -1,6 +1,5 @@
 -- `text::put_two` meets its contract: one digit, or two one after the other. Assumes nothing.
 use mathlib.Core.Path.{sym}
-use Prim.Native.Nat.{_/_}
 use native.Mathlib.Omega.{arith}
 use borrow.Author.Needs.{needs}
 use Rattle.text.proofs.Text.{put-then, put-same, fits-same, fits-first, fits-then, decimal-digit, decimal-two}

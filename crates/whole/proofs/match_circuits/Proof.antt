@@ -1,5 +1,5 @@
 -- `whole::match_circuits` meets its contract: its scratch tables have room for every pattern and board. Assumes nothing.
-use mathlib.Core.Path.{_≡_, sym}
+use mathlib.Core.Path.{sym}
 use native.Mathlib.Nat.{lt-of-le-of-lt}
 use borrow.Author.Needs.{needs}
 use lib.Dec.{lit≤}

@@ -1,8 +1,6 @@
 -- `whole::prepare_and_match` meets its contract: the tables are prepared, every node is listed, and the pairs are struck. Assumes nothing.
-use mathlib.Core.Path.{_≡_, _∙_}
 use native.Mathlib.Nat.{le-trans}
 use lib.Dec.{lit≤}
-use Rattle.table.specs.Fill.{allNodes, NodeList}
 use Rattle.table.proofs.Prepare.{listed-all, refined-everything}
 use Rattle.table.proofs.NodeLists.{all-list}
 use Rattle.whole.proofs.prepare_and_match.Statement.{statement}

@@ -5,9 +5,6 @@ use Rattle.lists.proofs.Tables.{whole}
 use borrow.Author.Needs.{needs}
 use Rattle.adjacency.proofs.tables.neighbour_tables.Statement.{statement}
 use Rattle.adjacency.proofs.tables.neighbour_tables.Tie as tie
-use Rattle.adjacency.proofs.tables.neighbour_tables.Reads as reads
-use Rattle.adjacency.proofs.tables.neighbour_tables.Lts as lts
-use Rattle.adjacency.proofs.group.group.Reads as group-reads
 
 group-requires : tie.Need-group-requires
 group-requires c κs =

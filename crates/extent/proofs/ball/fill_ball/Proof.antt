@@ -3,7 +3,7 @@
 use denote.Ref.{now}
 use mathlib.Core.List.{List, _++_}
 use Prim.Native.Nat.{ℕ}
-use mathlib.Core.Path.{_≡_, sym, ap, _∙_}
+use mathlib.Core.Path.{sym, ap, _∙_}
 use native.Mathlib.Nat.{le-trans, lt-of-le-of-lt}
 use borrow.Author.Needs.{needs}
 use lib.Dec.{lit≤}

@@ -1,5 +1,5 @@
 -- `extent::radius::radius_of` meets its contract: its tables have room for every pattern. Assumes nothing.
-use mathlib.Core.Path.{_≡_, sym}
+use mathlib.Core.Path.{sym}
 use native.Mathlib.Nat.{le-trans, lt-of-le-of-lt}
 use borrow.Author.Needs.{needs}
 use lib.Dec.{lit≤}

@@ -1,7 +1,7 @@
 -- `heronditch::copied::copy` meets its contract. The loop's invariant: the first i entries are copied, and the others as they were. The
 -- measure is how many are left. Assumes nothing.
 use mathlib.Core.List.{List, _++_}
-use mathlib.Core.Path.{_≡_, refl, sym, ap, ap₂, _∙_}
+use mathlib.Core.Path.{_≡_, refl, sym, ap, _∙_}
 use Prim.Native.Nat.{ℕ, _-_, _≤_}
 use native.Mathlib.Omega.{arith}
 use denote.Ref.{now}

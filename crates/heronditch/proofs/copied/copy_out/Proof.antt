@@ -1,5 +1,4 @@
 -- `heronditch::copied::copy_out` meets its contract: the entries do not fit, or they are copied. Assumes nothing.
-use mathlib.Core.Path.{_≡_}
 use borrow.Author.Needs.{needs}
 use borrow.Author.Tests.{lt-ltb, le-ltb}
 use Rattle.files.specs.Reading.{filled}

@@ -1,7 +1,6 @@
 -- `preparing::lookups::prepare` meets its contract: the neighbour tables and the masks, as their own contracts give them. Assumes nothing.
-use mathlib.Core.Path.{_≡_, sym, subst}
+use mathlib.Core.Path.{sym}
 use native.Mathlib.Nat.{le-trans}
-use native.Mathlib.Omega.{arith}
 use borrow.Author.Needs.{needs}
 use lib.Dec.{lit≤}
 use Rattle.graph.proofs.Groups.{all-below}

@@ -1,6 +1,6 @@
 -- `table::start::copy` meets its contract, as `start` does: the turns that are left lead to the whole table and the whole count. Assumes
 -- nothing.
-use mathlib.Core.Path.{_≡_, refl}
+use mathlib.Core.Path.{refl}
 use Prim.Native.Nat.{_-_, _<_}
 use native.Mathlib.Omega.{arith}
 use borrow.Author.Needs.{needs}
