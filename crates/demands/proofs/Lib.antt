@@ -1,3 +1,4 @@
 pub mod Examples
 pub mod Files
 pub mod Merged
+pub mod Report

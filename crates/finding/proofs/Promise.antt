@@ -53,10 +53,10 @@ module _ (pattern board : Circuit) (w r : ℕ) where
   unfolding placeVerdict
   verdict-none f = rw (T-false {b = found pattern board w r} f)
 
-  found-verdict : placeVerdict pattern board w r ≡ accept → T (found pattern board w r)
+  pub found-verdict : placeVerdict pattern board w r ≡ accept → T (found pattern board w r)
   found-verdict e = ⊎-elim (λ t. t) (λ f. absurd (refuse-not-accept (sym (verdict-none f) ∙ e))) (decide (found pattern board w r))
 
-  none-verdict : placeVerdict pattern board w r ≡ refuse nine → T (found pattern board w r) → ⊥
+  pub none-verdict : placeVerdict pattern board w r ≡ refuse nine → T (found pattern board w r) → ⊥
   none-verdict e t = refuse-not-accept (sym e ∙ verdict-found t)
 
 -- ---- a call
