@@ -45,13 +45,27 @@ def planted(rng):
 
 
 def longest():
-    """A line as long as can be: all of 512 nodes, and 4,096 links between nodes of three digits, each with a partner for each part."""
-    two = encode([7] * 32, {(u, u + 1) for u in range(31)} | {(u + 1, u) for u in range(31)})
-    ring = {(v, (v + 1) % 512) for v in range(512)} | {((v + 1) % 512, v) for v in range(512)}
+    """The longest line that was found: all of 512 nodes, 4,096 links, and no link more than it takes at a node of fewer than three digits.
+
+    A hub with a link to itself drives a leaf. The centre, a hub, drives every node; all other nodes below 101 are leaves, which need no more.
+    """
+    centre, leaf = 511, 100
+    links = {(centre, v) for v in range(512)}
+    for v in range(leaf + 1, centre):
+        links |= {(v, v), (v, leaf)}
     rng = random.Random(5)
-    while len(ring) < 4096:
-        ring.add((rng.randrange(100, 512), rng.randrange(100, 512)))
-    return two, encode([7] * 512, ring)
+    while len(links) < 4096:
+        links.add((rng.randrange(leaf + 1, 512), rng.randrange(leaf + 1, 512)))
+    return encode([7, 8], [(0, 0), (0, 1)]), encode([8] * (leaf + 1) + [7] * (511 - leaf), links)
+
+
+def largest(nodes, links):
+    """The file of a circuit of so many nodes of one kind in a ring, with so many links."""
+    ring = {(v, (v + 1) % nodes) for v in range(nodes)}
+    rng = random.Random(6)
+    while len(ring) < links:
+        ring.add((rng.randrange(nodes), rng.randrange(nodes)))
+    return encode([1] * nodes, ring)
 
 
 def folders():
@@ -69,6 +83,10 @@ def folders():
     yield "both refused", b"\1", b"\2"
     yield "not connected", encode([1, 1], []), one
     yield "longest line", *longest()
+    pattern, board = largest(32, 256), largest(512, 4096)
+    yield "largest files", pattern, board
+    yield "a byte more than the largest pattern", pattern + b"\0", board
+    yield "a byte more than the largest board", pattern, board + b"\0"
     rng = random.Random(2)
     for number in range(300):
         pattern, board = planted(rng)
@@ -76,6 +94,18 @@ def folders():
             cut = rng.randrange(len(board))
             board = board[:cut] + bytes([rng.randrange(256)]) + board[cut + 1:]
         yield f"random {number}", pattern, board
+
+
+def unreadable(finder):
+    """A name that is there and is no file is told, for each of the two, and nothing else is printed."""
+    one = encode([1], [])
+    for missing, there in (("pattern.cir", "board.cir"), ("board.cir", "pattern.cir")):
+        folder = Path(tempfile.mkdtemp())
+        (folder / there).write_bytes(one)
+        (folder / missing).mkdir()
+        if report(finder, folder) != f"cannot read {missing}\n".encode():
+            sys.exit(f"not told that {missing} cannot be read, in {folder}")
+        shutil.rmtree(folder)
 
 
 def report(program, folder):
@@ -99,6 +129,9 @@ def main():
         places += one.count(b"place ")
         most = max(most, max(map(len, one.split(b"\n"))) + 1)
         shutil.rmtree(folder)
+    unreadable(finder)
+    if most != 34609:
+        sys.exit(f"the longest line has {most} bytes, and not 34,609")
     print(f"{lines} lines are the same, {places} of them places, the longest of {most} bytes")
 
 

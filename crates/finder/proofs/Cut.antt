@@ -6,23 +6,17 @@ use mathlib.Core.Path.{_≡_, refl, sym, ap, ap₂, _∙_}
 use Prim.Native.Nat.{ℕ, _+_, _*_, _<_}
 use native.Mathlib.Decide.{decLt}
 use native.Mathlib.Omega.{arith}
-use lib.ListN.{length, take}
+use lib.ListN.{length}
 use lib.Seq.{take-all, getD-take, length-take-le}
 use Rattle.lists.proofs.Tests.{true-T}
 use Rattle.files.specs.declared.Role.{Role}
 use Rattle.files.specs.declared.Role.the-variants.{Pattern, Board}
-use Rattle.files.specs.Layout.{field, nodesOf, linksOf, lengthOf}
+use Rattle.files.specs.Layout.{field, nodesOf, linksOf}
 use Rattle.files.specs.Refusals.{Condition, Verdict, accept, refuse, first, fileConditions}
-use Rattle.files.specs.Role.{maxNodes, maxLinks, inRange}
+use Rattle.files.specs.Role.{inRange}
 use Rattle.files.proofs.Refusals.{first-accept, first-refuse, accepted, range-orders, verdict-2, verdict-3}
 use Rattle.report.specs.Report.{reportFor, reportOf}
-
--- a byte more than the longest file that is accepted, and what is read of a file so
-abbrev pub most : Role → ℕ
-most r = lengthOf (maxNodes r) (maxLinks r) + 1
-
-abbrev pub cut : Role → List ℕ → List ℕ
-cut r file = take (most r) file
+use Rattle.finder.specs.Cut.{most, cut}
 
 module _ (r : Role) (file : List ℕ) where
   -- the header is read whole

@@ -4,7 +4,11 @@ use files::Board;
 use files::Pattern;
 use reporting::ReportAnswer;
 use reporting::report;
+ghost use mathlib.Core.Path.{_≡_};
+ghost use lib.ListN.{length};
 ghost use Rattle.io.specs.Counts.{Counts};
+ghost use Rattle.files.specs.declared.Role.the-variants as role;
+ghost use Rattle.finder.specs.Cut.{most};
 
 // A byte more than the longest file that is accepted in each role: the report of what is read so is the report of the files (proofs/Cut).
 const PATTERN_BYTES: usize = 4 + 2 * Pattern::MAX_NODES + 4 * Pattern::MAX_LINKS + 1;
@@ -77,8 +81,11 @@ fn print_report(pattern: &[u8], board: &[u8], out: &mut [u8]) {
     }
 }
 
-// The buffers are lent whole, so that their bytes are not looked at one by one in the proof.
-fn run(pattern: &mut [u8], board: &mut [u8], out: &mut [u8]) {
+// Each file is read into a buffer of a byte more than the longest that is accepted. The buffers are lent whole, so that their bytes are not
+// looked at one by one in the proof.
+fn run(pattern: &mut [u8], board: &mut [u8], out: &mut [u8])
+    requires { ⌜ (length (now pattern) ≡ most role.Pattern) × (length (now board) ≡ most role.Board) ⌝ }
+{
     let first = load(b"pattern.cir", pattern);
     if !first.is_read {
         cannot_read(b"pattern.cir");

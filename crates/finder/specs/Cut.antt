@@ -1,0 +1,15 @@
+-- How much of a file the program reads.
+use mathlib.Core.List.{List}
+use Prim.Native.Nat.{ℕ, _+_}
+use lib.ListN.{take}
+use Rattle.files.specs.declared.Role.{Role}
+use Rattle.files.specs.Layout.{lengthOf}
+use Rattle.files.specs.Role.{maxNodes, maxLinks}
+
+-- a byte more than the longest file that is accepted in a role
+abbrev pub most : Role → ℕ
+most r = lengthOf (maxNodes r) (maxLinks r) + 1
+
+-- what is read of a file so
+abbrev pub cut : Role → List ℕ → List ℕ
+cut r file = take (most r) file
