@@ -10,7 +10,7 @@
 
 #include "heronditch.h"
 
-/* Reads at most size bytes of a file, and one more to see that it is too long (then the call refuses it). */
+/* Reads at most size bytes of a file: one more than the longest file has, so that the call refuses a longer one. */
 static size_t load(const char *name, uint8_t *bytes, size_t size)
 {
     FILE *f = fopen(name, "rb");
