@@ -1,6 +1,6 @@
 // What the programs that run stored cases share: taking a case apart, and writing what a call answered and left in its tables.
-use files::File;
-use files::Refusal;
+use file_format::File;
+use file_format::Refusal;
 ghost use Prim.Native.Nat.{_+_, _≤_, _<_};
 ghost use lib.ListN.{length};
 

@@ -2,8 +2,8 @@
 use mathlib.Core.Path.{refl}
 use Prim.Native.Nat.{ℕ}
 use lib.Dec.{T}
-use Rattle.lists.specs.List.{tabulate, maximum}
-use Rattle.lists.proofs.Tests.{T-false}
+use Rattle.base_lists.specs.List.{tabulate, maximum}
+use Rattle.base_lists.proofs.Tests.{T-false}
 use Rattle.graph.specs.Search.{distances, misses, ball, beside, inside, radius}
 use Rattle.table.specs.Examples.{circuitT, circuitB, twoWay, ring}
 use Rattle.table.specs.Refine.{countsOf}

@@ -1,17 +1,17 @@
 -- Document 01's examples of files and its table of refusals, by computation. Assumes nothing.
 use mathlib.Core.Path.{refl}
-use Rattle.lists.specs.List.{all, allBelow, tabulate}
+use Rattle.base_lists.specs.List.{all, allBelow, tabulate}
 use Rattle.graph.specs.Search.{beside, inside, ball, connected}
-use Rattle.files.specs.Layout.{field, fields, nodesOf, linksOf, kindsOf, startsOf, endsOf}
-use Rattle.files.specs.Links.{linksBelow, earlier, rising}
-use Rattle.files.specs.Reading.{reading, readConditions}
-use Rattle.files.specs.Refusals.{first, linkConditions, fileConditions, asksConnected, centreOutside, shortTable}
-use Rattle.files.specs.Reply.{reply}
+use Rattle.file_format.specs.Layout.{field, fields, nodesOf, linksOf, kindsOf, startsOf, endsOf}
+use Rattle.file_format.specs.Links.{linksBelow, earlier, rising}
+use Rattle.file_format.specs.Reading.{reading, readConditions}
+use Rattle.file_format.specs.Refusals.{first, linkConditions, fileConditions, asksConnected, centreOutside, shortTable}
+use Rattle.file_format.specs.Reply.{reply}
 use Rattle.table.specs.Examples.{circuitT, circuitB}
-use Rattle.writing.specs.Bytes.{bytesOf, fileBytes}
-use Rattle.distance.specs.Calls.{ballConditions}
+use Rattle.file_write.specs.Bytes.{bytesOf, fileBytes}
+use Rattle.call_distance.specs.Calls.{ballConditions}
 use Rattle.demands.specs.Examples.{AllHold}
-use Rattle.files.specs.Examples.{fileT, fileB}
+use Rattle.file_format.specs.Examples.{fileT, fileB}
 use Rattle.demands.specs.Files.{refused, ReadT, ReadB, R1, R2, R3, R4, R5, R6, R7, R8, fileExamples}
 
 readT : ReadT

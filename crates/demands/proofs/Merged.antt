@@ -10,23 +10,23 @@ use borrow.Author.Tests.{le-ltb}
 use lib.ListN.{length}
 use Rattle.graph.specs.Circuit.{circuitGraph, graphOf}
 use Rattle.graph.proofs.Distance.{distance-below}
-use Rattle.files.specs.declared.Role.the-variants.{Pattern, Board}
-use Rattle.files.specs.Circuit.{circuitOf}
-use Rattle.files.specs.Layout.{nodesOf, linksOf}
-use Rattle.files.specs.Refusals.{Condition, accept, refuse, first, fileConditions, shortTable}
-use Rattle.files.specs.Reply.{reply}
-use Rattle.files.proofs.Fields.{length-kinds}
-use Rattle.files.proofs.Refusals.{Accepted, accepted, first-parts, first-accept, first-holds}
+use Rattle.file_format.specs.declared.Role.the-variants.{Pattern, Board}
+use Rattle.file_format.specs.Circuit.{circuitOf}
+use Rattle.file_format.specs.Layout.{nodesOf, linksOf}
+use Rattle.file_format.specs.Refusals.{Condition, accept, refuse, first, fileConditions, shortTable}
+use Rattle.file_format.specs.Reply.{reply}
+use Rattle.file_format.proofs.Fields.{length-kinds}
+use Rattle.file_format.proofs.Refusals.{Accepted, accepted, first-parts, first-accept, first-holds}
 use Rattle.place.specs.Match.{radiusOf, found}
 use Rattle.place.specs.Outcome.{placeVerdict}
 use Rattle.place.proofs.Accepted.{accepted-admissible}
-use Rattle.finding.specs.Call.{inputConditions}
-use Rattle.finding.proofs.Promise.{pattern-accepted, board-accepted, verdict-is, nodes-front, links-front}
-use Rattle.distance.specs.Calls.{radiusCall}
+use Rattle.call_place.specs.Call.{inputConditions}
+use Rattle.call_place.proofs.Promise.{pattern-accepted, board-accepted, verdict-is, nodes-front, links-front}
+use Rattle.call_distance.specs.Calls.{radiusCall}
 use Rattle.merge.proofs.Content.{accepted-content, content-within, content-radius, most-parts}
 use Rattle.merge.proofs.Places.{SameAnswer, merged-answer}
-use Rattle.merging.specs.Call.{mergedBytes, merging}
-use Rattle.merging.proofs.Promise.{merged-verdict, merged-circuit, values-are, out-front}
+use Rattle.call_merge.specs.Call.{mergedBytes, merging}
+use Rattle.call_merge.proofs.Promise.{merged-verdict, merged-circuit, values-are, out-front}
 use Rattle.demands.specs.Merged.{mergedFile, nine, SameFound, Lent, Sound, placed}
 
 -- a condition that does not hold leaves the verdict to the others

@@ -1,16 +1,16 @@
 -- What a line of the report means, by the place call at the pattern's radius: where the call accepts, the centre has a line, with the nodes and
--- the links that the call marks; where it gives 9, it has none. finding/proofs/Promise says what the call's answers mean. Assumes nothing.
+-- the links that the call marks; where it gives 9, it has none. call_place/proofs/Promise says what the call's answers mean. Assumes nothing.
 use mathlib.Core.List.{List, []}
 use mathlib.Core.Path.{_≡_, sym, _∙_}
 use Prim.Native.Nat.{ℕ}
 use lib.ListN.{take}
-use Rattle.lists.proofs.Tests.{T-true, T-false}
-use Rattle.files.specs.Circuit.{circuitOf}
-use Rattle.files.specs.Layout.{nodesOf, linksOf, startsOf, endsOf}
-use Rattle.files.specs.Refusals.{accept, refuse}
+use Rattle.base_lists.proofs.Tests.{T-true, T-false}
+use Rattle.file_format.specs.Circuit.{circuitOf}
+use Rattle.file_format.specs.Layout.{nodesOf, linksOf, startsOf, endsOf}
+use Rattle.file_format.specs.Refusals.{accept, refuse}
 use Rattle.place.specs.Match.{radiusOf, found}
 use Rattle.place.specs.Outcome.{PlaceOutcome}
-use Rattle.finding.proofs.Promise.{verdict-is, found-verdict, none-verdict, nodes-front, links-front}
+use Rattle.call_place.proofs.Promise.{verdict-is, found-verdict, none-verdict, nodes-front, links-front}
 use Rattle.report.specs.Report.{nodeItems, linkItems, placeLine, hasPlace, centreLine}
 use Rattle.demands.specs.Merged.{nine, Lent, Sound, placed}
 

@@ -4,8 +4,8 @@ use mathlib.Core.Path.{_≡_}
 use Prim.Native.Nat.{ℕ}
 use lib.Dec.{T}
 use Rattle.graph.specs.Circuit.{Circuit}
-use Rattle.files.specs.declared.File.the-variants.{Neither}
-use Rattle.files.specs.Refusals.{refuse}
+use Rattle.file_format.specs.declared.File.the-variants.{Neither}
+use Rattle.file_format.specs.Refusals.{refuse}
 use Rattle.table.specs.Examples.{circuitT, circuitB, twoWay, ring}
 use Rattle.table.specs.Host.{everything}
 use Rattle.table.specs.Refine.{countsOf}

@@ -4,16 +4,16 @@ use mathlib.Core.List.{[], _∷_}
 use mathlib.Core.Path.{_≡_}
 use Prim.Native.Nat.{ℕ}
 use lib.ListN.{length}
-use Rattle.files.specs.declared.File.{File}
-use Rattle.files.specs.declared.File.the-variants as file
-use Rattle.files.specs.declared.Role.the-variants.{Pattern, Board}
-use Rattle.files.specs.Circuit.{circuitOf}
-use Rattle.files.specs.Examples.{fileT, fileB}
-use Rattle.files.specs.Reading.{reading}
-use Rattle.files.specs.Refusals.{Verdict, refuse, first, fileConditions}
+use Rattle.file_format.specs.declared.File.{File}
+use Rattle.file_format.specs.declared.File.the-variants as file
+use Rattle.file_format.specs.declared.Role.the-variants.{Pattern, Board}
+use Rattle.file_format.specs.Circuit.{circuitOf}
+use Rattle.file_format.specs.Examples.{fileT, fileB}
+use Rattle.file_format.specs.Reading.{reading}
+use Rattle.file_format.specs.Refusals.{Verdict, refuse, first, fileConditions}
 use Rattle.table.specs.Examples.{circuitT, circuitB}
-use Rattle.writing.specs.Bytes.{fileBytes}
-use Rattle.distance.specs.Calls.{ballConditions}
+use Rattle.file_write.specs.Bytes.{fileBytes}
+use Rattle.call_distance.specs.Calls.{ballConditions}
 use Rattle.demands.specs.Examples.{Statements, done, _also_}
 
 -- number and file

@@ -1,6 +1,8 @@
 // Runs the two calls of `distance` on each file of `cases` (tools/cases.py makes it): the radius once, as a pattern, and the ball lookup, as
 // a board, at each centre, radius and table length that the case names. Writes a line for each call: what it answered, and for a ball a
 // digest of the whole table, so that a byte that was touched shows.
+use call_distance::BallAnswer;
+use call_distance::RadiusAnswer;
 use cases::digest_bytes;
 use cases::end_line;
 use cases::least;
@@ -9,8 +11,6 @@ use cases::refill_bytes;
 use cases::show_number;
 use cases::show_refusal;
 use cases::wide;
-use distance::BallAnswer;
-use distance::RadiusAnswer;
 ghost use Prim.Native.Nat.{_+_, _*_, _≤_};
 ghost use lib.ListN.{length};
 
@@ -42,7 +42,7 @@ fn query(b: &[u8], at: usize, file: &[u8], out: &mut [u8])
     let radius = number(b, at + 4) as u16;
     let lent = least(number(b, at + 6), out.len());
     refill_bytes(out);
-    show_ball(distance::ball(file, centre, radius, &mut out[..lent]));
+    show_ball(call_distance::ball(file, centre, radius, &mut out[..lent]));
     show_number(digest_bytes(out));
     end_line();
 }
@@ -65,7 +65,7 @@ fn step(b: &[u8], at: usize, out: &mut [u8]) -> usize
     let from = first + 8 * count;
     let size = least(number(b, at), b.len() - from);
     let to = from + size;
-    show_radius(distance::radius(&b[from..to]));
+    show_radius(call_distance::radius(&b[from..to]));
     end_line();
     queries(b, first, count, &b[from..to], out);
     to

@@ -8,13 +8,13 @@ use native.Mathlib.Decide.{decLt}
 use native.Mathlib.Omega.{arith}
 use lib.ListN.{length}
 use lib.Seq.{take-all, getD-take, length-take-le}
-use Rattle.lists.proofs.Tests.{true-T}
-use Rattle.files.specs.declared.Role.{Role}
-use Rattle.files.specs.declared.Role.the-variants.{Pattern, Board}
-use Rattle.files.specs.Layout.{field, nodesOf, linksOf}
-use Rattle.files.specs.Refusals.{Condition, Verdict, accept, refuse, first, fileConditions}
-use Rattle.files.specs.Role.{inRange}
-use Rattle.files.proofs.Refusals.{first-accept, first-refuse, accepted, range-orders, verdict-2, verdict-3}
+use Rattle.base_lists.proofs.Tests.{true-T}
+use Rattle.file_format.specs.declared.Role.{Role}
+use Rattle.file_format.specs.declared.Role.the-variants.{Pattern, Board}
+use Rattle.file_format.specs.Layout.{field, nodesOf, linksOf}
+use Rattle.file_format.specs.Refusals.{Condition, Verdict, accept, refuse, first, fileConditions}
+use Rattle.file_format.specs.Role.{inRange}
+use Rattle.file_format.proofs.Refusals.{first-accept, first-refuse, accepted, range-orders, verdict-2, verdict-3}
 use Rattle.report.specs.Report.{reportFor, reportOf}
 use Rattle.finder.specs.Cut.{most, cut}
 

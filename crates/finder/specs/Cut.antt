@@ -2,9 +2,9 @@
 use mathlib.Core.List.{List}
 use Prim.Native.Nat.{ℕ, _+_}
 use lib.ListN.{take}
-use Rattle.files.specs.declared.Role.{Role}
-use Rattle.files.specs.Layout.{lengthOf}
-use Rattle.files.specs.Role.{maxNodes, maxLinks}
+use Rattle.file_format.specs.declared.Role.{Role}
+use Rattle.file_format.specs.Layout.{lengthOf}
+use Rattle.file_format.specs.Role.{maxNodes, maxLinks}
 
 -- a byte more than the longest file that is accepted in a role
 abbrev pub most : Role → ℕ

@@ -1,13 +1,13 @@
 // The report program: reads `pattern.cir` and `board.cir` in the folder it is run in, an absent file as an empty one, and prints the report.
 // Where a file is there and cannot be read, it says so in one line and prints nothing else.
-use files::Board;
-use files::Pattern;
-use reporting::ReportAnswer;
-use reporting::report;
+use call_report::ReportAnswer;
+use call_report::report;
+use file_format::Board;
+use file_format::Pattern;
 ghost use mathlib.Core.Path.{_≡_};
 ghost use lib.ListN.{length};
 ghost use Rattle.io.specs.Counts.{Counts};
-ghost use Rattle.files.specs.declared.Role.the-variants as role;
+ghost use Rattle.file_format.specs.declared.Role.the-variants as role;
 ghost use Rattle.finder.specs.Cut.{most};
 
 // A byte more than the longest file that is accepted in each role: the report of what is read so is the report of the files (proofs/Cut).

@@ -9,10 +9,10 @@ use native.Mathlib.Omega.{arith}
 use lib.Dec.{T, eqb, ltb, eqb→eq, ltb→lt}
 use borrow.Author.Tests.{eq-eqb}
 use lib.ListN.{length, getD}
-use Rattle.lists.specs.List.{tabulate, sum, all}
-use Rattle.lists.proofs.Tests.{both, both-left, both-right, either-left, either-right, either-cases, true-T, all-at}
-use Rattle.lists.proofs.Tables.{length-tabulate, getD-tabulate}
-use Rattle.lists.proofs.Rows.{rises-to-rest, getD-le-sum, sum-bits, sum-progress}
+use Rattle.base_lists.specs.List.{tabulate, sum, all}
+use Rattle.base_lists.proofs.Tests.{both, both-left, both-right, either-left, either-right, either-cases, true-T, all-at}
+use Rattle.base_lists.proofs.Tables.{length-tabulate, getD-tabulate}
+use Rattle.base_lists.proofs.Rows.{rises-to-rest, getD-le-sum, sum-bits, sum-progress}
 use Rattle.graph.specs.Graph.{Walk, stay, step}
 use Rattle.graph.specs.Circuit.{LinkAt, HasLink}
 use Rattle.graph.specs.Search.{beside, inside, ball}

@@ -5,7 +5,7 @@ use native.Mathlib.Nat.{lt-of-lt-of-le, not-suc-le-zero, zero-lt-suc, le-of-suc-
 use native.Mathlib.Omega.{arith}
 use lib.ListN.{take, drop, length-take, length-drop}
 use lib.Seq.{getD-take, getD-drop}
-use Rattle.graph.specs.Bfs.{Below}
+use Rattle.base_lists.specs.List.{Below}
 
 -- below a bound is below every larger one
 pub below-wider : (m n : ℕ) (xs : List ℕ) → m ≤ n → Below m xs → Below n xs

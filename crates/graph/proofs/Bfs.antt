@@ -12,12 +12,12 @@ use borrow.Author.Tests.{eq-eqb, ne-eqb, eqb-true, eqb-false}
 use lib.Dec.{T, eqb}
 use lib.ListN.{length, getD, drop, replicate, getD-replicate, length-replicate}
 use lib.Seq.{getD-set-same, getD-set-other}
-use Rattle.lists.proofs.Tests.{T-true, true-T}
+use Rattle.base_lists.proofs.Tests.{T-true, true-T}
 use Rattle.graph.specs.Graph.{Walk, stay, step}
 use Rattle.graph.specs.Neighbours.{stretch}
 use Rattle.graph.specs.Search.{far}
-use Rattle.lists.specs.List.{Occurs}
-use Rattle.graph.specs.Bfs.{State, level, levels, start, bfs, adjacent, Below, missing, Ready, Adjacency, Measured}
+use Rattle.base_lists.specs.List.{Occurs, Below}
+use Rattle.graph.specs.Bfs.{State, level, levels, start, bfs, adjacent, missing, Ready, Adjacency, Measured}
 use Rattle.graph.proofs.Below.{below-drop, below-append}
 use Rattle.graph.proofs.Lookup.{stretch-below}
 use Rattle.graph.proofs.BfsSteps.{missing-set, levels-end, ready-level, ready-start}

@@ -10,11 +10,11 @@ use borrow.Author.Tests.{ltb-true, ltb-false, eq-eqb, ne-eqb, eqb-true, eqb-fals
 use lib.Dec.{T, eqb, ltb, eqb→eq, eqb-refl}
 use lib.ListN.{length, getD, drop, set, length-append, List·getD-eq-default, drop-of-length-le}
 use lib.Seq.{drop-length, drop-append-le, getD-set-same, getD-set-other}
-use Rattle.lists.specs.List.{any}
-use Rattle.lists.proofs.Tests.{either-left, either-right, either-cases, any-at, at-any, true-T}
+use Rattle.base_lists.specs.List.{any, Below}
+use Rattle.base_lists.proofs.Tests.{either-left, either-right, either-cases, any-at, at-any, true-T}
 use Rattle.graph.specs.Search.{far}
-use Rattle.lists.specs.List.{Occurs}
-use Rattle.graph.specs.Bfs.{State, visit, scan, level, Below}
+use Rattle.base_lists.specs.List.{Occurs}
+use Rattle.graph.specs.Bfs.{State, visit, scan, level}
 use Rattle.graph.proofs.BfsSteps.{visit-cases, scan-append}
 
 pub lt-or-le : (a b : ℕ) → (a < b) ⊎ (b ≤ a)

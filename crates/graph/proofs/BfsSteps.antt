@@ -11,7 +11,8 @@ use lib.Dec.{eqb}
 use lib.ListN.{length, getD, take, drop, set, length-append, replicate, length-set, length-replicate, getD-replicate, drop-of-length-le}
 use lib.Seq.{drop-cons, length-take-le, take-suc-set, take-append-le, take-take, getD-take}
 use Rattle.graph.specs.Neighbours.{stretch}
-use Rattle.graph.specs.Bfs.{State, visit, scan, level, levels, start, adjacent, Below, missing, Ready, stateOf, Searching, Searched, Found}
+use Rattle.graph.specs.Bfs.{State, visit, scan, level, levels, start, adjacent, missing, Ready, stateOf, Searching, Searched, Found}
+use Rattle.base_lists.specs.List.{Below}
 use Rattle.graph.specs.Search.{far}
 use Rattle.graph.proofs.Below.{below-append, below-one}
 

@@ -10,10 +10,10 @@ use lib.Dec.{T, eqb, lit<}
 use borrow.Author.Tests.{eq-eqb, ne-eqb}
 use lib.ListN.{length, getD}
 use lib.Seq.{ext-getD}
-use Rattle.lists.specs.List.{all, tabulate, maximum}
-use Rattle.lists.proofs.Tests.{T-true, T-false, decide, all-at, at-all}
-use Rattle.lists.proofs.Tables.{length-tabulate, getD-tabulate, is-tabulate}
-use Rattle.lists.proofs.Rows.{getD-le-maximum, maximum-attained, rule-le-maximum, rule-maximum-attained}
+use Rattle.base_lists.specs.List.{all, tabulate, maximum}
+use Rattle.base_lists.proofs.Tests.{T-true, T-false, decide, all-at, at-all}
+use Rattle.base_lists.proofs.Tables.{length-tabulate, getD-tabulate, is-tabulate}
+use Rattle.base_lists.proofs.Rows.{getD-le-maximum, maximum-attained, rule-le-maximum, rule-maximum-attained}
 use Rattle.graph.specs.Graph.{Graph, Walk, Distance, InBall, Connected, Radius}
 use Rattle.graph.specs.Circuit.{HasLink, graphOf}
 use Rattle.graph.specs.Search.{far, beside, inside, ball, misses, distances, connected, radius}

@@ -6,9 +6,9 @@ use Prim.Native.Nat.{ℕ, suc, _-_, _≤_, _<_}
 use native.Mathlib.Nat.{not-suc-le-zero}
 use lib.Dec.{T, ltb, leb, lt→ltb, le→leb, ltb→lt, leb→le}
 use lib.ListN.{length, getD, take, drop}
-use Rattle.lists.proofs.Tests.{both, both-left, both-right, T-true, T-false}
+use Rattle.base_lists.proofs.Tests.{both, both-left, both-right, T-true, T-false}
 use Rattle.graph.specs.Neighbours.{stretch}
-use Rattle.graph.specs.Bfs.{Below}
+use Rattle.base_lists.specs.List.{Below}
 use Rattle.graph.proofs.Below.{below-drop, below-take}
 
 module _ (offsets table : List ℕ) (v : ℕ) where

@@ -8,10 +8,10 @@ use native.Mathlib.Nat.{not-suc-le-zero}
 use native.Mathlib.Omega.{arith}
 use lib.Dec.{T, eqb, ltb, eqb→eq, eqb-refl}
 use lib.ListN.{length, getD}
-use Rattle.lists.specs.List.{all, Occurs, tabulate, maximum}
-use Rattle.lists.proofs.Tables.{tabulate-same}
-use Rattle.lists.proofs.Tests.{same-test}
-use Rattle.graph.specs.Bfs.{Below, Adjacency, Measured, bfs, adjacent, eccentricity}
+use Rattle.base_lists.specs.List.{all, Occurs, tabulate, maximum, Below}
+use Rattle.base_lists.proofs.Tables.{tabulate-same}
+use Rattle.base_lists.proofs.Tests.{same-test}
+use Rattle.graph.specs.Bfs.{Adjacency, Measured, bfs, adjacent, eccentricity}
 use Rattle.graph.specs.Circuit.{HasLink, graphOf}
 use Rattle.graph.specs.Graph.{Walk, Connected}
 use Rattle.graph.specs.Neighbours.{select, groupsFrom, grouped, offsetsOf, stretch}

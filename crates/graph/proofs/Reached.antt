@@ -11,9 +11,9 @@ use borrow.Author.Tests.{eqb-true, eqb-false}
 use lib.Dec.{eqb}
 use lib.ListN.{length, getD, drop, set, replicate, length-append, length-replicate, getD-replicate, List·getD-append}
 use lib.Seq.{getD-set-same, getD-set-other, getD-append-seam}
-use Rattle.lists.specs.List.{Occurs}
+use Rattle.base_lists.specs.List.{Occurs, Below}
 use Rattle.graph.specs.Search.{far}
-use Rattle.graph.specs.Bfs.{State, visit, scan, level, levels, start, bfs, Below, Ready}
+use Rattle.graph.specs.Bfs.{State, visit, scan, level, levels, start, bfs, Ready}
 use Rattle.graph.proofs.Below.{below-drop}
 use Rattle.graph.proofs.BfsSteps.{visit-cases, levels-end, ready-visit, ready-scan, ready-level, ready-start, extends-level, extends-length}
 use Rattle.graph.proofs.BfsScan.{lt-or-le, occurs-append}

@@ -7,7 +7,7 @@ use mathlib.Core.Path.{_≡_}
 use Prim.Native.Nat.{ℕ, zero, suc, _+_, _≤_, _<_}
 use lib.Dec.{eqb}
 use lib.ListN.{length, getD, take, drop, set, replicate}
-use Rattle.lists.specs.List.{Occurs, maximum}
+use Rattle.base_lists.specs.List.{Occurs, maximum, Below}
 use Rattle.graph.specs.Graph.{Walk}
 use Rattle.graph.specs.Neighbours.{stretch}
 use Rattle.graph.specs.Search.{far}
@@ -54,10 +54,6 @@ eccentricity adj n c = maximum (bfs adj n c n .dist)
 -- the neighbours of v, directions ignored: what it drives, then what drives it
 unfoldable pub adjacent : List ℕ → List ℕ → List ℕ → List ℕ → ℕ → List ℕ
 adjacent fo ft bo bt v = stretch fo ft v ++ stretch bo bt v
-
--- every entry of a list is below n
-unfoldable pub Below : ℕ → List ℕ → Type 0
-Below n xs = (i : ℕ) → i < length xs → getD xs i 0 < n
 
 -- how many nodes are not reached
 unfoldable pub missing : List ℕ → ℕ

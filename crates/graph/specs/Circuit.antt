@@ -28,3 +28,6 @@ pub record Circuit : Type 0 where
 
 unfoldable pub circuitGraph : Circuit → Graph
 circuitGraph c = graphOf (length (c .kinds)) (c .starts) (c .ends)
+
+abbrev pub circuit : List ℕ → List ℕ → List ℕ → Circuit
+circuit kinds starts ends = record { kinds = kinds; starts = starts; ends = ends }

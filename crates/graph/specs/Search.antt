@@ -4,7 +4,7 @@ use mathlib.Core.List.{List, [], _∷_}
 use Prim.Native.Nat.{ℕ, zero, suc, _+_}
 use lib.Dec.{eqb}
 use lib.ListN.{getD}
-use Rattle.lists.specs.List.{all, tabulate, maximum}
+use Rattle.base_lists.specs.List.{all, tabulate, maximum}
 
 -- the entry of a node that no walk within the radius reaches
 abbrev pub far : ℕ

@@ -3,17 +3,17 @@
 use mathlib.Core.List.{List, [], _∷_}
 use Prim.Native.Nat.{ℕ}
 use lib.ListN.{length, getD}
-use Rattle.files.specs.declared.File.{File}
-use Rattle.files.specs.declared.File.the-variants.{Pattern, Board, Neither}
-use Rattle.files.specs.Reading.{ReadOutcome, filled}
-use Rattle.files.specs.Refusals.{Verdict, accept, refuse, first, shortTable}
-use Rattle.files.specs.Reply as files
-use Rattle.distance.specs.Calls.{BallOutcome}
-use Rattle.writing.specs.Writing.{WriteOutcome}
+use Rattle.file_format.specs.declared.File.{File}
+use Rattle.file_format.specs.declared.File.the-variants.{Pattern, Board, Neither}
+use Rattle.file_format.specs.Reading.{ReadOutcome, filled}
+use Rattle.file_format.specs.Refusals.{Verdict, accept, refuse, first, shortTable}
+use Rattle.file_format.specs.Reply as files
+use Rattle.call_distance.specs.Calls.{BallOutcome}
+use Rattle.file_write.specs.Writing.{WriteOutcome}
 use Rattle.table.specs.Reply as table
-use Rattle.matching.specs.Call.{TableOutcome}
+use Rattle.call_match.specs.Call.{TableOutcome}
 use Rattle.place.specs.Outcome.{PlaceOutcome}
-use Rattle.merging.specs.Call.{MergeOutcome}
+use Rattle.call_merge.specs.Call.{MergeOutcome}
 use Rattle.heronditch.specs.declared.reply.Reply.{Reply}
 use Rattle.heronditch.specs.declared.reply.Counted.{Counted}
 

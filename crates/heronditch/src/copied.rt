@@ -7,8 +7,8 @@ ghost use Rattle.heronditch.specs.Host.{hostNeighbours};
 use crate::reply::Reply;
 use crate::reply::accepted;
 use crate::reply::refused;
-use files::File;
-use files::Refusal;
+use file_format::File;
+use file_format::Refusal;
 
 // Copies all entries to the front of a table that has room for them.
 fn copy(part: &[u16], out: &mut [u16])

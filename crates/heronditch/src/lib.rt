@@ -1,16 +1,16 @@
 // The calls for programs in other languages: a slice crosses as a pointer and a length, and each reply is a struct of numbers.
 ghost use mathlib.Core.Path.{_≡_};
-ghost use Rattle.adjacency.specs.declared.neighbours.Direction.the-variants as direction;
-ghost use Rattle.adjacency.specs.Lookup.{neighboursOf};
-ghost use Rattle.files.specs.declared.Role.the-variants as role;
-ghost use Rattle.files.specs.Reading.{reading};
-ghost use Rattle.distance.specs.Calls.{radiusCall, ballCall};
-ghost use Rattle.writing.specs.Writing.{writing};
-ghost use Rattle.matching.specs.Call.{matching};
-ghost use Rattle.files.specs.Circuit.{circuitOf};
+ghost use Rattle.graph_neighbours.specs.declared.neighbours.Direction.the-variants as direction;
+ghost use Rattle.graph_neighbours.specs.Lookup.{neighboursOf};
+ghost use Rattle.file_format.specs.declared.Role.the-variants as role;
+ghost use Rattle.file_format.specs.Reading.{reading};
+ghost use Rattle.call_distance.specs.Calls.{radiusCall, ballCall};
+ghost use Rattle.file_write.specs.Writing.{writing};
+ghost use Rattle.call_match.specs.Call.{matching};
+ghost use Rattle.file_format.specs.Circuit.{circuitOf};
 ghost use Rattle.place.specs.Match.{radiusOf};
-ghost use Rattle.finding.specs.Call.{placeAt};
-ghost use Rattle.merging.specs.Call.{merging};
+ghost use Rattle.call_place.specs.Call.{placeAt};
+ghost use Rattle.call_merge.specs.Call.{merging};
 ghost use Rattle.heronditch.specs.Host.{slots, hostRead, hostWrite, hostBall, hostMatch, hostPlace, hostMerge, hostNeighbours};
 use crate::copied::copy_out;
 use crate::reply::Counted;
@@ -22,9 +22,9 @@ use crate::reply::of_place;
 use crate::reply::of_radius;
 use crate::reply::of_read;
 use crate::reply::of_write;
-use adjacency::neighbours::Direction;
-use adjacency::neighbours::neighbours;
-use files::Role;
+use file_format::Role;
+use graph_neighbours::neighbours::Direction;
+use graph_neighbours::neighbours::neighbours;
 
 mod copied;
 pub mod reply;
@@ -39,7 +39,7 @@ pub extern "C" fn heronditch_read_pattern(
     ensures { λ r. ⌜ record { reply = r; kinds = now (kinds .exit); starts = now (starts .exit); ends = now (ends .exit) }
         ≡ hostRead (reading role.Pattern (now (file .entry)) (now (kinds .entry)) (now (starts .entry)) (now (ends .entry))) ⌝ }
 {
-    of_read(reading::read(Role::Pattern, file, kinds, starts, ends))
+    of_read(file_read::read(Role::Pattern, file, kinds, starts, ends))
 }
 
 #[no_mangle]
@@ -52,7 +52,7 @@ pub extern "C" fn heronditch_read_board(
     ensures { λ r. ⌜ record { reply = r; kinds = now (kinds .exit); starts = now (starts .exit); ends = now (ends .exit) }
         ≡ hostRead (reading role.Board (now (file .entry)) (now (kinds .entry)) (now (starts .entry)) (now (ends .entry))) ⌝ }
 {
-    of_read(reading::read(Role::Board, file, kinds, starts, ends))
+    of_read(file_read::read(Role::Board, file, kinds, starts, ends))
 }
 
 #[no_mangle]
@@ -65,7 +65,7 @@ pub extern "C" fn heronditch_write_pattern(
     ensures { λ r. ⌜ record { reply = r; out = now (out .exit) }
         ≡ hostWrite (writing role.Pattern (now (kinds .entry)) (now (starts .entry)) (now (ends .entry)) (now (out .entry))) ⌝ }
 {
-    of_write(writing::write(Role::Pattern, kinds, starts, ends, out))
+    of_write(file_write::write(Role::Pattern, kinds, starts, ends, out))
 }
 
 #[no_mangle]
@@ -78,28 +78,28 @@ pub extern "C" fn heronditch_write_board(
     ensures { λ r. ⌜ record { reply = r; out = now (out .exit) }
         ≡ hostWrite (writing role.Board (now (kinds .entry)) (now (starts .entry)) (now (ends .entry)) (now (out .entry))) ⌝ }
 {
-    of_write(writing::write(Role::Board, kinds, starts, ends, out))
+    of_write(file_write::write(Role::Board, kinds, starts, ends, out))
 }
 
 #[no_mangle]
 pub extern "C" fn heronditch_radius(pattern: &[u8]) -> Reply
     ensures { λ r. ⌜ r ≡ slots (radiusCall (now (pattern .entry))) ⌝ }
 {
-    of_radius(distance::radius(pattern))
+    of_radius(call_distance::radius(pattern))
 }
 
 #[no_mangle]
 pub extern "C" fn heronditch_ball(board: &[u8], centre: usize, radius: u16, out: &mut [u8]) -> Reply
     ensures { λ r. ⌜ record { reply = r; out = now (out .exit) } ≡ hostBall (ballCall (now (board .entry)) centre radius (now (out .entry))) ⌝ }
 {
-    of_ball(distance::ball(board, centre, radius, out))
+    of_ball(call_distance::ball(board, centre, radius, out))
 }
 
 #[no_mangle]
 pub extern "C" fn heronditch_match(pattern: &[u8], board: &[u8], table: &mut [u32]) -> Counted
     ensures { λ r. ⌜ record { reply = r; table = now (table .exit) } ≡ hostMatch (matching (now (pattern .entry)) (now (board .entry)) (now (table .entry))) ⌝ }
 {
-    of_match(matching::match_table(pattern, board, table))
+    of_match(call_match::match_table(pattern, board, table))
 }
 
 #[no_mangle]
@@ -114,7 +114,7 @@ pub extern "C" fn heronditch_place(
     ensures { λ r. ⌜ record { reply = r; nodes = now (nodes .exit); links = now (links .exit); table = now (table .exit) }
         ≡ hostPlace (placeAt (now (pattern .entry)) (now (board .entry)) centre (radiusOf (circuitOf (now (pattern .entry)))) (now (nodes .entry)) (now (links .entry)) (now (table .entry))) ⌝ }
 {
-    of_place(finding::place(pattern, board, centre, nodes, links, table))
+    of_place(call_place::place(pattern, board, centre, nodes, links, table))
 }
 
 #[no_mangle]
@@ -130,14 +130,14 @@ pub extern "C" fn heronditch_place_within(
     ensures { λ r. ⌜ record { reply = r; nodes = now (nodes .exit); links = now (links .exit); table = now (table .exit) }
         ≡ hostPlace (placeAt (now (pattern .entry)) (now (board .entry)) centre radius (now (nodes .entry)) (now (links .entry)) (now (table .entry))) ⌝ }
 {
-    of_place(finding::place_within(pattern, board, centre, radius, nodes, links, table))
+    of_place(call_place::place_within(pattern, board, centre, radius, nodes, links, table))
 }
 
 #[no_mangle]
 pub extern "C" fn heronditch_merge(pattern: &[u8], classes: &mut [u8], out: &mut [u8]) -> Reply
     ensures { λ r. ⌜ record { reply = r; classes = now (classes .exit); out = now (out .exit) } ≡ hostMerge (merging (now (pattern .entry)) (now (classes .entry)) (now (out .entry))) ⌝ }
 {
-    of_merge(merging::merge(pattern, classes, out))
+    of_merge(call_merge::merge(pattern, classes, out))
 }
 
 #[no_mangle]

@@ -1,22 +1,22 @@
 // Replies as a host program sees them: structs of numbers, in place of the enums.
 ghost use mathlib.Core.Path.{_≡_};
-ghost use Rattle.files.specs.Reply.{readReply};
-ghost use Rattle.distance.specs.Calls.{radiusReply, ballReply};
-ghost use Rattle.writing.specs.Writing.{writeReply};
-ghost use Rattle.matching.specs.Call.{replyOf};
+ghost use Rattle.file_format.specs.Reply.{readReply};
+ghost use Rattle.call_distance.specs.Calls.{radiusReply, ballReply};
+ghost use Rattle.file_write.specs.Writing.{writeReply};
+ghost use Rattle.call_match.specs.Call.{replyOf};
 ghost use Rattle.place.specs.Outcome.{placeReply};
-ghost use Rattle.merging.specs.Call.{mergeReply};
+ghost use Rattle.call_merge.specs.Call.{mergeReply};
 ghost use Rattle.heronditch.specs.Host.{fileNumber, slots, counted};
-use distance::BallAnswer;
-use distance::RadiusAnswer;
-use files::File;
-use files::ReadAnswer;
-use files::Refusal;
-use matching::TableAnswer;
-use merging::MergeAnswer;
+use call_distance::BallAnswer;
+use call_distance::RadiusAnswer;
+use call_match::TableAnswer;
+use call_merge::MergeAnswer;
+use file_format::File;
+use file_format::ReadAnswer;
+use file_format::Refusal;
+use file_write::WriteAnswer;
 use place::PlaceAnswer;
 use table::Counts;
-use writing::WriteAnswer;
 
 // Number 0 for acceptance or the refusal's number; the file that it means (0 neither, 1 pattern, 2 board); the values replied with.
 #[repr(C)]

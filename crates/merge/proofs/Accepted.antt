@@ -8,10 +8,10 @@ use native.Mathlib.Nat.{le-trans, div-add-mod'}
 use native.Mathlib.Omega.{arith}
 use lib.Dec.{T, ltb, leb, lt→ltb, le→leb}
 use lib.ListN.{length, getD}
-use Rattle.lists.specs.List.{all}
-use Rattle.lists.specs.Below.{countBelow}
-use Rattle.lists.proofs.Tests.{both, at-all}
-use Rattle.lists.proofs.Ranks.{rank-onto, rank-rises, count-images, pair-order}
+use Rattle.base_lists.specs.List.{all}
+use Rattle.base_lists.specs.Below.{countBelow}
+use Rattle.base_lists.proofs.Tests.{both, at-all}
+use Rattle.base_lists.proofs.Ranks.{rank-onto, rank-rises, count-images, pair-order}
 use Rattle.graph.specs.Circuit.{Circuit, HasLink, circuitGraph}
 use Rattle.graph.specs.Graph.{Connected}
 use Rattle.graph.specs.Rising.{LinksRise}
@@ -19,9 +19,9 @@ use Rattle.graph.proofs.Ball.{Within}
 use Rattle.graph.proofs.Distance.{connected-iff}
 use Rattle.simulation.proofs.Same.{same-symm, connected-same, radius-same}
 use Rattle.simulation.proofs.Quotient.{quotient-connected, quotient-radius}
-use Rattle.files.specs.Layout.{lengthOf}
-use Rattle.files.specs.Links.{linksBelow}
-use Rattle.files.proofs.Rising.{rise-test}
+use Rattle.file_format.specs.Layout.{lengthOf}
+use Rattle.file_format.specs.Links.{linksBelow}
+use Rattle.file_format.proofs.Rising.{rise-test}
 use Rattle.place.specs.Match.{radiusOf}
 use Rattle.merge.specs.Merged.{classOf, classCount, linkedPair, merged}
 use Rattle.merge.proofs.Content.{PatternContent, most-parts, most-links, content-connected, content-radius}

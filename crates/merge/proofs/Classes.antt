@@ -8,11 +8,11 @@ use native.Mathlib.Nat.{lt-of-le-of-lt}
 use borrow.Author.Tests.{eq-eqb}
 use lib.Dec.{T, eqb→eq}
 use lib.ListN.{length, getD}
-use Rattle.lists.specs.Below.{countBelow}
-use Rattle.lists.proofs.Tests.{both, both-left, both-right, true-T, same-test}
-use Rattle.lists.proofs.Tables.{length-tabulate, getD-tabulate}
-use Rattle.lists.proofs.Below.{leastBelow-min, leastBelow-at, leastBelow-same, countBelow-le}
-use Rattle.lists.proofs.Ranks.{rank-lt, rank-injective, rank-rises, rank-onto, collect-rank}
+use Rattle.base_lists.specs.Below.{countBelow}
+use Rattle.base_lists.proofs.Tests.{both, both-left, both-right, true-T, same-test}
+use Rattle.base_lists.proofs.Tables.{length-tabulate, getD-tabulate}
+use Rattle.base_lists.proofs.Below.{leastBelow-min, leastBelow-at, leastBelow-same, countBelow-le}
+use Rattle.base_lists.proofs.Ranks.{rank-lt, rank-injective, rank-rises, rank-onto, collect-rank}
 use Rattle.graph.specs.Circuit.{Circuit, graphOf, circuitGraph}
 use Rattle.simulation.specs.Closed.{Relation}
 use Rattle.simulation.specs.Simulation.{Largest}

@@ -5,22 +5,22 @@ use Prim.Native.Nat.{ℕ, _≤_, _<_}
 use native.Mathlib.Nat.{le-trans}
 use lib.Dec.{T, ltb, lit≤}
 use lib.ListN.{length}
-use Rattle.lists.specs.List.{all}
-use Rattle.lists.proofs.Tests.{both-left, both-right}
+use Rattle.base_lists.specs.List.{all}
+use Rattle.base_lists.proofs.Tests.{both-left, both-right}
 use Rattle.graph.specs.Circuit.{Circuit, circuitGraph}
 use Rattle.graph.specs.Graph.{Connected, Radius}
 use Rattle.graph.specs.Search.{connected}
 use Rattle.graph.proofs.Ball.{Within, within-all}
 use Rattle.graph.proofs.Distance.{connected-iff, radius-is}
-use Rattle.files.specs.declared.Role.the-variants.{Pattern, Board}
-use Rattle.files.specs.Links.{linksBelow, rising}
-use Rattle.files.specs.Role.{inRange}
-use Rattle.files.specs.Refusals.{asksConnected}
-use Rattle.files.proofs.Refusals.{Accepted, range-pattern}
+use Rattle.file_format.specs.declared.Role.the-variants.{Pattern, Board}
+use Rattle.file_format.specs.Links.{linksBelow, rising}
+use Rattle.file_format.specs.Role.{inRange}
+use Rattle.file_format.specs.Refusals.{asksConnected}
+use Rattle.file_format.proofs.Refusals.{Accepted, range-pattern}
 use Rattle.place.specs.Match.{radiusOf}
 use Rattle.place.proofs.Ball.{Admissible}
-use Rattle.files.specs.Circuit.{circuitOf, Bounded}
-use Rattle.files.proofs.Fields.{length-kinds, length-starts, length-ends}
+use Rattle.file_format.specs.Circuit.{circuitOf, Bounded}
+use Rattle.file_format.proofs.Fields.{length-kinds, length-starts, length-ends}
 
 -- Every condition on a pattern that is not about the bytes of a file: numbers 2, 4, 5 and 6, and "as many starts as ends".
 pub record PatternContent (p : Circuit) : Type 0 where

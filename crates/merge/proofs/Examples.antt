@@ -1,14 +1,14 @@
 -- Document 01's examples of merging, by computation. Assumes nothing.
 use mathlib.Core.List.{[], _∷_}
 use mathlib.Core.Path.{_≡_, refl, ap, _∙_}
-use Rattle.lists.specs.List.{all, any, allBelow, anyBelow, tabulate, sum}
-use Rattle.lists.specs.Below.{countBelow, leastBelow, collect}
-use Rattle.bits.specs.Bits.{bit, numberOf, sizeOf}
+use Rattle.base_lists.specs.List.{all, any, allBelow, anyBelow, tabulate, sum}
+use Rattle.base_lists.specs.Below.{countBelow, leastBelow, collect}
+use Rattle.base_bits.specs.Bits.{bit, numberOf, sizeOf}
 use Rattle.graph.specs.Neighbours.{select}
 use Rattle.graph.specs.Search.{inside, beside, ball, connected}
 use Rattle.table.specs.Host.{everything}
 use Rattle.table.specs.Row.{inTable, agrees, startTable, answered, supported, strike, row, pairs, started, lastTable}
-use Rattle.files.specs.Links.{linksBelow, earlier, rising}
+use Rattle.file_format.specs.Links.{linksBelow, earlier, rising}
 use Rattle.place.specs.Match.{radiusOf}
 use Rattle.place.specs.Examples.{circuitY, oneLink}
 use Rattle.place.proofs.Examples.{radius-Y, radius-oneLink}

@@ -7,10 +7,10 @@ use native.Mathlib.Nat.{mod-lt, div-lt-iff-lt-mul}
 use borrow.Author.Tests.{eq-eqb}
 use lib.Dec.{T, eqb, eqb→eq}
 use lib.ListN.{length, getD}
-use Rattle.lists.specs.Below.{countBelow}
-use Rattle.lists.proofs.Tests.{both, both-left, both-right, true-T, anyBelow-at, at-anyBelow}
-use Rattle.lists.proofs.Below.{length-collect}
-use Rattle.lists.proofs.Ranks.{rank-onto, rank-lt, collect-rank, pair-row, pair-column, pair-below}
+use Rattle.base_lists.specs.Below.{countBelow}
+use Rattle.base_lists.proofs.Tests.{both, both-left, both-right, true-T, anyBelow-at, at-anyBelow}
+use Rattle.base_lists.proofs.Below.{length-collect}
+use Rattle.base_lists.proofs.Ranks.{rank-onto, rank-lt, collect-rank, pair-row, pair-column, pair-below}
 use Rattle.graph.specs.Circuit.{Circuit, LinkAt, HasLink, graphOf, circuitGraph}
 use Rattle.simulation.specs.Perfect.{SameGraph}
 use Rattle.simulation.specs.Quotient.{QuotientGraph, QuotientAgree, Merging}

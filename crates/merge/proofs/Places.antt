@@ -6,8 +6,8 @@ use mathlib.Core.Logic.{_↔_, Iff·rfl, Iff·trans}
 use mathlib.Core.Path.{_≡_, refl, sym, ap, ap₂, subst, fun-ext}
 use Prim.Native.Nat.{ℕ, zero, _<_}
 use lib.ListN.{length, getD}
-use Rattle.lists.specs.List.{tabulate}
-use Rattle.lists.proofs.Tests.{same-test}
+use Rattle.base_lists.specs.List.{tabulate}
+use Rattle.base_lists.proofs.Tests.{same-test}
 use Rattle.graph.specs.Circuit.{Circuit, graphOf, circuitGraph}
 use Rattle.graph.specs.Graph.{Graph}
 use Rattle.graph.specs.Search.{ball, inside}
@@ -17,7 +17,8 @@ use Rattle.simulation.specs.Quotient.{QuotientGraph}
 use Rattle.simulation.proofs.Same.{same-refl, same-symm, largest-same, place-same}
 use Rattle.simulation.proofs.Quotient.{same-pairs, same-place}
 use Rattle.table.specs.Host.{EqualKinds}
-use Rattle.place.specs.Match.{radiusOf, ballTable, found, matches, keepFrom, linkMatches, matchStarts, matchEnds, component, placeNodes, placeLinks}
+use Rattle.place.specs.Match.{radiusOf, ballTable, found, matches, linkMatches, matchStarts, matchEnds, component, placeNodes, placeLinks}
+use Rattle.base_lists.specs.Below.{keepFrom}
 use Rattle.place.proofs.Ball.{Admissible, ballGraph, BallPairs, ball-largest, found-iff}
 use Rattle.place.proofs.Links.{matches-iff}
 use Rattle.merge.specs.Merged.{classOf, merged}

@@ -5,8 +5,8 @@ use mathlib.Core.List.{List}
 use Prim.Native.Nat.{ℕ, _*_, _/_, _%_}
 use lib.Dec.{eqb}
 use lib.ListN.{length, getD}
-use Rattle.lists.specs.Below.{countBelow, leastBelow, collect}
-use Rattle.lists.specs.List.{anyBelow, tabulate}
+use Rattle.base_lists.specs.Below.{countBelow, leastBelow, collect}
+use Rattle.base_lists.specs.List.{anyBelow, tabulate}
 use Rattle.graph.specs.Circuit.{Circuit}
 use Rattle.table.specs.Host.{everything}
 use Rattle.table.specs.Row.{inTable, lastTable}

@@ -4,13 +4,13 @@ use Prim.Native.Nat.{ℕ}
 use Rattle.graph.specs.Circuit.{circuitGraph}
 use Rattle.graph.specs.Graph.{Radius}
 use Rattle.graph.proofs.Distance.{radius-is}
-use Rattle.files.specs.declared.Role.the-variants.{Pattern, Board}
-use Rattle.files.specs.Circuit.{circuitOf}
-use Rattle.files.specs.Layout.{nodesOf, linksOf}
-use Rattle.files.specs.Refusals.{asksConnected}
-use Rattle.files.proofs.Fields.{length-kinds}
-use Rattle.files.proofs.Accepted.{accepted-bounded, accepted-below, accepted-within, accepted-connected}
-use Rattle.files.proofs.Refusals.{Accepted, range-orders}
+use Rattle.file_format.specs.declared.Role.the-variants.{Pattern, Board}
+use Rattle.file_format.specs.Circuit.{circuitOf}
+use Rattle.file_format.specs.Layout.{nodesOf, linksOf}
+use Rattle.file_format.specs.Refusals.{asksConnected}
+use Rattle.file_format.proofs.Fields.{length-kinds}
+use Rattle.file_format.proofs.Accepted.{accepted-bounded, accepted-below, accepted-within, accepted-connected}
+use Rattle.file_format.proofs.Refusals.{Accepted, range-orders}
 use Rattle.place.specs.Match.{radiusOf}
 use Rattle.place.proofs.Ball.{Admissible}
 

@@ -5,11 +5,11 @@ use mathlib.Core.Path.{_≡_, sym, ap, subst, _∙_}
 use Prim.Native.Nat.{ℕ, _≤_}
 use lib.Dec.{T}
 use lib.ListN.{length, getD}
-use Rattle.lists.specs.List.{anyBelow}
-use Rattle.lists.proofs.Tests.{anyBelow-at, at-anyBelow}
-use Rattle.bits.specs.Bits.{bit}
-use Rattle.bits.proofs.Digits.{bit-below}
-use Rattle.bits.proofs.Tests.{zero-test}
+use Rattle.base_lists.specs.List.{anyBelow}
+use Rattle.base_lists.proofs.Tests.{anyBelow-at, at-anyBelow}
+use Rattle.base_bits.specs.Bits.{bit}
+use Rattle.base_bits.proofs.Digits.{bit-below}
+use Rattle.base_bits.proofs.Tests.{zero-test}
 use Rattle.graph.specs.Circuit.{Circuit, graphOf, circuitGraph}
 use Rattle.graph.specs.Graph.{Graph, Connected, Ball}
 use Rattle.graph.proofs.Ball.{Within, inside-node}

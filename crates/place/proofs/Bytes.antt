@@ -6,14 +6,13 @@ use Prim.Native.Nat.{ℕ, _<_}
 use native.Mathlib.Nat.{le-of-eq}
 use lib.Dec.{eqb}
 use lib.ListN.{length, getD, List·getD-eq-default}
-use Rattle.lists.specs.List.{tabulate}
-use Rattle.lists.proofs.Tables.{is-tabulate, tabulate-same}
-use Rattle.bits.specs.Bits.{intersects, unionOver}
-use Rattle.bits.proofs.Unions.{unionOver-none}
+use Rattle.base_lists.specs.List.{tabulate, Below}
+use Rattle.base_lists.proofs.Tables.{is-tabulate, tabulate-same}
+use Rattle.base_bits.specs.Bits.{intersects, unionOver}
+use Rattle.base_bits.proofs.Unions.{unionOver-none}
 use Rattle.graph.specs.Circuit.{Circuit}
 use Rattle.graph.specs.Search.{far, inside}
 use Rattle.graph.proofs.Ball.{bit-entry}
-use Rattle.graph.specs.Bfs.{Below}
 use Rattle.place.specs.Match.{ballTable, matches, linkMatches, placeNodes, placeLinks, placeTable}
 use Rattle.place.specs.Bytes.{nodeBytes, nodeSets, drivenBy, linkByte, linkBytes}
 use Rattle.place.proofs.Marks.{nodes-marks}

@@ -3,15 +3,15 @@ use mathlib.Core.List.{List, [], _∷_}
 use mathlib.Core.Path.{_≡_, refl}
 use Prim.Native.Nat.{ℕ}
 use lib.Dec.{T}
-use Rattle.lists.specs.List.{all, any, anyBelow, tabulate, sum, maximum}
-use Rattle.lists.specs.Below.{countBelow}
-use Rattle.bits.specs.Bits.{bit, numberOf, sizeOf}
+use Rattle.base_lists.specs.List.{all, any, anyBelow, tabulate, sum, maximum}
+use Rattle.base_lists.specs.Below.{countBelow, keepFrom}
+use Rattle.base_bits.specs.Bits.{bit, numberOf, sizeOf}
 use Rattle.graph.specs.Circuit.{Circuit}
 use Rattle.graph.specs.Neighbours.{select}
 use Rattle.graph.specs.Search.{beside, inside, ball, misses, distances, radius}
 use Rattle.table.specs.Row.{inTable, agrees, startTable, answered, supported, strike, row, pairs, same, started, lastTable, kept, rounds}
 use Rattle.table.specs.Examples.{circuitT, circuitB, twoWay, ring}
-use Rattle.place.specs.Match.{radiusOf, ballOf, ballTable, found, matches, keepFrom, linkMatches, matchStarts, matchEnds, component, placeNodes, placeLinks}
+use Rattle.place.specs.Match.{radiusOf, ballOf, ballTable, found, matches, linkMatches, matchStarts, matchEnds, component, placeNodes, placeLinks}
 use Rattle.place.specs.Examples.{circuitY, oneLink}
 
 -- all that is opened where a place is computed

@@ -8,14 +8,15 @@ use native.Mathlib.Nat.{add-zero, not-suc-le-zero}
 use native.Mathlib.Omega.{arith}
 use lib.Dec.{T}
 use lib.ListN.{length, getD}
-use Rattle.lists.proofs.Tests.{both, both-left, both-right, true-T, T-true, anyBelow-at, at-anyBelow}
+use Rattle.base_lists.proofs.Tests.{both, both-left, both-right, true-T, T-true, anyBelow-at, at-anyBelow}
 use Rattle.graph.specs.Circuit.{Circuit, LinkAt, HasLink, graphOf, circuitGraph}
 use Rattle.graph.specs.Graph.{Ball}
 use Rattle.graph.proofs.Ball.{Within, link-later, link-earlier, link-first}
 use Rattle.simulation.specs.Perfect.{MatchGraph}
 use Rattle.table.specs.Row.{inTable}
 use Rattle.table.proofs.Answers.{InTable}
-use Rattle.place.specs.Match.{matches, keepFrom, linkMatches, matchStarts, matchEnds, ballTable}
+use Rattle.place.specs.Match.{matches, linkMatches, matchStarts, matchEnds, ballTable}
+use Rattle.base_lists.specs.Below.{keepFrom}
 use Rattle.place.proofs.Ball.{Admissible, ballGraph, BallPairs, ball-largest}
 
 -- ---- the test of a link

@@ -8,10 +8,10 @@ use native.Mathlib.Decide.{decLt}
 use native.Mathlib.Omega.{arith}
 use lib.Dec.{T}
 use lib.ListN.{length, getD, List·getD-eq-default}
-use Rattle.lists.proofs.Tests.{both, both-left, both-right, T-true, T-false, false-T, decide}
-use Rattle.lists.proofs.Tables.{length-tabulate, getD-tabulate}
-use Rattle.bits.specs.Bits.{bit}
-use Rattle.bits.proofs.Digits.{bit-of-zero}
+use Rattle.base_lists.proofs.Tests.{both, both-left, both-right, T-true, T-false, false-T, decide}
+use Rattle.base_lists.proofs.Tables.{length-tabulate, getD-tabulate}
+use Rattle.base_bits.specs.Bits.{bit}
+use Rattle.base_bits.proofs.Digits.{bit-of-zero}
 use Rattle.graph.specs.Circuit.{Circuit}
 use Rattle.graph.specs.Search.{inside}
 use Rattle.graph.proofs.Ball.{length-ball, ball-bits, inside-bits, bits-le, inside-below}

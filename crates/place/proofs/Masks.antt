@@ -9,13 +9,13 @@ use native.Mathlib.Decide.{decLt}
 use native.Mathlib.Omega.{arith}
 use lib.Dec.{T, eqb, eqb→eq, eqb-refl}
 use lib.ListN.{length, getD, List·getD-eq-default}
-use Rattle.lists.proofs.Tests.{both, both-left, both-right, false-T, same-test, anyBelow-at, at-anyBelow}
-use Rattle.lists.proofs.Tables.{getD-tabulate}
-use Rattle.bits.specs.Bits.{bit, intersects, unionOver}
-use Rattle.bits.proofs.Digits.{bit-of-zero, bit-below}
-use Rattle.bits.proofs.Numbers.{bit-number}
-use Rattle.bits.proofs.Tests.{intersects-at}
-use Rattle.bits.proofs.Unions.{bit-unionOver}
+use Rattle.base_lists.proofs.Tests.{both, both-left, both-right, false-T, same-test, anyBelow-at, at-anyBelow}
+use Rattle.base_lists.proofs.Tables.{getD-tabulate}
+use Rattle.base_bits.specs.Bits.{bit, intersects, unionOver}
+use Rattle.base_bits.proofs.Digits.{bit-of-zero, bit-below}
+use Rattle.base_bits.proofs.Numbers.{bit-number}
+use Rattle.base_bits.proofs.Tests.{intersects-at}
+use Rattle.base_bits.proofs.Unions.{bit-unionOver}
 use Rattle.graph.specs.Circuit.{Circuit, HasLink}
 use Rattle.graph.specs.Neighbours.{select}
 use Rattle.graph.proofs.Groups.{link-swap}

@@ -10,11 +10,11 @@ use native.Mathlib.Omega.{arith}
 use borrow.Author.Tests.{eq-eqb, ne-eqb}
 use lib.Dec.{T, eqb, eqb→eq}
 use lib.ListN.{length, getD, take}
-use Rattle.lists.specs.List.{Occurs, any}
-use Rattle.lists.proofs.Tests.{same-test, true-T, any-at, at-any}
-use Rattle.lists.proofs.Tables.{tabulate-same}
-use Rattle.bits.specs.Bits.{intersects, unionOver}
-use Rattle.graph.specs.Bfs.{bfs, adjacent, Below, Adjacency, Found}
+use Rattle.base_lists.specs.List.{Occurs, any, Below}
+use Rattle.base_lists.proofs.Tests.{same-test, true-T, any-at, at-any}
+use Rattle.base_lists.proofs.Tables.{tabulate-same}
+use Rattle.base_bits.specs.Bits.{intersects, unionOver}
+use Rattle.graph.specs.Bfs.{bfs, adjacent, Adjacency, Found}
 use Rattle.graph.specs.Circuit.{Circuit, HasLink}
 use Rattle.graph.specs.Neighbours.{stretch}
 use Rattle.graph.specs.Search.{far, ball, inside, distances}

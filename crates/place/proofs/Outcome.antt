@@ -6,12 +6,12 @@ use Prim.Native.Nat.{ℕ, _^_, _<_}
 use borrow.Author.Tests.{eq-eqb, ne-eqb}
 use lib.Dec.{eqb}
 use lib.ListN.{length, getD, drop}
-use Rattle.graph.specs.Bfs.{Below}
+use Rattle.base_lists.specs.List.{Below}
 use Rattle.graph.specs.Circuit.{Circuit}
 use Rattle.graph.specs.Search.{far, inside}
 use Rattle.graph.proofs.Ball.{Within}
-use Rattle.files.specs.declared.File.the-variants.{Neither}
-use Rattle.files.specs.Reading.{filled}
+use Rattle.file_format.specs.declared.File.the-variants.{Neither}
+use Rattle.file_format.specs.Reading.{filled}
 use Rattle.table.specs.declared.Counts.{Counts}
 use Rattle.table.specs.Refine.{Refined}
 use Rattle.table.specs.Prepared.{Tables, Prepared, Ready}

@@ -11,10 +11,10 @@ use native.Mathlib.Omega.{arith}
 use lib.Dec.{T}
 use lib.ListN.{length, getD, drop, drop-of-length-le}
 use lib.Seq.{drop-cons, getD-take}
-use Rattle.lists.specs.List.{Occurs}
-use Rattle.lists.proofs.Tests.{T-true, true-T}
-use Rattle.bits.specs.Bits.{intersects, unionOver}
-use Rattle.graph.specs.Bfs.{State, visit, scan, start, Below, Ready, Adjacency, stateOf}
+use Rattle.base_lists.specs.List.{Occurs, Below}
+use Rattle.base_lists.proofs.Tests.{T-true, true-T}
+use Rattle.base_bits.specs.Bits.{intersects, unionOver}
+use Rattle.graph.specs.Bfs.{State, visit, scan, start, Ready, Adjacency, stateOf}
 use Rattle.graph.specs.Circuit.{HasLink}
 use Rattle.graph.specs.Graph.{Walk, stay, step}
 use Rattle.graph.specs.Neighbours.{stretch}

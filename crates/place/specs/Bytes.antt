@@ -5,8 +5,8 @@ use mathlib.Core.List.{List}
 use Prim.Native.Nat.{ℕ, _^_, _<_}
 use lib.Dec.{eqb}
 use lib.ListN.{length, getD}
-use Rattle.lists.specs.List.{tabulate}
-use Rattle.bits.specs.Bits.{intersects, unionOver}
+use Rattle.base_lists.specs.List.{tabulate}
+use Rattle.base_bits.specs.Bits.{intersects, unionOver}
 use Rattle.graph.specs.Search.{far}
 
 -- every set has only parts below k

@@ -5,7 +5,8 @@ use mathlib.Core.List.{List, [], _∷_}
 use Prim.Native.Nat.{ℕ, zero, suc}
 use lib.Dec.{T, eqb}
 use lib.ListN.{length, getD}
-use Rattle.lists.specs.List.{anyBelow, tabulate}
+use Rattle.base_lists.specs.List.{anyBelow, tabulate}
+use Rattle.base_lists.specs.Below.{keepFrom}
 use Rattle.graph.specs.Circuit.{Circuit, LinkAt}
 use Rattle.graph.specs.Graph.{Graph}
 use Rattle.graph.specs.Search.{ball, inside, radius}
@@ -31,11 +32,6 @@ found pattern board w r = not (eqb (getD (ballTable pattern board w r) w 0) 0)
 unfoldable pub matches : Circuit → List ℕ → ℕ → ℕ → Bool
 matches pattern t v v′ =
     anyBelow (length (pattern .starts)) (λ i. inTable t (getD (pattern .starts) i 0) v && inTable t (getD (pattern .ends) i 0) v′)
-
--- the entries of a list, the first of which has index i, whose index passes a test
-unfoldable pub keepFrom : ℕ → (ℕ → Bool) → List ℕ → List ℕ
-keepFrom i p [] = []
-keepFrom i p (x ∷ xs) = cond (p i) (x ∷ keepFrom (suc i) p xs) (keepFrom (suc i) p xs)
 
 -- the i-th link of the board matches
 unfoldable pub linkMatches : Circuit → Circuit → List ℕ → ℕ → Bool

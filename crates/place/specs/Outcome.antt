@@ -5,9 +5,9 @@ use mathlib.Core.Path.{_≡_}
 use Prim.Native.Nat.{ℕ}
 use lib.ListN.{length}
 use Rattle.graph.specs.Circuit.{Circuit}
-use Rattle.files.specs.declared.File.the-variants.{Neither}
-use Rattle.files.specs.Reading.{filled}
-use Rattle.files.specs.Refusals.{Verdict, accept, refuse}
+use Rattle.file_format.specs.declared.File.the-variants.{Neither}
+use Rattle.file_format.specs.Reading.{filled}
+use Rattle.file_format.specs.Refusals.{Verdict, accept, refuse}
 use Rattle.table.specs.Refine.{countsOf}
 use Rattle.table.specs.Reply.{Reply}
 use Rattle.place.specs.declared.PlaceAnswer.{PlaceAnswer}

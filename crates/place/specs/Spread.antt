@@ -6,8 +6,8 @@ use mathlib.Core.Path.{_≡_}
 use Prim.Native.Nat.{ℕ, _<_}
 use lib.Dec.{T}
 use lib.ListN.{length, getD}
-use Rattle.lists.specs.List.{Occurs}
-use Rattle.bits.specs.Bits.{intersects, unionOver}
+use Rattle.base_lists.specs.List.{Occurs}
+use Rattle.base_bits.specs.Bits.{intersects, unionOver}
 use Rattle.graph.specs.Bfs.{State, visit}
 use Rattle.graph.specs.Neighbours.{stretch}
 use Rattle.graph.specs.Search.{far}

@@ -7,8 +7,8 @@ use cases::number;
 use cases::refill;
 use cases::show_number;
 use cases::show_refusal;
-use files::ReadAnswer;
-use files::Role;
+use file_format::ReadAnswer;
+use file_format::Role;
 ghost use Prim.Native.Nat.{_+_, _≤_};
 ghost use lib.ListN.{length};
 
@@ -36,7 +36,7 @@ fn run(role: Role, file: &[u8], kinds: &mut [u16], starts: &mut [u16], ends: &mu
     refill(kinds);
     refill(starts);
     refill(ends);
-    show_answer(reading::read(role, file, kinds, starts, ends));
+    show_answer(file_read::read(role, file, kinds, starts, ends));
     show_number(digest(kinds));
     show_number(digest(starts));
     show_number(digest(ends));

@@ -9,13 +9,12 @@ use native.Mathlib.Nat.{zero-lt-suc}
 use native.Mathlib.Omega.{arith}
 use lib.Dec.{eqb}
 use lib.ListN.{length, getD}
-use Rattle.lists.specs.Below.{concatBelow}
-use Rattle.lists.specs.List.{tabulate}
-use Rattle.lists.proofs.Ranks.{concatBelow-same}
-use Rattle.lists.proofs.Tables.{length-tabulate, getD-tabulate}
-use Rattle.bits.specs.Bits.{intersects}
-use Rattle.text.specs.Text.{bytes, decimal}
-use Rattle.graph.specs.Bfs.{Below}
+use Rattle.base_lists.specs.Below.{concatBelow}
+use Rattle.base_lists.specs.List.{tabulate, Below}
+use Rattle.base_lists.proofs.Ranks.{concatBelow-same}
+use Rattle.base_lists.proofs.Tables.{length-tabulate, getD-tabulate}
+use Rattle.base_bits.specs.Bits.{intersects}
+use Rattle.base_text.specs.Text.{bytes, decimal}
 use Rattle.graph.specs.Circuit.{Circuit}
 use Rattle.graph.specs.Neighbours.{select, stretch}
 use Rattle.graph.specs.Rising.{LinksRise}

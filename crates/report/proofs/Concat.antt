@@ -8,9 +8,9 @@ use native.Mathlib.Nat.{le-refl, add-zero, add-suc, suc-mul, eq-or-lt-of-le}
 use native.Mathlib.Numerals.{add-one}
 use native.Mathlib.Omega.{arith}
 use lib.ListN.{length, length-append}
-use Rattle.lists.specs.Below.{concatBelow}
-use Rattle.text.specs.Text.{Fits}
-use Rattle.text.proofs.Text.{fits-less}
+use Rattle.base_lists.specs.Below.{concatBelow}
+use Rattle.base_text.specs.Text.{Fits}
+use Rattle.base_text.proofs.Text.{fits-less}
 
 -- one more
 pub concat-more : (n : ℕ) (g : ℕ → List ℕ) → concatBelow n g ++ g n ≡ concatBelow (n + 1) g

@@ -5,17 +5,17 @@ use Prim.Native.Nat.{ℕ, _+_, _*_, _≤_, _<_}
 use native.Mathlib.Nat.{le-trans, mul-le-mul-right}
 use native.Mathlib.Omega.{arith}
 use lib.ListN.{length, getD, length-append}
-use Rattle.text.specs.Text.{bytes, decimal, Fits}
-use Rattle.text.proofs.Text.{length-decimal}
+use Rattle.base_text.specs.Text.{bytes, decimal, Fits}
+use Rattle.base_text.proofs.Text.{length-decimal}
 use Rattle.graph.specs.Circuit.{Circuit}
 use Rattle.graph.specs.Search.{inside}
 use Rattle.graph.proofs.Groups.{key-below}
-use Rattle.files.specs.declared.File.{File}
-use Rattle.files.specs.declared.File.the-variants as file
-use Rattle.files.specs.declared.Refusal.{Refusal}
-use Rattle.files.specs.declared.Role.the-variants.{Board}
-use Rattle.files.specs.Circuit.{Bounded}
-use Rattle.files.proofs.Accepted.{starts-below, ends-below}
+use Rattle.file_format.specs.declared.File.{File}
+use Rattle.file_format.specs.declared.File.the-variants as file
+use Rattle.file_format.specs.declared.Refusal.{Refusal}
+use Rattle.file_format.specs.declared.Role.the-variants.{Board}
+use Rattle.file_format.specs.Circuit.{Bounded}
+use Rattle.file_format.proofs.Accepted.{starts-below, ends-below}
 use Rattle.place.specs.Match.{radiusOf, placeNodes, placeLinks}
 use Rattle.place.proofs.Marks.{nodes-marks, links-marks}
 use Rattle.report.specs.Lines.{longestLine}

@@ -10,8 +10,8 @@ use native.Mathlib.Omega.{arith}
 use borrow.Author.Tests.{eq-eqb, ne-eqb}
 use lib.Dec.{eqb}
 use lib.ListN.{length, getD}
-use Rattle.lists.specs.Below.{concatBelow}
-use Rattle.graph.specs.Bfs.{Below}
+use Rattle.base_lists.specs.Below.{concatBelow}
+use Rattle.base_lists.specs.List.{Below}
 use Rattle.graph.specs.Neighbours.{select}
 use Rattle.report.proofs.Concat.{concat-none, concat-first}
 

@@ -4,10 +4,10 @@ use mathlib.Core.List.{List, [], _++_, append-assoc}
 use mathlib.Core.Path.{_≡_}
 use Prim.Native.Nat.{ℕ}
 use lib.ListN.{getD}
-use Rattle.bits.specs.Bits.{intersects, unionOver}
-use Rattle.text.specs.Text.{bytes, decimal}
+use Rattle.base_bits.specs.Bits.{intersects, unionOver}
+use Rattle.base_text.specs.Text.{bytes, decimal}
 use Rattle.graph.specs.Neighbours.{stretch}
-use Rattle.files.specs.declared.Refusal.{Refusal}
+use Rattle.file_format.specs.declared.Refusal.{Refusal}
 use Rattle.place.specs.Bytes.{drivenBy}
 use Rattle.report.specs.Report.{linkItem, placeLine, endLine, fileWord, refusalLine}
 use Rattle.report.specs.Lines.{reached, nodeText, linkText, drivenText, startText}

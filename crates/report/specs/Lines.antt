@@ -6,9 +6,9 @@ use mathlib.Core.List.{List, [], _++_}
 use Prim.Native.Nat.{ℕ}
 use lib.Dec.{eqb}
 use lib.ListN.{length, getD}
-use Rattle.lists.specs.Below.{concatBelow}
-use Rattle.bits.specs.Bits.{intersects}
-use Rattle.text.specs.Text.{bytes, decimal}
+use Rattle.base_lists.specs.Below.{concatBelow}
+use Rattle.base_bits.specs.Bits.{intersects}
+use Rattle.base_text.specs.Text.{bytes, decimal}
 use Rattle.graph.specs.Neighbours.{stretch}
 use Rattle.graph.specs.Search.{far}
 use Rattle.place.specs.Bytes.{drivenBy}

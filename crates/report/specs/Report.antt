@@ -3,16 +3,16 @@ use mathlib.Core.Bool.{Bool, cond}
 use mathlib.Core.List.{List, [], _++_}
 use Prim.Native.Nat.{ℕ}
 use lib.ListN.{length, getD}
-use Rattle.lists.specs.Below.{countBelow, concatBelow}
-use Rattle.text.specs.Text.{bytes, decimal}
+use Rattle.base_lists.specs.Below.{countBelow, concatBelow}
+use Rattle.base_text.specs.Text.{bytes, decimal}
 use Rattle.graph.specs.Circuit.{Circuit}
 use Rattle.graph.specs.Search.{inside}
-use Rattle.files.specs.declared.File.{File}
-use Rattle.files.specs.declared.File.the-variants as file
-use Rattle.files.specs.declared.Refusal.{Refusal}
-use Rattle.files.specs.declared.Role.the-variants.{Pattern, Board}
-use Rattle.files.specs.Circuit.{circuitOf}
-use Rattle.files.specs.Refusals.{Verdict, accept, refuse, first, fileConditions}
+use Rattle.file_format.specs.declared.File.{File}
+use Rattle.file_format.specs.declared.File.the-variants as file
+use Rattle.file_format.specs.declared.Refusal.{Refusal}
+use Rattle.file_format.specs.declared.Role.the-variants.{Pattern, Board}
+use Rattle.file_format.specs.Circuit.{circuitOf}
+use Rattle.file_format.specs.Refusals.{Verdict, accept, refuse, first, fileConditions}
 use Rattle.place.specs.Match.{radiusOf, found, placeNodes, placeLinks}
 
 -- the items whose bytes are 1, in their order: "a space stands before each item but the first and the colon"

@@ -3,18 +3,18 @@
 ghost use mathlib.Core.Path.{_≡_};
 ghost use Prim.Native.Nat.{_≤_, _<_};
 ghost use lib.ListN.{length};
-ghost use Rattle.text.specs.Text.{Put, Fits, Names};
-ghost use Rattle.graph.specs.Bfs.{Below};
+ghost use Rattle.base_text.specs.Text.{Put, Fits, Names};
+ghost use Rattle.base_lists.specs.List.{Below};
 ghost use Rattle.place.specs.Bytes.{PartsBelow};
 ghost use Rattle.report.specs.Report.{endLine, refusalLine, fileWord};
 ghost use Rattle.report.specs.Lines.{reached, nodeText, nodesText, linkText, drivenText, startText, linksText, lineText};
-use adjacency::neighbours::stretch;
-use files::File;
-use files::Refusal;
-use text::put_byte;
-use text::put_bytes;
-use text::put_name;
-use text::put_number;
+use base_text::put_byte;
+use base_text::put_bytes;
+use base_text::put_name;
+use base_text::put_number;
+use file_format::File;
+use file_format::Refusal;
+use graph_neighbours::neighbours::stretch;
 
 // Whether the search reached node v.
 fn reached(dist: &[u16], v: usize) -> bool
@@ -66,7 +66,7 @@ fn put_link(
     requires { ⌜ Fits (now out) at (linkText driven set v w) ⌝ }
     ensures { λ r. ⌜ Put (now (out .entry)) at (linkText driven set v w) (now (out .exit)) r ⌝ }
 {
-    if !bits::meets(driven, set) {
+    if !base_bits::meets(driven, set) {
         return at;
     }
     let hyphen = put_name(names, b' ', v, out, at);
@@ -121,7 +121,7 @@ fn put_start(
     if !reached(dist, v) {
         return at;
     }
-    let driven = bits::union_of(succ, sets[v]);
+    let driven = base_bits::union_of(succ, sets[v]);
     put_driven(names, stretch(fo, ft, v), driven, sets, v, out, at)
 }
 

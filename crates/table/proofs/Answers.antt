@@ -5,8 +5,8 @@ use mathlib.Core.Logic.{_↔_, Iff·symm, Iff·trans}
 use mathlib.Core.Path.{refl, subst, sym}
 use Prim.Native.Nat.{ℕ}
 use lib.Dec.{T}
-use Rattle.lists.specs.List.{all, any}
-use Rattle.lists.proofs.Tests.{both, both-left, both-right, all-at, at-all, any-at, at-any}
+use Rattle.base_lists.specs.List.{all, any}
+use Rattle.base_lists.proofs.Tests.{both, both-left, both-right, all-at, at-all, any-at, at-any}
 use Rattle.graph.specs.Circuit.{Circuit, HasLink}
 use Rattle.graph.specs.Neighbours.{select}
 use Rattle.simulation.specs.Closed.{Relation}

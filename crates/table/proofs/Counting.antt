@@ -9,10 +9,10 @@ use native.Mathlib.Omega.{arith}
 use lib.Count.{ones}
 use lib.Dec.{T, eqb, eqb→eq, eqb-refl, not-T}
 use lib.ListN.{length}
-use Rattle.lists.specs.List.{sum}
-use Rattle.lists.specs.Below.{countBelow}
-use Rattle.lists.proofs.Tests.{both, both-left, both-right, T-true}
-use Rattle.lists.proofs.Rows.{rests, falls-to-rest}
+use Rattle.base_lists.specs.List.{sum}
+use Rattle.base_lists.specs.Below.{countBelow}
+use Rattle.base_lists.proofs.Tests.{both, both-left, both-right, T-true}
+use Rattle.base_lists.proofs.Rows.{rests, falls-to-rest}
 use Rattle.graph.specs.Circuit.{Circuit}
 use Rattle.table.specs.Row.{strike, row, pairs, same, started, lastTable, kept, struck, rounds, startTable}
 use Rattle.table.proofs.Sets.{fits-word, pairs-progress, pairs-ones}

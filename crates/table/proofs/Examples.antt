@@ -1,9 +1,9 @@
 -- Document 01's examples of the match table, by computation. Assumes nothing.
 use mathlib.Core.List.{[], _∷_}
 use mathlib.Core.Path.{_≡_, refl}
-use Rattle.lists.specs.List.{all, any, tabulate, sum}
-use Rattle.lists.specs.Below.{countBelow}
-use Rattle.bits.specs.Bits.{bit, numberOf, sizeOf}
+use Rattle.base_lists.specs.List.{all, any, tabulate, sum}
+use Rattle.base_lists.specs.Below.{countBelow}
+use Rattle.base_bits.specs.Bits.{bit, numberOf, sizeOf}
 use Rattle.graph.specs.Neighbours.{select}
 use Rattle.graph.specs.Search.{inside}
 use Rattle.table.specs.Host.{everything}

@@ -5,8 +5,8 @@ use mathlib.Core.Logic.{Iff·rfl}
 use mathlib.Core.Path.{_≡_, ap, ap₂, subst, fun-ext}
 use Prim.Native.Nat.{ℕ, zero, suc, _-_, _≤_, _<_}
 use lib.ListN.{length}
-use Rattle.lists.specs.Below.{countBelow}
-use Rattle.lists.proofs.Tables.{getD-tabulate}
+use Rattle.base_lists.specs.Below.{countBelow}
+use Rattle.base_lists.proofs.Tables.{getD-tabulate}
 use Rattle.graph.specs.Circuit.{Circuit, graphOf, circuitGraph}
 use Rattle.graph.specs.Graph.{Connected}
 use Rattle.graph.specs.Search.{inside}

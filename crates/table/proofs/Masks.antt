@@ -10,15 +10,14 @@ use lib.Dec.{T, eqb, eqb→eq}
 use lib.ListN.{length, getD, drop, set, replicate, length-set, length-replicate, getD-replicate, drop-of-length-le}
 use lib.Seq.{drop-cons, getD-set-same, getD-set-other}
 use borrow.Author.Tests.{eqb-true, eqb-false, eq-eqb}
-use Rattle.lists.specs.List.{any}
-use Rattle.lists.proofs.Tests.{T-false, true-T, same-test, any-at}
-use Rattle.lists.proofs.Tables.{is-tabulate, getD-tabulate}
-use Rattle.bits.specs.Bits.{bit, numberOf}
-use Rattle.bits.proofs.Digits.{bit-of-zero, bit-or, bit-single, same-bits}
-use Rattle.bits.proofs.Numbers.{bit-number-all}
+use Rattle.base_lists.specs.List.{any, Below}
+use Rattle.base_lists.proofs.Tests.{T-false, true-T, same-test, any-at}
+use Rattle.base_lists.proofs.Tables.{is-tabulate, getD-tabulate}
+use Rattle.base_bits.specs.Bits.{bit, numberOf}
+use Rattle.base_bits.proofs.Digits.{bit-of-zero, bit-or, bit-single, same-bits}
+use Rattle.base_bits.proofs.Numbers.{bit-number-all}
 use Rattle.graph.specs.Neighbours.{select}
 use Rattle.graph.proofs.Groups.{select-link}
-use Rattle.graph.specs.Bfs.{Below}
 use Rattle.table.specs.Fill.{listed}
 use Rattle.table.specs.Prepared.{masksOf}
 

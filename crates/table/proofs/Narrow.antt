@@ -10,9 +10,9 @@ use native.Mathlib.Omega.{arith}
 use lib.Dec.{T}
 use lib.ListN.{length, getD, List·getD-eq-default}
 use lib.Pow.{pow-pos}
-use Rattle.lists.proofs.Tests.{T-true, false-T}
-use Rattle.bits.specs.Bits.{bit}
-use Rattle.bits.proofs.Digits.{bit-of-zero}
+use Rattle.base_lists.proofs.Tests.{T-true, false-T}
+use Rattle.base_bits.specs.Bits.{bit}
+use Rattle.base_bits.proofs.Digits.{bit-of-zero}
 use Rattle.graph.specs.Circuit.{Circuit, graphOf, circuitGraph}
 use Rattle.simulation.specs.Closed.{_⊆_}
 use Rattle.simulation.proofs.Simulation.{along-wider}

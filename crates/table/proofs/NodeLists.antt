@@ -5,10 +5,9 @@ use Prim.Native.Nat.{ℕ, _≤_, _<_}
 use native.Mathlib.Omega.{arith}
 use lib.Dec.{eqb, eqb-refl}
 use lib.ListN.{length, getD}
-use Rattle.lists.specs.List.{any, tabulate}
-use Rattle.lists.proofs.Tests.{T-true, at-any}
-use Rattle.lists.proofs.Tables.{length-tabulate, getD-tabulate, tabulate-same}
-use Rattle.graph.specs.Bfs.{Below}
+use Rattle.base_lists.specs.List.{any, tabulate, Below}
+use Rattle.base_lists.proofs.Tests.{T-true, at-any}
+use Rattle.base_lists.proofs.Tables.{length-tabulate, getD-tabulate, tabulate-same}
 use Rattle.table.specs.Fill.{listed, marksOf, Distinct, allNodes, NodeList}
 
 module _ (n : ℕ) where

@@ -5,19 +5,19 @@ use Prim.Native.Nat.{ℕ, suc, _<_}
 use native.Mathlib.Omega.{arith}
 use lib.Dec.{T, ltb}
 use lib.ListN.{length, length-append}
-use Rattle.lists.specs.List.{all}
+use Rattle.base_lists.specs.List.{all}
 use Rattle.graph.specs.Circuit.{Circuit}
-use Rattle.graph.specs.Neighbours.{select, stretch, offsetsOf, grouped}
+use Rattle.graph.specs.Neighbours.{select, stretch, offsetsOf, grouped, NeighbourTable}
 use Rattle.graph.proofs.Groups.{all-below, below-le, below-mono, length-grouped, length-offsets, offset-at, stretch-select}
 use Rattle.graph.proofs.Measures.{grouped-below}
-use Rattle.files.specs.declared.Role.the-variants.{Pattern, Board}
-use Rattle.files.specs.Circuit.{Bounded}
-use Rattle.files.proofs.Accepted.{bounded-starts, bounded-ends}
+use Rattle.file_format.specs.declared.Role.the-variants.{Pattern, Board}
+use Rattle.file_format.specs.Circuit.{Bounded}
+use Rattle.file_format.proofs.Accepted.{bounded-starts, bounded-ends}
 use Rattle.table.specs.declared.Counts.{Counts}
 use Rattle.table.specs.Fill.{marksOf, allNodes}
 use Rattle.table.specs.Host.{everything}
 use Rattle.table.specs.Refine.{Refined, MatchedOn}
-use Rattle.table.specs.Prepared.{masksOf, tables, NeighbourTable, Prepared}
+use Rattle.table.specs.Prepared.{masksOf, tables, Prepared}
 use Rattle.table.proofs.NodeLists.{all-marks}
 
 -- ---- one direction

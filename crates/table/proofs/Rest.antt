@@ -6,8 +6,8 @@ use Prim.Native.Nat.{ℕ, zero, suc, _+_, _≤_, _<_, zero-le, suc-le-suc}
 use native.Mathlib.Nat.{le-refl, le-of-suc-le-suc, not-suc-le-zero, zero-lt-suc, eq-or-lt-of-le}
 use native.Mathlib.Omega.{arith}
 use lib.Dec.{T}
-use Rattle.lists.specs.Below.{countBelow}
-use Rattle.lists.proofs.Tests.{T-true}
+use Rattle.base_lists.specs.Below.{countBelow}
+use Rattle.base_lists.proofs.Tests.{T-true}
 
 -- The count falls with each of the first k steps.
 abbrev pub Falls : {A : Type 0} → (A → ℕ) → (ℕ → A) → ℕ → Type 0

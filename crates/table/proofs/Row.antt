@@ -8,9 +8,9 @@ use Prim.Native.Nat.{ℕ, zero, suc}
 use lib.Dec.{T, eqb→eq}
 use lib.ListN.{length, getD}
 use borrow.Author.Tests.{eq-eqb}
-use Rattle.lists.proofs.Tests.{both, both-left, both-right, true-T, T-false}
-use Rattle.lists.proofs.Tables.{tabulate-same}
-use Rattle.bits.proofs.Digits.{bit-of-zero, same-bits}
+use Rattle.base_lists.proofs.Tests.{both, both-left, both-right, true-T, T-false}
+use Rattle.base_lists.proofs.Tables.{tabulate-same}
+use Rattle.base_bits.proofs.Digits.{bit-of-zero, same-bits}
 use Rattle.graph.specs.Circuit.{Circuit, graphOf, circuitGraph}
 use Rattle.graph.specs.Search.{inside}
 use Rattle.simulation.specs.Closed.{Relation, _⊆_, Closed, Refine, Row}

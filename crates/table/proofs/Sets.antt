@@ -12,16 +12,16 @@ use lib.Dec.{T}
 use lib.ListN.{length, getD, length-map, List·getD-eq-default}
 use lib.Pow.{pow-pos, pow-mono}
 use lib.Seq.{ext-getD}
-use Rattle.lists.specs.List.{tabulate, sum}
-use Rattle.lists.specs.Below.{countBelow}
-use Rattle.lists.proofs.Tests.{false-T, same-test}
-use Rattle.lists.proofs.Tables.{length-tabulate, getD-tabulate}
-use Rattle.lists.proofs.Below.{countBelow-mono, countBelow-equal}
-use Rattle.lists.proofs.Rows.{sum-progress}
-use Rattle.bits.specs.Bits.{bit, numberOf, sizeOf}
-use Rattle.bits.proofs.Digits.{bit-of-zero, bit-below, same-bits, same-bits-below}
-use Rattle.bits.proofs.Numbers.{number-lt, bit-number}
-use Rattle.bits.proofs.Counts.{ones-count}
+use Rattle.base_lists.specs.List.{tabulate, sum}
+use Rattle.base_lists.specs.Below.{countBelow}
+use Rattle.base_lists.proofs.Tests.{false-T, same-test}
+use Rattle.base_lists.proofs.Tables.{length-tabulate, getD-tabulate}
+use Rattle.base_lists.proofs.Below.{countBelow-mono, countBelow-equal}
+use Rattle.base_lists.proofs.Rows.{sum-progress}
+use Rattle.base_bits.specs.Bits.{bit, numberOf, sizeOf}
+use Rattle.base_bits.proofs.Digits.{bit-of-zero, bit-below, same-bits, same-bits-below}
+use Rattle.base_bits.proofs.Numbers.{number-lt, bit-number}
+use Rattle.base_bits.proofs.Counts.{ones-count}
 use Rattle.simulation.specs.Closed.{_⊆_}
 use Rattle.table.specs.Row.{inTable, pairs}
 use Rattle.table.proofs.Answers.{InTable}

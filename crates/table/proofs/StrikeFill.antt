@@ -10,13 +10,12 @@ use lib.Dec.{eqb}
 use lib.ListN.{length, getD, drop, set, replicate, length-set, length-replicate, getD-replicate, drop-of-length-le}
 use lib.Seq.{drop-cons, getD-set-same, getD-set-other}
 use borrow.Author.Tests.{eqb-true, eqb-false}
-use Rattle.lists.specs.List.{any, sum}
-use Rattle.lists.specs.Below.{countBelow}
-use Rattle.lists.proofs.Tables.{is-tabulate, length-tabulate, getD-tabulate}
-use Rattle.lists.proofs.Below.{countBelow-le, countBelow-same}
-use Rattle.bits.specs.Bits.{bit, sizeOf}
-use Rattle.bits.proofs.Digits.{bit-of-zero}
-use Rattle.graph.specs.Bfs.{Below}
+use Rattle.base_lists.specs.List.{any, sum, Below}
+use Rattle.base_lists.specs.Below.{countBelow}
+use Rattle.base_lists.proofs.Tables.{is-tabulate, length-tabulate, getD-tabulate}
+use Rattle.base_lists.proofs.Below.{countBelow-le, countBelow-same}
+use Rattle.base_bits.specs.Bits.{bit, sizeOf}
+use Rattle.base_bits.proofs.Digits.{bit-of-zero}
 use Rattle.table.specs.Row.{pairs}
 use Rattle.table.specs.Fill.{listed, Distinct, Cleared, fillAt, sizesAt, Filled, tableAt}
 

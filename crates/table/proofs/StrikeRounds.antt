@@ -11,10 +11,10 @@ use native.Mathlib.Omega.{arith}
 use borrow.Author.Count.{below-more}
 use lib.Dec.{T}
 use lib.ListN.{length, getD, List·getD-eq-default}
-use Rattle.lists.proofs.Tests.{false-T}
-use Rattle.bits.specs.Bits.{bit, Subset}
-use Rattle.bits.proofs.Digits.{bit-of-zero}
-use Rattle.bits.proofs.Numbers.{subset-le}
+use Rattle.base_lists.proofs.Tests.{false-T}
+use Rattle.base_bits.specs.Bits.{bit, Subset}
+use Rattle.base_bits.proofs.Digits.{bit-of-zero}
+use Rattle.base_bits.proofs.Numbers.{subset-le}
 use Rattle.graph.specs.Circuit.{Circuit}
 use Rattle.table.specs.Row.{inTable, pairs, startTable, row, lastTable, kept, rounds}
 use Rattle.table.specs.Fill.{listed, marksOf, NodeList, Cleared, Filled, tableAt}

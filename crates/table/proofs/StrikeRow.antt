@@ -6,17 +6,16 @@ use Prim.Native.Nat.{ℕ, zero, suc, _^_, _<_}
 use native.Mathlib.Nat.{lt-of-lt-of-le}
 use lib.Dec.{T, eqb, eqb→eq, eqb-refl}
 use lib.ListN.{length, getD}
-use Rattle.lists.specs.List.{all, any, allBelow, tabulate}
-use Rattle.lists.proofs.Tests.{false-T, same-test, all-at, at-all, any-at, at-any, allBelow-at, at-allBelow}
-use Rattle.lists.proofs.Below.{allBelow-same}
-use Rattle.lists.proofs.Tables.{getD-tabulate, tabulate-same}
-use Rattle.bits.specs.Bits.{bit, numberOf, subsetOf, unionAt}
-use Rattle.bits.proofs.Digits.{bit-of-zero, bit-above, bit-or}
-use Rattle.bits.proofs.Numbers.{number-same, number-wider}
+use Rattle.base_lists.specs.List.{all, any, allBelow, tabulate, Below}
+use Rattle.base_lists.proofs.Tests.{false-T, same-test, all-at, at-all, any-at, at-any, allBelow-at, at-allBelow}
+use Rattle.base_lists.proofs.Below.{allBelow-same}
+use Rattle.base_lists.proofs.Tables.{getD-tabulate, tabulate-same}
+use Rattle.base_bits.specs.Bits.{bit, numberOf, subsetOf, unionAt}
+use Rattle.base_bits.proofs.Digits.{bit-of-zero, bit-above, bit-or}
+use Rattle.base_bits.proofs.Numbers.{number-same, number-wider}
 use Rattle.graph.specs.Circuit.{Circuit}
 use Rattle.graph.specs.Neighbours.{select, stretch}
 use Rattle.graph.specs.Search.{inside}
-use Rattle.graph.specs.Bfs.{Below}
 use Rattle.table.specs.Row.{inTable, agrees, answered, supported, startTable, strike, row}
 use Rattle.table.specs.Fill.{listed, marksOf, Cleared, tableAt}
 use Rattle.table.specs.Prepared.{masksOf, Tables, Prepared}

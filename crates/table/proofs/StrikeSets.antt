@@ -8,12 +8,12 @@ use lib.Dec.{T, eqb}
 use lib.ListN.{getD}
 use lib.Pow.{pow-pos, pow-lt}
 use borrow.Author.Tests.{eqb-true}
-use Rattle.lists.proofs.Tests.{both-left, T-true}
-use Rattle.bits.specs.Bits.{bit, numberOf, Subset, subsetOf, firstOf, withoutFirst, unionAt}
-use Rattle.bits.proofs.Digits.{bit-of-zero, bit-below, bit-or, bit-single, same-bits-below}
-use Rattle.bits.proofs.Numbers.{bit-number, number-lt, number-same, number-bit}
-use Rattle.bits.proofs.Tests.{bitOr-assoc}
-use Rattle.bits.proofs.Members.{first-trailing, bit-without, trailing-lt, trailing-bit}
+use Rattle.base_lists.proofs.Tests.{both-left, T-true}
+use Rattle.base_bits.specs.Bits.{bit, numberOf, Subset, subsetOf, firstOf, withoutFirst, unionAt}
+use Rattle.base_bits.proofs.Digits.{bit-of-zero, bit-below, bit-or, bit-single, same-bits-below}
+use Rattle.base_bits.proofs.Numbers.{bit-number, number-lt, number-same, number-bit}
+use Rattle.base_bits.proofs.Tests.{bitOr-assoc}
+use Rattle.base_bits.proofs.Members.{first-trailing, bit-without, trailing-lt, trailing-bit}
 use Rattle.graph.specs.Neighbours.{stretch}
 use Rattle.table.specs.Prepared.{Tables}
 use Rattle.table.specs.Strike.{survivors, strikeNode}

@@ -5,9 +5,8 @@ use mathlib.Core.Path.{_≡_}
 use Prim.Native.Nat.{ℕ, zero, _+_, _≤_, _<_}
 use lib.Dec.{eqb}
 use lib.ListN.{length, getD, set}
-use Rattle.lists.specs.List.{any, tabulate}
-use Rattle.bits.specs.Bits.{sizeOf}
-use Rattle.graph.specs.Bfs.{Below}
+use Rattle.base_lists.specs.List.{any, tabulate, Below}
+use Rattle.base_bits.specs.Bits.{sizeOf}
 
 -- v is in the list
 unfoldable pub listed : List ℕ → ℕ → Bool

@@ -8,7 +8,7 @@ use lib.ListN.{length, getD}
 use Rattle.graph.specs.Circuit.{Circuit, HasLink}
 use Rattle.graph.specs.Graph.{Graph}
 use Rattle.graph.specs.Search.{inside}
-use Rattle.lists.specs.List.{tabulate}
+use Rattle.base_lists.specs.List.{tabulate}
 
 -- a node of the circuit that is taken
 pub record Taken (c : Circuit) (taken : List ℕ) (v : ℕ) : Type 0 where

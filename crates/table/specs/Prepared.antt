@@ -2,14 +2,13 @@
 -- calls above prepare them; how pairs are struck is not said here.
 use mathlib.Core.List.{List}
 use mathlib.Core.Path.{_≡_}
-use Prim.Native.Nat.{ℕ, suc, _^_, _≤_, _<_}
+use Prim.Native.Nat.{ℕ, _^_, _≤_, _<_}
 use lib.ListN.{length, getD}
-use Rattle.lists.specs.List.{tabulate}
-use Rattle.bits.specs.Bits.{numberOf}
+use Rattle.base_lists.specs.List.{tabulate, Below}
+use Rattle.base_bits.specs.Bits.{numberOf}
 use Rattle.graph.specs.Circuit.{Circuit}
-use Rattle.graph.specs.Neighbours.{select, stretch}
+use Rattle.graph.specs.Neighbours.{select, stretch, NeighbourTable}
 use Rattle.table.specs.Fill.{listed}
-use Rattle.graph.specs.Bfs.{Below}
 
 -- For each of n parts the set of the values that stand beside it as a key: the parts that it drives (keys the starts), or those that
 -- drive it (keys the ends).
@@ -28,14 +27,6 @@ pub record Tables : Type 0 where
 abbrev pub tables : List ℕ → List ℕ → List ℕ → List ℕ → List ℕ → List ℕ → Tables
 tables succ pred fo ft bo bt =
     record { succ = succ; pred = pred; forwardOffsets = fo; forward = ft; backwardOffsets = bo; backward = bt }
-
--- Offsets and table of n nodes that a stretch can be read from without a test: each node has its two offsets, which do not fall back and
--- stay within the table, and the table has nodes only.
-pub record NeighbourTable (n : ℕ) (offsets table : List ℕ) : Type 0 where
-  pub held : n < length offsets
-  pub rising : (v : ℕ) → v < n → getD offsets v 0 ≤ getD offsets (suc v) 0
-  pub within : (v : ℕ) → v < n → getD offsets (suc v) 0 ≤ length table
-  pub nodes : Below n table
 
 -- What a table of sets needs: neighbour tables over the nodes of the table of sets, and for every part of a set its two masks.
 pub record Ready (t : Tables) (old : List ℕ) : Type 0 where

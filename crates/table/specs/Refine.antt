@@ -7,9 +7,6 @@ use Rattle.table.specs.Host.{everything}
 use Rattle.table.specs.Row.{started, kept, struck, rounds, lastTable}
 use Rattle.table.specs.declared.Counts.{Counts}
 
-abbrev pub circuit : List ℕ → List ℕ → List ℕ → Circuit
-circuit kinds starts ends = record { kinds = kinds; starts = starts; ends = ends }
-
 -- "The call returns four counts: started, the pairs of R0; kept, the pairs left; struck, started minus kept; rounds, how many sets differ
 -- from the one before."
 unfoldable pub countsOf : Circuit → Circuit → List ℕ → Counts

@@ -1,5 +1,5 @@
 -- What the calls that match reply: the verdict, and the four counts.
-use Rattle.files.specs.Refusals.{Verdict, accept, refuse}
+use Rattle.file_format.specs.Refusals.{Verdict, accept, refuse}
 use Rattle.table.specs.declared.Counts.{Counts}
 
 -- "counts are 0"

@@ -5,9 +5,9 @@ use mathlib.Core.List.{List, [], _∷_, map}
 use Prim.Native.Nat.{ℕ, zero, suc, _-_}
 use lib.Dec.{eqb}
 use lib.ListN.{length, getD}
-use Rattle.lists.specs.List.{all, any, tabulate, sum}
-use Rattle.lists.specs.Below.{countBelow}
-use Rattle.bits.specs.Bits.{bit, numberOf, sizeOf}
+use Rattle.base_lists.specs.List.{all, any, tabulate, sum}
+use Rattle.base_lists.specs.Below.{countBelow}
+use Rattle.base_bits.specs.Bits.{bit, numberOf, sizeOf}
 use Rattle.graph.specs.Circuit.{Circuit}
 use Rattle.graph.specs.Neighbours.{select}
 use Rattle.graph.specs.Search.{inside}

@@ -6,7 +6,7 @@ use mathlib.Core.Path.{_≡_}
 use Prim.Native.Nat.{ℕ, zero, suc, _<_}
 use lib.Dec.{eqb}
 use lib.ListN.{length, getD}
-use Rattle.bits.specs.Bits.{bit, numberOf, subsetOf, unionAt}
+use Rattle.base_bits.specs.Bits.{bit, numberOf, subsetOf, unionAt}
 use Rattle.graph.specs.Neighbours.{stretch}
 use Rattle.table.specs.Fill.{Cleared, tableAt}
 use Rattle.table.specs.Row.{pairs}

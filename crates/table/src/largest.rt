@@ -3,7 +3,7 @@ use crate::Counts;
 use crate::start::copy;
 use crate::start::start;
 use crate::strike::strike;
-use bits::clear;
+use base_bits::clear;
 ghost use mathlib.Core.Path.{_≡_};
 ghost use Prim.Native.Nat.{_≤_};
 ghost use lib.ListN.{length};
@@ -12,7 +12,8 @@ ghost use Rattle.table.specs.Host.{everything};
 ghost use Rattle.table.specs.Row.{lastTable};
 ghost use Rattle.table.specs.Prepared.{tables, Prepared};
 ghost use Rattle.table.specs.Strike.{Round, Settled};
-ghost use Rattle.table.specs.Refine.{circuit, Refined};
+ghost use Rattle.table.specs.Refine.{Refined};
+ghost use Rattle.graph.specs.Circuit.{circuit};
 
 // Where the rounds end.
 struct Rest {

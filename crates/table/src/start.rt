@@ -3,8 +3,8 @@ ghost use mathlib.Core.Path.{_≡_};
 ghost use Prim.Native.Nat.{_≤_};
 ghost use lib.Dec.{eqb};
 ghost use lib.ListN.{length, getD};
-ghost use Rattle.bits.specs.Bits.{numberOf};
-ghost use Rattle.graph.specs.Bfs.{Below};
+ghost use Rattle.base_bits.specs.Bits.{numberOf};
+ghost use Rattle.base_lists.specs.List.{Below};
 ghost use Rattle.table.specs.Fill.{Filled};
 ghost use Rattle.table.specs.Strike.{startNode};
 
@@ -17,7 +17,7 @@ fn alike(part_kinds: &[u16], kind: u16) -> u32
     let mut u = 0;
     while u < part_kinds.len() {
         if part_kinds[u] == kind {
-            set = set | bits::single(u as u32);
+            set = set | base_bits::single(u as u32);
         }
         u += 1;
     }
@@ -38,7 +38,7 @@ pub fn start(nodes: &[u16], part_kinds: &[u16], node_kinds: &[u16], table: &mut 
         let v = nodes[i] as usize;
         let set = alike(part_kinds, node_kinds[v]);
         table[v] = set;
-        started = started + bits::size(set);
+        started = started + base_bits::size(set);
         i += 1;
     }
     started
@@ -57,7 +57,7 @@ pub fn copy(nodes: &[u16], from: &[u32], table: &mut [u32]) -> u32
         let v = nodes[i] as usize;
         let set = from[v];
         table[v] = set;
-        copied = copied + bits::size(set);
+        copied = copied + base_bits::size(set);
         i += 1;
     }
     copied

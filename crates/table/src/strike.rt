@@ -3,11 +3,11 @@
 ghost use mathlib.Core.Path.{_≡_};
 ghost use Prim.Native.Nat.{_^_, _≤_, _<_};
 ghost use lib.ListN.{length};
-ghost use Rattle.bits.specs.Bits.{unionAt};
-ghost use Rattle.graph.specs.Neighbours.{stretch};
-ghost use Rattle.graph.specs.Bfs.{Below};
+ghost use Rattle.base_bits.specs.Bits.{unionAt};
+ghost use Rattle.graph.specs.Neighbours.{stretch, NeighbourTable};
+ghost use Rattle.base_lists.specs.List.{Below};
 ghost use Rattle.table.specs.Fill.{Filled};
-ghost use Rattle.table.specs.Prepared.{tables, NeighbourTable, Ready};
+ghost use Rattle.table.specs.Prepared.{tables, Ready};
 ghost use Rattle.table.specs.Strike.{survivors, strikeNode};
 
 // The union of the sets of a list of nodes.
@@ -34,14 +34,14 @@ fn surviving(set: u32, succ: &[u32], pred: &[u32], f: u32, b: u32) -> u32
     let mut kept: u32 = 0;
     let mut left = set;
     while left != 0 {
-        let u = bits::first(left);
+        let u = base_bits::first(left);
         let i = u as usize;
-        if bits::subset(succ[i], f) {
-            if bits::subset(pred[i], b) {
-                kept = kept | bits::single(u);
+        if base_bits::subset(succ[i], f) {
+            if base_bits::subset(pred[i], b) {
+                kept = kept | base_bits::single(u);
             }
         }
-        left = bits::without_first(left);
+        left = base_bits::without_first(left);
     }
     kept
 }
@@ -106,7 +106,7 @@ pub fn strike(
         let v = nodes[i] as usize;
         let set = strike_node(succ, pred, fo, ft, bo, bt, old, v);
         new[v] = set;
-        kept = kept + bits::size(set);
+        kept = kept + base_bits::size(set);
         i += 1;
     }
     kept

@@ -1,5 +1,7 @@
 // Matches each case of the file `cases` (tools/cases.py makes it), a pattern and a board, with a table lent at the length that the case
 // names, and writes a line for each: what the call answered, and a digest of the table, so that a table that was touched shows.
+use call_match::TableAnswer;
+use call_match::match_table;
 use cases::digest_sets;
 use cases::end_line;
 use cases::least;
@@ -7,8 +9,6 @@ use cases::number;
 use cases::refill_sets;
 use cases::show_number;
 use cases::show_refusal;
-use matching::TableAnswer;
-use matching::match_table;
 use table::Counts;
 ghost use Prim.Native.Nat.{_+_, _≤_};
 ghost use lib.ListN.{length};

@@ -5,8 +5,8 @@ use cases::end_line;
 use cases::refill_bytes;
 use cases::show_number;
 use cases::show_refusal;
-use files::Role;
-use writing::WriteAnswer;
+use file_format::Role;
+use file_write::WriteAnswer;
 ghost use Prim.Native.Nat.{_+_, _*_, _≤_, _<_};
 ghost use lib.ListN.{length};
 
@@ -63,7 +63,7 @@ fn run(
     load(b, 2 * n, starts);
     load(b, 2 * n + 2 * m, ends);
     refill_bytes(out);
-    show_answer(writing::write(role, kinds, starts, ends, out));
+    show_answer(file_write::write(role, kinds, starts, ends, out));
     show_number(digest_bytes(out));
     end_line();
 }

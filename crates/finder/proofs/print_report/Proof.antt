@@ -7,11 +7,11 @@ use borrow.Author.Needs.{needs}
 use denote.Ref.{now}
 use lib.ListN.{length}
 use lib.Seq.{length-take-le}
-use Rattle.reporting.specs.declared.ReportAnswer.the-variants as answer
-use Rattle.reporting.specs.Call.{reportReply, ReportOutcome, reporting}
-use Rattle.reporting.specs.Whole.{itemsOf, placesOf}
-use Rattle.reporting.proofs.Promise.{places-few, put-within, put-follows}
-use Rattle.reporting.proofs.Whole.{places-start}
+use Rattle.call_report.specs.declared.ReportAnswer.the-variants as answer
+use Rattle.call_report.specs.Call.{reportReply, ReportOutcome, reporting}
+use Rattle.call_report.specs.Whole.{itemsOf, placesOf}
+use Rattle.call_report.proofs.Promise.{places-few, put-within, put-follows}
+use Rattle.call_report.proofs.Whole.{places-start}
 use Rattle.finder.proofs.print_report.Statement.{statement}
 use Rattle.finder.proofs.print_report.Tie as tie
 

@@ -6,8 +6,8 @@ use Prim.Native.Nat.{ℕ, _-_, _≤_}
 use native.Mathlib.Omega.{arith}
 use denote.Ref.{now}
 use lib.ListN.{length, getD, drop, length-set}
-use Rattle.lists.specs.List.{tabulate}
-use Rattle.lists.proofs.Tables.{is-tabulate, filled-none, filled-more}
+use Rattle.base_lists.specs.List.{tabulate}
+use Rattle.base_lists.proofs.Tables.{is-tabulate, filled-none, filled-more}
 use Rattle.heronditch.proofs.copied.copy.Statement.{statement}
 use Rattle.heronditch.proofs.copied.copy.Tie as tie
 

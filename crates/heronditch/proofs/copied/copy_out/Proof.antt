@@ -1,9 +1,9 @@
 -- `heronditch::copied::copy_out` meets its contract: the entries do not fit, or they are copied. Assumes nothing.
 use borrow.Author.Needs.{needs}
 use borrow.Author.Tests.{lt-ltb, le-ltb}
-use Rattle.files.specs.Reading.{filled}
-use Rattle.files.specs.Refusals.{first, shortTable}
-use Rattle.files.specs.Reply.{reply}
+use Rattle.file_format.specs.Reading.{filled}
+use Rattle.file_format.specs.Refusals.{first, shortTable}
+use Rattle.file_format.specs.Reply.{reply}
 use Rattle.heronditch.specs.Host.{fileNumber, numberOf, meantFile, slots, hostNeighbours}
 use Rattle.heronditch.proofs.copied.copy_out.Statement.{statement}
 use Rattle.heronditch.proofs.copied.copy_out.Tie as tie

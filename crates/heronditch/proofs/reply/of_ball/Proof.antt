@@ -1,5 +1,5 @@
 -- `heronditch::reply::of_ball` meets its contract, case by case. Assumes nothing.
-use Rattle.distance.specs.Calls.{ballReply}
+use Rattle.call_distance.specs.Calls.{ballReply}
 use Rattle.heronditch.specs.Host.{slots, numberOf, meantFile}
 use borrow.Author.Needs.{needs}
 use Rattle.heronditch.proofs.reply.of_ball.Statement.{statement}

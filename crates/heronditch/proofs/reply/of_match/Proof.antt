@@ -1,6 +1,6 @@
 -- `heronditch::reply::of_match` meets its contract, case by case. Assumes nothing.
 use Rattle.table.specs.Reply.{noCounts}
-use Rattle.matching.specs.Call.{replyOf}
+use Rattle.call_match.specs.Call.{replyOf}
 use Rattle.heronditch.specs.Host.{counted, numberOf, meantFile}
 use borrow.Author.Needs.{needs}
 use Rattle.heronditch.proofs.reply.of_match.Statement.{statement}

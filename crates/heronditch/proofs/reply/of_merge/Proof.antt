@@ -1,5 +1,5 @@
 -- `heronditch::reply::of_merge` meets its contract, case by case. Assumes nothing.
-use Rattle.merging.specs.Call.{mergeReply}
+use Rattle.call_merge.specs.Call.{mergeReply}
 use Rattle.heronditch.specs.Host.{slots, numberOf, meantFile}
 use borrow.Author.Needs.{needs}
 use Rattle.heronditch.proofs.reply.of_merge.Statement.{statement}

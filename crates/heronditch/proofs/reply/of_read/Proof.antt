@@ -1,5 +1,5 @@
 -- `heronditch::reply::of_read` meets its contract, case by case. Assumes nothing.
-use Rattle.files.specs.Reply.{readReply}
+use Rattle.file_format.specs.Reply.{readReply}
 use Rattle.heronditch.specs.Host.{slots, numberOf, meantFile}
 use borrow.Author.Needs.{needs}
 use Rattle.heronditch.proofs.reply.of_read.Statement.{statement}

@@ -1,5 +1,5 @@
 -- `heronditch::reply::of_write` meets its contract, case by case. Assumes nothing.
-use Rattle.writing.specs.Writing.{writeReply}
+use Rattle.file_write.specs.Writing.{writeReply}
 use Rattle.heronditch.specs.Host.{slots, numberOf, meantFile}
 use borrow.Author.Needs.{needs}
 use Rattle.heronditch.proofs.reply.of_write.Statement.{statement}

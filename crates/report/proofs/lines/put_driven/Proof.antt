@@ -7,10 +7,10 @@ use native.Mathlib.Omega.{arith}
 use borrow.Author.Needs.{needs}
 use denote.Ref.{now}
 use lib.ListN.{length, getD}
-use Rattle.lists.specs.Below.{concatBelow}
-use Rattle.text.specs.Text.{Put}
-use Rattle.text.proofs.Text.{put-nothing, put-then, put-same, put-length, fits-then}
-use Rattle.graph.specs.Bfs.{Below}
+use Rattle.base_lists.specs.Below.{concatBelow}
+use Rattle.base_text.specs.Text.{Put}
+use Rattle.base_text.proofs.Text.{put-nothing, put-then, put-same, put-length, fits-then}
+use Rattle.base_lists.specs.List.{Below}
 use Rattle.report.specs.Lines.{linkText, drivenText}
 use Rattle.report.proofs.Concat.{concat-more, fits-piece}
 use Rattle.report.proofs.lines.put_driven.Statement.{statement}

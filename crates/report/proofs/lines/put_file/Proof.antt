@@ -1,8 +1,8 @@
 -- `report::lines::put_file` meets its contract, file by file. Assumes nothing.
 use mathlib.Core.Path.{sym, ap}
 use borrow.Author.Needs.{needs}
-use Rattle.text.specs.Text.{bytes}
-use Rattle.text.proofs.Text.{put-nothing, put-same, fits-same}
+use Rattle.base_text.specs.Text.{bytes}
+use Rattle.base_text.proofs.Text.{put-nothing, put-same, fits-same}
 use Rattle.report.specs.Report.{fileWord}
 use Rattle.report.proofs.lines.put_file.Statement.{statement}
 use Rattle.report.proofs.lines.put_file.Tie as tie

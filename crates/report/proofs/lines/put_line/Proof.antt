@@ -4,8 +4,8 @@ use mathlib.Core.Path.{_≡_, sym}
 use Prim.Native.Nat.{ℕ}
 use borrow.Author.Needs.{needs}
 use denote.Ref.{now}
-use Rattle.text.specs.Text.{bytes, Fits, decimal}
-use Rattle.text.proofs.Text.{put-then, put-same, fits-same, fits-first, fits-then}
+use Rattle.base_text.specs.Text.{bytes, Fits, decimal}
+use Rattle.base_text.proofs.Text.{put-then, put-same, fits-same, fits-first, fits-then}
 use Rattle.report.specs.Lines.{nodesText, linksText, lineText}
 use Rattle.report.proofs.Pieces.{line-pieces}
 use Rattle.report.proofs.lines.put_line.Statement.{statement}

@@ -3,8 +3,8 @@ use mathlib.Core.List.{_∷_, _++_}
 use mathlib.Core.Path.{_≡_, sym, _∙_}
 use borrow.Author.Needs.{needs}
 use borrow.Author.Tests.{not-true, not-false}
-use Rattle.text.specs.Text.{bytes, decimal}
-use Rattle.text.proofs.Text.{put-nothing, put-then, put-same, fits-same, fits-first, fits-then}
+use Rattle.base_text.specs.Text.{bytes, decimal}
+use Rattle.base_text.proofs.Text.{put-nothing, put-then, put-same, fits-same, fits-first, fits-then}
 use Rattle.report.specs.Lines.{linkText}
 use Rattle.report.proofs.Pieces.{link-apart, link-meets}
 use Rattle.report.proofs.lines.put_link.Statement.{statement}

@@ -5,8 +5,8 @@ use native.Mathlib.Omega.{arith}
 use borrow.Author.Needs.{needs}
 use borrow.Author.Tests.{not-true, not-false}
 use denote.Ref.{now}
-use Rattle.text.specs.Text.{bytes, decimal}
-use Rattle.text.proofs.Text.{put-nothing, put-same, fits-same}
+use Rattle.base_text.specs.Text.{bytes, decimal}
+use Rattle.base_text.proofs.Text.{put-nothing, put-same, fits-same}
 use Rattle.report.specs.Lines.{nodeText}
 use Rattle.report.proofs.Pieces.{node-missed, node-reached}
 use Rattle.report.proofs.lines.put_node.Statement.{statement}

@@ -3,8 +3,8 @@ use mathlib.Core.List.{_++_}
 use mathlib.Core.Path.{sym}
 use borrow.Author.Needs.{needs}
 use denote.Ref.{now}
-use Rattle.text.specs.Text.{bytes, Fits, decimal}
-use Rattle.text.proofs.Text.{put-then, put-same, fits-same, fits-first, fits-then}
+use Rattle.base_text.specs.Text.{bytes, Fits, decimal}
+use Rattle.base_text.proofs.Text.{put-then, put-same, fits-same, fits-first, fits-then}
 use Rattle.report.specs.Report.{fileWord}
 use Rattle.report.proofs.Pieces.{refusal-pieces}
 use Rattle.report.proofs.lines.put_refusal.Statement.{statement}

@@ -4,7 +4,7 @@ use native.Mathlib.Omega.{arith}
 use borrow.Author.Needs.{needs}
 use borrow.Author.Tests.{not-true, not-false}
 use denote.Ref.{now}
-use Rattle.text.proofs.Text.{put-nothing, put-same, fits-same}
+use Rattle.base_text.proofs.Text.{put-nothing, put-same, fits-same}
 use Rattle.graph.proofs.Lookup.{stretch-below}
 use Rattle.report.specs.Lines.{startText, drivenText}
 use Rattle.report.proofs.Pieces.{start-missed, start-reached}

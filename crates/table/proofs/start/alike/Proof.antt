@@ -10,8 +10,8 @@ use denote.Ref.{now}
 use lib.Bits.{bitOr}
 use lib.Dec.{eqb}
 use lib.ListN.{length, getD}
-use Rattle.bits.specs.Bits.{numberOf}
-use Rattle.bits.proofs.Numbers.{number-insert, number-skip}
+use Rattle.base_bits.specs.Bits.{numberOf}
+use Rattle.base_bits.proofs.Numbers.{number-insert, number-skip}
 use Rattle.table.proofs.start.alike.Statement.{statement}
 use Rattle.table.proofs.start.alike.Tie as tie
 

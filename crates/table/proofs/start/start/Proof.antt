@@ -6,7 +6,7 @@ use native.Mathlib.Omega.{arith}
 use borrow.Author.Needs.{needs}
 use denote.Ref.{now}
 use lib.ListN.{length, getD}
-use Rattle.graph.specs.Bfs.{Below}
+use Rattle.base_lists.specs.List.{Below}
 use Rattle.table.specs.Strike.{startNode}
 use Rattle.table.proofs.StrikeFill.{Filling, filling-start, filling-fits, filling-next, filling-end}
 use Rattle.table.proofs.start.start.Statement.{statement}

@@ -5,7 +5,7 @@ use native.Mathlib.Omega.{arith}
 use borrow.Author.Needs.{needs}
 use denote.Ref.{now}
 use lib.ListN.{length, getD, drop}
-use Rattle.bits.specs.Bits.{unionAt}
+use Rattle.base_bits.specs.Bits.{unionAt}
 use Rattle.graph.proofs.Below.{below-drop, below-take}
 use Rattle.table.proofs.StrikeStretch.{offsets-rise, offsets-end, stretch-part}
 use Rattle.table.proofs.strike.around.Statement.{statement}

@@ -10,9 +10,9 @@ use denote.Ref.{now}
 use lib.Bits.{bitOr, or-zero-l, or-zero-r}
 use lib.ListN.{length, getD, drop, drop-of-length-le}
 use lib.Seq.{drop-cons}
-use Rattle.bits.specs.Bits.{unionAt}
-use Rattle.bits.proofs.Tests.{bitOr-assoc}
-use Rattle.graph.specs.Bfs.{Below}
+use Rattle.base_bits.specs.Bits.{unionAt}
+use Rattle.base_bits.proofs.Tests.{bitOr-assoc}
+use Rattle.base_lists.specs.List.{Below}
 use Rattle.table.proofs.strike.reach.Statement.{statement}
 use Rattle.table.proofs.strike.reach.Tie as tie
 

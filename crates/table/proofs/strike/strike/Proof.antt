@@ -5,7 +5,7 @@ use native.Mathlib.Omega.{arith}
 use borrow.Author.Needs.{needs}
 use denote.Ref.{now}
 use lib.ListN.{length, getD}
-use Rattle.graph.specs.Bfs.{Below}
+use Rattle.base_lists.specs.List.{Below}
 use Rattle.table.specs.Prepared.{tables}
 use Rattle.table.specs.Strike.{strikeNode}
 use Rattle.table.proofs.StrikeFill.{Filling, filling-start, filling-fits, filling-next, filling-end}

@@ -8,8 +8,8 @@ use borrow.Author.Needs.{needs}
 use denote.Ref.{now}
 use lib.Bits.{bitOr, or-zero-l, or-zero-r}
 use lib.ListN.{length, getD}
-use Rattle.bits.specs.Bits.{firstOf, withoutFirst, subsetOf}
-use Rattle.bits.proofs.Members.{without-lt}
+use Rattle.base_bits.specs.Bits.{firstOf, withoutFirst, subsetOf}
+use Rattle.base_bits.proofs.Members.{without-lt}
 use Rattle.table.specs.Strike.{survivors}
 use Rattle.table.proofs.StrikeSets.{first-lt, first-below, survivors-none, turn-stays, turn-first, turn-second}
 use Rattle.table.proofs.strike.surviving.Statement.{statement}

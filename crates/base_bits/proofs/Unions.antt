@@ -1,0 +1,45 @@
+-- The union of the sets that a table gives to the parts of a set. Assumes nothing.
+use mathlib.Core.Bool.{Bool, _&&_, _||_}
+use mathlib.Core.List.{List, [], _∷_}
+use mathlib.Core.Path.{_≡_, sym, ap, _∙_}
+use Prim.Native.Nat.{ℕ, zero, _-_, _^_, _<_}
+use lib.Bits.{bitAnd, bitOr, or-lt}
+use lib.Count.{trailingZeros}
+use lib.ListN.{getD}
+use lib.Pow.{pow-pos}
+use Rattle.base_lists.specs.List.{any, anyBelow}
+use Rattle.base_bits.specs.Bits.{bit, members, unionAt, unionOver}
+use Rattle.base_bits.proofs.Digits.{bit-of-zero, bit-or}
+use Rattle.base_bits.proofs.Tests.{bitOr-assoc}
+use Rattle.base_bits.proofs.Members.{members-none, members-next, any-members}
+
+bit-unionAt : (masks us : List ℕ) (v : ℕ) → bit (unionAt masks us) v ≡ any (λ u. bit (getD masks u 0) v) us
+unfolding unionAt any
+bit-unionAt masks [] v = bit-of-zero v
+bit-unionAt masks (u ∷ us) v =
+    bit-or (getD masks u 0) (unionAt masks us) v ∙ ap (λ (b : Bool). bit (getD masks u 0) v || b) (bit-unionAt masks us v)
+
+-- v is in the union when it is in masks[u] for some part u of the set
+pub bit-unionOver : (masks : List ℕ) (x v : ℕ) → bit (unionOver masks x) v ≡ anyBelow 32 (λ u. bit x u && bit (getD masks u 0) v)
+unfolding unionOver
+bit-unionOver masks x v = bit-unionAt masks (members x) v ∙ any-members (λ u. bit (getD masks u 0) v) x
+
+unionAt-lt : (n : ℕ) (masks us : List ℕ) → ((u : ℕ) → getD masks u 0 < 2 ^ n) → unionAt masks us < 2 ^ n
+unfolding unionAt
+unionAt-lt n masks [] h = pow-pos n
+unionAt-lt n masks (u ∷ us) h = or-lt n (getD masks u 0) (unionAt masks us) (h u) (unionAt-lt n masks us h)
+
+pub unionOver-none : (masks : List ℕ) → unionOver masks zero ≡ zero
+unfolding unionOver unionAt
+unionOver-none masks = ap (unionAt masks) members-none
+
+-- one turn of a loop over the parts, and the same with the union of the turns before
+pub unionOver-next : (masks : List ℕ) (x : ℕ) → zero < x → x < 2 ^ 32
+    → unionOver masks x ≡ bitOr (getD masks (trailingZeros 32 x) 0) (unionOver masks (bitAnd x (x - 1)))
+unfolding unionOver unionAt
+unionOver-next masks x p h = ap (unionAt masks) (members-next x p h)
+
+pub unionOver-turn : (masks : List ℕ) (union x : ℕ) → zero < x → x < 2 ^ 32
+    → bitOr (bitOr union (getD masks (trailingZeros 32 x) 0)) (unionOver masks (bitAnd x (x - 1))) ≡ bitOr union (unionOver masks x)
+unionOver-turn masks union x p h =
+    bitOr-assoc union (getD masks (trailingZeros 32 x) 0) (unionOver masks (bitAnd x (x - 1))) ∙ ap (bitOr union) (sym (unionOver-next masks x p h))

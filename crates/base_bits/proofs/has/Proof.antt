@@ -1,0 +1,16 @@
+-- `base_bits::has` meets its contract: what it computes is the definition. Assumes nothing.
+use mathlib.Core.Path.{refl}
+use borrow.Author.Needs.{needs}
+use Rattle.base_bits.specs.Bits.{bit}
+use Rattle.base_bits.proofs.has.Statement.{statement}
+use Rattle.base_bits.proofs.has.Tie as tie
+
+shr-result : tie.Need-shr-result
+shr-result c = search needs
+
+returns : tie.Need-returns
+unfolding bit
+returns c = refl
+
+pub has-spec : {M : Type 1} → statement M
+has-spec = tie.close (tie.spec shr-result returns)

@@ -1,0 +1,14 @@
+-- `base_bits::single` meets its contract: the digit is not shifted out. Assumes nothing.
+use borrow.Author.Needs.{needs}
+use Rattle.base_bits.proofs.Digits.{one-shl}
+use Rattle.base_bits.proofs.single.Statement.{statement}
+use Rattle.base_bits.proofs.single.Tie as tie
+
+shl-result : tie.Need-shl-result
+shl-result c = search needs
+
+returns : tie.Need-returns
+returns c = one-shl 32 (c .args .u) (c .pre)
+
+pub single-spec : {M : Type 1} → statement M
+single-spec = tie.close (tie.spec shl-result returns)

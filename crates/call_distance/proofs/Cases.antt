@@ -1,0 +1,69 @@
+-- What the two calls come to, by cases of the conditions. Assumes nothing.
+use mathlib.Core.List.{List, [], _∷_, _++_}
+use mathlib.Core.Path.{_≡_, sym}
+use Prim.Native.Nat.{ℕ, _≤_, _<_}
+use borrow.Author.Tests.{lt-ltb, le-ltb}
+use lib.ListN.{length, take, drop}
+use Rattle.graph.specs.Search.{ball, radius}
+use Rattle.graph.proofs.Ball.{length-ball}
+use Rattle.file_format.specs.declared.File.the-variants.{Neither}
+use Rattle.file_format.specs.declared.Refusal.{Refusal}
+use Rattle.file_format.specs.declared.Role.the-variants.{Pattern, Board}
+use Rattle.file_format.specs.Layout.{nodesOf, startsOf, endsOf}
+use Rattle.file_format.specs.Reading.{ReadOutcome, filled}
+use Rattle.file_format.specs.Refusals.{accept, refuse, first, fileConditions, centreOutside, shortTable}
+use Rattle.file_format.specs.Reply.{reply}
+use Rattle.file_format.proofs.Fields.{length-kinds}
+use Rattle.file_format.proofs.Reading.{Loaded}
+use Rattle.file_format.proofs.Refusals.{first-accept, first-refuse}
+use Rattle.call_distance.specs.Calls.{radiusCall, ballConditions, ballEntries, ballCall}
+
+-- ---- the radius
+
+module _ (file : List ℕ) where
+  pub radius-refused : (x : Refusal) → first (fileConditions Pattern file) ≡ refuse x → radiusCall file ≡ record { verdict = refuse x; values = [] }
+  unfolding radiusCall reply
+  radius-refused x e = rw e
+
+  pub radius-replied : first (fileConditions Pattern file) ≡ accept
+      → radiusCall file ≡ record { verdict = accept; values = radius (nodesOf file) (startsOf file) (endsOf file) ∷ [] }
+  unfolding radiusCall reply
+  radius-replied e = rw e
+
+-- ---- the ball
+
+module _ (file : List ℕ) (centre r : ℕ) (out : List ℕ) where
+  pub ball-refused : (x : Refusal) → first (fileConditions Board file) ≡ refuse x
+      → ballCall file centre r out ≡ record { reply = record { verdict = refuse x; values = [] }; out = out }
+  unfolding ballCall ballConditions reply filled
+  ball-refused x e = rw (first-refuse _ _ x e)
+
+  module _ (e : first (fileConditions Board file) ≡ accept) where
+    pub ball-outside : nodesOf file ≤ centre
+        → ballCall file centre r out ≡ record { reply = record { verdict = refuse (record { number = 7; file = Neither }); values = [] }; out = out }
+    unfolding ballCall ballConditions first centreOutside reply filled
+    ball-outside h = rw (first-accept _ _ e) (simp (le-ltb _ _ h))
+
+    pub ball-short : centre < nodesOf file → length out < nodesOf file
+        → ballCall file centre r out ≡ record { reply = record { verdict = refuse (record { number = 8; file = Neither }); values = [] }; out = out }
+    unfolding ballCall ballConditions first centreOutside shortTable reply filled
+    ball-short h l = rw (first-accept _ _ e) (simp (lt-ltb _ _ h, lt-ltb _ _ l))
+
+    pub ball-filled : centre < nodesOf file → nodesOf file ≤ length out
+        → ballCall file centre r out
+        ≡ record {
+          reply = record { verdict = accept; values = nodesOf file ∷ [] };
+          out = ball (nodesOf file) (startsOf file) (endsOf file) centre r ++ drop (nodesOf file) out;
+        }
+    unfolding ballCall ballConditions ballEntries first centreOutside shortTable reply filled
+    ball-filled h l = rw (first-accept _ _ e) (simp (lt-ltb _ _ h, le-ltb _ _ l, length-ball))
+
+-- ---- the ball of a file that was read, filled in from the fronts of its tables
+
+pub ball-read : (file : List ℕ) (centre r : ℕ) (out : List ℕ) {n m : ℕ} {o : ReadOutcome} → Loaded Board file n m o → centre < n → n ≤ length out
+    → {after : List ℕ}
+    → after ≡ ball (length (take n (o .kinds))) (take m (o .starts)) (take m (o .ends)) centre r ++ drop (length (take n (o .kinds))) out
+    → record { reply = record { verdict = accept; values = n ∷ [] }; out = after } ≡ ballCall file centre r out
+ball-read file centre r out l inside room e =
+    rw (e, l .kindsFirst, l .startsFirst, l .endsFirst, length-kinds, l .nodes)
+    (sym (ball-filled file centre r out (l .verdict) (rw (← l .nodes) inside) (rw (← l .nodes) room)))

@@ -1,0 +1,114 @@
+-- What the replies and the bytes of the two calls mean, in the terms of the graph's definitions. Assumes nothing.
+use mathlib.Core.Bool.{Bool, cond}
+use mathlib.Core.List.{List, [], _∷_}
+use mathlib.Core.Logic.{_⊎_, inl, inr, _↔_, ⊎-elim}
+use mathlib.Core.Path.{_≡_, sym, ap, subst, _∙_}
+use Prim.Native.Nat.{ℕ, _≤_, _<_}
+use native.Mathlib.Omega.{arith}
+use lib.ListN.{length, getD, drop, List·getD-append}
+use Rattle.base_lists.proofs.Tests.{T-true, T-false, decide}
+use Rattle.graph.specs.Circuit.{HasLink, graphOf}
+use Rattle.graph.specs.Graph.{Graph, Radius, InBall, Ball}
+use Rattle.graph.specs.Search.{inside, ball, radius}
+use Rattle.graph.proofs.Ball.{Within, within-all, length-ball, ball-entry}
+use Rattle.graph.proofs.Distance.{inBall-iff, radius-is}
+use Rattle.file_format.specs.declared.Refusal.{Refusal}
+use Rattle.file_format.specs.declared.Role.{Role}
+use Rattle.file_format.specs.declared.Role.the-variants.{Pattern, Board}
+use Rattle.file_format.specs.Layout.{nodesOf, linksOf, startsOf, endsOf}
+use Rattle.file_format.specs.Reading.{filled}
+use Rattle.file_format.specs.Refusals.{accept, refuse, first, fileConditions, asksConnected}
+use Rattle.file_format.specs.Reply.{Reply}
+use Rattle.file_format.proofs.Refusals.{accepted, accepted-links, range-orders}
+use Rattle.call_distance.specs.declared.RadiusAnswer.{RadiusAnswer}
+use Rattle.call_distance.specs.declared.RadiusAnswer.the-variants as radius-answer
+use Rattle.call_distance.specs.declared.BallAnswer.{BallAnswer}
+use Rattle.call_distance.specs.declared.BallAnswer.the-variants as ball-answer
+use Rattle.call_distance.specs.Calls.{radiusReply, ballReply, radiusCall, ballConditions, ballCall, BallOutcome}
+use Rattle.call_distance.proofs.Cases.{radius-replied, ball-filled}
+
+-- the graph of a circuit file
+abbrev pub fileGraph : List ℕ → Graph
+fileGraph file = graphOf (nodesOf file) (startsOf file) (endsOf file)
+
+-- the links of an accepted file join its nodes
+pub accepted-within : (r : Role) (file : List ℕ) → first (fileConditions r file) ≡ accept → Within (nodesOf file) (startsOf file) (endsOf file)
+accepted-within r file e =
+    let (s, d) = accepted-links r file (accepted r file e) in
+    within-all (nodesOf file) (startsOf file) (endsOf file) s d
+
+-- ---- a reply says which answer it was
+
+pub radiusReply-injective : (a b : RadiusAnswer) → radiusReply a ≡ radiusReply b → a ≡ b
+unfolding radiusReply
+radiusReply-injective (radius-answer.Radius d) (radius-answer.Radius d′) e = let v = ap (λ (r : Reply). r .values) e in cc
+radiusReply-injective (radius-answer.Radius d) (radius-answer.Refused x) e = let v = ap (λ (r : Reply). r .verdict) e in cc
+radiusReply-injective (radius-answer.Refused x) (radius-answer.Radius d) e = let v = ap (λ (r : Reply). r .verdict) e in cc
+radiusReply-injective (radius-answer.Refused x) (radius-answer.Refused y) e = let v = ap (λ (r : Reply). r .verdict) e in cc
+
+pub ballReply-injective : (a b : BallAnswer) → ballReply a ≡ ballReply b → a ≡ b
+unfolding ballReply
+ballReply-injective (ball-answer.Ball n) (ball-answer.Ball n′) e = let v = ap (λ (r : Reply). r .values) e in cc
+ballReply-injective (ball-answer.Ball n) (ball-answer.Refused x) e = let v = ap (λ (r : Reply). r .verdict) e in cc
+ballReply-injective (ball-answer.Refused x) (ball-answer.Ball n) e = let v = ap (λ (r : Reply). r .verdict) e in cc
+ballReply-injective (ball-answer.Refused x) (ball-answer.Refused y) e = let v = ap (λ (r : Reply). r .verdict) e in cc
+
+-- ---- the radius
+
+-- "A pattern's radius is the largest distance between two of its parts; it is 0 for one part. A call replies with it."
+pub radius-means : (file : List ℕ) → first (fileConditions Pattern file) ≡ accept
+    → (d : ℕ) × (radiusCall file ≡ record { verdict = accept; values = d ∷ [] }) × Radius (fileGraph file) d
+unfolding asksConnected
+radius-means file e =
+    let a = accepted Pattern file e in
+    let (n, _, _) = range-orders Pattern (nodesOf file) (linksOf file) (a .range) in
+    (radius (nodesOf file) (startsOf file) (endsOf file), radius-replied file e, radius-is (accepted-within Pattern file e) n (a .joined tt))
+
+-- ---- the ball
+
+-- a refused call leaves the table as it was
+pub ball-refused-keeps : (file : List ℕ) (centre r : ℕ) (out : List ℕ) (x : Refusal) → first (ballConditions file centre (length out)) ≡ refuse x
+    → ballCall file centre r out .out ≡ out
+unfolding ballCall filled
+ball-refused-keeps file centre r out x e = rw e
+
+-- The byte of a node: 1, and the ball around the centre at radius r has the node; or 0, and it does not.
+abbrev pub Marked : Graph → ℕ → ℕ → ℕ → ℕ → Type 0
+Marked G centre r v byte = ((byte ≡ 1) × InBall G centre r v) ⊎ ((byte ≡ 0) × (InBall G centre r v → ⊥))
+
+module _ (file : List ℕ) (centre r : ℕ) (out : List ℕ) (e : first (fileConditions Board file) ≡ accept) (h : centre < nodesOf file) (room : nodesOf file ≤ length out) where
+  links : Within (nodesOf file) (startsOf file) (endsOf file)
+  links = accepted-within Board file e
+
+  byte-is : (v : ℕ) → v < nodesOf file → getD (ballCall file centre r out .out) v 0 ≡ cond (inside (ball (nodesOf file) (startsOf file) (endsOf file) centre r) v) 1 0
+  byte-is v below =
+      ap (λ (o : BallOutcome). getD (o .out) v 0) (ball-filled file centre r out e h room)
+      ∙ List·getD-append (ball (nodesOf file) (startsOf file) (endsOf file) centre r) (drop (nodesOf file) out) 0 v (subst (λ (k : ℕ). v < k) (sym (length-ball (nodesOf file) (startsOf file) (endsOf file) centre r)) below)
+      ∙ ball-entry (nodesOf file) (startsOf file) (endsOf file) centre r v below
+
+  -- "fills a byte per node, 1 inside, else 0"
+  pub ball-means : (v : ℕ) → v < nodesOf file → Marked (fileGraph file) centre r v (getD (ballCall file centre r out .out) v 0)
+  ball-means v below =
+      let within = inside (ball (nodesOf file) (startsOf file) (endsOf file) centre r) v in
+      let meaning = inBall-iff links centre r v in
+      ⊎-elim
+      (λ t. inl (byte-is v below ∙ ap (λ (b : Bool). cond b 1 0) {x = within} (T-true t), meaning .0 t))
+      (λ f. inr (byte-is v below ∙ ap (λ (b : Bool). cond b 1 0) {x = within} (T-false f), λ m. f (meaning .1 m)))
+      (decide within)
+
+  -- a byte is 1 exactly when the ball has its node
+  pub ball-byte : (v : ℕ) → v < nodesOf file → (getD (ballCall file centre r out .out) v 0 ≡ 1) ↔ InBall (fileGraph file) centre r v
+  ball-byte v below = (
+    λ one. ⊎-elim (λ m. m .1) (λ m. absurd (omega (arith, m .0))) (ball-means v below),
+    λ m. ⊎-elim (λ p. p .0) (λ p. absurd (p .1 m)) (ball-means v below),
+  )
+
+  -- "and all board links between them": the ball's links are the board's links between nodes whose bytes are 1
+  pub ball-links : (v w : ℕ)
+      → Ball (fileGraph file) centre r .Link v w
+      ↔ (HasLink (startsOf file) (endsOf file) v w × (getD (ballCall file centre r out .out) v 0 ≡ 1) × (getD (ballCall file centre r out .out) w 0 ≡ 1))
+  unfolding Ball graphOf
+  ball-links v w = (
+    λ (l, a, b). (l, ball-byte v (links .starts v w l) .1 a, ball-byte w (links .ends v w l) .1 b),
+    λ (l, a, b). (l, ball-byte v (links .starts v w l) .0 a, ball-byte w (links .ends v w l) .0 b),
+  )

@@ -1,0 +1,73 @@
+// Distances in circuit files: a pattern's radius, and the ball around a node of a board.
+ghost use mathlib.Core.Path.{_≡_};
+ghost use Rattle.call_distance.specs.Calls.{radiusReply, radiusCall, ballReply, ballCall};
+use file_format::Board;
+use file_format::File;
+use file_format::Pattern;
+use file_format::ReadAnswer;
+use file_format::Refusal;
+use file_format::Role;
+use graph_extent::ball::fill_ball;
+use graph_extent::radius::radius_of;
+
+// A pattern's radius, or why the file was turned away.
+pub enum RadiusAnswer {
+    Radius(usize),
+    Refused(Refusal),
+}
+
+// The board's N, or why the call was turned away.
+pub enum BallAnswer {
+    Ball(usize),
+    Refused(Refusal),
+}
+
+// The radius of a pattern: the largest distance between two of its parts.
+pub fn radius(file: &[u8]) -> RadiusAnswer
+    ensures { λ r. ⌜ radiusReply r ≡ radiusCall (now (file .entry)) ⌝ }
+{
+    let mut kinds = [0u16; Pattern::MAX_NODES];
+    let mut starts = [0u16; Pattern::MAX_LINKS];
+    let mut ends = [0u16; Pattern::MAX_LINKS];
+    let answer = file_read::read(Role::Pattern, file, &mut kinds, &mut starts, &mut ends);
+    let ReadAnswer::Read(n, m) = answer else {
+        return RadiusAnswer::Refused(file_format::refusal_of(answer));
+    };
+    let radius = radius_of(&kinds[..n], &starts[..m], &ends[..m]) as usize;
+    RadiusAnswer::Radius(radius)
+}
+
+// The ball around a node of a board: a byte for each node, 1 inside and 0 outside, first in `out`; or the refusal, which leaves `out` as it
+// was.
+pub fn ball(file: &[u8], centre: usize, radius: u16, out: &mut [u8]) -> BallAnswer
+    ensures { λ r. ⌜ record { reply = ballReply r; out = now (out .exit) } ≡ ballCall (now (file .entry)) centre radius (now (out .entry)) ⌝ }
+{
+    let mut kinds = [0u16; Board::MAX_NODES];
+    let mut starts = [0u16; Board::MAX_LINKS];
+    let mut ends = [0u16; Board::MAX_LINKS];
+    let answer = file_read::read(Role::Board, file, &mut kinds, &mut starts, &mut ends);
+    let ReadAnswer::Read(n, m) = answer else {
+        return BallAnswer::Refused(file_format::refusal_of(answer));
+    };
+    if n <= centre {
+        return BallAnswer::Refused(Refusal {
+            number: 7,
+            file: File::Neither,
+        });
+    }
+    if out.len() < n {
+        return BallAnswer::Refused(Refusal {
+            number: 8,
+            file: File::Neither,
+        });
+    }
+    fill_ball(
+        &kinds[..n],
+        &starts[..m],
+        &ends[..m],
+        centre as u16,
+        radius,
+        out,
+    );
+    BallAnswer::Ball(n)
+}

@@ -1,0 +1,45 @@
+-- The exported call on two files, whole: its reply and the table's later content, from the inputs alone.
+use mathlib.Core.List.{List, [], _∷_, _++_}
+use Prim.Native.Nat.{ℕ}
+use lib.ListN.{length}
+use Rattle.graph.specs.Circuit.{Circuit}
+use Rattle.file_format.specs.declared.Role.the-variants.{Pattern, Board}
+use Rattle.file_format.specs.Circuit.{circuitOf}
+use Rattle.file_format.specs.Layout.{nodesOf}
+use Rattle.file_format.specs.Reading.{filled}
+use Rattle.file_format.specs.Refusals.{Condition, Verdict, accept, refuse, first, fileConditions, shortTable}
+use Rattle.call_match.specs.declared.TableAnswer.{TableAnswer}
+use Rattle.call_match.specs.declared.TableAnswer.the-variants.{Matched, Refused}
+use Rattle.table.specs.Host.{everything}
+use Rattle.table.specs.Refine.{countsOf}
+use Rattle.table.specs.Reply.{Reply, noCounts, replied}
+use Rattle.table.specs.Row.{lastTable}
+
+-- "Rising numbers are the order, the pattern's 1 to 6 before the board's. Needed: .. match table N"
+unfoldable pub matchConditions : List ℕ → List ℕ → ℕ → List Condition
+matchConditions pattern board lent =
+    fileConditions Pattern pattern ++ (fileConditions Board board ++ (shortTable (nodesOf board) lent ∷ []))
+
+-- each case of the answer, so read: a refusal has no counts
+unfoldable pub replyOf : TableAnswer → Reply
+replyOf (Matched counts) = record { verdict = accept; counts = counts }
+replyOf (Refused x) = record { verdict = refuse x; counts = noCounts }
+
+-- the reply, and the table as the call leaves it
+pub record TableOutcome : Type 0 where
+  pub reply : Reply
+  pub table : List ℕ
+
+-- The pattern on the whole board: the four counts, and the last set of the row at the front of the table, whose entries past N stay. On a
+-- refusal the whole table stays.
+abbrev pub matchedBy : Verdict → Circuit → Circuit → List ℕ → TableOutcome
+matchedBy verdict p b table =
+    record { reply = replied verdict (countsOf p b (everything b)); table = filled verdict (lastTable p b (everything b)) table }
+
+-- the call on two circuits that were read: the table may be short
+unfoldable pub matchOn : Circuit → Circuit → List ℕ → TableOutcome
+matchOn p b table = matchedBy (first (shortTable (length (b .kinds)) (length table) ∷ [])) p b table
+
+-- the call on two files
+unfoldable pub matching : List ℕ → List ℕ → List ℕ → TableOutcome
+matching pattern board table = matchedBy (first (matchConditions pattern board (length table))) (circuitOf pattern) (circuitOf board) table

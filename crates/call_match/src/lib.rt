@@ -1,0 +1,92 @@
+// The match-table call: a pattern file on the whole board of another file.
+use file_format::Board;
+use file_format::File;
+use file_format::Pattern;
+use file_format::Refusal;
+use file_pair::PairAnswer;
+use file_pair::read_pair;
+use table::Counts;
+use table_whole::match_circuits;
+ghost use mathlib.Core.Path.{_≡_};
+ghost use Rattle.file_format.specs.Circuit.{Bounded};
+ghost use Rattle.file_format.specs.declared.Role.the-variants as role;
+ghost use Rattle.graph.specs.Circuit.{circuit};
+ghost use Rattle.call_match.specs.Call.{replyOf, matchOn, matching};
+
+// What the call comes to: the four counts, or why it was turned away.
+pub enum TableAnswer {
+    Matched(Counts),
+    Refused(Refusal),
+}
+
+// The call on two circuits that were read. The table's length is tested before anything is written to it.
+fn match_on(
+    part_kinds: &[u16],
+    part_starts: &[u16],
+    part_ends: &[u16],
+    node_kinds: &[u16],
+    node_starts: &[u16],
+    node_ends: &[u16],
+    table: &mut [u32],
+) -> TableAnswer
+    requires { ⌜ Bounded role.Pattern (circuit (now «part_kinds») (now «part_starts») (now «part_ends»)) ⌝ }
+    requires { ⌜ Bounded role.Board (circuit (now «node_kinds») (now «node_starts») (now «node_ends»)) ⌝ }
+    ensures { λ r. ⌜ record { reply = replyOf r; table = now (table .exit) }
+        ≡ matchOn (circuit (now («part_kinds» .entry)) (now («part_starts» .entry)) (now («part_ends» .entry))) (circuit (now («node_kinds» .entry)) (now («node_starts» .entry)) (now («node_ends» .entry))) (now (table .entry)) ⌝ }
+{
+    let n = node_kinds.len();
+    if table.len() < n {
+        return TableAnswer::Refused(Refusal {
+            number: 8,
+            file: File::Neither,
+        });
+    }
+    TableAnswer::Matched(match_circuits(
+        part_kinds,
+        part_starts,
+        part_ends,
+        node_kinds,
+        node_starts,
+        node_ends,
+        &mut table[..n],
+    ))
+}
+
+// Matches the pattern of one file on the whole board of another: the four counts, with the largest dual simulation at the front of the
+// table, a 32-bit number per node; or the refusal, which leaves the table as it was.
+pub fn match_table(pattern: &[u8], board: &[u8], table: &mut [u32]) -> TableAnswer
+    ensures { λ r. ⌜ record { reply = replyOf r; table = now (table .exit) } ≡ matching (now (pattern .entry)) (now (board .entry)) (now (table .entry)) ⌝ }
+{
+    let mut pk = [0u16; Pattern::MAX_NODES];
+    let mut ps = [0u16; Pattern::MAX_LINKS];
+    let mut pe = [0u16; Pattern::MAX_LINKS];
+    let mut nk = [0u16; Board::MAX_NODES];
+    let mut ns = [0u16; Board::MAX_LINKS];
+    let mut ne = [0u16; Board::MAX_LINKS];
+    let read = read_pair(
+        pattern,
+        board,
+        &mut pk,
+        &mut ps,
+        &mut pe,
+        &mut nk,
+        &mut ns,
+        &mut ne,
+    );
+    let PairAnswer::Read(p, b) = read else {
+        return TableAnswer::Refused(file_pair::refusal_of(read));
+    };
+    let parts = p.nodes;
+    let joins = p.links;
+    let n = b.nodes;
+    let m = b.links;
+    match_on(
+        &pk[..parts],
+        &ps[..joins],
+        &pe[..joins],
+        &nk[..n],
+        &ns[..m],
+        &ne[..m],
+        table,
+    )
+}

@@ -1,0 +1,340 @@
+-- What the merging call's promise means, of its own reply and bytes: a refusal is one of the conditions and keeps both tables; else the
+-- merged file is an accepted pattern file that holds the merged pattern, and the class bytes are the classes of mutual matching, numbered
+-- by their smallest part. Assumes nothing.
+use mathlib.Core.Bool.{true, _&&_}
+use mathlib.Core.List.{List, [], _∷_, _++_, List·Memᴰ}
+use mathlib.Core.Logic.{_↔_}
+use mathlib.Core.Path.{_≡_, refl, sym, ap, _∙_}
+use Prim.Native.Nat.{ℕ, _≤_, _<_}
+use native.Mathlib.Nat.{le-antisymm, le-trans, le-of-eq}
+use native.Mathlib.Omega.{arith}
+use borrow.Author.Tests.{le-ltb, eq-eqb}
+use lib.Dec.{T, leb, le→leb}
+use lib.ListN.{length, getD, take, drop, List·getD-append}
+use lib.Seq.{take-at, drop-at}
+use Rattle.base_lists.proofs.Tests.{T-true, both}
+use Rattle.graph.specs.Circuit.{circuitGraph}
+use Rattle.simulation.specs.Closed.{Relation}
+use Rattle.simulation.specs.Simulation.{Largest}
+use Rattle.simulation.specs.Quotient.{Mutual}
+use Rattle.simulation.proofs.Simulation.{largest-unique}
+use Rattle.file_format.specs.declared.Refusal.{Refusal}
+use Rattle.file_format.specs.declared.Role.the-variants.{Pattern, Board}
+use Rattle.file_format.specs.Circuit.{circuitOf}
+use Rattle.file_format.specs.Layout.{nodesOf, linksOf, startsOf, endsOf}
+use Rattle.file_format.specs.Links.{linksBelow, rising}
+use Rattle.file_format.specs.Reading.{filled}
+use Rattle.file_format.specs.Refusals.{Condition, Verdict, accept, refuse, first, fileConditions, linkConditions, asksConnected, shortTable}
+use Rattle.file_format.specs.Reply.{Reply, reply}
+use Rattle.file_format.specs.Role.{inRange}
+use Rattle.file_format.proofs.Fields.{length-kinds, length-starts}
+use Rattle.file_format.proofs.Refusals.{Accepted, accepted, first-accept, first-parts, refuses-iff, range-orders}
+use Rattle.table.specs.Host.{EqualKinds}
+use Rattle.table.specs.Reply.{replied}
+use Rattle.table.proofs.Answers.{InTable}
+use Rattle.call_match.specs.Call.{matchConditions, matching}
+use Rattle.call_match.proofs.Promise.{entry-bit}
+use Rattle.file_write.proofs.FileFields.{kinds-written, starts-written, ends-written, length-written}
+use Rattle.file_write.proofs.RoundTrip.{same-verdict}
+use Rattle.merge.specs.Merged.{classOf, classCount, classes, merged}
+use Rattle.merge.proofs.Content.{PatternContent, accepted-content}
+use Rattle.merge.proofs.Classes.{leaderOf, self-largest, length-classes, class-at, class-iff, class-lt, class-rises, class-onto, equivalent-iff, leader-lt, leader-member, leader-min}
+use Rattle.merge.proofs.Accepted.{merged-content, merged-length-le}
+use Rattle.call_merge.specs.declared.MergeAnswer.{MergeAnswer}
+use Rattle.call_merge.specs.declared.MergeAnswer.the-variants.{Merged, Refused}
+use Rattle.call_merge.specs.Call.{mergeConditions, mergeReply, mergedBytes, MergeOutcome, merging}
+use Rattle.call_merge.proofs.Quotient.{content-sound}
+use Rattle.call_merge.proofs.Merging.{verdict-accept}
+
+-- ---- the two cases of the answer, told apart by what document 01 says of them
+
+pub reply-merged : (r : MergeAnswer) (count size : ℕ) → mergeReply r ≡ record { verdict = accept; values = count ∷ size ∷ [] } → r ≡ Merged count size
+unfolding mergeReply
+reply-merged (Merged k n) count size e = let v : k ∷ n ∷ [] ≡ count ∷ size ∷ [] = ap (λ (p : Reply). p .values) e in cc
+reply-merged (Refused x) count size e = let apart : refuse x ≡ accept = ap (λ (p : Reply). p .verdict) e in cc
+
+pub reply-refused : (r : MergeAnswer) (x : Refusal) → mergeReply r .verdict ≡ refuse x → r ≡ Refused x
+unfolding mergeReply
+reply-refused (Merged k n) x e = cc
+reply-refused (Refused y) x e = cc
+
+reply-verdict : (v : Verdict) (values : List ℕ) → reply v values .verdict ≡ v
+unfolding reply
+reply-verdict accept values = refl
+reply-verdict (refuse x) values = refl
+
+-- ---- the merged file of an accepted pattern file
+
+module _ {file : List ℕ} (a : Accepted Pattern file) where
+  content : PatternContent (circuitOf file)
+  content = accepted-content a
+
+  -- it is accepted as a pattern file,
+  pub merged-verdict : first (fileConditions Pattern (mergedBytes (circuitOf file))) ≡ accept
+  unfolding mergedBytes
+  merged-verdict =
+      sym (same-verdict Pattern _ _ _ (merged-content content .range) (merged-content content .parallel)) ∙ content-sound (merged-content content)
+
+  pub merged-accepted : Accepted Pattern (mergedBytes (circuitOf file))
+  merged-accepted = accepted Pattern _ merged-verdict
+
+  -- holds the merged pattern,
+  pub merged-circuit : circuitOf (mergedBytes (circuitOf file)) ≡ merged (circuitOf file)
+  unfolding mergedBytes
+  merged-circuit =
+      let q = merged (circuitOf file) in
+      rw (kinds-written (q .kinds) (q .starts) (q .ends), starts-written (q .kinds) (q .starts) (q .ends), ends-written (q .kinds) (q .starts) (q .ends) (merged-content content .parallel))
+
+  -- and is no longer than the first
+  pub merged-size : length (mergedBytes (circuitOf file)) ≤ length file
+  unfolding mergedBytes
+  merged-size =
+      let q = merged (circuitOf file) in
+      le-trans (le-of-eq (length-written (q .kinds) (q .starts) (q .ends) (merged-content content .parallel)))
+      (le-trans (merged-length-le content) (le-of-eq (rw (length-kinds file, length-starts file) (sym (a .size)))))
+
+-- ---- an accepted pattern file is accepted as a board too, so that it can be matched on itself
+
+board-verdict : {file : List ℕ} → Accepted Pattern file → first (fileConditions Board file) ≡ accept
+unfolding first fileConditions linkConditions asksConnected
+board-verdict {file} a =
+    let n = nodesOf file in
+    let m = linksOf file in
+    let (some, parts, links) = range-orders Pattern n m (a .range) in
+    let range : inRange Board n m ≡ true =
+    T-true (both (leb 0 n) (leb n 512 && leb m 4096) (le→leb 0 n (omega arith)) (both (leb n 512) (leb m 4096) (le→leb n 512 (omega arith)) (le→leb m 4096 (omega arith)))) in
+    let below : linksBelow n (startsOf file) (endsOf file) ≡ true = T-true (a .below) in
+    let rises : rising (startsOf file) (endsOf file) ≡ true = T-true (a .rises) in
+    simp (le-ltb _ _ (a .bytes), range, eq-eqb _ _ (a .size), below, rises)
+
+match-verdict :
+    (file : List ℕ) → first (fileConditions Pattern file) ≡ accept → first (fileConditions Board file) ≡ accept → (lent : ℕ) → nodesOf file ≤ lent →
+    first (matchConditions file file lent) ≡ accept
+unfolding matchConditions first shortTable
+match-verdict file pattern board lent room = rw (first-accept _ _ pattern, first-accept _ _ board) (simp (le-ltb _ _ room))
+
+matches-itself :
+    (file : List ℕ) → first (fileConditions Pattern file) ≡ accept → (table : List ℕ) → nodesOf file ≤ length table →
+    matching file file table .reply .verdict ≡ accept
+unfolding matching replied
+matches-itself file sound table room = rw verdict
+  where
+    verdict : first (matchConditions file file (length table)) ≡ accept
+    verdict = match-verdict file sound (board-verdict (accepted Pattern file sound)) (length table) room
+
+-- the byte of part u as the call leaves it
+abbrev pub classByte : List ℕ → List ℕ → List ℕ → ℕ → ℕ
+classByte file lent out u = getD (merging file lent out .classes) u 0
+
+-- the smallest part with the byte of u
+pub record Smallest (file lent out : List ℕ) (u s : ℕ) : Type 0 where
+  pub below : s < nodesOf file
+  pub same : classByte file lent out s ≡ classByte file lent out u
+  pub least : (v : ℕ) → v < nodesOf file → classByte file lent out v ≡ classByte file lent out u → s ≤ v
+
+module _ (file lent out : List ℕ) where
+  verdict-is : merging file lent out .reply .verdict ≡ first (mergeConditions file (length lent) (length out))
+  unfolding merging
+  verdict-is = reply-verdict _ _
+
+  -- ---- refusals
+
+  -- the call is refused exactly when one of the conditions holds,
+  pub refused-iff :
+      ((x : Refusal) × (merging file lent out .reply .verdict ≡ refuse x)) ↔
+      ((c : Condition) × List·Memᴰ c (mergeConditions file (length lent) (length out)) × T (c .holds))
+  refused-iff = rw verdict-is (refuses-iff (mergeConditions file (length lent) (length out)))
+
+  -- and then "All lent tables keep their content", and it replies with no values.
+  pub refused-keeps :
+      (x : Refusal) → merging file lent out .reply .verdict ≡ refuse x →
+      (merging file lent out .reply .values ≡ []) × (merging file lent out .classes ≡ lent) × (merging file lent out .out ≡ out)
+  unfolding merging reply filled
+  refused-keeps x e =
+      let v : first (mergeConditions file (length lent) (length out)) ≡ refuse x = sym verdict-is ∙ e in
+      (rw v, rw v, rw v)
+
+  -- An accepted pattern file is not refused where N class bytes are lent and as many bytes as the file has.
+  pub accepts :
+      first (fileConditions Pattern file) ≡ accept → nodesOf file ≤ length lent → length file ≤ length out →
+      merging file lent out .reply .verdict ≡ accept
+  accepts sound n l = verdict-is ∙ verdict-accept file lent out sound n l
+
+  -- ---- an accepted call
+
+  module _ (ok : merging file lent out .reply .verdict ≡ accept) where
+    sound : first (mergeConditions file (length lent) (length out)) ≡ accept
+    sound = sym verdict-is ∙ ok
+
+    pub pattern-sound : first (fileConditions Pattern file) ≡ accept
+    unfolding mergeConditions
+    pattern-sound = first-parts (fileConditions Pattern file) _ sound .0
+
+    pub pattern-accepted : Accepted Pattern file
+    pattern-accepted = accepted Pattern file pattern-sound
+
+    -- it "replies with the number of classes and that file's length",
+    pub values-are : merging file lent out .reply .values ≡ classCount (circuitOf file) ∷ length (mergedBytes (circuitOf file)) ∷ []
+    unfolding merging reply
+    values-are = rw sound
+
+    classes-are : merging file lent out .classes ≡ classes (circuitOf file) ++ drop (nodesOf file) lent
+    unfolding merging filled
+    classes-are = rw (sound, length-classes (circuitOf file), length-kinds file)
+
+    out-is : merging file lent out .out ≡ mergedBytes (circuitOf file) ++ drop (length (mergedBytes (circuitOf file))) out
+    unfolding merging filled
+    out-is = rw sound
+
+    classes-size : length (classes (circuitOf file)) ≡ nodesOf file
+    classes-size = length-classes (circuitOf file) ∙ length-kinds file
+
+    -- gives "the class of each part, a byte each, and the merged file",
+    pub classes-front : take (nodesOf file) (merging file lent out .classes) ≡ classes (circuitOf file)
+    classes-front = rw classes-are (take-at _ _ (nodesOf file) classes-size)
+
+    pub out-front : take (length (mergedBytes (circuitOf file))) (merging file lent out .out) ≡ mergedBytes (circuitOf file)
+    out-front = rw out-is (take-at _ _ _ refl)
+
+    -- and the bytes behind both keep their content.
+    pub classes-rest : drop (nodesOf file) (merging file lent out .classes) ≡ drop (nodesOf file) lent
+    classes-rest = rw classes-are (drop-at (classes (circuitOf file)) _ (nodesOf file) classes-size)
+
+    pub out-rest :
+        drop (length (mergedBytes (circuitOf file))) (merging file lent out .out) ≡ drop (length (mergedBytes (circuitOf file))) out
+    out-rest = rw out-is (drop-at (mergedBytes (circuitOf file)) _ _ refl)
+
+    -- ---- the class bytes
+
+    below-parts : (u : ℕ) → u < nodesOf file → u < length (circuitOf file .kinds)
+    below-parts u h = rw (length-kinds file) h
+
+    -- each is the class of its part
+    pub byte-is : (u : ℕ) → u < nodesOf file → classByte file lent out u ≡ classOf (circuitOf file) u
+    byte-is u h =
+        let p = circuitOf file in
+        rw classes-are (List·getD-append (classes p) _ 0 u (rw classes-size h) ∙ class-at p u (below-parts u h))
+
+    -- "Two parts share a class exactly when each matches the other": in the largest dual simulation of the pattern in itself,
+    pub share-iff :
+        {S : Relation} → Largest (circuitGraph (circuitOf file)) (EqualKinds (circuitOf file) (circuitOf file)) (circuitGraph (circuitOf file)) S →
+        (u v : ℕ) → u < nodesOf file → v < nodesOf file → (classByte file lent out u ≡ classByte file lent out v) ↔ Mutual S u v
+    share-iff {S} l u v h k =
+        let c = content pattern-accepted in
+        let own = self-largest c in
+        let same = class-iff c u v (below-parts u h) (below-parts v k) in
+        let pairs = equivalent-iff c u v in
+        rw (byte-is u h, byte-is v k) (
+          λ e. let (there, back) = pairs .0 (same .0 e) in (largest-unique own l u v there, largest-unique own l v u back),
+          λ (there, back). same .1 (pairs .1 (largest-unique l own u v there, largest-unique l own v u back)),
+        )
+
+    -- which is "the pattern's table on itself", as the match-table call leaves it.
+    pub share-table :
+        (table : List ℕ) → nodesOf file ≤ length table → (u v : ℕ) → u < nodesOf file → v < nodesOf file →
+        (classByte file lent out u ≡ classByte file lent out v) ↔ Mutual (InTable (matching file file table .table)) u v
+    share-table table room u v h k =
+        let own = self-largest (content pattern-accepted) in
+        let same = share-iff own u v h k in
+        let called = matches-itself file pattern-sound table room in
+        let there = entry-bit file file table called own u v k in
+        let back = entry-bit file file table called own v u h in (
+          λ e. let (s, t) = same .0 e in (there .1 s, back .1 t),
+          λ (s, t). same .1 (there .0 s, back .0 t),
+        )
+
+    -- "Classes are numbered by their smallest part, rising": a smaller byte is that of the class with the smaller smallest part,
+    leader-smallest : (u : ℕ) → u < nodesOf file → Smallest file lent out u (leaderOf (circuitOf file) u)
+    leader-smallest u h =
+        let p = circuitOf file in
+        let c = content pattern-accepted in
+        let inside = below-parts u h in
+        let low : leaderOf p u < nodesOf file = rw (← length-kinds file) (leader-lt c u inside) in
+        let member = leader-member c u inside in
+        record {
+          below = low;
+          same = byte-is (leaderOf p u) low ∙ sym (class-iff c u (leaderOf p u) inside (below-parts (leaderOf p u) low) .1 member) ∙ sym (byte-is u h);
+          least = λ v k e.
+              leader-min c u inside v (class-iff c u v inside (below-parts v k) .0 (sym (byte-is u h) ∙ sym e ∙ byte-is v k));
+        }
+
+    smallest-leader : (u s : ℕ) → u < nodesOf file → Smallest file lent out u s → s ≡ leaderOf (circuitOf file) u
+    smallest-leader u s h m =
+        let l = leader-smallest u h in
+        le-antisymm (m .least _ (l .below) (l .same)) (l .least s (m .below) (m .same))
+
+    pub bytes-rise :
+        (u v s t : ℕ) → u < nodesOf file → v < nodesOf file → Smallest file lent out u s → Smallest file lent out v t →
+        (classByte file lent out u < classByte file lent out v) ↔ (s < t)
+    bytes-rise u v s t h k m n =
+        rw (byte-is u h, byte-is v k, smallest-leader u s h m, smallest-leader v t k n)
+        (class-rises (content pattern-accepted) u v (below-parts u h))
+
+    -- and the numbers are those below the number of classes replied with, all of them
+    pub byte-below : (u : ℕ) → u < nodesOf file → classByte file lent out u < classCount (circuitOf file)
+    byte-below u h = rw (byte-is u h) (class-lt (content pattern-accepted) u (below-parts u h))
+
+    pub byte-onto : (a : ℕ) → a < classCount (circuitOf file) → (u : ℕ) × (u < nodesOf file) × (classByte file lent out u ≡ a)
+    byte-onto a h =
+        let (u, l, _, e) = class-onto (content pattern-accepted) a h in
+        let k : u < nodesOf file = rw (← length-kinds file) l in
+        (u, k, byte-is u k ∙ e)
+
+-- ---- what a caller knows of the answer and of the two tables, by cases of the answer
+
+-- Merged: `before` are the bytes lent for the file, `after` what they are then.
+pub record MergedFile (file lent before bytes after : List ℕ) (count size : ℕ) : Type 0 where
+  pub pattern : first (fileConditions Pattern file) ≡ accept
+  pub counted : count ≡ classCount (circuitOf file)
+  pub numbered : take (nodesOf file) bytes ≡ classes (circuitOf file)
+  pub verdict : first (fileConditions Pattern (take size after)) ≡ accept
+  pub accepted : Accepted Pattern (take size after)
+  pub circuit : circuitOf (take size after) ≡ merged (circuitOf file)
+  pub shorter : size ≤ length file
+  pub classesKept : drop (nodesOf file) bytes ≡ drop (nodesOf file) lent
+  pub outKept : drop size after ≡ drop size before
+
+module _ (file lent before bytes after : List ℕ) (r : MergeAnswer)
+    (e : record { reply = mergeReply r; classes = bytes; out = after } ≡ merging file lent before) where
+  reply-is : mergeReply r ≡ merging file lent before .reply
+  reply-is = ap (λ (o : MergeOutcome). o .reply) e
+
+  pub merged-file : (count size : ℕ) → r ≡ Merged count size → MergedFile file lent before bytes after count size
+  unfolding mergeReply
+  merged-file count size m =
+      let p = circuitOf file in
+      let said : merging file lent before .reply ≡ record { verdict = accept; values = count ∷ size ∷ [] } = sym reply-is ∙ ap mergeReply m in
+      let ok : merging file lent before .reply .verdict ≡ accept = ap (λ (x : Reply). x .verdict) said in
+      let values : count ∷ size ∷ [] ≡ classCount p ∷ length (mergedBytes p) ∷ [] =
+      sym (ap (λ (x : Reply). x .values) said) ∙ values-are file lent before ok in
+      let counted : count ≡ classCount p = cc in
+      let sized : size ≡ length (mergedBytes p) = cc in
+      let a = pattern-accepted file lent before ok in
+      let isBytes : bytes ≡ merging file lent before .classes = ap (λ (o : MergeOutcome). o .classes) e in
+      let isAfter : after ≡ merging file lent before .out = ap (λ (o : MergeOutcome). o .out) e in
+      let front : take size after ≡ mergedBytes p = rw (isAfter, sized) (out-front file lent before ok) in
+      record {
+        pattern = pattern-sound file lent before ok;
+        counted = counted;
+        numbered = rw isBytes (classes-front file lent before ok);
+        verdict = rw front (merged-verdict a);
+        accepted = rw front (merged-accepted a);
+        circuit = rw front (merged-circuit a);
+        shorter = rw sized (merged-size a);
+        classesKept = rw isBytes (classes-rest file lent before ok);
+        outKept = rw (isAfter, sized) (out-rest file lent before ok);
+      }
+
+  -- Refused: nothing has changed.
+  pub merge-refused :
+      (x : Refusal) → r ≡ Refused x →
+      (first (mergeConditions file (length lent) (length before)) ≡ refuse x) × (bytes ≡ lent) × (after ≡ before)
+  unfolding mergeReply
+  merge-refused x m =
+      let said : merging file lent before .reply .verdict ≡ refuse x =
+      ap (λ (y : Reply). y .verdict) (sym reply-is ∙ ap mergeReply m) in
+      let (_, keptClasses, keptOut) = refused-keeps file lent before x said in (
+        sym (verdict-is file lent before) ∙ said,
+        ap (λ (o : MergeOutcome). o .classes) e ∙ keptClasses,
+        ap (λ (o : MergeOutcome). o .out) e ∙ keptOut,
+      )

@@ -1,0 +1,208 @@
+-- From a pattern's table on itself the passes make its classes and its quotient by them, the merged pattern, which writing does not refuse. Assumes nothing.
+use mathlib.Core.Bool.{true}
+use mathlib.Core.List.{List}
+use mathlib.Core.Path.{_≡_, sym, ap, _∙_}
+use Prim.Native.Nat.{ℕ, _+_, _≤_, _<_}
+use native.Mathlib.Nat.{le-trans, lt-of-lt-of-le}
+use native.Mathlib.Omega.{arith}
+use lib.ListN.{length, getD, take}
+use lib.Seq.{sets, sets-eq, take-at}
+use Rattle.base_lists.proofs.Tests.{T-true, refuted}
+use Rattle.base_lists.specs.List.{Below}
+use Rattle.graph.specs.Circuit.{Circuit, circuit}
+use Rattle.graph.specs.Search.{connected}
+use Rattle.file_format.specs.declared.Pattern as pattern
+use Rattle.file_format.specs.declared.Refusal.{Refusal}
+use Rattle.file_format.specs.declared.Role.the-variants.{Pattern}
+use Rattle.file_format.specs.Layout.{lengthOf}
+use Rattle.file_format.specs.Links.{linksBelow, rising}
+use Rattle.file_format.specs.Reading.{filled}
+use Rattle.file_format.specs.Refusals.{accept, first, linkConditions, asksConnected}
+use Rattle.file_format.proofs.Refusals.{first-holds}
+use Rattle.table.specs.declared.Counts.{Counts}
+use Rattle.table.specs.Refine.{MatchedOn}
+use Rattle.graph.proofs.Groups.{all-below}
+use Rattle.file_format.proofs.Accepted.{bounded-starts, bounded-ends}
+use Rattle.file_write.specs.declared.WriteAnswer.the-variants.{Written, Refused}
+use Rattle.file_write.specs.Writing.{circuitConditions, WriteOutcome, writing, writeReply}
+use Rattle.file_write.proofs.FileFields.{length-written}
+use Rattle.file_write.proofs.Writing.{verdict-links, sound, writing-filled}
+use Rattle.merge.specs.Merged.{selfTable, classOf, classCount, classes, merged}
+use Rattle.merge.specs.Steps.{marks, scannedStarts, scannedEnds}
+use Rattle.merge.proofs.Content.{PatternContent, most-parts, most-links, content-bounded}
+use Rattle.merge.proofs.Classes.{self-fits, length-classes, class-at, class-lt, classCount-le}
+use Rattle.merge.proofs.Merging.{length-merged-kinds}
+use Rattle.merge.proofs.Accepted.{merged-content, merged-links-le, merged-length-le}
+use Rattle.merge.proofs.Steps.{self-led, marks-classes, merged-starts, merged-ends}
+use Rattle.call_merge.specs.Call.{mergedBytes}
+use Rattle.merge_classes.specs.Passes.{SelfTable, Quotient, leaderCount, classNumbers, leaderKinds}
+
+-- ---- a circuit that writing does not refuse as a pattern is a pattern's content, and the other way round
+
+pub sound-content :
+    (kinds starts ends : List ℕ) → first (circuitConditions Pattern kinds starts ends) ≡ accept → PatternContent (circuit kinds starts ends)
+unfolding linkConditions asksConnected
+sound-content kinds starts ends ok =
+    let s = sound Pattern kinds starts ends ok in
+    let n = length kinds in
+    let h4 = first-holds _ _ (s .links) in
+    let h5 = first-holds _ _ (h4 .1) in
+    let h6 = first-holds _ _ (h5 .1) in
+    record {
+      range = s .range;
+      parallel = s .pairs;
+      below = refuted (linksBelow n starts ends) (h4 .0);
+      rises = refuted (rising starts ends) (h5 .0);
+      joined = refuted (connected n starts ends) (h6 .0);
+    }
+
+pub content-sound : {p : Circuit} → PatternContent p → first (circuitConditions Pattern (p .kinds) (p .starts) (p .ends)) ≡ accept
+unfolding first linkConditions asksConnected
+content-sound {p} c =
+    let n = length (p .kinds) in
+    let below : linksBelow n (p .starts) (p .ends) ≡ true = T-true (c .below) in
+    let rises : rising (p .starts) (p .ends) ≡ true = T-true (c .rises) in
+    let joined : connected n (p .starts) (p .ends) ≡ true = T-true (c .joined) in
+    verdict-links Pattern (p .kinds) (p .starts) (p .ends) (T-true (c .range)) (c .parallel)
+    ∙ simp (below, rises, joined)
+
+-- ---- what was stored at the front
+
+front-set : (old values : List ℕ) (k : ℕ) → length values ≡ k → k ≤ length old → take k (sets old 0 values) ≡ values
+front-set old values k e h =
+    let room : 0 + length values ≤ length old = omega arith in
+    ap (take k) (sets-eq values old 0 room) ∙ take-at values _ k e
+
+same-circuit : (q : Circuit) {kinds starts ends : List ℕ} → kinds ≡ q .kinds → starts ≡ q .starts → ends ≡ q .ends → circuit kinds starts ends ≡ q
+same-circuit q k s e = rw (k, s, e)
+
+-- 32 rows in which all links between classes are marked
+abbrev pub Rows : Circuit → List ℕ → Type 0
+Rows p rows = rows ≡ marks 32 (classOf p) (p .starts) (p .ends) (length (p .starts))
+
+module _ {p : Circuit} (c : PatternContent p) where
+  -- ---- the table
+
+  pub matched-self : (t : List ℕ) (counts : Counts) → MatchedOn p p t counts → t ≡ selfTable p
+  unfolding selfTable
+  matched-self t counts m = m .last
+
+  module _ (t : List ℕ) (self : t ≡ selfTable p) where
+    pub table-size : length t ≡ length (p .kinds)
+    table-size = ap length self ∙ self-fits p .size
+
+    pub table-ready : SelfTable t
+    table-ready =
+        rw self
+        (record {
+          few = rw (self-fits p .size) (most-parts c);
+          small = λ v. rw (self-fits p .size) (self-fits p .small v);
+          led = rw (self-fits p .size) (self-led c);
+        })
+
+    pub count-is : leaderCount t ≡ classCount p
+    unfolding leaderCount classCount
+    count-is = rw (table-size, self)
+
+    pub numbers-are : classNumbers t ≡ classes p
+    unfolding classNumbers classes classOf
+    numbers-are = rw (table-size, self)
+
+    pub kinds-are : leaderKinds t (p .kinds) ≡ merged p .kinds
+    unfolding leaderKinds merged
+    kinds-are = rw (table-size, self)
+
+  -- ---- the rows
+
+  -- what the marking of rows asks
+  pub starts-classed : (bytes : List ℕ) → bytes ≡ classes p → Below (length bytes) (p .starts) × Below (length bytes) (p .ends)
+  starts-classed bytes e =
+      let n = length (p .kinds) in
+      rw (e, length-classes p) (all-below n (p .starts) (bounded-starts (content-bounded c)), all-below n (p .ends) (bounded-ends (content-bounded c)))
+
+  pub classes-below : (bytes : List ℕ) → bytes ≡ classes p → Below 32 bytes
+  unfolding Below
+  classes-below bytes e u h =
+      let below : u < length (p .kinds) = omega (arith, ap length e, length-classes p) in
+      rw (e, class-at p u below) (lt-of-lt-of-le (class-lt c u below) (le-trans (classCount-le c) (most-parts c)))
+
+  -- what it leaves
+  pub rows-are :
+      (bytes rows : List ℕ) (m : ℕ) → bytes ≡ classes p → m ≡ 32 →
+      rows ≡ marks m (λ u. getD bytes u 0) (p .starts) (p .ends) (length (p .starts)) → Rows p rows
+  rows-are bytes rows m e w r = r ∙ rw (e, w) (marks-classes c 32)
+
+  module _ (rows : List ℕ) (count : ℕ) (marked : Rows p rows) (all : count ≡ classCount p) where
+    pub starts-are : scannedStarts count rows ≡ merged p .starts
+    starts-are = rw (all, marked) (sym (merged-starts c 32 (le-trans (classCount-le c) (most-parts c))))
+
+    pub ends-are : scannedEnds count rows ≡ merged p .ends
+    ends-are = rw (all, marked) (sym (merged-ends c 32 (le-trans (classCount-le c) (most-parts c))))
+
+    -- as many as the merged pattern has
+    pub links-count : length (scannedEnds count rows) ≡ length (merged p .starts)
+    links-count = ap length ends-are ∙ sym (merged-content c .parallel)
+
+    -- the links have room in tables for a pattern's
+    pub links-fit : length (scannedEnds count rows) ≤ 256
+    links-fit = rw links-count (le-trans (merged-links-le c) (most-links c))
+
+  pub classes-few : classCount p ≤ 32
+  classes-few = le-trans (classCount-le c) (most-parts c)
+
+  -- ---- the merged pattern, at the front of the three tables
+
+  pub tables-merged :
+      (k m : ℕ) (mk ms me mk₀ ms₀ me₀ t rows : List ℕ) → k ≡ classCount p → m ≡ length (scannedEnds k rows) → t ≡ selfTable p → Rows p rows →
+      mk ≡ sets mk₀ 0 (leaderKinds t (p .kinds)) → ms ≡ sets ms₀ 0 (scannedStarts k rows) → me ≡ sets me₀ 0 (scannedEnds k rows) →
+      32 ≤ length mk₀ → 256 ≤ length ms₀ → 256 ≤ length me₀ → circuit (take k mk) (take m ms) (take m me) ≡ merged p
+  tables-merged k m mk ms me mk₀ ms₀ me₀ t rows isK isM self marked ek es ee hk hs he =
+      let kinds = kinds-are t self in
+      let starts = starts-are rows k marked isK in
+      let ends = ends-are rows k marked isK in
+      let few : k ≤ 32 = rw isK classes-few in
+      let short : m ≤ 256 = rw isM (links-fit rows k marked isK) in
+      same-circuit (merged p)
+      (ap (take k) ek ∙ front-set mk₀ _ k (ap length kinds ∙ length-merged-kinds p ∙ sym isK) (le-trans few hk) ∙ kinds)
+      (ap (take m) es ∙ front-set ms₀ _ m (ap length starts ∙ sym (isM ∙ links-count rows k marked isK)) (le-trans short hs) ∙ starts)
+      (ap (take m) ee ∙ front-set me₀ _ m (sym isM) (le-trans short he) ∙ ends)
+
+  -- each front has the size that was counted
+  pub quotient-size :
+      {bytes kinds starts ends : List ℕ} {size : pattern.Pattern} → Quotient p bytes kinds starts ends size →
+      (length (take (size .nodes) kinds) ≡ size .nodes) × (length (take (size .links) starts) ≡ size .links) × (length (take (size .links) ends) ≡ size .links)
+  quotient-size q = (
+    ap (λ (x : Circuit). length (x .kinds)) (q .content) ∙ length-merged-kinds p ∙ sym (q .counted),
+    ap (λ (x : Circuit). length (x .starts)) (q .content) ∙ sym (q .linked),
+    ap (λ (x : Circuit). length (x .ends)) (q .content) ∙ sym (merged-content c .parallel) ∙ sym (q .linked),
+  )
+
+  -- ---- written, it is the merged file
+
+  pub written :
+      (kinds starts ends out : List ℕ) → circuit kinds starts ends ≡ merged p → lengthOf (length (p .kinds)) (length (p .starts)) ≤ length out →
+      writing Pattern kinds starts ends out ≡ record { answer = Written (length (mergedBytes p)); reply = writeReply (Written (length (mergedBytes p))); out = filled accept (mergedBytes p) out }
+  unfolding mergedBytes
+  written kinds starts ends out e room =
+      let q = merged p in
+      let k : kinds ≡ q .kinds = ap (λ (x : Circuit). x .kinds) e in
+      let s : starts ≡ q .starts = ap (λ (x : Circuit). x .starts) e in
+      let t : ends ≡ q .ends = ap (λ (x : Circuit). x .ends) e in
+      rw (k, s, t)
+      (writing-filled Pattern (q .kinds) (q .starts) (q .ends) out (content-sound (merged-content c)) (le-trans (merged-length-le c) room)
+      ∙ rw (sym (length-written (q .kinds) (q .starts) (q .ends) (merged-content c .parallel))))
+
+-- what the answer of writing says then: the length is the merged file's, and it is no refusal
+pub written-size :
+    (p : Circuit) (o : WriteOutcome) (out : List ℕ) (size : ℕ) →
+    o ≡ record { answer = Written (length (mergedBytes p)); reply = writeReply (Written (length (mergedBytes p))); out = filled accept (mergedBytes p) out } → o .answer ≡ Written size →
+    size ≡ length (mergedBytes p)
+written-size p o out size e a = let d : Written size ≡ Written (length (mergedBytes p)) = sym a ∙ ap (λ (x : WriteOutcome). x .answer) e in cc
+
+pub written-not-refused :
+    (p : Circuit) (o : WriteOutcome) (out : List ℕ) (x : Refusal) →
+    o ≡ record { answer = Written (length (mergedBytes p)); reply = writeReply (Written (length (mergedBytes p))); out = filled accept (mergedBytes p) out } → o .answer ≡ Refused x → ⊥
+written-not-refused p o out x e a =
+    let d : Refused x ≡ Written (length (mergedBytes p)) = sym a ∙ ap (λ (x : WriteOutcome). x .answer) e in
+    let z : _≡_ {A = ℕ} 0 1 = cc in
+    omega arith

@@ -1,0 +1,173 @@
+-- `call_merge::circuits::merge_circuit` meets its contract: its scratch tables have room for every pattern, the merged pattern is made and
+-- written, and writing it is not refused. Assumes nothing.
+use denote.Ref.{now}
+use mathlib.Core.Path.{_≡_, refl, sym, ap, ap₂, _∙_}
+use borrow.Author.Needs.{needs}
+use lib.Dec.{lit≤}
+use lib.ListN.{length, take}
+use lib.Seq.{length-take-le}
+use Rattle.graph.specs.Circuit.{Circuit, circuit}
+use Rattle.file_format.specs.Reading.{filled}
+use Rattle.file_format.specs.Refusals.{accept}
+use Rattle.file_format.proofs.Reading.{front-room}
+use Rattle.file_write.specs.declared.WriteAnswer.the-variants.{Written}
+use Rattle.file_write.specs.Writing.{WriteOutcome, writeReply}
+use Rattle.merge.proofs.Content.{PatternContent, most-parts}
+use Rattle.call_merge.specs.declared.MergeAnswer.the-variants.{Merged}
+use Rattle.call_merge.specs.Call.{mergedBytes}
+use Rattle.call_merge.proofs.Quotient.{sound-content, quotient-size, written, written-size, written-not-refused}
+use Rattle.call_merge.proofs.circuits.merge_circuit.Statement.{statement}
+use Rattle.call_merge.proofs.circuits.merge_circuit.Tie as tie
+
+-- ---- the pattern
+
+abbrev entry : tie.After-quotient-arg → tie.Start
+entry c = c .before .before .before .before .before .before
+
+abbrev pattern : tie.Start → Circuit
+pattern c = circuit (now (c .args .kinds)) (now (c .args .starts)) (now (c .args .ends))
+
+content : (c : tie.Start) → PatternContent (pattern c)
+content c = sound-content _ _ _ (c .pre .0)
+
+array-borrow-prefix-table : tie.Need-array-borrow-prefix-table
+array-borrow-prefix-table c = most-parts (content (entry c))
+
+slice-aggregate-quotient : tie.Need-slice-aggregate-quotient
+slice-aggregate-quotient c = sym (length-take-le _ _ (most-parts (content (entry (c .before)))))
+
+slice-aggregate-quotient-2 : tie.Need-slice-aggregate-quotient-2
+slice-aggregate-quotient-2 c = search needs
+
+slice-aggregate-quotient-3 : tie.Need-slice-aggregate-quotient-3
+slice-aggregate-quotient-3 c = search needs
+
+slice-aggregate-quotient-4 : tie.Need-slice-aggregate-quotient-4
+slice-aggregate-quotient-4 c = search needs
+
+slice-aggregate-quotient-5 : tie.Need-slice-aggregate-quotient-5
+slice-aggregate-quotient-5 c = search needs
+
+abbrev start : tie.After-me → tie.Start
+start c = entry (c .before .before .before .before .before)
+
+quotient-requires : tie.Need-quotient-requires
+quotient-requires c κs =
+    let p = start c .pre in
+    (p .0, ((p .1 .0, length-take-le _ _ (most-parts (content (start c))), refl), (lit≤ tt, lit≤ tt, lit≤ tt)))
+
+-- ---- the merged pattern
+
+abbrev made : tie.After-me2 → tie.After-quotient
+made c = c .before .before .before .before .before .before .before
+
+-- each front has the size that was counted
+size :
+    (c : tie.After-me2) →
+    let l = made c .quotient .last .1 .1 .1 .1 .1 .1 in
+    let s = made c .quotient .result in
+    (length (take (s .nodes) (l .0)) ≡ s .nodes) × (length (take (s .links) (l .1 .0)) ≡ s .links) × (length (take (s .links) (l .1 .1 .0)) ≡ s .links)
+size c = quotient-size (content (start (made c .before))) (made c .quotient .ensures)
+
+array-share-prefix-mk : tie.Need-array-share-prefix-mk
+array-share-prefix-mk c = front-room _ _ (size c .0)
+
+slice-aggregate-write : tie.Need-slice-aggregate-write
+slice-aggregate-write c = sym (size (c .before) .0)
+
+array-share-prefix-ms : tie.Need-array-share-prefix-ms
+array-share-prefix-ms c = front-room _ _ (size (c .before) .1)
+
+slice-aggregate-write-2 : tie.Need-slice-aggregate-write-2
+slice-aggregate-write-2 c = sym (size (c .before .before) .1)
+
+array-share-prefix-me : tie.Need-array-share-prefix-me
+array-share-prefix-me c = front-room _ _ (size (c .before .before) .2)
+
+slice-aggregate-write-3 : tie.Need-slice-aggregate-write-3
+slice-aggregate-write-3 c = sym (size (c .before .before .before) .2)
+
+write-requires : tie.Need-write-requires
+write-requires c κs = search needs
+
+-- ---- written
+
+abbrev wrote : tie.After-slice-known4 → tie.After-write
+wrote c = c .before .before
+
+abbrev madeBefore : tie.After-write → tie.After-quotient
+madeBefore c = made (c .before .before .before .before .before)
+
+abbrev outcome : tie.After-write → WriteOutcome
+outcome c = record { answer = c .write .result; reply = writeReply (c .write .result); out = c .write .last .1 .1 .1 .1 .0 }
+
+-- the merged file stands at the front
+file :
+    (c : tie.After-write) →
+    let s = start (madeBefore c .before) in
+    outcome c ≡ record { answer = Written (length (mergedBytes (pattern s))); reply = writeReply (Written (length (mergedBytes (pattern s)))); out = filled accept (mergedBytes (pattern s)) (now (s .args .out)) }
+file c =
+    let s = start (madeBefore c .before) in
+    c .write .ensures ∙ written (content s) _ _ _ _ (madeBefore c .quotient .ensures .content) (s .pre .1 .1)
+
+enum-known-written : tie.Need-enum-known-written
+enum-known-written c = search needs
+
+enum-known-written-2 : tie.Need-enum-known-written-2
+enum-known-written-2 c = search needs
+
+same-length : tie.Need-same-length
+same-length c = search needs
+
+same-length-2 : tie.Need-same-length-2
+same-length-2 c = search needs
+
+returns : tie.Need-returns
+returns c =
+    let told = c .before in
+    let write = wrote (told .before .before) in
+    let call = madeBefore write in
+    record {
+      answered = ap₂ Merged (call .quotient .ensures .counted) (written-size _ (outcome write) _ _ (file write) (told .written .given .1));
+      numbered = call .quotient .ensures .numbered;
+      written = ap (λ (o : WriteOutcome). o .out) (file write);
+    }
+
+same-length-3 : tie.Need-same-length-3
+same-length-3 c = search needs
+
+same-length-4 : tie.Need-same-length-4
+same-length-4 c = search needs
+
+returns-2 : tie.Need-returns-2
+returns-2 c =
+    let told = c .before in
+    let write = wrote (told .before .before) in
+    absurd (written-not-refused _ (outcome write) _ _ (file write) (told .written2 .given .1))
+
+pub merge-circuit-spec : {M : Type 1} → statement M
+merge-circuit-spec =
+    tie.close
+    (tie.spec
+    array-borrow-prefix-table
+    slice-aggregate-quotient
+    slice-aggregate-quotient-2
+    slice-aggregate-quotient-3
+    slice-aggregate-quotient-4
+    slice-aggregate-quotient-5
+    quotient-requires
+    array-share-prefix-mk
+    slice-aggregate-write
+    array-share-prefix-ms
+    slice-aggregate-write-2
+    array-share-prefix-me
+    slice-aggregate-write-3
+    write-requires
+    enum-known-written
+    enum-known-written-2
+    same-length
+    same-length-2
+    returns
+    same-length-3
+    same-length-4
+    returns-2)

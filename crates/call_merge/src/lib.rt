@@ -1,0 +1,43 @@
+// The merging call: the merged pattern of a pattern file.
+use crate::circuits::merge_circuit;
+use file_format::File;
+use file_format::Pattern;
+use file_format::ReadAnswer;
+use file_format::Refusal;
+use file_format::Role;
+ghost use mathlib.Core.Path.{_≡_};
+ghost use Rattle.call_merge.specs.Call.{mergeReply, merging};
+
+mod circuits;
+
+// What merging a pattern comes to: the number of classes and the merged file's length, or why it was turned away.
+pub enum MergeAnswer {
+    Merged(usize, usize),
+    Refused(Refusal),
+}
+
+// Merges the parts of a pattern file that match each other: the number of classes and the merged file's length, with the class of each
+// part, a byte each, and the merged file at the front of the two tables; or the refusal, which leaves them as they were. The file is read
+// and both lengths are tested before anything is written to the lent tables.
+pub fn merge(pattern: &[u8], classes: &mut [u8], out: &mut [u8]) -> MergeAnswer
+    ensures { λ r. ⌜ record { reply = mergeReply r; classes = now (classes .exit); out = now (out .exit) } ≡ merging (now (pattern .entry)) (now (classes .entry)) (now (out .entry)) ⌝ }
+{
+    let mut pk = [0u16; Pattern::MAX_NODES];
+    let mut ps = [0u16; Pattern::MAX_LINKS];
+    let mut pe = [0u16; Pattern::MAX_LINKS];
+    let drawn = file_read::read(Role::Pattern, pattern, &mut pk, &mut ps, &mut pe);
+    let ReadAnswer::Read(n, m) = drawn else {
+        return MergeAnswer::Refused(file_format::refusal_of(drawn));
+    };
+    let short = Refusal {
+        number: 8,
+        file: File::Neither,
+    };
+    if classes.len() < n {
+        return MergeAnswer::Refused(short);
+    }
+    if out.len() < pattern.len() {
+        return MergeAnswer::Refused(short);
+    }
+    merge_circuit(&pk[..n], &ps[..m], &pe[..m], &mut classes[..n], out)
+}

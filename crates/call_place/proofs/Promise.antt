@@ -1,0 +1,199 @@
+-- What the promise of the exported calls means: a refusal is a condition on the inputs, or there is no perfect subgraph; else what the
+-- tables mark is the place, and the table is the largest dual simulation in it. Assumes nothing.
+use mathlib.Core.List.{List, _++_, List·Memᴰ}
+use mathlib.Core.Logic.{_↔_, _⊎_, inl, inr, ⊎-elim}
+use mathlib.Core.Path.{_≡_, sym, ap, _∙_}
+use Prim.Native.Nat.{ℕ, _<_}
+use native.Mathlib.Omega.{arith}
+use borrow.Author.Tests.{ltb-true, not-false}
+use lib.Dec.{T, ltb}
+use lib.ListN.{length, take, drop}
+use lib.Seq.{take-at, drop-at}
+use Rattle.base_lists.proofs.Tests.{T-true, T-false, decide}
+use Rattle.graph.specs.Circuit.{Circuit, circuitGraph}
+use Rattle.graph.specs.Graph.{Graph}
+use Rattle.simulation.specs.Simulation.{Largest}
+use Rattle.simulation.specs.Perfect.{Perfect, Place}
+use Rattle.file_format.specs.declared.File.the-variants.{Neither}
+use Rattle.file_format.specs.declared.Refusal.{Refusal}
+use Rattle.file_format.specs.declared.Role.the-variants.{Pattern, Board}
+use Rattle.file_format.specs.Circuit.{circuitOf}
+use Rattle.file_format.specs.Layout.{nodesOf, linksOf}
+use Rattle.file_format.specs.Reading.{filled}
+use Rattle.file_format.specs.Refusals.{Condition, accept, refuse, first, fileConditions, centreOutside}
+use Rattle.file_format.proofs.Fields.{length-kinds, length-starts}
+use Rattle.file_format.proofs.Refusals.{Accepted, accepted, first-parts, first-holds, refuses-iff}
+use Rattle.table.specs.Reply.{noCounts}
+use Rattle.table.specs.Host.{EqualKinds}
+use Rattle.table.specs.Refine.{countsOf}
+use Rattle.table.proofs.Answers.{InTable}
+use Rattle.place.specs.Match.{ballOf, found, placeNodes, placeLinks, placeTable, markedGraph}
+use Rattle.place.specs.Outcome.{PlaceOutcome, placeVerdict, placeAround}
+use Rattle.call_place.specs.Call.{inputConditions, decided, placeAt}
+use Rattle.place.proofs.Accepted.{accepted-admissible}
+use Rattle.place.proofs.Ball.{Admissible}
+use Rattle.place.proofs.Marks.{nodes-marks, links-marks, length-table}
+use Rattle.place.proofs.Place.{place-found, none-iff, place-table}
+
+-- number 9, of neither file
+abbrev pub nine : Refusal
+nine = record { number = 9; file = Neither }
+
+refuse-not-accept : {x : Refusal} → refuse x ≡ accept → ⊥
+refuse-not-accept e = let z : _≡_ {A = ℕ} 0 1 = cc in omega arith
+
+-- ---- the verdict on a centre
+
+module _ (pattern board : Circuit) (w r : ℕ) where
+  verdict-found : T (found pattern board w r) → placeVerdict pattern board w r ≡ accept
+  unfolding placeVerdict
+  verdict-found t = rw (T-true {b = found pattern board w r} t)
+
+  verdict-none : (T (found pattern board w r) → ⊥) → placeVerdict pattern board w r ≡ refuse nine
+  unfolding placeVerdict
+  verdict-none f = rw (T-false {b = found pattern board w r} f)
+
+  pub found-verdict : placeVerdict pattern board w r ≡ accept → T (found pattern board w r)
+  found-verdict e = ⊎-elim (λ t. t) (λ f. absurd (refuse-not-accept (sym (verdict-none f) ∙ e))) (decide (found pattern board w r))
+
+  pub none-verdict : placeVerdict pattern board w r ≡ refuse nine → T (found pattern board w r) → ⊥
+  none-verdict e t = refuse-not-accept (sym e ∙ verdict-found t)
+
+-- ---- a call
+
+module _ (pattern board : List ℕ) (w r : ℕ) (nodes links table : List ℕ) where
+  -- the two circuits, the conditions on the inputs, and what the call comes to
+  abbrev P : Circuit
+  P = circuitOf pattern
+
+  abbrev B : Circuit
+  B = circuitOf board
+
+  abbrev inputs : List Condition
+  inputs = inputConditions pattern board w (length nodes) (length links) (length table)
+
+  abbrev result : PlaceOutcome
+  result = placeAt pattern board w r nodes links table
+
+  -- A condition on the inputs that holds, and no other holds before it, refuses: "All lent tables keep their content; counts are 0".
+  pub input-refused :
+      (x : Refusal) → first inputs ≡ refuse x →
+      (result .reply .verdict ≡ refuse x) × (result .reply .counts ≡ noCounts) × (result .nodes ≡ nodes) × (result .links ≡ links) × (result .table ≡ table)
+  unfolding placeAt decided
+  input-refused x e = (rw e, rw e, rw e, rw e, rw e)
+
+  -- there is such a condition exactly when some condition on the inputs holds
+  pub inputs-iff : ((x : Refusal) × (first inputs ≡ refuse x)) ↔ ((c : Condition) × List·Memᴰ c inputs × T (c .holds))
+  inputs-iff = refuses-iff inputs
+
+  -- Where none holds, both files are accepted, the centre is a node and the tables are long enough.
+  module _ (sound : first inputs ≡ accept) where
+    result-is : result ≡ placeAround P B w r nodes links table
+    unfolding placeAt decided
+    result-is = rw sound
+
+    pub verdict-is : result .reply .verdict ≡ placeVerdict P B w r
+    unfolding placeAround
+    verdict-is = ap (λ (o : PlaceOutcome). o .reply .verdict) result-is
+
+    -- what the conditions say, in their order
+    parts : (first (fileConditions Pattern pattern) ≡ accept) × (first (fileConditions Board board) ≡ accept) × (w < nodesOf board)
+    unfolding inputConditions centreOutside
+    parts =
+        let (drawn, rest) = first-parts (fileConditions Pattern pattern) _ sound in
+        let (given, rest′) = first-parts (fileConditions Board board) _ rest in
+        (drawn, given, ltb-true w (nodesOf board) (not-false (ltb w (nodesOf board)) (first-holds _ _ rest′ .0)))
+
+    pub pattern-accepted : Accepted Pattern pattern
+    pattern-accepted = accepted Pattern pattern (parts .0)
+
+    pub board-accepted : Accepted Board board
+    board-accepted = accepted Board board (parts .1)
+
+    admissible : Admissible P B
+    admissible = accepted-admissible pattern-accepted board-accepted
+
+    -- The counts are those of the ball's row, whether there is a place or not.
+    pub counts-are : result .reply .counts ≡ countsOf P B (ballOf B w r)
+    unfolding placeAround
+    counts-are = ap (λ (o : PlaceOutcome). o .reply .counts) result-is
+
+    -- ---- no place
+
+    -- The call is accepted, or refused with 9; 9 exactly when there is no perfect subgraph around the centre at the radius.
+    pub accept-or-nine : (result .reply .verdict ≡ accept) ⊎ (result .reply .verdict ≡ refuse nine)
+    accept-or-nine = ⊎-elim (λ t. inl (verdict-is ∙ verdict-found P B w r t)) (λ f. inr (verdict-is ∙ verdict-none P B w r f)) (decide (found P B w r))
+
+    pub nine-iff :
+        (result .reply .verdict ≡ refuse nine) ↔
+        ((G : Graph) → Perfect (circuitGraph P) (EqualKinds P B) (circuitGraph B) w r G → ⊥)
+    nine-iff = (
+      λ e. none-iff admissible w r .0 (none-verdict P B w r (sym verdict-is ∙ e)),
+      λ none. verdict-is ∙ verdict-none P B w r (none-iff admissible w r .1 none),
+    )
+
+    -- 9 too leaves the tables as they were
+    pub nine-keeps : result .reply .verdict ≡ refuse nine → (result .nodes ≡ nodes) × (result .links ≡ links) × (result .table ≡ table)
+    unfolding placeAround filled
+    nine-keeps e =
+        let v : placeVerdict P B w r ≡ refuse nine = sym verdict-is ∙ e in
+        (rw (result-is, v), rw (result-is, v), rw (result-is, v))
+
+    -- ---- the place
+
+    module _ (accepts : result .reply .verdict ≡ accept) where
+      ok : placeVerdict P B w r ≡ accept
+      ok = sym verdict-is ∙ accepts
+
+      is-found : T (found P B w r)
+      is-found = found-verdict P B w r ok
+
+      nodes-are : result .nodes ≡ placeNodes P B w r ++ drop (length (placeNodes P B w r)) nodes
+      unfolding placeAround filled
+      nodes-are = rw (result-is, ok)
+
+      links-are : result .links ≡ placeLinks P B w r ++ drop (length (placeLinks P B w r)) links
+      unfolding placeAround filled
+      links-are = rw (result-is, ok)
+
+      table-is : result .table ≡ placeTable P B w r ++ drop (length (placeTable P B w r)) table
+      unfolding placeAround filled
+      table-is = rw (result-is, ok)
+
+      -- the first N node bytes, M link bytes and N sets are the place's
+      pub nodes-front : take (nodesOf board) (result .nodes) ≡ placeNodes P B w r
+      nodes-front = rw nodes-are (take-at (placeNodes P B w r) _ (nodesOf board) (nodes-marks P B w r .size ∙ length-kinds board))
+
+      pub links-front : take (linksOf board) (result .links) ≡ placeLinks P B w r
+      links-front = rw links-are (take-at (placeLinks P B w r) _ (linksOf board) (links-marks P B w r .size ∙ length-starts board))
+
+      pub table-front : take (nodesOf board) (result .table) ≡ placeTable P B w r
+      table-front = rw table-is (take-at (placeTable P B w r) _ (nodesOf board) (length-table P B w r ∙ length-kinds board))
+
+      -- "Accepted calls leave entries past those needed."
+      pub nodes-rest : drop (nodesOf board) (result .nodes) ≡ drop (nodesOf board) nodes
+      nodes-rest =
+          let size : length (placeNodes P B w r) ≡ nodesOf board = nodes-marks P B w r .size ∙ length-kinds board in
+          rw nodes-are (drop-at (placeNodes P B w r) _ (nodesOf board) size ∙ ap (λ (k : ℕ). drop k nodes) size)
+
+      pub links-rest : drop (linksOf board) (result .links) ≡ drop (linksOf board) links
+      links-rest =
+          let size : length (placeLinks P B w r) ≡ linksOf board = links-marks P B w r .size ∙ length-starts board in
+          rw links-are (drop-at (placeLinks P B w r) _ (linksOf board) size ∙ ap (λ (k : ℕ). drop k links) size)
+
+      pub table-rest : drop (nodesOf board) (result .table) ≡ drop (nodesOf board) table
+      table-rest =
+          let size : length (placeTable P B w r) ≡ nodesOf board = length-table P B w r ∙ length-kinds board in
+          rw table-is (drop-at (placeTable P B w r) _ (nodesOf board) size ∙ ap (λ (k : ℕ). drop k table) size)
+
+      -- the subgraph of the board that those bytes mark
+      abbrev pub marked : Graph
+      marked = markedGraph B (take (nodesOf board) (result .nodes)) (take (linksOf board) (result .links))
+
+      -- It is the place: perfect, and it contains every other perfect subgraph.
+      pub marked-place : Place (circuitGraph P) (EqualKinds P B) (circuitGraph B) w r marked
+      marked-place = rw (nodes-front, links-front) (place-found admissible w r is-found)
+
+      -- The table is the largest dual simulation of the pattern in it.
+      pub marked-largest : Largest (circuitGraph P) (EqualKinds P B) marked (InTable (take (nodesOf board) (result .table)))
+      marked-largest = rw (nodes-front, links-front, table-front) (place-table admissible w r is-found)

@@ -1,0 +1,164 @@
+-- `call_place::find` meets its contract: a file is refused, or the place is sought on the two circuits that were read. Assumes nothing.
+use denote.Ref.{now}
+use mathlib.Core.Path.{sym}
+use borrow.Author.Needs.{needs}
+use Rattle.graph.specs.Circuit.{Circuit}
+use Rattle.file_pair.specs.Pair.{BothRead}
+use Rattle.file_pair.proofs.Both.{both-read, refused-pair, stands-size, stands-room, pattern-bounded, board-bounded}
+use Rattle.call_place.proofs.Finding.{find-refused, find-read}
+use Rattle.call_place.proofs.find.Statement.{statement}
+use Rattle.call_place.proofs.find.Tie as tie
+
+-- ---- the two files
+
+abbrev entry : tie.After-read-pair → tie.Start
+entry c = c .before .before .before .before .before .before .before .before .before .before .before .before
+
+-- what reading them left
+abbrev parts : tie.After-read-pair → Circuit
+parts c = let l = c .read-pair .last .1 .1 in record { kinds = l .0; starts = l .1 .0; ends = l .1 .1 .0 }
+
+abbrev nodes : tie.After-read-pair → Circuit
+nodes c = let l = c .read-pair .last .1 .1 .1 .1 .1 in record { kinds = l .0; starts = l .1 .0; ends = l .1 .1 .0 }
+
+slice-aggregate-read-pair : tie.Need-slice-aggregate-read-pair
+slice-aggregate-read-pair c = search needs
+
+slice-aggregate-read-pair-2 : tie.Need-slice-aggregate-read-pair-2
+slice-aggregate-read-pair-2 c = search needs
+
+slice-aggregate-read-pair-3 : tie.Need-slice-aggregate-read-pair-3
+slice-aggregate-read-pair-3 c = search needs
+
+slice-aggregate-read-pair-4 : tie.Need-slice-aggregate-read-pair-4
+slice-aggregate-read-pair-4 c = search needs
+
+slice-aggregate-read-pair-5 : tie.Need-slice-aggregate-read-pair-5
+slice-aggregate-read-pair-5 c = search needs
+
+slice-aggregate-read-pair-6 : tie.Need-slice-aggregate-read-pair-6
+slice-aggregate-read-pair-6 c = search needs
+
+read-pair-requires : tie.Need-read-pair-requires
+read-pair-requires c κs = search needs
+
+enum-known-read : tie.Need-enum-known-read
+enum-known-read c = search needs
+
+turned-away-requires : tie.Need-turned-away-requires
+turned-away-requires c κs = search needs
+
+enum-told : tie.Need-enum-told
+enum-told c = search needs
+
+refusal-of-requires : tie.Need-refusal-of-requires
+refusal-of-requires c κs = search needs
+
+-- both were read
+abbrev reading : tie.After-read → tie.After-read-pair
+reading c = c .before .before .before .before .before .before .before .before
+
+both : (c : tie.After-read)
+    → let a = entry (reading c) .args in
+    BothRead (now (a .pattern)) (now (a .board)) (c .read .given .0 .0) (c .read .given .0 .1 .0) (parts (reading c)) (nodes (reading c))
+both c = both-read _ _ _ _ (reading c .read-pair .ensures) (c .read .given .1)
+
+-- ---- the place
+
+array-share-prefix-pk : tie.Need-array-share-prefix-pk
+array-share-prefix-pk c = stands-room (both (c .before) .drawn) .0
+
+slice-aggregate-find-on : tie.Need-slice-aggregate-find-on
+slice-aggregate-find-on c = sym (stands-size (both (c .before .before) .drawn) .0)
+
+array-share-prefix-ps : tie.Need-array-share-prefix-ps
+array-share-prefix-ps c = stands-room (both (c .before .before) .drawn) .1
+
+slice-aggregate-find-on-2 : tie.Need-slice-aggregate-find-on-2
+slice-aggregate-find-on-2 c = sym (stands-size (both (c .before .before .before) .drawn) .1)
+
+array-share-prefix-pe : tie.Need-array-share-prefix-pe
+array-share-prefix-pe c = stands-room (both (c .before .before .before) .drawn) .2
+
+slice-aggregate-find-on-3 : tie.Need-slice-aggregate-find-on-3
+slice-aggregate-find-on-3 c = sym (stands-size (both (c .before .before .before .before) .drawn) .2)
+
+array-share-prefix-nk : tie.Need-array-share-prefix-nk
+array-share-prefix-nk c = stands-room (both (c .before .before .before .before) .given) .0
+
+slice-aggregate-find-on-4 : tie.Need-slice-aggregate-find-on-4
+slice-aggregate-find-on-4 c = sym (stands-size (both (c .before .before .before .before .before) .given) .0)
+
+array-share-prefix-ns : tie.Need-array-share-prefix-ns
+array-share-prefix-ns c = stands-room (both (c .before .before .before .before .before) .given) .1
+
+slice-aggregate-find-on-5 : tie.Need-slice-aggregate-find-on-5
+slice-aggregate-find-on-5 c = sym (stands-size (both (c .before .before .before .before .before .before) .given) .1)
+
+array-share-prefix-ne : tie.Need-array-share-prefix-ne
+array-share-prefix-ne c = stands-room (both (c .before .before .before .before .before .before) .given) .2
+
+slice-aggregate-find-on-6 : tie.Need-slice-aggregate-find-on-6
+slice-aggregate-find-on-6 c = sym (stands-size (both (c .before .before .before .before .before .before .before) .given) .2)
+
+find-on-requires : tie.Need-find-on-requires
+find-on-requires c κs =
+    let read = both (c .before .before .before .before .before .before .before .before .before .before) in
+    (pattern-bounded read, board-bounded read)
+
+returns : tie.Need-returns
+returns c =
+    let passed = c .before in
+    let told = passed .before in
+    let read = told .before .before .before .before .before .before .before .before in
+    rw (c .turned-away .ensures)
+    (find-refused _ _ _ _ _ _ _ (refused-pair _ _ _ _ (read .read-pair .ensures) (passed .refusal-of .ensures) (told .enum-told .given .1)))
+
+same-length : tie.Need-same-length
+same-length c = search needs
+
+same-length-2 : tie.Need-same-length-2
+same-length-2 c = search needs
+
+same-length-3 : tie.Need-same-length-3
+same-length-3 c = search needs
+
+returns-2 : tie.Need-returns-2
+returns-2 c =
+    let found = c .before .before .before .before .before .before in
+    let read = found .before .before .before .before .before .before .before .before .before .before .before in
+    find-read _ _ _ _ _ _ _ (both read) (found .find-on .ensures)
+
+pub find-spec : {M : Type 1} → statement M
+find-spec =
+    tie.close
+    (tie.spec
+    slice-aggregate-read-pair
+    slice-aggregate-read-pair-2
+    slice-aggregate-read-pair-3
+    slice-aggregate-read-pair-4
+    slice-aggregate-read-pair-5
+    slice-aggregate-read-pair-6
+    read-pair-requires
+    enum-known-read
+    enum-told
+    refusal-of-requires
+    turned-away-requires
+    returns
+    array-share-prefix-pk
+    slice-aggregate-find-on
+    array-share-prefix-ps
+    slice-aggregate-find-on-2
+    array-share-prefix-pe
+    slice-aggregate-find-on-3
+    array-share-prefix-nk
+    slice-aggregate-find-on-4
+    array-share-prefix-ns
+    slice-aggregate-find-on-5
+    array-share-prefix-ne
+    slice-aggregate-find-on-6
+    find-on-requires
+    same-length
+    same-length-2
+    same-length-3
+    returns-2)

@@ -1,0 +1,197 @@
+// The place calls: a pattern file, the board of another file and a centre, at the pattern's radius or at a radius given.
+use file_format::Board;
+use file_format::File;
+use file_format::Pattern;
+use file_format::Refusal;
+use file_pair::PairAnswer;
+use file_pair::read_pair;
+use graph_extent::radius::radius_of;
+use place::PlaceAnswer;
+use place_circuits::place_circuits;
+use table::Counts;
+ghost use mathlib.Core.Path.{_≡_};
+ghost use Rattle.file_format.specs.Circuit.{circuitOf, Bounded};
+ghost use Rattle.file_format.specs.declared.Role.the-variants as role;
+ghost use Rattle.graph.specs.Circuit.{circuit};
+ghost use Rattle.table.specs.Reply.{noCounts};
+ghost use Rattle.place.specs.Match.{radiusOf};
+ghost use Rattle.place.specs.Outcome.{placeReply};
+ghost use Rattle.call_place.specs.Call.{radiusFor, placeOn, placeAt};
+
+// At which radius a place is asked for: the pattern's own, or one given.
+pub enum Reach {
+    Own,
+    Given(u16),
+}
+
+// The radius that is asked for.
+fn radius_for(reach: Reach, kinds: &[u16], starts: &[u16], ends: &[u16]) -> u16
+    requires { ⌜ Bounded role.Pattern (circuit (now kinds) (now starts) (now ends)) ⌝ }
+    ensures { λ r. ⌜ r ≡ radiusFor reach (circuit (now (kinds .entry)) (now (starts .entry)) (now (ends .entry))) ⌝ }
+{
+    match reach {
+        Reach::Own => radius_of(kinds, starts, ends),
+        Reach::Given(r) => r,
+    }
+}
+
+// The answer that turns a call away before anything is searched.
+fn turned_away(x: Refusal) -> PlaceAnswer
+    ensures { λ r. ⌜ r ≡ PlaceAnswer.Refused x noCounts ⌝ }
+{
+    PlaceAnswer::Refused(
+        x,
+        Counts {
+            started: 0,
+            kept: 0,
+            struck: 0,
+            rounds: 0,
+        },
+    )
+}
+
+// The call on two circuits that were read. Everything is tested, and the place found, before anything is written to the lent tables.
+fn find_on(
+    reach: Reach,
+    part_kinds: &[u16],
+    part_starts: &[u16],
+    part_ends: &[u16],
+    node_kinds: &[u16],
+    node_starts: &[u16],
+    node_ends: &[u16],
+    centre: usize,
+    nodes: &mut [u8],
+    links: &mut [u8],
+    table: &mut [u32],
+) -> PlaceAnswer
+    requires { ⌜ Bounded role.Pattern (circuit (now «part_kinds») (now «part_starts») (now «part_ends»)) ⌝ }
+    requires { ⌜ Bounded role.Board (circuit (now «node_kinds») (now «node_starts») (now «node_ends»)) ⌝ }
+    ensures { λ a. ⌜ record { reply = placeReply a; nodes = now (nodes .exit); links = now (links .exit); table = now (table .exit) }
+        ≡ placeOn reach (circuit (now («part_kinds» .entry)) (now («part_starts» .entry)) (now («part_ends» .entry))) (circuit (now («node_kinds» .entry)) (now («node_starts» .entry)) (now («node_ends» .entry))) centre (now (nodes .entry)) (now (links .entry)) (now (table .entry)) ⌝ }
+{
+    let n = node_kinds.len();
+    if n <= centre {
+        return turned_away(Refusal {
+            number: 7,
+            file: File::Neither,
+        });
+    }
+    let short = Refusal {
+        number: 8,
+        file: File::Neither,
+    };
+    if nodes.len() < n {
+        return turned_away(short);
+    }
+    if links.len() < node_starts.len() {
+        return turned_away(short);
+    }
+    if table.len() < n {
+        return turned_away(short);
+    }
+    let r = radius_for(reach, part_kinds, part_starts, part_ends);
+    place_circuits(
+        part_kinds,
+        part_starts,
+        part_ends,
+        node_kinds,
+        node_starts,
+        node_ends,
+        centre as u16,
+        r,
+        nodes,
+        links,
+        table,
+    )
+}
+
+// The call on two files.
+fn find(
+    reach: Reach,
+    pattern: &[u8],
+    board: &[u8],
+    centre: usize,
+    nodes: &mut [u8],
+    links: &mut [u8],
+    table: &mut [u32],
+) -> PlaceAnswer
+    ensures { λ a. ⌜ record { reply = placeReply a; nodes = now (nodes .exit); links = now (links .exit); table = now (table .exit) }
+        ≡ placeAt (now (pattern .entry)) (now (board .entry)) centre (radiusFor reach (circuitOf (now (pattern .entry)))) (now (nodes .entry)) (now (links .entry)) (now (table .entry)) ⌝ }
+{
+    let mut pk = [0u16; Pattern::MAX_NODES];
+    let mut ps = [0u16; Pattern::MAX_LINKS];
+    let mut pe = [0u16; Pattern::MAX_LINKS];
+    let mut nk = [0u16; Board::MAX_NODES];
+    let mut ns = [0u16; Board::MAX_LINKS];
+    let mut ne = [0u16; Board::MAX_LINKS];
+    let read = read_pair(
+        pattern,
+        board,
+        &mut pk,
+        &mut ps,
+        &mut pe,
+        &mut nk,
+        &mut ns,
+        &mut ne,
+    );
+    let PairAnswer::Read(p, b) = read else {
+        return turned_away(file_pair::refusal_of(read));
+    };
+    let parts = p.nodes;
+    let joins = p.links;
+    let n = b.nodes;
+    let m = b.links;
+    find_on(
+        reach,
+        &pk[..parts],
+        &ps[..joins],
+        &pe[..joins],
+        &nk[..n],
+        &ns[..m],
+        &ne[..m],
+        centre,
+        nodes,
+        links,
+        table,
+    )
+}
+
+// The place around the centre at the pattern's radius: the ball's four counts, with a byte per board node and one per board link, 1 in the
+// place and else 0, and a set of parts per node, at the front of the three tables; or the refusal, which leaves them as they were.
+pub fn place(
+    pattern: &[u8],
+    board: &[u8],
+    centre: usize,
+    nodes: &mut [u8],
+    links: &mut [u8],
+    table: &mut [u32],
+) -> PlaceAnswer
+    ensures { λ a. ⌜ record { reply = placeReply a; nodes = now (nodes .exit); links = now (links .exit); table = now (table .exit) }
+        ≡ placeAt (now (pattern .entry)) (now (board .entry)) centre (radiusOf (circuitOf (now (pattern .entry)))) (now (nodes .entry)) (now (links .entry)) (now (table .entry)) ⌝ }
+{
+    find(Reach::Own, pattern, board, centre, nodes, links, table)
+}
+
+// The same at a radius given.
+pub fn place_within(
+    pattern: &[u8],
+    board: &[u8],
+    centre: usize,
+    radius: u16,
+    nodes: &mut [u8],
+    links: &mut [u8],
+    table: &mut [u32],
+) -> PlaceAnswer
+    ensures { λ a. ⌜ record { reply = placeReply a; nodes = now (nodes .exit); links = now (links .exit); table = now (table .exit) }
+        ≡ placeAt (now (pattern .entry)) (now (board .entry)) centre radius (now (nodes .entry)) (now (links .entry)) (now (table .entry)) ⌝ }
+{
+    find(
+        Reach::Given(radius),
+        pattern,
+        board,
+        centre,
+        nodes,
+        links,
+        table,
+    )
+}

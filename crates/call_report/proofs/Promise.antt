@@ -1,0 +1,236 @@
+-- What the report call's promise means: calls one after another, each with a buffer of any length that holds the longest line, put the report,
+-- whole and once, and then nothing; only a shorter buffer is refused. Assumes nothing.
+use mathlib.Core.List.{List, [], _∷_, _++_}
+use mathlib.Core.Logic.{_↔_}
+use mathlib.Core.Path.{_≡_, refl, sym, ap, ap₂, _∙_}
+use Prim.Native.Nat.{ℕ, zero, suc, _≤_, _<_, zero-le}
+use native.Mathlib.Nat.{le-trans, le-antisymm, lt-of-not-le, le-of-suc-le-suc}
+use native.Mathlib.Decide.{decLt}
+use native.Mathlib.Omega.{arith}
+use borrow.Author.Tests.{lt-ltb, le-ltb}
+use lib.ListN.{length, drop, length-append}
+use lib.Seq.{take-at, drop-at}
+use Rattle.file_format.specs.declared.File.the-variants.{Neither}
+use Rattle.file_format.specs.declared.Refusal.{Refusal}
+use Rattle.file_format.specs.declared.Role.the-variants.{Pattern, Board}
+use Rattle.file_format.specs.Circuit.{circuitOf}
+use Rattle.file_format.specs.Reading.{filled}
+use Rattle.file_format.specs.Refusals.{Verdict, accept, refuse, first, fileConditions, shortTable}
+use Rattle.file_format.specs.Reply.{Reply, reply}
+use Rattle.file_format.proofs.Accepted.{accepted-bounded}
+use Rattle.file_format.proofs.Refusals.{accepted, first-parts}
+use Rattle.file_pair.specs.Pair.{pairConditions}
+use Rattle.report.specs.Lines.{longestLine}
+use Rattle.report.specs.Report.{reportOf}
+use Rattle.report_centres.specs.declared.Part.{Part}
+use Rattle.call_report.specs.declared.ReportAnswer.{ReportAnswer}
+use Rattle.call_report.specs.declared.ReportAnswer.the-variants as answer
+use Rattle.call_report.specs.Call.{verdictOf, pieceOf, reportReply, ReportOutcome, reporting}
+use Rattle.report_centres.specs.Pieces.{Piece}
+use Rattle.call_report.specs.Whole.{itemsFor, placesFor, itemsOf, prefixOf, placesOf, Follows, nextOf, foundOf, sizeOf, textOf, Stage, called}
+use Rattle.call_report.proofs.Whole.{piece-follows, piece-none, prefix-start, places-start, prefix-all, places-small}
+
+-- ---- the two cases of the answer, told apart by what document 01 says of them
+
+pub reply-put :
+    (a : ReportAnswer) (next found size : ℕ) → reportReply a ≡ record { verdict = accept; values = next ∷ found ∷ size ∷ [] } →
+    a ≡ answer.Put (record { next = next; found = found; size = size })
+unfolding reportReply
+reply-put (answer.Put p) next found size e =
+    let v : p .next ∷ p .found ∷ p .size ∷ [] ≡ next ∷ found ∷ size ∷ [] = ap (λ (r : Reply). r .values) e in
+    let a : p .next ≡ next = cc in
+    let b : p .found ≡ found = cc in
+    let c : p .size ≡ size = cc in
+    rw (← a, ← b, ← c)
+reply-put (answer.Refused x) next found size e = let apart : refuse x ≡ accept = ap (λ (r : Reply). r .verdict) e in cc
+
+pub reply-refused : (a : ReportAnswer) (x : Refusal) → reportReply a .verdict ≡ refuse x → a ≡ answer.Refused x
+unfolding reportReply
+reply-refused (answer.Put p) x e = cc
+reply-refused (answer.Refused y) x e = cc
+
+-- number 8, of neither file
+abbrev pub eight : Refusal
+eight = record { number = 8; file = Neither }
+
+-- ---- a call
+
+module _ (pattern board : List ℕ) (from found : ℕ) (out : List ℕ) where
+  -- what the call comes to, and the piece that it puts
+  abbrev result : ReportOutcome
+  result = reporting pattern board from found out
+
+  abbrev piece : Piece
+  piece = pieceOf pattern board from found (length out)
+
+  -- A buffer that is too short for the longest line is refused, and keeps its content.
+  pub short-refused : length out < longestLine → result ≡ record { reply = record { verdict = refuse eight; values = [] }; out = out }
+  unfolding reporting reply filled first shortTable
+  short-refused h = rw (lt-ltb (length out) longestLine h)
+
+  -- Any other is taken, whatever the files hold.
+  module _ (room : longestLine ≤ length out) where
+    result-is :
+        result ≡ record {
+          reply = record { verdict = accept; values = piece .next ∷ piece .found ∷ length (piece .text) ∷ [] };
+          out = piece .text ++ drop (length (piece .text)) out;
+        }
+    unfolding reporting reply filled first shortTable
+    result-is = rw (le-ltb (length out) longestLine room)
+
+    pub accepts : result .reply .verdict ≡ accept
+    accepts = ap (λ (r : ReportOutcome). r .reply .verdict) result-is
+
+    next-is : nextOf result ≡ piece .next
+    next-is = ap nextOf result-is
+
+    found-is : foundOf result ≡ piece .found
+    found-is = ap foundOf result-is
+
+    size-is : sizeOf result ≡ length (piece .text)
+    size-is = ap sizeOf result-is
+
+    text-is : textOf result ≡ piece .text
+    text-is = ap textOf result-is ∙ take-at (piece .text) (drop (length (piece .text)) out) (length (piece .text)) refl
+
+    -- the bytes after those that were put keep their content
+    pub rest-kept : drop (sizeOf result) (result .out) ≡ drop (sizeOf result) out
+    rest-kept =
+        ap₂ drop size-is (ap (λ (r : ReportOutcome). r .out) result-is)
+        ∙ drop-at (piece .text) (drop (length (piece .text)) out) (length (piece .text)) refl
+        ∙ ap (λ (k : ℕ). drop k out) (sym size-is)
+
+    -- Nothing is put exactly when the report is at its end.
+    pub none-iff : (sizeOf result ≡ 0) ↔ (itemsOf pattern board ≤ from)
+    unfolding pieceOf
+    none-iff = rw size-is (piece-none (circuitOf pattern) (circuitOf board) from found (length out) room (verdictOf pattern board))
+
+    -- From an item on, told how many centres before it have a place, the call puts the items up to the one where it says to go on, and
+    -- says how many centres before that one have a place.
+    follows : from ≤ itemsOf pattern board → found ≡ placesOf pattern board from → Follows (verdictOf pattern board) (circuitOf pattern) (circuitOf board) from piece
+    unfolding pieceOf
+    follows h e = piece-follows (circuitOf pattern) (circuitOf board) from found (length out) room (verdictOf pattern board) h e
+
+    pub call-follows :
+        from ≤ itemsOf pattern board → found ≡ placesOf pattern board from →
+        (prefixOf pattern board from ++ textOf result ≡ prefixOf pattern board (nextOf result))
+        × (foundOf result ≡ placesOf pattern board (nextOf result)) × (nextOf result ≤ itemsOf pattern board) × (from ≤ nextOf result)
+        × (from < itemsOf pattern board → from < nextOf result)
+    call-follows h e =
+        let f = follows h e in
+        (rw (text-is, next-is) (f .text), rw (found-is, next-is) (f .found), rw next-is (f .within), rw next-is (f .forth), rw next-is (f .more))
+
+-- ---- calls one after another
+
+-- what two files' circuits have at most
+module _ (pattern board : List ℕ) where
+  -- the board of two accepted files
+  few : verdictOf pattern board ≡ accept → length (circuitOf board .kinds) ≤ 512
+  unfolding pairConditions
+  few e = accepted-bounded (accepted Board board (first-parts (fileConditions Pattern pattern) (fileConditions Board board) e .1)) .nodes
+
+  -- There are at most 513 items: so many calls are enough.
+  pub items-few : itemsOf pattern board ≤ 513
+  unfolding itemsFor
+  items-few = go (verdictOf pattern board) refl
+    where
+      go : (v : Verdict) → verdictOf pattern board ≡ v → itemsFor v (circuitOf board) ≤ 513
+      go accept e = omega (arith, few e)
+      go (refuse x) e = omega arith
+
+  -- There are no more places than a board has nodes.
+  pub places-few : (k : ℕ) → placesOf pattern board k ≤ 512
+  unfolding placesFor
+  places-few k = go (verdictOf pattern board) refl
+    where
+      go : (v : Verdict) → verdictOf pattern board ≡ v → placesFor v (circuitOf pattern) (circuitOf board) k ≤ 512
+      go accept e = le-trans (places-small accept (circuitOf pattern) (circuitOf board) k) (few e)
+      go (refuse x) e = zero-le
+
+module _ (pattern board : List ℕ) (buffers : ℕ → List ℕ) (rooms : (k : ℕ) → longestLine ≤ length (buffers k)) where
+  -- where k calls have come to
+  abbrev stage : ℕ → Stage
+  stage = called pattern board buffers
+
+  record Reached (k : ℕ) (s : Stage) : Type 0 where
+    text : s .text ≡ prefixOf pattern board (s .next)
+    found : s .found ≡ placesOf pattern board (s .next)
+    within : s .next ≤ itemsOf pattern board
+    far : s .next < itemsOf pattern board → k ≤ s .next
+
+  reached : (k : ℕ) → Reached k (stage k)
+  unfolding called
+  reached zero =
+      record {
+        text = sym (prefix-start (verdictOf pattern board) (circuitOf pattern) (circuitOf board));
+        found = sym (places-start (verdictOf pattern board) (circuitOf pattern) (circuitOf board));
+        within = zero-le;
+        far = λ l. zero-le;
+      }
+  reached (suc k) =
+      let s = reached k in
+      let (text, found, within, forth, more) = call-follows pattern board (stage k .next) (stage k .found) (buffers k) (rooms k) (s .within) (s .found) in
+      record {
+        text = ap (λ (xs : List ℕ). xs ++ textOf (reporting pattern board (stage k .next) (stage k .found) (buffers k))) (s .text) ∙ text;
+        found = found;
+        within = within;
+        far = λ l. omega (arith, more (omega arith), s .far (omega arith));
+      }
+
+  -- all items are put: that is the report
+  whole : (k : ℕ) → itemsOf pattern board ≤ stage k .next → stage k .text ≡ reportOf pattern board
+  unfolding reportOf pairConditions
+  whole k h =
+      reached k .text ∙ ap (prefixOf pattern board) (le-antisymm (reached k .within) h)
+      ∙ prefix-all (verdictOf pattern board) (circuitOf pattern) (circuitOf board)
+
+  -- As many calls as there are items put the report, whole,
+  pub report-whole : (k : ℕ) → itemsOf pattern board ≤ k → stage k .text ≡ reportOf pattern board
+  report-whole k h = whole k (le-of-suc-le-suc (lt-of-not-le (λ l. omega (arith, reached k .far l))))
+
+  -- and it is whole as soon as a call puts nothing.
+  pub report-done : (k : ℕ) → sizeOf (reporting pattern board (stage k .next) (stage k .found) (buffers k)) ≡ 0 → stage k .text ≡ reportOf pattern board
+  report-done k e = whole k (none-iff pattern board (stage k .next) (stage k .found) (buffers k) (rooms k) .0 e)
+
+  -- The count that is passed on stays a 16-bit number.
+  pub found-small : (k : ℕ) → stage k .found ≤ 512
+  found-small k = rw (reached k .found) (places-few pattern board (stage k .next))
+
+-- ---- what a caller knows of an answer, and passes on
+
+module _
+    (pattern board : List ℕ) (from found : ℕ) (out : List ℕ) {after : List ℕ} (part : Part)
+    (e : _≡_ {A = ReportOutcome} (record { reply = reportReply (answer.Put part); out = after }) (reporting pattern board from found out))
+  where
+    -- the buffer was long enough,
+    put-room : longestLine ≤ length out
+    unfolding reportReply
+    put-room = go (decLt (length out) longestLine)
+      where
+        go : Dec (length out < longestLine) → longestLine ≤ length out
+        go (yes h) =
+            let apart : accept ≡ refuse eight = ap (λ (r : ReportOutcome). r .reply .verdict) (e ∙ short-refused pattern board from found out h) in
+            let z : _≡_ {A = ℕ} 0 1 = cc in
+            absurd (omega arith)
+        go (no h) = omega arith
+
+    -- the bytes that were put lie within it,
+    pub put-within : part .size ≤ length after
+    unfolding reportReply
+    put-within =
+        let p = pieceOf pattern board from found (length out) in
+        let same = e ∙ result-is pattern board from found out put-room in
+        omega (arith, ap sizeOf same, ap (λ (r : ReportOutcome). length (r .out)) same, length-append (p .text) (drop (length (p .text)) out))
+
+    -- and where to go on and the count are again those of an item: of a later one, where bytes were put.
+    pub put-follows :
+        from ≤ itemsOf pattern board → found ≡ placesOf pattern board from →
+        (part .next ≤ itemsOf pattern board) × (part .found ≡ placesOf pattern board (part .next)) × ((part .size ≡ 0 → ⊥) → from < part .next)
+    unfolding reportReply
+    put-follows h f =
+        let next : part .next ≡ nextOf (reporting pattern board from found out) = ap nextOf e in
+        let (_, places, within, _, more) = call-follows pattern board from found out put-room h f in (
+          rw next within,
+          rw next (ap foundOf e ∙ places),
+          λ some. rw next (more (lt-of-not-le (λ l. some (ap sizeOf e ∙ none-iff pattern board from found out put-room .1 l)))),
+        )

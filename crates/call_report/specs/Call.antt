@@ -1,0 +1,57 @@
+-- The report call, whole: its reply and the buffer's later content, from the inputs alone. A report may be far longer than a buffer, so it is
+-- put piece by piece: a call puts the lines of the centres from a centre on, as long as there is room for the longest line, and answers
+-- where to go on. proofs/Promise shows that the pieces, one after another, are the report.
+use mathlib.Core.Bool.{cond}
+use mathlib.Core.List.{List, [], _∷_}
+use Prim.Native.Nat.{ℕ}
+use lib.Dec.{eqb}
+use lib.ListN.{length}
+use Rattle.graph.specs.Circuit.{Circuit}
+use Rattle.file_format.specs.declared.Refusal.{Refusal}
+use Rattle.file_format.specs.Circuit.{circuitOf}
+use Rattle.file_format.specs.Reading.{filled}
+use Rattle.file_format.specs.Refusals.{Verdict, accept, refuse, first, shortTable}
+use Rattle.file_format.specs.Reply.{Reply, reply}
+use Rattle.file_pair.specs.Pair.{pairConditions}
+use Rattle.report.specs.Lines.{longestLine}
+use Rattle.report.specs.Report.{refusalLine}
+use Rattle.report_centres.specs.Pieces.{Piece, linesPiece}
+use Rattle.call_report.specs.declared.ReportAnswer.{ReportAnswer}
+use Rattle.call_report.specs.declared.ReportAnswer.the-variants as answer
+
+-- "A refused file gives one line": that is the whole report
+unfoldable pub refusalPiece : Refusal → ℕ → ℕ → Piece
+refusalPiece x from found =
+    cond (eqb from 0) (record { text = refusalLine x; next = 1; found = found }) (record { text = []; next = from; found = found })
+
+-- whether a file is refused; "the pattern's 1 to 6 before the board's"
+abbrev pub verdictOf : List ℕ → List ℕ → Verdict
+verdictOf pattern board = first (pairConditions pattern board)
+
+-- the piece of two files, by that
+unfoldable pub pieceFor : Verdict → Circuit → Circuit → ℕ → ℕ → ℕ → Piece
+pieceFor accept pattern board from found room = linesPiece pattern board from found room
+pieceFor (refuse x) pattern board from found room = refusalPiece x from found
+
+unfoldable pub pieceOf : List ℕ → List ℕ → ℕ → ℕ → ℕ → Piece
+pieceOf pattern board from found room = pieceFor (verdictOf pattern board) (circuitOf pattern) (circuitOf board) from found room
+
+-- ---- the call
+
+-- number and values of each case of the answer: where to go on, how many centres had a place, and how many bytes were put
+unfoldable pub reportReply : ReportAnswer → Reply
+reportReply (answer.Put part) = record { verdict = accept; values = part .next ∷ part .found ∷ part .size ∷ [] }
+reportReply (answer.Refused x) = record { verdict = refuse x; values = [] }
+
+-- the reply, and the buffer as the call leaves it
+pub record ReportOutcome : Type 0 where
+  pub reply : Reply
+  pub out : List ℕ
+
+-- Only a buffer that is too short for the longest line is refused, by 8; what a refused file comes to is text. Bytes after the piece keep
+-- their content.
+unfoldable pub reporting : List ℕ → List ℕ → ℕ → ℕ → List ℕ → ReportOutcome
+reporting pattern board from found out =
+    let verdict = first (shortTable longestLine (length out) ∷ []) in
+    let p = pieceOf pattern board from found (length out) in
+    record { reply = reply verdict (p .next ∷ p .found ∷ length (p .text) ∷ []); out = filled verdict (p .text) out }

@@ -1,0 +1,100 @@
+// The report call: the report of a pattern file on a board file, put piece by piece into a lent buffer.
+use file_format::Board;
+use file_format::File;
+use file_format::Pattern;
+use file_format::Refusal;
+use file_pair::PairAnswer;
+use file_pair::read_pair;
+use report::lines::put_refusal;
+use report_centres::LONGEST;
+use report_centres::Part;
+use report_pieces::put_piece;
+ghost use mathlib.Core.Path.{_≡_};
+ghost use Prim.Native.Nat.{_≤_};
+ghost use lib.ListN.{length};
+ghost use Rattle.report.specs.Lines.{longestLine};
+ghost use Rattle.call_report.specs.Call.{refusalPiece, pieceOf, reportReply, reporting};
+ghost use Rattle.report_centres.specs.Pieces.{Wrote};
+
+// What the call comes to: a piece of the report, or why it was turned away.
+pub enum ReportAnswer {
+    Put(Part),
+    Refused(Refusal),
+}
+
+// The line of a refused file, which is the whole report.
+fn put_refused(x: Refusal, from: usize, found: u16, out: &mut [u8]) -> Part
+    requires { ⌜ longestLine ≤ length (now out) ⌝ }
+    ensures { λ r. ⌜ Wrote (now (out .entry)) (refusalPiece x from found) (now (out .exit)) r ⌝ }
+{
+    let count = found as usize;
+    if from != 0 {
+        return Part {
+            next: from,
+            found: count,
+            size: 0,
+        };
+    }
+    let size = put_refusal(x, out, 0);
+    Part {
+        next: 1,
+        found: count,
+        size,
+    }
+}
+
+// The piece of two files, where the buffer is long enough.
+fn put_files(pattern: &[u8], board: &[u8], from: usize, found: u16, out: &mut [u8]) -> Part
+    requires { ⌜ longestLine ≤ length (now out) ⌝ }
+    ensures { λ r. ⌜ Wrote (now (out .entry)) (pieceOf (now (pattern .entry)) (now (board .entry)) from found (length (now (out .entry)))) (now (out .exit)) r ⌝ }
+{
+    let mut pk = [0u16; Pattern::MAX_NODES];
+    let mut ps = [0u16; Pattern::MAX_LINKS];
+    let mut pe = [0u16; Pattern::MAX_LINKS];
+    let mut nk = [0u16; Board::MAX_NODES];
+    let mut ns = [0u16; Board::MAX_LINKS];
+    let mut ne = [0u16; Board::MAX_LINKS];
+    let read = read_pair(
+        pattern,
+        board,
+        &mut pk,
+        &mut ps,
+        &mut pe,
+        &mut nk,
+        &mut ns,
+        &mut ne,
+    );
+    let PairAnswer::Read(p, b) = read else {
+        return put_refused(file_pair::refusal_of(read), from, found, out);
+    };
+    let parts = p.nodes;
+    let joins = p.links;
+    let n = b.nodes;
+    let m = b.links;
+    put_piece(
+        &pk[..parts],
+        &ps[..joins],
+        &pe[..joins],
+        &nk[..n],
+        &ns[..m],
+        &ne[..m],
+        from,
+        found,
+        out,
+    )
+}
+
+// A piece of the report, from the centre `from` on, before which `found` centres had a place, at the front of the buffer: the lines of as
+// many centres as there is room for, and the last line where the centres are done; the first piece is from 0 with 0 found. Nothing is put
+// exactly when the report is at its end. A buffer that is too short for the longest line is refused, and left as it was.
+pub fn report(pattern: &[u8], board: &[u8], from: usize, found: u16, out: &mut [u8]) -> ReportAnswer
+    ensures { λ a. ⌜ record { reply = reportReply a; out = now (out .exit) } ≡ reporting (now (pattern .entry)) (now (board .entry)) from found (now (out .entry)) ⌝ }
+{
+    if out.len() < LONGEST {
+        return ReportAnswer::Refused(Refusal {
+            number: 8,
+            file: File::Neither,
+        });
+    }
+    ReportAnswer::Put(put_files(pattern, board, from, found, out))
+}

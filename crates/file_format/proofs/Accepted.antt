@@ -1,0 +1,66 @@
+-- What an accepted file says of the circuit that it holds. Assumes nothing.
+use mathlib.Core.List.{List}
+use mathlib.Core.Path.{sym, _∙_}
+use Prim.Native.Nat.{ℕ}
+use lib.Dec.{T, ltb}
+use lib.ListN.{length}
+use Rattle.base_lists.specs.List.{all}
+use Rattle.base_lists.proofs.Tests.{both-left, both-right}
+use Rattle.graph.specs.Circuit.{Circuit, circuitGraph}
+use Rattle.graph.specs.Graph.{Connected}
+use Rattle.graph.proofs.Ball.{Within, within-all}
+use Rattle.graph.proofs.Distance.{connected-iff}
+use Rattle.file_format.specs.declared.Role.{Role}
+use Rattle.file_format.specs.declared.Role.the-variants.{Pattern}
+use Rattle.file_format.specs.Circuit.{circuitOf, Bounded}
+use Rattle.file_format.specs.Layout.{nodesOf, linksOf, kindsOf, startsOf, endsOf}
+use Rattle.file_format.specs.Links.{linksBelow}
+use Rattle.file_format.specs.Refusals.{asksConnected}
+use Rattle.file_format.proofs.Fields.{length-kinds, length-starts, length-ends}
+use Rattle.file_format.proofs.Refusals.{Accepted, range-orders}
+
+-- ---- links that join nodes
+
+-- every start and every end is a node, list by list
+module _ (n : ℕ) (starts ends : List ℕ) (below : T (linksBelow n starts ends)) where
+  pub starts-below : T (all (λ v. ltb v n) starts)
+  unfolding linksBelow
+  starts-below = both-left (all (λ v. ltb v n) starts) (all (λ v. ltb v n) ends) below
+
+  pub ends-below : T (all (λ v. ltb v n) ends)
+  unfolding linksBelow
+  ends-below = both-right (all (λ v. ltb v n) starts) (all (λ v. ltb v n) ends) below
+
+  pub links-within : Within n starts ends
+  links-within = within-all n starts ends starts-below ends-below
+
+-- the same of a bounded circuit
+module _ {role : Role} {c : Circuit} (b : Bounded role c) where
+  pub bounded-starts : T (all (λ v. ltb v (length (c .kinds))) (c .starts))
+  bounded-starts = starts-below (length (c .kinds)) (c .starts) (c .ends) (b .below)
+
+  pub bounded-ends : T (all (λ v. ltb v (length (c .kinds))) (c .ends))
+  bounded-ends = ends-below (length (c .kinds)) (c .starts) (c .ends) (b .below)
+
+-- ---- an accepted file
+
+pub accepted-bounded : {role : Role} {file : List ℕ} → Accepted role file → Bounded role (circuitOf file)
+accepted-bounded {role} {file} a =
+    record {
+      nodes = rw length-kinds (range-orders role (nodesOf file) (linksOf file) (a .range) .1);
+      links = rw length-starts (range-orders role (nodesOf file) (linksOf file) (a .range) .2);
+      parallel = length-starts file ∙ sym (length-ends file);
+      below = rw length-kinds (a .below);
+    }
+
+-- its links start and end at its nodes
+pub accepted-below : {role : Role} {file : List ℕ} → Accepted role file → Within (nodesOf file) (startsOf file) (endsOf file)
+accepted-below {file = file} a = links-within (nodesOf file) (startsOf file) (endsOf file) (a .below)
+
+pub accepted-within : {role : Role} {file : List ℕ} → Accepted role file → Within (length (kindsOf file)) (startsOf file) (endsOf file)
+accepted-within {file = file} a = rw length-kinds (accepted-below a)
+
+-- an accepted pattern is connected
+pub accepted-connected : {file : List ℕ} → Accepted Pattern file → Connected (circuitGraph (circuitOf file))
+unfolding circuitGraph asksConnected
+accepted-connected {file} a = rw length-kinds (connected-iff (accepted-below a) .0 (a .joined tt))

@@ -1,0 +1,241 @@
+-- Laws of lists of conditions, and what it says of a file that none of its conditions holds. Assumes nothing.
+use mathlib.Core.Bool.{Bool, true, false, _&&_, not, cond}
+use mathlib.Core.List.{List, [], _∷_, _++_, List·Memᴰ, List·Memᴰ·head, List·Memᴰ·tail, List·Memᴰ·not-nil, List·Memᴰ·cases-cons}
+use mathlib.Core.Logic.{_⊎_, inl, inr, _↔_, ⊎-elim}
+use mathlib.Core.Path.{_≡_, refl, sym, ap, _∙_, subst}
+use Prim.Native.Nat.{ℕ, _≤_, _<_}
+use native.Mathlib.Omega.{arith}
+use borrow.Author.Tests.{lt-ltb, le-ltb, eq-eqb, ne-eqb, ltb-false, eqb-true, not-false}
+use lib.Dec.{T, eqb, ltb, leb, leb→le}
+use lib.ListN.{length, drop}
+use Rattle.base_lists.specs.List.{all}
+use Rattle.base_lists.proofs.Tests.{refuted, both-false, both-left, both-right, true-T, false-T}
+use Rattle.graph.specs.Search.{connected}
+use Rattle.file_format.specs.declared.File.the-variants.{Neither}
+use Rattle.file_format.specs.declared.Refusal.{Refusal}
+use Rattle.file_format.specs.declared.Role.{Role}
+use Rattle.file_format.specs.declared.Role.the-variants.{Pattern, Board}
+use Rattle.file_format.specs.Layout.{fields, nodesOf, linksOf, lengthOf, startsAt, endsAt, startsOf, endsOf}
+use Rattle.file_format.specs.Links.{linksBelow, rising}
+use Rattle.file_format.specs.Refusals.{Condition, Verdict, accept, refuse, first, linkConditions, fileConditions, asksConnected, linkNumber, shortTable}
+use Rattle.file_format.specs.Role.{minNodes, maxNodes, maxLinks, inRange, fileOf}
+
+-- ---- the first of a list of conditions
+
+pub first-accept : (cs ds : List Condition) → first cs ≡ accept → first (cs ++ ds) ≡ first ds
+unfolding first
+first-accept [] ds e = refl
+first-accept (c ∷ cs) ds e = go (c .holds) e (first-accept cs ds)
+  where
+    go : (b : Bool) → cond b (refuse (record { number = c .number; file = c .file })) (first cs) ≡ accept → (first cs ≡ accept → first (cs ++ ds) ≡ first ds)
+        → cond b (refuse (record { number = c .number; file = c .file })) (first (cs ++ ds)) ≡ first ds
+    go true e r = cc
+    go false e r = r e
+
+pub first-refuse : (cs ds : List Condition) (x : Refusal) → first cs ≡ refuse x → first (cs ++ ds) ≡ refuse x
+unfolding first
+first-refuse [] ds x e = cc
+first-refuse (c ∷ cs) ds x e = go (c .holds) e (first-refuse cs ds x)
+  where
+    go : (b : Bool) → cond b (refuse (record { number = c .number; file = c .file })) (first cs) ≡ refuse x → (first cs ≡ refuse x → first (cs ++ ds) ≡ refuse x)
+        → cond b (refuse (record { number = c .number; file = c .file })) (first (cs ++ ds)) ≡ refuse x
+    go true e r = e
+    go false e r = r e
+
+accept-not-refuse : {x : Refusal} → accept ≡ refuse x → ⊥
+accept-not-refuse e = let z : _≡_ {A = ℕ} 0 1 = cc in omega arith
+
+-- no condition of an accepted list holds
+pub first-holds : (c : Condition) (cs : List Condition) → first (c ∷ cs) ≡ accept → (c .holds ≡ false) × (first cs ≡ accept)
+unfolding first
+first-holds c cs e = go (c .holds) e
+  where
+    go : (b : Bool) → cond b (refuse (record { number = c .number; file = c .file })) (first cs) ≡ accept → (b ≡ false) × (first cs ≡ accept)
+    go true e = (cc, cc)
+    go false e = (refl, e)
+
+-- a list that is accepted is accepted part by part
+pub first-parts : (cs ds : List Condition) → first (cs ++ ds) ≡ accept → (first cs ≡ accept) × (first ds ≡ accept)
+first-parts cs ds e = go (first cs) refl
+  where
+    go : (v : Verdict) → first cs ≡ v → (first cs ≡ accept) × (first ds ≡ accept)
+    go accept h = (h, sym (first-accept cs ds h) ∙ e)
+    go (refuse x) h = let z : refuse x ≡ accept = sym (first-refuse cs ds x h) ∙ e in (cc, cc)
+
+none-holds : (cs : List Condition) → first cs ≡ accept → (c : Condition) → List·Memᴰ c cs → T (c .holds) → ⊥
+none-holds [] e c m t = absurd (List·Memᴰ·not-nil m)
+none-holds (d ∷ ds) e c m t =
+    let (fails, rest) = first-holds d ds e in
+    ⊎-elim (λ same. false-T (ap (λ (k : Condition). k .holds) same ∙ fails) t) (λ later. none-holds ds rest c later t) (List·Memᴰ·cases-cons m)
+
+refuses-some : (cs : List Condition) (x : Refusal) → first cs ≡ refuse x → (c : Condition) × List·Memᴰ c cs × T (c .holds)
+unfolding first
+refuses-some [] x e = absurd (accept-not-refuse e)
+refuses-some (c ∷ cs) x e = go (c .holds) refl e (refuses-some cs x)
+  where
+    go : (b : Bool) → c .holds ≡ b → cond b (refuse (record { number = c .number; file = c .file })) (first cs) ≡ refuse x
+        → (first cs ≡ refuse x → (d : Condition) × List·Memᴰ d cs × T (d .holds)) → (d : Condition) × List·Memᴰ d (c ∷ cs) × T (d .holds)
+    go true h e rest = (c, List·Memᴰ·head refl, true-T h)
+    go false h e rest = let (d, m, t) = rest e in (d, List·Memᴰ·tail m, t)
+
+some-refuses : (cs : List Condition) (c : Condition) → List·Memᴰ c cs → T (c .holds) → (x : Refusal) × (first cs ≡ refuse x)
+some-refuses [] c m t = absurd (List·Memᴰ·not-nil m)
+some-refuses (d ∷ ds) c m t = go (first (d ∷ ds)) refl
+  where
+    go : (v : Verdict) → first (d ∷ ds) ≡ v → (x : Refusal) × (first (d ∷ ds) ≡ refuse x)
+    go (refuse x) e = (x, e)
+    go accept e = absurd (none-holds (d ∷ ds) e c m t)
+
+-- a list of conditions refuses exactly when one of them holds
+pub refuses-iff : (cs : List Condition) → ((x : Refusal) × (first cs ≡ refuse x)) ↔ ((c : Condition) × List·Memᴰ c cs × T (c .holds))
+refuses-iff cs = (λ (x, e). refuses-some cs x e, λ (c, m, t). some-refuses cs c m t)
+
+-- ---- three lent tables
+
+either-way : (x : Bool) (v : Verdict) → cond x v v ≡ v
+either-way true v = refl
+either-way false v = refl
+
+module _ (a b d k s e : ℕ) where
+  -- one short table of three is enough
+  pub tables-short : (k < a) ⊎ ((s < b) ⊎ (e < d))
+      → first (shortTable a k ∷ shortTable b s ∷ shortTable d e ∷ []) ≡ refuse (record { number = 8; file = Neither })
+  unfolding first shortTable
+  tables-short (inl h) = rw (lt-ltb _ _ h)
+  tables-short (inr (inl h)) = rw (lt-ltb _ _ h) (either-way (ltb k a) _)
+  tables-short (inr (inr h)) = rw (lt-ltb _ _ h, either-way (ltb s b)) (either-way (ltb k a) _)
+
+  pub tables-fit : a ≤ k → b ≤ s → d ≤ e → first (shortTable a k ∷ shortTable b s ∷ shortTable d e ∷ []) ≡ accept
+  unfolding first shortTable
+  tables-fit x y z = rw (le-ltb _ _ x, le-ltb _ _ y, le-ltb _ _ z)
+
+-- ---- the links' number, as the tests come out in their order
+
+module _ (r : Role) (n : ℕ) (starts ends : List ℕ) where
+  pub number-starts : all (λ v. ltb v n) starts ≡ false → linkNumber r n starts ends ≡ 4
+  unfolding linkNumber linksBelow
+  number-starts a = simp a
+
+  pub number-ends : all (λ v. ltb v n) starts ≡ true → all (λ v. ltb v n) ends ≡ false → linkNumber r n starts ends ≡ 4
+  unfolding linkNumber linksBelow
+  number-ends a b = simp (a, b)
+
+  pub number-rising : all (λ v. ltb v n) starts ≡ true → all (λ v. ltb v n) ends ≡ true → rising starts ends ≡ false → linkNumber r n starts ends ≡ 5
+  unfolding linkNumber linksBelow
+  number-rising a b e = simp (a, b, e)
+
+  pub number-connected : all (λ v. ltb v n) starts ≡ true → all (λ v. ltb v n) ends ≡ true → rising starts ends ≡ true → (d : Bool)
+      → (asksConnected r && not (connected n starts ends)) ≡ d → linkNumber r n starts ends ≡ cond d 6 0
+  unfolding linkNumber linksBelow
+  number-connected a b e d f = simp (a, b, e, f)
+
+-- ---- the conditions on a file, one after another: the number of bytes, the range, the length, the links
+
+-- a refusal in a role
+unfoldable pub turned : Role → ℕ → Verdict
+turned r k = refuse (record { number = k; file = fileOf r })
+
+-- the verdict that the links' number gives
+unfoldable pub byNumber : Role → ℕ → Verdict
+byNumber r k = cond (eqb k 0) accept (turned r k)
+
+pub number-turned : (r : Role) (k : ℕ) → (k ≡ 0 → ⊥) → byNumber r k ≡ turned r k
+unfolding byNumber
+number-turned r k h = simp (ne-eqb _ _ h)
+
+pub number-accept : (r : Role) (k : ℕ) → k ≡ 0 → byNumber r k ≡ accept
+unfolding byNumber
+number-accept r k h = simp (eq-eqb _ _ h)
+
+-- the first of the conditions on the links is the one that their number says
+pub verdict-number : (r : Role) (n : ℕ) (starts ends : List ℕ) → first (linkConditions r n starts ends) ≡ byNumber r (linkNumber r n starts ends)
+unfolding first linkConditions linkNumber byNumber turned
+verdict-number r n starts ends =
+    go (linksBelow n starts ends) (rising starts ends) (asksConnected r && not (connected n starts ends))
+  where
+    go : (x y z : Bool) → cond (not x) (turned r 4) (cond (not y) (turned r 5) (cond z (turned r 6) accept)) ≡ byNumber r (cond x (cond y (cond z 6 0) 5) 4)
+    go true true true = refl
+    go true true false = refl
+    go true false z = refl
+    go false y z = refl
+
+-- The tests in their order, with N and M as the code has read them.
+module _ (r : Role) (file : List ℕ) where
+  pub verdict-1 : length file < 4 → first (fileConditions r file) ≡ turned r 1
+  unfolding first fileConditions turned
+  verdict-1 a = simp (lt-ltb _ _ a)
+
+  module _ (n m : ℕ) (isN : n ≡ nodesOf file) (isM : m ≡ linksOf file) (a : 4 ≤ length file) where
+    pub verdict-2 : inRange r n m ≡ false → first (fileConditions r file) ≡ turned r 2
+    unfolding first fileConditions turned
+    verdict-2 b = simp (le-ltb _ _ a, rw (isN, isM) at b)
+
+    pub verdict-3 : inRange r n m ≡ true → (length file ≡ lengthOf n m → ⊥) → first (fileConditions r file) ≡ turned r 3
+    unfolding first fileConditions turned
+    verdict-3 b e = simp (le-ltb _ _ a, rw (isN, isM) at b, ne-eqb _ _ (rw (isN, isM) at e))
+
+    pub verdict-links : inRange r n m ≡ true → length file ≡ lengthOf n m
+        → first (fileConditions r file) ≡ first (linkConditions r n (fields (drop (startsAt n) file) m) (fields (drop (endsAt n m) file) m))
+    unfolding first fileConditions startsOf endsOf
+    verdict-links b e =
+        rw (isN, isM) (simp (le-ltb _ _ a, rw (isN, isM) at b, eq-eqb _ _ (rw (isN, isM) at e)))
+
+-- ---- an accepted file
+
+-- What is known of a file of which none of the conditions 1 to 6 holds.
+pub record Accepted (r : Role) (file : List ℕ) : Type 0 where
+  pub bytes : 4 ≤ length file
+  pub range : T (inRange r (nodesOf file) (linksOf file))
+  pub size : length file ≡ lengthOf (nodesOf file) (linksOf file)
+  pub below : T (linksBelow (nodesOf file) (startsOf file) (endsOf file))
+  pub rises : T (rising (startsOf file) (endsOf file))
+  pub joined : T (asksConnected r) → T (connected (nodesOf file) (startsOf file) (endsOf file))
+
+pub accepted : (r : Role) (file : List ℕ) → first (fileConditions r file) ≡ accept → Accepted r file
+unfolding fileConditions linkConditions
+accepted r file e =
+    let h1 = first-holds _ _ e in
+    let h2 = first-holds _ _ (h1 .1) in
+    let h3 = first-holds _ _ (h2 .1) in
+    let h4 = first-holds _ _ (h3 .1) in
+    let h5 = first-holds _ _ (h4 .1) in
+    let h6 = first-holds _ _ (h5 .1) in
+    record {
+      bytes = ltb-false _ _ (h1 .0);
+      range = refuted (inRange r (nodesOf file) (linksOf file)) (h2 .0);
+      size = eqb-true _ _ (not-false _ (h3 .0));
+      below = refuted (linksBelow (nodesOf file) (startsOf file) (endsOf file)) (h4 .0);
+      rises = refuted (rising (startsOf file) (endsOf file)) (h5 .0);
+      joined = λ t. refuted (connected (nodesOf file) (startsOf file) (endsOf file)) (both-false (asksConnected r) _ t (h6 .0));
+    }
+
+-- its links, as what makes or searches neighbour tables asks of them
+pub accepted-links : (r : Role) (file : List ℕ) → Accepted r file → T (all (λ v. ltb v (nodesOf file)) (startsOf file)) × T (all (λ v. ltb v (nodesOf file)) (endsOf file))
+unfolding linksBelow
+accepted-links r file a =
+    let n = nodesOf file in
+    let starts = all (λ v. ltb v n) (startsOf file) in
+    let ends = all (λ v. ltb v n) (endsOf file) in
+    (both-left starts ends (a .below), both-right starts ends (a .below))
+
+-- ---- the ranges of the roles, as orders
+
+pub range-orders : (r : Role) (n m : ℕ) → T (inRange r n m) → (minNodes r ≤ n) × (n ≤ maxNodes r) × (m ≤ maxLinks r)
+range-orders r n m t =
+    let least = leb (minNodes r) n in
+    let most = leb n (maxNodes r) in
+    let links = leb m (maxLinks r) in
+    let rest : T (most && links) = both-right least (most && links) t in
+    (leb→le _ _ (both-left least (most && links) t), leb→le _ _ (both-left most links rest), leb→le _ _ (both-right most links rest))
+
+pub range-pattern : (r : Role) (n m : ℕ) → r ≡ Pattern → T (inRange r n m) → (0 < n) × (n ≤ 32) × (m ≤ 256)
+range-pattern r n m e t = range-orders Pattern n m (subst (λ (x : Role). T (inRange x n m)) e t)
+
+-- what every role's range leaves
+pub range-bounds : (r : Role) (n m : ℕ) → T (inRange r n m) → (n ≤ 512) × (m ≤ 4096)
+range-bounds Pattern n m t =
+    let h = range-orders Pattern n m t in
+    (omega arith, omega arith)
+range-bounds Board n m t =
+    let h = range-orders Board n m t in
+    (omega arith, omega arith)

@@ -1,0 +1,22 @@
+-- The circuit that a file holds, and what an accepted file says of it.
+use mathlib.Core.List.{List}
+use mathlib.Core.Path.{_≡_}
+use Prim.Native.Nat.{ℕ, _≤_}
+use lib.Dec.{T}
+use lib.ListN.{length}
+use Rattle.graph.specs.Circuit.{Circuit}
+use Rattle.file_format.specs.declared.Role.{Role}
+use Rattle.file_format.specs.Layout.{kindsOf, startsOf, endsOf}
+use Rattle.file_format.specs.Links.{linksBelow}
+use Rattle.file_format.specs.Role.{maxNodes, maxLinks}
+
+-- the circuit that a file holds
+abbrev pub circuitOf : List ℕ → Circuit
+circuitOf file = record { kinds = kindsOf file; starts = startsOf file; ends = endsOf file }
+
+-- A circuit within a role's maxima that has as many starts as ends, each of them a node. The circuit of an accepted file is one.
+pub record Bounded (role : Role) (c : Circuit) : Type 0 where
+  pub nodes : length (c .kinds) ≤ maxNodes role
+  pub links : length (c .starts) ≤ maxLinks role
+  pub parallel : length (c .starts) ≡ length (c .ends)
+  pub below : T (linksBelow (length (c .kinds)) (c .starts) (c .ends))

@@ -1,0 +1,66 @@
+-- The numbers of refusal, as document 01's table has them: each condition with its number and the file that it means, in the order in
+-- which they are tried.
+use mathlib.Core.Bool.{Bool, true, false, _&&_, not, cond}
+use mathlib.Core.List.{List, [], _∷_}
+use Prim.Native.Nat.{ℕ}
+use lib.Dec.{eqb, ltb}
+use lib.ListN.{length}
+use Rattle.graph.specs.Search.{connected}
+use Rattle.file_format.specs.declared.File.{File}
+use Rattle.file_format.specs.declared.File.the-variants.{Neither}
+use Rattle.file_format.specs.declared.Refusal.{Refusal}
+use Rattle.file_format.specs.declared.Role.{Role}
+use Rattle.file_format.specs.declared.Role.the-variants as role
+use Rattle.file_format.specs.Layout.{nodesOf, linksOf, lengthOf, startsOf, endsOf}
+use Rattle.file_format.specs.Links.{linksBelow, rising}
+use Rattle.file_format.specs.Role.{inRange, fileOf}
+
+pub record Condition : Type 0 where
+  pub number : ℕ
+  pub file : File
+  pub holds : Bool
+
+-- what a list of conditions comes to: the first that holds refuses, by its number and file; else the call is accepted
+pub data Verdict : Type 0 where
+  accept : Verdict
+  refuse : Refusal → Verdict
+
+-- "Rising numbers are the order"
+unfoldable pub first : List Condition → Verdict
+first [] = accept
+first (c ∷ cs) = cond (c .holds) (refuse (record { number = c .number; file = c .file })) (first cs)
+
+-- 6 "pattern not connected"
+unfoldable pub asksConnected : Role → Bool
+asksConnected role.Pattern = true
+asksConnected role.Board = false
+
+-- 4 a link end or start not below N; 5 links not strictly rising; 6 pattern not connected. Reading and writing both ask these.
+unfoldable pub linkConditions : Role → ℕ → List ℕ → List ℕ → List Condition
+linkConditions r n starts ends =
+    record { number = 4; file = fileOf r; holds = not (linksBelow n starts ends) } ∷
+    record { number = 5; file = fileOf r; holds = not (rising starts ends) } ∷
+    record { number = 6; file = fileOf r; holds = asksConnected r && not (connected n starts ends) } ∷ []
+
+-- 1 file under 4 bytes; 2 N or M outside its role's range; 3 length not 4 + 2N + 4M; then the links
+unfoldable pub fileConditions : Role → List ℕ → List Condition
+fileConditions r file =
+    let n = nodesOf file in
+    let m = linksOf file in
+    record { number = 1; file = fileOf r; holds = ltb (length file) 4 } ∷
+    record { number = 2; file = fileOf r; holds = not (inRange r n m) } ∷
+    record { number = 3; file = fileOf r; holds = not (eqb (length file) (lengthOf n m)) } ∷
+    linkConditions r n (startsOf file) (endsOf file)
+
+-- the number of the first condition on the links that holds, 4, 5 or 6, and 0 where none does
+unfoldable pub linkNumber : Role → ℕ → List ℕ → List ℕ → ℕ
+linkNumber r n starts ends =
+    cond (linksBelow n starts ends) (cond (rising starts ends) (cond (asksConnected r && not (connected n starts ends)) 6 0) 5) 4
+
+-- 7 centre not below the board's N
+unfoldable pub centreOutside : ℕ → ℕ → Condition
+centreOutside n centre = record { number = 7; file = Neither; holds = not (ltb centre n) }
+
+-- 8 a lent output table too short: needed is what its first number says, lent the second
+unfoldable pub shortTable : ℕ → ℕ → Condition
+shortTable needed lent = record { number = 8; file = Neither; holds = ltb lent needed }

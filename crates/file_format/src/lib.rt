@@ -1,0 +1,121 @@
+// Circuit files: the roles, what is in a role's range, and what refuses a file.
+ghost use mathlib.Core.Path.{_≡_};
+ghost use mathlib.Core.Bool.{_&&_};
+ghost use lib.Dec.{leb};
+ghost use Rattle.file_format.specs.Reply.{refusalOf};
+ghost use Rattle.file_format.specs.Role.{inRange};
+
+// Which file a refusal means.
+pub enum File {
+    Pattern,
+    Board,
+    Neither,
+}
+
+// Why a call was turned away: the number of the condition, and the file that it means.
+pub struct Refusal {
+    pub number: u8,
+    pub file: File,
+}
+
+// What a file is read or written as.
+pub enum Role {
+    Pattern,
+    Board,
+}
+
+// What reading a file comes to: N and M, or why it was turned away.
+pub enum ReadAnswer {
+    Read(usize, usize),
+    Refused(Refusal),
+}
+
+// The refusal that an answer holds, for a caller that passes it up; number 0 of neither file where it holds none.
+pub fn refusal_of(answer: ReadAnswer) -> Refusal
+    ensures { λ r. ⌜ r ≡ refusalOf answer ⌝ }
+{
+    match answer {
+        ReadAnswer::Read(_, _) => Refusal {
+            number: 0,
+            file: File::Neither,
+        },
+        ReadAnswer::Refused(x) => x,
+    }
+}
+
+// From `least` to `most` nodes, and at most `links` links.
+fn within(nodes: usize, links: usize, least: usize, most: usize, most_links: usize) -> bool
+    ensures { λ r. ⌜ r ≡ (leb least nodes && (leb nodes most && leb links «most_links»)) ⌝ }
+{
+    if nodes < least {
+        return false;
+    }
+    if most < nodes {
+        return false;
+    }
+    links <= most_links
+}
+
+// The size of a pattern: nodes (parts, as document 01 calls them) and links.
+pub struct Pattern {
+    pub nodes: usize,
+    pub links: usize,
+}
+
+impl Pattern {
+    pub const MIN_NODES: usize = 1;
+
+    pub const MAX_NODES: usize = 32;
+
+    pub const MAX_LINKS: usize = 256;
+
+    pub fn new(nodes: usize, links: usize) -> Self
+        ensures { λ r. ⌜ (r .nodes ≡ nodes) × (r .links ≡ links) ⌝ }
+    {
+        Self { nodes, links }
+    }
+
+    pub fn in_range(self) -> bool
+        ensures { λ r. ⌜ r ≡ inRange Role.Pattern (self .nodes) (self .links) ⌝ }
+    {
+        within(
+            self.nodes,
+            self.links,
+            Pattern::MIN_NODES,
+            Pattern::MAX_NODES,
+            Pattern::MAX_LINKS,
+        )
+    }
+}
+
+// The size of a board: nodes and links.
+pub struct Board {
+    pub nodes: usize,
+    pub links: usize,
+}
+
+impl Board {
+    pub const MIN_NODES: usize = 0;
+
+    pub const MAX_NODES: usize = 512;
+
+    pub const MAX_LINKS: usize = 4096;
+
+    pub fn new(nodes: usize, links: usize) -> Self
+        ensures { λ r. ⌜ (r .nodes ≡ nodes) × (r .links ≡ links) ⌝ }
+    {
+        Self { nodes, links }
+    }
+
+    pub fn in_range(self) -> bool
+        ensures { λ r. ⌜ r ≡ inRange Role.Board (self .nodes) (self .links) ⌝ }
+    {
+        within(
+            self.nodes,
+            self.links,
+            Board::MIN_NODES,
+            Board::MAX_NODES,
+            Board::MAX_LINKS,
+        )
+    }
+}

@@ -1,0 +1,103 @@
+-- What the writing call comes to, by cases of the verdict. Assumes nothing.
+use mathlib.Core.Bool.{true, false}
+use mathlib.Core.List.{List}
+use mathlib.Core.Path.{_≡_, refl}
+use Prim.Native.Nat.{ℕ, _≤_, _<_}
+use borrow.Author.Tests.{lt-ltb, le-ltb, eq-eqb, ne-eqb, eqb-true, ltb-false, not-false}
+use lib.Dec.{T}
+use lib.ListN.{length}
+use Rattle.base_lists.proofs.Tests.{refuted}
+use Rattle.file_format.specs.declared.File.the-variants.{Neither}
+use Rattle.file_format.specs.declared.Refusal.{Refusal}
+use Rattle.file_format.specs.declared.Role.{Role}
+use Rattle.file_format.specs.Layout.{lengthOf}
+use Rattle.file_format.specs.Reading.{filled}
+use Rattle.file_format.specs.Refusals.{Verdict, accept, refuse, first, linkConditions, shortTable}
+use Rattle.file_format.specs.Reply.{reply}
+use Rattle.file_format.specs.Role.{inRange, fileOf}
+use Rattle.file_format.proofs.Refusals.{turned, first-accept, first-refuse, first-parts, first-holds}
+use Rattle.file_write.specs.declared.WriteAnswer.the-variants.{Written, Refused}
+use Rattle.file_write.specs.Bytes.{fileBytes}
+use Rattle.file_write.specs.Writing.{circuitConditions, writeConditions, writeAnswer, writing, writeReply}
+
+-- ---- the answer and its verdict
+
+pub answer-turned : (r : Role) (k size : ℕ) (v : Verdict) → v ≡ turned r k → writeAnswer v size ≡ Refused (record { number = k; file = fileOf r })
+unfolding writeAnswer turned
+answer-turned r k size v e = rw e
+
+pub answer-accept : (size : ℕ) (v : Verdict) → v ≡ accept → writeAnswer v size ≡ Written size
+unfolding writeAnswer
+answer-accept size v e = rw e
+
+pub answer-refused : (size : ℕ) (v : Verdict) (x : Refusal) → writeAnswer v size ≡ Refused x → v ≡ refuse x
+unfolding writeAnswer
+answer-refused size accept x e = cc
+answer-refused size (refuse y) x e = cc
+
+pub answer-written : (size : ℕ) (v : Verdict) (k : ℕ) → writeAnswer v size ≡ Written k → (v ≡ accept) × (k ≡ size)
+unfolding writeAnswer
+answer-written size accept k e = (refl, cc)
+answer-written size (refuse y) k e = (cc, cc)
+
+-- ---- the conditions on a circuit, one after another: the range, as many starts as ends, the links
+
+module _ (r : Role) (kinds starts ends : List ℕ) where
+  pub verdict-2 : inRange r (length kinds) (length starts) ≡ false → first (circuitConditions r kinds starts ends) ≡ turned r 2
+  unfolding first circuitConditions turned
+  verdict-2 b = simp b
+
+  pub verdict-3 : inRange r (length kinds) (length starts) ≡ true → (length starts ≡ length ends → ⊥)
+      → first (circuitConditions r kinds starts ends) ≡ turned r 3
+  unfolding first circuitConditions turned
+  verdict-3 b e = simp (b, ne-eqb _ _ e)
+
+  pub verdict-links : inRange r (length kinds) (length starts) ≡ true → length starts ≡ length ends
+      → first (circuitConditions r kinds starts ends) ≡ first (linkConditions r (length kinds) starts ends)
+  unfolding first circuitConditions
+  verdict-links b e = simp (b, eq-eqb _ _ e)
+
+-- What is known of a circuit of which none of the conditions 2 to 6 holds.
+pub record Sound (r : Role) (kinds starts ends : List ℕ) : Type 0 where
+  pub range : T (inRange r (length kinds) (length starts))
+  pub pairs : length starts ≡ length ends
+  pub links : first (linkConditions r (length kinds) starts ends) ≡ accept
+
+pub sound : (r : Role) (kinds starts ends : List ℕ) → first (circuitConditions r kinds starts ends) ≡ accept → Sound r kinds starts ends
+unfolding circuitConditions
+sound r kinds starts ends e =
+    let h2 = first-holds _ _ e in
+    let h3 = first-holds _ _ (h2 .1) in
+    record {
+      range = refuted (inRange r (length kinds) (length starts)) (h2 .0);
+      pairs = eqb-true _ _ (not-false _ (h3 .0));
+      links = h3 .1;
+    }
+
+-- ---- the call, by cases
+
+module _ (r : Role) (kinds starts ends out : List ℕ) where
+  pub writing-refused : (x : Refusal) → first (circuitConditions r kinds starts ends) ≡ refuse x
+      → writing r kinds starts ends out ≡ record { answer = Refused x; reply = writeReply (Refused x); out = out }
+  unfolding writing writeConditions writeAnswer writeReply reply filled
+  writing-refused x e = rw (first-refuse _ _ x e)
+
+  module _ (e : first (circuitConditions r kinds starts ends) ≡ accept) where
+    pub writing-short : length out < lengthOf (length kinds) (length starts)
+        → writing r kinds starts ends out ≡ record { answer = Refused (record { number = 8; file = Neither }); reply = writeReply (Refused (record { number = 8; file = Neither })); out = out }
+    unfolding writing writeConditions first shortTable writeAnswer writeReply reply filled
+    writing-short h = rw (first-accept _ _ e) (simp (lt-ltb _ _ h))
+
+    pub writing-filled : lengthOf (length kinds) (length starts) ≤ length out
+        → writing r kinds starts ends out
+        ≡ record { answer = Written (lengthOf (length kinds) (length starts)); reply = writeReply (Written (lengthOf (length kinds) (length starts))); out = filled accept (fileBytes kinds starts ends) out }
+    unfolding writing writeConditions first shortTable writeAnswer writeReply reply
+    writing-filled h = rw (first-accept _ _ e) (simp (le-ltb _ _ h))
+
+  -- an accepted call has room, and no condition on the circuit holds
+  pub writing-accepted : (size : ℕ) → writing r kinds starts ends out .answer ≡ Written size
+      → (first (circuitConditions r kinds starts ends) ≡ accept) × (lengthOf (length kinds) (length starts) ≤ length out)
+  unfolding writing writeConditions shortTable
+  writing-accepted size e =
+      let h = first-parts _ _ (answer-written _ _ size e .0) in
+      (h .0, ltb-false _ _ (first-holds _ _ (h .1) .0))

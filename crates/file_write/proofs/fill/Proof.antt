@@ -1,0 +1,73 @@
+-- `file_write::fill` meets its contract: the fields stored one behind another make the file. Assumes nothing.
+use native.Mathlib.Omega.{arith}
+use Rattle.file_write.proofs.Stores.{file-stored}
+use borrow.Author.Needs.{needs}
+use Rattle.file_write.proofs.fill.Statement.{statement}
+use Rattle.file_write.proofs.fill.Tie as tie
+
+cast-store-field : tie.Need-cast-store-field
+cast-store-field c = search needs
+
+store-field-requires : tie.Need-store-field-requires
+store-field-requires c κs = search needs
+
+cast-store-field-2 : tie.Need-cast-store-field-2
+cast-store-field-2 c = search needs
+
+store-field-requires-2 : tie.Need-store-field-requires-2
+store-field-requires-2 c κs = search needs
+
+store-requires : tie.Need-store-requires
+store-requires c κs = search needs
+
+mul-store : tie.Need-mul-store
+mul-store c = search needs
+
+add-store : tie.Need-add-store
+add-store c = search needs
+
+store-requires-2 : tie.Need-store-requires-2
+store-requires-2 c κs = search needs
+
+mul-store-2 : tie.Need-mul-store-2
+mul-store-2 c = search needs
+
+add-store-2 : tie.Need-add-store-2
+add-store-2 c = search needs
+
+mul-store-3 : tie.Need-mul-store-3
+mul-store-3 c = search needs
+
+add-store-3 : tie.Need-add-store-3
+add-store-3 c = search needs
+
+store-requires-3 : tie.Need-store-requires-3
+store-requires-3 c κs = search needs
+
+same-length : tie.Need-same-length
+same-length c = search needs
+
+returns : tie.Need-returns
+returns c =
+    rw (c .before .before .store3 .ensures, c .before .before .before .before .before .before .store2 .ensures, c .before .before .before .before .before .before .before .before .before .before .store .ensures, c .before .before .before .before .before .before .before .before .before .before .before .before .before .before .store-field2 .ensures, c .before .before .before .before .before .before .before .before .before .before .before .before .before .before .before .before .before .before .store-field .ensures)
+    (file-stored _ _ _ _ (omega arith) (omega arith))
+
+pub fill-spec : {M : Type 1} → statement M
+fill-spec =
+    tie.close
+    (tie.spec
+    cast-store-field
+    store-field-requires
+    cast-store-field-2
+    store-field-requires-2
+    store-requires
+    mul-store
+    add-store
+    store-requires-2
+    mul-store-2
+    add-store-2
+    mul-store-3
+    add-store-3
+    store-requires-3
+    same-length
+    returns)

@@ -1,0 +1,53 @@
+-- The call that writes a circuit file, whole: its reply and the later content of the bytes lent, from the inputs alone.
+use mathlib.Core.Bool.{not}
+use mathlib.Core.List.{List, [], _∷_, _++_}
+use Prim.Native.Nat.{ℕ}
+use lib.Dec.{eqb}
+use lib.ListN.{length}
+use Rattle.file_format.specs.declared.Role.{Role}
+use Rattle.file_format.specs.Layout.{lengthOf}
+use Rattle.file_format.specs.Reading.{filled}
+use Rattle.file_format.specs.Refusals.{Condition, Verdict, accept, refuse, first, linkConditions, shortTable}
+use Rattle.file_format.specs.Reply.{Reply, reply}
+use Rattle.file_format.specs.Role.{inRange, fileOf}
+use Rattle.file_write.specs.declared.WriteAnswer.{WriteAnswer}
+use Rattle.file_write.specs.declared.WriteAnswer.the-variants.{Written, Refused}
+use Rattle.file_write.specs.Bytes.{fileBytes}
+
+-- What is asked of a circuit that is to be written in a role: 2 N or M outside the role's range; 3 "as many starts as ends not given";
+-- then the links. "Writing takes N from the kinds given and M from the starts given."
+unfoldable pub circuitConditions : Role → List ℕ → List ℕ → List ℕ → List Condition
+circuitConditions role kinds starts ends =
+    record { number = 2; file = fileOf role; holds = not (inRange role (length kinds) (length starts)) } ∷
+    record { number = 3; file = fileOf role; holds = not (eqb (length starts) (length ends)) } ∷
+    linkConditions role (length kinds) starts ends
+
+-- "Needed: .. writing the file's length"
+unfoldable pub writeConditions : Role → List ℕ → List ℕ → List ℕ → ℕ → List Condition
+writeConditions role kinds starts ends lent =
+    circuitConditions role kinds starts ends ++ (shortTable (lengthOf (length kinds) (length starts)) lent ∷ [])
+
+-- "Writing .. replies with the file's length."
+unfoldable pub writeAnswer : Verdict → ℕ → WriteAnswer
+writeAnswer accept size = Written size
+writeAnswer (refuse x) size = Refused x
+
+-- number and values of each case of its answer
+unfoldable pub writeReply : WriteAnswer → Reply
+writeReply (Written size) = record { verdict = accept; values = size ∷ [] }
+writeReply (Refused x) = record { verdict = refuse x; values = [] }
+
+-- the answer, what it is in document 01's terms, and the bytes lent as the call leaves them
+pub record WriteOutcome : Type 0 where
+  pub answer : WriteAnswer
+  pub reply : Reply
+  pub out : List ℕ
+
+unfoldable pub writing : Role → List ℕ → List ℕ → List ℕ → List ℕ → WriteOutcome
+writing role kinds starts ends out =
+    let verdict = first (writeConditions role kinds starts ends (length out)) in
+    record {
+      answer = writeAnswer verdict (lengthOf (length kinds) (length starts));
+      reply = reply verdict (lengthOf (length kinds) (length starts) ∷ []);
+      out = filled verdict (fileBytes kinds starts ends) out;
+    }

@@ -1,0 +1,11 @@
+-- The neighbour lookup: "The neighbour lookup, told a direction, hands out that stretch of the one table or the other."
+use mathlib.Core.List.{List}
+use Prim.Native.Nat.{ℕ}
+use Rattle.graph.specs.Neighbours.{stretch}
+use Rattle.graph_neighbours.specs.declared.neighbours.Direction.{Direction}
+use Rattle.graph_neighbours.specs.declared.neighbours.Direction.the-variants.{Forward, Backward}
+
+-- what node v drives, from the forward offsets and table, or what drives it, from the backward ones
+abbrev pub neighboursOf : Direction → List ℕ → List ℕ → List ℕ → List ℕ → ℕ → List ℕ
+neighboursOf Forward fo ft bo bt v = stretch fo ft v
+neighboursOf Backward fo ft bo bt v = stretch bo bt v

@@ -1,0 +1,109 @@
+// The component of the centre: what matching links, followed either way, join to it. A link matches where some part of its end's set is
+// driven by some part of its start's, so that one union of masks for each direction serves all links of a node, and each costs one test.
+ghost use mathlib.Core.Path.{_≡_};
+ghost use Prim.Native.Nat.{_<_};
+ghost use lib.ListN.{length};
+ghost use Rattle.graph.specs.Bfs.{scan, stateOf, Searching, Searched};
+ghost use Rattle.base_lists.specs.List.{Below};
+ghost use Rattle.graph.specs.Search.{far};
+ghost use Rattle.table.specs.Prepared.{tables, Ready};
+ghost use Rattle.place.specs.Spread.{look, meeting, matched, Spread};
+use graph_neighbours::neighbours::stretch;
+use graph_search::fill;
+use graph_search::visit;
+
+// Looks at node v along a link: it is reached now where its set has a part of `set`.
+fn look(v: u16, set: u32, sets: &[u32], dist: &mut [u16], queue: &mut [u16], tail: usize) -> usize
+    requires { ⌜ Searching (now dist) (now queue) tail ⌝ }
+    requires { ⌜ v < length (now dist) ⌝ }
+    requires { ⌜ length (now sets) ≡ length (now dist) ⌝ }
+    ensures { λ r. ⌜ Searched (now (dist .exit)) (now (queue .exit)) r (look set (now (sets .entry)) (stateOf (now (dist .entry)) (now (queue .entry)) tail) v) ⌝ }
+{
+    let i = v as usize;
+    if base_bits::meets(set, sets[i]) {
+        return visit(v, 0, dist, queue, tail);
+    }
+    tail
+}
+
+// Looks at each node of a list of neighbours.
+fn follow(
+    part: &[u16],
+    set: u32,
+    sets: &[u32],
+    dist: &mut [u16],
+    queue: &mut [u16],
+    from: usize,
+) -> usize
+    requires { ⌜ Searching (now dist) (now queue) from ⌝ }
+    requires { ⌜ Below (length (now dist)) (now part) ⌝ }
+    requires { ⌜ length (now sets) ≡ length (now dist) ⌝ }
+    ensures { λ r. ⌜ Searched (now (dist .exit)) (now (queue .exit)) r (scan 0 (stateOf (now (dist .entry)) (now (queue .entry)) from) (meeting set (now (sets .entry)) (now (part .entry)))) ⌝ }
+{
+    let mut tail = from;
+    let mut i = 0;
+    while i < part.len() {
+        tail = look(part[i], set, sets, dist, queue, tail);
+        i += 1;
+    }
+    tail
+}
+
+// Looks at the neighbours of node v: what it drives, then what drives it.
+fn expand(
+    succ: &[u32],
+    pred: &[u32],
+    fo: &[u16],
+    ft: &[u16],
+    bo: &[u16],
+    bt: &[u16],
+    sets: &[u32],
+    v: usize,
+    dist: &mut [u16],
+    queue: &mut [u16],
+    from: usize,
+) -> usize
+    requires { ⌜ Searching (now dist) (now queue) from ⌝ }
+    requires { ⌜ Ready (tables (now succ) (now pred) (now fo) (now ft) (now bo) (now bt)) (now sets) ⌝ }
+    requires { ⌜ length (now sets) ≡ length (now dist) ⌝ }
+    requires { ⌜ v < length (now dist) ⌝ }
+    ensures { λ r. ⌜ Searched (now (dist .exit)) (now (queue .exit)) r (scan 0 (stateOf (now (dist .entry)) (now (queue .entry)) from) (matched (tables (now (succ .entry)) (now (pred .entry)) (now (fo .entry)) (now (ft .entry)) (now (bo .entry)) (now (bt .entry))) (now (sets .entry)) v)) ⌝ }
+{
+    let set = sets[v];
+    let driven = base_bits::union_of(succ, set);
+    let driving = base_bits::union_of(pred, set);
+    let tail = follow(stretch(fo, ft, v), driven, sets, dist, queue, from);
+    follow(stretch(bo, bt, v), driving, sets, dist, queue, tail)
+}
+
+// Leaves in `dist` an entry for each node: 65535 where it is not in the component of the centre c. The queue is scratch.
+pub fn component(
+    succ: &[u32],
+    pred: &[u32],
+    fo: &[u16],
+    ft: &[u16],
+    bo: &[u16],
+    bt: &[u16],
+    sets: &[u32],
+    c: u16,
+    dist: &mut [u16],
+    queue: &mut [u16],
+)
+    requires { ⌜ Ready (tables (now succ) (now pred) (now fo) (now ft) (now bo) (now bt)) (now sets) ⌝ }
+    requires { ⌜ c < length (now dist) ⌝ }
+    requires { ⌜ length (now sets) ≡ length (now dist) ⌝ }
+    requires { ⌜ (length (now dist) ≡ length (now queue)) × (length (now dist) < far) ⌝ }
+    ensures { λ _. ⌜ Spread (length (now (dist .entry))) c (matched (tables (now (succ .entry)) (now (pred .entry)) (now (fo .entry)) (now (ft .entry)) (now (bo .entry)) (now (bt .entry))) (now (sets .entry))) (now (dist .exit)) ⌝ }
+{
+    fill(dist, 65535);
+    let at = c as usize;
+    dist[at] = 0;
+    queue[0] = c;
+    let mut tail = 1;
+    let mut i = 0;
+    while i < tail {
+        let v = queue[i] as usize;
+        tail = expand(succ, pred, fo, ft, bo, bt, sets, v, dist, queue, tail);
+        i += 1;
+    }
+}

@@ -1,0 +1,83 @@
+-- The line of one centre: none where the whole board's table leaves the centre empty, else from what finding leaves; and what the line adds to
+-- the count. Assumes nothing.
+use mathlib.Core.Bool.{Bool, true, false, cond}
+use mathlib.Core.List.{List, []}
+use mathlib.Core.Path.{_≡_, refl, sym, ap, _∙_}
+use Prim.Native.Nat.{ℕ}
+use native.Mathlib.Omega.{arith}
+use borrow.Author.Tests.{eq-eqb, ne-eqb}
+use lib.Dec.{eqb}
+use lib.ListN.{length, getD}
+use Rattle.base_lists.proofs.Tests.{T-false, false-T}
+use Rattle.base_bits.specs.Bits.{bit}
+use Rattle.base_bits.proofs.Digits.{bit-of-zero, no-bits}
+use Rattle.base_text.specs.Text.{Put}
+use Rattle.base_lists.specs.List.{Below}
+use Rattle.graph.specs.Circuit.{Circuit}
+use Rattle.table.specs.Host.{everything}
+use Rattle.table.specs.Row.{inTable}
+use Rattle.table.specs.Prepared.{Tables}
+use Rattle.table.proofs.Answers.{InTable}
+use Rattle.table.proofs.Host.{everything-taken}
+use Rattle.table.proofs.Meaning.{last-fits}
+use Rattle.table.proofs.Narrow.{last-wider}
+use Rattle.graph.proofs.Groups.{all-below}
+use Rattle.file_format.proofs.Accepted.{bounded-starts, bounded-ends}
+use Rattle.place.specs.Match.{radiusOf, ballOf, ballTable, found}
+use Rattle.place.specs.Outcome.{Located}
+use Rattle.place.proofs.Ball.{ball-fits}
+use Rattle.place.proofs.Outcome.{found-none}
+use Rattle.report.specs.Lines.{lineText}
+use Rattle.report.specs.Report.{hasPlace, centreLine}
+use Rattle.report.proofs.Centre.{centre-missed, centre-long, centre-located}
+use Rattle.report_centres.specs.Pieces.{Source}
+
+module _ {pattern board : Circuit} {t : Tables} {table : List ℕ} {r : ℕ} (s : Source pattern board t table r) where
+  -- the board's links join its nodes
+  pub source-starts : Below (length (board .kinds)) (board .starts)
+  source-starts = all-below _ _ (bounded-starts (s .drawn .nodes))
+
+  pub source-ends : Below (length (board .kinds)) (board .ends)
+  source-ends = all-below _ _ (bounded-ends (s .drawn .nodes))
+
+  -- the whole board's table has an entry for each node
+  pub source-long : length table ≡ length (board .kinds)
+  source-long = ap length (s .whole) ∙ last-fits pattern board (everything board) .size
+
+  -- a ball's table lies inside the whole board's
+  ball-inside : (c u : ℕ) → InTable (ballTable pattern board c (radiusOf pattern)) u c → InTable table u c
+  unfolding ballTable
+  ball-inside c u m =
+      rw (s .whole)
+      (last-wider pattern board (ballOf board c (radiusOf pattern)) (everything board) (s .drawn .parts .nodes) (λ v h. everything-taken board v (h .below)) u c m)
+
+  -- so a centre that this leaves empty has no place, and no line
+  pub whole-missed : (c : ℕ) → getD table c 0 ≡ 0 → centreLine pattern board c ≡ []
+  unfolding hasPlace inTable
+  whole-missed c z =
+      let ball = ballTable pattern board c (radiusOf pattern) in
+      centre-missed pattern board c
+      (found-none pattern board c (radiusOf pattern) ball refl
+      (no-bits (length (pattern .kinds)) (getD ball c 0) (ball-fits pattern board c (radiusOf pattern) .small c)
+      (λ u l. T-false (λ m. false-T (ap (λ (x : ℕ). bit x u) z ∙ bit-of-zero u) (ball-inside c u m)))))
+
+  -- What finding answers is whether there is a place: where there is none, the report has no line,
+  pub source-missed : (c : ℕ) (b : Bool) → b ≡ found pattern board c r → b ≡ false → centreLine pattern board c ≡ []
+  unfolding hasPlace
+  source-missed c b e f = centre-missed pattern board c (rw (← s .own) (sym e ∙ f))
+
+  -- and where there is one, the line that is put is the centre's
+  pub source-line : (c : ℕ) (b : Bool) {dist sets : List ℕ} → b ≡ found pattern board c r → b ≡ true → Located pattern board c r (t .succ) dist sets
+      → lineText (t .forwardOffsets) (t .forward) (t .succ) dist sets c ≡ centreLine pattern board c
+  unfolding hasPlace
+  source-line c b e f l =
+      centre-located (s .ready) (s .drawn .nodes .parallel) source-starts (s .drawn .rise) c (rw (← s .own) (sym e ∙ f)) (rw (s .own) at l)
+
+-- something is put exactly where there is a place
+pub line-counts : (pattern board : Circuit) (c : ℕ) {before after : List ℕ} {at next : ℕ} → Put before at (centreLine pattern board c) after next
+    → _≡_ {A = ℕ} (cond (eqb next at) 0 1) (cond (hasPlace pattern board c) 1 0)
+line-counts pattern board c {at = at} {next = next} p = go (hasPlace pattern board c) refl
+  where
+    go : (b : Bool) → hasPlace pattern board c ≡ b → _≡_ {A = ℕ} (cond (eqb next at) 0 1) (cond b 1 0)
+    go true e = rw (ne-eqb next at (λ q. omega (arith, p .end, centre-long pattern board c e)))
+    go false e = rw (eq-eqb next at (p .end ∙ rw (centre-missed pattern board c e) (omega arith)))

@@ -1,0 +1,14 @@
+-- `report_centres::roomy` meets its contract: the longest line fits into what is left of the room. Assumes nothing.
+use borrow.Author.Needs.{needs}
+use Rattle.report_centres.proofs.Pieces.{room-left}
+use Rattle.report_centres.proofs.roomy.Statement.{statement}
+use Rattle.report_centres.proofs.roomy.Tie as tie
+
+sub-result : tie.Need-sub-result
+sub-result c = search needs
+
+returns : tie.Need-returns
+returns c = room-left (c .args .room) (c .args .at) (c .pre)
+
+pub roomy-spec : {M : Type 1} → statement M
+roomy-spec = tie.close (tie.spec sub-result returns)

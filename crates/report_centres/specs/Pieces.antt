@@ -1,0 +1,103 @@
+-- Pieces of a report: the lines of the centres from one on, as long as there is room for the longest line, and the last line; and what the
+-- contracts of the functions that put them cite.
+use mathlib.Core.Bool.{Bool, _&&_, not, cond}
+use mathlib.Core.List.{List, [], _++_}
+use mathlib.Core.Path.{_≡_}
+use Prim.Native.Nat.{ℕ, suc, _+_, _-_}
+use lib.Dec.{eqb, leb}
+use lib.ListN.{length}
+use Rattle.base_lists.specs.Below.{countBelow, leastBelow, concatBelow}
+use Rattle.base_text.specs.Text.{Put, Fits}
+use Rattle.graph.specs.Circuit.{Circuit}
+use Rattle.graph.specs.Rising.{LinksRise}
+use Rattle.file_format.specs.declared.Role.the-variants.{Pattern, Board}
+use Rattle.file_format.specs.Circuit.{Bounded}
+use Rattle.table.specs.Host.{everything}
+use Rattle.table.specs.Row.{lastTable}
+use Rattle.table.specs.Prepared.{Tables, Prepared}
+use Rattle.place.specs.Match.{radiusOf}
+use Rattle.report.specs.Lines.{longestLine}
+use Rattle.report.specs.Report.{hasPlace, centreLine, endLine}
+use Rattle.report_centres.specs.declared.Part.{Part}
+
+-- ---- the lines of some centres
+
+-- the lines of j centres from a centre on, and how many of those have a place
+unfoldable pub linesFrom : Circuit → Circuit → ℕ → ℕ → List ℕ
+linesFrom pattern board from j = concatBelow j (λ i. centreLine pattern board (from + i))
+
+unfoldable pub placesFrom : Circuit → Circuit → ℕ → ℕ → ℕ
+placesFrom pattern board from j = countBelow j (λ i. hasPlace pattern board (from + i))
+
+-- after so many bytes there is room for the longest line
+abbrev pub roomy : ℕ → ℕ → Bool
+roomy room size = leb (size + longestLine) room
+
+-- how many lines are put: those of the centres that are left, or fewer, where before one of them there is not room for the longest line
+unfoldable pub linesTaken : Circuit → Circuit → ℕ → ℕ → ℕ
+linesTaken pattern board from room =
+    leastBelow (length (board .kinds) - from) (λ j. not (roomy room (length (linesFrom pattern board from j))))
+
+-- ---- pieces of the report
+
+-- a piece: its text, where to go on after it, and how many centres before that one have a place
+pub record Piece : Type 0 where
+  pub text : List ℕ
+  pub next : ℕ
+  pub found : ℕ
+
+-- the lines that there is room for, from a centre before which some centres had a place
+unfoldable pub centresPiece : Circuit → Circuit → ℕ → ℕ → ℕ → Piece
+centresPiece pattern board from found room =
+    let j = linesTaken pattern board from room in
+    record { text = linesFrom pattern board from j; next = from + j; found = found + placesFrom pattern board from j }
+
+-- the last line follows: N is reached, and there is room for the longest line
+unfoldable pub ends : ℕ → ℕ → ℕ → ℕ → Bool
+ends n room next size = eqb next n && roomy room size
+
+-- the piece with the last line, where that follows; N + 1 is past the end
+unfoldable pub closed : ℕ → ℕ → Piece → Piece
+closed n room p =
+    cond (ends n room (p .next) (length (p .text)))
+    (record { text = p .text ++ endLine (p .found) n; next = suc n; found = p .found })
+    p
+
+-- the piece of a pattern and a board
+unfoldable pub linesPiece : Circuit → Circuit → ℕ → ℕ → ℕ → Piece
+linesPiece pattern board from found room = closed (length (board .kinds)) room (centresPiece pattern board from found room)
+
+-- ---- what a piece is put from, and what putting it leaves
+
+-- two circuits that were read: each within its role's maxima, and the board's links in the file's order
+pub record Drawn (pattern board : Circuit) : Type 0 where
+  pub parts : Bounded Pattern pattern
+  pub nodes : Bounded Board board
+  pub rise : LinksRise (board .starts) (board .ends)
+
+-- what a line is put from: the circuits, what the rounds look up, the whole board's table and the pattern's radius
+pub record Source (pattern board : Circuit) (t : Tables) (table : List ℕ) (r : ℕ) : Type 0 where
+  pub drawn : Drawn pattern board
+  pub ready : Prepared pattern board t
+  pub whole : table ≡ lastTable pattern board (everything board)
+  pub own : r ≡ radiusOf pattern
+
+-- scratch tables of n entries each
+pub record Scratch (n : ℕ) (dist queue sets spare : List ℕ) : Type 0 where
+  pub distances : length dist ≡ n
+  pub queued : length queue ≡ n
+  pub ball : length sets ≡ n
+  pub other : length spare ≡ n
+
+-- the piece had room and stands at the front of the buffer, and the answer says so
+pub record Wrote (before : List ℕ) (p : Piece) (after : List ℕ) (part : Part) : Type 0 where
+  pub fits : Fits before 0 (p .text)
+  pub put : Put before 0 (p .text) after (part .size)
+  pub next : part .next ≡ p .next
+  pub found : part .found ≡ p .found
+
+-- after a part that ended at a centre, the last line was put where it follows
+pub record Closed (before : List ℕ) (part : Part) (n : ℕ) (after : List ℕ) (r : Part) : Type 0 where
+  pub put : Put before (part .size) (cond (ends n (length before) (part .next) (part .size)) (endLine (part .found) n) []) after (r .size)
+  pub next : r .next ≡ cond (ends n (length before) (part .next) (part .size)) (suc n) (part .next)
+  pub found : r .found ≡ part .found

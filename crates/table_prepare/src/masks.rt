@@ -1,0 +1,23 @@
+// Sets of parts for each part: those that it drives, or those that drive it.
+ghost use mathlib.Core.Path.{_≡_};
+ghost use lib.ListN.{length};
+ghost use Rattle.base_lists.specs.List.{Below};
+ghost use Rattle.table.specs.Prepared.{masksOf};
+use base_bits::clear;
+
+// For each part the set of the values that stand beside it among the keys: with the link starts as keys and the ends as values the parts
+// that it drives, with the two swapped the parts that drive it.
+pub fn masks(keys: &[u16], values: &[u16], out: &mut [u32])
+    requires { ⌜ length (now keys) ≡ length (now values) ⌝ }
+    requires { ⌜ Below (length (now out)) (now keys) ⌝ }
+    requires { ⌜ Below 32 (now values) ⌝ }
+    ensures { λ _. ⌜ now (out .exit) ≡ masksOf (length (now (out .entry))) (now (keys .entry)) (now (values .entry)) ⌝ }
+{
+    clear(out);
+    let mut i = 0;
+    while i < keys.len() {
+        let u = keys[i] as usize;
+        out[u] = out[u] | base_bits::single(values[i] as u32);
+        i += 1;
+    }
+}
