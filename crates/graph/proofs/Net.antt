@@ -47,6 +47,7 @@ filled-net n starts ends offsets links xs ys xs′ ys′ room e inStarts inEnds 
   room = room;
   forward = rw (fo, fl) (filled n starts ends xs ys e inEnds);
   backward = rw (bo, bl) (filled n ends starts xs′ ys′ (sym e) inStarts);
+  begins = λ v h. rw fo (offset-at n starts xs v h);
   drives = λ v h. rw (fo, fl) (stretch-select n starts ends xs ys v e h);
   drivenBy = λ v h. rw (bo, bl) (stretch-select n ends starts xs′ ys′ v (sym e) h);
 }
