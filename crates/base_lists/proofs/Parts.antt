@@ -3,7 +3,7 @@ use mathlib.Core.List.{List, _++_}
 use mathlib.Core.Path.{_≡_, ap, _∙_}
 use Prim.Native.Nat.{ℕ, _+_, _≤_, _<_}
 use native.Mathlib.Omega.{arith}
-use lib.ListN.{length, getD, take, drop, length-take, length-drop}
+use lib.ListN.{length, getD, take, drop, length-append, length-take, length-drop}
 use lib.Seq.{take-at, drop-at, getD-take, getD-drop}
 use Rattle.base_lists.specs.List.{part}
 
@@ -23,12 +23,28 @@ module _ (at size : ℕ) (xs : List ℕ) where
   unfolding part
   length-part h = simp (length-take, length-drop) (omega arith)
 
--- two stretches of one length, one after the other, with anything behind them
-module _ (size : ℕ) (xs ys rest : List ℕ) (first : length xs ≡ size) (second : length ys ≡ size) where
-  pub part-first : part 0 size (xs ++ (ys ++ rest)) ≡ xs
-  unfolding part
-  part-first = take-at xs (ys ++ rest) size first
+-- A list that was filled in two halves: first its first `size` entries, by xs, and then the `size` entries after them, by ys.
+abbrev pub halved : ℕ → List ℕ → List ℕ → List ℕ → List ℕ
+halved size xs ys old = take size (xs ++ drop size old) ++ (ys ++ drop size (drop size (xs ++ drop size old)))
 
-  pub part-second : part size size (xs ++ (ys ++ rest)) ≡ ys
+module _ (size : ℕ) (xs ys old : List ℕ) (first : length xs ≡ size) where
+  front : take size (xs ++ drop size old) ≡ xs
+  front = take-at xs (drop size old) size first
+
+  abbrev back : List ℕ
+  back = ys ++ drop size (drop size (xs ++ drop size old))
+
+  -- these are its stretches
+  pub part-first : part 0 size (halved size xs ys old) ≡ xs
   unfolding part
-  part-second = ap (take size) (drop-at xs (ys ++ rest) size first) ∙ take-at ys rest size second
+  part-first = take-at (take size (xs ++ drop size old)) back size (ap length front ∙ first) ∙ front
+
+  pub part-second : length ys ≡ size → part size size (halved size xs ys old) ≡ ys
+  unfolding part
+  part-second second =
+      ap (take size) (drop-at (take size (xs ++ drop size old)) back size (ap length front ∙ first))
+      ∙ take-at ys (drop size (drop size (xs ++ drop size old))) size second
+
+  -- and it is as long as it was
+  pub length-halved : length ys ≡ size → size + size ≤ length old → length (halved size xs ys old) ≡ length old
+  length-halved second h = ap (λ (l : List ℕ). length (l ++ back)) front ∙ simp (length-append, length-drop) (omega arith)

@@ -1,13 +1,13 @@
 -- Laws of neighbour tables that are handed on as two lists: what filling them leaves, and what a caller may take from them. Assumes nothing.
 use mathlib.Core.List.{List, _++_}
 use mathlib.Core.Logic.{_⊎_, _↔_, inl, inr, ⊎-elim}
-use mathlib.Core.Path.{_≡_, sym, subst}
+use mathlib.Core.Path.{_≡_, sym, subst, _∙_}
 use Prim.Native.Nat.{ℕ, suc, _≤_, _<_}
 use native.Mathlib.Omega.{arith}
 use lib.Dec.{T, ltb}
 use lib.ListN.{length, length-append}
 use Rattle.base_lists.specs.List.{all, part, Occurs, Below}
-use Rattle.base_lists.proofs.Parts.{length-part-le}
+use Rattle.base_lists.proofs.Parts.{length-part-le, halved, part-first, part-second, length-halved}
 use Rattle.graph.specs.Bfs.{adjacent, Adjacency}
 use Rattle.graph.specs.Circuit.{HasLink}
 use Rattle.graph.specs.Neighbours.{select, offsetsOf, grouped, stretch}
@@ -36,21 +36,41 @@ filled n keys values xs ys e b = record {
   nodes = λ v h. subst (Below n) (sym (stretch-select n keys values xs ys v e h)) (select-below n keys values v b);
 }
 
--- So the two lists hold a graph's neighbour tables where grouping has filled both halves of both.
-pub filled-net : (n : ℕ) (starts ends offsets links xs ys xs′ ys′ : List ℕ) → NetRoom offsets links
-    → length starts ≡ length ends → T (all (λ v. ltb v n) starts) → T (all (λ v. ltb v n) ends)
-    → forwardOffsets offsets ≡ offsetsOf n starts ++ xs → forwardLinks links ≡ grouped n starts ends ++ ys
-    → backwardOffsets offsets ≡ offsetsOf n ends ++ xs′ → backwardLinks links ≡ grouped n ends starts ++ ys′
-    → NetOf n starts ends offsets links
-unfolding driven driving
-filled-net n starts ends offsets links xs ys xs′ ys′ room e inStarts inEnds fo fl bo bl = record {
-  room = room;
-  forward = rw (fo, fl) (filled n starts ends xs ys e inEnds);
-  backward = rw (bo, bl) (filled n ends starts xs′ ys′ (sym e) inStarts);
-  begins = λ v h. rw fo (offset-at n starts xs v h);
-  drives = λ v h. rw (fo, fl) (stretch-select n starts ends xs ys v e h);
-  drivenBy = λ v h. rw (bo, bl) (stretch-select n ends starts xs′ ys′ v (sym e) h);
-}
+-- So two lists hold a graph's neighbour tables where grouping has filled both halves of both: the first of the offsets by fo, and so on.
+module _ (n : ℕ) (starts ends fo fl bo bl xs ys xs′ ys′ offsets links : List ℕ)
+    (room : NetRoom offsets links)
+    (inFo : length fo ≡ 513) (inFl : length fl ≡ 4096) (inBo : length bo ≡ 513) (inBl : length bl ≡ 4096)
+    (parallel : length starts ≡ length ends) (inStarts : T (all (λ v. ltb v n) starts)) (inEnds : T (all (λ v. ltb v n) ends)) where
+  filled-forward : fo ≡ offsetsOf n starts ++ xs → fl ≡ grouped n starts ends ++ ys
+      → Stretches n fo fl × ((v : ℕ) → v < n → stretch fo fl v ≡ select starts ends v)
+  filled-forward e f = (rw (e, f) (filled n starts ends xs ys parallel inEnds), λ v h. rw (e, f) (stretch-select n starts ends xs ys v parallel h))
+
+  filled-backward : bo ≡ offsetsOf n ends ++ xs′ → bl ≡ grouped n ends starts ++ ys′
+      → Stretches n bo bl × ((v : ℕ) → v < n → stretch bo bl v ≡ select ends starts v)
+  filled-backward e f = (rw (e, f) (filled n ends starts xs′ ys′ (sym parallel) inStarts), λ v h. rw (e, f) (stretch-select n ends starts xs′ ys′ v (sym parallel) h))
+
+  pub filled-net :
+      fo ≡ offsetsOf n starts ++ xs → fl ≡ grouped n starts ends ++ ys → bo ≡ offsetsOf n ends ++ xs′ → bl ≡ grouped n ends starts ++ ys′
+      → NetOf n starts ends (halved 513 fo bo offsets) (halved 4096 fl bl links)
+  unfolding driven driving
+  filled-net e f e′ f′ =
+      let a = part-first 513 fo bo offsets inFo in
+      let b = part-first 4096 fl bl links inFl in
+      let a′ = part-second 513 fo bo offsets inFo inBo in
+      let b′ = part-second 4096 fl bl links inFl inBl in
+      let there = filled-forward e f in
+      let back = filled-backward e′ f′ in
+      record {
+        room = record {
+          inOffsets = length-halved 513 fo bo offsets inFo inBo (omega (arith, room .inOffsets)) ∙ room .inOffsets;
+          inLinks = length-halved 4096 fl bl links inFl inBl (omega (arith, room .inLinks)) ∙ room .inLinks;
+        };
+        forward = rw (a, b) (there .0);
+        backward = rw (a′, b′) (back .0);
+        begins = λ v h. rw (a, e) (offset-at n starts xs v h);
+        drives = λ v h. rw (a, b) (there .1 v h);
+        drivenBy = λ v h. rw (a′, b′) (back .1 v h);
+      }
 
 -- ---- what they give
 

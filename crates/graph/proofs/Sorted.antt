@@ -83,7 +83,8 @@ sorted-select (x ∷ xs) (y ∷ ys) s e v i h q = go (eqb x v) refl i h q (sorte
     go true p zero h q r = rw (le-ltb x v (le-of-eq (sym q)), before q)
     go true p (suc i) h q r =
         let same : x ≡ v = eqb→eq x v (true-T p) in
-        rw (le-ltb x v (le-of-eq (sym same)), before same) (ap (λ (k : ℕ). getD (select xs ys v) k 0) (ap (λ (k : ℕ). i - k) (sym (before same))) ∙ r i (le-of-suc-le-suc h) q)
+        let whole : suc i - 0 ≡ suc (i - below xs v) = rw (before same) (omega arith) in
+        rw (le-ltb x v (le-of-eq (sym same)), before same, whole) (r i (le-of-suc-le-suc h) q)
     go false p zero h q r = absurd (false-T p (rw q (eqb-refl v)))
     go false p (suc i) h q r =
         let low : x ≤ getD xs i 0 = first x xs s i (le-of-suc-le-suc h) in
