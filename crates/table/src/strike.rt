@@ -70,8 +70,8 @@ fn strike_node(masks: &[u32], offsets: &[u16], links: &[u16], old: &[u32], v: us
         return 0;
     }
     let f = around(&offsets[..513], &links[..4096], old, v);
-    let b = around(&offsets[513..], &links[4096..], old, v);
-    surviving(set, &masks[..32], &masks[32..], f, b)
+    let b = around(&offsets[513..1026], &links[4096..8192], old, v);
+    surviving(set, &masks[..32], &masks[32..64], f, b)
 }
 
 // Writes the next set of each node of the list into `new`, each from the table `old` whole, and returns how many pairs these sets have.
