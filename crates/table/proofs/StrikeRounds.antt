@@ -16,6 +16,7 @@ use Rattle.base_bits.specs.Bits.{bit, Subset}
 use Rattle.base_bits.proofs.Digits.{bit-of-zero}
 use Rattle.base_bits.proofs.Numbers.{subset-le}
 use Rattle.graph.specs.Circuit.{Circuit}
+use Rattle.graph.proofs.Net.{net-of}
 use Rattle.table.specs.Row.{inTable, pairs, startTable, row, lastTable, kept, rounds}
 use Rattle.table.specs.Fill.{listed, marksOf, NodeList, Cleared, Filled, tableAt}
 use Rattle.table.specs.First.{Begins}
@@ -63,9 +64,7 @@ module _ (t : Tables) (nodes old : List ℕ) where
   strike-ready r =
       record {
         masks = r .masks;
-        room = r .room;
-        forward = rw length-strike (r .forward);
-        backward = rw length-strike (r .backward);
+        net = rw length-strike (r .net);
         small = λ v. strike-smaller (2 ^ 32) v (r .small v);
       }
 
@@ -144,9 +143,7 @@ module _ {pattern host : Circuit} {t : Tables} (p : Prepared pattern host t) (no
         ready =
             record {
               masks = p .masked .room;
-              room = p .net .room;
-              forward = rw (b .long) (p .net .forward);
-              backward = rw (b .long) (p .net .backward);
+              net = rw (b .long) (net-of (p .net));
               small = fits-word (p .parts) (begins-fits b);
             };
         cleared = begins-cleared nodes b;
