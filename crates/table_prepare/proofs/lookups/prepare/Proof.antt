@@ -67,7 +67,7 @@ masks-of-requires-2 c κs =
     let masks = now (start .args .masks) in
     let p = start .pre in
     let long = p .1 .1 .1 .0 in
-    (sym (p .0 .0), (rw (half-2 _ masks (first .masks-of .kept .1 .1 .0 ∙ half masks long) long) (p .0 .2), p .0 .1))
+    (sym (p .0 .0), (rw (half-2 (first .masks-of .last .1 .1 .0) masks (first .masks-of .kept .1 .1 .0 ∙ half masks long) long) (p .0 .2), p .0 .1))
 
 same-length : tie.Need-same-length
 same-length c = search needs
@@ -90,7 +90,7 @@ returns c =
     (masked (now (a .part-starts)) (now (a .part-ends)) (now (a .masks)) long
         (first .masks-of .ensures ∙ ap (λ (k : ℕ). masksOf k (now (a .part-starts)) (now (a .part-ends))) one)
         (second .masks-of2 .ensures
-        ∙ ap (λ (k : ℕ). masksOf k (now (a .part-ends)) (now (a .part-starts))) (half-2 _ (now (a .masks)) (first .masks-of .kept .1 .1 .0 ∙ one) long)),
+        ∙ ap (λ (k : ℕ). masksOf k (now (a .part-ends)) (now (a .part-starts))) (half-2 (first .masks-of .last .1 .1 .0) (now (a .masks)) (first .masks-of .kept .1 .1 .0 ∙ one) long)),
     tables .neighbour-tables .ensures)
 
 pub prepare-spec : {M : Type 1} → statement M
