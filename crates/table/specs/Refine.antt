@@ -43,7 +43,7 @@ Refines t nodes first end rest =
 -- ---- the four counts
 
 -- the counts, from the pairs at first and where the rounds end
-unfoldable pub countsFrom : ℕ → Rest → Counts
+abbrev pub countsFrom : ℕ → Rest → Counts
 countsFrom started rest = record { started = started; kept = rest .kept; struck = started - rest .kept; rounds = rest .rounds }
 
 -- the four counts, and the table of the row's last set
