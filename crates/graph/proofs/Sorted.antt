@@ -2,20 +2,31 @@
 -- the ends in the file's order. Assumes nothing.
 use mathlib.Core.Bool.{Bool, true, false, cond}
 use mathlib.Core.List.{List, [], _∷_}
-use mathlib.Core.Logic.{_↔_, inl, inr, _⊎_}
+use mathlib.Core.Logic.{_↔_, ⊎-elim}
 use mathlib.Core.Path.{_≡_, refl, sym, ap, _∙_}
-use Prim.Native.Nat.{ℕ, zero, suc, _-_, _≤_, _<_, suc-le-suc}
+use Prim.Native.Nat.{ℕ, zero, suc, _+_, _-_, _≤_, _<_, suc-le-suc}
 use native.Mathlib.Nat.{not-suc-le-zero, le-of-suc-le-suc, zero-lt-suc, suc-inj, le-of-eq}
 use native.Mathlib.Omega.{arith}
 use borrow.Author.Tests.{eq-eqb, ne-eqb, ltb-true, ltb-false, lt-ltb, le-ltb}
 use lib.Dec.{eqb, ltb, eqb→eq, eqb-refl}
-use lib.ListN.{length, getD}
+use lib.ListN.{length, getD, drop}
+use lib.Seq.{getD-take, getD-drop}
+use Rattle.base_lists.specs.List.{Below}
 use Rattle.base_lists.proofs.Tests.{true-T, false-T}
-use Rattle.graph.specs.Neighbours.{select, below}
+use Rattle.graph.specs.Neighbours.{select, below, stretch}
+use Rattle.graph.specs.Net.{forwardOffsets, forwardLinks, driven, NetOf}
+use Rattle.graph.specs.Rising.{LinksRise}
+use Rattle.graph.proofs.Lookup.{stretch-part}
+use Rattle.graph.proofs.Net.{stretch-sound}
 
 -- no entry is below an earlier one
 abbrev pub Sorted : List ℕ → Type 0
 Sorted xs = (i j : ℕ) → i < j → j < length xs → getD xs i 0 ≤ getD xs j 0
+
+-- a file's starts do not fall
+pub rise-sorted : (starts ends : List ℕ) → LinksRise starts ends → Sorted starts
+unfolding LinksRise
+rise-sorted starts ends rise i j h l = ⊎-elim (λ p. omega arith) (λ p. omega arith) (rise i j h l)
 
 later : (x : ℕ) (xs : List ℕ) → Sorted (x ∷ xs) → Sorted xs
 later x xs s i j h l = s (suc i) (suc j) (suc-le-suc h) (suc-le-suc l)
@@ -91,3 +102,24 @@ sorted-select (x ∷ xs) (y ∷ ys) s e v i h q = go (eqb x v) refl i h q (sorte
         let other : x ≡ v → ⊥ = λ e. false-T p (rw e (eqb-refl v)) in
         let less : suc i - suc (below xs v) ≡ i - below xs v = omega arith in
         rw (lt-ltb x v (omega arith), less) (r i (le-of-suc-le-suc h) q)
+
+-- in neighbour tables of such links the forward link table has the ends in their order
+pub link-at : {n : ℕ} {starts ends offsets links : List ℕ} → NetOf n starts ends offsets links → Sorted starts → length starts ≡ length ends → Below n starts
+    → (i : ℕ) → i < length starts → getD (forwardLinks links) i 0 ≡ getD ends i 0
+unfolding driven Below
+link-at {n} {starts} {ends} {offsets} {links} t s e b i h =
+    let v = getD starts i 0 in
+    let l : v < n = b i h in
+    let fo = forwardOffsets offsets in
+    let fl = forwardLinks links in
+    let (low, high) = sorted-at starts s v i h .1 refl in
+    let from : getD fo v 0 ≡ below starts v = t .begins v (omega arith) in
+    let to : getD fo (suc v) 0 ≡ below starts (suc v) = t .begins (suc v) l in
+    let part = stretch-part fo fl v (stretch-sound (t .forward) v l) in
+    let back : getD fo v 0 + (i - below starts v) ≡ i = omega arith in
+    let here : getD (stretch fo fl v) (i - below starts v) 0 ≡ getD fl i 0 =
+        ap (λ (xs : List ℕ). getD xs (i - below starts v) 0) part
+        ∙ getD-take (getD fo (suc v) 0 - getD fo v 0) (drop (getD fo v 0) fl) (i - below starts v) 0 (omega arith)
+        ∙ getD-drop (getD fo v 0) fl (i - below starts v) 0
+        ∙ ap (λ (k : ℕ). getD fl k 0) back in
+    sym here ∙ ap (λ (xs : List ℕ). getD xs (i - below starts v) 0) (t .drives v l) ∙ sorted-select starts ends s e v i h refl

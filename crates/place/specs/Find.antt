@@ -14,8 +14,8 @@ use Rattle.table.specs.First.{Begins}
 use Rattle.table.specs.Prepared.{succOf, Tables, Prepared}
 use Rattle.table.specs.Refine.{Rested}
 use Rattle.place.specs.declared.Found.{Found}
-use Rattle.place.specs.Bytes.{nodeBytes, linkBytes}
-use Rattle.place.specs.Match.{ballOf, ballTable, found, placeNodes, placeLinks}
+use Rattle.place.specs.Bytes.{nodeBytes, nodeSets, linkBytes}
+use Rattle.place.specs.Match.{ballOf, found, placeNodes, placeLinks, placeTable}
 use Rattle.place.specs.Spread.{Lists}
 
 -- two circuits that were read: each within its role's maxima, and the board's links in the file's order
@@ -34,7 +34,7 @@ pub record Sought (pattern board : Circuit) (t : Tables) (w r : ℕ) (nodes firs
   pub centre : w < length (board .kinds)
   pub list : NodeList (length (board .kinds)) nodes
   pub ball : marksOf (length (board .kinds)) nodes ≡ ballOf board w r
-  pub begins : Begins pattern board (ballOf board w r) first
+  pub begins : Begins pattern board (marksOf (length (board .kinds)) nodes) first
 
 -- this of some pattern, board and radius
 pub record SoughtBySome (t : Tables) (w : ℕ) (nodes first : List ℕ) : Type 0 where
@@ -47,14 +47,14 @@ pub record SoughtBySome (t : Tables) (w : ℕ) (nodes first : List ℕ) : Type 0
 pub record Located (pattern board : Circuit) (w r : ℕ) (succ dist sets nodes : List ℕ) : Type 0 where
   pub bytes : nodeBytes dist ≡ placeNodes pattern board w r
   pub links : linkBytes (board .starts) (board .ends) succ dist sets ≡ placeLinks pattern board w r
-  pub table : sets ≡ ballTable pattern board w r
+  pub table : nodeSets dist sets ≡ placeTable pattern board w r
   pub lists : Lists nodes dist
   pub size : length dist ≡ length (board .kinds)
   pub long : length sets ≡ length (board .kinds)
 
 -- What finding comes to: where the rounds end in the ball, whether there is a place, and then the place in the tables.
-pub record FoundIn (pattern board : Circuit) (t : Tables) (w r : ℕ) (first dist queue sets : List ℕ) (a : Found) : Type 0 where
-  pub rested : Rested pattern board (ballOf board w r) first sets (a .rest)
+pub record FoundIn (pattern board : Circuit) (t : Tables) (w r : ℕ) (nodes first dist queue sets : List ℕ) (a : Found) : Type 0 where
+  pub rested : Rested pattern board (marksOf (length (board .kinds)) nodes) first sets (a .rest)
   pub answer : a .found ≡ found pattern board w r
   pub short : a .size ≤ length queue
   pub there : a .found ≡ true → Located pattern board w r (succOf (t .masks)) dist sets (take (a .size) queue)
@@ -62,4 +62,4 @@ pub record FoundIn (pattern board : Circuit) (t : Tables) (w r : ℕ) (first dis
 -- this of every pattern, board and radius that finding starts from
 abbrev pub Finds : Tables → ℕ → List ℕ → List ℕ → List ℕ → List ℕ → List ℕ → Found → Type 0
 Finds t w nodes first dist queue sets a =
-    (pattern board : Circuit) (r : ℕ) → Sought pattern board t w r nodes first → FoundIn pattern board t w r first dist queue sets a
+    (pattern board : Circuit) (r : ℕ) → Sought pattern board t w r nodes first → FoundIn pattern board t w r nodes first dist queue sets a
