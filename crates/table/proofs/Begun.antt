@@ -17,6 +17,7 @@ use Rattle.table.specs.Host.{Taken, hostGraph}
 use Rattle.table.specs.Row.{inTable, pairs, startTable, started, struck, lastTable}
 use Rattle.table.specs.Refine.{Rested, countsOf, countsFrom, Refined}
 use Rattle.table.proofs.Answers.{InTable}
+use Rattle.table.proofs.Between.{start-begins}
 use Rattle.table.proofs.Counting.{kept-started}
 use Rattle.table.proofs.Meaning.{last-fits, last-candidate}
 use Rattle.table.proofs.Narrow.{last-wider}
@@ -35,6 +36,9 @@ module _ (pattern host : Circuit) (nodes : List ℕ) {n : ℕ} (long : n ≡ len
     -- they are the first table of the row,
     pub started-table : first ≡ startTable pattern host marks
     started-table = w .made ∙ ap (λ (m : ℕ). tableAt m (startNode (pattern .kinds) (host .kinds)) nodes) long ∙ start-row pattern host nodes
+
+    pub started-begins : Begins pattern host marks first
+    started-begins = rw started-table (start-begins pattern host marks)
 
     -- and its pairs are those at first
     pub started-count : count ≡ started pattern host marks

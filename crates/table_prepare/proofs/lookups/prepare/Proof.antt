@@ -86,12 +86,13 @@ returns c =
     let start = entry (tables .before) in
     let a = start .args in
     let long = start .pre .1 .1 .1 .0 in
-    let one = half (now (a .masks)) long in
-    (masked (now (a .part-starts)) (now (a .part-ends)) (now (a .masks)) long
-        (first .masks-of .ensures ∙ ap (λ (k : ℕ). masksOf k (now (a .part-starts)) (now (a .part-ends))) one)
-        (second .masks-of2 .ensures
-        ∙ ap (λ (k : ℕ). masksOf k (now (a .part-ends)) (now (a .part-starts))) (half-2 (first .masks-of .last .1 .1 .0) (now (a .masks)) (first .masks-of .kept .1 .1 .0 ∙ one) long)),
-    tables .neighbour-tables .ensures)
+    let one = half (now (a .masks)) long in (
+      masked (now (a .part-starts)) (now (a .part-ends)) (now (a .masks)) long
+          (first .masks-of .ensures ∙ ap (λ (k : ℕ). masksOf k (now (a .part-starts)) (now (a .part-ends))) one)
+          (second .masks-of2 .ensures
+          ∙ ap (λ (k : ℕ). masksOf k (now (a .part-ends)) (now (a .part-starts))) (half-2 (first .masks-of .last .1 .1 .0) (now (a .masks)) (first .masks-of .kept .1 .1 .0 ∙ one) long)),
+      tables .neighbour-tables .ensures,
+    )
 
 pub prepare-spec : {M : Type 1} → statement M
 prepare-spec =
