@@ -118,8 +118,8 @@ link-at {n} {starts} {ends} {offsets} {links} t s e b i h =
     let part = stretch-part fo fl v (stretch-sound (t .forward) v l) in
     let back : getD fo v 0 + (i - below starts v) ≡ i = omega arith in
     let here : getD (stretch fo fl v) (i - below starts v) 0 ≡ getD fl i 0 =
-        ap (λ (xs : List ℕ). getD xs (i - below starts v) 0) part
-        ∙ getD-take (getD fo (suc v) 0 - getD fo v 0) (drop (getD fo v 0) fl) (i - below starts v) 0 (omega arith)
-        ∙ getD-drop (getD fo v 0) fl (i - below starts v) 0
-        ∙ ap (λ (k : ℕ). getD fl k 0) back in
+    ap (λ (xs : List ℕ). getD xs (i - below starts v) 0) part
+    ∙ getD-take (getD fo (suc v) 0 - getD fo v 0) (drop (getD fo v 0) fl) (i - below starts v) 0 (omega arith)
+    ∙ getD-drop (getD fo v 0) fl (i - below starts v) 0
+    ∙ ap (λ (k : ℕ). getD fl k 0) back in
     sym here ∙ ap (λ (xs : List ℕ). getD xs (i - below starts v) 0) (t .drives v l) ∙ sorted-select starts ends s e v i h refl

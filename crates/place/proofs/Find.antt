@@ -2,8 +2,7 @@
 use mathlib.Core.Bool.{true, false, not}
 use mathlib.Core.List.{List}
 use mathlib.Core.Path.{_≡_, refl, sym, ap, _∙_}
-use Prim.Native.Nat.{ℕ, _^_, _≤_, _<_}
-use native.Mathlib.Nat.{zero-le}
+use Prim.Native.Nat.{ℕ, _^_, _≤_, _<_, zero-le}
 use lib.Dec.{eqb}
 use lib.ListN.{length, getD, take}
 use Rattle.base_lists.specs.List.{Below}
@@ -12,7 +11,7 @@ use Rattle.graph.specs.Circuit.{Circuit}
 use Rattle.graph.specs.Rising.{LinksRise}
 use Rattle.graph.specs.Search.{far, inside}
 use Rattle.graph.proofs.Ball.{Within, within}
-use Rattle.graph.proofs.Net.{net-of, net-few}
+use Rattle.graph.proofs.Net.{net-of}
 use Rattle.graph.proofs.Sorted.{rise-sorted}
 use Rattle.table.specs.declared.Rest.{Rest}
 use Rattle.table.specs.Fill.{marksOf, tableAt}
@@ -38,6 +37,7 @@ module _ {pattern board : Circuit} {t : Tables} {w r : ℕ} {nodes first : List 
   sought-known = record { pattern = pattern; host = board; prepared = s .prepared; begins = s .begins }
 
   joins : Within n (board .starts) (board .ends)
+  unfolding Below
   joins = within n (board .starts) (board .ends) (s .starts) (s .ends)
 
   small : (v : ℕ) → getD (ballTable pattern board w r) v 0 < 2 ^ 32
@@ -57,9 +57,7 @@ module _ {pattern board : Circuit} {t : Tables} {w r : ℕ} {nodes first : List 
     sets-ready =
         record {
           masks = s .prepared .masked .room;
-          room = s .prepared .net .room;
-          forward = rw sets-long (s .prepared .net .forward);
-          backward = rw sets-long (s .prepared .net .backward);
+          net = rw sets-long (net-of (s .prepared .net));
           small = λ v. rw sets-ball (small v);
         }
 
@@ -118,4 +116,4 @@ pub located-links :
     Below (length (board .kinds)) (board .starts) → LinksRise (board .starts) (board .ends) →
     Located pattern board w r (succOf (t .masks)) dist sets place → linkMarks (length (board .starts)) t sets place ≡ placeLinks pattern board w r
 located-links p parallel below rise l =
-    links-bytes (l .lists) (rw (l .size) (p .net)) (rise-sorted _ _ rise) parallel (rw (l .size) below) ∙ l .links
+    links-bytes (l .lists) _ _ (rw (l .size) (p .net)) (rise-sorted _ _ rise) parallel (rw (l .size) below) ∙ l .links

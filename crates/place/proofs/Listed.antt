@@ -57,7 +57,7 @@ module _ {nodes dist : List ℕ} (l : Lists nodes dist) where
       (λ v h. ap (λ (b : Bool). cond b (getD sets v 0) 0) (listed-reached v h) ∙ turned (eqb (getD dist v 0) far) (getD sets v 0))
 
   -- a byte for each link
-  module _ {starts ends sets : List ℕ} {t : Tables} (net : NetOf (length dist) starts ends (t .offsets) (t .links)) (sorted : Sorted starts)
+  module _ {starts ends : List ℕ} (sets : List ℕ) (t : Tables) (net : NetOf (length dist) starts ends (t .offsets) (t .links)) (sorted : Sorted starts)
       (parallel : length starts ≡ length ends) (inside : Below (length dist) starts)
     where
       abbrev matching : ℕ → Bool
@@ -89,19 +89,19 @@ module _ {nodes dist : List ℕ} (l : Lists nodes dist) where
               let meets = intersects (drivenBy (succOf (t .masks)) sets v) (getD sets (getD fl i 0) 0) in
               let e : getD starts i 0 ≡ v = bounds v (l .list .below j k) (both-left bounded meets b) in
               both (not (eqb (getD dist (getD starts i 0) 0) far)) (matching i)
-              (near-test _ (rw e (l .near v (j, k, refl))))
+              (near-test (getD dist (getD starts i 0) 0) (rw e (l .near v (j, k, refl))))
               (rw (e, ← link-at net sorted parallel inside i h) (both-right bounded meets b))
 
           back : T (not (eqb (getD dist (getD starts i 0) 0) far) && matching i) → T (any (marksLink t sets i) nodes)
           back b =
               let v = getD starts i 0 in
               let k : v < length dist = inside i h in
-              let (j, m, e) = l .complete v k (test-near _ (both-left (not (eqb (getD dist v 0) far)) (matching i) b)) in
+              let (j, m, e) = l .complete v k (test-near (getD dist v 0) (both-left (not (eqb (getD dist v 0) far)) (matching i) b)) in
               let (lo, hi) = sorted-at starts sorted v i h .1 refl in
               at-any (marksLink t sets i) nodes j m
               (rw (e, link-at net sorted parallel inside i h)
               (both (leb (getD fo v 0) i && ltb i (getD fo (suc v) 0)) (matching i)
-              (both (leb (getD fo v 0) i) (ltb i (getD fo (suc v) 0)) (le→leb _ _ (rw (net .begins v (omega arith)) lo)) (lt→ltb _ _ (rw (net .begins (suc v) k) hi)))
+              (both (leb (getD fo v 0) i) (ltb i (getD fo (suc v) 0)) (le→leb (getD fo v 0) i (rw (net .begins v (omega arith)) lo)) (lt→ltb i (getD fo (suc v) 0) (rw (net .begins (suc v) k) hi)))
               (both-right (not (eqb (getD dist v 0) far)) (matching i) b)))
 
       pub links-bytes : linkMarks (length starts) t sets nodes ≡ linkBytes starts ends (succOf (t .masks)) dist sets

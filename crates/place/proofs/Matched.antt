@@ -65,7 +65,7 @@ module _ {pattern board : Circuit} {t : Tables} (p : Prepared pattern board t) (
     ball-list =
         let k = bfs-ready n c around (HasLink (board .starts) (board .ends)) few h board-adjacency r in
         let l = bfs-listed n around c r h few (board-adjacency .inside) in
-        record { below = k .inside; distinct = l .distinct; short = omega (arith, k .counted) }
+        record { below = k .inside; distinct = l .distinct; short = omega (arith, k .counted, few) }
 
     -- a node is listed exactly where its entry is not `far`
     listed-test : (v : ℕ) → v < n → any (λ w. eqb w v) ballList ≡ not (eqb (getD (bfs around n c r .dist) v 0) far)

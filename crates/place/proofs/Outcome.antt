@@ -1,31 +1,19 @@
 -- What the place's outcome comes to, by cases of whether the centre is found. Assumes nothing.
-use mathlib.Core.Bool.{true, false, not}
+use mathlib.Core.Bool.{true, false}
 use mathlib.Core.List.{List, _++_}
-use mathlib.Core.Path.{_≡_, sym, ap, ap₂, _∙_}
-use Prim.Native.Nat.{ℕ, _^_, _<_}
+use mathlib.Core.Path.{_≡_, sym, ap, _∙_}
+use Prim.Native.Nat.{ℕ}
 use borrow.Author.Tests.{eq-eqb, ne-eqb}
-use lib.Dec.{eqb}
 use lib.ListN.{length, getD, drop}
-use Rattle.base_lists.specs.List.{Below}
 use Rattle.graph.specs.Circuit.{Circuit}
-use Rattle.graph.specs.Search.{far, inside}
-use Rattle.graph.proofs.Ball.{Within}
 use Rattle.file_format.specs.declared.File.the-variants.{Neither}
 use Rattle.file_format.specs.Reading.{filled}
 use Rattle.table.specs.declared.Counts.{Counts}
-use Rattle.table.specs.Refine.{Refined}
-use Rattle.table.specs.Prepared.{Tables, Prepared, Ready}
-use Rattle.table.proofs.Sets.{fits-word}
-use Rattle.table.proofs.PreparedMasks.{length-masks}
+use Rattle.table.specs.Refine.{countsOf}
 use Rattle.place.specs.declared.PlaceAnswer.the-variants.{Placed, Refused}
-use Rattle.place.specs.Match.{ballOf, ballTable, found, component, placeNodes, placeLinks, placeTable}
-use Rattle.place.specs.Spread.{matched, Spread}
-use Rattle.place.specs.Bytes.{PartsBelow, nodeBytes, nodeSets, linkBytes}
-use Rattle.place.specs.Outcome.{placeReply, placeVerdict, placeAround, Located}
-use Rattle.place.proofs.Ball.{ball-fits}
-use Rattle.place.proofs.Bytes.{bytes-nodes, bytes-links, sets-table}
+use Rattle.place.specs.Match.{ballOf, ballTable, found, placeNodes, placeLinks, placeTable}
+use Rattle.place.specs.Outcome.{placeReply, placeVerdict, placeAround}
 use Rattle.place.proofs.Marks.{nodes-marks, links-marks, length-table}
-use Rattle.place.proofs.Matched.{forward-test, spread-component}
 
 -- whether the centre is found is whether its set in the ball's table is not empty
 pub found-none : (pattern board : Circuit) (w r : ℕ) (sets : List ℕ) → sets ≡ ballTable pattern board w r → getD sets w 0 ≡ 0 → found pattern board w r ≡ false

@@ -9,8 +9,8 @@ pub enum PlaceAnswer {
     Refused(Refusal, Counts),
 }
 
-// A ball of a board: the nodes at distance at most `radius` from `centre`.
-pub struct Ball {
+// Around which node a place is asked for, and at which radius.
+pub struct Around {
     pub centre: u16,
     pub radius: u16,
 }
