@@ -8,7 +8,7 @@ mod Between
 pub mod Narrow
 pub mod Host
 pub mod PreparedMasks
-mod StrikeFill
+pub mod StrikeFill
 pub mod NodeLists
 pub mod Masks
 pub mod Prepare
