@@ -1,10 +1,7 @@
 -- `file_connected::connected` meets its contract: a circuit that has a node is connected exactly when it has a radius. Assumes nothing.
 use denote.Ref.{now}
-use mathlib.Core.Bool.{not}
-use mathlib.Core.Path.{_≡_, sym, ap, _∙_}
+use mathlib.Core.Path.{sym, ap, _∙_}
 use native.Mathlib.Omega.{arith}
-use Prim.Native.Nat.{ℕ}
-use lib.Dec.{eqb}
 use borrow.Author.Needs.{needs}
 use Rattle.graph.specs.Search.{reached}
 use Rattle.graph.proofs.Ball.{within-all}
