@@ -1,7 +1,7 @@
 -- The row comes to rest at its last set, and the four counts say how. Assumes nothing.
 use mathlib.Core.Bool.{Bool, false, not}
 use mathlib.Core.List.{List, [], _∷_, map}
-use mathlib.Core.Logic.{_≢_, _⊎_, ⊎-elim}
+use mathlib.Core.Logic.{_≢_, _⊎_}
 use mathlib.Core.Path.{_≡_, refl, sym, ap, ap₂, subst, _∙_}
 use Prim.Native.Nat.{ℕ, suc, _+_, _≤_, _<_}
 use native.Mathlib.Nat.{le-refl}
@@ -18,7 +18,7 @@ use Rattle.table.specs.Row.{strike, row, pairs, same, started, lastTable
 use Rattle.table.proofs.Sets.{fits-word, pairs-progress, pairs-ones}
 use Rattle.table.proofs.Row.{Table, row-fits, start-fits}
 use Rattle.table.proofs.Striking.{strike-fits, strike-inside}
-use Rattle.table.proofs.Falling.{Falls, FirstRest, falls-count, first-rest, count-first}
+use Rattle.table.proofs.Falling.{FirstRest, falls-count, first-rest, count-first}
 
 -- ---- the test whether two tables are the same
 
