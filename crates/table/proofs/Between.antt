@@ -13,7 +13,8 @@ use Rattle.table.specs.Host.{hostGraph}
 use Rattle.table.specs.Row.{inTable, startTable, strike, lastTable}
 use Rattle.table.proofs.Answers.{InTable}
 use Rattle.table.proofs.Meaning.{last-fits, last-candidate, last-closed}
-use Rattle.table.proofs.Row.{Table, Candidates, host-along, start-fits, start-in, strike-fits, strike-in, strike-inside}
+use Rattle.table.proofs.Row.{Table, Candidates, host-along, start-fits, start-in}
+use Rattle.table.proofs.Striking.{strike-fits, strike-in, strike-inside}
 use Rattle.table.proofs.Sets.{same-pairs}
 
 -- the first table is one to begin with

@@ -1,7 +1,7 @@
 -- The row comes to rest at its last set, and the four counts say how. Assumes nothing.
 use mathlib.Core.Bool.{Bool, false, not}
 use mathlib.Core.List.{List, [], _∷_, map}
-use mathlib.Core.Logic.{_≢_, _⊎_, ⊎-elim}
+use mathlib.Core.Logic.{_≢_, _⊎_}
 use mathlib.Core.Path.{_≡_, refl, sym, ap, ap₂, subst, _∙_}
 use Prim.Native.Nat.{ℕ, suc, _+_, _≤_, _<_}
 use native.Mathlib.Nat.{le-refl}
@@ -16,8 +16,9 @@ use Rattle.base_lists.proofs.Rows.{rests, falls-to-rest}
 use Rattle.graph.specs.Circuit.{Circuit}
 use Rattle.table.specs.Row.{strike, row, pairs, same, started, lastTable, kept, struck, rounds, startTable}
 use Rattle.table.proofs.Sets.{fits-word, pairs-progress, pairs-ones}
-use Rattle.table.proofs.Row.{Table, strike-fits, strike-inside, row-fits, start-fits}
-use Rattle.table.proofs.Falling.{Falls, FirstRest, falls-count, first-rest, count-first}
+use Rattle.table.proofs.Row.{Table, row-fits, start-fits}
+use Rattle.table.proofs.Striking.{strike-fits, strike-inside}
+use Rattle.table.proofs.Falling.{FirstRest, falls-count, first-rest, count-first}
 
 -- ---- the test whether two tables are the same
 
@@ -53,7 +54,7 @@ row-rests pattern host taken = rests (row pattern host taken) (λ k e. ap (strik
 -- From here on the pattern has at most 32 parts.
 module _ (pattern host : Circuit) (most : length (pattern .kinds) ≤ 32) where
   -- Striking leaves fewer pairs, or the same table.
-  pub strike-progress :
+  strike-progress :
       {t : List ℕ} → Table pattern host t →
       (pairs (strike pattern host t) < pairs t) ⊎ (strike pattern host t ≡ t)
   strike-progress {t} f = pairs-progress most (strike-fits pattern host t) f (strike-inside pattern host f)
@@ -64,12 +65,6 @@ module _ (pattern host : Circuit) (taken : List ℕ) (most : length (pattern .ki
       (pairs (row pattern host taken (suc k)) < pairs (row pattern host taken k)) ⊎ (row pattern host taken (suc k) ≡ row pattern host taken k)
   unfolding row
   row-progress k = strike-progress pattern host most (row-fits pattern host taken k)
-
-  -- a set with as many pairs as the one before repeats it
-  pub row-equal :
-      (k : ℕ) → pairs (row pattern host taken (suc k)) ≡ pairs (row pattern host taken k) →
-      row pattern host taken (suc k) ≡ row pattern host taken k
-  row-equal k e = ⊎-elim (λ l. absurd (omega arith)) (λ s. s) (row-progress k)
 
   -- The row rests from `started` on: the last set is the last,
   pub row-last : (k : ℕ) → started pattern host taken ≤ k → row pattern host taken k ≡ lastTable pattern host taken
@@ -115,12 +110,6 @@ module _ (pattern host : Circuit) (taken : List ℕ) {k : ℕ} (first : FirstRes
 -- ---- the four counts
 
 module _ (pattern host : Circuit) (taken : List ℕ) (most : length (pattern .kinds) ≤ 32) where
-  -- a loop that has struck pairs in each of k steps, and none in the next, has come to it
-  pub stays-first :
-      (k : ℕ) → Falls pairs (row pattern host taken) k → pairs (row pattern host taken (suc k)) ≡ pairs (row pattern host taken k) →
-      FirstRest pairs (row pattern host taken) k
-  stays-first k f e = record { falls = f; repeats = row-equal pattern host taken most k e }
-
   -- `rounds` is the first k at which the row repeats a set
   pub rounds-first : FirstRest pairs (row pattern host taken) (rounds pattern host taken)
   rounds-first = let (k, r) = first-rest pairs (row pattern host taken) (row-progress pattern host taken most) in rw (first-rounds pattern host taken r) r

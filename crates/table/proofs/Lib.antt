@@ -1,5 +1,6 @@
 pub mod Answers
 pub mod Sets
+mod Striking
 pub mod Row
 mod Falling
 pub mod Counting

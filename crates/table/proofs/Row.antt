@@ -18,9 +18,10 @@ use Rattle.simulation.specs.Simulation.{DualSimulation, Candidate, Direction, f
 use Rattle.simulation.proofs.Row.{row-contains}
 use Rattle.simulation.proofs.Simulation.{along-wider, dual-closed}
 use Rattle.table.specs.Host.{hostGraph, EqualKinds}
-use Rattle.table.specs.Row.{inTable, agrees, startTable, supported, strike, row}
-use Rattle.table.proofs.Answers.{InTable, Answered, Links, supported-iff}
-use Rattle.table.proofs.Sets.{Fits, fits-node, fits-part, made, made-fits, made-in, number-if}
+use Rattle.table.specs.Row.{inTable, agrees, startTable, row}
+use Rattle.table.proofs.Answers.{InTable, Links}
+use Rattle.table.proofs.Striking.{strike-fits, strike-in, strike-inside}
+use Rattle.table.proofs.Sets.{Fits, made, made-fits, made-in, number-if}
 
 -- A table of a pattern on a circuit has a number per node, of as many digits as there are parts.
 abbrev pub Table : Circuit → Circuit → List ℕ → Type 0
@@ -66,31 +67,6 @@ module _ (pattern host : Circuit) (taken : List ℕ) where
             },
         λ c. all .1 (c .part, c .node .below, both (inside taken v) (agrees pattern host u v) (c .node .marked) (true-T (eq-eqb _ _ (c .kinds)))),
       )
-
--- ---- striking
-
-module _ (pattern host : Circuit) where
-  pub strike-fits : (t : List ℕ) → Table pattern host (strike pattern host t)
-  unfolding strike
-  strike-fits t = made-fits (length (host .kinds)) (length (pattern .kinds)) (λ u v. inTable t u v && supported pattern host t u v)
-
-  -- "Each further set keeps those pairs of the last whose links have partners in the last."
-  pub strike-in :
-      {t : List ℕ} → Table pattern host t → (u v : ℕ) →
-      InTable (strike pattern host t) u v ↔ (InTable t u v × ((d : Direction) → Answered (Links pattern d) (Links host d) t u v))
-  unfolding strike
-  strike-in {t} f u v =
-      let all = made-in (length (host .kinds)) (length (pattern .kinds)) (λ u v. inTable t u v && supported pattern host t u v) u v in
-      let answers = supported-iff pattern host t u v in (
-        λ m.
-            let (h, l, b) = all .0 m in
-            (both-left (inTable t u v) (supported pattern host t u v) b, answers .0 (both-right (inTable t u v) (supported pattern host t u v) b)),
-        λ (m, s). all .1 (fits-part f u v m, fits-node f u v m, both (inTable t u v) (supported pattern host t u v) m (answers .1 s)),
-      )
-
-  -- the sets fall
-  pub strike-inside : {t : List ℕ} → Table pattern host t → InTable (strike pattern host t) ⊆ InTable t
-  strike-inside f u v m = strike-in f u v .0 m .0
 
 -- ---- the row
 
