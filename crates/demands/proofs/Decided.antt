@@ -1,19 +1,30 @@
 -- Each call is decided by its conditions, and a refusal leaves every lent table as it was. Assumes nothing.
 use mathlib.Core.Bool.{Bool, true, false, not, cond}
 use mathlib.Core.List.{List, [], _∷_, _++_}
-use mathlib.Core.Logic.{⊎-elim}
-use mathlib.Core.Path.{_≡_, refl, sym, _∙_}
+use mathlib.Core.Logic.{_↔_, ⊎-elim}
+use mathlib.Core.Path.{_≡_, refl, sym, ap, _∙_}
 use Prim.Native.Nat.{ℕ}
+use native.Mathlib.Nat.{le-of-eq}
 use native.Mathlib.Omega.{arith}
+use lib.Dec.{T, ltb, ltb→lt, lt→ltb}
 use lib.ListN.{length}
+use Rattle.base_lists.specs.List.{all, Below}
+use Rattle.base_lists.proofs.Tests.{both, both-left, both-right, all-at, at-all}
+use Rattle.graph.proofs.Distance.{connected-iff}
 use Rattle.file_format.specs.declared.Refusal.{Refusal}
 use Rattle.file_format.specs.declared.Role.{Role}
 use Rattle.file_format.specs.declared.Role.the-variants.{Pattern}
 use Rattle.file_format.specs.Circuit.{circuitOf}
-use Rattle.file_format.specs.Reading.{readConditions, reading, filled}
-use Rattle.file_format.specs.Refusals.{Condition, Verdict, accept, refuse, first, fileConditions, shortTable}
-use Rattle.file_format.specs.Reply.{reply}
-use Rattle.file_format.proofs.Refusals.{first-accept, first-refuse, accepts-iff, refuses-by}
+use Rattle.file_format.specs.Layout.{kindsOf, startsOf, endsOf}
+use Rattle.file_format.specs.Links.{linksBelow}
+use Rattle.file_format.specs.Reading.{ReadOutcome, readConditions, reading, filled}
+use Rattle.file_format.specs.Refusals.{Condition, Verdict, accept, refuse, first, fileConditions, Accepted, shortTable}
+use Rattle.file_format.specs.Reply.{readReply, reply}
+use Rattle.file_format.proofs.Accepted.{links-within}
+use Rattle.file_format.proofs.Fields.{length-kinds, length-starts, length-ends}
+use Rattle.file_format.proofs.Reading.{reading-filled}
+use Rattle.file_format.proofs.Refusals.{accepted, accepted-verdict, first-accept, first-parts, first-refuse, accepts-iff, refuses-by}
+use Rattle.file_format.proofs.Rising.{rising-iff}
 use Rattle.table.specs.declared.Counts.{Counts}
 use Rattle.table.specs.Reply.{replied}
 use Rattle.place.specs.Match.{found}
@@ -26,7 +37,7 @@ use Rattle.call_place.specs.Call.{inputConditions}
 use Rattle.call_place.proofs.Promise.{input-refused, verdict-is, accept-or-nine, nine-keeps}
 use Rattle.call_merge.specs.Call.{mergeConditions, merging}
 use Rattle.call_report.specs.Call.{reporting}
-use Rattle.demands.specs.Demands.{Lent, placed, Decided, nine, noPlace, placedConditions, Untouched, Unread, Demand1}
+use Rattle.demands.specs.Demands.{Lent, placed, Decided, nine, noPlace, placedConditions, Untouched, Unread, ReadsAs, Demand1}
 
 -- ---- a verdict that is the first of a list of conditions
 
@@ -58,13 +69,19 @@ keeps values old e = rw e
 
 -- ---- the calls
 
+verdict-read :
+    (role : Role) (file kinds starts ends : List ℕ) →
+    reading role file kinds starts ends .reply .verdict ≡ first (readConditions role file (length kinds) (length starts) (length ends))
+unfolding reading
+verdict-read role file kinds starts ends = reply-verdict _ _
+
 reads :
     (role : Role) (file kinds starts ends : List ℕ) →
     Decided (readConditions role file (length kinds) (length starts) (length ends)) (reading role file kinds starts ends .reply .verdict)
     (Unread kinds starts ends (reading role file kinds starts ends))
 unfolding reading Unread
 reads role file kinds starts ends =
-    by-first (readConditions role file (length kinds) (length starts) (length ends)) (reply-verdict _ _)
+    by-first (readConditions role file (length kinds) (length starts) (length ends)) (verdict-read role file kinds starts ends)
     (λ x e. (keeps _ kinds e, keeps _ starts e, keeps _ ends e))
 
 writes :
@@ -158,6 +175,33 @@ module _ (pattern board : List ℕ) (w r : ℕ) (lent : Lent) where
   places : Decided (placedConditions pattern board w r lent) (placed pattern board w r lent .reply .verdict) (Untouched lent (placed pattern board w r lent))
   places = by-first (placedConditions pattern board w r lent) verdict-all untouched
 
+-- ---- what is accepted, and what the conditions 4, 5 and 6 test
+
+reads-as : (role : Role) (file : List ℕ) → Accepted role file ↔ ReadsAs role file
+unfolding ReadsAs readReply readConditions
+reads-as role file = (
+  λ a kinds starts ends k s t. ap (λ (o : ReadOutcome). o .reply .verdict) (reading-filled role file kinds starts ends (accepted-verdict a) k s t),
+  λ f.
+      let ok = f (kindsOf file) (startsOf file) (endsOf file) (le-of-eq (sym (length-kinds file))) (le-of-eq (sym (length-starts file))) (le-of-eq (sym (length-ends file))) in
+      accepted role file (first-parts (fileConditions role file) _ (sym (verdict-read role file (kindsOf file) (startsOf file) (endsOf file)) ∙ ok) .0),
+)
+
+all-below : (n : ℕ) (xs : List ℕ) → T (all (λ v. ltb v n) xs) ↔ Below n xs
+unfolding Below
+all-below n xs = (
+  λ t i h. ltb→lt _ _ (all-at (λ v. ltb v n) xs t i h),
+  λ b. at-all (λ v. ltb v n) xs (λ i h. lt→ltb _ _ (b i h)),
+)
+
+below-iff : (n : ℕ) (starts ends : List ℕ) → T (linksBelow n starts ends) ↔ (Below n starts × Below n ends)
+unfolding linksBelow
+below-iff n starts ends =
+    let s = all (λ v. ltb v n) starts in
+    let e = all (λ v. ltb v n) ends in (
+      λ t. (all-below n starts .0 (both-left s e t), all-below n ends .0 (both-right s e t)),
+      λ (a, b). both s e (all-below n starts .1 a) (all-below n ends .1 b),
+    )
+
 pub decided-1 : Demand1
 decided-1 =
     record {
@@ -169,4 +213,8 @@ decided-1 =
       places = places;
       merges = merges;
       reports = reports;
+      accepts = reads-as;
+      below = below-iff;
+      rises = rising-iff;
+      joins = λ n starts ends t. connected-iff (links-within n starts ends t);
     }

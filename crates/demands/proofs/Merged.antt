@@ -64,7 +64,6 @@ module _ (file lent out : List ℕ) (ok : merging file lent out .reply .verdict 
     unfolding placed
     merged-same =
         record {
-          verdict = verdicts;
           nine = rw verdicts Iff·rfl;
           nodes =
               λ e.

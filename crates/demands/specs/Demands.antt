@@ -10,10 +10,13 @@ use mathlib.Core.Logic.{_↔_}
 use mathlib.Core.Path.{_≡_}
 use Prim.Native.Nat.{ℕ, suc, _-_, _≤_, _<_}
 use lib.Count.{ones}
+use lib.Dec.{T}
 use lib.ListN.{length, getD, take}
 use Rattle.base_lists.specs.List.{Below, sum}
-use Rattle.graph.specs.Circuit.{circuitGraph}
-use Rattle.graph.specs.Graph.{Graph, Ball, Radius}
+use Rattle.graph.specs.Circuit.{graphOf, circuitGraph}
+use Rattle.graph.specs.Graph.{Graph, Ball, Connected, Radius}
+use Rattle.graph.specs.Rising.{LinksRise}
+use Rattle.graph.specs.Search.{connected}
 use Rattle.simulation.specs.Closed.{Relation, _⊆_, Row}
 use Rattle.simulation.specs.Simulation.{Candidate, Along, Largest}
 use Rattle.simulation.specs.Perfect.{Perfect, Place}
@@ -24,6 +27,7 @@ use Rattle.file_format.specs.declared.Role.{Role}
 use Rattle.file_format.specs.declared.Role.the-variants.{Pattern, Board}
 use Rattle.file_format.specs.Circuit.{circuitOf}
 use Rattle.file_format.specs.Layout.{nodesOf, linksOf}
+use Rattle.file_format.specs.Links.{linksBelow, rising}
 use Rattle.file_format.specs.Reading.{ReadOutcome, readConditions, reading}
 use Rattle.file_format.specs.Refusals.{Condition, Verdict, accept, refuse, NoneHolds, FirstHolding, fileConditions, Accepted, shortTable}
 use Rattle.table.specs.declared.Counts.{Counts}
@@ -104,6 +108,12 @@ Untouched lent result = (result .nodes ≡ lent .nodes) × (result .links ≡ le
 unfoldable pub Unread : List ℕ → List ℕ → List ℕ → ReadOutcome → Type 0
 Unread kinds starts ends result = (result .kinds ≡ kinds) × (result .starts ≡ starts) × (result .ends ≡ ends)
 
+-- "A pattern or a board is accepted when its file, read in that role with tables long enough, is not refused."
+unfoldable pub ReadsAs : Role → List ℕ → Type 0
+ReadsAs role file =
+    (kinds starts ends : List ℕ) → nodesOf file ≤ length kinds → linksOf file ≤ length starts → linksOf file ≤ length ends →
+    reading role file kinds starts ends .reply .verdict ≡ accept
+
 -- Each call, on every input. (The neighbour lookup refuses nothing.)
 pub record Demand1 : Type 0 where
   pub reads : (role : Role) (file kinds starts ends : List ℕ) →
@@ -127,6 +137,11 @@ pub record Demand1 : Type 0 where
   pub reports : (pattern board : List ℕ) (from before : ℕ) (out : List ℕ) →
       Decided (shortTable longestLine (length out) ∷ []) (reporting pattern board from before out .reply .verdict)
       (reporting pattern board from before out .out ≡ out)
+  -- what the other demands mean by accepted, and what the conditions 4, 5 and 6 test
+  pub accepts : (role : Role) (file : List ℕ) → Accepted role file ↔ ReadsAs role file
+  pub below : (n : ℕ) (starts ends : List ℕ) → T (linksBelow n starts ends) ↔ (Below n starts × Below n ends)
+  pub rises : (starts ends : List ℕ) → T (rising starts ends) ↔ LinksRise starts ends
+  pub joins : (n : ℕ) (starts ends : List ℕ) → T (linksBelow n starts ends) → T (connected n starts ends) ↔ Connected (graphOf n starts ends)
 
 -- ---- Demand 2
 
@@ -207,7 +222,6 @@ mergedFile m = take (getD (m .reply .values) 1 0) (m .out)
 -- "It compares whether 9 is given and, where it is not, the first N node bytes and the first M link bytes, N and M being the board's; counts
 -- and match tables may differ."
 pub record SameFound (n m : ℕ) (a b : PlaceOutcome) : Type 0 where
-  pub verdict : a .reply .verdict ≡ b .reply .verdict
   pub nine : (a .reply .verdict ≡ refuse nine) ↔ (b .reply .verdict ≡ refuse nine)
   pub nodes : a .reply .verdict ≡ accept → take n (a .nodes) ≡ take n (b .nodes)
   pub links : a .reply .verdict ≡ accept → take m (a .links) ≡ take m (b .links)
