@@ -1,8 +1,9 @@
 -- The three demands hold. Assumes nothing.
 use mathlib.Core.List.{List, [], _∷_}
 use mathlib.Core.Logic.{⊎-elim}
-use mathlib.Core.Path.{_≡_, refl, sym, ap, _∙_}
-use Prim.Native.Nat.{ℕ, _≤_}
+use mathlib.Core.Path.{_≡_, refl, sym, ap, subst, _∙_}
+use Prim.Native.Nat.{ℕ, _≤_, _<_}
+use native.Mathlib.Omega.{arith}
 use borrow.Author.Tests.{lt-ltb}
 use lib.Dec.{ltb}
 use lib.ListN.{length, getD, take}
@@ -26,12 +27,13 @@ use Rattle.table.specs.Host.{everything}
 use Rattle.place.specs.Match.{radiusOf, ballOf}
 use Rattle.place.proofs.Accepted.{accepted-admissible, accepted-radius}
 use Rattle.place.proofs.Ball.{ball-host}
+use Rattle.place.proofs.Marks.{Marks, nodes-marks, links-marks}
 use Rattle.file_write.specs.declared.WriteAnswer.the-variants.{Written}
 use Rattle.file_write.specs.Writing.{WriteOutcome, writeConditions, writeAnswer, writing}
 use Rattle.file_write.proofs.RoundTrip.{written-reads, read-writes}
 use Rattle.call_match.specs.Call.{matching}
 use Rattle.call_match.proofs.Promise as match-call
-use Rattle.call_place.proofs.Promise.{counts-are, accept-or-nine, nine-iff, marked-place}
+use Rattle.call_place.proofs.Promise.{counts-are, accept-or-nine, nine-iff, marked-place, nodes-front, links-front}
 use Rattle.call_merge.specs.Call.{merging}
 use Rattle.call_merge.proofs.Promise as merge-call
 use Rattle.demands.specs.Demands.{Lent, Room, Ready, placed, placedOwn, mergedFile, SameFound, graph, equal, Demand1, RowCounts, Matched, ReadBack, Demand2, nine, FoundAt, Demand3}
@@ -135,6 +137,11 @@ demand-2 = record { table = table-matched; ball = ball-counted; reads = reads-ba
 
 -- ---- Demand 3
 
+-- a row of marks has no other bytes than 0 and 1
+marks-below : {n : ℕ} {row : List ℕ} → Marks n row → Below 2 row
+unfolding Below
+marks-below m i h = omega (arith, m .bytes i (subst (λ (k : ℕ). i < k) (m .size) h))
+
 -- the place call at a radius
 found-at : (pattern board : List ℕ) (w r : ℕ) (lent : Lent) → Ready pattern board w lent → FoundAt pattern board w r (placed pattern board w r lent)
 unfolding placed nine
@@ -144,6 +151,10 @@ found-at pattern board w r lent x =
       none = nine-iff pattern board w r (lent .nodes) (lent .links) (lent .table) sound;
       accepted = λ other. ⊎-elim (λ ok. ok) (λ e. absurd (other e)) (accept-or-nine pattern board w r (lent .nodes) (lent .links) (lent .table) sound);
       place = marked-place pattern board w r (lent .nodes) (lent .links) (lent .table) sound;
+      bytes = λ ok. (
+        rw (nodes-front pattern board w r (lent .nodes) (lent .links) (lent .table) sound ok) (marks-below (nodes-marks (circuitOf pattern) (circuitOf board) w r)),
+        rw (links-front pattern board w r (lent .nodes) (lent .links) (lent .table) sound ok) (marks-below (links-marks (circuitOf pattern) (circuitOf board) w r)),
+      );
     }
 
 -- the pattern's radius is the one computed

@@ -214,6 +214,8 @@ pub record FoundAt (pattern board : List ℕ) (w r : ℕ) (result : PlaceOutcome
   pub none : (result .reply .verdict ≡ refuse nine) ↔ ((G : Graph) → Perfect (graph pattern) (equal pattern board) (graph board) w r G → ⊥)
   pub accepted : (result .reply .verdict ≡ refuse nine → ⊥) → result .reply .verdict ≡ accept
   pub place : result .reply .verdict ≡ accept → Place (graph pattern) (equal pattern board) (graph board) w r (marked board result)
+  -- "(1 in the place, else 0)"
+  pub bytes : result .reply .verdict ≡ accept → Below 2 (take (nodesOf board) (result .nodes)) × Below 2 (take (linksOf board) (result .links))
 
 -- the merged file: the front of the lent bytes, of the length replied
 unfoldable pub mergedFile : MergeOutcome → List ℕ
