@@ -11,12 +11,8 @@ use Rattle.graph.specs.Circuit.{Circuit, HasLink}
 use Rattle.graph.specs.Neighbours.{select}
 use Rattle.simulation.specs.Closed.{Relation}
 use Rattle.simulation.specs.Simulation.{Direction, forwards, backwards, Along}
-use Rattle.table.specs.Row.{inTable, answered, supported}
+use Rattle.table.specs.Row.{inTable, InTable, answered, supported}
 use Rattle.graph.proofs.Groups.{select-mem, link-swap}
-
--- the set of pairs that a table holds
-abbrev pub InTable : List ℕ → Relation
-InTable t u v = T (inTable t u v)
 
 -- ---- tests over what a node drives
 

@@ -18,8 +18,7 @@ use Rattle.simulation.specs.Quotient.{LinksJoin}
 use Rattle.simulation.proofs.Same.{same-refl, same-symm, agree-symm, largest-same}
 use Rattle.simulation.proofs.Simulation.{along-wider}
 use Rattle.table.specs.Host.{Taken, hostGraph, everything, EqualKinds}
-use Rattle.table.specs.Row.{row, pairs, same, started, lastTable, kept, struck, rounds}
-use Rattle.table.proofs.Answers.{InTable}
+use Rattle.table.specs.Row.{row, pairs, same, started, lastTable, kept, struck, rounds, InTable}
 use Rattle.table.proofs.Sets.{Fits, same-pairs}
 use Rattle.table.proofs.Row.{Steps, row-fits, row-in}
 use Rattle.table.proofs.Meaning.{last-largest}

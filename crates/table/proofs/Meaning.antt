@@ -12,8 +12,7 @@ use Rattle.simulation.proofs.Closed.{closed-same-set}
 use Rattle.simulation.proofs.Row.{row-largest-agree}
 use Rattle.simulation.proofs.Simulation.{largest-iff-closed}
 use Rattle.table.specs.Host.{hostGraph, EqualKinds}
-use Rattle.table.specs.Row.{row, started, lastTable}
-use Rattle.table.proofs.Answers.{InTable}
+use Rattle.table.specs.Row.{row, started, lastTable, InTable}
 use Rattle.table.proofs.Row.{Table, Candidates, Steps, Moves, row-fits, row-candidate, row-in}
 use Rattle.table.proofs.Counting.{row-last}
 

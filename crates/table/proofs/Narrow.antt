@@ -17,11 +17,10 @@ use Rattle.graph.specs.Circuit.{Circuit, graphOf, circuitGraph}
 use Rattle.simulation.specs.Closed.{_⊆_}
 use Rattle.simulation.proofs.Simulation.{along-wider}
 use Rattle.table.specs.Host.{Taken, hostGraph, everything}
-use Rattle.table.specs.Row.{inTable, pairs, strike, lastTable}
+use Rattle.table.specs.Row.{inTable, pairs, strike, lastTable, InTable}
 use Rattle.table.specs.Fill.{listed, marksOf, NodeList, Cleared, Filled, tableAt}
 use Rattle.table.specs.Prepared.{Tables, Prepared}
 use Rattle.table.specs.Strike.{strikeTable, strikeTimes, Round, Settled}
-use Rattle.table.proofs.Answers.{InTable}
 use Rattle.table.proofs.Host.{everything-taken}
 use Rattle.table.proofs.Meaning.{last-fits, last-candidate, last-closed}
 use Rattle.table.proofs.Row.{Table, Candidates, host-along, strike-fits, strike-in, strike-inside}

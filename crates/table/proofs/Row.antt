@@ -18,8 +18,8 @@ use Rattle.simulation.specs.Simulation.{DualSimulation, Candidate, Direction, f
 use Rattle.simulation.proofs.Row.{row-contains}
 use Rattle.simulation.proofs.Simulation.{along-wider, dual-closed}
 use Rattle.table.specs.Host.{hostGraph, EqualKinds}
-use Rattle.table.specs.Row.{inTable, agrees, startTable, supported, strike, row}
-use Rattle.table.proofs.Answers.{InTable, Answered, Links, supported-iff}
+use Rattle.table.specs.Row.{inTable, agrees, startTable, supported, strike, row, InTable}
+use Rattle.table.proofs.Answers.{Answered, Links, supported-iff}
 use Rattle.table.proofs.Sets.{Fits, fits-node, fits-part, made, made-fits, made-in, number-if}
 
 -- A table of a pattern on a circuit has a number per node, of as many digits as there are parts.

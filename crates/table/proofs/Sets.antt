@@ -23,8 +23,7 @@ use Rattle.base_bits.proofs.Digits.{bit-of-zero, bit-below, same-bits, same-bit
 use Rattle.base_bits.proofs.Numbers.{number-lt, bit-number}
 use Rattle.base_bits.proofs.Counts.{ones-count}
 use Rattle.simulation.specs.Closed.{_⊆_}
-use Rattle.table.specs.Row.{inTable, pairs}
-use Rattle.table.proofs.Answers.{InTable}
+use Rattle.table.specs.Row.{inTable, pairs, InTable}
 
 -- A table of n sets of the parts below k.
 pub record Fits (n k : ℕ) (t : List ℕ) : Type 0 where

@@ -3,7 +3,7 @@
 use mathlib.Core.Bool.{Bool, true, false, _&&_, not, cond}
 use mathlib.Core.List.{List, [], _∷_, map}
 use Prim.Native.Nat.{ℕ, zero, suc, _-_}
-use lib.Dec.{eqb}
+use lib.Dec.{T, eqb}
 use lib.ListN.{length, getD}
 use Rattle.base_lists.specs.List.{all, any, tabulate, sum}
 use Rattle.base_lists.specs.Below.{countBelow}
@@ -11,10 +11,15 @@ use Rattle.base_bits.specs.Bits.{bit, numberOf, sizeOf}
 use Rattle.graph.specs.Circuit.{Circuit}
 use Rattle.graph.specs.Neighbours.{select}
 use Rattle.graph.specs.Search.{inside}
+use Rattle.simulation.specs.Closed.{Relation}
 
 -- the pair (part u, node v) is in the set
 unfoldable pub inTable : List ℕ → ℕ → ℕ → Bool
 inTable t u v = bit (getD t v 0) u
+
+-- the set of pairs that a table holds
+abbrev pub InTable : List ℕ → Relation
+InTable t u v = T (inTable t u v)
 
 -- part u and node v have equal kinds
 unfoldable pub agrees : Circuit → Circuit → ℕ → ℕ → Bool
