@@ -73,6 +73,17 @@ pub record Accepted (r : Role) (file : List ℕ) : Type 0 where
   pub rises : T (rising (startsOf file) (endsOf file))
   pub joined : T (asksConnected r) → T (connected (nodesOf file) (startsOf file) (endsOf file))
 
+-- the number of the first condition on a file's size that holds, 1, 2 or 3, and 0 where none does
+unfoldable pub sizeNumber : Role → List ℕ → ℕ
+sizeNumber r file =
+    let n = nodesOf file in
+    let m = linksOf file in
+    cond (ltb (length file) 4) 1 (cond (inRange r n m) (cond (eqb (length file) (lengthOf n m)) 0 3) 2)
+
+-- the number of the first condition on the order of the links that holds, 4 or 5, and 0 where none does
+unfoldable pub orderNumber : ℕ → List ℕ → List ℕ → ℕ
+orderNumber n starts ends = cond (linksBelow n starts ends) (cond (rising starts ends) 0 5) 4
+
 -- the number of the first condition on the links that holds, 4, 5 or 6, and 0 where none does
 unfoldable pub linkNumber : Role → ℕ → List ℕ → List ℕ → ℕ
 linkNumber r n starts ends =

@@ -1,4 +1,4 @@
--- `file_write::links::links_rise` meets its contract. The loop's invariant: each link passed comes before the next. Assumes nothing.
+-- `file_check::links_rise` meets its contract. The loop's invariant: each link passed comes before the next. Assumes nothing.
 use borrow.Author.Count.{below-none, below-more}
 use borrow.Author.Tests.{not-true, not-false}
 use mathlib.Core.Path.{sym, _∙_}
@@ -7,9 +7,9 @@ use Prim.Native.Nat.{ℕ, _-_, _≤_, _<_}
 use lib.Dec.{T}
 use lib.ListN.{length}
 use Rattle.base_lists.proofs.Tests.{true-T, false-T}
-use Rattle.file_write.proofs.LinkTests.{linkRises, links-rise, not-links-rise}
-use Rattle.file_write.proofs.links.links_rise.Statement.{statement}
-use Rattle.file_write.proofs.links.links_rise.Tie as tie
+use Rattle.file_check.proofs.LinkTests.{linkRises, links-rise, not-links-rise}
+use Rattle.file_check.proofs.links_rise.Statement.{statement}
+use Rattle.file_check.proofs.links_rise.Tie as tie
 
 abbrev Inv-loop : tie.InvT-loop
 Inv-loop starts ends i₀ i = (i ≤ length starts) × ((j : ℕ) → j < i → T (linkRises starts ends j))

@@ -1,12 +1,12 @@
--- `file_write::links::all_below` meets its contract. The loop's invariant: each number passed is below n. Assumes nothing.
+-- `file_check::all_below` meets its contract. The loop's invariant: each number passed is below n. Assumes nothing.
 use borrow.Author.Count.{below-none, below-more}
 use mathlib.Core.Path.{sym}
 use native.Mathlib.Omega.{arith}
 use Prim.Native.Nat.{ℕ, _-_, _≤_, _<_}
 use lib.ListN.{length, getD}
-use Rattle.file_write.proofs.LinkTests.{all-below, not-all-below}
-use Rattle.file_write.proofs.links.all_below.Statement.{statement}
-use Rattle.file_write.proofs.links.all_below.Tie as tie
+use Rattle.file_check.proofs.LinkTests.{all-below, not-all-below}
+use Rattle.file_check.proofs.all_below.Statement.{statement}
+use Rattle.file_check.proofs.all_below.Tie as tie
 
 abbrev Inv-loop : tie.InvT-loop
 Inv-loop numbers n i₀ i = (i ≤ length numbers) × ((j : ℕ) → j < i → getD numbers j 0 < n)

@@ -1,9 +1,9 @@
--- `file_fields::comes_before` meets its contract: each return rewrites with the tests that led there. Assumes nothing.
+-- `file_check::comes_before` meets its contract: each return rewrites with the tests that led there. Assumes nothing.
 use borrow.Author.Tests.{lt-ltb, le-ltb, eq-eqb, ne-eqb}
 use native.Mathlib.Omega.{arith}
 use Rattle.file_format.specs.Links.{earlier}
-use Rattle.file_fields.proofs.comes_before.Statement.{statement}
-use Rattle.file_fields.proofs.comes_before.Tie as tie
+use Rattle.file_check.proofs.comes_before.Statement.{statement}
+use Rattle.file_check.proofs.comes_before.Tie as tie
 
 returns : tie.Need-returns
 unfolding earlier
