@@ -5,9 +5,11 @@ use mathlib.Core.Path.{_≡_, refl, sym, ap, _∙_}
 use Prim.Native.Nat.{ℕ, _≤_, _<_}
 use native.Mathlib.Omega.{arith}
 use borrow.Author.Tests.{ltb-false}
-use Rattle.file_format.proofs.Fields.{length-fields, length-kinds, length-starts, length-ends}
+use Rattle.file_format.proofs.Fields.{length-fields, length-kinds, length-starts, length-ends, stored-front}
+use lib.Dec.{lit≤}
 use lib.ListN.{length, take, drop, length-take}
-use Rattle.graph.specs.Circuit.{Circuit}
+use Rattle.graph.specs.Circuit.{Circuit, circuit}
+use Rattle.graph.specs.Search.{radius}
 use Rattle.file_format.specs.declared.File.the-variants.{Neither}
 use Rattle.file_format.specs.declared.FileRead.{FileRead}
 use Rattle.file_format.specs.declared.FileVerdict.the-variants as verdict
@@ -15,13 +17,14 @@ use Rattle.file_format.specs.declared.Refusal.{Refusal}
 use Rattle.file_format.specs.declared.ReadAnswer.{ReadAnswer}
 use Rattle.file_format.specs.declared.ReadAnswer.the-variants.{Read, Refused}
 use Rattle.file_format.specs.declared.Role.{Role}
+use Rattle.file_format.specs.declared.Role.the-variants as role
 use Rattle.file_format.specs.Circuit.{Bounded}
-use Rattle.file_format.specs.Reading.{reading, readConditions, readAnswer, filled, verdictOf, front, Stands, Held, Loaded}
+use Rattle.file_format.specs.Reading.{reading, readConditions, readAnswer, filled, verdictOf, front, Stands, Held, Loaded, LinksTested}
 use Rattle.file_format.specs.Reply.{Reply, reply, readReply}
-use Rattle.file_format.specs.Layout.{nodesOf, linksOf, kindsOf, startsOf, endsOf}
-use Rattle.file_format.specs.Refusals.{Verdict, accept, refuse, first, fileConditions, shortTable}
+use Rattle.file_format.specs.Layout.{fields, nodesOf, linksOf, kindsAt, startsAt, endsAt, kindsOf, startsOf, endsOf}
+use Rattle.file_format.specs.Refusals.{Verdict, accept, refuse, first, fileConditions, sizeNumber, linkNumber, shortTable}
 use Rattle.file_format.specs.Role.{minNodes, maxNodes, maxLinks, fileOf}
-use Rattle.file_format.proofs.Refusals.{turned, turned-accept, first-accept, first-refuse, first-parts, first-holds, tables-short, tables-fit, accepted, range-orders}
+use Rattle.file_format.proofs.Refusals.{turned, turned-accept, byNumber, number-turned, number-accept, verdict-links, first-accept, first-refuse, first-parts, first-holds, tables-short, tables-fit, accepted, range-orders}
 use Rattle.file_format.proofs.Accepted.{accepted-bounded}
 
 pub answer-turned : (r : Role) (k n m : ℕ) (v : Verdict) → v ≡ turned r k → readAnswer v n m ≡ Refused (record { number = k; file = fileOf r })
@@ -56,9 +59,6 @@ readReply-injective (Read n m) (Read n′ m′) e = let v = ap (λ (r : Reply). 
 readReply-injective (Read n m) (Refused x) e = let v = ap (λ (r : Reply). r .verdict) e in cc
 readReply-injective (Refused x) (Read n m) e = let v = ap (λ (r : Reply). r .verdict) e in cc
 readReply-injective (Refused x) (Refused y) e = let v = ap (λ (r : Reply). r .verdict) e in cc
-
-refused-accept : (x : Refusal) → refuse x ≡ accept → ⊥
-refused-accept x e = let z : _≡_ {A = ℕ} 0 1 = cc in omega arith
 
 -- ---- the call, by cases
 
@@ -155,6 +155,12 @@ module _ {file : List ℕ} {n m : ℕ} {t : Circuit} (s : Stands file n m t) whe
     ap (λ (c : Circuit). length (c .ends)) (s .content) ∙ length-ends file ∙ sym (s .links),
   )
 
+  -- what is said of the fronts is said of the file's links
+  pub stands-links : {A : Type 0} (f : ℕ → List ℕ → List ℕ → A) → f n (take m (t .starts)) (take m (t .ends)) ≡ f (nodesOf file) (startsOf file) (endsOf file)
+  stands-links f =
+      let e = s .content in
+      rw (s .nodes, ap (λ (c : Circuit). c .starts) e, ap (λ (c : Circuit). c .ends) e)
+
   pub stands-room : (n ≤ length (t .kinds)) × (m ≤ length (t .starts)) × (m ≤ length (t .ends))
   stands-room = let (k, a, b) = stands-size in (front-room n _ k, front-room m _ a, front-room m _ b)
 
@@ -165,3 +171,37 @@ module _ {file : List ℕ} {n m : ℕ} {t : Circuit} (s : Stands file n m t) whe
 
     pub stands-range : (minNodes r ≤ n) × (n ≤ maxNodes r) × (m ≤ maxLinks r)
     stands-range = rw (s .nodes, s .links) (range-orders r (nodesOf file) (linksOf file) (accepted r file e .range))
+
+-- ---- as the reader goes
+
+-- the three stretches, stored
+pub filled-stands : (file kinds starts ends ks ss es : List ℕ) (n m : ℕ) → n ≡ nodesOf file → m ≡ linksOf file
+    → ks ≡ fields (drop kindsAt file) n ++ drop n kinds → ss ≡ fields (drop (startsAt n) file) m ++ drop m starts → es ≡ fields (drop (endsAt n m) file) m ++ drop m ends
+    → Stands file n m (circuit ks ss es)
+unfolding kindsOf startsOf endsOf
+filled-stands file kinds starts ends ks ss es n m isN isM k s e =
+    record {
+      nodes = isN;
+      links = isM;
+      content =
+          rw (stored-front _ kinds ks n k, stored-front _ starts ss m s, stored-front _ ends es m e, isN, isM);
+    }
+
+-- the links, tested where they stand
+module _ (r : Role) (file : List ℕ) (n m : ℕ) (t : Circuit) (s : Stands file n m t) (z : sizeNumber r file ≡ 0) (k w : ℕ)
+    (l : LinksTested r n (take m (t .starts)) (take m (t .ends)) k w) where
+  by-links : first (fileConditions r file) ≡ byNumber r k
+  by-links = verdict-links r file z ∙ ap (byNumber r) (sym (stands-links s (linkNumber r)) ∙ sym (l .number))
+
+  pub links-turned : (read : FileRead) → read .verdict ≡ verdict.Refused (record { number = k; file = fileOf r }) → (k ≡ 0 → ⊥) → Loaded r file read t
+  links-turned read e f = turned-loaded r file read t k e (by-links ∙ number-turned r k f)
+
+  pub links-sound : k ≡ 0 → Loaded r file (record { verdict = verdict.Accepted; nodes = n; links = m; radius = w }) t
+  links-sound e =
+      held-loaded r file _ t refl (by-links ∙ number-accept r k e)
+      (record { stands = s; measured = λ c. l .measured e c ∙ stands-links s radius })
+
+-- the larger of the two roles' maxima
+pub role-bounds : (r : Role) → (maxNodes r ≤ 512) × (maxLinks r ≤ 4096)
+role-bounds role.Pattern = (lit≤ tt, lit≤ tt)
+role-bounds role.Board = (lit≤ tt, lit≤ tt)

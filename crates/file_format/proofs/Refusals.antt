@@ -42,7 +42,7 @@ first-refuse (c ∷ cs) ds x e = go (c .holds) e (first-refuse cs ds x)
     go true e r = e
     go false e r = r e
 
-accept-not-refuse : {x : Refusal} → accept ≡ refuse x → ⊥
+pub accept-not-refuse : {x : Refusal} → accept ≡ refuse x → ⊥
 accept-not-refuse e = let z : _≡_ {A = ℕ} 0 1 = cc in omega arith
 
 -- no condition of an accepted list holds
@@ -193,7 +193,7 @@ module _ (n : ℕ) (starts ends : List ℕ) where
   unfolding orderNumber linkNumber
   number-order r = go (linksBelow n starts ends) (rising starts ends)
     where
-      go : (x y : Bool) → (_≡_ {A = ℕ} (cond x (cond y 0 5) 4) 0 → ⊥) 
+      go : (x y : Bool) → (_≡_ {A = ℕ} (cond x (cond y 0 5) 4) 0 → ⊥)
           → _≡_ {A = ℕ} (cond x (cond y (cond (asksConnected r && not (connected n starts ends)) 6 0) 5) 4) (cond x (cond y 0 5) 4)
       go true true f = absurd (f refl)
       go true false f = refl

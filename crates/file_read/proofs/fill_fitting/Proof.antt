@@ -1,3 +1,9 @@
+-- `file_read::fill_fitting` meets its contract: a table is short, or all three are filled. Assumes nothing.
+use mathlib.Core.Logic.{inl, inr}
+use mathlib.Core.Path.{sym}
+use native.Mathlib.Omega.{arith}
+use Rattle.file_format.specs.Layout.{kindsOf, startsOf, endsOf}
+use Rattle.file_format.proofs.Reading.{reading-short, reading-filled}
 use borrow.Author.Needs.{needs}
 use Rattle.file_read.proofs.fill_fitting.Statement.{statement}
 use Rattle.file_read.proofs.fill_fitting.Tie as tie
@@ -5,37 +11,34 @@ use Rattle.file_read.proofs.fill_fitting.Reads as reads
 use Rattle.file_read.proofs.fill_fitting.Lts as lts
 use Rattle.file_read.proofs.fill.Reads as fill-reads
 
--- src/lib.rt:104:9
 returns : tie.Need-returns
-returns c = ?
+returns c = λ role e. sym (reading-short role _ _ _ _ e (inl (rw (c .before .before .before .before .before .pre .0) at (c .if1 .taken))))
 
--- src/lib.rt:107:9
 returns-2 : tie.Need-returns-2
-returns-2 c = ?
+returns-2 c = λ role e. sym (reading-short role _ _ _ _ e (inr (inl (rw (c .before .before .before .before .before .before .pre .1) at (c .if2 .taken)))))
 
--- src/lib.rt:110:9
 returns-3 : tie.Need-returns-3
-returns-3 c = ?
+returns-3 c = λ role e. sym (reading-short role _ _ _ _ e (inr (inr (rw (c .before .before .before .before .before .before .before .pre .1) at (c .if3 .taken)))))
 
--- src/lib.rt:112:5
 fill-requires : tie.Need-fill-requires
 fill-requires c κs = search needs
 
--- src/lib.rt:86:1
 same-length : tie.Need-same-length
 same-length c = search needs
 
--- src/lib.rt:86:1
 same-length-2 : tie.Need-same-length-2
 same-length-2 c = search needs
 
--- src/lib.rt:86:1
 same-length-3 : tie.Need-same-length-3
 same-length-3 c = search needs
 
--- src/lib.rt:86:1
 returns-4 : tie.Need-returns-4
-returns-4 c = ?
+unfolding kindsOf startsOf endsOf
+returns-4 c =
+    λ role e.
+    let (n, m, _) = c .before .before .before .before .before .before .before .before .before .before .before .before .before .before .before .before .before .pre in
+    let f = c .before .before .before .before .before .before .fill .ensures in
+    rw (f .0, f .1 .0, f .1 .1, n, m) (sym (reading-filled role _ _ _ _ e (omega arith) (omega arith) (omega arith)))
 
 pub fill-fitting-spec : {M : Type 1} → statement M
 fill-fitting-spec =

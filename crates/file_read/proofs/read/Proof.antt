@@ -1,3 +1,8 @@
+-- `file_read::read` meets its contract: the call is refused, or what fits is filled in. Assumes nothing.
+use mathlib.Core.Path.{sym, ap₂, _∙_}
+use Rattle.file_format.specs.Layout.{lengthOf}
+use Rattle.file_format.proofs.Reading.{reading-refused, loaded-accepted, loaded-refused, role-bounds}
+use Rattle.file_format.proofs.Refusals.{accepted}
 use borrow.Author.Needs.{needs}
 use Rattle.file_read.proofs.read.Statement.{statement}
 use Rattle.file_read.proofs.read.Tie as tie
@@ -6,53 +11,47 @@ use Rattle.file_read.proofs.read.Lts as lts
 use Rattle.file_read.proofs.fill_fitting.Reads as fill-fitting-reads
 use Rattle.file_read.proofs.load.Reads as load-reads
 
--- src/lib.rt:131:35
 slice-aggregate-load : tie.Need-slice-aggregate-load
 slice-aggregate-load c = search needs
 
--- src/lib.rt:131:43
 slice-aggregate-load-2 : tie.Need-slice-aggregate-load-2
 slice-aggregate-load-2 c = search needs
 
--- src/lib.rt:131:51
 slice-aggregate-load-3 : tie.Need-slice-aggregate-load-3
 slice-aggregate-load-3 c = search needs
 
--- src/lib.rt:131:9
 load-requires : tie.Need-load-requires
-load-requires c κs = ?
+load-requires c κs = let (n, m) = role-bounds (c .before .before .before .before .before .before .before .args .role) in record { forKinds = n; forStarts = m; forEnds = m }
 
--- src/lib.rt:133:30
 enum-known-verdict : tie.Need-enum-known-verdict
 enum-known-verdict c = search needs
 
--- src/lib.rt:134:63
 enum-told : tie.Need-enum-told
 enum-told c = search needs
 
--- src/lib.rt:134:9
 fill-fitting-requires : tie.Need-fill-fitting-requires
-fill-fitting-requires c κs = ?
+fill-fitting-requires c κs =
+    let load = c .before .before .before .before .before .before .before .before .load .ensures in
+    let sound = loaded-accepted load (c .before .before .before .enum-told .given .1) in
+    let s = load .held sound .stands in
+    (s .nodes, s .links, accepted _ _ sound .size ∙ sym (ap₂ lengthOf (s .nodes) (s .links)))
 
--- src/lib.rt:134:9
 same-length : tie.Need-same-length
 same-length c = search needs
 
--- src/lib.rt:134:9
 same-length-2 : tie.Need-same-length-2
 same-length-2 c = search needs
 
--- src/lib.rt:134:9
 same-length-3 : tie.Need-same-length-3
 same-length-3 c = search needs
 
--- src/lib.rt:134:9
 returns : tie.Need-returns
-returns c = ?
+returns c =
+    let here = c .before .before .before .before .before .before in
+    here .fill-fitting .ensures _ (loaded-accepted (here .before .before .before .before .before .before .before .before .before .load .ensures) (here .before .before .before .before .enum-told .given .1))
 
--- src/lib.rt:118:1
 returns-2 : tie.Need-returns-2
-returns-2 c = ?
+returns-2 c = sym (reading-refused _ _ _ _ _ _ (loaded-refused (c .before .before .before .before .before .before .load .ensures) (c .before .verdict .given .1)))
 
 pub read-spec : {M : Type 1} → statement M
 read-spec =
