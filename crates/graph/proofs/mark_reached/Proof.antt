@@ -1,4 +1,4 @@
--- `graph_extent::ball::mark_all` meets its contract. The loop's invariant: the bytes before v are the marks, and the others as they were.
+-- `graph::mark_reached` meets its contract. The loop's invariant: the bytes before v are the marks, and the others as they were.
 -- The measure is how many are left. Assumes nothing.
 use mathlib.Core.List.{_++_}
 use mathlib.Core.Path.{_≡_, refl, subst}
@@ -9,15 +9,15 @@ use lib.ListN.{length, getD, drop, length-set}
 use denote.Ref.{now}
 use Rattle.base_lists.specs.List.{tabulate}
 use Rattle.base_lists.proofs.Tables.{filled-none, filled-more}
-use Rattle.graph_extent.specs.Marks.{mark}
-use Rattle.graph_extent.proofs.ball.mark_all.Statement.{statement}
-use Rattle.graph_extent.proofs.ball.mark_all.Tie as tie
+use Rattle.graph.specs.Search.{mark, marks}
+use Rattle.graph.proofs.mark_reached.Statement.{statement}
+use Rattle.graph.proofs.mark_reached.Tie as tie
 
 abbrev Inv-loop : tie.InvT-loop
-Inv-loop n dist out₀ v₀ out v = (v ≤ n) × (length out ≡ length out₀) × (out ≡ tabulate v (λ i. mark (getD dist i 0)) ++ drop v out₀)
+Inv-loop dist out₀ n v₀ out v = (v ≤ length dist) × (length out ≡ length out₀) × (out ≡ tabulate v (λ i. mark (getD dist i 0)) ++ drop v out₀)
 
 abbrev μ-loop : tie.MeasureT-loop
-μ-loop n dist out₀ v₀ out v = n - v
+μ-loop dist out₀ n v₀ out v = length dist - v
 
 loop-holds : tie.Need-loop-holds Inv-loop μ-loop
 loop-holds c = (omega arith, refl, filled-none _ _)
@@ -52,13 +52,14 @@ same-length : tie.Need-same-length Inv-loop μ-loop
 same-length c = c .before .loop .inv .1
 
 returns : tie.Need-returns Inv-loop μ-loop
+unfolding marks
 returns c =
     let a = c .before .before .before .before .args in
-    let e : c .before .loop .v ≡ a .n = omega arith in
+    let e : c .before .loop .v ≡ length (now (a .dist)) = omega arith in
     subst (λ (v : ℕ). c .before .loop .out ≡ tabulate v (λ i. mark (getD (now (a .dist)) i 0)) ++ drop v (now (a .out))) e (c .before .loop .inv .2)
 
-pub mark-all-spec : {M : Type 1} → statement M
-mark-all-spec =
+pub mark-reached-spec : {M : Type 1} → statement M
+mark-reached-spec =
     tie.close
     (tie.spec
     Inv-loop
