@@ -1,10 +1,9 @@
 -- `finder::main` meets its contract: each buffer has the length that `run` asks for. Assumes nothing.
-use mathlib.Core.List.{List}
 use mathlib.Core.Path.{_≡_}
 use Prim.Native.Nat.{ℕ, _≤_}
 use native.Mathlib.Omega.{arith}
 use borrow.Author.Needs.{needs}
-use lib.ListN.{length, replicate, length-replicate}
+use lib.Dec.{lit≤}
 use Rattle.report.specs.Lines.{longestLine}
 use Rattle.finder.proofs.main.Statement.{statement}
 use Rattle.finder.proofs.main.Tie as tie
@@ -18,12 +17,12 @@ slice-aggregate-run-2 c = search needs
 slice-aggregate-run-3 : tie.Need-slice-aggregate-run-3
 slice-aggregate-run-3 c = search needs
 
--- a piece has room for the longest line
-room : (out : List ℕ) → length out ≡ 524288 → longestLine ≤ length out
-room out e = omega arith
+-- a buffer of so many bytes has room for the longest line
+roomy : {n size : ℕ} → n ≡ size → longestLine ≤ n → longestLine ≤ size
+roomy e h = omega arith
 
 run-requires : tie.Need-run-requires
-run-requires c κs = ((search needs, search needs), room (replicate 524288 0) (length-replicate {A = ℕ} 524288 0))
+run-requires c κs = ((search needs, search needs), roomy (slice-aggregate-run-3 c) (lit≤ tt))
 
 returns : tie.Need-returns
 returns c = search needs
