@@ -9,7 +9,7 @@ use lib.Dec.{T}
 use lib.ListN.{length, getD}
 use Rattle.simulation.specs.Closed.{Relation, _⊆_, Closed, Occurring}
 use Rattle.table_row.specs.Problem.{Problem, Agreeing, StepOf, MoveOf}
-use Rattle.table_row.specs.Row.{inTable, tableOf, lastOf}
+use Rattle.table_row.specs.Row.{inTable, tableOf, startOf, lastOf}
 
 -- ---- tables
 
@@ -60,10 +60,10 @@ pub record Equivalent {D E : Type 0} (p : Problem D) (q : Problem E) : Type 0 wh
 
 -- ---- a table to begin with
 
--- It has the pairs of the last set, and no pair that does not agree.
+-- It has the pairs of the row's last set, and only pairs of its first set: it lies between the two.
 pub record Begins {D : Type 0} (p : Problem D) (t : List ℕ) : Type 0 where
-  pub fits : TableOf p t
-  pub within : InTable t ⊆ Agreeing p
+  pub long : length t ≡ p .nodes
+  pub within : InTable t ⊆ InTable (startOf p)
   pub contains : InTable (lastOf p) ⊆ InTable t
 
 -- the pairs of a table that agree
