@@ -40,6 +40,18 @@ pub record Stretches (n : ℕ) (offsets table : List ℕ) : Type 0 where
   pub within : (v : ℕ) → v < n → getD offsets (suc v) 0 ≤ length table
   pub nodes : (v : ℕ) → v < n → Below n (stretch offsets table v)
 
+-- The two lists hold neighbour tables of n nodes, whatever their links.
+pub record Net (n : ℕ) (offsets links : List ℕ) : Type 0 where
+  pub room : NetRoom offsets links
+  pub forward : Stretches n (forwardOffsets offsets) (forwardLinks links)
+  pub backward : Stretches n (backwardOffsets offsets) (backwardLinks links)
+
+-- v is one of those nodes: its two stretches can be read without a test.
+pub record NodeOf (offsets links : List ℕ) (v : ℕ) : Type 0 where
+  pub nodes : ℕ
+  pub net : Net nodes offsets links
+  pub node : v < nodes
+
 -- The two lists hold the neighbour tables of a graph of n nodes whose links go from `starts` to `ends`.
 pub record NetOf (n : ℕ) (starts ends offsets links : List ℕ) : Type 0 where
   pub room : NetRoom offsets links

@@ -1,5 +1,5 @@
 -- Distance, ball, radius and connectedness computed by rounds: what the contracts cite. proofs/ ties them to the definitions of Graph.
-use mathlib.Core.Bool.{Bool, false, _&&_, _||_, cond}
+use mathlib.Core.Bool.{Bool, false, not, _&&_, _||_, cond}
 use mathlib.Core.List.{List, [], _∷_}
 use Prim.Native.Nat.{ℕ, zero, suc, _+_}
 use lib.Dec.{eqb}
@@ -9,6 +9,10 @@ use Rattle.base_lists.specs.List.{all, tabulate, maximum}
 -- the entry of a node that no walk within the radius reaches
 abbrev pub far : ℕ
 far = 65535
+
+-- an entry is a distance: a walk reaches its node
+abbrev pub reached : ℕ → Bool
+reached entry = not (eqb entry far)
 
 -- some link joins v, directions ignored, to a node that passes the test
 unfoldable pub beside : List ℕ → List ℕ → (ℕ → Bool) → ℕ → Bool

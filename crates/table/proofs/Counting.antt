@@ -17,7 +17,7 @@ use Rattle.graph.specs.Circuit.{Circuit}
 use Rattle.table.specs.Row.{strike, row, pairs, same, started, lastTable, kept, struck, rounds, startTable}
 use Rattle.table.proofs.Sets.{fits-word, pairs-progress, pairs-ones}
 use Rattle.table.proofs.Row.{Table, strike-fits, strike-inside, row-fits, start-fits}
-use Rattle.table.proofs.Rest.{Falls, FirstRest, falls-count, first-rest, count-first}
+use Rattle.table.proofs.Falling.{Falls, FirstRest, falls-count, first-rest, count-first}
 
 -- ---- the test whether two tables are the same
 

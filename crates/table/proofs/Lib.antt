@@ -1,9 +1,11 @@
 pub mod Answers
 pub mod Sets
 pub mod Row
-mod Rest
+mod Falling
 pub mod Counting
 pub mod Meaning
+mod Between
+pub mod Narrow
 pub mod Host
 pub mod PreparedMasks
 mod StrikeFill
@@ -15,5 +17,4 @@ mod StrikeSets
 mod StrikeStretch
 mod StrikeRow
 mod StrikeRounds
-mod StrikeRefine
-pub mod Narrow
+pub mod Begun

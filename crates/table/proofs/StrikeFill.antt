@@ -17,7 +17,8 @@ use Rattle.base_lists.proofs.Below.{countBelow-le, countBelow-same}
 use Rattle.base_bits.specs.Bits.{bit, sizeOf}
 use Rattle.base_bits.proofs.Digits.{bit-of-zero}
 use Rattle.table.specs.Row.{pairs}
-use Rattle.table.specs.Fill.{listed, Distinct, Cleared, fillAt, sizesAt, Filled, tableAt}
+use Rattle.table.specs.Fill.{listed, Distinct, NodeList, Cleared, fillAt, sizesAt, Filled, tableAt}
+use Rattle.table.specs.First.{Written}
 
 -- ---- what is written
 
@@ -130,6 +131,14 @@ pairs-table n f nodes d l =
       pairs-none n,
       pairs-fill f nodes zeros d (λ i h. rw long (l i h)) (λ i h. getD-replicate n (getD nodes i 0) 0 0 (l i h)),
     )
+
+-- so writing into an empty table makes a first table
+pub filled-written : {n : ℕ} {f : ℕ → ℕ} {nodes empty table : List ℕ} {count : ℕ} → empty ≡ replicate n 0 → NodeList n nodes
+    → Filled f nodes empty table count → Written n f nodes table count
+filled-written {n} {f} {nodes} {empty} {table} none list fill =
+    let made : table ≡ tableAt n f nodes =
+    fill .table ∙ fill-table f nodes empty (cleared-none n nodes empty none) ∙ ap (λ (m : ℕ). tableAt m f nodes) (ap length none ∙ length-replicate n 0) in
+    record { made = made; size = fill .size ∙ sym (ap pairs made ∙ pairs-table n f nodes (list .distinct) (list .below)) }
 
 -- ---- a loop over the list
 

@@ -3,8 +3,8 @@ use mathlib.Core.Bool.{Bool, true, false, cond}
 use mathlib.Core.List.{List}
 use mathlib.Core.Logic.{_⊎_, ⊎-elim}
 use mathlib.Core.Path.{_≡_, refl, sym, ap, subst, _∙_}
-use Prim.Native.Nat.{ℕ, suc, _+_, _^_, _≤_, _<_}
-use native.Mathlib.Nat.{lt-of-le-of-lt}
+use Prim.Native.Nat.{ℕ, zero, suc, _+_, _^_, _≤_, _<_}
+use native.Mathlib.Nat.{le-refl, not-suc-le-zero, lt-of-le-of-lt}
 use native.Mathlib.Numerals.{add-one}
 use native.Mathlib.Decide.{decLt}
 use native.Mathlib.Omega.{arith}
@@ -18,14 +18,17 @@ use Rattle.base_bits.proofs.Numbers.{subset-le}
 use Rattle.graph.specs.Circuit.{Circuit}
 use Rattle.table.specs.Row.{inTable, pairs, startTable, row, lastTable, kept, rounds}
 use Rattle.table.specs.Fill.{listed, marksOf, NodeList, Cleared, Filled, tableAt}
+use Rattle.table.specs.First.{Begins}
 use Rattle.table.specs.Prepared.{Tables, Ready, Prepared}
+use Rattle.table.specs.Refine.{Rested}
 use Rattle.table.specs.Strike.{strikeNode, strikeTable, strikeTimes, Round, Settled}
-use Rattle.table.proofs.Sets.{pairs-progress}
-use Rattle.table.proofs.Rest.{FirstRest, falls-count}
-use Rattle.table.proofs.Counting.{first-last, first-rounds}
+use Rattle.table.proofs.Sets.{fits-word, pairs-progress}
+use Rattle.table.proofs.Falling.{falls-count}
+use Rattle.table.proofs.Counting.{first-rounds}
+use Rattle.table.proofs.Between.{begins-fits, begins-next, begins-rest}
 use Rattle.table.proofs.StrikeFill.{length-table, getD-table, cleared-table, fill-table, pairs-table}
 use Rattle.table.proofs.StrikeSets.{survivors-subset}
-use Rattle.table.proofs.StrikeRow.{times-row}
+use Rattle.table.proofs.StrikeRow.{begins-cleared, strike-row, times-row}
 
 -- ---- a round shrinks the sets
 
@@ -59,19 +62,20 @@ module _ (t : Tables) (nodes old : List ℕ) where
   strike-ready : Ready t old → Ready t (strikeTable t nodes old)
   strike-ready r =
       record {
+        masks = r .masks;
+        room = r .room;
         forward = rw length-strike (r .forward);
         backward = rw length-strike (r .backward);
-        drives = λ v. strike-smaller (2 ^ length (t .succ)) v (r .drives v);
-        driven = λ v. strike-smaller (2 ^ length (t .pred)) v (r .driven v);
+        small = λ v. strike-smaller (2 ^ 32) v (r .small v);
       }
 
   -- it leaves fewer pairs, or the same table
-  strike-progress : length (t .succ) ≤ 32 → Ready t old → (pairs (strikeTable t nodes old) < pairs old) ⊎ (strikeTable t nodes old ≡ old)
+  strike-progress : Ready t old → (pairs (strikeTable t nodes old) < pairs old) ⊎ (strikeTable t nodes old ≡ old)
   unfolding inTable
-  strike-progress most r =
-      pairs-progress most
-      (record { size = length-strike; small = λ v. strike-smaller (2 ^ length (t .succ)) v (r .drives v) })
-      (record { size = refl; small = r .drives })
+  strike-progress r =
+      pairs-progress (le-refl 32)
+      (record { size = length-strike; small = λ v. strike-smaller (2 ^ 32) v (r .small v) })
+      (record { size = refl; small = r .small })
       (λ u v. strike-subset v u)
 
 -- ---- from round to round
@@ -84,7 +88,7 @@ round-count {t} {nodes} {start} {rounds = rounds} r =
 
 -- One round more: what `strike` writes and returns.
 module _ {t : Tables} {nodes start old spare : List ℕ} {kept rounds : ℕ} (r : Round t nodes start old spare kept rounds)
-    (most : length (t .succ) ≤ 32) (list : NodeList (length old) nodes) {new : List ℕ} {next : ℕ} (fill : Filled (strikeNode t old) nodes spare new next) where
+    (list : NodeList (length old) nodes) {new : List ℕ} {next : ℕ} (fill : Filled (strikeNode t old) nodes spare new next) where
   struck : new ≡ strikeTable t nodes old
   unfolding strikeTable
   struck = fill .table ∙ fill-table (strikeNode t old) nodes spare (r .free) ∙ ap (λ (m : ℕ). tableAt m (strikeNode t old) nodes) (r .long)
@@ -97,7 +101,7 @@ module _ {t : Tables} {nodes start old spare : List ℕ} {kept rounds : ℕ} (r 
   pub round-less : (next ≡ kept → ⊥) → next < kept
   round-less differs =
       ⊎-elim (λ l. omega (arith, new-count, ap pairs struck, r .count)) (λ e. absurd (differs (new-count ∙ ap pairs (struck ∙ e) ∙ sym (r .count))))
-      (strike-progress t nodes old most (r .ready))
+      (strike-progress t nodes old (r .ready))
 
   pub round-next : (next ≡ kept → ⊥) → Round t nodes start new old next (rounds + 1)
   unfolding strikeTimes
@@ -117,7 +121,7 @@ module _ {t : Tables} {nodes start old spare : List ℕ} {kept rounds : ℕ} (r 
 
   -- it struck none: the two tables are equal, and the loop has settled
   stopped : next ≡ kept → strikeTable t nodes old ≡ old
-  stopped e = ⊎-elim (λ l. absurd (omega (arith, new-count, ap pairs struck, r .count))) (λ s. s) (strike-progress t nodes old most (r .ready))
+  stopped e = ⊎-elim (λ l. absurd (omega (arith, new-count, ap pairs struck, r .count))) (λ s. s) (strike-progress t nodes old (r .ready))
 
   pub round-same : next ≡ kept → new ≡ old
   round-same e = struck ∙ stopped e
@@ -125,34 +129,67 @@ module _ {t : Tables} {nodes start old spare : List ℕ} {kept rounds : ℕ} (r 
   pub round-last : next ≡ kept → Settled t nodes start old kept rounds
   round-last e = record { table = r .table; stops = stopped e; falls = r .falls; count = r .count }
 
--- the loop ends with no more pairs than it started with
-pub settled-count : {t : Tables} {nodes start last : List ℕ} {kept rounds : ℕ} → Settled t nodes start last kept rounds → kept ≤ pairs start
-unfolding strikeTimes
-settled-count {t} {nodes} {start} {rounds = rounds} s =
-    omega (arith, falls-count pairs (strikeTimes t nodes start) rounds (s .falls), s .count ∙ ap pairs (s .table))
+-- ---- the rounds begin
 
--- ---- what the loop settles at is the end of the row
-
-module _ {pattern host : Circuit} {t : Tables} (p : Prepared pattern host t) (nodes : List ℕ) {last : List ℕ} {k r : ℕ}
-    (s : Settled t nodes (startTable pattern host (marksOf (length (host .kinds)) nodes)) last k r) where
-  abbrev marks : List ℕ
-  marks = marksOf (length (host .kinds)) nodes
-
-  first : FirstRest pairs (row pattern host marks) r
+module _ {pattern host : Circuit} {t : Tables} (p : Prepared pattern host t) (nodes : List ℕ) {first : List ℕ}
+    (b : Begins pattern host (marksOf (length (host .kinds)) nodes) first) where
+  pub first-round : {spare : List ℕ} {started : ℕ} → Cleared nodes spare → length spare ≡ length first → started ≡ pairs first
+      → Round t nodes first first spare started 0
   unfolding strikeTimes
-  first =
+  first-round free long count =
       record {
-        falls = λ j h. rw (← times-row pattern host t p nodes j, ← times-row pattern host t p nodes (suc j)) (s .falls j h);
-        repeats =
-            sym (times-row pattern host t p nodes (suc r)) ∙ ap (strikeTable t nodes) (sym (s .table)) ∙ s .stops ∙ s .table ∙ times-row pattern host t p nodes r;
+        table = refl;
+        falls = λ j h. absurd (not-suc-le-zero h);
+        count = count;
+        ready =
+            record {
+              masks = p .masked .room;
+              room = p .net .room;
+              forward = rw (b .long) (p .net .forward);
+              backward = rw (b .long) (p .net .backward);
+              small = fits-word (p .parts) (begins-fits b);
+            };
+        cleared = begins-cleared nodes b;
+        free = free;
+        long = long;
       }
 
-  pub settled-table : last ≡ lastTable pattern host marks
-  settled-table = s .table ∙ times-row pattern host t p nodes r ∙ sym (first-last pattern host marks first)
+  -- a round keeps the table between the last and the first one
+  times-begins : (k : ℕ) → Begins pattern host (marksOf (length (host .kinds)) nodes) (strikeTimes t nodes first k)
+  unfolding strikeTimes
+  times-begins zero = b
+  times-begins (suc k) =
+      let old = times-begins k in
+      rw (strike-row pattern host t p nodes (strikeTimes t nodes first k) (begins-fits old) (begins-cleared nodes old)) (begins-next (p .parts) old)
 
-  pub settled-kept : k ≡ kept pattern host marks
-  unfolding kept
-  settled-kept = s .count ∙ ap pairs settled-table
+  -- ---- what the loop settles at is the end of the row
 
-  pub settled-rounds : r ≡ rounds pattern host marks
-  settled-rounds = sym (first-rounds pattern host marks first)
+  module _ {last : List ℕ} {k r : ℕ} (s : Settled t nodes first last k r) where
+    abbrev marks : List ℕ
+    marks = marksOf (length (host .kinds)) nodes
+
+    settled-last : last ≡ lastTable pattern host marks
+    settled-last =
+        let here : Begins pattern host marks last = rw (s .table) (times-begins r) in
+        begins-rest (p .parts) here (sym (strike-row pattern host t p nodes last (begins-fits here) (begins-cleared nodes here)) ∙ s .stops)
+
+    settled-again : strikeTimes t nodes first (suc r) ≡ strikeTimes t nodes first r
+    unfolding strikeTimes
+    settled-again = ap (strikeTable t nodes) (sym (s .table)) ∙ s .stops ∙ s .table
+
+    -- from the first table of the row, the rounds are those of the row
+    settled-rounds : first ≡ startTable pattern host marks → r ≡ rounds pattern host marks
+    settled-rounds e = sym (first-rounds pattern host marks (record { falls = falls; repeats = repeats }))
+      where
+        after : (j : ℕ) → strikeTimes t nodes first j ≡ row pattern host marks j
+        after j = ap (λ (x : List ℕ). strikeTimes t nodes x j) e ∙ times-row pattern host t p nodes j
+
+        falls : (j : ℕ) → j < r → pairs (row pattern host marks (suc j)) < pairs (row pattern host marks j)
+        falls j h = rw (← after j, ← after (suc j)) (s .falls j h)
+
+        repeats : row pattern host marks (suc r) ≡ row pattern host marks r
+        repeats = sym (after (suc r)) ∙ settled-again ∙ after r
+
+    pub settled-rested : Rested pattern host marks first last (record { kept = k; rounds = r })
+    unfolding kept
+    settled-rested = record { last = settled-last; kept = s .count ∙ ap pairs settled-last; rounds = settled-rounds }

@@ -7,20 +7,23 @@ use native.Mathlib.Nat.{lt-of-lt-of-le}
 use lib.Dec.{T, eqb, eqb→eq, eqb-refl}
 use lib.ListN.{length, getD}
 use Rattle.base_lists.specs.List.{all, any, allBelow, tabulate, Below}
-use Rattle.base_lists.proofs.Tests.{false-T, same-test, all-at, at-all, any-at, at-any, allBelow-at, at-allBelow}
+use Rattle.base_lists.proofs.Tests.{T-false, false-T, same-test, all-at, at-all, any-at, at-any, allBelow-at, at-allBelow}
 use Rattle.base_lists.proofs.Below.{allBelow-same}
 use Rattle.base_lists.proofs.Tables.{getD-tabulate, tabulate-same}
 use Rattle.base_bits.specs.Bits.{bit, numberOf, subsetOf, unionAt}
-use Rattle.base_bits.proofs.Digits.{bit-of-zero, bit-above, bit-or}
+use Rattle.base_bits.proofs.Digits.{bit-of-zero, bit-above, bit-or, same-bits}
 use Rattle.base_bits.proofs.Numbers.{number-same, number-wider}
 use Rattle.graph.specs.Circuit.{Circuit}
-use Rattle.graph.specs.Neighbours.{select, stretch}
+use Rattle.graph.specs.Neighbours.{select}
+use Rattle.graph.specs.Net.{driven, driving}
 use Rattle.graph.specs.Search.{inside}
+use Rattle.table.specs.Host.{hostGraph}
 use Rattle.table.specs.Row.{inTable, agrees, answered, supported, startTable, strike, row}
 use Rattle.table.specs.Fill.{listed, marksOf, Cleared, tableAt}
-use Rattle.table.specs.Prepared.{masksOf, Tables, Prepared}
-use Rattle.table.specs.Strike.{startNode, survivors, strikeNode, strikeTable, strikeTimes}
-use Rattle.table.proofs.Row.{Table, row-fits, row-untaken}
+use Rattle.table.specs.Prepared.{masksOf, succOf, predOf, Tables, Prepared}
+use Rattle.table.specs.First.{Begins, startNode}
+use Rattle.table.specs.Strike.{survivors, strikeNode, strikeTable, strikeTimes}
+use Rattle.table.proofs.Row.{Table, start-in, row-fits, row-untaken}
 use Rattle.table.proofs.Masks.{select-below, bit-mask}
 use Rattle.table.proofs.StrikeSets.{strike-none}
 
@@ -85,25 +88,25 @@ module _ (pattern host : Circuit) (t : Tables) (p : Prepared pattern host t) whe
   below-word xs l i h = lt-of-lt-of-le (l i h) (p .parts)
 
   forward-answered : (old : List ℕ) (u v : ℕ) → u < n → v < length (host .kinds)
-      → subsetOf (getD (t .succ) u 0) (unionAt old (stretch (t .forwardOffsets) (t .forward) v))
+      → subsetOf (getD (succOf (t .masks)) u 0) (unionAt old (driven (t .offsets) (t .links) v))
       ≡ answered (pattern .starts) (pattern .ends) (host .starts) (host .ends) old u v
   forward-answered old u v h l =
-      rw (p .succ, p .drives v l) (subset-answered n (pattern .starts) (pattern .ends) (host .starts) (host .ends) old u v (below-word (pattern .ends) (p .ends)) h)
+      rw (p .masked .succ, p .net .drives v l) (subset-answered 32 (pattern .starts) (pattern .ends) (host .starts) (host .ends) old u v (below-word (pattern .ends) (p .ends)) (lt-of-lt-of-le h (p .parts)))
 
   backward-answered : (old : List ℕ) (u v : ℕ) → u < n → v < length (host .kinds)
-      → subsetOf (getD (t .pred) u 0) (unionAt old (stretch (t .backwardOffsets) (t .backward) v))
+      → subsetOf (getD (predOf (t .masks)) u 0) (unionAt old (driving (t .offsets) (t .links) v))
       ≡ answered (pattern .ends) (pattern .starts) (host .ends) (host .starts) old u v
   backward-answered old u v h l =
-      rw (p .pred, p .driven v l) (subset-answered n (pattern .ends) (pattern .starts) (host .ends) (host .starts) old u v (below-word (pattern .starts) (p .starts)) h)
+      rw (p .masked .pred, p .net .drivenBy v l) (subset-answered 32 (pattern .ends) (pattern .starts) (host .ends) (host .starts) old u v (below-word (pattern .starts) (p .starts)) (lt-of-lt-of-le h (p .parts)))
 
   node-row : (old : List ℕ) (v : ℕ) → v < length (host .kinds) → getD old v 0 < 2 ^ n
       → strikeNode t old v ≡ numberOf n (λ u. inTable old u v && supported pattern host old u v)
   unfolding strikeNode survivors supported inTable
   node-row old v l small =
-      let f = unionAt old (stretch (t .forwardOffsets) (t .forward) v) in
-      let b = unionAt old (stretch (t .backwardOffsets) (t .backward) v) in
-      let kept : ℕ → Bool = λ u. bit (getD old v 0) u && (subsetOf (getD (t .succ) u 0) f && subsetOf (getD (t .pred) u 0) b) in
-      sym (number-wider n 32 kept (p .parts) (λ u h k. ap (λ (x : Bool). x && (subsetOf (getD (t .succ) u 0) f && subsetOf (getD (t .pred) u 0) b)) (bit-above n (getD old v 0) u small h)))
+      let f = unionAt old (driven (t .offsets) (t .links) v) in
+      let b = unionAt old (driving (t .offsets) (t .links) v) in
+      let kept : ℕ → Bool = λ u. bit (getD old v 0) u && (subsetOf (getD (succOf (t .masks)) u 0) f && subsetOf (getD (predOf (t .masks)) u 0) b) in
+      sym (number-wider n 32 kept (p .parts) (λ u h k. ap (λ (x : Bool). x && (subsetOf (getD (succOf (t .masks)) u 0) f && subsetOf (getD (predOf (t .masks)) u 0) b)) (bit-above n (getD old v 0) u small h)))
       ∙ number-same n kept (λ u. bit (getD old v 0) u && supported pattern host old u v)
       (λ u h. ap₂ (λ (x y : Bool). bit (getD old v 0) u && (x && y)) (forward-answered old u v h l) (backward-answered old u v h l))
 
@@ -138,6 +141,19 @@ start-row pattern host nodes =
     (λ v. cond (inside (marksOf (length (host .kinds)) nodes) v) (numberOf (length (pattern .kinds)) (λ u. agrees pattern host u v)) 0)
     (λ v h.
     ap (λ (b : Bool). cond b (numberOf (length (pattern .kinds)) (λ u. agrees pattern host u v)) 0) (sym (inside-marks (length (host .kinds)) nodes v h)))
+
+-- a table to begin with is empty outside the list
+pub begins-cleared :
+    {pattern host : Circuit} (nodes : List ℕ) {first : List ℕ} → Begins pattern host (marksOf (length (host .kinds)) nodes) first → Cleared nodes first
+unfolding Cleared inTable hostGraph
+begins-cleared {pattern} {host} nodes {first} b v h e =
+    let marks : List ℕ = marksOf (length (host .kinds)) nodes in
+    same-bits (getD first v 0) 0
+    (λ u.
+    T-false
+    (λ m.
+    false-T (inside-marks (length (host .kinds)) nodes v (rw (b .long) at h) ∙ e) (start-in pattern host marks u v .0 (b .within u v m) .node .marked))
+    ∙ sym (bit-of-zero u))
 
 -- ---- the row
 

@@ -5,10 +5,11 @@ use Prim.Native.Nat.{ℕ, _+_, _-_, _≤_, _<_}
 use native.Mathlib.Numerals.{add-one}
 use native.Mathlib.Omega.{arith}
 use lib.ListN.{length, getD, take, drop}
-use Rattle.graph.specs.Neighbours.{stretch, NeighbourTable}
+use Rattle.graph.specs.Neighbours.{stretch}
+use Rattle.graph.specs.Net.{Stretches}
 use Rattle.graph.proofs.Lookup as lookup
 
-module _ {n : ℕ} {offsets table : List ℕ} (t : NeighbourTable n offsets table) {v : ℕ} (h : v < n) where
+module _ {n : ℕ} {offsets table : List ℕ} (t : Stretches n offsets table) {v : ℕ} (h : v < n) where
   pub offsets-rise : getD offsets v 0 ≤ getD offsets (v + 1) 0
   offsets-rise = rw add-one (t .rising v h)
 

@@ -1,7 +1,7 @@
 // The match table, by striking pairs in rounds.
 
+pub mod first;
 pub mod largest;
-mod start;
 mod strike;
 
 // The pairs at first, those left and those struck, and how many rounds struck a pair.
@@ -9,5 +9,11 @@ pub struct Counts {
     pub started: u32,
     pub kept: u32,
     pub struck: u32,
+    pub rounds: u32,
+}
+
+// Where the rounds end: the pairs left, and how many rounds struck a pair.
+pub struct Rest {
+    pub kept: u32,
     pub rounds: u32,
 }

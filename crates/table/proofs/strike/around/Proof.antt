@@ -1,12 +1,11 @@
 -- `table::strike::around` meets its contract: what lies between a node's two offsets is its stretch. Assumes nothing.
 use mathlib.Core.Path.{sym, ap, _∙_}
-use Prim.Native.Nat.{_+_, _-_, _≤_}
+use Prim.Native.Nat.{_+_, _≤_}
 use native.Mathlib.Omega.{arith}
 use borrow.Author.Needs.{needs}
 use denote.Ref.{now}
-use lib.ListN.{length, getD, drop}
+use lib.ListN.{length, getD}
 use Rattle.base_bits.specs.Bits.{unionAt}
-use Rattle.graph.proofs.Below.{below-drop, below-take}
 use Rattle.table.proofs.StrikeStretch.{offsets-rise, offsets-end, stretch-part}
 use Rattle.table.proofs.strike.around.Statement.{statement}
 use Rattle.table.proofs.strike.around.Tie as tie
@@ -56,11 +55,9 @@ part-reach-end c = omega (arith, ordered c, c .shared-slice-known5 .given (c .be
 reach-requires : tie.Need-reach-requires
 reach-requires c κs =
     let start = c .before .before .before .before .before .before in
-    let n = length (now (start .args .sets)) in
-    let links = now (start .args .links) in
-    let from = getD (now (start .args .offsets)) (start .args .v) 0 in
-    let to = getD (now (start .args .offsets)) (start .args .v + 1) 0 in
-    below-take n (drop from links) (to - from) (below-drop n links from (start .pre .0 .nodes))
+    let t = start .pre .0 in
+    let h = start .pre .1 in
+    rw (stretch-part t h) at (t .nodes _ h)
 
 returns : tie.Need-returns
 returns c =

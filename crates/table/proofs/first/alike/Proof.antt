@@ -1,4 +1,4 @@
--- `table::start::alike` meets its contract. The loop's invariant: the set so far is that of the parts before u. The measure is how many
+-- `table::first::alike` meets its contract. The loop's invariant: the set so far is that of the parts before u. The measure is how many
 -- parts are left. Assumes nothing.
 use mathlib.Core.Logic.{⊎-elim}
 use mathlib.Core.Path.{_≡_, refl, ap, ap₂, _∙_}
@@ -12,8 +12,8 @@ use lib.Dec.{eqb}
 use lib.ListN.{length, getD}
 use Rattle.base_bits.specs.Bits.{numberOf}
 use Rattle.base_bits.proofs.Numbers.{number-insert, number-skip}
-use Rattle.table.proofs.start.alike.Statement.{statement}
-use Rattle.table.proofs.start.alike.Tie as tie
+use Rattle.table.proofs.first.alike.Statement.{statement}
+use Rattle.table.proofs.first.alike.Tie as tie
 
 abbrev Inv-loop : tie.InvT-loop
 Inv-loop part-kinds kind set₀ u₀ set u = (u ≤ length part-kinds) × (set ≡ numberOf u (λ x. eqb (getD part-kinds x 0) kind))

@@ -1,12 +1,13 @@
-// The first table: each node's parts of the same kind.
+// First tables, which striking begins with: each node's parts of the same kind, or what another table has.
+use base_bits::clear;
 ghost use mathlib.Core.Path.{_≡_};
 ghost use Prim.Native.Nat.{_≤_};
 ghost use lib.Dec.{eqb};
 ghost use lib.ListN.{length, getD};
 ghost use Rattle.base_bits.specs.Bits.{numberOf};
 ghost use Rattle.base_lists.specs.List.{Below};
-ghost use Rattle.table.specs.Fill.{Filled};
-ghost use Rattle.table.specs.Strike.{startNode};
+ghost use Rattle.table.specs.Fill.{NodeList};
+ghost use Rattle.table.specs.First.{startNode, Written};
 
 // The set of the parts of a kind.
 fn alike(part_kinds: &[u16], kind: u16) -> u32
@@ -24,14 +25,14 @@ fn alike(part_kinds: &[u16], kind: u16) -> u32
     set
 }
 
-// Writes at each node of the list its parts of the same kind, and returns how many pairs these are.
+// The table that has at each node of the list its parts of the same kind, and is empty elsewhere. Returns how many pairs it has.
 pub fn start(nodes: &[u16], part_kinds: &[u16], node_kinds: &[u16], table: &mut [u32]) -> u32
     requires { ⌜ length (now «part_kinds») ≤ 32 ⌝ }
-    requires { ⌜ length (now nodes) ≤ 65536 ⌝ }
-    requires { ⌜ Below (length (now table)) (now nodes) ⌝ }
+    requires { ⌜ NodeList (length (now table)) (now nodes) ⌝ }
     requires { ⌜ Below (length (now «node_kinds»)) (now nodes) ⌝ }
-    ensures { λ r. ⌜ Filled (startNode (now («part_kinds» .entry)) (now («node_kinds» .entry))) (now (nodes .entry)) (now (table .entry)) (now (table .exit)) r ⌝ }
+    ensures { λ r. ⌜ Written (length (now (table .entry))) (startNode (now («part_kinds» .entry)) (now («node_kinds» .entry))) (now (nodes .entry)) (now (table .exit)) r ⌝ }
 {
+    clear(table);
     let mut started: u32 = 0;
     let mut i = 0;
     while i < nodes.len() {
@@ -44,13 +45,13 @@ pub fn start(nodes: &[u16], part_kinds: &[u16], node_kinds: &[u16], table: &mut 
     started
 }
 
-// Writes at each node of the list the set that another table has there, and returns how many pairs these are.
+// The table that has at each node of the list the set that another table has there, and is empty elsewhere. Returns how many pairs it has.
 pub fn copy(nodes: &[u16], from: &[u32], table: &mut [u32]) -> u32
-    requires { ⌜ length (now nodes) ≤ 65536 ⌝ }
-    requires { ⌜ Below (length (now table)) (now nodes) ⌝ }
+    requires { ⌜ NodeList (length (now table)) (now nodes) ⌝ }
     requires { ⌜ Below (length (now from)) (now nodes) ⌝ }
-    ensures { λ r. ⌜ Filled (λ v. getD (now (from .entry)) v 0) (now (nodes .entry)) (now (table .entry)) (now (table .exit)) r ⌝ }
+    ensures { λ r. ⌜ Written (length (now (table .entry))) (λ v. getD (now (from .entry)) v 0) (now (nodes .entry)) (now (table .exit)) r ⌝ }
 {
+    clear(table);
     let mut copied: u32 = 0;
     let mut i = 0;
     while i < nodes.len() {
