@@ -17,7 +17,7 @@ use Rattle.table_row.specs.Row.{pairs, same, startOf, strikeOf, rowFrom,
 use Rattle.table_row.specs.Reading.{TableOf}
 use Rattle.table_row.proofs.Sets.{fits-word, pairs-progress, pairs-ones}
 use Rattle.table_row.proofs.Row.{start-fits, strike-fits, strike-inside, from-fits, row-fits}
-use Rattle.table_row.proofs.Rest.{Falls, FirstRest, falls-count, first-rest, count-first}
+use Rattle.table_row.proofs.Falling.{Falls, FirstRest, falls-count, first-rest, count-first}
 
 -- ---- the test whether two tables are the same
 

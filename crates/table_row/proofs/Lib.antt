@@ -1,7 +1,7 @@
 pub mod Tests
 pub mod Sets
 pub mod Row
-pub mod Rest
+pub mod Falling
 pub mod Counting
 pub mod Meaning
 pub mod Wider

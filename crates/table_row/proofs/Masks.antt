@@ -77,7 +77,7 @@ module _ {D : Type 0} (p : Problem D) (most : p .parts ≤ 32) (within : StepsWi
   pub mask-bit : (d : D) (u y : ℕ) → u < p .parts → bit (getD (maskOf p d) u 0) y ≡ listed (p .steps d u) y
   unfolding maskOf
   mask-bit d u y h =
-      ap (λ (s : ℕ). bit s y) (getD-tabulate (p .parts) (λ v. numberOf 32 (listed (p .steps d v))) u 0 h)
+      ap (λ (s : ℕ). bit s y) (getD-tabulate 32 (λ v. numberOf 32 (listed (p .steps d v))) u 0 (lt-of-lt-of-le h most))
       ∙ bit-number-all 32 (listed (p .steps d u)) (λ v k. T-false (λ t. not-le-of-lt (listed-below 32 (p .steps d u) v (below-word d u h) t) k)) y
 
   -- the mask of part u is within the union over the moves of node v when each step from u has a partner there

@@ -14,9 +14,9 @@ use Rattle.table_row.specs.Row.{every}
 unfoldable pub listed : List ℕ → ℕ → Bool
 listed nodes v = any (λ w. eqb w v) nodes
 
--- for each part the set of the parts that it steps to by a label
+-- for each of 32 parts the set of the parts that it steps to by a label
 unfoldable pub maskOf : {D : Type 0} → Problem D → D → List ℕ
-maskOf p d = tabulate (p .parts) (λ u. numberOf 32 (listed (p .steps d u)))
+maskOf p d = tabulate 32 (λ u. numberOf 32 (listed (p .steps d u)))
 
 -- the mask of part u is within the union over the moves of node v
 unfoldable pub covered : {D : Type 0} → Problem D → List ℕ → ℕ → ℕ → D → Bool
