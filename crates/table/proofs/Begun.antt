@@ -13,6 +13,7 @@ use Rattle.graph.specs.Circuit.{Circuit}
 use Rattle.table_row.specs.Row.{startedOf, struckOf}
 use Rattle.table_row.specs.Reading.{InTable}
 use Rattle.table_row.proofs.Sets.{in-node, fits-node}
+use Rattle.table_row.proofs.Begin.{start-begins}
 use Rattle.table.specs.declared.Rest.{Rest}
 use Rattle.table.specs.Fill.{listed, marksOf, tableAt}
 use Rattle.table.specs.First.{Begins, startNode, Written}
@@ -36,6 +37,9 @@ module _ (pattern host : Circuit) (nodes : List ℕ) {n : ℕ} (long : n ≡ len
     -- they are the first table of the row,
     pub started-table : first ≡ startTable pattern host marks
     started-table = w .made ∙ ap (λ (m : ℕ). tableAt m (startNode (pattern .kinds) (host .kinds)) nodes) long ∙ start-row pattern host nodes
+
+    pub started-begins : Begins pattern host marks first
+    started-begins = rw started-table (start-begins (matching pattern host marks))
 
     -- and its pairs are those at first
     pub started-count : count ≡ started pattern host marks

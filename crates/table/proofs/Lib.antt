@@ -13,7 +13,6 @@ pub mod Masks
 pub mod Prepare
 pub mod Examples
 mod StrikeSets
-mod StrikeStretch
 mod StrikeRow
 mod StrikeRounds
 pub mod Begun

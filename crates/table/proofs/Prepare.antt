@@ -2,7 +2,9 @@
 use mathlib.Core.List.{List}
 use mathlib.Core.Path.{_≡_, ap, subst, _∙_}
 use Prim.Native.Nat.{ℕ}
+use native.Mathlib.Omega.{arith}
 use lib.ListN.{length}
+use Rattle.base_lists.proofs.Parts.{halved, part-first, part-second, length-halved}
 use Rattle.graph.specs.Circuit.{Circuit}
 use Rattle.graph.specs.Net.{NetOf}
 use Rattle.graph.proofs.Groups.{all-below}
@@ -13,8 +15,21 @@ use Rattle.table.specs.declared.Counts.{Counts}
 use Rattle.table.specs.Fill.{marksOf, allNodes}
 use Rattle.table.specs.Host.{everything}
 use Rattle.table.specs.Refine.{Refined, MatchedOn}
-use Rattle.table.specs.Prepared.{Masked, Tables, Prepared}
+use Rattle.table.specs.Prepared.{masksOf, Masked, Tables, Prepared}
 use Rattle.table.proofs.NodeLists.{all-marks}
+use Rattle.table.proofs.PreparedMasks.{length-masks}
+
+-- A list of masks that is filled in two halves, each by the masks of the links followed in one direction.
+pub masked : (starts ends old : List ℕ) {xs ys : List ℕ} → length old ≡ 64 → xs ≡ masksOf 32 starts ends → ys ≡ masksOf 32 ends starts
+    → Masked starts ends (halved 32 xs ys old)
+masked starts ends old {xs} {ys} room isSucc isPred =
+    let first : length xs ≡ 32 = ap length isSucc ∙ length-masks 32 starts ends in
+    let second : length ys ≡ 32 = ap length isPred ∙ length-masks 32 ends starts in
+    record {
+      room = length-halved 32 xs ys old first second (omega arith) ∙ room;
+      succ = part-first 32 xs ys old first ∙ isSucc;
+      pred = part-second 32 xs ys old first second ∙ isPred;
+    }
 
 -- Masks and neighbour tables as `prepare` leaves them are those of the pattern and the circuit.
 pub prepared :

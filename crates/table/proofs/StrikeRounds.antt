@@ -16,6 +16,7 @@ use Rattle.base_bits.specs.Bits.{bit, Subset}
 use Rattle.base_bits.proofs.Digits.{bit-of-zero}
 use Rattle.base_bits.proofs.Numbers.{subset-le}
 use Rattle.graph.specs.Circuit.{Circuit}
+use Rattle.graph.proofs.Net.{net-of}
 use Rattle.simulation.specs.Simulation.{Direction}
 use Rattle.table_row.specs.Problem.{Problem}
 use Rattle.table_row.specs.Row.{rowFrom, rowOf, keptOf}
@@ -66,9 +67,7 @@ module _ (t : Tables) (nodes old : List ℕ) where
   strike-ready r =
       record {
         masks = r .masks;
-        room = r .room;
-        forward = rw length-strike (r .forward);
-        backward = rw length-strike (r .backward);
+        net = rw length-strike (r .net);
         small = λ v. strike-smaller (2 ^ 32) v (r .small v);
       }
 
@@ -147,9 +146,7 @@ module _ {pattern host : Circuit} {t : Tables} (p : Prepared pattern host t) (no
         ready =
             record {
               masks = p .masked .room;
-              room = p .net .room;
-              forward = rw (b .long) (p .net .forward);
-              backward = rw (b .long) (p .net .backward);
+              net = rw (b .long) (net-of (p .net));
               small = fits-word (p .parts) (begins-fits (matching pattern host (marksOf (length (host .kinds)) nodes)) b);
             };
         cleared = begins-cleared pattern host nodes b;

@@ -9,7 +9,7 @@ use Rattle.base_lists.specs.List.{tabulate, part, Below}
 use Rattle.base_bits.specs.Bits.{numberOf}
 use Rattle.graph.specs.Circuit.{Circuit}
 use Rattle.graph.specs.Neighbours.{select}
-use Rattle.graph.specs.Net.{NetRoom, NetOf, Stretches, forwardOffsets, backwardOffsets, forwardLinks, backwardLinks}
+use Rattle.graph.specs.Net.{Net, NetOf}
 use Rattle.table.specs.Fill.{listed}
 
 -- For each of n parts the set of the values that stand beside it as a key: the parts that it drives (keys the starts), or those that
@@ -43,9 +43,7 @@ tables masks offsets links = record { masks = masks; offsets = offsets; links = 
 -- What a table of sets needs: 64 masks, neighbour tables over the nodes of the table of sets, and sets of 32 bits.
 pub record Ready (t : Tables) (old : List ℕ) : Type 0 where
   pub masks : length (t .masks) ≡ 64
-  pub room : NetRoom (t .offsets) (t .links)
-  pub forward : Stretches (length old) (forwardOffsets (t .offsets)) (forwardLinks (t .links))
-  pub backward : Stretches (length old) (backwardOffsets (t .offsets)) (backwardLinks (t .links))
+  pub net : Net (length old) (t .offsets) (t .links)
   pub small : (v : ℕ) → getD old v 0 < 2 ^ 32
 
 -- The tables are those of a pattern and of a graph: the masks are made of the pattern's links, and a node's two stretches are what it

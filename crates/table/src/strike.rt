@@ -1,11 +1,11 @@
 // One round of striking. A part stays at a node when each part that it drives occurs at some node that the node drives, and the same
 // backward. Which parts occur there is one union of sets for each direction, so a round looks at each link twice and at each pair once.
+use graph_neighbours::neighbours::Direction;
+use graph_neighbours::neighbours::neighbours_in;
 ghost use mathlib.Core.Path.{_≡_};
 ghost use Prim.Native.Nat.{_^_, _≤_, _<_};
 ghost use lib.ListN.{length};
 ghost use Rattle.base_bits.specs.Bits.{unionAt};
-ghost use Rattle.graph.specs.Neighbours.{stretch};
-ghost use Rattle.graph.specs.Net.{Stretches};
 ghost use Rattle.base_lists.specs.List.{Below};
 ghost use Rattle.table.specs.Fill.{Filled};
 ghost use Rattle.table.specs.Prepared.{tables, Ready};
@@ -47,18 +47,6 @@ fn surviving(set: u32, succ: &[u32], pred: &[u32], f: u32, b: u32) -> u32
     kept
 }
 
-// The union of the sets of node v's neighbours in one direction.
-fn around(offsets: &[u16], links: &[u16], sets: &[u32], v: usize) -> u32
-    requires { ⌜ Stretches (length (now sets)) (now offsets) (now links) ⌝ }
-    requires { ⌜ v < length (now sets) ⌝ }
-    ensures { λ r. ⌜ r ≡ unionAt (now (sets .entry)) (stretch (now (offsets .entry)) (now (links .entry)) v) ⌝ }
-{
-    let next = v + 1;
-    let from = offsets[v] as usize;
-    let to = offsets[next] as usize;
-    reach(&links[from..to], sets)
-}
-
 // The next set of node v.
 fn strike_node(masks: &[u32], offsets: &[u16], links: &[u16], old: &[u32], v: usize) -> u32
     requires { ⌜ Ready (tables (now masks) (now offsets) (now links)) (now old) ⌝ }
@@ -69,8 +57,8 @@ fn strike_node(masks: &[u32], offsets: &[u16], links: &[u16], old: &[u32], v: us
     if set == 0 {
         return 0;
     }
-    let f = around(&offsets[..513], &links[..4096], old, v);
-    let b = around(&offsets[513..1026], &links[4096..8192], old, v);
+    let f = reach(neighbours_in(Direction::Forward, offsets, links, v), old);
+    let b = reach(neighbours_in(Direction::Backward, offsets, links, v), old);
     surviving(set, &masks[..32], &masks[32..64], f, b)
 }
 

@@ -7,17 +7,17 @@ use table::largest::refine;
 use table_prepare::lookups::prepare;
 use table_prepare::nodes::list_all;
 ghost use mathlib.Core.Path.{_≡_};
-ghost use Prim.Native.Nat.{_≤_};
 ghost use lib.ListN.{length};
 ghost use Rattle.file_format.specs.Circuit.{Bounded};
 ghost use Rattle.file_format.specs.declared.Role.the-variants as role;
 ghost use Rattle.graph.specs.Circuit.{Circuit, circuit};
 ghost use Rattle.graph.specs.Net.{NetRoom};
 ghost use Rattle.table.specs.Refine.{MatchedOn};
+ghost use Rattle.table_whole.specs.Kinds.{SomeLinks, EveryMatched};
 ghost use Rattle.table.specs.Prepared.{tables, Prepared};
 
 // The largest dual simulation of a pattern in a board, from prepared masks and neighbour tables. The list of all nodes and the second table of
-// sets are scratch with room for every board.
+// sets are scratch.
 fn match_prepared(
     part_kinds: &[u16],
     node_kinds: &[u16],
@@ -28,22 +28,13 @@ fn match_prepared(
     nodes: &mut [u16],
     spare: &mut [u32],
 ) -> Counts
-    requires { ⌜ (length (now table) ≡ length (now «node_kinds»)) × (length (now «node_kinds») ≤ 512) × (length (now nodes) ≡ 512) × (length (now spare) ≡ 512) ⌝ }
     requires { ⌜ SomeLinks (now «part_kinds») (now «node_kinds») (tables (now masks) (now offsets) (now links)) ⌝ }
-    ensures { λ r. ⌜ EveryLinks (now («part_kinds» .entry)) (now («node_kinds» .entry)) (tables (now (masks .entry)) (now (offsets .entry)) (now (links .entry))) (now (table .exit)) r ⌝ }
+    requires { ⌜ (length (now table) ≡ length (now «node_kinds»)) × (length (now nodes) ≡ length (now «node_kinds»)) × (length (now spare) ≡ length (now «node_kinds»)) ⌝ }
+    ensures { λ r. ⌜ EveryMatched (now («part_kinds» .entry)) (now («node_kinds» .entry)) (tables (now (masks .entry)) (now (offsets .entry)) (now (links .entry))) (now (table .exit)) r ⌝ }
 {
-    let n = node_kinds.len();
-    list_all(&mut nodes[..n]);
-    let started = start(&nodes[..n], part_kinds, node_kinds, table);
-    let end = refine(
-        &nodes[..n],
-        masks,
-        offsets,
-        links,
-        table,
-        &mut spare[..n],
-        started,
-    );
+    list_all(nodes);
+    let started = start(nodes, part_kinds, node_kinds, table);
+    let end = refine(nodes, masks, offsets, links, table, spare, started);
     counted(started, end)
 }
 
@@ -62,16 +53,18 @@ pub fn prepare_and_match(
 ) -> Counts
     ghost { Circuit × Circuit }
     requires { λ α. ⌜ (circuit (now «part_kinds») (now «part_starts») (now «part_ends»), circuit (now «node_kinds») (now «node_starts») (now «node_ends»)) ≡ α ⌝ }
-    requires { λ α. ⌜ Bounded role.Pattern (α .0) × Bounded role.Board (α .1) ⌝ }
-    requires { ⌜ length (now table) ≡ length (now «node_kinds») ⌝ }
-    requires { ⌜ (length (now masks) ≡ 64) × NetRoom (now offsets) (now links) ⌝ }
+    requires { λ α. ⌜ Bounded role.Pattern (α .0) ⌝ }
+    requires { λ α. ⌜ Bounded role.Board (α .1) ⌝ }
+    requires { λ α. ⌜ length (now table) ≡ length (now «node_kinds») ⌝ }
+    requires { λ α. ⌜ (length (now masks) ≡ 64) × NetRoom (now offsets) (now links) ⌝ }
     ensures { λ α r. ⌜ MatchedOn (α .0) (α .1) (now (table .exit)) r ⌝ }
     ensures { λ α r. ⌜ Prepared (α .0) (α .1) (tables (now (masks .exit)) (now (offsets .exit)) (now (links .exit))) ⌝ }
 {
     let mut nodes = [0u16; Board::MAX_NODES];
     let mut spare = [0u32; Board::MAX_NODES];
+    let n = node_kinds.len();
     prepare(
-        node_kinds.len(),
+        n,
         part_starts,
         part_ends,
         node_starts,
@@ -87,8 +80,8 @@ pub fn prepare_and_match(
         offsets,
         links,
         table,
-        &mut nodes,
-        &mut spare,
+        &mut nodes[..n],
+        &mut spare[..n],
     )
 }
 
@@ -104,8 +97,9 @@ pub fn match_circuits(
 ) -> Counts
     ghost { Circuit × Circuit }
     requires { λ α. ⌜ (circuit (now «part_kinds») (now «part_starts») (now «part_ends»), circuit (now «node_kinds») (now «node_starts») (now «node_ends»)) ≡ α ⌝ }
-    requires { λ α. ⌜ Bounded role.Pattern (α .0) × Bounded role.Board (α .1) ⌝ }
-    requires { ⌜ length (now table) ≡ length (now «node_kinds») ⌝ }
+    requires { λ α. ⌜ Bounded role.Pattern (α .0) ⌝ }
+    requires { λ α. ⌜ Bounded role.Board (α .1) ⌝ }
+    requires { λ α. ⌜ length (now table) ≡ length (now «node_kinds») ⌝ }
     ensures { λ α r. ⌜ MatchedOn (α .0) (α .1) (now (table .exit)) r ⌝ }
 {
     let mut masks = [0u32; 64];

@@ -1,12 +1,13 @@
 -- `table::strike::strike_node` meets its contract. Of an empty set nothing survives, so that its neighbours need no look. Assumes nothing.
-use mathlib.Core.Path.{sym}
+use mathlib.Core.Path.{sym, ap, _∙_}
 use native.Mathlib.Omega.{arith}
 use borrow.Author.Needs.{needs}
 use denote.Ref.{now}
 use lib.ListN.{drop, length-drop}
 use lib.Seq.{length-take-le}
 use Rattle.base_lists.specs.List.{part}
-use Rattle.graph.specs.Net.{driven, driving}
+use Rattle.base_bits.specs.Bits.{unionAt}
+use Rattle.graph.proofs.Net.{driven-below, driving-below}
 use Rattle.table.specs.Prepared.{Tables, tables}
 use Rattle.table.proofs.StrikeSets.{strike-none, strike-unions}
 use Rattle.table.proofs.strike.strike_node.Statement.{statement}
@@ -26,60 +27,34 @@ returns c =
     let start = c .before .before .before .before .before .before in
     sym (strike-none (tablesOf start) (now (start .args .old)) (start .args .v) (c .if1 .taken))
 
--- ---- the parts of the three lists
-
 abbrev entry : tie.Else1 → tie.Start
 entry c = c .before .before .before .before .before .before
 
-slice-aggregate-around : tie.Need-slice-aggregate-around
-slice-aggregate-around c =
+-- ---- the unions over what the node drives and what drives it
+
+neighbours-in-requires : tie.Need-neighbours-in-requires
+neighbours-in-requires c κs = record { nodes = _; net = entry c .pre .0 .net; node = entry c .pre .1 }
+
+reach-requires : tie.Need-reach-requires
+reach-requires c κs =
     let start = entry (c .before) in
-    let room = start .pre .0 .room in
-    sym (length-take-le 513 (now (start .args .offsets)) (omega arith))
+    rw (c .neighbours-in .ensures) (driven-below (start .pre .0 .net) _ (start .pre .1))
 
-slice-aggregate-around-2 : tie.Need-slice-aggregate-around-2
-slice-aggregate-around-2 c =
+neighbours-in-requires-2 : tie.Need-neighbours-in-requires-2
+neighbours-in-requires-2 c κs =
     let start = entry (c .before .before) in
-    let room = start .pre .0 .room in
-    sym (length-take-le 4096 (now (start .args .links)) (omega arith))
+    record { nodes = _; net = start .pre .0 .net; node = start .pre .1 }
 
-around-requires : tie.Need-around-requires
-unfolding part
-around-requires c κs =
-    let start = entry (c .before .before) in
-    (start .pre .0 .forward, start .pre .1)
+reach-requires-2 : tie.Need-reach-requires-2
+reach-requires-2 c κs =
+    let start = entry (c .before .before .before) in
+    rw (c .neighbours-in2 .ensures) (driving-below (start .pre .0 .net) _ (start .pre .1))
 
-sub-around : tie.Need-sub-around
-sub-around c = search needs
-
-part-around-start : tie.Need-part-around-start
-part-around-start c = search needs
-
-part-around-end : tie.Need-part-around-end
-part-around-end c =
-    let room = entry (c .before .before .before) .pre .0 .room in
-    omega arith
-
-sub-around-2 : tie.Need-sub-around-2
-sub-around-2 c = search needs
-
-part-around-start-2 : tie.Need-part-around-start-2
-part-around-start-2 c = search needs
-
-part-around-end-2 : tie.Need-part-around-end-2
-part-around-end-2 c =
-    let room = entry (c .before .before .before .before) .pre .0 .room in
-    omega arith
-
-around-requires-2 : tie.Need-around-requires-2
-unfolding part
-around-requires-2 c κs =
-    let start = entry (c .before .before .before .before .before) in
-    (start .pre .0 .backward, start .pre .1)
+-- ---- the two halves of the masks
 
 slice-aggregate-surviving : tie.Need-slice-aggregate-surviving
 slice-aggregate-surviving c =
-    let start = entry (c .before .before .before .before .before .before .before) in
+    let start = entry (c .before .before .before .before .before) in
     let long = start .pre .0 .masks in
     sym (length-take-le 32 (now (start .args .masks)) (omega arith))
 
@@ -90,13 +65,11 @@ part-surviving-start : tie.Need-part-surviving-start
 part-surviving-start c = search needs
 
 part-surviving-end : tie.Need-part-surviving-end
-part-surviving-end c =
-    let masks = entry (c .before .before .before .before .before .before .before) .pre .0 .masks in
-    omega arith
+part-surviving-end c = search needs
 
 surviving-requires : tie.Need-surviving-requires
 surviving-requires c κs =
-    let start = entry (c .before .before .before .before .before .before .before .before) in
+    let start = entry (c .before .before .before .before .before .before) in
     let masks = now (start .args .masks) in
     let long = start .pre .0 .masks in
     let small = start .pre .0 .small (start .args .v) in (
@@ -105,12 +78,14 @@ surviving-requires c κs =
     )
 
 returns-2 : tie.Need-returns-2
-unfolding part driven driving
+unfolding part
 returns-2 c =
     let back = c .before .before .before in
-    let out = back .before .before .before in
-    let start = entry (out .before .before .before) in
-    strike-unions (tablesOf start) (now (start .args .old)) (start .args .v) (out .around .ensures) (back .around2 .ensures) (c .surviving .ensures)
+    let out = back .before .before in
+    let start = entry (out .before .before) in
+    let old = now (start .args .old) in
+    strike-unions (tablesOf start) old (start .args .v) (out .reach .ensures ∙ ap (unionAt old) (out .before .neighbours-in .ensures))
+    (back .reach2 .ensures ∙ ap (unionAt old) (back .before .neighbours-in2 .ensures)) (c .surviving .ensures)
 
 pub strike-node-spec : {M : Type 1} → statement M
 strike-node-spec =
@@ -119,16 +94,10 @@ strike-node-spec =
     mul-set
     shared-slice-read-set
     returns
-    slice-aggregate-around
-    slice-aggregate-around-2
-    around-requires
-    sub-around
-    part-around-start
-    part-around-end
-    sub-around-2
-    part-around-start-2
-    part-around-end-2
-    around-requires-2
+    neighbours-in-requires
+    reach-requires
+    neighbours-in-requires-2
+    reach-requires-2
     slice-aggregate-surviving
     sub-surviving
     part-surviving-start

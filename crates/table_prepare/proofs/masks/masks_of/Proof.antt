@@ -1,4 +1,4 @@
--- `table_prepare::masks::masks` meets its contract. The loop's invariant: the links that are left, added to the sets so far, make the masks.
+-- `table_prepare::masks::masks_of` meets its contract. The loop's invariant: the links that are left, added to the sets so far, make the masks.
 -- The measure is how many are left. Assumes nothing.
 use mathlib.Core.Path.{_≡_, refl, sym, ap, _∙_}
 use Prim.Native.Nat.{ℕ, _+_, _-_, _≤_, _<_}
@@ -10,8 +10,8 @@ use lib.ListN.{length, getD, drop, set, length-set}
 use Rattle.base_lists.specs.List.{Below}
 use Rattle.table.specs.Prepared.{masksOf}
 use Rattle.table.proofs.Masks.{addLinks, add-next, add-end, add-masks}
-use Rattle.table_prepare.proofs.masks.masks.Statement.{statement}
-use Rattle.table_prepare.proofs.masks.masks.Tie as tie
+use Rattle.table_prepare.proofs.masks.masks_of.Statement.{statement}
+use Rattle.table_prepare.proofs.masks.masks_of.Tie as tie
 
 abbrev Inv-loop : tie.InvT-loop
 Inv-loop keys values out₀ i₀ out i =
@@ -112,5 +112,5 @@ returns c =
     ∙ loop .loop .inv .2
     ∙ ap (λ (n : ℕ). masksOf n (now (a .keys)) (now (a .values))) (loop .before .before .before .clear .kept .0)
 
-pub masks-spec : {M : Type 1} → statement M
-masks-spec = tie.close (tie.spec Inv-loop μ-loop clear-requires loop-holds mul-u shared-slice-read-u cast-u mul-out slice-read-out mul-single shared-slice-read-single cast-single single-requires mul-out-2 slice-write-out add-i loop-less loop-again same-length returns)
+pub masks-of-spec : {M : Type 1} → statement M
+masks-of-spec = tie.close (tie.spec Inv-loop μ-loop clear-requires loop-holds mul-u shared-slice-read-u cast-u mul-out slice-read-out mul-single shared-slice-read-single cast-single single-requires mul-out-2 slice-write-out add-i loop-less loop-again same-length returns)
