@@ -1,14 +1,20 @@
 -- The row of a pattern on a circuit comes to rest at its last set, and the four counts say how: table_row's laws, for at most 32 parts.
 -- Assumes nothing.
 use mathlib.Core.List.{List, map}
-use mathlib.Core.Path.{_≡_}
-use Prim.Native.Nat.{ℕ, _+_, _≤_}
+use mathlib.Core.Path.{_≡_, refl}
+use Prim.Native.Nat.{ℕ, _+_, _-_, _≤_}
 use lib.Count.{ones}
 use lib.ListN.{length}
 use Rattle.base_lists.specs.List.{sum}
 use Rattle.graph.specs.Circuit.{Circuit}
+use Rattle.table_row.specs.Row.{struckOf}
 use Rattle.table_row.proofs.Counting as Of
 use Rattle.table.specs.Row.{matching, startTable, row, lastTable, started, kept, struck, rounds}
+
+-- "struck, started minus kept"
+pub struck-minus : (pattern host : Circuit) (taken : List ℕ) → struck pattern host taken ≡ started pattern host taken - kept pattern host taken
+unfolding struckOf
+struck-minus pattern host taken = refl
 
 module _ (pattern host : Circuit) (taken : List ℕ) (most : length (pattern .kinds) ≤ 32) where
   -- "The last set of this row": the row rests from `started` on.
