@@ -35,7 +35,7 @@ module _ (pattern host : Circuit) (taken : List ℕ) (most : length (pattern .ki
   unfolding matching
   rounds-struck = Of.rounds-struck (matching pattern host taken) most
 
-  -- "rounds, how many sets differ from the one before": each set up to there does, and there the row has come to its last
+  -- after `rounds` steps the row has come to its last set
   pub rounds-last : (k : ℕ) → rounds pattern host taken ≤ k → row pattern host taken k ≡ lastTable pattern host taken
   unfolding matching
   rounds-last = Of.rounds-last (matching pattern host taken) most

@@ -13,6 +13,7 @@ use Rattle.simulation.specs.Simulation.{Direction, forwards, backwards}
 use Rattle.table_row.specs.Problem.{Problem}
 use Rattle.table_row.specs.Row.{startOf, strikeOf, rowOf, startedOf, lastOf, keptOf, struckOf, roundsOf}
 unfoldable pub use Rattle.table_row.specs.Row.{inTable, pairs}
+pub use Rattle.table_row.specs.Reading.{InTable}
 
 -- ---- the problem
 
