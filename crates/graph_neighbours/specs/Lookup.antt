@@ -12,6 +12,6 @@ neighboursOf Forward fo ft bo bt v = stretch fo ft v
 neighboursOf Backward fo ft bo bt v = stretch bo bt v
 
 -- the same of tables that are handed on as two lists
-abbrev pub neighboursIn : Direction → List ℕ → List ℕ → ℕ → List ℕ
+unfoldable pub neighboursIn : Direction → List ℕ → List ℕ → ℕ → List ℕ
 neighboursIn Forward offsets links v = driven offsets links v
 neighboursIn Backward offsets links v = driving offsets links v

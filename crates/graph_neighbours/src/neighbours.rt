@@ -5,6 +5,10 @@ ghost use lib.ListN.{length, getD};
 ghost use Rattle.graph.specs.Neighbours.{stretch};
 ghost use Rattle.graph.specs.Net.{NodeOf};
 ghost use Rattle.graph_neighbours.specs.Lookup.{neighboursOf, neighboursIn};
+use crate::tables::FORWARD_LINKS;
+use crate::tables::FORWARD_OFFSETS;
+use crate::tables::LINKS;
+use crate::tables::OFFSETS;
 
 // Which neighbours of a node are meant: what it drives, or what drives it.
 pub enum Direction {
@@ -57,9 +61,9 @@ fn sound_stretch<'a>(offsets: &[u16], table: &'a [u16], v: usize) -> &'a [u16]
     requires { ⌜ (suc v < length (now offsets)) × (getD (now offsets) v 0 ≤ getD (now offsets) (suc v) 0) × (getD (now offsets) (suc v) 0 ≤ length (now table)) ⌝ }
     ensures { λ r. ⌜ now r ≡ stretch (now (offsets .entry)) (now (table .entry)) v ⌝ }
 {
-    let next = v + 1;
+    let end = v + 1;
     let from = offsets[v] as usize;
-    let to = offsets[next] as usize;
+    let to = offsets[end] as usize;
     &table[from..to]
 }
 
@@ -74,7 +78,15 @@ pub fn neighbours_in<'a>(
     ensures { λ r. ⌜ now r ≡ neighboursIn direction (now (offsets .entry)) (now (links .entry)) v ⌝ }
 {
     match direction {
-        Direction::Forward => sound_stretch(&offsets[0..513], &links[0..4096], v),
-        Direction::Backward => sound_stretch(&offsets[513..1026], &links[4096..8192], v),
+        Direction::Forward => sound_stretch(
+            &offsets[0..FORWARD_OFFSETS],
+            &links[0..FORWARD_LINKS],
+            v,
+        ),
+        Direction::Backward => sound_stretch(
+            &offsets[FORWARD_OFFSETS..OFFSETS],
+            &links[FORWARD_LINKS..LINKS],
+            v,
+        ),
     }
 }

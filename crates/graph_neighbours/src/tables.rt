@@ -8,6 +8,15 @@ ghost use Rattle.base_lists.specs.List.{all};
 ghost use Rattle.graph.specs.Net.{NetRoom, NetOf};
 use crate::group::group;
 
+// The entries of the two lists, and how many of them are the forward table's: room for 512 nodes and for 4,096 links each way.
+pub const OFFSETS: usize = 1026;
+
+pub const LINKS: usize = 8192;
+
+pub const FORWARD_OFFSETS: usize = 513;
+
+pub const FORWARD_LINKS: usize = 4096;
+
 // Fills the tables of n nodes whose links go from `starts` to `ends`.
 pub fn neighbour_tables(
     n: usize,
@@ -22,7 +31,13 @@ pub fn neighbour_tables(
     requires { ⌜ T (all (λ v. ltb v n) (now starts)) × T (all (λ v. ltb v n) (now ends)) ⌝ }
     ensures { λ _. ⌜ NetOf n (now (starts .entry)) (now (ends .entry)) (now (offsets .exit)) (now (links .exit)) ⌝ }
 {
-    group(n, starts, ends, &mut offsets[..513], &mut links[..4096]);
+    group(
+        n,
+        starts,
+        ends,
+        &mut offsets[..FORWARD_OFFSETS],
+        &mut links[..FORWARD_LINKS],
+    );
     group(
         n,
         ends,

@@ -1,11 +1,12 @@
 -- The lines and their items piece by piece, as the program puts them. Assumes nothing.
 use mathlib.Core.Bool.{true, false}
-use mathlib.Core.List.{List, [], _++_, append-assoc}
+use mathlib.Core.List.{List, [], _∷_, _++_, append-assoc}
 use mathlib.Core.Path.{_≡_}
-use Prim.Native.Nat.{ℕ}
-use lib.ListN.{getD}
+use Prim.Native.Nat.{ℕ, _+_, _≤_}
+use native.Mathlib.Omega.{arith}
+use lib.ListN.{length, getD, length-append}
 use Rattle.base_bits.specs.Bits.{intersects, unionOver}
-use Rattle.base_text.specs.Text.{bytes, decimal}
+use Rattle.base_text.specs.Text.{bytes, decimal, Fits}
 use Rattle.graph.specs.Neighbours.{stretch}
 use Rattle.file_format.specs.declared.Refusal.{Refusal}
 use Rattle.place.specs.Bytes.{drivenBy}
@@ -31,6 +32,12 @@ link-apart driven set v w e = rw e
 pub link-meets : (driven set v w : ℕ) → intersects driven set ≡ true → linkText driven set v w ≡ bytes " " ++ (decimal v ++ (bytes "-" ++ decimal w))
 unfolding linkText linkItem
 link-meets driven set v w e = rw e (simp append-assoc)
+
+-- the room for a link that matches, in bytes
+pub link-room : {o : List ℕ} {at : ℕ} (v w : ℕ) → Fits o at (bytes " " ++ (decimal v ++ (bytes "-" ++ decimal w))) →
+    at + (1 + (length (decimal v) + (1 + length (decimal w)))) ≤ length o
+unfolding bytes
+link-room v w f = omega (arith, f .room, length-append (decimal v) (45 ∷ decimal w))
 
 module _ (fo ft succ dist sets : List ℕ) (v : ℕ) where
   -- a node that the search missed starts no link of the place; one that it reached starts those of its stretch that match

@@ -1,13 +1,13 @@
 // The report's lines, each put into a table of bytes from an offset on; the offset after the line is returned. `names` has a name for each
 // node.
 ghost use mathlib.Core.Path.{_≡_};
-ghost use Prim.Native.Nat.{_≤_, _<_};
-ghost use lib.ListN.{length};
+ghost use Prim.Native.Nat.{_+_, _≤_, _<_};
+ghost use lib.ListN.{length, getD};
 ghost use Rattle.base_text.specs.Text.{Put, Fits, Names};
 ghost use Rattle.base_lists.specs.List.{Below};
 ghost use Rattle.place.specs.Bytes.{PartsBelow};
 ghost use Rattle.report.specs.Report.{endLine, refusalLine, fileWord};
-ghost use Rattle.report.specs.Lines.{reached, nodeText, nodesText, linkText, drivenText, startText, linksText, lineText};
+ghost use Rattle.report.specs.Lines.{reached, nodeText, nodesText, linkText, drivenText, startText, linksText, lineText, longestLine};
 use base_text::put_byte;
 use base_text::put_bytes;
 use base_text::put_name;
@@ -73,6 +73,14 @@ fn put_link(
     put_name(names, b'-', w, out, hyphen)
 }
 
+// The i-th node of a list.
+fn node_at(nodes: &[u16], i: usize) -> u16
+    requires { ⌜ i < length (now nodes) ⌝ }
+    ensures { λ r. ⌜ r ≡ getD (now (nodes .entry)) i 0 ⌝ }
+{
+    nodes[i]
+}
+
 // The links from v to the nodes of a list.
 fn put_driven(
     names: &[u32],
@@ -91,7 +99,7 @@ fn put_driven(
     let mut end = at;
     let mut i = 0;
     while i < nodes.len() {
-        let w = nodes[i] as usize;
+        let w = node_at(nodes, i) as usize;
         end = put_link(names, driven, sets[w], v, w, out, end);
         i += 1;
     }
@@ -182,7 +190,8 @@ pub fn put_line(
 
 // The last line: k of n centres have a place.
 pub fn put_end(k: usize, n: usize, out: &mut [u8], at: usize) -> usize
-    requires { ⌜ Fits (now out) at (endLine k n) ⌝ }
+    requires { ⌜ (k < 100000) × (n < 100000) ⌝ }
+    requires { ⌜ at + longestLine ≤ length (now out) ⌝ }
     ensures { λ r. ⌜ Put (now (out .entry)) at (endLine k n) (now (out .exit)) r ⌝ }
 {
     let count = put_bytes(b"end ", out, at);
@@ -194,7 +203,7 @@ pub fn put_end(k: usize, n: usize, out: &mut [u8], at: usize) -> usize
 
 // Which file is meant.
 fn put_file(file: File, out: &mut [u8], at: usize) -> usize
-    requires { ⌜ Fits (now out) at (fileWord file) ⌝ }
+    requires { ⌜ at + 8 ≤ length (now out) ⌝ }
     ensures { λ r. ⌜ Put (now (out .entry)) at (fileWord file) (now (out .exit)) r ⌝ }
 {
     match file {
@@ -206,7 +215,7 @@ fn put_file(file: File, out: &mut [u8], at: usize) -> usize
 
 // The line of a refused file.
 pub fn put_refusal(x: Refusal, out: &mut [u8], at: usize) -> usize
-    requires { ⌜ Fits (now out) at (refusalLine x) ⌝ }
+    requires { ⌜ at + longestLine ≤ length (now out) ⌝ }
     ensures { λ r. ⌜ Put (now (out .entry)) at (refusalLine x) (now (out .exit)) r ⌝ }
 {
     let number = put_bytes(b"refused ", out, at);

@@ -3,6 +3,7 @@
 use Rattle.base_lists.specs.List.{part}
 use Rattle.graph.specs.Net.{driven, driving}
 use Rattle.graph.proofs.Net.{stretch-sound}
+use Rattle.graph_neighbours.specs.Lookup.{neighboursIn}
 use borrow.Author.Needs.{needs}
 use Rattle.graph_neighbours.proofs.neighbours.neighbours_in.Statement.{statement}
 use Rattle.graph_neighbours.proofs.neighbours.neighbours_in.Tie as tie
@@ -58,11 +59,11 @@ unfolding part
 sound-stretch-requires-2 c κs = let p = c .before .before .before .before .before .before .pre in stretch-sound (p .net .backward) _ (p .node)
 
 returns : tie.Need-returns
-unfolding driven part
+unfolding neighboursIn driven part
 returns c = rw (c .before .before .before .enum-told .given .1) (c .sound-stretch .ensures)
 
 returns-2 : tie.Need-returns-2
-unfolding driving part
+unfolding neighboursIn driving part
 returns-2 c = rw (c .before .before .before .enum-told2 .given .1) (c .sound-stretch2 .ensures)
 
 pub neighbours-in-spec : {M : Type 1} → statement M

@@ -15,8 +15,8 @@ use Rattle.graph_neighbours.proofs.neighbours.sound_stretch.Tie as tie
 next-is : (os : List ℕ) (v : ℕ) → getD os (v + 1) 0 ≡ getD os (suc v) 0
 next-is os v = ap (λ (i : ℕ). getD os i 0) (add-one v)
 
-add-next : tie.Need-add-next
-add-next c = search needs
+add-end : tie.Need-add-end
+add-end c = search needs
 
 mul-from : tie.Need-mul-from
 mul-from c = search needs
@@ -57,7 +57,7 @@ pub sound-stretch-spec : {M : Type 1} → statement M
 sound-stretch-spec =
     tie.close
     (tie.spec
-    add-next
+    add-end
     mul-from
     shared-slice-read-from
     cast-from

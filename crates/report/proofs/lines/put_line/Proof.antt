@@ -2,11 +2,13 @@
 use mathlib.Core.List.{List, _++_}
 use mathlib.Core.Path.{_≡_, sym}
 use Prim.Native.Nat.{ℕ}
+use native.Mathlib.Omega.{arith}
 use borrow.Author.Needs.{needs}
 use denote.Ref.{now}
 use Rattle.base_text.specs.Text.{bytes, Fits, decimal}
-use Rattle.base_text.proofs.Text.{put-then, put-same, fits-same, fits-first, fits-then}
+use Rattle.base_text.proofs.Text.{put-then, put-same, fits-same, fits-less, fits-first, fits-then}
 use Rattle.report.specs.Lines.{nodesText, linksText, lineText}
+use Rattle.report.proofs.Concat.{fits-after}
 use Rattle.report.proofs.Pieces.{line-pieces}
 use Rattle.report.proofs.lines.put_line.Statement.{statement}
 use Rattle.report.proofs.lines.put_line.Tie as tie
@@ -72,11 +74,11 @@ slice-aggregate-put-bytes-2 c = search needs
 
 put-bytes-requires-2 : tie.Need-put-bytes-requires-2
 unfolding bytes
-put-bytes-requires-2 c κs = fits-first (bytes " /") _ (room-slash (c .before .before .before .before))
+put-bytes-requires-2 c κs = fits-less _ (omega arith) (fits-first (bytes " /") _ (room-slash (c .before .before .before .before)))
 
 room-links : (c : tie.After-put-bytes2) → Fits (c .put-bytes2 .last .1 .0) (c .put-bytes2 .result) (links (c .before .before .before .before .before .before .before .before .before .before .before .before .before .before .before .before .before .before .before .before .before .before .before .before .before .before .before) ++ bytes "\n")
 unfolding bytes
-room-links c = fits-then (c .put-bytes2 .ensures) (room-slash (c .before .before .before .before .before))
+room-links c = fits-after (bytes " /") _ (omega arith) (c .put-bytes2 .ensures) (room-slash (c .before .before .before .before .before))
 
 put-links-requires : tie.Need-put-links-requires
 put-links-requires c κs = let p = c .before .before .before .before .before .before .before .before .before .before .before .before .before .before .before .before .before .before .before .before .before .before .before .before .before .before .before .before .before .before .pre in (p .0, (p .1 .0, (p .1 .1 .0, (p .1 .1 .1 .0, fits-first _ _ (room-links (c .before .before .before))))))

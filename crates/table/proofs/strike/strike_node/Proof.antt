@@ -9,6 +9,7 @@ use Rattle.base_lists.specs.List.{part}
 use Rattle.base_bits.specs.Bits.{unionAt}
 use Rattle.graph.proofs.Net.{driven-below, driving-below}
 use Rattle.table.specs.Prepared.{Tables, tables}
+use Rattle.graph_neighbours.specs.Lookup.{neighboursIn}
 use Rattle.table.proofs.StrikeSets.{strike-none, strike-unions}
 use Rattle.table.proofs.strike.strike_node.Statement.{statement}
 use Rattle.table.proofs.strike.strike_node.Tie as tie
@@ -36,6 +37,7 @@ neighbours-in-requires : tie.Need-neighbours-in-requires
 neighbours-in-requires c κs = record { nodes = _; net = entry c .pre .0 .net; node = entry c .pre .1 }
 
 reach-requires : tie.Need-reach-requires
+unfolding neighboursIn
 reach-requires c κs =
     let start = entry (c .before) in
     rw (c .neighbours-in .ensures) (driven-below (start .pre .0 .net) _ (start .pre .1))
@@ -46,6 +48,7 @@ neighbours-in-requires-2 c κs =
     record { nodes = _; net = start .pre .0 .net; node = start .pre .1 }
 
 reach-requires-2 : tie.Need-reach-requires-2
+unfolding neighboursIn
 reach-requires-2 c κs =
     let start = entry (c .before .before .before) in
     rw (c .neighbours-in2 .ensures) (driving-below (start .pre .0 .net) _ (start .pre .1))
@@ -78,7 +81,7 @@ surviving-requires c κs =
     )
 
 returns-2 : tie.Need-returns-2
-unfolding part
+unfolding part neighboursIn
 returns-2 c =
     let back = c .before .before .before in
     let out = back .before .before in
