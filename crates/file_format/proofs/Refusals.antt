@@ -9,7 +9,7 @@ use borrow.Author.Tests.{lt-ltb, le-ltb, eq-eqb, ne-eqb, ltb-false, eqb-true, no
 use lib.Dec.{T, eqb, ltb, leb, leb→le}
 use lib.ListN.{length, drop}
 use Rattle.base_lists.specs.List.{all}
-use Rattle.base_lists.proofs.Tests.{refuted, both-false, both-left, both-right, true-T, false-T}
+use Rattle.base_lists.proofs.Tests.{refuted, both-false, both-left, both-right, true-T, false-T, T-true, T-false}
 use Rattle.graph.specs.Search.{connected}
 use Rattle.file_format.specs.declared.File.the-variants.{Neither}
 use Rattle.file_format.specs.declared.Refusal.{Refusal}
@@ -17,7 +17,7 @@ use Rattle.file_format.specs.declared.Role.{Role}
 use Rattle.file_format.specs.declared.Role.the-variants.{Pattern, Board}
 use Rattle.file_format.specs.Layout.{fields, nodesOf, linksOf, lengthOf, startsAt, endsAt, startsOf, endsOf}
 use Rattle.file_format.specs.Links.{linksBelow, rising}
-use Rattle.file_format.specs.Refusals.{Condition, Verdict, accept, refuse, first, linkConditions, fileConditions, asksConnected, linkNumber, shortTable}
+use Rattle.file_format.specs.Refusals.{Accepted, Condition, Verdict, accept, refuse, NoneHolds, first, FirstHolding, linkConditions, fileConditions, asksConnected, linkNumber, shortTable}
 use Rattle.file_format.specs.Role.{minNodes, maxNodes, maxLinks, inRange, fileOf}
 
 -- ---- the first of a list of conditions
@@ -89,6 +89,54 @@ some-refuses (d ∷ ds) c m t = go (first (d ∷ ds)) refl
 -- a list of conditions refuses exactly when one of them holds
 pub refuses-iff : (cs : List Condition) → ((x : Refusal) × (first cs ≡ refuse x)) ↔ ((c : Condition) × List·Memᴰ c cs × T (c .holds))
 refuses-iff cs = (λ (x, e). refuses-some cs x e, λ (c, m, t). some-refuses cs c m t)
+
+-- ---- what the first of a list of conditions means
+
+none-accept : (cs : List Condition) → NoneHolds cs → first cs ≡ accept
+unfolding first NoneHolds
+none-accept [] none = refl
+none-accept (c ∷ cs) none = rw (none c (List·Memᴰ·head refl)) (none-accept cs (λ d m. none d (List·Memᴰ·tail m)))
+
+pub accepts-iff : (cs : List Condition) → (first cs ≡ accept) ↔ NoneHolds cs
+unfolding NoneHolds
+accepts-iff cs = (λ e c m. T-false {b = c .holds} (none-holds cs e c m), none-accept cs)
+
+refuses-step :
+    (c : Condition) (cs : List Condition) (x : Refusal) (b : Bool) → c .holds ≡ b →
+    cond b (refuse (record { number = c .number; file = c .file })) (first cs) ≡ refuse x → (first cs ≡ refuse x → FirstHolding cs x) →
+    FirstHolding (c ∷ cs) x
+unfolding NoneHolds
+refuses-step c cs x true h e rest =
+    let same : record { number = c .number; file = c .file } ≡ x = cc in
+    record {
+      before = [];
+      after = cs;
+      place =
+          ap (λ (b : Bool). record { number = c .number; file = c .file; holds = b } ∷ cs) h
+          ∙ ap (λ (y : Refusal). record { number = y .number; file = y .file; holds = true } ∷ cs) same;
+      none = λ d m. absurd (List·Memᴰ·not-nil m);
+    }
+refuses-step c cs x false h e rest =
+    let f = rest e in
+    record {
+      before = c ∷ f .before;
+      after = f .after;
+      place = ap (λ (ds : List Condition). c ∷ ds) (f .place);
+      none = λ d m. ⊎-elim (λ same. ap (λ (k : Condition). k .holds) same ∙ h) (λ later. f .none d later) (List·Memᴰ·cases-cons m);
+    }
+
+refuses-first : (cs : List Condition) (x : Refusal) → first cs ≡ refuse x → FirstHolding cs x
+unfolding first
+refuses-first [] x e = absurd (accept-not-refuse e)
+refuses-first (c ∷ cs) x e = refuses-step c cs x (c .holds) refl e (refuses-first cs x)
+
+first-refuses : {cs : List Condition} {x : Refusal} → FirstHolding cs x → first cs ≡ refuse x
+unfolding first
+first-refuses f = rw (f .place) (first-accept (f .before) _ (none-accept (f .before) (f .none)))
+
+-- a list of conditions refuses by a number and a file exactly when those are of its first condition that holds
+pub refuses-by : (cs : List Condition) (x : Refusal) → (first cs ≡ refuse x) ↔ FirstHolding cs x
+refuses-by cs x = (refuses-first cs x, first-refuses)
 
 -- ---- three lent tables
 
@@ -182,15 +230,6 @@ module _ (r : Role) (file : List ℕ) where
 
 -- ---- an accepted file
 
--- What is known of a file of which none of the conditions 1 to 6 holds.
-pub record Accepted (r : Role) (file : List ℕ) : Type 0 where
-  pub bytes : 4 ≤ length file
-  pub range : T (inRange r (nodesOf file) (linksOf file))
-  pub size : length file ≡ lengthOf (nodesOf file) (linksOf file)
-  pub below : T (linksBelow (nodesOf file) (startsOf file) (endsOf file))
-  pub rises : T (rising (startsOf file) (endsOf file))
-  pub joined : T (asksConnected r) → T (connected (nodesOf file) (startsOf file) (endsOf file))
-
 pub accepted : (r : Role) (file : List ℕ) → first (fileConditions r file) ≡ accept → Accepted r file
 unfolding fileConditions linkConditions
 accepted r file e =
@@ -208,6 +247,22 @@ accepted r file e =
       rises = refuted (rising (startsOf file) (endsOf file)) (h5 .0);
       joined = λ t. refuted (connected (nodesOf file) (startsOf file) (endsOf file)) (both-false (asksConnected r) _ t (h6 .0));
     }
+
+-- and the other way round: a file that has all this is not refused
+not-asked : (b c : Bool) → (T b → T c) → b && not c ≡ false
+not-asked true true f = refl
+not-asked true false f = absurd (f tt)
+not-asked false c f = refl
+
+pub accepted-verdict : {r : Role} {file : List ℕ} → Accepted r file → first (fileConditions r file) ≡ accept
+unfolding first fileConditions linkConditions
+accepted-verdict {r} {file} a =
+    let n = nodesOf file in
+    let range : inRange r n (linksOf file) ≡ true = T-true (a .range) in
+    let below : linksBelow n (startsOf file) (endsOf file) ≡ true = T-true (a .below) in
+    let rises : rising (startsOf file) (endsOf file) ≡ true = T-true (a .rises) in
+    let joined = not-asked (asksConnected r) (connected n (startsOf file) (endsOf file)) (a .joined) in
+    simp (le-ltb _ _ (a .bytes), range, eq-eqb _ _ (a .size), below, rises, joined)
 
 -- its links, as what makes or searches neighbour tables asks of them
 pub accepted-links : (r : Role) (file : List ℕ) → Accepted r file → T (all (λ v. ltb v (nodesOf file)) (startsOf file)) × T (all (λ v. ltb v (nodesOf file)) (endsOf file))

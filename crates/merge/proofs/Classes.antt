@@ -19,9 +19,8 @@ use Rattle.simulation.specs.Simulation.{Largest}
 use Rattle.simulation.specs.Quotient.{Mutual, SharesClass, AgreeLaws, LinksJoin}
 use Rattle.simulation.proofs.Quotient.{mutual-equivalence}
 use Rattle.table.specs.Host.{everything, EqualKinds}
-use Rattle.table.specs.Row.{inTable}
+use Rattle.table.specs.Row.{inTable, InTable}
 use Rattle.table.proofs.Agreement.{kinds-reflexive, kinds-compose}
-use Rattle.table.proofs.Answers.{InTable}
 use Rattle.table.proofs.Host.{within-joins, board-largest}
 use Rattle.table.proofs.Meaning.{last-fits}
 use Rattle.table.proofs.Sets.{Fits}

@@ -1,8 +1,9 @@
 -- The row of a pattern on a circuit comes to rest at its last set, and the four counts say how: table_row's laws, for at most 32 parts.
 -- Assumes nothing.
 use mathlib.Core.List.{List, map}
+use mathlib.Core.Logic.{_≢_}
 use mathlib.Core.Path.{_≡_, refl}
-use Prim.Native.Nat.{ℕ, _+_, _-_, _≤_}
+use Prim.Native.Nat.{ℕ, suc, _+_, _-_, _≤_, _<_}
 use lib.Count.{ones}
 use lib.ListN.{length}
 use Rattle.base_lists.specs.List.{sum}
@@ -35,7 +36,11 @@ module _ (pattern host : Circuit) (taken : List ℕ) (most : length (pattern .ki
   unfolding matching
   rounds-struck = Of.rounds-struck (matching pattern host taken) most
 
-  -- after `rounds` steps the row has come to its last set
+  -- "rounds, how many sets differ from the one before": each set up to there does, and there the row has come to its last
+  pub rounds-differ : (j : ℕ) → j < rounds pattern host taken → row pattern host taken (suc j) ≢ row pattern host taken j
+  unfolding matching
+  rounds-differ = Of.rounds-differ (matching pattern host taken) most
+
   pub rounds-last : (k : ℕ) → rounds pattern host taken ≤ k → row pattern host taken k ≡ lastTable pattern host taken
   unfolding matching
   rounds-last = Of.rounds-last (matching pattern host taken) most

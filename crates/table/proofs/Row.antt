@@ -2,8 +2,8 @@
 -- it contains every dual simulation. Assumes nothing.
 use mathlib.Core.List.{List}
 use mathlib.Core.Logic.{_↔_, inl, inr, Iff·trans}
-use mathlib.Core.Path.{refl}
-use Prim.Native.Nat.{ℕ}
+use mathlib.Core.Path.{_≡_, refl}
+use Prim.Native.Nat.{ℕ, suc}
 use lib.ListN.{length}
 use Rattle.base_lists.specs.List.{Occurs}
 use Rattle.base_lists.proofs.Tests.{both, both-left, both-right}
@@ -14,6 +14,7 @@ use Rattle.simulation.specs.Closed.{Relation, _⊆_, Closed, Row}
 use Rattle.simulation.specs.Simulation.{DualSimulation, Candidate, Direction, forwards, backwards, Along}
 use Rattle.simulation.proofs.Simulation.{along-wider, dual-closed}
 use Rattle.table_row.specs.Problem.{Way, Agreeing}
+use Rattle.table_row.specs.Row.{rowFrom, rowOf}
 use Rattle.table_row.specs.Reading.{InTable, Fits, Reading}
 use Rattle.table_row.proofs.Row as Of
 use Rattle.table.specs.Host.{hostGraph, EqualKinds}
@@ -97,7 +98,19 @@ module _ (pattern host : Circuit) (taken : List ℕ) where
   pub start-in : (u v : ℕ) → InTable (startTable pattern host taken) u v ↔ Candidates pattern host taken u v
   start-in u v = Iff·trans (Of.start-in (matching pattern host taken) u v) (agreeing-iff u v)
 
-  -- The tables are the row of sets that begins with them.
+  pub row-first : row pattern host taken 0 ≡ startTable pattern host taken
+  unfolding rowOf rowFrom
+  row-first = refl
+
+  pub row-fits : (k : ℕ) → Table pattern host (row pattern host taken k)
+  unfolding matching
+  row-fits = Of.row-fits (matching pattern host taken)
+
+  -- the sets fall
+  pub row-inside : (k : ℕ) → InTable (row pattern host taken (suc k)) ⊆ InTable (row pattern host taken k)
+  row-inside = Of.row-inside (matching pattern host taken)
+
+  -- The tables are the row of sets that begins with the pairs with equal kinds.
   pub row-in :
       (k u v : ℕ) →
       InTable (row pattern host taken k) u v ↔
