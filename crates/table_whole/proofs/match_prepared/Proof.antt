@@ -3,6 +3,7 @@ use mathlib.Core.List.{List}
 use mathlib.Core.Path.{_≡_, sym, _∙_}
 use Prim.Native.Nat.{ℕ, _≤_}
 use native.Mathlib.Nat.{le-trans}
+use native.Mathlib.Omega.{arith}
 use borrow.Author.Needs.{needs}
 use denote.Ref.{now}
 use lib.Dec.{lit≤}
@@ -70,7 +71,7 @@ counted-requires c κs =
     let p = start .pre .0 .prepared in
     let long = start .pre .1 .0 in
     let w = first .start .ensures in
-    kept-first _ _ _ long w (p .parts) (end .refine .ensures _ _ p (started-begins _ _ _ long w))
+    omega (arith, kept-first _ _ _ long w (p .parts) (end .refine .ensures _ _ p (started-begins _ _ _ long w)))
 
 same-length : tie.Need-same-length
 same-length c = search needs
