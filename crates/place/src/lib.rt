@@ -3,6 +3,8 @@ use file_format::Refusal;
 use table::Counts;
 use table::Rest;
 
+pub mod parts;
+
 // The four counts of the ball, or why the call was turned away, with counts of 0 or, where there is no place, the ball's.
 pub enum PlaceAnswer {
     Placed(Counts),
