@@ -1,7 +1,7 @@
 -- The four counts are those of the row of sets in a graph H, of which a circuit with some nodes taken is a presentation. Assumes nothing.
 use mathlib.Core.List.{List, map}
 use mathlib.Core.Logic.{_↔_, Iff·trans}
-use mathlib.Core.Path.{_≡_, refl, sym, ap, subst, _∙_}
+use mathlib.Core.Path.{_≡_, sym, ap, subst, _∙_}
 use Prim.Native.Nat.{ℕ, zero, suc, _≤_}
 use native.Mathlib.Nat.{le-refl, le-of-eq}
 use native.Mathlib.Omega.{arith}

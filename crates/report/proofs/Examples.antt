@@ -5,12 +5,10 @@ use mathlib.Core.List.{List, [], _∷_, _++_}
 use mathlib.Core.Path.{_≡_, refl, ap, ap₂, _∙_}
 use Prim.Native.Nat.{ℕ}
 use lib.Dec.{T}
-use Rattle.base_lists.specs.List.{all, any, allBelow, anyBelow, tabulate, sum, maximum}
+use Rattle.base_lists.specs.List.{all, allBelow, anyBelow, tabulate, maximum}
 use Rattle.base_lists.specs.Below.{countBelow, concatBelow, keepFrom}
 use Rattle.base_lists.proofs.Tests.{T-true, T-false}
-use Rattle.base_bits.specs.Bits.{bit, numberOf, sizeOf}
 use Rattle.base_text.specs.Text.{bytes, digits, decimal}
-use Rattle.graph.specs.Neighbours.{select}
 use Rattle.graph.specs.Search.{beside, inside, ball, misses, distances, connected, radius}
 use Rattle.file_format.specs.Circuit.{circuitOf}
 use Rattle.file_format.specs.declared.Role.the-variants.{Pattern, Board}

@@ -18,7 +18,7 @@ use Rattle.table.specs.declared.Rest.{Rest}
 use Rattle.table.specs.Fill.{listed, marksOf, tableAt}
 use Rattle.table.specs.First.{Begins, startNode, Written}
 use Rattle.table.specs.Host.{Taken, hostGraph}
-use Rattle.table.specs.Row.{inTable, pairs, matching, startTable, started, lastTable}
+use Rattle.table.specs.Row.{inTable, pairs, problemOf, startTable, started, lastTable}
 use Rattle.table.specs.Refine.{Rested, countsOf, countsFrom, Refined}
 use Rattle.table.proofs.Counting.{kept-started}
 use Rattle.table.proofs.Meaning.{last-fits, last-candidate}
@@ -39,7 +39,7 @@ module _ (pattern host : Circuit) (nodes : List ℕ) {n : ℕ} (long : n ≡ len
     started-table = w .made ∙ ap (λ (m : ℕ). tableAt m (startNode (pattern .kinds) (host .kinds)) nodes) long ∙ start-row pattern host nodes
 
     pub started-begins : Begins pattern host marks first
-    started-begins = rw started-table (start-begins (matching pattern host marks))
+    started-begins = rw started-table (start-begins (problemOf pattern host marks))
 
     -- and its pairs are those at first
     pub started-count : count ≡ started pattern host marks
@@ -84,7 +84,7 @@ module _ (pattern host : Circuit) (nodes : List ℕ) {n : ℕ} (long : n ≡ len
 
     -- so it is one to begin with
     pub copied-begins : Begins pattern host marks first
-    unfolding hostGraph matching
+    unfolding hostGraph problemOf
     copied-begins =
         record {
           long = ap length made ∙ length-table (length (host .kinds)) rule nodes;

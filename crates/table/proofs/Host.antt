@@ -17,7 +17,7 @@ use Rattle.simulation.proofs.Same.{same-refl, same-symm, agree-symm, largest-sa
 use Rattle.simulation.proofs.Simulation.{along-wider}
 use Rattle.table_row.specs.Reading.{InTable, Reading, Wider, Equivalent}
 use Rattle.table.specs.Host.{Taken, hostGraph, everything, EqualKinds}
-use Rattle.table.specs.Row.{matching, lastTable}
+use Rattle.table.specs.Row.{problemOf, lastTable}
 use Rattle.table.proofs.Row.{Candidates, Steps, Moves, reading}
 use Rattle.table.proofs.Meaning.{last-largest}
 
@@ -64,7 +64,7 @@ same-host-symm {pattern} s =
 
 same-host-wider :
     {pattern host host′ : Circuit} {taken taken′ : List ℕ} → SameHost pattern host host′ taken taken′ →
-    Wider (matching pattern host taken) (matching pattern host′ taken′)
+    Wider (problemOf pattern host taken) (problemOf pattern host′ taken′)
 same-host-wider {pattern} {host} {host′} {taken} {taken′} s =
     record {
       agree = λ u v a. there .agree u v .1 (candidate u v (here .agree u v .0 a));
@@ -81,10 +81,10 @@ same-host-wider {pattern} {host} {host′} {taken} {taken′} s =
           );
     }
   where
-    here : Reading (matching pattern host taken) (Candidates pattern host taken) (Steps pattern) (Moves host taken)
+    here : Reading (problemOf pattern host taken) (Candidates pattern host taken) (Steps pattern) (Moves host taken)
     here = reading pattern host taken
 
-    there : Reading (matching pattern host′ taken′) (Candidates pattern host′ taken′) (Steps pattern) (Moves host′ taken′)
+    there : Reading (problemOf pattern host′ taken′) (Candidates pattern host′ taken′) (Steps pattern) (Moves host′ taken′)
     there = reading pattern host′ taken′
 
     candidate : Candidates pattern host taken ⊆ Candidates pattern host′ taken′
@@ -98,7 +98,7 @@ same-host-wider {pattern} {host} {host′} {taken} {taken′} s =
 -- Of two circuits with as many nodes they are the same problem: so they have the same row, the same last table and the same counts.
 pub same-host :
     {pattern host host′ : Circuit} {taken taken′ : List ℕ} → length (host .kinds) ≡ length (host′ .kinds) →
-    SameHost pattern host host′ taken taken′ → Equivalent (matching pattern host taken) (matching pattern host′ taken′)
-unfolding matching
+    SameHost pattern host host′ taken taken′ → Equivalent (problemOf pattern host taken) (problemOf pattern host′ taken′)
+unfolding problemOf
 same-host nodes s =
     record { nodes = nodes; parts = refl; wider = same-host-wider s; narrower = same-host-wider (same-host-symm s) }

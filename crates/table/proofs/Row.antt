@@ -18,7 +18,7 @@ use Rattle.table_row.specs.Row.{rowFrom, rowOf}
 use Rattle.table_row.specs.Reading.{InTable, Fits, Reading}
 use Rattle.table_row.proofs.Row as Of
 use Rattle.table.specs.Host.{hostGraph, EqualKinds}
-use Rattle.table.specs.Row.{agrees, neighbours, matching, startTable, row}
+use Rattle.table.specs.Row.{agrees, neighbours, problemOf, startTable, row}
 use Rattle.table.proofs.Agreement.{agrees-kinds}
 
 -- A table of a pattern on a circuit has a number per node, of as many digits as there are parts.
@@ -45,8 +45,8 @@ neighbours-along c forwards v w = select-mem (c .starts) (c .ends) v w
 neighbours-along c backwards v w = select-mem-back (c .starts) (c .ends) v w
 
 -- both directions count
-both-ways : (pattern host : Circuit) (taken : List ℕ) (d : Direction) → Way (matching pattern host taken .ways) d
-unfolding matching Way
+both-ways : (pattern host : Circuit) (taken : List ℕ) (d : Direction) → Way (problemOf pattern host taken .ways) d
+unfolding problemOf Way
 both-ways pattern host taken forwards = inl refl
 both-ways pattern host taken backwards = inr (inl refl)
 
@@ -59,8 +59,8 @@ host-along host taken forwards v w l n m = (l, n, m)
 host-along host taken backwards v w l n m = (l, m, n)
 
 module _ (pattern host : Circuit) (taken : List ℕ) where
-  pub agreeing-iff : (u v : ℕ) → Agreeing (matching pattern host taken) u v ↔ Candidates pattern host taken u v
-  unfolding matching circuitGraph graphOf hostGraph
+  pub agreeing-iff : (u v : ℕ) → Agreeing (problemOf pattern host taken) u v ↔ Candidates pattern host taken u v
+  unfolding problemOf circuitGraph graphOf hostGraph
   agreeing-iff u v = (
     λ a.
         record {
@@ -77,8 +77,8 @@ module _ (pattern host : Circuit) (taken : List ℕ) where
   )
 
   -- The problem asks for equal kinds, and for the links of the pattern to be met by links of H in both directions.
-  pub reading : Reading (matching pattern host taken) (Candidates pattern host taken) (Steps pattern) (Moves host taken)
-  unfolding matching circuitGraph graphOf hostGraph
+  pub reading : Reading (problemOf pattern host taken) (Candidates pattern host taken) (Steps pattern) (Moves host taken)
+  unfolding problemOf circuitGraph graphOf hostGraph
   reading =
       record {
         agree = agreeing-iff;
@@ -96,32 +96,32 @@ module _ (pattern host : Circuit) (taken : List ℕ) where
 
   -- the first table holds the pairs with equal kinds
   pub start-in : (u v : ℕ) → InTable (startTable pattern host taken) u v ↔ Candidates pattern host taken u v
-  start-in u v = Iff·trans (Of.start-in (matching pattern host taken) u v) (agreeing-iff u v)
+  start-in u v = Iff·trans (Of.start-in (problemOf pattern host taken) u v) (agreeing-iff u v)
 
   pub row-first : row pattern host taken 0 ≡ startTable pattern host taken
   unfolding rowOf rowFrom
   row-first = refl
 
   pub row-fits : (k : ℕ) → Table pattern host (row pattern host taken k)
-  unfolding matching
-  row-fits = Of.row-fits (matching pattern host taken)
+  unfolding problemOf
+  row-fits = Of.row-fits (problemOf pattern host taken)
 
   -- the sets fall
   pub row-inside : (k : ℕ) → InTable (row pattern host taken (suc k)) ⊆ InTable (row pattern host taken k)
-  row-inside = Of.row-inside (matching pattern host taken)
+  row-inside = Of.row-inside (problemOf pattern host taken)
 
   -- The tables are the row of sets that begins with the pairs with equal kinds.
   pub row-in :
       (k u v : ℕ) →
       InTable (row pattern host taken k) u v ↔
       Row (Steps pattern) (Moves host taken) (Candidates pattern host taken) k u v
-  row-in = Of.row-in (matching pattern host taken) reading
+  row-in = Of.row-in (problemOf pattern host taken) reading
 
   -- Every set of the row contains each closed set, and so each dual simulation.
   pub every-row-closed :
       {S : Relation} → Closed (Candidates pattern host taken) (Steps pattern) (Moves host taken) S →
       (k : ℕ) → S ⊆ InTable (row pattern host taken k)
-  every-row-closed = Of.every-row (matching pattern host taken) reading
+  every-row-closed = Of.every-row (problemOf pattern host taken) reading
 
   pub every-row :
       {S : Relation} → DualSimulation (circuitGraph pattern) (EqualKinds pattern host) (hostGraph host taken) S →

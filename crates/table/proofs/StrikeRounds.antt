@@ -24,7 +24,7 @@ use Rattle.table_row.proofs.Sets.{fits-word, pairs-progress}
 use Rattle.table_row.proofs.Falling.{FirstRest, falls-count}
 use Rattle.table_row.proofs.Counting.{first-rounds}
 use Rattle.table_row.proofs.Begin.{begins-fits, begins-times, begins-rest}
-use Rattle.table.specs.Row.{inTable, pairs, matching, startTable, lastTable, rounds}
+use Rattle.table.specs.Row.{inTable, pairs, problemOf, startTable, lastTable, rounds}
 use Rattle.table.specs.Fill.{listed, marksOf, NodeList, Cleared, Filled, tableAt}
 use Rattle.table.specs.First.{Begins}
 use Rattle.table.specs.Prepared.{Tables, Ready, Prepared}
@@ -137,7 +137,7 @@ module _ {pattern host : Circuit} {t : Tables} (p : Prepared pattern host t) (no
     (b : Begins pattern host (marksOf (length (host .kinds)) nodes) first) where
   pub first-round : {spare : List ℕ} {started : ℕ} → Cleared nodes spare → length spare ≡ length first → started ≡ pairs first
       → Round t nodes first first spare started 0
-  unfolding strikeTimes matching
+  unfolding strikeTimes problemOf
   first-round free long count =
       record {
         table = refl;
@@ -147,7 +147,7 @@ module _ {pattern host : Circuit} {t : Tables} (p : Prepared pattern host t) (no
             record {
               masks = p .masked .room;
               net = rw (b .long) (net-of (p .net));
-              small = fits-word (p .parts) (begins-fits (matching pattern host (marksOf (length (host .kinds)) nodes)) b);
+              small = fits-word (p .parts) (begins-fits (problemOf pattern host (marksOf (length (host .kinds)) nodes)) b);
             };
         cleared = begins-cleared pattern host nodes b;
         free = free;
@@ -161,7 +161,7 @@ module _ {pattern host : Circuit} {t : Tables} (p : Prepared pattern host t) (no
     marks = marksOf (length (host .kinds)) nodes
 
     abbrev problem : Problem Direction
-    problem = matching pattern host marks
+    problem = problemOf pattern host marks
 
     settled-again : strikeTimes t nodes first (suc r) ≡ strikeTimes t nodes first r
     unfolding strikeTimes
@@ -171,7 +171,7 @@ module _ {pattern host : Circuit} {t : Tables} (p : Prepared pattern host t) (no
     repeats = sym (times-row pattern host t p nodes b (suc r)) ∙ settled-again ∙ times-row pattern host t p nodes b r
 
     settled-last : last ≡ lastTable pattern host marks
-    unfolding rowFrom matching
+    unfolding rowFrom problemOf
     settled-last = s .table ∙ times-row pattern host t p nodes b r ∙ begins-rest problem (p .parts) (begins-times problem (p .parts) b r) repeats
 
     -- from the first table of the row, the rounds are those of the row

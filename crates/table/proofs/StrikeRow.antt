@@ -20,7 +20,7 @@ use Rattle.table_row.proofs.Sets.{number-if}
 use Rattle.table_row.proofs.Masks.{masks-strike}
 use Rattle.table_row.proofs.Begin.{begins-fits, begins-times}
 use Rattle.table.specs.Host.{hostGraph}
-use Rattle.table.specs.Row.{inTable, agrees, neighbours, matching, startTable, strike}
+use Rattle.table.specs.Row.{inTable, agrees, neighbours, problemOf, startTable, strike}
 use Rattle.table.specs.Fill.{listed, marksOf, Cleared, tableAt}
 use Rattle.table.specs.Prepared.{masksOf, Tables, Prepared}
 use Rattle.table.specs.First.{Begins, startNode}
@@ -38,35 +38,35 @@ neighbours-below n c starts ends forwards u = select-within n (c .starts) (c .en
 neighbours-below n c starts ends backwards u = select-within n (c .ends) (c .starts) u starts
 
 module _ (pattern host : Circuit) (t : Tables) (p : Prepared pattern host t) (taken : List ℕ) where
-  steps-within : StepsWithin (matching pattern host taken)
-  unfolding matching
+  steps-within : StepsWithin (problemOf pattern host taken)
+  unfolding problemOf
   steps-within = record { below = λ d u h. neighbours-below (length (pattern .kinds)) pattern (p .starts) (p .ends) d u }
 
   -- the test of two masks is that of every way
   survivors-next :
       (old : List ℕ) (v : ℕ) →
-      survivors (maskOf (matching pattern host taken) forwards) (maskOf (matching pattern host taken) backwards)
+      survivors (maskOf (problemOf pattern host taken) forwards) (maskOf (problemOf pattern host taken) backwards)
       (unionAt old (neighbours host forwards v)) (unionAt old (neighbours host backwards v)) (getD old v 0)
-      ≡ nextSet (matching pattern host taken) old v
-  unfolding survivors nextSet covered every matching
+      ≡ nextSet (problemOf pattern host taken) old v
+  unfolding survivors nextSet covered every problemOf
   survivors-next old v =
-      let there : ℕ → Bool = λ u. subsetOf (getD (maskOf (matching pattern host taken) forwards) u 0) (unionAt old (neighbours host forwards v)) in
-      let back : ℕ → Bool = λ u. subsetOf (getD (maskOf (matching pattern host taken) backwards) u 0) (unionAt old (neighbours host backwards v)) in
+      let there : ℕ → Bool = λ u. subsetOf (getD (maskOf (problemOf pattern host taken) forwards) u 0) (unionAt old (neighbours host forwards v)) in
+      let back : ℕ → Bool = λ u. subsetOf (getD (maskOf (problemOf pattern host taken) backwards) u 0) (unionAt old (neighbours host backwards v)) in
       number-same 32 (λ u. bit (getD old v 0) u && (there u && back u)) (λ u. bit (getD old v 0) u && (there u && (back u && true)))
       (λ u h. ap (λ (b : Bool). bit (getD old v 0) u && (there u && b)) (sym (and-true (back u))))
 
-  node-next : (old : List ℕ) (v : ℕ) → v < length (host .kinds) → strikeNode t old v ≡ nextSet (matching pattern host taken) old v
-  unfolding strikeNode matching neighbours maskOf masksOf
+  node-next : (old : List ℕ) (v : ℕ) → v < length (host .kinds) → strikeNode t old v ≡ nextSet (problemOf pattern host taken) old v
+  unfolding strikeNode problemOf neighbours maskOf masksOf
   node-next old v l = rw (p .masked .succ, p .masked .pred, p .net .drives v l, p .net .drivenBy v l) (survivors-next old v)
 
   -- a round is one step of the row, on a table that is empty outside the list
   pub strike-row : (nodes old : List ℕ) → Table pattern host old → Cleared nodes old → strikeTable t nodes old ≡ strike pattern host taken old
-  unfolding strikeTable tableAt matching Cleared
+  unfolding strikeTable tableAt problemOf Cleared
   strike-row nodes old fits clear =
       ap (λ (m : ℕ). tabulate m (λ v. cond (listed nodes v) (strikeNode t old v) 0)) (fits .size)
-      ∙ tabulate-same (length (host .kinds)) (λ v. cond (listed nodes v) (strikeNode t old v) 0) (nextSet (matching pattern host taken) old)
+      ∙ tabulate-same (length (host .kinds)) (λ v. cond (listed nodes v) (strikeNode t old v) 0) (nextSet (problemOf pattern host taken) old)
       (λ v h. go v h (listed nodes v) refl ∙ node-next old v h)
-      ∙ masks-strike (matching pattern host taken) (p .parts) steps-within fits
+      ∙ masks-strike (problemOf pattern host taken) (p .parts) steps-within fits
     where
       go : (v : ℕ) → v < length (host .kinds) → (b : Bool) → listed nodes v ≡ b → cond b (strikeNode t old v) 0 ≡ strikeNode t old v
       go v h true e = refl
@@ -84,7 +84,7 @@ inside-marks n nodes v h = ap (λ (x : ℕ). eqb x 1) (getD-tabulate n (λ v. co
 
 pub start-row : (pattern host : Circuit) (nodes : List ℕ)
     → tableAt (length (host .kinds)) (startNode (pattern .kinds) (host .kinds)) nodes ≡ startTable pattern host (marksOf (length (host .kinds)) nodes)
-unfolding tableAt startNode startOf tableOf matching agrees
+unfolding tableAt startNode startOf tableOf problemOf agrees
 start-row pattern host nodes =
     tabulate-same (length (host .kinds)) (λ v. cond (listed nodes v) (startNode (pattern .kinds) (host .kinds) v) 0)
     (λ v. numberOf (length (pattern .kinds)) (λ u. inside (marksOf (length (host .kinds)) nodes) v && agrees pattern host u v))
@@ -95,7 +95,7 @@ start-row pattern host nodes =
 -- a table to begin with is empty outside the list
 pub begins-cleared :
     (pattern host : Circuit) (nodes : List ℕ) {first : List ℕ} → Begins pattern host (marksOf (length (host .kinds)) nodes) first → Cleared nodes first
-unfolding Cleared inTable hostGraph matching
+unfolding Cleared inTable hostGraph problemOf
 begins-cleared pattern host nodes {first} b v h e =
     let marks : List ℕ = marksOf (length (host .kinds)) nodes in
     same-bits (getD first v 0) 0
@@ -113,10 +113,10 @@ module _ (pattern host : Circuit) (t : Tables) (p : Prepared pattern host t) (no
   marks = marksOf (length (host .kinds)) nodes
 
   -- k rounds from a table to begin with are k steps of the row from it
-  pub times-row : (k : ℕ) → strikeTimes t nodes first k ≡ rowFrom (matching pattern host marks) first k
-  unfolding strikeTimes rowFrom matching
+  pub times-row : (k : ℕ) → strikeTimes t nodes first k ≡ rowFrom (problemOf pattern host marks) first k
+  unfolding strikeTimes rowFrom problemOf
   times-row zero = refl
   times-row (suc k) =
-      let old = begins-times (matching pattern host marks) (p .parts) b k in
+      let old = begins-times (problemOf pattern host marks) (p .parts) b k in
       ap (strikeTable t nodes) (times-row k)
-      ∙ strike-row pattern host t p marks nodes (rowFrom (matching pattern host marks) first k) (begins-fits (matching pattern host marks) old) (begins-cleared pattern host nodes old)
+      ∙ strike-row pattern host t p marks nodes (rowFrom (problemOf pattern host marks) first k) (begins-fits (problemOf pattern host marks) old) (begins-cleared pattern host nodes old)

@@ -31,8 +31,8 @@ neighbours c forwards v = select (c .starts) (c .ends) v
 neighbours c backwards v = select (c .ends) (c .starts) v
 
 -- to match a pattern on those nodes of a circuit that are taken
-unfoldable pub matching : Circuit → Circuit → List ℕ → Problem Direction
-matching pattern host taken =
+unfoldable pub problemOf : Circuit → Circuit → List ℕ → Problem Direction
+problemOf pattern host taken =
     record {
       parts = length (pattern .kinds);
       nodes = length (host .kinds);
@@ -46,30 +46,30 @@ matching pattern host taken =
 
 -- "R0 is the set of pairs with equal kinds."
 abbrev pub startTable : Circuit → Circuit → List ℕ → List ℕ
-startTable pattern host taken = startOf (matching pattern host taken)
+startTable pattern host taken = startOf (problemOf pattern host taken)
 
 -- "Each further set keeps those pairs of the last whose links have partners in the last."
 abbrev pub strike : Circuit → Circuit → List ℕ → List ℕ → List ℕ
-strike pattern host taken t = strikeOf (matching pattern host taken) t
+strike pattern host taken t = strikeOf (problemOf pattern host taken) t
 
 abbrev pub row : Circuit → Circuit → List ℕ → ℕ → List ℕ
-row pattern host taken = rowOf (matching pattern host taken)
+row pattern host taken = rowOf (problemOf pattern host taken)
 
 -- "The last set of this row is the largest dual simulation."
 abbrev pub lastTable : Circuit → Circuit → List ℕ → List ℕ
-lastTable pattern host taken = lastOf (matching pattern host taken)
+lastTable pattern host taken = lastOf (problemOf pattern host taken)
 
 -- ---- its counts
 
 -- "started, the pairs of R0; kept, the pairs left; struck, started minus kept; rounds, how many sets differ from the one before"
 abbrev pub started : Circuit → Circuit → List ℕ → ℕ
-started pattern host taken = startedOf (matching pattern host taken)
+started pattern host taken = startedOf (problemOf pattern host taken)
 
 abbrev pub kept : Circuit → Circuit → List ℕ → ℕ
-kept pattern host taken = keptOf (matching pattern host taken)
+kept pattern host taken = keptOf (problemOf pattern host taken)
 
 abbrev pub struck : Circuit → Circuit → List ℕ → ℕ
-struck pattern host taken = struckOf (matching pattern host taken)
+struck pattern host taken = struckOf (problemOf pattern host taken)
 
 abbrev pub rounds : Circuit → Circuit → List ℕ → ℕ
-rounds pattern host taken = roundsOf (matching pattern host taken)
+rounds pattern host taken = roundsOf (problemOf pattern host taken)

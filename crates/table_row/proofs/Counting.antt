@@ -1,7 +1,7 @@
 -- The row comes to rest at its last set, and the four counts say how. Assumes nothing.
 use mathlib.Core.Bool.{Bool, false, not}
 use mathlib.Core.List.{List, [], _∷_, map}
-use mathlib.Core.Logic.{_≢_, _⊎_, ⊎-elim}
+use mathlib.Core.Logic.{_≢_, _⊎_}
 use mathlib.Core.Path.{_≡_, refl, sym, ap, ap₂, subst, _∙_}
 use Prim.Native.Nat.{ℕ, suc, _+_, _≤_, _<_}
 use native.Mathlib.Nat.{le-refl}
@@ -17,7 +17,7 @@ use Rattle.table_row.specs.Row.{pairs, same, startOf, strikeOf, rowFrom,
 use Rattle.table_row.specs.Reading.{TableOf}
 use Rattle.table_row.proofs.Sets.{fits-word, pairs-progress, pairs-ones}
 use Rattle.table_row.proofs.Row.{start-fits, strike-fits, strike-inside, from-fits, row-fits}
-use Rattle.table_row.proofs.Falling.{Falls, FirstRest, falls-count, first-rest, count-first}
+use Rattle.table_row.proofs.Falling.{FirstRest, falls-count, first-rest, count-first}
 
 -- ---- the test whether two tables are the same
 
@@ -60,10 +60,6 @@ module _ {D : Type 0} (p : Problem D) (most : p .parts ≤ 32) where
     pub from-progress : (k : ℕ) → (pairs (rowFrom p t (suc k)) < pairs (rowFrom p t k)) ⊎ (rowFrom p t (suc k) ≡ rowFrom p t k)
     unfolding rowFrom
     from-progress k = strike-progress (from-fits p f k)
-
-    -- a table with as many pairs as the one before repeats it
-    pub from-equal : (k : ℕ) → pairs (rowFrom p t (suc k)) ≡ pairs (rowFrom p t k) → rowFrom p t (suc k) ≡ rowFrom p t k
-    from-equal k e = ⊎-elim (λ l. absurd (omega arith)) (λ s. s) (from-progress k)
 
     -- the row rests from as many steps on as it begins with pairs
     pub from-last : (m k : ℕ) → pairs t ≤ m → m ≤ k → rowFrom p t k ≡ rowFrom p t m
@@ -119,11 +115,6 @@ module _ {D : Type 0} (p : Problem D) {k : ℕ} (first : FirstRest pairs (rowOf 
 -- ---- the four counts
 
 module _ {D : Type 0} (p : Problem D) (most : p .parts ≤ 32) where
-  -- a loop that has struck pairs in each of k steps, and none in the next, has come to it
-  pub stays-first : (k : ℕ) → Falls pairs (rowOf p) k → pairs (rowOf p (suc k)) ≡ pairs (rowOf p k) → FirstRest pairs (rowOf p) k
-  unfolding rowOf
-  stays-first k f e = record { falls = f; repeats = from-equal p most (start-fits p) k e }
-
   -- `rounds` is the first k at which the row repeats a set
   pub rounds-first : FirstRest pairs (rowOf p) (roundsOf p)
   rounds-first = let (k, r) = first-rest pairs (rowOf p) (row-progress p most) in rw (first-rounds p r) r

@@ -15,12 +15,12 @@ use lib.Seq.{ext-getD}
 use Rattle.base_lists.specs.List.{tabulate, sum}
 use Rattle.base_lists.specs.Below.{countBelow}
 use Rattle.base_lists.proofs.Tests.{false-T, same-test}
-use Rattle.base_lists.proofs.Tables.{length-tabulate, getD-tabulate, tabulate-same}
+use Rattle.base_lists.proofs.Tables.{length-tabulate, getD-tabulate}
 use Rattle.base_lists.proofs.Below.{countBelow-mono, countBelow-equal}
 use Rattle.base_lists.proofs.Rows.{sum-progress}
 use Rattle.base_bits.specs.Bits.{bit, numberOf, sizeOf}
 use Rattle.base_bits.proofs.Digits.{bit-of-zero, bit-below, same-bits, same-bits-below}
-use Rattle.base_bits.proofs.Numbers.{number-lt, bit-number, number-same}
+use Rattle.base_bits.proofs.Numbers.{number-lt, bit-number}
 use Rattle.base_bits.proofs.Counts.{ones-count}
 use Rattle.simulation.specs.Closed.{_⊆_}
 use Rattle.table_row.specs.Row.{inTable, tableOf, pairs}
@@ -78,12 +78,6 @@ module _ (n k : ℕ) (test : ℕ → ℕ → Bool) where
         (h, l, subst T (ap (λ x. bit x u) (entry v l) ∙ bit-number k (λ u. test u v) u h) m),
     λ (h, l, q). subst T (sym (ap (λ x. bit x u) (entry v l) ∙ bit-number k (λ u. test u v) u h)) q,
   )
-
--- two tests that say the same of the pairs in range make the same table
-pub table-same :
-    (n k : ℕ) (f g : ℕ → ℕ → Bool) → ((u v : ℕ) → u < k → v < n → f u v ≡ g u v) → tableOf n k f ≡ tableOf n k g
-unfolding tableOf
-table-same n k f g e = tabulate-same n _ _ (λ v h. number-same k (λ u. f u v) (λ u. g u v) (λ u l. e u v l h))
 
 -- ---- the table of no pair
 
