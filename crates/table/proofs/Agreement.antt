@@ -4,10 +4,12 @@ use mathlib.Core.Logic.{_↔_}
 use mathlib.Core.Path.{_≡_, refl, sym, _∙_}
 use Prim.Native.Nat.{ℕ}
 use lib.Dec.{T, eqb→eq}
-use lib.ListN.{getD}
+use lib.ListN.{length, getD}
 use borrow.Author.Tests.{eq-eqb, ne-eqb}
 use Rattle.base_lists.proofs.Tests.{true-T}
+use Rattle.base_bits.specs.Bits.{numberOf}
 use Rattle.graph.specs.Circuit.{Circuit}
+use Rattle.table.specs.First.{startNode}
 use Rattle.table.specs.Host.{EqualKinds}
 use Rattle.table.specs.Row.{kindsAgree, agrees}
 
@@ -26,6 +28,13 @@ kinds-differ part node e = ne-eqb part node e
 pub agrees-kinds : (pattern host : Circuit) (u v : ℕ) → T (agrees pattern host u v) ↔ EqualKinds pattern host u v
 unfolding agrees kindsAgree EqualKinds
 agrees-kinds pattern host u v = (eqb→eq (getD (pattern .kinds) u 0) (getD (host .kinds) v 0), λ e. true-T (eq-eqb _ _ e))
+
+-- the set of the parts that agree with a node, as the code makes it from the kinds
+pub start-agrees :
+    (pattern host : Circuit) (v : ℕ) →
+    startNode (pattern .kinds) (host .kinds) v ≡ numberOf (length (pattern .kinds)) (λ u. agrees pattern host u v)
+unfolding startNode agrees
+start-agrees pattern host v = refl
 
 -- ---- what merging needs
 

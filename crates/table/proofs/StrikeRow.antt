@@ -1,7 +1,7 @@
 -- Striking over masks, neighbour tables and a list of nodes is the striking of the row. Assumes nothing.
 use mathlib.Core.Bool.{Bool, true, false, _&&_, cond, and-true}
 use mathlib.Core.List.{List}
-use mathlib.Core.Path.{_≡_, refl, sym, ap, _∙_}
+use mathlib.Core.Path.{_≡_, refl, sym, ap, ap₂, _∙_}
 use Prim.Native.Nat.{ℕ, zero, suc, _<_}
 use lib.Dec.{eqb}
 use lib.ListN.{length, getD}
@@ -25,6 +25,7 @@ use Rattle.table.specs.Fill.{listed, marksOf, Cleared, tableAt}
 use Rattle.table.specs.Prepared.{masksOf, Tables, Prepared}
 use Rattle.table.specs.First.{Begins, startNode}
 use Rattle.table.specs.Strike.{survivors, strikeNode, strikeTable, strikeTimes}
+use Rattle.table.proofs.Agreement.{start-agrees}
 use Rattle.table.proofs.Row.{Table, start-in}
 use Rattle.table.proofs.Masks.{select-within}
 use Rattle.table.proofs.StrikeSets.{strike-none}
@@ -84,12 +85,12 @@ inside-marks n nodes v h = ap (λ (x : ℕ). eqb x 1) (getD-tabulate n (λ v. co
 
 pub start-row : (pattern host : Circuit) (nodes : List ℕ)
     → tableAt (length (host .kinds)) (startNode (pattern .kinds) (host .kinds)) nodes ≡ startTable pattern host (marksOf (length (host .kinds)) nodes)
-unfolding tableAt startNode startOf tableOf problemOf agrees
+unfolding tableAt startOf tableOf problemOf
 start-row pattern host nodes =
     tabulate-same (length (host .kinds)) (λ v. cond (listed nodes v) (startNode (pattern .kinds) (host .kinds) v) 0)
     (λ v. numberOf (length (pattern .kinds)) (λ u. inside (marksOf (length (host .kinds)) nodes) v && agrees pattern host u v))
     (λ v h.
-    ap (λ (b : Bool). cond b (startNode (pattern .kinds) (host .kinds) v) 0) (sym (inside-marks (length (host .kinds)) nodes v h))
+    ap₂ (λ (b : Bool) (x : ℕ). cond b x 0) (sym (inside-marks (length (host .kinds)) nodes v h)) (start-agrees pattern host v)
     ∙ number-if (inside (marksOf (length (host .kinds)) nodes) v) (length (pattern .kinds)) (λ u. agrees pattern host u v))
 
 -- a table to begin with is empty outside the list

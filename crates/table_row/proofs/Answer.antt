@@ -11,7 +11,10 @@ use lib.Count.{ones}
 use lib.Dec.{T}
 use Rattle.base_lists.specs.List.{anyBelow, tabulate, sum}
 use Rattle.base_lists.proofs.Tests.{T-true, allBelow-at, at-allBelow, anyBelow-at, at-anyBelow}
+use Rattle.graph.specs.Graph.{Graph}
 use Rattle.simulation.specs.Closed.{Relation, _⊆_, Occurring}
+use Rattle.simulation.specs.Simulation.{Candidate, Along, Largest}
+use Rattle.simulation.proofs.Simulation.{dual-closed, dual-occurring, closed-dual}
 use Rattle.table_row.specs.Problem.{Problem}
 use Rattle.table_row.specs.Row.{inTable, pairs, startedOf, lastOf, keptOf, roundsOf}
 use Rattle.table_row.specs.Answer.{allOccur, allOrNone, answerOf, answerKept, answerStruck}
@@ -99,6 +102,16 @@ module _ {D : Type 0} (p : Problem D) (most : p .parts ≤ 32) {Agree : Relation
             occur .1 (λ x h. let (y, s′) = o .occurs u v s x (parts x .1 h) in (y, last .contains R c x y s′)) in
             rw (answer-all p all) (last .contains R c u v s);
       }
+
+-- For both directions of links that is the largest dual simulation, whether the pattern is connected or not.
+pub occurring-dual :
+    {P : Graph} {Agree : Relation} {H : Graph} {S : Relation} →
+    LargestOccurring (P .Node) (Candidate P Agree H) (Along (P .Link)) (Along (H .Link)) S → Largest P Agree H S
+occurring-dual l =
+    record {
+      holds = closed-dual (l .closed) (l .occurring);
+      contains = λ R r. l .contains R (dual-closed r) (dual-occurring r);
+    }
 
 -- ---- its counts
 
