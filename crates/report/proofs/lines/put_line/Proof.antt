@@ -7,6 +7,7 @@ use borrow.Author.Needs.{needs}
 use denote.Ref.{now}
 use Rattle.base_text.specs.Text.{bytes, Fits, decimal}
 use Rattle.base_text.proofs.Text.{put-then, put-same, fits-same, fits-less, fits-first, fits-then}
+use Rattle.table.specs.Prepared.{tables}
 use Rattle.report.specs.Lines.{nodesText, linksText, lineText}
 use Rattle.report.proofs.Concat.{fits-after}
 use Rattle.report.proofs.Pieces.{line-pieces}
@@ -18,10 +19,10 @@ abbrev nodes : tie.Start → List ℕ
 nodes s = nodesText (now (s .args .dist))
 
 abbrev links : tie.Start → List ℕ
-links s = let a = s .args in linksText (now (a .fo)) (now (a .ft)) (now (a .succ)) (now (a .dist)) (now (a .sets))
+links s = let a = s .args in linksText (tables (now (a .masks)) (now (a .offsets)) (now (a .links))) (now (a .dist)) (now (a .sets))
 
 pieces : (s : tie.Start) → let a = s .args in
-    lineText (now (a .fo)) (now (a .ft)) (now (a .succ)) (now (a .dist)) (now (a .sets)) (a .c)
+    lineText (tables (now (a .masks)) (now (a .offsets)) (now (a .links))) (now (a .dist)) (now (a .sets)) (a .c)
     ≡ bytes "place " ++ (decimal (a .c) ++ (bytes ":" ++ (nodes s ++ (bytes " /" ++ (links s ++ bytes "\n")))))
 unfolding lineText
 pieces s = line-pieces (s .args .c) (nodes s) (links s)
@@ -33,7 +34,7 @@ slice-aggregate-put-bytes c = search needs
 
 room : (s : tie.Start) → let a = s .args in
     Fits (now (a .out)) (a .at) (bytes "place " ++ (decimal (a .c) ++ (bytes ":" ++ (nodes s ++ (bytes " /" ++ (links s ++ bytes "\n"))))))
-room s = fits-same (pieces s) (s .pre .1 .1 .1 .1)
+room s = fits-same (pieces s) (s .pre .1 .1 .1)
 
 put-bytes-requires : tie.Need-put-bytes-requires
 unfolding bytes
@@ -81,7 +82,7 @@ unfolding bytes
 room-links c = fits-after (bytes " /") _ (omega arith) (c .put-bytes2 .ensures) (room-slash (c .before .before .before .before .before))
 
 put-links-requires : tie.Need-put-links-requires
-put-links-requires c κs = let p = c .before .before .before .before .before .before .before .before .before .before .before .before .before .before .before .before .before .before .before .before .before .before .before .before .before .before .before .before .before .before .pre in (p .0, (p .1 .0, (p .1 .1 .0, (p .1 .1 .1 .0, fits-first _ _ (room-links (c .before .before .before))))))
+put-links-requires c κs = let p = c .before .before .before .before .before .before .before .before .before .before .before .before .before .before .before .before .before .before .before .before .before .before .before .before .before .before .before .before .before .before .pre in (p .0, (p .1 .0, (p .1 .1 .0, fits-first _ _ (room-links (c .before .before .before)))))
 
 put-byte-requires-2 : tie.Need-put-byte-requires-2
 unfolding bytes
