@@ -1,7 +1,7 @@
 -- The four counts are those of the row of sets in a graph H, of which a circuit with some nodes taken is a presentation. Assumes nothing.
 use mathlib.Core.List.{List, map}
 use mathlib.Core.Logic.{_↔_, Iff·trans}
-use mathlib.Core.Path.{_≡_, refl, sym, ap, subst, _∙_}
+use mathlib.Core.Path.{_≡_, sym, ap, subst, _∙_}
 use Prim.Native.Nat.{ℕ, zero, suc, _≤_}
 use native.Mathlib.Nat.{le-refl, le-of-eq}
 use native.Mathlib.Omega.{arith}
@@ -17,9 +17,9 @@ use Rattle.simulation.proofs.Simulation.{along-wider}
 use Rattle.table.specs.declared.Counts.{Counts}
 use Rattle.table.specs.Host.{hostGraph, EqualKinds}
 use Rattle.table.specs.Refine.{countsOf}
-use Rattle.table.specs.Row.{InTable, row, struck, rounds, lastTable}
-use Rattle.table.proofs.Counting.{started-ones, kept-ones, rounds-differ, rounds-last}
-use Rattle.table.proofs.Row.{row-fits, row-inside, row-in}
+use Rattle.table.specs.Row.{InTable, row, rounds, lastTable}
+use Rattle.table.proofs.Counting.{struck-minus, started-ones, kept-ones, rounds-differ, rounds-last}
+use Rattle.table.proofs.Row.{row-first, row-fits, row-inside, row-in}
 use Rattle.table.proofs.Sets.{same-pairs}
 use Rattle.demands.specs.Demands.{Sets, RowCounts}
 
@@ -47,22 +47,23 @@ module _ (pattern host : Circuit) (taken : List ℕ) (most : length (pattern .ki
   -- a set that the next one has whole is the next one
   repeats : (k : ℕ) → R k ⊆ R (suc k) → row pattern host taken (suc k) ≡ row pattern host taken k
   repeats k inside =
-      same-pairs (row-fits pattern host taken (suc k)) (row-fits pattern host taken k) (row-inside pattern host taken k)
+      same-pairs (row pattern host taken (suc k)) (row pattern host taken k) (row-fits pattern host taken (suc k) .size ∙ sym (row-fits pattern host taken k .size))
+      (row-inside pattern host taken k)
       (λ u v m. set-is (suc k) u v .1 (inside u v (set-is k u v .0 m)))
 
   -- the four counts are those of the row, and its last set is the last table
   pub row-counts :
       (counts : Counts) → counts ≡ countsOf pattern host taken →
       (c : RowCounts (circuitGraph pattern) (EqualKinds pattern host) H counts) × (c .table (counts .rounds) ≡ lastTable pattern host taken)
-  unfolding countsOf row struck
+  unfolding countsOf
   row-counts counts e =
       let last = rounds-last pattern host taken most in (
         record {
           table = row pattern host taken;
           holds = set-is;
-          started = rw e (started-ones pattern host taken most);
+          started = rw (e, row-first) (started-ones pattern host taken most);
           kept = rw e (kept-ones pattern host taken most ∙ ap (λ (t : List ℕ). sum (map ones t)) (sym (last (rounds pattern host taken) (le-refl _))));
-          struck = rw e;
+          struck = rw e (struck-minus pattern host taken);
           differ = λ k h inside. rounds-differ pattern host taken most k (rw e at h) (repeats k inside);
           rest = λ k h u v m.
               let h′ : rounds pattern host taken ≤ k = rw e at h in

@@ -12,3 +12,4 @@ pub mod Net
 pub mod Measures
 pub mod RisingLinks
 pub mod Reached
+pub mod Sorted

@@ -67,6 +67,7 @@ module _ (n : ℕ) (starts ends fo fl bo bl xs ys xs′ ys′ offsets links : Li
         };
         forward = rw (a, b) (there .0);
         backward = rw (a′, b′) (back .0);
+        begins = λ v h. rw (a, e) (offset-at n starts xs v h);
         drives = λ v h. rw (a, b) (there .1 v h);
         drivenBy = λ v h. rw (a′, b′) (back .1 v h);
       }

@@ -5,7 +5,7 @@ use mathlib.Core.Path.{_≡_}
 use Prim.Native.Nat.{ℕ, suc, _≤_, _<_}
 use lib.ListN.{length, getD}
 use Rattle.base_lists.specs.List.{part, Below}
-use Rattle.graph.specs.Neighbours.{select, stretch}
+use Rattle.graph.specs.Neighbours.{select, below, stretch}
 
 -- the two lists have that room
 pub record NetRoom (offsets links : List ℕ) : Type 0 where
@@ -57,5 +57,6 @@ pub record NetOf (n : ℕ) (starts ends offsets links : List ℕ) : Type 0 where
   pub room : NetRoom offsets links
   pub forward : Stretches n (forwardOffsets offsets) (forwardLinks links)
   pub backward : Stretches n (backwardOffsets offsets) (backwardLinks links)
+  pub begins : (v : ℕ) → v ≤ n → getD (forwardOffsets offsets) v 0 ≡ below starts v
   pub drives : (v : ℕ) → v < n → driven offsets links v ≡ select starts ends v
   pub drivenBy : (v : ℕ) → v < n → driving offsets links v ≡ select ends starts v
