@@ -1,11 +1,9 @@
+pub mod Agreement
 pub mod Answers
 pub mod Sets
-mod Striking
 pub mod Row
-mod Falling
 pub mod Counting
 pub mod Meaning
-mod Between
 pub mod Narrow
 pub mod Host
 pub mod PreparedMasks
