@@ -10,8 +10,7 @@ use borrow.Author.Tests.{lt-ltb, le-ltb, le-leb, lt-leb}
 use lib.Dec.{leb, ltb}
 use lib.ListN.{length, getD, set, take, drop, replicate, length-take, length-drop, length-replicate, length-append, List·getD-append, getD-replicate, drop-of-length-le}
 use lib.Seq.{drop-cons, getD-append-add, getD-take, getD-drop, length-take-le}
-use Rattle.base_lists.specs.List.{any, tabulate}
-use Rattle.base_lists.proofs.Parts.{getD-part}
+use Rattle.base_lists.specs.List.{any, tabulate, part}
 use Rattle.base_lists.proofs.Tables.{length-tabulate, getD-tabulate, is-tabulate}
 use Rattle.base_bits.specs.Bits.{intersects, unionOver}
 use Rattle.graph.specs.Net.{forwardOffsets, forwardLinks, driven, Net}
@@ -107,7 +106,8 @@ module _ {n : ℕ} {offsets links : List ℕ} (net : Net n offsets links) (v : �
 
   -- the first half of the offsets has the node's
   pub start-at : getD offsets v 0 ≡ start
-  start-at = sym (getD-part 0 513 offsets v (omega (arith, net-few net)) ∙ ap (λ (i : ℕ). getD offsets i 0) (omega arith))
+  unfolding part
+  start-at = sym (getD-take 513 offsets v 0 (omega (arith, net-few net)))
 
   ends-part : ends ≡ take (getD (forwardOffsets offsets) (suc v) 0 - start) (drop start (forwardLinks links))
   unfolding driven

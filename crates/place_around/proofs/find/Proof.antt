@@ -8,7 +8,7 @@ use denote.Ref.{now}
 use lib.ListN.{length, length-take}
 use lib.Seq.{length-take-le}
 use Rattle.place.specs.Find.{SoughtBySome}
-use Rattle.place.proofs.Find.{sought-known, sets-ready, found-nothing, found-place}
+use Rattle.place.proofs.Find.{sought-known, sought-long, sets-ready, found-nothing, found-place}
 use Rattle.place_around.proofs.find.Statement.{statement}
 use Rattle.place_around.proofs.find.Tie as tie
 
@@ -22,7 +22,7 @@ refine-requires : tie.Need-refine-requires
 refine-requires c κs =
     let p = c .before .before .before .before .before .before .before .before .before .before .pre in
     let g = p .0 .1 .sought in
-    (sought-known g, (rw (g .begins .long) (g .list), (p .1 .1 .2, p .1 .0)))
+    (sought-known g, (rw (sought-long g) (g .list), (p .1 .1 .2, p .1 .0)))
 
 -- the rounds are done
 abbrev entry : tie.After-refine → tie.Start
@@ -32,7 +32,7 @@ entry c = c .before .before .before .before .before .before .before .before .bef
 centre : (c : tie.After-refine) → let s = entry c in s .args .c < length (c .refine .last .1 .1 .1 .1 .0)
 centre c =
     let g = entry c .pre .0 .1 .sought in
-    rw (c .refine .kept .1 .1 .1 .1 .0, g .begins .long) (g .centre)
+    rw (c .refine .kept .1 .1 .1 .1 .0, sought-long g) (g .centre)
 
 mul-if1 : tie.Need-mul-if1
 mul-if1 c = omega (arith, centre (c .before .before .before .before))
@@ -62,7 +62,7 @@ component-requires c κs =
     let lengths = s .pre .1 .1 in
     let kept = end .refine .kept .1 .1 .1 .1 .0 in (
       sets-ready g (end .refine .ensures _ _ (g .prepared) (g .begins)),
-      (rw (lengths .0, g .begins .long) (g .centre), (kept ∙ sym (lengths .0), lengths .0 ∙ sym (lengths .1))),
+      (rw (lengths .0, sought-long g) (g .centre), (kept ∙ sym (lengths .0), lengths .0 ∙ sym (lengths .1))),
     )
 
 same-length-4 : tie.Need-same-length-4
@@ -83,7 +83,7 @@ returns-2 c =
     let call = c .before .before .before .before .component in
     λ pattern board r g.
     found-place g (end .refine .ensures pattern board (g .prepared) (g .begins)) _
-    (rw (entry end .pre .1 .1 .0, g .begins .long) at (call .ensures .0)) _ _ (c .before .before .before .before .before .before .before .before .if1 .left) (call .ensures .1 .0) (call .ensures .1 .1)
+    (rw (entry end .pre .1 .1 .0, sought-long g) at (call .ensures .0)) _ _ (c .before .before .before .before .before .before .before .before .if1 .left) (call .ensures .1 .0) (call .ensures .1 .1)
 
 pub find-spec : {M : Type 1} → statement M
 find-spec =
