@@ -1,27 +1,16 @@
 -- Laws of a stretch of a list. Assumes nothing.
 use mathlib.Core.List.{List, _++_}
 use mathlib.Core.Path.{_≡_, ap, _∙_}
-use Prim.Native.Nat.{ℕ, _+_, _≤_, _<_}
+use Prim.Native.Nat.{ℕ, _+_, _≤_}
 use native.Mathlib.Omega.{arith}
-use lib.ListN.{length, getD, take, drop, length-append, length-take, length-drop}
-use lib.Seq.{take-at, drop-at, getD-take, getD-drop}
+use lib.ListN.{length, take, drop, length-append, length-take, length-drop}
+use lib.Seq.{take-at, drop-at}
 use Rattle.base_lists.specs.List.{part}
 
-module _ (at size : ℕ) (xs : List ℕ) where
-  -- its entries are the list's
-  pub getD-part : (i : ℕ) → i < size → getD (part at size xs) i 0 ≡ getD xs (at + i) 0
-  unfolding part
-  getD-part i h = rw (getD-take size (drop at xs) i 0 h) (getD-drop at xs i 0)
-
-  -- it has no more of them than asked for
-  pub length-part-le : length (part at size xs) ≤ size
-  unfolding part
-  length-part-le = simp (length-take, length-drop) (omega arith)
-
-  -- and as many where the list has them
-  pub length-part : at + size ≤ length xs → length (part at size xs) ≡ size
-  unfolding part
-  length-part h = simp (length-take, length-drop) (omega arith)
+-- it has no more entries than asked for
+pub length-part-le : (at size : ℕ) (xs : List ℕ) → length (part at size xs) ≤ size
+unfolding part
+length-part-le at size xs = simp (length-take, length-drop) (omega arith)
 
 -- A list that was filled in two halves: first its first `size` entries, by xs, and then the `size` entries after them, by ys.
 abbrev pub halved : ℕ → List ℕ → List ℕ → List ℕ → List ℕ

@@ -11,10 +11,10 @@ use Rattle.file_format.specs.declared.Role.the-variants.{Pattern}
 use Rattle.file_format.specs.Circuit.{circuitOf}
 use Rattle.file_format.specs.Layout.{nodesOf, lengthOf}
 use Rattle.file_format.specs.Reading.{ReadOutcome, filled}
-use Rattle.file_format.specs.Refusals.{accept, refuse, first, fileConditions, shortTable}
+use Rattle.file_format.specs.Refusals.{accept, refuse, first, fileConditions, shortTable, Accepted}
 use Rattle.file_format.specs.Reply.{reply}
 use Rattle.file_format.proofs.Fields.{length-kinds, length-starts}
-use Rattle.file_format.proofs.Refusals.{Accepted, accepted, first-accept, first-refuse}
+use Rattle.file_format.proofs.Refusals.{accepted, first-accept, first-refuse}
 use Rattle.file_format.proofs.Reading.{Loaded, frontOf, loaded-circuit}
 use Rattle.file_write.specs.Writing.{circuitConditions}
 use Rattle.merge.specs.Merged.{classes}

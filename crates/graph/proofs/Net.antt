@@ -6,12 +6,12 @@ use Prim.Native.Nat.{ℕ, suc, _≤_, _<_}
 use native.Mathlib.Omega.{arith}
 use lib.Dec.{T, ltb}
 use lib.ListN.{length, length-append}
-use Rattle.base_lists.specs.List.{all, part, Occurs, Below}
+use Rattle.base_lists.specs.List.{all, Occurs, Below}
 use Rattle.base_lists.proofs.Parts.{length-part-le, halved, part-first, part-second, length-halved}
 use Rattle.graph.specs.Bfs.{adjacent, Adjacency}
 use Rattle.graph.specs.Circuit.{HasLink}
 use Rattle.graph.specs.Neighbours.{select, offsetsOf, grouped, stretch}
-use Rattle.graph.specs.Net.{NetRoom, forwardOffsets, backwardOffsets, forwardLinks, backwardLinks, driven, driving, Stretches, Net, NetOf}
+use Rattle.graph.specs.Net.{NetRoom, driven, driving, Stretches, Net, NetOf}
 use Rattle.graph.proofs.Below.{below-append}
 use Rattle.graph.proofs.BfsScan.{occurs-append}
 use Rattle.graph.proofs.Groups.{key-below, below-mono, length-groups, length-offsets, offset-at, stretch-select, select-link, select-mem, select-mem-back}

@@ -7,7 +7,7 @@ use mathlib.Core.Path.{_≡_}
 use Prim.Native.Nat.{ℕ, zero, suc, _+_, _≤_, _<_}
 use lib.Dec.{eqb}
 use lib.ListN.{length, getD, take, drop, set, replicate}
-use Rattle.base_lists.specs.List.{Occurs, maximum, Below}
+use Rattle.base_lists.specs.List.{Occurs, Below}
 use Rattle.graph.specs.Graph.{Walk}
 use Rattle.graph.specs.Net.{driven, driving}
 use Rattle.graph.specs.Search.{far}
@@ -46,10 +46,6 @@ start n c = record { dist = set (replicate n far) c 0; reached = c ∷ [] }
 -- breadth-first search among n nodes from c up to distance r
 unfoldable pub bfs : (ℕ → List ℕ) → ℕ → ℕ → ℕ → State
 bfs adj n c r = levels adj r 0 0 (start n c)
-
--- the eccentricity of c: the largest distance from it that a search among n nodes finds
-unfoldable pub eccentricity : (ℕ → List ℕ) → ℕ → ℕ → ℕ
-eccentricity adj n c = maximum (bfs adj n c n .dist)
 
 -- the neighbours of v, directions ignored: what it drives, then what drives it
 unfoldable pub adjacent : List ℕ → List ℕ → ℕ → List ℕ

@@ -38,9 +38,9 @@ pub is-spanning : (full : ℕ) (sets : List ℕ) → ((i : ℕ) → i < length s
 unfolding spanning
 is-spanning full sets f = T-true (at-all (λ x. eqb x full) sets (λ i h. true-T (eq-eqb _ full (f i h))))
 
-pub not-spanning : (full : ℕ) (sets : List ℕ) (i : ℕ) → i < length sets → getD sets i 0 ≢ full → spanning full sets ≡ false
+pub not-spanning : (full : ℕ) (sets : List ℕ) (i : ℕ) → getD sets i 0 ≢ full → i < length sets → spanning full sets ≡ false
 unfolding spanning
-not-spanning full sets i h f = T-false (λ t. f (eqb→eq _ full (all-at (λ x. eqb x full) sets t i h)))
+not-spanning full sets i f h = T-false (λ t. f (eqb→eq _ full (all-at (λ x. eqb x full) sets t i h)))
 
 -- ---- every ball has every node
 

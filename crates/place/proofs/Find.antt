@@ -17,6 +17,7 @@ use Rattle.table.specs.declared.Rest.{Rest}
 use Rattle.table.specs.Fill.{marksOf, tableAt}
 use Rattle.table.specs.Prepared.{succOf, Tables, Prepared, Ready}
 use Rattle.table.specs.Refine.{Known, Rested}
+use Rattle.table.specs.Row.{problemOf}
 use Rattle.table.proofs.Sets.{fits-word}
 use Rattle.place.specs.Match.{ballOf, ballTable, found, placeNodes, placeLinks, placeTable}
 use Rattle.place.specs.Spread.{matched, Spread, Lists}
@@ -35,6 +36,11 @@ module _ {pattern board : Circuit} {t : Tables} {w r : ℕ} {nodes first : List 
   -- the rounds may begin with the first table
   pub sought-known : Known t nodes first
   sought-known = record { pattern = pattern; host = board; prepared = s .prepared; begins = s .begins }
+
+  -- which has a set for each node
+  pub sought-long : length first ≡ length (board .kinds)
+  unfolding problemOf
+  sought-long = s .begins .long
 
   joins : Within n (board .starts) (board .ends)
   unfolding Below

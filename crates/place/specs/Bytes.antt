@@ -2,8 +2,8 @@
 -- list of the nodes that it reached, which the contracts of the marking functions cite. proofs/Bytes ties the first to the place's bytes and
 -- its table, proofs/Listed the second to the first.
 use mathlib.Core.Bool.{Bool, _&&_, cond}
-use mathlib.Core.List.{List}
-use Prim.Native.Nat.{ℕ, suc}
+use mathlib.Core.List.{List, [], _∷_}
+use Prim.Native.Nat.{ℕ, suc, _≤_, _<_}
 use lib.Dec.{eqb, ltb, leb}
 use lib.ListN.{length, getD}
 use Rattle.base_lists.specs.List.{any, tabulate}
@@ -46,6 +46,22 @@ marksLink t sets i v =
     (leb (getD (forwardOffsets (t .offsets)) v 0) i && ltb i (getD (forwardOffsets (t .offsets)) (suc v) 0))
     && intersects (drivenBy (succOf (t .masks)) sets v) (getD sets (getD (forwardLinks (t .links)) i 0) 0)
 
+-- the bytes of a node's links, where those whose ends have a part of the set are marked
+unfoldable pub markedEnds : ℕ → List ℕ → List ℕ → List ℕ → List ℕ
+markedEnds set sets ends bytes = tabulate (length ends) (λ k. cond (intersects set (getD sets (getD ends k 0) 0)) 1 (getD bytes k 0))
+
+-- the bytes of all links, where those that node v marks are marked; the same for each node of a list
+unfoldable pub markStart : Tables → List ℕ → ℕ → List ℕ → List ℕ
+markStart t sets v bytes = tabulate (length bytes) (λ i. cond (marksLink t sets i v) 1 (getD bytes i 0))
+
+unfoldable pub markStarts : Tables → List ℕ → List ℕ → List ℕ → List ℕ
+markStarts t sets [] bytes = bytes
+markStarts t sets (v ∷ vs) bytes = markStarts t sets vs (markStart t sets v bytes)
+
 -- a byte for each of m links, 1 for those that start at a node of the list and match
 unfoldable pub linkMarks : ℕ → Tables → List ℕ → List ℕ → List ℕ
 linkMarks m t sets nodes = tabulate m (λ i. cond (any (marksLink t sets i) nodes) 1 0)
+
+-- the bytes have one for each link of n nodes
+abbrev pub LinksFit : ℕ → List ℕ → List ℕ → Type 0
+LinksFit n offsets bytes = (v : ℕ) → v < n → getD (forwardOffsets offsets) (suc v) 0 ≤ length bytes

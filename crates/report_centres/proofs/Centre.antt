@@ -15,9 +15,8 @@ use Rattle.base_text.specs.Text.{Put}
 use Rattle.base_lists.specs.List.{Below}
 use Rattle.graph.specs.Circuit.{Circuit}
 use Rattle.table.specs.Host.{everything}
-use Rattle.table.specs.Row.{inTable}
+use Rattle.table.specs.Row.{inTable, InTable}
 use Rattle.table.specs.Prepared.{Tables}
-use Rattle.table.proofs.Answers.{InTable}
 use Rattle.table.proofs.Host.{everything-taken}
 use Rattle.table.proofs.Meaning.{last-fits}
 use Rattle.table.proofs.Narrow.{last-wider}

@@ -10,19 +10,20 @@ use Rattle.base_lists.proofs.Tests.{T-true, false-T}
 use Rattle.base_bits.specs.Bits.{bit}
 use Rattle.base_bits.proofs.Digits.{bit-of-zero}
 use Rattle.graph.specs.Circuit.{Circuit}
+use Rattle.table_row.specs.Row.{startedOf, struckOf}
+use Rattle.table_row.specs.Reading.{InTable}
+use Rattle.table_row.proofs.Sets.{in-node, fits-node}
+use Rattle.table_row.proofs.Begin.{start-begins}
 use Rattle.table.specs.declared.Rest.{Rest}
 use Rattle.table.specs.Fill.{listed, marksOf, tableAt}
 use Rattle.table.specs.First.{Begins, startNode, Written}
 use Rattle.table.specs.Host.{Taken, hostGraph}
-use Rattle.table.specs.Row.{inTable, pairs, startTable, started, struck, lastTable}
+use Rattle.table.specs.Row.{inTable, pairs, problemOf, startTable, started, lastTable}
 use Rattle.table.specs.Refine.{Rested, countsOf, countsFrom, Refined}
-use Rattle.table.proofs.Answers.{InTable}
-use Rattle.table.proofs.Between.{start-begins}
 use Rattle.table.proofs.Counting.{kept-started}
 use Rattle.table.proofs.Meaning.{last-fits, last-candidate}
 use Rattle.table.proofs.Narrow.{last-wider}
 use Rattle.table.proofs.Row.{start-in}
-use Rattle.table.proofs.Sets.{in-node, fits-node}
 use Rattle.table.proofs.StrikeFill.{length-table, getD-table}
 use Rattle.table.proofs.StrikeRow.{inside-marks, start-row}
 
@@ -38,11 +39,11 @@ module _ (pattern host : Circuit) (nodes : List ℕ) {n : ℕ} (long : n ≡ len
     started-table = w .made ∙ ap (λ (m : ℕ). tableAt m (startNode (pattern .kinds) (host .kinds)) nodes) long ∙ start-row pattern host nodes
 
     pub started-begins : Begins pattern host marks first
-    started-begins = rw started-table (start-begins pattern host marks)
+    started-begins = rw started-table (start-begins (problemOf pattern host marks))
 
     -- and its pairs are those at first
     pub started-count : count ≡ started pattern host marks
-    unfolding started
+    unfolding startedOf
     started-count = w .size ∙ ap pairs started-table
 
     -- With what the rounds come to this gives the four counts.
@@ -51,7 +52,7 @@ module _ (pattern host : Circuit) (nodes : List ℕ) {n : ℕ} (long : n ≡ len
       kept-first = rw (r .kept, started-count) (kept-started pattern host marks most)
 
       pub refined : Refined pattern host marks last (countsFrom count rest)
-      unfolding countsOf struck
+      unfolding countsOf struckOf
       refined = record { counted = rw (r .kept, r .rounds started-table, started-count); last = r .last }
 
   -- ---- a larger graph's last table, at the nodes of the list
@@ -83,7 +84,7 @@ module _ (pattern host : Circuit) (nodes : List ℕ) {n : ℕ} (long : n ≡ len
 
     -- so it is one to begin with
     pub copied-begins : Begins pattern host marks first
-    unfolding hostGraph
+    unfolding hostGraph problemOf
     copied-begins =
         record {
           long = ap length made ∙ length-table (length (host .kinds)) rule nodes;

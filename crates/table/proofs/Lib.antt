@@ -1,14 +1,13 @@
+pub mod Agreement
 pub mod Answers
 pub mod Sets
 pub mod Row
-mod Falling
 pub mod Counting
 pub mod Meaning
-mod Between
 pub mod Narrow
 pub mod Host
 pub mod PreparedMasks
-mod StrikeFill
+pub mod StrikeFill
 pub mod NodeLists
 pub mod Masks
 pub mod Prepare

@@ -4,28 +4,30 @@ use Prim.Native.Nat.{ℕ, _≤_}
 use lib.ListN.{length}
 use Rattle.graph.specs.Circuit.{Circuit}
 use Rattle.simulation.specs.Closed.{_⊆_}
-use Rattle.simulation.proofs.Simulation.{along-wider}
+use Rattle.table_row.specs.Reading.{InTable, Wider}
+use Rattle.table_row.proofs.Wider as Of
 use Rattle.table.specs.Host.{Taken, hostGraph}
-use Rattle.table.specs.Row.{lastTable}
-use Rattle.table.proofs.Answers.{InTable}
-use Rattle.table.proofs.Meaning.{last-closed}
+use Rattle.table.specs.Row.{problemOf, lastTable}
+use Rattle.table.proofs.Row.{agreeing-iff}
+
+-- on more nodes of the same circuit the problem asks no more
+pub more-nodes :
+    (pattern host : Circuit) (taken taken′ : List ℕ) → ((v : ℕ) → Taken host taken v → Taken host taken′ v) →
+    Wider (problemOf pattern host taken) (problemOf pattern host taken′)
+unfolding problemOf hostGraph
+more-nodes pattern host taken taken′ more =
+    record {
+      agree =
+          λ u v a.
+          let c = agreeing-iff pattern host taken u v .0 a in
+          agreeing-iff pattern host taken′ u v .1 (record { part = c .part; node = more v (c .node); kinds = c .kinds });
+      step = λ d u u′ l. (d, record { way = l .way; step = l .step }, λ v v′ a b m. record { move = m .move });
+    }
 
 -- what lies in the largest set of H lies in that of a graph with more nodes of the same circuit
 pub last-wider :
     (pattern host : Circuit) (taken taken′ : List ℕ) → length (pattern .kinds) ≤ 32 →
     ((v : ℕ) → Taken host taken v → Taken host taken′ v) →
     InTable (lastTable pattern host taken) ⊆ InTable (lastTable pattern host taken′)
-unfolding hostGraph
-last-wider pattern host taken taken′ most more =
-    let here = last-closed pattern host taken most .closed in
-    last-closed pattern host taken′ most .contains (InTable (lastTable pattern host taken))
-    (record {
-      agree =
-          λ u v s.
-          let c = here .agree u v s in
-          record { part = c .part; node = more v (c .node); kinds = c .kinds };
-      partner =
-          λ d u v u′ s l.
-          let (v′, m, s′) = here .partner d u v u′ s l in
-          (v′, along-wider (λ x y g. (g .0, more x (g .1), more y (g .2))) d v v′ m, s′);
-    })
+unfolding problemOf
+last-wider pattern host taken taken′ most more = Of.last-wider (more-nodes pattern host taken taken′ more) most most

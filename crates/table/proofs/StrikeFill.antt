@@ -153,6 +153,10 @@ pub filling-start : (f : ℕ → ℕ) (nodes before : List ℕ) → Filling f no
 filling-start f nodes before = record { within = zero-le; long = refl; table = refl; size = omega arith }
 
 module _ {f : ℕ → ℕ} {nodes before after : List ℕ} {count i : ℕ} (g : Filling f nodes before after count i) where
+  -- the count fits its type, when the size of a set is added
+  pub filling-fits : length nodes ≤ 65536 → (x : ℕ) {s : ℕ} → s ≡ sizeOf x → count + s < 2 ^ 32
+  filling-fits short x d = omega (arith, g .size, sizes-le f nodes, d, size-le x)
+
   module _ (h : i < length nodes) where
     next : drop i nodes ≡ getD nodes i 0 ∷ drop (i + 1) nodes
     next = rw (add-one, drop-cons nodes i 0)
@@ -160,10 +164,6 @@ module _ {f : ℕ → ℕ} {nodes before after : List ℕ} {count i : ℕ} (g : 
     sizes-next : sizeOf (f (getD nodes i 0)) + sizesAt f (drop (i + 1) nodes) ≡ sizesAt f (drop i nodes)
     unfolding sizesAt
     sizes-next = sym (ap (sizesAt f) next)
-
-    -- the count fits its type, when the size of the next set is added
-    pub filling-fits : length nodes ≤ 65536 → {x s : ℕ} → x ≡ f (getD nodes i 0) → s ≡ sizeOf x → count + s < 2 ^ 32
-    filling-fits short e d = omega (arith, g .size, sizes-next, sizes-le f nodes, d, ap sizeOf e)
 
     -- one turn: x is written at the next node, and its size added
     pub filling-next : {x s : ℕ} → x ≡ f (getD nodes i 0) → s ≡ sizeOf x → Filling f nodes before (set after (getD nodes i 0) x) (count + s) (i + 1)

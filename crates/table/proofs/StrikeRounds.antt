@@ -3,7 +3,7 @@ use mathlib.Core.Bool.{Bool, true, false, cond}
 use mathlib.Core.List.{List}
 use mathlib.Core.Logic.{_⊎_, ⊎-elim}
 use mathlib.Core.Path.{_≡_, refl, sym, ap, subst, _∙_}
-use Prim.Native.Nat.{ℕ, zero, suc, _+_, _^_, _≤_, _<_}
+use Prim.Native.Nat.{ℕ, suc, _+_, _^_, _≤_, _<_}
 use native.Mathlib.Nat.{le-refl, not-suc-le-zero, lt-of-le-of-lt}
 use native.Mathlib.Numerals.{add-one}
 use native.Mathlib.Decide.{decLt}
@@ -17,19 +17,22 @@ use Rattle.base_bits.proofs.Digits.{bit-of-zero}
 use Rattle.base_bits.proofs.Numbers.{subset-le}
 use Rattle.graph.specs.Circuit.{Circuit}
 use Rattle.graph.proofs.Net.{net-of}
-use Rattle.table.specs.Row.{inTable, pairs, startTable, row, lastTable, kept, rounds}
+use Rattle.simulation.specs.Simulation.{Direction}
+use Rattle.table_row.specs.Problem.{Problem}
+use Rattle.table_row.specs.Row.{rowFrom, rowOf, keptOf}
+use Rattle.table_row.proofs.Sets.{fits-word, pairs-progress}
+use Rattle.table_row.proofs.Falling.{FirstRest, falls-count}
+use Rattle.table_row.proofs.Counting.{first-rounds}
+use Rattle.table_row.proofs.Begin.{begins-fits, begins-times, begins-rest}
+use Rattle.table.specs.Row.{inTable, pairs, problemOf, startTable, lastTable, rounds}
 use Rattle.table.specs.Fill.{listed, marksOf, NodeList, Cleared, Filled, tableAt}
 use Rattle.table.specs.First.{Begins}
 use Rattle.table.specs.Prepared.{Tables, Ready, Prepared}
 use Rattle.table.specs.Refine.{Rested}
 use Rattle.table.specs.Strike.{strikeNode, strikeTable, strikeTimes, Round, Settled}
-use Rattle.table.proofs.Sets.{fits-word, pairs-progress}
-use Rattle.table.proofs.Falling.{falls-count}
-use Rattle.table.proofs.Counting.{first-rounds}
-use Rattle.table.proofs.Between.{begins-fits, begins-next, begins-rest}
 use Rattle.table.proofs.StrikeFill.{length-table, getD-table, cleared-table, fill-table, pairs-table}
 use Rattle.table.proofs.StrikeSets.{survivors-subset}
-use Rattle.table.proofs.StrikeRow.{begins-cleared, strike-row, times-row}
+use Rattle.table.proofs.StrikeRow.{begins-cleared, times-row}
 
 -- ---- a round shrinks the sets
 
@@ -134,7 +137,7 @@ module _ {pattern host : Circuit} {t : Tables} (p : Prepared pattern host t) (no
     (b : Begins pattern host (marksOf (length (host .kinds)) nodes) first) where
   pub first-round : {spare : List ℕ} {started : ℕ} → Cleared nodes spare → length spare ≡ length first → started ≡ pairs first
       → Round t nodes first first spare started 0
-  unfolding strikeTimes
+  unfolding strikeTimes problemOf
   first-round free long count =
       record {
         table = refl;
@@ -144,20 +147,12 @@ module _ {pattern host : Circuit} {t : Tables} (p : Prepared pattern host t) (no
             record {
               masks = p .masked .room;
               net = rw (b .long) (net-of (p .net));
-              small = fits-word (p .parts) (begins-fits b);
+              small = fits-word (p .parts) (begins-fits (problemOf pattern host (marksOf (length (host .kinds)) nodes)) b);
             };
-        cleared = begins-cleared nodes b;
+        cleared = begins-cleared pattern host nodes b;
         free = free;
         long = long;
       }
-
-  -- a round keeps the table between the last and the first one
-  times-begins : (k : ℕ) → Begins pattern host (marksOf (length (host .kinds)) nodes) (strikeTimes t nodes first k)
-  unfolding strikeTimes
-  times-begins zero = b
-  times-begins (suc k) =
-      let old = times-begins k in
-      rw (strike-row pattern host t p nodes (strikeTimes t nodes first k) (begins-fits old) (begins-cleared nodes old)) (begins-next (p .parts) old)
 
   -- ---- what the loop settles at is the end of the row
 
@@ -165,28 +160,30 @@ module _ {pattern host : Circuit} {t : Tables} (p : Prepared pattern host t) (no
     abbrev marks : List ℕ
     marks = marksOf (length (host .kinds)) nodes
 
-    settled-last : last ≡ lastTable pattern host marks
-    settled-last =
-        let here : Begins pattern host marks last = rw (s .table) (times-begins r) in
-        begins-rest (p .parts) here (sym (strike-row pattern host t p nodes last (begins-fits here) (begins-cleared nodes here)) ∙ s .stops)
+    abbrev problem : Problem Direction
+    problem = problemOf pattern host marks
 
     settled-again : strikeTimes t nodes first (suc r) ≡ strikeTimes t nodes first r
     unfolding strikeTimes
     settled-again = ap (strikeTable t nodes) (sym (s .table)) ∙ s .stops ∙ s .table
 
+    repeats : rowFrom problem first (suc r) ≡ rowFrom problem first r
+    repeats = sym (times-row pattern host t p nodes b (suc r)) ∙ settled-again ∙ times-row pattern host t p nodes b r
+
+    settled-last : last ≡ lastTable pattern host marks
+    unfolding rowFrom problemOf
+    settled-last = s .table ∙ times-row pattern host t p nodes b r ∙ begins-rest problem (p .parts) (begins-times problem (p .parts) b r) repeats
+
     -- from the first table of the row, the rounds are those of the row
     settled-rounds : first ≡ startTable pattern host marks → r ≡ rounds pattern host marks
-    settled-rounds e = sym (first-rounds pattern host marks (record { falls = falls; repeats = repeats }))
+    unfolding rowOf
+    settled-rounds e =
+        let rest : FirstRest pairs (rowFrom problem first) r = record { falls = falls; repeats = repeats } in
+        sym (first-rounds problem (rw e at rest))
       where
-        after : (j : ℕ) → strikeTimes t nodes first j ≡ row pattern host marks j
-        after j = ap (λ (x : List ℕ). strikeTimes t nodes x j) e ∙ times-row pattern host t p nodes j
-
-        falls : (j : ℕ) → j < r → pairs (row pattern host marks (suc j)) < pairs (row pattern host marks j)
-        falls j h = rw (← after j, ← after (suc j)) (s .falls j h)
-
-        repeats : row pattern host marks (suc r) ≡ row pattern host marks r
-        repeats = sym (after (suc r)) ∙ settled-again ∙ after r
+        falls : (j : ℕ) → j < r → pairs (rowFrom problem first (suc j)) < pairs (rowFrom problem first j)
+        falls j h = rw (← times-row pattern host t p nodes b j, ← times-row pattern host t p nodes b (suc j)) (s .falls j h)
 
     pub settled-rested : Rested pattern host marks first last (record { kept = k; rounds = r })
-    unfolding kept
+    unfolding keptOf
     settled-rested = record { last = settled-last; kept = s .count ∙ ap pairs settled-last; rounds = settled-rounds }

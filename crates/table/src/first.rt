@@ -1,18 +1,18 @@
-// First tables, which striking begins with: each node's parts of the same kind, or what another table has.
+// First tables, which striking begins with: the parts that agree with each node, or what another table has.
 use base_bits::clear;
 ghost use mathlib.Core.Path.{_≡_};
 ghost use Prim.Native.Nat.{_≤_};
-ghost use lib.Dec.{eqb};
 ghost use lib.ListN.{length, getD};
 ghost use Rattle.base_bits.specs.Bits.{numberOf};
 ghost use Rattle.base_lists.specs.List.{Below};
 ghost use Rattle.table.specs.Fill.{NodeList};
 ghost use Rattle.table.specs.First.{startNode, Written};
+ghost use Rattle.table.specs.Row.{kindsAgree};
 
-// The set of the parts of a kind.
+// The set of the parts that agree with a node of this kind.
 fn alike(part_kinds: &[u16], kind: u16) -> u32
     requires { ⌜ length (now «part_kinds») ≤ 32 ⌝ }
-    ensures { λ r. ⌜ r ≡ numberOf (length (now («part_kinds» .entry))) (λ u. eqb (getD (now («part_kinds» .entry)) u 0) kind) ⌝ }
+    ensures { λ r. ⌜ r ≡ numberOf (length (now («part_kinds» .entry))) (λ u. kindsAgree (getD (now («part_kinds» .entry)) u 0) kind) ⌝ }
 {
     let mut set: u32 = 0;
     let mut u = 0;
@@ -25,7 +25,7 @@ fn alike(part_kinds: &[u16], kind: u16) -> u32
     set
 }
 
-// The table that has at each node of the list its parts of the same kind, and is empty elsewhere. Returns how many pairs it has.
+// The table that has at each node of the list the parts that agree with it, and is empty elsewhere. Returns how many pairs it has.
 pub fn start(nodes: &[u16], part_kinds: &[u16], node_kinds: &[u16], table: &mut [u32]) -> u32
     requires { ⌜ length (now «part_kinds») ≤ 32 ⌝ }
     requires { ⌜ NodeList (length (now table)) (now nodes) ⌝ }

@@ -1,5 +1,10 @@
 // The match table, by striking pairs in rounds.
 
+// The masks of a pattern: for each of 32 parts the parts that it drives, and then for each those that drive it.
+pub const MASKS: usize = 64;
+
+pub const FORWARD_MASKS: usize = 32;
+
 pub mod first;
 pub mod largest;
 mod strike;

@@ -1,5 +1,7 @@
 // One round of striking. A part stays at a node when each part that it drives occurs at some node that the node drives, and the same
 // backward. Which parts occur there is one union of sets for each direction, so a round looks at each link twice and at each pair once.
+use crate::FORWARD_MASKS;
+use crate::MASKS;
 use graph_neighbours::neighbours::Direction;
 use graph_neighbours::neighbours::neighbours_in;
 ghost use mathlib.Core.Path.{_≡_};
@@ -59,7 +61,13 @@ fn strike_node(masks: &[u32], offsets: &[u16], links: &[u16], old: &[u32], v: us
     }
     let f = reach(neighbours_in(Direction::Forward, offsets, links, v), old);
     let b = reach(neighbours_in(Direction::Backward, offsets, links, v), old);
-    surviving(set, &masks[..32], &masks[32..64], f, b)
+    surviving(
+        set,
+        &masks[..FORWARD_MASKS],
+        &masks[FORWARD_MASKS..MASKS],
+        f,
+        b,
+    )
 }
 
 // Writes the next set of each node of the list into `new`, each from the table `old` whole, and returns how many pairs these sets have.

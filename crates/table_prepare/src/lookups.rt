@@ -1,6 +1,8 @@
 // What a round looks up: the pattern's masks, and the board's neighbour tables.
 use crate::masks::masks_of;
 use graph_neighbours::tables::neighbour_tables;
+use table::FORWARD_MASKS;
+use table::MASKS;
 ghost use mathlib.Core.Path.{_≡_};
 ghost use Prim.Native.Nat.{_≤_};
 ghost use lib.Dec.{T, ltb};
@@ -28,6 +30,6 @@ pub fn prepare(
     ensures { λ _. ⌜ NetOf n (now («node_starts» .entry)) (now («node_ends» .entry)) (now (offsets .exit)) (now (links .exit)) ⌝ }
 {
     neighbour_tables(n, node_starts, node_ends, offsets, links);
-    masks_of(part_starts, part_ends, &mut masks[..32]);
-    masks_of(part_ends, part_starts, &mut masks[32..64]);
+    masks_of(part_starts, part_ends, &mut masks[..FORWARD_MASKS]);
+    masks_of(part_ends, part_starts, &mut masks[FORWARD_MASKS..MASKS]);
 }

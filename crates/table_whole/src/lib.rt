@@ -1,6 +1,9 @@
 // The match table of a pattern on a whole board, both read.
 use file_format::Board;
+use graph_neighbours::tables::LINKS;
+use graph_neighbours::tables::OFFSETS;
 use table::Counts;
+use table::MASKS;
 use table::first::start;
 use table::largest::counted;
 use table::largest::refine;
@@ -102,9 +105,9 @@ pub fn match_circuits(
     requires { λ α. ⌜ length (now table) ≡ length (now «node_kinds») ⌝ }
     ensures { λ α r. ⌜ MatchedOn (α .0) (α .1) (now (table .exit)) r ⌝ }
 {
-    let mut masks = [0u32; 64];
-    let mut offsets = [0u16; 1026];
-    let mut links = [0u16; 8192];
+    let mut masks = [0u32; MASKS];
+    let mut offsets = [0u16; OFFSETS];
+    let mut links = [0u16; LINKS];
     prepare_and_match(
         part_kinds,
         part_starts,

@@ -1,6 +1,4 @@
 -- `graph::mark` meets its contract. Assumes nothing.
-use mathlib.Core.Bool.{cond}
-use mathlib.Core.Path.{sym, ap}
 use borrow.Author.Needs.{needs}
 use Rattle.graph.specs.Search.{mark}
 use Rattle.graph.proofs.mark.Statement.{statement}

@@ -24,9 +24,7 @@ shared-slice-read-if1 : tie.Need-shared-slice-read-if1 Inv-loop μ-loop
 shared-slice-read-if1 c = omega arith
 
 returns : tie.Need-returns Inv-loop μ-loop
-returns c =
-    let at-loop = c .before .before .before in
-    sym (not-spanning _ _ (at-loop .loop .u) (omega arith) (c .if1 .taken))
+returns c = sym (not-spanning _ _ _ (c .if1 .taken) (omega arith))
 
 add-u : tie.Need-add-u Inv-loop μ-loop
 add-u c = omega arith

@@ -1,17 +1,14 @@
 -- `table_whole::match_prepared` meets its contract: every node is listed, and the pairs of equal kinds are struck to the end. Assumes nothing.
-use mathlib.Core.List.{List}
-use mathlib.Core.Path.{_≡_, sym, _∙_}
-use Prim.Native.Nat.{ℕ, _≤_}
+use mathlib.Core.Path.{sym, _∙_}
+use Prim.Native.Nat.{_≤_}
 use native.Mathlib.Nat.{le-trans}
+use native.Mathlib.Omega.{arith}
 use borrow.Author.Needs.{needs}
 use denote.Ref.{now}
 use lib.Dec.{lit≤}
 use lib.ListN.{length}
-use Rattle.graph.specs.Circuit.{Circuit, circuit}
 use Rattle.graph.proofs.Net.{net-of, net-few}
 use Rattle.table.specs.Fill.{NodeList}
-use Rattle.table.specs.Prepared.{tables, Prepared}
-use Rattle.table.specs.Refine.{Rested, MatchedOn}
 use Rattle.table.proofs.Begun.{started-begins, kept-first, refined}
 use Rattle.table.proofs.Prepare.{listed-all, refined-everything}
 use Rattle.table.proofs.NodeLists.{all-list}
@@ -70,7 +67,7 @@ counted-requires c κs =
     let p = start .pre .0 .prepared in
     let long = start .pre .1 .0 in
     let w = first .start .ensures in
-    kept-first _ _ _ long w (p .parts) (end .refine .ensures _ _ p (started-begins _ _ _ long w))
+    omega (arith, kept-first _ _ _ long w (p .parts) (end .refine .ensures _ _ p (started-begins _ _ _ long w)))
 
 same-length : tie.Need-same-length
 same-length c = search needs

@@ -1,9 +1,9 @@
 -- `table_whole::prepare_and_match` meets its contract: the masks and the neighbour tables are prepared, and the pairs are struck from there.
 -- Assumes nothing.
 use mathlib.Core.Path.{sym}
+use native.Mathlib.Omega.{arith}
 use borrow.Author.Needs.{needs}
 use denote.Ref.{now}
-use lib.ListN.{length}
 use lib.Seq.{length-take-le}
 use Rattle.graph.specs.Circuit.{circuit}
 use Rattle.graph.proofs.Below.{below-wider}
@@ -21,12 +21,10 @@ prepare-requires : tie.Need-prepare-requires
 prepare-requires c κs =
     let p = entry c .pre in
     let pattern = p .0 in
+    let starts = below-wider _ 32 _ (pattern .nodes) (all-below _ _ (bounded-starts pattern)) in
+    let ends = below-wider _ 32 _ (pattern .nodes) (all-below _ _ (bounded-ends pattern)) in
     let board = p .1 .0 in (
-      (
-        pattern .parallel,
-        below-wider _ 32 _ (pattern .nodes) (all-below _ _ (bounded-starts pattern)),
-        below-wider _ 32 _ (pattern .nodes) (all-below _ _ (bounded-ends pattern)),
-      ),
+      (omega (arith, pattern .parallel), search needs, search needs),
       ((board .nodes, board .parallel, board .links), ((bounded-starts board, bounded-ends board), p .1 .1 .1)),
     )
 

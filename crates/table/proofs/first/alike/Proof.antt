@@ -5,18 +5,18 @@ use mathlib.Core.Path.{_≡_, refl, ap, ap₂, _∙_}
 use Prim.Native.Nat.{ℕ, _-_, _≤_}
 use native.Mathlib.Omega.{arith}
 use borrow.Author.Needs.{needs}
-use borrow.Author.Tests.{eq-eqb, ne-eqb}
 use denote.Ref.{now}
 use lib.Bits.{bitOr}
-use lib.Dec.{eqb}
 use lib.ListN.{length, getD}
 use Rattle.base_bits.specs.Bits.{numberOf}
 use Rattle.base_bits.proofs.Numbers.{number-insert, number-skip}
+use Rattle.table.specs.Row.{kindsAgree}
+use Rattle.table.proofs.Agreement.{kinds-equal, kinds-differ}
 use Rattle.table.proofs.first.alike.Statement.{statement}
 use Rattle.table.proofs.first.alike.Tie as tie
 
 abbrev Inv-loop : tie.InvT-loop
-Inv-loop part-kinds kind set₀ u₀ set u = (u ≤ length part-kinds) × (set ≡ numberOf u (λ x. eqb (getD part-kinds x 0) kind))
+Inv-loop part-kinds kind set₀ u₀ set u = (u ≤ length part-kinds) × (set ≡ numberOf u (λ x. kindsAgree (getD part-kinds x 0) kind))
 
 abbrev μ-loop : tie.MeasureT-loop
 μ-loop part-kinds kind set₀ u₀ set u = length part-kinds - u
@@ -55,8 +55,8 @@ loop-again c =
           (λ w.
           w .2
           ∙ ap₂ bitOr inv (w .1 .ensures)
-          ∙ number-insert u (λ x. eqb (getD kinds x 0) (a .kind)) (eq-eqb (getD kinds u 0) (a .kind) (w .0 .taken)))
-          (λ w. w .1 ∙ inv ∙ number-skip u (λ x. eqb (getD kinds x 0) (a .kind)) (ne-eqb (getD kinds u 0) (a .kind) (w .0 .left)))
+          ∙ number-insert u (λ x. kindsAgree (getD kinds x 0) (a .kind)) (kinds-equal (getD kinds u 0) (a .kind) (w .0 .taken)))
+          (λ w. w .1 ∙ inv ∙ number-skip u (λ x. kindsAgree (getD kinds x 0) (a .kind)) (kinds-differ (getD kinds u 0) (a .kind) (w .0 .left)))
           (c .if1 .came),
     )
 
@@ -65,7 +65,7 @@ returns c =
     let loop = c .before in
     let a = loop .before .before .args in
     let done : loop .loop .u ≡ length (now (a .part-kinds)) = omega arith in
-    loop .loop .inv .1 ∙ ap (λ (n : ℕ). numberOf n (λ x. eqb (getD (now (a .part-kinds)) x 0) (a .kind))) done
+    loop .loop .inv .1 ∙ ap (λ (n : ℕ). numberOf n (λ x. kindsAgree (getD (now (a .part-kinds)) x 0) (a .kind))) done
 
 pub alike-spec : {M : Type 1} → statement M
 alike-spec = tie.close (tie.spec Inv-loop μ-loop loop-holds mul-if1 shared-slice-read-if1 cast-single single-requires add-u loop-less loop-again returns)

@@ -67,7 +67,7 @@ size-requires c κs = search needs
 add-copied : tie.Need-add-copied Inv-loop μ-loop
 add-copied c =
     let loop = c .before .before .before .before in
-    omega (arith, filling-fits (loop .loop .inv) (omega arith) (omega arith) refl (c .size .ensures))
+    omega (arith, filling-fits (loop .loop .inv) (omega arith) _ (c .size .ensures))
 
 add-i : tie.Need-add-i Inv-loop μ-loop
 add-i c = omega arith

@@ -77,7 +77,7 @@ size-requires c κs = search needs
 add-started : tie.Need-add-started Inv-loop μ-loop
 add-started c =
     let loop = c .before .before .before .before .before in
-    omega (arith, filling-fits (loop .loop .inv) (omega arith) (omega arith) (made (c .before)) (c .size .ensures))
+    omega (arith, filling-fits (loop .loop .inv) (omega arith) _ (c .size .ensures))
 
 add-i : tie.Need-add-i Inv-loop μ-loop
 add-i c = omega arith

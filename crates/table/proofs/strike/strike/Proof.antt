@@ -60,7 +60,7 @@ size-requires c κs = search needs
 add-kept : tie.Need-add-kept Inv-loop μ-loop
 add-kept c =
     let loop = c .before .before .before .before in
-    omega (arith, filling-fits (loop .loop .inv) (omega arith) (omega arith) (c .before .strike-node .ensures) (c .size .ensures))
+    omega (arith, filling-fits (loop .loop .inv) (omega arith) _ (c .size .ensures))
 
 add-i : tie.Need-add-i Inv-loop μ-loop
 add-i c = omega arith

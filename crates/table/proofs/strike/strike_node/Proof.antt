@@ -7,9 +7,10 @@ use lib.ListN.{drop, length-drop}
 use lib.Seq.{length-take-le}
 use Rattle.base_lists.specs.List.{part}
 use Rattle.base_bits.specs.Bits.{unionAt}
-use Rattle.graph.proofs.Net.{driven-below, driving-below}
-use Rattle.table.specs.Prepared.{Tables, tables}
+use Rattle.graph_neighbours.specs.declared.neighbours.Direction.the-variants.{Forward, Backward}
 use Rattle.graph_neighbours.specs.Lookup.{neighboursIn}
+use Rattle.graph_neighbours.proofs.Lookup.{neighbours-below}
+use Rattle.table.specs.Prepared.{Tables, tables}
 use Rattle.table.proofs.StrikeSets.{strike-none, strike-unions}
 use Rattle.table.proofs.strike.strike_node.Statement.{statement}
 use Rattle.table.proofs.strike.strike_node.Tie as tie
@@ -37,10 +38,9 @@ neighbours-in-requires : tie.Need-neighbours-in-requires
 neighbours-in-requires c κs = record { nodes = _; net = entry c .pre .0 .net; node = entry c .pre .1 }
 
 reach-requires : tie.Need-reach-requires
-unfolding neighboursIn
 reach-requires c κs =
     let start = entry (c .before) in
-    rw (c .neighbours-in .ensures) (driven-below (start .pre .0 .net) _ (start .pre .1))
+    rw (c .neighbours-in .ensures) (neighbours-below Forward (start .pre .0 .net) _ (start .pre .1))
 
 neighbours-in-requires-2 : tie.Need-neighbours-in-requires-2
 neighbours-in-requires-2 c κs =
@@ -48,10 +48,9 @@ neighbours-in-requires-2 c κs =
     record { nodes = _; net = start .pre .0 .net; node = start .pre .1 }
 
 reach-requires-2 : tie.Need-reach-requires-2
-unfolding neighboursIn
 reach-requires-2 c κs =
     let start = entry (c .before .before .before) in
-    rw (c .neighbours-in2 .ensures) (driving-below (start .pre .0 .net) _ (start .pre .1))
+    rw (c .neighbours-in2 .ensures) (neighbours-below Backward (start .pre .0 .net) _ (start .pre .1))
 
 -- ---- the two halves of the masks
 

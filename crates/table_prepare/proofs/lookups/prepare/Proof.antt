@@ -41,7 +41,9 @@ masks-of-requires : tie.Need-masks-of-requires
 masks-of-requires c κs =
     let start = entry (tabled (c .before) .before) in
     let p = start .pre in
-    (p .0 .0, (rw (half (now (start .args .masks)) (p .1 .1 .1 .0)) (p .0 .1), p .0 .2))
+    let starts = p .0 .1 in
+    let ends = p .0 .2 in
+    (omega (arith, p .0 .0), (rw (half (now (start .args .masks)) (p .1 .1 .1 .0)) (search needs), search needs))
 
 -- ---- the second half
 
@@ -67,7 +69,9 @@ masks-of-requires-2 c κs =
     let masks = now (start .args .masks) in
     let p = start .pre in
     let long = p .1 .1 .1 .0 in
-    (sym (p .0 .0), (rw (half-2 (first .masks-of .last .1 .1 .0) masks (first .masks-of .kept .1 .1 .0 ∙ half masks long) long) (p .0 .2), p .0 .1))
+    let starts = p .0 .1 in
+    let ends = p .0 .2 in
+    (omega (arith, p .0 .0), (rw (half-2 (first .masks-of .last .1 .1 .0) masks (first .masks-of .kept .1 .1 .0 ∙ half masks long) long) (search needs), search needs))
 
 same-length : tie.Need-same-length
 same-length c = search needs
