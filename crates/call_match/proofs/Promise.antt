@@ -22,7 +22,9 @@ use Rattle.file_format.specs.Layout.{nodesOf}
 use Rattle.file_format.specs.Reading.{filled}
 use Rattle.file_format.specs.Refusals.{Condition, Verdict, accept, refuse, first, fileConditions, Accepted, shortTable}
 use Rattle.file_format.proofs.Accepted.{accepted-bounded, accepted-within, accepted-connected}
-use Rattle.file_format.proofs.Refusals.{accepted, accepted-verdict, first-accept, first-parts, refuses-iff}
+use Rattle.file_format.proofs.Refusals.{accepted, first-accept, first-parts, refuses-iff}
+use Rattle.file_pair.specs.Pair.{pairConditions}
+use Rattle.file_pair.proofs.Both.{pair-accept, pair-parts}
 use Rattle.call_match.specs.declared.TableAnswer.{TableAnswer}
 use Rattle.call_match.specs.declared.TableAnswer.the-variants.{Matched, Refused}
 use Rattle.table.specs.declared.Counts.{Counts}
@@ -86,7 +88,7 @@ module _ (pattern board table : List ℕ) where
       Accepted Pattern pattern → Accepted Board board → nodesOf board ≤ length table → matching pattern board table .reply .verdict ≡ accept
   unfolding matchConditions first shortTable
   accepts a b room =
-      verdict-is ∙ rw (first-accept _ _ (accepted-verdict a), first-accept _ _ (accepted-verdict b)) (simp (le-ltb _ _ room))
+      verdict-is ∙ rw (first-accept _ _ (pair-accept pattern board a b)) (simp (le-ltb _ _ room))
 
   module _ (accepts : matching pattern board table .reply .verdict ≡ accept) where
     sound : first (matchConditions pattern board (length table)) ≡ accept
@@ -94,9 +96,7 @@ module _ (pattern board table : List ℕ) where
 
     files-sound : (first (fileConditions Pattern pattern) ≡ accept) × (first (fileConditions Board board) ≡ accept)
     unfolding matchConditions
-    files-sound =
-        let (drawn, rest) = first-parts (fileConditions Pattern pattern) _ sound in
-        (drawn, first-parts (fileConditions Board board) _ rest .0)
+    files-sound = pair-parts pattern board (first-parts (pairConditions pattern board) _ sound .0)
 
     pub pattern-accepted : Accepted Pattern pattern
     pattern-accepted = accepted Pattern pattern (files-sound .0)

@@ -22,7 +22,9 @@ use Rattle.file_format.specs.Layout.{nodesOf, linksOf}
 use Rattle.file_format.specs.Reading.{filled}
 use Rattle.file_format.specs.Refusals.{Condition, accept, refuse, first, fileConditions, centreOutside, shortTable, Accepted}
 use Rattle.file_format.proofs.Fields.{length-kinds, length-starts}
-use Rattle.file_format.proofs.Refusals.{accepted, accepted-verdict, first-accept, first-parts, first-holds, refuses-iff}
+use Rattle.file_format.proofs.Refusals.{accepted, first-accept, first-parts, first-holds, refuses-iff}
+use Rattle.file_pair.specs.Pair.{pairConditions}
+use Rattle.file_pair.proofs.Both.{pair-accept, pair-parts}
 use Rattle.table.specs.Reply.{noCounts}
 use Rattle.table.specs.Host.{EqualKinds}
 use Rattle.table.specs.Refine.{countsOf}
@@ -92,7 +94,7 @@ module _ (pattern board : List ℕ) (w r : ℕ) (nodes links table : List ℕ) w
       nodesOf board ≤ length table → first inputs ≡ accept
   unfolding inputConditions first centreOutside shortTable
   inputs-accept a b h n m t =
-      rw (first-accept _ _ (accepted-verdict a), first-accept _ _ (accepted-verdict b))
+      rw (first-accept _ _ (pair-accept pattern board a b))
       (simp (lt-ltb _ _ h, le-ltb _ _ n, le-ltb _ _ m, le-ltb _ _ t))
 
   -- and only there.
@@ -109,9 +111,9 @@ module _ (pattern board : List ℕ) (w r : ℕ) (nodes links table : List ℕ) w
     parts : (first (fileConditions Pattern pattern) ≡ accept) × (first (fileConditions Board board) ≡ accept) × (w < nodesOf board)
     unfolding inputConditions centreOutside
     parts =
-        let (drawn, rest) = first-parts (fileConditions Pattern pattern) _ sound in
-        let (given, rest′) = first-parts (fileConditions Board board) _ rest in
-        (drawn, given, ltb-true w (nodesOf board) (not-false (ltb w (nodesOf board)) (first-holds _ _ rest′ .0)))
+        let (files, rest) = first-parts (pairConditions pattern board) _ sound in
+        let (drawn, given) = pair-parts pattern board files in
+        (drawn, given, ltb-true w (nodesOf board) (not-false (ltb w (nodesOf board)) (first-holds _ _ rest .0)))
 
     pub pattern-accepted : Accepted Pattern pattern
     pattern-accepted = accepted Pattern pattern (parts .0)

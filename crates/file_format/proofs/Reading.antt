@@ -143,7 +143,7 @@ unfolding verdictOf
 held-loaded r file read tables e v h = record { verdict = rw e (sym v); held = λ _. h }
 
 -- a front as long as it should be has room
-front-room : (k : ℕ) (l : List ℕ) → length (take k l) ≡ k → k ≤ length l
+pub front-room : (k : ℕ) (l : List ℕ) → length (take k l) ≡ k → k ≤ length l
 front-room k l e = omega (arith, rw length-take at e)
 
 -- the fronts of the tables are as long as the counts say, and the tables have room for them

@@ -9,9 +9,10 @@ use Rattle.file_format.specs.declared.Refusal.{Refusal}
 use Rattle.file_format.specs.declared.Role.the-variants as role
 use Rattle.file_format.specs.Circuit.{Bounded}
 use Rattle.file_format.specs.Reading.{verdictOf, front, Loaded}
+use Rattle.file_format.specs.Refusals as File
 use Rattle.file_format.specs.Refusals.{accept, refuse, first, fileConditions, asksConnected}
 use Rattle.file_format.proofs.Reading.{loaded-accepted, loaded-refused, stands-bounded}
-use Rattle.file_format.proofs.Refusals.{first-accept, first-refuse, first-parts, accept-not-refuse}
+use Rattle.file_format.proofs.Refusals.{first-accept, first-refuse, first-parts, accept-not-refuse, accepted-verdict}
 use Rattle.file_pair.specs.declared.Pair.{Pair}
 use Rattle.file_pair.specs.Pair.{pairConditions, BothRead, PairRead}
 
@@ -46,6 +47,18 @@ module _ (pattern board : List ℕ) (parts nodes : Circuit) where
             };
       }
 
+-- ---- the conditions on both are those on each
+
+module _ (pattern board : List ℕ) where
+  pub pair-accept : File.Accepted role.Pattern pattern → File.Accepted role.Board board → first (pairConditions pattern board) ≡ accept
+  unfolding pairConditions
+  pair-accept a b = first-accept (fileConditions role.Pattern pattern) _ (accepted-verdict a) ∙ accepted-verdict b
+
+  pub pair-parts : first (pairConditions pattern board) ≡ accept
+      → (first (fileConditions role.Pattern pattern) ≡ accept) × (first (fileConditions role.Board board) ≡ accept)
+  unfolding pairConditions
+  pair-parts e = first-parts (fileConditions role.Pattern pattern) _ e
+
 -- ---- what a call knows of the two files
 
 module _ {pattern board : List ℕ} {read : Pair} {parts nodes : Circuit} (r : PairRead pattern board read parts nodes) where
@@ -60,8 +73,7 @@ module _ {pattern board : List ℕ} {read : Pair} {parts nodes : Circuit} (r : P
 
 module _ {pattern board : List ℕ} {read : Pair} {parts nodes : Circuit} (both : BothRead pattern board read parts nodes) where
   pub both-accepted : (first (fileConditions role.Pattern pattern) ≡ accept) × (first (fileConditions role.Board board) ≡ accept)
-  unfolding pairConditions
-  both-accepted = first-parts _ _ (both .verdict)
+  both-accepted = pair-parts pattern board (both .verdict)
 
   pub pattern-bounded : Bounded role.Pattern (front (read .parts) (read .joins) parts)
   pattern-bounded = stands-bounded (both .drawn) role.Pattern (both-accepted .0)

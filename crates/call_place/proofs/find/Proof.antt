@@ -4,7 +4,8 @@ use mathlib.Core.Path.{sym}
 use borrow.Author.Needs.{needs}
 use Rattle.graph.specs.Circuit.{Circuit}
 use Rattle.file_pair.specs.Pair.{BothRead}
-use Rattle.file_pair.proofs.Both.{both-read, refused-pair, stands-size, stands-room, pattern-bounded, board-bounded}
+use Rattle.file_pair.proofs.Both.{both-read, refused-pair, pattern-bounded, board-bounded}
+use Rattle.file_format.proofs.Reading.{stands-size, stands-room}
 use Rattle.call_place.proofs.Finding.{find-refused, find-read}
 use Rattle.call_place.proofs.find.Statement.{statement}
 use Rattle.call_place.proofs.find.Tie as tie
@@ -42,26 +43,26 @@ slice-aggregate-read-pair-6 c = search needs
 read-pair-requires : tie.Need-read-pair-requires
 read-pair-requires c κs = search needs
 
-enum-known-read : tie.Need-enum-known-read
-enum-known-read c = search needs
-
-turned-away-requires : tie.Need-turned-away-requires
-turned-away-requires c κs = search needs
+enum-known-verdict : tie.Need-enum-known-verdict
+enum-known-verdict c = search needs
 
 enum-told : tie.Need-enum-told
 enum-told c = search needs
 
-refusal-of-requires : tie.Need-refusal-of-requires
-refusal-of-requires c κs = search needs
+radius-for-requires : tie.Need-radius-for-requires
+radius-for-requires c κs = search needs
+
+turned-away-requires : tie.Need-turned-away-requires
+turned-away-requires c κs = search needs
 
 -- both were read
-abbrev reading : tie.After-read → tie.After-read-pair
+abbrev reading : tie.After-enum-told → tie.After-read-pair
 reading c = c .before .before .before .before .before .before .before .before
 
-both : (c : tie.After-read)
+both : (c : tie.After-enum-told)
     → let a = entry (reading c) .args in
-    BothRead (now (a .pattern)) (now (a .board)) (c .read .given .0 .0) (c .read .given .0 .1 .0) (parts (reading c)) (nodes (reading c))
-both c = both-read _ _ _ _ (reading c .read-pair .ensures) (c .read .given .1)
+    BothRead (now (a .pattern)) (now (a .board)) (reading c .read-pair .result) (parts (reading c)) (nodes (reading c))
+both c = both-read (reading c .read-pair .ensures) (c .enum-told .given .1)
 
 -- ---- the place
 
