@@ -11,7 +11,7 @@ use Rattle.base_text.specs.Text.{Put, Fits}
 use Rattle.graph.specs.Circuit.{Circuit}
 use Rattle.table.specs.Host.{everything}
 use Rattle.table.specs.Row.{lastTable}
-use Rattle.table.specs.Prepared.{succOf, Tables, Prepared}
+use Rattle.table.specs.Prepared.{succOf, Tables, Ready, Prepared}
 use Rattle.place.specs.declared.Around.{Around}
 use Rattle.place.specs.declared.Found.{Found}
 use Rattle.place.specs.Find.{Drawn, Located}
@@ -82,14 +82,17 @@ pub record SourceOfSome (t : Tables) (table : List ℕ) (r : ℕ) : Type 0 where
   pub board : Circuit
   pub source : Source pattern board t table r
 
--- Whether there is a place around a centre is answered, and where there is one it stands in the tables: of every pattern and board that a line
--- is put from.
-abbrev pub EveryLocated : Tables → List ℕ → Around → List ℕ → List ℕ → List ℕ → Found → Type 0
-EveryLocated t table around dist queue sets a =
-    let c = around .centre in
-    let r = around .radius in
-    (pattern board : Circuit) → Source pattern board t table r →
-    (a .found ≡ found pattern board c r) × (a .found ≡ true → Located pattern board c r (succOf (t .masks)) dist sets (take (a .size) queue))
+-- What is known of a centre: whether there is a place around it, tables of sets that serve with the lookups, and where there is a place the
+-- place in the tables.
+pub record Known (pattern board : Circuit) (t : Tables) (around : Around) (dist queue sets : List ℕ) (a : Found) : Type 0 where
+  pub answer : a .found ≡ found pattern board (around .centre) (around .radius)
+  pub ready : Ready t sets
+  pub there : a .found ≡ true → Located pattern board (around .centre) (around .radius) (succOf (t .masks)) dist sets (take (a .size) queue)
+
+-- this of every pattern and board that a line is put from
+abbrev pub EveryKnown : Tables → List ℕ → Around → List ℕ → List ℕ → List ℕ → Found → Type 0
+EveryKnown t table around dist queue sets a =
+    (pattern board : Circuit) → Source pattern board t table (around .radius) → Known pattern board t around dist queue sets a
 
 -- the centre's line is put, of every such pattern and board
 abbrev pub EveryLine : Tables → List ℕ → Around → List ℕ → ℕ → List ℕ → ℕ → Type 0

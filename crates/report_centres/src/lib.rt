@@ -16,7 +16,7 @@ ghost use lib.ListN.{length};
 ghost use Rattle.base_text.specs.Text.{Names};
 ghost use Rattle.table.specs.Prepared.{tables};
 ghost use Rattle.report.specs.Lines.{longestLine};
-ghost use Rattle.report_centres.specs.Pieces.{roomy, centresPiece, SourceOfSome, EveryLocated, EveryLine, EveryWrote, Closed};
+ghost use Rattle.report_centres.specs.Pieces.{roomy, centresPiece, SourceOfSome, EveryKnown, EveryLine, EveryWrote, Closed};
 
 // No line of a report is longer: a buffer has to be as long, and a line is put where so many bytes are left.
 pub const LONGEST: usize = 34829;
@@ -75,12 +75,23 @@ fn locate(
     requires { ⌜ around .centre < length (now whole) ⌝ }
     requires { ⌜ (length (now dist) ≡ length (now whole)) × (length (now queue) ≡ length (now whole)) ⌝ }
     requires { ⌜ (length (now sets) ≡ length (now whole)) × (length (now spare) ≡ length (now whole)) ⌝ }
-    ensures { λ a. ⌜ EveryLocated (tables (now (masks .entry)) (now (offsets .entry)) (now (links .entry))) (now (whole .entry)) around (now (dist .exit)) (now (queue .exit)) (now (sets .exit)) a ⌝ }
+    ensures { λ a. ⌜ EveryKnown (tables (now (masks .entry)) (now (offsets .entry)) (now (links .entry))) (now (whole .entry)) around (now (dist .exit)) (now (queue .exit)) (now (sets .exit)) a ⌝ }
 {
     let c = around.centre;
     let k = search(offsets, links, c, around.radius, dist, queue);
     let started = copy(&queue[..k], whole, sets);
-    find(masks, offsets, links, c, k, started, dist, queue, sets, spare)
+    find(
+        masks,
+        offsets,
+        links,
+        c,
+        k,
+        started,
+        dist,
+        queue,
+        sets,
+        spare,
+    )
 }
 
 // A centre's line, nothing where there is no place around it. A centre that the whole board's table leaves empty has none.
@@ -113,7 +124,17 @@ fn put_centre(
     let queue = &mut nodes[..n];
     let sets = &mut ball[..n];
     let spare = &mut other[..n];
-    let place = locate(masks, offsets, links, whole, around, dist, queue, sets, spare);
+    let place = locate(
+        masks,
+        offsets,
+        links,
+        whole,
+        around,
+        dist,
+        queue,
+        sets,
+        spare,
+    );
     if !place.found {
         return at;
     }
