@@ -24,13 +24,16 @@ pub record Drawn (pattern board : Circuit) : Type 0 where
   pub nodes : Bounded Board board
   pub rise : LinksRise (board .starts) (board .ends)
 
--- What finding starts from: tables of a pattern and a board whose links join its nodes, the list of the nodes in the ball around w at radius
--- r, and a first table to begin with in that ball.
-pub record Sought (pattern board : Circuit) (t : Tables) (w r : ℕ) (nodes first : List ℕ) : Type 0 where
+-- tables of a pattern and of a board whose links join its nodes
+pub record Tabled (pattern board : Circuit) (t : Tables) : Type 0 where
   pub prepared : Prepared pattern board t
   pub parallel : length (pattern .starts) ≡ length (pattern .ends)
   pub starts : Below (length (board .kinds)) (board .starts)
   pub ends : Below (length (board .kinds)) (board .ends)
+
+-- What finding starts from: such tables, the list of the nodes in the ball around w at radius r, and a first table to begin with in that ball.
+pub record Sought (pattern board : Circuit) (t : Tables) (w r : ℕ) (nodes first : List ℕ) : Type 0 where
+  pub tabled : Tabled pattern board t
   pub centre : w < length (board .kinds)
   pub list : NodeList (length (board .kinds)) nodes
   pub ball : marksOf (length (board .kinds)) nodes ≡ ballOf board w r
