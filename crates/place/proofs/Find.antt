@@ -7,14 +7,19 @@ use lib.Dec.{eqb}
 use lib.ListN.{length, getD, take}
 use Rattle.base_lists.specs.List.{Below}
 use Rattle.base_lists.proofs.Tests.{true-T, false-T}
+use Rattle.graph.specs.Bfs.{bfs, adjacent, Found as Searched}
 use Rattle.graph.specs.Circuit.{Circuit}
+use Rattle.graph.specs.Net.{Net}
 use Rattle.graph.specs.Rising.{LinksRise}
 use Rattle.graph.specs.Search.{far, inside}
 use Rattle.graph.proofs.Ball.{Within, within}
+use Rattle.graph.proofs.Groups.{all-below}
 use Rattle.graph.proofs.Net.{net-of}
 use Rattle.graph.proofs.Sorted.{rise-sorted}
+use Rattle.file_format.proofs.Accepted.{bounded-starts, bounded-ends}
 use Rattle.table.specs.declared.Rest.{Rest}
-use Rattle.table.specs.Fill.{marksOf, tableAt}
+use Rattle.table.specs.Fill.{marksOf, NodeList, tableAt}
+use Rattle.table.specs.First.{Begins}
 use Rattle.table.specs.Prepared.{succOf, Tables, Prepared, Ready}
 use Rattle.table.specs.Refine.{Known, Rested}
 use Rattle.table.specs.Row.{problemOf}
@@ -22,12 +27,55 @@ use Rattle.table.proofs.Sets.{fits-word}
 use Rattle.place.specs.Match.{ballOf, ballTable, found, placeNodes, placeLinks, placeTable}
 use Rattle.place.specs.Spread.{matched, Spread, Lists}
 use Rattle.place.specs.Bytes.{linkBytes, nodeSets, linkMarks}
-use Rattle.place.specs.Find.{Sought, Located, FoundIn}
+use Rattle.place.specs.Find.{Drawn, Tabled, Sought, Located, FoundIn}
 use Rattle.place.proofs.Ball.{ball-fits}
 use Rattle.place.proofs.Bytes.{bytes-nodes, bytes-links, sets-table}
 use Rattle.place.proofs.Listed.{marks-bytes, table-sets, links-bytes}
-use Rattle.place.proofs.Matched.{forward-test, spread-component}
+use Rattle.place.proofs.Matched.{found-short, found-list, found-marks, forward-test, spread-component}
 use Rattle.place.proofs.Outcome.{found-none, found-some}
+
+-- ---- the ball
+
+-- the circuits that were read have such tables
+pub drawn-tabled : {pattern board : Circuit} {t : Tables} → Drawn pattern board → Prepared pattern board t → Tabled pattern board t
+drawn-tabled d p =
+    record {
+      prepared = p;
+      parallel = d .parts .parallel;
+      starts = all-below _ _ (bounded-starts (d .nodes));
+      ends = all-below _ _ (bounded-ends (d .nodes));
+    }
+
+module _ {pattern board : Circuit} {t : Tables} (d : Tabled pattern board t) where
+  abbrev size : ℕ
+  size = length (board .kinds)
+
+  tabled-joins : Within size (board .starts) (board .ends)
+  unfolding Below
+  tabled-joins = within size (board .starts) (board .ends) (d .starts) (d .ends)
+
+  pub tabled-net : Net size (t .offsets) (t .links)
+  tabled-net = net-of (d .prepared .net)
+
+  -- the search lists the ball's nodes
+  module _ (w r : ℕ) (h : w < size) {k : ℕ} {dist queue : List ℕ} (f : Searched k dist queue (bfs (adjacent (t .offsets) (t .links)) size w r)) where
+    pub ball-short : k ≤ size
+    ball-short = found-short (d .prepared) tabled-joins w r h k dist queue f
+
+    pub ball-list : NodeList size (take k queue)
+    ball-list = found-list (d .prepared) tabled-joins w r h k dist queue f
+
+    pub ball-sought : {first : List ℕ} → Begins pattern board (marksOf size (take k queue)) first → Sought pattern board t w r (take k queue) first
+    ball-sought b =
+        record {
+          tabled = d;
+          centre = h;
+          list = ball-list;
+          ball = found-marks (d .prepared) tabled-joins w r h k dist queue f;
+          begins = b;
+        }
+
+-- ---- from a first table
 
 module _ {pattern board : Circuit} {t : Tables} {w r : ℕ} {nodes first : List ℕ} (s : Sought pattern board t w r nodes first) where
   abbrev n : ℕ
@@ -35,7 +83,7 @@ module _ {pattern board : Circuit} {t : Tables} {w r : ℕ} {nodes first : List 
 
   -- the rounds may begin with the first table
   pub sought-known : Known t nodes first
-  sought-known = record { pattern = pattern; host = board; prepared = s .prepared; begins = s .begins }
+  sought-known = record { pattern = pattern; host = board; prepared = s .tabled .prepared; begins = s .begins }
 
   -- which has a set for each node
   pub sought-long : length first ≡ length (board .kinds)
@@ -43,11 +91,10 @@ module _ {pattern board : Circuit} {t : Tables} {w r : ℕ} {nodes first : List 
   sought-long = s .begins .long
 
   joins : Within n (board .starts) (board .ends)
-  unfolding Below
-  joins = within n (board .starts) (board .ends) (s .starts) (s .ends)
+  joins = tabled-joins (s .tabled)
 
   small : (v : ℕ) → getD (ballTable pattern board w r) v 0 < 2 ^ 32
-  small = fits-word (s .prepared .parts) (ball-fits pattern board w r)
+  small = fits-word (s .tabled .prepared .parts) (ball-fits pattern board w r)
 
   module _ {sets : List ℕ} {rest : Rest} (e : Rested pattern board (marksOf n nodes) first sets rest) where
     -- they end with the ball's table
@@ -62,8 +109,8 @@ module _ {pattern board : Circuit} {t : Tables} {w r : ℕ} {nodes first : List 
     pub sets-ready : Ready t sets
     sets-ready =
         record {
-          masks = s .prepared .masked .room;
-          net = rw sets-long (net-of (s .prepared .net));
+          masks = s .tabled .prepared .masked .room;
+          net = rw sets-long (net-of (s .tabled .prepared .net));
           small = λ v. rw sets-ball (small v);
         }
 
@@ -82,20 +129,21 @@ module _ {pattern board : Circuit} {t : Tables} {w r : ℕ} {nodes first : List 
     module _ (dist : List ℕ) (g : Spread n w (matched t sets) dist) where
       reached : (v : ℕ) → v < n → inside (placeNodes pattern board w r) v ≡ not (eqb (getD dist v 0) far)
       unfolding placeNodes
-      reached = spread-component (s .prepared) joins (s .parallel) (ballTable pattern board w r) small w (s .centre) dist (rw sets-ball at g)
+      reached = spread-component (s .tabled .prepared) joins (s .tabled .parallel) (ballTable pattern board w r) small w (s .centre) dist (rw sets-ball at g)
 
-      located : (place : List ℕ) → Lists place dist → Located pattern board w r (succOf (t .masks)) dist sets place
+      located : (place : List ℕ) → Lists place dist → Located pattern board t w r dist sets place
       located place l =
           record {
             bytes = bytes-nodes pattern board w r dist (g .size) reached;
             links =
                 ap (linkBytes (board .starts) (board .ends) (succOf (t .masks)) dist) sets-ball
-                ∙ bytes-links pattern board w r dist (g .size) reached (succOf (t .masks)) (s .starts)
-                (forward-test (s .prepared) joins (s .parallel) (ballTable pattern board w r) small);
+                ∙ bytes-links pattern board w r dist (g .size) reached (succOf (t .masks)) (s .tabled .starts)
+                (forward-test (s .tabled .prepared) joins (s .tabled .parallel) (ballTable pattern board w r) small);
             table = ap (nodeSets dist) sets-ball ∙ sets-table pattern board w r dist (g .size) reached;
             lists = l;
             size = g .size;
             long = sets-long;
+            ready = sets-ready;
           }
 
       pub found-place : (queue : List ℕ) (k : ℕ) → (getD sets w 0 ≡ 0 → ⊥) → k ≤ length queue → Lists (take k queue) dist
@@ -110,7 +158,7 @@ module _ {pattern board : Circuit} {t : Tables} {w r : ℕ} {nodes first : List 
 
 -- ---- what is marked
 
-module _ {pattern board : Circuit} {w r : ℕ} {succ dist sets place : List ℕ} (l : Located pattern board w r succ dist sets place) where
+module _ {pattern board : Circuit} {t : Tables} {w r : ℕ} {dist sets place : List ℕ} (l : Located pattern board t w r dist sets place) where
   pub located-nodes : marksOf (length (board .kinds)) place ≡ placeNodes pattern board w r
   located-nodes = ap (λ (m : ℕ). marksOf m place) (sym (l .size)) ∙ marks-bytes (l .lists) ∙ l .bytes
 
@@ -120,6 +168,6 @@ module _ {pattern board : Circuit} {w r : ℕ} {succ dist sets place : List ℕ}
 pub located-links :
     {pattern board : Circuit} {t : Tables} {w r : ℕ} {dist sets place : List ℕ} → Prepared pattern board t → length (board .starts) ≡ length (board .ends) →
     Below (length (board .kinds)) (board .starts) → LinksRise (board .starts) (board .ends) →
-    Located pattern board w r (succOf (t .masks)) dist sets place → linkMarks (length (board .starts)) t sets place ≡ placeLinks pattern board w r
+    Located pattern board t w r dist sets place → linkMarks (length (board .starts)) t sets place ≡ placeLinks pattern board w r
 located-links p parallel below rise l =
     links-bytes (l .lists) _ _ (rw (l .size) (p .net)) (rise-sorted _ _ rise) parallel (rw (l .size) below) ∙ l .links
