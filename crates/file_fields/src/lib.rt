@@ -10,7 +10,9 @@ pub fn field_at(part: &[u8], i: usize) -> u16
     requires { ⌜ 2 * i + 1 < length (now part) ⌝ }
     ensures { λ r. ⌜ r ≡ field (now (part .entry)) (2 * i) ⌝ }
 {
-    part[2 * i] as u16 + 256 * (part[2 * i + 1] as u16)
+    let low = part[2 * i] as u16;
+    let high = part[2 * i + 1] as u16;
+    low + 256 * high
 }
 
 // The stretch of k fields that begins at an offset, as a part of the file.

@@ -131,7 +131,7 @@ module _ {pattern board : Circuit} {t : Tables} {w r : ℕ} {nodes first : List 
       unfolding placeNodes
       reached = spread-component (s .tabled .prepared) joins (s .tabled .parallel) (ballTable pattern board w r) small w (s .centre) dist (rw sets-ball at g)
 
-      located : (place : List ℕ) → Lists place dist → Located pattern board w r (succOf (t .masks)) dist sets place
+      located : (place : List ℕ) → Lists place dist → Located pattern board t w r dist sets place
       located place l =
           record {
             bytes = bytes-nodes pattern board w r dist (g .size) reached;
@@ -143,6 +143,7 @@ module _ {pattern board : Circuit} {t : Tables} {w r : ℕ} {nodes first : List 
             lists = l;
             size = g .size;
             long = sets-long;
+            ready = sets-ready;
           }
 
       pub found-place : (queue : List ℕ) (k : ℕ) → (getD sets w 0 ≡ 0 → ⊥) → k ≤ length queue → Lists (take k queue) dist
@@ -157,7 +158,7 @@ module _ {pattern board : Circuit} {t : Tables} {w r : ℕ} {nodes first : List 
 
 -- ---- what is marked
 
-module _ {pattern board : Circuit} {w r : ℕ} {succ dist sets place : List ℕ} (l : Located pattern board w r succ dist sets place) where
+module _ {pattern board : Circuit} {t : Tables} {w r : ℕ} {dist sets place : List ℕ} (l : Located pattern board t w r dist sets place) where
   pub located-nodes : marksOf (length (board .kinds)) place ≡ placeNodes pattern board w r
   located-nodes = ap (λ (m : ℕ). marksOf m place) (sym (l .size)) ∙ marks-bytes (l .lists) ∙ l .bytes
 
@@ -167,6 +168,6 @@ module _ {pattern board : Circuit} {w r : ℕ} {succ dist sets place : List ℕ}
 pub located-links :
     {pattern board : Circuit} {t : Tables} {w r : ℕ} {dist sets place : List ℕ} → Prepared pattern board t → length (board .starts) ≡ length (board .ends) →
     Below (length (board .kinds)) (board .starts) → LinksRise (board .starts) (board .ends) →
-    Located pattern board w r (succOf (t .masks)) dist sets place → linkMarks (length (board .starts)) t sets place ≡ placeLinks pattern board w r
+    Located pattern board t w r dist sets place → linkMarks (length (board .starts)) t sets place ≡ placeLinks pattern board w r
 located-links p parallel below rise l =
     links-bytes (l .lists) _ _ (rw (l .size) (p .net)) (rise-sorted _ _ rise) parallel (rw (l .size) below) ∙ l .links

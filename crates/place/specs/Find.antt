@@ -11,7 +11,7 @@ use Rattle.file_format.specs.declared.Role.the-variants.{Pattern, Board}
 use Rattle.file_format.specs.Circuit.{Bounded}
 use Rattle.table.specs.Fill.{marksOf, NodeList}
 use Rattle.table.specs.First.{Begins}
-use Rattle.table.specs.Prepared.{succOf, Tables, Prepared}
+use Rattle.table.specs.Prepared.{succOf, Tables, Prepared, Ready}
 use Rattle.table.specs.Refine.{Rested}
 use Rattle.place.specs.declared.Found.{Found}
 use Rattle.place.specs.Bytes.{nodeBytes, nodeSets, linkBytes}
@@ -47,20 +47,21 @@ pub record SoughtBySome (t : Tables) (w : ℕ) (nodes first : List ℕ) : Type 0
   pub sought : Sought pattern board t w radius nodes first
 
 -- Where there is a place: `dist` is `far` outside it, `sets` is the ball's table, and the list has the place's nodes.
-pub record Located (pattern board : Circuit) (w r : ℕ) (succ dist sets nodes : List ℕ) : Type 0 where
+pub record Located (pattern board : Circuit) (t : Tables) (w r : ℕ) (dist sets nodes : List ℕ) : Type 0 where
   pub bytes : nodeBytes dist ≡ placeNodes pattern board w r
-  pub links : linkBytes (board .starts) (board .ends) succ dist sets ≡ placeLinks pattern board w r
+  pub links : linkBytes (board .starts) (board .ends) (succOf (t .masks)) dist sets ≡ placeLinks pattern board w r
   pub table : nodeSets dist sets ≡ placeTable pattern board w r
   pub lists : Lists nodes dist
   pub size : length dist ≡ length (board .kinds)
   pub long : length sets ≡ length (board .kinds)
+  pub ready : Ready t sets
 
 -- What finding comes to: where the rounds end in the ball, whether there is a place, and then the place in the tables.
 pub record FoundIn (pattern board : Circuit) (t : Tables) (w r : ℕ) (nodes first dist queue sets : List ℕ) (a : Found) : Type 0 where
   pub rested : Rested pattern board (marksOf (length (board .kinds)) nodes) first sets (a .rest)
   pub answer : a .found ≡ found pattern board w r
   pub short : a .size ≤ length queue
-  pub there : a .found ≡ true → Located pattern board w r (succOf (t .masks)) dist sets (take (a .size) queue)
+  pub there : a .found ≡ true → Located pattern board t w r dist sets (take (a .size) queue)
 
 -- this of every pattern, board and radius that finding starts from
 abbrev pub Finds : Tables → ℕ → List ℕ → List ℕ → List ℕ → List ℕ → List ℕ → Found → Type 0

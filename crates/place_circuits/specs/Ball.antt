@@ -5,7 +5,7 @@ use mathlib.Core.Path.{_≡_}
 use Prim.Native.Nat.{ℕ, _≤_}
 use lib.ListN.{length, take}
 use Rattle.graph.specs.Circuit.{Circuit, circuit}
-use Rattle.table.specs.Prepared.{succOf, Tables}
+use Rattle.table.specs.Prepared.{Tables}
 use Rattle.table.specs.Refine.{countsOf}
 use Rattle.place.specs.declared.Around.{Around}
 use Rattle.place.specs.Find.{Tabled, Located}
@@ -25,7 +25,7 @@ pub record PlacedIn (pattern board : Circuit) (t : Tables) (around : Around) (di
   pub counted : a .counts ≡ countsOf pattern board (ballOf board (around .centre) (around .radius))
   pub answer : a .found ≡ found pattern board (around .centre) (around .radius)
   pub short : a .size ≤ length queue
-  pub there : a .found ≡ true → Located pattern board (around .centre) (around .radius) (succOf (t .masks)) dist sets (take (a .size) queue)
+  pub there : a .found ≡ true → Located pattern board t (around .centre) (around .radius) dist sets (take (a .size) queue)
 
 -- this for every pattern and board with these kinds that the tables are of
 abbrev pub EveryPlaced : List ℕ → List ℕ → Tables → Around → List ℕ → List ℕ → List ℕ → InBall → Type 0

@@ -52,7 +52,18 @@ fn find_in_ball(
     let c = around.centre;
     let k = search(offsets, links, c, around.radius, dist, queue);
     let started = start(&queue[..k], part_kinds, node_kinds, sets);
-    let place = find(masks, offsets, links, c, k, started, dist, queue, sets, spare);
+    let place = find(
+        masks,
+        offsets,
+        links,
+        c,
+        k,
+        started,
+        dist,
+        queue,
+        sets,
+        spare,
+    );
     let rest = place.rest;
     InBall {
         found: place.found,
@@ -114,13 +125,14 @@ pub fn place_circuits(
         &mut sets[..n],
         &mut spare[..n],
     );
+    let counts = ball.counts;
     if !ball.found {
         return PlaceAnswer::Refused(
             Refusal {
                 number: 9,
                 file: File::Neither,
             },
-            ball.counts,
+            counts,
         );
     }
     let size = ball.size;
@@ -134,5 +146,5 @@ pub fn place_circuits(
         &mut bytes[..m],
         &mut table[..n],
     );
-    PlaceAnswer::Placed(ball.counts)
+    PlaceAnswer::Placed(counts)
 }

@@ -107,7 +107,7 @@ centre-long pattern board c e = rw e (zero-lt-suc _)
 pub centre-located :
     {pattern board : Circuit} {t : Tables} (p : Prepared pattern board t) → length (board .starts) ≡ length (board .ends) →
     Below (length (board .kinds)) (board .starts) → LinksRise (board .starts) (board .ends) → (c : ℕ) {dist sets place : List ℕ} →
-    hasPlace pattern board c ≡ true → Located pattern board c (radiusOf pattern) (succOf (t .masks)) dist sets place →
+    hasPlace pattern board c ≡ true → Located pattern board t c (radiusOf pattern) dist sets place →
     lineText t dist sets c ≡ centreLine pattern board c
 unfolding centreLine lineText
 centre-located {pattern} {board} {t} p parallel starts rise c {dist} {sets} e l =

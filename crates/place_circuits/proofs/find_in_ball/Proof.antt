@@ -101,17 +101,17 @@ returns c =
     let begun = c .before .before .before .before .before .before .before .before .before .before .before .before .before .before .before .before .before in
     let s = c .before .before .before .before .before .before .before .before .before .before .before .before .before .before .before .before .before .before .before .before .before .before .before .before .before .before .before .before .before .before .before .before .before .before .before .before in
     λ ps pe ns ne d.
-        let g = seek begun ps pe ns ne d in
-        let f = c .before .before .before .before .before .before .before .before .before .before .find .ensures _ _ _ g in
-        record {
-          counted =
-              c .counted .ensures
-              ∙ refined _ _ _ (s .pre .1 .1 .1 .0) (begun .start .ensures) (d .prepared .parts) (f .rested) .counted
-              ∙ ap (countsOf _ _) (g .ball);
-          answer = f .answer;
-          short = f .short;
-          there = f .there;
-        }
+    let g = seek begun ps pe ns ne d in
+    let f = c .before .before .before .before .before .before .before .before .before .before .find .ensures _ _ _ g in
+    record {
+      counted =
+          c .counted .ensures
+          ∙ refined _ _ _ (s .pre .1 .1 .1 .0) (begun .start .ensures) (d .prepared .parts) (f .rested) .counted
+          ∙ ap (countsOf _ _) (g .ball);
+      answer = f .answer;
+      short = f .short;
+      there = f .there;
+    }
 
 pub find-in-ball-spec : {M : Type 1} → statement M
 find-in-ball-spec =
