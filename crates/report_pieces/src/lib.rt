@@ -11,7 +11,7 @@ ghost use mathlib.Core.Path.{_≡_};
 ghost use lib.ListN.{length};
 ghost use Rattle.graph.specs.Circuit.{Circuit, circuit};
 ghost use Rattle.table.specs.Prepared.{tables};
-ghost use Rattle.place.specs.Find.{Drawn};
+ghost use Rattle.file_format.specs.Circuit.{Drawn};
 ghost use Rattle.place.specs.Match.{radiusOf};
 ghost use Rattle.report_centres.specs.Pieces.{linesPiece, SourceOfSome, Wrote, EveryWrote};
 

@@ -92,7 +92,7 @@ put-line-requires c κs =
       (
         l .long ∙ sym (l .size),
         (
-          place .ready,
+          l .ready,
           fits-same (sym (source-line source _ _ (place .answer) there l)) (centre-fits _ _ _ (source .drawn .nodes) (rw (source-long source) at (p .1 .0)) (p .1 .1 .1)),
         ),
       ),
