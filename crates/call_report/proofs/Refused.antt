@@ -8,10 +8,11 @@ use lib.ListN.{length}
 use Rattle.base_text.specs.Text.{Put, Fits}
 use Rattle.base_text.proofs.Text.{put-nothing}
 use Rattle.file_format.specs.declared.Refusal.{Refusal}
+use Rattle.report.specs.Lines.{longestRefusal}
 use Rattle.report.specs.Report.{refusalLine}
 use Rattle.report.proofs.Lengths.{refusal-length}
 use Rattle.report_centres.specs.Pieces.{Wrote}
-use Rattle.call_report.specs.Call.{longestRefusal, refusalPiece}
+use Rattle.call_report.specs.Call.{refusalPiece}
 
 module _ (x : Refusal) (out : List ℕ) (from found : ℕ) where
   pub refused-later : (from ≡ 0 → ⊥) → Wrote out (refusalPiece x from found) out (record { next = from; found = found; size = 0 })

@@ -13,7 +13,7 @@ use Rattle.file_format.specs.Reading.{filled}
 use Rattle.file_format.specs.Refusals.{Verdict, accept, refuse, first, shortTable}
 use Rattle.file_format.specs.Reply.{Reply, reply}
 use Rattle.file_pair.specs.Pair.{pairConditions}
-use Rattle.report.specs.Lines.{longestLine}
+use Rattle.report.specs.Lines.{longestLine, longestRefusal}
 use Rattle.report.specs.Report.{refusalLine}
 use Rattle.report_centres.specs.Pieces.{Piece, linesPiece}
 use Rattle.call_report.specs.declared.ReportAnswer.{ReportAnswer}
@@ -47,10 +47,6 @@ reportReply (answer.Refused x) = record { verdict = refuse x; values = [] }
 pub record ReportOutcome : Type 0 where
   pub reply : Reply
   pub out : List ℕ
-
--- room for the line of any refused file
-abbrev pub longestRefusal : ℕ
-longestRefusal = 20
 
 -- the room that a piece needs: that of the longest line, or of the one line of a refused file
 unfoldable pub needFor : Verdict → ℕ

@@ -1,9 +1,9 @@
 // The report call: the report of a pattern file on a board file, put piece by piece into a lent buffer.
 use file_format::Board;
 use file_format::File;
+use file_format::FileVerdict;
 use file_format::Pattern;
 use file_format::Refusal;
-use file_pair::PairAnswer;
 use file_pair::read_pair;
 use report::lines::put_refusal;
 use report_centres::LONGEST;
@@ -12,7 +12,8 @@ use report_pieces::put_piece;
 ghost use mathlib.Core.Path.{_≡_};
 ghost use Prim.Native.Nat.{_≤_};
 ghost use lib.ListN.{length};
-ghost use Rattle.call_report.specs.Call.{longestRefusal, refusalPiece, outcomeFor, reportReply, reporting};
+ghost use Rattle.call_report.specs.Call.{refusalPiece, outcomeFor, reportReply, reporting};
+ghost use Rattle.report.specs.Lines.{longestRefusal};
 ghost use Rattle.report_centres.specs.Pieces.{Wrote};
 ghost use Rattle.file_format.specs.declared.File.the-variants as file;
 ghost use Rattle.call_report.specs.declared.ReportAnswer.the-variants as answer;
@@ -90,16 +91,17 @@ pub fn report(pattern: &[u8], board: &[u8], from: usize, found: u16, out: &mut [
         &mut ns,
         &mut ne,
     );
-    let PairAnswer::Read(p, b) = read else {
-        return answer_refused(file_pair::refusal_of(read), from, found, out);
-    };
+    let verdict = read.verdict;
+    if let FileVerdict::Refused(x) = verdict {
+        return answer_refused(x, from, found, out);
+    }
     if out.len() < LONGEST {
         return too_short();
     }
-    let parts = p.nodes;
-    let joins = p.links;
-    let n = b.nodes;
-    let m = b.links;
+    let parts = read.parts;
+    let joins = read.joins;
+    let n = read.nodes;
+    let m = read.links;
     ReportAnswer::Put(put_piece(
         &pk[..parts],
         &ps[..joins],
@@ -107,6 +109,7 @@ pub fn report(pattern: &[u8], board: &[u8], from: usize, found: u16, out: &mut [
         &nk[..n],
         &ns[..m],
         &ne[..m],
+        read.radius,
         from,
         found,
         out,

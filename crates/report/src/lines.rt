@@ -7,7 +7,7 @@ ghost use Rattle.base_text.specs.Text.{Put, Fits, Names};
 ghost use Rattle.base_lists.specs.List.{Below};
 ghost use Rattle.table.specs.Prepared.{tables, Ready};
 ghost use Rattle.report.specs.Report.{endLine, refusalLine, fileWord};
-ghost use Rattle.report.specs.Lines.{nodeText, nodesText, linkText, drivenText, startText, linksText, lineText, longestLine};
+ghost use Rattle.report.specs.Lines.{nodeText, nodesText, linkText, drivenText, startText, linksText, lineText, longestLine, longestRefusal};
 use base_text::put_byte;
 use base_text::put_bytes;
 use base_text::put_name;
@@ -209,7 +209,7 @@ fn put_file(file: File, out: &mut [u8], at: usize) -> usize
 
 // The line of a refused file.
 pub fn put_refusal(x: Refusal, out: &mut [u8], at: usize) -> usize
-    requires { ⌜ at + longestLine ≤ length (now out) ⌝ }
+    requires { ⌜ at + longestRefusal ≤ length (now out) ⌝ }
     ensures { λ r. ⌜ Put (now (out .entry)) at (refusalLine x) (now (out .exit)) r ⌝ }
 {
     let number = put_bytes(b"refused ", out, at);
