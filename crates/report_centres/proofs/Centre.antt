@@ -14,17 +14,21 @@ use Rattle.base_bits.proofs.Digits.{bit-of-zero, no-bits}
 use Rattle.base_text.specs.Text.{Put}
 use Rattle.base_lists.specs.List.{Below}
 use Rattle.graph.specs.Circuit.{Circuit}
+use Rattle.table.specs.Fill.{marksOf}
+use Rattle.table.specs.First.{Begins, Written}
 use Rattle.table.specs.Host.{everything}
-use Rattle.table.specs.Row.{inTable, InTable}
+use Rattle.table.specs.Row.{problemOf, inTable, InTable}
 use Rattle.table.specs.Prepared.{Tables}
+use Rattle.table.proofs.Begun.{copied-begins}
 use Rattle.table.proofs.Host.{everything-taken}
 use Rattle.table.proofs.Meaning.{last-fits}
 use Rattle.table.proofs.Narrow.{last-wider}
 use Rattle.graph.proofs.Groups.{all-below}
-use Rattle.file_format.proofs.Accepted.{bounded-starts, bounded-ends}
+use Rattle.file_format.proofs.Accepted.{bounded-starts}
 use Rattle.place.specs.Match.{radiusOf, ballOf, ballTable, found}
-use Rattle.place.specs.Outcome.{Located}
+use Rattle.place.specs.Find.{Located, Tabled}
 use Rattle.place.proofs.Ball.{ball-fits}
+use Rattle.place.proofs.Find.{drawn-tabled}
 use Rattle.place.proofs.Outcome.{found-none}
 use Rattle.report.specs.Lines.{lineText}
 use Rattle.report.specs.Report.{hasPlace, centreLine}
@@ -33,15 +37,23 @@ use Rattle.report_centres.specs.Pieces.{Source}
 
 module _ {pattern board : Circuit} {t : Tables} {table : List ℕ} {r : ℕ} (s : Source pattern board t table r) where
   -- the board's links join its nodes
-  pub source-starts : Below (length (board .kinds)) (board .starts)
+  source-starts : Below (length (board .kinds)) (board .starts)
   source-starts = all-below _ _ (bounded-starts (s .drawn .nodes))
 
-  pub source-ends : Below (length (board .kinds)) (board .ends)
-  source-ends = all-below _ _ (bounded-ends (s .drawn .nodes))
+  -- its tables are those that finding asks for
+  pub source-tabled : Tabled pattern board t
+  source-tabled = drawn-tabled (s .drawn) (s .ready)
 
   -- the whole board's table has an entry for each node
   pub source-long : length table ≡ length (board .kinds)
+  unfolding problemOf
   source-long = ap length (s .whole) ∙ last-fits pattern board (everything board) .size
+
+  -- at the nodes of a ball it is a table to begin with
+  pub source-begins : (nodes : List ℕ) {n : ℕ} {first : List ℕ} {count : ℕ} → n ≡ length (board .kinds) → Written n (λ v. getD table v 0) nodes first count
+      → Begins pattern board (marksOf (length (board .kinds)) nodes) first
+  source-begins nodes long w =
+      copied-begins pattern board nodes long (s .drawn .parts .nodes) (everything board) (λ v h _. everything-taken board v h) (s .whole) w
 
   -- a ball's table lies inside the whole board's
   ball-inside : (c u : ℕ) → InTable (ballTable pattern board c (radiusOf pattern)) u c → InTable table u c
@@ -66,8 +78,8 @@ module _ {pattern board : Circuit} {t : Tables} {table : List ℕ} {r : ℕ} (s 
   source-missed c b e f = centre-missed pattern board c (rw (← s .own) (sym e ∙ f))
 
   -- and where there is one, the line that is put is the centre's
-  pub source-line : (c : ℕ) (b : Bool) {dist sets : List ℕ} → b ≡ found pattern board c r → b ≡ true → Located pattern board c r (t .succ) dist sets
-      → lineText (t .forwardOffsets) (t .forward) (t .succ) dist sets c ≡ centreLine pattern board c
+  pub source-line : (c : ℕ) (b : Bool) {dist sets place : List ℕ} → b ≡ found pattern board c r → b ≡ true → Located pattern board t c r dist sets place
+      → lineText t dist sets c ≡ centreLine pattern board c
   unfolding hasPlace
   source-line c b e f l =
       centre-located (s .ready) (s .drawn .nodes .parallel) source-starts (s .drawn .rise) c (rw (← s .own) (sym e ∙ f)) (rw (s .own) at l)

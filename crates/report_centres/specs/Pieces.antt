@@ -1,6 +1,6 @@
 -- Pieces of a report: the lines of the centres from one on, as long as there is room for the longest line, and the last line; and what the
 -- contracts of the functions that put them cite.
-use mathlib.Core.Bool.{Bool, _&&_, not, cond}
+use mathlib.Core.Bool.{Bool, true, _&&_, not, cond}
 use mathlib.Core.List.{List, [], _++_}
 use mathlib.Core.Path.{_≡_}
 use Prim.Native.Nat.{ℕ, suc, _+_, _-_}
@@ -9,13 +9,13 @@ use lib.ListN.{length}
 use Rattle.base_lists.specs.Below.{countBelow, leastBelow, concatBelow}
 use Rattle.base_text.specs.Text.{Put, Fits}
 use Rattle.graph.specs.Circuit.{Circuit}
-use Rattle.graph.specs.Rising.{LinksRise}
-use Rattle.file_format.specs.declared.Role.the-variants.{Pattern, Board}
-use Rattle.file_format.specs.Circuit.{Bounded}
+use Rattle.file_format.specs.Circuit.{Drawn}
 use Rattle.table.specs.Host.{everything}
 use Rattle.table.specs.Row.{lastTable}
 use Rattle.table.specs.Prepared.{Tables, Prepared}
-use Rattle.place.specs.Match.{radiusOf}
+use Rattle.place.specs.declared.Around.{Around}
+use Rattle.place.specs.Find.{Located}
+use Rattle.place.specs.Match.{radiusOf, found}
 use Rattle.report.specs.Lines.{longestLine}
 use Rattle.report.specs.Report.{hasPlace, centreLine, endLine}
 use Rattle.report_centres.specs.declared.Part.{Part}
@@ -69,25 +69,23 @@ linesPiece pattern board from found room = closed (length (board .kinds)) room (
 
 -- ---- what a piece is put from, and what putting it leaves
 
--- two circuits that were read: each within its role's maxima, and the board's links in the file's order
-pub record Drawn (pattern board : Circuit) : Type 0 where
-  pub parts : Bounded Pattern pattern
-  pub nodes : Bounded Board board
-  pub rise : LinksRise (board .starts) (board .ends)
-
--- what a line is put from: the circuits, what the rounds look up, the whole board's table and the pattern's radius
+-- what a line is put from: the circuits, what matching looks up, the whole board's table and the pattern's radius
 pub record Source (pattern board : Circuit) (t : Tables) (table : List ℕ) (r : ℕ) : Type 0 where
   pub drawn : Drawn pattern board
   pub ready : Prepared pattern board t
   pub whole : table ≡ lastTable pattern board (everything board)
   pub own : r ≡ radiusOf pattern
 
--- scratch tables of n entries each
-pub record Scratch (n : ℕ) (dist queue sets spare : List ℕ) : Type 0 where
-  pub distances : length dist ≡ n
-  pub queued : length queue ≡ n
-  pub ball : length sets ≡ n
-  pub other : length spare ≡ n
+-- this of some pattern and board
+pub record SourceOfSome (t : Tables) (table : List ℕ) (r : ℕ) : Type 0 where
+  pub pattern : Circuit
+  pub board : Circuit
+  pub source : Source pattern board t table r
+
+-- whether there is a place, and where there is one, what is left of it in the tables
+pub record Seen (pattern board : Circuit) (t : Tables) (around : Around) (dist sets : List ℕ) (b : Bool) : Type 0 where
+  pub answer : b ≡ found pattern board (around .centre) (around .radius)
+  pub there : b ≡ true → (place : List ℕ) × Located pattern board t (around .centre) (around .radius) dist sets place
 
 -- the piece had room and stands at the front of the buffer, and the answer says so
 pub record Wrote (before : List ℕ) (p : Piece) (after : List ℕ) (part : Part) : Type 0 where
