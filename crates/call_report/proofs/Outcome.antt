@@ -1,31 +1,29 @@
 -- What the call on two files comes to, by cases: a piece that is put, a buffer that is too short; a refused file, or the lines. Assumes nothing.
 use mathlib.Core.List.{List}
-use mathlib.Core.Path.{_≡_, ap}
+use mathlib.Core.Path.{_≡_, sym, ap, _∙_}
 use Prim.Native.Nat.{ℕ, _≤_, _<_}
 use native.Mathlib.Nat.{zero-add}
 use borrow.Author.Tests.{lt-ltb, le-ltb}
 use lib.ListN.{length}
 use Rattle.base_text.proofs.Text.{put-whole}
 use Rattle.graph.specs.Circuit.{Circuit}
-use Rattle.file_format.specs.declared.Board.{Board}
+use Rattle.graph.specs.Search.{radius}
 use Rattle.file_format.specs.declared.File.the-variants.{Neither}
-use Rattle.file_format.specs.declared.Pattern.{Pattern}
 use Rattle.file_format.specs.declared.Refusal.{Refusal}
-use Rattle.file_format.specs.declared.Role.the-variants as role
 use Rattle.file_format.specs.Layout.{startsOf, endsOf}
-use Rattle.file_format.specs.Reading.{filled}
+use Rattle.file_format.specs.Reading.{filled, front}
 use Rattle.file_format.specs.Refusals.{refuse, first, shortTable}
 use Rattle.file_format.specs.Reply.{reply}
-use Rattle.file_format.proofs.Refusals.{accepted}
-use Rattle.file_format.proofs.Rising.{rising-links}
-use Rattle.file_pair.specs.Pair.{pairConditions, front, BothRead}
-use Rattle.file_pair.proofs.Both.{both-accepted, pattern-bounded, board-bounded}
+use Rattle.file_format.proofs.Fields.{length-kinds}
+use Rattle.file_pair.specs.declared.Pair.{Pair}
+use Rattle.file_pair.specs.Pair.{pairConditions, BothRead}
+use Rattle.place.specs.Match.{radiusOf}
 use Rattle.report.specs.Lines.{longestLine}
 use Rattle.report_centres.specs.declared.Part.{Part}
 use Rattle.call_report.specs.declared.ReportAnswer.{ReportAnswer}
 use Rattle.call_report.specs.declared.ReportAnswer.the-variants as answer
 use Rattle.call_report.specs.Call.{longestRefusal, refusalPiece, pieceFor, pieceOf, reportReply, needFor, outcomeFor, reporting}
-use Rattle.report_centres.specs.Pieces.{Piece, linesPiece, Drawn, Wrote}
+use Rattle.report_centres.specs.Pieces.{Piece, linesPiece, Wrote}
 
 -- ---- a piece
 
@@ -49,20 +47,18 @@ module _ (pattern board : List ℕ) (from found : ℕ) (out : List ℕ) where
   unfolding reporting needFor pieceOf pieceFor
   reporting-refused e = rw e
 
-  pub reporting-lines : {p : Pattern} {b : Board} {parts nodes : Circuit} → BothRead pattern board p b parts nodes
-      → outcomeFor longestLine (linesPiece (front (p .nodes) (p .links) parts) (front (b .nodes) (b .links) nodes) from found (length out)) out
+  pub reporting-lines : {read : Pair} {parts nodes : Circuit} → BothRead pattern board read parts nodes
+      → outcomeFor longestLine (linesPiece (front (read .parts) (read .joins) parts) (front (read .nodes) (read .links) nodes) from found (length out)) out
       ≡ reporting pattern board from found out
   unfolding reporting needFor pieceOf pieceFor
   reporting-lines read = rw (read .verdict, read .drawn .content, read .given .content)
 
--- two files that were read hold circuits that a report is drawn from
-pub both-drawn : {pattern board : List ℕ} {p : Pattern} {b : Board} {parts nodes : Circuit} → BothRead pattern board p b parts nodes
-    → Drawn (front (p .nodes) (p .links) parts) (front (b .nodes) (b .links) nodes)
-both-drawn {board = board} read =
-    record {
-      parts = pattern-bounded read;
-      nodes = board-bounded read;
-      rise =
-          rw (ap (λ (c : Circuit). c .starts) (read .given .content), ap (λ (c : Circuit). c .ends) (read .given .content))
-          (rising-links (startsOf board) (endsOf board) (accepted role.Board board (both-accepted read .1) .rises));
-    }
+-- the radius that comes with the reading is the pattern's
+pub both-radius : {pattern board : List ℕ} {read : Pair} {parts nodes : Circuit} → BothRead pattern board read parts nodes
+    → read .radius ≡ radiusOf (front (read .parts) (read .joins) parts)
+unfolding radiusOf
+both-radius {pattern} read =
+    read .measured
+    ∙ sym
+    (ap (λ (c : Circuit). radius (length (c .kinds)) (c .starts) (c .ends)) (read .drawn .content)
+    ∙ ap (λ (n : ℕ). radius n (startsOf pattern) (endsOf pattern)) (length-kinds pattern))

@@ -1,9 +1,9 @@
 // The report call: the report of a pattern file on a board file, put piece by piece into a lent buffer.
 use file_format::Board;
 use file_format::File;
+use file_format::FileVerdict;
 use file_format::Pattern;
 use file_format::Refusal;
-use file_pair::PairAnswer;
 use file_pair::read_pair;
 use report::lines::put_refusal;
 use report_centres::LONGEST;
@@ -90,16 +90,17 @@ pub fn report(pattern: &[u8], board: &[u8], from: usize, found: u16, out: &mut [
         &mut ns,
         &mut ne,
     );
-    let PairAnswer::Read(p, b) = read else {
-        return answer_refused(file_pair::refusal_of(read), from, found, out);
-    };
+    let verdict = read.verdict;
+    if let FileVerdict::Refused(x) = verdict {
+        return answer_refused(x, from, found, out);
+    }
     if out.len() < LONGEST {
         return too_short();
     }
-    let parts = p.nodes;
-    let joins = p.links;
-    let n = b.nodes;
-    let m = b.links;
+    let parts = read.parts;
+    let joins = read.joins;
+    let n = read.nodes;
+    let m = read.links;
     ReportAnswer::Put(put_piece(
         &pk[..parts],
         &ps[..joins],
@@ -107,6 +108,7 @@ pub fn report(pattern: &[u8], board: &[u8], from: usize, found: u16, out: &mut [
         &nk[..n],
         &ns[..m],
         &ne[..m],
+        read.radius,
         from,
         found,
         out,

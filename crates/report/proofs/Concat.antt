@@ -3,7 +3,7 @@
 use mathlib.Core.List.{List, [], _++_, append-nil, append-assoc}
 use mathlib.Core.Logic.{_⊎_, inl, inr}
 use mathlib.Core.Path.{_≡_, refl, sym, ap, ap₂, _∙_}
-use Prim.Native.Nat.{ℕ, zero, suc, _+_, _*_, _≤_, _<_, zero-le}
+use Prim.Native.Nat.{ℕ, zero, suc, _+_, _*_, _^_, _≤_, _<_, zero-le}
 use native.Mathlib.Nat.{le-refl, add-zero, add-suc, suc-mul, eq-or-lt-of-le}
 use native.Mathlib.Numerals.{add-one}
 use native.Mathlib.Omega.{arith}
@@ -64,9 +64,9 @@ fits-piece n i g h f = fits-less (concatBelow i g ++ g i) (concat-le n (suc i) g
 pub fits-after : {o o1 xs : List ℕ} {at p : ℕ} (zs ys : List ℕ) → length xs ≤ length zs → Put o at xs o1 p → Fits o at (zs ++ ys) → Fits o1 p ys
 fits-after zs ys h f g = record { room = omega (arith, g .room, length-append zs ys, put-length f, f .end) }
 
--- room for a number of at most five digits
-pub fits-number : {o : List ℕ} {at : ℕ} (x : ℕ) → x < 100000 → at + 5 ≤ length o → Fits o at (decimal x)
-fits-number x h l = record { room = omega (arith, length-decimal 4 x h) }
+-- room for a number of at most k digits, k being 1 or more
+pub fits-number : {o : List ℕ} {at : ℕ} (k x : ℕ) → x < 10 ^ suc k → at + suc k ≤ length o → Fits o at (decimal x)
+fits-number k x h l = record { room = omega (arith, length-decimal k x h) }
 
 -- a text of at most k bytes leaves the rest of the room
 pub room-left : {o o1 xs : List ℕ} {at p : ℕ} (k m : ℕ) → Put o at xs o1 p → length xs ≤ k → at + (k + m) ≤ length o → p + m ≤ length o1

@@ -209,7 +209,7 @@ fn put_file(file: File, out: &mut [u8], at: usize) -> usize
 
 // The line of a refused file.
 pub fn put_refusal(x: Refusal, out: &mut [u8], at: usize) -> usize
-    requires { ⌜ at + longestLine ≤ length (now out) ⌝ }
+    requires { ⌜ at + 20 ≤ length (now out) ⌝ }
     ensures { λ r. ⌜ Put (now (out .entry)) at (refusalLine x) (now (out .exit)) r ⌝ }
 {
     let number = put_bytes(b"refused ", out, at);

@@ -23,7 +23,7 @@ room-count : (c : tie.After-put-bytes) → c .put-bytes .result + 20 ≤ length 
 room-count c = room-left 4 20 (c .put-bytes .ensures) (omega arith) (omega (arith, c .before .before .before .before .pre .1))
 
 put-number-requires : tie.Need-put-number-requires
-put-number-requires c κs = fits-number _ (omega arith) (omega (arith, room-count (c .before .before .before)))
+put-number-requires c κs = fits-number 4 _ (omega arith) (omega (arith, room-count (c .before .before .before)))
 
 room-of : (c : tie.After-put-number) → c .put-number .result + 15 ≤ length (c .put-number .last .1 .0)
 room-of c = room-left 5 15 (c .put-number .ensures) (length-decimal 4 _ (omega arith)) (room-count (c .before .before .before .before))
@@ -38,7 +38,7 @@ room-all : (c : tie.After-put-bytes2) → c .put-bytes2 .result + 11 ≤ length 
 room-all c = room-left 4 11 (c .put-bytes2 .ensures) (omega arith) (room-of (c .before .before .before .before .before))
 
 put-number-requires-2 : tie.Need-put-number-requires-2
-put-number-requires-2 c κs = fits-number _ (omega arith) (omega (arith, room-all (c .before .before .before)))
+put-number-requires-2 c κs = fits-number 4 _ (omega arith) (omega (arith, room-all (c .before .before .before)))
 
 room-end : (c : tie.After-put-number2) → c .put-number2 .result + 6 ≤ length (c .put-number2 .last .1 .0)
 room-end c = room-left 5 6 (c .put-number2 .ensures) (length-decimal 4 _ (omega arith)) (room-all (c .before .before .before .before))

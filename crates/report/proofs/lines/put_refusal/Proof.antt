@@ -20,23 +20,23 @@ put-bytes-requires c κs = record { room = omega (arith, c .before .before .befo
 
 -- ---- the room that is left after each piece
 
-room-number : (c : tie.After-put-bytes) → c .put-bytes .result + 20 ≤ length (c .put-bytes .last .1 .0)
-room-number c = room-left 8 20 (c .put-bytes .ensures) (omega arith) (omega (arith, c .before .before .before .before .pre))
+room-number : (c : tie.After-put-bytes) → c .put-bytes .result + 12 ≤ length (c .put-bytes .last .1 .0)
+room-number c = room-left 8 12 (c .put-bytes .ensures) (omega arith) (omega (arith, c .before .before .before .before .pre))
 
 cast-put-number : tie.Need-cast-put-number
 cast-put-number c = search needs
 
 put-number-requires : tie.Need-put-number-requires
-put-number-requires c κs = fits-number _ (omega arith) (omega (arith, room-number (c .before .before .before .before)))
+put-number-requires c κs = fits-number 2 _ (omega arith) (omega (arith, room-number (c .before .before .before .before)))
 
-room-file : (c : tie.After-put-number) → c .put-number .result + 15 ≤ length (c .put-number .last .1 .0)
-room-file c = room-left 5 15 (c .put-number .ensures) (length-decimal 4 _ (omega arith)) (room-number (c .before .before .before .before .before))
+room-file : (c : tie.After-put-number) → c .put-number .result + 9 ≤ length (c .put-number .last .1 .0)
+room-file c = room-left 3 9 (c .put-number .ensures) (length-decimal 2 _ (omega arith)) (room-number (c .before .before .before .before .before))
 
 put-file-requires : tie.Need-put-file-requires
 put-file-requires c κs = omega (arith, room-file (c .before .before .before))
 
-room-end : (c : tie.After-put-file) → c .put-file .result + 7 ≤ length (c .put-file .last .1 .0)
-room-end c = room-left 8 7 (c .put-file .ensures) (word-length _) (room-file (c .before .before .before .before))
+room-end : (c : tie.After-put-file) → c .put-file .result + 1 ≤ length (c .put-file .last .1 .0)
+room-end c = room-left 8 1 (c .put-file .ensures) (word-length _) (room-file (c .before .before .before .before))
 
 put-byte-requires : tie.Need-put-byte-requires
 put-byte-requires c κs = record { room = omega (arith, room-end (c .before .before .before)) }
