@@ -5,18 +5,17 @@ use Prim.Native.Nat.{_<_}
 use native.Mathlib.Omega.{arith}
 use borrow.Author.Needs.{needs}
 use denote.Ref.{now}
-use lib.ListN.{length, length-take}
+use lib.ListN.{length}
 use lib.Seq.{length-take-le}
-use Rattle.place.specs.Find.{SoughtBySome}
 use Rattle.place.proofs.Find.{sought-known, sought-long, sets-ready, found-nothing, found-place}
 use Rattle.place_around.proofs.find.Statement.{statement}
 use Rattle.place_around.proofs.find.Tie as tie
 
 slice-reshare-prefix-refine : tie.Need-slice-reshare-prefix-refine
-slice-reshare-prefix-refine c = c .before .before .before .before .before .before .before .pre .0 .0
+slice-reshare-prefix-refine c = omega (arith, c .before .before .before .before .before .before .before .pre .0 .0)
 
 slice-aggregate-refine : tie.Need-slice-aggregate-refine
-slice-aggregate-refine c = sym (length-take-le _ _ (c .before .before .before .before .before .before .before .before .pre .0 .0))
+slice-aggregate-refine c = sym (length-take-le _ _ (omega (arith, c .before .before .before .before .before .before .before .before .pre .0 .0)))
 
 refine-requires : tie.Need-refine-requires
 refine-requires c κs =

@@ -2,12 +2,13 @@
 -- first table. Assumes nothing.
 use mathlib.Core.List.{List}
 use mathlib.Core.Path.{_≡_, sym, ap, _∙_}
-use Prim.Native.Nat.{_≤_}
+use Prim.Native.Nat.{ℕ, _≤_}
 use native.Mathlib.Omega.{arith}
 use borrow.Author.Needs.{needs}
 use denote.Ref.{now}
 use lib.ListN.{length, take}
 use lib.Seq.{length-take-le}
+use Rattle.graph.specs.Bfs.{bfs, adjacent, Found}
 use Rattle.graph.specs.Circuit.{circuit}
 use Rattle.table.specs.Prepared.{tables, Tables}
 use Rattle.table.specs.Refine.{countsOf}
@@ -32,7 +33,7 @@ short c =
     let s = c .before .before .before .before .before .before .before .before .before .before .before .before in
     let p = s .pre in
     rw (c .search .kept .1 .1 .1 .1 .1 .0, p .1 .1 .0 .1)
-    (ball-short (p .0 .tabled) (s .args .around .centre) (s .args .around .radius) (p .1 .0) (rw (p .1 .1 .0 .0) at (c .search .ensures)))
+    (ball-short (p .0 .tabled) (s .args .around .centre) _ (p .1 .0) (rw (p .1 .1 .0 .0) at (c .search .ensures)))
 
 slice-reshare-prefix-start : tie.Need-slice-reshare-prefix-start
 slice-reshare-prefix-start c = short (c .before .before .before .before)
@@ -44,19 +45,20 @@ start-requires : tie.Need-start-requires
 start-requires c κs =
     let s = c .before .before .before .before .before .before .before .before .before .before .before .before .before .before .before .before .before .before in
     let p = s .pre in
-    let list = ball-list (p .0 .tabled) (s .args .around .centre) (s .args .around .radius) (p .1 .0) (rw (p .1 .1 .0 .0) at (c .before .before .before .before .before .before .search .ensures)) in
+    let list = ball-list (p .0 .tabled) (s .args .around .centre) _ (p .1 .0) (rw (p .1 .1 .0 .0) at (c .before .before .before .before .before .before .search .ensures)) in
     (p .0 .tabled .prepared .parts, (rw (p .1 .1 .1 .0) list, list .below))
 
--- what finding starts from, whatever the links
-seek : (c : tie.After-start) → let s = c .before .before .before .before .before .before .before .before .before .before .before .before .before .before .before .before .before .before .before in let a = s .args in (ps pe ns ne : List _) →
+-- what finding starts from, whatever the links, at the radius of the search
+seek : (c : tie.After-start) → let s = c .before .before .before .before .before .before .before .before .before .before .before .before .before .before .before .before .before .before .before in let a = s .args in (ps pe ns ne : List _) (r : ℕ) →
+    Found (c .before .before .before .before .before .before .before .search .result) (c .before .before .before .before .before .before .before .search .last .1 .1 .1 .1 .0) (c .before .before .before .before .before .before .before .search .last .1 .1 .1 .1 .1 .0)
+    (bfs (adjacent (now (a .offsets)) (now (a .links))) (length (now (a .dist))) (a .around .centre) r) →
     Tabled (circuit (now (a .part-kinds)) ps pe) (circuit (now (a .node-kinds)) ns ne) (tablesOf s) →
-    Sought (circuit (now (a .part-kinds)) ps pe) (circuit (now (a .node-kinds)) ns ne) (tablesOf s) (a .around .centre) (a .around .radius)
+    Sought (circuit (now (a .part-kinds)) ps pe) (circuit (now (a .node-kinds)) ns ne) (tablesOf s) (a .around .centre) r
     (take (c .before .before .before .before .before .before .before .search .result) (c .before .before .before .before .before .before .before .search .last .1 .1 .1 .1 .1 .0)) (c .start .last .1 .1 .1 .0)
-seek c ps pe ns ne d =
+seek c ps pe ns ne r f d =
     let s = c .before .before .before .before .before .before .before .before .before .before .before .before .before .before .before .before .before .before .before in
     let p = s .pre in
-    ball-sought d (s .args .around .centre) (s .args .around .radius) (p .1 .0) (rw (p .1 .1 .0 .0) at (c .before .before .before .before .before .before .before .search .ensures))
-    (started-begins _ _ _ (p .1 .1 .1 .0) (c .start .ensures))
+    ball-sought d (s .args .around .centre) r (p .1 .0) (rw (p .1 .1 .0 .0) at f) (started-begins _ _ _ (p .1 .1 .1 .0) (c .start .ensures))
 
 find-requires : tie.Need-find-requires
 find-requires c κs =
@@ -65,7 +67,7 @@ find-requires c κs =
     let p = s .pre in
     let some = p .0 in
     let sets = begun .start .kept .1 .1 .1 .0 ∙ p .1 .1 .1 .0 in (
-      (short (c .before .before .before .before .before .before .before .before .before .before .before .before .before), record { pattern = _; board = _; radius = _; sought = seek begun (some .partStarts) (some .partEnds) (some .nodeStarts) (some .nodeEnds) (some .tabled) }),
+      (short (c .before .before .before .before .before .before .before .before .before .before .before .before .before), record { pattern = _; board = _; radius = _; sought = seek begun (some .partStarts) (some .partEnds) (some .nodeStarts) (some .nodeEnds) _ (c .before .before .before .before .before .before .before .before .before .before .before .before .before .search .ensures) (some .tabled) }),
       (
         begun .start .ensures .size,
         (
@@ -81,8 +83,8 @@ counted-requires c κs =
     let begun = c .before .before .before .before .before .before .before .before .before .before .before .before .before .before .before .before in
     let s = c .before .before .before .before .before .before .before .before .before .before .before .before .before .before .before .before .before .before .before .before .before .before .before .before .before .before .before .before .before .before .before .before .before .before .before in
     let some = s .pre .0 in
-    let g = seek begun (some .partStarts) (some .partEnds) (some .nodeStarts) (some .nodeEnds) (some .tabled) in
-    kept-first _ _ _ (s .pre .1 .1 .1 .0) (begun .start .ensures) (some .tabled .prepared .parts) (c .before .before .before .before .before .before .before .before .before .find .ensures _ _ _ g .rested)
+    let g = seek begun (some .partStarts) (some .partEnds) (some .nodeStarts) (some .nodeEnds) _ (c .before .before .before .before .before .before .before .before .before .before .before .before .before .before .before .before .before .before .before .before .before .before .before .search .ensures) (some .tabled) in
+    omega (arith, kept-first _ _ _ (s .pre .1 .1 .1 .0) (begun .start .ensures) (some .tabled .prepared .parts) (c .before .before .before .before .before .before .before .before .before .find .ensures _ _ _ g .rested))
 
 same-length : tie.Need-same-length
 same-length c = search needs
@@ -101,7 +103,7 @@ returns c =
     let begun = c .before .before .before .before .before .before .before .before .before .before .before .before .before .before .before .before .before in
     let s = c .before .before .before .before .before .before .before .before .before .before .before .before .before .before .before .before .before .before .before .before .before .before .before .before .before .before .before .before .before .before .before .before .before .before .before .before in
     λ ps pe ns ne d.
-    let g = seek begun ps pe ns ne d in
+    let g = seek begun ps pe ns ne (s .args .around .radius) (c .before .before .before .before .before .before .before .before .before .before .before .before .before .before .before .before .before .before .before .before .before .before .before .before .search .ensures) d in
     let f = c .before .before .before .before .before .before .before .before .before .before .find .ensures _ _ _ g in
     record {
       counted =
