@@ -29,14 +29,13 @@ use Rattle.table.specs.declared.Counts.{Counts}
 use Rattle.table.specs.Reply.{replied}
 use Rattle.place.specs.Match.{found}
 use Rattle.place.specs.Outcome.{placeVerdict}
-use Rattle.report.specs.Lines.{longestLine}
 use Rattle.file_write.specs.Writing.{writeConditions, writing}
 use Rattle.call_distance.specs.Calls.{radiusCall, ballConditions, ballCall}
 use Rattle.call_match.specs.Call.{matchConditions, matching}
 use Rattle.call_place.specs.Call.{inputConditions}
 use Rattle.call_place.proofs.Promise.{input-refused, verdict-is, accept-or-nine, nine-keeps}
 use Rattle.call_merge.specs.Call.{mergeConditions, merging}
-use Rattle.call_report.specs.Call.{reporting}
+use Rattle.call_report.specs.Call.{reporting, needFor, verdictOf, outcomeFor}
 use Rattle.demands.specs.Demands.{Lent, placed, Decided, nine, noPlace, placedConditions, Untouched, Unread, ReadsAs, Demand1}
 
 -- ---- a verdict that is the first of a list of conditions
@@ -120,11 +119,11 @@ merges pattern classes out =
 
 reports :
     (pattern board : List ℕ) (from before : ℕ) (out : List ℕ) →
-    Decided (shortTable longestLine (length out) ∷ []) (reporting pattern board from before out .reply .verdict)
+    Decided (shortTable (needFor (verdictOf pattern board)) (length out) ∷ []) (reporting pattern board from before out .reply .verdict)
     (reporting pattern board from before out .out ≡ out)
-unfolding reporting
+unfolding reporting outcomeFor
 reports pattern board from before out =
-    by-first (shortTable longestLine (length out) ∷ []) (reply-verdict _ _) (λ x e. keeps _ out e)
+    by-first (shortTable (needFor (verdictOf pattern board)) (length out) ∷ []) (reply-verdict _ _) (λ x e. keeps _ out e)
 
 -- ---- the place calls: the conditions on the inputs, and then 9
 

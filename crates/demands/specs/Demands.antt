@@ -35,14 +35,13 @@ use Rattle.table.specs.Host.{EqualKinds}
 use Rattle.table.specs.Row.{InTable}
 use Rattle.place.specs.Match.{radiusOf, found, markedGraph}
 use Rattle.place.specs.Outcome.{PlaceOutcome}
-use Rattle.report.specs.Lines.{longestLine}
 use Rattle.file_write.specs.Writing.{writeConditions, writing}
 use Rattle.call_distance.specs.Calls.{radiusCall, ballConditions, ballCall}
 use Rattle.call_match.specs.Call.{TableOutcome, matchConditions, matching}
 use Rattle.call_place.specs.Call.{inputConditions, placeAt}
 use Rattle.call_merge.specs.Call.{MergeOutcome, mergeConditions, merging}
 use Rattle.call_merge.specs.Classes.{classByte}
-use Rattle.call_report.specs.Call.{reporting}
+use Rattle.call_report.specs.Call.{reporting, needFor, verdictOf}
 
 -- ---- the words of all three
 
@@ -135,7 +134,7 @@ pub record Demand1 : Type 0 where
       Decided (mergeConditions pattern (length classes) (length out)) (merging pattern classes out .reply .verdict)
       ((merging pattern classes out .classes ≡ classes) × (merging pattern classes out .out ≡ out))
   pub reports : (pattern board : List ℕ) (from before : ℕ) (out : List ℕ) →
-      Decided (shortTable longestLine (length out) ∷ []) (reporting pattern board from before out .reply .verdict)
+      Decided (shortTable (needFor (verdictOf pattern board)) (length out) ∷ []) (reporting pattern board from before out .reply .verdict)
       (reporting pattern board from before out .out ≡ out)
   -- what the other demands mean by accepted, and what the conditions 4, 5 and 6 test
   pub accepts : (role : Role) (file : List ℕ) → Accepted role file ↔ ReadsAs role file
