@@ -3,3 +3,4 @@ pub mod Tables
 pub mod Rows
 pub mod Below
 pub mod Ranks
+pub mod Parts

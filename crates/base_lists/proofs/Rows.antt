@@ -1,15 +1,13 @@
 -- Rows of numbers: their sum and their largest entry, and sequences of rows (or of anything) that come to rest. Assumes nothing.
-use mathlib.Core.List.{List, [], _∷_, _++_}
+use mathlib.Core.List.{List, [], _∷_}
 use mathlib.Core.Logic.{_⊎_, inl, inr, ⊎-elim}
 use mathlib.Core.Path.{_≡_, refl, sym, ap, subst, _∙_}
 use Prim.Native.Nat.{ℕ, zero, suc, _+_, _≤_, _<_, max, zero-le, suc-le-suc}
 use native.Mathlib.Nat.{le-of-suc-le-suc, not-suc-le-zero, zero-lt-suc, eq-or-lt-of-le, le-antisymm, suc-inj, le-max-left}
 use native.Mathlib.Omega.{arith}
-use native.Mathlib.Numerals.{add-one}
-use lib.ListN.{length, getD, take}
-use lib.Seq.{take-suc, take-all}
+use lib.ListN.{length, getD}
 use Rattle.base_lists.specs.List.{tabulate, sum, maximum}
-use Rattle.base_lists.proofs.Tables.{length-tabulate, getD-tabulate, tabulate-suc}
+use Rattle.base_lists.proofs.Tables.{length-tabulate, getD-tabulate}
 
 -- ---- sequences that come to rest
 
@@ -87,31 +85,6 @@ unfolding maximum
 getD-le-maximum [] i = zero-le
 getD-le-maximum (x ∷ xs) zero = omega arith
 getD-le-maximum (x ∷ xs) (suc i) = omega (arith, getD-le-maximum xs i)
-
--- one entry more at the end
-pub maximum-snoc : (xs : List ℕ) (x : ℕ) → maximum (xs ++ (x ∷ [])) ≡ max (maximum xs) x
-unfolding maximum
-maximum-snoc [] x = omega arith
-maximum-snoc (y ∷ xs) x = omega (arith, maximum-snoc xs x)
-
--- ---- a loop that takes the largest entry, or the largest value of a rule, one a turn
-
-pub largest-none : (xs : List ℕ) → maximum (take 0 xs) ≡ 0
-unfolding maximum
-largest-none xs = refl
-
-pub largest-more : (xs : List ℕ) (i : ℕ) → i < length xs → maximum (take (i + 1) xs) ≡ max (maximum (take i xs)) (getD xs i 0)
-largest-more xs i h = rw (add-one, take-suc xs i 0) (maximum-snoc (take i xs) (getD xs i 0))
-
-pub largest-all : (xs : List ℕ) (i : ℕ) → length xs ≤ i → maximum (take i xs) ≡ maximum xs
-largest-all xs i h = ap maximum (take-all i xs h)
-
-pub rule-largest-none : (f : ℕ → ℕ) → maximum (tabulate 0 f) ≡ 0
-unfolding maximum tabulate
-rule-largest-none f = refl
-
-pub rule-largest-more : (f : ℕ → ℕ) (i : ℕ) → maximum (tabulate (i + 1) f) ≡ max (maximum (tabulate i f)) (f i)
-rule-largest-more f i = rw (add-one, tabulate-suc) (maximum-snoc (tabulate i f) (f i))
 
 -- ---- which entry is the largest
 

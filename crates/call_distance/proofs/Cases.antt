@@ -1,20 +1,20 @@
 -- What the two calls come to, by cases of the conditions. Assumes nothing.
 use mathlib.Core.List.{List, [], _∷_, _++_}
-use mathlib.Core.Path.{_≡_, sym}
+use mathlib.Core.Path.{_≡_, sym, ap}
 use Prim.Native.Nat.{ℕ, _≤_, _<_}
 use borrow.Author.Tests.{lt-ltb, le-ltb}
 use lib.ListN.{length, take, drop}
+use Rattle.graph.specs.Circuit.{Circuit}
 use Rattle.graph.specs.Search.{ball, radius}
 use Rattle.graph.proofs.Ball.{length-ball}
 use Rattle.file_format.specs.declared.File.the-variants.{Neither}
 use Rattle.file_format.specs.declared.Refusal.{Refusal}
 use Rattle.file_format.specs.declared.Role.the-variants.{Pattern, Board}
 use Rattle.file_format.specs.Layout.{nodesOf, startsOf, endsOf}
-use Rattle.file_format.specs.Reading.{ReadOutcome, filled}
+use Rattle.file_format.specs.Reading.{filled, Stands}
 use Rattle.file_format.specs.Refusals.{accept, refuse, first, fileConditions, centreOutside, shortTable}
 use Rattle.file_format.specs.Reply.{reply}
 use Rattle.file_format.proofs.Fields.{length-kinds}
-use Rattle.file_format.proofs.Reading.{Loaded}
 use Rattle.file_format.proofs.Refusals.{first-accept, first-refuse}
 use Rattle.call_distance.specs.Calls.{radiusCall, ballConditions, ballEntries, ballCall}
 
@@ -60,10 +60,11 @@ module _ (file : List ℕ) (centre r : ℕ) (out : List ℕ) where
 
 -- ---- the ball of a file that was read, filled in from the fronts of its tables
 
-pub ball-read : (file : List ℕ) (centre r : ℕ) (out : List ℕ) {n m : ℕ} {o : ReadOutcome} → Loaded Board file n m o → centre < n → n ≤ length out
-    → {after : List ℕ}
-    → after ≡ ball (length (take n (o .kinds))) (take m (o .starts)) (take m (o .ends)) centre r ++ drop (length (take n (o .kinds))) out
+pub ball-read : (file : List ℕ) (centre r : ℕ) (out : List ℕ) {n m : ℕ} {t : Circuit} → first (fileConditions Board file) ≡ accept → Stands file n m t
+    → centre < n → n ≤ length out → {after : List ℕ}
+    → after ≡ ball (length (take n (t .kinds))) (take m (t .starts)) (take m (t .ends)) centre r ++ drop (length (take n (t .kinds))) out
     → record { reply = record { verdict = accept; values = n ∷ [] }; out = after } ≡ ballCall file centre r out
-ball-read file centre r out l inside room e =
-    rw (e, l .kindsFirst, l .startsFirst, l .endsFirst, length-kinds, l .nodes)
-    (sym (ball-filled file centre r out (l .verdict) (rw (← l .nodes) inside) (rw (← l .nodes) room)))
+ball-read file centre r out sound s inside room e =
+    let held = s .content in
+    rw (e, ap (λ (c : Circuit). c .kinds) held, ap (λ (c : Circuit). c .starts) held, ap (λ (c : Circuit). c .ends) held, length-kinds, s .nodes)
+    (sym (ball-filled file centre r out sound (rw (← s .nodes) inside) (rw (← s .nodes) room)))

@@ -24,12 +24,8 @@ use Rattle.call_distance.specs.declared.RadiusAnswer.{RadiusAnswer}
 use Rattle.call_distance.specs.declared.RadiusAnswer.the-variants as radius-answer
 use Rattle.call_distance.specs.declared.BallAnswer.{BallAnswer}
 use Rattle.call_distance.specs.declared.BallAnswer.the-variants as ball-answer
-use Rattle.call_distance.specs.Calls.{radiusReply, ballReply, radiusCall, ballConditions, ballCall, BallOutcome}
+use Rattle.call_distance.specs.Calls.{radiusReply, ballReply, radiusCall, ballConditions, ballCall, BallOutcome, fileGraph, Marked}
 use Rattle.call_distance.proofs.Cases.{radius-replied, ball-filled}
-
--- the graph of a circuit file
-abbrev pub fileGraph : List ℕ → Graph
-fileGraph file = graphOf (nodesOf file) (startsOf file) (endsOf file)
 
 -- the links of an accepted file join its nodes
 pub accepted-within : (r : Role) (file : List ℕ) → first (fileConditions r file) ≡ accept → Within (nodesOf file) (startsOf file) (endsOf file)
@@ -71,10 +67,6 @@ pub ball-refused-keeps : (file : List ℕ) (centre r : ℕ) (out : List ℕ) (x 
     → ballCall file centre r out .out ≡ out
 unfolding ballCall filled
 ball-refused-keeps file centre r out x e = rw e
-
--- The byte of a node: 1, and the ball around the centre at radius r has the node; or 0, and it does not.
-abbrev pub Marked : Graph → ℕ → ℕ → ℕ → ℕ → Type 0
-Marked G centre r v byte = ((byte ≡ 1) × InBall G centre r v) ⊎ ((byte ≡ 0) × (InBall G centre r v → ⊥))
 
 module _ (file : List ℕ) (centre r : ℕ) (out : List ℕ) (e : first (fileConditions Board file) ≡ accept) (h : centre < nodesOf file) (room : nodesOf file ≤ length out) where
   links : Within (nodesOf file) (startsOf file) (endsOf file)

@@ -1,7 +1,11 @@
 -- The radius call and the ball lookup, whole: the reply, and the lent table's later content, from the inputs alone.
 use mathlib.Core.List.{List, [], _∷_, _++_}
+use mathlib.Core.Logic.{_⊎_}
+use mathlib.Core.Path.{_≡_}
 use Prim.Native.Nat.{ℕ}
 use lib.ListN.{length}
+use Rattle.graph.specs.Circuit.{graphOf}
+use Rattle.graph.specs.Graph.{Graph, InBall}
 use Rattle.graph.specs.Search.{ball, radius}
 use Rattle.file_format.specs.declared.Role.the-variants.{Pattern, Board}
 use Rattle.file_format.specs.Layout.{nodesOf, startsOf, endsOf}
@@ -49,3 +53,13 @@ unfoldable pub ballCall : List ℕ → ℕ → ℕ → List ℕ → BallOutcome
 ballCall file centre r out =
     let verdict = first (ballConditions file centre (length out)) in
     record { reply = reply verdict (nodesOf file ∷ []); out = filled verdict (ballEntries file centre r) out }
+
+-- ---- what the two mean
+
+-- the graph of a circuit file
+abbrev pub fileGraph : List ℕ → Graph
+fileGraph file = graphOf (nodesOf file) (startsOf file) (endsOf file)
+
+-- The byte of a node: 1, and the ball around the centre at radius r has the node; or 0, and it does not.
+abbrev pub Marked : Graph → ℕ → ℕ → ℕ → ℕ → Type 0
+Marked G centre r v byte = ((byte ≡ 1) × InBall G centre r v) ⊎ ((byte ≡ 0) × (InBall G centre r v → ⊥))

@@ -3,12 +3,12 @@ ghost use mathlib.Core.Path.{_≡_};
 ghost use Rattle.call_distance.specs.Calls.{radiusReply, radiusCall, ballReply, ballCall};
 use file_format::Board;
 use file_format::File;
+use file_format::FileVerdict;
 use file_format::Pattern;
-use file_format::ReadAnswer;
 use file_format::Refusal;
 use file_format::Role;
+use file_read::load;
 use graph_extent::ball::fill_ball;
-use graph_extent::radius::radius_of;
 
 // A pattern's radius, or why the file was turned away.
 pub enum RadiusAnswer {
@@ -29,12 +29,12 @@ pub fn radius(file: &[u8]) -> RadiusAnswer
     let mut kinds = [0u16; Pattern::MAX_NODES];
     let mut starts = [0u16; Pattern::MAX_LINKS];
     let mut ends = [0u16; Pattern::MAX_LINKS];
-    let answer = file_read::read(Role::Pattern, file, &mut kinds, &mut starts, &mut ends);
-    let ReadAnswer::Read(n, m) = answer else {
-        return RadiusAnswer::Refused(file_format::refusal_of(answer));
-    };
-    let radius = radius_of(&kinds[..n], &starts[..m], &ends[..m]) as usize;
-    RadiusAnswer::Radius(radius)
+    let read = load(Role::Pattern, file, &mut kinds, &mut starts, &mut ends);
+    let verdict = read.verdict;
+    if let FileVerdict::Refused(x) = verdict {
+        return RadiusAnswer::Refused(x);
+    }
+    RadiusAnswer::Radius(read.radius as usize)
 }
 
 // The ball around a node of a board: a byte for each node, 1 inside and 0 outside, first in `out`; or the refusal, which leaves `out` as it
@@ -45,10 +45,13 @@ pub fn ball(file: &[u8], centre: usize, radius: u16, out: &mut [u8]) -> BallAnsw
     let mut kinds = [0u16; Board::MAX_NODES];
     let mut starts = [0u16; Board::MAX_LINKS];
     let mut ends = [0u16; Board::MAX_LINKS];
-    let answer = file_read::read(Role::Board, file, &mut kinds, &mut starts, &mut ends);
-    let ReadAnswer::Read(n, m) = answer else {
-        return BallAnswer::Refused(file_format::refusal_of(answer));
-    };
+    let read = load(Role::Board, file, &mut kinds, &mut starts, &mut ends);
+    let verdict = read.verdict;
+    if let FileVerdict::Refused(x) = verdict {
+        return BallAnswer::Refused(x);
+    }
+    let n = read.nodes;
+    let m = read.links;
     if n <= centre {
         return BallAnswer::Refused(Refusal {
             number: 7,

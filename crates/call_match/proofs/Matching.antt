@@ -5,17 +5,16 @@ use Prim.Native.Nat.{ℕ, _≤_, _<_}
 use borrow.Author.Tests.{lt-ltb, le-ltb}
 use lib.ListN.{length, drop}
 use Rattle.graph.specs.Circuit.{Circuit}
-use Rattle.file_format.specs.declared.Board.{Board}
 use Rattle.file_format.specs.declared.File.the-variants.{Neither}
-use Rattle.file_format.specs.declared.Pattern.{Pattern}
 use Rattle.file_format.specs.declared.Refusal.{Refusal}
 use Rattle.file_format.specs.Circuit.{circuitOf}
 use Rattle.file_format.specs.Layout.{nodesOf}
-use Rattle.file_format.specs.Reading.{filled}
+use Rattle.file_format.specs.Reading.{filled, front}
 use Rattle.file_format.specs.Refusals.{accept, refuse, first, shortTable}
 use Rattle.file_format.proofs.Fields.{length-kinds}
-use Rattle.file_pair.specs.Pair.{pairConditions, front, BothRead}
-use Rattle.file_pair.proofs.Both.{files-refused, files-accepted}
+use Rattle.file_format.proofs.Refusals.{first-accept, first-refuse}
+use Rattle.file_pair.specs.Pair.{pairConditions, BothRead}
+use Rattle.file_pair.specs.declared.Pair.{Pair}
 use Rattle.call_match.specs.declared.TableAnswer.the-variants.{Matched, Refused}
 use Rattle.table.specs.declared.Counts.{Counts}
 use Rattle.call_match.specs.Call.{TableOutcome, matchConditions, replyOf, matchOn, matching}
@@ -49,13 +48,13 @@ module _ (pattern board table : List ℕ) where
   pub matching-refused : {x : Refusal} → first (pairConditions pattern board) ≡ refuse x
       → record { reply = replyOf (Refused x); table = table } ≡ matching pattern board table
   unfolding matching matchConditions replied replyOf filled
-  matching-refused e = rw (files-refused pattern board _ e)
+  matching-refused e = rw (first-refuse _ _ _ e)
 
   matching-accepted : first (pairConditions pattern board) ≡ accept
       → matchOn (circuitOf pattern) (circuitOf board) table ≡ matching pattern board table
   unfolding matchOn matching matchConditions
-  matching-accepted e = rw (files-accepted pattern board _ e, length-kinds board)
+  matching-accepted e = rw (first-accept _ _ e, length-kinds board)
 
-  pub matching-read : {p : Pattern} {b : Board} {parts nodes : Circuit} → BothRead pattern board p b parts nodes → {o : TableOutcome}
-      → o ≡ matchOn (front (p .nodes) (p .links) parts) (front (b .nodes) (b .links) nodes) table → o ≡ matching pattern board table
+  pub matching-read : {p : Pair} {parts nodes : Circuit} → BothRead pattern board p parts nodes → {o : TableOutcome}
+      → o ≡ matchOn (front (p .parts) (p .joins) parts) (front (p .nodes) (p .links) nodes) table → o ≡ matching pattern board table
   matching-read read e = (rw (read .drawn .content, read .given .content) at e) ∙ matching-accepted (read .verdict)

@@ -4,6 +4,7 @@ use mathlib.Core.List.{List, _++_, map, List·Memᴰ}
 use mathlib.Core.Logic.{_↔_}
 use mathlib.Core.Path.{_≡_, refl, sym, ap, subst, _∙_}
 use Prim.Native.Nat.{ℕ, _+_, _≤_, _<_}
+use borrow.Author.Tests.{le-ltb}
 use lib.Count.{ones}
 use lib.Dec.{T}
 use lib.ListN.{length, take, drop}
@@ -19,9 +20,11 @@ use Rattle.file_format.specs.declared.Role.the-variants.{Pattern, Board}
 use Rattle.file_format.specs.Circuit.{circuitOf}
 use Rattle.file_format.specs.Layout.{nodesOf}
 use Rattle.file_format.specs.Reading.{filled}
-use Rattle.file_format.specs.Refusals.{Condition, Verdict, accept, refuse, first, fileConditions}
+use Rattle.file_format.specs.Refusals.{Condition, Verdict, accept, refuse, first, fileConditions, Accepted, shortTable}
 use Rattle.file_format.proofs.Accepted.{accepted-bounded, accepted-within, accepted-connected}
-use Rattle.file_format.proofs.Refusals.{Accepted, accepted, first-parts, refuses-iff}
+use Rattle.file_format.proofs.Refusals.{accepted, first-accept, first-parts, refuses-iff}
+use Rattle.file_pair.specs.Pair.{pairConditions}
+use Rattle.file_pair.proofs.Both.{pair-accept, pair-parts}
 use Rattle.call_match.specs.declared.TableAnswer.{TableAnswer}
 use Rattle.call_match.specs.declared.TableAnswer.the-variants.{Matched, Refused}
 use Rattle.table.specs.declared.Counts.{Counts}
@@ -29,8 +32,7 @@ use Rattle.call_match.specs.Call.{matchConditions, replyOf, matching}
 use Rattle.table.specs.Host.{everything, EqualKinds}
 use Rattle.table.specs.Refine.{countsOf}
 use Rattle.table.specs.Reply.{Reply, noCounts, replied}
-use Rattle.table.specs.Row.{inTable, startTable, lastTable}
-use Rattle.table.proofs.Answers.{InTable}
+use Rattle.table.specs.Row.{inTable, startTable, lastTable, InTable}
 use Rattle.table.proofs.Counting.{started-sum, rounds-struck, started-ones, kept-ones}
 use Rattle.table.proofs.Host.{board-largest, within-joins}
 use Rattle.call_match.proofs.Matching.{length-last}
@@ -81,15 +83,20 @@ module _ (pattern board table : List ℕ) where
 
   -- ---- an accepted call
 
+  -- Two accepted files and a table that is long enough are not refused.
+  pub accepts :
+      Accepted Pattern pattern → Accepted Board board → nodesOf board ≤ length table → matching pattern board table .reply .verdict ≡ accept
+  unfolding matchConditions first shortTable
+  accepts a b room =
+      verdict-is ∙ rw (first-accept _ _ (pair-accept pattern board a b)) (simp (le-ltb _ _ room))
+
   module _ (accepts : matching pattern board table .reply .verdict ≡ accept) where
     sound : first (matchConditions pattern board (length table)) ≡ accept
     sound = sym verdict-is ∙ accepts
 
     files-sound : (first (fileConditions Pattern pattern) ≡ accept) × (first (fileConditions Board board) ≡ accept)
     unfolding matchConditions
-    files-sound =
-        let (drawn, rest) = first-parts (fileConditions Pattern pattern) _ sound in
-        (drawn, first-parts (fileConditions Board board) _ rest .0)
+    files-sound = pair-parts pattern board (first-parts (pairConditions pattern board) _ sound .0)
 
     pub pattern-accepted : Accepted Pattern pattern
     pattern-accepted = accepted Pattern pattern (files-sound .0)
@@ -102,7 +109,7 @@ module _ (pattern board table : List ℕ) where
     unfolding matching filled
     table-is = rw (sound, length-last)
 
-    counts-are : matching pattern board table .reply .counts ≡ countsOf (circuitOf pattern) (circuitOf board) (everything (circuitOf board))
+    pub counts-are : matching pattern board table .reply .counts ≡ countsOf (circuitOf pattern) (circuitOf board) (everything (circuitOf board))
     unfolding matching replied
     counts-are = rw sound
 

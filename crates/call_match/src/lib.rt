@@ -1,9 +1,9 @@
 // The match-table call: a pattern file on the whole board of another file.
 use file_format::Board;
 use file_format::File;
+use file_format::FileVerdict;
 use file_format::Pattern;
 use file_format::Refusal;
-use file_pair::PairAnswer;
 use file_pair::read_pair;
 use table::Counts;
 use table_whole::match_circuits;
@@ -73,13 +73,14 @@ pub fn match_table(pattern: &[u8], board: &[u8], table: &mut [u32]) -> TableAnsw
         &mut ns,
         &mut ne,
     );
-    let PairAnswer::Read(p, b) = read else {
-        return TableAnswer::Refused(file_pair::refusal_of(read));
-    };
-    let parts = p.nodes;
-    let joins = p.links;
-    let n = b.nodes;
-    let m = b.links;
+    let verdict = read.verdict;
+    if let FileVerdict::Refused(x) = verdict {
+        return TableAnswer::Refused(x);
+    }
+    let parts = read.parts;
+    let joins = read.joins;
+    let n = read.nodes;
+    let m = read.links;
     match_on(
         &pk[..parts],
         &ps[..joins],

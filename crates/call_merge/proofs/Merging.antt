@@ -1,21 +1,22 @@
 -- What the merging call comes to, by cases: a refused pattern, a short table of classes, too few bytes for the file, or the merged pattern.
 -- Assumes nothing.
 use mathlib.Core.List.{List, _++_}
-use mathlib.Core.Path.{_≡_, sym, _∙_}
+use mathlib.Core.Path.{_≡_, sym, subst, _∙_}
 use Prim.Native.Nat.{ℕ, _≤_, _<_}
 use borrow.Author.Tests.{lt-ltb, le-ltb}
 use lib.ListN.{length, take, drop}
+use Rattle.graph.specs.Circuit.{Circuit}
 use Rattle.file_format.specs.declared.File.the-variants.{Neither}
 use Rattle.file_format.specs.declared.Refusal.{Refusal}
 use Rattle.file_format.specs.declared.Role.the-variants.{Pattern}
 use Rattle.file_format.specs.Circuit.{circuitOf}
 use Rattle.file_format.specs.Layout.{nodesOf, lengthOf}
-use Rattle.file_format.specs.Reading.{ReadOutcome, filled}
-use Rattle.file_format.specs.Refusals.{accept, refuse, first, fileConditions, shortTable}
+use Rattle.file_format.specs.Reading.{filled, front, Stands}
+use Rattle.file_format.specs.Refusals.{accept, refuse, first, fileConditions, shortTable, Accepted}
 use Rattle.file_format.specs.Reply.{reply}
 use Rattle.file_format.proofs.Fields.{length-kinds, length-starts}
-use Rattle.file_format.proofs.Refusals.{Accepted, accepted, first-accept, first-refuse}
-use Rattle.file_format.proofs.Reading.{Loaded, frontOf, loaded-circuit}
+use Rattle.file_format.proofs.Refusals.{accepted, first-accept, first-refuse}
+use Rattle.file_format.proofs.Reading.{stands-size}
 use Rattle.file_write.specs.Writing.{circuitConditions}
 use Rattle.merge.specs.Merged.{classes}
 use Rattle.merge.proofs.Content.{accepted-content}
@@ -27,17 +28,18 @@ use Rattle.call_merge.proofs.Quotient.{content-sound}
 
 -- ---- the pattern that was read
 
-module _ {file : List ℕ} {n m : ℕ} {o : ReadOutcome} (l : Loaded Pattern file n m o) where
-  loaded-accepted : Accepted Pattern file
-  loaded-accepted = accepted Pattern file (l .verdict)
-
+module _ {file : List ℕ} {n m : ℕ} {t : Circuit} (sound : first (fileConditions Pattern file) ≡ accept) (s : Stands file n m t) where
   -- writing it as a pattern would not be refused,
-  pub loaded-sound : first (circuitConditions Pattern (take n (o .kinds)) (take m (o .starts)) (take m (o .ends))) ≡ accept
-  loaded-sound = rw (l .kindsFirst, l .startsFirst, l .endsFirst) (content-sound (accepted-content loaded-accepted))
+  pub front-sound : first (circuitConditions Pattern (take n (t .kinds)) (take m (t .starts)) (take m (t .ends))) ≡ accept
+  front-sound =
+      subst (λ (c : Circuit). first (circuitConditions Pattern (c .kinds) (c .starts) (c .ends)) ≡ accept) (sym (s .content))
+      (content-sound (accepted-content (accepted Pattern file sound)))
 
   -- and its file has the length of the one that was read
-  pub loaded-length : lengthOf (length (take n (o .kinds))) (length (take m (o .starts))) ≡ length file
-  loaded-length = rw (l .kindsFirst, l .startsFirst, length-kinds file, length-starts file) (sym (loaded-accepted .size))
+  pub front-length : lengthOf (length (take n (t .kinds))) (length (take m (t .starts))) ≡ length file
+  front-length =
+      let (k, a, _) = stands-size s in
+      rw (k, a, s .nodes, s .links) (sym (accepted Pattern file sound .size))
 
 -- ---- the verdict
 
@@ -86,21 +88,21 @@ module _ (file lent out : List ℕ) where
   merging-file x e = refused x (verdict-file x e)
 
   -- The file was read.
-  module _ {n m : ℕ} {o : ReadOutcome} (drawn : Loaded Pattern file n m o) where
+  module _ {n m : ℕ} {t : Circuit} (sound : first (fileConditions Pattern file) ≡ accept) (drawn : Stands file n m t) where
     pub merging-classes :
         length lent < n →
         record { reply = mergeReply (Refused (record { number = 8; file = Neither })); classes = lent; out = out } ≡ merging file lent out
-    merging-classes h = refused _ (verdict-classes (drawn .verdict) (rw (← drawn .nodes) h))
+    merging-classes h = refused _ (verdict-classes sound (rw (← drawn .nodes) h))
 
     module _ (enough : n ≤ length lent) where
       pub merging-out :
           length out < length file →
           record { reply = mergeReply (Refused (record { number = 8; file = Neither })); classes = lent; out = out } ≡ merging file lent out
-      merging-out h = refused _ (verdict-out (drawn .verdict) (rw (← drawn .nodes) enough) h)
+      merging-out h = refused _ (verdict-out sound (rw (← drawn .nodes) enough) h)
 
       pub merging-merged :
-          length file ≤ length out → {answer : MergeAnswer} {bytes after : List ℕ} → MergedFrom (frontOf n m o) answer bytes out after →
+          length file ≤ length out → {answer : MergeAnswer} {bytes after : List ℕ} → MergedFrom (front n m t) answer bytes out after →
           record { reply = mergeReply answer; classes = bytes ++ drop n lent; out = after } ≡ merging file lent out
       merging-merged h made =
           rw (drawn .nodes)
-          (merged (verdict-accept (drawn .verdict) (rw (← drawn .nodes) enough) h) (rw (loaded-circuit drawn) at made))
+          (merged (verdict-accept sound (rw (← drawn .nodes) enough) h) (rw (drawn .content) at made))

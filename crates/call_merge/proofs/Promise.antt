@@ -24,16 +24,15 @@ use Rattle.file_format.specs.Circuit.{circuitOf}
 use Rattle.file_format.specs.Layout.{nodesOf, linksOf, startsOf, endsOf}
 use Rattle.file_format.specs.Links.{linksBelow, rising}
 use Rattle.file_format.specs.Reading.{filled}
-use Rattle.file_format.specs.Refusals.{Condition, Verdict, accept, refuse, first, fileConditions, linkConditions, asksConnected, shortTable}
+use Rattle.file_format.specs.Refusals.{Condition, Verdict, accept, refuse, first, fileConditions, linkConditions, asksConnected, Accepted}
 use Rattle.file_format.specs.Reply.{Reply, reply}
 use Rattle.file_format.specs.Role.{inRange}
 use Rattle.file_format.proofs.Fields.{length-kinds, length-starts}
-use Rattle.file_format.proofs.Refusals.{Accepted, accepted, first-accept, first-parts, refuses-iff, range-orders}
+use Rattle.file_format.proofs.Refusals.{accepted, first-parts, refuses-iff, range-orders}
 use Rattle.table.specs.Host.{EqualKinds}
-use Rattle.table.specs.Reply.{replied}
-use Rattle.table.proofs.Answers.{InTable}
-use Rattle.call_match.specs.Call.{matchConditions, matching}
-use Rattle.call_match.proofs.Promise.{entry-bit}
+use Rattle.table.specs.Row.{InTable}
+use Rattle.call_match.specs.Call.{matching}
+use Rattle.call_match.proofs.Promise as matched
 use Rattle.file_write.proofs.FileFields.{kinds-written, starts-written, ends-written, length-written}
 use Rattle.file_write.proofs.RoundTrip.{same-verdict}
 use Rattle.merge.specs.Merged.{classOf, classCount, classes, merged}
@@ -43,6 +42,7 @@ use Rattle.merge.proofs.Accepted.{merged-content, merged-length-le}
 use Rattle.call_merge.specs.declared.MergeAnswer.{MergeAnswer}
 use Rattle.call_merge.specs.declared.MergeAnswer.the-variants.{Merged, Refused}
 use Rattle.call_merge.specs.Call.{mergeConditions, mergeReply, mergedBytes, MergeOutcome, merging}
+use Rattle.call_merge.specs.Classes.{classByte, Smallest}
 use Rattle.call_merge.proofs.Quotient.{content-sound}
 use Rattle.call_merge.proofs.Merging.{verdict-accept}
 
@@ -107,30 +107,12 @@ board-verdict {file} a =
     let rises : rising (startsOf file) (endsOf file) ≡ true = T-true (a .rises) in
     simp (le-ltb _ _ (a .bytes), range, eq-eqb _ _ (a .size), below, rises)
 
-match-verdict :
-    (file : List ℕ) → first (fileConditions Pattern file) ≡ accept → first (fileConditions Board file) ≡ accept → (lent : ℕ) → nodesOf file ≤ lent →
-    first (matchConditions file file lent) ≡ accept
-unfolding matchConditions first shortTable
-match-verdict file pattern board lent room = rw (first-accept _ _ pattern, first-accept _ _ board) (simp (le-ltb _ _ room))
-
 matches-itself :
     (file : List ℕ) → first (fileConditions Pattern file) ≡ accept → (table : List ℕ) → nodesOf file ≤ length table →
     matching file file table .reply .verdict ≡ accept
-unfolding matching replied
-matches-itself file sound table room = rw verdict
-  where
-    verdict : first (matchConditions file file (length table)) ≡ accept
-    verdict = match-verdict file sound (board-verdict (accepted Pattern file sound)) (length table) room
-
--- the byte of part u as the call leaves it
-abbrev pub classByte : List ℕ → List ℕ → List ℕ → ℕ → ℕ
-classByte file lent out u = getD (merging file lent out .classes) u 0
-
--- the smallest part with the byte of u
-pub record Smallest (file lent out : List ℕ) (u s : ℕ) : Type 0 where
-  pub below : s < nodesOf file
-  pub same : classByte file lent out s ≡ classByte file lent out u
-  pub least : (v : ℕ) → v < nodesOf file → classByte file lent out v ≡ classByte file lent out u → s ≤ v
+matches-itself file sound table room =
+    let a = accepted Pattern file sound in
+    matched.accepts file file table a (accepted Board file (board-verdict a)) room
 
 module _ (file lent out : List ℕ) where
   verdict-is : merging file lent out .reply .verdict ≡ first (mergeConditions file (length lent) (length out))
@@ -237,8 +219,8 @@ module _ (file lent out : List ℕ) where
         let own = self-largest (content pattern-accepted) in
         let same = share-iff own u v h k in
         let called = matches-itself file pattern-sound table room in
-        let there = entry-bit file file table called own u v k in
-        let back = entry-bit file file table called own v u h in (
+        let there = matched.entry-bit file file table called own u v k in
+        let back = matched.entry-bit file file table called own v u h in (
           λ e. let (s, t) = same .0 e in (there .1 s, back .1 t),
           λ (s, t). same .1 (there .0 s, back .0 t),
         )

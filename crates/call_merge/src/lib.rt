@@ -1,10 +1,11 @@
 // The merging call: the merged pattern of a pattern file.
 use crate::circuits::merge_circuit;
 use file_format::File;
+use file_format::FileVerdict;
 use file_format::Pattern;
-use file_format::ReadAnswer;
 use file_format::Refusal;
 use file_format::Role;
+use file_read::load;
 ghost use mathlib.Core.Path.{_≡_};
 ghost use Rattle.call_merge.specs.Call.{mergeReply, merging};
 
@@ -25,10 +26,13 @@ pub fn merge(pattern: &[u8], classes: &mut [u8], out: &mut [u8]) -> MergeAnswer
     let mut pk = [0u16; Pattern::MAX_NODES];
     let mut ps = [0u16; Pattern::MAX_LINKS];
     let mut pe = [0u16; Pattern::MAX_LINKS];
-    let drawn = file_read::read(Role::Pattern, pattern, &mut pk, &mut ps, &mut pe);
-    let ReadAnswer::Read(n, m) = drawn else {
-        return MergeAnswer::Refused(file_format::refusal_of(drawn));
-    };
+    let read = load(Role::Pattern, pattern, &mut pk, &mut ps, &mut pe);
+    let verdict = read.verdict;
+    if let FileVerdict::Refused(x) = verdict {
+        return MergeAnswer::Refused(x);
+    }
+    let n = read.nodes;
+    let m = read.links;
     let short = Refusal {
         number: 8,
         file: File::Neither,

@@ -3,9 +3,9 @@
 use mathlib.Core.List.{List, _++_, List·Memᴰ}
 use mathlib.Core.Logic.{_↔_, _⊎_, inl, inr, ⊎-elim}
 use mathlib.Core.Path.{_≡_, sym, ap, _∙_}
-use Prim.Native.Nat.{ℕ, _<_}
+use Prim.Native.Nat.{ℕ, _≤_, _<_}
 use native.Mathlib.Omega.{arith}
-use borrow.Author.Tests.{ltb-true, not-false}
+use borrow.Author.Tests.{ltb-true, not-false, lt-ltb, le-ltb}
 use lib.Dec.{T, ltb}
 use lib.ListN.{length, take, drop}
 use lib.Seq.{take-at, drop-at}
@@ -20,13 +20,15 @@ use Rattle.file_format.specs.declared.Role.the-variants.{Pattern, Board}
 use Rattle.file_format.specs.Circuit.{circuitOf}
 use Rattle.file_format.specs.Layout.{nodesOf, linksOf}
 use Rattle.file_format.specs.Reading.{filled}
-use Rattle.file_format.specs.Refusals.{Condition, accept, refuse, first, fileConditions, centreOutside}
+use Rattle.file_format.specs.Refusals.{Condition, accept, refuse, first, fileConditions, centreOutside, shortTable, Accepted}
 use Rattle.file_format.proofs.Fields.{length-kinds, length-starts}
-use Rattle.file_format.proofs.Refusals.{Accepted, accepted, first-parts, first-holds, refuses-iff}
+use Rattle.file_format.proofs.Refusals.{accepted, first-accept, first-parts, first-holds, refuses-iff}
+use Rattle.file_pair.specs.Pair.{pairConditions}
+use Rattle.file_pair.proofs.Both.{pair-accept, pair-parts}
 use Rattle.table.specs.Reply.{noCounts}
 use Rattle.table.specs.Host.{EqualKinds}
 use Rattle.table.specs.Refine.{countsOf}
-use Rattle.table.proofs.Answers.{InTable}
+use Rattle.table.specs.Row.{InTable}
 use Rattle.place.specs.Match.{ballOf, found, placeNodes, placeLinks, placeTable, markedGraph}
 use Rattle.place.specs.Outcome.{PlaceOutcome, placeVerdict, placeAround}
 use Rattle.call_place.specs.Call.{inputConditions, decided, placeAt}
@@ -86,7 +88,16 @@ module _ (pattern board : List ℕ) (w r : ℕ) (nodes links table : List ℕ) w
   pub inputs-iff : ((x : Refusal) × (first inputs ≡ refuse x)) ↔ ((c : Condition) × List·Memᴰ c inputs × T (c .holds))
   inputs-iff = refuses-iff inputs
 
-  -- Where none holds, both files are accepted, the centre is a node and the tables are long enough.
+  -- None holds where both files are accepted, the centre is a node and the tables are long enough,
+  pub inputs-accept :
+      Accepted Pattern pattern → Accepted Board board → w < nodesOf board → nodesOf board ≤ length nodes → linksOf board ≤ length links →
+      nodesOf board ≤ length table → first inputs ≡ accept
+  unfolding inputConditions first centreOutside shortTable
+  inputs-accept a b h n m t =
+      rw (first-accept _ _ (pair-accept pattern board a b))
+      (simp (lt-ltb _ _ h, le-ltb _ _ n, le-ltb _ _ m, le-ltb _ _ t))
+
+  -- and only there.
   module _ (sound : first inputs ≡ accept) where
     result-is : result ≡ placeAround P B w r nodes links table
     unfolding placeAt decided
@@ -100,9 +111,9 @@ module _ (pattern board : List ℕ) (w r : ℕ) (nodes links table : List ℕ) w
     parts : (first (fileConditions Pattern pattern) ≡ accept) × (first (fileConditions Board board) ≡ accept) × (w < nodesOf board)
     unfolding inputConditions centreOutside
     parts =
-        let (drawn, rest) = first-parts (fileConditions Pattern pattern) _ sound in
-        let (given, rest′) = first-parts (fileConditions Board board) _ rest in
-        (drawn, given, ltb-true w (nodesOf board) (not-false (ltb w (nodesOf board)) (first-holds _ _ rest′ .0)))
+        let (files, rest) = first-parts (pairConditions pattern board) _ sound in
+        let (drawn, given) = pair-parts pattern board files in
+        (drawn, given, ltb-true w (nodesOf board) (not-false (ltb w (nodesOf board)) (first-holds _ _ rest .0)))
 
     pub pattern-accepted : Accepted Pattern pattern
     pattern-accepted = accepted Pattern pattern (parts .0)

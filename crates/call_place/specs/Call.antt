@@ -3,12 +3,11 @@ use mathlib.Core.List.{List, [], _∷_, _++_}
 use Prim.Native.Nat.{ℕ}
 use lib.ListN.{length}
 use Rattle.graph.specs.Circuit.{Circuit}
-use Rattle.file_format.specs.declared.Role.the-variants.{Pattern, Board}
 use Rattle.file_format.specs.Circuit.{circuitOf}
 use Rattle.file_format.specs.Layout.{nodesOf, linksOf}
-use Rattle.file_format.specs.Refusals.{Condition, Verdict, accept, refuse, first, fileConditions, centreOutside, shortTable}
+use Rattle.file_format.specs.Refusals.{Condition, Verdict, accept, refuse, first, centreOutside, shortTable}
+use Rattle.file_pair.specs.Pair.{pairConditions}
 use Rattle.table.specs.Reply.{noCounts}
-use Rattle.place.specs.Match.{radiusOf}
 use Rattle.place.specs.Outcome.{PlaceOutcome, placeAround}
 use Rattle.call_place.specs.declared.Reach.{Reach}
 use Rattle.call_place.specs.declared.Reach.the-variants.{Own, Given}
@@ -20,7 +19,7 @@ placeConditions n m w nodes links table = centreOutside n w ∷ shortTable n nod
 -- the pattern's 1 to 6 before the board's, then 7 and 8
 unfoldable pub inputConditions : List ℕ → List ℕ → ℕ → ℕ → ℕ → ℕ → List Condition
 inputConditions pattern board w nodes links table =
-    fileConditions Pattern pattern ++ (fileConditions Board board ++ placeConditions (nodesOf board) (linksOf board) w nodes links table)
+    pairConditions pattern board ++ placeConditions (nodesOf board) (linksOf board) w nodes links table
 
 -- "All lent tables keep their content; counts are 0" where a condition on the inputs holds; else it is as the place has it
 unfoldable pub decided : Verdict → List ℕ → List ℕ → List ℕ → PlaceOutcome → PlaceOutcome
@@ -35,12 +34,12 @@ placeAt pattern board w r nodes links table =
     (placeAround (circuitOf pattern) (circuitOf board) w r nodes links table)
 
 -- "One call uses the pattern's radius, one a radius given."
-unfoldable pub radiusFor : Reach → Circuit → ℕ
-radiusFor Own pattern = radiusOf pattern
-radiusFor (Given r) pattern = r
+unfoldable pub radiusFor : Reach → ℕ → ℕ
+radiusFor Own own = own
+radiusFor (Given r) own = r
 
--- the call on two circuits that were read
-unfoldable pub placeOn : Reach → Circuit → Circuit → ℕ → List ℕ → List ℕ → List ℕ → PlaceOutcome
-placeOn reach pattern board w nodes links table =
+-- the call on two circuits that were read, at a radius
+unfoldable pub placeOn : ℕ → Circuit → Circuit → ℕ → List ℕ → List ℕ → List ℕ → PlaceOutcome
+placeOn r pattern board w nodes links table =
     let own = placeConditions (length (board .kinds)) (length (board .starts)) w (length nodes) (length links) (length table) in
-    decided (first own) nodes links table (placeAround pattern board w (radiusFor reach pattern) nodes links table)
+    decided (first own) nodes links table (placeAround pattern board w r nodes links table)

@@ -1,18 +1,17 @@
 // The place calls: a pattern file, the board of another file and a centre, at the pattern's radius or at a radius given.
 use file_format::Board;
 use file_format::File;
+use file_format::FileVerdict;
 use file_format::Pattern;
 use file_format::Refusal;
-use file_pair::PairAnswer;
 use file_pair::read_pair;
-use graph_extent::radius::radius_of;
+use place::Around;
 use place::PlaceAnswer;
 use place_circuits::place_circuits;
 use table::Counts;
 ghost use mathlib.Core.Path.{_≡_};
-ghost use Rattle.file_format.specs.Circuit.{circuitOf, Bounded};
-ghost use Rattle.file_format.specs.declared.Role.the-variants as role;
-ghost use Rattle.graph.specs.Circuit.{circuit};
+ghost use Rattle.file_format.specs.Circuit.{circuitOf, Drawn};
+ghost use Rattle.graph.specs.Circuit.{Circuit, circuit};
 ghost use Rattle.table.specs.Reply.{noCounts};
 ghost use Rattle.place.specs.Match.{radiusOf};
 ghost use Rattle.place.specs.Outcome.{placeReply};
@@ -24,13 +23,12 @@ pub enum Reach {
     Given(u16),
 }
 
-// The radius that is asked for.
-fn radius_for(reach: Reach, kinds: &[u16], starts: &[u16], ends: &[u16]) -> u16
-    requires { ⌜ Bounded role.Pattern (circuit (now kinds) (now starts) (now ends)) ⌝ }
-    ensures { λ r. ⌜ r ≡ radiusFor reach (circuit (now (kinds .entry)) (now (starts .entry)) (now (ends .entry))) ⌝ }
+// The radius that is asked for, where the pattern's own is known.
+fn radius_for(reach: Reach, own: u16) -> u16
+    ensures { λ r. ⌜ r ≡ radiusFor reach own ⌝ }
 {
     match reach {
-        Reach::Own => radius_of(kinds, starts, ends),
+        Reach::Own => own,
         Reach::Given(r) => r,
     }
 }
@@ -50,26 +48,33 @@ fn turned_away(x: Refusal) -> PlaceAnswer
     )
 }
 
+// What is asked for: a centre, which may be none of the board's nodes, and a radius.
+struct Asked {
+    pub centre: usize,
+    pub radius: u16,
+}
+
 // The call on two circuits that were read. Everything is tested, and the place found, before anything is written to the lent tables.
 fn find_on(
-    reach: Reach,
     part_kinds: &[u16],
     part_starts: &[u16],
     part_ends: &[u16],
     node_kinds: &[u16],
     node_starts: &[u16],
     node_ends: &[u16],
-    centre: usize,
+    asked: Asked,
     nodes: &mut [u8],
     links: &mut [u8],
     table: &mut [u32],
 ) -> PlaceAnswer
-    requires { ⌜ Bounded role.Pattern (circuit (now «part_kinds») (now «part_starts») (now «part_ends»)) ⌝ }
-    requires { ⌜ Bounded role.Board (circuit (now «node_kinds») (now «node_starts») (now «node_ends»)) ⌝ }
-    ensures { λ a. ⌜ record { reply = placeReply a; nodes = now (nodes .exit); links = now (links .exit); table = now (table .exit) }
-        ≡ placeOn reach (circuit (now («part_kinds» .entry)) (now («part_starts» .entry)) (now («part_ends» .entry))) (circuit (now («node_kinds» .entry)) (now («node_starts» .entry)) (now («node_ends» .entry))) centre (now (nodes .entry)) (now (links .entry)) (now (table .entry)) ⌝ }
+    ghost { Circuit × Circuit }
+    requires { λ α. ⌜ (circuit (now «part_kinds») (now «part_starts») (now «part_ends»), circuit (now «node_kinds») (now «node_starts») (now «node_ends»)) ≡ α ⌝ }
+    requires { λ α. ⌜ Drawn (α .0) (α .1) ⌝ }
+    ensures { λ α a. ⌜ record { reply = placeReply a; nodes = now (nodes .exit); links = now (links .exit); table = now (table .exit) }
+        ≡ placeOn (asked .radius) (α .0) (α .1) (asked .centre) (now (nodes .entry)) (now (links .entry)) (now (table .entry)) ⌝ }
 {
     let n = node_kinds.len();
+    let centre = asked.centre;
     if n <= centre {
         return turned_away(Refusal {
             number: 7,
@@ -89,7 +94,6 @@ fn find_on(
     if table.len() < n {
         return turned_away(short);
     }
-    let r = radius_for(reach, part_kinds, part_starts, part_ends);
     place_circuits(
         part_kinds,
         part_starts,
@@ -97,8 +101,10 @@ fn find_on(
         node_kinds,
         node_starts,
         node_ends,
-        centre as u16,
-        r,
+        Around {
+            centre: centre as u16,
+            radius: asked.radius,
+        },
         nodes,
         links,
         table,
@@ -116,7 +122,7 @@ fn find(
     table: &mut [u32],
 ) -> PlaceAnswer
     ensures { λ a. ⌜ record { reply = placeReply a; nodes = now (nodes .exit); links = now (links .exit); table = now (table .exit) }
-        ≡ placeAt (now (pattern .entry)) (now (board .entry)) centre (radiusFor reach (circuitOf (now (pattern .entry)))) (now (nodes .entry)) (now (links .entry)) (now (table .entry)) ⌝ }
+        ≡ placeAt (now (pattern .entry)) (now (board .entry)) centre (radiusFor reach (radiusOf (circuitOf (now (pattern .entry))))) (now (nodes .entry)) (now (links .entry)) (now (table .entry)) ⌝ }
 {
     let mut pk = [0u16; Pattern::MAX_NODES];
     let mut ps = [0u16; Pattern::MAX_LINKS];
@@ -134,22 +140,23 @@ fn find(
         &mut ns,
         &mut ne,
     );
-    let PairAnswer::Read(p, b) = read else {
-        return turned_away(file_pair::refusal_of(read));
-    };
-    let parts = p.nodes;
-    let joins = p.links;
-    let n = b.nodes;
-    let m = b.links;
+    let verdict = read.verdict;
+    if let FileVerdict::Refused(x) = verdict {
+        return turned_away(x);
+    }
+    let radius = radius_for(reach, read.radius);
+    let parts = read.parts;
+    let joins = read.joins;
+    let n = read.nodes;
+    let m = read.links;
     find_on(
-        reach,
         &pk[..parts],
         &ps[..joins],
         &pe[..joins],
         &nk[..n],
         &ns[..m],
         &ne[..m],
-        centre,
+        Asked { centre, radius },
         nodes,
         links,
         table,

@@ -7,7 +7,7 @@ use Rattle.base_lists.proofs.Tests.{T-false}
 use Rattle.graph.specs.Search.{distances, misses, ball, beside, inside, radius}
 use Rattle.table.specs.Examples.{circuitT, circuitB, twoWay, ring}
 use Rattle.table.specs.Refine.{countsOf}
-use Rattle.table.specs.Row.{struck}
+use Rattle.table.proofs.Counting.{struck-minus}
 use Rattle.table.proofs.Examples as table
 use Rattle.place.specs.Match.{radiusOf, found}
 use Rattle.place.specs.Outcome.{placeVerdict, placeAround}
@@ -28,8 +28,8 @@ unfolding E3 PlaceIs
 e3 = (rw place.radius-T place.E3-0, rw place.radius-T place.E3-1, rw place.radius-T place.E3-2)
 
 e4 : E4
-unfolding E4 placeAround placeVerdict countsOf struck
-e4 nodes links table = rw (place.radius-T, T-false {b = found circuitT circuitB 3 2} place.E4-none, place.E4-started, place.E4-kept, place.E4-rounds)
+unfolding E4 placeAround placeVerdict countsOf
+e4 nodes links table = rw (place.radius-T, T-false {b = found circuitT circuitB 3 2} place.E4-none, struck-minus, place.E4-started, place.E4-kept, place.E4-rounds)
 
 -- a centre of the ring that is not found has number 9
 none : (w : ℕ) → (T (found twoWay ring w 1) → ⊥) → NoPlace twoWay ring w

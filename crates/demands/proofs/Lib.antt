@@ -1,4 +1,7 @@
-pub mod Examples
-pub mod Files
+pub mod Demands
+pub mod Decided
+pub mod Counts
 pub mod Merged
 pub mod Report
+pub mod Examples
+pub mod Files

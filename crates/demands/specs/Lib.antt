@@ -1,3 +1,3 @@
+pub mod Demands
 pub mod Examples
 pub mod Files
-pub mod Merged

@@ -1,1 +1,2 @@
-// The demands that are about several calls at once, and the examples: theorems alone. There is no code here: see specs/ and proofs/.
+// The three demands on one page (specs/Demands), each proved of the calls' results, and document 01's examples. There is no code here: see
+// specs/ and proofs/.

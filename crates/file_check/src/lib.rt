@@ -1,24 +1,16 @@
-// The conditions 1 to 6 on a file, tried in their order. Nothing is written.
+// The conditions 1 to 6 on a file or on a circuit, tried in their order. Nothing is written.
 ghost use mathlib.Core.Path.{_≡_};
-ghost use Prim.Native.Nat.{_+_, _*_, _<_, _≤_};
 ghost use lib.Dec.{T, ltb};
 ghost use lib.ListN.{length};
 ghost use Rattle.base_lists.specs.List.{all};
-ghost use Rattle.graph.specs.Search.{connected};
-ghost use Rattle.file_format.specs.Layout.{fields, nodesOf, linksOf};
+ghost use Rattle.file_format.specs.Links.{earlier, rising};
+ghost use Rattle.file_format.specs.Reading.{LinksTested};
+ghost use Rattle.file_format.specs.Refusals.{sizeNumber, orderNumber};
 ghost use Rattle.file_format.specs.Role.{inRange, fileOf};
-ghost use Rattle.file_format.specs.Refusals.{linkNumber, first, fileConditions};
-ghost use Rattle.file_format.specs.Reading.{readAnswer};
-use file_connected::connected;
-use file_fields::all_below;
 use file_fields::field_at;
-use file_fields::links_rise;
-use file_fields::store;
-use file_fields::stretch;
 use file_format::Board;
 use file_format::File;
 use file_format::Pattern;
-use file_format::ReadAnswer;
 use file_format::Refusal;
 use file_format::Role;
 
@@ -38,13 +30,6 @@ pub fn refusal(role: Role, number: u8) -> Refusal
     }
 }
 
-// The answer that turns a file away.
-fn refused(role: Role, number: u8) -> ReadAnswer
-    ensures { λ r. ⌜ r ≡ ReadAnswer.Refused (record { number = number; file = fileOf role }) ⌝ }
-{
-    ReadAnswer::Refused(refusal(role, number))
-}
-
 // N and M are in the role's range.
 pub fn in_range(role: Role, nodes: usize, links: usize) -> bool
     ensures { λ r. ⌜ r ≡ inRange role nodes links ⌝ }
@@ -55,61 +40,110 @@ pub fn in_range(role: Role, nodes: usize, links: usize) -> bool
     }
 }
 
-// The links of a pattern join all its nodes, directions ignored: the starts and the ends are stored as numbers for the search.
-fn joined(n: usize, m: usize, starts: &[u8], ends: &[u8]) -> bool
-    requires { ⌜ (2 * m ≤ length (now starts)) × (2 * m ≤ length (now ends)) ⌝ }
-    requires { ⌜ T (all (λ v. ltb v n) (fields (now starts) m)) × T (all (λ v. ltb v n) (fields (now ends) m)) ⌝ }
-    requires { ⌜ (0 < n) × (n ≤ 32) × (m ≤ 256) ⌝ }
-    ensures { λ r. ⌜ r ≡ connected n (fields (now (starts .entry)) m) (fields (now (ends .entry)) m) ⌝ }
-{
-    let mut s = [0u16; Pattern::MAX_LINKS];
-    let mut e = [0u16; Pattern::MAX_LINKS];
-    store(starts, m, &mut s);
-    store(ends, m, &mut e);
-    connected(n, &s[..m], &e[..m])
-}
-
-// 4, 5 or 6, the first that the links give, or 0.
-fn link_number(role: Role, n: usize, m: usize, starts: &[u8], ends: &[u8]) -> u8
-    requires { ⌜ T (inRange role n m) ⌝ }
-    requires { ⌜ (2 * m ≤ length (now starts)) × (2 * m ≤ length (now ends)) ⌝ }
-    ensures { λ r. ⌜ r ≡ linkNumber role n (fields (now (starts .entry)) m) (fields (now (ends .entry)) m) ⌝ }
-{
-    if !all_below(starts, m, n) {
-        return 4;
-    }
-    if !all_below(ends, m, n) {
-        return 4;
-    }
-    if !links_rise(starts, ends, m) {
-        return 5;
-    }
-    match role {
-        Role::Pattern => { if joined(n, m, starts, ends) { 0 } else { 6 } }
-        Role::Board => 0,
-    }
-}
-
-// N and M of a sound file, or the first of the conditions 1 to 6.
-pub fn check(role: Role, file: &[u8]) -> ReadAnswer
-    ensures { λ r. ⌜ r ≡ readAnswer (first (fileConditions role (now (file .entry)))) (nodesOf (now (file .entry))) (linksOf (now (file .entry))) ⌝ }
+// 1, 2 or 3, the first that the file's size gives, or 0.
+pub fn size_number(role: Role, file: &[u8]) -> u8
+    ensures { λ r. ⌜ r ≡ sizeNumber role (now (file .entry)) ⌝ }
 {
     if file.len() < 4 {
-        return refused(role, 1);
+        return 1;
     }
     let n = field_at(file, 0) as usize;
     let m = field_at(file, 1) as usize;
     if !in_range(role, n, m) {
-        return refused(role, 2);
+        return 2;
     }
     if file.len() != 4 + 2 * n + 4 * m {
-        return refused(role, 3);
+        return 3;
     }
-    let starts = stretch(file, 4 + 2 * n, m);
-    let ends = stretch(file, 4 + 2 * n + 2 * m, m);
-    let number = link_number(role, n, m, starts, ends);
+    0
+}
+
+// Each number is below n.
+fn all_below(numbers: &[u16], n: usize) -> bool
+    ensures { λ r. ⌜ r ≡ all (λ v. ltb v n) (now (numbers .entry)) ⌝ }
+{
+    let mut i = 0;
+    while i < numbers.len() {
+        if n <= numbers[i] as usize {
+            return false;
+        }
+        i += 1;
+    }
+    true
+}
+
+// One link, a start and an end, comes before another.
+fn comes_before(start: u16, end: u16, next_start: u16, next_end: u16) -> bool
+    ensures { λ r. ⌜ r ≡ earlier start end «next_start» «next_end» ⌝ }
+{
+    if start < next_start {
+        return true;
+    }
+    if next_start < start {
+        return false;
+    }
+    end < next_end
+}
+
+// The links rise strictly: each comes before the next.
+fn links_rise(starts: &[u16], ends: &[u16]) -> bool
+    requires { ⌜ length (now starts) ≡ length (now ends) ⌝ }
+    ensures { λ r. ⌜ r ≡ rising (now (starts .entry)) (now (ends .entry)) ⌝ }
+{
+    let mut i = 0;
+    while i + 1 < starts.len() {
+        if !comes_before(starts[i], ends[i], starts[i + 1], ends[i + 1]) {
+            return false;
+        }
+        i += 1;
+    }
+    true
+}
+
+// 4 or 5, the first that the links give, or 0.
+fn order_number(n: usize, starts: &[u16], ends: &[u16]) -> u8
+    requires { ⌜ length (now starts) ≡ length (now ends) ⌝ }
+    ensures { λ r. ⌜ r ≡ orderNumber n (now (starts .entry)) (now (ends .entry)) ⌝ }
+{
+    if !all_below(starts, n) {
+        return 4;
+    }
+    if !all_below(ends, n) {
+        return 4;
+    }
+    if !links_rise(starts, ends) {
+        return 5;
+    }
+    0
+}
+
+// What the links come to: 4, 5 or 6, the first that they give, or 0; and a pattern's radius where they give none.
+pub struct Links {
+    pub number: u8,
+    pub radius: u16,
+}
+
+// The links of a circuit in a role, tested. One search finds whether a pattern is connected, and its radius. Reading and writing both call it.
+pub fn test_links(role: Role, n: usize, starts: &[u16], ends: &[u16]) -> Links
+    requires { ⌜ T (inRange role n (length (now starts))) × (length (now starts) ≡ length (now ends)) ⌝ }
+    ensures { λ r. ⌜ LinksTested role n (now (starts .entry)) (now (ends .entry)) (r .number) (r .radius) ⌝ }
+{
+    let number = order_number(n, starts, ends);
     if number != 0 {
-        return refused(role, number);
+        return Links { number, radius: 0 };
     }
-    ReadAnswer::Read(n, m)
+    match role {
+        Role::Pattern => {
+            let radius = graph_radius::radius(n, starts, ends);
+            if radius == 65535 {
+                Links { number: 6, radius }
+            } else {
+                Links { number: 0, radius }
+            }
+        }
+        Role::Board => Links {
+            number: 0,
+            radius: 0,
+        },
+    }
 }

@@ -15,9 +15,9 @@ use Rattle.file_format.specs.declared.Role.the-variants.{Pattern}
 use Rattle.file_format.specs.Circuit.{circuitOf, Bounded}
 use Rattle.file_format.specs.Layout.{nodesOf, linksOf, kindsOf, startsOf, endsOf}
 use Rattle.file_format.specs.Links.{linksBelow}
-use Rattle.file_format.specs.Refusals.{asksConnected}
+use Rattle.file_format.specs.Refusals.{asksConnected, Accepted}
 use Rattle.file_format.proofs.Fields.{length-kinds, length-starts, length-ends}
-use Rattle.file_format.proofs.Refusals.{Accepted, range-orders}
+use Rattle.file_format.proofs.Refusals.{range-orders}
 
 -- ---- links that join nodes
 

@@ -1,18 +1,13 @@
 -- Laws of the fields of a stretch, for the loops that go through them. Assumes nothing.
-use mathlib.Core.Bool.{Bool, true, false}
 use mathlib.Core.List.{List, _++_}
-use mathlib.Core.Path.{_≡_, sym, ap, ap₂, _∙_, subst}
-use Prim.Native.Nat.{ℕ, _+_, _*_, _-_, _≤_, _<_}
+use mathlib.Core.Path.{_≡_, ap, ap₂, _∙_}
+use Prim.Native.Nat.{ℕ, _+_, _*_, _-_, _<_}
 use native.Mathlib.Nat.{add-sub-cancel-left}
 use native.Mathlib.Omega.{arith}
-use lib.Dec.{T, ltb, lt→ltb, ltb→lt}
 use lib.ListN.{length, getD, take, drop, set}
 use lib.Seq.{getD-take, take-at}
-use Rattle.base_lists.specs.List.{all, allBelow}
-use Rattle.base_lists.proofs.Tests.{all-at, at-all, allBelow-at, at-allBelow, T-true, T-false}
 use Rattle.base_lists.proofs.Tables.{length-tabulate, getD-tabulate, tabulate-same, filled-none, filled-more}
 use Rattle.file_format.specs.Layout.{field, fields, nodesOf, linksOf, kindsOf, startsOf, endsOf}
-use Rattle.file_format.specs.Links.{earlier, rising, inOrder}
 
 pub length-fields : (s : List ℕ) (k : ℕ) → length (fields s k) ≡ k
 unfolding fields
@@ -59,44 +54,3 @@ stored-more s d i h = filled-more i (λ j. field s (2 * j)) d h
 -- what was stored stands at the front
 pub stored-front : (s d l : List ℕ) (k : ℕ) → l ≡ fields s k ++ drop k d → take k l ≡ fields s k
 stored-front s d l k e = ap (take k) e ∙ take-at (fields s k) (drop k d) k (length-fields s k)
-
--- ---- each field below n
-
-module _ (s : List ℕ) (k n : ℕ) where
-  pub all-fields : ((i : ℕ) → i < k → field s (2 * i) < n) → all (λ v. ltb v n) (fields s k) ≡ true
-  all-fields f =
-      T-true
-      (at-all (λ v. ltb v n) (fields s k)
-      (λ i h.
-      let h′ : i < k = subst (λ (l : ℕ). i < l) (length-fields s k) h in
-      lt→ltb _ _ (subst (λ (x : ℕ). x < n) (sym (getD-fields s k i h′)) (f i h′))))
-
-  pub not-all-fields : (i : ℕ) → i < k → n ≤ field s (2 * i) → all (λ v. ltb v n) (fields s k) ≡ false
-  not-all-fields i h le =
-      T-false
-      (λ t.
-      let lt : field s (2 * i) < n = subst (λ (x : ℕ). x < n) (getD-fields s k i h) (ltb→lt _ _ (all-at (λ v. ltb v n) (fields s k) t i (subst (λ (l : ℕ). i < l) (sym (length-fields s k)) h))) in
-      omega arith)
-
--- ---- each link before the next
-
-module _ (s e : List ℕ) (k : ℕ) where
-  links : ℕ → Bool
-  links i = earlier (getD (fields s k) i 0) (getD (fields e k) i 0) (getD (fields s k) (i + 1) 0) (getD (fields e k) (i + 1) 0)
-
-  at-link : (i : ℕ) → i + 1 < k → inOrder s e i ≡ links i
-  unfolding inOrder links
-  at-link i h =
-      rw (← (getD-fields s k i (omega arith)), ← (getD-fields e k i (omega arith)), ← (getD-fields s k (i + 1) h), ← (getD-fields e k (i + 1) h))
-
-  rising-is : rising (fields s k) (fields e k) ≡ allBelow (k - 1) links
-  unfolding rising links
-  rising-is = ap (λ (l : ℕ). allBelow (l - 1) links) (length-fields s k)
-
-  pub rising-fields : ((i : ℕ) → i + 1 < k → T (inOrder s e i)) → rising (fields s k) (fields e k) ≡ true
-  rising-fields f =
-      rising-is ∙ T-true (at-allBelow (k - 1) links (λ i h. subst T (at-link i (omega arith)) (f i (omega arith))))
-
-  pub not-rising-fields : (i : ℕ) → i + 1 < k → (T (inOrder s e i) → ⊥) → rising (fields s k) (fields e k) ≡ false
-  not-rising-fields i h f =
-      rising-is ∙ T-false (λ t. f (subst T (sym (at-link i h)) (allBelow-at (k - 1) links t i (omega arith))))

@@ -3,25 +3,28 @@ use mathlib.Core.List.{List, [], _∷_, _++_}
 use mathlib.Core.Logic.{_⊎_}
 use mathlib.Core.Path.{_≡_, refl, sym, ap, _∙_}
 use Prim.Native.Nat.{ℕ, _≤_, _<_}
-use native.Mathlib.Nat.{le-trans}
 use native.Mathlib.Omega.{arith}
 use borrow.Author.Tests.{ltb-false}
-use Rattle.file_format.proofs.Fields.{length-fields, length-kinds, length-starts, length-ends}
+use Rattle.file_format.proofs.Fields.{length-fields, length-kinds, length-starts, length-ends, stored-front}
+use lib.Dec.{lit≤}
 use lib.ListN.{length, take, drop, length-take}
-use lib.Seq.{take-at}
-use Rattle.graph.specs.Circuit.{Circuit}
+use Rattle.graph.specs.Circuit.{Circuit, circuit}
+use Rattle.graph.specs.Search.{radius}
 use Rattle.file_format.specs.declared.File.the-variants.{Neither}
+use Rattle.file_format.specs.declared.FileRead.{FileRead}
+use Rattle.file_format.specs.declared.FileVerdict.the-variants as verdict
 use Rattle.file_format.specs.declared.Refusal.{Refusal}
 use Rattle.file_format.specs.declared.ReadAnswer.{ReadAnswer}
 use Rattle.file_format.specs.declared.ReadAnswer.the-variants.{Read, Refused}
 use Rattle.file_format.specs.declared.Role.{Role}
-use Rattle.file_format.specs.Circuit.{circuitOf, Bounded}
-use Rattle.file_format.specs.Reading.{ReadOutcome, reading, readConditions, readAnswer, filled}
+use Rattle.file_format.specs.declared.Role.the-variants as role
+use Rattle.file_format.specs.Circuit.{Bounded}
+use Rattle.file_format.specs.Reading.{reading, readConditions, readAnswer, filled, verdictOf, front, Stands, Held, Loaded, LinksTested}
 use Rattle.file_format.specs.Reply.{Reply, reply, readReply}
-use Rattle.file_format.specs.Layout.{nodesOf, linksOf, kindsOf, startsOf, endsOf}
-use Rattle.file_format.specs.Refusals.{Verdict, accept, refuse, first, fileConditions, shortTable}
+use Rattle.file_format.specs.Layout.{fields, nodesOf, linksOf, kindsAt, startsAt, endsAt, kindsOf, startsOf, endsOf}
+use Rattle.file_format.specs.Refusals.{Verdict, accept, refuse, first, fileConditions, sizeNumber, linkNumber, shortTable}
 use Rattle.file_format.specs.Role.{minNodes, maxNodes, maxLinks, fileOf}
-use Rattle.file_format.proofs.Refusals.{turned, first-accept, first-refuse, first-parts, first-holds, tables-short, tables-fit, accepted, range-orders}
+use Rattle.file_format.proofs.Refusals.{turned, turned-accept, byNumber, number-turned, number-accept, verdict-links, first-accept, first-refuse, first-parts, first-holds, tables-short, tables-fit, accepted, range-orders}
 use Rattle.file_format.proofs.Accepted.{accepted-bounded}
 
 pub answer-turned : (r : Role) (k n m : ℕ) (v : Verdict) → v ≡ turned r k → readAnswer v n m ≡ Refused (record { number = k; file = fileOf r })
@@ -56,9 +59,6 @@ readReply-injective (Read n m) (Read n′ m′) e = let v = ap (λ (r : Reply). 
 readReply-injective (Read n m) (Refused x) e = let v = ap (λ (r : Reply). r .verdict) e in cc
 readReply-injective (Refused x) (Read n m) e = let v = ap (λ (r : Reply). r .verdict) e in cc
 readReply-injective (Refused x) (Refused y) e = let v = ap (λ (r : Reply). r .verdict) e in cc
-
-refused-accept : (x : Refusal) → refuse x ≡ accept → ⊥
-refused-accept x e = let z : _≡_ {A = ℕ} 0 1 = cc in omega arith
 
 -- ---- the call, by cases
 
@@ -119,83 +119,89 @@ module _ (r : Role) (file kinds starts ends : List ℕ) where
         endsFit = ltb-false _ _ (t .0);
       }
 
--- ---- what a caller knows of the outcome, by cases of the answer
+-- ---- what a call knows of a file that was read for it
 
--- What is known after a file was read: the file is sound, and its content stands at the front of each table.
-pub record Loaded (r : Role) (file : List ℕ) (n m : ℕ) (o : ReadOutcome) : Type 0 where
-  pub verdict : first (fileConditions r file) ≡ accept
-  pub nodes : n ≡ nodesOf file
-  pub links : m ≡ linksOf file
-  pub kindsFirst : take n (o .kinds) ≡ kindsOf file
-  pub startsFirst : take m (o .starts) ≡ startsOf file
-  pub endsFirst : take m (o .ends) ≡ endsOf file
+-- what an accepted file and what a refused one leave, by the verdict of the code
+module _ {r : Role} {file : List ℕ} {read : FileRead} {tables : Circuit} (l : Loaded r file read tables) where
+  pub loaded-accepted : read .verdict ≡ verdict.Accepted → first (fileConditions r file) ≡ accept
+  unfolding verdictOf
+  loaded-accepted e = sym (l .verdict) ∙ ap verdictOf e
 
--- Tables that have room for every file of a role: to a caller that lends these, each refusal is the file's.
-pub record Room (r : Role) (kinds starts ends : List ℕ) : Type 0 where
-  pub forKinds : maxNodes r ≤ length kinds
-  pub forStarts : maxLinks r ≤ length starts
-  pub forEnds : maxLinks r ≤ length ends
+  pub loaded-refused : {x : Refusal} → read .verdict ≡ verdict.Refused x → first (fileConditions r file) ≡ refuse x
+  unfolding verdictOf
+  loaded-refused e = sym (l .verdict) ∙ ap verdictOf e
 
--- what a table has at its front after an accepted call
-filled-front : (v : Verdict) (values old l : List ℕ) (k : ℕ) → v ≡ accept → l ≡ filled v values old → length values ≡ k → take k l ≡ values
-unfolding filled
-filled-front accept values old l k a e h = ap (take k) e ∙ take-at values (drop (length values) old) k h
-filled-front (refuse x) values old l k a e h = absurd (refused-accept x a)
+-- as the reader answers
+module _ (r : Role) (file : List ℕ) (read : FileRead) (tables : Circuit) (k : ℕ) where
+  pub turned-loaded : read .verdict ≡ verdict.Refused (record { number = k; file = fileOf r }) → first (fileConditions r file) ≡ turned r k → Loaded r file read tables
+  unfolding verdictOf turned
+  turned-loaded e v = record { verdict = rw e (sym v); held = λ a. absurd (turned-accept r k _ v a) }
 
-module _ (r : Role) (file kinds starts ends : List ℕ) (o : ReadOutcome) (e : o ≡ reading r file kinds starts ends) where
-  pub loaded : (n m : ℕ) → o .answer ≡ Read n m → Loaded r file n m o
-  unfolding reading readConditions
-  loaded n m a =
-      let v = first (readConditions r file (length kinds) (length starts) (length ends)) in
-      let (ok, isN, isM) = answer-read (nodesOf file) (linksOf file) v n m (sym (ap (λ (x : ReadOutcome). x .answer) e) ∙ a) in
-      record {
-        verdict = first-parts (fileConditions r file) _ ok .0;
-        nodes = isN;
-        links = isM;
-        kindsFirst = filled-front v (kindsOf file) kinds (o .kinds) n ok (ap (λ (x : ReadOutcome). x .kinds) e) (length-kinds file ∙ sym isN);
-        startsFirst = filled-front v (startsOf file) starts (o .starts) m ok (ap (λ (x : ReadOutcome). x .starts) e) (length-starts file ∙ sym isM);
-        endsFirst = filled-front v (endsOf file) ends (o .ends) m ok (ap (λ (x : ReadOutcome). x .ends) e) (length-ends file ∙ sym isM);
-      }
-
-  pub turned-away : Room r kinds starts ends → (x : Refusal) → o .answer ≡ Refused x → first (fileConditions r file) ≡ refuse x
-  turned-away room x a = go (first (fileConditions r file)) refl
-    where
-      go : (v : Verdict) → first (fileConditions r file) ≡ v → first (fileConditions r file) ≡ refuse x
-      go accept h =
-          let (_, n, m) = range-orders r (nodesOf file) (linksOf file) (accepted r file h .range) in
-          let f = reading-filled r file kinds starts ends h (le-trans n (room .forKinds)) (le-trans m (room .forStarts)) (le-trans m (room .forEnds)) in
-          cc
-      go (refuse y) h = let f = reading-refused r file kinds starts ends y h in cc
-
--- what the makers of neighbour tables ask of a file that was read: its range, and its links
-module _ {r : Role} {file : List ℕ} {n m : ℕ} {o : ReadOutcome} (l : Loaded r file n m o) where
-  pub loaded-range : (minNodes r ≤ n) × (n ≤ maxNodes r) × (m ≤ maxLinks r)
-  loaded-range = rw (l .nodes, l .links) (range-orders r (nodesOf file) (linksOf file) (accepted r file (l .verdict) .range))
+pub held-loaded : (r : Role) (file : List ℕ) (read : FileRead) (tables : Circuit) → read .verdict ≡ verdict.Accepted → first (fileConditions r file) ≡ accept
+    → Held r file read tables → Loaded r file read tables
+unfolding verdictOf
+held-loaded r file read tables e v h = record { verdict = rw e (sym v); held = λ _. h }
 
 -- a front as long as it should be has room
 pub front-room : (k : ℕ) (l : List ℕ) → length (take k l) ≡ k → k ≤ length l
 front-room k l e = omega (arith, rw length-take at e)
 
--- the fronts of the tables are as long as the counts say
-module _ {r : Role} {file : List ℕ} {n m : ℕ} {o : ReadOutcome} (l : Loaded r file n m o) where
-  pub loaded-size : (length (take n (o .kinds)) ≡ n) × (length (take m (o .starts)) ≡ m) × (length (take m (o .ends)) ≡ m)
-  loaded-size = (
-    ap length (l .kindsFirst) ∙ length-kinds file ∙ sym (l .nodes),
-    ap length (l .startsFirst) ∙ length-starts file ∙ sym (l .links),
-    ap length (l .endsFirst) ∙ length-ends file ∙ sym (l .links),
+-- the fronts of the tables are as long as the counts say, and the tables have room for them
+module _ {file : List ℕ} {n m : ℕ} {t : Circuit} (s : Stands file n m t) where
+  pub stands-size : (length (take n (t .kinds)) ≡ n) × (length (take m (t .starts)) ≡ m) × (length (take m (t .ends)) ≡ m)
+  stands-size = (
+    ap (λ (c : Circuit). length (c .kinds)) (s .content) ∙ length-kinds file ∙ sym (s .nodes),
+    ap (λ (c : Circuit). length (c .starts)) (s .content) ∙ length-starts file ∙ sym (s .links),
+    ap (λ (c : Circuit). length (c .ends)) (s .content) ∙ length-ends file ∙ sym (s .links),
   )
 
--- ---- the circuit that was read
+  -- what is said of the fronts is said of the file's links
+  pub stands-links : {A : Type 0} (f : ℕ → List ℕ → List ℕ → A) → f n (take m (t .starts)) (take m (t .ends)) ≡ f (nodesOf file) (startsOf file) (endsOf file)
+  stands-links f =
+      let e = s .content in
+      rw (s .nodes, ap (λ (c : Circuit). c .starts) e, ap (λ (c : Circuit). c .ends) e)
 
--- the circuit at the front of the three tables
-abbrev pub frontOf : ℕ → ℕ → ReadOutcome → Circuit
-frontOf n m o = record { kinds = take n (o .kinds); starts = take m (o .starts); ends = take m (o .ends) }
+  pub stands-room : (n ≤ length (t .kinds)) × (m ≤ length (t .starts)) × (m ≤ length (t .ends))
+  stands-room = let (k, a, b) = stands-size in (front-room n _ k, front-room m _ a, front-room m _ b)
 
-module _ {r : Role} {file : List ℕ} {n m : ℕ} {o : ReadOutcome} (l : Loaded r file n m o) where
-  -- it is the file's,
-  pub loaded-circuit : frontOf n m o ≡ circuitOf file
-  loaded-circuit = rw (l .kindsFirst, l .startsFirst, l .endsFirst)
+  -- the circuit of an accepted file is within the role's maxima
+  module _ (r : Role) (e : first (fileConditions r file) ≡ accept) where
+    pub stands-bounded : Bounded r (front n m t)
+    stands-bounded = rw (s .content) (accepted-bounded (accepted r file e))
 
-  -- and within the role's maxima
-  pub loaded-bounded : Bounded r (frontOf n m o)
-  loaded-bounded = rw loaded-circuit (accepted-bounded (accepted r file (l .verdict)))
+    pub stands-range : (minNodes r ≤ n) × (n ≤ maxNodes r) × (m ≤ maxLinks r)
+    stands-range = rw (s .nodes, s .links) (range-orders r (nodesOf file) (linksOf file) (accepted r file e .range))
+
+-- ---- as the reader goes
+
+-- the three stretches, stored
+pub filled-stands : (file kinds starts ends ks ss es : List ℕ) (n m : ℕ) → n ≡ nodesOf file → m ≡ linksOf file
+    → ks ≡ fields (drop kindsAt file) n ++ drop n kinds → ss ≡ fields (drop (startsAt n) file) m ++ drop m starts → es ≡ fields (drop (endsAt n m) file) m ++ drop m ends
+    → Stands file n m (circuit ks ss es)
+unfolding kindsOf startsOf endsOf
+filled-stands file kinds starts ends ks ss es n m isN isM k s e =
+    record {
+      nodes = isN;
+      links = isM;
+      content =
+          rw (stored-front _ kinds ks n k, stored-front _ starts ss m s, stored-front _ ends es m e, isN, isM);
+    }
+
+-- the links, tested where they stand
+module _ (r : Role) (file : List ℕ) (n m : ℕ) (t : Circuit) (s : Stands file n m t) (z : sizeNumber r file ≡ 0) (k w : ℕ)
+    (l : LinksTested r n (take m (t .starts)) (take m (t .ends)) k w) where
+  by-links : first (fileConditions r file) ≡ byNumber r k
+  by-links = verdict-links r file z ∙ ap (byNumber r) (sym (stands-links s (linkNumber r)) ∙ sym (l .number))
+
+  pub links-turned : (read : FileRead) → read .verdict ≡ verdict.Refused (record { number = k; file = fileOf r }) → (k ≡ 0 → ⊥) → Loaded r file read t
+  links-turned read e f = turned-loaded r file read t k e (by-links ∙ number-turned r k f)
+
+  pub links-sound : k ≡ 0 → Loaded r file (record { verdict = verdict.Accepted; nodes = n; links = m; radius = w }) t
+  links-sound e =
+      held-loaded r file _ t refl (by-links ∙ number-accept r k e)
+      (record { stands = s; measured = λ c. l .measured e c ∙ stands-links s radius })
+
+-- the larger of the two roles' maxima
+pub role-bounds : (r : Role) → (maxNodes r ≤ 512) × (maxLinks r ≤ 4096)
+role-bounds role.Pattern = (lit≤ tt, lit≤ tt)
+role-bounds role.Board = (lit≤ tt, lit≤ tt)

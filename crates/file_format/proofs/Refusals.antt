@@ -7,17 +7,17 @@ use Prim.Native.Nat.{ℕ, _≤_, _<_}
 use native.Mathlib.Omega.{arith}
 use borrow.Author.Tests.{lt-ltb, le-ltb, eq-eqb, ne-eqb, ltb-false, eqb-true, not-false}
 use lib.Dec.{T, eqb, ltb, leb, leb→le}
-use lib.ListN.{length, drop}
+use lib.ListN.{length}
 use Rattle.base_lists.specs.List.{all}
-use Rattle.base_lists.proofs.Tests.{refuted, both-false, both-left, both-right, true-T, false-T}
+use Rattle.base_lists.proofs.Tests.{refuted, both-false, both-left, both-right, true-T, false-T, T-true, T-false}
 use Rattle.graph.specs.Search.{connected}
 use Rattle.file_format.specs.declared.File.the-variants.{Neither}
 use Rattle.file_format.specs.declared.Refusal.{Refusal}
 use Rattle.file_format.specs.declared.Role.{Role}
 use Rattle.file_format.specs.declared.Role.the-variants.{Pattern, Board}
-use Rattle.file_format.specs.Layout.{fields, nodesOf, linksOf, lengthOf, startsAt, endsAt, startsOf, endsOf}
+use Rattle.file_format.specs.Layout.{nodesOf, linksOf, lengthOf, startsOf, endsOf}
 use Rattle.file_format.specs.Links.{linksBelow, rising}
-use Rattle.file_format.specs.Refusals.{Condition, Verdict, accept, refuse, first, linkConditions, fileConditions, asksConnected, linkNumber, shortTable}
+use Rattle.file_format.specs.Refusals.{Accepted, Condition, Verdict, accept, refuse, NoneHolds, first, FirstHolding, linkConditions, fileConditions, asksConnected, sizeNumber, orderNumber, linkNumber, shortTable}
 use Rattle.file_format.specs.Role.{minNodes, maxNodes, maxLinks, inRange, fileOf}
 
 -- ---- the first of a list of conditions
@@ -42,7 +42,7 @@ first-refuse (c ∷ cs) ds x e = go (c .holds) e (first-refuse cs ds x)
     go true e r = e
     go false e r = r e
 
-accept-not-refuse : {x : Refusal} → accept ≡ refuse x → ⊥
+pub accept-not-refuse : {x : Refusal} → accept ≡ refuse x → ⊥
 accept-not-refuse e = let z : _≡_ {A = ℕ} 0 1 = cc in omega arith
 
 -- no condition of an accepted list holds
@@ -90,6 +90,54 @@ some-refuses (d ∷ ds) c m t = go (first (d ∷ ds)) refl
 pub refuses-iff : (cs : List Condition) → ((x : Refusal) × (first cs ≡ refuse x)) ↔ ((c : Condition) × List·Memᴰ c cs × T (c .holds))
 refuses-iff cs = (λ (x, e). refuses-some cs x e, λ (c, m, t). some-refuses cs c m t)
 
+-- ---- what the first of a list of conditions means
+
+none-accept : (cs : List Condition) → NoneHolds cs → first cs ≡ accept
+unfolding first NoneHolds
+none-accept [] none = refl
+none-accept (c ∷ cs) none = rw (none c (List·Memᴰ·head refl)) (none-accept cs (λ d m. none d (List·Memᴰ·tail m)))
+
+pub accepts-iff : (cs : List Condition) → (first cs ≡ accept) ↔ NoneHolds cs
+unfolding NoneHolds
+accepts-iff cs = (λ e c m. T-false {b = c .holds} (none-holds cs e c m), none-accept cs)
+
+refuses-step :
+    (c : Condition) (cs : List Condition) (x : Refusal) (b : Bool) → c .holds ≡ b →
+    cond b (refuse (record { number = c .number; file = c .file })) (first cs) ≡ refuse x → (first cs ≡ refuse x → FirstHolding cs x) →
+    FirstHolding (c ∷ cs) x
+unfolding NoneHolds
+refuses-step c cs x true h e rest =
+    let same : record { number = c .number; file = c .file } ≡ x = cc in
+    record {
+      before = [];
+      after = cs;
+      place =
+          ap (λ (b : Bool). record { number = c .number; file = c .file; holds = b } ∷ cs) h
+          ∙ ap (λ (y : Refusal). record { number = y .number; file = y .file; holds = true } ∷ cs) same;
+      none = λ d m. absurd (List·Memᴰ·not-nil m);
+    }
+refuses-step c cs x false h e rest =
+    let f = rest e in
+    record {
+      before = c ∷ f .before;
+      after = f .after;
+      place = ap (λ (ds : List Condition). c ∷ ds) (f .place);
+      none = λ d m. ⊎-elim (λ same. ap (λ (k : Condition). k .holds) same ∙ h) (λ later. f .none d later) (List·Memᴰ·cases-cons m);
+    }
+
+refuses-first : (cs : List Condition) (x : Refusal) → first cs ≡ refuse x → FirstHolding cs x
+unfolding first
+refuses-first [] x e = absurd (accept-not-refuse e)
+refuses-first (c ∷ cs) x e = refuses-step c cs x (c .holds) refl e (refuses-first cs x)
+
+first-refuses : {cs : List Condition} {x : Refusal} → FirstHolding cs x → first cs ≡ refuse x
+unfolding first
+first-refuses f = rw (f .place) (first-accept (f .before) _ (none-accept (f .before) (f .none)))
+
+-- a list of conditions refuses by a number and a file exactly when those are of its first condition that holds
+pub refuses-by : (cs : List Condition) (x : Refusal) → (first cs ≡ refuse x) ↔ FirstHolding cs x
+refuses-by cs x = (refuses-first cs x, first-refuses)
+
 -- ---- three lent tables
 
 either-way : (x : Bool) (v : Verdict) → cond x v v ≡ v
@@ -111,23 +159,51 @@ module _ (a b d k s e : ℕ) where
 
 -- ---- the links' number, as the tests come out in their order
 
-module _ (r : Role) (n : ℕ) (starts ends : List ℕ) where
-  pub number-starts : all (λ v. ltb v n) starts ≡ false → linkNumber r n starts ends ≡ 4
-  unfolding linkNumber linksBelow
-  number-starts a = simp a
+module _ (n : ℕ) (starts ends : List ℕ) where
+  pub order-starts : all (λ v. ltb v n) starts ≡ false → orderNumber n starts ends ≡ 4
+  unfolding orderNumber linksBelow
+  order-starts a = simp a
 
-  pub number-ends : all (λ v. ltb v n) starts ≡ true → all (λ v. ltb v n) ends ≡ false → linkNumber r n starts ends ≡ 4
-  unfolding linkNumber linksBelow
-  number-ends a b = simp (a, b)
+  module _ (a : all (λ v. ltb v n) starts ≡ true) where
+    pub order-ends : all (λ v. ltb v n) ends ≡ false → orderNumber n starts ends ≡ 4
+    unfolding orderNumber linksBelow
+    order-ends b = simp (a, b)
 
-  pub number-rising : all (λ v. ltb v n) starts ≡ true → all (λ v. ltb v n) ends ≡ true → rising starts ends ≡ false → linkNumber r n starts ends ≡ 5
-  unfolding linkNumber linksBelow
-  number-rising a b e = simp (a, b, e)
+    module _ (b : all (λ v. ltb v n) ends ≡ true) where
+      pub order-falls : rising starts ends ≡ false → orderNumber n starts ends ≡ 5
+      unfolding orderNumber linksBelow
+      order-falls e = simp (a, b, e)
 
-  pub number-connected : all (λ v. ltb v n) starts ≡ true → all (λ v. ltb v n) ends ≡ true → rising starts ends ≡ true → (d : Bool)
-      → (asksConnected r && not (connected n starts ends)) ≡ d → linkNumber r n starts ends ≡ cond d 6 0
-  unfolding linkNumber linksBelow
-  number-connected a b e d f = simp (a, b, e, f)
+      pub order-rises : rising starts ends ≡ true → orderNumber n starts ends ≡ 0
+      unfolding orderNumber linksBelow
+      order-rises e = simp (a, b, e)
+
+  -- links in order
+  pub ordered : orderNumber n starts ends ≡ 0 → T (linksBelow n starts ends) × T (rising starts ends)
+  unfolding orderNumber
+  ordered = go (linksBelow n starts ends) (rising starts ends)
+    where
+      go : (x y : Bool) → _≡_ {A = ℕ} (cond x (cond y 0 5) 4) 0 → T x × T y
+      go true true e = (tt, tt)
+      go true false e = absurd (omega arith)
+      go false y e = absurd (omega arith)
+
+  -- the links' number, from that of their order
+  pub number-order : (r : Role) → (orderNumber n starts ends ≡ 0 → ⊥) → linkNumber r n starts ends ≡ orderNumber n starts ends
+  unfolding orderNumber linkNumber
+  number-order r = go (linksBelow n starts ends) (rising starts ends)
+    where
+      go : (x y : Bool) → (_≡_ {A = ℕ} (cond x (cond y 0 5) 4) 0 → ⊥)
+          → _≡_ {A = ℕ} (cond x (cond y (cond (asksConnected r && not (connected n starts ends)) 6 0) 5) 4) (cond x (cond y 0 5) 4)
+      go true true f = absurd (f refl)
+      go true false f = refl
+      go false y f = refl
+
+  pub number-joined : (r : Role) (d : Bool) → orderNumber n starts ends ≡ 0 → (asksConnected r && not (connected n starts ends)) ≡ d → linkNumber r n starts ends ≡ cond d 6 0
+  unfolding linkNumber
+  number-joined r d e f =
+      let (below, rises) = ordered e in
+      simp (T-true {b = linksBelow n starts ends} below, T-true {b = rising starts ends} rises, f)
 
 -- ---- the conditions on a file, one after another: the number of bytes, the range, the length, the links
 
@@ -159,37 +235,66 @@ verdict-number r n starts ends =
     go true false z = refl
     go false y z = refl
 
--- The tests in their order, with N and M as the code has read them.
+-- The tests of the size in their order, with N and M as the code has read them.
 module _ (r : Role) (file : List ℕ) where
-  pub verdict-1 : length file < 4 → first (fileConditions r file) ≡ turned r 1
-  unfolding first fileConditions turned
-  verdict-1 a = simp (lt-ltb _ _ a)
+  pub size-1 : length file < 4 → sizeNumber r file ≡ 1
+  unfolding sizeNumber
+  size-1 a = simp (lt-ltb _ _ a)
 
   module _ (n m : ℕ) (isN : n ≡ nodesOf file) (isM : m ≡ linksOf file) (a : 4 ≤ length file) where
-    pub verdict-2 : inRange r n m ≡ false → first (fileConditions r file) ≡ turned r 2
-    unfolding first fileConditions turned
-    verdict-2 b = simp (le-ltb _ _ a, rw (isN, isM) at b)
+    pub size-2 : inRange r n m ≡ false → sizeNumber r file ≡ 2
+    unfolding sizeNumber
+    size-2 b = simp (le-ltb _ _ a, rw (isN, isM) at b)
 
-    pub verdict-3 : inRange r n m ≡ true → (length file ≡ lengthOf n m → ⊥) → first (fileConditions r file) ≡ turned r 3
-    unfolding first fileConditions turned
-    verdict-3 b e = simp (le-ltb _ _ a, rw (isN, isM) at b, ne-eqb _ _ (rw (isN, isM) at e))
+    pub size-3 : inRange r n m ≡ true → (length file ≡ lengthOf n m → ⊥) → sizeNumber r file ≡ 3
+    unfolding sizeNumber
+    size-3 b e = simp (le-ltb _ _ a, rw (isN, isM) at b, ne-eqb _ _ (rw (isN, isM) at e))
 
-    pub verdict-links : inRange r n m ≡ true → length file ≡ lengthOf n m
-        → first (fileConditions r file) ≡ first (linkConditions r n (fields (drop (startsAt n) file) m) (fields (drop (endsAt n m) file) m))
-    unfolding first fileConditions startsOf endsOf
-    verdict-links b e =
-        rw (isN, isM) (simp (le-ltb _ _ a, rw (isN, isM) at b, eq-eqb _ _ (rw (isN, isM) at e)))
+    pub size-0 : inRange r n m ≡ true → length file ≡ lengthOf n m → sizeNumber r file ≡ 0
+    unfolding sizeNumber
+    size-0 b e = simp (le-ltb _ _ a, rw (isN, isM) at b, eq-eqb _ _ (rw (isN, isM) at e))
+
+  -- the first of the conditions on a file is the one that the size's number says, or else one on the links
+  verdict-size : first (fileConditions r file)
+      ≡ cond (eqb (sizeNumber r file) 0) (first (linkConditions r (nodesOf file) (startsOf file) (endsOf file))) (turned r (sizeNumber r file))
+  unfolding first fileConditions sizeNumber turned
+  verdict-size =
+      go (ltb (length file) 4) (inRange r (nodesOf file) (linksOf file)) (eqb (length file) (lengthOf (nodesOf file) (linksOf file)))
+      (first (linkConditions r (nodesOf file) (startsOf file) (endsOf file)))
+    where
+      go : (x y z : Bool) (v : Verdict) → cond x (turned r 1) (cond (not y) (turned r 2) (cond (not z) (turned r 3) v))
+          ≡ cond (eqb (cond x 1 (cond y (cond z 0 3) 2)) 0) v (turned r (cond x 1 (cond y (cond z 0 3) 2)))
+      go true y z v = refl
+      go false true true v = refl
+      go false true false v = refl
+      go false false z v = refl
+
+  pub verdict-turned : (sizeNumber r file ≡ 0 → ⊥) → first (fileConditions r file) ≡ turned r (sizeNumber r file)
+  verdict-turned h = verdict-size ∙ rw (ne-eqb _ _ h)
+
+  pub verdict-links : sizeNumber r file ≡ 0 → first (fileConditions r file) ≡ byNumber r (linkNumber r (nodesOf file) (startsOf file) (endsOf file))
+  verdict-links h = verdict-size ∙ rw (eq-eqb _ _ h) (verdict-number r (nodesOf file) (startsOf file) (endsOf file))
+
+  -- a size that no condition is about
+  pub sized : sizeNumber r file ≡ 0
+      → (4 ≤ length file) × T (inRange r (nodesOf file) (linksOf file)) × (length file ≡ lengthOf (nodesOf file) (linksOf file))
+  unfolding sizeNumber
+  sized = go (ltb (length file) 4) (inRange r (nodesOf file) (linksOf file)) (eqb (length file) (lengthOf (nodesOf file) (linksOf file))) refl refl refl
+    where
+      go : (x y z : Bool) → ltb (length file) 4 ≡ x → inRange r (nodesOf file) (linksOf file) ≡ y → eqb (length file) (lengthOf (nodesOf file) (linksOf file)) ≡ z
+          → _≡_ {A = ℕ} (cond x 1 (cond y (cond z 0 3) 2)) 0
+          → (4 ≤ length file) × T (inRange r (nodesOf file) (linksOf file)) × (length file ≡ lengthOf (nodesOf file) (linksOf file))
+      go true y z a b e h = absurd (omega arith)
+      go false true true a b e h = (ltb-false _ _ a, true-T b, eqb-true _ _ e)
+      go false true false a b e h = absurd (omega arith)
+      go false false z a b e h = absurd (omega arith)
+
+-- a refusal by a number is no acceptance
+pub turned-accept : (r : Role) (k : ℕ) (v : Verdict) → v ≡ turned r k → v ≡ accept → ⊥
+unfolding turned
+turned-accept r k v e a = accept-not-refuse (sym a ∙ e)
 
 -- ---- an accepted file
-
--- What is known of a file of which none of the conditions 1 to 6 holds.
-pub record Accepted (r : Role) (file : List ℕ) : Type 0 where
-  pub bytes : 4 ≤ length file
-  pub range : T (inRange r (nodesOf file) (linksOf file))
-  pub size : length file ≡ lengthOf (nodesOf file) (linksOf file)
-  pub below : T (linksBelow (nodesOf file) (startsOf file) (endsOf file))
-  pub rises : T (rising (startsOf file) (endsOf file))
-  pub joined : T (asksConnected r) → T (connected (nodesOf file) (startsOf file) (endsOf file))
 
 pub accepted : (r : Role) (file : List ℕ) → first (fileConditions r file) ≡ accept → Accepted r file
 unfolding fileConditions linkConditions
@@ -208,6 +313,22 @@ accepted r file e =
       rises = refuted (rising (startsOf file) (endsOf file)) (h5 .0);
       joined = λ t. refuted (connected (nodesOf file) (startsOf file) (endsOf file)) (both-false (asksConnected r) _ t (h6 .0));
     }
+
+-- and the other way round: a file that has all this is not refused
+not-asked : (b c : Bool) → (T b → T c) → b && not c ≡ false
+not-asked true true f = refl
+not-asked true false f = absurd (f tt)
+not-asked false c f = refl
+
+pub accepted-verdict : {r : Role} {file : List ℕ} → Accepted r file → first (fileConditions r file) ≡ accept
+unfolding first fileConditions linkConditions
+accepted-verdict {r} {file} a =
+    let n = nodesOf file in
+    let range : inRange r n (linksOf file) ≡ true = T-true (a .range) in
+    let below : linksBelow n (startsOf file) (endsOf file) ≡ true = T-true (a .below) in
+    let rises : rising (startsOf file) (endsOf file) ≡ true = T-true (a .rises) in
+    let joined = not-asked (asksConnected r) (connected n (startsOf file) (endsOf file)) (a .joined) in
+    simp (le-ltb _ _ (a .bytes), range, eq-eqb _ _ (a .size), below, rises, joined)
 
 -- its links, as what makes or searches neighbour tables asks of them
 pub accepted-links : (r : Role) (file : List ℕ) → Accepted r file → T (all (λ v. ltb v (nodesOf file)) (startsOf file)) × T (all (λ v. ltb v (nodesOf file)) (endsOf file))

@@ -1,11 +1,10 @@
 -- What is asked of a circuit's links.
 use mathlib.Core.Bool.{Bool, _&&_, _||_}
 use mathlib.Core.List.{List}
-use Prim.Native.Nat.{ℕ, _+_, _*_, _-_}
+use Prim.Native.Nat.{ℕ, _+_, _-_}
 use lib.Dec.{eqb, ltb}
 use lib.ListN.{length, getD}
 use Rattle.base_lists.specs.List.{all, allBelow}
-use Rattle.file_format.specs.Layout.{field}
 
 -- every start and every end is a node
 unfoldable pub linksBelow : ℕ → List ℕ → List ℕ → Bool
@@ -19,7 +18,3 @@ earlier s e s′ e′ = ltb s s′ || (eqb s s′ && ltb e e′)
 unfoldable pub rising : List ℕ → List ℕ → Bool
 rising starts ends =
     allBelow (length starts - 1) (λ i. earlier (getD starts i 0) (getD ends i 0) (getD starts (i + 1) 0) (getD ends (i + 1) 0))
-
--- the i-th link of two stretches of a file, starts beside ends, comes before the next
-unfoldable pub inOrder : List ℕ → List ℕ → ℕ → Bool
-inOrder starts ends i = earlier (field starts (2 * i)) (field ends (2 * i)) (field starts (2 * (i + 1))) (field ends (2 * (i + 1)))

@@ -1,12 +1,22 @@
--- The call that reads a circuit file, whole: its reply and each table's later content, from the inputs alone.
+-- The call that reads a circuit file, whole: its reply and each table's later content, from the inputs alone; and what a call that goes on
+-- with the circuit knows of a file that was read.
 use mathlib.Core.List.{List, [], _∷_, _++_}
-use Prim.Native.Nat.{ℕ}
-use lib.ListN.{length, drop}
+use mathlib.Core.Path.{_≡_}
+use Prim.Native.Nat.{ℕ, _≤_}
+use lib.Dec.{T}
+use lib.ListN.{length, take, drop}
+use Rattle.graph.specs.Circuit.{Circuit}
+use Rattle.graph.specs.Search.{radius}
+use Rattle.file_format.specs.declared.FileRead.{FileRead}
+use Rattle.file_format.specs.declared.FileVerdict.{FileVerdict}
+use Rattle.file_format.specs.declared.FileVerdict.the-variants as verdict
 use Rattle.file_format.specs.declared.ReadAnswer.{ReadAnswer}
 use Rattle.file_format.specs.declared.ReadAnswer.the-variants.{Read, Refused}
 use Rattle.file_format.specs.declared.Role.{Role}
 use Rattle.file_format.specs.Layout.{nodesOf, linksOf, kindsOf, startsOf, endsOf}
-use Rattle.file_format.specs.Refusals.{Condition, Verdict, accept, refuse, first, fileConditions, shortTable}
+use Rattle.file_format.specs.Refusals.{Condition, Verdict, accept, refuse, first, asksConnected, fileConditions, linkNumber, shortTable}
+use Rattle.file_format.specs.Role.{maxNodes, maxLinks}
+use Rattle.file_format.specs.Circuit.{circuitOf}
 use Rattle.file_format.specs.Reply.{Reply, reply}
 
 -- "Needed: reading N, M, M"
@@ -42,3 +52,41 @@ reading role file kinds starts ends =
       starts = filled verdict (startsOf file) starts;
       ends = filled verdict (endsOf file) ends;
     }
+
+-- ---- a file that was read for a call
+
+-- a verdict of the code, in the words of the conditions
+unfoldable pub verdictOf : FileVerdict → Verdict
+verdictOf verdict.Accepted = accept
+verdictOf (verdict.Refused x) = refuse x
+
+-- n kinds and m links at the front of three tables
+abbrev pub front : ℕ → ℕ → Circuit → Circuit
+front n m tables = record { kinds = take n (tables .kinds); starts = take m (tables .starts); ends = take m (tables .ends) }
+
+-- n and m are a file's N and M, and its circuit stands at the front of three tables
+pub record Stands (file : List ℕ) (n m : ℕ) (tables : Circuit) : Type 0 where
+  pub nodes : n ≡ nodesOf file
+  pub links : m ≡ linksOf file
+  pub content : front n m tables ≡ circuitOf file
+
+-- tables that have room for every file of a role
+pub record Room (r : Role) (tables : Circuit) : Type 0 where
+  pub forKinds : maxNodes r ≤ length (tables .kinds)
+  pub forStarts : maxLinks r ≤ length (tables .starts)
+  pub forEnds : maxLinks r ≤ length (tables .ends)
+
+-- what is known of an accepted file that was read: where its circuit stands, and a pattern's radius
+pub record Held (r : Role) (file : List ℕ) (read : FileRead) (tables : Circuit) : Type 0 where
+  pub stands : Stands file (read .nodes) (read .links) tables
+  pub measured : T (asksConnected r) → read .radius ≡ radius (nodesOf file) (startsOf file) (endsOf file)
+
+-- a file was read: the verdict is that of the conditions 1 to 6
+pub record Loaded (r : Role) (file : List ℕ) (read : FileRead) (tables : Circuit) : Type 0 where
+  pub verdict : verdictOf (read .verdict) ≡ first (fileConditions r file)
+  pub held : first (fileConditions r file) ≡ accept → Held r file read tables
+
+-- the conditions 4 to 6 on links that are given as numbers, and a pattern's radius where none of them holds
+pub record LinksTested (r : Role) (n : ℕ) (starts ends : List ℕ) (k width : ℕ) : Type 0 where
+  pub number : k ≡ linkNumber r n starts ends
+  pub measured : k ≡ 0 → T (asksConnected r) → width ≡ radius n starts ends

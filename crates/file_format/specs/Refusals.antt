@@ -1,9 +1,10 @@
 -- The numbers of refusal, as document 01's table has them: each condition with its number and the file that it means, in the order in
 -- which they are tried.
 use mathlib.Core.Bool.{Bool, true, false, _&&_, not, cond}
-use mathlib.Core.List.{List, [], _∷_}
-use Prim.Native.Nat.{ℕ}
-use lib.Dec.{eqb, ltb}
+use mathlib.Core.List.{List, [], _∷_, _++_, List·Memᴰ}
+use mathlib.Core.Path.{_≡_}
+use Prim.Native.Nat.{ℕ, _≤_}
+use lib.Dec.{T, eqb, ltb}
 use lib.ListN.{length}
 use Rattle.graph.specs.Search.{connected}
 use Rattle.file_format.specs.declared.File.{File}
@@ -25,10 +26,21 @@ pub data Verdict : Type 0 where
   accept : Verdict
   refuse : Refusal → Verdict
 
+-- none of a list of conditions holds
+unfoldable pub NoneHolds : List Condition → Type 0
+NoneHolds cs = (c : Condition) → List·Memᴰ c cs → c .holds ≡ false
+
 -- "Rising numbers are the order"
 unfoldable pub first : List Condition → Verdict
 first [] = accept
 first (c ∷ cs) = cond (c .holds) (refuse (record { number = c .number; file = c .file })) (first cs)
+
+-- What that means: a condition with this number and file holds, and none before it in the list does.
+pub record FirstHolding (cs : List Condition) (x : Refusal) : Type 0 where
+  pub before : List Condition
+  pub after : List Condition
+  pub place : cs ≡ before ++ (record { number = x .number; file = x .file; holds = true } ∷ after)
+  pub none : NoneHolds before
 
 -- 6 "pattern not connected"
 unfoldable pub asksConnected : Role → Bool
@@ -51,6 +63,26 @@ fileConditions r file =
     record { number = 2; file = fileOf r; holds = not (inRange r n m) } ∷
     record { number = 3; file = fileOf r; holds = not (eqb (length file) (lengthOf n m)) } ∷
     linkConditions r n (startsOf file) (endsOf file)
+
+-- A file of which none of the conditions 1 to 6 holds: each of them, turned round.
+pub record Accepted (r : Role) (file : List ℕ) : Type 0 where
+  pub bytes : 4 ≤ length file
+  pub range : T (inRange r (nodesOf file) (linksOf file))
+  pub size : length file ≡ lengthOf (nodesOf file) (linksOf file)
+  pub below : T (linksBelow (nodesOf file) (startsOf file) (endsOf file))
+  pub rises : T (rising (startsOf file) (endsOf file))
+  pub joined : T (asksConnected r) → T (connected (nodesOf file) (startsOf file) (endsOf file))
+
+-- the number of the first condition on a file's size that holds, 1, 2 or 3, and 0 where none does
+unfoldable pub sizeNumber : Role → List ℕ → ℕ
+sizeNumber r file =
+    let n = nodesOf file in
+    let m = linksOf file in
+    cond (ltb (length file) 4) 1 (cond (inRange r n m) (cond (eqb (length file) (lengthOf n m)) 0 3) 2)
+
+-- the number of the first condition on the order of the links that holds, 4 or 5, and 0 where none does
+unfoldable pub orderNumber : ℕ → List ℕ → List ℕ → ℕ
+orderNumber n starts ends = cond (linksBelow n starts ends) (cond (rising starts ends) 0 5) 4
 
 -- the number of the first condition on the links that holds, 4, 5 or 6, and 0 where none does
 unfoldable pub linkNumber : Role → ℕ → List ℕ → List ℕ → ℕ

@@ -2,10 +2,8 @@
 -- file was meant". Each answer enum has a definition that gives this for each of its cases.
 use mathlib.Core.List.{List, [], _∷_}
 use Prim.Native.Nat.{ℕ}
-use Rattle.file_format.specs.declared.File.the-variants.{Neither}
 use Rattle.file_format.specs.declared.ReadAnswer.{ReadAnswer}
 use Rattle.file_format.specs.declared.ReadAnswer.the-variants.{Read, Refused}
-use Rattle.file_format.specs.declared.Refusal.{Refusal}
 use Rattle.file_format.specs.Refusals.{Verdict, accept, refuse}
 
 -- accepted, or refused by a number and a file; and the values replied with
@@ -22,8 +20,3 @@ reply (refuse x) values = record { verdict = refuse x; values = [] }
 unfoldable pub readReply : ReadAnswer → Reply
 readReply (Read n m) = record { verdict = accept; values = n ∷ m ∷ [] }
 readReply (Refused x) = record { verdict = refuse x; values = [] }
-
--- the refusal that the reader's answer holds; where it holds none, number 0 of neither file
-abbrev pub refusalOf : ReadAnswer → Refusal
-refusalOf (Read n m) = record { number = 0; file = Neither }
-refusalOf (Refused x) = x

@@ -2,7 +2,6 @@
 ghost use mathlib.Core.Path.{_≡_};
 ghost use mathlib.Core.Bool.{_&&_};
 ghost use lib.Dec.{leb};
-ghost use Rattle.file_format.specs.Reply.{refusalOf};
 ghost use Rattle.file_format.specs.Role.{inRange};
 
 // Which file a refusal means.
@@ -30,17 +29,18 @@ pub enum ReadAnswer {
     Refused(Refusal),
 }
 
-// The refusal that an answer holds, for a caller that passes it up; number 0 of neither file where it holds none.
-pub fn refusal_of(answer: ReadAnswer) -> Refusal
-    ensures { λ r. ⌜ r ≡ refusalOf answer ⌝ }
-{
-    match answer {
-        ReadAnswer::Read(_, _) => Refusal {
-            number: 0,
-            file: File::Neither,
-        },
-        ReadAnswer::Refused(x) => x,
-    }
+// Whether a file is accepted, or why it was turned away.
+pub enum FileVerdict {
+    Accepted,
+    Refused(Refusal),
+}
+
+// A file that was read for a call: the verdict; and of an accepted file N and M, and of an accepted pattern the radius.
+pub struct FileRead {
+    pub verdict: FileVerdict,
+    pub nodes: usize,
+    pub links: usize,
+    pub radius: u16,
 }
 
 // From `least` to `most` nodes, and at most `links` links.

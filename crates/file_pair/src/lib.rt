@@ -1,31 +1,35 @@
 // A pattern file and a board file, read for a call on both.
-use file_format::Board;
-use file_format::File;
-use file_format::Pattern;
-use file_format::ReadAnswer;
-use file_format::Refusal;
+use file_format::FileVerdict;
 use file_format::Role;
+use file_read::load;
 ghost use mathlib.Core.Path.{_≡_};
-ghost use Prim.Native.Nat.{_≤_};
-ghost use lib.ListN.{length};
-ghost use Rattle.file_pair.specs.Pair.{refusalOf, PairRead};
+ghost use Rattle.graph.specs.Circuit.{circuit};
+ghost use Rattle.file_format.specs.Reading.{Room};
+ghost use Rattle.file_format.specs.declared.Role.the-variants as role;
+ghost use Rattle.file_pair.specs.Pair.{PairRead};
 
-// What reading the two comes to: their sizes, or why one was turned away.
-pub enum PairAnswer {
-    Read(Pattern, Board),
-    Refused(Refusal),
+// What reading the two comes to: both are accepted, or why one was turned away; and where both are accepted the pattern's N and M and its
+// radius, and the board's N and M.
+pub struct Pair {
+    pub verdict: FileVerdict,
+    pub parts: usize,
+    pub joins: usize,
+    pub radius: u16,
+    pub nodes: usize,
+    pub links: usize,
 }
 
-// The refusal that an answer holds, for a caller that passes it up; number 0 of neither file where it holds none.
-pub fn refusal_of(answer: PairAnswer) -> Refusal
-    ensures { λ r. ⌜ r ≡ refusalOf answer ⌝ }
+// A pair of which the pattern was turned away.
+fn turned_away(verdict: FileVerdict) -> Pair
+    ensures { λ r. ⌜ r .verdict ≡ verdict ⌝ }
 {
-    match answer {
-        PairAnswer::Read(_, _) => Refusal {
-            number: 0,
-            file: File::Neither,
-        },
-        PairAnswer::Refused(x) => x,
+    Pair {
+        verdict,
+        parts: 0,
+        joins: 0,
+        radius: 0,
+        nodes: 0,
+        links: 0,
     }
 }
 
@@ -39,24 +43,24 @@ pub fn read_pair(
     nk: &mut [u16],
     ns: &mut [u16],
     ne: &mut [u16],
-) -> PairAnswer
-    requires { ⌜ (32 ≤ length (now pk)) × (256 ≤ length (now ps)) × (256 ≤ length (now pe)) ⌝ }
-    requires { ⌜ (512 ≤ length (now nk)) × (4096 ≤ length (now ns)) × (4096 ≤ length (now ne)) ⌝ }
+) -> Pair
+    requires { ⌜ Room role.Pattern (circuit (now pk) (now ps) (now pe)) × Room role.Board (circuit (now nk) (now ns) (now ne)) ⌝ }
     ensures { λ r. ⌜ PairRead (now (pattern .entry)) (now (board .entry)) r
-        (record { kinds = now (pk .exit); starts = now (ps .exit); ends = now (pe .exit) }) (record { kinds = now (nk .exit); starts = now (ns .exit); ends = now (ne .exit) }) ⌝ }
+        (circuit (now (pk .exit)) (now (ps .exit)) (now (pe .exit))) (circuit (now (nk .exit)) (now (ns .exit)) (now (ne .exit))) ⌝ }
 {
-    let drawn = file_read::read(Role::Pattern, pattern, pk, ps, pe);
-    let ReadAnswer::Read(parts, joins) = drawn else {
-        return PairAnswer::Refused(file_format::refusal_of(drawn));
+    let drawn = load(Role::Pattern, pattern, pk, ps, pe);
+    let first = drawn.verdict;
+    let FileVerdict::Accepted = first else {
+        return turned_away(first);
     };
-    let given = file_read::read(Role::Board, board, nk, ns, ne);
-    let ReadAnswer::Read(n, m) = given else {
-        return PairAnswer::Refused(file_format::refusal_of(given));
-    };
-    let p = Pattern {
-        nodes: parts,
-        links: joins,
-    };
-    let b = Board { nodes: n, links: m };
-    PairAnswer::Read(p, b)
+    let given = load(Role::Board, board, nk, ns, ne);
+    let verdict = given.verdict;
+    Pair {
+        verdict,
+        parts: drawn.nodes,
+        joins: drawn.links,
+        radius: drawn.radius,
+        nodes: given.nodes,
+        links: given.links,
+    }
 }

@@ -54,7 +54,7 @@ module _ (kinds starts ends : List ℕ) where
   unfolding linksOf field fileBytes bytesOf
   links-written = omega arith
 
-  pub starts-stretch : fields (drop (startsAt (length kinds)) (fileBytes kinds starts ends)) (length starts) ≡ starts
+  starts-stretch : fields (drop (startsAt (length kinds)) (fileBytes kinds starts ends)) (length starts) ≡ starts
   unfolding fileBytes
   starts-stretch = fields-behind (length kinds ∷ length starts ∷ kinds) starts ends (startsAt (length kinds)) (length starts) (omega arith) refl
 
@@ -67,7 +67,7 @@ module _ (kinds starts ends : List ℕ) where
   starts-written = ap₂ (λ (n m : ℕ). fields (drop (startsAt n) (fileBytes kinds starts ends)) m) nodes-written links-written ∙ starts-stretch
 
   module _ (pairs : length starts ≡ length ends) where
-    pub ends-stretch : fields (drop (endsAt (length kinds) (length starts)) (fileBytes kinds starts ends)) (length starts) ≡ ends
+    ends-stretch : fields (drop (endsAt (length kinds) (length starts)) (fileBytes kinds starts ends)) (length starts) ≡ ends
     unfolding fileBytes
     ends-stretch =
         let front : List ℕ = length kinds ∷ length starts ∷ kinds in

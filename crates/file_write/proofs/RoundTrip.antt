@@ -17,7 +17,7 @@ use Rattle.file_format.specs.declared.Refusal.{Refusal}
 use Rattle.file_format.specs.declared.Role.{Role}
 use Rattle.file_format.specs.Layout.{kindsOf, startsOf, endsOf, lengthOf}
 use Rattle.file_format.specs.Reading.{ReadOutcome, reading, filled}
-use Rattle.file_format.specs.Refusals.{accept, refuse, first, linkConditions, fileConditions}
+use Rattle.file_format.specs.Refusals.{accept, refuse, first, fileConditions}
 use Rattle.file_format.specs.Reply.{readReply}
 use Rattle.file_format.specs.Role.{inRange}
 use Rattle.file_format.proofs.Fields.{length-kinds, length-starts, length-ends}
@@ -28,7 +28,7 @@ use Rattle.file_format.proofs.Rising.{rising-links}
 use Rattle.file_write.specs.declared.WriteAnswer.the-variants.{Written, Refused}
 use Rattle.file_write.specs.Bytes.{fileBytes}
 use Rattle.file_write.specs.Writing.{circuitConditions, WriteOutcome, writing, writeReply}
-use Rattle.file_write.proofs.FileFields.{nodes-written, links-written, kinds-written, starts-written, ends-written, starts-stretch, ends-stretch, length-written, file-below, file-again}
+use Rattle.file_write.proofs.FileFields.{nodes-written, links-written, kinds-written, starts-written, ends-written, length-written, file-below, file-again}
 use Rattle.file_write.proofs.Writing.{verdict-links, sound, writing-refused, writing-filled, writing-accepted}
 
 -- ---- one verdict
@@ -39,11 +39,11 @@ pub same-verdict : (r : Role) (kinds starts ends : List ℕ) → T (inRange r (l
     → first (circuitConditions r kinds starts ends) ≡ first (fileConditions r (fileBytes kinds starts ends))
 same-verdict r kinds starts ends t pairs =
     let long = length-written kinds starts ends pairs in
+    let size = file.size-0 r (fileBytes kinds starts ends) (length kinds) (length starts) (sym (nodes-written kinds starts ends)) (sym (links-written kinds starts ends)) (omega arith) (T-true t) long in
     verdict-links r kinds starts ends (T-true t) pairs
-    ∙ ap₂ (λ (s e : List ℕ). first (linkConditions r (length kinds) s e)) (sym (starts-stretch kinds starts ends)) (sym (ends-stretch kinds starts ends pairs))
-    ∙ sym
-    (file.verdict-links r (fileBytes kinds starts ends) (length kinds) (length starts) (sym (nodes-written kinds starts ends)) (sym (links-written kinds starts ends)) (omega arith) (T-true t)
-    long)
+    ∙ file.verdict-number r (length kinds) starts ends
+    ∙ ap (file.byNumber r) (rw (nodes-written kinds starts ends, starts-written kinds starts ends, ends-written kinds starts ends pairs))
+    ∙ sym (file.verdict-links r (fileBytes kinds starts ends) size)
 
 -- So the two calls refuse alike, whatever is lent: the writing call the circuit, the reading call its file.
 pub refused-alike : (r : Role) (kinds starts ends out ks ss es : List ℕ) → T (inRange r (length kinds) (length starts)) → length starts ≡ length ends

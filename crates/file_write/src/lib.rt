@@ -10,7 +10,6 @@ ghost use Rattle.file_write.specs.Writing.{writing, writeReply};
 
 mod bytes;
 mod check;
-mod links;
 
 use crate::bytes::store;
 use crate::bytes::store_field;

@@ -12,9 +12,9 @@ use Rattle.base_lists.proofs.Tests.{true-T}
 use Rattle.file_format.specs.declared.Role.{Role}
 use Rattle.file_format.specs.declared.Role.the-variants.{Pattern, Board}
 use Rattle.file_format.specs.Layout.{field, nodesOf, linksOf}
-use Rattle.file_format.specs.Refusals.{Condition, Verdict, accept, refuse, first, fileConditions}
+use Rattle.file_format.specs.Refusals.{Condition, Verdict, accept, refuse, first, fileConditions, sizeNumber}
 use Rattle.file_format.specs.Role.{inRange}
-use Rattle.file_format.proofs.Refusals.{first-accept, first-refuse, accepted, range-orders, verdict-2, verdict-3}
+use Rattle.file_format.proofs.Refusals.{first-accept, first-refuse, accepted, range-orders, turned, size-2, size-3, verdict-turned}
 use Rattle.report.specs.Report.{reportFor, reportOf}
 use Rattle.finder.specs.Cut.{most, cut}
 
@@ -23,6 +23,11 @@ module _ (r : Role) (file : List ℕ) where
   same-field : (at : ℕ) → at + 1 < most r → field file at ≡ field (cut r file) at
   unfolding field
   same-field at h = sym (ap₂ (λ (a b : ℕ). a + 256 * b) (getD-take (most r) file at 0 (omega arith)) (getD-take (most r) file (at + 1) 0 h))
+
+  -- two files that are refused for their size by the same number have one verdict
+  by-size : (k : ℕ) → (k ≡ 0 → ⊥) → sizeNumber r (cut r file) ≡ k → sizeNumber r file ≡ k → first (fileConditions r (cut r file)) ≡ first (fileConditions r file)
+  by-size k some a b =
+      verdict-turned r (cut r file) (λ e. some (sym a ∙ e)) ∙ ap (turned r) (a ∙ sym b) ∙ sym (verdict-turned r file (λ e. some (sym b ∙ e)))
 
   -- so a file that is cut is refused by it, or by a length that is too long for it
   long-verdict : most r < length file → first (fileConditions r (cut r file)) ≡ first (fileConditions r file)
@@ -39,11 +44,13 @@ module _ (r : Role) (file : List ℕ) where
       links = same-field 2 (omega arith)
 
       go : (b : Bool) → inRange r (nodesOf file) (linksOf file) ≡ b → first (fileConditions r (cut r file)) ≡ first (fileConditions r file)
-      go false e = verdict-2 r (cut r file) _ _ nodes links (omega (arith, size)) e ∙ sym (verdict-2 r file _ _ refl refl (omega arith) e)
+      go false e =
+          by-size 2 (λ q. omega arith) (size-2 r (cut r file) _ _ nodes links (omega (arith, size)) e) (size-2 r file _ _ refl refl (omega arith) e)
       go true e =
           let (_, fewNodes, fewLinks) = range-orders r (nodesOf file) (linksOf file) (true-T e) in
-          verdict-3 r (cut r file) _ _ nodes links (omega (arith, size)) e (λ q. omega (arith, size))
-          ∙ sym (verdict-3 r file _ _ refl refl (omega arith) e (λ q. omega arith))
+          by-size 3 (λ q. omega arith)
+          (size-3 r (cut r file) _ _ nodes links (omega (arith, size)) e (λ q. omega (arith, size)))
+          (size-3 r file _ _ refl refl (omega arith) e (λ q. omega arith))
 
   -- A file is refused as what is read of it is.
   pub cut-verdict : first (fileConditions r (cut r file)) ≡ first (fileConditions r file)

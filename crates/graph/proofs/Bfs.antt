@@ -2,11 +2,11 @@
 -- and else the length of a shortest walk. The nodes are any n numbers, and the links any relation that the adjacency function lists.
 -- Assumes nothing.
 use mathlib.Core.Bool.{Bool, true, false, _||_}
-use mathlib.Core.List.{List, [], _∷_}
-use mathlib.Core.Logic.{_⊎_, _↔_, inl, inr, ⊎-elim}
+use mathlib.Core.List.{List, []}
+use mathlib.Core.Logic.{_⊎_, inl, inr, ⊎-elim}
 use mathlib.Core.Path.{_≡_, refl, sym, ap, _∙_, subst}
-use Prim.Native.Nat.{ℕ, zero, suc, _+_, _≤_, _<_, zero-le, suc-le-suc}
-use native.Mathlib.Nat.{le-refl, zero-lt-suc, eq-or-lt-of-le, le-suc-iff, add-zero, add-suc, suc-add, zero-add}
+use Prim.Native.Nat.{ℕ, zero, suc, _+_, _≤_, _<_, zero-le}
+use native.Mathlib.Nat.{le-refl, eq-or-lt-of-le, le-suc-iff, add-zero, add-suc, suc-add, zero-add}
 use native.Mathlib.Omega.{arith}
 use borrow.Author.Tests.{eq-eqb, ne-eqb, eqb-true, eqb-false}
 use lib.Dec.{T, eqb}
@@ -14,14 +14,12 @@ use lib.ListN.{length, getD, drop, replicate, getD-replicate, length-replicate}
 use lib.Seq.{getD-set-same, getD-set-other}
 use Rattle.base_lists.proofs.Tests.{T-true, true-T}
 use Rattle.graph.specs.Graph.{Walk, stay, step}
-use Rattle.graph.specs.Neighbours.{stretch}
 use Rattle.graph.specs.Search.{far}
-use Rattle.base_lists.specs.List.{Occurs, Below}
-use Rattle.graph.specs.Bfs.{State, level, levels, start, bfs, adjacent, missing, Ready, Adjacency, Measured}
-use Rattle.graph.proofs.Below.{below-drop, below-append}
-use Rattle.graph.proofs.Lookup.{stretch-below}
-use Rattle.graph.proofs.BfsSteps.{missing-set, levels-end, ready-level, ready-start}
-use Rattle.graph.proofs.BfsScan.{lt-or-le, elem, elem-nil, elem-snoc, elem-occurs, occurs-append, occurs-elem, below-elem, targets, targets-from, to-targets, level-scan, after, after-cases, after-new, after-old, scan-dist, Frontier, frontier-none, frontier-empty, frontier-scan}
+use Rattle.base_lists.specs.List.{Below}
+use Rattle.graph.specs.Bfs.{State, level, levels, start, bfs, Ready, Adjacency, Measured}
+use Rattle.graph.proofs.Below.{below-drop}
+use Rattle.graph.proofs.BfsSteps.{levels-end, ready-level, ready-start}
+use Rattle.graph.proofs.BfsScan.{lt-or-le, elem, elem-nil, elem-snoc, elem-occurs, occurs-elem, below-elem, targets, targets-from, to-targets, level-scan, after, after-cases, after-new, after-old, scan-dist, Frontier, frontier-none, frontier-empty, frontier-scan}
 
 -- ---- walks
 
@@ -254,39 +252,3 @@ module _ (n c : ℕ) (adj : ℕ → List ℕ) (Link : ℕ → ℕ → Type 0) (s
   -- it leaves an entry for each node, and counts the nodes that it reaches
   pub bfs-ready : (r : ℕ) → Ready n (bfs adj n c r)
   bfs-ready r = search-done r .ready
-
--- ---- every node is reached
-
-missing-zero : (xs : List ℕ) → ((v : ℕ) → v < length xs → getD xs v 0 ≡ far → ⊥) → missing xs ≡ 0
-unfolding missing
-missing-zero [] f = refl
-missing-zero (x ∷ xs) f = rw (ne-eqb x far (f zero (zero-lt-suc _))) (missing-zero xs (λ v h. f (suc v) (suc-le-suc h)))
-
--- no entry is `far` exactly where none is missing
-pub none-missing : (xs : List ℕ) → missing xs ≡ 0 ↔ ((v : ℕ) → v < length xs → getD xs v 0 ≡ far → ⊥)
-none-missing xs = (λ e v h q. let m = missing-set xs v 0 h q (omega arith) in omega arith, missing-zero xs)
-
--- as many nodes are reached as there are exactly where every node is
-pub all-reached : (n : ℕ) (s : State) → Ready n s → length (s .reached) ≡ n ↔ ((v : ℕ) → v < n → getD (s .dist) v 0 ≡ far → ⊥)
-all-reached n s k = (
-  λ e v h. none-missing (s .dist) .0 (let c = k .counted in omega arith) v (rw (k .size) h),
-  λ f. let m = none-missing (s .dist) .1 (λ v h. f v (rw (k .size) at h)) in let c = k .counted in omega arith,
-)
-
--- ---- the adjacency of neighbour tables
-
--- where each stretch of the forward table lists what a node drives, and each of the backward table what drives it, the neighbours of a node
--- are those that a link joins it to
-pub adjacency-of : (n : ℕ) (fo ft bo bt : List ℕ) (Link : ℕ → ℕ → Type 0)
-    → Below n ft → Below n bt
-    → ((v w : ℕ) → v < n → Occurs (stretch fo ft v) w ↔ Link v w)
-    → ((v w : ℕ) → v < n → Occurs (stretch bo bt v) w ↔ Link w v)
-    → Adjacency n (adjacent fo ft bo bt) Link
-unfolding adjacent
-adjacency-of n fo ft bo bt Link b b′ f g = record {
-  inside = λ v h. below-append n (stretch fo ft v) (stretch bo bt v) (stretch-below fo ft v n b) (stretch-below bo bt v n b′);
-  joined = λ v w h. (
-    λ o. ⊎-elim (λ p. inl (f v w h .0 p)) (λ p. inr (g v w h .0 p)) (occurs-append w (stretch fo ft v) (stretch bo bt v) .0 o),
-    λ l. occurs-append w (stretch fo ft v) (stretch bo bt v) .1 (⊎-elim (λ p. inl (f v w h .1 p)) (λ p. inr (g v w h .1 p)) l),
-  );
-}

@@ -10,7 +10,7 @@ use borrow.Author.Tests.{eq-eqb, ne-eqb, eqb-true, eqb-false}
 use lib.Dec.{eqb}
 use lib.ListN.{length, getD, take, drop, set, length-append, replicate, length-set, length-replicate, getD-replicate, drop-of-length-le}
 use lib.Seq.{drop-cons, length-take-le, take-suc-set, take-append-le, take-take, getD-take}
-use Rattle.graph.specs.Neighbours.{stretch}
+use Rattle.graph.specs.Net.{driven, driving}
 use Rattle.graph.specs.Bfs.{State, visit, scan, level, levels, start, adjacent, missing, Ready, stateOf, Searching, Searched, Found}
 use Rattle.base_lists.specs.List.{Below}
 use Rattle.graph.specs.Search.{far}
@@ -73,11 +73,11 @@ unfolding scan
 scan-append d s [] ys = refl
 scan-append d s (x ∷ xs) ys = scan-append d (visit d s x) xs ys
 
--- the visits of a node's two stretches are those of its neighbours
-pub expanded : (d : ℕ) (s s₁ s₂ : State) (fo ft bo bt : List ℕ) (v : ℕ) (p₁ p₂ : List ℕ) → p₁ ≡ stretch fo ft v → p₂ ≡ stretch bo bt v
-    → s₁ ≡ scan d s p₁ → s₂ ≡ scan d s₁ p₂ → s₂ ≡ scan d s (adjacent fo ft bo bt v)
+-- the visits of what a node drives and of what drives it are those of its neighbours
+pub expanded : (d : ℕ) (s s₁ s₂ : State) (offsets links : List ℕ) (v : ℕ) (p₁ p₂ : List ℕ) → p₁ ≡ driven offsets links v → p₂ ≡ driving offsets links v
+    → s₁ ≡ scan d s p₁ → s₂ ≡ scan d s₁ p₂ → s₂ ≡ scan d s (adjacent offsets links v)
 unfolding adjacent
-expanded d s s₁ s₂ fo ft bo bt v p₁ p₂ e₁ e₂ f₁ f₂ = rw (f₂, f₁, e₁, e₂) (sym (scan-append d s (stretch fo ft v) (stretch bo bt v)))
+expanded d s s₁ s₂ offsets links v p₁ p₂ e₁ e₂ f₁ f₂ = rw (f₂, f₁, e₁, e₂) (sym (scan-append d s (driven offsets links v) (driving offsets links v)))
 
 -- ---- a level, and levels
 
@@ -211,6 +211,13 @@ module _ (dist queue : List ℕ) (tail : ℕ) (k : Searching dist queue tail) wh
       let r = reached-length in
       omega arith
 
+  -- and each is a node
+  pub queue-node : (i : ℕ) → i < tail → getD queue i 0 < length dist
+  unfolding stateOf Below
+  queue-node i h =
+      let r = reached-length in
+      rw (getD-take tail queue i 0 h) at (k .ready .inside i (omega arith))
+
   -- a node that is not reached yet leaves room in the queue
   pub queue-room : (v : ℕ) → v < length dist → getD dist v 0 ≡ far → tail < length queue
   unfolding stateOf
@@ -276,11 +283,11 @@ tables-extend hi dist queue tail dist′ queue′ tail′ s k k′ y h =
 pub same-entry : (hi : ℕ) (xs ys : List ℕ) (i : ℕ) → take hi xs ≡ take hi ys → i < hi → getD xs i 0 ≡ getD (take hi ys) i 0
 same-entry hi xs ys i e h = sym (getD-take hi xs i 0 h) ∙ ap (λ (l : List ℕ). getD l i 0) e
 
--- what the tables hold of a search when more entries follow
-pub found : (n k : ℕ) (dist₀ dist queue rest : List ℕ) (s : State) → Searched dist queue k s → Found n k dist₀ (dist ++ drop n dist₀) (queue ++ rest) s
+-- what the tables hold of a search
+pub found : (k : ℕ) (dist queue : List ℕ) (s : State) → Searched dist queue k s → Found k dist queue s
 unfolding stateOf
-found n k dist₀ dist queue rest s f = record {
-  distances = ap (λ (t : State). t .dist ++ drop n dist₀) (f .state);
+found k dist queue s f = record {
+  distances = ap (λ (t : State). t .dist) (f .state);
   count = sym (reached-length dist queue k (f .kept)) ∙ ap (λ (t : State). length (t .reached)) (f .state);
-  nodes = take-append-le k queue rest (f .kept .within) ∙ ap (λ (t : State). t .reached) (f .state);
+  nodes = ap (λ (t : State). t .reached) (f .state);
 }

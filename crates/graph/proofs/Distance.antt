@@ -106,10 +106,6 @@ module _ {n : ℕ} {ss es : List ℕ} (links : Within n ss es) where
   unfolding graphOf
   distance-inside c r v d h p l = walk-ball links c h (p .walk) r l
 
-  -- Where a walk of k links joins two nodes, they have a distance, at most k.
-  pub walk-distance : (c : ℕ) → c < n → {v k : ℕ} → Walk (HasLink ss es) c v k → (d : ℕ) × Distance (graphOf n ss es) c v d × (d ≤ k)
-  walk-distance c h {v} {k} p = let (q, l) = inside-distance c k v (walk-ball links c h p k (le-refl k)) in (misses n ss es c k v, q, l)
-
   -- A walk to a node outside the ball at radius r is longer than r.
   pub outside-walk : (c r v : ℕ) → v < n → (T (inside (ball n ss es c r) v) → ⊥) → (k : ℕ) → Walk (HasLink ss es) c v k → r < k
   outside-walk c r v h f k p = lt-of-not-le (λ l. f (walk-ball links c (walk-node links (reverse p) h) p r l))

@@ -8,6 +8,8 @@ pub mod Lookup
 pub mod BfsSteps
 pub mod BfsScan
 pub mod Bfs
+pub mod Net
 pub mod Measures
 pub mod RisingLinks
 pub mod Reached
+pub mod Sorted

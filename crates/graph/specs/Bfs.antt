@@ -7,9 +7,9 @@ use mathlib.Core.Path.{_≡_}
 use Prim.Native.Nat.{ℕ, zero, suc, _+_, _≤_, _<_}
 use lib.Dec.{eqb}
 use lib.ListN.{length, getD, take, drop, set, replicate}
-use Rattle.base_lists.specs.List.{Occurs, maximum, Below}
+use Rattle.base_lists.specs.List.{Occurs, Below}
 use Rattle.graph.specs.Graph.{Walk}
-use Rattle.graph.specs.Neighbours.{stretch}
+use Rattle.graph.specs.Net.{driven, driving}
 use Rattle.graph.specs.Search.{far}
 
 -- how far a search has come: the distance found for each node, `far` for one that is not reached yet, and the nodes reached, in order
@@ -47,13 +47,9 @@ start n c = record { dist = set (replicate n far) c 0; reached = c ∷ [] }
 unfoldable pub bfs : (ℕ → List ℕ) → ℕ → ℕ → ℕ → State
 bfs adj n c r = levels adj r 0 0 (start n c)
 
--- the eccentricity of c: the largest distance from it that a search among n nodes finds
-unfoldable pub eccentricity : (ℕ → List ℕ) → ℕ → ℕ → ℕ
-eccentricity adj n c = maximum (bfs adj n c n .dist)
-
 -- the neighbours of v, directions ignored: what it drives, then what drives it
-unfoldable pub adjacent : List ℕ → List ℕ → List ℕ → List ℕ → ℕ → List ℕ
-adjacent fo ft bo bt v = stretch fo ft v ++ stretch bo bt v
+unfoldable pub adjacent : List ℕ → List ℕ → ℕ → List ℕ
+adjacent offsets links v = driven offsets links v ++ driving offsets links v
 
 -- how many nodes are not reached
 unfoldable pub missing : List ℕ → ℕ
@@ -81,9 +77,9 @@ pub record Searched (dist queue : List ℕ) (tail : ℕ) (s : State) : Type 0 wh
   pub state : stateOf dist queue tail ≡ s
   pub kept : Searching dist queue tail
 
--- what a search leaves in longer tables: its distances first, and past the n nodes what was there; the k nodes reached first in the queue
-pub record Found (n k : ℕ) (dist₀ dist queue : List ℕ) (s : State) : Type 0 where
-  pub distances : dist ≡ s .dist ++ drop n dist₀
+-- what a search leaves in its tables: the distances, and the k nodes reached, first in the queue
+pub record Found (k : ℕ) (dist queue : List ℕ) (s : State) : Type 0 where
+  pub distances : dist ≡ s .dist
   pub count : k ≡ length (s .reached)
   pub nodes : take k queue ≡ s .reached
 

@@ -5,7 +5,7 @@ use mathlib.Core.Path.{_≡_}
 use Prim.Native.Nat.{ℕ, suc, _≤_, _<_}
 use lib.ListN.{length, getD}
 use Rattle.base_lists.specs.List.{part, Below}
-use Rattle.graph.specs.Neighbours.{select, stretch}
+use Rattle.graph.specs.Neighbours.{select, below, stretch}
 
 -- the two lists have that room
 pub record NetRoom (offsets links : List ℕ) : Type 0 where
@@ -40,10 +40,23 @@ pub record Stretches (n : ℕ) (offsets table : List ℕ) : Type 0 where
   pub within : (v : ℕ) → v < n → getD offsets (suc v) 0 ≤ length table
   pub nodes : (v : ℕ) → v < n → Below n (stretch offsets table v)
 
+-- The two lists hold neighbour tables of n nodes, whatever their links.
+pub record Net (n : ℕ) (offsets links : List ℕ) : Type 0 where
+  pub room : NetRoom offsets links
+  pub forward : Stretches n (forwardOffsets offsets) (forwardLinks links)
+  pub backward : Stretches n (backwardOffsets offsets) (backwardLinks links)
+
+-- v is one of those nodes: its two stretches can be read without a test.
+pub record NodeOf (offsets links : List ℕ) (v : ℕ) : Type 0 where
+  pub nodes : ℕ
+  pub net : Net nodes offsets links
+  pub node : v < nodes
+
 -- The two lists hold the neighbour tables of a graph of n nodes whose links go from `starts` to `ends`.
 pub record NetOf (n : ℕ) (starts ends offsets links : List ℕ) : Type 0 where
   pub room : NetRoom offsets links
   pub forward : Stretches n (forwardOffsets offsets) (forwardLinks links)
   pub backward : Stretches n (backwardOffsets offsets) (backwardLinks links)
+  pub begins : (v : ℕ) → v ≤ n → getD (forwardOffsets offsets) v 0 ≡ below starts v
   pub drives : (v : ℕ) → v < n → driven offsets links v ≡ select starts ends v
   pub drivenBy : (v : ℕ) → v < n → driving offsets links v ≡ select ends starts v

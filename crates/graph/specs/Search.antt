@@ -1,14 +1,26 @@
 -- Distance, ball, radius and connectedness computed by rounds: what the contracts cite. proofs/ ties them to the definitions of Graph.
-use mathlib.Core.Bool.{Bool, false, _&&_, _||_, cond}
+use mathlib.Core.Bool.{Bool, false, not, _&&_, _||_, cond}
 use mathlib.Core.List.{List, [], _∷_}
 use Prim.Native.Nat.{ℕ, zero, suc, _+_}
 use lib.Dec.{eqb}
-use lib.ListN.{getD}
+use lib.ListN.{length, getD}
 use Rattle.base_lists.specs.List.{all, tabulate, maximum}
 
 -- the entry of a node that no walk within the radius reaches
 abbrev pub far : ℕ
 far = 65535
+
+-- an entry is a distance: a walk reaches its node
+abbrev pub reached : ℕ → Bool
+reached entry = not (eqb entry far)
+
+-- a node's byte from its entry, "1 inside, else 0"
+unfoldable pub mark : ℕ → ℕ
+mark entry = cond (reached entry) 1 0
+
+-- the bytes of all nodes
+unfoldable pub marks : List ℕ → List ℕ
+marks dist = tabulate (length dist) (λ v. mark (getD dist v 0))
 
 -- some link joins v, directions ignored, to a node that passes the test
 unfoldable pub beside : List ℕ → List ℕ → (ℕ → Bool) → ℕ → Bool

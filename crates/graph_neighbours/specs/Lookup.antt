@@ -2,6 +2,7 @@
 use mathlib.Core.List.{List}
 use Prim.Native.Nat.{ℕ}
 use Rattle.graph.specs.Neighbours.{stretch}
+use Rattle.graph.specs.Net.{driven, driving}
 use Rattle.graph_neighbours.specs.declared.neighbours.Direction.{Direction}
 use Rattle.graph_neighbours.specs.declared.neighbours.Direction.the-variants.{Forward, Backward}
 
@@ -9,3 +10,8 @@ use Rattle.graph_neighbours.specs.declared.neighbours.Direction.the-vari
 abbrev pub neighboursOf : Direction → List ℕ → List ℕ → List ℕ → List ℕ → ℕ → List ℕ
 neighboursOf Forward fo ft bo bt v = stretch fo ft v
 neighboursOf Backward fo ft bo bt v = stretch bo bt v
+
+-- the same of tables that are handed on as two lists
+unfoldable pub neighboursIn : Direction → List ℕ → List ℕ → ℕ → List ℕ
+neighboursIn Forward offsets links v = driven offsets links v
+neighboursIn Backward offsets links v = driving offsets links v

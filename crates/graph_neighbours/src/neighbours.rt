@@ -1,7 +1,14 @@
 // Looking a node's neighbours up in the forward or the backward link table.
 ghost use mathlib.Core.Path.{_≡_};
+ghost use Prim.Native.Nat.{suc, _≤_, _<_};
+ghost use lib.ListN.{length, getD};
 ghost use Rattle.graph.specs.Neighbours.{stretch};
-ghost use Rattle.graph_neighbours.specs.Lookup.{neighboursOf};
+ghost use Rattle.graph.specs.Net.{NodeOf};
+ghost use Rattle.graph_neighbours.specs.Lookup.{neighboursOf, neighboursIn};
+use crate::tables::FORWARD_LINKS;
+use crate::tables::FORWARD_OFFSETS;
+use crate::tables::LINKS;
+use crate::tables::OFFSETS;
 
 // Which neighbours of a node are meant: what it drives, or what drives it.
 pub enum Direction {
@@ -46,5 +53,40 @@ pub fn neighbours<'a>(
     match direction {
         Direction::Forward => stretch(forward_offsets, forward, v),
         Direction::Backward => stretch(backward_offsets, backward, v),
+    }
+}
+
+// The stretch of one link table that belongs to node v, where its two offsets are known to be sound.
+fn sound_stretch<'a>(offsets: &[u16], table: &'a [u16], v: usize) -> &'a [u16]
+    requires { ⌜ (suc v < length (now offsets)) × (getD (now offsets) v 0 ≤ getD (now offsets) (suc v) 0) × (getD (now offsets) (suc v) 0 ≤ length (now table)) ⌝ }
+    ensures { λ r. ⌜ now r ≡ stretch (now (offsets .entry)) (now (table .entry)) v ⌝ }
+{
+    let end = v + 1;
+    let from = offsets[v] as usize;
+    let to = offsets[end] as usize;
+    &table[from..to]
+}
+
+// The neighbours of node v in the direction asked for, from tables that are handed on as two lists. No test is made: v is a node.
+pub fn neighbours_in<'a>(
+    direction: Direction,
+    offsets: &[u16],
+    links: &'a [u16],
+    v: usize,
+) -> &'a [u16]
+    requires { ⌜ NodeOf (now offsets) (now links) v ⌝ }
+    ensures { λ r. ⌜ now r ≡ neighboursIn direction (now (offsets .entry)) (now (links .entry)) v ⌝ }
+{
+    match direction {
+        Direction::Forward => sound_stretch(
+            &offsets[0..FORWARD_OFFSETS],
+            &links[0..FORWARD_LINKS],
+            v,
+        ),
+        Direction::Backward => sound_stretch(
+            &offsets[FORWARD_OFFSETS..OFFSETS],
+            &links[FORWARD_LINKS..LINKS],
+            v,
+        ),
     }
 }

@@ -1,32 +1,48 @@
-// The neighbour tables of a circuit.
+// The neighbour tables of a circuit, as they are handed on: one list has the offsets of the forward table and then those of the backward
+// one, another the two link tables.
 ghost use mathlib.Core.Path.{_≡_};
-ghost use mathlib.Core.List.{_++_};
-ghost use Prim.Native.Nat.{suc, _≤_, _<_};
+ghost use Prim.Native.Nat.{_≤_};
 ghost use lib.Dec.{T, ltb};
-ghost use lib.ListN.{length, drop};
+ghost use lib.ListN.{length};
 ghost use Rattle.base_lists.specs.List.{all};
-ghost use Rattle.graph.specs.Neighbours.{offsetsOf, grouped};
+ghost use Rattle.graph.specs.Net.{NetRoom, NetOf};
 use crate::group::group;
 
-// The forward and the backward table of n nodes whose links go from `starts` to `ends`; `ft` and `bt` are just long enough.
+// The entries of the two lists, and how many of them are the forward table's: room for 512 nodes and for 4,096 links each way.
+pub const OFFSETS: usize = 1026;
+
+pub const LINKS: usize = 8192;
+
+pub const FORWARD_OFFSETS: usize = 513;
+
+pub const FORWARD_LINKS: usize = 4096;
+
+// Fills the tables of n nodes whose links go from `starts` to `ends`.
 pub fn neighbour_tables(
     n: usize,
     starts: &[u16],
     ends: &[u16],
-    fo: &mut [u16],
-    ft: &mut [u16],
-    bo: &mut [u16],
-    bt: &mut [u16],
+    offsets: &mut [u16],
+    links: &mut [u16],
 )
-    requires { ⌜ (length (now starts) ≡ length (now ends)) × (length (now starts) ≤ 65535) ⌝ }
+    requires { ⌜ NetRoom (now offsets) (now links) ⌝ }
+    requires { ⌜ n ≤ 512 ⌝ }
+    requires { ⌜ (length (now starts) ≡ length (now ends)) × (length (now starts) ≤ 4096) ⌝ }
     requires { ⌜ T (all (λ v. ltb v n) (now starts)) × T (all (λ v. ltb v n) (now ends)) ⌝ }
-    requires { ⌜ (n < length (now fo)) × (n < length (now bo)) ⌝ }
-    requires { ⌜ (length (now ft) ≡ length (now starts)) × (length (now bt) ≡ length (now starts)) ⌝ }
-    ensures { λ r. ⌜ now (fo .exit) ≡ offsetsOf n (now (starts .entry)) ++ drop (suc n) (now (fo .entry)) ⌝ }
-    ensures { λ r. ⌜ now (ft .exit) ≡ grouped n (now (starts .entry)) (now (ends .entry)) ⌝ }
-    ensures { λ r. ⌜ now (bo .exit) ≡ offsetsOf n (now (ends .entry)) ++ drop (suc n) (now (bo .entry)) ⌝ }
-    ensures { λ r. ⌜ now (bt .exit) ≡ grouped n (now (ends .entry)) (now (starts .entry)) ⌝ }
+    ensures { λ _. ⌜ NetOf n (now (starts .entry)) (now (ends .entry)) (now (offsets .exit)) (now (links .exit)) ⌝ }
 {
-    group(n, starts, ends, fo, ft);
-    group(n, ends, starts, bo, bt);
+    group(
+        n,
+        starts,
+        ends,
+        &mut offsets[..FORWARD_OFFSETS],
+        &mut links[..FORWARD_LINKS],
+    );
+    group(
+        n,
+        ends,
+        starts,
+        &mut offsets[513..1026],
+        &mut links[4096..8192],
+    );
 }

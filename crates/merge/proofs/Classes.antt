@@ -2,7 +2,7 @@
 -- Assumes nothing.
 use mathlib.Core.Bool.{Bool}
 use mathlib.Core.Logic.{_↔_}
-use mathlib.Core.Path.{_≡_, refl, sym, ap, subst, _∙_}
+use mathlib.Core.Path.{_≡_, sym, ap, subst, _∙_}
 use Prim.Native.Nat.{ℕ, _≤_, _<_, zero-le}
 use native.Mathlib.Nat.{lt-of-le-of-lt}
 use borrow.Author.Tests.{eq-eqb}
@@ -19,8 +19,8 @@ use Rattle.simulation.specs.Simulation.{Largest}
 use Rattle.simulation.specs.Quotient.{Mutual, SharesClass, AgreeLaws, LinksJoin}
 use Rattle.simulation.proofs.Quotient.{mutual-equivalence}
 use Rattle.table.specs.Host.{everything, EqualKinds}
-use Rattle.table.specs.Row.{inTable}
-use Rattle.table.proofs.Answers.{InTable}
+use Rattle.table.specs.Row.{inTable, InTable}
+use Rattle.table.proofs.Agreement.{kinds-reflexive, kinds-compose}
 use Rattle.table.proofs.Host.{within-joins, board-largest}
 use Rattle.table.proofs.Meaning.{last-fits}
 use Rattle.table.proofs.Sets.{Fits}
@@ -44,8 +44,8 @@ leads p = isLeader (length (p .kinds)) (selfTable p)
 
 -- equal kinds, of parts with parts and of parts with nodes, have what merging needs
 pub kinds-laws : (p board : Circuit) → AgreeLaws (circuitGraph p) (EqualKinds p p) (EqualKinds p board)
-unfolding EqualKinds
-kinds-laws p board = record { reflexive = λ u n. refl; transitive = λ u x y e d. e ∙ d; compose = λ u x v e d. e ∙ d }
+kinds-laws p board =
+    record { reflexive = λ u n. kinds-reflexive p u; transitive = kinds-compose p p p; compose = kinds-compose p p board }
 
 module _ (p : Circuit) where
   -- the table on itself has a set of parts for each part

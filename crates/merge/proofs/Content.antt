@@ -15,8 +15,8 @@ use Rattle.graph.proofs.Distance.{connected-iff, radius-is}
 use Rattle.file_format.specs.declared.Role.the-variants.{Pattern, Board}
 use Rattle.file_format.specs.Links.{linksBelow, rising}
 use Rattle.file_format.specs.Role.{inRange}
-use Rattle.file_format.specs.Refusals.{asksConnected}
-use Rattle.file_format.proofs.Refusals.{Accepted, range-pattern}
+use Rattle.file_format.specs.Refusals.{asksConnected, Accepted}
+use Rattle.file_format.proofs.Refusals.{range-pattern}
 use Rattle.place.specs.Match.{radiusOf}
 use Rattle.place.proofs.Ball.{Admissible}
 use Rattle.file_format.specs.Circuit.{circuitOf, Bounded}

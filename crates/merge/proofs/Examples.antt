@@ -1,13 +1,10 @@
 -- Document 01's examples of merging, by computation. Assumes nothing.
 use mathlib.Core.List.{[], _∷_}
 use mathlib.Core.Path.{_≡_, refl, ap, _∙_}
-use Rattle.base_lists.specs.List.{all, any, allBelow, anyBelow, tabulate, sum}
-use Rattle.base_lists.specs.Below.{countBelow, leastBelow, collect}
-use Rattle.base_bits.specs.Bits.{bit, numberOf, sizeOf}
-use Rattle.graph.specs.Neighbours.{select}
-use Rattle.graph.specs.Search.{inside, beside, ball, connected}
-use Rattle.table.specs.Host.{everything}
-use Rattle.table.specs.Row.{inTable, agrees, startTable, answered, supported, strike, row, pairs, started, lastTable}
+use Rattle.base_lists.specs.List.{all, allBelow, anyBelow}
+use Rattle.base_lists.specs.Below.{leastBelow, collect}
+use Rattle.graph.specs.Search.{beside, ball, connected}
+use Rattle.table.specs.Examples.{rowComputed}
 use Rattle.file_format.specs.Links.{linksBelow, earlier, rising}
 use Rattle.place.specs.Match.{radiusOf}
 use Rattle.place.specs.Examples.{circuitY, oneLink}
@@ -18,7 +15,7 @@ use Rattle.merge.proofs.Content.{PatternContent}
 
 -- all that is opened where a merged pattern is computed
 opened : Unit {0}
-unfolding all any anyBelow tabulate sum countBelow leastBelow collect bit numberOf sizeOf select inside everything inTable agrees startTable answered supported strike row pairs started lastTable equivalent leader isLeader classIn selfTable classOf classCount classes joins linked linkedPair merged
+unfolding rowComputed anyBelow leastBelow collect equivalent leader isLeader classIn selfTable classOf classCount classes joins linked linkedPair merged
 opened = tt
 
 -- ---- "E6 Y: 0:10, 1:20, 2:20, links 0-1, 0-2: classes 0, 1, 1; the merged radius is 1, Y's is 2."

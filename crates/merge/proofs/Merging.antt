@@ -15,6 +15,7 @@ use Rattle.graph.specs.Circuit.{Circuit, LinkAt, HasLink, graphOf, circuitGraph
 use Rattle.simulation.specs.Perfect.{SameGraph}
 use Rattle.simulation.specs.Quotient.{QuotientGraph, QuotientAgree, Merging}
 use Rattle.table.specs.Host.{EqualKinds}
+use Rattle.table.proofs.Agreement.{kinds-mutual, kinds-part}
 use Rattle.merge.specs.Merged.{classIn, classOf, classCount, joins, linked, linkedPair, merged}
 use Rattle.merge.proofs.Content.{PatternContent}
 use Rattle.merge.proofs.Classes.{SelfPairs, Equivalent, leaderOf, leads, kinds-laws, content-joins, self-largest, equivalent-iff, leader-lt, leader-member, leader-leads, shares-class, class-lt, leaders-at, classCount-pos}
@@ -136,19 +137,27 @@ module _ {p : Circuit} (c : PatternContent p) where
   -- ---- kinds
 
   -- parts of one class have equal kinds
-  pub class-kinds : (u v : ℕ) → Equivalent p u v → EqualKinds p p u v
-  class-kinds u v t = self-largest c .holds .kinds u v (equivalent-iff c u v .0 t .0)
+  pub class-kinds : (u v : ℕ) → Equivalent p u v → getD (p .kinds) u 0 ≡ getD (p .kinds) v 0
+  class-kinds u v t =
+      let (there, back) = equivalent-iff c u v .0 t in
+      kinds-mutual p u v (self-largest c .holds .kinds u v there) (self-largest c .holds .kinds v u back)
 
   -- ".. of the same kind": the kind of a class is that of each of its members
   pub merged-kind : (u : ℕ) → u < length (p .kinds) → getD (merged p .kinds) (classOf p u) 0 ≡ getD (p .kinds) u 0
-  unfolding merged classOf classIn EqualKinds
+  unfolding merged classOf classIn
   merged-kind u h =
       collect-rank _ (leads p) (λ u. getD (p .kinds) u 0) (leaderOf p u) 0 (leader-lt c u h) (leader-leads c u h)
       ∙ sym (class-kinds u (leaderOf p u) (leader-member c u h))
 
   pub merged-agree : (board : Circuit) → QuotientAgree (circuitGraph p) (classOf p) (EqualKinds p board) (EqualKinds (merged p) board)
-  unfolding EqualKinds circuitGraph graphOf
-  merged-agree board = record { agree = λ u v h. (λ e. merged-kind u h ∙ e, λ e. sym (merged-kind u h) ∙ e) }
+  unfolding circuitGraph graphOf
+  merged-agree board =
+      record {
+        agree = λ u v h. (
+          kinds-part p (merged p) board u (classOf p u) v (sym (merged-kind u h)),
+          kinds-part (merged p) p board (classOf p u) u v (merged-kind u h),
+        );
+      }
 
   -- all that merging rests on, for equal kinds
   pub merging : (board : Circuit) → Merging (circuitGraph p) (EqualKinds p p) (EqualKinds p board) (SelfPairs p) (classOf p) (EqualKinds (merged p) board)

@@ -7,10 +7,10 @@ use Rattle.graph.proofs.Distance.{radius-is}
 use Rattle.file_format.specs.declared.Role.the-variants.{Pattern, Board}
 use Rattle.file_format.specs.Circuit.{circuitOf}
 use Rattle.file_format.specs.Layout.{nodesOf, linksOf}
-use Rattle.file_format.specs.Refusals.{asksConnected}
+use Rattle.file_format.specs.Refusals.{asksConnected, Accepted}
 use Rattle.file_format.proofs.Fields.{length-kinds}
 use Rattle.file_format.proofs.Accepted.{accepted-bounded, accepted-below, accepted-within, accepted-connected}
-use Rattle.file_format.proofs.Refusals.{Accepted, range-orders}
+use Rattle.file_format.proofs.Refusals.{range-orders}
 use Rattle.place.specs.Match.{radiusOf}
 use Rattle.place.proofs.Ball.{Admissible}
 

@@ -19,8 +19,7 @@ use Rattle.simulation.specs.Simulation.{Largest}
 use Rattle.simulation.specs.Perfect.{SameGraph}
 use Rattle.simulation.proofs.Same.{same-refl, largest-same}
 use Rattle.table.specs.Host.{Taken, hostGraph, EqualKinds}
-use Rattle.table.specs.Row.{inTable}
-use Rattle.table.proofs.Answers.{InTable}
+use Rattle.table.specs.Row.{inTable, InTable}
 use Rattle.table.proofs.Sets.{fits-word}
 use Rattle.table.proofs.Row.{Table}
 use Rattle.table.proofs.Meaning.{last-fits, last-largest}

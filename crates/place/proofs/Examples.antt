@@ -3,20 +3,18 @@ use mathlib.Core.List.{List, [], _∷_}
 use mathlib.Core.Path.{_≡_, refl}
 use Prim.Native.Nat.{ℕ}
 use lib.Dec.{T}
-use Rattle.base_lists.specs.List.{all, any, anyBelow, tabulate, sum, maximum}
-use Rattle.base_lists.specs.Below.{countBelow, keepFrom}
-use Rattle.base_bits.specs.Bits.{bit, numberOf, sizeOf}
+use Rattle.base_lists.specs.List.{anyBelow, maximum}
+use Rattle.base_lists.specs.Below.{keepFrom}
 use Rattle.graph.specs.Circuit.{Circuit}
-use Rattle.graph.specs.Neighbours.{select}
-use Rattle.graph.specs.Search.{beside, inside, ball, misses, distances, radius}
-use Rattle.table.specs.Row.{inTable, agrees, startTable, answered, supported, strike, row, pairs, same, started, lastTable, kept, rounds}
-use Rattle.table.specs.Examples.{circuitT, circuitB, twoWay, ring}
+use Rattle.graph.specs.Search.{beside, ball, misses, distances, radius}
+use Rattle.table.specs.Row.{started, kept, rounds}
+use Rattle.table.specs.Examples.{rowComputed, circuitT, circuitB, twoWay, ring}
 use Rattle.place.specs.Match.{radiusOf, ballOf, ballTable, found, matches, linkMatches, matchStarts, matchEnds, component, placeNodes, placeLinks}
 use Rattle.place.specs.Examples.{circuitY, oneLink}
 
 -- all that is opened where a place is computed
 opened : Unit {0}
-unfolding all any anyBelow tabulate sum maximum countBelow bit numberOf sizeOf select beside inside ball misses distances radius inTable agrees startTable answered supported strike row pairs same started lastTable kept rounds radiusOf ballOf ballTable found matches keepFrom linkMatches matchStarts matchEnds component placeNodes placeLinks
+unfolding rowComputed anyBelow maximum beside ball misses distances radius radiusOf ballOf ballTable found matches keepFrom linkMatches matchStarts matchEnds component placeNodes placeLinks
 opened = tt
 
 -- there is a place around w at radius r, with these bytes for its nodes and its links

@@ -7,5 +7,7 @@ pub mod Accepted
 pub mod Spread
 pub mod Matched
 pub mod Bytes
+pub mod Listed
 pub mod Outcome
+pub mod Find
 pub mod Examples

@@ -13,8 +13,7 @@ use Rattle.graph.specs.Circuit.{Circuit, LinkAt, HasLink, graphOf, circuitGraph
 use Rattle.graph.specs.Graph.{Ball}
 use Rattle.graph.proofs.Ball.{Within, link-later, link-earlier, link-first}
 use Rattle.simulation.specs.Perfect.{MatchGraph}
-use Rattle.table.specs.Row.{inTable}
-use Rattle.table.proofs.Answers.{InTable}
+use Rattle.table.specs.Row.{inTable, InTable}
 use Rattle.place.specs.Match.{matches, linkMatches, matchStarts, matchEnds, ballTable}
 use Rattle.base_lists.specs.Below.{keepFrom}
 use Rattle.place.proofs.Ball.{Admissible, ballGraph, BallPairs, ball-largest}

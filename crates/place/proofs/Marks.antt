@@ -15,8 +15,7 @@ use Rattle.base_bits.proofs.Digits.{bit-of-zero}
 use Rattle.graph.specs.Circuit.{Circuit}
 use Rattle.graph.specs.Search.{inside}
 use Rattle.graph.proofs.Ball.{length-ball, ball-bits, inside-bits, bits-le, inside-below}
-use Rattle.table.specs.Row.{inTable}
-use Rattle.table.proofs.Answers.{InTable}
+use Rattle.table.specs.Row.{inTable, InTable}
 use Rattle.place.specs.Match.{ballTable, linkMatches, component, placeNodes, placeLinks, placeTable}
 use Rattle.place.proofs.Ball.{BallPairs}
 

@@ -16,17 +16,17 @@ use Rattle.base_lists.proofs.Tables.{tabulate-same}
 use Rattle.base_bits.specs.Bits.{intersects, unionOver}
 use Rattle.graph.specs.Bfs.{bfs, adjacent, Adjacency, Found}
 use Rattle.graph.specs.Circuit.{Circuit, HasLink}
-use Rattle.graph.specs.Neighbours.{stretch}
+use Rattle.graph.specs.Net.{driven, driving}
 use Rattle.graph.specs.Search.{far, ball, inside, distances}
 use Rattle.graph.proofs.Ball.{Within}
-use Rattle.graph.proofs.Bfs.{adjacency-of, bfs-ready}
+use Rattle.graph.proofs.Bfs.{bfs-ready}
 use Rattle.graph.proofs.BfsScan.{occurs-append}
 use Rattle.graph.proofs.Distance.{ball-distances}
-use Rattle.graph.proofs.Groups.{select-mem, select-mem-back}
 use Rattle.graph.proofs.Measures.{search-distances}
+use Rattle.graph.proofs.Net.{net-of, net-few, driven-link, driving-link, net-adjacency}
 use Rattle.graph.proofs.Reached.{bfs-listed}
 use Rattle.table.specs.Fill.{listed, marksOf, Distinct, NodeList}
-use Rattle.table.specs.Prepared.{Tables, masksOf, Prepared}
+use Rattle.table.specs.Prepared.{succOf, predOf, Tables, masksOf, Prepared}
 use Rattle.place.specs.Match.{ballOf, matches, matchStarts, matchEnds, component}
 use Rattle.place.specs.Spread.{meeting, matched, Spread}
 use Rattle.place.proofs.Links.{match-kept, match-within}
@@ -34,34 +34,28 @@ use Rattle.place.proofs.Masks.{MaskTable, mask-table, matches-forward, 
 use Rattle.place.proofs.Spread.{meeting-occurs, matched-below, spread-ball}
 
 -- the masks that the table layer prepares are such tables
-masks-hold : (n : ℕ) (keys values masks : List ℕ) → masks ≡ masksOf n keys values → Below n keys → MaskTable keys values masks
+masks-hold : (n : ℕ) (keys values masks : List ℕ) → n ≤ 32 → masks ≡ masksOf 32 keys values → Below n keys → MaskTable keys values masks
 unfolding Below HasLink
-masks-hold n keys values masks e below =
-    subst (MaskTable keys values) (sym e) (mask-table n keys values (λ u x (i, l). subst (λ y. y < n) (l .start) (below i (l .inStarts))))
+masks-hold n keys values masks few e below =
+    subst (MaskTable keys values) (sym e) (mask-table 32 keys values (λ u x (i, l). let h = subst (λ y. y < n) (l .start) (below i (l .inStarts)) in omega arith))
 
 module _ {pattern board : Circuit} {t : Tables} (p : Prepared pattern board t) (links : Within (length (board .kinds)) (board .starts) (board .ends)) where
   abbrev n : ℕ
   n = length (board .kinds)
 
-  forward-link : (v w : ℕ) → v < n → Occurs (stretch (t .forwardOffsets) (t .forward) v) w ↔ HasLink (board .starts) (board .ends) v w
-  forward-link v w h = rw (p .drives v h) (select-mem (board .starts) (board .ends) v w)
-
-  backward-link : (v w : ℕ) → v < n → Occurs (stretch (t .backwardOffsets) (t .backward) v) w ↔ HasLink (board .starts) (board .ends) w v
-  backward-link v w h = rw (p .driven v h) (select-mem-back (board .starts) (board .ends) v w)
+  few : n < far
+  few = omega (arith, net-few (net-of (p .net)))
 
   -- ---- the ball
 
   -- the neighbours of a node over the tables as they stand
   abbrev around : ℕ → List ℕ
-  around = adjacent (t .forwardOffsets) (t .forward) (t .backwardOffsets) (t .backward)
+  around = adjacent (t .offsets) (t .links)
 
   board-adjacency : Adjacency n around (HasLink (board .starts) (board .ends))
-  unfolding Below
-  board-adjacency =
-      adjacency-of n (t .forwardOffsets) (t .forward) (t .backwardOffsets) (t .backward) (HasLink (board .starts) (board .ends))
-      (p .forward .nodes) (p .backward .nodes) forward-link backward-link
+  board-adjacency = net-adjacency (p .net)
 
-  module _ (c r : ℕ) (h : c < n) (few : n < far) where
+  module _ (c r : ℕ) (h : c < n) where
     -- the nodes that the first search lists
     abbrev ballList : List ℕ
     ballList = bfs around n c r .reached
@@ -71,7 +65,7 @@ module _ {pattern board : Circuit} {t : Tables} (p : Prepared pattern board t) (
     ball-list =
         let k = bfs-ready n c around (HasLink (board .starts) (board .ends)) few h board-adjacency r in
         let l = bfs-listed n around c r h few (board-adjacency .inside) in
-        record { below = k .inside; distinct = l .distinct; short = omega (arith, k .counted) }
+        record { below = k .inside; distinct = l .distinct; short = omega (arith, k .counted, few) }
 
     -- a node is listed exactly where its entry is not `far`
     listed-test : (v : ℕ) → v < n → any (λ w. eqb w v) ballList ≡ not (eqb (getD (bfs around n c r .dist) v 0) far)
@@ -98,7 +92,7 @@ module _ {pattern board : Circuit} {t : Tables} (p : Prepared pattern board t) (
         turned false = refl
 
     -- so the first nodes of the queue are, when the search is done
-    module _ (k : ℕ) (dist₀ dist queue : List ℕ) (f : Found n k dist₀ dist queue (bfs around n c r)) where
+    module _ (k : ℕ) (dist queue : List ℕ) (f : Found k dist queue (bfs around n c r)) where
       pub found-short : k ≤ n
       found-short = let e = bfs-ready n c around (HasLink (board .starts) (board .ends)) few h board-adjacency r .counted in omega (arith, f .count)
 
@@ -112,31 +106,31 @@ module _ {pattern board : Circuit} {t : Tables} (p : Prepared pattern board t) (
 
   module _ (parallel : length (pattern .starts) ≡ length (pattern .ends)) (sets : List ℕ) (small : (v : ℕ) → getD sets v 0 < 2 ^ 32) where
     -- a node is looked at along a link exactly where the link matches
-    pub forward-test : (v w : ℕ) → intersects (unionOver (t .succ) (getD sets v 0)) (getD sets w 0) ≡ matches pattern sets v w
+    pub forward-test : (v w : ℕ) → intersects (unionOver (succOf (t .masks)) (getD sets v 0)) (getD sets w 0) ≡ matches pattern sets v w
     forward-test v w =
-        sym (matches-forward pattern parallel sets small (masks-hold _ (pattern .starts) (pattern .ends) (t .succ) (p .succ) (p .starts)) v w)
+        sym (matches-forward pattern parallel sets small (masks-hold _ (pattern .starts) (pattern .ends) (succOf (t .masks)) (p .parts) (p .masked .succ) (p .starts)) v w)
 
-    backward-test : (v w : ℕ) → intersects (unionOver (t .pred) (getD sets v 0)) (getD sets w 0) ≡ matches pattern sets w v
+    backward-test : (v w : ℕ) → intersects (unionOver (predOf (t .masks)) (getD sets v 0)) (getD sets w 0) ≡ matches pattern sets w v
     backward-test v w =
-        sym (matches-backward pattern parallel sets small (masks-hold _ (pattern .ends) (pattern .starts) (t .pred) (p .pred) (p .ends)) w v)
+        sym (matches-backward pattern parallel sets small (masks-hold _ (pattern .ends) (pattern .starts) (predOf (t .masks)) (p .parts) (p .masked .pred) (p .ends)) w v)
 
     abbrev Linked : ℕ → ℕ → Type 0
     Linked = HasLink (matchStarts pattern board sets) (matchEnds pattern board sets)
 
-    forward-matched : (v w : ℕ) → v < n → Occurs (meeting (unionOver (t .succ) (getD sets v 0)) sets (stretch (t .forwardOffsets) (t .forward) v)) w ↔ Linked v w
+    forward-matched : (v w : ℕ) → v < n → Occurs (meeting (unionOver (succOf (t .masks)) (getD sets v 0)) sets (driven (t .offsets) (t .links) v)) w ↔ Linked v w
     forward-matched v w h =
         let kept = match-kept pattern board sets v w in
-        let looked = meeting-occurs (unionOver (t .succ) (getD sets v 0)) sets (stretch (t .forwardOffsets) (t .forward) v) w in (
-          λ o. let (l, m) = looked .0 o in kept .1 (forward-link v w h .0 l, subst T (forward-test v w) m),
-          λ k. let (l, m) = kept .0 k in looked .1 (forward-link v w h .1 l, subst T (sym (forward-test v w)) m),
+        let looked = meeting-occurs (unionOver (succOf (t .masks)) (getD sets v 0)) sets (driven (t .offsets) (t .links) v) w in (
+          λ o. let (l, m) = looked .0 o in kept .1 (driven-link (p .net) v w h .0 l, subst T (forward-test v w) m),
+          λ k. let (l, m) = kept .0 k in looked .1 (driven-link (p .net) v w h .1 l, subst T (sym (forward-test v w)) m),
         )
 
-    backward-matched : (v w : ℕ) → v < n → Occurs (meeting (unionOver (t .pred) (getD sets v 0)) sets (stretch (t .backwardOffsets) (t .backward) v)) w ↔ Linked w v
+    backward-matched : (v w : ℕ) → v < n → Occurs (meeting (unionOver (predOf (t .masks)) (getD sets v 0)) sets (driving (t .offsets) (t .links) v)) w ↔ Linked w v
     backward-matched v w h =
         let kept = match-kept pattern board sets w v in
-        let looked = meeting-occurs (unionOver (t .pred) (getD sets v 0)) sets (stretch (t .backwardOffsets) (t .backward) v) w in (
-          λ o. let (l, m) = looked .0 o in kept .1 (backward-link v w h .0 l, subst T (backward-test v w) m),
-          λ k. let (l, m) = kept .0 k in looked .1 (backward-link v w h .1 l, subst T (sym (backward-test v w)) m),
+        let looked = meeting-occurs (unionOver (predOf (t .masks)) (getD sets v 0)) sets (driving (t .offsets) (t .links) v) w in (
+          λ o. let (l, m) = looked .0 o in kept .1 (driving-link (p .net) v w h .0 l, subst T (backward-test v w) m),
+          λ k. let (l, m) = kept .0 k in looked .1 (driving-link (p .net) v w h .1 l, subst T (sym (backward-test v w)) m),
         )
 
     -- the search follows the links of the match graph, either way
@@ -144,10 +138,10 @@ module _ {pattern board : Circuit} {t : Tables} (p : Prepared pattern board t) (
     unfolding matched Below
     matched-adjacency =
         record {
-          inside = λ v h. matched-below n t sets (p .forward .nodes) (p .backward .nodes) v;
+          inside = matched-below t sets (net-of (p .net));
           joined = λ v w h.
-              let both = occurs-append w (meeting (unionOver (t .succ) (getD sets v 0)) sets (stretch (t .forwardOffsets) (t .forward) v))
-              (meeting (unionOver (t .pred) (getD sets v 0)) sets (stretch (t .backwardOffsets) (t .backward) v)) in (
+              let both = occurs-append w (meeting (unionOver (succOf (t .masks)) (getD sets v 0)) sets (driven (t .offsets) (t .links) v))
+              (meeting (unionOver (predOf (t .masks)) (getD sets v 0)) sets (driving (t .offsets) (t .links) v)) in (
                 λ o. ⊎-elim (λ a. inl (forward-matched v w h .0 a)) (λ a. inr (backward-matched v w h .0 a)) (both .0 o),
                 λ l. both .1 (⊎-elim (λ a. inl (forward-matched v w h .1 a)) (λ a. inr (backward-matched v w h .1 a)) l),
               );

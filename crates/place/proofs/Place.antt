@@ -18,7 +18,7 @@ use Rattle.simulation.proofs.Same.{same-refl, same-symm, place-same, largest-sa
 use Rattle.simulation.proofs.Walks.{wider-walk}
 use Rattle.simulation.proofs.Place.{component-place, perfect-occurs, place-largest}
 use Rattle.table.specs.Host.{EqualKinds}
-use Rattle.table.proofs.Answers.{InTable}
+use Rattle.table.specs.Row.{InTable}
 use Rattle.table.proofs.Sets.{fits-node}
 use Rattle.place.specs.Match.{ballTable, found, matchStarts, matchEnds, component, placeNodes, placeLinks, placeTable, markedGraph}
 use Rattle.place.proofs.Ball.{Admissible, ballGraph, BallPairs, ball-fits, ball-largest, found-iff}

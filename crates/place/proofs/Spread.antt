@@ -17,16 +17,17 @@ use Rattle.base_bits.specs.Bits.{intersects, unionOver}
 use Rattle.graph.specs.Bfs.{State, visit, scan, start, Ready, Adjacency, stateOf}
 use Rattle.graph.specs.Circuit.{HasLink}
 use Rattle.graph.specs.Graph.{Walk, stay, step}
-use Rattle.graph.specs.Neighbours.{stretch}
+use Rattle.graph.specs.Net.{driven, driving, Net}
 use Rattle.graph.specs.Search.{far, inside, ball}
 use Rattle.graph.proofs.Ball.{Within, component-iff}
 use Rattle.graph.proofs.Below.{below-append}
-use Rattle.graph.proofs.Lookup.{stretch-below}
+use Rattle.graph.proofs.Net.{driven-below, driving-below}
 use Rattle.graph.proofs.BfsSteps.{scan-append, extends-scan, extends-take, ready-scan}
 use Rattle.graph.proofs.BfsScan.{lt-or-le, elem, elem-occurs, occurs-elem, after-cases, after-new, scan-dist}
 use Rattle.graph.proofs.Reached.{Near, Listed, listed-scan, listed-start}
-use Rattle.table.specs.Prepared.{Tables}
-use Rattle.place.specs.Spread.{meeting, look, matched, Reached, ClosedSet, Spread}
+use Rattle.table.specs.Fill.{Distinct}
+use Rattle.table.specs.Prepared.{succOf, predOf, Tables}
+use Rattle.place.specs.Spread.{meeting, look, matched, Reached, ClosedSet, Spread, Lists}
 
 -- ---- the nodes of a list that the search looks at
 
@@ -99,22 +100,21 @@ module _ (set : ℕ) (sets : List ℕ) where
 -- the looks along a node's two stretches are visits of the nodes that matching links join to it
 pub matched-scan :
     (t : Tables) (sets : List ℕ) (v : ℕ) (s s₁ s₂ : State) (out back : ℕ) (p₁ p₂ : List ℕ) →
-    out ≡ unionOver (t .succ) (getD sets v 0) → back ≡ unionOver (t .pred) (getD sets v 0) →
-    p₁ ≡ stretch (t .forwardOffsets) (t .forward) v → p₂ ≡ stretch (t .backwardOffsets) (t .backward) v →
+    out ≡ unionOver (succOf (t .masks)) (getD sets v 0) → back ≡ unionOver (predOf (t .masks)) (getD sets v 0) →
+    p₁ ≡ driven (t .offsets) (t .links) v → p₂ ≡ driving (t .offsets) (t .links) v →
     s₁ ≡ scan 0 s (meeting out sets p₁) → s₂ ≡ scan 0 s₁ (meeting back sets p₂) → s₂ ≡ scan 0 s (matched t sets v)
 unfolding matched
 matched-scan t sets v s s₁ s₂ out back p₁ p₂ d₁ d₂ e₁ e₂ f₁ f₂ =
     rw (f₂, f₁, d₁, d₂, e₁, e₂)
     (sym
-    (scan-append 0 s (meeting (unionOver (t .succ) (getD sets v 0)) sets (stretch (t .forwardOffsets) (t .forward) v))
-    (meeting (unionOver (t .pred) (getD sets v 0)) sets (stretch (t .backwardOffsets) (t .backward) v))))
+    (scan-append 0 s (meeting (unionOver (succOf (t .masks)) (getD sets v 0)) sets (driven (t .offsets) (t .links) v))
+    (meeting (unionOver (predOf (t .masks)) (getD sets v 0)) sets (driving (t .offsets) (t .links) v))))
 
--- which are nodes where the tables have nodes only
-pub matched-below : (n : ℕ) (t : Tables) (sets : List ℕ) → Below n (t .forward) → Below n (t .backward) → (v : ℕ) → Below n (matched t sets v)
+-- which are nodes
+pub matched-below : {n : ℕ} (t : Tables) (sets : List ℕ) → Net n (t .offsets) (t .links) → (v : ℕ) → v < n → Below n (matched t sets v)
 unfolding matched
-matched-below n t sets f b v =
-    below-append n _ _ (meeting-below _ sets n _ (stretch-below (t .forwardOffsets) (t .forward) v n f))
-    (meeting-below _ sets n _ (stretch-below (t .backwardOffsets) (t .backward) v n b))
+matched-below {n} t sets net v h =
+    below-append n _ _ (meeting-below _ sets n _ (driven-below net v h)) (meeting-below _ sets n _ (driving-below net v h))
 
 -- a node of the queue is among those reached, in the same place
 pub queue-node : (dist queue : List ℕ) (tail i : ℕ) → i < tail → getD (stateOf dist queue tail .reached) i 0 ≡ getD queue i 0
@@ -214,6 +214,16 @@ module _ (n c : ℕ) (adj : ℕ → List ℕ) where
             let (j, m, e) = g .listed .complete v h f in
             g .done j w (omega arith) (subst (λ x. Occurs (adj x) w) (sym e) o);
         least = g .least;
+      }
+
+  -- and the nodes reached are listed
+  pub spreading-lists : (i : ℕ) (s : State) → n < far → Spreading n c adj i s → Lists (s .reached) (s .dist)
+  unfolding Distinct
+  spreading-lists i s few g =
+      record {
+        list = record { below = rw (g .ready .size) (g .ready .inside); distinct = g .listed .distinct; short = omega (arith, g .ready .counted) };
+        near = g .listed .near;
+        complete = λ v h. g .listed .complete v (subst (λ m. v < m) (g .ready .size) h);
       }
 
 -- ---- what it reaches

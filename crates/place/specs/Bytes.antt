@@ -1,17 +1,16 @@
--- What is written into the lent tables from the entries that the search for the component leaves, `far` outside it: what the contracts of
--- the filling functions cite. proofs/Bytes ties it to the place's bytes and its table.
-use mathlib.Core.Bool.{cond}
-use mathlib.Core.List.{List}
-use Prim.Native.Nat.{ℕ, _^_, _<_}
-use lib.Dec.{eqb}
+-- What is written into the lent tables: from the entries that the search for the component leaves, `far` outside it, and the same from the
+-- list of the nodes that it reached, which the contracts of the marking functions cite. proofs/Bytes ties the first to the place's bytes and
+-- its table, proofs/Listed the second to the first.
+use mathlib.Core.Bool.{Bool, _&&_, cond}
+use mathlib.Core.List.{List, [], _∷_}
+use Prim.Native.Nat.{ℕ, suc, _≤_, _<_}
+use lib.Dec.{eqb, ltb, leb}
 use lib.ListN.{length, getD}
-use Rattle.base_lists.specs.List.{tabulate}
+use Rattle.base_lists.specs.List.{any, tabulate}
 use Rattle.base_bits.specs.Bits.{intersects, unionOver}
+use Rattle.graph.specs.Net.{forwardOffsets, forwardLinks}
 use Rattle.graph.specs.Search.{far}
-
--- every set has only parts below k
-abbrev pub PartsBelow : ℕ → List ℕ → Type 0
-PartsBelow k sets = (v : ℕ) → getD sets v 0 < 2 ^ k
+use Rattle.table.specs.Prepared.{succOf, Tables}
 
 -- 0 for an entry `far`, else what is given
 abbrev pub unlessFar : ℕ → ℕ → ℕ
@@ -37,3 +36,32 @@ linkByte starts ends succ dist sets i =
 -- a byte per link
 unfoldable pub linkBytes : List ℕ → List ℕ → List ℕ → List ℕ → List ℕ → List ℕ
 linkBytes starts ends succ dist sets = tabulate (length starts) (linkByte starts ends succ dist sets)
+
+-- ---- the same from a list of nodes
+
+-- the i-th entry of the forward link table is a link of node v that matches: it stands in v's stretch, and what v's parts drive has a part of
+-- its end's set
+unfoldable pub marksLink : Tables → List ℕ → ℕ → ℕ → Bool
+marksLink t sets i v =
+    (leb (getD (forwardOffsets (t .offsets)) v 0) i && ltb i (getD (forwardOffsets (t .offsets)) (suc v) 0))
+    && intersects (drivenBy (succOf (t .masks)) sets v) (getD sets (getD (forwardLinks (t .links)) i 0) 0)
+
+-- the bytes of a node's links, where those whose ends have a part of the set are marked
+unfoldable pub markedEnds : ℕ → List ℕ → List ℕ → List ℕ → List ℕ
+markedEnds set sets ends bytes = tabulate (length ends) (λ k. cond (intersects set (getD sets (getD ends k 0) 0)) 1 (getD bytes k 0))
+
+-- the bytes of all links, where those that node v marks are marked; the same for each node of a list
+unfoldable pub markStart : Tables → List ℕ → ℕ → List ℕ → List ℕ
+markStart t sets v bytes = tabulate (length bytes) (λ i. cond (marksLink t sets i v) 1 (getD bytes i 0))
+
+unfoldable pub markStarts : Tables → List ℕ → List ℕ → List ℕ → List ℕ
+markStarts t sets [] bytes = bytes
+markStarts t sets (v ∷ vs) bytes = markStarts t sets vs (markStart t sets v bytes)
+
+-- a byte for each of m links, 1 for those that start at a node of the list and match
+unfoldable pub linkMarks : ℕ → Tables → List ℕ → List ℕ → List ℕ
+linkMarks m t sets nodes = tabulate m (λ i. cond (any (marksLink t sets i) nodes) 1 0)
+
+-- the bytes have one for each link of n nodes
+abbrev pub LinksFit : ℕ → List ℕ → List ℕ → Type 0
+LinksFit n offsets bytes = (v : ℕ) → v < n → getD (forwardOffsets offsets) (suc v) 0 ≤ length bytes

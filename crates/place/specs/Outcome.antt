@@ -1,9 +1,7 @@
 -- What finding a place comes to: the reply, and each lent table's later content, from the inputs alone.
 use mathlib.Core.Bool.{cond}
 use mathlib.Core.List.{List}
-use mathlib.Core.Path.{_≡_}
 use Prim.Native.Nat.{ℕ}
-use lib.ListN.{length}
 use Rattle.graph.specs.Circuit.{Circuit}
 use Rattle.file_format.specs.declared.File.the-variants.{Neither}
 use Rattle.file_format.specs.Reading.{filled}
@@ -12,7 +10,6 @@ use Rattle.table.specs.Refine.{countsOf}
 use Rattle.table.specs.Reply.{Reply}
 use Rattle.place.specs.declared.PlaceAnswer.{PlaceAnswer}
 use Rattle.place.specs.declared.PlaceAnswer.the-variants.{Placed, Refused}
-use Rattle.place.specs.Bytes.{PartsBelow, nodeBytes, linkBytes}
 use Rattle.place.specs.Match.{ballOf, found, placeNodes, placeLinks, placeTable}
 
 -- number, file and counts of each case of the answer
@@ -44,13 +41,3 @@ placeAround pattern board w r nodes links table =
       links = filled verdict (placeLinks pattern board w r) links;
       table = filled verdict (placeTable pattern board w r) table;
     }
-
--- ---- the place before it is written out
-
--- What finding leaves in its own tables, where there is a place: `dist` is `far` outside it, and `sets` is the ball's table.
-pub record Located (pattern board : Circuit) (w r : ℕ) (succ dist sets : List ℕ) : Type 0 where
-  pub nodes : nodeBytes dist ≡ placeNodes pattern board w r
-  pub links : linkBytes (board .starts) (board .ends) succ dist sets ≡ placeLinks pattern board w r
-  pub parts : PartsBelow (length succ) sets
-  pub size : length dist ≡ length (board .kinds)
-  pub long : length sets ≡ length (board .kinds)

@@ -9,9 +9,10 @@ use lib.ListN.{length, getD}
 use Rattle.base_lists.specs.List.{Occurs}
 use Rattle.base_bits.specs.Bits.{intersects, unionOver}
 use Rattle.graph.specs.Bfs.{State, visit}
-use Rattle.graph.specs.Neighbours.{stretch}
+use Rattle.graph.specs.Net.{driven, driving}
 use Rattle.graph.specs.Search.{far}
-use Rattle.table.specs.Prepared.{Tables}
+use Rattle.table.specs.Fill.{NodeList}
+use Rattle.table.specs.Prepared.{succOf, predOf, Tables}
 
 -- those nodes of a list whose sets have a part of `set`
 unfoldable pub meeting : ℕ → List ℕ → List ℕ → List ℕ
@@ -25,8 +26,8 @@ look set sets s v = cond (intersects set (getD sets v 0)) (visit 0 s v) s
 -- The nodes that a matching link joins to node v, directions ignored. What the parts of v's set drive is one union, what drives them another.
 unfoldable pub matched : Tables → List ℕ → ℕ → List ℕ
 matched t sets v =
-    meeting (unionOver (t .succ) (getD sets v 0)) sets (stretch (t .forwardOffsets) (t .forward) v)
-    ++ meeting (unionOver (t .pred) (getD sets v 0)) sets (stretch (t .backwardOffsets) (t .backward) v)
+    meeting (unionOver (succOf (t .masks)) (getD sets v 0)) sets (driven (t .offsets) (t .links) v)
+    ++ meeting (unionOver (predOf (t .masks)) (getD sets v 0)) sets (driving (t .offsets) (t .links) v)
 
 -- the entry of node v is not `far`: the search has reached it
 abbrev pub Reached : List ℕ → ℕ → Type 0
@@ -42,3 +43,9 @@ pub record Spread (n c : ℕ) (adj : ℕ → List ℕ) (dist : List ℕ) : Type 
   pub centre : Reached dist c
   pub closed : (v w : ℕ) → v < n → Reached dist v → Occurs (adj v) w → Reached dist w
   pub least : (p : ℕ → Bool) → T (p c) → ClosedSet n adj p → (v : ℕ) → v < n → Reached dist v → T (p v)
+
+-- the list has the nodes that the search reached, each once
+pub record Lists (nodes dist : List ℕ) : Type 0 where
+  pub list : NodeList (length dist) nodes
+  pub near : (v : ℕ) → Occurs nodes v → Reached dist v
+  pub complete : (v : ℕ) → v < length dist → Reached dist v → Occurs nodes v

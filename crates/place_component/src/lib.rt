@@ -1,16 +1,19 @@
 // The component of the centre: what matching links, followed either way, join to it. A link matches where some part of its end's set is
 // driven by some part of its start's, so that one union of masks for each direction serves all links of a node, and each costs one test.
 ghost use mathlib.Core.Path.{_≡_};
-ghost use Prim.Native.Nat.{_<_};
-ghost use lib.ListN.{length};
+ghost use Prim.Native.Nat.{_≤_, _<_};
+ghost use lib.ListN.{length, take};
 ghost use Rattle.graph.specs.Bfs.{scan, stateOf, Searching, Searched};
 ghost use Rattle.base_lists.specs.List.{Below};
-ghost use Rattle.graph.specs.Search.{far};
 ghost use Rattle.table.specs.Prepared.{tables, Ready};
-ghost use Rattle.place.specs.Spread.{look, meeting, matched, Spread};
-use graph_neighbours::neighbours::stretch;
+ghost use Rattle.place.specs.Spread.{look, meeting, matched, Spread, Lists};
+use graph::UNREACHED;
+use graph_neighbours::neighbours::Direction;
+use graph_neighbours::neighbours::neighbours_in;
 use graph_search::fill;
 use graph_search::visit;
+use place::parts::driven_parts;
+use place::parts::driving_parts;
 
 // Looks at node v along a link: it is reached now where its set has a part of `set`.
 fn look(v: u16, set: u32, sets: &[u32], dist: &mut [u16], queue: &mut [u16], tail: usize) -> usize
@@ -51,12 +54,9 @@ fn follow(
 
 // Looks at the neighbours of node v: what it drives, then what drives it.
 fn expand(
-    succ: &[u32],
-    pred: &[u32],
-    fo: &[u16],
-    ft: &[u16],
-    bo: &[u16],
-    bt: &[u16],
+    masks: &[u32],
+    offsets: &[u16],
+    links: &[u16],
     sets: &[u32],
     v: usize,
     dist: &mut [u16],
@@ -64,38 +64,50 @@ fn expand(
     from: usize,
 ) -> usize
     requires { ⌜ Searching (now dist) (now queue) from ⌝ }
-    requires { ⌜ Ready (tables (now succ) (now pred) (now fo) (now ft) (now bo) (now bt)) (now sets) ⌝ }
+    requires { ⌜ Ready (tables (now masks) (now offsets) (now links)) (now sets) ⌝ }
     requires { ⌜ length (now sets) ≡ length (now dist) ⌝ }
     requires { ⌜ v < length (now dist) ⌝ }
-    ensures { λ r. ⌜ Searched (now (dist .exit)) (now (queue .exit)) r (scan 0 (stateOf (now (dist .entry)) (now (queue .entry)) from) (matched (tables (now (succ .entry)) (now (pred .entry)) (now (fo .entry)) (now (ft .entry)) (now (bo .entry)) (now (bt .entry))) (now (sets .entry)) v)) ⌝ }
+    ensures { λ r. ⌜ Searched (now (dist .exit)) (now (queue .exit)) r (scan 0 (stateOf (now (dist .entry)) (now (queue .entry)) from) (matched (tables (now (masks .entry)) (now (offsets .entry)) (now (links .entry))) (now (sets .entry)) v)) ⌝ }
 {
     let set = sets[v];
-    let driven = base_bits::union_of(succ, set);
-    let driving = base_bits::union_of(pred, set);
-    let tail = follow(stretch(fo, ft, v), driven, sets, dist, queue, from);
-    follow(stretch(bo, bt, v), driving, sets, dist, queue, tail)
+    let driven = driven_parts(masks, set);
+    let driving = driving_parts(masks, set);
+    let tail = follow(
+        neighbours_in(Direction::Forward, offsets, links, v),
+        driven,
+        sets,
+        dist,
+        queue,
+        from,
+    );
+    follow(
+        neighbours_in(Direction::Backward, offsets, links, v),
+        driving,
+        sets,
+        dist,
+        queue,
+        tail,
+    )
 }
 
-// Leaves in `dist` an entry for each node: 65535 where it is not in the component of the centre c. The queue is scratch.
+// Leaves in `dist` an entry for each node, `UNREACHED` where it is not in the component of the centre c. Returns how many nodes that has;
+// they stand first in the queue.
 pub fn component(
-    succ: &[u32],
-    pred: &[u32],
-    fo: &[u16],
-    ft: &[u16],
-    bo: &[u16],
-    bt: &[u16],
+    masks: &[u32],
+    offsets: &[u16],
+    links: &[u16],
     sets: &[u32],
     c: u16,
     dist: &mut [u16],
     queue: &mut [u16],
-)
-    requires { ⌜ Ready (tables (now succ) (now pred) (now fo) (now ft) (now bo) (now bt)) (now sets) ⌝ }
+) -> usize
+    requires { ⌜ Ready (tables (now masks) (now offsets) (now links)) (now sets) ⌝ }
     requires { ⌜ c < length (now dist) ⌝ }
-    requires { ⌜ length (now sets) ≡ length (now dist) ⌝ }
-    requires { ⌜ (length (now dist) ≡ length (now queue)) × (length (now dist) < far) ⌝ }
-    ensures { λ _. ⌜ Spread (length (now (dist .entry))) c (matched (tables (now (succ .entry)) (now (pred .entry)) (now (fo .entry)) (now (ft .entry)) (now (bo .entry)) (now (bt .entry))) (now (sets .entry))) (now (dist .exit)) ⌝ }
+    requires { ⌜ (length (now sets) ≡ length (now dist)) × (length (now dist) ≡ length (now queue)) ⌝ }
+    ensures { λ _. ⌜ Spread (length (now (dist .entry))) c (matched (tables (now (masks .entry)) (now (offsets .entry)) (now (links .entry))) (now (sets .entry))) (now (dist .exit)) ⌝ }
+    ensures { λ k. ⌜ (k ≤ length (now (queue .exit))) × Lists (take k (now (queue .exit))) (now (dist .exit)) ⌝ }
 {
-    fill(dist, 65535);
+    fill(dist, UNREACHED);
     let at = c as usize;
     dist[at] = 0;
     queue[0] = c;
@@ -103,7 +115,8 @@ pub fn component(
     let mut i = 0;
     while i < tail {
         let v = queue[i] as usize;
-        tail = expand(succ, pred, fo, ft, bo, bt, sets, v, dist, queue, tail);
+        tail = expand(masks, offsets, links, sets, v, dist, queue, tail);
         i += 1;
     }
+    tail
 }

@@ -1,130 +1,133 @@
-// Filling the lent tables from the entries that the search for the component leaves, 65535 outside it.
+// Marking the place in the lent tables from the list of its nodes. Each table is cleared, and then written at the nodes of the list and at
+// their links only: a node's links are a stretch of the file's order.
+use graph_neighbours::neighbours::Direction;
+use graph_neighbours::neighbours::neighbours_in;
+use place::parts::driven_parts;
+use table::first::copy;
 ghost use mathlib.Core.Bool.{cond};
-ghost use mathlib.Core.List.{_++_};
 ghost use mathlib.Core.Path.{_≡_};
-ghost use Prim.Native.Nat.{_≤_, _<_};
-ghost use lib.ListN.{length, drop};
+ghost use Prim.Native.Nat.{suc, _≤_, _<_};
+ghost use lib.ListN.{length, getD, replicate};
 ghost use Rattle.base_bits.specs.Bits.{intersects};
 ghost use Rattle.base_lists.specs.List.{Below};
-ghost use Rattle.place.specs.Bytes.{PartsBelow, unlessFar, nodeBytes, nodeSets, drivenBy, linkBytes};
+ghost use Rattle.graph.specs.Net.{forwardOffsets};
+ghost use Rattle.table.specs.Fill.{marksOf, NodeList, tableAt};
+ghost use Rattle.table.specs.Prepared.{tables, Ready};
+ghost use Rattle.place.specs.Bytes.{LinksFit, markedEnds, markStart, linkMarks};
 
-// A node's byte.
-fn node_byte(distance: u16) -> u8
-    ensures { λ r. ⌜ r ≡ unlessFar distance 1 ⌝ }
+// Sets every byte to 0.
+fn clear(bytes: &mut [u8])
+    ensures { λ _. ⌜ now (bytes .exit) ≡ replicate (length (now (bytes .entry))) 0 ⌝ }
 {
-    if distance == 65535 { 0 } else { 1 }
-}
-
-// A node's set.
-fn node_set(distance: u16, set: u32) -> u32
-    ensures { λ r. ⌜ r ≡ unlessFar distance set ⌝ }
-{
-    if distance == 65535 { 0 } else { set }
-}
-
-// A link's byte, from its start's entry, from what its start's parts drive, and from its end's set.
-fn link_byte(distance: u16, driven: u32, set: u32) -> u8
-    ensures { λ r. ⌜ r ≡ unlessFar distance (cond (intersects driven set) 1 0) ⌝ }
-{
-    if distance == 65535 {
-        return 0;
-    }
-    if base_bits::meets(driven, set) {
-        return 1;
-    }
-    0
-}
-
-// What the parts of node v's set drive, where it is known of node `last`: links come by start, so that most ask for the same node again.
-fn driven_by(succ: &[u32], sets: &[u32], v: usize, last: usize, driven: u32) -> u32
-    requires { ⌜ v < length (now sets) ⌝ }
-    requires { ⌜ PartsBelow (length (now succ)) (now sets) ⌝ }
-    requires { ⌜ driven ≡ drivenBy (now succ) (now sets) last ⌝ }
-    ensures { λ r. ⌜ r ≡ drivenBy (now (succ .entry)) (now (sets .entry)) v ⌝ }
-{
-    if v == last {
-        return driven;
-    }
-    base_bits::union_of(succ, sets[v])
-}
-
-// A byte for each node.
-fn fill_nodes(dist: &[u16], nodes: &mut [u8])
-    requires { ⌜ length (now dist) ≤ length (now nodes) ⌝ }
-    ensures { λ _. ⌜ now (nodes .exit) ≡ nodeBytes (now (dist .entry)) ++ drop (length (now (dist .entry))) (now (nodes .entry)) ⌝ }
-{
-    let mut v = 0;
-    while v < dist.len() {
-        nodes[v] = node_byte(dist[v]);
-        v += 1;
-    }
-}
-
-// A set for each node.
-fn fill_sets(dist: &[u16], sets: &[u32], table: &mut [u32])
-    requires { ⌜ length (now sets) ≡ length (now dist) ⌝ }
-    requires { ⌜ length (now dist) ≤ length (now table) ⌝ }
-    ensures { λ _. ⌜ now (table .exit) ≡ nodeSets (now (dist .entry)) (now (sets .entry)) ++ drop (length (now (dist .entry))) (now (table .entry)) ⌝ }
-{
-    let mut v = 0;
-    while v < dist.len() {
-        table[v] = node_set(dist[v], sets[v]);
-        v += 1;
-    }
-}
-
-// A byte for each link.
-fn fill_links(
-    starts: &[u16],
-    ends: &[u16],
-    succ: &[u32],
-    dist: &[u16],
-    sets: &[u32],
-    links: &mut [u8],
-)
-    requires { ⌜ length (now sets) ≡ length (now dist) ⌝ }
-    requires { ⌜ length (now starts) ≡ length (now ends) ⌝ }
-    requires { ⌜ Below (length (now dist)) (now starts) ⌝ }
-    requires { ⌜ Below (length (now dist)) (now ends) ⌝ }
-    requires { ⌜ PartsBelow (length (now succ)) (now sets) ⌝ }
-    requires { ⌜ length (now starts) ≤ length (now links) ⌝ }
-    ensures { λ _. ⌜ now (links .exit) ≡ linkBytes (now (starts .entry)) (now (ends .entry)) (now (succ .entry)) (now (dist .entry)) (now (sets .entry)) ++ drop (length (now (starts .entry))) (now (links .entry)) ⌝ }
-{
-    let mut last = sets.len();
-    let mut driven: u32 = 0;
     let mut i = 0;
-    while i < starts.len() {
-        let v = starts[i] as usize;
-        let w = ends[i] as usize;
-        driven = driven_by(succ, sets, v, last, driven);
-        last = v;
-        links[i] = link_byte(dist[v], driven, sets[w]);
+    while i < bytes.len() {
+        bytes[i] = 0;
         i += 1;
     }
 }
 
-// All three tables.
-pub fn fill(
-    starts: &[u16],
-    ends: &[u16],
-    succ: &[u32],
-    dist: &[u16],
+// A byte for each node, 1 for those of the list.
+fn mark_nodes(list: &[u16], bytes: &mut [u8])
+    requires { ⌜ Below (length (now bytes)) (now list) ⌝ }
+    ensures { λ _. ⌜ now (bytes .exit) ≡ marksOf (length (now (bytes .entry))) (now (list .entry)) ⌝ }
+{
+    clear(bytes);
+    let mut i = 0;
+    while i < list.len() {
+        let v = list[i] as usize;
+        bytes[v] = 1;
+        i += 1;
+    }
+}
+
+// A link's byte: 1 where what its start's parts drive has a part of its end's set, and else as it was.
+fn link_byte(driven: u32, set: u32, byte: u8) -> u8
+    ensures { λ r. ⌜ r ≡ cond (intersects driven set) 1 byte ⌝ }
+{
+    if base_bits::meets(driven, set) {
+        return 1;
+    }
+    byte
+}
+
+// The bytes of one node's links.
+fn mark_ends(ends: &[u16], driven: u32, sets: &[u32], bytes: &mut [u8])
+    requires { ⌜ length (now ends) ≡ length (now bytes) ⌝ }
+    requires { ⌜ Below (length (now sets)) (now ends) ⌝ }
+    ensures { λ _. ⌜ now (bytes .exit) ≡ markedEnds driven (now (sets .entry)) (now (ends .entry)) (now (bytes .entry)) ⌝ }
+{
+    let mut k = 0;
+    while k < ends.len() {
+        let w = ends[k] as usize;
+        bytes[k] = link_byte(driven, sets[w], bytes[k]);
+        k += 1;
+    }
+}
+
+// The links that start at node v.
+fn mark_start(
+    masks: &[u32],
+    offsets: &[u16],
+    links: &[u16],
     sets: &[u32],
+    v: usize,
+    bytes: &mut [u8],
+)
+    requires { ⌜ Ready (tables (now masks) (now offsets) (now links)) (now sets) ⌝ }
+    requires { ⌜ v < length (now sets) ⌝ }
+    requires { ⌜ getD (forwardOffsets (now offsets)) (suc v) 0 ≤ length (now bytes) ⌝ }
+    ensures { λ _. ⌜ now (bytes .exit) ≡ markStart (tables (now (masks .entry)) (now (offsets .entry)) (now (links .entry))) (now (sets .entry)) v (now (bytes .entry)) ⌝ }
+{
+    let ends = neighbours_in(Direction::Forward, offsets, links, v);
+    let driven = driven_parts(masks, sets[v]);
+    let from = offsets[v] as usize;
+    let to = from + ends.len();
+    mark_ends(ends, driven, sets, &mut bytes[from..to]);
+}
+
+// A byte for each link, 1 for those that start at a node of the list and match.
+fn mark_links(
+    masks: &[u32],
+    offsets: &[u16],
+    links: &[u16],
+    sets: &[u32],
+    list: &[u16],
+    bytes: &mut [u8],
+)
+    requires { ⌜ Ready (tables (now masks) (now offsets) (now links)) (now sets) ⌝ }
+    requires { ⌜ NodeList (length (now sets)) (now list) ⌝ }
+    requires { ⌜ LinksFit (length (now sets)) (now offsets) (now bytes) ⌝ }
+    ensures { λ _. ⌜ now (bytes .exit) ≡ linkMarks (length (now (bytes .entry))) (tables (now (masks .entry)) (now (offsets .entry)) (now (links .entry))) (now (sets .entry)) (now (list .entry)) ⌝ }
+{
+    clear(bytes);
+    let mut i = 0;
+    while i < list.len() {
+        let v = list[i] as usize;
+        mark_start(masks, offsets, links, sets, v, bytes);
+        i += 1;
+    }
+}
+
+// All three tables: a byte for each node, a byte for each link, and a set for each node.
+pub fn mark(
+    masks: &[u32],
+    offsets: &[u16],
+    links: &[u16],
+    sets: &[u32],
+    list: &[u16],
     nodes: &mut [u8],
-    links: &mut [u8],
+    bytes: &mut [u8],
     table: &mut [u32],
 )
-    requires { ⌜ length (now sets) ≡ length (now dist) ⌝ }
-    requires { ⌜ length (now starts) ≡ length (now ends) ⌝ }
-    requires { ⌜ Below (length (now dist)) (now starts) ⌝ }
-    requires { ⌜ Below (length (now dist)) (now ends) ⌝ }
-    requires { ⌜ PartsBelow (length (now succ)) (now sets) ⌝ }
-    requires { ⌜ (length (now dist) ≤ length (now nodes)) × (length (now starts) ≤ length (now links)) × (length (now dist) ≤ length (now table)) ⌝ }
-    ensures { λ _. ⌜ now (nodes .exit) ≡ nodeBytes (now (dist .entry)) ++ drop (length (now (dist .entry))) (now (nodes .entry)) ⌝ }
-    ensures { λ _. ⌜ now (links .exit) ≡ linkBytes (now (starts .entry)) (now (ends .entry)) (now (succ .entry)) (now (dist .entry)) (now (sets .entry)) ++ drop (length (now (starts .entry))) (now (links .entry)) ⌝ }
-    ensures { λ _. ⌜ now (table .exit) ≡ nodeSets (now (dist .entry)) (now (sets .entry)) ++ drop (length (now (dist .entry))) (now (table .entry)) ⌝ }
+    requires { ⌜ Ready (tables (now masks) (now offsets) (now links)) (now sets) ⌝ }
+    requires { ⌜ NodeList (length (now sets)) (now list) ⌝ }
+    requires { ⌜ LinksFit (length (now sets)) (now offsets) (now bytes) ⌝ }
+    requires { ⌜ (length (now nodes) ≡ length (now sets)) × (length (now table) ≡ length (now sets)) ⌝ }
+    ensures { λ _. ⌜ now (nodes .exit) ≡ marksOf (length (now (sets .entry))) (now (list .entry)) ⌝ }
+    ensures { λ _. ⌜ now (bytes .exit) ≡ linkMarks (length (now (bytes .entry))) (tables (now (masks .entry)) (now (offsets .entry)) (now (links .entry))) (now (sets .entry)) (now (list .entry)) ⌝ }
+    ensures { λ _. ⌜ now (table .exit) ≡ tableAt (length (now (sets .entry))) (λ v. getD (now (sets .entry)) v 0) (now (list .entry)) ⌝ }
 {
-    fill_nodes(dist, nodes);
-    fill_links(starts, ends, succ, dist, sets, links);
-    fill_sets(dist, sets, table);
+    mark_nodes(list, nodes);
+    mark_links(masks, offsets, links, sets, list, bytes);
+    copy(list, sets, table);
 }

@@ -5,12 +5,10 @@ use mathlib.Core.List.{List, [], _∷_, _++_}
 use mathlib.Core.Path.{_≡_, refl, ap, ap₂, _∙_}
 use Prim.Native.Nat.{ℕ}
 use lib.Dec.{T}
-use Rattle.base_lists.specs.List.{all, any, allBelow, anyBelow, tabulate, sum, maximum}
+use Rattle.base_lists.specs.List.{all, allBelow, anyBelow, tabulate, maximum}
 use Rattle.base_lists.specs.Below.{countBelow, concatBelow, keepFrom}
 use Rattle.base_lists.proofs.Tests.{T-true, T-false}
-use Rattle.base_bits.specs.Bits.{bit, numberOf, sizeOf}
 use Rattle.base_text.specs.Text.{bytes, digits, decimal}
-use Rattle.graph.specs.Neighbours.{select}
 use Rattle.graph.specs.Search.{beside, inside, ball, misses, distances, connected, radius}
 use Rattle.file_format.specs.Circuit.{circuitOf}
 use Rattle.file_format.specs.declared.Role.the-variants.{Pattern, Board}
@@ -18,8 +16,7 @@ use Rattle.file_format.specs.Examples.{fileT, fileB, fileOne}
 use Rattle.file_format.specs.Layout.{field, fields, nodesOf, linksOf, kindsOf, startsOf, endsOf}
 use Rattle.file_format.specs.Links.{linksBelow, earlier, rising}
 use Rattle.file_format.specs.Refusals.{Verdict, accept, first, linkConditions, fileConditions, asksConnected}
-use Rattle.table.specs.Row.{inTable, agrees, startTable, answered, supported, strike, row, pairs, started, lastTable}
-use Rattle.table.specs.Examples.{circuitT, circuitB}
+use Rattle.table.specs.Examples.{rowComputed, circuitT, circuitB}
 use Rattle.place.specs.Match.{radiusOf, ballOf, ballTable, found, matches, linkMatches, matchStarts, matchEnds, component, placeNodes, placeLinks}
 use Rattle.place.proofs.Examples.{Shows, radius-T, E3-0, E3-1, E3-2, E4-none}
 use Rattle.report.specs.Report.{marked, linkItem, nodeItems, linkItems, placeLine, hasPlace, centreLine, endLine, fileWord, refusalLine, linesOf, reportFor, reportOf}
@@ -39,7 +36,7 @@ holds-B = refl
 
 -- all that is opened where a place is computed
 opened : Unit {0}
-unfolding all any anyBelow tabulate sum countBelow bit numberOf sizeOf select beside inside ball inTable agrees startTable answered supported strike row pairs started lastTable ballOf ballTable found
+unfolding rowComputed anyBelow beside ball ballOf ballTable found
 opened = tt
 
 -- ---- the centres

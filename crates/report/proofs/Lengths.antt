@@ -85,7 +85,7 @@ pub end-length : (k n : ℕ) → k < 100000 → n < 1000 → length (endLine k n
 unfolding endLine bytes
 end-length k n h l = simp length-append (omega (arith, length-decimal 4 k h, length-decimal 2 n l))
 
-word-length : (f : File) → length (fileWord f) ≤ 8
+pub word-length : (f : File) → length (fileWord f) ≤ 8
 unfolding fileWord bytes
 word-length file.Pattern = omega arith
 word-length file.Board = omega arith

@@ -1,25 +1,28 @@
 -- The lines and their items piece by piece, as the program puts them. Assumes nothing.
 use mathlib.Core.Bool.{true, false}
-use mathlib.Core.List.{List, [], _++_, append-assoc}
+use mathlib.Core.List.{List, [], _∷_, _++_, append-assoc}
 use mathlib.Core.Path.{_≡_}
-use Prim.Native.Nat.{ℕ}
-use lib.ListN.{getD}
+use Prim.Native.Nat.{ℕ, _+_, _≤_}
+use native.Mathlib.Omega.{arith}
+use lib.ListN.{length, getD, length-append}
 use Rattle.base_bits.specs.Bits.{intersects, unionOver}
-use Rattle.base_text.specs.Text.{bytes, decimal}
-use Rattle.graph.specs.Neighbours.{stretch}
+use Rattle.base_text.specs.Text.{bytes, decimal, Fits}
+use Rattle.graph.specs.Net.{driven}
+use Rattle.graph.specs.Search.{reached}
 use Rattle.file_format.specs.declared.Refusal.{Refusal}
+use Rattle.table.specs.Prepared.{succOf, Tables}
 use Rattle.place.specs.Bytes.{drivenBy}
 use Rattle.report.specs.Report.{linkItem, placeLine, endLine, fileWord, refusalLine}
-use Rattle.report.specs.Lines.{reached, nodeText, linkText, drivenText, startText}
+use Rattle.report.specs.Lines.{nodeText, linkText, drivenText, startText}
 
 -- ---- items
 
 -- a node that the search missed has none; one that it reached has a space and its number
-pub node-missed : (dist : List ℕ) (v : ℕ) → reached dist v ≡ false → nodeText dist v ≡ []
+pub node-missed : (dist : List ℕ) (v : ℕ) → reached (getD dist v 0) ≡ false → nodeText dist v ≡ []
 unfolding nodeText
 node-missed dist v e = rw e
 
-pub node-reached : (dist : List ℕ) (v : ℕ) → reached dist v ≡ true → nodeText dist v ≡ bytes " " ++ decimal v
+pub node-reached : (dist : List ℕ) (v : ℕ) → reached (getD dist v 0) ≡ true → nodeText dist v ≡ bytes " " ++ decimal v
 unfolding nodeText
 node-reached dist v e = rw e
 
@@ -32,16 +35,22 @@ pub link-meets : (driven set v w : ℕ) → intersects driven set ≡ true → l
 unfolding linkText linkItem
 link-meets driven set v w e = rw e (simp append-assoc)
 
-module _ (fo ft succ dist sets : List ℕ) (v : ℕ) where
+-- the room for a link that matches, in bytes
+pub link-room : {o : List ℕ} {at : ℕ} (v w : ℕ) → Fits o at (bytes " " ++ (decimal v ++ (bytes "-" ++ decimal w))) →
+    at + (1 + (length (decimal v) + (1 + length (decimal w)))) ≤ length o
+unfolding bytes
+link-room v w f = omega (arith, f .room, length-append (decimal v) (45 ∷ decimal w))
+
+module _ (t : Tables) (dist sets : List ℕ) (v : ℕ) where
   -- a node that the search missed starts no link of the place; one that it reached starts those of its stretch that match
-  pub start-missed : reached dist v ≡ false → startText fo ft succ dist sets v ≡ []
+  pub start-missed : reached (getD dist v 0) ≡ false → startText t dist sets v ≡ []
   unfolding startText
   start-missed e = rw e
 
-  pub start-reached : (driven : ℕ) (nodes : List ℕ) → reached dist v ≡ true → driven ≡ unionOver succ (getD sets v 0) → nodes ≡ stretch fo ft v →
-      startText fo ft succ dist sets v ≡ drivenText driven sets v nodes
+  pub start-reached : (parts : ℕ) (nodes : List ℕ) → reached (getD dist v 0) ≡ true → parts ≡ unionOver (succOf (t .masks)) (getD sets v 0) →
+      nodes ≡ driven (t .offsets) (t .links) v → startText t dist sets v ≡ drivenText parts sets v nodes
   unfolding startText drivenBy
-  start-reached driven nodes e d p = rw (e, d, p)
+  start-reached parts nodes e d p = rw (e, d, p)
 
 -- ---- lines, from the first piece to the last
 

@@ -1,26 +1,22 @@
 -- The line of a found centre as the program puts it, node by node, from what the search for the component leaves: the entries `dist`, `far`
--- outside it, the ball's sets, and the neighbour and mask tables. What the contracts of the inner functions cite; proofs/Centre ties it to
+-- outside it, the ball's sets, and what matching looks up. What the contracts of the inner functions cite; proofs/Centre ties it to
 -- the report's text.
-use mathlib.Core.Bool.{Bool, not, cond}
+use mathlib.Core.Bool.{cond}
 use mathlib.Core.List.{List, [], _++_}
 use Prim.Native.Nat.{ℕ}
-use lib.Dec.{eqb}
 use lib.ListN.{length, getD}
 use Rattle.base_lists.specs.Below.{concatBelow}
 use Rattle.base_bits.specs.Bits.{intersects}
 use Rattle.base_text.specs.Text.{bytes, decimal}
-use Rattle.graph.specs.Neighbours.{stretch}
-use Rattle.graph.specs.Search.{far}
+use Rattle.graph.specs.Net.{driven}
+use Rattle.graph.specs.Search.{reached}
+use Rattle.table.specs.Prepared.{succOf, Tables}
 use Rattle.place.specs.Bytes.{drivenBy}
 use Rattle.report.specs.Report.{linkItem, placeLine}
 
--- the search reached node v: its entry is not `far`
-unfoldable pub reached : List ℕ → ℕ → Bool
-reached dist v = not (eqb (getD dist v 0) far)
-
 -- each node
 unfoldable pub nodeText : List ℕ → ℕ → List ℕ
-nodeText dist v = cond (reached dist v) (bytes " " ++ decimal v) []
+nodeText dist v = cond (reached (getD dist v 0)) (bytes " " ++ decimal v) []
 
 unfoldable pub nodesText : List ℕ → List ℕ
 nodesText dist = concatBelow (length dist) (nodeText dist)
@@ -34,17 +30,22 @@ unfoldable pub drivenText : ℕ → List ℕ → ℕ → List ℕ → List ℕ
 drivenText driven sets v nodes = concatBelow (length nodes) (λ i. linkText driven (getD sets (getD nodes i 0) 0) v (getD nodes i 0))
 
 -- the links that start at v
-unfoldable pub startText : List ℕ → List ℕ → List ℕ → List ℕ → List ℕ → ℕ → List ℕ
-startText fo ft succ dist sets v = cond (reached dist v) (drivenText (drivenBy succ sets v) sets v (stretch fo ft v)) []
+unfoldable pub startText : Tables → List ℕ → List ℕ → ℕ → List ℕ
+startText t dist sets v =
+    cond (reached (getD dist v 0)) (drivenText (drivenBy (succOf (t .masks)) sets v) sets v (driven (t .offsets) (t .links) v)) []
 
 -- each link, by its start
-unfoldable pub linksText : List ℕ → List ℕ → List ℕ → List ℕ → List ℕ → List ℕ
-linksText fo ft succ dist sets = concatBelow (length dist) (startText fo ft succ dist sets)
+unfoldable pub linksText : Tables → List ℕ → List ℕ → List ℕ
+linksText t dist sets = concatBelow (length dist) (startText t dist sets)
 
 -- the line
-unfoldable pub lineText : List ℕ → List ℕ → List ℕ → List ℕ → List ℕ → ℕ → List ℕ
-lineText fo ft succ dist sets c = placeLine c (nodesText dist) (linksText fo ft succ dist sets)
+unfoldable pub lineText : Tables → List ℕ → List ℕ → ℕ → List ℕ
+lineText t dist sets c = placeLine c (nodesText dist) (linksText t dist sets)
 
 -- No line of an accepted board is longer: 6 + 3 + 1 bytes up to the colon, 512 nodes of 4, 2 for the slash, 4,096 links of 8, and 1.
 abbrev pub longestLine : ℕ
 longestLine = 34829
+
+-- The line of a refused file has at most 8 bytes, a number of three digits, 8 for the file that is meant, and 1.
+abbrev pub longestRefusal : ℕ
+longestRefusal = 20

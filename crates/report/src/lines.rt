@@ -1,28 +1,23 @@
 // The report's lines, each put into a table of bytes from an offset on; the offset after the line is returned. `names` has a name for each
 // node.
 ghost use mathlib.Core.Path.{_≡_};
-ghost use Prim.Native.Nat.{_≤_, _<_};
-ghost use lib.ListN.{length};
+ghost use Prim.Native.Nat.{_+_, _≤_, _<_};
+ghost use lib.ListN.{length, getD};
 ghost use Rattle.base_text.specs.Text.{Put, Fits, Names};
 ghost use Rattle.base_lists.specs.List.{Below};
-ghost use Rattle.place.specs.Bytes.{PartsBelow};
+ghost use Rattle.table.specs.Prepared.{tables, Ready};
 ghost use Rattle.report.specs.Report.{endLine, refusalLine, fileWord};
-ghost use Rattle.report.specs.Lines.{reached, nodeText, nodesText, linkText, drivenText, startText, linksText, lineText};
+ghost use Rattle.report.specs.Lines.{nodeText, nodesText, linkText, drivenText, startText, linksText, lineText, longestLine, longestRefusal};
 use base_text::put_byte;
 use base_text::put_bytes;
 use base_text::put_name;
 use base_text::put_number;
 use file_format::File;
 use file_format::Refusal;
-use graph_neighbours::neighbours::stretch;
-
-// Whether the search reached node v.
-fn reached(dist: &[u16], v: usize) -> bool
-    requires { ⌜ v < length (now dist) ⌝ }
-    ensures { λ r. ⌜ r ≡ reached (now (dist .entry)) v ⌝ }
-{
-    dist[v] != 65535
-}
+use graph::is_reached;
+use graph_neighbours::neighbours::Direction;
+use graph_neighbours::neighbours::neighbours_in;
+use place::parts::driven_parts;
 
 // Node v, if the search reached it.
 fn put_node(names: &[u32], dist: &[u16], v: usize, out: &mut [u8], at: usize) -> usize
@@ -31,7 +26,7 @@ fn put_node(names: &[u32], dist: &[u16], v: usize, out: &mut [u8], at: usize) ->
     requires { ⌜ Fits (now out) at (nodeText (now dist) v) ⌝ }
     ensures { λ r. ⌜ Put (now (out .entry)) at (nodeText (now (dist .entry)) v) (now (out .exit)) r ⌝ }
 {
-    if !reached(dist, v) {
+    if !is_reached(dist[v]) {
         return at;
     }
     put_name(names, b' ', v, out, at)
@@ -73,6 +68,14 @@ fn put_link(
     put_name(names, b'-', w, out, hyphen)
 }
 
+// The i-th node of a list.
+fn node_at(nodes: &[u16], i: usize) -> u16
+    requires { ⌜ i < length (now nodes) ⌝ }
+    ensures { λ r. ⌜ r ≡ getD (now (nodes .entry)) i 0 ⌝ }
+{
+    nodes[i]
+}
+
 // The links from v to the nodes of a list.
 fn put_driven(
     names: &[u32],
@@ -91,7 +94,7 @@ fn put_driven(
     let mut end = at;
     let mut i = 0;
     while i < nodes.len() {
-        let w = nodes[i] as usize;
+        let w = node_at(nodes, i) as usize;
         end = put_link(names, driven, sets[w], v, w, out, end);
         i += 1;
     }
@@ -101,9 +104,9 @@ fn put_driven(
 // The links that start at v, if the search reached it. What its parts drive is one union, which serves all of them.
 fn put_start(
     names: &[u32],
-    fo: &[u16],
-    ft: &[u16],
-    succ: &[u32],
+    masks: &[u32],
+    offsets: &[u16],
+    links: &[u16],
     dist: &[u16],
     sets: &[u32],
     v: usize,
@@ -112,25 +115,26 @@ fn put_start(
 ) -> usize
     requires { ⌜ Names (now names) × (length (now dist) ≤ length (now names)) ⌝ }
     requires { ⌜ length (now sets) ≡ length (now dist) ⌝ }
-    requires { ⌜ Below (length (now sets)) (now ft) ⌝ }
-    requires { ⌜ PartsBelow (length (now succ)) (now sets) ⌝ }
+    requires { ⌜ Ready (tables (now masks) (now offsets) (now links)) (now sets) ⌝ }
     requires { ⌜ v < length (now dist) ⌝ }
-    requires { ⌜ Fits (now out) at (startText (now fo) (now ft) (now succ) (now dist) (now sets) v) ⌝ }
-    ensures { λ r. ⌜ Put (now (out .entry)) at (startText (now (fo .entry)) (now (ft .entry)) (now (succ .entry)) (now (dist .entry)) (now (sets .entry)) v) (now (out .exit)) r ⌝ }
+    requires { ⌜ Fits (now out) at (startText (tables (now masks) (now offsets) (now links)) (now dist) (now sets) v) ⌝ }
+    ensures { λ r. ⌜ Put (now (out .entry)) at (startText (tables (now (masks .entry)) (now (offsets .entry)) (now (links .entry))) (now (dist .entry)) (now (sets .entry)) v) (now (out .exit)) r ⌝ }
 {
-    if !reached(dist, v) {
+    let there = is_reached(dist[v]);
+    if !there {
         return at;
     }
-    let driven = base_bits::union_of(succ, sets[v]);
-    put_driven(names, stretch(fo, ft, v), driven, sets, v, out, at)
+    let driven = driven_parts(masks, sets[v]);
+    let ends = neighbours_in(Direction::Forward, offsets, links, v);
+    put_driven(names, ends, driven, sets, v, out, at)
 }
 
 // Each link of the place: a file's links rise by their starts, so that its order is node by node.
 fn put_links(
     names: &[u32],
-    fo: &[u16],
-    ft: &[u16],
-    succ: &[u32],
+    masks: &[u32],
+    offsets: &[u16],
+    links: &[u16],
     dist: &[u16],
     sets: &[u32],
     out: &mut [u8],
@@ -138,15 +142,14 @@ fn put_links(
 ) -> usize
     requires { ⌜ Names (now names) × (length (now dist) ≤ length (now names)) ⌝ }
     requires { ⌜ length (now sets) ≡ length (now dist) ⌝ }
-    requires { ⌜ Below (length (now sets)) (now ft) ⌝ }
-    requires { ⌜ PartsBelow (length (now succ)) (now sets) ⌝ }
-    requires { ⌜ Fits (now out) at (linksText (now fo) (now ft) (now succ) (now dist) (now sets)) ⌝ }
-    ensures { λ r. ⌜ Put (now (out .entry)) at (linksText (now (fo .entry)) (now (ft .entry)) (now (succ .entry)) (now (dist .entry)) (now (sets .entry))) (now (out .exit)) r ⌝ }
+    requires { ⌜ Ready (tables (now masks) (now offsets) (now links)) (now sets) ⌝ }
+    requires { ⌜ Fits (now out) at (linksText (tables (now masks) (now offsets) (now links)) (now dist) (now sets)) ⌝ }
+    ensures { λ r. ⌜ Put (now (out .entry)) at (linksText (tables (now (masks .entry)) (now (offsets .entry)) (now (links .entry))) (now (dist .entry)) (now (sets .entry))) (now (out .exit)) r ⌝ }
 {
     let mut end = at;
     let mut v = 0;
     while v < dist.len() {
-        end = put_start(names, fo, ft, succ, dist, sets, v, out, end);
+        end = put_start(names, masks, offsets, links, dist, sets, v, out, end);
         v += 1;
     }
     end
@@ -155,9 +158,9 @@ fn put_links(
 // The line of the centre c, around which there is a place.
 pub fn put_line(
     names: &[u32],
-    fo: &[u16],
-    ft: &[u16],
-    succ: &[u32],
+    masks: &[u32],
+    offsets: &[u16],
+    links: &[u16],
     dist: &[u16],
     sets: &[u32],
     c: usize,
@@ -166,23 +169,23 @@ pub fn put_line(
 ) -> usize
     requires { ⌜ Names (now names) × (length (now dist) ≤ length (now names)) ⌝ }
     requires { ⌜ length (now sets) ≡ length (now dist) ⌝ }
-    requires { ⌜ Below (length (now sets)) (now ft) ⌝ }
-    requires { ⌜ PartsBelow (length (now succ)) (now sets) ⌝ }
-    requires { ⌜ Fits (now out) at (lineText (now fo) (now ft) (now succ) (now dist) (now sets) c) ⌝ }
-    ensures { λ r. ⌜ Put (now (out .entry)) at (lineText (now (fo .entry)) (now (ft .entry)) (now (succ .entry)) (now (dist .entry)) (now (sets .entry)) c) (now (out .exit)) r ⌝ }
+    requires { ⌜ Ready (tables (now masks) (now offsets) (now links)) (now sets) ⌝ }
+    requires { ⌜ Fits (now out) at (lineText (tables (now masks) (now offsets) (now links)) (now dist) (now sets) c) ⌝ }
+    ensures { λ r. ⌜ Put (now (out .entry)) at (lineText (tables (now (masks .entry)) (now (offsets .entry)) (now (links .entry))) (now (dist .entry)) (now (sets .entry)) c) (now (out .exit)) r ⌝ }
 {
     let centre = put_bytes(b"place ", out, at);
     let colon = put_number(c, out, centre);
     let nodes = put_byte(b':', out, colon);
     let slash = put_nodes(names, dist, out, nodes);
-    let links = put_bytes(b" /", out, slash);
-    let end = put_links(names, fo, ft, succ, dist, sets, out, links);
+    let after = put_bytes(b" /", out, slash);
+    let end = put_links(names, masks, offsets, links, dist, sets, out, after);
     put_byte(b'\n', out, end)
 }
 
 // The last line: k of n centres have a place.
 pub fn put_end(k: usize, n: usize, out: &mut [u8], at: usize) -> usize
-    requires { ⌜ Fits (now out) at (endLine k n) ⌝ }
+    requires { ⌜ (k < 100000) × (n < 100000) ⌝ }
+    requires { ⌜ at + longestLine ≤ length (now out) ⌝ }
     ensures { λ r. ⌜ Put (now (out .entry)) at (endLine k n) (now (out .exit)) r ⌝ }
 {
     let count = put_bytes(b"end ", out, at);
@@ -194,7 +197,7 @@ pub fn put_end(k: usize, n: usize, out: &mut [u8], at: usize) -> usize
 
 // Which file is meant.
 fn put_file(file: File, out: &mut [u8], at: usize) -> usize
-    requires { ⌜ Fits (now out) at (fileWord file) ⌝ }
+    requires { ⌜ at + 8 ≤ length (now out) ⌝ }
     ensures { λ r. ⌜ Put (now (out .entry)) at (fileWord file) (now (out .exit)) r ⌝ }
 {
     match file {
@@ -206,7 +209,7 @@ fn put_file(file: File, out: &mut [u8], at: usize) -> usize
 
 // The line of a refused file.
 pub fn put_refusal(x: Refusal, out: &mut [u8], at: usize) -> usize
-    requires { ⌜ Fits (now out) at (refusalLine x) ⌝ }
+    requires { ⌜ at + longestRefusal ≤ length (now out) ⌝ }
     ensures { λ r. ⌜ Put (now (out .entry)) at (refusalLine x) (now (out .exit)) r ⌝ }
 {
     let number = put_bytes(b"refused ", out, at);

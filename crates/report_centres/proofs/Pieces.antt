@@ -75,8 +75,8 @@ module _ (out : List ℕ) (part : Part) (n : ℕ) where
       record { put = rw flag p; next = rw flag (add-one n); found = refl }
 
   -- there is room for it
-  pub last-fits : roomy (length out) (part .size) ≡ true → part .found < 100000 → n < 1000 → Fits out (part .size) (endLine (part .found) n)
-  last-fits h k l = record { room = omega (arith, leb-true (part .size + longestLine) (length out) h, end-length (part .found) n k l) }
+  pub last-room : roomy (length out) (part .size) ≡ true → part .size + longestLine ≤ length out
+  last-room h = leb-true (part .size + longestLine) (length out) h
 
 -- ---- the lines of the centres and the last line are the piece
 

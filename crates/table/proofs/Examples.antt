@@ -1,55 +1,45 @@
 -- Document 01's examples of the match table, by computation. Assumes nothing.
 use mathlib.Core.List.{[], _∷_}
 use mathlib.Core.Path.{_≡_, refl}
-use Rattle.base_lists.specs.List.{all, any, tabulate, sum}
-use Rattle.base_lists.specs.Below.{countBelow}
-use Rattle.base_bits.specs.Bits.{bit, numberOf, sizeOf}
-use Rattle.graph.specs.Neighbours.{select}
-use Rattle.graph.specs.Search.{inside}
 use Rattle.table.specs.Host.{everything}
-use Rattle.table.specs.Row.{inTable, agrees, startTable, answered, supported, strike, row, pairs, same, started, lastTable, kept, struck, rounds}
-use Rattle.table.specs.Examples.{circuitT, circuitB, twoWay, ring}
-
--- all that is opened where a table is computed
-opened : Unit {0}
-unfolding all any tabulate sum countBelow bit numberOf sizeOf select inside everything inTable agrees startTable answered supported strike row pairs same started lastTable kept struck rounds
-opened = tt
+use Rattle.table.specs.Row.{started, lastTable, kept, struck, rounds}
+use Rattle.table.specs.Examples.{rowComputed, circuitT, circuitB, twoWay, ring}
 
 -- "E2 T on all of B: table 1, 2, 4, 0, 0, 0; started 6, kept 3, struck 3, rounds 2."
 pub E2-table : lastTable circuitT circuitB (everything circuitB) ≡ 1 ∷ 2 ∷ 4 ∷ 0 ∷ 0 ∷ 0 ∷ []
-unfolding opened circuitT circuitB
+unfolding rowComputed circuitT circuitB
 E2-table = refl
 
 pub E2-started : started circuitT circuitB (everything circuitB) ≡ 6
-unfolding opened circuitT circuitB
+unfolding rowComputed circuitT circuitB
 E2-started = refl
 
 pub E2-kept : kept circuitT circuitB (everything circuitB) ≡ 3
-unfolding opened circuitT circuitB
+unfolding rowComputed circuitT circuitB
 E2-kept = refl
 
 pub E2-struck : struck circuitT circuitB (everything circuitB) ≡ 3
-unfolding opened circuitT circuitB
+unfolding rowComputed circuitT circuitB
 E2-struck = refl
 
 pub E2-rounds : rounds circuitT circuitB (everything circuitB) ≡ 2
-unfolding opened circuitT circuitB
+unfolding rowComputed circuitT circuitB
 E2-rounds = refl
 
 -- "E4 T on B at 3: .. started 2, kept 0, rounds 2." The ball around 3 holds the nodes 3 and 4.
 pub E4-started : started circuitT circuitB (0 ∷ 0 ∷ 0 ∷ 1 ∷ 1 ∷ 0 ∷ []) ≡ 2
-unfolding opened circuitT circuitB
+unfolding rowComputed circuitT circuitB
 E4-started = refl
 
 pub E4-kept : kept circuitT circuitB (0 ∷ 0 ∷ 0 ∷ 1 ∷ 1 ∷ 0 ∷ []) ≡ 0
-unfolding opened circuitT circuitB
+unfolding rowComputed circuitT circuitB
 E4-kept = refl
 
 pub E4-rounds : rounds circuitT circuitB (0 ∷ 0 ∷ 0 ∷ 1 ∷ 1 ∷ 0 ∷ []) ≡ 2
-unfolding opened circuitT circuitB
+unfolding rowComputed circuitT circuitB
 E4-rounds = refl
 
 -- "E5 Pattern 0:10, 1:20, links 0-1, 1-0, on the ring ..: table 1, 2, 1, 2"
 pub E5-table : lastTable twoWay ring (everything ring) ≡ 1 ∷ 2 ∷ 1 ∷ 2 ∷ []
-unfolding opened twoWay ring
+unfolding rowComputed twoWay ring
 E5-table = refl

@@ -1,19 +1,18 @@
+pub mod Agreement
 pub mod Answers
 pub mod Sets
 pub mod Row
-mod Rest
 pub mod Counting
 pub mod Meaning
+pub mod Narrow
 pub mod Host
 pub mod PreparedMasks
-mod StrikeFill
+pub mod StrikeFill
 pub mod NodeLists
 pub mod Masks
 pub mod Prepare
 pub mod Examples
 mod StrikeSets
-mod StrikeStretch
 mod StrikeRow
 mod StrikeRounds
-mod StrikeRefine
-pub mod Narrow
+pub mod Begun

@@ -6,18 +6,19 @@ use Prim.Native.Nat.{ℕ, _+_, _^_, _≤_, _<_}
 use native.Mathlib.Nat.{not-le-of-lt}
 use native.Mathlib.Numerals.{add-one}
 use lib.Bits.{bitOr}
-use lib.Dec.{T, eqb, eqb→eq}
+use lib.Dec.{eqb, eqb→eq}
 use lib.ListN.{length, getD, drop, set, replicate, length-set, length-replicate, getD-replicate, drop-of-length-le}
 use lib.Seq.{drop-cons, getD-set-same, getD-set-other}
 use borrow.Author.Tests.{eqb-true, eqb-false, eq-eqb}
 use Rattle.base_lists.specs.List.{any, Below}
-use Rattle.base_lists.proofs.Tests.{T-false, true-T, same-test, any-at}
-use Rattle.base_lists.proofs.Tables.{is-tabulate, getD-tabulate}
+use Rattle.base_lists.proofs.Tests.{T-false, true-T, same-test}
+use Rattle.base_lists.proofs.Tables.{is-tabulate}
 use Rattle.base_bits.specs.Bits.{bit, numberOf}
 use Rattle.base_bits.proofs.Digits.{bit-of-zero, bit-or, bit-single, same-bits}
 use Rattle.base_bits.proofs.Numbers.{bit-number-all}
 use Rattle.graph.specs.Neighbours.{select}
 use Rattle.graph.proofs.Groups.{select-link}
+use Rattle.table_row.proofs.Masks.{listed-below}
 use Rattle.table.specs.Fill.{listed}
 use Rattle.table.specs.Prepared.{masksOf}
 
@@ -67,19 +68,9 @@ bit-add (k ∷ ks) (x ∷ xs) out u h y = bit-add ks xs (set out k (bitOr (getD 
 -- ---- the values beside a key
 
 -- they are below n, where all values are
-pub select-below : (n : ℕ) (ks xs : List ℕ) (u y : ℕ) → Below n xs → T (listed (select ks xs u) y) → y < n
-unfolding listed Below
-select-below n ks xs u y l t =
-    let (i, h, e) = any-at (λ w. eqb w y) (select ks xs u) t in
-    let (j, k) = select-link ks xs u i h in
-    subst (λ (z : ℕ). z < n) (k .end ∙ eqb→eq (getD (select ks xs u) i 0) y e) (l j (k .inEnds))
-
--- part y is in the mask of part u when it stands beside it
-pub bit-mask : (n : ℕ) (ks xs : List ℕ) (u y : ℕ) → Below 32 xs → u < n → bit (getD (masksOf n ks xs) u 0) y ≡ listed (select ks xs u) y
-unfolding masksOf
-bit-mask n ks xs u y l h =
-    ap (λ (s : ℕ). bit s y) (getD-tabulate n (λ v. numberOf 32 (listed (select ks xs v))) u 0 h)
-    ∙ bit-number-all 32 (listed (select ks xs u)) (λ v k. T-false (λ t. not-le-of-lt (select-below 32 ks xs u v l t) k)) y
+pub select-within : (n : ℕ) (ks xs : List ℕ) (u : ℕ) → Below n xs → Below n (select ks xs u)
+unfolding Below
+select-within n ks xs u l i h = let (j, k) = select-link ks xs u i h in subst (λ (z : ℕ). z < n) (k .end) (l j (k .inEnds))
 
 add-none : (n : ℕ) (ks xs : List ℕ) → Below 32 xs → addLinks ks xs (replicate n 0) ≡ masksOf n ks xs
 unfolding masksOf
@@ -91,7 +82,7 @@ add-none n ks xs l =
     (λ y.
     bit-add ks xs none u (rw long h) y
     ∙ ap (λ (b : Bool). b || listed (select ks xs u) y) (ap (λ (s : ℕ). bit s y) (getD-replicate n u 0 0 h) ∙ bit-of-zero y)
-    ∙ sym (bit-number-all 32 (listed (select ks xs u)) (λ v k. T-false (λ t. not-le-of-lt (select-below 32 ks xs u v l t) k)) y)))
+    ∙ sym (bit-number-all 32 (listed (select ks xs u)) (λ v k. T-false (λ t. not-le-of-lt (listed-below 32 (select ks xs u) v (select-within 32 ks xs u l) t) k)) y)))
 
 -- the links added to empty sets are the masks
 pub add-masks : (n : ℕ) (ks xs out : List ℕ) → Below 32 xs → out ≡ replicate n 0 → addLinks ks xs out ≡ masksOf (length out) ks xs

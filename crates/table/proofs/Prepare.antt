@@ -1,71 +1,48 @@
--- The neighbour tables and masks of two bounded circuits are what a round needs. Assumes nothing.
-use mathlib.Core.List.{List, _++_, append-nil, []}
-use mathlib.Core.Path.{_≡_, sym, ap, subst, _∙_}
-use Prim.Native.Nat.{ℕ, suc, _<_}
+-- What preparing and listing every node come to. Assumes nothing.
+use mathlib.Core.List.{List}
+use mathlib.Core.Path.{_≡_, ap, subst, _∙_}
+use Prim.Native.Nat.{ℕ}
 use native.Mathlib.Omega.{arith}
-use lib.Dec.{T, ltb}
-use lib.ListN.{length, length-append}
-use Rattle.base_lists.specs.List.{all}
+use lib.ListN.{length}
+use Rattle.base_lists.proofs.Parts.{halved, part-first, part-second, length-halved}
 use Rattle.graph.specs.Circuit.{Circuit}
-use Rattle.graph.specs.Neighbours.{select, stretch, offsetsOf, grouped, NeighbourTable}
-use Rattle.graph.proofs.Groups.{all-below, below-le, below-mono, length-grouped, length-offsets, offset-at, stretch-select}
-use Rattle.graph.proofs.Measures.{grouped-below}
-use Rattle.file_format.specs.declared.Role.the-variants.{Pattern, Board}
+use Rattle.graph.specs.Net.{NetOf}
+use Rattle.graph.proofs.Groups.{all-below}
+use Rattle.file_format.specs.declared.Role.the-variants.{Pattern}
 use Rattle.file_format.specs.Circuit.{Bounded}
 use Rattle.file_format.proofs.Accepted.{bounded-starts, bounded-ends}
 use Rattle.table.specs.declared.Counts.{Counts}
 use Rattle.table.specs.Fill.{marksOf, allNodes}
 use Rattle.table.specs.Host.{everything}
 use Rattle.table.specs.Refine.{Refined, MatchedOn}
-use Rattle.table.specs.Prepared.{masksOf, tables, Prepared}
+use Rattle.table.specs.Prepared.{masksOf, Masked, Tables, Prepared}
 use Rattle.table.proofs.NodeLists.{all-marks}
+use Rattle.table.proofs.PreparedMasks.{length-masks}
 
--- ---- one direction
+-- A list of masks that is filled in two halves, each by the masks of the links followed in one direction.
+pub masked : (starts ends old : List ℕ) {xs ys : List ℕ} → length old ≡ 64 → xs ≡ masksOf 32 starts ends → ys ≡ masksOf 32 ends starts
+    → Masked starts ends (halved 32 xs ys old)
+masked starts ends old {xs} {ys} room isSucc isPred =
+    let first : length xs ≡ 32 = ap length isSucc ∙ length-masks 32 starts ends in
+    let second : length ys ≡ 32 = ap length isPred ∙ length-masks 32 ends starts in
+    record {
+      room = length-halved 32 xs ys old first second (omega arith) ∙ room;
+      succ = part-first 32 xs ys old first ∙ isSucc;
+      pred = part-second 32 xs ys old first second ∙ isPred;
+    }
 
--- Values grouped by keys below n, the offsets with anything after them.
-module _ (n : ℕ) (keys values rest : List ℕ) (parallel : length keys ≡ length values) (inKeys : T (all (λ v. ltb v n) keys)) where
-  pub grouped-table : T (all (λ v. ltb v n) values) → NeighbourTable n (offsetsOf n keys ++ rest) (grouped n keys values)
-  grouped-table inValues =
-      record {
-        held = omega (arith, length-append (offsetsOf n keys) rest, length-offsets n keys);
-        rising = λ v h. rw (offset-at n keys rest v (omega arith), offset-at n keys rest (suc v) h) (below-mono keys v (suc v) (omega arith));
-        within = λ v h. rw (offset-at n keys rest (suc v) h, length-grouped n keys values parallel inKeys) (below-le keys (suc v));
-        nodes = grouped-below n n keys values inValues;
-      }
-
-  pub grouped-stretch : (v : ℕ) → v < n → stretch (offsetsOf n keys ++ rest) (grouped n keys values) v ≡ select keys values v
-  grouped-stretch v h =
-      ap (λ (t : List ℕ). stretch (offsetsOf n keys ++ rest) t v) (sym (append-nil (grouped n keys values)))
-      ∙ stretch-select n keys values rest [] v parallel h
-
--- ---- all that a round looks up
-
-module _ {pattern host : Circuit} (p : Bounded Pattern pattern) (b : Bounded Board host) where
-  abbrev n : ℕ
-  n = length (host .kinds)
-
-  abbrev k : ℕ
-  k = length (pattern .kinds)
-
-  -- Masks and neighbour tables as `masks` and `neighbour_tables` leave them.
-  pub prepared :
-      {succ pred fo ft bo bt : List ℕ} (xs ys : List ℕ) →
-      succ ≡ masksOf k (pattern .starts) (pattern .ends) → pred ≡ masksOf k (pattern .ends) (pattern .starts) →
-      fo ≡ offsetsOf n (host .starts) ++ xs → ft ≡ grouped n (host .starts) (host .ends) →
-      bo ≡ offsetsOf n (host .ends) ++ ys → bt ≡ grouped n (host .ends) (host .starts) →
-      Prepared pattern host (tables succ pred fo ft bo bt)
-  prepared xs ys isSucc isPred isFo isFt isBo isBt =
-      record {
-        parts = p .nodes;
-        starts = all-below k (pattern .starts) (bounded-starts p);
-        ends = all-below k (pattern .ends) (bounded-ends p);
-        succ = isSucc;
-        pred = isPred;
-        forward = rw (isFo, isFt) (grouped-table n (host .starts) (host .ends) xs (b .parallel) (bounded-starts b) (bounded-ends b));
-        backward = rw (isBo, isBt) (grouped-table n (host .ends) (host .starts) ys (sym (b .parallel)) (bounded-ends b) (bounded-starts b));
-        drives = rw (isFo, isFt) (grouped-stretch n (host .starts) (host .ends) xs (b .parallel) (bounded-starts b));
-        driven = rw (isBo, isBt) (grouped-stretch n (host .ends) (host .starts) ys (sym (b .parallel)) (bounded-ends b));
-      }
+-- Masks and neighbour tables as `prepare` leaves them are those of the pattern and the circuit.
+pub prepared :
+    {pattern host : Circuit} {t : Tables} → Bounded Pattern pattern → Masked (pattern .starts) (pattern .ends) (t .masks) →
+    NetOf (length (host .kinds)) (host .starts) (host .ends) (t .offsets) (t .links) → Prepared pattern host t
+prepared {pattern} p masked net =
+    record {
+      parts = p .nodes;
+      starts = all-below _ (pattern .starts) (bounded-starts p);
+      ends = all-below _ (pattern .ends) (bounded-ends p);
+      masked = masked;
+      net = net;
+    }
 
 -- ---- every node listed
 

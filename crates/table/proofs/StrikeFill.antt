@@ -17,7 +17,8 @@ use Rattle.base_lists.proofs.Below.{countBelow-le, countBelow-same}
 use Rattle.base_bits.specs.Bits.{bit, sizeOf}
 use Rattle.base_bits.proofs.Digits.{bit-of-zero}
 use Rattle.table.specs.Row.{pairs}
-use Rattle.table.specs.Fill.{listed, Distinct, Cleared, fillAt, sizesAt, Filled, tableAt}
+use Rattle.table.specs.Fill.{listed, Distinct, NodeList, Cleared, fillAt, sizesAt, Filled, tableAt}
+use Rattle.table.specs.First.{Written}
 
 -- ---- what is written
 
@@ -131,6 +132,14 @@ pairs-table n f nodes d l =
       pairs-fill f nodes zeros d (λ i h. rw long (l i h)) (λ i h. getD-replicate n (getD nodes i 0) 0 0 (l i h)),
     )
 
+-- so writing into an empty table makes a first table
+pub filled-written : {n : ℕ} {f : ℕ → ℕ} {nodes empty table : List ℕ} {count : ℕ} → empty ≡ replicate n 0 → NodeList n nodes
+    → Filled f nodes empty table count → Written n f nodes table count
+filled-written {n} {f} {nodes} {empty} {table} none list fill =
+    let made : table ≡ tableAt n f nodes =
+    fill .table ∙ fill-table f nodes empty (cleared-none n nodes empty none) ∙ ap (λ (m : ℕ). tableAt m f nodes) (ap length none ∙ length-replicate n 0) in
+    record { made = made; size = fill .size ∙ sym (ap pairs made ∙ pairs-table n f nodes (list .distinct) (list .below)) }
+
 -- ---- a loop over the list
 
 -- After i turns: the turns that are left lead to the whole table and the whole count.
@@ -144,6 +153,10 @@ pub filling-start : (f : ℕ → ℕ) (nodes before : List ℕ) → Filling f no
 filling-start f nodes before = record { within = zero-le; long = refl; table = refl; size = omega arith }
 
 module _ {f : ℕ → ℕ} {nodes before after : List ℕ} {count i : ℕ} (g : Filling f nodes before after count i) where
+  -- the count fits its type, when the size of a set is added
+  pub filling-fits : length nodes ≤ 65536 → (x : ℕ) {s : ℕ} → s ≡ sizeOf x → count + s < 2 ^ 32
+  filling-fits short x d = omega (arith, g .size, sizes-le f nodes, d, size-le x)
+
   module _ (h : i < length nodes) where
     next : drop i nodes ≡ getD nodes i 0 ∷ drop (i + 1) nodes
     next = rw (add-one, drop-cons nodes i 0)
@@ -151,10 +164,6 @@ module _ {f : ℕ → ℕ} {nodes before after : List ℕ} {count i : ℕ} (g : 
     sizes-next : sizeOf (f (getD nodes i 0)) + sizesAt f (drop (i + 1) nodes) ≡ sizesAt f (drop i nodes)
     unfolding sizesAt
     sizes-next = sym (ap (sizesAt f) next)
-
-    -- the count fits its type, when the size of the next set is added
-    pub filling-fits : length nodes ≤ 65536 → {x s : ℕ} → x ≡ f (getD nodes i 0) → s ≡ sizeOf x → count + s < 2 ^ 32
-    filling-fits short e d = omega (arith, g .size, sizes-next, sizes-le f nodes, d, ap sizeOf e)
 
     -- one turn: x is written at the next node, and its size added
     pub filling-next : {x s : ℕ} → x ≡ f (getD nodes i 0) → s ≡ sizeOf x → Filling f nodes before (set after (getD nodes i 0) x) (count + s) (i + 1)

@@ -4,7 +4,7 @@ use mathlib.Core.List.{List}
 use mathlib.Core.Logic.{_⊎_, ⊎-elim}
 use mathlib.Core.Path.{_≡_, refl, sym, ap, subst, _∙_}
 use Prim.Native.Nat.{ℕ, suc, _+_, _^_, _≤_, _<_}
-use native.Mathlib.Nat.{lt-of-le-of-lt}
+use native.Mathlib.Nat.{le-refl, not-suc-le-zero, lt-of-le-of-lt}
 use native.Mathlib.Numerals.{add-one}
 use native.Mathlib.Decide.{decLt}
 use native.Mathlib.Omega.{arith}
@@ -16,16 +16,23 @@ use Rattle.base_bits.specs.Bits.{bit, Subset}
 use Rattle.base_bits.proofs.Digits.{bit-of-zero}
 use Rattle.base_bits.proofs.Numbers.{subset-le}
 use Rattle.graph.specs.Circuit.{Circuit}
-use Rattle.table.specs.Row.{inTable, pairs, startTable, row, lastTable, kept, rounds}
+use Rattle.graph.proofs.Net.{net-of}
+use Rattle.simulation.specs.Simulation.{Direction}
+use Rattle.table_row.specs.Problem.{Problem}
+use Rattle.table_row.specs.Row.{rowFrom, rowOf, keptOf}
+use Rattle.table_row.proofs.Sets.{fits-word, pairs-progress}
+use Rattle.table_row.proofs.Falling.{FirstRest, falls-count}
+use Rattle.table_row.proofs.Counting.{first-rounds}
+use Rattle.table_row.proofs.Begin.{begins-fits, begins-times, begins-rest}
+use Rattle.table.specs.Row.{inTable, pairs, problemOf, startTable, lastTable, rounds}
 use Rattle.table.specs.Fill.{listed, marksOf, NodeList, Cleared, Filled, tableAt}
+use Rattle.table.specs.First.{Begins}
 use Rattle.table.specs.Prepared.{Tables, Ready, Prepared}
+use Rattle.table.specs.Refine.{Rested}
 use Rattle.table.specs.Strike.{strikeNode, strikeTable, strikeTimes, Round, Settled}
-use Rattle.table.proofs.Sets.{pairs-progress}
-use Rattle.table.proofs.Rest.{FirstRest, falls-count}
-use Rattle.table.proofs.Counting.{first-last, first-rounds}
 use Rattle.table.proofs.StrikeFill.{length-table, getD-table, cleared-table, fill-table, pairs-table}
 use Rattle.table.proofs.StrikeSets.{survivors-subset}
-use Rattle.table.proofs.StrikeRow.{times-row}
+use Rattle.table.proofs.StrikeRow.{begins-cleared, times-row}
 
 -- ---- a round shrinks the sets
 
@@ -59,19 +66,18 @@ module _ (t : Tables) (nodes old : List ℕ) where
   strike-ready : Ready t old → Ready t (strikeTable t nodes old)
   strike-ready r =
       record {
-        forward = rw length-strike (r .forward);
-        backward = rw length-strike (r .backward);
-        drives = λ v. strike-smaller (2 ^ length (t .succ)) v (r .drives v);
-        driven = λ v. strike-smaller (2 ^ length (t .pred)) v (r .driven v);
+        masks = r .masks;
+        net = rw length-strike (r .net);
+        small = λ v. strike-smaller (2 ^ 32) v (r .small v);
       }
 
   -- it leaves fewer pairs, or the same table
-  strike-progress : length (t .succ) ≤ 32 → Ready t old → (pairs (strikeTable t nodes old) < pairs old) ⊎ (strikeTable t nodes old ≡ old)
+  strike-progress : Ready t old → (pairs (strikeTable t nodes old) < pairs old) ⊎ (strikeTable t nodes old ≡ old)
   unfolding inTable
-  strike-progress most r =
-      pairs-progress most
-      (record { size = length-strike; small = λ v. strike-smaller (2 ^ length (t .succ)) v (r .drives v) })
-      (record { size = refl; small = r .drives })
+  strike-progress r =
+      pairs-progress (le-refl 32)
+      (record { size = length-strike; small = λ v. strike-smaller (2 ^ 32) v (r .small v) })
+      (record { size = refl; small = r .small })
       (λ u v. strike-subset v u)
 
 -- ---- from round to round
@@ -84,7 +90,7 @@ round-count {t} {nodes} {start} {rounds = rounds} r =
 
 -- One round more: what `strike` writes and returns.
 module _ {t : Tables} {nodes start old spare : List ℕ} {kept rounds : ℕ} (r : Round t nodes start old spare kept rounds)
-    (most : length (t .succ) ≤ 32) (list : NodeList (length old) nodes) {new : List ℕ} {next : ℕ} (fill : Filled (strikeNode t old) nodes spare new next) where
+    (list : NodeList (length old) nodes) {new : List ℕ} {next : ℕ} (fill : Filled (strikeNode t old) nodes spare new next) where
   struck : new ≡ strikeTable t nodes old
   unfolding strikeTable
   struck = fill .table ∙ fill-table (strikeNode t old) nodes spare (r .free) ∙ ap (λ (m : ℕ). tableAt m (strikeNode t old) nodes) (r .long)
@@ -97,7 +103,7 @@ module _ {t : Tables} {nodes start old spare : List ℕ} {kept rounds : ℕ} (r 
   pub round-less : (next ≡ kept → ⊥) → next < kept
   round-less differs =
       ⊎-elim (λ l. omega (arith, new-count, ap pairs struck, r .count)) (λ e. absurd (differs (new-count ∙ ap pairs (struck ∙ e) ∙ sym (r .count))))
-      (strike-progress t nodes old most (r .ready))
+      (strike-progress t nodes old (r .ready))
 
   pub round-next : (next ≡ kept → ⊥) → Round t nodes start new old next (rounds + 1)
   unfolding strikeTimes
@@ -117,7 +123,7 @@ module _ {t : Tables} {nodes start old spare : List ℕ} {kept rounds : ℕ} (r 
 
   -- it struck none: the two tables are equal, and the loop has settled
   stopped : next ≡ kept → strikeTable t nodes old ≡ old
-  stopped e = ⊎-elim (λ l. absurd (omega (arith, new-count, ap pairs struck, r .count))) (λ s. s) (strike-progress t nodes old most (r .ready))
+  stopped e = ⊎-elim (λ l. absurd (omega (arith, new-count, ap pairs struck, r .count))) (λ s. s) (strike-progress t nodes old (r .ready))
 
   pub round-same : next ≡ kept → new ≡ old
   round-same e = struck ∙ stopped e
@@ -125,34 +131,59 @@ module _ {t : Tables} {nodes start old spare : List ℕ} {kept rounds : ℕ} (r 
   pub round-last : next ≡ kept → Settled t nodes start old kept rounds
   round-last e = record { table = r .table; stops = stopped e; falls = r .falls; count = r .count }
 
--- the loop ends with no more pairs than it started with
-pub settled-count : {t : Tables} {nodes start last : List ℕ} {kept rounds : ℕ} → Settled t nodes start last kept rounds → kept ≤ pairs start
-unfolding strikeTimes
-settled-count {t} {nodes} {start} {rounds = rounds} s =
-    omega (arith, falls-count pairs (strikeTimes t nodes start) rounds (s .falls), s .count ∙ ap pairs (s .table))
+-- ---- the rounds begin
 
--- ---- what the loop settles at is the end of the row
-
-module _ {pattern host : Circuit} {t : Tables} (p : Prepared pattern host t) (nodes : List ℕ) {last : List ℕ} {k r : ℕ}
-    (s : Settled t nodes (startTable pattern host (marksOf (length (host .kinds)) nodes)) last k r) where
-  abbrev marks : List ℕ
-  marks = marksOf (length (host .kinds)) nodes
-
-  first : FirstRest pairs (row pattern host marks) r
-  unfolding strikeTimes
-  first =
+module _ {pattern host : Circuit} {t : Tables} (p : Prepared pattern host t) (nodes : List ℕ) {first : List ℕ}
+    (b : Begins pattern host (marksOf (length (host .kinds)) nodes) first) where
+  pub first-round : {spare : List ℕ} {started : ℕ} → Cleared nodes spare → length spare ≡ length first → started ≡ pairs first
+      → Round t nodes first first spare started 0
+  unfolding strikeTimes problemOf
+  first-round free long count =
       record {
-        falls = λ j h. rw (← times-row pattern host t p nodes j, ← times-row pattern host t p nodes (suc j)) (s .falls j h);
-        repeats =
-            sym (times-row pattern host t p nodes (suc r)) ∙ ap (strikeTable t nodes) (sym (s .table)) ∙ s .stops ∙ s .table ∙ times-row pattern host t p nodes r;
+        table = refl;
+        falls = λ j h. absurd (not-suc-le-zero h);
+        count = count;
+        ready =
+            record {
+              masks = p .masked .room;
+              net = rw (b .long) (net-of (p .net));
+              small = fits-word (p .parts) (begins-fits (problemOf pattern host (marksOf (length (host .kinds)) nodes)) b);
+            };
+        cleared = begins-cleared pattern host nodes b;
+        free = free;
+        long = long;
       }
 
-  pub settled-table : last ≡ lastTable pattern host marks
-  settled-table = s .table ∙ times-row pattern host t p nodes r ∙ sym (first-last pattern host marks first)
+  -- ---- what the loop settles at is the end of the row
 
-  pub settled-kept : k ≡ kept pattern host marks
-  unfolding kept
-  settled-kept = s .count ∙ ap pairs settled-table
+  module _ {last : List ℕ} {k r : ℕ} (s : Settled t nodes first last k r) where
+    abbrev marks : List ℕ
+    marks = marksOf (length (host .kinds)) nodes
 
-  pub settled-rounds : r ≡ rounds pattern host marks
-  settled-rounds = sym (first-rounds pattern host marks first)
+    abbrev problem : Problem Direction
+    problem = problemOf pattern host marks
+
+    settled-again : strikeTimes t nodes first (suc r) ≡ strikeTimes t nodes first r
+    unfolding strikeTimes
+    settled-again = ap (strikeTable t nodes) (sym (s .table)) ∙ s .stops ∙ s .table
+
+    repeats : rowFrom problem first (suc r) ≡ rowFrom problem first r
+    repeats = sym (times-row pattern host t p nodes b (suc r)) ∙ settled-again ∙ times-row pattern host t p nodes b r
+
+    settled-last : last ≡ lastTable pattern host marks
+    unfolding rowFrom problemOf
+    settled-last = s .table ∙ times-row pattern host t p nodes b r ∙ begins-rest problem (p .parts) (begins-times problem (p .parts) b r) repeats
+
+    -- from the first table of the row, the rounds are those of the row
+    settled-rounds : first ≡ startTable pattern host marks → r ≡ rounds pattern host marks
+    unfolding rowOf
+    settled-rounds e =
+        let rest : FirstRest pairs (rowFrom problem first) r = record { falls = falls; repeats = repeats } in
+        sym (first-rounds problem (rw e at rest))
+      where
+        falls : (j : ℕ) → j < r → pairs (rowFrom problem first (suc j)) < pairs (rowFrom problem first j)
+        falls j h = rw (← times-row pattern host t p nodes b j, ← times-row pattern host t p nodes b (suc j)) (s .falls j h)
+
+    pub settled-rested : Rested pattern host marks first last (record { kept = k; rounds = r })
+    unfolding keptOf
+    settled-rested = record { last = settled-last; kept = s .count ∙ ap pairs settled-last; rounds = settled-rounds }

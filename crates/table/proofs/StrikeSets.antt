@@ -14,8 +14,8 @@ use Rattle.base_bits.proofs.Digits.{bit-of-zero, bit-below, bit-or, bit-single,
 use Rattle.base_bits.proofs.Numbers.{bit-number, number-lt, number-same, number-bit}
 use Rattle.base_bits.proofs.Tests.{bitOr-assoc}
 use Rattle.base_bits.proofs.Members.{first-trailing, bit-without, trailing-lt, trailing-bit}
-use Rattle.graph.specs.Neighbours.{stretch}
-use Rattle.table.specs.Prepared.{Tables}
+use Rattle.graph.specs.Net.{driven, driving}
+use Rattle.table.specs.Prepared.{succOf, predOf, Tables}
 use Rattle.table.specs.Strike.{survivors, strikeNode}
 
 -- ---- the first part of a set that is not empty
@@ -128,12 +128,12 @@ module _ (succ pred : List ℕ) (f b : ℕ) where
 pub strike-none : (t : Tables) (old : List ℕ) (v : ℕ) → getD old v 0 ≡ zero → strikeNode t old v ≡ zero
 unfolding strikeNode
 strike-none t old v e =
-    let f = unionAt old (stretch (t .forwardOffsets) (t .forward) v) in
-    let b = unionAt old (stretch (t .backwardOffsets) (t .backward) v) in
-    ap (survivors (t .succ) (t .pred) f b) e ∙ survivors-none (t .succ) (t .pred) f b
+    let f = unionAt old (driven (t .offsets) (t .links) v) in
+    let b = unionAt old (driving (t .offsets) (t .links) v) in
+    ap (survivors (succOf (t .masks)) (predOf (t .masks)) f b) e ∙ survivors-none (succOf (t .masks)) (predOf (t .masks)) f b
 
 -- the next set of a node, from the two unions over its neighbours
-pub strike-unions : (t : Tables) (old : List ℕ) (v : ℕ) {f b r : ℕ} → f ≡ unionAt old (stretch (t .forwardOffsets) (t .forward) v)
-    → b ≡ unionAt old (stretch (t .backwardOffsets) (t .backward) v) → r ≡ survivors (t .succ) (t .pred) f b (getD old v 0) → r ≡ strikeNode t old v
+pub strike-unions : (t : Tables) (old : List ℕ) (v : ℕ) {f b r : ℕ} → f ≡ unionAt old (driven (t .offsets) (t .links) v)
+    → b ≡ unionAt old (driving (t .offsets) (t .links) v) → r ≡ survivors (succOf (t .masks)) (predOf (t .masks)) f b (getD old v 0) → r ≡ strikeNode t old v
 unfolding strikeNode
-strike-unions t old v d e q = q ∙ ap₂ (λ (f b : ℕ). survivors (t .succ) (t .pred) f b (getD old v 0)) d e
+strike-unions t old v d e q = q ∙ ap₂ (λ (f b : ℕ). survivors (succOf (t .masks)) (predOf (t .masks)) f b (getD old v 0)) d e

@@ -1,6 +1,19 @@
--- The circuits of document 01's examples.
+-- The circuits of document 01's examples, and what is opened where their tables are computed.
 use mathlib.Core.List.{[], _∷_}
+use Rattle.base_lists.specs.List.{all, any, tabulate, sum}
+use Rattle.base_lists.specs.Below.{countBelow}
+use Rattle.base_bits.specs.Bits.{bit, numberOf, sizeOf}
 use Rattle.graph.specs.Circuit.{Circuit}
+use Rattle.graph.specs.Neighbours.{select}
+use Rattle.graph.specs.Search.{inside}
+use Rattle.table_row.specs.Row.{inTable, tableOf, pairs, same, startOf, answered, every, supported, strikeOf, rowFrom, rowOf, startedOf, lastOf, keptOf, struckOf, roundsOf}
+use Rattle.table.specs.Host.{everything}
+use Rattle.table.specs.Row.{kindsAgree, agrees, neighbours, problemOf}
+
+-- `unfolding rowComputed` opens the row, the last table and the counts
+unfoldable pub rowComputed : Unit {0}
+unfolding all any tabulate sum countBelow bit numberOf sizeOf select inside everything inTable tableOf pairs same startOf answered every supported strikeOf rowFrom rowOf startedOf lastOf keptOf struckOf roundsOf kindsAgree agrees neighbours problemOf
+rowComputed = tt
 
 -- "T: 0:10, 1:20, 2:30, links 0-1, 1-2."
 unfoldable pub circuitT : Circuit

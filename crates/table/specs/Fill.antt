@@ -1,16 +1,12 @@
 -- Tables of sets that are written at the nodes of a list: what the loops over a list of nodes do. Start and strike are both of this form.
-use mathlib.Core.Bool.{Bool, false, cond}
+use mathlib.Core.Bool.{false, cond}
 use mathlib.Core.List.{List, [], _∷_}
 use mathlib.Core.Path.{_≡_}
 use Prim.Native.Nat.{ℕ, zero, _+_, _≤_, _<_}
-use lib.Dec.{eqb}
 use lib.ListN.{length, getD, set}
-use Rattle.base_lists.specs.List.{any, tabulate, Below}
+use Rattle.base_lists.specs.List.{tabulate, Below}
 use Rattle.base_bits.specs.Bits.{sizeOf}
-
--- v is in the list
-unfoldable pub listed : List ℕ → ℕ → Bool
-listed nodes v = any (λ w. eqb w v) nodes
+unfoldable pub use Rattle.table_row.specs.Masks.{listed}
 
 -- a byte per node, 1 for those of the list
 unfoldable pub marksOf : ℕ → List ℕ → List ℕ

@@ -2,6 +2,7 @@ pub mod Host
 pub mod Row
 pub mod Fill
 pub mod Prepared
+pub mod First
 pub mod Refine
 pub mod Reply
 pub mod Examples

@@ -4,17 +4,12 @@ use mathlib.Core.Bool.{_&&_}
 use mathlib.Core.List.{List}
 use mathlib.Core.Path.{_≡_}
 use Prim.Native.Nat.{ℕ, zero, suc, _<_}
-use lib.Dec.{eqb}
 use lib.ListN.{length, getD}
 use Rattle.base_bits.specs.Bits.{bit, numberOf, subsetOf, unionAt}
-use Rattle.graph.specs.Neighbours.{stretch}
+use Rattle.graph.specs.Net.{driven, driving}
 use Rattle.table.specs.Fill.{Cleared, tableAt}
 use Rattle.table.specs.Row.{pairs}
-use Rattle.table.specs.Prepared.{Tables, Ready}
-
--- the set of the parts that have a node's kind
-unfoldable pub startNode : List ℕ → List ℕ → ℕ → ℕ
-startNode partKinds nodeKinds v = numberOf (length partKinds) (λ u. eqb (getD partKinds u 0) (getD nodeKinds v 0))
+use Rattle.table.specs.Prepared.{succOf, predOf, Tables, Ready}
 
 -- those parts of a set that drive only parts of the set f, and that only parts of the set b drive
 unfoldable pub survivors : List ℕ → List ℕ → ℕ → ℕ → ℕ → ℕ
@@ -24,8 +19,8 @@ survivors succ pred f b x = numberOf 32 (λ u. bit x u && (subsetOf (getD succ u
 -- union, those at some node that drives v another.
 unfoldable pub strikeNode : Tables → List ℕ → ℕ → ℕ
 strikeNode t old v =
-    survivors (t .succ) (t .pred) (unionAt old (stretch (t .forwardOffsets) (t .forward) v))
-    (unionAt old (stretch (t .backwardOffsets) (t .backward) v)) (getD old v 0)
+    survivors (succOf (t .masks)) (predOf (t .masks)) (unionAt old (driven (t .offsets) (t .links) v))
+    (unionAt old (driving (t .offsets) (t .links) v)) (getD old v 0)
 
 -- one round: each next set from the last table whole
 unfoldable pub strikeTable : Tables → List ℕ → List ℕ → List ℕ

@@ -1,7 +1,12 @@
 // The match table, by striking pairs in rounds.
 
+// The masks of a pattern: for each of 32 parts the parts that it drives, and then for each those that drive it.
+pub const MASKS: usize = 64;
+
+pub const FORWARD_MASKS: usize = 32;
+
+pub mod first;
 pub mod largest;
-mod start;
 mod strike;
 
 // The pairs at first, those left and those struck, and how many rounds struck a pair.
@@ -9,5 +14,11 @@ pub struct Counts {
     pub started: u32,
     pub kept: u32,
     pub struck: u32,
+    pub rounds: u32,
+}
+
+// Where the rounds end: the pairs left, and how many rounds struck a pair.
+pub struct Rest {
+    pub kept: u32,
     pub rounds: u32,
 }

@@ -1,10 +1,13 @@
 // One round of striking. A part stays at a node when each part that it drives occurs at some node that the node drives, and the same
 // backward. Which parts occur there is one union of sets for each direction, so a round looks at each link twice and at each pair once.
+use crate::FORWARD_MASKS;
+use crate::MASKS;
+use graph_neighbours::neighbours::Direction;
+use graph_neighbours::neighbours::neighbours_in;
 ghost use mathlib.Core.Path.{_≡_};
 ghost use Prim.Native.Nat.{_^_, _≤_, _<_};
 ghost use lib.ListN.{length};
 ghost use Rattle.base_bits.specs.Bits.{unionAt};
-ghost use Rattle.graph.specs.Neighbours.{stretch, NeighbourTable};
 ghost use Rattle.base_lists.specs.List.{Below};
 ghost use Rattle.table.specs.Fill.{Filled};
 ghost use Rattle.table.specs.Prepared.{tables, Ready};
@@ -46,65 +49,47 @@ fn surviving(set: u32, succ: &[u32], pred: &[u32], f: u32, b: u32) -> u32
     kept
 }
 
-// The union of the sets of node v's neighbours in one direction.
-fn around(offsets: &[u16], links: &[u16], sets: &[u32], v: usize) -> u32
-    requires { ⌜ NeighbourTable (length (now sets)) (now offsets) (now links) ⌝ }
-    requires { ⌜ v < length (now sets) ⌝ }
-    ensures { λ r. ⌜ r ≡ unionAt (now (sets .entry)) (stretch (now (offsets .entry)) (now (links .entry)) v) ⌝ }
-{
-    let next = v + 1;
-    let from = offsets[v] as usize;
-    let to = offsets[next] as usize;
-    reach(&links[from..to], sets)
-}
-
 // The next set of node v.
-fn strike_node(
-    succ: &[u32],
-    pred: &[u32],
-    fo: &[u16],
-    ft: &[u16],
-    bo: &[u16],
-    bt: &[u16],
-    old: &[u32],
-    v: usize,
-) -> u32
-    requires { ⌜ Ready (tables (now succ) (now pred) (now fo) (now ft) (now bo) (now bt)) (now old) ⌝ }
+fn strike_node(masks: &[u32], offsets: &[u16], links: &[u16], old: &[u32], v: usize) -> u32
+    requires { ⌜ Ready (tables (now masks) (now offsets) (now links)) (now old) ⌝ }
     requires { ⌜ v < length (now old) ⌝ }
-    ensures { λ r. ⌜ r ≡ strikeNode (tables (now (succ .entry)) (now (pred .entry)) (now (fo .entry)) (now (ft .entry)) (now (bo .entry)) (now (bt .entry))) (now (old .entry)) v ⌝ }
+    ensures { λ r. ⌜ r ≡ strikeNode (tables (now (masks .entry)) (now (offsets .entry)) (now (links .entry))) (now (old .entry)) v ⌝ }
 {
     let set = old[v];
     if set == 0 {
         return 0;
     }
-    let f = around(fo, ft, old, v);
-    let b = around(bo, bt, old, v);
-    surviving(set, succ, pred, f, b)
+    let f = reach(neighbours_in(Direction::Forward, offsets, links, v), old);
+    let b = reach(neighbours_in(Direction::Backward, offsets, links, v), old);
+    surviving(
+        set,
+        &masks[..FORWARD_MASKS],
+        &masks[FORWARD_MASKS..MASKS],
+        f,
+        b,
+    )
 }
 
 // Writes the next set of each node of the list into `new`, each from the table `old` whole, and returns how many pairs these sets have.
 pub fn strike(
     nodes: &[u16],
-    succ: &[u32],
-    pred: &[u32],
-    fo: &[u16],
-    ft: &[u16],
-    bo: &[u16],
-    bt: &[u16],
+    masks: &[u32],
+    offsets: &[u16],
+    links: &[u16],
     old: &[u32],
     new: &mut [u32],
 ) -> u32
-    requires { ⌜ Ready (tables (now succ) (now pred) (now fo) (now ft) (now bo) (now bt)) (now old) ⌝ }
+    requires { ⌜ Ready (tables (now masks) (now offsets) (now links)) (now old) ⌝ }
     requires { ⌜ length (now nodes) ≤ 65536 ⌝ }
     requires { ⌜ Below (length (now old)) (now nodes) ⌝ }
     requires { ⌜ length (now new) ≡ length (now old) ⌝ }
-    ensures { λ r. ⌜ Filled (strikeNode (tables (now (succ .entry)) (now (pred .entry)) (now (fo .entry)) (now (ft .entry)) (now (bo .entry)) (now (bt .entry))) (now (old .entry))) (now (nodes .entry)) (now (new .entry)) (now (new .exit)) r ⌝ }
+    ensures { λ r. ⌜ Filled (strikeNode (tables (now (masks .entry)) (now (offsets .entry)) (now (links .entry))) (now (old .entry))) (now (nodes .entry)) (now (new .entry)) (now (new .exit)) r ⌝ }
 {
     let mut kept: u32 = 0;
     let mut i = 0;
     while i < nodes.len() {
         let v = nodes[i] as usize;
-        let set = strike_node(succ, pred, fo, ft, bo, bt, old, v);
+        let set = strike_node(masks, offsets, links, old, v);
         new[v] = set;
         kept = kept + base_bits::size(set);
         i += 1;

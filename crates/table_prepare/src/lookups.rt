@@ -1,33 +1,35 @@
 // What a round looks up: the pattern's masks, and the board's neighbour tables.
-use crate::masks::masks;
+use crate::masks::masks_of;
 use graph_neighbours::tables::neighbour_tables;
-ghost use Rattle.file_format.specs.Circuit.{Bounded};
-ghost use Rattle.file_format.specs.declared.Role.the-variants as role;
+use table::FORWARD_MASKS;
+use table::MASKS;
+ghost use mathlib.Core.Path.{_≡_};
+ghost use Prim.Native.Nat.{_≤_};
+ghost use lib.Dec.{T, ltb};
 ghost use lib.ListN.{length};
-ghost use Rattle.graph.specs.Circuit.{circuit};
-ghost use Rattle.table.specs.Prepared.{tables, Prepared, Room};
+ghost use Rattle.base_lists.specs.List.{all, Below};
+ghost use Rattle.graph.specs.Net.{NetRoom, NetOf};
+ghost use Rattle.table.specs.Prepared.{Masked};
 
-// Fills what the rounds look up: the pattern's masks, and the board's forward and backward neighbour tables.
+// Fills what the rounds look up: the pattern's masks, and the neighbour tables of a board of n nodes.
 pub fn prepare(
-    part_kinds: &[u16],
+    n: usize,
     part_starts: &[u16],
     part_ends: &[u16],
-    node_kinds: &[u16],
     node_starts: &[u16],
     node_ends: &[u16],
-    succ: &mut [u32],
-    pred: &mut [u32],
-    fo: &mut [u16],
-    ft: &mut [u16],
-    bo: &mut [u16],
-    bt: &mut [u16],
+    masks: &mut [u32],
+    offsets: &mut [u16],
+    links: &mut [u16],
 )
-    requires { ⌜ Bounded role.Pattern (circuit (now «part_kinds») (now «part_starts») (now «part_ends»)) ⌝ }
-    requires { ⌜ Bounded role.Board (circuit (now «node_kinds») (now «node_starts») (now «node_ends»)) ⌝ }
-    requires { ⌜ Room (length (now «part_kinds»)) (length (now «node_kinds»)) (length (now «node_starts»)) (tables (now succ) (now pred) (now fo) (now ft) (now bo) (now bt)) ⌝ }
-    ensures { λ r. ⌜ Prepared (circuit (now («part_kinds» .entry)) (now («part_starts» .entry)) (now («part_ends» .entry))) (circuit (now («node_kinds» .entry)) (now («node_starts» .entry)) (now («node_ends» .entry))) (tables (now (succ .exit)) (now (pred .exit)) (now (fo .exit)) (now (ft .exit)) (now (bo .exit)) (now (bt .exit))) ⌝ }
+    requires { ⌜ (length (now «part_starts») ≡ length (now «part_ends»)) × Below 32 (now «part_starts») × Below 32 (now «part_ends») ⌝ }
+    requires { ⌜ (n ≤ 512) × (length (now «node_starts») ≡ length (now «node_ends»)) × (length (now «node_starts») ≤ 4096) ⌝ }
+    requires { ⌜ T (all (λ v. ltb v n) (now «node_starts»)) × T (all (λ v. ltb v n) (now «node_ends»)) ⌝ }
+    requires { ⌜ (length (now masks) ≡ 64) × NetRoom (now offsets) (now links) ⌝ }
+    ensures { λ _. ⌜ Masked (now («part_starts» .entry)) (now («part_ends» .entry)) (now (masks .exit)) ⌝ }
+    ensures { λ _. ⌜ NetOf n (now («node_starts» .entry)) (now («node_ends» .entry)) (now (offsets .exit)) (now (links .exit)) ⌝ }
 {
-    neighbour_tables(node_kinds.len(), node_starts, node_ends, fo, ft, bo, bt);
-    masks(part_starts, part_ends, succ);
-    masks(part_ends, part_starts, pred);
+    neighbour_tables(n, node_starts, node_ends, offsets, links);
+    masks_of(part_starts, part_ends, &mut masks[..FORWARD_MASKS]);
+    masks_of(part_ends, part_starts, &mut masks[FORWARD_MASKS..MASKS]);
 }

@@ -7,7 +7,7 @@ use base_bits::clear;
 
 // For each part the set of the values that stand beside it among the keys: with the link starts as keys and the ends as values the parts
 // that it drives, with the two swapped the parts that drive it.
-pub fn masks(keys: &[u16], values: &[u16], out: &mut [u32])
+pub fn masks_of(keys: &[u16], values: &[u16], out: &mut [u32])
     requires { ⌜ length (now keys) ≡ length (now values) ⌝ }
     requires { ⌜ Below (length (now out)) (now keys) ⌝ }
     requires { ⌜ Below 32 (now values) ⌝ }

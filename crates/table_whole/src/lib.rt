@@ -1,7 +1,11 @@
 // The match table of a pattern on a whole board, both read.
 use file_format::Board;
-use file_format::Pattern;
+use graph_neighbours::tables::LINKS;
+use graph_neighbours::tables::OFFSETS;
 use table::Counts;
+use table::MASKS;
+use table::first::start;
+use table::largest::counted;
 use table::largest::refine;
 use table_prepare::lookups::prepare;
 use table_prepare::nodes::list_all;
@@ -9,12 +13,35 @@ ghost use mathlib.Core.Path.{_≡_};
 ghost use lib.ListN.{length};
 ghost use Rattle.file_format.specs.Circuit.{Bounded};
 ghost use Rattle.file_format.specs.declared.Role.the-variants as role;
+ghost use Rattle.graph.specs.Circuit.{Circuit, circuit};
+ghost use Rattle.graph.specs.Net.{NetRoom};
 ghost use Rattle.table.specs.Refine.{MatchedOn};
-ghost use Rattle.graph.specs.Circuit.{circuit};
-ghost use Rattle.table.specs.Prepared.{tables, Prepared, Room};
+ghost use Rattle.table_whole.specs.Kinds.{SomeLinks, EveryMatched};
+ghost use Rattle.table.specs.Prepared.{tables, Prepared};
 
-// The largest dual simulation of a pattern in a board. What is lent besides the table is scratch: the masks and the neighbour tables, which
-// are left prepared, the list of all nodes, and a second table of sets.
+// The largest dual simulation of a pattern in a board, from prepared masks and neighbour tables. The list of all nodes and the second table of
+// sets are scratch.
+fn match_prepared(
+    part_kinds: &[u16],
+    node_kinds: &[u16],
+    masks: &[u32],
+    offsets: &[u16],
+    links: &[u16],
+    table: &mut [u32],
+    nodes: &mut [u16],
+    spare: &mut [u32],
+) -> Counts
+    requires { ⌜ SomeLinks (now «part_kinds») (now «node_kinds») (tables (now masks) (now offsets) (now links)) ⌝ }
+    requires { ⌜ (length (now table) ≡ length (now «node_kinds»)) × (length (now nodes) ≡ length (now «node_kinds»)) × (length (now spare) ≡ length (now «node_kinds»)) ⌝ }
+    ensures { λ r. ⌜ EveryMatched (now («part_kinds» .entry)) (now («node_kinds» .entry)) (tables (now (masks .entry)) (now (offsets .entry)) (now (links .entry))) (now (table .exit)) r ⌝ }
+{
+    list_all(nodes);
+    let started = start(nodes, part_kinds, node_kinds, table);
+    let end = refine(nodes, masks, offsets, links, table, spare, started);
+    counted(started, end)
+}
+
+// The largest dual simulation of a pattern in a board. The masks and the neighbour tables are left prepared.
 pub fn prepare_and_match(
     part_kinds: &[u16],
     part_starts: &[u16],
@@ -23,57 +50,45 @@ pub fn prepare_and_match(
     node_starts: &[u16],
     node_ends: &[u16],
     table: &mut [u32],
-    succ: &mut [u32],
-    pred: &mut [u32],
-    fo: &mut [u16],
-    ft: &mut [u16],
-    bo: &mut [u16],
-    bt: &mut [u16],
-    nodes: &mut [u16],
-    spare: &mut [u32],
+    masks: &mut [u32],
+    offsets: &mut [u16],
+    links: &mut [u16],
 ) -> Counts
-    requires { ⌜ Bounded role.Pattern (circuit (now «part_kinds») (now «part_starts») (now «part_ends»)) ⌝ }
-    requires { ⌜ Bounded role.Board (circuit (now «node_kinds») (now «node_starts») (now «node_ends»)) ⌝ }
-    requires { ⌜ Room (length (now «part_kinds»)) (length (now «node_kinds»)) (length (now «node_starts»)) (tables (now succ) (now pred) (now fo) (now ft) (now bo) (now bt)) ⌝ }
-    requires { ⌜ (length (now table) ≡ length (now «node_kinds»)) × (length (now nodes) ≡ length (now «node_kinds»)) × (length (now spare) ≡ length (now «node_kinds»)) ⌝ }
-    ensures { λ r. ⌜ MatchedOn (circuit (now («part_kinds» .entry)) (now («part_starts» .entry)) (now («part_ends» .entry))) (circuit (now («node_kinds» .entry)) (now («node_starts» .entry)) (now («node_ends» .entry))) (now (table .exit)) r ⌝ }
-    ensures { λ r. ⌜ Prepared (circuit (now («part_kinds» .entry)) (now («part_starts» .entry)) (now («part_ends» .entry))) (circuit (now («node_kinds» .entry)) (now («node_starts» .entry)) (now («node_ends» .entry))) (tables (now (succ .exit)) (now (pred .exit)) (now (fo .exit)) (now (ft .exit)) (now (bo .exit)) (now (bt .exit))) ⌝ }
+    ghost { Circuit × Circuit }
+    requires { λ α. ⌜ (circuit (now «part_kinds») (now «part_starts») (now «part_ends»), circuit (now «node_kinds») (now «node_starts») (now «node_ends»)) ≡ α ⌝ }
+    requires { λ α. ⌜ Bounded role.Pattern (α .0) ⌝ }
+    requires { λ α. ⌜ Bounded role.Board (α .1) ⌝ }
+    requires { λ α. ⌜ length (now table) ≡ length (now «node_kinds») ⌝ }
+    requires { λ α. ⌜ (length (now masks) ≡ 64) × NetRoom (now offsets) (now links) ⌝ }
+    ensures { λ α r. ⌜ MatchedOn (α .0) (α .1) (now (table .exit)) r ⌝ }
+    ensures { λ α r. ⌜ Prepared (α .0) (α .1) (tables (now (masks .exit)) (now (offsets .exit)) (now (links .exit))) ⌝ }
 {
+    let mut nodes = [0u16; Board::MAX_NODES];
+    let mut spare = [0u32; Board::MAX_NODES];
+    let n = node_kinds.len();
     prepare(
-        part_kinds,
+        n,
         part_starts,
         part_ends,
-        node_kinds,
         node_starts,
         node_ends,
-        succ,
-        pred,
-        fo,
-        ft,
-        bo,
-        bt,
+        masks,
+        offsets,
+        links,
     );
-    list_all(nodes);
-    refine(
+    match_prepared(
         part_kinds,
-        part_starts,
-        part_ends,
         node_kinds,
-        node_starts,
-        node_ends,
-        nodes,
-        succ,
-        pred,
-        fo,
-        ft,
-        bo,
-        bt,
+        masks,
+        offsets,
+        links,
         table,
-        spare,
+        &mut nodes[..n],
+        &mut spare[..n],
     )
 }
 
-// The same with scratch tables of its own, each cut to what is needed.
+// The same with masks and neighbour tables of its own.
 pub fn match_circuits(
     part_kinds: &[u16],
     part_starts: &[u16],
@@ -83,22 +98,16 @@ pub fn match_circuits(
     node_ends: &[u16],
     table: &mut [u32],
 ) -> Counts
-    requires { ⌜ Bounded role.Pattern (circuit (now «part_kinds») (now «part_starts») (now «part_ends»)) ⌝ }
-    requires { ⌜ Bounded role.Board (circuit (now «node_kinds») (now «node_starts») (now «node_ends»)) ⌝ }
-    requires { ⌜ (length (now table) ≡ length (now «node_kinds»)) ⌝ }
-    ensures { λ r. ⌜ MatchedOn (circuit (now («part_kinds» .entry)) (now («part_starts» .entry)) (now («part_ends» .entry))) (circuit (now («node_kinds» .entry)) (now («node_starts» .entry)) (now («node_ends» .entry))) (now (table .exit)) r ⌝ }
+    ghost { Circuit × Circuit }
+    requires { λ α. ⌜ (circuit (now «part_kinds») (now «part_starts») (now «part_ends»), circuit (now «node_kinds») (now «node_starts») (now «node_ends»)) ≡ α ⌝ }
+    requires { λ α. ⌜ Bounded role.Pattern (α .0) ⌝ }
+    requires { λ α. ⌜ Bounded role.Board (α .1) ⌝ }
+    requires { λ α. ⌜ length (now table) ≡ length (now «node_kinds») ⌝ }
+    ensures { λ α r. ⌜ MatchedOn (α .0) (α .1) (now (table .exit)) r ⌝ }
 {
-    let mut succ = [0u32; Pattern::MAX_NODES];
-    let mut pred = [0u32; Pattern::MAX_NODES];
-    let mut fo = [0u16; Board::MAX_NODES + 1];
-    let mut ft = [0u16; Board::MAX_LINKS];
-    let mut bo = [0u16; Board::MAX_NODES + 1];
-    let mut bt = [0u16; Board::MAX_LINKS];
-    let mut nodes = [0u16; Board::MAX_NODES];
-    let mut spare = [0u32; Board::MAX_NODES];
-    let parts = part_kinds.len();
-    let n = node_kinds.len();
-    let m = node_starts.len();
+    let mut masks = [0u32; MASKS];
+    let mut offsets = [0u16; OFFSETS];
+    let mut links = [0u16; LINKS];
     prepare_and_match(
         part_kinds,
         part_starts,
@@ -107,13 +116,8 @@ pub fn match_circuits(
         node_starts,
         node_ends,
         table,
-        &mut succ[..parts],
-        &mut pred[..parts],
-        &mut fo,
-        &mut ft[..m],
-        &mut bo,
-        &mut bt[..m],
-        &mut nodes[..n],
-        &mut spare[..n],
+        &mut masks,
+        &mut offsets,
+        &mut links,
     )
 }

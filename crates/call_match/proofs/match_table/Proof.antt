@@ -4,7 +4,8 @@ use mathlib.Core.Path.{sym}
 use borrow.Author.Needs.{needs}
 use Rattle.graph.specs.Circuit.{Circuit}
 use Rattle.file_pair.specs.Pair.{BothRead}
-use Rattle.file_pair.proofs.Both.{both-read, refused-pair, stands-size, stands-room, pattern-bounded, board-bounded}
+use Rattle.file_pair.proofs.Both.{both-read, refused-pair, pattern-bounded, board-bounded}
+use Rattle.file_format.proofs.Reading.{stands-size, stands-room}
 use Rattle.call_match.proofs.Matching.{matching-refused, matching-read}
 use Rattle.call_match.proofs.match_table.Statement.{statement}
 use Rattle.call_match.proofs.match_table.Tie as tie
@@ -42,72 +43,66 @@ slice-aggregate-read-pair-6 c = search needs
 read-pair-requires : tie.Need-read-pair-requires
 read-pair-requires c κs = search needs
 
-enum-known-read : tie.Need-enum-known-read
-enum-known-read c = search needs
-
-enum-told : tie.Need-enum-told
-enum-told c = search needs
-
-refusal-of-requires : tie.Need-refusal-of-requires
-refusal-of-requires c κs = search needs
-
 -- both were read
-abbrev reading : tie.After-read → tie.After-read-pair
+abbrev reading : tie.After-enum-told → tie.After-read-pair
 reading c = c .before .before .before .before .before .before .before .before
 
-both : (c : tie.After-read)
+both : (c : tie.After-enum-told)
     → let a = entry (reading c) .args in
-    BothRead (now (a .pattern)) (now (a .board)) (c .read .given .0 .0) (c .read .given .0 .1 .0) (parts (reading c)) (nodes (reading c))
-both c = both-read _ _ _ _ (reading c .read-pair .ensures) (c .read .given .1)
+    BothRead (now (a .pattern)) (now (a .board)) (reading c .read-pair .result) (parts (reading c)) (nodes (reading c))
+both c = both-read (reading c .read-pair .ensures) (c .enum-told .given .1)
 
 -- ---- the match
 
 array-share-prefix-pk : tie.Need-array-share-prefix-pk
-array-share-prefix-pk c = stands-room (both (c .before) .drawn) .0
+array-share-prefix-pk c = stands-room (both c .drawn) .0
 
 slice-aggregate-match-on : tie.Need-slice-aggregate-match-on
-slice-aggregate-match-on c = sym (stands-size (both (c .before .before) .drawn) .0)
+slice-aggregate-match-on c = sym (stands-size (both (c .before) .drawn) .0)
 
 array-share-prefix-ps : tie.Need-array-share-prefix-ps
-array-share-prefix-ps c = stands-room (both (c .before .before) .drawn) .1
+array-share-prefix-ps c = stands-room (both (c .before) .drawn) .1
 
 slice-aggregate-match-on-2 : tie.Need-slice-aggregate-match-on-2
-slice-aggregate-match-on-2 c = sym (stands-size (both (c .before .before .before) .drawn) .1)
+slice-aggregate-match-on-2 c = sym (stands-size (both (c .before .before) .drawn) .1)
 
 array-share-prefix-pe : tie.Need-array-share-prefix-pe
-array-share-prefix-pe c = stands-room (both (c .before .before .before) .drawn) .2
+array-share-prefix-pe c = stands-room (both (c .before .before) .drawn) .2
 
 slice-aggregate-match-on-3 : tie.Need-slice-aggregate-match-on-3
-slice-aggregate-match-on-3 c = sym (stands-size (both (c .before .before .before .before) .drawn) .2)
+slice-aggregate-match-on-3 c = sym (stands-size (both (c .before .before .before) .drawn) .2)
 
 array-share-prefix-nk : tie.Need-array-share-prefix-nk
-array-share-prefix-nk c = stands-room (both (c .before .before .before .before) .given) .0
+array-share-prefix-nk c = stands-room (both (c .before .before .before) .given) .0
 
 slice-aggregate-match-on-4 : tie.Need-slice-aggregate-match-on-4
-slice-aggregate-match-on-4 c = sym (stands-size (both (c .before .before .before .before .before) .given) .0)
+slice-aggregate-match-on-4 c = sym (stands-size (both (c .before .before .before .before) .given) .0)
 
 array-share-prefix-ns : tie.Need-array-share-prefix-ns
-array-share-prefix-ns c = stands-room (both (c .before .before .before .before .before) .given) .1
+array-share-prefix-ns c = stands-room (both (c .before .before .before .before) .given) .1
 
 slice-aggregate-match-on-5 : tie.Need-slice-aggregate-match-on-5
-slice-aggregate-match-on-5 c = sym (stands-size (both (c .before .before .before .before .before .before) .given) .1)
+slice-aggregate-match-on-5 c = sym (stands-size (both (c .before .before .before .before .before) .given) .1)
 
 array-share-prefix-ne : tie.Need-array-share-prefix-ne
-array-share-prefix-ne c = stands-room (both (c .before .before .before .before .before .before) .given) .2
+array-share-prefix-ne c = stands-room (both (c .before .before .before .before .before) .given) .2
 
 slice-aggregate-match-on-6 : tie.Need-slice-aggregate-match-on-6
-slice-aggregate-match-on-6 c = sym (stands-size (both (c .before .before .before .before .before .before .before) .given) .2)
+slice-aggregate-match-on-6 c = sym (stands-size (both (c .before .before .before .before .before .before) .given) .2)
 
 match-on-requires : tie.Need-match-on-requires
 match-on-requires c κs =
-    let read = both (c .before .before .before .before .before .before .before .before) in
+    let read = both (c .before .before .before .before .before .before .before) in
     (pattern-bounded read, board-bounded read)
 
+enum-known-verdict : tie.Need-enum-known-verdict
+enum-known-verdict c = search needs
+
 returns : tie.Need-returns
-returns c =
-    let told = c .before in
-    let read = told .before .before .before .before .before .before .before .before in
-    matching-refused _ _ _ (refused-pair _ _ _ _ (read .read-pair .ensures) (c .refusal-of .ensures) (told .enum-told .given .1))
+returns c = matching-refused _ _ _ (refused-pair (c .before .before .before .before .before .before .before .before .before .read-pair .ensures) (c .before .verdict .given .1))
+
+enum-told : tie.Need-enum-told
+enum-told c = search needs
 
 same-length : tie.Need-same-length
 same-length c = search needs
@@ -115,7 +110,7 @@ same-length c = search needs
 returns-2 : tie.Need-returns-2
 returns-2 c =
     let matched = c .before .before in
-    let read = matched .before .before .before .before .before .before .before .before .before in
+    let read = matched .before .before .before .before .before .before .before .before in
     matching-read _ _ _ (both read) (matched .match-on .ensures)
 
 pub match-table-spec : {M : Type 1} → statement M
@@ -129,10 +124,9 @@ match-table-spec =
     slice-aggregate-read-pair-5
     slice-aggregate-read-pair-6
     read-pair-requires
-    enum-known-read
-    enum-told
-    refusal-of-requires
+    enum-known-verdict
     returns
+    enum-told
     array-share-prefix-pk
     slice-aggregate-match-on
     array-share-prefix-ps

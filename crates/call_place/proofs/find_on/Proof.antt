@@ -42,17 +42,13 @@ inside c = c .before .before .before
 abbrev entry : tie.Else4 → tie.Start
 entry c = inside c .before .before .before .before .before .before .before .before .before .before
 
-radius-for-requires : tie.Need-radius-for-requires
-radius-for-requires c κs = search needs
-
-cast-place-circuits : tie.Need-cast-place-circuits
-cast-place-circuits c = search needs
+cast-t20 : tie.Need-cast-t20
+cast-t20 c = search needs
 
 place-circuits-requires : tie.Need-place-circuits-requires
 place-circuits-requires c κs =
-    let here = c .before .before .before .before in
-    let p = entry here .pre in
-    (p .0, (p .1, (inside here .if1 .left, (here .before .before .if2 .left, here .before .if3 .left, here .if4 .left))))
+    let here = c .before .before .before in
+    (entry here .pre, (inside here .if1 .left, (here .before .before .if2 .left, here .before .if3 .left, here .if4 .left)))
 
 same-length : tie.Need-same-length
 same-length c = search needs
@@ -66,10 +62,9 @@ same-length-3 c = search needs
 returns-5 : tie.Need-returns-5
 returns-5 c =
     let placed = c .before .before .before .before .before .before in
-    let radius = placed .before .before .before .before in
-    let here = radius .before in
+    let here = placed .before .before .before .before in
     on-placed _ _ _ _ _ _ _ (inside here .if1 .left) (here .before .before .if2 .left) (here .before .if3 .left) (here .if4 .left)
-    (rw (← (radius .radius-for .ensures)) (placed .place-circuits .ensures))
+    (placed .place-circuits .ensures)
 
 pub find-on-spec : {M : Type 1} → statement M
 find-on-spec =
@@ -83,8 +78,7 @@ find-on-spec =
     returns-3
     turned-away-requires-4
     returns-4
-    radius-for-requires
-    cast-place-circuits
+    cast-t20
     place-circuits-requires
     same-length
     same-length-2

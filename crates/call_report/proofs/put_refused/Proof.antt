@@ -16,7 +16,7 @@ fits : (s : tie.Start) → let a = s .args in Fits (now (a .out)) 0 (refusalLine
 fits s = let a = s .args in refused-fits (a .x) (now (a .out)) (a .from) (a .found) (omega (arith, s .good .0)) (s .pre)
 
 put-refusal-requires : tie.Need-put-refusal-requires
-put-refusal-requires c κs = fits (c .before .before .before)
+put-refusal-requires c κs = omega (arith, c .before .before .before .pre)
 
 same-length : tie.Need-same-length
 same-length c = search needs

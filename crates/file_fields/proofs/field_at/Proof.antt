@@ -1,40 +1,40 @@
 -- `file_fields::field_at` meets its contract: a byte is below 256, so that two of them fit 16 bits. Assumes nothing.
-use borrow.Author.Needs.{needs}
 use mathlib.Core.Path.{refl}
 use native.Mathlib.Omega.{arith}
 use Prim.Native.Nat.{_+_, _*_}
 use Rattle.file_format.specs.Layout.{field}
+use borrow.Author.Needs.{needs}
 use Rattle.file_fields.proofs.field_at.Statement.{statement}
 use Rattle.file_fields.proofs.field_at.Tie as tie
 
+mul-low : tie.Need-mul-low
+mul-low c = search needs
+
+shared-slice-read-low : tie.Need-shared-slice-read-low
+shared-slice-read-low c = search needs
+
+cast-low : tie.Need-cast-low
+cast-low c = omega (arith, c .shared-slice-known .given (2 * c .before .args .i))
+
+mul-high : tie.Need-mul-high
+mul-high c = search needs
+
+add-high : tie.Need-add-high
+add-high c = search needs
+
+shared-slice-read-high : tie.Need-shared-slice-read-high
+shared-slice-read-high c = search needs
+
+cast-high : tie.Need-cast-high
+cast-high c = omega (arith, c .shared-slice-known2 .given (2 * c .before .before .args .i + 1))
+
 mul-result : tie.Need-mul-result
-mul-result c = search needs
-
-shared-slice-read-result : tie.Need-shared-slice-read-result
-shared-slice-read-result c = search needs
-
-cast-result : tie.Need-cast-result
-cast-result c = omega (arith, c .shared-slice-known .given (2 * c .before .args .i))
-
-mul-result-2 : tie.Need-mul-result-2
-mul-result-2 c = search needs
+mul-result c =
+    omega (arith, c .shared-slice-known2 .given (2 * c .before .before .args .i), c .shared-slice-known2 .given (2 * c .before .before .args .i + 1))
 
 add-result : tie.Need-add-result
-add-result c = search needs
-
-shared-slice-read-result-2 : tie.Need-shared-slice-read-result-2
-shared-slice-read-result-2 c = search needs
-
-cast-result-2 : tie.Need-cast-result-2
-cast-result-2 c = omega (arith, c .shared-slice-known2 .given (2 * c .before .before .args .i + 1))
-
-mul-result-3 : tie.Need-mul-result-3
-mul-result-3 c = omega (arith, c .shared-slice-known2 .given (2 * c .before .before .args .i + 1))
-
-add-result-2 : tie.Need-add-result-2
-add-result-2 c =
-    omega
-    (arith, c .shared-slice-known2 .given (2 * c .before .before .args .i + 1), c .shared-slice-known2 .given (2 * c .before .before .args .i))
+add-result c =
+    omega (arith, c .shared-slice-known2 .given (2 * c .before .before .args .i), c .shared-slice-known2 .given (2 * c .before .before .args .i + 1))
 
 returns : tie.Need-returns
 unfolding field
@@ -44,13 +44,13 @@ pub field-at-spec : {M : Type 1} → statement M
 field-at-spec =
     tie.close
     (tie.spec
+    mul-low
+    shared-slice-read-low
+    cast-low
+    mul-high
+    add-high
+    shared-slice-read-high
+    cast-high
     mul-result
-    shared-slice-read-result
-    cast-result
-    mul-result-2
     add-result
-    shared-slice-read-result-2
-    cast-result-2
-    mul-result-3
-    add-result-2
     returns)

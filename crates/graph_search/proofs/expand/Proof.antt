@@ -1,26 +1,28 @@
--- `graph_search::expand` meets its contract: the visits of the two stretches are those of both, one after the other. Assumes nothing.
-use Rattle.graph.proofs.Lookup.{stretch-below}
+-- `graph_search::expand` meets its contract: the visits of what the node drives and of what drives it are those of its neighbours. Assumes
+-- nothing.
 use Rattle.graph.proofs.BfsSteps.{expanded}
+use Rattle.graph_neighbours.specs.Lookup.{neighboursIn}
+use Rattle.graph_neighbours.proofs.Lookup.{neighbours-below}
 use borrow.Author.Needs.{needs}
 use Rattle.graph_search.proofs.expand.Statement.{statement}
 use Rattle.graph_search.proofs.expand.Tie as tie
 
-stretch-requires : tie.Need-stretch-requires
-stretch-requires c κs = search needs
+neighbours-in-requires : tie.Need-neighbours-in-requires
+neighbours-in-requires c κs = search needs
 
 scan-requires : tie.Need-scan-requires
 scan-requires c κs =
-    let p = c .before .before .before .before .before .before .before .before .before .pre in
-    (p .0, (rw (c .before .before .stretch .ensures) (stretch-below _ _ _ _ (p .1 .0)), p .1 .1 .1))
+    let p = c .before .before .before .before .before .before .before .pre in
+    (p .1 .0, (rw (c .before .before .neighbours-in .ensures) (neighbours-below _ (p .0) _ (p .1 .1 .0)), p .1 .1 .1))
 
-stretch-requires-2 : tie.Need-stretch-requires-2
-stretch-requires-2 c κs = search needs
+neighbours-in-requires-2 : tie.Need-neighbours-in-requires-2
+neighbours-in-requires-2 c κs = search needs
 
 scan-requires-2 : tie.Need-scan-requires-2
 scan-requires-2 c κs =
-    let p = c .before .before .before .before .before .before .before .before .before .before .before .before .before .before .before .before .before .pre in
+    let p = c .before .before .before .before .before .before .before .before .before .before .before .before .before .before .before .pre in
     let first = c .before .before .before .before .before .before .before .scan in
-    (first .ensures .kept, (rw (first .kept .1 .1 .0, c .before .before .stretch2 .ensures) (stretch-below _ _ _ _ (p .1 .1 .0)), p .1 .1 .1))
+    (first .ensures .kept, (rw (first .kept .1 .1 .0, c .before .before .neighbours-in2 .ensures) (neighbours-below _ (p .0) _ (p .1 .1 .0)), p .1 .1 .1))
 
 same-length : tie.Need-same-length
 same-length c = search needs
@@ -29,11 +31,12 @@ same-length-2 : tie.Need-same-length-2
 same-length-2 c = search needs
 
 returns : tie.Need-returns
+unfolding neighboursIn
 returns c =
     let second = c .before .before .before .before .scan2 in
     let first = c .before .before .before .before .before .before .before .before .before .before .before .before .scan in
     record {
-      state = expanded _ _ _ _ _ _ _ _ _ _ _ (c .before .before .before .before .before .before .before .before .before .before .before .before .before .before .before .stretch .ensures) (c .before .before .before .before .before .before .before .stretch2 .ensures) (first .ensures .state) (second .ensures .state);
+      state = expanded _ _ _ _ _ _ _ _ _ (c .before .before .before .before .before .before .before .before .before .before .before .before .before .before .before .neighbours-in .ensures) (c .before .before .before .before .before .before .before .neighbours-in2 .ensures) (first .ensures .state) (second .ensures .state);
       kept = second .ensures .kept;
     }
 
@@ -41,9 +44,9 @@ pub expand-spec : {M : Type 1} → statement M
 expand-spec =
     tie.close
     (tie.spec
-    stretch-requires
+    neighbours-in-requires
     scan-requires
-    stretch-requires-2
+    neighbours-in-requires-2
     scan-requires-2
     same-length
     same-length-2

@@ -1,71 +1,61 @@
--- `graph_search::search` meets its contract: it lends `run` the first n entries of each table. Assumes nothing.
-use mathlib.Core.List.{List}
-use mathlib.Core.Path.{_≡_, sym, _∙_}
-use Prim.Native.Nat.{ℕ, _-_, _≤_}
-use native.Mathlib.Nat.{sub-zero}
-use lib.ListN.{length, take}
-use lib.Seq.{length-take-le}
-use Rattle.graph.proofs.BfsSteps.{found}
+-- `graph_search::search` meets its contract: its stores set the tables up for the state in which only the centre is reached.
+-- Assumes nothing.
+use mathlib.Core.Path.{_∙_}
+use lib.ListN.{length, length-set}
+use Rattle.graph.specs.Bfs.{bfs}
+use Rattle.graph.proofs.BfsSteps.{started, found}
 use borrow.Author.Needs.{needs}
 use denote.Ref.{now}
 use Rattle.graph_search.proofs.search.Statement.{statement}
 use Rattle.graph_search.proofs.search.Tie as tie
 
--- the part of a slice that is lent has n entries
-part-length : (n : ℕ) (xs : List ℕ) → n ≤ length xs → length (take (n - 0) xs) ≡ n
-part-length n xs h = rw sub-zero (length-take-le n xs h)
+fill-requires : tie.Need-fill-requires
+fill-requires c κs = search needs
 
-sub-run : tie.Need-sub-run
-sub-run c = search needs
+mul-dist : tie.Need-mul-dist
+mul-dist c = search needs
 
-part-run-start : tie.Need-part-run-start
-part-run-start c = search needs
+slice-write-dist : tie.Need-slice-write-dist
+slice-write-dist c = search needs
 
-part-run-end : tie.Need-part-run-end
-part-run-end c = search needs
+slice-write-queue : tie.Need-slice-write-queue
+slice-write-queue c = search needs
 
-sub-run-2 : tie.Need-sub-run-2
-sub-run-2 c = search needs
-
-part-run-start-2 : tie.Need-part-run-start-2
-part-run-start-2 c = search needs
-
-part-run-end-2 : tie.Need-part-run-end-2
-part-run-end-2 c = search needs
-
-run-requires : tie.Need-run-requires
-run-requires c κs =
-    let a = c .before .before .before .before .before .before .before .before .args in
-    let p = c .before .before .before .before .before .before .before .before .pre in
-    let e = part-length (a .n) (now (a .dist)) (p .1 .1 .0) in
-    let e′ = part-length (a .n) (now (a .queue)) (p .1 .1 .1 .0) in
-    (rw e (p .0), (e ∙ sym e′, (rw e (p .1 .0), (rw e (p .1 .1 .1 .1 .0), rw e (p .1 .1 .1 .1 .1)))))
+levels-requires : tie.Need-levels-requires
+levels-requires c κs =
+    let filled = c .before .before .before .before .fill in
+    let at-start = c .before .before .before .before .before .before .before .before .before .before in
+    let a = at-start .args in
+    let p = at-start .pre in
+    let e = length-set (filled .last .0) (a .c) 0 ∙ filled .kept .0 in
+    (rw e (p .0), rw (filled .ensures) (started (length (now (a .dist))) (a .c) (now (a .queue)) (p .1 .0) (p .1 .1) .kept))
 
 same-length : tie.Need-same-length
-same-length c = search needs
+same-length c = c .before .before .before .before .levels .kept .1 .1 .1 .0 ∙ simp length-set (c .before .before .before .before .before .before .before .before .before .fill .kept .0)
 
 same-length-2 : tie.Need-same-length-2
-same-length-2 c = search needs
+same-length-2 c = c .before .before .before .before .levels .kept .1 .1 .1 .1 .0 ∙ simp length-set
 
 returns : tie.Need-returns
+unfolding bfs
 returns c =
-    let a = c .before .before .before .before .before .before .before .before .before .before .before .before .before .args in
-    let p = c .before .before .before .before .before .before .before .before .before .before .before .before .before .pre in
-    let e = part-length (a .n) (now (a .dist)) (p .1 .1 .0) in
-    let run-left = rw e at (c .before .before .before .before .run .ensures) in
-    rw sub-zero (found (a .n) _ (now (a .dist)) _ _ _ _ run-left)
+    let call = c .before .before .before .before .levels in
+    let filled = c .before .before .before .before .before .before .before .before .before .fill in
+    let at-start = c .before .before .before .before .before .before .before .before .before .before .before .before .before .before .before in
+    let a = at-start .args in
+    let p = at-start .pre in
+    let first = started (length (now (a .dist))) (a .c) (now (a .queue)) (p .1 .0) (p .1 .1) .state in
+    found _ _ _ _ (record { state = call .ensures .state ∙ rw (filled .ensures, first); kept = call .ensures .kept })
 
 pub search-spec : {M : Type 1} → statement M
 search-spec =
     tie.close
     (tie.spec
-    sub-run
-    part-run-start
-    part-run-end
-    sub-run-2
-    part-run-start-2
-    part-run-end-2
-    run-requires
+    fill-requires
+    mul-dist
+    slice-write-dist
+    slice-write-queue
+    levels-requires
     same-length
     same-length-2
     returns)

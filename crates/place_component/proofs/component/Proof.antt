@@ -8,22 +8,28 @@ use denote.Ref.{now}
 use lib.ListN.{length, getD, length-set}
 use Rattle.graph.specs.Bfs.{scan, stateOf, Searching}
 use Rattle.base_lists.specs.List.{Below}
+use Rattle.graph.specs.Search.{far}
+use Rattle.graph.proofs.Net.{net-few}
 use Rattle.graph.proofs.BfsSteps.{ready-start, started, reached-length}
 use Rattle.table.specs.Prepared.{tables}
 use Rattle.place.specs.Spread.{matched}
-use Rattle.place.proofs.Spread.{Spreading, spreading-start, spreading-next, spreading-end, matched-below, queue-node}
+use Rattle.place.proofs.Spread.{Spreading, spreading-start, spreading-next, spreading-end, spreading-lists, matched-below, queue-node}
 use Rattle.place_component.proofs.component.Statement.{statement}
 use Rattle.place_component.proofs.component.Tie as tie
 
 abbrev Inv-loop : tie.InvT-loop
-Inv-loop succ pred fo ft bo bt sets c dist₀ queue₀ at tail₀ i₀ dist queue tail i =
+Inv-loop masks offsets links sets c dist₀ queue₀ at tail₀ i₀ dist queue tail i =
     (length dist ≡ length sets)
     × (length queue ≡ length sets)
     × Searching dist queue tail
-    × Spreading (length sets) c (matched (tables succ pred fo ft bo bt) sets) i (stateOf dist queue tail)
+    × Spreading (length sets) c (matched (tables masks offsets links) sets) i (stateOf dist queue tail)
 
 abbrev μ-loop : tie.MeasureT-loop
-μ-loop succ pred fo ft bo bt sets c dist₀ queue₀ at tail₀ i₀ dist queue tail i = length sets - i
+μ-loop masks offsets links sets c dist₀ queue₀ at tail₀ i₀ dist queue tail i = length sets - i
+
+-- there are not too many nodes
+few : (s : tie.Start Inv-loop μ-loop) → length (now (s .args .sets)) < far
+few s = omega (arith, net-few (s .pre .0 .net))
 
 fill-requires : tie.Need-fill-requires Inv-loop μ-loop
 fill-requires c κs = search needs
@@ -39,14 +45,14 @@ slice-write-queue c = omega arith
 
 loop-holds : tie.Need-loop-holds Inv-loop μ-loop
 loop-holds c =
-    let s = c .before .before .before .before .before .before .before .before .before .before .before .before .before in
+    let s = c .before .before .before .before .before .before .before .before .before .before in
     let a = s .args in
     let e = s .pre .1 .1 .0 in
     let filled = c .before .before .fill in
     let n = length (now (a .dist)) in
-    let first = started n (a .c) (now (a .queue)) (s .pre .1 .0) (s .pre .1 .1 .1 .0) in (
+    let first = started n (a .c) (now (a .queue)) (s .pre .1 .0) (s .pre .1 .1 .1) in (
       length-set (filled .last .0) (a .c) 0 ∙ filled .kept .0 ∙ sym e,
-      length-set (now (a .queue)) 0 (a .c) ∙ sym (s .pre .1 .1 .1 .0) ∙ sym e,
+      length-set (now (a .queue)) 0 (a .c) ∙ sym (s .pre .1 .1 .1) ∙ sym e,
       rw (filled .ensures) (first .kept),
       rw (filled .ensures, first .state, e) (spreading-start n (a .c) _ (s .pre .1 .0) (ready-start n (a .c) (s .pre .1 .0))),
     )
@@ -61,22 +67,22 @@ cast-v : tie.Need-cast-v Inv-loop μ-loop
 cast-v c = omega (arith, c .slice-known4 .given (c .before .before .loop .i))
 
 -- the next node
-node : (c : tie.In-loop Inv-loop μ-loop) → getD (c .before .loop .queue) (c .before .loop .i) 0 < length (now (c .before .before .before .before .before .before .before .before .before .before .before .before .before .before .before .args .sets))
+node : (c : tie.In-loop Inv-loop μ-loop) → getD (c .before .loop .queue) (c .before .loop .i) 0 < length (now (c .before .before .before .before .before .before .before .before .before .before .before .before .args .sets))
 unfolding Below
 node c =
     let loop = c .before .loop in
     let l = reached-length _ _ _ (loop .inv .2) in
-    subst (λ (v : ℕ). v < length (now (c .before .before .before .before .before .before .before .before .before .before .before .before .before .before .before .args .sets))) (queue-node (loop .dist) (loop .queue) (loop .tail) (loop .i) (c .loop-test .taken))
+    subst (λ (v : ℕ). v < length (now (c .before .before .before .before .before .before .before .before .before .before .before .before .args .sets))) (queue-node (loop .dist) (loop .queue) (loop .tail) (loop .i) (c .loop-test .taken))
     (loop .inv .3 .ready .inside (loop .i) (omega arith))
 
 expand-requires : tie.Need-expand-requires Inv-loop μ-loop
 expand-requires c κs =
     let inv = c .before .before .before .before .loop .inv in
     let e = inv .0 in
-    (inv .2, (c .before .before .before .before .before .before .before .before .before .before .before .before .before .before .before .before .before .before .pre .0, (sym e, rw e (node (c .before .before .before)))))
+    (inv .2, (c .before .before .before .before .before .before .before .before .before .before .before .before .before .before .before .pre .0, (sym e, rw e (node (c .before .before .before)))))
 
 add-i : tie.Need-add-i Inv-loop μ-loop
-add-i c = omega (arith, c .before .before .before .before .before .before .before .before .before .loop .inv .1, c .before .before .before .before .before .before .before .before .before .loop .inv .2 .within, c .before .before .before .before .before .before .before .before .loop-test .taken, c .before .before .before .before .before .before .before .before .before .before .before .before .before .before .before .before .before .before .before .before .before .before .before .pre .1)
+add-i c = omega (arith, c .before .before .before .before .before .before .before .before .before .loop .inv .1, c .before .before .before .before .before .before .before .before .before .loop .inv .2 .within, c .before .before .before .before .before .before .before .before .loop-test .taken, few (c .before .before .before .before .before .before .before .before .before .before .before .before .before .before .before .before .before .before .before .before))
 
 loop-less : tie.Need-loop-less Inv-loop μ-loop
 loop-less c = omega (arith, c .before .before .before .before .before .before .before .before .before .loop .inv .2 .within)
@@ -84,36 +90,39 @@ loop-less c = omega (arith, c .before .before .before .before .before .before .b
 loop-again : tie.Need-loop-again Inv-loop μ-loop
 unfolding Below
 loop-again c =
-    let s = c .before .before .before .before .before .before .before .before .before .before .before .before .before .before .before .before .before .before .before .before .before .before .before in
+    let s = c .before .before .before .before .before .before .before .before .before .before .before .before .before .before .before .before .before .before .before .before in
     let a = s .args in
     let loop = c .before .before .before .before .before .before .before .before .before .loop in
     let inv = loop .inv in
     let call = c .before .before .before .before .expand in
     let n = length (now (a .sets)) in
-    let t = tables (now (a .succ)) (now (a .pred)) (now (a .fo)) (now (a .ft)) (now (a .bo)) (now (a .bt)) in
+    let t = tables (now (a .masks)) (now (a .offsets)) (now (a .links)) in
     let adj = matched t (now (a .sets)) in
     let from = stateOf (loop .dist) (loop .queue) (loop .tail) in
     let l = reached-length _ _ _ (inv .2) in
     let here = queue-node (loop .dist) (loop .queue) (loop .tail) (loop .i) (c .before .before .before .before .before .before .before .before .loop-test .taken) in (
-      call .kept .1 .1 .1 .1 .1 .1 .1 .1 .0 ∙ inv .0,
-      call .kept .1 .1 .1 .1 .1 .1 .1 .1 .1 .0 ∙ inv .1,
+      call .kept .1 .1 .1 .1 .1 .0 ∙ inv .0,
+      call .kept .1 .1 .1 .1 .1 .1 .0 ∙ inv .1,
       call .ensures .kept,
       subst (Spreading n (a .c) adj (loop .i + 1)) (sym (call .ensures .state ∙ ap (λ (v : ℕ). scan 0 from (adj v)) (sym here)))
-          (spreading-next n (a .c) adj (loop .i) from (inv .3) (omega (arith, c .before .before .before .before .before .before .before .before .loop-test .taken)) (matched-below n t (now (a .sets)) (s .pre .0 .forward .nodes) (s .pre .0 .backward .nodes) _)),
+          (spreading-next n (a .c) adj (loop .i) from (inv .3) (omega (arith, c .before .before .before .before .before .before .before .before .loop-test .taken)) (matched-below t (now (a .sets)) (s .pre .0 .net) _ (inv .3 .ready .inside (loop .i) (omega (arith, c .before .before .before .before .before .before .before .before .loop-test .taken))))),
     )
 
 same-length : tie.Need-same-length Inv-loop μ-loop
-same-length c = c .before .loop .inv .0 ∙ c .before .before .before .before .before .before .before .before .before .before .before .before .before .before .before .pre .1 .1 .0
+same-length c = c .before .loop .inv .0 ∙ c .before .before .before .before .before .before .before .before .before .before .before .before .pre .1 .1 .0
 
 same-length-2 : tie.Need-same-length-2 Inv-loop μ-loop
-same-length-2 c = c .before .loop .inv .1 ∙ c .before .before .before .before .before .before .before .before .before .before .before .before .before .before .before .pre .1 .1 .0 ∙ c .before .before .before .before .before .before .before .before .before .before .before .before .before .before .before .pre .1 .1 .1 .0
+same-length-2 c = c .before .loop .inv .1 ∙ c .before .before .before .before .before .before .before .before .before .before .before .before .pre .1 .1 .0 ∙ c .before .before .before .before .before .before .before .before .before .before .before .before .pre .1 .1 .1
 
 returns : tie.Need-returns Inv-loop μ-loop
 unfolding stateOf
 returns c =
     let loop = c .before .loop in
     let l = reached-length _ _ _ (loop .inv .2) in
-    rw (← (c .before .before .before .before .before .before .before .before .before .before .before .before .before .before .before .pre .1 .1 .0)) (spreading-end _ _ _ (loop .i) (stateOf (loop .dist) (loop .queue) (loop .tail)) (loop .inv .3) (omega arith))
+    let s = stateOf (loop .dist) (loop .queue) (loop .tail) in (
+      rw (← (c .before .before .before .before .before .before .before .before .before .before .before .before .pre .1 .1 .0)) (spreading-end _ _ _ (loop .i) s (loop .inv .3) (omega arith)),
+      (loop .inv .2 .within, spreading-lists _ _ _ (loop .i) s (few (c .before .before .before .before .before .before .before .before .before .before .before .before)) (loop .inv .3)),
+    )
 
 pub component-spec : {M : Type 1} → statement M
 component-spec =

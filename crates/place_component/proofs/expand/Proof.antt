@@ -4,8 +4,9 @@ use mathlib.Core.Path.{sym, _∙_}
 use borrow.Author.Needs.{needs}
 use denote.Ref.{now}
 use lib.ListN.{length}
-use Rattle.base_lists.specs.List.{Below}
-use Rattle.graph.proofs.Lookup.{stretch-below}
+use Rattle.graph.specs.Net.{Net}
+use Rattle.graph_neighbours.specs.Lookup.{neighboursIn}
+use Rattle.graph_neighbours.proofs.Lookup.{neighbours-below}
 use Rattle.table.specs.Prepared.{tables}
 use Rattle.place.proofs.Spread.{matched-scan}
 use Rattle.place_component.proofs.expand.Statement.{statement}
@@ -17,37 +18,33 @@ mul-set c = search needs
 shared-slice-read-set : tie.Need-shared-slice-read-set
 shared-slice-read-set c = search needs
 
-union-of-requires : tie.Need-union-of-requires
-union-of-requires c κs = c .before .before .before .before .before .before .before .before .before .before .pre .1 .0 .drives (c .before .before .before .before .before .before .before .before .before .before .args .v)
+driven-parts-requires : tie.Need-driven-parts-requires
+driven-parts-requires c κs = search needs
 
-union-of-requires-2 : tie.Need-union-of-requires-2
-union-of-requires-2 c κs = c .before .before .before .before .before .before .before .before .before .before .before .pre .1 .0 .driven (c .before .before .before .before .before .before .before .before .before .before .before .args .v)
+driving-parts-requires : tie.Need-driving-parts-requires
+driving-parts-requires c κs = search needs
 
-stretch-requires : tie.Need-stretch-requires
-stretch-requires c κs = search needs
+-- the tables are over the nodes of the search
+net : (s : tie.Start) → Net (length (now (s .args .dist))) (now (s .args .offsets)) (now (s .args .links))
+net s = rw (← s .pre .1 .1 .0) (s .pre .1 .0 .net)
 
--- the tables have nodes only
-nodes : (s : tie.Start) → Below (length (now (s .args .dist))) (now (s .args .ft)) × Below (length (now (s .args .dist))) (now (s .args .bt))
-unfolding Below
-nodes s =
-    let e = s .pre .1 .1 .0 in
-    let r = s .pre .1 .0 in
-    (rw (← e) (r .forward .nodes), rw (← e) (r .backward .nodes))
+neighbours-in-requires : tie.Need-neighbours-in-requires
+neighbours-in-requires c κs = record { nodes = _; net = net (c .before .before .before .before .before .before .before .before .before); node = c .before .before .before .before .before .before .before .before .before .pre .1 .1 .1 }
 
 follow-requires : tie.Need-follow-requires
 follow-requires c κs =
-    let s = c .before .before .before .before .before .before .before .before .before .before .before .before .before .before .before in
-    (s .pre .0, (rw (c .before .before .stretch .ensures) (stretch-below _ _ _ _ (nodes s .0)), s .pre .1 .1 .0))
+    let s = c .before .before .before .before .before .before .before .before .before .before .before .before in
+    (s .pre .0, (rw (c .before .before .neighbours-in .ensures) (neighbours-below _ (net s) _ (s .pre .1 .1 .1)), s .pre .1 .1 .0))
 
-stretch-requires-2 : tie.Need-stretch-requires-2
-stretch-requires-2 c κs = search needs
+neighbours-in-requires-2 : tie.Need-neighbours-in-requires-2
+neighbours-in-requires-2 c κs = record { nodes = _; net = net (c .before .before .before .before .before .before .before .before .before .before .before .before .before .before .before .before .before); node = c .before .before .before .before .before .before .before .before .before .before .before .before .before .before .before .before .before .pre .1 .1 .1 }
 
 follow-requires-2 : tie.Need-follow-requires-2
 follow-requires-2 c κs =
-    let s = c .before .before .before .before .before .before .before .before .before .before .before .before .before .before .before .before .before .before .before .before .before .before .before in
+    let s = c .before .before .before .before .before .before .before .before .before .before .before .before .before .before .before .before .before .before .before .before in
     let first = c .before .before .before .before .before .before .before .follow in
     let e = first .kept .1 .1 .1 .0 in
-    (first .ensures .kept, (rw (e, c .before .before .stretch2 .ensures) (stretch-below _ _ _ _ (nodes s .1)), s .pre .1 .1 .0 ∙ sym e))
+    (first .ensures .kept, (rw (e, c .before .before .neighbours-in2 .ensures) (neighbours-below _ (net s) _ (s .pre .1 .1 .1)), s .pre .1 .1 .0 ∙ sym e))
 
 same-length : tie.Need-same-length
 same-length c = search needs
@@ -56,15 +53,30 @@ same-length-2 : tie.Need-same-length-2
 same-length-2 c = search needs
 
 returns : tie.Need-returns
+unfolding neighboursIn
 returns c =
-    let a = c .before .before .before .before .before .before .before .before .before .before .before .before .before .before .before .before .before .before .before .before .before .before .before .before .before .before .before .before .args in
+    let a = c .before .before .before .before .before .before .before .before .before .before .before .before .before .before .before .before .before .before .before .before .before .before .before .before .before .args in
     let second = c .before .before .before .before .follow2 .ensures in
     record {
       state =
-          matched-scan (tables (now (a .succ)) (now (a .pred)) (now (a .fo)) (now (a .ft)) (now (a .bo)) (now (a .bt))) (now (a .sets)) (a .v) _ _ _ _ _ _ _
-          (c .before .before .before .before .before .before .before .before .before .before .before .before .before .before .before .before .before .union-of .ensures) (c .before .before .before .before .before .before .before .before .before .before .before .before .before .before .before .before .union-of2 .ensures) (c .before .before .before .before .before .before .before .before .before .before .before .before .before .before .before .stretch .ensures) (c .before .before .before .before .before .before .before .stretch2 .ensures) (c .before .before .before .before .before .before .before .before .before .before .before .before .follow .ensures .state) (second .state);
+          matched-scan (tables (now (a .masks)) (now (a .offsets)) (now (a .links))) (now (a .sets)) (a .v) _ _ _ _ _ _ _
+          (c .before .before .before .before .before .before .before .before .before .before .before .before .before .before .before .before .before .driven-parts .ensures) (c .before .before .before .before .before .before .before .before .before .before .before .before .before .before .before .before .driving-parts .ensures) (c .before .before .before .before .before .before .before .before .before .before .before .before .before .before .before .neighbours-in .ensures) (c .before .before .before .before .before .before .before .neighbours-in2 .ensures)
+          (c .before .before .before .before .before .before .before .before .before .before .before .before .follow .ensures .state) (second .state);
       kept = second .kept;
     }
 
 pub expand-spec : {M : Type 1} → statement M
-expand-spec = tie.close (tie.spec mul-set shared-slice-read-set union-of-requires union-of-requires-2 stretch-requires follow-requires stretch-requires-2 follow-requires-2 same-length same-length-2 returns)
+expand-spec =
+    tie.close
+    (tie.spec
+    mul-set
+    shared-slice-read-set
+    driven-parts-requires
+    driving-parts-requires
+    neighbours-in-requires
+    follow-requires
+    neighbours-in-requires-2
+    follow-requires-2
+    same-length
+    same-length-2
+    returns)

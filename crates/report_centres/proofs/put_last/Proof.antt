@@ -1,10 +1,11 @@
 -- `report_centres::put_last` meets its contract: nothing where the centres are not done or there is no room, else the last line. Assumes
 -- nothing.
 use mathlib.Core.Path.{sym, _∙_}
+use native.Mathlib.Omega.{arith}
 use borrow.Author.Needs.{needs}
 use borrow.Author.Tests.{not-true, not-false}
 use denote.Ref.{now}
-use Rattle.report_centres.proofs.Pieces.{last-elsewhere, last-full, last-put, last-fits}
+use Rattle.report_centres.proofs.Pieces.{last-elsewhere, last-full, last-put, last-room}
 use Rattle.report_centres.proofs.put_last.Statement.{statement}
 use Rattle.report_centres.proofs.put_last.Tie as tie
 
@@ -21,7 +22,7 @@ put-end-requires : tie.Need-put-end-requires
 put-end-requires c κs =
     let here = c .before in
     let s = here .before .before .before .before .before in
-    last-fits (now (s .args .out)) (s .args .part) (s .args .n) (sym (here .before .roomy .ensures) ∙ not-false _ (here .if2 .left)) (s .pre .1) (s .pre .2)
+    ((omega arith, omega arith), last-room (now (s .args .out)) (s .args .part) (s .args .n) (sym (here .before .roomy .ensures) ∙ not-false _ (here .if2 .left)))
 
 add-t7 : tie.Need-add-t7
 add-t7 c = search needs

@@ -1,90 +1,93 @@
--- `table_whole::prepare_and_match` meets its contract: the tables are prepared, every node is listed, and the pairs are struck. Assumes nothing.
-use native.Mathlib.Nat.{le-trans}
-use lib.Dec.{lit≤}
-use Rattle.table.proofs.Prepare.{listed-all, refined-everything}
-use Rattle.table.proofs.NodeLists.{all-list}
+-- `table_whole::prepare_and_match` meets its contract: the masks and the neighbour tables are prepared, and the pairs are struck from there.
+-- Assumes nothing.
+use mathlib.Core.Path.{sym}
+use native.Mathlib.Omega.{arith}
+use borrow.Author.Needs.{needs}
+use denote.Ref.{now}
+use lib.Seq.{length-take-le}
+use Rattle.graph.specs.Circuit.{circuit}
+use Rattle.graph.proofs.Below.{below-wider}
+use Rattle.graph.proofs.Groups.{all-below}
+use Rattle.file_format.proofs.Accepted.{bounded-starts, bounded-ends}
+use Rattle.table.specs.Prepared.{tables, Prepared}
+use Rattle.table.proofs.Prepare.{prepared}
 use Rattle.table_whole.proofs.prepare_and_match.Statement.{statement}
 use Rattle.table_whole.proofs.prepare_and_match.Tie as tie
 
-abbrev entry : tie.After-prepare-arg6 → tie.Start
-entry c = c .before .before .before .before .before .before .before .before .before .before .before .before .before .before .before .before .before .before .before .before .before
+abbrev entry : tie.After-prepare-arg3 → tie.Start
+entry c = c .before .before .before .before .before .before .before .before .before .before .before .before .before
 
 prepare-requires : tie.Need-prepare-requires
 prepare-requires c κs =
     let p = entry c .pre in
-    (p .0, (p .1 .0, p .1 .1 .0))
-
-abbrev prepared : tie.After-list-all-arg → tie.After-prepare
-prepared c = c .before .before .before .before .before .before .before .before .before .before .before .before .before
-
-list-all-requires : tie.Need-list-all-requires
-list-all-requires c κs =
-    let p = entry (prepared c .before) .pre in
-    rw (p .1 .1 .1 .1) (le-trans (p .1 .0 .nodes) (lit≤ tt))
-
-abbrev listed : tie.After-refine-arg9 → tie.After-list-all
-listed c = c .before .before .before .before .before .before .before .before .before .before .before
-
-refine-requires : tie.Need-refine-requires
-refine-requires c κs =
-    let all = listed c in
-    let ready = prepared (all .before) in
-    let p = entry (ready .before) .pre in
-    let few = le-trans (p .1 .0 .nodes) (lit≤ tt) in (
-      ready .prepare .ensures,
-      (rw (listed-all (p .1 .1 .1 .1) (all .list-all .ensures)) (all-list _ few), (p .1 .1 .1 .0, p .1 .1 .1 .2)),
+    let pattern = p .0 in
+    let starts = below-wider _ 32 _ (pattern .nodes) (all-below _ _ (bounded-starts pattern)) in
+    let ends = below-wider _ 32 _ (pattern .nodes) (all-below _ _ (bounded-ends pattern)) in
+    let board = p .1 .0 in (
+      (omega (arith, pattern .parallel), search needs, search needs),
+      ((board .nodes, board .parallel, board .links), ((bounded-starts board, bounded-ends board), p .1 .1 .1)),
     )
 
-abbrev refined : tie.After-slice-known18 → tie.After-refine
-refined c = c .before .before .before .before
+abbrev ready : tie.After-match-prepared-arg4 → tie.After-prepare
+ready c = c .before .before .before .before .before .before .before .before .before .before
+
+array-borrow-prefix-nodes : tie.Need-array-borrow-prefix-nodes
+array-borrow-prefix-nodes c = search needs
+
+slice-aggregate-match-prepared : tie.Need-slice-aggregate-match-prepared
+slice-aggregate-match-prepared c = sym (length-take-le _ _ (entry (ready (c .before) .before) .pre .1 .0 .nodes))
+
+array-borrow-prefix-spare : tie.Need-array-borrow-prefix-spare
+array-borrow-prefix-spare c = search needs
+
+slice-aggregate-match-prepared-2 : tie.Need-slice-aggregate-match-prepared-2
+slice-aggregate-match-prepared-2 c = sym (length-take-le _ _ (entry (ready (c .before .before) .before) .pre .1 .0 .nodes))
+
+-- what is prepared is of the pattern and of the board
+made : (c : tie.After-prepare) →
+    let a = entry (c .before) .args in
+    Prepared (circuit (now (a .part-kinds)) (now (a .part-starts)) (now (a .part-ends))) (circuit (now (a .node-kinds)) (now (a .node-starts)) (now (a .node-ends)))
+    (tables (c .prepare .last .1 .1 .1 .1 .1 .0) (c .prepare .last .1 .1 .1 .1 .1 .1 .0) (c .prepare .last .1 .1 .1 .1 .1 .1 .1 .0))
+made c = prepared (entry (c .before) .pre .0) (c .prepare .ensures .0) (c .prepare .ensures .1)
+
+match-prepared-requires : tie.Need-match-prepared-requires
+match-prepared-requires c κs =
+    let tabled = ready (c .before .before) in
+    let p = entry (tabled .before) .pre in (
+      record { partStarts = _; partEnds = _; nodeStarts = _; nodeEnds = _; prepared = made tabled },
+      (p .1 .1 .0, length-take-le _ _ (p .1 .0 .nodes), length-take-le _ _ (p .1 .0 .nodes)),
+    )
 
 same-length : tie.Need-same-length
-same-length c = refined c .refine .kept .1 .1 .1 .1 .1 .1 .1 .1 .1 .1 .1 .1 .1 .0
+same-length c = search needs
 
 same-length-2 : tie.Need-same-length-2
-same-length-2 c = prepared (listed (refined c .before) .before) .prepare .kept .1 .1 .1 .1 .1 .1 .0
+same-length-2 c = search needs
 
 same-length-3 : tie.Need-same-length-3
-same-length-3 c = prepared (listed (refined c .before) .before) .prepare .kept .1 .1 .1 .1 .1 .1 .1 .0
+same-length-3 c = search needs
 
 same-length-4 : tie.Need-same-length-4
-same-length-4 c = prepared (listed (refined c .before) .before) .prepare .kept .1 .1 .1 .1 .1 .1 .1 .1 .0
-
-same-length-5 : tie.Need-same-length-5
-same-length-5 c = prepared (listed (refined c .before) .before) .prepare .kept .1 .1 .1 .1 .1 .1 .1 .1 .1 .0
-
-same-length-6 : tie.Need-same-length-6
-same-length-6 c = prepared (listed (refined c .before) .before) .prepare .kept .1 .1 .1 .1 .1 .1 .1 .1 .1 .1 .0
-
-same-length-7 : tie.Need-same-length-7
-same-length-7 c = prepared (listed (refined c .before) .before) .prepare .kept .1 .1 .1 .1 .1 .1 .1 .1 .1 .1 .1 .0
-
-same-length-8 : tie.Need-same-length-8
-same-length-8 c = listed (refined c .before) .list-all .kept .0
-
-same-length-9 : tie.Need-same-length-9
-same-length-9 c = refined c .refine .kept .1 .1 .1 .1 .1 .1 .1 .1 .1 .1 .1 .1 .1 .1 .0
+same-length-4 c = search needs
 
 returns : tie.Need-returns
 returns c =
-    let all = listed (refined c .before) in
-    let p = entry (prepared (all .before) .before) .pre in
-    (refined-everything (listed-all (p .1 .1 .1 .1) (all .list-all .ensures)) (refined c .refine .ensures), prepared (all .before) .prepare .ensures)
+    let matched = c .before .before .before .before in
+    let tabled = ready (matched .before .before .before) in
+    (matched .match-prepared .ensures _ _ _ _ (made tabled), made tabled)
 
 pub prepare-and-match-spec : {M : Type 1} → statement M
 prepare-and-match-spec =
     tie.close
     (tie.spec
     prepare-requires
-    list-all-requires
-    refine-requires
+    array-borrow-prefix-nodes
+    slice-aggregate-match-prepared
+    array-borrow-prefix-spare
+    slice-aggregate-match-prepared-2
+    match-prepared-requires
     same-length
     same-length-2
     same-length-3
     same-length-4
-    same-length-5
-    same-length-6
-    same-length-7
-    same-length-8
-    same-length-9
     returns)

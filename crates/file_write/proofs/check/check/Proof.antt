@@ -33,23 +33,23 @@ returns-2 c =
     ap Refused (c .refusal2 .ensures)
     ∙ sym (answer-turned _ _ _ _ (verdict-3 _ _ _ _ (sym (c .before .before .before .in-range .ensures) ∙ not-false _ (c .before .before .if1 .left)) (c .before .if2 .taken)))
 
-link-number-requires : tie.Need-link-number-requires
-link-number-requires c κs = (true-T (sym (c .before .before .in-range .ensures) ∙ not-false _ (c .before .if1 .left)), c .if2 .left)
+test-links-requires : tie.Need-test-links-requires
+test-links-requires c κs = (true-T (sym (c .before .before .in-range .ensures) ∙ not-false _ (c .before .if1 .left)), c .if2 .left)
 
 refusal-requires-3 : tie.Need-refusal-requires-3
 refusal-requires-3 c κs = search needs
 
 -- where there are as many starts as ends, the verdict is that of the links
-by-links : (c : tie.After-link-number) → first (circuitConditions (c .before .before .before .before .before .before .before .args .role) (now (c .before .before .before .before .before .before .before .args .kinds)) (now (c .before .before .before .before .before .before .before .args .starts)) (now (c .before .before .before .before .before .before .before .args .ends))) ≡ byNumber (c .before .before .before .before .before .before .before .args .role) (c .link-number .result)
+by-links : (c : tie.After-test-links) → first (circuitConditions (c .before .before .before .before .before .before .before .args .role) (now (c .before .before .before .before .before .before .before .args .kinds)) (now (c .before .before .before .before .before .before .before .args .starts)) (now (c .before .before .before .before .before .before .before .args .ends))) ≡ byNumber (c .before .before .before .before .before .before .before .args .role) (c .test-links .result .number)
 by-links c =
     verdict-links _ _ _ _ (sym (c .before .before .before .in-range .ensures) ∙ not-false _ (c .before .before .if1 .left)) (c .before .if2 .left)
     ∙ verdict-number _ _ _ _
-    ∙ ap (byNumber (c .before .before .before .before .before .before .before .args .role)) (sym (c .link-number .ensures))
+    ∙ ap (byNumber (c .before .before .before .before .before .before .before .args .role)) (sym (c .test-links .ensures .number))
 
 returns-3 : tie.Need-returns-3
 returns-3 c =
     ap Refused (c .refusal3 .ensures)
-    ∙ sym (answer-turned _ _ _ _ (by-links (c .before .before) ∙ number-turned _ _ (c .before .if3 .taken)))
+    ∙ sym (answer-turned _ _ _ _ (by-links (c .before .before .before) ∙ number-turned _ _ (c .before .if3 .taken)))
 
 mul-t11 : tie.Need-mul-t11
 mul-t11 c = search needs
@@ -62,10 +62,10 @@ mul-t15 c = search needs
 
 add-t16 : tie.Need-add-t16
 add-t16 c =
-    omega (arith, range-bounds (c .before .before .before .before .before .before .before .before .args .role) (length (now (c .before .before .before .before .before .before .before .before .args .kinds))) (length (now (c .before .before .before .before .before .before .before .before .args .starts))) (true-T (sym (c .before .before .before .before .in-range .ensures) ∙ not-false _ (c .before .before .before .if1 .left))))
+    omega (arith, range-bounds (c .before .before .before .before .before .before .before .before .before .args .role) (length (now (c .before .before .before .before .before .before .before .before .before .args .kinds))) (length (now (c .before .before .before .before .before .before .before .before .before .args .starts))) (true-T (sym (c .before .before .before .before .before .in-range .ensures) ∙ not-false _ (c .before .before .before .before .if1 .left))))
 
 returns-4 : tie.Need-returns-4
-returns-4 c = sym (answer-accept _ _ (by-links (c .before) ∙ number-accept _ _ (c .if3 .left)))
+returns-4 c = sym (answer-accept _ _ (by-links (c .before .before) ∙ number-accept _ _ (c .if3 .left)))
 
 pub check-spec : {M : Type 1} → statement M
 check-spec =
@@ -76,7 +76,7 @@ check-spec =
     returns
     refusal-requires-2
     returns-2
-    link-number-requires
+    test-links-requires
     refusal-requires-3
     returns-3
     mul-t11

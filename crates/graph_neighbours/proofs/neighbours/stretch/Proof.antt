@@ -1,20 +1,14 @@
 -- `graph_neighbours::neighbours::stretch` meets its contract: each test that fails leaves the stretch empty, and past them all the offsets are
 -- sound. Assumes nothing.
-use mathlib.Core.List.{List}
-use mathlib.Core.Path.{_≡_, sym, ap}
-use Prim.Native.Nat.{ℕ, suc, _+_}
-use native.Mathlib.Numerals.{add-one}
+use mathlib.Core.Path.{sym}
+use Prim.Native.Nat.{_+_}
 use native.Mathlib.Omega.{arith}
 use borrow.Author.Needs.{needs}
 use denote.Ref.{now}
-use lib.ListN.{getD}
 use Rattle.graph.proofs.Lookup.{stretch-part, stretch-none}
+use Rattle.graph_neighbours.proofs.Lookup.{next-is}
 use Rattle.graph_neighbours.proofs.neighbours.stretch.Statement.{statement}
 use Rattle.graph_neighbours.proofs.neighbours.stretch.Tie as tie
-
--- the offset at v + 1, as the code has it, is that at `suc v`
-next-is : (os : List ℕ) (v : ℕ) → getD os (v + 1) 0 ≡ getD os (suc v) 0
-next-is os v = ap (λ (i : ℕ). getD os i 0) (add-one v)
 
 sub-result : tie.Need-sub-result
 sub-result c = search needs

@@ -2,7 +2,7 @@
 -- many are left. Assumes nothing.
 use mathlib.Core.List.{List}
 use mathlib.Core.Path.{_≡_, ap}
-use Prim.Native.Nat.{ℕ, _-_, _≤_}
+use Prim.Native.Nat.{ℕ, _-_, _≤_, _<_}
 use native.Mathlib.Omega.{arith}
 use borrow.Author.Needs.{needs}
 use denote.Ref.{now}
@@ -30,32 +30,33 @@ loop-holds : tie.Need-loop-holds Inv-loop μ-loop
 unfolding concatBelow
 loop-holds c = (omega arith, put-nothing)
 
-mul-w : tie.Need-mul-w Inv-loop μ-loop
-mul-w c = search needs
+node-at-requires : tie.Need-node-at-requires Inv-loop μ-loop
+node-at-requires c κs = search needs
 
-shared-slice-read-w : tie.Need-shared-slice-read-w Inv-loop μ-loop
-shared-slice-read-w c = search needs
+-- the next node is one that the sets are for
+known : (c : tie.After-node-at Inv-loop μ-loop) → c .node-at .result < length (now (c .before .before .before .before .before .before .before .args .sets))
+unfolding Below
+known c = rw (c .node-at .ensures) (c .before .before .before .before .before .before .before .pre .1 .0 (c .before .before .loop .i) (omega arith))
 
 cast-w : tie.Need-cast-w Inv-loop μ-loop
-cast-w c = omega (arith, c .shared-slice-known4 .given (c .before .before .loop .i))
+cast-w c = omega (arith, known c)
 
 mul-put-link : tie.Need-mul-put-link Inv-loop μ-loop
-mul-put-link c = omega (arith, c .shared-slice-known4 .given (c .before .before .loop .i))
+mul-put-link c = omega (arith, known c)
 
 shared-slice-read-put-link : tie.Need-shared-slice-read-put-link Inv-loop μ-loop
-unfolding Below
-shared-slice-read-put-link c = c .before .before .before .before .before .before .before .before .pre .1 .0 (c .before .before .before .loop .i) (omega arith)
+shared-slice-read-put-link c = known (c .before)
 
 put-link-requires : tie.Need-put-link-requires Inv-loop μ-loop
-unfolding Below drivenText
+unfolding drivenText
 put-link-requires c κs =
     let s = c .before .before .before .before .before .before .before .before .before in
     let a = s .args in
     let p = s .pre in
-    let loop = c .before .before .before .before .loop in
-    let below = p .1 .0 (loop .i) (omega arith) in (
-      (p .0 .0, p .0 .2, omega (arith, below, p .0 .1)),
-      fits-then (loop .inv .1) (fits-piece (length (now (a .nodes))) (loop .i) (linkTo (now (a .nodes)) (a .driven) (now (a .sets)) (a .v)) (omega arith) (p .1 .1)),
+    let loop = c .before .before .before .before .loop in (
+      (p .0 .0, p .0 .2, omega (arith, known (c .before .before), p .0 .1)),
+      rw (c .before .before .node-at .ensures)
+          (fits-then (loop .inv .1) (fits-piece (length (now (a .nodes))) (loop .i) (linkTo (now (a .nodes)) (a .driven) (now (a .sets)) (a .v)) (omega arith) (p .1 .1))),
     )
 
 add-i : tie.Need-add-i Inv-loop μ-loop
@@ -68,7 +69,7 @@ loop-again : tie.Need-loop-again Inv-loop μ-loop
 loop-again c =
     let a = c .before .before .before .before .before .before .before .before .before .before .before .before .args in
     let loop = c .before .before .before .before .before .before .before .loop in
-    (omega arith, put-same (concat-more (loop .i) (linkTo (now (a .nodes)) (a .driven) (now (a .sets)) (a .v))) (put-then (loop .inv .1) (c .before .before .put-link .ensures)))
+    (omega arith, put-same (concat-more (loop .i) (linkTo (now (a .nodes)) (a .driven) (now (a .sets)) (a .v))) (put-then (loop .inv .1) (rw (c .before .before .before .before .before .node-at .ensures) at (c .before .before .put-link .ensures))))
 
 same-length : tie.Need-same-length Inv-loop μ-loop
 same-length c = put-length (c .before .loop .inv .1)
@@ -84,4 +85,4 @@ returns c =
 pub put-driven-spec : {M : Type 1} → statement M
 put-driven-spec =
     tie.close
-    (tie.spec Inv-loop μ-loop loop-holds mul-w shared-slice-read-w cast-w mul-put-link shared-slice-read-put-link put-link-requires add-i loop-less loop-again same-length returns)
+    (tie.spec Inv-loop μ-loop loop-holds node-at-requires cast-w mul-put-link shared-slice-read-put-link put-link-requires add-i loop-less loop-again same-length returns)

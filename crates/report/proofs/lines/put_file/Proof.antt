@@ -1,8 +1,9 @@
 -- `report::lines::put_file` meets its contract, file by file. Assumes nothing.
 use mathlib.Core.Path.{sym, ap}
+use native.Mathlib.Omega.{arith}
 use borrow.Author.Needs.{needs}
 use Rattle.base_text.specs.Text.{bytes}
-use Rattle.base_text.proofs.Text.{put-nothing, put-same, fits-same}
+use Rattle.base_text.proofs.Text.{put-nothing, put-same}
 use Rattle.report.specs.Report.{fileWord}
 use Rattle.report.proofs.lines.put_file.Statement.{statement}
 use Rattle.report.proofs.lines.put_file.Tie as tie
@@ -14,8 +15,7 @@ slice-aggregate-put-bytes : tie.Need-slice-aggregate-put-bytes
 slice-aggregate-put-bytes c = search needs
 
 put-bytes-requires : tie.Need-put-bytes-requires
-unfolding fileWord bytes
-put-bytes-requires c κs = fits-same (ap fileWord (c .before .before .enum-told .given .1)) (c .before .before .before .before .before .pre)
+put-bytes-requires c κs = record { room = omega (arith, c .before .before .before .before .before .pre) }
 
 enum-told-2 : tie.Need-enum-told-2
 enum-told-2 c = search needs
@@ -24,8 +24,7 @@ slice-aggregate-put-bytes-2 : tie.Need-slice-aggregate-put-bytes-2
 slice-aggregate-put-bytes-2 c = search needs
 
 put-bytes-requires-2 : tie.Need-put-bytes-requires-2
-unfolding fileWord bytes
-put-bytes-requires-2 c κs = fits-same (ap fileWord (c .before .before .enum-told2 .given .1)) (c .before .before .before .before .before .pre)
+put-bytes-requires-2 c κs = record { room = omega (arith, c .before .before .before .before .before .pre) }
 
 enum-told-3 : tie.Need-enum-told-3
 enum-told-3 c = search needs

@@ -2,11 +2,14 @@
 use mathlib.Core.List.{List, _++_}
 use mathlib.Core.Path.{_≡_, sym}
 use Prim.Native.Nat.{ℕ}
+use native.Mathlib.Omega.{arith}
 use borrow.Author.Needs.{needs}
 use denote.Ref.{now}
 use Rattle.base_text.specs.Text.{bytes, Fits, decimal}
-use Rattle.base_text.proofs.Text.{put-then, put-same, fits-same, fits-first, fits-then}
+use Rattle.base_text.proofs.Text.{put-then, put-same, fits-same, fits-less, fits-first, fits-then}
+use Rattle.table.specs.Prepared.{tables}
 use Rattle.report.specs.Lines.{nodesText, linksText, lineText}
+use Rattle.report.proofs.Concat.{fits-after}
 use Rattle.report.proofs.Pieces.{line-pieces}
 use Rattle.report.proofs.lines.put_line.Statement.{statement}
 use Rattle.report.proofs.lines.put_line.Tie as tie
@@ -16,10 +19,10 @@ abbrev nodes : tie.Start → List ℕ
 nodes s = nodesText (now (s .args .dist))
 
 abbrev links : tie.Start → List ℕ
-links s = let a = s .args in linksText (now (a .fo)) (now (a .ft)) (now (a .succ)) (now (a .dist)) (now (a .sets))
+links s = let a = s .args in linksText (tables (now (a .masks)) (now (a .offsets)) (now (a .links))) (now (a .dist)) (now (a .sets))
 
 pieces : (s : tie.Start) → let a = s .args in
-    lineText (now (a .fo)) (now (a .ft)) (now (a .succ)) (now (a .dist)) (now (a .sets)) (a .c)
+    lineText (tables (now (a .masks)) (now (a .offsets)) (now (a .links))) (now (a .dist)) (now (a .sets)) (a .c)
     ≡ bytes "place " ++ (decimal (a .c) ++ (bytes ":" ++ (nodes s ++ (bytes " /" ++ (links s ++ bytes "\n")))))
 unfolding lineText
 pieces s = line-pieces (s .args .c) (nodes s) (links s)
@@ -31,7 +34,7 @@ slice-aggregate-put-bytes c = search needs
 
 room : (s : tie.Start) → let a = s .args in
     Fits (now (a .out)) (a .at) (bytes "place " ++ (decimal (a .c) ++ (bytes ":" ++ (nodes s ++ (bytes " /" ++ (links s ++ bytes "\n"))))))
-room s = fits-same (pieces s) (s .pre .1 .1 .1 .1)
+room s = fits-same (pieces s) (s .pre .1 .1 .1)
 
 put-bytes-requires : tie.Need-put-bytes-requires
 unfolding bytes
@@ -72,14 +75,14 @@ slice-aggregate-put-bytes-2 c = search needs
 
 put-bytes-requires-2 : tie.Need-put-bytes-requires-2
 unfolding bytes
-put-bytes-requires-2 c κs = fits-first (bytes " /") _ (room-slash (c .before .before .before .before))
+put-bytes-requires-2 c κs = fits-less _ (omega arith) (fits-first (bytes " /") _ (room-slash (c .before .before .before .before)))
 
 room-links : (c : tie.After-put-bytes2) → Fits (c .put-bytes2 .last .1 .0) (c .put-bytes2 .result) (links (c .before .before .before .before .before .before .before .before .before .before .before .before .before .before .before .before .before .before .before .before .before .before .before .before .before .before .before) ++ bytes "\n")
 unfolding bytes
-room-links c = fits-then (c .put-bytes2 .ensures) (room-slash (c .before .before .before .before .before))
+room-links c = fits-after (bytes " /") _ (omega arith) (c .put-bytes2 .ensures) (room-slash (c .before .before .before .before .before))
 
 put-links-requires : tie.Need-put-links-requires
-put-links-requires c κs = let p = c .before .before .before .before .before .before .before .before .before .before .before .before .before .before .before .before .before .before .before .before .before .before .before .before .before .before .before .before .before .before .pre in (p .0, (p .1 .0, (p .1 .1 .0, (p .1 .1 .1 .0, fits-first _ _ (room-links (c .before .before .before))))))
+put-links-requires c κs = let p = c .before .before .before .before .before .before .before .before .before .before .before .before .before .before .before .before .before .before .before .before .before .before .before .before .before .before .before .before .before .before .pre in (p .0, (p .1 .0, (p .1 .1 .0, fits-first _ _ (room-links (c .before .before .before)))))
 
 put-byte-requires-2 : tie.Need-put-byte-requires-2
 unfolding bytes

@@ -1,12 +1,16 @@
 -- `report::lines::put_link` meets its contract: the start after a space, and the end after a hyphen. Assumes nothing.
-use mathlib.Core.List.{_∷_, _++_}
+use mathlib.Core.List.{_++_}
 use mathlib.Core.Path.{_≡_, sym, _∙_}
+use Prim.Native.Nat.{_+_, _≤_}
+use native.Mathlib.Omega.{arith}
 use borrow.Author.Needs.{needs}
 use borrow.Author.Tests.{not-true, not-false}
+use denote.Ref.{now}
+use lib.ListN.{length}
 use Rattle.base_text.specs.Text.{bytes, decimal}
-use Rattle.base_text.proofs.Text.{put-nothing, put-then, put-same, fits-same, fits-first, fits-then}
+use Rattle.base_text.proofs.Text.{put-nothing, put-then, put-same, put-length, fits-same}
 use Rattle.report.specs.Lines.{linkText}
-use Rattle.report.proofs.Pieces.{link-apart, link-meets}
+use Rattle.report.proofs.Pieces.{link-apart, link-meets, link-room}
 use Rattle.report.proofs.lines.put_link.Statement.{statement}
 use Rattle.report.proofs.lines.put_link.Tie as tie
 
@@ -25,18 +29,20 @@ text c =
     let a = c .before .before .before .before .args in
     link-meets (a .driven) (a .set) (a .v) (a .w) (sym (c .before .meets .ensures) ∙ not-false _ (c .if1 .left))
 
+-- so there is room for the pieces, whichever comes first
+room : (c : tie.Else1) → let s = c .before .before .before .before in s .args .at + (1 + (length (decimal (s .args .v)) + (1 + length (decimal (s .args .w))))) ≤ length (now (s .args .out))
+room c = let s = c .before .before .before .before in link-room (s .args .v) (s .args .w) (fits-same (text c) (s .pre .1))
+
 put-name-requires : tie.Need-put-name-requires
-unfolding bytes
 put-name-requires c κs =
     let s = c .before .before .before .before .before in
-    (s .pre .0 .0, (s .pre .0 .1, fits-first (32 ∷ decimal (s .args .v)) _ (fits-same (text (c .before)) (s .pre .1))))
+    (s .pre .0 .0, (omega arith, record { room = omega (arith, room (c .before)) }))
 
 put-name-requires-2 : tie.Need-put-name-requires-2
-unfolding bytes
 put-name-requires-2 c κs =
     let s = c .before .before .before .before .before .before .before .before .before in
-    let room = fits-same (text (c .before .before .before .before .before)) (s .pre .1) in
-    (s .pre .0 .0, (s .pre .0 .2, fits-then (c .before .before .before .put-name .ensures) room))
+    let first = c .before .before .before .put-name .ensures in
+    (s .pre .0 .0, (omega arith, record { room = omega (arith, room (c .before .before .before .before .before), first .end, put-length first) }))
 
 same-length : tie.Need-same-length
 same-length c = search needs

@@ -9,20 +9,21 @@ use lib.ListN.{length}
 use Rattle.base_lists.specs.Below.{concatBelow}
 use Rattle.base_text.specs.Text.{Put}
 use Rattle.base_text.proofs.Text.{put-nothing, put-then, put-same, put-length, fits-then}
+use Rattle.table.specs.Prepared.{tables}
 use Rattle.report.specs.Lines.{startText, linksText}
 use Rattle.report.proofs.Concat.{concat-more, fits-piece}
 use Rattle.report.proofs.lines.put_links.Statement.{statement}
 use Rattle.report.proofs.lines.put_links.Tie as tie
 
 abbrev Inv-loop : tie.InvT-loop
-Inv-loop names fo ft succ dist sets out₀ at end₀ v₀ out end v = (v ≤ length dist) × Put out₀ at (concatBelow v (startText fo ft succ dist sets)) out end
+Inv-loop names masks offsets links dist sets out₀ at end₀ v₀ out end v = (v ≤ length dist) × Put out₀ at (concatBelow v (startText (tables masks offsets links) dist sets)) out end
 
 abbrev μ-loop : tie.MeasureT-loop
-μ-loop names fo ft succ dist sets out₀ at end₀ v₀ out end v = length dist - v
+μ-loop names masks offsets links dist sets out₀ at end₀ v₀ out end v = length dist - v
 
 -- the links that start at a node
 abbrev starting : tie.Start Inv-loop μ-loop → ℕ → List ℕ
-starting s = let a = s .args in startText (now (a .fo)) (now (a .ft)) (now (a .succ)) (now (a .dist)) (now (a .sets))
+starting s = let a = s .args in startText (tables (now (a .masks)) (now (a .offsets)) (now (a .links))) (now (a .dist)) (now (a .sets))
 
 loop-holds : tie.Need-loop-holds Inv-loop μ-loop
 unfolding concatBelow
@@ -34,7 +35,7 @@ put-start-requires c κs =
     let s = c .before .before .before .before .before .before .before .before .before .before in
     let p = s .pre in
     let loop = c .before .before .loop in
-    (p .0, (p .1 .0, (p .1 .1 .0, (p .1 .1 .1 .0, (omega arith, fits-then (loop .inv .1) (fits-piece (length (now (s .args .dist))) (loop .v) (starting s) (omega arith) (p .1 .1 .1 .1)))))))
+    (p .0, (p .1 .0, (p .1 .1 .0, (omega arith, fits-then (loop .inv .1) (fits-piece (length (now (s .args .dist))) (loop .v) (starting s) (omega arith) (p .1 .1 .1))))))
 
 add-v : tie.Need-add-v Inv-loop μ-loop
 add-v c = omega arith

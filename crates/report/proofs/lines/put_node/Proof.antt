@@ -12,25 +12,30 @@ use Rattle.report.proofs.Pieces.{node-missed, node-reached}
 use Rattle.report.proofs.lines.put_node.Statement.{statement}
 use Rattle.report.proofs.lines.put_node.Tie as tie
 
-reached-requires : tie.Need-reached-requires
-reached-requires c κs = search needs
+mul-is-reached : tie.Need-mul-is-reached
+mul-is-reached c = search needs
+
+shared-slice-read-is-reached : tie.Need-shared-slice-read-is-reached
+shared-slice-read-is-reached c = search needs
+
+is-reached-requires : tie.Need-is-reached-requires
+is-reached-requires c κs = search needs
 
 returns : tie.Need-returns
 returns c =
-    let a = c .before .before .before .before .before .args in
-    put-same (sym (node-missed (now (a .dist)) (a .v) (sym (c .before .reached .ensures) ∙ not-true _ (c .if1 .taken)))) put-nothing
+    let a = c .before .before .before .before .before .before .args in
+    put-same (sym (node-missed (now (a .dist)) (a .v) (sym (c .before .is-reached .ensures) ∙ not-true _ (c .if1 .taken)))) put-nothing
 
 -- the node is reached
-text : (c : tie.Else1) → let a = c .before .before .before .before .before .args in
-    nodeText (now (a .dist)) (a .v) ≡ bytes " " ++ decimal (a .v)
+text : (c : tie.Else1) → let a = c .before .before .before .before .before .before .args in nodeText (now (a .dist)) (a .v) ≡ bytes " " ++ decimal (a .v)
 text c =
-    let a = c .before .before .before .before .before .args in
-    node-reached (now (a .dist)) (a .v) (sym (c .before .reached .ensures) ∙ not-false _ (c .if1 .left))
+    let a = c .before .before .before .before .before .before .args in
+    node-reached (now (a .dist)) (a .v) (sym (c .before .is-reached .ensures) ∙ not-false _ (c .if1 .left))
 
 put-name-requires : tie.Need-put-name-requires
 unfolding bytes
 put-name-requires c κs =
-    let s = c .before .before .before .before .before .before in
+    let s = c .before .before .before .before .before .before .before in
     (s .pre .0 .0, (omega (arith, s .pre .0 .1, s .pre .1 .0), fits-same (text (c .before)) (s .pre .1 .1)))
 
 same-length : tie.Need-same-length
@@ -41,4 +46,4 @@ unfolding bytes
 returns-2 c = put-same (sym (text (c .before .before .before .before))) (c .before .before .put-name .ensures)
 
 pub put-node-spec : {M : Type 1} → statement M
-put-node-spec = tie.close (tie.spec reached-requires returns put-name-requires same-length returns-2)
+put-node-spec = tie.close (tie.spec mul-is-reached shared-slice-read-is-reached is-reached-requires returns put-name-requires same-length returns-2)

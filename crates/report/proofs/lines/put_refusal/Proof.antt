@@ -1,11 +1,13 @@
 -- `report::lines::put_refusal` meets its contract, word by word. Assumes nothing.
-use mathlib.Core.List.{_++_}
 use mathlib.Core.Path.{sym}
+use Prim.Native.Nat.{_+_, _≤_}
+use native.Mathlib.Omega.{arith}
 use borrow.Author.Needs.{needs}
-use denote.Ref.{now}
-use Rattle.base_text.specs.Text.{bytes, Fits, decimal}
-use Rattle.base_text.proofs.Text.{put-then, put-same, fits-same, fits-first, fits-then}
-use Rattle.report.specs.Report.{fileWord}
+use lib.ListN.{length}
+use Rattle.base_text.specs.Text.{bytes}
+use Rattle.base_text.proofs.Text.{put-then, put-same, length-decimal}
+use Rattle.report.proofs.Concat.{fits-number, room-left}
+use Rattle.report.proofs.Lengths.{word-length}
 use Rattle.report.proofs.Pieces.{refusal-pieces}
 use Rattle.report.proofs.lines.put_refusal.Statement.{statement}
 use Rattle.report.proofs.lines.put_refusal.Tie as tie
@@ -13,35 +15,31 @@ use Rattle.report.proofs.lines.put_refusal.Tie as tie
 slice-aggregate-put-bytes : tie.Need-slice-aggregate-put-bytes
 slice-aggregate-put-bytes c = search needs
 
--- ---- the room, before each piece
-
-room : (s : tie.Start) → let a = s .args in Fits (now (a .out)) (a .at) (bytes "refused " ++ (decimal (a .x .number) ++ (fileWord (a .x .file) ++ bytes "\n")))
-room s = fits-same (refusal-pieces (s .args .x)) (s .pre)
-
 put-bytes-requires : tie.Need-put-bytes-requires
-unfolding bytes
-put-bytes-requires c κs = fits-first (bytes "refused ") _ (room (c .before .before .before))
+put-bytes-requires c κs = record { room = omega (arith, c .before .before .before .pre) }
 
-room-number : (c : tie.After-put-bytes) → let x = c .before .before .before .before .args .x in
-    Fits (c .put-bytes .last .1 .0) (c .put-bytes .result) (decimal (x .number) ++ (fileWord (x .file) ++ bytes "\n"))
-unfolding bytes
-room-number c = fits-then (c .put-bytes .ensures) (room (c .before .before .before .before))
+-- ---- the room that is left after each piece
+
+room-number : (c : tie.After-put-bytes) → c .put-bytes .result + 12 ≤ length (c .put-bytes .last .1 .0)
+room-number c = room-left 8 12 (c .put-bytes .ensures) (omega arith) (omega (arith, c .before .before .before .before .pre))
 
 cast-put-number : tie.Need-cast-put-number
 cast-put-number c = search needs
 
 put-number-requires : tie.Need-put-number-requires
-put-number-requires c κs = fits-first _ _ (room-number (c .before .before .before .before))
+put-number-requires c κs = fits-number _ (omega arith) (omega (arith, room-number (c .before .before .before .before)))
 
-room-file : (c : tie.After-put-number) → Fits (c .put-number .last .1 .0) (c .put-number .result) (fileWord (c .before .before .before .before .before .before .before .before .before .args .x .file) ++ bytes "\n")
-room-file c = fits-then (c .put-number .ensures) (room-number (c .before .before .before .before .before))
+room-file : (c : tie.After-put-number) → c .put-number .result + 9 ≤ length (c .put-number .last .1 .0)
+room-file c = room-left 3 9 (c .put-number .ensures) (length-decimal 2 _ (omega arith)) (room-number (c .before .before .before .before .before))
 
 put-file-requires : tie.Need-put-file-requires
-put-file-requires c κs = fits-first _ _ (room-file (c .before .before .before))
+put-file-requires c κs = omega (arith, room-file (c .before .before .before))
+
+room-end : (c : tie.After-put-file) → c .put-file .result + 1 ≤ length (c .put-file .last .1 .0)
+room-end c = room-left 8 1 (c .put-file .ensures) (word-length _) (room-file (c .before .before .before .before))
 
 put-byte-requires : tie.Need-put-byte-requires
-unfolding bytes
-put-byte-requires c κs = fits-then (c .before .before .before .put-file .ensures) (room-file (c .before .before .before .before .before .before .before))
+put-byte-requires c κs = record { room = omega (arith, room-end (c .before .before .before)) }
 
 same-length : tie.Need-same-length
 same-length c = search needs

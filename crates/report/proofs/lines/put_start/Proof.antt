@@ -4,51 +4,63 @@ use native.Mathlib.Omega.{arith}
 use borrow.Author.Needs.{needs}
 use borrow.Author.Tests.{not-true, not-false}
 use denote.Ref.{now}
+use lib.ListN.{length}
 use Rattle.base_text.proofs.Text.{put-nothing, put-same, fits-same}
-use Rattle.graph.proofs.Lookup.{stretch-below}
+use Rattle.graph_neighbours.specs.Lookup.{neighboursIn}
+use Rattle.graph_neighbours.proofs.Lookup.{neighbours-below}
+use Rattle.table.specs.Prepared.{tables, Tables}
 use Rattle.report.specs.Lines.{startText, drivenText}
 use Rattle.report.proofs.Pieces.{start-missed, start-reached}
 use Rattle.report.proofs.lines.put_start.Statement.{statement}
 use Rattle.report.proofs.lines.put_start.Tie as tie
 
-reached-requires : tie.Need-reached-requires
-reached-requires c κs = search needs
+abbrev tablesOf : tie.Start → Tables
+tablesOf s = tables (now (s .args .masks)) (now (s .args .offsets)) (now (s .args .links))
+
+mul-is-reached : tie.Need-mul-is-reached
+mul-is-reached c = search needs
+
+shared-slice-read-is-reached : tie.Need-shared-slice-read-is-reached
+shared-slice-read-is-reached c = search needs
+
+is-reached-requires : tie.Need-is-reached-requires
+is-reached-requires c κs = search needs
 
 returns : tie.Need-returns
 returns c =
-    let a = c .before .before .before .before .before .before .before .before .before .args in
-    put-same
-    (sym (start-missed (now (a .fo)) (now (a .ft)) (now (a .succ)) (now (a .dist)) (now (a .sets)) (a .v) (sym (c .before .reached .ensures) ∙ not-true _ (c .if1 .taken))))
-    put-nothing
-
-mul-union-of : tie.Need-mul-union-of
-mul-union-of c = search needs
-
-shared-slice-read-union-of : tie.Need-shared-slice-read-union-of
-shared-slice-read-union-of c = search needs
-
-union-of-requires : tie.Need-union-of-requires
-union-of-requires c κs =
     let s = c .before .before .before .before .before .before .before .before .before .before in
-    s .pre .1 .1 .1 .0 (s .args .v)
+    put-same (sym (start-missed (tablesOf s) (now (s .args .dist)) (now (s .args .sets)) (s .args .v) (sym (c .before .is-reached .ensures) ∙ not-true _ (c .if1 .taken)))) put-nothing
 
-stretch-requires : tie.Need-stretch-requires
-stretch-requires c κs = search needs
+mul-driven-parts : tie.Need-mul-driven-parts
+mul-driven-parts c = search needs
+
+shared-slice-read-driven-parts : tie.Need-shared-slice-read-driven-parts
+shared-slice-read-driven-parts c = search needs
+
+driven-parts-requires : tie.Need-driven-parts-requires
+driven-parts-requires c κs = search needs
+
+neighbours-in-requires : tie.Need-neighbours-in-requires
+neighbours-in-requires c κs =
+    let s = c .before .before .before .before .before .before .before .before .before .before .before .before in
+    record { nodes = _; net = s .pre .1 .1 .0 .net; node = rw (s .pre .1 .0) (s .pre .1 .1 .1 .0) }
 
 -- the text of the links, from the union and the stretch
-text : (c : tie.After-stretch) → let a = c .before .before .before .before .before .before .before .before .before .before .before .before .args in
-    startText (now (a .fo)) (now (a .ft)) (now (a .succ)) (now (a .dist)) (now (a .sets)) (a .v)
-    ≡ drivenText (c .before .union-of .result) (now (a .sets)) (a .v) (now (c .stretch .result))
+text : (c : tie.After-neighbours-in) → let s = c .before .before .before .before .before .before .before .before .before .before .before .before .before in
+    startText (tablesOf s) (now (s .args .dist)) (now (s .args .sets)) (s .args .v)
+    ≡ drivenText (c .before .driven-parts .result) (now (s .args .sets)) (s .args .v) (now (c .neighbours-in .result))
+unfolding neighboursIn
 text c =
-    let a = c .before .before .before .before .before .before .before .before .before .before .before .before .args in
-    start-reached (now (a .fo)) (now (a .ft)) (now (a .succ)) (now (a .dist)) (now (a .sets)) (a .v) _ _ (sym (c .before .before .before .before .reached .ensures) ∙ not-false _ (c .before .before .before .if1 .left)) (c .before .union-of .ensures) (c .stretch .ensures)
+    let s = c .before .before .before .before .before .before .before .before .before .before .before .before .before in
+    start-reached (tablesOf s) (now (s .args .dist)) (now (s .args .sets)) (s .args .v) _ _
+    (sym (c .before .before .before .before .is-reached .ensures) ∙ not-false _ (c .before .before .before .if1 .left)) (c .before .driven-parts .ensures) (c .neighbours-in .ensures)
 
 put-driven-requires : tie.Need-put-driven-requires
 put-driven-requires c κs =
-    let s = c .before .before .before .before .before .before .before .before .before .before .before .before .before in
+    let s = c .before .before .before .before .before .before .before .before .before .before .before .before .before .before in
     let p = s .pre in (
-      (p .0 .0, omega (arith, p .0 .1, p .1 .0), omega (arith, p .0 .1, p .1 .1 .1 .1 .0)),
-      (rw (c .before .stretch .ensures) (stretch-below _ _ _ _ (p .1 .1 .0)), fits-same (text (c .before)) (p .1 .1 .1 .1 .1)),
+      (p .0 .0, omega (arith, p .0 .1, p .1 .0), omega (arith, p .0 .1, p .1 .1 .1 .0)),
+      (rw (c .before .neighbours-in .ensures) (neighbours-below _ (p .1 .1 .0 .net) _ (rw (p .1 .0) (p .1 .1 .1 .0))), fits-same (text (c .before)) (p .1 .1 .1 .1)),
     )
 
 same-length : tie.Need-same-length
@@ -61,12 +73,14 @@ pub put-start-spec : {M : Type 1} → statement M
 put-start-spec =
     tie.close
     (tie.spec
-    reached-requires
+    mul-is-reached
+    shared-slice-read-is-reached
+    is-reached-requires
     returns
-    mul-union-of
-    shared-slice-read-union-of
-    union-of-requires
-    stretch-requires
+    mul-driven-parts
+    shared-slice-read-driven-parts
+    driven-parts-requires
+    neighbours-in-requires
     put-driven-requires
     same-length
     returns-2)

@@ -1,11 +1,22 @@
 -- `table::strike::strike_node` meets its contract. Of an empty set nothing survives, so that its neighbours need no look. Assumes nothing.
-use mathlib.Core.Path.{sym}
+use mathlib.Core.Path.{sym, ap, _∙_}
+use native.Mathlib.Omega.{arith}
 use borrow.Author.Needs.{needs}
 use denote.Ref.{now}
-use Rattle.table.specs.Prepared.{tables}
+use lib.ListN.{drop, length-drop}
+use lib.Seq.{length-take-le}
+use Rattle.base_lists.specs.List.{part}
+use Rattle.base_bits.specs.Bits.{unionAt}
+use Rattle.graph_neighbours.specs.declared.neighbours.Direction.the-variants.{Forward, Backward}
+use Rattle.graph_neighbours.specs.Lookup.{neighboursIn}
+use Rattle.graph_neighbours.proofs.Lookup.{neighbours-below}
+use Rattle.table.specs.Prepared.{Tables, tables}
 use Rattle.table.proofs.StrikeSets.{strike-none, strike-unions}
 use Rattle.table.proofs.strike.strike_node.Statement.{statement}
 use Rattle.table.proofs.strike.strike_node.Tie as tie
+
+abbrev tablesOf : tie.Start → Tables
+tablesOf start = tables (now (start .args .masks)) (now (start .args .offsets)) (now (start .args .links))
 
 mul-set : tie.Need-mul-set
 mul-set c = search needs
@@ -15,28 +26,83 @@ shared-slice-read-set c = search needs
 
 returns : tie.Need-returns
 returns c =
-    let start = c .before .before .before .before .before .before .before .before .before in
-    let a = start .args in
-    sym
-    (strike-none (tables (now (a .succ)) (now (a .pred)) (now (a .fo)) (now (a .ft)) (now (a .bo)) (now (a .bt))) (now (a .old)) (a .v) (c .if1 .taken))
+    let start = c .before .before .before .before .before .before in
+    sym (strike-none (tablesOf start) (now (start .args .old)) (start .args .v) (c .if1 .taken))
 
-around-requires : tie.Need-around-requires
-around-requires c κs = search needs
+abbrev entry : tie.Else1 → tie.Start
+entry c = c .before .before .before .before .before .before
 
-around-requires-2 : tie.Need-around-requires-2
-around-requires-2 c κs = search needs
+-- ---- the unions over what the node drives and what drives it
+
+neighbours-in-requires : tie.Need-neighbours-in-requires
+neighbours-in-requires c κs = record { nodes = _; net = entry c .pre .0 .net; node = entry c .pre .1 }
+
+reach-requires : tie.Need-reach-requires
+reach-requires c κs =
+    let start = entry (c .before) in
+    rw (c .neighbours-in .ensures) (neighbours-below Forward (start .pre .0 .net) _ (start .pre .1))
+
+neighbours-in-requires-2 : tie.Need-neighbours-in-requires-2
+neighbours-in-requires-2 c κs =
+    let start = entry (c .before .before) in
+    record { nodes = _; net = start .pre .0 .net; node = start .pre .1 }
+
+reach-requires-2 : tie.Need-reach-requires-2
+reach-requires-2 c κs =
+    let start = entry (c .before .before .before) in
+    rw (c .neighbours-in2 .ensures) (neighbours-below Backward (start .pre .0 .net) _ (start .pre .1))
+
+-- ---- the two halves of the masks
+
+slice-aggregate-surviving : tie.Need-slice-aggregate-surviving
+slice-aggregate-surviving c =
+    let start = entry (c .before .before .before .before .before) in
+    let long = start .pre .0 .masks in
+    sym (length-take-le 32 (now (start .args .masks)) (omega arith))
+
+sub-surviving : tie.Need-sub-surviving
+sub-surviving c = search needs
+
+part-surviving-start : tie.Need-part-surviving-start
+part-surviving-start c = search needs
+
+part-surviving-end : tie.Need-part-surviving-end
+part-surviving-end c = search needs
 
 surviving-requires : tie.Need-surviving-requires
 surviving-requires c κs =
-    let start = c .before .before .before .before .before .before .before .before .before .before .before in
-    (start .pre .0 .drives (start .args .v), start .pre .0 .driven (start .args .v))
+    let start = entry (c .before .before .before .before .before .before) in
+    let masks = now (start .args .masks) in
+    let long = start .pre .0 .masks in
+    let small = start .pre .0 .small (start .args .v) in (
+      rw (length-take-le 32 masks (omega arith)) small,
+      rw (length-take-le 32 (drop 32 masks) (omega (arith, length-drop 32 masks))) small,
+    )
 
 returns-2 : tie.Need-returns-2
+unfolding part neighboursIn
 returns-2 c =
-    let start = c .before .before .before .before .before .before .before .before .before .before .before .before in
-    let a = start .args in
-    strike-unions (tables (now (a .succ)) (now (a .pred)) (now (a .fo)) (now (a .ft)) (now (a .bo)) (now (a .bt))) (now (a .old)) (a .v)
-    (c .before .before .around .ensures) (c .before .around2 .ensures) (c .surviving .ensures)
+    let back = c .before .before .before in
+    let out = back .before .before in
+    let start = entry (out .before .before) in
+    let old = now (start .args .old) in
+    strike-unions (tablesOf start) old (start .args .v) (out .reach .ensures ∙ ap (unionAt old) (out .before .neighbours-in .ensures))
+    (back .reach2 .ensures ∙ ap (unionAt old) (back .before .neighbours-in2 .ensures)) (c .surviving .ensures)
 
 pub strike-node-spec : {M : Type 1} → statement M
-strike-node-spec = tie.close (tie.spec mul-set shared-slice-read-set returns around-requires around-requires-2 surviving-requires returns-2)
+strike-node-spec =
+    tie.close
+    (tie.spec
+    mul-set
+    shared-slice-read-set
+    returns
+    neighbours-in-requires
+    reach-requires
+    neighbours-in-requires-2
+    reach-requires-2
+    slice-aggregate-surviving
+    sub-surviving
+    part-surviving-start
+    part-surviving-end
+    surviving-requires
+    returns-2)

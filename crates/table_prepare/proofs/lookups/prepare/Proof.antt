@@ -1,58 +1,77 @@
--- `table_prepare::lookups::prepare` meets its contract: the neighbour tables and the masks, as their own contracts give them. Assumes nothing.
-use mathlib.Core.Path.{sym}
-use native.Mathlib.Nat.{le-trans}
+-- `table_prepare::lookups::prepare` meets its contract: the neighbour tables and the two halves of the masks, as their own contracts give
+-- them. Assumes nothing.
+use mathlib.Core.List.{List, _++_}
+use mathlib.Core.Path.{_≡_, sym, ap, _∙_}
+use Prim.Native.Nat.{ℕ}
+use native.Mathlib.Omega.{arith}
 use borrow.Author.Needs.{needs}
-use lib.Dec.{lit≤}
-use Rattle.graph.proofs.Groups.{all-below}
-use Rattle.graph.proofs.Below.{below-wider}
-use Rattle.file_format.proofs.Accepted.{bounded-starts, bounded-ends}
-use Rattle.table.proofs.Prepare.{prepared}
+use denote.Ref.{now}
+use lib.ListN.{length, take, drop, length-take, length-drop, length-append}
+use lib.Seq.{length-take-le}
+use Rattle.table.specs.Prepared.{masksOf}
+use Rattle.table.proofs.Prepare.{masked}
 use Rattle.table_prepare.proofs.lookups.prepare.Statement.{statement}
 use Rattle.table_prepare.proofs.lookups.prepare.Tie as tie
 
-abbrev entry : tie.After-neighbour-tables-arg4 → tie.Start
-entry c = c .before .before .before .before .before .before .before .before .before .before .before .before .before .before .before .before
+abbrev entry : tie.After-neighbour-tables-arg2 → tie.Start
+entry c = c .before .before .before .before .before .before .before .before .before
+
+abbrev tabled : tie.After-slice-known5 → tie.After-neighbour-tables
+tabled c = c .before .before .before .before
 
 neighbour-tables-requires : tie.Need-neighbour-tables-requires
 neighbour-tables-requires c κs =
-    let board = entry c .pre .1 .0 in
-    let room = entry c .pre .1 .1 in (
-      (board .parallel, le-trans (board .links) (lit≤ tt)),
-      (
-        (bounded-starts board, bounded-ends board),
-        ((room .forwardOffsets, room .backwardOffsets), (room .forward, room .backward)),
-      ),
-    )
+    let p = entry c .pre in
+    (p .1 .1 .1 .1, (p .1 .0 .0, ((p .1 .0 .1, p .1 .0 .2), p .1 .1 .0)))
 
-abbrev tabled : tie.After-masks-arg → tie.After-neighbour-tables
-tabled c = c .before .before .before .before .before .before .before .before .before
+-- ---- the first half of the masks
 
-masks-requires : tie.Need-masks-requires
-masks-requires c κs =
-    let start = entry (tabled c .before) in
-    let pattern = start .pre .0 in
-    let room = start .pre .1 .1 in (
-      pattern .parallel,
-      (
-        rw (room .succ) (all-below _ _ (bounded-starts pattern)),
-        below-wider _ 32 _ (pattern .nodes) (all-below _ _ (bounded-ends pattern)),
-      ),
-    )
+slice-relend-prefix-masks-of : tie.Need-slice-relend-prefix-masks-of
+slice-relend-prefix-masks-of c = search needs
 
-abbrev driving : tie.After-masks-arg2 → tie.After-masks
+half : (masks : List ℕ) → length masks ≡ 64 → length (take 32 masks) ≡ 32
+half masks long = length-take-le 32 masks (omega arith)
+
+slice-aggregate-masks-of : tie.Need-slice-aggregate-masks-of
+slice-aggregate-masks-of c =
+    let start = entry (tabled (c .before) .before) in
+    sym (half (now (start .args .masks)) (start .pre .1 .1 .1 .0))
+
+masks-of-requires : tie.Need-masks-of-requires
+masks-of-requires c κs =
+    let start = entry (tabled (c .before) .before) in
+    let p = start .pre in
+    let starts = p .0 .1 in
+    let ends = p .0 .2 in
+    (omega (arith, p .0 .0), (rw (half (now (start .args .masks)) (p .1 .1 .1 .0)) (search needs), search needs))
+
+-- ---- the second half
+
+sub-masks-of : tie.Need-sub-masks-of
+sub-masks-of c = search needs
+
+part-masks-of-start : tie.Need-part-masks-of-start
+part-masks-of-start c = search needs
+
+part-masks-of-end : tie.Need-part-masks-of-end
+part-masks-of-end c = search needs
+
+half-2 : (xs masks : List ℕ) → length xs ≡ 32 → length masks ≡ 64 → length (take 32 (drop 32 (xs ++ drop 32 masks))) ≡ 32
+half-2 xs masks first long = simp (length-take, length-drop, length-append) (omega arith)
+
+abbrev driving : tie.After-masks-of-arg2 → tie.After-masks-of
 driving c = c .before .before .before
 
-masks-requires-2 : tie.Need-masks-requires-2
-masks-requires-2 c κs =
-    let start = entry (tabled (driving c .before) .before) in
-    let pattern = start .pre .0 in
-    let room = start .pre .1 .1 in (
-      sym (pattern .parallel),
-      (
-        rw (room .pred) (all-below _ _ (bounded-ends pattern)),
-        below-wider _ 32 _ (pattern .nodes) (all-below _ _ (bounded-starts pattern)),
-      ),
-    )
+masks-of-requires-2 : tie.Need-masks-of-requires-2
+masks-of-requires-2 c κs =
+    let first = driving c in
+    let start = entry (tabled (first .before .before) .before) in
+    let masks = now (start .args .masks) in
+    let p = start .pre in
+    let long = p .1 .1 .1 .0 in
+    let starts = p .0 .1 in
+    let ends = p .0 .2 in
+    (omega (arith, p .0 .0), (rw (half-2 (first .masks-of .last .1 .1 .0) masks (first .masks-of .kept .1 .1 .0 ∙ half masks long) long) (search needs), search needs))
 
 same-length : tie.Need-same-length
 same-length c = search needs
@@ -63,39 +82,35 @@ same-length-2 c = search needs
 same-length-3 : tie.Need-same-length-3
 same-length-3 c = search needs
 
-same-length-4 : tie.Need-same-length-4
-same-length-4 c = search needs
-
-same-length-5 : tie.Need-same-length-5
-same-length-5 c = search needs
-
-same-length-6 : tie.Need-same-length-6
-same-length-6 c = search needs
-
 returns : tie.Need-returns
 returns c =
-    let driven = c .before .before in
-    let drives = driving (driven .before) in
-    let tables = tabled (drives .before) in
+    let second = c .before .before in
+    let first = driving (second .before) in
+    let tables = tabled (first .before .before) in
     let start = entry (tables .before) in
-    let made = tables .neighbour-tables .ensures in
-    let room = start .pre .1 .1 in
-    prepared (start .pre .0) (start .pre .1 .0) _ _
-    (rw (← room .succ) (drives .masks .ensures))
-    (rw (← room .pred) (driven .masks2 .ensures))
-    (made .0) (made .1 .0) (made .1 .1 .0) (made .1 .1 .1)
+    let a = start .args in
+    let long = start .pre .1 .1 .1 .0 in
+    let one = half (now (a .masks)) long in (
+      masked (now (a .part-starts)) (now (a .part-ends)) (now (a .masks)) long
+          (first .masks-of .ensures ∙ ap (λ (k : ℕ). masksOf k (now (a .part-starts)) (now (a .part-ends))) one)
+          (second .masks-of2 .ensures
+          ∙ ap (λ (k : ℕ). masksOf k (now (a .part-ends)) (now (a .part-starts))) (half-2 (first .masks-of .last .1 .1 .0) (now (a .masks)) (first .masks-of .kept .1 .1 .0 ∙ one) long)),
+      tables .neighbour-tables .ensures,
+    )
 
 pub prepare-spec : {M : Type 1} → statement M
 prepare-spec =
     tie.close
     (tie.spec
     neighbour-tables-requires
-    masks-requires
-    masks-requires-2
+    slice-relend-prefix-masks-of
+    slice-aggregate-masks-of
+    masks-of-requires
+    sub-masks-of
+    part-masks-of-start
+    part-masks-of-end
+    masks-of-requires-2
     same-length
     same-length-2
     same-length-3
-    same-length-4
-    same-length-5
-    same-length-6
     returns)

@@ -1,0 +1,74 @@
+-- The four counts are those of the row of sets in a graph H, of which a circuit with some nodes taken is a presentation. Assumes nothing.
+use mathlib.Core.List.{List, map}
+use mathlib.Core.Logic.{_↔_, Iff·trans}
+use mathlib.Core.Path.{_≡_, sym, ap, subst, _∙_}
+use Prim.Native.Nat.{ℕ, zero, suc, _≤_}
+use native.Mathlib.Nat.{le-refl, le-of-eq}
+use native.Mathlib.Omega.{arith}
+use lib.Count.{ones}
+use lib.ListN.{length}
+use Rattle.base_lists.specs.List.{sum}
+use Rattle.graph.specs.Circuit.{Circuit, circuitGraph}
+use Rattle.graph.specs.Graph.{Graph}
+use Rattle.simulation.specs.Closed.{Relation, _⊆_, Refine, Row}
+use Rattle.simulation.specs.Perfect.{SameGraph}
+use Rattle.simulation.proofs.Same.{same-symm}
+use Rattle.simulation.proofs.Simulation.{along-wider}
+use Rattle.table.specs.declared.Counts.{Counts}
+use Rattle.table.specs.Host.{hostGraph, EqualKinds}
+use Rattle.table.specs.Refine.{countsOf}
+use Rattle.table.specs.Row.{InTable, row, rounds, lastTable}
+use Rattle.table.proofs.Counting.{struck-minus, started-ones, kept-ones, rounds-differ, rounds-last}
+use Rattle.table.proofs.Row.{row-first, row-fits, row-inside, row-in}
+use Rattle.table.proofs.Sets.{same-pairs}
+use Rattle.demands.specs.Demands.{Sets, RowCounts}
+
+-- the row depends on the graph alone
+sets-same : (P : Graph) (Agree : Relation) {H H′ : Graph} → SameGraph H H′ → (k : ℕ) → Sets P Agree H k ⊆ Sets P Agree H′ k
+unfolding Row Refine
+sets-same P Agree s zero u v c = record { part = c .part; node = s .nodes v .0 (c .node); kinds = c .kinds }
+sets-same P Agree s (suc k) u v r = (
+  sets-same P Agree s k u v (r .0),
+  λ d u′ p.
+      let (v′, m, q) = r .1 d u′ p in
+      (v′, along-wider (λ x y. s .links x y .0) d v v′ m, sets-same P Agree s k u′ v′ q),
+)
+
+module _ (pattern host : Circuit) (taken : List ℕ) (most : length (pattern .kinds) ≤ 32) {H : Graph} (same : SameGraph (hostGraph host taken) H) where
+  abbrev R : ℕ → Relation
+  R = Sets (circuitGraph pattern) (EqualKinds pattern host) H
+
+  -- the tables of the row hold its sets
+  set-is : (k u v : ℕ) → InTable (row pattern host taken k) u v ↔ R k u v
+  set-is k u v =
+      Iff·trans (row-in pattern host taken k u v)
+      (sets-same (circuitGraph pattern) (EqualKinds pattern host) same k u v, sets-same (circuitGraph pattern) (EqualKinds pattern host) (same-symm same) k u v)
+
+  -- a set that the next one has whole is the next one
+  repeats : (k : ℕ) → R k ⊆ R (suc k) → row pattern host taken (suc k) ≡ row pattern host taken k
+  repeats k inside =
+      same-pairs (row pattern host taken (suc k)) (row pattern host taken k) (row-fits pattern host taken (suc k) .size ∙ sym (row-fits pattern host taken k .size))
+      (row-inside pattern host taken k)
+      (λ u v m. set-is (suc k) u v .1 (inside u v (set-is k u v .0 m)))
+
+  -- the four counts are those of the row, and its last set is the last table
+  pub row-counts :
+      (counts : Counts) → counts ≡ countsOf pattern host taken →
+      (c : RowCounts (circuitGraph pattern) (EqualKinds pattern host) H counts) × (c .table (counts .rounds) ≡ lastTable pattern host taken)
+  unfolding countsOf
+  row-counts counts e =
+      let last = rounds-last pattern host taken most in (
+        record {
+          table = row pattern host taken;
+          holds = set-is;
+          started = rw (e, row-first) (started-ones pattern host taken most);
+          kept = rw e (kept-ones pattern host taken most ∙ ap (λ (t : List ℕ). sum (map ones t)) (sym (last (rounds pattern host taken) (le-refl _))));
+          struck = rw e (struck-minus pattern host taken);
+          differ = λ k h inside. rounds-differ pattern host taken most k (rw e at h) (repeats k inside);
+          rest = λ k h u v m.
+              let h′ : rounds pattern host taken ≤ k = rw e at h in
+              let stays : row pattern host taken k ≡ row pattern host taken (suc k) = last k h′ ∙ sym (last (suc k) (omega arith)) in
+              set-is (suc k) u v .0 (subst (λ (t : List ℕ). InTable t u v) stays (set-is k u v .1 m));
+        },
+        last _ (le-of-eq (sym (ap (λ (c : Counts). c .rounds) e))),
+      )

@@ -1,0 +1,58 @@
+-- `file_check::order_number` meets its contract: each return rewrites with the tests that led there. Assumes nothing.
+use borrow.Author.Tests.{not-true, not-false}
+use mathlib.Core.Path.{sym, _∙_}
+use Rattle.file_format.proofs.Refusals.{order-starts, order-ends, order-falls, order-rises}
+use borrow.Author.Needs.{needs}
+use Rattle.file_check.proofs.order_number.Statement.{statement}
+use Rattle.file_check.proofs.order_number.Tie as tie
+use Rattle.file_check.proofs.order_number.Reads as reads
+use Rattle.file_check.proofs.order_number.Lts as lts
+use Rattle.file_check.proofs.all_below.Reads as all-below-reads
+use Rattle.file_check.proofs.links_rise.Reads as links-rise-reads
+
+all-below-requires : tie.Need-all-below-requires
+all-below-requires c κs = search needs
+
+returns : tie.Need-returns
+returns c = sym (order-starts _ _ _ (sym (c .before .all-below .ensures) ∙ not-true _ (c .if1 .taken)))
+
+all-below-requires-2 : tie.Need-all-below-requires-2
+all-below-requires-2 c κs = search needs
+
+returns-2 : tie.Need-returns-2
+returns-2 c =
+    sym
+    (order-ends _ _ _
+    (sym (c .before .before .before .all-below .ensures) ∙ not-false _ (c .before .before .if1 .left))
+    (sym (c .before .all-below2 .ensures) ∙ not-true _ (c .if2 .taken)))
+
+links-rise-requires : tie.Need-links-rise-requires
+links-rise-requires c κs = search needs
+
+returns-3 : tie.Need-returns-3
+returns-3 c =
+    sym
+    (order-falls _ _ _
+    (sym (c .before .before .before .before .before .all-below .ensures) ∙ not-false _ (c .before .before .before .before .if1 .left))
+    (sym (c .before .before .before .all-below2 .ensures) ∙ not-false _ (c .before .before .if2 .left))
+    (sym (c .before .links-rise .ensures) ∙ not-true _ (c .if3 .taken)))
+
+returns-4 : tie.Need-returns-4
+returns-4 c =
+    sym
+    (order-rises _ _ _
+    (sym (c .before .before .before .before .before .all-below .ensures) ∙ not-false _ (c .before .before .before .before .if1 .left))
+    (sym (c .before .before .before .all-below2 .ensures) ∙ not-false _ (c .before .before .if2 .left))
+    (sym (c .before .links-rise .ensures) ∙ not-false _ (c .if3 .left)))
+
+pub order-number-spec : {M : Type 1} → statement M
+order-number-spec =
+    tie.close
+    (tie.spec
+    all-below-requires
+    returns
+    all-below-requires-2
+    returns-2
+    links-rise-requires
+    returns-3
+    returns-4)

@@ -1,0 +1,171 @@
+-- `file_read::load` meets its contract: 1 to 3 by the size, then the links tested where they were stored. Assumes nothing.
+use denote.Ref.{now}
+use mathlib.Core.Path.{_≡_, sym, ap, ap₂, subst, _∙_}
+use Prim.Native.Nat.{ℕ}
+use native.Mathlib.Nat.{le-trans, le-of-eq}
+use native.Mathlib.Omega.{arith}
+use lib.Dec.{T}
+use Rattle.graph.specs.Circuit.{Circuit, circuit}
+use Rattle.file_format.specs.declared.Role.{Role}
+use Rattle.file_format.specs.Layout.{nodesOf, linksOf, lengthOf}
+use Rattle.file_format.specs.Reading.{Stands}
+use Rattle.file_format.specs.Refusals.{sizeNumber}
+use Rattle.file_format.specs.Role.{inRange}
+use Rattle.file_format.proofs.Reading.{turned-loaded, stands-size, stands-room, filled-stands, links-turned, links-sound}
+use Rattle.file_format.proofs.Refusals.{turned, verdict-turned, sized, range-orders}
+use borrow.Author.Needs.{needs}
+use Rattle.file_read.proofs.load.Statement.{statement}
+use Rattle.file_read.proofs.load.Tie as tie
+use Rattle.file_read.proofs.load.Reads as reads
+use Rattle.file_read.proofs.load.Lts as lts
+use Rattle.file_check.proofs.size_number.Reads as size-number-reads
+use Rattle.file_check.proofs.test_links.Reads as test-links-reads
+use Rattle.file_fields.proofs.field_at.Reads as field-at-reads
+use Rattle.file_read.proofs.fill.Reads as fill-reads
+use Rattle.file_read.proofs.turned_away.Reads as turned-away-reads
+
+size-number-requires : tie.Need-size-number-requires
+size-number-requires c κs = search needs
+
+-- the size is sound
+abbrev entry : tie.Else1 → tie.Start
+entry c = c .before .before .before .before .before .before
+
+none : (c : tie.Else1) → sizeNumber (entry c .args .role) (now (entry c .args .file)) ≡ 0
+none c = sym (c .before .size-number .ensures) ∙ c .if1 .left
+
+abbrev sizes : tie.After-field-at2 → tie.Else1
+sizes c = c .before .before
+
+nodes-are : (c : tie.After-field-at2) → c .before .field-at .result ≡ nodesOf (now (entry (sizes c) .args .file))
+unfolding nodesOf
+nodes-are c = c .before .field-at .ensures
+
+links-are : (c : tie.After-field-at2) → c .field-at2 .result ≡ linksOf (now (entry (sizes c) .args .file))
+unfolding linksOf
+links-are c = c .field-at2 .ensures
+
+same-range : (r : Role) (n m n′ m′ : ℕ) → n ≡ n′ → m ≡ m′ → T (inRange r n′ m′) → T (inRange r n m)
+same-range r n m n′ m′ e f t = rw (e, f) t
+
+-- the circuit stands in the tables
+abbrev counted : tie.After-fill → tie.After-field-at2
+counted c = c .before .before .before .before
+
+abbrev tables : tie.After-fill → Circuit
+tables c = let l = c .fill .last .1 .1 .1 in circuit (l .0) (l .1 .0) (l .1 .1 .0)
+
+standing : (c : tie.After-fill) → Stands (now (entry (sizes (counted c)) .args .file)) (counted c .before .field-at .result) (counted c .field-at2 .result) (tables c)
+standing c =
+    let e = c .fill .ensures in
+    filled-stands _ _ _ _ _ _ _ _ _ (nodes-are (counted c)) (links-are (counted c)) (e .0) (e .1 .0) (e .1 .1)
+
+turned-away-requires : tie.Need-turned-away-requires
+turned-away-requires c κs = search needs
+
+returns : tie.Need-returns
+returns c =
+    let number = c .before .before .size-number .ensures in
+    turned-loaded _ _ _ _ _ (c .turned-away .ensures) (verdict-turned _ _ (λ e. c .before .if1 .taken (number ∙ e)) ∙ ap (turned _) (sym number))
+
+field-at-requires : tie.Need-field-at-requires
+field-at-requires c κs = omega (arith, sized _ _ (none c) .0)
+
+cast-n : tie.Need-cast-n
+cast-n c = search needs
+
+field-at-requires-2 : tie.Need-field-at-requires-2
+field-at-requires-2 c κs = omega (arith, sized _ _ (none (c .before)) .0)
+
+cast-m : tie.Need-cast-m
+cast-m c = search needs
+
+fill-requires : tie.Need-fill-requires
+fill-requires c κs =
+    let here = c .before .before .before in
+    let start = entry (sizes here) in
+    let n = nodes-are here in
+    let m = links-are here in
+    let (_, range, size) = sized _ _ (none (sizes here)) in
+    let file = now (start .args .file) in
+    let (_, few, short) = range-orders (start .args .role) (nodesOf file) (linksOf file) range in
+    (size ∙ sym (ap₂ lengthOf n m), (le-trans (le-of-eq n) (le-trans few (start .pre .forKinds)), le-trans (le-of-eq m) (le-trans short (start .pre .forStarts)), le-trans (le-of-eq m) (le-trans short (start .pre .forEnds))))
+
+slice-reshare-prefix-test-links : tie.Need-slice-reshare-prefix-test-links
+slice-reshare-prefix-test-links c = stands-room (standing (c .before .before .before .before .before .before)) .1
+
+slice-aggregate-test-links : tie.Need-slice-aggregate-test-links
+slice-aggregate-test-links c = sym (stands-size (standing (c .before .before .before .before .before .before .before)) .1)
+
+slice-reshare-prefix-test-links-2 : tie.Need-slice-reshare-prefix-test-links-2
+slice-reshare-prefix-test-links-2 c = stands-room (standing (c .before .before .before .before .before .before .before)) .2
+
+slice-aggregate-test-links-2 : tie.Need-slice-aggregate-test-links-2
+slice-aggregate-test-links-2 c = sym (stands-size (standing (c .before .before .before .before .before .before .before .before)) .2)
+
+test-links-requires : tie.Need-test-links-requires
+test-links-requires c κs =
+    let filled = c .before .before .before .before .before .before .before .before in
+    let here = counted filled in
+    let (_, starts, ends) = stands-size (standing filled) in
+    let file = now (entry (sizes here) .args .file) in
+    let range = same-range (entry (sizes here) .args .role) _ _ (nodesOf file) (linksOf file) (nodes-are here) (links-are here) (sized _ _ (none (sizes here)) .1) in
+    (subst (λ (k : ℕ). T (inRange (entry (sizes here) .args .role) (here .before .field-at .result) k)) (sym starts) range, starts ∙ sym ends)
+
+turned-away-requires-2 : tie.Need-turned-away-requires-2
+turned-away-requires-2 c κs = search needs
+
+same-length : tie.Need-same-length
+same-length c = search needs
+
+same-length-2 : tie.Need-same-length-2
+same-length-2 c = search needs
+
+same-length-3 : tie.Need-same-length-3
+same-length-3 c = search needs
+
+returns-2 : tie.Need-returns-2
+returns-2 c =
+    let filled = c .before .before .before .before .before .before .before .before .before .before .before .before in
+    links-turned _ _ _ _ _ (standing filled) (none (sizes (counted filled))) _ _ (c .before .before .before .test-links .ensures) _ (c .turned-away2 .ensures) (c .before .if2 .taken)
+
+same-length-4 : tie.Need-same-length-4
+same-length-4 c = search needs
+
+same-length-5 : tie.Need-same-length-5
+same-length-5 c = search needs
+
+same-length-6 : tie.Need-same-length-6
+same-length-6 c = search needs
+
+returns-3 : tie.Need-returns-3
+returns-3 c =
+    let filled = c .before .before .before .before .before .before .before .before .before .before .before in
+    links-sound _ _ _ _ _ (standing filled) (none (sizes (counted filled))) _ _ (c .before .before .test-links .ensures) (c .if2 .left)
+
+pub load-spec : {M : Type 1} → statement M
+load-spec =
+    tie.close
+    (tie.spec
+    size-number-requires
+    turned-away-requires
+    returns
+    field-at-requires
+    cast-n
+    field-at-requires-2
+    cast-m
+    fill-requires
+    slice-reshare-prefix-test-links
+    slice-aggregate-test-links
+    slice-reshare-prefix-test-links-2
+    slice-aggregate-test-links-2
+    test-links-requires
+    turned-away-requires-2
+    same-length
+    same-length-2
+    same-length-3
+    returns-2
+    same-length-4
+    same-length-5
+    same-length-6
+    returns-3)

@@ -1,0 +1,31 @@
+-- `graph_radius::every_node` meets its contract. Assumes nothing.
+use Prim.Native.Nat.{_≤_}
+use native.Mathlib.Omega.{arith}
+use lib.Pow.{pow-pos, pow-mono}
+use Rattle.base_bits.proofs.Digits.{one-shl}
+use Rattle.graph_radius.proofs.Spanning.{every-node}
+use borrow.Author.Needs.{needs}
+use Rattle.graph_radius.proofs.every_node.Statement.{statement}
+use Rattle.graph_radius.proofs.every_node.Tie as tie
+
+shl-result : tie.Need-shl-result
+shl-result c = search needs
+
+sub-result : tie.Need-sub-result
+sub-result c =
+    let n = c .args .n in
+    omega (arith, one-shl 64 n (omega arith), pow-pos n)
+
+cast-result : tie.Need-cast-result
+cast-result c =
+    let n = c .args .n in
+    let h : n ≤ 32 = c .pre in
+    omega (arith, one-shl 64 n (omega arith), pow-pos n, pow-mono h)
+
+returns : tie.Need-returns
+returns c =
+    let n = c .args .n in
+    omega (arith, one-shl 64 n (omega arith), every-node n)
+
+pub every-node-spec : {M : Type 1} → statement M
+every-node-spec = tie.close (tie.spec shl-result sub-result cast-result returns)

@@ -1,0 +1,33 @@
+-- `place::parts::driving_parts` meets its contract: the second half of the masks is asked. Assumes nothing.
+use native.Mathlib.Omega.{arith}
+use borrow.Author.Needs.{needs}
+use denote.Ref.{now}
+use lib.ListN.{drop, length-drop}
+use lib.Seq.{length-take-le}
+use Rattle.base_lists.specs.List.{part}
+use Rattle.place.proofs.parts.driving_parts.Statement.{statement}
+use Rattle.place.proofs.parts.driving_parts.Tie as tie
+
+sub-union-of : tie.Need-sub-union-of
+sub-union-of c = search needs
+
+part-union-of-start : tie.Need-part-union-of-start
+part-union-of-start c = search needs
+
+part-union-of-end : tie.Need-part-union-of-end
+part-union-of-end c = search needs
+
+union-of-requires : tie.Need-union-of-requires
+union-of-requires c κs =
+    let s = c .before .before in
+    let masks = now (s .args .masks) in
+    rw (length-take-le 32 (drop 32 masks) (omega (arith, length-drop 32 masks))) (s .fits .set .fits)
+
+returns : tie.Need-returns
+unfolding part
+returns c = c .union-of .ensures
+
+pub driving-parts-spec : {M : Type 1} → statement M
+driving-parts-spec =
+    tie.close
+    (tie.spec sub-union-of part-union-of-start part-union-of-end union-of-requires returns)

@@ -1,0 +1,60 @@
+-- Finding the place around a centre from a first table: what it starts from, and what it leaves, before anything is written out.
+use mathlib.Core.Bool.{true}
+use mathlib.Core.List.{List}
+use mathlib.Core.Path.{_≡_}
+use Prim.Native.Nat.{ℕ, _≤_, _<_}
+use lib.ListN.{length, take}
+use Rattle.base_lists.specs.List.{Below}
+use Rattle.graph.specs.Circuit.{Circuit}
+use Rattle.table.specs.Fill.{marksOf, NodeList}
+use Rattle.table.specs.First.{Begins}
+use Rattle.table.specs.Prepared.{succOf, Tables, Prepared, Ready}
+use Rattle.table.specs.Refine.{Rested}
+use Rattle.place.specs.declared.Found.{Found}
+use Rattle.place.specs.Bytes.{nodeBytes, nodeSets, linkBytes}
+use Rattle.place.specs.Match.{ballOf, found, placeNodes, placeLinks, placeTable}
+use Rattle.place.specs.Spread.{Lists}
+
+-- tables of a pattern and of a board whose links join its nodes
+pub record Tabled (pattern board : Circuit) (t : Tables) : Type 0 where
+  pub prepared : Prepared pattern board t
+  pub parallel : length (pattern .starts) ≡ length (pattern .ends)
+  pub starts : Below (length (board .kinds)) (board .starts)
+  pub ends : Below (length (board .kinds)) (board .ends)
+
+-- What finding starts from: such tables, the list of the nodes in the ball around w at radius r, and a first table to begin with in that ball.
+pub record Sought (pattern board : Circuit) (t : Tables) (w r : ℕ) (nodes first : List ℕ) : Type 0 where
+  pub tabled : Tabled pattern board t
+  pub centre : w < length (board .kinds)
+  pub list : NodeList (length (board .kinds)) nodes
+  pub ball : marksOf (length (board .kinds)) nodes ≡ ballOf board w r
+  pub begins : Begins pattern board (marksOf (length (board .kinds)) nodes) first
+
+-- this of some pattern, board and radius
+pub record SoughtBySome (t : Tables) (w : ℕ) (nodes first : List ℕ) : Type 0 where
+  pub pattern : Circuit
+  pub board : Circuit
+  pub radius : ℕ
+  pub sought : Sought pattern board t w radius nodes first
+
+-- Where there is a place: `dist` is `far` outside it, `sets` is the ball's table, and the list has the place's nodes.
+pub record Located (pattern board : Circuit) (t : Tables) (w r : ℕ) (dist sets nodes : List ℕ) : Type 0 where
+  pub bytes : nodeBytes dist ≡ placeNodes pattern board w r
+  pub links : linkBytes (board .starts) (board .ends) (succOf (t .masks)) dist sets ≡ placeLinks pattern board w r
+  pub table : nodeSets dist sets ≡ placeTable pattern board w r
+  pub lists : Lists nodes dist
+  pub size : length dist ≡ length (board .kinds)
+  pub long : length sets ≡ length (board .kinds)
+  pub ready : Ready t sets
+
+-- What finding comes to: where the rounds end in the ball, whether there is a place, and then the place in the tables.
+pub record FoundIn (pattern board : Circuit) (t : Tables) (w r : ℕ) (nodes first dist queue sets : List ℕ) (a : Found) : Type 0 where
+  pub rested : Rested pattern board (marksOf (length (board .kinds)) nodes) first sets (a .rest)
+  pub answer : a .found ≡ found pattern board w r
+  pub short : a .size ≤ length queue
+  pub there : a .found ≡ true → Located pattern board t w r dist sets (take (a .size) queue)
+
+-- this of every pattern, board and radius that finding starts from
+abbrev pub Finds : Tables → ℕ → List ℕ → List ℕ → List ℕ → List ℕ → List ℕ → Found → Type 0
+Finds t w nodes first dist queue sets a =
+    (pattern board : Circuit) (r : ℕ) → Sought pattern board t w r nodes first → FoundIn pattern board t w r nodes first dist queue sets a

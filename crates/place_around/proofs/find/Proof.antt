@@ -1,0 +1,105 @@
+-- `place_around::find` meets its contract: the rounds end with the ball's table, and where the centre is left in it the search finds its
+-- component. Assumes nothing.
+use mathlib.Core.Path.{_≡_, sym, _∙_}
+use Prim.Native.Nat.{_<_}
+use native.Mathlib.Omega.{arith}
+use borrow.Author.Needs.{needs}
+use denote.Ref.{now}
+use lib.ListN.{length}
+use lib.Seq.{length-take-le}
+use Rattle.place.proofs.Find.{sought-known, sought-long, sets-ready, found-nothing, found-place}
+use Rattle.place_around.proofs.find.Statement.{statement}
+use Rattle.place_around.proofs.find.Tie as tie
+
+slice-reshare-prefix-refine : tie.Need-slice-reshare-prefix-refine
+slice-reshare-prefix-refine c = omega (arith, c .before .before .before .before .before .before .before .pre .0 .0)
+
+slice-aggregate-refine : tie.Need-slice-aggregate-refine
+slice-aggregate-refine c = sym (length-take-le _ _ (omega (arith, c .before .before .before .before .before .before .before .before .pre .0 .0)))
+
+refine-requires : tie.Need-refine-requires
+refine-requires c κs =
+    let p = c .before .before .before .before .before .before .before .before .before .before .pre in
+    let g = p .0 .1 .sought in
+    (sought-known g, (rw (sought-long g) (g .list), (p .1 .1 .2, p .1 .0)))
+
+-- the rounds are done
+abbrev entry : tie.After-refine → tie.Start
+entry c = c .before .before .before .before .before .before .before .before .before .before .before
+
+-- the centre has a set
+centre : (c : tie.After-refine) → let s = entry c in s .args .c < length (c .refine .last .1 .1 .1 .1 .0)
+centre c =
+    let g = entry c .pre .0 .1 .sought in
+    rw (c .refine .kept .1 .1 .1 .1 .0, sought-long g) (g .centre)
+
+mul-if1 : tie.Need-mul-if1
+mul-if1 c = omega (arith, centre (c .before .before .before .before))
+
+slice-read-if1 : tie.Need-slice-read-if1
+slice-read-if1 c = centre (c .before .before .before .before .before)
+
+same-length : tie.Need-same-length
+same-length c = search needs
+
+same-length-2 : tie.Need-same-length-2
+same-length-2 c = search needs
+
+same-length-3 : tie.Need-same-length-3
+same-length-3 c = search needs
+
+returns : tie.Need-returns
+returns c =
+    let end = c .before .before .before .before .before .before in
+    λ pattern board r g. found-nothing g (end .refine .ensures pattern board (g .tabled .prepared) (g .begins)) _ _ (c .if1 .taken)
+
+component-requires : tie.Need-component-requires
+component-requires c κs =
+    let end = c .before .before .before .before .before .before .before .before .before in
+    let s = entry end in
+    let g = s .pre .0 .1 .sought in
+    let lengths = s .pre .1 .1 in
+    let kept = end .refine .kept .1 .1 .1 .1 .0 in (
+      sets-ready g (end .refine .ensures _ _ (g .tabled .prepared) (g .begins)),
+      (rw (lengths .0, sought-long g) (g .centre), (kept ∙ sym (lengths .0), lengths .0 ∙ sym (lengths .1))),
+    )
+
+same-length-4 : tie.Need-same-length-4
+same-length-4 c = search needs
+
+same-length-5 : tie.Need-same-length-5
+same-length-5 c = search needs
+
+same-length-6 : tie.Need-same-length-6
+same-length-6 c = search needs
+
+same-length-7 : tie.Need-same-length-7
+same-length-7 c = search needs
+
+returns-2 : tie.Need-returns-2
+returns-2 c =
+    let end = c .before .before .before .before .before .before .before .before .before .before .before .before .before .before in
+    let call = c .before .before .before .before .component in
+    λ pattern board r g.
+    found-place g (end .refine .ensures pattern board (g .tabled .prepared) (g .begins)) _
+    (rw (entry end .pre .1 .1 .0, sought-long g) at (call .ensures .0)) _ _ (c .before .before .before .before .before .before .before .before .if1 .left) (call .ensures .1 .0) (call .ensures .1 .1)
+
+pub find-spec : {M : Type 1} → statement M
+find-spec =
+    tie.close
+    (tie.spec
+    slice-reshare-prefix-refine
+    slice-aggregate-refine
+    refine-requires
+    mul-if1
+    slice-read-if1
+    same-length
+    same-length-2
+    same-length-3
+    returns
+    component-requires
+    same-length-4
+    same-length-5
+    same-length-6
+    same-length-7
+    returns-2)

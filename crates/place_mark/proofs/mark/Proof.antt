@@ -1,0 +1,42 @@
+-- `place_mark::mark` meets its contract: each table by its own function. Assumes nothing.
+use mathlib.Core.List.{List}
+use mathlib.Core.Path.{_≡_, ap, _∙_}
+use Prim.Native.Nat.{ℕ}
+use borrow.Author.Needs.{needs}
+use denote.Ref.{now}
+use lib.ListN.{getD}
+use Rattle.table.specs.Fill.{marksOf, tableAt}
+use Rattle.place_mark.proofs.mark.Statement.{statement}
+use Rattle.place_mark.proofs.mark.Tie as tie
+
+mark-nodes-requires : tie.Need-mark-nodes-requires
+mark-nodes-requires c κs = let p = c .before .before .before .before .before .before .before .before .before .pre in rw (p .1 .1 .1 .0) (p .1 .0 .below)
+
+mark-links-requires : tie.Need-mark-links-requires
+mark-links-requires c κs = let p = c .before .before .before .before .before .before .before .before .before .before .before .before .before .pre in (p .0, (p .1 .0, p .1 .1 .0))
+
+copy-requires : tie.Need-copy-requires
+copy-requires c κs = let p = c .before .before .before .before .before .before .before .before .before .before .before .before .before .before .before .before .before .pre in (rw (p .1 .1 .1 .1) (p .1 .0), p .1 .0 .below)
+
+same-length : tie.Need-same-length
+same-length c = search needs
+
+same-length-2 : tie.Need-same-length-2
+same-length-2 c = search needs
+
+same-length-3 : tie.Need-same-length-3
+same-length-3 c = search needs
+
+returns : tie.Need-returns
+returns c =
+    let s = c .before .before .before .before .before .before .before .before .before .before .before .before .before .before .before .before .before .before .before .before in
+    let list = now (s .args .list) in (
+      c .before .before .before .before .before .before .before .before .before .before .mark-nodes .ensures ∙ ap (λ (n : ℕ). marksOf n list) (s .pre .1 .1 .1 .0),
+      (
+        c .before .before .before .before .before .before .mark-links .ensures,
+        c .before .before .copy .ensures .made ∙ ap (λ (n : ℕ). tableAt n (λ v. getD (now (s .args .sets)) v 0) list) (s .pre .1 .1 .1 .1),
+      ),
+    )
+
+pub mark-spec : {M : Type 1} → statement M
+mark-spec = tie.close (tie.spec mark-nodes-requires mark-links-requires copy-requires same-length same-length-2 same-length-3 returns)

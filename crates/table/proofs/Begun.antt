@@ -1,0 +1,107 @@
+-- What first tables come to: the table of all pairs of equal kinds, and a larger graph's last table, cut to the nodes of a list. Assumes
+-- nothing.
+use mathlib.Core.Bool.{Bool, true, false, cond}
+use mathlib.Core.List.{List}
+use mathlib.Core.Path.{_≡_, refl, ap, subst, _∙_}
+use Prim.Native.Nat.{ℕ, _≤_, _<_}
+use lib.Dec.{T}
+use lib.ListN.{length, getD}
+use Rattle.base_lists.proofs.Tests.{T-true, false-T}
+use Rattle.base_bits.specs.Bits.{bit}
+use Rattle.base_bits.proofs.Digits.{bit-of-zero}
+use Rattle.graph.specs.Circuit.{Circuit}
+use Rattle.table_row.specs.Row.{startedOf, struckOf}
+use Rattle.table_row.specs.Reading.{InTable}
+use Rattle.table_row.proofs.Sets.{in-node, fits-node}
+use Rattle.table_row.proofs.Begin.{start-begins}
+use Rattle.table.specs.declared.Rest.{Rest}
+use Rattle.table.specs.Fill.{listed, marksOf, tableAt}
+use Rattle.table.specs.First.{Begins, startNode, Written}
+use Rattle.table.specs.Host.{Taken, hostGraph}
+use Rattle.table.specs.Row.{inTable, pairs, problemOf, startTable, started, lastTable}
+use Rattle.table.specs.Refine.{Rested, countsOf, countsFrom, Refined}
+use Rattle.table.proofs.Counting.{kept-started}
+use Rattle.table.proofs.Meaning.{last-fits, last-candidate}
+use Rattle.table.proofs.Narrow.{last-wider}
+use Rattle.table.proofs.Row.{start-in}
+use Rattle.table.proofs.StrikeFill.{length-table, getD-table}
+use Rattle.table.proofs.StrikeRow.{inside-marks, start-row}
+
+module _ (pattern host : Circuit) (nodes : List ℕ) {n : ℕ} (long : n ≡ length (host .kinds)) where
+  abbrev marks : List ℕ
+  marks = marksOf (length (host .kinds)) nodes
+
+  -- ---- each node's parts of the same kind
+
+  module _ {first : List ℕ} {count : ℕ} (w : Written n (startNode (pattern .kinds) (host .kinds)) nodes first count) where
+    -- they are the first table of the row,
+    pub started-table : first ≡ startTable pattern host marks
+    started-table = w .made ∙ ap (λ (m : ℕ). tableAt m (startNode (pattern .kinds) (host .kinds)) nodes) long ∙ start-row pattern host nodes
+
+    pub started-begins : Begins pattern host marks first
+    started-begins = rw started-table (start-begins (problemOf pattern host marks))
+
+    -- and its pairs are those at first
+    pub started-count : count ≡ started pattern host marks
+    unfolding startedOf
+    started-count = w .size ∙ ap pairs started-table
+
+    -- With what the rounds come to this gives the four counts.
+    module _ (most : length (pattern .kinds) ≤ 32) {last : List ℕ} {rest : Rest} (r : Rested pattern host marks first last rest) where
+      pub kept-first : rest .kept ≤ count
+      kept-first = rw (r .kept, started-count) (kept-started pattern host marks most)
+
+      pub refined : Refined pattern host marks last (countsFrom count rest)
+      unfolding countsOf struckOf
+      refined = record { counted = rw (r .kept, r .rounds started-table, started-count); last = r .last }
+
+  -- ---- a larger graph's last table, at the nodes of the list
+
+  module _ (most : length (pattern .kinds) ≤ 32) (wide : List ℕ) (more : (v : ℕ) → v < length (host .kinds) → T (listed nodes v) → Taken host wide v)
+      {from first : List ℕ} {count : ℕ} (e : from ≡ lastTable pattern host wide) (w : Written n (λ v. getD from v 0) nodes first count) where
+    abbrev rule : ℕ → ℕ
+    rule v = getD from v 0
+
+    made : first ≡ tableAt (length (host .kinds)) rule nodes
+    made = w .made ∙ ap (λ (m : ℕ). tableAt m rule nodes) long
+
+    -- a pair of the table is one of the larger graph's at a listed node
+    copied-in : (u v : ℕ) → InTable first u v → InTable from u v × T (listed nodes v)
+    unfolding inTable
+    copied-in u v m =
+        let m′ : InTable (tableAt (length (host .kinds)) rule nodes) u v = rw made at m in
+        let l : v < length (host .kinds) = rw length-table at (in-node (tableAt (length (host .kinds)) rule nodes) u v m′) in
+        go (listed nodes v) refl (subst (λ (x : ℕ). T (bit x u)) (getD-table (length (host .kinds)) rule nodes v l) m′)
+      where
+        go : (b : Bool) → listed nodes v ≡ b → T (bit (cond b (rule v) 0) u) → T (bit (rule v) u) × T (listed nodes v)
+        go true d s = (s, rw d tt)
+        go false d s = absurd (false-T (bit-of-zero u) s)
+
+    copied-from : (u v : ℕ) → InTable from u v → T (listed nodes v) → InTable first u v
+    unfolding inTable
+    copied-from u v m l =
+        rw (made, getD-table (length (host .kinds)) rule nodes v (fits-node (last-fits pattern host wide) u v (rw e at m)), T-true {b = listed nodes v} l) m
+
+    -- so it is one to begin with
+    pub copied-begins : Begins pattern host marks first
+    unfolding hostGraph problemOf
+    copied-begins =
+        record {
+          long = ap length made ∙ length-table (length (host .kinds)) rule nodes;
+          within =
+              λ u v m.
+              let (s, l) = copied-in u v m in
+              let c = last-candidate pattern host wide u v (rw e at s) in
+              start-in pattern host marks u v .1
+              (record {
+                part = c .part;
+                node = record { below = c .node .below; marked = rw (inside-marks (length (host .kinds)) nodes v (c .node .below)) l };
+                kinds = c .kinds;
+              });
+          contains =
+              λ u v s.
+              let c = last-candidate pattern host marks u v s in
+              let here : (x : ℕ) → Taken host marks x → T (listed nodes x) = λ x h. rw (inside-marks (length (host .kinds)) nodes x (h .below)) at (h .marked) in
+              let wider = last-wider pattern host marks wide most (λ x h. more x (h .below) (here x h)) u v s in
+              copied-from u v (rw e wider) (here v (c .node));
+        }

@@ -1,0 +1,165 @@
+-- The answer where every part has to occur: the largest set that is closed and in which every part occurs, unless it is empty; and its
+-- counts. Assumes nothing.
+use mathlib.Core.Bool.{Bool, true, false, cond}
+use mathlib.Core.List.{List, map}
+use mathlib.Core.Logic.{_↔_}
+use mathlib.Core.Path.{_≡_, sym, ap, _∙_}
+use Prim.Native.Nat.{ℕ, _+_, _≤_, _<_}
+use native.Mathlib.Nat.{le-refl, lt-of-lt-of-le}
+use native.Mathlib.Omega.{arith}
+use lib.Count.{ones}
+use lib.Dec.{T}
+use Rattle.base_lists.specs.List.{anyBelow, tabulate, sum}
+use Rattle.base_lists.proofs.Tests.{T-true, allBelow-at, at-allBelow, anyBelow-at, at-anyBelow}
+use Rattle.graph.specs.Graph.{Graph}
+use Rattle.simulation.specs.Closed.{Relation, _⊆_, Occurring}
+use Rattle.simulation.specs.Simulation.{Candidate, Along, Largest}
+use Rattle.simulation.proofs.Simulation.{dual-closed, dual-occurring, closed-dual}
+use Rattle.table_row.specs.Problem.{Problem}
+use Rattle.table_row.specs.Row.{inTable, pairs, startedOf, lastOf, keptOf, roundsOf}
+use Rattle.table_row.specs.Answer.{allOccur, allOrNone, answerOf, answerKept, answerStruck}
+use Rattle.table_row.specs.Reading.{InTable, TableOf, Reading, LargestOccurring, Wider, Equivalent}
+use Rattle.table_row.proofs.Sets.{fits-node, fits-word, same-pairs, none-fits, none-in, pairs-none, pairs-ones}
+use Rattle.table_row.proofs.Counting.{kept-rounds}
+use Rattle.table_row.proofs.Meaning.{last-fits, last-closed}
+use Rattle.table_row.proofs.Wider.{last-wider, last-same}
+
+module _ {D : Type 0} (p : Problem D) where
+  -- what the test for every part says
+  pub occur-iff : {t : List ℕ} → TableOf p t → T (allOccur p t) ↔ ((u : ℕ) → u < p .parts → (v : ℕ) × InTable t u v)
+  unfolding allOccur
+  occur-iff {t} f = (
+    λ s u h. let (v, l, m) = anyBelow-at (p .nodes) (λ v. inTable t u v) (allBelow-at (p .parts) _ s u h) in (v, m),
+    λ g.
+        at-allBelow (p .parts) (λ u. anyBelow (p .nodes) (λ v. inTable t u v))
+        (λ u h. let (v, m) = g u h in at-anyBelow (p .nodes) (λ v. inTable t u v) v (fits-node f u v m) m),
+  )
+
+  -- ---- the two cases
+
+  pub answer-all : T (allOccur p (lastOf p)) → answerOf p ≡ lastOf p
+  unfolding answerOf allOrNone
+  answer-all s = ap (λ (b : Bool). cond b (lastOf p) (tabulate (p .nodes) (λ v. 0))) (T-true {b = allOccur p (lastOf p)} s)
+
+  -- "If some part is left without a node, the table is all 0 .."
+  pub answer-none : allOccur p (lastOf p) ≡ false → answerOf p ≡ tabulate (p .nodes) (λ v. 0)
+  unfolding answerOf allOrNone
+  answer-none e = ap (λ (b : Bool). cond b (lastOf p) (tabulate (p .nodes) (λ v. 0))) e
+
+  pub answer-fits : TableOf p (answerOf p)
+  unfolding answerOf allOrNone
+  answer-fits = go (allOccur p (lastOf p))
+    where
+      go : (b : Bool) → TableOf p (cond b (lastOf p) (tabulate (p .nodes) (λ v. 0)))
+      go true = last-fits p
+      go false = none-fits (p .nodes) (p .parts)
+
+  -- a pair of it says that every part occurs
+  pub answer-pair : (u v : ℕ) → InTable (answerOf p) u v → T (allOccur p (lastOf p))
+  unfolding answerOf allOrNone
+  answer-pair u v = go (allOccur p (lastOf p))
+    where
+      go : (b : Bool) → InTable (cond b (lastOf p) (tabulate (p .nodes) (λ v. 0))) u v → T b
+      go true m = tt
+      go false m = none-in (p .nodes) u v m
+
+  pub answer-inside : InTable (answerOf p) ⊆ InTable (lastOf p)
+  answer-inside u v m = rw (answer-all (answer-pair u v m)) at m
+
+  -- It is the last table wherever the parts of that all occur, or none does: so for connected patterns.
+  pub answer-occurring : Occurring (λ u. u < p .parts) (InTable (lastOf p)) → answerOf p ≡ lastOf p
+  answer-occurring o =
+      same-pairs (answerOf p) (lastOf p) (answer-fits .size ∙ sym (last-fits p .size)) answer-inside
+      (λ u v m. rw (answer-all (occur-iff (last-fits p) .1 (λ x h. o .occurs u v m x h))) m)
+
+-- ---- what it means
+
+module _ {D : Type 0} (p : Problem D) (most : p .parts ≤ 32) {Agree : Relation} {Step Move : D → Relation} (r : Reading p Agree Step Move)
+    {Part : ℕ → Type 0} (parts : (u : ℕ) → Part u ↔ (u < p .parts)) where
+  pub answer-largest : LargestOccurring Part Agree Step Move (InTable (answerOf p))
+  answer-largest =
+      let last = last-closed p most r in
+      let occur = occur-iff p (last-fits p) in
+      record {
+        closed =
+            record {
+              agree = λ u v m. last .closed .agree u v (answer-inside p u v m);
+              partner =
+                  λ d u v u′ m l.
+                  let (v′, n, m′) = last .closed .partner d u v u′ (answer-inside p u v m) l in
+                  (v′, n, rw (answer-all p (answer-pair p u v m)) m′);
+            };
+        occurring =
+            record {
+              occurs =
+                  λ u v m x h.
+                  let (y, m′) = occur .0 (answer-pair p u v m) x (parts x .0 h) in
+                  (y, rw (answer-all p (answer-pair p u v m)) m′);
+            };
+        contains =
+            λ R c o u v s.
+            let all : T (allOccur p (lastOf p)) =
+            occur .1 (λ x h. let (y, s′) = o .occurs u v s x (parts x .1 h) in (y, last .contains R c x y s′)) in
+            rw (answer-all p all) (last .contains R c u v s);
+      }
+
+-- For both directions of links that is the largest dual simulation, whether the pattern is connected or not.
+pub occurring-dual :
+    {P : Graph} {Agree : Relation} {H : Graph} {S : Relation} →
+    LargestOccurring (P .Node) (Candidate P Agree H) (Along (P .Link)) (Along (H .Link)) S → Largest P Agree H S
+occurring-dual l =
+    record {
+      holds = closed-dual (l .closed) (l .occurring);
+      contains = λ R r. l .contains R (dual-closed r) (dual-occurring r);
+    }
+
+-- ---- its counts
+
+module _ {D : Type 0} (p : Problem D) where
+  -- ".. kept is 0, struck equals started .."
+  pub none-kept : allOccur p (lastOf p) ≡ false → answerKept p ≡ 0
+  unfolding answerKept
+  none-kept e = ap pairs (answer-none p e) ∙ pairs-none (p .nodes)
+
+  pub none-struck : allOccur p (lastOf p) ≡ false → answerStruck p ≡ startedOf p
+  unfolding answerStruck
+  none-struck e = omega (arith, none-kept e)
+
+  answer-kept : answerKept p ≤ keptOf p
+  unfolding answerKept keptOf answerOf allOrNone
+  answer-kept = go (allOccur p (lastOf p))
+    where
+      go : (b : Bool) → pairs (cond b (lastOf p) (tabulate (p .nodes) (λ v. 0))) ≤ pairs (lastOf p)
+      go true = le-refl _
+      go false = omega (arith, pairs-none (p .nodes))
+
+module _ {D : Type 0} (p : Problem D) (most : p .parts ≤ 32) where
+  -- "started = kept + struck, and rounds are at most struck"
+  pub answer-sum : startedOf p ≡ answerKept p + answerStruck p
+  unfolding answerStruck
+  answer-sum = omega (arith, kept-rounds p most, answer-kept p)
+
+  pub answer-rounds : roundsOf p ≤ answerStruck p
+  unfolding answerStruck
+  answer-rounds = omega (arith, kept-rounds p most, answer-kept p)
+
+  pub answer-ones : answerKept p ≡ sum (map ones (answerOf p))
+  unfolding answerKept
+  answer-ones = pairs-ones (answerOf p) (fits-word most (answer-fits p))
+
+-- ---- problems side by side
+
+-- a problem that asks no more, of no more parts, has more pairs in its answer
+pub answer-wider :
+    {D E : Type 0} {p : Problem D} {q : Problem E} → Wider p q → p .parts ≤ 32 → q .parts ≤ p .parts →
+    InTable (answerOf p) ⊆ InTable (answerOf q)
+answer-wider {p = p} {q = q} w most fewer u v m =
+    let more = last-wider w most (omega arith) in
+    let all = occur-iff p (last-fits p) .0 (answer-pair p u v m) in
+    rw (answer-all q (occur-iff q (last-fits q) .1 (λ x h. let (y, n) = all x (lt-of-lt-of-le h fewer) in (y, more x y n))))
+    (more u v (answer-inside p u v m))
+
+-- two that ask the same have the same
+pub answer-same : {D E : Type 0} {p : Problem D} {q : Problem E} → Equivalent p q → answerOf p ≡ answerOf q
+unfolding answerOf allOrNone allOccur
+answer-same {p = p} {q = q} s = rw (last-same s, s .nodes, s .parts)

@@ -1,0 +1,10 @@
+pub mod Tests
+pub mod Sets
+pub mod Row
+pub mod Falling
+pub mod Counting
+pub mod Meaning
+pub mod Wider
+pub mod Begin
+pub mod Answer
+pub mod Masks
