@@ -6,7 +6,7 @@ use mathlib.Core.Path.{_≡_, refl, sym, ap, subst, _∙_}
 use Prim.Native.Nat.{ℕ, _+_, _*_, _≤_, _<_}
 use native.Mathlib.Omega.{arith}
 use borrow.Author.Tests.{eq-eqb}
-use lib.Dec.{T, eqb, ltb, lt→ltb, eqb→eq}
+use lib.Dec.{T, eqb, ltb, leb, lt→ltb, eqb→eq, leb→le, le→leb}
 use lib.ListN.{length, getD}
 use Rattle.base_lists.specs.List.{all}
 use Rattle.base_lists.proofs.Tests.{both, both-left, both-right, true-T, at-all, anyBelow-at, at-anyBelow}
@@ -17,8 +17,32 @@ use Rattle.graph_pairs.proofs.Pairs.{pairCount, length-pair-starts, length-pair
 use Rattle.file_format.specs.Links.{linksBelow, rising}
 use Rattle.file_format.proofs.Rising.{rise-test}
 use Rattle.load.specs.Draws.{draw, stepped}
-use Rattle.load.specs.Load.{InRange, kindsDrawn, pairsDrawn, isPair, load, Drawn}
+use Rattle.load.specs.Load.{inRange, InRange, kindsDrawn, pairsDrawn, isPair, load, Drawn}
 use Rattle.load.proofs.Draws.{length-draws, draws-at, draws-lt, draw-lt, stepped-add}
+
+-- ---- the ranges
+
+pub in-range : (n m k : ℕ) → T (inRange n m k) → InRange n m k
+unfolding inRange
+in-range n m k t =
+    let t1 = both-right (leb 1 n) _ t in
+    let t2 = both-right (leb n 512) _ t1 in
+    let t3 = both-right (leb m 4096) _ t2 in
+    record {
+      someNodes = leb→le 1 n (both-left (leb 1 n) _ t);
+      nodes = leb→le n 512 (both-left (leb n 512) _ t1);
+      links = leb→le m 4096 (both-left (leb m 4096) _ t2);
+      someKinds = leb→le 1 k (both-left (leb 1 k) _ t3);
+      kinds = leb→le k 65536 (both-right (leb 1 k) _ t3);
+    }
+
+pub range-in : (n m k : ℕ) → InRange n m k → T (inRange n m k)
+unfolding inRange
+range-in n m k r =
+    both (leb 1 n) _ (le→leb 1 n (r .someNodes))
+    (both (leb n 512) _ (le→leb n 512 (r .nodes))
+    (both (leb m 4096) _ (le→leb m 4096 (r .links))
+    (both (leb 1 k) (leb k 65536) (le→leb 1 k (r .someKinds)) (le→leb k 65536 (r .kinds)))))
 
 -- ---- the pairs of a list
 

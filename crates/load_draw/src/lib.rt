@@ -1,7 +1,7 @@
 // The numbers that a test load draws.
 ghost use mathlib.Core.List.{_++_};
 ghost use mathlib.Core.Path.{_≡_};
-ghost use Prim.Native.Nat.{_+_, _*_, _%_, _^_, _<_, _≤_};
+ghost use Prim.Native.Nat.{_*_, _/_, _%_, _^_, _<_, _≤_};
 ghost use lib.ListN.{length, drop};
 ghost use Rattle.load.specs.Draws.{step, draw, stepped, draws};
 ghost use Rattle.load.specs.Load.{kindsDrawn, pairsDrawn};
@@ -26,12 +26,11 @@ fn step(s: u32) -> u32
     std::num::wrapping_add_u32(wrapping_mul(FACTOR, s), ADDED)
 }
 
-// The top 16 bits of a state, mod k.
-fn top(s: u32, k: usize) -> u16
-    requires { ⌜ 0 < k ⌝ }
-    ensures { λ r. ⌜ r ≡ draw k s ⌝ }
+// The top 16 bits of a state.
+fn top(s: u32) -> u16
+    ensures { λ r. ⌜ r ≡ s / 2 ^ 16 ⌝ }
 {
-    ((s >> 16) as usize % k) as u16
+    (s / 65536) as u16
 }
 
 // A state, and what was drawn in reaching it.
@@ -48,7 +47,7 @@ fn draw(s: u32, k: usize) -> Drawn
     let state = step(s);
     Drawn {
         state,
-        value: top(state, k),
+        value: (top(state) as usize % k) as u16,
     }
 }
 

@@ -1,18 +1,44 @@
 -- `load_draw::draw` meets its contract. Assumes nothing.
-use mathlib.Core.Path.{ap, _∙_}
-use Rattle.load.specs.Draws.{draw}
+use mathlib.Core.Path.{_≡_, ap, _∙_}
+use Prim.Native.Nat.{ℕ, _/_, _%_, _^_}
+use native.Mathlib.Nat.{mod-le}
+use native.Mathlib.Omega.{arith}
+use Rattle.load.specs.Draws.{step, draw}
 use borrow.Author.Needs.{needs}
 use Rattle.load_draw.proofs.draw.Statement.{statement}
 use Rattle.load_draw.proofs.draw.Tie as tie
+use Rattle.load_draw.proofs.draw.Reads as reads
+use Rattle.load_draw.proofs.draw.Lts as lts
+use Rattle.load_draw.proofs.step.Reads as step-reads
+use Rattle.load_draw.proofs.top.Reads as top-reads
 
+-- src/lib.rt:47:9
 step-requires : tie.Need-step-requires
 step-requires c κs = search needs
 
+-- src/lib.rt:50:17
 top-requires : tie.Need-top-requires
 top-requires c κs = search needs
 
+-- src/lib.rt:50:17
+cast-t5 : tie.Need-cast-t5
+cast-t5 c = search needs
+
+-- src/lib.rt:50:17
+rem-t6 : tie.Need-rem-t6
+rem-t6 c = search needs
+
+-- src/lib.rt:50:16
+cast-t7 : tie.Need-cast-t7
+cast-t7 c = omega (arith, mod-le (c .top .result) (c .before .before .args .k))
+
+-- src/lib.rt:43:1
 returns : tie.Need-returns
-returns c = (c .before .step .ensures, c .top .ensures ∙ ap (draw (c .before .before .args .k)) (c .before .step .ensures))
+unfolding draw
+returns c =
+    let k = c .before .before .args .k in
+    let stepped = c .before .step .ensures in
+    (stepped, ap (λ (x : ℕ). x % k) (c .top .ensures ∙ ap (λ (s : ℕ). s / 2 ^ 16) stepped))
 
 pub draw-spec : {M : Type 1} → statement M
-draw-spec = tie.close (tie.spec step-requires top-requires returns)
+draw-spec = tie.close (tie.spec step-requires top-requires cast-t5 rem-t6 cast-t7 returns)
