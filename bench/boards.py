@@ -216,16 +216,21 @@ BOARDS = {
 }
 
 
+def make(folder, name):
+    """Makes the board of a name."""
+    place = pathlib.Path(folder) / name
+    place.mkdir(parents=True, exist_ok=True)
+    pattern, board = BOARDS[name]()
+    (place / "pattern.cir").write_bytes(circuit_file(*pattern))
+    (place / "board.cir").write_bytes(circuit_file(*board))
+
+
 def main():
     """Makes all boards."""
     if len(sys.argv) != 2 or sys.argv[1].startswith("-"):
         sys.exit(__doc__)
-    for name, make in BOARDS.items():
-        folder = pathlib.Path(sys.argv[1]) / name
-        folder.mkdir(parents=True, exist_ok=True)
-        pattern, board = make()
-        (folder / "pattern.cir").write_bytes(circuit_file(*pattern))
-        (folder / "board.cir").write_bytes(circuit_file(*board))
+    for name in BOARDS:
+        make(sys.argv[1], name)
 
 
 if __name__ == "__main__":

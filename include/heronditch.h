@@ -45,6 +45,9 @@ extern "C" {
 #define HERONDITCH_BOARD_LINKS 4096
 #define HERONDITCH_BOARD_BYTES (4 + 2 * HERONDITCH_NODES + 4 * HERONDITCH_BOARD_LINKS)
 
+/* no line of a report is longer: what is lent for it has room for this many bytes */
+#define HERONDITCH_LINE_BYTES 34829
+
 /* stack that a call needs, measured and rounded up (tests/c/stack.c) */
 #define HERONDITCH_STACK 65536
 
@@ -65,6 +68,15 @@ typedef struct {
     uint32_t struck;
     uint32_t rounds;
 } heronditch_counts;
+
+/* a reply with a piece of a report: where to go on after it, how many centres before that have a place, and how many bytes were put */
+typedef struct {
+    uint32_t number;
+    uint32_t file;
+    size_t next;
+    size_t found;
+    size_t size;
+} heronditch_piece;
 
 /* Reads a file: N kinds, M link starts and M link ends. Replies with N and M. Lend 32, 256, 256 entries for a pattern, 512, 4096, 4096
  * for a board, to have room for every file. */
@@ -114,6 +126,14 @@ heronditch_counts heronditch_place_within(const uint8_t *pattern, size_t pattern
  * as many bytes as the pattern's file has. Replies with the number of classes and the merged file's length. */
 heronditch_reply heronditch_merge(const uint8_t *pattern, size_t pattern_len, uint8_t *classes, size_t classes_len, uint8_t *out,
                                   size_t out_len);
+
+/* Puts a piece of the report of a pattern on a board: the lines of the centres from a node on, as long as there is room for a line of
+ * HERONDITCH_LINE_BYTES, and the last line where the centres are done. The first piece is from 0 with 0 found, each further one from next
+ * with the found of the reply before; they, one after another, are the report, whole. Nothing is put (size 0) exactly when the report is at
+ * its end. A refused file is no refusal of this call: its line, `refused 3 pattern`, is the whole report. Only 8 is replied: where the
+ * files are accepted and out has not HERONDITCH_LINE_BYTES, or a file is refused and out has not 20. */
+heronditch_piece heronditch_report(const uint8_t *pattern, size_t pattern_len, const uint8_t *board, size_t board_len, size_t from,
+                                   uint16_t found, uint8_t *out, size_t out_len);
 
 #ifdef __cplusplus
 }

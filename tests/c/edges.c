@@ -31,6 +31,11 @@ static int is_counts(heronditch_counts c, uint32_t number, uint32_t file, uint32
     return c.number == number && c.file == file && c.started == started && c.kept == kept && c.struck == struck && c.rounds == rounds;
 }
 
+static int is_piece(heronditch_piece r, uint32_t number, size_t next, size_t found, size_t size)
+{
+    return r.number == number && r.file == HERONDITCH_NEITHER && r.next == next && r.found == found && r.size == size;
+}
+
 /* every byte of a table still holds the filling */
 static int untouched(const void *table, size_t from, size_t to)
 {
@@ -163,10 +168,51 @@ static void lookups(void)
     check(is_reply(heronditch_drives(NULL, 0, NULL, 0, NULL, 0, NULL, 0, SIZE_MAX, NULL, 0), 0, HERONDITCH_NEITHER, 0, 0), "a lookup of nothing");
 }
 
+/* the report of T on B, as the specification has it */
+static const char lines[] = "place 0: 0 1 2 / 0-1 1-2\nplace 1: 0 1 2 / 0-1 1-2\nplace 2: 0 1 2 / 0-1 1-2\nend 3 of 6\n";
+
+/* room for a line and a little more */
+static uint8_t room[HERONDITCH_LINE_BYTES + 64];
+
+static heronditch_piece piece(const uint8_t *board, size_t board_len, size_t from, uint16_t found, size_t lent)
+{
+    memset(room, 0xA5, sizeof room);
+    return heronditch_report(T, sizeof T, board, board_len, from, found, room, lent);
+}
+
+static void reports(void)
+{
+    size_t whole = sizeof lines - 1;
+    check(is_piece(piece(B, sizeof B, 0, 0, HERONDITCH_LINE_BYTES - 1), 8, 0, 0, 0) && untouched(room, 0, sizeof room), "a report with one byte less");
+    check(is_piece(piece(B, sizeof B, 0, 0, HERONDITCH_LINE_BYTES), 0, 1, 1, 25) && !memcmp(room, lines, 25) && untouched(room, 25, sizeof room),
+          "a report with exactly the needed length");
+    check(is_piece(piece(B, sizeof B, 0, 0, HERONDITCH_LINE_BYTES + 24), 0, 1, 1, 25), "24 bytes more: one line still");
+    check(is_piece(piece(B, sizeof B, 0, 0, HERONDITCH_LINE_BYTES + 25), 0, 2, 2, 50) && untouched(room, 50, sizeof room), "25 bytes more: two lines");
+    check(is_piece(piece(B, sizeof B, 7, 3, sizeof room), 0, 7, 3, 0) && untouched(room, 0, sizeof room), "past the end");
+    check(is_piece(piece(B, sizeof B, SIZE_MAX, 65535, sizeof room), 0, SIZE_MAX, 65535, 0) && untouched(room, 0, sizeof room), "from the largest number");
+    check(is_piece(piece(NULL, 0, 0, 0, 19), 8, 0, 0, 0) && untouched(room, 0, sizeof room), "one byte less for a refused file");
+    check(is_piece(piece(NULL, 0, 0, 0, 20), 0, 1, 0, 16) && !memcmp(room, "refused 1 board\n", 16) && untouched(room, 16, sizeof room), "the line of a refused file");
+    check(is_piece(piece(NULL, 0, 1, 0, 20), 0, 1, 0, 0) && untouched(room, 0, sizeof room), "nothing after it");
+    check(is_piece(heronditch_report(NULL, 0, NULL, 0, 0, 0, NULL, 0), 8, 0, 0, 0), "a report of nothing into nothing");
+    check(is_piece(heronditch_report(T, sizeof T, B, sizeof B, 0, 0, NULL, 0), 8, 0, 0, 0), "a report into nothing");
+    /* piece after piece, with buffers of different lengths */
+    char text[sizeof lines];
+    size_t from = 0, size = 0, calls = 0;
+    uint16_t found = 0;
+    for (heronditch_piece r; (r = piece(B, sizeof B, from, found, HERONDITCH_LINE_BYTES + 30 * (calls % 2))).number == 0 && r.size > 0; calls++) {
+        if (size + r.size > whole)
+            break;
+        memcpy(text + size, room, r.size);
+        size += r.size, from = r.next, found = (uint16_t)r.found;
+    }
+    check(size == whole && !memcmp(text, lines, whole) && from == 7 && found == 3, "the pieces are the report");
+}
+
 int main(void)
 {
     no_arrays();
     lengths();
+    reports();
     lookups();
     printf("edges: %d checks, %d failed\n", checks, failed);
     return failed != 0;

@@ -13,6 +13,7 @@ static uint8_t pattern[HERONDITCH_PATTERN_BYTES], board[HERONDITCH_BOARD_BYTES];
 static uint16_t kinds[HERONDITCH_NODES], starts[HERONDITCH_BOARD_LINKS], ends[HERONDITCH_BOARD_LINKS];
 static uint8_t bytes[HERONDITCH_BOARD_BYTES], links[HERONDITCH_BOARD_LINKS];
 static uint32_t table[HERONDITCH_NODES];
+static uint8_t text[2 * HERONDITCH_LINE_BYTES];
 
 /* a circuit of n nodes of one kind, the links the first m of 0-0, 0-1, .. */
 static size_t circuit(size_t n, size_t m, uint8_t *file)
@@ -71,6 +72,12 @@ static void *merge(void *x)
     return x;
 }
 
+static void *report(void *x)
+{
+    refused |= heronditch_report(PATTERN, BOARD, 0, 0, text, sizeof text).number;
+    return x;
+}
+
 static size_t touched(void *(*call)(void *))
 {
     unsigned char *stack;
@@ -93,7 +100,7 @@ int main(void)
     static const struct {
         const char *name;
         void *(*call)(void *);
-    } calls[] = {{"read", read_board}, {"write", write_board}, {"radius", radius}, {"ball", ball}, {"match", match}, {"place", place}, {"merge", merge}};
+    } calls[] = {{"read", read_board}, {"write", write_board}, {"radius", radius}, {"ball", ball}, {"match", match}, {"place", place}, {"merge", merge}, {"report", report}};
     size_t most = 0;
     if (circuit(HERONDITCH_PARTS, HERONDITCH_PATTERN_LINKS, pattern) != sizeof pattern || circuit(HERONDITCH_NODES, HERONDITCH_BOARD_LINKS, board) != sizeof board)
         return 2;

@@ -97,13 +97,14 @@ def folders():
 
 
 def unreadable(finder):
-    """A name that is there and is no file is told, for each of the two, and nothing else is printed."""
+    """A name that is there and is no file is told on standard error, for each of the two, and nothing is printed."""
     one = encode([1], [])
     for missing, there in (("pattern.cir", "board.cir"), ("board.cir", "pattern.cir")):
         folder = Path(tempfile.mkdtemp())
         (folder / there).write_bytes(one)
         (folder / missing).mkdir()
-        if report(finder, folder) != f"cannot read {missing}\n".encode():
+        said = subprocess.run([finder], cwd=folder, capture_output=True, check=False)
+        if (said.stdout, said.stderr) != (b"", f"cannot read {missing}\n".encode()):
             sys.exit(f"not told that {missing} cannot be read, in {folder}")
         shutil.rmtree(folder)
 

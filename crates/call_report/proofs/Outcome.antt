@@ -1,4 +1,4 @@
--- What the call on two files comes to, by cases: a refused file, or a piece of the lines; and a buffer that is too short. Assumes nothing.
+-- What the call on two files comes to, by cases: a piece that is put, a buffer that is too short; a refused file, or the lines. Assumes nothing.
 use mathlib.Core.List.{List}
 use mathlib.Core.Path.{_≡_, ap}
 use Prim.Native.Nat.{ℕ, _≤_, _<_}
@@ -22,23 +22,38 @@ use Rattle.file_pair.specs.Pair.{pairConditions, front, BothRead}
 use Rattle.file_pair.proofs.Both.{both-accepted, pattern-bounded, board-bounded}
 use Rattle.report.specs.Lines.{longestLine}
 use Rattle.report_centres.specs.declared.Part.{Part}
+use Rattle.call_report.specs.declared.ReportAnswer.{ReportAnswer}
 use Rattle.call_report.specs.declared.ReportAnswer.the-variants as answer
-use Rattle.call_report.specs.Call.{refusalPiece, pieceFor, pieceOf, reportReply, reporting}
-use Rattle.report_centres.specs.Pieces.{linesPiece, Drawn, Wrote}
+use Rattle.call_report.specs.Call.{longestRefusal, refusalPiece, pieceFor, pieceOf, reportReply, needFor, outcomeFor, reporting}
+use Rattle.report_centres.specs.Pieces.{Piece, linesPiece, Drawn, Wrote}
 
--- ---- the piece of two files
+-- ---- a piece
 
-module _ (pattern board : List ℕ) (from found : ℕ) {before after : List ℕ} {part : Part} where
-  pub wrote-refused : {x : Refusal} → first (pairConditions pattern board) ≡ refuse x → Wrote before (refusalPiece x from found) after part
-      → Wrote before (pieceOf pattern board from found (length before)) after part
-  unfolding pieceOf pieceFor
-  wrote-refused e w = rw e w
+module _ (need : ℕ) (p : Piece) (out : List ℕ) where
+  pub outcome-short : {a : ReportAnswer} → a ≡ answer.Refused (record { number = 8; file = Neither }) → length out < need
+      → record { reply = reportReply a; out = out } ≡ outcomeFor need p out
+  unfolding outcomeFor reportReply reply filled first shortTable
+  outcome-short e h = rw (e, lt-ltb (length out) need h)
 
-  pub wrote-lines : {p : Pattern} {b : Board} {parts nodes : Circuit} → BothRead pattern board p b parts nodes
-      → Wrote before (linesPiece (front (p .nodes) (p .links) parts) (front (b .nodes) (b .links) nodes) from found (length before)) after part
-      → Wrote before (pieceOf pattern board from found (length before)) after part
-  unfolding pieceOf pieceFor
-  wrote-lines read w = rw (read .verdict) (rw (read .drawn .content, read .given .content) at w)
+  pub outcome-put : {after : List ℕ} {part : Part} → need ≤ length out → Wrote out p after part
+      → record { reply = reportReply (answer.Put part); out = after } ≡ outcomeFor need p out
+  unfolding outcomeFor reportReply reply filled first shortTable
+  outcome-put h w =
+      rw (le-ltb (length out) need h, w .next, w .found, w .put .end, zero-add (length (p .text)), put-whole (w .put) (w .fits))
+
+-- ---- two files
+
+module _ (pattern board : List ℕ) (from found : ℕ) (out : List ℕ) where
+  pub reporting-refused : {x : Refusal} → first (pairConditions pattern board) ≡ refuse x
+      → outcomeFor longestRefusal (refusalPiece x from found) out ≡ reporting pattern board from found out
+  unfolding reporting needFor pieceOf pieceFor
+  reporting-refused e = rw e
+
+  pub reporting-lines : {p : Pattern} {b : Board} {parts nodes : Circuit} → BothRead pattern board p b parts nodes
+      → outcomeFor longestLine (linesPiece (front (p .nodes) (p .links) parts) (front (b .nodes) (b .links) nodes) from found (length out)) out
+      ≡ reporting pattern board from found out
+  unfolding reporting needFor pieceOf pieceFor
+  reporting-lines read = rw (read .verdict, read .drawn .content, read .given .content)
 
 -- two files that were read hold circuits that a report is drawn from
 pub both-drawn : {pattern board : List ℕ} {p : Pattern} {b : Board} {parts nodes : Circuit} → BothRead pattern board p b parts nodes
@@ -51,17 +66,3 @@ both-drawn {board = board} read =
           rw (ap (λ (c : Circuit). c .starts) (read .given .content), ap (λ (c : Circuit). c .ends) (read .given .content))
           (rising-links (startsOf board) (endsOf board) (accepted role.Board board (both-accepted read .1) .rises));
     }
-
--- ---- the call
-
-module _ (pattern board : List ℕ) (from found : ℕ) (out : List ℕ) where
-  pub report-short : length out < longestLine
-      → record { reply = reportReply (answer.Refused (record { number = 8; file = Neither })); out = out } ≡ reporting pattern board from found out
-  unfolding reporting reportReply reply filled first shortTable
-  report-short h = rw (lt-ltb (length out) longestLine h)
-
-  pub report-put : {after : List ℕ} {part : Part} → longestLine ≤ length out → Wrote out (pieceOf pattern board from found (length out)) after part
-      → record { reply = reportReply (answer.Put part); out = after } ≡ reporting pattern board from found out
-  unfolding reporting reportReply reply filled first shortTable
-  report-put {after} {part} h w =
-      rw (le-ltb (length out) longestLine h, w .next, w .found, w .put .end, zero-add (length (pieceOf pattern board from found (length out) .text)), put-whole (w .put) (w .fits))

@@ -4,11 +4,11 @@ use mathlib.Core.List.{List, [], _∷_, _++_}
 use mathlib.Core.Logic.{_↔_}
 use mathlib.Core.Path.{_≡_, refl, sym, ap, ap₂, _∙_}
 use Prim.Native.Nat.{ℕ, zero, suc, _≤_, _<_, zero-le}
-use native.Mathlib.Nat.{le-trans, le-antisymm, lt-of-not-le, le-of-suc-le-suc}
-use native.Mathlib.Decide.{decLt}
+use native.Mathlib.Nat.{le-refl, le-trans, le-antisymm, lt-of-not-le, le-of-suc-le-suc}
 use native.Mathlib.Omega.{arith}
 use borrow.Author.Tests.{lt-ltb, le-ltb}
-use lib.ListN.{length, drop, length-append}
+use lib.Dec.{lit≤}
+use lib.ListN.{length, take, drop, length-append}
 use lib.Seq.{take-at, drop-at}
 use Rattle.file_format.specs.declared.File.the-variants.{Neither}
 use Rattle.file_format.specs.declared.Refusal.{Refusal}
@@ -25,7 +25,7 @@ use Rattle.report.specs.Report.{reportOf}
 use Rattle.report_centres.specs.declared.Part.{Part}
 use Rattle.call_report.specs.declared.ReportAnswer.{ReportAnswer}
 use Rattle.call_report.specs.declared.ReportAnswer.the-variants as answer
-use Rattle.call_report.specs.Call.{verdictOf, pieceOf, reportReply, ReportOutcome, reporting}
+use Rattle.call_report.specs.Call.{verdictOf, pieceOf, reportReply, ReportOutcome, needFor, outcomeFor, reporting}
 use Rattle.report_centres.specs.Pieces.{Piece}
 use Rattle.call_report.specs.Whole.{itemsFor, placesFor, itemsOf, prefixOf, placesOf, Follows, nextOf, foundOf, sizeOf, textOf, Stage, called}
 use Rattle.call_report.proofs.Whole.{piece-follows, piece-none, prefix-start, places-start, prefix-all, places-small}
@@ -49,6 +49,12 @@ unfolding reportReply
 reply-refused (answer.Put p) x e = cc
 reply-refused (answer.Refused y) x e = cc
 
+-- a line of a refused file is no longer than the longest line
+pub need-most : (v : Verdict) → needFor v ≤ longestLine
+unfolding needFor
+need-most accept = le-refl longestLine
+need-most (refuse x) = lit≤ tt
+
 -- number 8, of neither file
 abbrev pub eight : Refusal
 eight = record { number = 8; file = Neither }
@@ -63,20 +69,24 @@ module _ (pattern board : List ℕ) (from found : ℕ) (out : List ℕ) where
   abbrev piece : Piece
   piece = pieceOf pattern board from found (length out)
 
-  -- A buffer that is too short for the longest line is refused, and keeps its content.
-  pub short-refused : length out < longestLine → result ≡ record { reply = record { verdict = refuse eight; values = [] }; out = out }
-  unfolding reporting reply filled first shortTable
-  short-refused h = rw (lt-ltb (length out) longestLine h)
+  -- the room needed
+  abbrev need : ℕ
+  need = needFor (verdictOf pattern board)
 
-  -- Any other is taken, whatever the files hold.
+  -- A buffer that is too short is refused, and keeps its content.
+  pub short-refused : length out < need → result ≡ record { reply = record { verdict = refuse eight; values = [] }; out = out }
+  unfolding reporting outcomeFor reply filled first shortTable
+  short-refused h = rw (lt-ltb (length out) need h)
+
+  -- One that has room for the longest line is taken, whatever the files hold.
   module _ (room : longestLine ≤ length out) where
     result-is :
         result ≡ record {
           reply = record { verdict = accept; values = piece .next ∷ piece .found ∷ length (piece .text) ∷ [] };
           out = piece .text ++ drop (length (piece .text)) out;
         }
-    unfolding reporting reply filled first shortTable
-    result-is = rw (le-ltb (length out) longestLine room)
+    unfolding reporting outcomeFor reply filled first shortTable
+    result-is = rw (le-ltb (length out) need (le-trans (need-most (verdictOf pattern board)) room))
 
     pub accepts : result .reply .verdict ≡ accept
     accepts = ap (λ (r : ReportOutcome). r .reply .verdict) result-is
@@ -147,6 +157,12 @@ module _ (pattern board : List ℕ) where
       go accept e = le-trans (places-small accept (circuitOf pattern) (circuitOf board) k) (few e)
       go (refuse x) e = zero-le
 
+-- all the items are the report
+items-whole : (pattern board : List ℕ) (k : ℕ) → k ≤ itemsOf pattern board → itemsOf pattern board ≤ k → prefixOf pattern board k ≡ reportOf pattern board
+unfolding reportOf pairConditions
+items-whole pattern board k h l =
+    ap (prefixOf pattern board) (le-antisymm h l) ∙ prefix-all (verdictOf pattern board) (circuitOf pattern) (circuitOf board)
+
 module _ (pattern board : List ℕ) (buffers : ℕ → List ℕ) (rooms : (k : ℕ) → longestLine ≤ length (buffers k)) where
   -- where k calls have come to
   abbrev stage : ℕ → Stage
@@ -179,10 +195,7 @@ module _ (pattern board : List ℕ) (buffers : ℕ → List ℕ) (rooms : (k : �
 
   -- all items are put: that is the report
   whole : (k : ℕ) → itemsOf pattern board ≤ stage k .next → stage k .text ≡ reportOf pattern board
-  unfolding reportOf pairConditions
-  whole k h =
-      reached k .text ∙ ap (prefixOf pattern board) (le-antisymm (reached k .within) h)
-      ∙ prefix-all (verdictOf pattern board) (circuitOf pattern) (circuitOf board)
+  whole k h = reached k .text ∙ items-whole pattern board (stage k .next) (reached k .within) h
 
   -- As many calls as there are items put the report, whole,
   pub report-whole : (k : ℕ) → itemsOf pattern board ≤ k → stage k .text ≡ reportOf pattern board
@@ -200,26 +213,15 @@ module _ (pattern board : List ℕ) (buffers : ℕ → List ℕ) (rooms : (k : �
 
 module _
     (pattern board : List ℕ) (from found : ℕ) (out : List ℕ) {after : List ℕ} (part : Part)
+    (room : longestLine ≤ length out)
     (e : _≡_ {A = ReportOutcome} (record { reply = reportReply (answer.Put part); out = after }) (reporting pattern board from found out))
   where
-    -- the buffer was long enough,
-    put-room : longestLine ≤ length out
-    unfolding reportReply
-    put-room = go (decLt (length out) longestLine)
-      where
-        go : Dec (length out < longestLine) → longestLine ≤ length out
-        go (yes h) =
-            let apart : accept ≡ refuse eight = ap (λ (r : ReportOutcome). r .reply .verdict) (e ∙ short-refused pattern board from found out h) in
-            let z : _≡_ {A = ℕ} 0 1 = cc in
-            absurd (omega arith)
-        go (no h) = omega arith
-
     -- the bytes that were put lie within it,
     pub put-within : part .size ≤ length after
     unfolding reportReply
     put-within =
         let p = pieceOf pattern board from found (length out) in
-        let same = e ∙ result-is pattern board from found out put-room in
+        let same = e ∙ result-is pattern board from found out room in
         omega (arith, ap sizeOf same, ap (λ (r : ReportOutcome). length (r .out)) same, length-append (p .text) (drop (length (p .text)) out))
 
     -- and where to go on and the count are again those of an item: of a later one, where bytes were put.
@@ -229,8 +231,23 @@ module _
     unfolding reportReply
     put-follows h f =
         let next : part .next ≡ nextOf (reporting pattern board from found out) = ap nextOf e in
-        let (_, places, within, _, more) = call-follows pattern board from found out put-room h f in (
+        let (_, places, within, _, more) = call-follows pattern board from found out room h f in (
           rw next within,
           rw next (ap foundOf e ∙ places),
-          λ some. rw next (more (lt-of-not-le (λ l. some (ap sizeOf e ∙ none-iff pattern board from found out put-room .1 l)))),
+          λ some. rw next (more (lt-of-not-le (λ l. some (ap sizeOf e ∙ none-iff pattern board from found out room .1 l)))),
         )
+
+    -- The bytes that were put go on with the report, from the item `from` up to the one where to go on,
+    pub put-text :
+        from ≤ itemsOf pattern board → found ≡ placesOf pattern board from →
+        prefixOf pattern board from ++ take (part .size) after ≡ prefixOf pattern board (part .next)
+    unfolding reportReply
+    put-text h f =
+        ap (λ (xs : List ℕ). prefixOf pattern board from ++ xs) (ap textOf e)
+        ∙ call-follows pattern board from found out room h f .0
+        ∙ ap (prefixOf pattern board) (sym (ap nextOf e))
+
+    -- and where none were put, the items before `from` are the report.
+    pub put-none : from ≤ itemsOf pattern board → part .size ≡ 0 → prefixOf pattern board from ≡ reportOf pattern board
+    unfolding reportReply
+    put-none h z = items-whole pattern board from h (none-iff pattern board from found out room .0 (sym (ap sizeOf e) ∙ z))

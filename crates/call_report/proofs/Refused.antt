@@ -8,11 +8,10 @@ use lib.ListN.{length}
 use Rattle.base_text.specs.Text.{Put, Fits}
 use Rattle.base_text.proofs.Text.{put-nothing}
 use Rattle.file_format.specs.declared.Refusal.{Refusal}
-use Rattle.report.specs.Lines.{longestLine}
 use Rattle.report.specs.Report.{refusalLine}
 use Rattle.report.proofs.Lengths.{refusal-length}
 use Rattle.report_centres.specs.Pieces.{Wrote}
-use Rattle.call_report.specs.Call.{refusalPiece}
+use Rattle.call_report.specs.Call.{longestRefusal, refusalPiece}
 
 module _ (x : Refusal) (out : List ℕ) (from found : ℕ) where
   pub refused-later : (from ≡ 0 → ⊥) → Wrote out (refusalPiece x from found) out (record { next = from; found = found; size = 0 })
@@ -20,7 +19,7 @@ module _ (x : Refusal) (out : List ℕ) (from found : ℕ) where
   refused-later h =
       rw (ne-eqb from 0 h) (record { fits = record { room = omega arith }; put = put-nothing; next = refl; found = refl })
 
-  pub refused-fits : x .number < 1000 → longestLine ≤ length out → Fits out 0 (refusalLine x)
+  pub refused-fits : x .number < 1000 → longestRefusal ≤ length out → Fits out 0 (refusalLine x)
   refused-fits small room = record { room = omega (arith, refusal-length x small) }
 
   pub refused-first : {after : List ℕ} {size : ℕ} → from ≡ 0 → Fits out 0 (refusalLine x) → Put out 0 (refusalLine x) after size

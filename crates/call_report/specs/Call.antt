@@ -48,10 +48,23 @@ pub record ReportOutcome : Type 0 where
   pub reply : Reply
   pub out : List ℕ
 
--- Only a buffer that is too short for the longest line is refused, by 8; what a refused file comes to is text. Bytes after the piece keep
--- their content.
-unfoldable pub reporting : List ℕ → List ℕ → ℕ → ℕ → List ℕ → ReportOutcome
-reporting pattern board from found out =
-    let verdict = first (shortTable longestLine (length out) ∷ []) in
-    let p = pieceOf pattern board from found (length out) in
+-- room for the line of any refused file
+abbrev pub longestRefusal : ℕ
+longestRefusal = 20
+
+-- the room that a piece needs: that of the longest line, or of the one line of a refused file
+unfoldable pub needFor : Verdict → ℕ
+needFor accept = longestLine
+needFor (refuse x) = longestRefusal
+
+-- a piece put into a buffer that has the room needed; else 8, and the buffer is left as it was
+unfoldable pub outcomeFor : ℕ → Piece → List ℕ → ReportOutcome
+outcomeFor need p out =
+    let verdict = first (shortTable need (length out) ∷ []) in
     record { reply = reply verdict (p .next ∷ p .found ∷ length (p .text) ∷ []); out = filled verdict (p .text) out }
+
+-- "Rising numbers are the order": 1 to 6 come before 8 here too, and what a refused file comes to is text. 8 is the only refusal. For the
+-- lines the room needed is a bound, as merging needs the first pattern's file length: 8 is then known without matching, and what does for
+-- one piece does for every later one, so that no report is refused half-way. Bytes after the piece keep their content.
+unfoldable pub reporting : List ℕ → List ℕ → ℕ → ℕ → List ℕ → ReportOutcome
+reporting pattern board from found out = outcomeFor (needFor (verdictOf pattern board)) (pieceOf pattern board from found (length out)) out

@@ -12,9 +12,10 @@ use report_pieces::put_piece;
 ghost use mathlib.Core.Path.{_≡_};
 ghost use Prim.Native.Nat.{_≤_};
 ghost use lib.ListN.{length};
-ghost use Rattle.report.specs.Lines.{longestLine};
-ghost use Rattle.call_report.specs.Call.{refusalPiece, pieceOf, reportReply, reporting};
+ghost use Rattle.call_report.specs.Call.{longestRefusal, refusalPiece, outcomeFor, reportReply, reporting};
 ghost use Rattle.report_centres.specs.Pieces.{Wrote};
+ghost use Rattle.file_format.specs.declared.File.the-variants as file;
+ghost use Rattle.call_report.specs.declared.ReportAnswer.the-variants as answer;
 
 // What the call comes to: a piece of the report, or why it was turned away.
 pub enum ReportAnswer {
@@ -22,9 +23,22 @@ pub enum ReportAnswer {
     Refused(Refusal),
 }
 
+// Room for the line of any refused file: its number has at most three digits.
+const LONGEST_REFUSAL: usize = 20;
+
+// A buffer that is too short.
+fn too_short() -> ReportAnswer
+    ensures { λ a. ⌜ a ≡ answer.Refused (record { number = 8; file = file.Neither }) ⌝ }
+{
+    ReportAnswer::Refused(Refusal {
+        number: 8,
+        file: File::Neither,
+    })
+}
+
 // The line of a refused file, which is the whole report.
 fn put_refused(x: Refusal, from: usize, found: u16, out: &mut [u8]) -> Part
-    requires { ⌜ longestLine ≤ length (now out) ⌝ }
+    requires { ⌜ longestRefusal ≤ length (now out) ⌝ }
     ensures { λ r. ⌜ Wrote (now (out .entry)) (refusalPiece x from found) (now (out .exit)) r ⌝ }
 {
     let count = found as usize;
@@ -43,10 +57,22 @@ fn put_refused(x: Refusal, from: usize, found: u16, out: &mut [u8]) -> Part
     }
 }
 
-// The piece of two files, where the buffer is long enough.
-fn put_files(pattern: &[u8], board: &[u8], from: usize, found: u16, out: &mut [u8]) -> Part
-    requires { ⌜ longestLine ≤ length (now out) ⌝ }
-    ensures { λ r. ⌜ Wrote (now (out .entry)) (pieceOf (now (pattern .entry)) (now (board .entry)) from found (length (now (out .entry)))) (now (out .exit)) r ⌝ }
+// What the call comes to where a file is refused.
+fn answer_refused(x: Refusal, from: usize, found: u16, out: &mut [u8]) -> ReportAnswer
+    ensures { λ a. ⌜ record { reply = reportReply a; out = now (out .exit) } ≡ outcomeFor longestRefusal (refusalPiece x from found) (now (out .entry)) ⌝ }
+{
+    if out.len() < LONGEST_REFUSAL {
+        return too_short();
+    }
+    ReportAnswer::Put(put_refused(x, from, found, out))
+}
+
+// A piece of the report, from the centre `from` on, before which `found` centres had a place, at the front of the buffer: the lines of as
+// many centres as there is room for, and the last line where the centres are done; the first piece is from 0 with 0 found. Nothing is put
+// exactly when the report is at its end. A buffer that is too short, for the line of a refused file or for the longest line, is refused and
+// left as it was.
+pub fn report(pattern: &[u8], board: &[u8], from: usize, found: u16, out: &mut [u8]) -> ReportAnswer
+    ensures { λ a. ⌜ record { reply = reportReply a; out = now (out .exit) } ≡ reporting (now (pattern .entry)) (now (board .entry)) from found (now (out .entry)) ⌝ }
 {
     let mut pk = [0u16; Pattern::MAX_NODES];
     let mut ps = [0u16; Pattern::MAX_LINKS];
@@ -65,13 +91,16 @@ fn put_files(pattern: &[u8], board: &[u8], from: usize, found: u16, out: &mut [u
         &mut ne,
     );
     let PairAnswer::Read(p, b) = read else {
-        return put_refused(file_pair::refusal_of(read), from, found, out);
+        return answer_refused(file_pair::refusal_of(read), from, found, out);
     };
+    if out.len() < LONGEST {
+        return too_short();
+    }
     let parts = p.nodes;
     let joins = p.links;
     let n = b.nodes;
     let m = b.links;
-    put_piece(
+    ReportAnswer::Put(put_piece(
         &pk[..parts],
         &ps[..joins],
         &pe[..joins],
@@ -81,20 +110,5 @@ fn put_files(pattern: &[u8], board: &[u8], from: usize, found: u16, out: &mut [u
         from,
         found,
         out,
-    )
-}
-
-// A piece of the report, from the centre `from` on, before which `found` centres had a place, at the front of the buffer: the lines of as
-// many centres as there is room for, and the last line where the centres are done; the first piece is from 0 with 0 found. Nothing is put
-// exactly when the report is at its end. A buffer that is too short for the longest line is refused, and left as it was.
-pub fn report(pattern: &[u8], board: &[u8], from: usize, found: u16, out: &mut [u8]) -> ReportAnswer
-    ensures { λ a. ⌜ record { reply = reportReply a; out = now (out .exit) } ≡ reporting (now (pattern .entry)) (now (board .entry)) from found (now (out .entry)) ⌝ }
-{
-    if out.len() < LONGEST {
-        return ReportAnswer::Refused(Refusal {
-            number: 8,
-            file: File::Neither,
-        });
-    }
-    ReportAnswer::Put(put_files(pattern, board, from, found, out))
+    ))
 }

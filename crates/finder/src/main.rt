@@ -1,14 +1,20 @@
 // The report program: reads `pattern.cir` and `board.cir` in the folder it is run in, an absent file as an empty one, and prints the report.
-// Where a file is there and cannot be read, it says so in one line and prints nothing else.
+// Standard output has the report's lines and nothing else. Where a file is there and cannot be read, or the report cannot be written whole, a
+// line on standard error says so; what was printed is then a front of the report.
 use call_report::ReportAnswer;
 use call_report::report;
 use file_format::Board;
 use file_format::Pattern;
+use output::Output;
 ghost use mathlib.Core.Path.{_≡_};
+ghost use Prim.Native.Nat.{_≤_};
 ghost use lib.ListN.{length};
 ghost use Rattle.io.specs.Counts.{Counts};
 ghost use Rattle.file_format.specs.declared.Role.the-variants as role;
+ghost use Rattle.report.specs.Lines.{longestLine};
+ghost use Rattle.report.specs.Report.{reportOf};
 ghost use Rattle.finder.specs.Cut.{most};
+ghost use Rattle.finder.specs.Printing.{isAbsent, GoesOn, Reached, Handed};
 
 // A byte more than the longest file that is accepted in each role: the report of what is read so is the report of the files (proofs/Cut).
 const PATTERN_BYTES: usize = 4 + 2 * Pattern::MAX_NODES + 4 * Pattern::MAX_LINKS + 1;
@@ -22,6 +28,13 @@ const PIECE_BYTES: usize = 524288;
 struct Held {
     is_read: bool,
     size: usize,
+}
+
+// How far the report was handed to standard output: so many of its items (a line for each centre, which may be empty, and the last line); or
+// a write failed, and nothing was handed over after it.
+enum Printed {
+    Items(usize),
+    Failed,
 }
 
 // Reads from an open file until the buffer is full or the file ends. A read that fails is told from the end by one read more.
@@ -40,6 +53,16 @@ fn fill(fd: i32, buf: &mut [u8]) -> Held
     Held { is_read, size }
 }
 
+// Whether a file that cannot be opened is absent, and counts as empty.
+fn absent(error: i32) -> bool
+    ensures { λ r. ⌜ r ≡ isAbsent error ⌝ }
+{
+    if error == libc::ENOENT {
+        return true;
+    }
+    false
+}
+
 // The bytes of a file by its name, none where it is absent.
 fn load(name: &[u8], buf: &mut [u8]) -> Held
     ensures { λ r. ⌜ Counts (r .size) (now (buf .exit)) ⌝ }
@@ -47,7 +70,7 @@ fn load(name: &[u8], buf: &mut [u8]) -> Held
     let fd = os::open_read(name);
     if fd < 0 {
         return Held {
-            is_read: os::errno() == libc::ENOENT,
+            is_read: absent(os::errno()),
             size: 0,
         };
     }
@@ -57,26 +80,45 @@ fn load(name: &[u8], buf: &mut [u8]) -> Held
 }
 
 fn cannot_read(name: &[u8]) {
-    io::write_all(1, b"cannot read ");
-    io::write_all(1, name);
-    io::write_all(1, b"\n");
+    io::write_all(libc::STDERR_FILENO, b"cannot read ");
+    io::write_all(libc::STDERR_FILENO, name);
+    io::write_all(libc::STDERR_FILENO, b"\n");
 }
 
-// Prints the report piece by piece, by way of the buffer, until nothing is left of it.
-fn print_report(pattern: &[u8], board: &[u8], out: &mut [u8]) {
+// Hands the bytes that come next to standard output: those of the report's items from one on up to another.
+fn hand(pattern: &[u8], board: &[u8], from: usize, next: usize, bytes: &[u8]) -> Printed
+    requires { ⌜ GoesOn (now pattern) (now board) from next (now bytes) ⌝ }
+    ensures { λ r. ⌜ Reached next r ⌝ }
+{
+    let answer = output::write_whole(libc::STDOUT_FILENO, bytes);
+    let Output::Written(_) = answer else {
+        return Printed::Failed;
+    };
+    Printed::Items(next)
+}
+
+// Prints the report piece by piece, by way of the buffer, until nothing is left of it or a write fails.
+fn print_report(pattern: &[u8], board: &[u8], out: &mut [u8]) -> Printed
+    requires { ⌜ longestLine ≤ length (now out) ⌝ }
+    ensures { λ r. ⌜ Handed (now (pattern .entry)) (now (board .entry)) (reportOf (now (pattern .entry)) (now (board .entry))) r ⌝ }
+{
     let mut from: usize = 0;
     let mut found: u16 = 0;
     loop {
         let answer = report(pattern, board, from, found, out);
         let ReportAnswer::Put(part) = answer else {
-            return;
+            return Printed::Failed;
         };
         let size = part.size;
         if size == 0 {
-            return;
+            return Printed::Items(from);
         }
-        io::write_all(1, &out[..size]);
-        from = part.next;
+        let next = part.next;
+        let handed = hand(pattern, board, from, next, &out[..size]);
+        let Printed::Items(reached) = handed else {
+            return Printed::Failed;
+        };
+        from = reached;
         found = part.found as u16;
     }
 }
@@ -85,6 +127,7 @@ fn print_report(pattern: &[u8], board: &[u8], out: &mut [u8]) {
 // looked at one by one in the proof.
 fn run(pattern: &mut [u8], board: &mut [u8], out: &mut [u8])
     requires { ⌜ (length (now pattern) ≡ most role.Pattern) × (length (now board) ≡ most role.Board) ⌝ }
+    requires { ⌜ longestLine ≤ length (now out) ⌝ }
 {
     let first = load(b"pattern.cir", pattern);
     if !first.is_read {
@@ -98,7 +141,11 @@ fn run(pattern: &mut [u8], board: &mut [u8], out: &mut [u8])
     }
     let parts = first.size;
     let nodes = second.size;
-    print_report(&pattern[..parts], &board[..nodes], out);
+    let printed = print_report(&pattern[..parts], &board[..nodes], out);
+    let Printed::Items(_) = printed else {
+        os::fail(b"the report is not whole");
+        return;
+    };
 }
 
 fn main() {

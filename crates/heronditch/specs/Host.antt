@@ -14,8 +14,10 @@ use Rattle.table.specs.Reply as table
 use Rattle.call_match.specs.Call.{TableOutcome}
 use Rattle.place.specs.Outcome.{PlaceOutcome}
 use Rattle.call_merge.specs.Call.{MergeOutcome}
+use Rattle.call_report.specs.Call.{ReportOutcome}
 use Rattle.heronditch.specs.declared.reply.Reply.{Reply}
 use Rattle.heronditch.specs.declared.reply.Counted.{Counted}
+use Rattle.heronditch.specs.declared.reply.Piece.{Piece}
 
 -- ---- replies
 
@@ -49,6 +51,17 @@ counted r =
       kept = r .counts .kept;
       struck = r .counts .struck;
       rounds = r .counts .rounds;
+    }
+
+-- where the report goes on, how many centres had a place, and how many bytes were put
+unfoldable pub pieced : files.Reply → Piece
+pieced r =
+    record {
+      number = numberOf (r .verdict);
+      file = meantFile (r .verdict);
+      next = getD (r .values) 0 0;
+      found = getD (r .values) 1 0;
+      size = getD (r .values) 2 0;
     }
 
 -- ---- the calls: the reply, and each lent table as the call leaves it
@@ -95,6 +108,13 @@ pub record HostMerge : Type 0 where
 
 unfoldable pub hostMerge : MergeOutcome → HostMerge
 hostMerge o = record { reply = slots (o .reply); classes = o .classes; out = o .out }
+
+pub record HostReport : Type 0 where
+  pub reply : Piece
+  pub out : List ℕ
+
+unfoldable pub hostReport : ReportOutcome → HostReport
+hostReport o = record { reply = pieced (o .reply); out = o .out }
 
 -- The neighbour lookup hands out a stretch of one of two tables. C has no form for that: the stretch is copied to the front of the lent
 -- table, and its length replied; 8 where it does not fit.

@@ -11,9 +11,11 @@ ghost use Rattle.file_format.specs.Circuit.{circuitOf};
 ghost use Rattle.place.specs.Match.{radiusOf};
 ghost use Rattle.call_place.specs.Call.{placeAt};
 ghost use Rattle.call_merge.specs.Call.{merging};
-ghost use Rattle.heronditch.specs.Host.{slots, hostRead, hostWrite, hostBall, hostMatch, hostPlace, hostMerge, hostNeighbours};
+ghost use Rattle.call_report.specs.Call.{reporting};
+ghost use Rattle.heronditch.specs.Host.{slots, hostRead, hostWrite, hostBall, hostMatch, hostPlace, hostMerge, hostNeighbours, hostReport};
 use crate::copied::copy_out;
 use crate::reply::Counted;
+use crate::reply::Piece;
 use crate::reply::Reply;
 use crate::reply::of_ball;
 use crate::reply::of_match;
@@ -21,6 +23,7 @@ use crate::reply::of_merge;
 use crate::reply::of_place;
 use crate::reply::of_radius;
 use crate::reply::of_read;
+use crate::reply::of_report;
 use crate::reply::of_write;
 use file_format::Role;
 use graph_neighbours::neighbours::Direction;
@@ -188,4 +191,17 @@ pub extern "C" fn heronditch_driven<'a>(
         ),
         out,
     )
+}
+
+#[no_mangle]
+pub extern "C" fn heronditch_report(
+    pattern: &[u8],
+    board: &[u8],
+    from: usize,
+    found: u16,
+    out: &mut [u8],
+) -> Piece
+    ensures { λ r. ⌜ record { reply = r; out = now (out .exit) } ≡ hostReport (reporting (now (pattern .entry)) (now (board .entry)) from found (now (out .entry))) ⌝ }
+{
+    of_report(call_report::report(pattern, board, from, found, out))
 }

@@ -6,16 +6,19 @@ ghost use Rattle.file_write.specs.Writing.{writeReply};
 ghost use Rattle.call_match.specs.Call.{replyOf};
 ghost use Rattle.place.specs.Outcome.{placeReply};
 ghost use Rattle.call_merge.specs.Call.{mergeReply};
-ghost use Rattle.heronditch.specs.Host.{fileNumber, slots, counted};
+ghost use Rattle.call_report.specs.Call.{reportReply};
+ghost use Rattle.heronditch.specs.Host.{fileNumber, slots, counted, pieced};
 use call_distance::BallAnswer;
 use call_distance::RadiusAnswer;
 use call_match::TableAnswer;
 use call_merge::MergeAnswer;
+use call_report::ReportAnswer;
 use file_format::File;
 use file_format::ReadAnswer;
 use file_format::Refusal;
 use file_write::WriteAnswer;
 use place::PlaceAnswer;
+use report_centres::Part;
 use table::Counts;
 
 // Number 0 for acceptance or the refusal's number; the file that it means (0 neither, 1 pattern, 2 board); the values replied with.
@@ -36,6 +39,16 @@ pub struct Counted {
     pub kept: u32,
     pub struck: u32,
     pub rounds: u32,
+}
+
+// The same with where the report goes on after a piece, how many centres before that have a place, and how many bytes were put.
+#[repr(C)]
+pub struct Piece {
+    pub number: u32,
+    pub file: u32,
+    pub next: usize,
+    pub found: usize,
+    pub size: usize,
 }
 
 // The number that stands for a file.
@@ -168,5 +181,39 @@ pub fn of_merge(answer: MergeAnswer) -> Reply
     match answer {
         MergeAnswer::Merged(count, size) => accepted(count, size),
         MergeAnswer::Refused(x) => refused(x),
+    }
+}
+
+fn put_piece(part: Part) -> Piece
+    ensures { λ r. ⌜ r ≡ record { number = 0; file = 0; next = part .next; found = part .found; size = part .size } ⌝ }
+{
+    Piece {
+        number: 0,
+        file: 0,
+        next: part.next,
+        found: part.found,
+        size: part.size,
+    }
+}
+
+fn refused_piece(x: Refusal) -> Piece
+    ensures { λ r. ⌜ r ≡ record { number = x .number; file = fileNumber (x .file); next = 0; found = 0; size = 0 } ⌝ }
+{
+    let file = x.file;
+    Piece {
+        number: x.number as u32,
+        file: file_number(file),
+        next: 0,
+        found: 0,
+        size: 0,
+    }
+}
+
+pub fn of_report(answer: ReportAnswer) -> Piece
+    ensures { λ r. ⌜ r ≡ pieced (reportReply answer) ⌝ }
+{
+    match answer {
+        ReportAnswer::Put(part) => put_piece(part),
+        ReportAnswer::Refused(x) => refused_piece(x),
     }
 }

@@ -1,20 +1,171 @@
--- `call_report::report` meets its contract: a buffer that is too short is refused, else the piece is put. Assumes nothing.
+-- `call_report::report` meets its contract: the line of a refused file is put, or a piece of the lines of the two circuits at the fronts of the
+-- tables, where there is room. Assumes nothing.
+use denote.Ref.{now}
+use mathlib.Core.Path.{sym, _∙_}
 use borrow.Author.Needs.{needs}
-use Rattle.call_report.proofs.Outcome.{report-short, report-put}
+use Rattle.graph.specs.Circuit.{Circuit}
+use Rattle.file_pair.specs.Pair.{BothRead}
+use Rattle.file_pair.proofs.Both.{both-read, refused-pair, stands-size, stands-room}
+use Rattle.call_report.proofs.Outcome.{outcome-short, outcome-put, reporting-refused, reporting-lines, both-drawn}
 use Rattle.call_report.proofs.report.Statement.{statement}
 use Rattle.call_report.proofs.report.Tie as tie
 
-returns : tie.Need-returns
-returns c = report-short _ _ _ _ _ (c .if1 .taken)
+-- ---- the two files
 
-put-files-requires : tie.Need-put-files-requires
-put-files-requires c κs = search needs
+abbrev entry : tie.After-read-pair → tie.Start
+entry c = c .before .before .before .before .before .before .before .before .before .before
+
+-- what reading them left
+abbrev parts : tie.After-read-pair → Circuit
+parts c = let l = c .read-pair .last .1 .1 in record { kinds = l .0; starts = l .1 .0; ends = l .1 .1 .0 }
+
+abbrev nodes : tie.After-read-pair → Circuit
+nodes c = let l = c .read-pair .last .1 .1 .1 .1 .1 in record { kinds = l .0; starts = l .1 .0; ends = l .1 .1 .0 }
+
+slice-aggregate-read-pair : tie.Need-slice-aggregate-read-pair
+slice-aggregate-read-pair c = search needs
+
+slice-aggregate-read-pair-2 : tie.Need-slice-aggregate-read-pair-2
+slice-aggregate-read-pair-2 c = search needs
+
+slice-aggregate-read-pair-3 : tie.Need-slice-aggregate-read-pair-3
+slice-aggregate-read-pair-3 c = search needs
+
+slice-aggregate-read-pair-4 : tie.Need-slice-aggregate-read-pair-4
+slice-aggregate-read-pair-4 c = search needs
+
+slice-aggregate-read-pair-5 : tie.Need-slice-aggregate-read-pair-5
+slice-aggregate-read-pair-5 c = search needs
+
+slice-aggregate-read-pair-6 : tie.Need-slice-aggregate-read-pair-6
+slice-aggregate-read-pair-6 c = search needs
+
+read-pair-requires : tie.Need-read-pair-requires
+read-pair-requires c κs = search needs
+
+enum-known-read : tie.Need-enum-known-read
+enum-known-read c = search needs
+
+enum-told : tie.Need-enum-told
+enum-told c = search needs
+
+refusal-of-requires : tie.Need-refusal-of-requires
+refusal-of-requires c κs = search needs
+
+answer-refused-requires : tie.Need-answer-refused-requires
+answer-refused-requires c κs = search needs
 
 same-length : tie.Need-same-length
 same-length c = search needs
 
+-- a file is refused
+returns : tie.Need-returns
+returns c =
+    let put = c .before .before in
+    let passed = put .before .before in
+    let told = passed .before in
+    let read = told .before .before .before .before .before .before .before .before in
+    put .answer-refused .ensures
+    ∙ reporting-refused _ _ _ _ _ (refused-pair _ _ (parts read) (nodes read) (read .read-pair .ensures) (passed .refusal-of .ensures) (told .enum-told .given .1))
+
+-- both were read
+abbrev reading : tie.After-read → tie.After-read-pair
+reading c = c .before .before .before .before .before .before .before .before
+
+both : (c : tie.After-read)
+    → BothRead (now (entry (reading c) .args .pattern)) (now (entry (reading c) .args .board)) (c .read .given .0 .0) (c .read .given .0 .1 .0) (parts (reading c)) (nodes (reading c))
+both c = both-read _ _ _ _ (reading c .read-pair .ensures) (c .read .given .1)
+
+too-short-requires : tie.Need-too-short-requires
+too-short-requires c κs = search needs
+
 returns-2 : tie.Need-returns-2
-returns-2 c = let put = c .before .before in report-put _ _ _ _ _ (put .before .before .if1 .left) (put .put-files .ensures)
+returns-2 c =
+    outcome-short _ _ _ (c .too-short .ensures) (c .before .if1 .taken)
+    ∙ reporting-lines _ _ _ _ _ (both (c .before .before .before))
+
+-- ---- the piece
+
+array-share-prefix-pk : tie.Need-array-share-prefix-pk
+array-share-prefix-pk c = stands-room (both (c .before .before) .drawn) .0
+
+slice-aggregate-put-piece : tie.Need-slice-aggregate-put-piece
+slice-aggregate-put-piece c = sym (stands-size (both (c .before .before .before) .drawn) .0)
+
+array-share-prefix-ps : tie.Need-array-share-prefix-ps
+array-share-prefix-ps c = stands-room (both (c .before .before .before) .drawn) .1
+
+slice-aggregate-put-piece-2 : tie.Need-slice-aggregate-put-piece-2
+slice-aggregate-put-piece-2 c = sym (stands-size (both (c .before .before .before .before) .drawn) .1)
+
+array-share-prefix-pe : tie.Need-array-share-prefix-pe
+array-share-prefix-pe c = stands-room (both (c .before .before .before .before) .drawn) .2
+
+slice-aggregate-put-piece-3 : tie.Need-slice-aggregate-put-piece-3
+slice-aggregate-put-piece-3 c = sym (stands-size (both (c .before .before .before .before .before) .drawn) .2)
+
+array-share-prefix-nk : tie.Need-array-share-prefix-nk
+array-share-prefix-nk c = stands-room (both (c .before .before .before .before .before) .given) .0
+
+slice-aggregate-put-piece-4 : tie.Need-slice-aggregate-put-piece-4
+slice-aggregate-put-piece-4 c = sym (stands-size (both (c .before .before .before .before .before .before) .given) .0)
+
+array-share-prefix-ns : tie.Need-array-share-prefix-ns
+array-share-prefix-ns c = stands-room (both (c .before .before .before .before .before .before) .given) .1
+
+slice-aggregate-put-piece-5 : tie.Need-slice-aggregate-put-piece-5
+slice-aggregate-put-piece-5 c = sym (stands-size (both (c .before .before .before .before .before .before .before) .given) .1)
+
+array-share-prefix-ne : tie.Need-array-share-prefix-ne
+array-share-prefix-ne c = stands-room (both (c .before .before .before .before .before .before .before) .given) .2
+
+slice-aggregate-put-piece-6 : tie.Need-slice-aggregate-put-piece-6
+slice-aggregate-put-piece-6 c = sym (stands-size (both (c .before .before .before .before .before .before .before .before) .given) .2)
+
+put-piece-requires : tie.Need-put-piece-requires
+put-piece-requires c κs = both-drawn (both (c .before .before .before .before .before .before .before .before .before))
+
+same-length-2 : tie.Need-same-length-2
+same-length-2 c = search needs
+
+returns-3 : tie.Need-returns-3
+returns-3 c =
+    let put = c .before .before in
+    let roomy = put .before .before .before .before .before .before .before .before in
+    outcome-put _ _ _ (roomy .if1 .left) (put .put-piece .ensures)
+    ∙ reporting-lines _ _ _ _ _ (both (roomy .before .before))
 
 pub report-spec : {M : Type 1} → statement M
-report-spec = tie.close (tie.spec returns put-files-requires same-length returns-2)
+report-spec =
+    tie.close
+    (tie.spec
+    slice-aggregate-read-pair
+    slice-aggregate-read-pair-2
+    slice-aggregate-read-pair-3
+    slice-aggregate-read-pair-4
+    slice-aggregate-read-pair-5
+    slice-aggregate-read-pair-6
+    read-pair-requires
+    enum-known-read
+    enum-told
+    refusal-of-requires
+    answer-refused-requires
+    same-length
+    returns
+    too-short-requires
+    returns-2
+    array-share-prefix-pk
+    slice-aggregate-put-piece
+    array-share-prefix-ps
+    slice-aggregate-put-piece-2
+    array-share-prefix-pe
+    slice-aggregate-put-piece-3
+    array-share-prefix-nk
+    slice-aggregate-put-piece-4
+    array-share-prefix-ns
+    slice-aggregate-put-piece-5
+    array-share-prefix-ne
+    slice-aggregate-put-piece-6
+    put-piece-requires
+    same-length-2
+    returns-3)

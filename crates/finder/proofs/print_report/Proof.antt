@@ -1,5 +1,5 @@
--- `finder::print_report` ends. The loop's invariant: the next piece starts at an item of the report, and as many centres before it have a place as
--- are counted. The measure is how many items are left. Assumes nothing.
+-- `finder::print_report` meets its contract, and ends. The loop's invariant: the next piece starts at an item of the report, and as many centres
+-- before it have a place as are counted. The measure is how many items are left. Assumes nothing.
 use mathlib.Core.Path.{_≡_, refl, sym, _∙_}
 use Prim.Native.Nat.{_-_, _≤_, zero-le}
 use native.Mathlib.Omega.{arith}
@@ -7,23 +7,25 @@ use borrow.Author.Needs.{needs}
 use denote.Ref.{now}
 use lib.ListN.{length}
 use lib.Seq.{length-take-le}
+use Rattle.report.specs.Lines.{longestLine}
 use Rattle.call_report.specs.declared.ReportAnswer.the-variants as answer
 use Rattle.call_report.specs.Call.{reportReply, ReportOutcome, reporting}
 use Rattle.call_report.specs.Whole.{itemsOf, placesOf}
-use Rattle.call_report.proofs.Promise.{places-few, put-within, put-follows}
+use Rattle.call_report.proofs.Promise.{places-few, put-within, put-follows, put-text, put-none}
 use Rattle.call_report.proofs.Whole.{places-start}
+use Rattle.finder.specs.Printing.{GoesOn, Reached, Handed}
 use Rattle.finder.proofs.print_report.Statement.{statement}
 use Rattle.finder.proofs.print_report.Tie as tie
 
 abbrev Inv-loop : tie.InvT-loop
 Inv-loop pattern board out₀ from₀ found₀ out from found =
-    (from ≤ itemsOf pattern board) × (found ≡ placesOf pattern board from) × (length out ≡ length out₀)
+    (from ≤ itemsOf pattern board) × (found ≡ placesOf pattern board from) × (length out ≡ length out₀) × (longestLine ≤ length out)
 
 abbrev μ-loop : tie.MeasureT-loop
 μ-loop pattern board out₀ from₀ found₀ out from found = itemsOf pattern board - from
 
 loop-holds : tie.Need-loop-holds Inv-loop μ-loop
-loop-holds c = (zero-le, sym (places-start _ _ _), refl)
+loop-holds c = (zero-le, sym (places-start _ _ _), refl, search needs)
 
 report-requires : tie.Need-report-requires Inv-loop μ-loop
 report-requires c κs = tt
@@ -38,13 +40,8 @@ same-length : tie.Need-same-length Inv-loop μ-loop
 same-length c = c .before .before .before .before .report .kept .1 .1 .1 .1 .0 ∙ c .before .before .before .before .before .before .loop .inv .2
 
 returns : tie.Need-returns Inv-loop μ-loop
+unfolding Handed
 returns c = tt
-
-same-length-2 : tie.Need-same-length-2 Inv-loop μ-loop
-same-length-2 c = c .before .before .before .before .before .before .report .kept .1 .1 .1 .1 .0 ∙ c .before .before .before .before .before .before .before .before .loop .inv .2
-
-returns-2 : tie.Need-returns-2 Inv-loop μ-loop
-returns-2 c = tt
 
 -- ---- a piece was put
 
@@ -57,43 +54,78 @@ put : (c : tie.After-known-told Inv-loop μ-loop) →
     (reporting (now (a .pattern)) (now (a .board)) (loop .from) (loop .found) (loop .out))
 put c = rw (c .before .answer .given .1) at (c .before .before .before .before .before .report .ensures)
 
+same-length-2 : tie.Need-same-length-2 Inv-loop μ-loop
+same-length-2 c = c .before .before .before .before .before .before .report .kept .1 .1 .1 .1 .0 ∙ c .before .before .before .before .before .before .before .before .loop .inv .2
+
+returns-2 : tie.Need-returns-2 Inv-loop μ-loop
+unfolding Handed
+returns-2 c =
+    let k = c .before in
+    let loop = k .before .before .before .before .before .before .before .loop in
+    put-none _ _ _ _ _ _ (loop .inv .3) (put k) (loop .inv .0) (c .if1 .taken)
+
 within : (c : tie.After-known-told Inv-loop μ-loop) → c .before .answer .given .0 .0 .size ≤ length (c .before .before .before .before .before .report .last .1 .1 .1 .1 .0)
-within c = put-within _ _ _ _ _ _ (put c)
+within c = put-within _ _ _ _ _ _ (c .before .before .before .before .before .before .before .loop .inv .3) (put c)
 
-slice-reshare-prefix-write-all : tie.Need-slice-reshare-prefix-write-all Inv-loop μ-loop
-slice-reshare-prefix-write-all c = within (c .before)
+slice-reshare-prefix-hand : tie.Need-slice-reshare-prefix-hand Inv-loop μ-loop
+slice-reshare-prefix-hand c = within (c .before)
 
-slice-aggregate-write-all : tie.Need-slice-aggregate-write-all Inv-loop μ-loop
-slice-aggregate-write-all c = sym (length-take-le _ _ (within (c .before .before)))
+slice-aggregate-hand : tie.Need-slice-aggregate-hand Inv-loop μ-loop
+slice-aggregate-hand c = sym (length-take-le _ _ (within (c .before .before)))
 
-write-all-requires : tie.Need-write-all-requires Inv-loop μ-loop
-write-all-requires c κs = tt
+hand-requires : tie.Need-hand-requires Inv-loop μ-loop
+unfolding GoesOn
+hand-requires c κs =
+    let k = c .before .before in
+    let loop = k .before .before .before .before .before .before .before .loop in
+    put-text _ _ _ _ _ _ (loop .inv .3) (put k) (loop .inv .0) (loop .inv .1)
 
--- where it goes on
-abbrev told : tie.After-struct-known Inv-loop μ-loop → tie.After-known-told Inv-loop μ-loop
-told c = c .before .before .before .before
+enum-known-handed : tie.Need-enum-known-handed Inv-loop μ-loop
+enum-known-handed c = search needs
+
+enum-told-2 : tie.Need-enum-told-2 Inv-loop μ-loop
+enum-told-2 c = search needs
+
+same-length-3 : tie.Need-same-length-3 Inv-loop μ-loop
+same-length-3 c = let k = c .before .before .before .before .before in k .before .before .before .before .before .report .kept .1 .1 .1 .1 .0 ∙ k .before .before .before .before .before .before .before .loop .inv .2
+
+returns-3 : tie.Need-returns-3 Inv-loop μ-loop
+unfolding Handed
+returns-3 c = tt
+
+-- ---- and handed over
+
+-- the items up to where the piece says to go on
+reached : (c : tie.After-handed Inv-loop μ-loop) → c .handed .given .0 .0 ≡ c .before .before .before .before .before .before .answer .given .0 .0 .next
+unfolding Reached
+reached c = rw (c .handed .given .1) at (c .before .before .hand .ensures)
+
+-- where the piece was put
+abbrev told : tie.After-handed Inv-loop μ-loop → tie.After-known-told Inv-loop μ-loop
+told c = c .before .before .before .before .before
 
 cast-found : tie.Need-cast-found Inv-loop μ-loop
 cast-found c =
-    let here = told c in
-    let loop = here .before .before .before .before .before .before .before .loop in
-    let (within, places, more) = put-follows _ _ _ _ _ _ (put here) (loop .inv .0) (loop .inv .1) in
-    let a = here .before .before .before .before .before .before .before .before .before .before .before .args in
-    omega (arith, places-few (now (a .pattern)) (now (a .board)) (here .before .answer .given .0 .0 .next))
+    let k = told (c .before .before) in
+    let loop = k .before .before .before .before .before .before .before .loop in
+    let (within, places, more) = put-follows _ _ _ _ _ _ (loop .inv .3) (put k) (loop .inv .0) (loop .inv .1) in
+    let a = k .before .before .before .before .before .before .before .before .before .before .before .args in
+    omega (arith, places-few (now (a .pattern)) (now (a .board)) (k .before .answer .given .0 .0 .next))
 
 loop-less : tie.Need-loop-less Inv-loop μ-loop
 loop-less c =
-    let here = told c in
-    let loop = here .before .before .before .before .before .before .before .loop in
-    let (within, places, more) = put-follows _ _ _ _ _ _ (put here) (loop .inv .0) (loop .inv .1) in
-    omega (arith, more (c .before .before .before .if1 .left))
+    let k = told (c .before .before) in
+    let loop = k .before .before .before .before .before .before .before .loop in
+    let (within, places, more) = put-follows _ _ _ _ _ _ (loop .inv .3) (put k) (loop .inv .0) (loop .inv .1) in
+    omega (arith, more (c .before .before .before .before .before .before .if1 .left), reached (c .before .before))
 
 loop-again : tie.Need-loop-again Inv-loop μ-loop
 loop-again c =
-    let here = told c in
-    let loop = here .before .before .before .before .before .before .before .loop in
-    let (within, places, more) = put-follows _ _ _ _ _ _ (put here) (loop .inv .0) (loop .inv .1) in
-    (within, places, here .before .before .before .before .before .report .kept .1 .1 .1 .1 .0 ∙ loop .inv .2)
+    let k = told (c .before .before) in
+    let loop = k .before .before .before .before .before .before .before .loop in
+    let (within, places, more) = put-follows _ _ _ _ _ _ (loop .inv .3) (put k) (loop .inv .0) (loop .inv .1) in
+    let kept = k .before .before .before .before .before .report .kept .1 .1 .1 .1 .0 in
+    (rw (reached (c .before .before)) within, rw (reached (c .before .before)) places, kept ∙ loop .inv .2, omega (arith, kept))
 
 pub print-report-spec : {M : Type 1} → statement M
 print-report-spec =
@@ -109,9 +141,13 @@ print-report-spec =
     returns
     same-length-2
     returns-2
-    slice-reshare-prefix-write-all
-    slice-aggregate-write-all
-    write-all-requires
+    slice-reshare-prefix-hand
+    slice-aggregate-hand
+    hand-requires
+    enum-known-handed
+    enum-told-2
+    same-length-3
+    returns-3
     cast-found
     loop-less
     loop-again)

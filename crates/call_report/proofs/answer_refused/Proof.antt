@@ -1,0 +1,23 @@
+-- `call_report::answer_refused` meets its contract: the line of a refused file is put, where there is room for it. Assumes nothing.
+use borrow.Author.Needs.{needs}
+use Rattle.call_report.proofs.Outcome.{outcome-short, outcome-put}
+use Rattle.call_report.proofs.answer_refused.Statement.{statement}
+use Rattle.call_report.proofs.answer_refused.Tie as tie
+
+too-short-requires : tie.Need-too-short-requires
+too-short-requires c κs = search needs
+
+returns : tie.Need-returns
+returns c = outcome-short _ _ _ (c .too-short .ensures) (c .before .if1 .taken)
+
+put-refused-requires : tie.Need-put-refused-requires
+put-refused-requires c κs = search needs
+
+same-length : tie.Need-same-length
+same-length c = search needs
+
+returns-2 : tie.Need-returns-2
+returns-2 c = let put = c .before .before in outcome-put _ _ _ (put .before .before .if1 .left) (put .put-refused .ensures)
+
+pub answer-refused-spec : {M : Type 1} → statement M
+answer-refused-spec = tie.close (tie.spec too-short-requires returns put-refused-requires same-length returns-2)

@@ -1,0 +1,83 @@
+/* Prints the report of a pattern on a board:
+ *
+ *     report PATTERN.cir BOARD.cir
+ *
+ * An absent file counts as empty. Its status: 0 the report is printed whole; 1 so is the one line of a refused file; 2 a file cannot be
+ * read, or the report could not be written whole: a line on standard error says why, and what was printed is a front of the report.
+ *
+ * Build: cc -Iinclude examples/report.c target/staticlib/libheronditch.a -o report
+ */
+#include <errno.h>
+#include <poll.h>
+#include <signal.h>
+#include <stdio.h>
+#include <stdlib.h>
+#include <string.h>
+#include <unistd.h>
+
+#include "heronditch.h"
+
+/* Reads at most size bytes of a file: one more than the longest file has, so that the call refuses a longer one. */
+static size_t load(const char *name, uint8_t *bytes, size_t size)
+{
+    FILE *f = fopen(name, "rb");
+    if (!f && errno == ENOENT)
+        return 0;
+    size_t n = f ? fread(bytes, 1, size, f) : 0;
+    if (!f || ferror(f)) {
+        fprintf(stderr, "cannot read %s\n", name);
+        exit(2);
+    }
+    fclose(f);
+    return n;
+}
+
+/* Writes all of the bytes, or says that it failed. An output that does not block is waited for, five seconds at a time. */
+static int put(const uint8_t *bytes, size_t size)
+{
+    while (size > 0) {
+        ssize_t n = write(STDOUT_FILENO, bytes, size);
+        if (n > 0) {
+            bytes += n;
+            size -= (size_t)n;
+        } else if (n < 0 && errno == EAGAIN) {
+            struct pollfd out = {STDOUT_FILENO, POLLOUT, 0};
+            if (poll(&out, 1, 5000) <= 0)
+                return 0;
+        } else if (n == 0 || errno != EINTR) {
+            return 0;
+        }
+    }
+    return 1;
+}
+
+int main(int argc, char **argv)
+{
+    static uint8_t pattern[HERONDITCH_PATTERN_BYTES + 1], board[HERONDITCH_BOARD_BYTES + 1], out[16 * HERONDITCH_LINE_BYTES];
+
+    if (argc != 3) {
+        fprintf(stderr, "usage: %s PATTERN.cir BOARD.cir\n", argv[0]);
+        return 2;
+    }
+    signal(SIGPIPE, SIG_IGN); /* a reader that goes away is an error of write */
+    size_t pattern_len = load(argv[1], pattern, sizeof pattern);
+    size_t board_len = load(argv[2], board, sizeof board);
+    int status = 0;
+    size_t from = 0;
+    uint16_t found = 0;
+    for (;;) {
+        heronditch_piece p = heronditch_report(pattern, pattern_len, board, board_len, from, found, out, sizeof out);
+        if (p.number != 0) /* cannot be: the buffer has room for the longest line */
+            return 3;
+        if (p.size == 0)
+            return status;
+        if (out[0] == 'r') /* no other line begins so */
+            status = 1;
+        if (!put(out, p.size)) {
+            fprintf(stderr, "the report is not whole: %s\n", strerror(errno));
+            return 2;
+        }
+        from = p.next;
+        found = (uint16_t)p.found;
+    }
+}
