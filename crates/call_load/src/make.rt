@@ -22,7 +22,13 @@ pub fn make(seed: u32, n: usize, m: usize, k: usize, out: &mut [u8]) -> LoadAnsw
     let mut ends = [0u16; 2 * Board::MAX_LINKS];
     draw_load(seed, n, m, k, &mut kinds, &mut ends);
     let links = collect_links(n, m, &mut starts, &mut ends);
-    let written = file_write::write(Role::Board, &kinds[..n], &starts[..links], &ends[..links], out);
+    let written = file_write::write(
+        Role::Board,
+        &kinds[..n],
+        &starts[..links],
+        &ends[..links],
+        out,
+    );
     match written {
         WriteAnswer::Written(size) => LoadAnswer::Made(size),
         WriteAnswer::Refused(x) => LoadAnswer::Refused(x),

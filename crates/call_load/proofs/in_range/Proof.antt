@@ -3,8 +3,6 @@ use borrow.Author.Tests.{le-leb, lt-leb}
 use Rattle.load.specs.Load.{inRange}
 use Rattle.call_load.proofs.in_range.Statement.{statement}
 use Rattle.call_load.proofs.in_range.Tie as tie
-use Rattle.call_load.proofs.in_range.Reads as reads
-use Rattle.call_load.proofs.in_range.Lts as lts
 
 returns : tie.Need-returns
 unfolding inRange
@@ -20,7 +18,7 @@ returns-3 c = simp (le-leb _ _ (c .before .before .if1 .left), le-leb _ _ (c .be
 
 returns-4 : tie.Need-returns-4
 unfolding inRange
-returns-4 c = 
+returns-4 c =
     simp (
       le-leb _ _ (c .before .before .before .if1 .left),
       le-leb _ _ (c .before .before .if2 .left),
@@ -30,7 +28,7 @@ returns-4 c =
 
 returns-5 : tie.Need-returns-5
 unfolding inRange
-returns-5 c = 
+returns-5 c =
     simp (
       le-leb _ _ (c .before .before .before .if1 .left),
       le-leb _ _ (c .before .before .if2 .left),

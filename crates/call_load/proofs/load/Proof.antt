@@ -10,11 +10,6 @@ use Rattle.call_load.proofs.Loading.{loading-outside, loading-short, lo
 use borrow.Author.Needs.{needs}
 use Rattle.call_load.proofs.load.Statement.{statement}
 use Rattle.call_load.proofs.load.Tie as tie
-use Rattle.call_load.proofs.load.Reads as reads
-use Rattle.call_load.proofs.load.Lts as lts
-use Rattle.call_load.proofs.in_range.Reads as in-range-reads
-use Rattle.call_load.proofs.make.make.Reads as make-reads
-use Rattle.call_load.proofs.refused.Reads as refused-reads
 
 in-range-requires : tie.Need-in-range-requires
 in-range-requires c κs = search needs
@@ -42,7 +37,7 @@ refused-requires : tie.Need-refused-requires
 refused-requires c κs = search needs
 
 returns : tie.Need-returns
-returns c = 
+returns c =
     let a = c .before .before .before .before .args in
     rw (c .refused .ensures) (loading-outside (a .seed) (a .n) (a .m) (a .k) (now (a .out)) (outside (c .before .before) (c .before .if1 .taken)))
 
@@ -50,14 +45,14 @@ refused-requires-2 : tie.Need-refused-requires-2
 refused-requires-2 c κs = search needs
 
 returns-2 : tie.Need-returns-2
-returns-2 c = 
+returns-2 c =
     let at = c .before .before .before in
     let a = at .before .before .args in
     rw (c .refused2 .ensures)
     (loading-short (a .seed) (a .n) (a .m) (a .k) (now (a .out)) (inside at (c .before .before .if1 .left)) (ltb-true _ _ (c .before .if2 .taken)))
 
 make-requires : tie.Need-make-requires
-make-requires c κs = 
+make-requires c κs =
     let at = c .before .before .before in
     let a = at .before .before .args in
     (in-range (a .n) (a .m) (a .k) (true-T (inside at (c .before .before .if1 .left))), ltb-false _ _ (c .before .if2 .left))
@@ -66,7 +61,7 @@ same-length : tie.Need-same-length
 same-length c = search needs
 
 returns-3 : tie.Need-returns-3
-returns-3 c = 
+returns-3 c =
     let made = c .before .before in
     let long = made .before .before in
     let at = long .before .before in

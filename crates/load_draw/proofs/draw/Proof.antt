@@ -7,32 +7,22 @@ use Rattle.load.specs.Draws.{step, draw}
 use borrow.Author.Needs.{needs}
 use Rattle.load_draw.proofs.draw.Statement.{statement}
 use Rattle.load_draw.proofs.draw.Tie as tie
-use Rattle.load_draw.proofs.draw.Reads as reads
-use Rattle.load_draw.proofs.draw.Lts as lts
-use Rattle.load_draw.proofs.step.Reads as step-reads
-use Rattle.load_draw.proofs.top.Reads as top-reads
 
--- src/lib.rt:47:9
 step-requires : tie.Need-step-requires
 step-requires c κs = search needs
 
--- src/lib.rt:50:17
 top-requires : tie.Need-top-requires
 top-requires c κs = search needs
 
--- src/lib.rt:50:17
 cast-t5 : tie.Need-cast-t5
 cast-t5 c = search needs
 
--- src/lib.rt:50:17
 rem-t6 : tie.Need-rem-t6
 rem-t6 c = search needs
 
--- src/lib.rt:50:16
 cast-t7 : tie.Need-cast-t7
 cast-t7 c = omega (arith, mod-le (c .top .result) (c .before .before .args .k))
 
--- src/lib.rt:43:1
 returns : tie.Need-returns
 unfolding draw
 returns c =

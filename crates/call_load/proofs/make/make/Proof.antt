@@ -20,11 +20,6 @@ use Rattle.call_load.proofs.Loading.{pairs-below, links-count, fronts, 
 use borrow.Author.Needs.{needs}
 use Rattle.call_load.proofs.make.make.Statement.{statement}
 use Rattle.call_load.proofs.make.make.Tie as tie
-use Rattle.call_load.proofs.make.make.Reads as reads
-use Rattle.call_load.proofs.make.make.Lts as lts
-use Rattle.file_write.proofs.write.Reads as write-reads
-use Rattle.load_draw.proofs.draw_load.Reads as draw-load-reads
-use Rattle.load_draw.proofs.pairs.collect_links.Reads as collect-links-reads
 
 slice-aggregate-draw-load : tie.Need-slice-aggregate-draw-load
 slice-aggregate-draw-load c = search needs
@@ -41,9 +36,6 @@ slice-aggregate-collect-links c = search needs
 slice-aggregate-collect-links-2 : tie.Need-slice-aggregate-collect-links-2
 slice-aggregate-collect-links-2 c = search needs
 
-slice-aggregate-collect-links-3 : tie.Need-slice-aggregate-collect-links-3
-slice-aggregate-collect-links-3 c = search needs
-
 abbrev entry : tie.After-draw-load → tie.Start
 entry c = c .before .before .before .before
 
@@ -54,14 +46,13 @@ drawnBelow c =
     pairs-below (s .args .seed) (s .args .n) (s .args .m) (s .args .k) (s .pre .0) _ _ (c .draw-load .ensures .1)
 
 collect-links-requires : tie.Need-collect-links-requires
-collect-links-requires c κs = 
-    let s = entry (c .before .before .before .before .before) in
-    let d = c .before .before .before .before .before in
-    let r = s .pre .0 in
-    ((r .someNodes, r .nodes, omega (arith, r .links, d .draw-load .kept .1 .1 .1 .1 .1 .0), drawnBelow d), (omega (arith, r .links), omega (arith, r .links)))
+collect-links-requires c κs =
+    let d = c .before .before .before .before in
+    let r = entry d .pre .0 in
+    (r .someNodes, r .nodes, omega (arith, r .links, d .draw-load .kept .1 .1 .1 .1 .1 .0), drawnBelow d, omega (arith, r .links))
 
 abbrev drawn : tie.After-collect-links → tie.After-draw-load
-drawn c = c .before .before .before .before .before .before
+drawn c = c .before .before .before .before .before
 
 abbrev start : tie.After-collect-links → tie.Start
 start c = entry (drawn c)
@@ -72,7 +63,7 @@ made c = let a = start c .args in load (a .seed) (a .n) (a .m) (a .k)
 -- the load's circuit stands at the front of the three tables
 content :
     (c : tie.After-collect-links) →
-    let l = c .collect-links .last .1 .1 .1 in
+    let l = c .collect-links .last .1 .1 in
     let links = c .collect-links .result in
     (take (start c .args .n) (drawn c .draw-load .last .1 .1 .1 .1 .0) ≡ made c .kinds)
     × (take links (l .0) ≡ made c .starts)
@@ -86,7 +77,7 @@ content c =
 -- each front has the size that was counted
 sizes :
     (c : tie.After-collect-links) →
-    let l = c .collect-links .last .1 .1 .1 in
+    let l = c .collect-links .last .1 .1 in
     let links = c .collect-links .result in
     (length (take (start c .args .n) (drawn c .draw-load .last .1 .1 .1 .1 .0)) ≡ start c .args .n)
     × (length (take links (l .0)) ≡ links)
@@ -147,7 +138,7 @@ same-length : tie.Need-same-length
 same-length c = search needs
 
 returns : tie.Need-returns
-returns c = 
+returns c =
     let told = c .before in
     let write = told .before .before .before .before in
     record {
@@ -159,7 +150,7 @@ same-length-2 : tie.Need-same-length-2
 same-length-2 c = search needs
 
 returns-2 : tie.Need-returns-2
-returns-2 c = 
+returns-2 c =
     let told = c .before in
     let write = told .before .before .before .before in
     absurd (written-not-refused _ (outcome write) _ (file write) _ (told .written2 .given .1))
@@ -173,7 +164,6 @@ make-spec =
     draw-load-requires
     slice-aggregate-collect-links
     slice-aggregate-collect-links-2
-    slice-aggregate-collect-links-3
     collect-links-requires
     array-share-prefix-kinds
     slice-aggregate-write
