@@ -1,7 +1,7 @@
 #!/usr/bin/env python3
-"""Compares the report program with the second finder's: compare.py FINDER SECOND
+"""Compares the report program with the second finder's and with the one in C: compare.py FINDER SECOND PROGRAM
 
-Both are run in folders with files made here: random boards with copies of the pattern, the edges of the report's lines, damaged and absent
+All are run in folders with files made here: random boards with copies of the pattern, the edges of the report's lines, damaged and absent
 files. Exits 1 on a difference, naming the folder, which is kept.
 """
 import os
@@ -109,22 +109,23 @@ def unreadable(finder):
         shutil.rmtree(folder)
 
 
-def report(program, folder):
+def report(folder, *command):
     """What a program prints in a folder."""
-    return subprocess.run([program], cwd=folder, capture_output=True, check=False).stdout
+    return subprocess.run(command, cwd=folder, capture_output=True, check=False).stdout
 
 
 def main():
-    """Compares both programs in each folder."""
-    finder, second = (os.path.abspath(name) for name in sys.argv[1:3])
+    """Compares the programs in each folder."""
+    finder, second, program = (os.path.abspath(name) for name in sys.argv[1:4])
     places = lines = most = 0
     for name, pattern, board in folders():
         folder = Path(tempfile.mkdtemp())
         for file, content in (("pattern.cir", pattern), ("board.cir", board)):
             if content is not None:
                 (folder / file).write_bytes(content)
-        one, other = report(finder, folder), report(second, folder)
-        if one != other or not one.endswith(b"\n"):
+        one = report(folder, finder)
+        others = report(folder, second), report(folder, program, "pattern.cir", "board.cir")
+        if others != (one, one) or not one.endswith(b"\n"):
             sys.exit(f"the reports differ: {name}, in {folder}")
         lines += one.count(b"\n")
         places += one.count(b"place ")

@@ -1,0 +1,10 @@
+-- `call_report::too_short` meets its contract. Assumes nothing.
+use mathlib.Core.Path.{refl}
+use Rattle.call_report.proofs.too_short.Statement.{statement}
+use Rattle.call_report.proofs.too_short.Tie as tie
+
+returns : tie.Need-returns
+returns c = refl
+
+pub too-short-spec : {M : Type 1} → statement M
+too-short-spec = tie.close (tie.spec returns)
