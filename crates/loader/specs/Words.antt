@@ -17,9 +17,9 @@ unfoldable pub value : ℕ → List ℕ → ℕ
 value first [] = first
 value first (d ∷ ds) = value (10 * first + (d - 48)) ds
 
--- "four 32-bit numbers": 1 to 10 digits, below 2^32
+-- "four 32-bit numbers": some digits, below 2^32
 unfoldable pub isNumber : List ℕ → Bool
-isNumber word = leb 1 (length word) && (leb (length word) 10 && (all isDigit word && ltb (value 0 word) (2 ^ 32)))
+isNumber word = leb 1 (length word) && (all isDigit word && ltb (value 0 word) (2 ^ 32))
 
 unfoldable pub wordOf : List ℕ → Word
 wordOf word = cond (isNumber word) (Number (value 0 word)) NoNumber

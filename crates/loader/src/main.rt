@@ -8,10 +8,9 @@ use output::Output;
 ghost use mathlib.Core.Path.{_≡_};
 ghost use Prim.Native.Nat.{_≤_};
 ghost use lib.ListN.{length};
-ghost use Rattle.output.specs.Writing.{All};
 ghost use Rattle.file_format.specs.Layout.{lengthOf};
 ghost use Rattle.call_load.specs.Call.{loadBytes};
-ghost use Rattle.loader.specs.Printing.{Told};
+ghost use Rattle.loader.specs.Printing.{Tried, Told};
 
 mod words;
 
@@ -28,7 +27,7 @@ enum Printed {
 // Hands the file of a load to standard output.
 fn hand(seed: u32, n: u32, m: u32, k: u32, bytes: &[u8]) -> Printed
     requires { ⌜ now bytes ≡ loadBytes seed n m k ⌝ }
-    ensures { λ r. ⌜ r ≡ Printed.OutOfRange → ⊥ ⌝ }
+    ensures { λ r. ⌜ Tried r ⌝ }
 {
     let answer = output::write_whole(libc::STDOUT_FILENO, bytes);
     let Output::Written(_) = answer else {
@@ -51,7 +50,7 @@ fn print_load(seed: u32, n: u32, m: u32, k: u32, out: &mut [u8]) -> Printed
 
 // The number that an argument is, by its place.
 fn argument(i: usize) -> Word {
-    let mut buf = [0u8; 11];
+    let mut buf = [0u8; 32];
     let size = os::arg(i, &mut buf);
     if os::errno() != 0 {
         return Word::NoNumber;
@@ -62,7 +61,7 @@ fn argument(i: usize) -> Word {
 fn usage() {
     io::write_all(
         libc::STDERR_FILENO,
-        b"usage: loader SEED N M K, four numbers of at most 10 digits each, below 4294967296\n",
+        b"usage: loader SEED N M K, four numbers below 4294967296\n",
     );
 }
 

@@ -1,4 +1,4 @@
-// Numbers as words: from 1 to 10 decimal digits, below 2^32.
+// Numbers as words: decimal digits, below 2^32.
 ghost use mathlib.Core.Path.{_≡_};
 ghost use Rattle.loader.specs.Words.{wordOf, isDigit};
 
@@ -24,9 +24,6 @@ pub fn number(word: &[u8]) -> Word
     if size < 1 {
         return Word::NoNumber;
     }
-    if size > 10 {
-        return Word::NoNumber;
-    }
     let mut value: u64 = 0;
     let mut i = 0;
     while i < size {
@@ -34,10 +31,10 @@ pub fn number(word: &[u8]) -> Word
             return Word::NoNumber;
         }
         value = 10 * value + (word[i] - 48) as u64;
+        if value >= 4294967296 {
+            return Word::NoNumber;
+        }
         i += 1;
-    }
-    if value >= 4294967296 {
-        return Word::NoNumber;
     }
     Word::Number(value as u32)
 }
