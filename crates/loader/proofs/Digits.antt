@@ -7,10 +7,11 @@ use native.Mathlib.Nat.{le-refl, le-trans}
 use native.Mathlib.Numerals.{add-one}
 use native.Mathlib.Omega.{arith}
 use borrow.Author.Tests.{le-leb, lt-leb, lt-ltb, le-ltb}
-use lib.Dec.{leb, ltb}
+use lib.Dec.{T, leb, ltb, leb→le}
 use lib.ListN.{length, getD, drop}
 use lib.Seq.{drop-cons, drop-length}
 use Rattle.base_lists.specs.List.{all}
+use Rattle.base_lists.proofs.Tests.{true-T, both-left, both-right}
 use Rattle.loader.specs.declared.words.Word.the-variants.{Number, NoNumber}
 use Rattle.loader.specs.Words.{isDigit, value, isNumber, wordOf}
 
@@ -19,6 +20,13 @@ value-ge : (first : ℕ) (ds : List ℕ) → first ≤ value first ds
 unfolding value
 value-ge first [] = le-refl first
 value-ge first (d ∷ ds) = omega (arith, value-ge (10 * first + (d - 48)) ds)
+
+-- the bytes of digits
+pub digit-range : (b : ℕ) → isDigit b ≡ true → (48 ≤ b) × (b ≤ 57)
+unfolding isDigit
+digit-range b e =
+    let t : T (leb 48 b && leb b 57) = true-T e in
+    (leb→le 48 b (both-left (leb 48 b) (leb b 57) t), leb→le b 57 (both-right (leb 48 b) (leb b 57) t))
 
 -- What is known when i digits of a word came to a value.
 pub record Passed (word : List ℕ) (v i : ℕ) : Type 0 where
@@ -53,7 +61,7 @@ module _ (word : List ℕ) (v i : ℕ) (p : Passed word v i) (h : i < length wor
     pub too-large : 2 ^ 32 ≤ w → NoNumber ≡ wordOf word
     unfolding wordOf isNumber
     too-large l =
-        let over : ltb (value 0 word) (2 ^ 32) ≡ false = le-ltb _ _ (rw next-same (le-trans l (value-ge w (drop (i + 1) word)))) in
+        let over : ltb (value 0 word) (2 ^ 32) ≡ false = le-ltb (value 0 word) (2 ^ 32) (rw next-same (le-trans l (value-ge w (drop (i + 1) word)))) in
         sym (rw (over, and-false (all isDigit word), and-false (leb 1 (length word))))
 
 -- all digits are passed

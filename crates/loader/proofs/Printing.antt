@@ -37,6 +37,9 @@ module _ (seed n m k : ℕ) (before after : List ℕ) (answer : LoadAnswer)
   pub made-range : (size : ℕ) → answer ≡ Made size → InRange n m k
   made-range size a = load-replied seed n m k before size (made-reply size a) .0
 
+  pub made-size : (size : ℕ) → answer ≡ Made size → size ≡ length (loadBytes seed n m k)
+  made-size size a = load-replied seed n m k before size (made-reply size a) .2
+
   pub made-front : (size : ℕ) → answer ≡ Made size → take size after ≡ loadBytes seed n m k
   made-front size a = ap (λ (o : LoadOutcome). take size (o .out)) e ∙ front-file seed n m k before size (made-reply size a)
 

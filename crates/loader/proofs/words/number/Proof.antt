@@ -1,78 +1,102 @@
+-- `loader::words::number` meets its contract. The loop's invariant: the bytes passed are digits that come to the value, and it is below 2^32. The
+-- measure is how many are left. Assumes nothing.
+use denote.Ref.{now}
+use mathlib.Core.Bool.{true}
+use mathlib.Core.Path.{_≡_, refl, sym, _∙_}
+use Prim.Native.Nat.{ℕ, _-_, _≤_}
+use native.Mathlib.Omega.{arith}
+use borrow.Author.Needs.{needs}
+use borrow.Author.Tests.{not-true, not-false}
+use lib.ListN.{length, getD}
+use Rattle.loader.specs.Words.{isDigit}
+use Rattle.loader.proofs.Digits.{Passed, passed-none, passed-next, passed-all, no-word, no-digit, too-large, digit-range}
 use Rattle.loader.proofs.words.number.Statement.{statement}
 use Rattle.loader.proofs.words.number.Tie as tie
-use Rattle.loader.proofs.words.number.Reads as reads
-use Rattle.loader.proofs.words.number.Lts as lts
-use Rattle.loader.proofs.words.is_digit.Reads as is-digit-reads
 
 abbrev Inv-loop : tie.InvT-loop
-Inv-loop word size value₀ i₀ value i = ?
+Inv-loop word size value₀ i₀ value i = (i ≤ length word) × Passed word value i
 
 abbrev μ-loop : tie.MeasureT-loop
-μ-loop word size value₀ i₀ value i = ?
+μ-loop word size value₀ i₀ value i = length word - i
 
--- src/words.rt:25:9
 returns : tie.Need-returns Inv-loop μ-loop
-returns c = ?
+returns c = no-word _ (c .if1 .taken)
 
--- src/words.rt:29:5
 loop-holds : tie.Need-loop-holds Inv-loop μ-loop
-loop-holds c = ?
+loop-holds c = (omega arith, passed-none _)
 
--- src/words.rt:30:22
 shared-slice-read-is-digit : tie.Need-shared-slice-read-is-digit Inv-loop μ-loop
-shared-slice-read-is-digit c = ?
+shared-slice-read-is-digit c = omega arith
 
--- src/words.rt:30:13
 is-digit-requires : tie.Need-is-digit-requires Inv-loop μ-loop
-is-digit-requires c κs = ?
+is-digit-requires c κs = search needs
 
--- src/words.rt:31:13
+abbrev entry : tie.At-loop Inv-loop μ-loop → tie.Start Inv-loop μ-loop
+entry c = c .before .before .before
+
 returns-2 : tie.Need-returns-2 Inv-loop μ-loop
-returns-2 c = ?
+returns-2 c =
+    let digit = c .before in
+    let loop = digit .before .before .before in
+    no-digit (now (entry loop .args .word)) (loop .loop .value) (loop .loop .i) (loop .loop .inv .1) (omega arith)
+    (sym (digit .is-digit .ensures) ∙ not-true _ (c .if2 .taken))
 
--- src/words.rt:33:17
+abbrev looping : tie.Else2 Inv-loop μ-loop → tie.At-loop Inv-loop μ-loop
+looping c = c .before .before .before .before
+
+-- the byte is a digit
+digit : (c : tie.Else2 Inv-loop μ-loop) → let loop = looping c in isDigit (getD (now (entry loop .args .word)) (loop .loop .i) 0) ≡ true
+digit c = sym (c .before .is-digit .ensures) ∙ not-false _ (c .if2 .left)
+
+range :
+    (c : tie.Else2 Inv-loop μ-loop) →
+    let loop = looping c in
+    let byte = getD (now (entry loop .args .word)) (loop .loop .i) 0 in
+    (48 ≤ byte) × (byte ≤ 57)
+range c = digit-range _ (digit c)
+
 mul-value : tie.Need-mul-value Inv-loop μ-loop
-mul-value c = ?
+mul-value c = omega (arith, looping c .loop .inv .1 .small)
 
--- src/words.rt:33:31
 shared-slice-read-value : tie.Need-shared-slice-read-value Inv-loop μ-loop
-shared-slice-read-value c = ?
+shared-slice-read-value c = omega arith
 
--- src/words.rt:33:31
 sub-value : tie.Need-sub-value Inv-loop μ-loop
-sub-value c = ?
+sub-value c = omega (arith, range (c .before))
 
--- src/words.rt:33:30
 cast-value : tie.Need-cast-value Inv-loop μ-loop
-cast-value c = ?
+cast-value c = omega (arith, range (c .before))
 
--- src/words.rt:33:17
 add-value : tie.Need-add-value Inv-loop μ-loop
-add-value c = ?
+add-value c = omega (arith, range (c .before), looping (c .before) .loop .inv .1 .small)
 
--- src/words.rt:35:13
 returns-3 : tie.Need-returns-3 Inv-loop μ-loop
-returns-3 c = ?
+returns-3 c =
+    let here = c .before .before in
+    let loop = looping here in
+    too-large (now (entry loop .args .word)) (loop .loop .value) (loop .loop .i) (loop .loop .inv .1) (omega arith) (digit here) _ refl (c .if3 .taken)
 
--- src/words.rt:37:9
 add-i : tie.Need-add-i Inv-loop μ-loop
-add-i c = ?
+add-i c = omega arith
 
--- src/words.rt:29:5
 loop-less : tie.Need-loop-less Inv-loop μ-loop
-loop-less c = ?
+loop-less c = omega arith
 
--- src/words.rt:29:5
 loop-again : tie.Need-loop-again Inv-loop μ-loop
-loop-again c = ?
+loop-again c =
+    let here = c .before .before in
+    let loop = looping here in (
+      omega arith,
+      passed-next (now (entry loop .args .word)) (loop .loop .value) (loop .loop .i) (loop .loop .inv .1) (omega arith) (digit here) _ refl (c .if3 .left),
+    )
 
--- src/words.rt:39:18
 cast-t14 : tie.Need-cast-t14 Inv-loop μ-loop
-cast-t14 c = ?
+cast-t14 c = omega (arith, c .before .loop .inv .1 .small)
 
--- src/words.rt:20:1
 returns-4 : tie.Need-returns-4 Inv-loop μ-loop
-returns-4 c = ?
+returns-4 c =
+    let loop = c .before in
+    passed-all (now (entry loop .args .word)) (loop .loop .value) (loop .loop .i) (loop .loop .inv .1) (loop .before .if1 .left) (omega arith)
 
 pub number-spec : {M : Type 1} → statement M
 number-spec =
