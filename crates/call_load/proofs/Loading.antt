@@ -20,7 +20,7 @@ use Rattle.file_format.specs.declared.Role.the-variants.{Board}
 use Rattle.file_format.specs.Layout.{lengthOf}
 use Rattle.file_format.specs.Links.{linksBelow, rising}
 use Rattle.file_format.specs.Reading.{filled}
-use Rattle.file_format.specs.Refusals.{Verdict, accept, refuse, first, linkConditions, asksConnected, shortTable}
+use Rattle.file_format.specs.Refusals.{Verdict, accept, refuse, first, linkConditions, asksConnected, shortTable, numberOutside}
 use Rattle.file_format.specs.Reply.{reply}
 use Rattle.file_format.specs.Role.{inRange}
 use Rattle.file_write.specs.declared.WriteAnswer.the-variants as write
@@ -29,7 +29,7 @@ use Rattle.file_write.proofs.FileFields.{length-written}
 use Rattle.file_write.proofs.Writing.{verdict-links, writing-filled}
 use Rattle.load.specs.Draws.{stepped}
 use Rattle.load.specs.Load as load
-use Rattle.load.specs.Load.{InRange, kindsDrawn, pairsDrawn, isPair, load, numberOutside}
+use Rattle.load.specs.Load.{InRange, kindsDrawn, pairsDrawn, isPair, load}
 use Rattle.load.proofs.Draws.{length-draws, draws-lt}
 use Rattle.load.proofs.Load.{load-nodes, load-parallel, load-links, load-below, load-rises}
 use Rattle.load_draw.specs.Marks.{AllBelow}

@@ -15,7 +15,7 @@ use Rattle.file_format.specs.declared.Role.the-variants.{Board}
 use Rattle.file_format.specs.Circuit.{circuitOf}
 use Rattle.file_format.specs.Layout.{nodesOf, lengthOf, startsOf, endsOf}
 use Rattle.file_format.specs.Reading.{reading, filled}
-use Rattle.file_format.specs.Refusals.{Verdict, accept, refuse, first, fileConditions, shortTable}
+use Rattle.file_format.specs.Refusals.{Verdict, accept, refuse, first, fileConditions, shortTable, numberOutside}
 use Rattle.file_format.specs.Reply.{Reply, readReply, reply}
 use Rattle.file_format.proofs.Refusals.{first-holds}
 use Rattle.file_write.specs.declared.WriteAnswer.the-variants as write
@@ -23,7 +23,7 @@ use Rattle.file_write.specs.Writing.{WriteOutcome}
 use Rattle.file_write.proofs.FileFields.{nodes-written, kinds-written, starts-written, ends-written}
 use Rattle.file_write.proofs.RoundTrip.{same-verdict, written-file, written-reads}
 use Rattle.file_write.proofs.Writing.{sound}
-use Rattle.load.specs.Load.{inRange, InRange, numberOutside, load, Drawn}
+use Rattle.load.specs.Load.{inRange, InRange, load, Drawn}
 use Rattle.load.proofs.Load.{in-range, range-in, load-nodes, load-parallel, load-link}
 use Rattle.call_load.specs.declared.LoadAnswer.the-variants.{Made}
 use Rattle.call_load.specs.Call.{loadBytes, loadConditions, loadReply, LoadOutcome, loading}

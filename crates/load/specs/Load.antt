@@ -1,6 +1,6 @@
 -- The test load (document 02, Ask 3): "The load is fixed by four 32-bit numbers: seed, N, M and K, with N from 1 to 512, M at most 4,096 and K
 -- from 1 to 65,536."
-use mathlib.Core.Bool.{Bool, _&&_, not}
+use mathlib.Core.Bool.{Bool, _&&_}
 use mathlib.Core.List.{List}
 use mathlib.Core.Path.{_≡_}
 use Prim.Native.Nat.{ℕ, _+_, _*_, _≤_, _<_}
@@ -8,8 +8,6 @@ use lib.Dec.{eqb, leb}
 use lib.ListN.{getD}
 use Rattle.base_lists.specs.List.{anyBelow}
 use Rattle.graph.specs.Circuit.{Circuit}
-use Rattle.file_format.specs.declared.File.the-variants.{Neither}
-use Rattle.file_format.specs.Refusals.{Condition}
 use Rattle.graph_pairs.specs.Pairs.{pairStarts, pairEnds}
 use Rattle.load.specs.Draws.{draw, stepped, draws}
 
@@ -23,10 +21,6 @@ pub record InRange (n m k : ℕ) : Type 0 where
   pub links : m ≤ 4096
   pub someKinds : 1 ≤ k
   pub kinds : k ≤ 65536
-
--- 10 "one of the four numbers out of its range"
-unfoldable pub numberOutside : Bool → Condition
-numberOutside fits = record { number = 10; file = Neither; holds = not fits }
 
 -- "Draw N kinds below K, .."
 unfoldable pub kindsDrawn : ℕ → ℕ → ℕ → List ℕ
