@@ -1,17 +1,17 @@
 -- The load's circuit as the passes leave it, its file, and what the call comes to by cases. Assumes nothing.
-use mathlib.Core.Bool.{Bool, true, false, _&&_}
-use mathlib.Core.List.{List, [], _∷_, _++_}
-use mathlib.Core.Path.{_≡_, refl, sym, ap, ap₂, _∙_}
+use mathlib.Core.Bool.{true, false, _&&_}
+use mathlib.Core.List.{List, _++_}
+use mathlib.Core.Path.{_≡_, sym, ap, ap₂, _∙_}
 use Prim.Native.Nat.{ℕ, _+_, _*_, _≤_, _<_}
 use native.Mathlib.Nat.{le-trans}
 use native.Mathlib.Omega.{arith}
 use borrow.Author.Tests.{lt-ltb, le-ltb}
 use lib.Dec.{T, eqb, leb, le→leb}
-use lib.ListN.{length, getD, take, drop, List·getD-append}
+use lib.ListN.{length, getD, take, List·getD-append}
 use lib.Seq.{take-at}
 use Rattle.base_lists.proofs.Tests.{T-true, both}
 use Rattle.base_lists.proofs.Below.{anyBelow-same}
-use Rattle.graph.specs.Circuit.{Circuit, circuit}
+use Rattle.graph.specs.Circuit.{Circuit}
 use Rattle.graph_pairs.specs.Pairs.{pairStarts, pairEnds}
 use Rattle.graph_pairs.proofs.Pairs.{pairs-same}
 use Rattle.file_format.specs.declared.File.the-variants.{Neither}
@@ -20,7 +20,7 @@ use Rattle.file_format.specs.declared.Role.the-variants.{Board}
 use Rattle.file_format.specs.Layout.{lengthOf}
 use Rattle.file_format.specs.Links.{linksBelow, rising}
 use Rattle.file_format.specs.Reading.{filled}
-use Rattle.file_format.specs.Refusals.{Verdict, accept, refuse, first, linkConditions, asksConnected, shortTable, numberOutside}
+use Rattle.file_format.specs.Refusals.{accept, first, linkConditions, asksConnected, shortTable, numberOutside}
 use Rattle.file_format.specs.Reply.{reply}
 use Rattle.file_format.specs.Role.{inRange}
 use Rattle.file_write.specs.declared.WriteAnswer.the-variants as write
@@ -34,8 +34,8 @@ use Rattle.load.proofs.Draws.{length-draws, draws-lt}
 use Rattle.load.proofs.Load.{load-nodes, load-parallel, load-links, load-below, load-rises}
 use Rattle.load_draw.specs.Marks.{AllBelow}
 use Rattle.call_load.specs.declared.LoadAnswer.{LoadAnswer}
-use Rattle.call_load.specs.declared.LoadAnswer.the-variants.{Made, Refused}
-use Rattle.call_load.specs.Call.{loadBytes, loadConditions, loadReply, LoadOutcome, loading, MadeFrom}
+use Rattle.call_load.specs.declared.LoadAnswer.the-variants.{Refused}
+use Rattle.call_load.specs.Call.{loadBytes, loadConditions, loadReply, loading, MadeFrom}
 
 -- ---- the load is a board
 

@@ -10,10 +10,9 @@ use lib.Dec.{T, eqb, ltb, leb, lt→ltb, eqb→eq, leb→le, le→leb}
 use lib.ListN.{length, getD}
 use Rattle.base_lists.specs.List.{all}
 use Rattle.base_lists.proofs.Tests.{both, both-left, both-right, true-T, at-all, anyBelow-at, at-anyBelow}
-use Rattle.graph.specs.Circuit.{Circuit, HasLink}
+use Rattle.graph.specs.Circuit.{HasLink}
 use Rattle.graph.specs.Rising.{LinksRise}
-use Rattle.graph_pairs.specs.Pairs.{pairStarts, pairEnds}
-use Rattle.graph_pairs.proofs.Pairs.{pairCount, length-pair-starts, length-pair-ends, pairs-le, pair-link, pairs-rise}
+use Rattle.graph_pairs.proofs.Pairs.{length-pair-starts, length-pair-ends, pairs-le, pair-link, pairs-rise}
 use Rattle.file_format.specs.Links.{linksBelow, rising}
 use Rattle.file_format.proofs.Rising.{rise-test}
 use Rattle.load.specs.Draws.{draw, stepped}

@@ -1,2 +1,3 @@
-pub mod Marks
 pub mod Draws
+pub mod Marks
+pub mod Scanning

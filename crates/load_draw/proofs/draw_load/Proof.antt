@@ -1,7 +1,7 @@
 -- `load_draw::draw_load` meets its contract: the kinds are drawn from the seed on, and the pairs from where they left the state. Assumes nothing.
 use denote.Ref.{now}
-use mathlib.Core.List.{List, _++_}
-use mathlib.Core.Path.{_≡_, refl, sym, ap, ap₂, _∙_}
+use mathlib.Core.List.{_++_}
+use mathlib.Core.Path.{ap, _∙_}
 use Prim.Native.Nat.{ℕ, _*_}
 use lib.ListN.{drop}
 use Rattle.load.specs.Draws.{draws}

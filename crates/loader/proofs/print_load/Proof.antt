@@ -1,5 +1,4 @@
 -- `loader::print_load` meets its contract: the front of the buffer that is handed on is the load's file. Assumes nothing.
-use denote.Ref.{now}
 use mathlib.Core.Path.{_≡_, sym, ap, _∙_}
 use lib.ListN.{length, take}
 use Rattle.file_format.proofs.Reading.{front-room}

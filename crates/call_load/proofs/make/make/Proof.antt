@@ -1,8 +1,7 @@
 -- `call_load::make::make` meets its contract: the load is drawn, its links are collected, and writing its circuit is not refused. Assumes nothing.
 use denote.Ref.{now}
-use mathlib.Core.List.{List}
-use mathlib.Core.Path.{_≡_, refl, sym, ap, _∙_}
-use Prim.Native.Nat.{ℕ, _*_}
+use mathlib.Core.Path.{_≡_, sym, ap, _∙_}
+use Prim.Native.Nat.{_*_}
 use native.Mathlib.Omega.{arith}
 use lib.ListN.{length, take}
 use Rattle.graph.specs.Circuit.{Circuit}
