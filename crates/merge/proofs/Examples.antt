@@ -7,18 +7,19 @@ use Rattle.base_bits.specs.Bits.{bit, numberOf, sizeOf}
 use Rattle.graph.specs.Neighbours.{select}
 use Rattle.graph.specs.Search.{inside, beside, ball, connected}
 use Rattle.table.specs.Host.{everything}
+use Rattle.graph_pairs.specs.Pairs.{pairTest, pairStarts, pairEnds}
 use Rattle.table.specs.Row.{inTable, agrees, startTable, answered, supported, strike, row, pairs, started, lastTable}
 use Rattle.file_format.specs.Links.{linksBelow, earlier, rising}
 use Rattle.place.specs.Match.{radiusOf}
 use Rattle.place.specs.Examples.{circuitY, oneLink}
 use Rattle.place.proofs.Examples.{radius-Y, radius-oneLink}
-use Rattle.merge.specs.Merged.{equivalent, leader, isLeader, classIn, selfTable, classOf, classCount, classes, joins, linked, linkedPair, merged}
+use Rattle.merge.specs.Merged.{equivalent, leader, isLeader, classIn, selfTable, classOf, classCount, classes, joins, linked, merged}
 use Rattle.merge.specs.Examples.{circuitE8}
 use Rattle.merge.proofs.Content.{PatternContent}
 
 -- all that is opened where a merged pattern is computed
 opened : Unit {0}
-unfolding all any anyBelow tabulate sum countBelow leastBelow collect bit numberOf sizeOf select inside everything inTable agrees startTable answered supported strike row pairs started lastTable equivalent leader isLeader classIn selfTable classOf classCount classes joins linked linkedPair merged
+unfolding all any anyBelow tabulate sum countBelow leastBelow collect bit numberOf sizeOf select inside everything inTable agrees startTable answered supported strike row pairs started lastTable equivalent leader isLeader classIn selfTable classOf classCount classes joins linked pairTest pairStarts pairEnds merged
 opened = tt
 
 -- ---- "E6 Y: 0:10, 1:20, 2:20, links 0-1, 0-2: classes 0, 1, 1; the merged radius is 1, Y's is 2."

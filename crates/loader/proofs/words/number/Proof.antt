@@ -74,7 +74,7 @@ returns-3 : tie.Need-returns-3 Inv-loop μ-loop
 returns-3 c =
     let here = c .before .before in
     let loop = looping here in
-    too-large (now (entry loop .args .word)) (loop .loop .value) (loop .loop .i) (loop .loop .inv .1) (omega arith) (digit here) _ refl (c .if3 .taken)
+    too-large (now (entry loop .args .word)) (loop .loop .value) (loop .loop .i) (loop .loop .inv .1) (omega arith) (digit here) _ refl (omega (arith, c .if3 .taken))
 
 add-i : tie.Need-add-i Inv-loop μ-loop
 add-i c = omega arith
@@ -87,7 +87,7 @@ loop-again c =
     let here = c .before .before in
     let loop = looping here in (
       omega arith,
-      passed-next (now (entry loop .args .word)) (loop .loop .value) (loop .loop .i) (loop .loop .inv .1) (omega arith) (digit here) _ refl (c .if3 .left),
+      passed-next (now (entry loop .args .word)) (loop .loop .value) (loop .loop .i) (loop .loop .inv .1) (omega arith) (digit here) _ refl (omega (arith, c .if3 .left)),
     )
 
 cast-t14 : tie.Need-cast-t14 Inv-loop μ-loop
