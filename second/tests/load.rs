@@ -39,7 +39,13 @@ fn ranges() {
     assert_eq!(of(512, 4096, 65536, most), (0, File::Neither));
     assert_eq!(of(1, 0, 1, 6), (0, File::Neither));
     assert_eq!(of(512, 4096, 65536, most - 1), (8, File::Neither));
-    for (n, m, k) in [(0, 1, 1), (513, 1, 1), (1, 4097, 1), (1, 1, 0), (1, 1, 65537)] {
+    for (n, m, k) in [
+        (0, 1, 1),
+        (513, 1, 1),
+        (1, 4097, 1),
+        (1, 1, 0),
+        (1, 1, 65537),
+    ] {
         assert_eq!(of(n, m, k, 0), (10, File::Neither));
         assert_eq!(of(n, m, k, most), (10, File::Neither));
     }

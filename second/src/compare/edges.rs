@@ -334,7 +334,17 @@ fn loads(finder: &dyn Finder, tally: &mut Tally) -> Result<(), Difference> {
             }
         }
     }
-    for seed in [0, 1, 2, 65535, 65536, LAST / 2, LAST / 2 + 1, LAST - 1, LAST] {
+    for seed in [
+        0,
+        1,
+        2,
+        65535,
+        65536,
+        LAST / 2,
+        LAST / 2 + 1,
+        LAST - 1,
+        LAST,
+    ] {
         all.push(numbers(seed, 40, 60, 5));
     }
     for numbers in all {
