@@ -42,6 +42,18 @@ problemOf pattern host taken =
       moves = neighbours host;
     }
 
+-- the same by equal kinds alone, as it was when kind 0 was a kind like any other
+unfoldable pub byEqualKinds : Circuit → Circuit → List ℕ → Problem Direction
+byEqualKinds pattern host taken =
+    record {
+      parts = length (pattern .kinds);
+      nodes = length (host .kinds);
+      agree = λ u v. inside taken v && eqb (getD (pattern .kinds) u 0) (getD (host .kinds) v 0);
+      ways = forwards ∷ backwards ∷ [];
+      steps = neighbours pattern;
+      moves = neighbours host;
+    }
+
 -- ---- its row
 
 -- "R0 is the set of pairs with equal kinds."
