@@ -54,12 +54,13 @@ enum Fault {
     CentreCut,
     RadiusCut,
     KindCut,
+    AnyPartFindsNone,
     SelfLinksIgnored,
     WritingCut,
     WritingUneven,
 }
 
-const FAULTS: [Fault; 38] = [
+const FAULTS: [Fault; 39] = [
     Fault::OneRound,
     Fault::EveryLink,
     Fault::MergedRadius,
@@ -95,6 +96,7 @@ const FAULTS: [Fault; 38] = [
     Fault::CentreCut,
     Fault::RadiusCut,
     Fault::KindCut,
+    Fault::AnyPartFindsNone,
     Fault::SelfLinksIgnored,
     Fault::WritingCut,
     Fault::WritingUneven,
@@ -325,6 +327,10 @@ impl Faulty {
         match self.0 {
             Fault::KindCut => changed(Role::Pattern, pattern, |circuit| {
                 circuit.kinds.iter_mut().for_each(|kind| *kind %= 256)
+            }),
+            Fault::AnyPartFindsNone => changed(Role::Pattern, pattern, |circuit| {
+                let zeros = circuit.kinds.iter_mut().filter(|kind| **kind == 0);
+                zeros.for_each(|kind| *kind = 65535)
             }),
             Fault::SelfLinksIgnored => changed(Role::Pattern, pattern, |circuit| {
                 circuit.links.retain(|link| link.0 != link.1)
