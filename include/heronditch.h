@@ -14,6 +14,9 @@
  *   - ends: its work is bounded for every input.
  *   - needs at most HERONDITCH_STACK bytes of stack.
  *
+ * Kinds: a part of kind 0 matches a node of every kind; a node of kind 0, which is not identified, is matched by such a part only; any other
+ * part matches the nodes of its own kind.
+ *
  * Numbers of refusal. Where several hold, the pattern's 1 to 6 come first, then the board's 1 to 5, then 7, 10, 8 and 9:
  *   1  a file of under 4 bytes                         6  the pattern is not connected
  *   2  the number of nodes or links out of range       7  the centre is not a node of the board
@@ -59,7 +62,7 @@ typedef struct {
     size_t second;
 } heronditch_reply;
 
-/* a reply with the counts of matching: pairs (part, node) of equal kind, those kept, those struck, and the rounds that struck some */
+/* a reply with the counts of matching: pairs (part, node) whose kinds agree, those kept, those struck, and the rounds that struck some */
 typedef struct {
     uint32_t number;
     uint32_t file;
