@@ -14,12 +14,12 @@
  *   - ends: its work is bounded for every input.
  *   - needs at most HERONDITCH_STACK bytes of stack.
  *
- * Numbers of refusal. Where several hold, the pattern's 1 to 6 come first, then the board's 1 to 5, then 7, 8 and 9:
+ * Numbers of refusal. Where several hold, the pattern's 1 to 6 come first, then the board's 1 to 5, then 7, 10, 8 and 9:
  *   1  a file of under 4 bytes                         6  the pattern is not connected
  *   2  the number of nodes or links out of range       7  the centre is not a node of the board
  *   3  a length that is not 4 + 2 N + 4 M;             8  a lent table is too short
  *      on writing, not as many ends as starts          9  no place around the centre
- *   4  a link to or from a node that is not there
+ *   4  a link to or from a node that is not there     10  a number of a test load out of its range
  *   5  links that do not rise strictly, by start and then by end
  */
 #ifndef HERONDITCH_H
@@ -126,6 +126,11 @@ heronditch_counts heronditch_place_within(const uint8_t *pattern, size_t pattern
  * as many bytes as the pattern's file has. Replies with the number of classes and the merged file's length. */
 heronditch_reply heronditch_merge(const uint8_t *pattern, size_t pattern_len, uint8_t *classes, size_t classes_len, uint8_t *out,
                                   size_t out_len);
+
+/* Makes a test load: the board of n nodes (1 to 512) with kinds below k (1 to 65,536), and of the links that m pairs drawn (at most 4,096)
+ * give, a pair drawn twice being one link. The same four numbers make the same file everywhere: docs/LOADS.md has some with their SHA-256.
+ * Lend 4 + 2 n + 4 m bytes, whatever the file comes to. Replies with the file's length. */
+heronditch_reply heronditch_load(uint32_t seed, uint32_t n, uint32_t m, uint32_t k, uint8_t *out, size_t out_len);
 
 /* Puts a piece of the report of a pattern on a board: the lines of the centres from a node on, as long as there is room for a line of
  * HERONDITCH_LINE_BYTES, and the last line where the centres are done. The first piece is from 0 with 0 found, each further one from next

@@ -1,4 +1,4 @@
-"""Document 01's definitions in plain Python, written from the paper and from nothing else: sets, lists and simple loops.
+"""Document 01's definitions, and document 02's test load, in plain Python, written from the paper and from nothing else: sets, lists and simple loops.
 
 The vectors that the proved programs are run on are made from it (cases.py). It is no part of the product and shares no code with it.
 """
@@ -200,3 +200,18 @@ def match_table(pattern_data, board_data, table):
     for u, v in pairs:
         table[v] += 2**u
     return ("matched", *counts)
+
+
+def load(seed, n, m, k):
+    """The file of a test load: n kinds below k are drawn, then m times a start and an end below n."""
+    state = seed
+
+    def draw(below):
+        nonlocal state
+        state = (1664525 * state + 1013904223) % 2**32
+        return state // 2**16 % below
+
+    kinds = [draw(k) for _ in range(n)]
+    pairs = [(draw(n), draw(n)) for _ in range(m)]
+    drawn = sorted(set(pairs))
+    return encode(Circuit(kinds, [v for v, _ in drawn], [w for _, w in drawn]))

@@ -4,6 +4,7 @@
 
 use crate::circuit::{both, gather, parse, Circuit, File, Refusal, Role};
 use crate::graph::{ball as ball_of, radius as radius_of, Subgraph};
+use crate::load::{load as load_of, Numbers};
 use crate::merged::merged;
 use crate::place::{place as place_of, Place};
 use crate::simulation::{largest, Counts};
@@ -244,5 +245,17 @@ pub fn merge(pattern: &[u8], classes: &mut [u8], out: &mut [u8]) -> Reply {
         );
         fill(out, bytes);
         Ok(Reply::accepted(count, length))
+    }))
+}
+
+/// Makes the test load of four numbers; replies with its file's length. The
+/// bytes lent must do for all pairs drawn, as if none were drawn twice.
+pub fn load(numbers: Numbers, out: &mut [u8]) -> Reply {
+    either(numbers.in_range().and_then(|numbers| {
+        long_enough(&[(out.len(), numbers.needed())])?;
+        let bytes = load_of(numbers).bytes();
+        let length = bytes.len();
+        fill(out, bytes);
+        Ok(Reply::accepted(length, 0))
     }))
 }

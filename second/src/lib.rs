@@ -10,6 +10,7 @@ pub mod calls;
 pub mod circuit;
 pub mod compare;
 pub mod graph;
+pub mod load;
 pub mod merged;
 pub mod place;
 pub mod random;

@@ -9,6 +9,7 @@ use second::compare::finder::{Finder, Second, Words};
 use second::compare::tally::Tally;
 use second::compare::{case, edges};
 use second::graph::{ball, distances, radius, Subgraph};
+use second::load::Numbers;
 use second::merged::merged;
 use second::simulation::{largest, match_graph, Pairs};
 
@@ -57,9 +58,22 @@ enum Fault {
     SelfLinksIgnored,
     WritingCut,
     WritingUneven,
+    // Of the test load.
+    LoadLowBits,
+    LoadDrawsFirst,
+    LoadEndFirst,
+    LoadLinksFirst,
+    LoadRepeated,
+    LoadUnsorted,
+    LoadOwnLength,
+    LoadEightFirst,
+    LoadKindsUnder,
+    LoadNoKinds,
+    LoadNoNodes,
+    LoadNamesBoard,
 }
 
-const FAULTS: [Fault; 38] = [
+const FAULTS: [Fault; 50] = [
     Fault::OneRound,
     Fault::EveryLink,
     Fault::MergedRadius,
@@ -98,6 +112,18 @@ const FAULTS: [Fault; 38] = [
     Fault::SelfLinksIgnored,
     Fault::WritingCut,
     Fault::WritingUneven,
+    Fault::LoadLowBits,
+    Fault::LoadDrawsFirst,
+    Fault::LoadEndFirst,
+    Fault::LoadLinksFirst,
+    Fault::LoadRepeated,
+    Fault::LoadUnsorted,
+    Fault::LoadOwnLength,
+    Fault::LoadEightFirst,
+    Fault::LoadKindsUnder,
+    Fault::LoadNoKinds,
+    Fault::LoadNoNodes,
+    Fault::LoadNamesBoard,
 ];
 
 /// The second finder with a planted fault.
@@ -524,6 +550,75 @@ impl Finder for Faulty {
             _ => words,
         }
     }
+
+    fn load(&self, numbers: Numbers, out: &mut [u8]) -> Words {
+        self.load_call(numbers, out)
+    }
+}
+
+/// A load's bytes as a faulty generator makes them.
+fn faulty_load(fault: Fault, numbers: Numbers) -> Vec<u8> {
+    let mut state = numbers.seed;
+    let mut draw = |bound: u32| {
+        let old = state;
+        state = state.wrapping_mul(1_664_525).wrapping_add(1_013_904_223);
+        match fault {
+            Fault::LoadLowBits => (state & 0xFFFF) % bound,
+            Fault::LoadDrawsFirst => (old >> 16) % bound,
+            _ => (state >> 16) % bound,
+        }
+    };
+    let (mut kinds, mut links) = (Vec::new(), Vec::new());
+    let (nodes, pairs, bound) = (numbers.nodes, numbers.pairs, numbers.kinds.max(1));
+    let links_first = fault == Fault::LoadLinksFirst;
+    for round in [links_first, !links_first] {
+        if round {
+            for _ in 0..pairs {
+                let (one, two) = (draw(nodes.max(1)) as usize, draw(nodes.max(1)) as usize);
+                links.push(if fault == Fault::LoadEndFirst {
+                    (two, one)
+                } else {
+                    (one, two)
+                });
+            }
+        } else {
+            kinds = (0..nodes).map(|_| draw(bound) as u16).collect();
+        }
+    }
+    if fault != Fault::LoadUnsorted {
+        links.sort_unstable();
+    }
+    if fault != Fault::LoadRepeated {
+        let mut seen = std::collections::BTreeSet::new();
+        links.retain(|&link| seen.insert(link));
+    }
+    Circuit { kinds, links }.bytes()
+}
+
+impl Faulty {
+    /// The load call with a fault of its own.
+    fn load_call(&self, numbers: Numbers, out: &mut [u8]) -> Words {
+        let right = Second.load(numbers, &mut out.to_vec());
+        let short = out.len() < numbers.needed();
+        let made = match self.0 {
+            Fault::LoadEightFirst if right[0] == 10 && short => return [8, 0, 0, 0, 0, 0],
+            Fault::LoadNamesBoard if right[0] == 10 => return [10, 2, 0, 0, 0, 0],
+            Fault::LoadKindsUnder if numbers.kinds == 65536 => return [10, 0, 0, 0, 0, 0],
+            Fault::LoadNoKinds if numbers.kinds == 0 && !short => right[0] == 10,
+            Fault::LoadNoNodes if numbers.nodes == 0 && numbers.pairs == 0 && !short => true,
+            Fault::LoadOwnLength => right[0] == 8,
+            _ => right[0] == 0,
+        };
+        if !made || numbers.nodes > 512 || numbers.pairs > 4096 || numbers.kinds > 65536 {
+            return right;
+        }
+        let bytes = faulty_load(self.0, numbers);
+        if out.len() < bytes.len() {
+            return right;
+        }
+        out[..bytes.len()].copy_from_slice(&bytes);
+        [0, 0, bytes.len() as u32, 0, 0, 0]
+    }
 }
 
 /// The number of the first of so many random cases that tells the finders apart.
@@ -540,7 +635,7 @@ fn no_fault_no_difference() {
         case::check(&Faulty(Fault::None), 1, number, &mut tally).expect("no difference");
     }
     println!("{tally}");
-    assert!((0..10).all(|number| tally.given(number) > 1000));
+    assert!((0..11).all(|number| tally.given(number) > 1000));
     assert!(tally.of("place", 0) > 1000);
 }
 

@@ -208,11 +208,45 @@ static void reports(void)
     check(size == whole && !memcmp(text, lines, whole) && from == 7 && found == 3, "the pieces are the report");
 }
 
+/* the load of seed 7 with 3 nodes, 4 pairs and kinds below 10, and that of one node whose one link is drawn five times */
+static const uint8_t load_of_7[] = {3, 0, 4, 0, 8, 0, 6, 0, 0, 0, 0, 0, 0, 0, 1, 0, 2, 0, 1, 0, 2, 0, 0, 0, 2, 0};
+static const uint8_t load_of_one[] = {1, 0, 1, 0, 0, 0, 0, 0, 0, 0};
+static uint8_t made[HERONDITCH_BOARD_BYTES + 1];
+
+static int is_load(uint32_t seed, uint32_t n, uint32_t m, uint32_t k, size_t lent, uint32_t number, size_t size)
+{
+    memset(made, 0xA5, sizeof made);
+    return is_reply(heronditch_load(seed, n, m, k, made, lent), number, HERONDITCH_NEITHER, size, 0) && untouched(made, size, sizeof made);
+}
+
+static void loads(void)
+{
+    size_t size = sizeof load_of_7, most = HERONDITCH_BOARD_BYTES;
+    check(is_load(7, 3, 4, 10, size, 0, size) && !memcmp(made, load_of_7, size), "a load into exactly the needed length");
+    check(is_load(7, 3, 4, 10, size + 1, 0, size) && !memcmp(made, load_of_7, size), "a load with one byte more");
+    check(is_load(7, 3, 4, 10, size - 1, 8, 0), "a load with one byte less");
+    check(is_load(3, 1, 5, 1, 26, 0, 10) && !memcmp(made, load_of_one, 10), "a pair drawn five times");
+    check(is_load(3, 1, 5, 1, 25, 8, 0), "a pair drawn five times, one byte less than for five links");
+    check(is_load(0, 1, 0, 1, 6, 0, 6) && is_load(UINT32_MAX, 1, 0, 1, 6, 0, 6), "the first and the last seed");
+    check(is_load(1, 512, 0, 65536, most, 0, 4 + 2 * 512), "the most nodes and kinds");
+    check(is_load(1, 0, 0, 1, most, 10, 0) && is_load(1, 513, 0, 1, most, 10, 0), "no nodes, and one too many");
+    check(is_load(1, 1, 4097, 1, most, 10, 0), "one pair too many");
+    check(is_load(1, 1, 0, 0, most, 10, 0) && is_load(1, 1, 0, 65537, most, 10, 0), "no kinds, and one too many");
+    check(is_load(1, UINT32_MAX, UINT32_MAX, UINT32_MAX, most, 10, 0), "the largest numbers");
+    check(is_reply(heronditch_load(1, 1, 0, 1, NULL, 0), 8, HERONDITCH_NEITHER, 0, 0), "a load into nothing");
+    check(is_reply(heronditch_load(1, 0, 0, 1, NULL, 0), 10, HERONDITCH_NEITHER, 0, 0), "10 is ahead of 8");
+    heronditch_reply r = heronditch_load(9, 512, 4096, 65536, made, most);
+    uint16_t kinds[HERONDITCH_NODES], starts[HERONDITCH_BOARD_LINKS], ends[HERONDITCH_BOARD_LINKS];
+    heronditch_reply back = heronditch_read_board(made, r.first, kinds, HERONDITCH_NODES, starts, HERONDITCH_BOARD_LINKS, ends, HERONDITCH_BOARD_LINKS);
+    check(r.number == 0 && back.number == 0 && back.first == 512 && 4 + 2 * 512 + 4 * back.second == r.first, "the largest load is a board");
+}
+
 int main(void)
 {
     no_arrays();
     lengths();
     reports();
+    loads();
     lookups();
     printf("edges: %d checks, %d failed\n", checks, failed);
     return failed != 0;

@@ -72,6 +72,11 @@ static void *merge(void *x)
     return x;
 }
 
+static void *load(void *x)
+{
+    refused |= heronditch_load(1, HERONDITCH_NODES, HERONDITCH_BOARD_LINKS, 65536, bytes, sizeof bytes).number;
+    return x;
+}
 static void *report(void *x)
 {
     refused |= heronditch_report(PATTERN, BOARD, 0, 0, text, sizeof text).number;
@@ -100,7 +105,7 @@ int main(void)
     static const struct {
         const char *name;
         void *(*call)(void *);
-    } calls[] = {{"read", read_board}, {"write", write_board}, {"radius", radius}, {"ball", ball}, {"match", match}, {"place", place}, {"merge", merge}, {"report", report}};
+    } calls[] = {{"read", read_board}, {"write", write_board}, {"radius", radius}, {"ball", ball}, {"match", match}, {"place", place}, {"merge", merge}, {"report", report}, {"load", load}};
     size_t most = 0;
     if (circuit(HERONDITCH_PARTS, HERONDITCH_PATTERN_LINKS, pattern) != sizeof pattern || circuit(HERONDITCH_NODES, HERONDITCH_BOARD_LINKS, board) != sizeof board)
         return 2;

@@ -1,5 +1,5 @@
--- The numbers of refusal, as document 01's table has them: each condition with its number and the file that it means, in the order in
--- which they are tried.
+-- The numbers of refusal, as document 01's table has them, and those of document 02: each condition with its number and the file that it
+-- means. A call's list has them in the order in which they are tried.
 use mathlib.Core.Bool.{Bool, true, false, _&&_, not, cond}
 use mathlib.Core.List.{List, [], _∷_, _++_, List·Memᴰ}
 use mathlib.Core.Path.{_≡_}
@@ -96,3 +96,7 @@ centreOutside n centre = record { number = 7; file = Neither; holds = not (ltb c
 -- 8 a lent output table too short: needed is what its first number says, lent the second
 unfoldable pub shortTable : ℕ → ℕ → Condition
 shortTable needed lent = record { number = 8; file = Neither; holds = ltb lent needed }
+
+-- 10 "one of the four numbers out of its range" (document 02, a test load): `fits` says whether all are in theirs. It is tried ahead of 8.
+unfoldable pub numberOutside : Bool → Condition
+numberOutside fits = record { number = 10; file = Neither; holds = not fits }

@@ -14,6 +14,7 @@ use Rattle.table.specs.Reply as table
 use Rattle.call_match.specs.Call.{TableOutcome}
 use Rattle.place.specs.Outcome.{PlaceOutcome}
 use Rattle.call_merge.specs.Call.{MergeOutcome}
+use Rattle.call_load.specs.Call.{LoadOutcome}
 use Rattle.call_report.specs.Call.{ReportOutcome}
 use Rattle.heronditch.specs.declared.reply.Reply.{Reply}
 use Rattle.heronditch.specs.declared.reply.Counted.{Counted}
@@ -108,6 +109,9 @@ pub record HostMerge : Type 0 where
 
 unfoldable pub hostMerge : MergeOutcome → HostMerge
 hostMerge o = record { reply = slots (o .reply); classes = o .classes; out = o .out }
+
+unfoldable pub hostLoad : LoadOutcome → HostOut
+hostLoad o = record { reply = slots (o .reply); out = o .out }
 
 pub record HostReport : Type 0 where
   pub reply : Piece

@@ -11,13 +11,15 @@ ghost use Rattle.file_format.specs.Circuit.{circuitOf};
 ghost use Rattle.place.specs.Match.{radiusOf};
 ghost use Rattle.call_place.specs.Call.{placeAt};
 ghost use Rattle.call_merge.specs.Call.{merging};
+ghost use Rattle.call_load.specs.Call.{loading};
 ghost use Rattle.call_report.specs.Call.{reporting};
-ghost use Rattle.heronditch.specs.Host.{slots, hostRead, hostWrite, hostBall, hostMatch, hostPlace, hostMerge, hostNeighbours, hostReport};
+ghost use Rattle.heronditch.specs.Host.{slots, hostRead, hostWrite, hostBall, hostMatch, hostPlace, hostMerge, hostLoad, hostNeighbours, hostReport};
 use crate::copied::copy_out;
 use crate::reply::Counted;
 use crate::reply::Piece;
 use crate::reply::Reply;
 use crate::reply::of_ball;
+use crate::reply::of_load;
 use crate::reply::of_match;
 use crate::reply::of_merge;
 use crate::reply::of_place;
@@ -141,6 +143,13 @@ pub extern "C" fn heronditch_merge(pattern: &[u8], classes: &mut [u8], out: &mut
     ensures { λ r. ⌜ record { reply = r; classes = now (classes .exit); out = now (out .exit) } ≡ hostMerge (merging (now (pattern .entry)) (now (classes .entry)) (now (out .entry))) ⌝ }
 {
     of_merge(call_merge::merge(pattern, classes, out))
+}
+
+#[no_mangle]
+pub extern "C" fn heronditch_load(seed: u32, n: u32, m: u32, k: u32, out: &mut [u8]) -> Reply
+    ensures { λ r. ⌜ record { reply = r; out = now (out .exit) } ≡ hostLoad (loading seed n m k (now (out .entry))) ⌝ }
+{
+    of_load(call_load::load(seed, n, m, k, out))
 }
 
 #[no_mangle]

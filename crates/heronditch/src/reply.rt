@@ -6,10 +6,12 @@ ghost use Rattle.file_write.specs.Writing.{writeReply};
 ghost use Rattle.call_match.specs.Call.{replyOf};
 ghost use Rattle.place.specs.Outcome.{placeReply};
 ghost use Rattle.call_merge.specs.Call.{mergeReply};
+ghost use Rattle.call_load.specs.Call.{loadReply};
 ghost use Rattle.call_report.specs.Call.{reportReply};
 ghost use Rattle.heronditch.specs.Host.{fileNumber, slots, counted, pieced};
 use call_distance::BallAnswer;
 use call_distance::RadiusAnswer;
+use call_load::LoadAnswer;
 use call_match::TableAnswer;
 use call_merge::MergeAnswer;
 use call_report::ReportAnswer;
@@ -181,6 +183,15 @@ pub fn of_merge(answer: MergeAnswer) -> Reply
     match answer {
         MergeAnswer::Merged(count, size) => accepted(count, size),
         MergeAnswer::Refused(x) => refused(x),
+    }
+}
+
+pub fn of_load(answer: LoadAnswer) -> Reply
+    ensures { λ r. ⌜ r ≡ slots (loadReply answer) ⌝ }
+{
+    match answer {
+        LoadAnswer::Made(size) => accepted(size, 0),
+        LoadAnswer::Refused(x) => refused(x),
     }
 }
 

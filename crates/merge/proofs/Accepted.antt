@@ -1,32 +1,30 @@
 -- Merging a pattern gives a pattern: the merged circuit meets every condition on the content of a pattern file, is no longer and has no
 -- larger radius. Assumes nothing.
 use mathlib.Core.Bool.{_&&_}
-use mathlib.Core.Logic.{_⊎_, inl, inr, ⊎-elim}
-use mathlib.Core.Path.{_≡_, refl, sym, ap, ap₂, _∙_}
-use Prim.Native.Nat.{ℕ, _+_, _*_, _-_, _/_, _%_, _≤_, _<_}
-use native.Mathlib.Nat.{le-trans, div-add-mod'}
+use mathlib.Core.Path.{_≡_, refl, sym, ap, _∙_}
+use Prim.Native.Nat.{ℕ, _-_, _≤_, _<_}
+use native.Mathlib.Nat.{le-trans}
 use native.Mathlib.Omega.{arith}
 use lib.Dec.{T, ltb, leb, lt→ltb, le→leb}
 use lib.ListN.{length, getD}
 use Rattle.base_lists.specs.List.{all}
-use Rattle.base_lists.specs.Below.{countBelow}
 use Rattle.base_lists.proofs.Tests.{both, at-all}
-use Rattle.base_lists.proofs.Ranks.{rank-onto, rank-rises, count-images, pair-order}
 use Rattle.graph.specs.Circuit.{Circuit, HasLink, circuitGraph}
 use Rattle.graph.specs.Graph.{Connected}
 use Rattle.graph.specs.Rising.{LinksRise}
 use Rattle.graph.proofs.Ball.{Within}
 use Rattle.graph.proofs.Distance.{connected-iff}
+use Rattle.graph_pairs.proofs.Pairs.{pairs-le, pairs-rise}
 use Rattle.simulation.proofs.Same.{same-symm, connected-same, radius-same}
 use Rattle.simulation.proofs.Quotient.{quotient-connected, quotient-radius}
 use Rattle.file_format.specs.Layout.{lengthOf}
 use Rattle.file_format.specs.Links.{linksBelow}
 use Rattle.file_format.proofs.Rising.{rise-test}
 use Rattle.place.specs.Match.{radiusOf}
-use Rattle.merge.specs.Merged.{classOf, classCount, linkedPair, merged}
+use Rattle.merge.specs.Merged.{classOf, classCount, linked, merged}
 use Rattle.merge.proofs.Content.{PatternContent, most-parts, most-links, content-connected, content-radius}
 use Rattle.merge.proofs.Classes.{classCount-le, classCount-pos}
-use Rattle.merge.proofs.Merging.{length-merged-kinds, length-merged-starts, length-merged-ends, linked-iff, merged-at, merged-link, merged-graph}
+use Rattle.merge.proofs.Merging.{length-merged-kinds, length-merged-starts, length-merged-ends, linked-iff, merged-link, merged-graph}
 
 module _ {p : Circuit} (c : PatternContent p) where
   -- ---- sizes
@@ -36,16 +34,13 @@ module _ {p : Circuit} (c : PatternContent p) where
 
   -- each link of the merged pattern comes from a link of the pattern, so that there are no more
   pub merged-links-le : length (merged p .starts) ≤ length (p .starts)
-  unfolding linkedPair HasLink
+  unfolding HasLink
   merged-links-le =
       rw length-merged-starts
-      (count-images (k * k) (length (p .starts)) (linkedPair p) (λ j. classOf p (getD (p .starts) j 0) * k + classOf p (getD (p .ends) j 0))
-      (λ i h t.
-      let (u, u′, (j, l), e, e′) = linked-iff c (i / k) (i % k) .0 t in
-      (j, l .inStarts, ap₂ (λ (x y : ℕ). x * k + y) (ap (classOf p) (l .start) ∙ e) (ap (classOf p) (l .end) ∙ e′) ∙ div-add-mod' i k)))
-    where
-      k : ℕ
-      k = classCount p
+      (pairs-le (classCount p) (linked p) (length (p .starts)) (λ j. classOf p (getD (p .starts) j 0)) (λ j. classOf p (getD (p .ends) j 0))
+      (λ a b t.
+      let (u, u′, (j, l), e, e′) = linked-iff c a b .0 t in
+      (j, l .inStarts, ap (classOf p) (l .start) ∙ e, ap (classOf p) (l .end) ∙ e′)))
 
   -- the merged file is no longer than the pattern's
   pub merged-length-le : lengthOf (length (merged p .kinds)) (length (merged p .starts)) ≤ lengthOf (length (p .kinds)) (length (p .starts))
@@ -78,24 +73,8 @@ module _ {p : Circuit} (c : PatternContent p) where
 
   -- "Links rise strictly by start, then by end"
   pub merged-rise : LinksRise (merged p .starts) (merged p .ends)
-  unfolding LinksRise
-  merged-rise i j l h =
-      let (x, ex, sx, tx) = pair-of i (omega arith) in
-      let (y, ey, sy, ty) = pair-of j h in
-      ⊎-elim (λ d. inl (omega arith)) (λ (q, d). inr (omega arith, omega arith))
-      (pair-order k (classCount-pos c) x y (rank-rises x y (linkedPair p) (omega arith)))
-    where
-      k : ℕ
-      k = classCount p
-
-      -- the number of the pair that is the i-th link
-      pair-of :
-          (i : ℕ) → i < length (merged p .starts) →
-          (x : ℕ) × (countBelow x (linkedPair p) ≡ i) × (getD (merged p .starts) i 0 ≡ x / k) × (getD (merged p .ends) i 0 ≡ x % k)
-      pair-of i h =
-          let (x, b, t, e) = rank-onto (k * k) (linkedPair p) i (rw length-merged-starts at h) in
-          let at = merged-at c x b t in
-          (x, e, ap (λ r. getD (merged p .starts) r 0) (sym e) ∙ at .start, ap (λ r. getD (merged p .ends) r 0) (sym e) ∙ at .end)
+  unfolding merged
+  merged-rise = pairs-rise (classCount p) (classCount-pos c) (linked p)
 
   pub merged-connected : Connected (circuitGraph (merged p))
   merged-connected = connected-same (same-symm (merged-graph c)) (quotient-connected (circuitGraph p) (classOf p) (content-connected c))

@@ -4,18 +4,19 @@ use mathlib.Core.Path.{_≡_, refl, ap, _∙_}
 use Rattle.base_lists.specs.List.{all, allBelow, anyBelow}
 use Rattle.base_lists.specs.Below.{leastBelow, collect}
 use Rattle.graph.specs.Search.{beside, ball, connected}
+use Rattle.graph_pairs.specs.Pairs.{pairTest, pairStarts, pairEnds}
 use Rattle.table.specs.Examples.{rowComputed}
 use Rattle.file_format.specs.Links.{linksBelow, earlier, rising}
 use Rattle.place.specs.Match.{radiusOf}
 use Rattle.place.specs.Examples.{circuitY, oneLink}
 use Rattle.place.proofs.Examples.{radius-Y, radius-oneLink}
-use Rattle.merge.specs.Merged.{equivalent, leader, isLeader, classIn, selfTable, classOf, classCount, classes, joins, linked, linkedPair, merged}
+use Rattle.merge.specs.Merged.{equivalent, leader, isLeader, classIn, selfTable, classOf, classCount, classes, joins, linked, merged}
 use Rattle.merge.specs.Examples.{circuitE8}
 use Rattle.merge.proofs.Content.{PatternContent}
 
 -- all that is opened where a merged pattern is computed
 opened : Unit {0}
-unfolding rowComputed anyBelow leastBelow collect equivalent leader isLeader classIn selfTable classOf classCount classes joins linked linkedPair merged
+unfolding rowComputed anyBelow leastBelow collect equivalent leader isLeader classIn selfTable classOf classCount classes joins linked pairTest pairStarts pairEnds merged
 opened = tt
 
 -- ---- "E6 Y: 0:10, 1:20, 2:20, links 0-1, 0-2: classes 0, 1, 1; the merged radius is 1, Y's is 2."

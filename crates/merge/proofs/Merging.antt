@@ -1,22 +1,21 @@
 -- The merged pattern is the quotient of the pattern by its classes. Assumes nothing.
 use mathlib.Core.Bool.{Bool, _&&_}
 use mathlib.Core.Logic.{_↔_}
-use mathlib.Core.Path.{_≡_, refl, sym, ap, subst, subst₂, _∙_}
-use Prim.Native.Nat.{ℕ, _+_, _*_, _/_, _%_, _<_}
-use native.Mathlib.Nat.{mod-lt, div-lt-iff-lt-mul}
+use mathlib.Core.Path.{_≡_, refl, sym, ap, subst, _∙_}
+use Prim.Native.Nat.{ℕ, _<_}
 use borrow.Author.Tests.{eq-eqb}
 use lib.Dec.{T, eqb, eqb→eq}
 use lib.ListN.{length, getD}
-use Rattle.base_lists.specs.Below.{countBelow}
 use Rattle.base_lists.proofs.Tests.{both, both-left, both-right, true-T, anyBelow-at, at-anyBelow}
 use Rattle.base_lists.proofs.Below.{length-collect}
-use Rattle.base_lists.proofs.Ranks.{rank-onto, rank-lt, collect-rank, pair-row, pair-column, pair-below}
-use Rattle.graph.specs.Circuit.{Circuit, LinkAt, HasLink, graphOf, circuitGraph}
+use Rattle.base_lists.proofs.Ranks.{collect-rank}
+use Rattle.graph.specs.Circuit.{Circuit, HasLink, graphOf, circuitGraph}
+use Rattle.graph_pairs.proofs.Pairs.{pairCount, length-pair-starts, length-pair-ends, pair-link}
 use Rattle.simulation.specs.Perfect.{SameGraph}
 use Rattle.simulation.specs.Quotient.{QuotientGraph, QuotientAgree, Merging}
 use Rattle.table.specs.Host.{EqualKinds}
 use Rattle.table.proofs.Agreement.{kinds-mutual, kinds-part}
-use Rattle.merge.specs.Merged.{classIn, classOf, classCount, joins, linked, linkedPair, merged}
+use Rattle.merge.specs.Merged.{classIn, classOf, classCount, joins, linked, merged}
 use Rattle.merge.proofs.Content.{PatternContent}
 use Rattle.merge.proofs.Classes.{SelfPairs, Equivalent, leaderOf, leads, kinds-laws, content-joins, self-largest, equivalent-iff, leader-lt, leader-member, leader-leads, shares-class, class-lt, leaders-at, classCount-pos}
 
@@ -28,16 +27,13 @@ module _ (p : Circuit) where
   unfolding merged classCount
   length-merged-kinds = length-collect _ _ _
 
-  abbrev pairCount : ℕ
-  pairCount = countBelow (classCount p * classCount p) (linkedPair p)
-
-  pub length-merged-starts : length (merged p .starts) ≡ pairCount
+  pub length-merged-starts : length (merged p .starts) ≡ pairCount (classCount p) (linked p)
   unfolding merged
-  length-merged-starts = length-collect _ _ _
+  length-merged-starts = length-pair-starts _ _
 
-  pub length-merged-ends : length (merged p .ends) ≡ pairCount
+  pub length-merged-ends : length (merged p .ends) ≡ pairCount (classCount p) (linked p)
   unfolding merged
-  length-merged-ends = length-collect _ _ _
+  length-merged-ends = length-pair-ends _ _
 
 -- ---- links
 
@@ -71,45 +67,11 @@ module _ {p : Circuit} (c : PatternContent p) where
       passes : ℕ → Bool
       passes i = eqb (classOf p (start i)) a && eqb (classOf p (end i)) b
 
-  -- the links of the merged pattern are the pairs of linked classes, each listed at its rank
-  pub merged-at :
-      (i : ℕ) → i < classCount p * classCount p → T (linkedPair p i) →
-      LinkAt (merged p .starts) (merged p .ends) (i / classCount p) (i % classCount p) (countBelow i (linkedPair p))
-  unfolding merged
-  merged-at i h t =
-      let below = rank-lt i (classCount p * classCount p) (linkedPair p) h t in
-      record {
-        inStarts = rw length-collect below;
-        inEnds = rw length-collect below;
-        start = collect-rank _ (linkedPair p) (λ i. i / classCount p) i 0 h t;
-        end = collect-rank _ (linkedPair p) (λ i. i % classCount p) i 0 h t;
-      }
-
-  -- so it has a link from a to b exactly where they are linked classes
+  -- so the merged pattern has a link from a to b exactly where they are linked classes
   pub merged-link :
       (a b : ℕ) → HasLink (merged p .starts) (merged p .ends) a b ↔ ((a < classCount p) × (b < classCount p) × T (linked p a b))
-  unfolding HasLink linkedPair
-  merged-link a b = (
-    λ (r, l).
-        let (i, h, t, e) = rank-onto _ (linkedPair p) r (subst (λ x. r < x) (length-merged-starts p) (l .inStarts)) in
-        let at = merged-at i h t in
-        let start : i / k ≡ a = sym (at .start) ∙ ap (λ x. getD (merged p .starts) x 0) e ∙ l .start in
-        let end : i % k ≡ b = sym (at .end) ∙ ap (λ x. getD (merged p .ends) x 0) e ∙ l .end in (
-          subst (λ x. x < k) start (div-lt-iff-lt-mul (classCount-pos c) .1 h),
-          subst (λ x. x < k) end (mod-lt i (classCount-pos c)),
-          subst₂ (λ x y. T (linked p x y)) start end t,
-        ),
-    λ (h, l, t).
-        let row = pair-row k (classCount-pos c) a b l in
-        let column = pair-column k (classCount-pos c) a b l in (
-          _,
-          subst₂ (λ x y. LinkAt (merged p .starts) (merged p .ends) x y (countBelow (a * k + b) (linkedPair p))) row column
-              (merged-at (a * k + b) (pair-below k (classCount-pos c) k a b h l) (subst₂ (λ x y. T (linked p x y)) (sym row) (sym column) t)),
-        ),
-  )
-    where
-      k : ℕ
-      k = classCount p
+  unfolding merged
+  merged-link = pair-link (classCount p) (classCount-pos c) (linked p)
 
   -- ---- the graph
 

@@ -2,12 +2,13 @@
 -- merged pattern is the quotient graph.) proofs/ ties this to simulation's Quotient.
 use mathlib.Core.Bool.{Bool, _&&_}
 use mathlib.Core.List.{List}
-use Prim.Native.Nat.{ℕ, _*_, _/_, _%_}
+use Prim.Native.Nat.{ℕ}
 use lib.Dec.{eqb}
 use lib.ListN.{length, getD}
 use Rattle.base_lists.specs.Below.{countBelow, leastBelow, collect}
 use Rattle.base_lists.specs.List.{anyBelow, tabulate}
 use Rattle.graph.specs.Circuit.{Circuit}
+use Rattle.graph_pairs.specs.Pairs.{pairStarts, pairEnds}
 use Rattle.table.specs.Host.{everything}
 use Rattle.table.specs.Row.{inTable, lastTable}
 
@@ -58,16 +59,12 @@ joins class starts ends j a b = anyBelow j (λ i. eqb (class (getD starts i 0)) 
 unfoldable pub linked : Circuit → ℕ → ℕ → Bool
 linked p = joins (classOf p) (p .starts) (p .ends) (length (p .starts))
 
--- the pairs (a, b) of classes in the order of a file's links: pair number a k + b of k classes
-unfoldable pub linkedPair : Circuit → ℕ → Bool
-linkedPair p i = linked p (i / classCount p) (i % classCount p)
-
 -- "The merged pattern has a part per class, of the same kind, and a link .."
 unfoldable pub merged : Circuit → Circuit
 merged p =
     let k = classCount p in
     record {
       kinds = collect (length (p .kinds)) (isLeader (length (p .kinds)) (selfTable p)) (λ u. getD (p .kinds) u 0);
-      starts = collect (k * k) (linkedPair p) (λ i. i / k);
-      ends = collect (k * k) (linkedPair p) (λ i. i % k);
+      starts = pairStarts k (linked p);
+      ends = pairEnds k (linked p);
     }

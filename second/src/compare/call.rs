@@ -6,6 +6,7 @@ use std::fmt;
 use super::finder::{Finder, Words};
 use crate::calls::PlaceTables;
 use crate::circuit::{Circuit, Role};
+use crate::load::Numbers;
 use crate::random::Random;
 
 /// One call with all it is given but the lent tables.
@@ -47,6 +48,9 @@ pub enum Call<'a> {
     Merge {
         pattern: &'a [u8],
     },
+    Load {
+        numbers: Numbers,
+    },
 }
 
 /// N and M as a file's first four bytes have them, 0 where it is shorter, and
@@ -74,6 +78,7 @@ impl Call<'_> {
             Call::Place { .. } => "place",
             Call::PlaceWithin { .. } => "place_within",
             Call::Merge { .. } => "merge",
+            Call::Load { .. } => "load",
         }
     }
 
@@ -99,6 +104,10 @@ impl Call<'_> {
             Call::Merge { pattern } => {
                 let (n, m) = sizes(pattern);
                 vec![n, Circuit::length(n, m)]
+            }
+            Call::Load { numbers } => {
+                let (n, m) = (numbers.nodes.min(520), numbers.pairs.min(4100));
+                vec![Circuit::length(n as usize, m as usize)]
             }
         }
     }
@@ -132,6 +141,7 @@ impl fmt::Display for Call<'_> {
                 centre,
                 radius,
             } => write!(f, " centre {centre} radius {radius}\nboard {}", Hex(board)),
+            Call::Load { numbers } => write!(f, " {numbers:?}"),
             Call::Match { pattern, board } => both(f, pattern, board),
             Call::Place {
                 pattern,
@@ -265,6 +275,11 @@ pub fn run(finder: &dyn Finder, call: &Call, lent: &Lent) -> Outcome {
             let (mut classes, mut out) = (lent.bytes(0), lent.bytes(1));
             let reply = finder.merge(pattern, &mut classes, &mut out);
             (reply, vec![wide(classes), wide(out)])
+        }
+        Call::Load { numbers } => {
+            let mut out = lent.bytes(0);
+            let reply = finder.load(numbers, &mut out);
+            (reply, vec![wide(out)])
         }
         Call::Place { .. } | Call::PlaceWithin { .. } => run_place(finder, call, lent),
     };

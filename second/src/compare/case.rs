@@ -9,6 +9,7 @@ use super::tally::Tally;
 use super::{agree, laws, Difference};
 use crate::circuit::{Circuit, Role};
 use crate::graph;
+use crate::load::Numbers;
 use crate::random::Random;
 
 /// Three tables to write in a role.
@@ -26,6 +27,7 @@ pub struct Case {
     pub centres: Vec<usize>,
     pub radius: u16,
     pub tables: Tables,
+    pub numbers: Numbers,
 }
 
 /// A random size, the large ones seldom.
@@ -97,6 +99,31 @@ fn tables(random: &mut Random, role: Role, circuit: &Circuit) -> Tables {
     }
 }
 
+/// The numbers of a load, each now and then at an edge of its range or outside.
+fn numbers(random: &mut Random, size: Size) -> Numbers {
+    let (nodes, pairs) = match size {
+        Size::Full => (512, 4096),
+        Size::Medium => (random.between(40, 160), random.between(40, 800)),
+        Size::Small => (random.between(4, 48), random.between(0, 200)),
+        Size::Tiny => (random.between(1, 8), random.between(0, 24)),
+    };
+    let bound = random.pick(&[1, 4, 100, 65536]);
+    let kinds = 1 + random.below(bound);
+    let mut numbers = [nodes, pairs, kinds].map(|n| n as u32);
+    if random.once_in(6) {
+        let at = random.below(3);
+        let edges = [[0, 1, 512, 513], [0, 1, 4096, 4097], [0, 1, 65536, 65537]][at];
+        numbers[at] = random.pick(&[edges[0], edges[1], edges[2], edges[3], u32::MAX]);
+    }
+    let any = random.draw() as u32;
+    Numbers {
+        seed: random.pick(&[any, any, any, 0, 1, u32::MAX]),
+        nodes: numbers[0],
+        pairs: numbers[1],
+        kinds: numbers[2],
+    }
+}
+
 impl Case {
     /// A random case.
     pub fn random(random: &mut Random) -> Case {
@@ -117,6 +144,7 @@ impl Case {
             centres,
             radius,
             tables,
+            numbers: numbers(random, size),
         }
     }
 
@@ -169,6 +197,9 @@ impl Case {
                 board: pattern,
             },
             Call::Merge { pattern },
+            Call::Load {
+                numbers: self.numbers,
+            },
         ]
     }
 }

@@ -9,6 +9,7 @@ use super::tally::Tally;
 use super::{agree, laws, Difference};
 use crate::circuit::{Circuit, Role};
 use crate::graph;
+use crate::load::Numbers;
 
 /// A circuit of these kinds and links.
 fn circuit(kinds: &[u16], links: &[(usize, usize)]) -> Circuit {
@@ -150,6 +151,17 @@ fn case(pattern: Vec<u8>, board: Vec<u8>, nodes: usize, radius: u16, tables: Tab
         centres,
         radius,
         tables,
+        numbers: numbers(1, 3, 4, 10),
+    }
+}
+
+/// The numbers of a load.
+fn numbers(seed: u32, nodes: u32, pairs: u32, kinds: u32) -> Numbers {
+    Numbers {
+        seed,
+        nodes,
+        pairs,
+        kinds,
     }
 }
 
@@ -296,6 +308,7 @@ pub fn check(finder: &dyn Finder, tally: &mut Tally) -> Result<(), Difference> {
             })?;
         }
     }
+    loads(finder, tally)?;
     longest(finder, tally)
 }
 
@@ -307,6 +320,30 @@ fn of_case(finder: &dyn Finder, case: &Case, tally: &mut Tally) -> Result<(), Di
         }
     }
     laws::check(finder, case, tally)
+}
+
+/// Loads at the edges of their numbers' ranges and one further, alone and
+/// together, and those of seeds at the edges of 32 bits.
+fn loads(finder: &dyn Finder, tally: &mut Tally) -> Result<(), Difference> {
+    const LAST: u32 = u32::MAX;
+    let mut all = Vec::new();
+    for nodes in [0, 1, 2, 511, 512, 513, 65536, LAST] {
+        for pairs in [0, 1, 7, 4095, 4096, 4097, 65536, LAST] {
+            for kinds in [0, 1, 2, 65535, 65536, 65537, LAST] {
+                all.push(numbers(1, nodes, pairs, kinds));
+            }
+        }
+    }
+    for seed in [0, 1, 2, 65535, 65536, LAST / 2, LAST / 2 + 1, LAST - 1, LAST] {
+        all.push(numbers(seed, 40, 60, 5));
+    }
+    for numbers in all {
+        let call = Call::Load { numbers };
+        for lent in lendings(&call) {
+            agree(finder, &call, &lent, tally)?;
+        }
+    }
+    Ok(())
 }
 
 /// The longest row of sets known: 15,810 rounds.

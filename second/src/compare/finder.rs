@@ -2,6 +2,7 @@
 
 use crate::calls::{self, Counted, PlaceTables, Reply};
 use crate::circuit::Role;
+use crate::load::Numbers;
 
 /// A reply in one form for all calls: the number, the file, and the values or
 /// counts, 0 where there is none.
@@ -38,6 +39,7 @@ pub trait Finder {
         out: PlaceTables,
     ) -> Words;
     fn merge(&self, pattern: &[u8], classes: &mut [u8], out: &mut [u8]) -> Words;
+    fn load(&self, numbers: Numbers, out: &mut [u8]) -> Words;
 }
 
 /// A number of a reply; none passes 32 bits.
@@ -121,5 +123,9 @@ impl Finder for Second {
 
     fn merge(&self, pattern: &[u8], classes: &mut [u8], out: &mut [u8]) -> Words {
         calls::merge(pattern, classes, out).into()
+    }
+
+    fn load(&self, numbers: Numbers, out: &mut [u8]) -> Words {
+        calls::load(numbers, out).into()
     }
 }

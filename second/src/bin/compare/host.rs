@@ -5,6 +5,7 @@ use std::ptr::{null, null_mut};
 use second::calls::PlaceTables;
 use second::circuit::Role;
 use second::compare::finder::{Finder, Words};
+use second::load::Numbers;
 
 /// The reply of the calls without counts.
 #[repr(C)]
@@ -140,6 +141,14 @@ extern "C" {
         pattern_length: usize,
         classes: *mut u8,
         classes_length: usize,
+        out: *mut u8,
+        out_length: usize,
+    ) -> Reply;
+    fn heronditch_load(
+        seed: u32,
+        nodes: u32,
+        pairs: u32,
+        kinds: u32,
         out: *mut u8,
         out_length: usize,
     ) -> Reply;
@@ -340,5 +349,15 @@ impl Finder for Host {
             )
         }
         .words()
+    }
+
+    fn load(&self, numbers: Numbers, out: &mut [u8]) -> Words {
+        let Numbers {
+            seed,
+            nodes,
+            pairs,
+            kinds,
+        } = numbers;
+        unsafe { heronditch_load(seed, nodes, pairs, kinds, lent(out), out.len()) }.words()
     }
 }

@@ -1,0 +1,24 @@
+-- Two loads from their four numbers to their bytes: one that tells start from end and every draw from another, and one in which the same pair is drawn
+-- five times. Assumes nothing.
+use mathlib.Core.List.{List, [], _∷_}
+use mathlib.Core.Path.{_≡_, refl}
+use Prim.Native.Nat.{ℕ}
+use Rattle.base_lists.specs.Below.{collect}
+use Rattle.base_lists.specs.List.{anyBelow, tabulate}
+use Rattle.graph_pairs.specs.Pairs.{pairTest, pairStarts, pairEnds}
+use Rattle.file_write.specs.Bytes.{bytesOf, fileBytes}
+use Rattle.load.specs.Draws.{step, draw, stepped, draws}
+use Rattle.load.specs.Load.{kindsDrawn, pairsDrawn, isPair, load}
+use Rattle.call_load.specs.Call.{loadBytes}
+
+-- seed 7, N = 3, M = 4, K = 10: kinds 8, 6, 0, links 0-1, 0-2, 1-0, 2-2
+pub load-of-seven :
+    loadBytes 7 3 4 10
+    ≡ 3 ∷ 0 ∷ 4 ∷ 0 ∷ 8 ∷ 0 ∷ 6 ∷ 0 ∷ 0 ∷ 0 ∷ 0 ∷ 0 ∷ 0 ∷ 0 ∷ 1 ∷ 0 ∷ 2 ∷ 0 ∷ 1 ∷ 0 ∷ 2 ∷ 0 ∷ 0 ∷ 0 ∷ 2 ∷ 0 ∷ []
+unfolding loadBytes fileBytes bytesOf load kindsDrawn pairsDrawn draws tabulate stepped step draw isPair anyBelow pairStarts pairEnds pairTest collect
+load-of-seven = refl
+
+-- seed 3, N = 1, M = 5, K = 1: one kind, 0, and one link
+pub load-of-one : loadBytes 3 1 5 1 ≡ 1 ∷ 0 ∷ 1 ∷ 0 ∷ 0 ∷ 0 ∷ 0 ∷ 0 ∷ 0 ∷ 0 ∷ []
+unfolding loadBytes fileBytes bytesOf load kindsDrawn pairsDrawn draws tabulate stepped step draw isPair anyBelow pairStarts pairEnds pairTest collect
+load-of-one = refl

@@ -1,0 +1,3 @@
+pub mod Loading
+pub mod Promise
+pub mod Examples

@@ -1,0 +1,148 @@
+-- The load's circuit as the passes leave it, its file, and what the call comes to by cases. Assumes nothing.
+use mathlib.Core.Bool.{true, false, _&&_}
+use mathlib.Core.List.{List, _++_}
+use mathlib.Core.Path.{_≡_, sym, ap, ap₂, _∙_}
+use Prim.Native.Nat.{ℕ, _+_, _*_, _≤_, _<_}
+use native.Mathlib.Nat.{le-trans}
+use native.Mathlib.Omega.{arith}
+use borrow.Author.Tests.{lt-ltb, le-ltb}
+use lib.Dec.{T, eqb, leb, le→leb}
+use lib.ListN.{length, getD, take, List·getD-append}
+use lib.Seq.{take-at}
+use Rattle.base_lists.proofs.Tests.{T-true, both}
+use Rattle.base_lists.proofs.Below.{anyBelow-same}
+use Rattle.graph.specs.Circuit.{Circuit}
+use Rattle.graph_pairs.specs.Pairs.{pairStarts, pairEnds}
+use Rattle.graph_pairs.proofs.Pairs.{pairs-same}
+use Rattle.file_format.specs.declared.File.the-variants.{Neither}
+use Rattle.file_format.specs.declared.Refusal.{Refusal}
+use Rattle.file_format.specs.declared.Role.the-variants.{Board}
+use Rattle.file_format.specs.Layout.{lengthOf}
+use Rattle.file_format.specs.Links.{linksBelow, rising}
+use Rattle.file_format.specs.Reading.{filled}
+use Rattle.file_format.specs.Refusals.{accept, first, linkConditions, asksConnected, shortTable, numberOutside}
+use Rattle.file_format.specs.Reply.{reply}
+use Rattle.file_format.specs.Role.{inRange}
+use Rattle.file_write.specs.declared.WriteAnswer.the-variants as write
+use Rattle.file_write.specs.Writing.{circuitConditions, WriteOutcome, writing, writeReply}
+use Rattle.file_write.proofs.FileFields.{length-written}
+use Rattle.file_write.proofs.Writing.{verdict-links, writing-filled}
+use Rattle.load.specs.Draws.{stepped}
+use Rattle.load.specs.Load as load
+use Rattle.load.specs.Load.{InRange, kindsDrawn, pairsDrawn, isPair, load}
+use Rattle.load.proofs.Draws.{length-draws, draws-lt}
+use Rattle.load.proofs.Load.{load-nodes, load-parallel, load-links, load-below, load-rises}
+use Rattle.load_draw.specs.Marks.{AllBelow}
+use Rattle.call_load.specs.declared.LoadAnswer.{LoadAnswer}
+use Rattle.call_load.specs.declared.LoadAnswer.the-variants.{Refused}
+use Rattle.call_load.specs.Call.{loadBytes, loadConditions, loadReply, loading, MadeFrom}
+
+-- ---- the load is a board
+
+module _ (seed n m k : ℕ) (r : InRange n m k) where
+  abbrev made : Circuit
+  made = load seed n m k
+
+  -- no condition on a circuit that is written as a board holds of it
+  pub load-sound : first (circuitConditions Board (made .kinds) (made .starts) (made .ends)) ≡ accept
+  unfolding first linkConditions asksConnected
+  load-sound =
+      let size = load-nodes seed n m k in
+      let few = load-links seed n m k in
+      let nodes = length (made .kinds) in
+      let links = length (made .starts) in
+      let below : linksBelow nodes (made .starts) (made .ends) ≡ true = T-true (load-below seed n m k (r .someNodes)) in
+      let rises : rising (made .starts) (made .ends) ≡ true = T-true (load-rises seed n m k (r .someNodes)) in
+      let range : T (inRange Board nodes links) =
+      both (leb 0 nodes) (leb nodes 512 && leb links 4096) (le→leb 0 nodes (omega arith))
+      (both (leb nodes 512) (leb links 4096) (le→leb nodes 512 (omega (arith, r .nodes))) (le→leb links 4096 (omega (arith, r .links)))) in
+      verdict-links Board (made .kinds) (made .starts) (made .ends) (T-true range) (load-parallel seed n m k) ∙ simp (below, rises)
+
+  -- its file is no longer than that of as many links as were drawn
+  pub load-length-le : lengthOf (length (made .kinds)) (length (made .starts)) ≤ lengthOf n m
+  load-length-le = omega (arith, load-nodes seed n m k, load-links seed n m k)
+
+  -- ---- what was drawn and collected, at the front of the tables
+
+  module _ (pairs rest : List ℕ) (e : pairs ≡ pairsDrawn seed n m ++ rest) where
+    pair-front : (i : ℕ) → i < 2 * m → getD pairs i 0 ≡ getD (pairsDrawn seed n m) i 0
+    unfolding pairsDrawn
+    pair-front i h = ap (λ (l : List ℕ). getD l i 0) e ∙ List·getD-append (pairsDrawn seed n m) rest 0 i (omega (arith, length-draws (stepped seed n) n (2 * m)))
+
+    pub pairs-below : AllBelow n (2 * m) pairs
+    unfolding AllBelow pairsDrawn
+    pairs-below i h = rw (pair-front i h) (draws-lt _ n (2 * m) i (r .someNodes) h)
+
+    links-same : (pairStarts n (isPair pairs m) ≡ made .starts) × (pairEnds n (isPair pairs m) ≡ made .ends)
+    unfolding load isPair
+    links-same =
+        pairs-same n _ _
+        (λ a b.
+        anyBelow-same m _ _
+        (λ j h. ap₂ (λ (x y : ℕ). eqb x a && eqb y b) (pair-front (2 * j) (omega arith)) (pair-front (2 * j + 1) (omega arith))))
+
+    -- as many links as the load has
+    pub links-count : length (pairStarts n (isPair pairs m)) ≡ length (made .starts)
+    links-count = ap length (links-same .0)
+
+    pub fronts :
+        (kinds starts ends kindsRest startsRest endsRest : List ℕ) (links : ℕ) → kinds ≡ kindsDrawn seed n k ++ kindsRest →
+        links ≡ length (pairStarts n (isPair pairs m)) → starts ≡ pairStarts n (isPair pairs m) ++ startsRest →
+        ends ≡ pairEnds n (isPair pairs m) ++ endsRest →
+        (take n kinds ≡ made .kinds) × (take links starts ≡ made .starts) × (take links ends ≡ made .ends)
+    unfolding load
+    fronts kinds starts ends kr sr er links ek el es ee =
+        let count : length (made .starts) ≡ links = sym (el ∙ links-count) in (
+          ap (take n) ek ∙ take-at (kindsDrawn seed n k) kr n (load-nodes seed n m k),
+          ap (take links) es ∙ take-at _ sr links (sym el) ∙ links-same .0,
+          ap (take links) ee ∙ take-at _ er links (ap length (links-same .1) ∙ sym (load-parallel seed n m k) ∙ count) ∙ links-same .1,
+        )
+
+  -- ---- written, it is the load's file
+
+  pub written :
+      (kinds starts ends out : List ℕ) → (kinds ≡ made .kinds) × (starts ≡ made .starts) × (ends ≡ made .ends) → lengthOf n m ≤ length out →
+      writing Board kinds starts ends out
+      ≡ record {
+        answer = write.Written (length (loadBytes seed n m k));
+        reply = writeReply (write.Written (length (loadBytes seed n m k)));
+        out = filled accept (loadBytes seed n m k) out;
+      }
+  unfolding loadBytes
+  written kinds starts ends out e room =
+      rw (e .0, e .1, e .2)
+      (writing-filled Board (made .kinds) (made .starts) (made .ends) out load-sound (le-trans load-length-le room)
+      ∙ rw (sym (length-written (made .kinds) (made .starts) (made .ends) (load-parallel seed n m k))))
+
+-- what the answer of writing says then: the length is that of the load's file, and it is no refusal
+module _ (bytes : List ℕ) (o : WriteOutcome) (out : List ℕ)
+    (e : o ≡ record { answer = write.Written (length bytes); reply = writeReply (write.Written (length bytes)); out = filled accept bytes out }) where
+  pub written-size : (size : ℕ) → o .answer ≡ write.Written size → size ≡ length bytes
+  written-size size a =
+      let d : write.Written size ≡ write.Written (length bytes) = sym a ∙ ap (λ (x : WriteOutcome). x .answer) e in
+      cc
+
+  pub written-not-refused : (x : Refusal) → o .answer ≡ write.Refused x → ⊥
+  written-not-refused x a =
+      let d : write.Refused x ≡ write.Written (length bytes) = sym a ∙ ap (λ (x : WriteOutcome). x .answer) e in
+      let z : _≡_ {A = ℕ} 0 1 = cc in
+      omega arith
+
+-- ---- the call, by cases
+
+module _ (seed n m k : ℕ) (out : List ℕ) where
+  pub loading-outside : load.inRange n m k ≡ false
+      → record { reply = loadReply (Refused (record { number = 10; file = Neither })); out = out } ≡ loading seed n m k out
+  unfolding loading loadConditions first numberOutside loadReply reply filled
+  loading-outside e = simp e
+
+  module _ (e : load.inRange n m k ≡ true) where
+    pub loading-short : length out < lengthOf n m
+        → record { reply = loadReply (Refused (record { number = 8; file = Neither })); out = out } ≡ loading seed n m k out
+    unfolding loading loadConditions first numberOutside shortTable loadReply reply filled
+    loading-short h = simp (e, lt-ltb _ _ h)
+
+    pub loading-made : (answer : LoadAnswer) (after : List ℕ) → lengthOf n m ≤ length out → MadeFrom seed n m k answer out after
+        → record { reply = loadReply answer; out = after } ≡ loading seed n m k out
+    unfolding loading loadConditions first numberOutside shortTable loadReply reply
+    loading-made answer after h made = rw (made .answered, made .written) (simp (e, le-ltb _ _ h))

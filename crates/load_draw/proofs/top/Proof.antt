@@ -1,0 +1,14 @@
+-- `load_draw::top` meets its contract: 16 bits are left. Assumes nothing.
+use mathlib.Core.Path.{refl}
+use native.Mathlib.Omega.{arith}
+use Rattle.load_draw.proofs.top.Statement.{statement}
+use Rattle.load_draw.proofs.top.Tie as tie
+
+cast-result : tie.Need-cast-result
+cast-result c = omega arith
+
+returns : tie.Need-returns
+returns c = refl
+
+pub top-spec : {M : Type 1} → statement M
+top-spec = tie.close (tie.spec cast-result returns)

@@ -1,0 +1,22 @@
+-- `load_draw::wrapping_mul` meets its contract: the product of two numbers of 32 bits has at most 64. Assumes nothing.
+use Prim.Native.Nat.{ℕ, _≤_, _<_}
+use native.Mathlib.Nat.{mul-le-mul}
+use native.Mathlib.Omega.{arith}
+use borrow.Author.Needs.{needs}
+use Rattle.load_draw.proofs.wrapping_mul.Statement.{statement}
+use Rattle.load_draw.proofs.wrapping_mul.Tie as tie
+
+small : (x : ℕ) → x < 4294967296 → x ≤ 4294967295
+small x h = omega arith
+
+mul-result : tie.Need-mul-result
+mul-result c = omega (arith, mul-le-mul {n₂ = 4294967295} {m₂ = 4294967295} (small (c .args .a) (omega arith)) (small (c .args .b) (omega arith)))
+
+cast-result : tie.Need-cast-result
+cast-result c = search needs
+
+returns : tie.Need-returns
+returns c = search needs
+
+pub wrapping-mul-spec : {M : Type 1} → statement M
+wrapping-mul-spec = tie.close (tie.spec mul-result cast-result returns)

@@ -1,0 +1,83 @@
+-- `loader::print_load` meets its contract: the front of the buffer that is handed on is the load's file. Assumes nothing.
+use mathlib.Core.Path.{_≡_, sym, ap, _∙_}
+use lib.ListN.{length, take}
+use Rattle.file_format.proofs.Reading.{front-room}
+use Rattle.call_load.specs.Call.{loadBytes}
+use Rattle.loader.specs.Printing.{Told}
+use Rattle.loader.proofs.Printing.{tried-told, made-range, made-front, made-size, refused-outside}
+use borrow.Author.Needs.{needs}
+use Rattle.loader.proofs.print_load.Statement.{statement}
+use Rattle.loader.proofs.print_load.Tie as tie
+
+load-requires : tie.Need-load-requires
+load-requires c κs = search needs
+
+enum-known-answer : tie.Need-enum-known-answer
+enum-known-answer c = search needs
+
+enum-told : tie.Need-enum-told
+enum-told c = search needs
+
+same-length : tie.Need-same-length
+same-length c = search needs
+
+abbrev start : tie.After-load → tie.Start
+start c = c .before .before .before
+
+returns : tie.Need-returns
+unfolding Told
+returns c =
+    let call = c .before .before .before .before in
+    let s = start call in
+    refused-outside (s .args .seed) (s .args .n) (s .args .m) (s .args .k) _ _ _ (call .load .ensures) (s .pre) _ (c .enum-told .given .1)
+
+abbrev loaded : tie.After-answer → tie.After-load
+loaded c = c .before .before .before .before
+
+-- the front of the buffer is the load's file
+front :
+    (c : tie.After-answer) →
+    let a = start (loaded c) .args in
+    take (c .answer .given .0 .0) (loaded c .load .last .1 .1 .1 .1 .0) ≡ loadBytes (a .seed) (a .n) (a .m) (a .k)
+front c =
+    let a = start (loaded c) .args in
+    made-front (a .seed) (a .n) (a .m) (a .k) _ _ _ (loaded c .load .ensures) _ (c .answer .given .1)
+
+size : (c : tie.After-answer) → length (take (c .answer .given .0 .0) (loaded c .load .last .1 .1 .1 .1 .0)) ≡ c .answer .given .0 .0
+size c =
+    let a = start (loaded c) .args in
+    ap length (front c) ∙ sym (made-size (a .seed) (a .n) (a .m) (a .k) _ _ _ (loaded c .load .ensures) _ (c .answer .given .1))
+
+slice-reshare-prefix-hand : tie.Need-slice-reshare-prefix-hand
+slice-reshare-prefix-hand c = front-room _ _ (size (c .before))
+
+slice-aggregate-hand : tie.Need-slice-aggregate-hand
+slice-aggregate-hand c = sym (size (c .before .before))
+
+hand-requires : tie.Need-hand-requires
+hand-requires c κs = front (c .before .before)
+
+same-length-2 : tie.Need-same-length-2
+same-length-2 c = search needs
+
+returns-2 : tie.Need-returns-2
+returns-2 c =
+    let told = c .before .before .before in
+    let s = start (loaded told) in
+    tried-told (s .args .n) (s .args .m) (s .args .k) _
+    (made-range (s .args .seed) (s .args .n) (s .args .m) (s .args .k) _ _ _ (loaded told .load .ensures) _ (told .answer .given .1)) (c .hand .ensures)
+
+pub print-load-spec : {M : Type 1} → statement M
+print-load-spec =
+    tie.close
+    (tie.spec
+    load-requires
+    enum-known-answer
+    enum-told
+    same-length
+    returns
+    slice-reshare-prefix-hand
+    slice-aggregate-hand
+    hand-requires
+    same-length-2
+    returns-2)
