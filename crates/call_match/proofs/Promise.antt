@@ -29,7 +29,7 @@ use Rattle.call_match.specs.declared.TableAnswer.{TableAnswer}
 use Rattle.call_match.specs.declared.TableAnswer.the-variants.{Matched, Refused}
 use Rattle.table.specs.declared.Counts.{Counts}
 use Rattle.call_match.specs.Call.{matchConditions, replyOf, matching}
-use Rattle.table.specs.Host.{everything, EqualKinds}
+use Rattle.table.specs.Host.{everything, KindsMatch}
 use Rattle.table.specs.Refine.{countsOf}
 use Rattle.table.specs.Reply.{Reply, noCounts, replied}
 use Rattle.table.specs.Row.{inTable, startTable, lastTable, InTable}
@@ -127,7 +127,7 @@ module _ (pattern board table : List ℕ) where
 
     -- they are the largest dual simulation of the pattern in the board:
     pub front-largest :
-        Largest (circuitGraph (circuitOf pattern)) (EqualKinds (circuitOf pattern) (circuitOf board)) (circuitGraph (circuitOf board))
+        Largest (circuitGraph (circuitOf pattern)) (KindsMatch (circuitOf pattern) (circuitOf board)) (circuitGraph (circuitOf board))
         (InTable (take (nodesOf board) (matching pattern board table .table)))
     front-largest =
         rw front-is
@@ -136,7 +136,7 @@ module _ (pattern board table : List ℕ) where
 
     -- bit u of entry v is set exactly when (u, v) is in it.
     pub entry-bit :
-        {S : Relation} → Largest (circuitGraph (circuitOf pattern)) (EqualKinds (circuitOf pattern) (circuitOf board)) (circuitGraph (circuitOf board)) S →
+        {S : Relation} → Largest (circuitGraph (circuitOf pattern)) (KindsMatch (circuitOf pattern) (circuitOf board)) (circuitGraph (circuitOf board)) S →
         (u v : ℕ) → v < nodesOf board → InTable (matching pattern board table .table) u v ↔ S u v
     entry-bit l u v h =
         let same = in-front (nodesOf board) (matching pattern board table .table) u v h in (

@@ -29,7 +29,7 @@ use Rattle.file_format.specs.Reply.{Reply, reply}
 use Rattle.file_format.specs.Role.{inRange}
 use Rattle.file_format.proofs.Fields.{length-kinds, length-starts}
 use Rattle.file_format.proofs.Refusals.{accepted, first-parts, refuses-iff, range-orders}
-use Rattle.table.specs.Host.{EqualKinds}
+use Rattle.table.specs.Host.{KindsMatch}
 use Rattle.table.specs.Row.{InTable}
 use Rattle.call_match.specs.Call.{matching}
 use Rattle.call_match.proofs.Promise as matched
@@ -199,7 +199,7 @@ module _ (file lent out : List ℕ) where
 
     -- "Two parts share a class exactly when each matches the other": in the largest dual simulation of the pattern in itself,
     pub share-iff :
-        {S : Relation} → Largest (circuitGraph (circuitOf file)) (EqualKinds (circuitOf file) (circuitOf file)) (circuitGraph (circuitOf file)) S →
+        {S : Relation} → Largest (circuitGraph (circuitOf file)) (KindsMatch (circuitOf file) (circuitOf file)) (circuitGraph (circuitOf file)) S →
         (u v : ℕ) → u < nodesOf file → v < nodesOf file → (classByte file lent out u ≡ classByte file lent out v) ↔ Mutual S u v
     share-iff {S} l u v h k =
         let c = content pattern-accepted in

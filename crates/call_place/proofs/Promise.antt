@@ -26,7 +26,7 @@ use Rattle.file_format.proofs.Refusals.{accepted, first-accept, first-parts, fi
 use Rattle.file_pair.specs.Pair.{pairConditions}
 use Rattle.file_pair.proofs.Both.{pair-accept, pair-parts}
 use Rattle.table.specs.Reply.{noCounts}
-use Rattle.table.specs.Host.{EqualKinds}
+use Rattle.table.specs.Host.{KindsMatch}
 use Rattle.table.specs.Refine.{countsOf}
 use Rattle.table.specs.Row.{InTable}
 use Rattle.place.specs.Match.{ballOf, found, placeNodes, placeLinks, placeTable, markedGraph}
@@ -137,7 +137,7 @@ module _ (pattern board : List ℕ) (w r : ℕ) (nodes links table : List ℕ) w
 
     pub nine-iff :
         (result .reply .verdict ≡ refuse nine) ↔
-        ((G : Graph) → Perfect (circuitGraph P) (EqualKinds P B) (circuitGraph B) w r G → ⊥)
+        ((G : Graph) → Perfect (circuitGraph P) (KindsMatch P B) (circuitGraph B) w r G → ⊥)
     nine-iff = (
       λ e. none-iff admissible w r .0 (none-verdict P B w r (sym verdict-is ∙ e)),
       λ none. verdict-is ∙ verdict-none P B w r (none-iff admissible w r .1 none),
@@ -202,9 +202,9 @@ module _ (pattern board : List ℕ) (w r : ℕ) (nodes links table : List ℕ) w
       marked = markedGraph B (take (nodesOf board) (result .nodes)) (take (linksOf board) (result .links))
 
       -- It is the place: perfect, and it contains every other perfect subgraph.
-      pub marked-place : Place (circuitGraph P) (EqualKinds P B) (circuitGraph B) w r marked
+      pub marked-place : Place (circuitGraph P) (KindsMatch P B) (circuitGraph B) w r marked
       marked-place = rw (nodes-front, links-front) (place-found admissible w r is-found)
 
       -- The table is the largest dual simulation of the pattern in it.
-      pub marked-largest : Largest (circuitGraph P) (EqualKinds P B) marked (InTable (take (nodesOf board) (result .table)))
+      pub marked-largest : Largest (circuitGraph P) (KindsMatch P B) marked (InTable (take (nodesOf board) (result .table)))
       marked-largest = rw (nodes-front, links-front, table-front) (place-table admissible w r is-found)

@@ -15,7 +15,7 @@ use Rattle.simulation.specs.Perfect.{SameGraph}
 use Rattle.simulation.proofs.Same.{same-symm}
 use Rattle.simulation.proofs.Simulation.{along-wider}
 use Rattle.table.specs.declared.Counts.{Counts}
-use Rattle.table.specs.Host.{hostGraph, EqualKinds}
+use Rattle.table.specs.Host.{hostGraph, KindsMatch}
 use Rattle.table.specs.Refine.{countsOf}
 use Rattle.table.specs.Row.{InTable, row, rounds, lastTable}
 use Rattle.table.proofs.Counting.{struck-minus, started-ones, kept-ones, rounds-differ, rounds-last}
@@ -36,13 +36,13 @@ sets-same P Agree s (suc k) u v r = (
 
 module _ (pattern host : Circuit) (taken : List ℕ) (most : length (pattern .kinds) ≤ 32) {H : Graph} (same : SameGraph (hostGraph host taken) H) where
   abbrev R : ℕ → Relation
-  R = Sets (circuitGraph pattern) (EqualKinds pattern host) H
+  R = Sets (circuitGraph pattern) (KindsMatch pattern host) H
 
   -- the tables of the row hold its sets
   set-is : (k u v : ℕ) → InTable (row pattern host taken k) u v ↔ R k u v
   set-is k u v =
       Iff·trans (row-in pattern host taken k u v)
-      (sets-same (circuitGraph pattern) (EqualKinds pattern host) same k u v, sets-same (circuitGraph pattern) (EqualKinds pattern host) (same-symm same) k u v)
+      (sets-same (circuitGraph pattern) (KindsMatch pattern host) same k u v, sets-same (circuitGraph pattern) (KindsMatch pattern host) (same-symm same) k u v)
 
   -- a set that the next one has whole is the next one
   repeats : (k : ℕ) → R k ⊆ R (suc k) → row pattern host taken (suc k) ≡ row pattern host taken k
@@ -54,7 +54,7 @@ module _ (pattern host : Circuit) (taken : List ℕ) (most : length (pattern .ki
   -- the four counts are those of the row, and its last set is the last table
   pub row-counts :
       (counts : Counts) → counts ≡ countsOf pattern host taken →
-      (c : RowCounts (circuitGraph pattern) (EqualKinds pattern host) H counts) × (c .table (counts .rounds) ≡ lastTable pattern host taken)
+      (c : RowCounts (circuitGraph pattern) (KindsMatch pattern host) H counts) × (c .table (counts .rounds) ≡ lastTable pattern host taken)
   unfolding countsOf
   row-counts counts e =
       let last = rounds-last pattern host taken most in (

@@ -5,15 +5,16 @@ use lib.Dec.{T}
 use Rattle.base_lists.specs.List.{tabulate, maximum}
 use Rattle.base_lists.proofs.Tests.{T-false}
 use Rattle.graph.specs.Search.{distances, misses, ball, beside, inside, radius}
-use Rattle.table.specs.Examples.{circuitT, circuitB, twoWay, ring}
+use Rattle.table.specs.Examples.{circuitT, circuitB, twoWay, ring, anyTo20}
 use Rattle.table.specs.Refine.{countsOf}
 use Rattle.table.proofs.Counting.{struck-minus}
 use Rattle.table.proofs.Examples as table
 use Rattle.place.specs.Match.{radiusOf, found}
 use Rattle.place.specs.Outcome.{placeVerdict, placeAround}
+use Rattle.place.specs.Examples.{oneLink}
 use Rattle.place.proofs.Examples as place
 use Rattle.merge.proofs.Examples as merge
-use Rattle.demands.specs.Examples.{PlaceIs, NoPlace, onePart, onePartLooped, E1, E2, E3, E4, E5, E6, E7, E8, E9, examples, AllHold}
+use Rattle.demands.specs.Examples.{PlaceIs, NoPlace, onePart, onePartLooped, E1, E2, E3, E4, E5, E6, E7, E8, E9, AnyOnB, ZeroOnBoard, AnyNotMerged, AnyAround, examples, AllHold}
 
 e1 : E1
 unfolding E1 onePart onePartLooped radiusOf radius maximum distances misses ball beside inside tabulate
@@ -56,7 +57,28 @@ e9 : E9
 unfolding E9 PlaceIs
 e9 = (rw place.radius-oneLink place.E9-0, rw place.radius-oneLink place.E9-1)
 
--- E1 to E9 hold.
+anyOnB : AnyOnB
+unfolding AnyOnB countsOf
+anyOnB = (table.any-table, rw (struck-minus, table.any-started, table.any-kept, table.any-rounds))
+
+-- a centre of the board of kinds 0 and 20 that is not found has number 9
+left : (w : ℕ) → (T (found oneLink anyTo20 w 1) → ⊥) → NoPlace oneLink anyTo20 w
+unfolding NoPlace placeVerdict
+left w f = rw (place.radius-oneLink, T-false {b = found oneLink anyTo20 w 1} f)
+
+zeroOnBoard : ZeroOnBoard
+unfolding ZeroOnBoard PlaceIs
+zeroOnBoard = (rw place.radius-anyTo20 place.zero-taken, left 0 place.zero-left-0, left 1 place.zero-left-1)
+
+anyNotMerged : AnyNotMerged
+unfolding AnyNotMerged
+anyNotMerged = (merge.any-self, merge.any-classes)
+
+anyAround : AnyAround
+unfolding AnyAround
+anyAround w h = rw place.radius-anyPart (place.any-around w h)
+
+-- All of them hold.
 pub examples-hold : AllHold examples
 unfolding AllHold examples
-examples-hold = (e1, (e2, (e3, (e4, (e5, (e6, (e7, (e8, (e9, tt)))))))))
+examples-hold = (e1, (e2, (e3, (e4, (e5, (e6, (e7, (e8, (e9, (anyOnB, (zeroOnBoard, (anyNotMerged, (anyAround, tt)))))))))))))

@@ -31,7 +31,7 @@ use Rattle.file_format.specs.Links.{linksBelow, rising}
 use Rattle.file_format.specs.Reading.{ReadOutcome, readConditions, reading}
 use Rattle.file_format.specs.Refusals.{Condition, Verdict, accept, refuse, NoneHolds, FirstHolding, fileConditions, Accepted, shortTable}
 use Rattle.table.specs.declared.Counts.{Counts}
-use Rattle.table.specs.Host.{EqualKinds}
+use Rattle.table.specs.Host.{KindsMatch}
 use Rattle.table.specs.Row.{InTable}
 use Rattle.place.specs.Match.{radiusOf, found, markedGraph}
 use Rattle.place.specs.Outcome.{PlaceOutcome}
@@ -52,7 +52,7 @@ graph file = circuitGraph (circuitOf file)
 
 -- a part of the pattern and a node of the board have equal kinds
 abbrev pub equal : List ℕ → List ℕ → Relation
-equal pattern board = EqualKinds (circuitOf pattern) (circuitOf board)
+equal pattern board = KindsMatch (circuitOf pattern) (circuitOf board)
 
 -- the three tables that are lent to a place call: a byte per node, a byte per link, a set of parts per node
 pub record Lent : Type 0 where

@@ -1,20 +1,20 @@
--- Document 01's examples E1 to E9, as statements about the definitions, in a single list. proofs/Examples proves the list.
+-- Document 01's examples E1 to E9, and those of the requests that came after, as statements about the definitions, in a single list. proofs/Examples proves the list.
 use mathlib.Core.List.{List, [], _∷_}
 use mathlib.Core.Path.{_≡_}
-use Prim.Native.Nat.{ℕ}
+use Prim.Native.Nat.{ℕ, _<_}
 use lib.Dec.{T}
 use Rattle.graph.specs.Circuit.{Circuit}
 use Rattle.file_format.specs.declared.File.the-variants.{Neither}
 use Rattle.file_format.specs.Refusals.{refuse}
-use Rattle.table.specs.Examples.{circuitT, circuitB, twoWay, ring}
+use Rattle.table.specs.Examples.{circuitT, circuitB, twoWay, ring, anyTo20}
 use Rattle.table.specs.Host.{everything}
 use Rattle.table.specs.Refine.{countsOf}
 use Rattle.table.specs.Row.{lastTable}
-use Rattle.place.specs.Examples.{circuitY, oneLink}
+use Rattle.place.specs.Examples.{circuitY, oneLink, anyPart}
 use Rattle.place.specs.Match.{radiusOf, found, placeNodes, placeLinks}
 use Rattle.place.specs.Outcome.{placeVerdict, placeAround}
-use Rattle.merge.specs.Examples.{circuitE8}
-use Rattle.merge.specs.Merged.{classes, merged}
+use Rattle.merge.specs.Examples.{circuitE8, tenAndAny}
+use Rattle.merge.specs.Merged.{selfTable, classes, merged}
 
 -- there is a place around w, at the pattern's radius, with these bytes for its nodes and its links
 unfoldable pub PlaceIs : Circuit → Circuit → ℕ → List ℕ → List ℕ → Type 0
@@ -80,6 +80,24 @@ E8 = (classes circuitE8 ≡ 0 ∷ 1 ∷ 2 ∷ 3 ∷ []) × (merged circuitE8 ≡
 unfoldable pub E9 : Type 0
 E9 = PlaceIs oneLink twoWay 0 (1 ∷ 1 ∷ []) (1 ∷ 0 ∷ []) × PlaceIs oneLink twoWay 1 (1 ∷ 1 ∷ []) (1 ∷ 0 ∷ [])
 
+-- A pattern with a part of kind 0, "some part, I don't care which", that drives one of kind 20, on all of B.
+unfoldable pub AnyOnB : Type 0
+AnyOnB =
+    (lastTable anyTo20 circuitB (everything circuitB) ≡ 1 ∷ 2 ∷ 0 ∷ 0 ∷ 0 ∷ 0 ∷ [])
+    × (countsOf anyTo20 circuitB (everything circuitB) ≡ record { started = 8; kept = 2; struck = 6; rounds = 1 })
+
+-- A node of kind 0, "which means unidentified, is matched by such a part only": not by one of kind 10.
+unfoldable pub ZeroOnBoard : Type 0
+ZeroOnBoard = PlaceIs anyTo20 anyTo20 0 (1 ∷ 1 ∷ []) (1 ∷ []) × NoPlace oneLink anyTo20 0 × NoPlace oneLink anyTo20 1
+
+-- Parts of kinds 0 and 10 with the same links: only one matches the other, and they do not merge.
+unfoldable pub AnyNotMerged : Type 0
+AnyNotMerged = (selfTable tenAndAny ≡ 1 ∷ 2 ∷ 6 ∷ []) × (classes tenAndAny ≡ 0 ∷ 1 ∷ 2 ∷ [])
+
+-- One part of kind 0 has a place around every node of B.
+unfoldable pub AnyAround : Type 0
+AnyAround = (w : ℕ) → w < 6 → T (found anyPart circuitB w (radiusOf anyPart))
+
 -- "Proved of the definitions, as a single list that one theorem covers"
 pub data Statements : Type 1 where
   done : Statements
@@ -87,7 +105,8 @@ pub data Statements : Type 1 where
 
 infixr 3 _also_
 unfoldable pub examples : Statements
-examples = E1 also E2 also E3 also E4 also E5 also E6 also E7 also E8 also E9 also done
+examples =
+    E1 also E2 also E3 also E4 also E5 also E6 also E7 also E8 also E9 also AnyOnB also ZeroOnBoard also AnyNotMerged also AnyAround also done
 
 -- every statement of a list holds
 unfoldable pub AllHold : Statements → Type 0

@@ -18,7 +18,7 @@ use Rattle.simulation.specs.Closed.{Relation}
 use Rattle.simulation.specs.Simulation.{Largest}
 use Rattle.simulation.specs.Quotient.{Mutual, SharesClass, AgreeLaws, LinksJoin}
 use Rattle.simulation.proofs.Quotient.{mutual-equivalence}
-use Rattle.table.specs.Host.{everything, EqualKinds}
+use Rattle.table.specs.Host.{everything, KindsMatch}
 use Rattle.table.specs.Row.{inTable, InTable}
 use Rattle.table.proofs.Agreement.{kinds-reflexive, kinds-compose}
 use Rattle.table.proofs.Host.{within-joins, board-largest}
@@ -43,7 +43,7 @@ abbrev pub leads : Circuit → ℕ → Bool
 leads p = isLeader (length (p .kinds)) (selfTable p)
 
 -- equal kinds, of parts with parts and of parts with nodes, have what merging needs
-pub kinds-laws : (p board : Circuit) → AgreeLaws (circuitGraph p) (EqualKinds p p) (EqualKinds p board)
+pub kinds-laws : (p board : Circuit) → AgreeLaws (circuitGraph p) (KindsMatch p p) (KindsMatch p board)
 kinds-laws p board =
     record { reflexive = λ u n. kinds-reflexive p u; transitive = kinds-compose p p p; compose = kinds-compose p p board }
 
@@ -69,7 +69,7 @@ module _ {p : Circuit} (c : PatternContent p) where
   content-joins = within-joins p (content-within c)
 
   -- the table on itself is the largest dual simulation of the pattern in itself
-  pub self-largest : Largest (circuitGraph p) (EqualKinds p p) (circuitGraph p) (SelfPairs p)
+  pub self-largest : Largest (circuitGraph p) (KindsMatch p p) (circuitGraph p) (SelfPairs p)
   unfolding selfTable
   self-largest = board-largest p p (most-parts c) (content-connected c) content-joins
 

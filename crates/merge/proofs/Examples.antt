@@ -11,7 +11,7 @@ use Rattle.place.specs.Match.{radiusOf}
 use Rattle.place.specs.Examples.{circuitY, oneLink}
 use Rattle.place.proofs.Examples.{radius-Y, radius-oneLink}
 use Rattle.merge.specs.Merged.{equivalent, leader, isLeader, classIn, selfTable, classOf, classCount, classes, joins, linked, merged}
-use Rattle.merge.specs.Examples.{circuitE8}
+use Rattle.merge.specs.Examples.{circuitE8, tenAndAny}
 use Rattle.merge.proofs.Content.{PatternContent}
 
 -- all that is opened where a merged pattern is computed
@@ -57,3 +57,13 @@ E8-classes = refl
 pub E8-merged : merged circuitE8 ≡ circuitE8
 unfolding opened circuitE8
 E8-merged = refl
+
+-- ---- parts of kind 0 and of kind 10 with the same links: the first matches the second, and not the other way round
+
+pub any-self : selfTable tenAndAny ≡ 1 ∷ 2 ∷ 6 ∷ []
+unfolding opened tenAndAny
+any-self = refl
+
+pub any-classes : classes tenAndAny ≡ 0 ∷ 1 ∷ 2 ∷ []
+unfolding opened tenAndAny
+any-classes = refl

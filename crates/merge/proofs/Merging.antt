@@ -13,7 +13,7 @@ use Rattle.graph.specs.Circuit.{Circuit, HasLink, graphOf, circuitGraph}
 use Rattle.graph_pairs.proofs.Pairs.{pairCount, length-pair-starts, length-pair-ends, pair-link}
 use Rattle.simulation.specs.Perfect.{SameGraph}
 use Rattle.simulation.specs.Quotient.{QuotientGraph, QuotientAgree, Merging}
-use Rattle.table.specs.Host.{EqualKinds}
+use Rattle.table.specs.Host.{KindsMatch}
 use Rattle.table.proofs.Agreement.{kinds-mutual, kinds-part}
 use Rattle.merge.specs.Merged.{classIn, classOf, classCount, joins, linked, merged}
 use Rattle.merge.proofs.Content.{PatternContent}
@@ -111,7 +111,7 @@ module _ {p : Circuit} (c : PatternContent p) where
       collect-rank _ (leads p) (λ u. getD (p .kinds) u 0) (leaderOf p u) 0 (leader-lt c u h) (leader-leads c u h)
       ∙ sym (class-kinds u (leaderOf p u) (leader-member c u h))
 
-  pub merged-agree : (board : Circuit) → QuotientAgree (circuitGraph p) (classOf p) (EqualKinds p board) (EqualKinds (merged p) board)
+  pub merged-agree : (board : Circuit) → QuotientAgree (circuitGraph p) (classOf p) (KindsMatch p board) (KindsMatch (merged p) board)
   unfolding circuitGraph graphOf
   merged-agree board =
       record {
@@ -122,7 +122,7 @@ module _ {p : Circuit} (c : PatternContent p) where
       }
 
   -- all that merging rests on, for equal kinds
-  pub merging : (board : Circuit) → Merging (circuitGraph p) (EqualKinds p p) (EqualKinds p board) (SelfPairs p) (classOf p) (EqualKinds (merged p) board)
+  pub merging : (board : Circuit) → Merging (circuitGraph p) (KindsMatch p p) (KindsMatch p board) (SelfPairs p) (classOf p) (KindsMatch (merged p) board)
   merging board =
       record {
         joins = content-joins c;

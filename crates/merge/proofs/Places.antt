@@ -16,7 +16,7 @@ use Rattle.simulation.specs.Perfect.{Place}
 use Rattle.simulation.specs.Quotient.{QuotientGraph}
 use Rattle.simulation.proofs.Same.{same-refl, same-symm, largest-same, place-same}
 use Rattle.simulation.proofs.Quotient.{same-pairs, same-place}
-use Rattle.table.specs.Host.{EqualKinds}
+use Rattle.table.specs.Host.{KindsMatch}
 use Rattle.place.specs.Match.{radiusOf, ballTable, found, matches, linkMatches, matchStarts, matchEnds, component, placeNodes, placeLinks}
 use Rattle.base_lists.specs.Below.{keepFrom}
 use Rattle.place.proofs.Ball.{Admissible, ballGraph, BallPairs, ball-largest, found-iff}
@@ -39,8 +39,8 @@ module _ {p board : Circuit} (c : PatternContent p) (admissible : Admissible p b
   -- The places of the pattern are those of the merged pattern.
   pub merged-place :
       (G : Graph) →
-      Place (circuitGraph p) (EqualKinds p board) (circuitGraph board) w r G ↔
-      Place (circuitGraph (merged p)) (EqualKinds (merged p) board) (circuitGraph board) w r G
+      Place (circuitGraph p) (KindsMatch p board) (circuitGraph board) w r G ↔
+      Place (circuitGraph (merged p)) (KindsMatch (merged p) board) (circuitGraph board) w r G
   merged-place G =
       Iff·trans (same-place (merging c board)) (
         place-same (same-symm (merged-graph c)) (record { agree = λ u v m n. Iff·rfl }) (same-refl _) (same-refl G),
@@ -53,7 +53,7 @@ module _ {p board : Circuit} (c : PatternContent p) (admissible : Admissible p b
   merged-admissible = content-admissible (merged-content c) (admissible .links)
 
   merged-largest :
-      Largest (QuotientGraph (circuitGraph p) (classOf p)) (EqualKinds (merged p) board) (ballGraph board w r) (BallPairs (merged p) board w r)
+      Largest (QuotientGraph (circuitGraph p) (classOf p)) (KindsMatch (merged p) board) (ballGraph board w r) (BallPairs (merged p) board w r)
   merged-largest =
       largest-same (merged-graph c) (same-refl _) (record { agree = λ u v m n. Iff·rfl }) (ball-largest merged-admissible w r)
 

@@ -18,7 +18,7 @@ use Rattle.simulation.specs.Closed.{Relation}
 use Rattle.simulation.specs.Simulation.{Largest}
 use Rattle.simulation.specs.Perfect.{SameGraph}
 use Rattle.simulation.proofs.Same.{same-refl, largest-same}
-use Rattle.table.specs.Host.{Taken, hostGraph, EqualKinds}
+use Rattle.table.specs.Host.{Taken, hostGraph, KindsMatch}
 use Rattle.table.specs.Row.{inTable, InTable}
 use Rattle.table.proofs.Sets.{fits-word}
 use Rattle.table.proofs.Row.{Table}
@@ -70,7 +70,7 @@ module _ {pattern board : Circuit} (a : Admissible pattern board) (w r : ℕ) wh
       }
 
   -- The ball's table is the largest dual simulation of the pattern in the ball.
-  pub ball-largest : Largest (circuitGraph pattern) (EqualKinds pattern board) (ballGraph board w r) (BallPairs pattern board w r)
+  pub ball-largest : Largest (circuitGraph pattern) (KindsMatch pattern board) (ballGraph board w r) (BallPairs pattern board w r)
   unfolding ballTable
   ball-largest =
       largest-same (same-refl (circuitGraph pattern)) ball-host (record { agree = λ u v m n. Iff·rfl })

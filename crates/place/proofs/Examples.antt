@@ -1,16 +1,17 @@
 -- Document 01's examples of places, by computation. Assumes nothing.
 use mathlib.Core.List.{List, [], _∷_}
 use mathlib.Core.Path.{_≡_, refl}
-use Prim.Native.Nat.{ℕ}
+use Prim.Native.Nat.{ℕ, zero, suc, _<_}
+use native.Mathlib.Omega.{arith}
 use lib.Dec.{T}
 use Rattle.base_lists.specs.List.{anyBelow, maximum}
 use Rattle.base_lists.specs.Below.{keepFrom}
 use Rattle.graph.specs.Circuit.{Circuit}
 use Rattle.graph.specs.Search.{beside, ball, misses, distances, radius}
 use Rattle.table.specs.Row.{started, kept, rounds}
-use Rattle.table.specs.Examples.{rowComputed, circuitT, circuitB, twoWay, ring}
+use Rattle.table.specs.Examples.{rowComputed, circuitT, circuitB, twoWay, ring, anyTo20}
 use Rattle.place.specs.Match.{radiusOf, ballOf, ballTable, found, matches, linkMatches, matchStarts, matchEnds, component, placeNodes, placeLinks}
-use Rattle.place.specs.Examples.{circuitY, oneLink}
+use Rattle.place.specs.Examples.{circuitY, oneLink, anyPart}
 
 -- all that is opened where a place is computed
 opened : Unit {0}
@@ -113,3 +114,38 @@ E9-0 = (tt, refl, refl)
 pub E9-1 : Shows oneLink twoWay 1 1 (1 ∷ 1 ∷ []) (1 ∷ 0 ∷ [])
 unfolding opened oneLink twoWay
 E9-1 = (tt, refl, refl)
+
+-- ---- kind 0
+
+pub radius-anyTo20 : radiusOf anyTo20 ≡ 1
+unfolding opened anyTo20
+radius-anyTo20 = refl
+
+pub radius-anyPart : radiusOf anyPart ≡ 0
+unfolding opened anyPart
+radius-anyPart = refl
+
+-- a node of kind 0 is matched by a part of kind 0,
+pub zero-taken : Shows anyTo20 anyTo20 0 1 (1 ∷ 1 ∷ []) (1 ∷ [])
+unfolding opened anyTo20
+zero-taken = (tt, refl, refl)
+
+-- and by no part of another kind
+pub zero-left-0 : T (found oneLink anyTo20 0 1) → ⊥
+unfolding opened oneLink anyTo20
+zero-left-0 t = t
+
+pub zero-left-1 : T (found oneLink anyTo20 1 1) → ⊥
+unfolding opened oneLink anyTo20
+zero-left-1 t = t
+
+-- one part of kind 0 has a place around every node
+pub any-around : (w : ℕ) → w < 6 → T (found anyPart circuitB w 0)
+unfolding opened anyPart circuitB
+any-around zero h = tt
+any-around (suc zero) h = tt
+any-around (suc (suc zero)) h = tt
+any-around (suc (suc (suc zero))) h = tt
+any-around (suc (suc (suc (suc zero)))) h = tt
+any-around (suc (suc (suc (suc (suc zero))))) h = tt
+any-around (suc (suc (suc (suc (suc (suc w)))))) h = let none : ⊥ = omega arith in absurd none

@@ -17,7 +17,7 @@ use Rattle.simulation.specs.Perfect.{MatchGraph, Perfect, Place, SameGraph, Com
 use Rattle.simulation.proofs.Same.{same-refl, same-symm, place-same, largest-same-set}
 use Rattle.simulation.proofs.Walks.{wider-walk}
 use Rattle.simulation.proofs.Place.{component-place, perfect-occurs, place-largest}
-use Rattle.table.specs.Host.{EqualKinds}
+use Rattle.table.specs.Host.{KindsMatch}
 use Rattle.table.specs.Row.{InTable}
 use Rattle.table.proofs.Sets.{fits-node}
 use Rattle.place.specs.Match.{ballTable, found, matchStarts, matchEnds, component, placeNodes, placeLinks, placeTable, markedGraph}
@@ -90,7 +90,7 @@ module _ {pattern board : Circuit} (a : Admissible pattern board) (w r : ℕ) wh
   -- Where the centre is found, what the bytes mark is the place, "the perfect subgraph around w at radius r that contains every other".
   pub place-found :
       T (found pattern board w r) →
-      Place (circuitGraph pattern) (EqualKinds pattern board) (circuitGraph board) w r (placeGraph pattern board w r)
+      Place (circuitGraph pattern) (KindsMatch pattern board) (circuitGraph board) w r (placeGraph pattern board w r)
   place-found t =
       let centre = found-iff a w r .0 t in
       place-same (same-refl (circuitGraph pattern)) (record { agree = λ u v m n. Iff·rfl }) (same-refl (ballGraph board w r))
@@ -99,25 +99,25 @@ module _ {pattern board : Circuit} (a : Admissible pattern board) (w r : ℕ) wh
   -- Where it is not, there is no perfect subgraph,
   pub place-none :
       (T (found pattern board w r) → ⊥) →
-      (G : Graph) → Perfect (circuitGraph pattern) (EqualKinds pattern board) (circuitGraph board) w r G → ⊥
+      (G : Graph) → Perfect (circuitGraph pattern) (KindsMatch pattern board) (circuitGraph board) w r G → ⊥
   place-none none G g = none (found-iff a w r .1 (perfect-occurs (ball-largest a w r) w g))
 
   -- and only there.
   pub none-iff :
       (T (found pattern board w r) → ⊥) ↔
-      ((G : Graph) → Perfect (circuitGraph pattern) (EqualKinds pattern board) (circuitGraph board) w r G → ⊥)
+      ((G : Graph) → Perfect (circuitGraph pattern) (KindsMatch pattern board) (circuitGraph board) w r G → ⊥)
   none-iff = (place-none, λ none t. none _ (place-found t .perfect))
 
   -- So the centre is found exactly where there is a place.
   pub found-place :
       T (found pattern board w r) ↔
-      ((G : Graph) × Place (circuitGraph pattern) (EqualKinds pattern board) (circuitGraph board) w r G)
+      ((G : Graph) × Place (circuitGraph pattern) (KindsMatch pattern board) (circuitGraph board) w r G)
   found-place = (λ t. (_, place-found t), λ (G, g). found-iff a w r .1 (perfect-occurs (ball-largest a w r) w (g .perfect)))
 
   -- The table over the place is the largest dual simulation in the place itself.
   pub place-table :
       T (found pattern board w r) →
-      Largest (circuitGraph pattern) (EqualKinds pattern board) (placeGraph pattern board w r) (InTable (placeTable pattern board w r))
+      Largest (circuitGraph pattern) (KindsMatch pattern board) (placeGraph pattern board w r) (InTable (placeTable pattern board w r))
   unfolding markedGraph Restrict
   place-table t =
       largest-same-set (λ u v. table-in pattern board w r u v .1) (λ u v. table-in pattern board w r u v .0)

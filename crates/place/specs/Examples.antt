@@ -9,3 +9,7 @@ circuitY = record { kinds = 10 ∷ 20 ∷ 20 ∷ []; starts = 0 ∷ 0 ∷ []; en
 -- E9: "Pattern 0:10, 1:20, link 0-1"; it is Y's merged pattern too. The board of E9, "that also has 1-0", is E5's pattern.
 unfoldable pub oneLink : Circuit
 oneLink = record { kinds = 10 ∷ 20 ∷ []; starts = 0 ∷ []; ends = 1 ∷ [] }
+
+-- one part, of kind 0
+unfoldable pub anyPart : Circuit
+anyPart = record { kinds = 0 ∷ []; starts = []; ends = [] }

@@ -3,7 +3,7 @@ use mathlib.Core.List.{[], _∷_}
 use mathlib.Core.Path.{_≡_, refl}
 use Rattle.table.specs.Host.{everything}
 use Rattle.table.specs.Row.{started, lastTable, kept, struck, rounds}
-use Rattle.table.specs.Examples.{rowComputed, circuitT, circuitB, twoWay, ring}
+use Rattle.table.specs.Examples.{rowComputed, circuitT, circuitB, twoWay, ring, anyTo20}
 
 -- "E2 T on all of B: table 1, 2, 4, 0, 0, 0; started 6, kept 3, struck 3, rounds 2."
 pub E2-table : lastTable circuitT circuitB (everything circuitB) ≡ 1 ∷ 2 ∷ 4 ∷ 0 ∷ 0 ∷ 0 ∷ []
@@ -43,3 +43,20 @@ E4-rounds = refl
 pub E5-table : lastTable twoWay ring (everything ring) ≡ 1 ∷ 2 ∷ 1 ∷ 2 ∷ []
 unfolding rowComputed twoWay ring
 E5-table = refl
+
+-- a part of kind 0 on B: every node is a pair of it at first
+pub any-table : lastTable anyTo20 circuitB (everything circuitB) ≡ 1 ∷ 2 ∷ 0 ∷ 0 ∷ 0 ∷ 0 ∷ []
+unfolding rowComputed anyTo20 circuitB
+any-table = refl
+
+pub any-started : started anyTo20 circuitB (everything circuitB) ≡ 8
+unfolding rowComputed anyTo20 circuitB
+any-started = refl
+
+pub any-kept : kept anyTo20 circuitB (everything circuitB) ≡ 2
+unfolding rowComputed anyTo20 circuitB
+any-kept = refl
+
+pub any-rounds : rounds anyTo20 circuitB (everything circuitB) ≡ 1
+unfolding rowComputed anyTo20 circuitB
+any-rounds = refl

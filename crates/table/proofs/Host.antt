@@ -16,7 +16,7 @@ use Rattle.simulation.specs.Quotient.{LinksJoin}
 use Rattle.simulation.proofs.Same.{same-refl, same-symm, agree-symm, largest-same}
 use Rattle.simulation.proofs.Simulation.{along-wider}
 use Rattle.table_row.specs.Reading.{InTable, Reading, Wider, Equivalent}
-use Rattle.table.specs.Host.{Taken, hostGraph, everything, EqualKinds}
+use Rattle.table.specs.Host.{Taken, hostGraph, everything, KindsMatch}
 use Rattle.table.specs.Row.{problemOf, lastTable}
 use Rattle.table.proofs.Row.{Candidates, Steps, Moves, reading}
 use Rattle.table.proofs.Meaning.{last-largest}
@@ -44,7 +44,7 @@ everything-same c j =
 -- so there the last table is the largest dual simulation in the board
 pub board-largest :
     (pattern board : Circuit) → length (pattern .kinds) ≤ 32 → Connected (circuitGraph pattern) → LinksJoin (circuitGraph board) →
-    Largest (circuitGraph pattern) (EqualKinds pattern board) (circuitGraph board) (InTable (lastTable pattern board (everything board)))
+    Largest (circuitGraph pattern) (KindsMatch pattern board) (circuitGraph board) (InTable (lastTable pattern board (everything board)))
 board-largest pattern board most connected j =
     largest-same (same-refl (circuitGraph pattern)) (everything-same board j) (record { agree = λ u v p n. Iff·rfl })
     (last-largest pattern board (everything board) most connected)
@@ -54,7 +54,7 @@ board-largest pattern board most connected j =
 -- Two presentations of one graph, by the nodes taken from two circuits.
 pub record SameHost (pattern host host′ : Circuit) (taken taken′ : List ℕ) : Type 0 where
   pub graph : SameGraph (hostGraph host taken) (hostGraph host′ taken′)
-  pub kinds : SameAgree (circuitGraph pattern) (hostGraph host taken) (EqualKinds pattern host) (EqualKinds pattern host′)
+  pub kinds : SameAgree (circuitGraph pattern) (hostGraph host taken) (KindsMatch pattern host) (KindsMatch pattern host′)
 
 same-host-symm :
     {pattern host host′ : Circuit} {taken taken′ : List ℕ} → SameHost pattern host host′ taken taken′ →

@@ -9,7 +9,7 @@ use Rattle.simulation.specs.Simulation.{Largest}
 use Rattle.simulation.proofs.Simulation.{largest-iff-closed}
 use Rattle.table_row.specs.Reading.{InTable}
 use Rattle.table_row.proofs.Meaning as Of
-use Rattle.table.specs.Host.{hostGraph, EqualKinds}
+use Rattle.table.specs.Host.{hostGraph, KindsMatch}
 use Rattle.table.specs.Row.{problemOf, lastTable}
 use Rattle.table.proofs.Row.{Table, Candidates, Steps, Moves, agreeing-iff, reading}
 
@@ -31,5 +31,5 @@ module _ (pattern host : Circuit) (taken : List ℕ) (most : length (pattern .ki
   -- "The last set of this row is the largest dual simulation."
   pub last-largest :
       Connected (circuitGraph pattern) →
-      Largest (circuitGraph pattern) (EqualKinds pattern host) (hostGraph host taken) (InTable (lastTable pattern host taken))
+      Largest (circuitGraph pattern) (KindsMatch pattern host) (hostGraph host taken) (InTable (lastTable pattern host taken))
   last-largest connected = largest-iff-closed connected .0 last-closed

@@ -17,7 +17,7 @@ use Rattle.table_row.specs.Problem.{Way, Agreeing}
 use Rattle.table_row.specs.Row.{rowFrom, rowOf}
 use Rattle.table_row.specs.Reading.{InTable, Fits, Reading}
 use Rattle.table_row.proofs.Row as Of
-use Rattle.table.specs.Host.{hostGraph, EqualKinds}
+use Rattle.table.specs.Host.{hostGraph, KindsMatch}
 use Rattle.table.specs.Row.{agrees, neighbours, problemOf, startTable, row}
 use Rattle.table.proofs.Agreement.{agrees-kinds}
 
@@ -27,7 +27,7 @@ Table pattern host t = Fits (length (host .kinds)) (length (pattern .kinds)) t
 
 -- "R0 is the set of pairs with equal kinds": the pairs of a part and a node of H.
 abbrev pub Candidates : Circuit → Circuit → List ℕ → Relation
-Candidates pattern host taken = Candidate (circuitGraph pattern) (EqualKinds pattern host) (hostGraph host taken)
+Candidates pattern host taken = Candidate (circuitGraph pattern) (KindsMatch pattern host) (hostGraph host taken)
 
 -- the links of the pattern and those of H, followed in either direction
 abbrev pub Steps : Circuit → Direction → Relation
@@ -124,6 +124,6 @@ module _ (pattern host : Circuit) (taken : List ℕ) where
   every-row-closed = Of.every-row (problemOf pattern host taken) reading
 
   pub every-row :
-      {S : Relation} → DualSimulation (circuitGraph pattern) (EqualKinds pattern host) (hostGraph host taken) S →
+      {S : Relation} → DualSimulation (circuitGraph pattern) (KindsMatch pattern host) (hostGraph host taken) S →
       (k : ℕ) → S ⊆ InTable (row pattern host taken k)
   every-row s = every-row-closed (dual-closed s)

@@ -30,3 +30,7 @@ twoWay = record { kinds = 10 ∷ 20 ∷ []; starts = 0 ∷ 1 ∷ []; ends = 1 �
 -- E5: "the ring 0:10, 1:20, 2:10, 3:20, links 0-1, 1-2, 2-3, 3-0"
 unfoldable pub ring : Circuit
 ring = record { kinds = 10 ∷ 20 ∷ 10 ∷ 20 ∷ []; starts = 0 ∷ 1 ∷ 2 ∷ 3 ∷ []; ends = 1 ∷ 2 ∷ 3 ∷ 0 ∷ [] }
+
+-- any part that drives one of kind 20; as a board: a node that is not identified and drives one of kind 20
+unfoldable pub anyTo20 : Circuit
+anyTo20 = record { kinds = 0 ∷ 20 ∷ []; starts = 0 ∷ []; ends = 1 ∷ [] }

@@ -1,6 +1,7 @@
 -- The graph H in which a pattern is matched: "a board or a subgraph of one". It is given by a circuit, from which it takes some of the
 -- nodes, one byte each (1: taken), and some of the links: those that the circuit lists and whose ends are both taken.
 use mathlib.Core.List.{List}
+use mathlib.Core.Logic.{_⊎_}
 use mathlib.Core.Path.{_≡_}
 use Prim.Native.Nat.{ℕ, _<_}
 use lib.Dec.{T}
@@ -22,6 +23,7 @@ hostGraph c taken = record { Node = Taken c taken; Link = λ v w. HasLink (c .st
 unfoldable pub everything : Circuit → List ℕ
 everything c = tabulate (length (c .kinds)) (λ v. 1)
 
--- "every pair has equal kinds"
-unfoldable pub EqualKinds : Circuit → Circuit → ℕ → ℕ → Type 0
-EqualKinds pattern host u v = getD (pattern .kinds) u 0 ≡ getD (host .kinds) v 0
+-- "From now a pattern part of kind 0 matches a node of every kind, and a board node of kind 0, which means unidentified, is matched by such a
+-- part only. Every sentence of document 01 on equal kinds reads so". It is not symmetric.
+unfoldable pub KindsMatch : Circuit → Circuit → ℕ → ℕ → Type 0
+KindsMatch pattern host u v = (getD (pattern .kinds) u 0 ≡ 0) ⊎ (getD (pattern .kinds) u 0 ≡ getD (host .kinds) v 0)

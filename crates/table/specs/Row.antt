@@ -1,7 +1,7 @@
 -- The row of sets of a pattern on a circuit, and the four counts: what the contracts cite. They are those of a problem as table_row has it:
 -- which part agrees with which node, and links to be followed forwards and backwards. proofs/ shows that the last set is the largest dual
 -- simulation.
-use mathlib.Core.Bool.{Bool, _&&_}
+use mathlib.Core.Bool.{Bool, _&&_, _||_}
 use mathlib.Core.List.{List, [], _∷_}
 use Prim.Native.Nat.{ℕ}
 use lib.Dec.{eqb}
@@ -17,9 +17,9 @@ pub use Rattle.table_row.specs.Reading.{InTable}
 
 -- ---- the problem
 
--- a part and a node of these kinds agree: the kinds are equal
+-- a part and a node of these kinds agree: the part is of kind 0, or the kinds are equal
 unfoldable pub kindsAgree : ℕ → ℕ → Bool
-kindsAgree part node = eqb part node
+kindsAgree part node = eqb part 0 || eqb part node
 
 -- part u and node v agree
 unfoldable pub agrees : Circuit → Circuit → ℕ → ℕ → Bool
@@ -37,6 +37,18 @@ problemOf pattern host taken =
       parts = length (pattern .kinds);
       nodes = length (host .kinds);
       agree = λ u v. inside taken v && agrees pattern host u v;
+      ways = forwards ∷ backwards ∷ [];
+      steps = neighbours pattern;
+      moves = neighbours host;
+    }
+
+-- the same by equal kinds alone, as it was when kind 0 was a kind like any other
+unfoldable pub byEqualKinds : Circuit → Circuit → List ℕ → Problem Direction
+byEqualKinds pattern host taken =
+    record {
+      parts = length (pattern .kinds);
+      nodes = length (host .kinds);
+      agree = λ u v. inside taken v && eqb (getD (pattern .kinds) u 0) (getD (host .kinds) v 0);
       ways = forwards ∷ backwards ∷ [];
       steps = neighbours pattern;
       moves = neighbours host;

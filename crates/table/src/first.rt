@@ -9,6 +9,16 @@ ghost use Rattle.table.specs.Fill.{NodeList};
 ghost use Rattle.table.specs.First.{startNode, Written};
 ghost use Rattle.table.specs.Row.{kindsAgree};
 
+// A part of one kind agrees with a node of another: kind 0 in a pattern is any part.
+fn kinds_agree(part: u16, node: u16) -> bool
+    ensures { λ r. ⌜ r ≡ kindsAgree part node ⌝ }
+{
+    if part == 0 {
+        return true;
+    }
+    part == node
+}
+
 // The set of the parts that agree with a node of this kind.
 fn alike(part_kinds: &[u16], kind: u16) -> u32
     requires { ⌜ length (now «part_kinds») ≤ 32 ⌝ }
@@ -17,7 +27,7 @@ fn alike(part_kinds: &[u16], kind: u16) -> u32
     let mut set: u32 = 0;
     let mut u = 0;
     while u < part_kinds.len() {
-        if part_kinds[u] == kind {
+        if kinds_agree(part_kinds[u], kind) {
             set = set | base_bits::single(u as u32);
         }
         u += 1;

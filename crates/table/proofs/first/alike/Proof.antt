@@ -1,7 +1,7 @@
 -- `table::first::alike` meets its contract. The loop's invariant: the set so far is that of the parts before u. The measure is how many
 -- parts are left. Assumes nothing.
 use mathlib.Core.Logic.{⊎-elim}
-use mathlib.Core.Path.{_≡_, refl, ap, ap₂, _∙_}
+use mathlib.Core.Path.{_≡_, refl, sym, ap, ap₂, _∙_}
 use Prim.Native.Nat.{ℕ, _-_, _≤_}
 use native.Mathlib.Omega.{arith}
 use borrow.Author.Needs.{needs}
@@ -11,7 +11,6 @@ use lib.ListN.{length, getD}
 use Rattle.base_bits.specs.Bits.{numberOf}
 use Rattle.base_bits.proofs.Numbers.{number-insert, number-skip}
 use Rattle.table.specs.Row.{kindsAgree}
-use Rattle.table.proofs.Agreement.{kinds-equal, kinds-differ}
 use Rattle.table.proofs.first.alike.Statement.{statement}
 use Rattle.table.proofs.first.alike.Tie as tie
 
@@ -25,11 +24,14 @@ loop-holds : tie.Need-loop-holds Inv-loop μ-loop
 unfolding numberOf
 loop-holds c = (omega arith, refl)
 
-mul-if1 : tie.Need-mul-if1 Inv-loop μ-loop
-mul-if1 c = search needs
+mul-kinds-agree : tie.Need-mul-kinds-agree Inv-loop μ-loop
+mul-kinds-agree c = search needs
 
-shared-slice-read-if1 : tie.Need-shared-slice-read-if1 Inv-loop μ-loop
-shared-slice-read-if1 c = search needs
+shared-slice-read-kinds-agree : tie.Need-shared-slice-read-kinds-agree Inv-loop μ-loop
+shared-slice-read-kinds-agree c = search needs
+
+kinds-agree-requires : tie.Need-kinds-agree-requires Inv-loop μ-loop
+kinds-agree-requires c κs = search needs
 
 cast-single : tie.Need-cast-single Inv-loop μ-loop
 cast-single c = omega arith
@@ -45,7 +47,7 @@ loop-less c = omega arith
 
 loop-again : tie.Need-loop-again Inv-loop μ-loop
 loop-again c =
-    let loop = c .before .before .before in
+    let loop = c .before .before .before .before in
     let a = loop .before .before .args in
     let u = loop .loop .u in
     let kinds = now (a .part-kinds) in
@@ -55,8 +57,8 @@ loop-again c =
           (λ w.
           w .2
           ∙ ap₂ bitOr inv (w .1 .ensures)
-          ∙ number-insert u (λ x. kindsAgree (getD kinds x 0) (a .kind)) (kinds-equal (getD kinds u 0) (a .kind) (w .0 .taken)))
-          (λ w. w .1 ∙ inv ∙ number-skip u (λ x. kindsAgree (getD kinds x 0) (a .kind)) (kinds-differ (getD kinds u 0) (a .kind) (w .0 .left)))
+          ∙ number-insert u (λ x. kindsAgree (getD kinds x 0) (a .kind)) (sym (c .before .kinds-agree .ensures) ∙ w .0 .taken))
+          (λ w. w .1 ∙ inv ∙ number-skip u (λ x. kindsAgree (getD kinds x 0) (a .kind)) (sym (c .before .kinds-agree .ensures) ∙ w .0 .left))
           (c .if1 .came),
     )
 
@@ -68,4 +70,4 @@ returns c =
     loop .loop .inv .1 ∙ ap (λ (n : ℕ). numberOf n (λ x. kindsAgree (getD (now (a .part-kinds)) x 0) (a .kind))) done
 
 pub alike-spec : {M : Type 1} → statement M
-alike-spec = tie.close (tie.spec Inv-loop μ-loop loop-holds mul-if1 shared-slice-read-if1 cast-single single-requires add-u loop-less loop-again returns)
+alike-spec = tie.close (tie.spec Inv-loop μ-loop loop-holds mul-kinds-agree shared-slice-read-kinds-agree kinds-agree-requires cast-single single-requires add-u loop-less loop-again returns)
