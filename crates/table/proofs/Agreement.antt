@@ -16,7 +16,7 @@ use Rattle.graph.specs.Search.{inside}
 use Rattle.table_row.specs.Row.{startedOf, lastOf, keptOf, struckOf, roundsOf}
 use Rattle.table_row.specs.Reading.{Equivalent}
 use Rattle.table_row.proofs.Wider.{last-same, started-same, kept-same, struck-same, rounds-same}
-use Rattle.table.specs.Row.{kindsAgree, agrees, problemOf, byKindsMatch, lastTable, started, kept, struck, rounds}
+use Rattle.table.specs.Row.{kindsAgree, agrees, problemOf, byEqualKinds, lastTable, started, kept, struck, rounds}
 
 -- ---- the test
 
@@ -79,8 +79,8 @@ module _ (pattern host : Circuit) (taken : List ℕ) (plain : Plain pattern) whe
   unfolding agrees kindsAgree
   plain-agree u v h = rw (ne-eqb (getD (pattern .kinds) u 0) 0 (plain u h))
 
-  pub plain-same : Equivalent (problemOf pattern host taken) (byKindsMatch pattern host taken)
-  unfolding problemOf byKindsMatch
+  pub plain-same : Equivalent (problemOf pattern host taken) (byEqualKinds pattern host taken)
+  unfolding problemOf byEqualKinds
   plain-same =
       record {
         nodes = refl;
@@ -97,12 +97,12 @@ module _ (pattern host : Circuit) (taken : List ℕ) (plain : Plain pattern) whe
             };
       }
 
-  pub plain-last : lastTable pattern host taken ≡ lastOf (byKindsMatch pattern host taken)
+  pub plain-last : lastTable pattern host taken ≡ lastOf (byEqualKinds pattern host taken)
   plain-last = last-same plain-same
 
   pub plain-counts :
-      (started pattern host taken ≡ startedOf (byKindsMatch pattern host taken))
-      × (kept pattern host taken ≡ keptOf (byKindsMatch pattern host taken))
-      × (struck pattern host taken ≡ struckOf (byKindsMatch pattern host taken))
-      × (rounds pattern host taken ≡ roundsOf (byKindsMatch pattern host taken))
+      (started pattern host taken ≡ startedOf (byEqualKinds pattern host taken))
+      × (kept pattern host taken ≡ keptOf (byEqualKinds pattern host taken))
+      × (struck pattern host taken ≡ struckOf (byEqualKinds pattern host taken))
+      × (rounds pattern host taken ≡ roundsOf (byEqualKinds pattern host taken))
   plain-counts = (started-same plain-same, kept-same plain-same, struck-same plain-same, rounds-same plain-same)

@@ -43,8 +43,8 @@ problemOf pattern host taken =
     }
 
 -- the same by equal kinds alone, as it was when kind 0 was a kind like any other
-unfoldable pub byKindsMatch : Circuit → Circuit → List ℕ → Problem Direction
-byKindsMatch pattern host taken =
+unfoldable pub byEqualKinds : Circuit → Circuit → List ℕ → Problem Direction
+byEqualKinds pattern host taken =
     record {
       parts = length (pattern .kinds);
       nodes = length (host .kinds);
