@@ -1,30 +1,33 @@
--- The line of one centre: none where the whole board's table leaves the centre empty, else from what finding leaves; and what the line adds to
--- the count. Assumes nothing.
+-- The line of one centre: none where the whole board's table leaves the centre empty, else from what finding leaves, which begins with that
+-- table, cut to the ball; and what the line adds to the count. Assumes nothing.
 use mathlib.Core.Bool.{Bool, true, false, cond}
 use mathlib.Core.List.{List, []}
 use mathlib.Core.Path.{_≡_, refl, sym, ap, _∙_}
-use Prim.Native.Nat.{ℕ}
+use Prim.Native.Nat.{ℕ, _≤_, _<_}
 use native.Mathlib.Omega.{arith}
 use borrow.Author.Tests.{eq-eqb, ne-eqb}
 use lib.Dec.{eqb}
-use lib.ListN.{length, getD}
+use lib.ListN.{length, getD, take}
 use Rattle.base_lists.proofs.Tests.{T-false, false-T}
 use Rattle.base_bits.specs.Bits.{bit}
 use Rattle.base_bits.proofs.Digits.{bit-of-zero, no-bits}
 use Rattle.base_text.specs.Text.{Put}
-use Rattle.base_lists.specs.List.{Below}
+use Rattle.graph.specs.Bfs.{bfs, adjacent, Found as Searched}
 use Rattle.graph.specs.Circuit.{Circuit}
+use Rattle.graph.specs.Net.{Net}
+use Rattle.table.specs.Fill.{NodeList}
+use Rattle.table.specs.First.{Written}
 use Rattle.table.specs.Host.{everything}
 use Rattle.table.specs.Row.{inTable, InTable}
-use Rattle.table.specs.Prepared.{Tables}
+use Rattle.table.specs.Prepared.{succOf, Tables}
+use Rattle.table.proofs.Begun.{copied-begins}
 use Rattle.table.proofs.Host.{everything-taken}
 use Rattle.table.proofs.Meaning.{last-fits}
 use Rattle.table.proofs.Narrow.{last-wider}
-use Rattle.graph.proofs.Groups.{all-below}
-use Rattle.file_format.proofs.Accepted.{bounded-starts, bounded-ends}
 use Rattle.place.specs.Match.{radiusOf, ballOf, ballTable, found}
-use Rattle.place.specs.Outcome.{Located}
+use Rattle.place.specs.Find.{Tabled, Sought, Located}
 use Rattle.place.proofs.Ball.{ball-fits}
+use Rattle.place.proofs.Find.{drawn-tabled, tabled-net, ball-short, ball-list, ball-sought}
 use Rattle.place.proofs.Outcome.{found-none}
 use Rattle.report.specs.Lines.{lineText}
 use Rattle.report.specs.Report.{hasPlace, centreLine}
@@ -32,16 +35,45 @@ use Rattle.report.proofs.Centre.{centre-missed, centre-long, centre-located}
 use Rattle.report_centres.specs.Pieces.{Source}
 
 module _ {pattern board : Circuit} {t : Tables} {table : List ℕ} {r : ℕ} (s : Source pattern board t table r) where
-  -- the board's links join its nodes
-  pub source-starts : Below (length (board .kinds)) (board .starts)
-  source-starts = all-below _ _ (bounded-starts (s .drawn .nodes))
-
-  pub source-ends : Below (length (board .kinds)) (board .ends)
-  source-ends = all-below _ _ (bounded-ends (s .drawn .nodes))
+  pub source-tabled : Tabled pattern board t
+  source-tabled = drawn-tabled (s .drawn) (s .ready)
 
   -- the whole board's table has an entry for each node
   pub source-long : length table ≡ length (board .kinds)
   source-long = ap length (s .whole) ∙ last-fits pattern board (everything board) .size
+
+  pub source-few : length table ≤ 512
+  source-few = rw source-long (s .drawn .nodes .nodes)
+
+  -- the neighbour tables are over its entries
+  pub source-net : {n : ℕ} → n ≡ length table → Net n (t .offsets) (t .links)
+  source-net e = rw (e ∙ source-long) (tabled-net source-tabled)
+
+  -- ---- what finding begins with
+
+  -- the search over tables with an entry for each node lists the ball,
+  module _ (c : ℕ) (h : c < length table) {n k : ℕ} {dist queue : List ℕ} (e : n ≡ length table)
+      (f : Searched k dist queue (bfs (adjacent (t .offsets) (t .links)) n c r)) where
+    node : c < length (board .kinds)
+    node = rw source-long at h
+
+    searched : Searched k dist queue (bfs (adjacent (t .offsets) (t .links)) (length (board .kinds)) c r)
+    searched = rw (e ∙ source-long) at f
+
+    pub source-short : k ≤ n
+    source-short = rw (e ∙ source-long) (ball-short source-tabled c r node searched)
+
+    pub source-list : {m : ℕ} → m ≡ length table → NodeList m (take k queue)
+    source-list l = rw (l ∙ source-long) (ball-list source-tabled c r node searched)
+
+    -- and the whole board's sets there are a table to begin with
+    pub source-sought : {m count : ℕ} {first : List ℕ} → m ≡ length table → Written m (λ v. getD table v 0) (take k queue) first count
+        → Sought pattern board t c r (take k queue) first
+    source-sought l w =
+        ball-sought source-tabled c r node searched
+        (copied-begins pattern board (take k queue) (l ∙ source-long) (s .drawn .parts .nodes) (everything board) (λ v m _. everything-taken board v m) (s .whole) w)
+
+  -- ---- the line
 
   -- a ball's table lies inside the whole board's
   ball-inside : (c u : ℕ) → InTable (ballTable pattern board c (radiusOf pattern)) u c → InTable table u c
@@ -66,11 +98,11 @@ module _ {pattern board : Circuit} {t : Tables} {table : List ℕ} {r : ℕ} (s 
   source-missed c b e f = centre-missed pattern board c (rw (← s .own) (sym e ∙ f))
 
   -- and where there is one, the line that is put is the centre's
-  pub source-line : (c : ℕ) (b : Bool) {dist sets : List ℕ} → b ≡ found pattern board c r → b ≡ true → Located pattern board c r (t .succ) dist sets
-      → lineText (t .forwardOffsets) (t .forward) (t .succ) dist sets c ≡ centreLine pattern board c
+  pub source-line : (c : ℕ) (b : Bool) {dist sets place : List ℕ} → b ≡ found pattern board c r → b ≡ true
+      → Located pattern board c r (succOf (t .masks)) dist sets place → lineText t dist sets c ≡ centreLine pattern board c
   unfolding hasPlace
   source-line c b e f l =
-      centre-located (s .ready) (s .drawn .nodes .parallel) source-starts (s .drawn .rise) c (rw (← s .own) (sym e ∙ f)) (rw (s .own) at l)
+      centre-located (s .ready) (s .drawn .nodes .parallel) (source-tabled .starts) (s .drawn .rise) c (rw (← s .own) (sym e ∙ f)) (rw (s .own) at l)
 
 -- something is put exactly where there is a place
 pub line-counts : (pattern board : Circuit) (c : ℕ) {before after : List ℕ} {at next : ℕ} → Put before at (centreLine pattern board c) after next

@@ -1,21 +1,21 @@
 -- Pieces of a report: the lines of the centres from one on, as long as there is room for the longest line, and the last line; and what the
 -- contracts of the functions that put them cite.
-use mathlib.Core.Bool.{Bool, _&&_, not, cond}
+use mathlib.Core.Bool.{Bool, true, _&&_, not, cond}
 use mathlib.Core.List.{List, [], _++_}
 use mathlib.Core.Path.{_≡_}
 use Prim.Native.Nat.{ℕ, suc, _+_, _-_}
 use lib.Dec.{eqb, leb}
-use lib.ListN.{length}
+use lib.ListN.{length, take}
 use Rattle.base_lists.specs.Below.{countBelow, leastBelow, concatBelow}
 use Rattle.base_text.specs.Text.{Put, Fits}
 use Rattle.graph.specs.Circuit.{Circuit}
-use Rattle.graph.specs.Rising.{LinksRise}
-use Rattle.file_format.specs.declared.Role.the-variants.{Pattern, Board}
-use Rattle.file_format.specs.Circuit.{Bounded}
 use Rattle.table.specs.Host.{everything}
 use Rattle.table.specs.Row.{lastTable}
-use Rattle.table.specs.Prepared.{Tables, Prepared}
-use Rattle.place.specs.Match.{radiusOf}
+use Rattle.table.specs.Prepared.{succOf, Tables, Ready, Prepared}
+use Rattle.place.specs.declared.Around.{Around}
+use Rattle.place.specs.declared.Found.{Found}
+use Rattle.place.specs.Find.{Drawn, Located}
+use Rattle.place.specs.Match.{radiusOf, found}
 use Rattle.report.specs.Lines.{longestLine}
 use Rattle.report.specs.Report.{hasPlace, centreLine, endLine}
 use Rattle.report_centres.specs.declared.Part.{Part}
@@ -69,12 +69,6 @@ linesPiece pattern board from found room = closed (length (board .kinds)) room (
 
 -- ---- what a piece is put from, and what putting it leaves
 
--- two circuits that were read: each within its role's maxima, and the board's links in the file's order
-pub record Drawn (pattern board : Circuit) : Type 0 where
-  pub parts : Bounded Pattern pattern
-  pub nodes : Bounded Board board
-  pub rise : LinksRise (board .starts) (board .ends)
-
 -- what a line is put from: the circuits, what the rounds look up, the whole board's table and the pattern's radius
 pub record Source (pattern board : Circuit) (t : Tables) (table : List ℕ) (r : ℕ) : Type 0 where
   pub drawn : Drawn pattern board
@@ -82,12 +76,28 @@ pub record Source (pattern board : Circuit) (t : Tables) (table : List ℕ) (r :
   pub whole : table ≡ lastTable pattern board (everything board)
   pub own : r ≡ radiusOf pattern
 
--- scratch tables of n entries each
-pub record Scratch (n : ℕ) (dist queue sets spare : List ℕ) : Type 0 where
-  pub distances : length dist ≡ n
-  pub queued : length queue ≡ n
-  pub ball : length sets ≡ n
-  pub other : length spare ≡ n
+-- this of some pattern and board
+pub record SourceOfSome (t : Tables) (table : List ℕ) (r : ℕ) : Type 0 where
+  pub pattern : Circuit
+  pub board : Circuit
+  pub source : Source pattern board t table r
+
+-- What is known of a centre: whether there is a place around it, tables of sets that serve with the lookups, and where there is a place the
+-- place in the tables.
+pub record Known (pattern board : Circuit) (t : Tables) (around : Around) (dist queue sets : List ℕ) (a : Found) : Type 0 where
+  pub answer : a .found ≡ found pattern board (around .centre) (around .radius)
+  pub ready : Ready t sets
+  pub there : a .found ≡ true → Located pattern board (around .centre) (around .radius) (succOf (t .masks)) dist sets (take (a .size) queue)
+
+-- this of every pattern and board that a line is put from
+abbrev pub EveryKnown : Tables → List ℕ → Around → List ℕ → List ℕ → List ℕ → Found → Type 0
+EveryKnown t table around dist queue sets a =
+    (pattern board : Circuit) → Source pattern board t table (around .radius) → Known pattern board t around dist queue sets a
+
+-- the centre's line is put, of every such pattern and board
+abbrev pub EveryLine : Tables → List ℕ → Around → List ℕ → ℕ → List ℕ → ℕ → Type 0
+EveryLine t table around before at after next =
+    (pattern board : Circuit) → Source pattern board t table (around .radius) → Put before at (centreLine pattern board (around .centre)) after next
 
 -- the piece had room and stands at the front of the buffer, and the answer says so
 pub record Wrote (before : List ℕ) (p : Piece) (after : List ℕ) (part : Part) : Type 0 where
@@ -101,3 +111,8 @@ pub record Closed (before : List ℕ) (part : Part) (n : ℕ) (after : List ℕ)
   pub put : Put before (part .size) (cond (ends n (length before) (part .next) (part .size)) (endLine (part .found) n) []) after (r .size)
   pub next : r .next ≡ cond (ends n (length before) (part .next) (part .size)) (suc n) (part .next)
   pub found : r .found ≡ part .found
+
+-- this holds of a piece of every pattern and board that lines are put from
+abbrev pub EveryWrote : Tables → List ℕ → ℕ → (Circuit → Circuit → Piece) → List ℕ → List ℕ → Part → Type 0
+EveryWrote t table r piece before after part =
+    (pattern board : Circuit) → Source pattern board t table r → Wrote before (piece pattern board) after part

@@ -1,20 +1,22 @@
 // The lines of one centre after another, and the last line, put at the front of a buffer.
 use base_text::make_names;
 use file_format::Board;
-use place_locate::locate;
+use graph_search::search;
+use place::Around;
+use place::Found;
+use place_around::find;
 use report::lines::put_end;
 use report::lines::put_line;
+use table::first::copy;
 ghost use mathlib.Core.Bool.{_&&_, cond};
 ghost use mathlib.Core.Path.{_≡_};
 ghost use Prim.Native.Nat.{_+_, _≤_, _<_};
 ghost use lib.Dec.{eqb, ltb};
 ghost use lib.ListN.{length};
-ghost use Rattle.base_text.specs.Text.{Put, Names};
-ghost use Rattle.graph.specs.Circuit.{circuit};
+ghost use Rattle.base_text.specs.Text.{Names};
 ghost use Rattle.table.specs.Prepared.{tables};
 ghost use Rattle.report.specs.Lines.{longestLine};
-ghost use Rattle.report.specs.Report.{centreLine};
-ghost use Rattle.report_centres.specs.Pieces.{roomy, centresPiece, Source, Scratch, Wrote, Closed};
+ghost use Rattle.report_centres.specs.Pieces.{roomy, centresPiece, SourceOfSome, EveryKnown, EveryLine, EveryWrote, Closed};
 
 // No line of a report is longer: a buffer has to be as long, and a line is put where so many bytes are left.
 pub const LONGEST: usize = 34829;
@@ -56,128 +58,115 @@ fn counted(count: usize, at: usize, next: usize) -> usize
     count + 1
 }
 
-// The line of the centre c, nothing where there is no place around it. A centre that the whole board's table leaves empty has none. The
-// tables from `dist` on are scratch.
-fn put_centre(
-    part_kinds: &[u16],
-    part_starts: &[u16],
-    part_ends: &[u16],
-    node_kinds: &[u16],
-    node_starts: &[u16],
-    node_ends: &[u16],
+// Whether there is a place around a centre, from the whole board's table, cut to the ball. Where there is one, `dist` is left with `UNREACHED`
+// outside it, and `sets` with the ball's table. `queue` and `spare` are scratch.
+fn locate(
+    masks: &[u32],
+    offsets: &[u16],
+    links: &[u16],
     whole: &[u32],
-    succ: &[u32],
-    pred: &[u32],
-    fo: &[u16],
-    ft: &[u16],
-    bo: &[u16],
-    bt: &[u16],
-    names: &[u32],
-    c: u16,
-    r: u16,
+    around: Around,
     dist: &mut [u16],
     queue: &mut [u16],
     sets: &mut [u32],
     spare: &mut [u32],
-    out: &mut [u8],
-    at: usize,
-) -> usize
-    requires { ⌜ Source (circuit (now «part_kinds») (now «part_starts») (now «part_ends»)) (circuit (now «node_kinds») (now «node_starts») (now «node_ends»)) (tables (now succ) (now pred) (now fo) (now ft) (now bo) (now bt)) (now whole) r ⌝ }
-    requires { ⌜ Scratch (length (now «node_kinds»)) (now dist) (now queue) (now sets) (now spare) ⌝ }
-    requires { ⌜ c < length (now «node_kinds») ⌝ }
-    requires { ⌜ at + longestLine ≤ length (now out) ⌝ }
-    requires { ⌜ Names (now names) × (length (now «node_kinds») ≤ length (now names)) ⌝ }
-    ensures { λ r. ⌜ Put (now (out .entry)) at (centreLine (circuit (now («part_kinds» .entry)) (now («part_starts» .entry)) (now («part_ends» .entry))) (circuit (now («node_kinds» .entry)) (now («node_starts» .entry)) (now («node_ends» .entry))) c) (now (out .exit)) r ⌝ }
+) -> Found
+    requires { ⌜ SourceOfSome (tables (now masks) (now offsets) (now links)) (now whole) (around .radius) ⌝ }
+    requires { ⌜ around .centre < length (now whole) ⌝ }
+    requires { ⌜ (length (now dist) ≡ length (now whole)) × (length (now queue) ≡ length (now whole)) ⌝ }
+    requires { ⌜ (length (now sets) ≡ length (now whole)) × (length (now spare) ≡ length (now whole)) ⌝ }
+    ensures { λ a. ⌜ EveryKnown (tables (now (masks .entry)) (now (offsets .entry)) (now (links .entry))) (now (whole .entry)) around (now (dist .exit)) (now (queue .exit)) (now (sets .exit)) a ⌝ }
 {
-    let v = c as usize;
-    if whole[v] == 0 {
-        return at;
-    }
-    if !locate(
-        part_kinds,
-        part_starts,
-        part_ends,
-        node_kinds,
-        node_starts,
-        node_ends,
-        whole,
-        succ,
-        pred,
-        fo,
-        ft,
-        bo,
-        bt,
+    let c = around.centre;
+    let k = search(offsets, links, c, around.radius, dist, queue);
+    let started = copy(&queue[..k], whole, sets);
+    find(
+        masks,
+        offsets,
+        links,
         c,
-        r,
+        k,
+        started,
         dist,
         queue,
         sets,
         spare,
-    ) {
+    )
+}
+
+// A centre's line, nothing where there is no place around it. A centre that the whole board's table leaves empty has none.
+fn put_centre(
+    names: &[u32],
+    masks: &[u32],
+    offsets: &[u16],
+    links: &[u16],
+    whole: &[u32],
+    around: Around,
+    out: &mut [u8],
+    at: usize,
+) -> usize
+    requires { ⌜ SourceOfSome (tables (now masks) (now offsets) (now links)) (now whole) (around .radius) ⌝ }
+    requires { ⌜ around .centre < length (now whole) ⌝ }
+    requires { ⌜ Names (now names) × (length (now whole) ≤ length (now names)) ⌝ }
+    requires { ⌜ at + longestLine ≤ length (now out) ⌝ }
+    ensures { λ r. ⌜ EveryLine (tables (now (masks .entry)) (now (offsets .entry)) (now (links .entry))) (now (whole .entry)) around (now (out .entry)) at (now (out .exit)) r ⌝ }
+{
+    let c = around.centre as usize;
+    if whole[c] == 0 {
         return at;
     }
-    put_line(names, fo, ft, succ, dist, sets, v, out, at)
+    let mut distances = [0u16; Board::MAX_NODES];
+    let mut nodes = [0u16; Board::MAX_NODES];
+    let mut ball = [0u32; Board::MAX_NODES];
+    let mut other = [0u32; Board::MAX_NODES];
+    let n = whole.len();
+    let dist = &mut distances[..n];
+    let queue = &mut nodes[..n];
+    let sets = &mut ball[..n];
+    let spare = &mut other[..n];
+    let place = locate(
+        masks,
+        offsets,
+        links,
+        whole,
+        around,
+        dist,
+        queue,
+        sets,
+        spare,
+    );
+    if !place.found {
+        return at;
+    }
+    put_line(names, masks, offsets, links, dist, sets, c, out, at)
 }
 
 // The lines of the centres from `from` on, before which `found` centres had a place, as long as there is room for the longest line.
 pub fn put_centres(
-    part_kinds: &[u16],
-    part_starts: &[u16],
-    part_ends: &[u16],
-    node_kinds: &[u16],
-    node_starts: &[u16],
-    node_ends: &[u16],
+    masks: &[u32],
+    offsets: &[u16],
+    links: &[u16],
     whole: &[u32],
-    succ: &[u32],
-    pred: &[u32],
-    fo: &[u16],
-    ft: &[u16],
-    bo: &[u16],
-    bt: &[u16],
+    r: u16,
     from: usize,
     found: u16,
-    r: u16,
-    dist: &mut [u16],
-    queue: &mut [u16],
-    sets: &mut [u32],
-    spare: &mut [u32],
     out: &mut [u8],
 ) -> Part
-    requires { ⌜ Source (circuit (now «part_kinds») (now «part_starts») (now «part_ends»)) (circuit (now «node_kinds») (now «node_starts») (now «node_ends»)) (tables (now succ) (now pred) (now fo) (now ft) (now bo) (now bt)) (now whole) r ⌝ }
-    requires { ⌜ Scratch (length (now «node_kinds»)) (now dist) (now queue) (now sets) (now spare) ⌝ }
-    ensures { λ r. ⌜ Wrote (now (out .entry)) (centresPiece (circuit (now («part_kinds» .entry)) (now («part_starts» .entry)) (now («part_ends» .entry))) (circuit (now («node_kinds» .entry)) (now («node_starts» .entry)) (now («node_ends» .entry))) from found (length (now (out .entry)))) (now (out .exit)) r ⌝ }
+    requires { ⌜ SourceOfSome (tables (now masks) (now offsets) (now links)) (now whole) r ⌝ }
+    ensures { λ p. ⌜ EveryWrote (tables (now (masks .entry)) (now (offsets .entry)) (now (links .entry))) (now (whole .entry)) r (λ pattern board. centresPiece pattern board from found (length (now (out .entry)))) (now (out .entry)) (now (out .exit)) p ⌝ }
 {
     let mut names = [0u32; Board::MAX_NODES];
     make_names(&mut names);
-    let n = node_kinds.len();
+    let n = whole.len();
     let mut c = from;
     let mut count = found as usize;
     let mut at = 0;
     while goes_on(c, n, at, out.len()) {
-        let next = put_centre(
-            part_kinds,
-            part_starts,
-            part_ends,
-            node_kinds,
-            node_starts,
-            node_ends,
-            whole,
-            succ,
-            pred,
-            fo,
-            ft,
-            bo,
-            bt,
-            &names,
-            c as u16,
-            r,
-            dist,
-            queue,
-            sets,
-            spare,
-            out,
-            at,
-        );
+        let around = Around {
+            centre: c as u16,
+            radius: r,
+        };
+        let next = put_centre(&names, masks, offsets, links, whole, around, out, at);
         count = counted(count, at, next);
         at = next;
         c += 1;

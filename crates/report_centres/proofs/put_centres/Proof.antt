@@ -1,31 +1,33 @@
 -- `report_centres::put_centres` meets its contract. The loop's invariant: the lines of the centres before c are put and those with a place
--- counted (Progress), and the scratch tables keep their lengths. The measure is how many centres are left. Assumes nothing.
+-- counted (Progress), of every pattern and board that lines are put from. The measure is how many centres are left. Assumes nothing.
+use denote.Ref.{now}
 use mathlib.Core.Bool.{true}
-use mathlib.Core.Path.{_≡_, sym, _∙_}
+use mathlib.Core.Path.{_≡_, sym}
 use Prim.Native.Nat.{_+_, _-_, _≤_, _<_}
 use native.Mathlib.Omega.{arith}
 use borrow.Author.Needs.{needs}
-use denote.Ref.{now}
+use borrow.Author.Tests.{leb-true}
 use lib.Dec.{lit≤}
 use lib.ListN.{length}
 use Rattle.base_text.proofs.Text.{put-length}
-use Rattle.graph.specs.Circuit.{circuit}
+use Rattle.graph.specs.Circuit.{Circuit}
+use Rattle.table.specs.Prepared.{tables}
 use Rattle.report.specs.Lines.{longestLine}
-use borrow.Author.Tests.{leb-true}
-use Rattle.report_centres.specs.Pieces.{roomy, Scratch}
+use Rattle.report_centres.specs.Pieces.{roomy, Source}
+use Rattle.report_centres.proofs.Centre.{source-long, source-few}
 use Rattle.report_centres.proofs.Progress.{Progress, progress-start, progress-small, progress-goes, progress-step, progress-end}
 use Rattle.report_centres.proofs.put_centres.Statement.{statement}
 use Rattle.report_centres.proofs.put_centres.Tie as tie
 
 abbrev Inv-loop : tie.InvT-loop
-Inv-loop part-kinds part-starts part-ends node-kinds node-starts node-ends whole succ pred fo ft bo bt from found r dist₀ queue₀ sets₀ spare₀ out₀ names n c₀ count₀ at₀ dist queue sets spare out c count at =
-    Progress (circuit part-kinds part-starts part-ends) (circuit node-kinds node-starts node-ends) from found out₀ c count at out × Scratch (length node-kinds) dist queue sets spare
+Inv-loop masks offsets links whole r from found out₀ names n c₀ count₀ at₀ out c count at =
+    (pattern board : Circuit) → Source pattern board (tables masks offsets links) whole r → Progress pattern board from found out₀ c count at out
 
 abbrev μ-loop : tie.MeasureT-loop
-μ-loop part-kinds part-starts part-ends node-kinds node-starts node-ends whole succ pred fo ft bo bt from found r dist₀ queue₀ sets₀ spare₀ out₀ names n c₀ count₀ at₀ dist queue sets spare out c count at = length node-kinds - c
+μ-loop masks offsets links whole r from found out₀ names n c₀ count₀ at₀ out c count at = length whole - c
 
 abbrev entry : tie.After-names2 Inv-loop μ-loop → tie.Start Inv-loop μ-loop
-entry c = c .before .before .before .before .before .before .before .before .before .before .before .before .before .before .before .before .before .before .before .before .before
+entry c = c .before .before .before .before .before .before .before .before
 
 slice-aggregate-make-names : tie.Need-slice-aggregate-make-names Inv-loop μ-loop
 slice-aggregate-make-names c = search needs
@@ -34,10 +36,16 @@ make-names-requires : tie.Need-make-names-requires Inv-loop μ-loop
 make-names-requires c κs = lit≤ tt
 
 loop-holds : tie.Need-loop-holds Inv-loop μ-loop
-loop-holds c = (progress-start _ _ _ _ _, entry c .pre .1)
+loop-holds c pattern board s = progress-start _ _ _ _ _
+
+-- where the loop stands, of the pattern and the board that there are
+stands : (c : tie.At-loop Inv-loop μ-loop) →
+    let s = entry (c .before) in
+    Progress (s .pre .pattern) (s .pre .board) (s .args .from) (s .args .found) (now (s .args .out)) (c .loop .c) (c .loop .count) (c .loop .at) (c .loop .out)
+stands c = c .loop .inv _ _ (entry (c .before) .pre .source)
 
 goes-on-requires : tie.Need-goes-on-requires Inv-loop μ-loop
-goes-on-requires c κs = let at = c .loop .inv .0 in omega (arith, at .fits, put-length (at .put))
+goes-on-requires c κs = omega (arith, stands c .fits, put-length (stands c .put))
 
 -- ---- a turn: there is a centre more, and room for the longest line
 
@@ -48,56 +56,50 @@ abbrev start : tie.Then1 Inv-loop μ-loop → tie.Start Inv-loop μ-loop
 start c = entry (turn c .before)
 
 goes : (c : tie.Then1 Inv-loop μ-loop) →
-    (turn c .loop .c < length (now (start c .args .node-kinds))) × (roomy (length (now (start c .args .out))) (turn c .loop .at) ≡ true)
-goes c = progress-goes _ _ _ _ (turn c .loop .inv .0) _ (c .before .goes-on .ensures) (c .if1 .taken)
+    (pattern board : Circuit)
+    → Source pattern board (tables (now (start c .args .masks)) (now (start c .args .offsets)) (now (start c .args .links))) (now (start c .args .whole)) (start c .args .r)
+    → (turn c .loop .c < length (board .kinds)) × (roomy (length (now (start c .args .out))) (turn c .loop .at) ≡ true)
+goes c pattern board s =
+    progress-goes _ _ _ _ (turn c .loop .inv pattern board s) _ (rw (source-long s) at (c .before .goes-on .ensures)) (c .if1 .taken)
+
+-- so the centre is one of the board's
+more : (c : tie.Then1 Inv-loop μ-loop) → turn c .loop .c < length (now (start c .args .whole))
+more c = let s = start c .pre in rw (source-long (s .source)) (goes c _ _ (s .source) .0)
+
+cast-t21 : tie.Need-cast-t21 Inv-loop μ-loop
+cast-t21 c = omega (arith, more c, source-few (start c .pre .source))
 
 slice-aggregate-put-centre : tie.Need-slice-aggregate-put-centre Inv-loop μ-loop
 slice-aggregate-put-centre c = search needs
 
-cast-put-centre : tie.Need-cast-put-centre Inv-loop μ-loop
-cast-put-centre c = omega (arith, goes (c .before) .0, start (c .before) .pre .0 .drawn .nodes .nodes)
-
 put-centre-requires : tie.Need-put-centre-requires Inv-loop μ-loop
 put-centre-requires c κs =
-    let here = c .before .before .before .before .before .before in
-    let at = turn here .loop .inv .0 in
+    let here = c .before .before in
+    let p = start here .pre in
     let named = turn here .before .before .make-names in
-    let (more, spacious) = goes here in
-    let room : turn here .loop .at + longestLine ≤ length (now (start here .args .out)) = leb-true _ _ spacious in
-    let source = start here .pre .0 in (
-      source,
-      (turn here .loop .inv .1, (more, (omega (arith, put-length (at .put)), (named .ensures, omega (arith, named .kept .0, source .drawn .nodes .nodes))))),
-    )
+    let room : turn here .loop .at + longestLine ≤ length (now (start here .args .out)) = leb-true _ _ (goes here _ _ (p .source) .1) in
+    (p, (more here, ((named .ensures, omega (arith, named .kept .0, source-few (p .source))), omega (arith, put-length (stands (turn here) .put)))))
 
 counted-requires : tie.Need-counted-requires Inv-loop μ-loop
 counted-requires c κs =
-    let here = c .before .before .before .before .before .before .before .before .before .before .before .before .before .before .before .before .before in
+    let here = c .before .before .before .before .before in
     let s = start here in
-    progress-small _ _ _ _ (turn here .loop .inv .0) (s .pre .0 .drawn .nodes) (s .fits .found .fits)
+    progress-small _ _ _ _ (stands (turn here)) (s .pre .source .drawn .nodes) (s .fits .found .fits)
 
 abbrev turned : tie.After-counted Inv-loop μ-loop → tie.Then1 Inv-loop μ-loop
-turned c = c .before .before .before .before .before .before .before .before .before .before .before .before .before .before .before .before .before .before
+turned c = c .before .before .before .before .before .before
 
 add-c : tie.Need-add-c Inv-loop μ-loop
-add-c c = omega (arith, goes (turned c) .0, start (turned c) .pre .0 .drawn .nodes .nodes)
+add-c c = omega (arith, more (turned c), source-few (start (turned c) .pre .source))
 
 loop-less : tie.Need-loop-less Inv-loop μ-loop
-loop-less c = omega (arith, goes (turned c) .0)
+loop-less c = omega (arith, more (turned c))
 
 loop-again : tie.Need-loop-again Inv-loop μ-loop
-loop-again c =
+loop-again c pattern board s =
     let here = turned c in
-    let loop = turn here .loop in
-    let put = c .before .before .before .before .before .before .before .before .before .before .before .put-centre in
-    let (more, spacious) = goes here in (
-      progress-step _ _ _ _ (loop .inv .0) (start here .pre .0 .drawn .nodes) more spacious (put .ensures) (c .counted .ensures),
-      record {
-        distances = put .kept .1 .1 .1 .1 .1 .1 .1 .1 .1 .1 .1 .1 .1 .1 .1 .1 .0 ∙ loop .inv .1 .distances;
-        queued = put .kept .1 .1 .1 .1 .1 .1 .1 .1 .1 .1 .1 .1 .1 .1 .1 .1 .1 .0 ∙ loop .inv .1 .queued;
-        ball = put .kept .1 .1 .1 .1 .1 .1 .1 .1 .1 .1 .1 .1 .1 .1 .1 .1 .1 .1 .0 ∙ loop .inv .1 .ball;
-        other = put .kept .1 .1 .1 .1 .1 .1 .1 .1 .1 .1 .1 .1 .1 .1 .1 .1 .1 .1 .1 .0 ∙ loop .inv .1 .other;
-      },
-    )
+    let (more, spacious) = goes here pattern board s in
+    progress-step _ _ _ _ (turn here .loop .inv pattern board s) (s .drawn .nodes) more spacious (c .before .before .before .put-centre .ensures pattern board s) (c .counted .ensures)
 
 -- ---- the end
 
@@ -105,22 +107,11 @@ abbrev left : tie.Else1 Inv-loop μ-loop → tie.At-loop Inv-loop μ-loop
 left c = c .before .before
 
 same-length : tie.Need-same-length Inv-loop μ-loop
-same-length c = left c .loop .inv .1 .distances ∙ sym (entry (left c .before) .pre .1 .distances)
-
-same-length-2 : tie.Need-same-length-2 Inv-loop μ-loop
-same-length-2 c = left c .loop .inv .1 .queued ∙ sym (entry (left c .before) .pre .1 .queued)
-
-same-length-3 : tie.Need-same-length-3 Inv-loop μ-loop
-same-length-3 c = left c .loop .inv .1 .ball ∙ sym (entry (left c .before) .pre .1 .ball)
-
-same-length-4 : tie.Need-same-length-4 Inv-loop μ-loop
-same-length-4 c = left c .loop .inv .1 .other ∙ sym (entry (left c .before) .pre .1 .other)
-
-same-length-5 : tie.Need-same-length-5 Inv-loop μ-loop
-same-length-5 c = put-length (left c .loop .inv .0 .put)
+same-length c = put-length (stands (left c) .put)
 
 returns : tie.Need-returns Inv-loop μ-loop
-returns c = progress-end _ _ _ _ (left c .loop .inv .0) _ (c .before .goes-on .ensures) (c .if1 .left)
+returns c pattern board s =
+    progress-end _ _ _ _ (left c .loop .inv pattern board s) _ (rw (source-long s) at (c .before .goes-on .ensures)) (c .if1 .left)
 
 pub put-centres-spec : {M : Type 1} → statement M
 put-centres-spec =
@@ -132,16 +123,12 @@ put-centres-spec =
     make-names-requires
     loop-holds
     goes-on-requires
+    cast-t21
     slice-aggregate-put-centre
-    cast-put-centre
     put-centre-requires
     counted-requires
     add-c
     loop-less
     loop-again
     same-length
-    same-length-2
-    same-length-3
-    same-length-4
-    same-length-5
     returns)
