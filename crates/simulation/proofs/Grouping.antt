@@ -2,7 +2,7 @@
 -- as match each other, and so has at least as many groups as there are classes of mutual matching. These classes are such a grouping. The
 -- agreement need not be symmetric. Assumes nothing.
 use mathlib.Core.Bool.{true}
-use mathlib.Core.Path.{_≡_, refl, sym, ap, _∙_}
+use mathlib.Core.Path.{_≡_, refl, sym, _∙_}
 use Prim.Native.Nat.{ℕ, zero, suc, _≤_, _<_}
 use native.Mathlib.Decide.{decLt}
 use native.Mathlib.Omega.{arith}
@@ -52,6 +52,16 @@ finer-more {P = P} {fine = fine} {coarse = coarse} {k = k} {c = c} f g finer =
     around-is : (u : ℕ) → P .Node u → (d : Dec (fine u < k)) → around (fine u) d ≡ coarse u
     around-is u n (yes l) = let (x, m, e) = f .onto (fine u) l in finer x u m n e
     around-is u n (no d) = absurd (d (f .below u n))
+
+-- The same grouping, said in another way.
+pub grouping-same :
+    {P : Graph} {Alike : Relation} {f g : ℕ → ℕ} {k : ℕ} → ((u : ℕ) → P .Node u → g u ≡ f u) → Grouping P Alike f k → Grouping P Alike g k
+grouping-same e f =
+    record {
+      below = λ u n. rw (e u n) (f .below u n);
+      onto = λ a h. let (u, n, d) = f .onto a h in (u, n, e u n ∙ d);
+      alike = λ u v n m d. f .alike u v n m (sym (e u n) ∙ d ∙ e v m);
+    }
 
 -- ── Nothing more could be joined ──
 
