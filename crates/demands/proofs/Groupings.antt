@@ -1,28 +1,28 @@
 -- Ask 11 holds: nothing more could be joined. Assumes nothing.
 use mathlib.Core.List.{List}
 use mathlib.Core.Logic.{_↔_, Iff·rfl, Iff·symm, Iff·trans}
-use mathlib.Core.Path.{_≡_, refl, sym, ap, ap₂, subst, _∙_}
+use mathlib.Core.Path.{_≡_, sym, ap, subst, _∙_}
 use Prim.Native.Nat.{ℕ, _≤_, _<_}
 use native.Mathlib.Nat.{le-of-eq}
-use native.Mathlib.Omega.{arith}
-use lib.ListN.{length, getD, take, replicate, length-replicate}
+use lib.ListN.{length, getD, replicate, length-replicate}
 use Rattle.graph.specs.Circuit.{Circuit, graphOf, circuitGraph}
 use Rattle.simulation.specs.Closed.{Relation}
-use Rattle.simulation.specs.Grouping.{Grouping, AsEachMember}
-use Rattle.simulation.specs.Quotient.{QuotientGraph}
+use Rattle.simulation.specs.Grouping.{AsEachMember}
 use Rattle.simulation.specs.Simulation.{Largest}
 use Rattle.simulation.proofs.Grouping.{grouping-same, nothing-more, classes-such}
 use Rattle.simulation.proofs.Same.{same-refl, largest-same}
 use Rattle.file_format.specs.declared.Role.the-variants.{Pattern, Board}
 use Rattle.file_format.specs.Circuit.{circuitOf}
-use Rattle.file_format.specs.Layout.{nodesOf, kindsOf}
+use Rattle.file_format.specs.Layout.{nodesOf}
 use Rattle.file_format.specs.Refusals.{accept, Accepted}
+use Rattle.file_format.proofs.Accepted.{accepted-bounded, accepted-within, accepted-connected}
 use Rattle.file_format.proofs.Fields.{length-kinds}
 use Rattle.file_format.proofs.Refusals.{accepted-verdict}
 use Rattle.file_write.specs.Bytes.{fileBytes}
-use Rattle.table.specs.Host.{EqualKinds}
-use Rattle.table.specs.Row.{InTable}
-use Rattle.merge.specs.Merged.{SameKind, classOf, classCount, grouped, merged}
+use Rattle.table.specs.Host.{everything, EqualKinds}
+use Rattle.table.specs.Row.{lastTable, InTable}
+use Rattle.table.proofs.Host.{board-largest, within-joins}
+use Rattle.merge.specs.Merged.{classOf, classCount, grouped, merged}
 use Rattle.merge.proofs.Content.{PatternContent, accepted-content}
 use Rattle.merge.proofs.Classes.{SelfPairs, kinds-laws, content-joins, self-largest, shares-class}
 use Rattle.merge.proofs.Grouped.{grouped-graph, grouped-kind, grouped-content, grouped-same}
@@ -32,7 +32,7 @@ use Rattle.call_match.proofs.Promise as match-call
 use Rattle.call_merge.specs.Call as call
 use Rattle.call_merge.specs.Classes.{classByte}
 use Rattle.call_merge.proofs.Promise as merge-call
-use Rattle.demands.specs.Demands.{graph, equal, mergedFile}
+use Rattle.demands.specs.Demands.{graph, equal}
 use Rattle.demands.specs.Groupings.{Groups, groupedFile, Matches, Supposed, replied, Enough, Made, Such, NothingMore}
 use Rattle.demands.proofs.Merged.{file-is}
 
@@ -51,13 +51,18 @@ module _ {pattern board : List ℕ} (a : Accepted Pattern pattern) (b : Accepted
       let some : nodesOf board ≤ length {A = ℕ} (replicate (nodesOf board) 0) = le-of-eq (sym (length-replicate (nodesOf board) 0)) in
       (λ m. entry (replicate (nodesOf board) 0) some .0 (m (replicate (nodesOf board) 0) some), λ s lent room. entry lent room .1 s)
 
-  -- there is one
+  -- which is the last set of the row
   table-largest :
-      Largest (graph pattern) (equal pattern board) (graph board)
-      (InTable (take (nodesOf board) (matching pattern board (replicate (nodesOf board) 0) .table)))
+      Largest (graph pattern) (equal pattern board) (graph board) (InTable (lastTable (circuitOf pattern) (circuitOf board) (everything (circuitOf board))))
   table-largest =
-      match-call.front-largest pattern board _
-      (match-call.accepts pattern board _ a b (le-of-eq (sym (length-replicate (nodesOf board) 0))))
+      board-largest (circuitOf pattern) (circuitOf board) (accepted-bounded a .nodes) (accepted-connected a)
+      (within-joins (circuitOf board) (accepted-within b))
+
+  pub matches-last :
+      (u v : ℕ) → v < nodesOf board →
+      Matches pattern board u v ↔ InTable (lastTable (circuitOf pattern) (circuitOf board) (everything (circuitOf board))) u v
+  unfolding circuitGraph graphOf
+  matches-last u v h = matches-iff table-largest u v (rw (length-kinds board) h)
 
 -- the same of a circuit that a file holds
 held-largest :

@@ -9,6 +9,7 @@ use Rattle.simulation.specs.Perfect.{SameGraph}
 use Rattle.simulation.specs.Quotient.{QuotientGraph}
 use Rattle.file_format.specs.declared.Role.the-variants.{Pattern, Board}
 use Rattle.file_format.specs.Circuit.{circuitOf}
+use Rattle.file_format.specs.Examples.{fileT}
 use Rattle.file_format.specs.Layout.{nodesOf, kindsOf}
 use Rattle.file_format.specs.Refusals.{Accepted}
 use Rattle.file_write.specs.Bytes.{fileBytes}
@@ -92,10 +93,12 @@ fileE8 =
 unfoldable pub joined : ℕ → ℕ
 joined u = getD (0 ∷ 1 ∷ 1 ∷ 2 ∷ []) u 0
 
--- They do not match each other: part 2 drives part 3, part 1 drives nothing. On E8 itself, as a board, node 1 matches part 1, and not the group.
+-- They do not match each other: part 2 drives part 3, part 1 drives nothing. The pattern so made is T, and on E8 itself, as a board, node 1 matches
+-- part 1, and not the group.
 pub record JoinedE8 : Type 0 where
   pub accepted : Accepted Pattern fileE8
   pub groups : Groups fileE8 joined 3
+  pub makes : groupedFile fileE8 joined 3 ≡ fileT
   pub board : Accepted Board fileE8
   pub member : Matches fileE8 fileE8 1 1
   pub group : Matches (groupedFile fileE8 joined 3) fileE8 1 1 → ⊥

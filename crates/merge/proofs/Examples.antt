@@ -1,13 +1,15 @@
 -- Document 01's examples of merging, by computation. Assumes nothing.
-use mathlib.Core.List.{[], _∷_}
-use mathlib.Core.Path.{_≡_, refl, ap, _∙_}
+use mathlib.Core.List.{List, [], _∷_}
+use mathlib.Core.Path.{_≡_, refl, ap, subst, _∙_}
+use Prim.Native.Nat.{ℕ}
 use Rattle.base_lists.specs.List.{all, any, allBelow, anyBelow, tabulate, sum}
 use Rattle.base_lists.specs.Below.{countBelow, leastBelow, collect}
 use Rattle.base_bits.specs.Bits.{bit, numberOf, sizeOf}
 use Rattle.graph.specs.Neighbours.{select}
 use Rattle.graph.specs.Search.{inside, beside, ball, connected}
+use Rattle.table.specs.Examples.{circuitT}
 use Rattle.table.specs.Host.{everything}
-use Rattle.table.specs.Row.{inTable, agrees, startTable, answered, supported, strike, row, pairs, started, lastTable}
+use Rattle.table.specs.Row.{inTable, agrees, startTable, answered, supported, strike, row, pairs, started, lastTable, InTable}
 use Rattle.file_format.specs.Links.{linksBelow, earlier, rising}
 use Rattle.place.specs.Match.{radiusOf}
 use Rattle.place.specs.Examples.{circuitY, oneLink}
@@ -59,3 +61,22 @@ E8-classes = refl
 pub E8-merged : merged circuitE8 ≡ circuitE8
 unfolding opened circuitE8
 E8-merged = refl
+
+-- E8 can be a pattern
+pub content-E8 : PatternContent circuitE8
+unfolding opened circuitE8 all allBelow linksBelow rising earlier beside ball connected
+content-E8 = record { range = tt; parallel = refl; below = tt; rises = tt; joined = tt }
+
+-- in which node 1 matches part 1,
+pub E8-member : InTable (selfTable circuitE8) 1 1
+unfolding opened circuitE8
+E8-member = tt
+
+-- and T on it, in which node 1 matches no part
+pub E8-T : lastTable circuitT circuitE8 (everything circuitE8) ≡ 1 ∷ 0 ∷ 2 ∷ 4 ∷ []
+unfolding opened circuitT circuitE8
+E8-T = refl
+
+pub E8-none : InTable (lastTable circuitT circuitE8 (everything circuitE8)) 1 1 → ⊥
+unfolding inTable bit
+E8-none t = subst (λ (x : List ℕ). InTable x 1 1) E8-T t

@@ -60,41 +60,11 @@ module _ (p : Circuit) (class : ℕ → ℕ) (k : ℕ) where
 
 -- ---- the finest grouping: each part is a group
 
-pub finest : (p : Circuit) → Grouping (circuitGraph p) (SameKind p) (λ u. u) (length (p .kinds))
-unfolding circuitGraph graphOf SameKind
-finest p = record { below = λ u h. h; onto = λ a h. (a, h, refl); alike = λ u v _ _ e. ap (λ (x : ℕ). getD (p .kinds) x 0) e }
-
--- ---- groupings that agree at the parts make one pattern
-
--- two numberings of the groups that agree at the links
-pub joins-same :
-    (class class′ : ℕ → ℕ) (starts ends : List ℕ) (j : ℕ) → ((i : ℕ) → i < j → class (getD starts i 0) ≡ class′ (getD starts i 0)) →
-    ((i : ℕ) → i < j → class (getD ends i 0) ≡ class′ (getD ends i 0)) → (a b : ℕ) → joins class starts ends j a b ≡ joins class′ starts ends j a b
-unfolding joins
-joins-same class class′ starts ends j s e a b = anyBelow-same j _ _ (λ i h. ap₂ (λ (x y : ℕ). eqb x a && eqb y b) (s i h) (e i h))
+pub finest : (p : Circuit) → Grouping (circuitGraph p) (λ u v. u ≡ v) (λ u. u) (length (p .kinds))
+unfolding circuitGraph graphOf
+finest p = record { below = λ u h. h; onto = λ a h. (a, h, refl); alike = λ u v _ _ e. e }
 
 module _ {p : Circuit} (c : PatternContent p) where
-  -- the link with a number below theirs
-  link-of : (i : ℕ) → i < length (p .starts) → HasLink (p .starts) (p .ends) (getD (p .starts) i 0) (getD (p .ends) i 0)
-  unfolding HasLink
-  link-of i h = (i, record { inStarts = h; inEnds = subst (λ x. i < x) (c .parallel) h; start = refl; end = refl })
-
-  pub grouped-same :
-      (class class′ : ℕ → ℕ) (k : ℕ) → ((u : ℕ) → u < length (p .kinds) → class u ≡ class′ u) → grouped p class k ≡ grouped p class′ k
-  unfolding grouped firstMember linkedPair linked
-  grouped-same class class′ k e =
-      let kinds =
-      tabulate-same k (λ a. getD (p .kinds) (firstMember p class a) 0) (λ a. getD (p .kinds) (firstMember p class′ a) 0)
-      (λ a h. ap (λ (x : ℕ). getD (p .kinds) x 0) (leastBelow-same (length (p .kinds)) _ _ (λ u l. ap (λ (x : ℕ). eqb x a) (e u l)))) in
-      let starts = collect-agree (k * k) (linkedPair p class k) (linkedPair p class′ k) (λ i. i / k) (λ i. i / k) test (λ i h. refl) in
-      let ends = collect-agree (k * k) (linkedPair p class k) (linkedPair p class′ k) (λ i. i % k) (λ i. i % k) test (λ i h. refl) in
-      rw (kinds, starts, ends)
-    where
-      test : (i : ℕ) → i < k * k → linkedPair p class k i ≡ linkedPair p class′ k i
-      test i _ =
-          joins-same class class′ (p .starts) (p .ends) (length (p .starts))
-          (λ j h. e _ (content-within c .starts _ _ (link-of j h))) (λ j h. e _ (content-within c .ends _ _ (link-of j h))) (i / k) (i % k)
-
   -- ---- links
 
   -- "where some member of a has a link to some member of b"
@@ -148,7 +118,18 @@ module _ {p : Circuit} (c : PatternContent p) {class : ℕ → ℕ} {k : ℕ} (g
         end = collect-rank _ (linkedPair p class k) (λ i. i % k) i 0 h t;
       }
 
-  -- so it has a link from a to b exactly where they are linked groups
+  -- so it has a link from a to b where these are linked groups, a itself included,
+  linked-listed : (a b : ℕ) → a < k → b < k → T (linked p class a b) → HasLink (grouped p class k .starts) (grouped p class k .ends) a b
+  unfolding HasLink linkedPair
+  linked-listed a b h l t =
+      let row = pair-row k grouped-some a b l in
+      let column = pair-column k grouped-some a b l in (
+        _,
+        subst₂ (λ x y. LinkAt (grouped p class k .starts) (grouped p class k .ends) x y (countBelow (a * k + b) (linkedPair p class k))) row column
+            (grouped-at (a * k + b) (pair-below k grouped-some k a b h l) (subst₂ (λ x y. T (linked p class x y)) (sym row) (sym column) t)),
+      )
+
+  -- and only there
   pub grouped-link :
       (a b : ℕ) → HasLink (grouped p class k .starts) (grouped p class k .ends) a b ↔ ((a < k) × (b < k) × T (linked p class a b))
   unfolding HasLink linkedPair
@@ -162,13 +143,7 @@ module _ {p : Circuit} (c : PatternContent p) {class : ℕ → ℕ} {k : ℕ} (g
           subst (λ x. x < k) end (mod-lt i grouped-some),
           subst₂ (λ x y. T (linked p class x y)) start end t,
         ),
-    λ (h, l, t).
-        let row = pair-row k grouped-some a b l in
-        let column = pair-column k grouped-some a b l in (
-          _,
-          subst₂ (λ x y. LinkAt (grouped p class k .starts) (grouped p class k .ends) x y (countBelow (a * k + b) (linkedPair p class k))) row column
-              (grouped-at (a * k + b) (pair-below k grouped-some k a b h l) (subst₂ (λ x y. T (linked p class x y)) (sym row) (sym column) t)),
-        ),
+    λ (h, l, t). linked-listed a b h l t,
   )
 
   -- ---- the graph
@@ -302,3 +277,34 @@ module _ {p : Circuit} (c : PatternContent p) {class : ℕ → ℕ} {k : ℕ} (g
   grouped-radius-le =
       quotient-radius (circuitGraph p) class (radiusOf p) (radiusOf (grouped p class k)) (content-radius c)
       (radius-same grouped-graph (content-radius grouped-content))
+
+-- ---- groupings that agree at the parts make one pattern
+
+-- two numberings of the groups that agree at the links
+pub joins-same :
+    (class class′ : ℕ → ℕ) (starts ends : List ℕ) (j : ℕ) → ((i : ℕ) → i < j → class (getD starts i 0) ≡ class′ (getD starts i 0)) →
+    ((i : ℕ) → i < j → class (getD ends i 0) ≡ class′ (getD ends i 0)) → (a b : ℕ) → joins class starts ends j a b ≡ joins class′ starts ends j a b
+unfolding joins
+joins-same class class′ starts ends j s e a b = anyBelow-same j _ _ (λ i h. ap₂ (λ (x y : ℕ). eqb x a && eqb y b) (s i h) (e i h))
+
+module _ {p : Circuit} (c : PatternContent p) where
+  -- the link with a number below theirs
+  link-of : (i : ℕ) → i < length (p .starts) → HasLink (p .starts) (p .ends) (getD (p .starts) i 0) (getD (p .ends) i 0)
+  unfolding HasLink
+  link-of i h = (i, record { inStarts = h; inEnds = subst (λ x. i < x) (c .parallel) h; start = refl; end = refl })
+
+  pub grouped-same :
+      (class class′ : ℕ → ℕ) (k : ℕ) → ((u : ℕ) → u < length (p .kinds) → class u ≡ class′ u) → grouped p class k ≡ grouped p class′ k
+  unfolding grouped firstMember linkedPair linked
+  grouped-same class class′ k e =
+      let kinds =
+      tabulate-same k (λ a. getD (p .kinds) (firstMember p class a) 0) (λ a. getD (p .kinds) (firstMember p class′ a) 0)
+      (λ a h. ap (λ (x : ℕ). getD (p .kinds) x 0) (leastBelow-same (length (p .kinds)) _ _ (λ u l. ap (λ (x : ℕ). eqb x a) (e u l)))) in
+      let starts = collect-agree (k * k) (linkedPair p class k) (linkedPair p class′ k) (λ i. i / k) (λ i. i / k) test (λ i h. refl) in
+      let ends = collect-agree (k * k) (linkedPair p class k) (linkedPair p class′ k) (λ i. i % k) (λ i. i % k) test (λ i h. refl) in
+      rw (kinds, starts, ends)
+    where
+      test : (i : ℕ) → i < k * k → linkedPair p class k i ≡ linkedPair p class′ k i
+      test i _ =
+          joins-same class class′ (p .starts) (p .ends) (length (p .starts))
+          (λ j h. e _ (content-within c .starts _ _ (link-of j h))) (λ j h. e _ (content-within c .ends _ _ (link-of j h))) (i / k) (i % k)
