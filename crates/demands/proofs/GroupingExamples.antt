@@ -1,4 +1,4 @@
--- The two groupings of specs/Groupings: one that is supposed of, and one that is not. Assumes nothing.
+-- The two groupings of specs/Groupings: one that meets the supposition, and one that does not. Assumes nothing.
 use mathlib.Core.List.{[], _∷_}
 use mathlib.Core.Logic.{Iff·rfl}
 use mathlib.Core.Path.{_≡_, refl, sym, ap, subst, _∙_}

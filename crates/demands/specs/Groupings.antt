@@ -1,5 +1,6 @@
 -- Ask 11 of document 02, quoted over what is proved of it: "Users of the merged pattern want to know that nothing more could be joined."
--- proofs/Groupings proves `NothingMore` and the examples.
+-- proofs/Groupings proves `NothingMore`, proofs/GroupingExamples the two examples at the end. Of `grouped` only what `makes` says of it has to be
+-- known: one definition, of which the merged pattern is the instance for the classes (merge/specs/Merged).
 use mathlib.Core.List.{List, [], _∷_}
 use mathlib.Core.Path.{_≡_}
 use Prim.Native.Nat.{ℕ, _≤_, _<_}
@@ -77,7 +78,7 @@ pub record NothingMore : Type 0 where
 unfoldable pub fileY : List ℕ
 fileY = 3 ∷ 0 ∷ 2 ∷ 0 ∷ 10 ∷ 0 ∷ 20 ∷ 0 ∷ 20 ∷ 0 ∷ 0 ∷ 0 ∷ 0 ∷ 0 ∷ 1 ∷ 0 ∷ 2 ∷ 0 ∷ []
 
--- The finest grouping of Y, each part a group, is supposed of on every board; it has three groups where merging has two.
+-- The finest grouping of Y, each part a group, is such a grouping; it has three groups where merging has two.
 pub record FinestY : Type 0 where
   pub accepted : Accepted Pattern fileY
   pub groups : Groups fileY (λ u. u) 3
@@ -93,8 +94,8 @@ fileE8 =
 unfoldable pub joined : ℕ → ℕ
 joined u = getD (0 ∷ 1 ∷ 1 ∷ 2 ∷ []) u 0
 
--- They do not match each other: part 2 drives part 3, part 1 drives nothing. The pattern so made is T, and on E8 itself, as a board, node 1 matches
--- part 1, and not the group.
+-- They do not match each other: part 2 drives part 3, part 1 drives nothing. The pattern that this grouping makes is T, and on E8 itself, as a
+-- board, node 1 matches part 1, and not the group.
 pub record JoinedE8 : Type 0 where
   pub accepted : Accepted Pattern fileE8
   pub groups : Groups fileE8 joined 3
