@@ -5,13 +5,13 @@ use file_format::FileVerdict;
 use file_format::Pattern;
 use file_format::Refusal;
 use file_pair::read_pair;
+use place::Around;
 use place::PlaceAnswer;
 use place_circuits::place_circuits;
 use table::Counts;
 ghost use mathlib.Core.Path.{_≡_};
-ghost use Rattle.file_format.specs.Circuit.{circuitOf, Bounded};
-ghost use Rattle.file_format.specs.declared.Role.the-variants as role;
-ghost use Rattle.graph.specs.Circuit.{circuit};
+ghost use Rattle.file_format.specs.Circuit.{circuitOf, Drawn};
+ghost use Rattle.graph.specs.Circuit.{Circuit, circuit};
 ghost use Rattle.table.specs.Reply.{noCounts};
 ghost use Rattle.place.specs.Match.{radiusOf};
 ghost use Rattle.place.specs.Outcome.{placeReply};
@@ -48,26 +48,33 @@ fn turned_away(x: Refusal) -> PlaceAnswer
     )
 }
 
-// The call on two circuits that were read, at radius r. Everything is tested, and the place found, before anything is written to the lent tables.
+// What is asked for: a centre, which may be none of the board's nodes, and a radius.
+struct Asked {
+    pub centre: usize,
+    pub radius: u16,
+}
+
+// The call on two circuits that were read. Everything is tested, and the place found, before anything is written to the lent tables.
 fn find_on(
-    r: u16,
     part_kinds: &[u16],
     part_starts: &[u16],
     part_ends: &[u16],
     node_kinds: &[u16],
     node_starts: &[u16],
     node_ends: &[u16],
-    centre: usize,
+    asked: Asked,
     nodes: &mut [u8],
     links: &mut [u8],
     table: &mut [u32],
 ) -> PlaceAnswer
-    requires { ⌜ Bounded role.Pattern (circuit (now «part_kinds») (now «part_starts») (now «part_ends»)) ⌝ }
-    requires { ⌜ Bounded role.Board (circuit (now «node_kinds») (now «node_starts») (now «node_ends»)) ⌝ }
-    ensures { λ a. ⌜ record { reply = placeReply a; nodes = now (nodes .exit); links = now (links .exit); table = now (table .exit) }
-        ≡ placeOn r (circuit (now («part_kinds» .entry)) (now («part_starts» .entry)) (now («part_ends» .entry))) (circuit (now («node_kinds» .entry)) (now («node_starts» .entry)) (now («node_ends» .entry))) centre (now (nodes .entry)) (now (links .entry)) (now (table .entry)) ⌝ }
+    ghost { Circuit × Circuit }
+    requires { λ α. ⌜ (circuit (now «part_kinds») (now «part_starts») (now «part_ends»), circuit (now «node_kinds») (now «node_starts») (now «node_ends»)) ≡ α ⌝ }
+    requires { λ α. ⌜ Drawn (α .0) (α .1) ⌝ }
+    ensures { λ α a. ⌜ record { reply = placeReply a; nodes = now (nodes .exit); links = now (links .exit); table = now (table .exit) }
+        ≡ placeOn (asked .radius) (α .0) (α .1) (asked .centre) (now (nodes .entry)) (now (links .entry)) (now (table .entry)) ⌝ }
 {
     let n = node_kinds.len();
+    let centre = asked.centre;
     if n <= centre {
         return turned_away(Refusal {
             number: 7,
@@ -94,8 +101,10 @@ fn find_on(
         node_kinds,
         node_starts,
         node_ends,
-        centre as u16,
-        r,
+        Around {
+            centre: centre as u16,
+            radius: asked.radius,
+        },
         nodes,
         links,
         table,
@@ -132,27 +141,26 @@ fn find(
         &mut ne,
     );
     let verdict = read.verdict;
-    let FileVerdict::Refused(x) = verdict else {
-        let r = radius_for(reach, read.radius);
-        let parts = read.parts;
-        let joins = read.joins;
-        let n = read.nodes;
-        let m = read.links;
-        return find_on(
-            r,
-            &pk[..parts],
-            &ps[..joins],
-            &pe[..joins],
-            &nk[..n],
-            &ns[..m],
-            &ne[..m],
-            centre,
-            nodes,
-            links,
-            table,
-        );
-    };
-    turned_away(x)
+    if let FileVerdict::Refused(x) = verdict {
+        return turned_away(x);
+    }
+    let radius = radius_for(reach, read.radius);
+    let parts = read.parts;
+    let joins = read.joins;
+    let n = read.nodes;
+    let m = read.links;
+    find_on(
+        &pk[..parts],
+        &ps[..joins],
+        &pe[..joins],
+        &nk[..n],
+        &ns[..m],
+        &ne[..m],
+        Asked { centre, radius },
+        nodes,
+        links,
+        table,
+    )
 }
 
 // The place around the centre at the pattern's radius: the ball's four counts, with a byte per board node and one per board link, 1 in the

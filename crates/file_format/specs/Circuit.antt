@@ -5,7 +5,9 @@ use Prim.Native.Nat.{ℕ, _≤_}
 use lib.Dec.{T}
 use lib.ListN.{length}
 use Rattle.graph.specs.Circuit.{Circuit}
+use Rattle.graph.specs.Rising.{LinksRise}
 use Rattle.file_format.specs.declared.Role.{Role}
+use Rattle.file_format.specs.declared.Role.the-variants as role
 use Rattle.file_format.specs.Layout.{kindsOf, startsOf, endsOf}
 use Rattle.file_format.specs.Links.{linksBelow}
 use Rattle.file_format.specs.Role.{maxNodes, maxLinks}
@@ -20,3 +22,9 @@ pub record Bounded (role : Role) (c : Circuit) : Type 0 where
   pub links : length (c .starts) ≤ maxLinks role
   pub parallel : length (c .starts) ≡ length (c .ends)
   pub below : T (linksBelow (length (c .kinds)) (c .starts) (c .ends))
+
+-- two circuits that were read: each within its role's maxima, and the board's links in the file's order
+pub record Drawn (pattern board : Circuit) : Type 0 where
+  pub parts : Bounded role.Pattern pattern
+  pub nodes : Bounded role.Board board
+  pub rise : LinksRise (board .starts) (board .ends)

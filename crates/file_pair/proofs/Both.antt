@@ -7,12 +7,14 @@ use Rattle.file_format.specs.declared.FileRead.{FileRead}
 use Rattle.file_format.specs.declared.FileVerdict.the-variants.{Accepted, Refused}
 use Rattle.file_format.specs.declared.Refusal.{Refusal}
 use Rattle.file_format.specs.declared.Role.the-variants as role
-use Rattle.file_format.specs.Circuit.{Bounded}
+use Rattle.file_format.specs.Circuit.{Bounded, Drawn}
+use Rattle.file_format.specs.Layout.{startsOf, endsOf}
 use Rattle.file_format.specs.Reading.{verdictOf, front, Loaded}
 use Rattle.file_format.specs.Refusals as File
 use Rattle.file_format.specs.Refusals.{accept, refuse, first, fileConditions, asksConnected}
 use Rattle.file_format.proofs.Reading.{loaded-accepted, loaded-refused, stands-bounded}
-use Rattle.file_format.proofs.Refusals.{first-accept, first-refuse, first-parts, accept-not-refuse, accepted-verdict}
+use Rattle.file_format.proofs.Refusals.{first-accept, first-refuse, first-parts, accept-not-refuse, accepted, accepted-verdict}
+use Rattle.file_format.proofs.Rising.{rising-links}
 use Rattle.file_pair.specs.declared.Pair.{Pair}
 use Rattle.file_pair.specs.Pair.{pairConditions, BothRead, PairRead}
 
@@ -80,3 +82,14 @@ module _ {pattern board : List ℕ} {read : Pair} {parts nodes : Circuit} (both 
 
   pub board-bounded : Bounded role.Board (front (read .nodes) (read .links) nodes)
   board-bounded = stands-bounded (both .given) role.Board (both-accepted .1)
+
+  -- so a call draws from them
+  pub both-drawn : Drawn (front (read .parts) (read .joins) parts) (front (read .nodes) (read .links) nodes)
+  both-drawn =
+      record {
+        parts = pattern-bounded;
+        nodes = board-bounded;
+        rise =
+            rw (ap (λ (c : Circuit). c .starts) (both .given .content), ap (λ (c : Circuit). c .ends) (both .given .content))
+            (rising-links (startsOf board) (endsOf board) (accepted role.Board board (both-accepted .1) .rises));
+      }

@@ -16,6 +16,7 @@ use Rattle.graph.proofs.Ball.{Within, within}
 use Rattle.graph.proofs.Groups.{all-below}
 use Rattle.graph.proofs.Net.{net-of}
 use Rattle.graph.proofs.Sorted.{rise-sorted}
+use Rattle.file_format.specs.Circuit.{Drawn}
 use Rattle.file_format.proofs.Accepted.{bounded-starts, bounded-ends}
 use Rattle.table.specs.declared.Rest.{Rest}
 use Rattle.table.specs.Fill.{marksOf, NodeList, tableAt}
@@ -27,7 +28,7 @@ use Rattle.table.proofs.Sets.{fits-word}
 use Rattle.place.specs.Match.{ballOf, ballTable, found, placeNodes, placeLinks, placeTable}
 use Rattle.place.specs.Spread.{matched, Spread, Lists}
 use Rattle.place.specs.Bytes.{linkBytes, nodeSets, linkMarks}
-use Rattle.place.specs.Find.{Drawn, Tabled, Sought, Located, FoundIn}
+use Rattle.place.specs.Find.{Tabled, Sought, Located, FoundIn}
 use Rattle.place.proofs.Ball.{ball-fits}
 use Rattle.place.proofs.Bytes.{bytes-nodes, bytes-links, sets-table}
 use Rattle.place.proofs.Listed.{marks-bytes, table-sets, links-bytes}

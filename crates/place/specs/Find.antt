@@ -6,9 +6,6 @@ use Prim.Native.Nat.{ℕ, _≤_, _<_}
 use lib.ListN.{length, take}
 use Rattle.base_lists.specs.List.{Below}
 use Rattle.graph.specs.Circuit.{Circuit}
-use Rattle.graph.specs.Rising.{LinksRise}
-use Rattle.file_format.specs.declared.Role.the-variants.{Pattern, Board}
-use Rattle.file_format.specs.Circuit.{Bounded}
 use Rattle.table.specs.Fill.{marksOf, NodeList}
 use Rattle.table.specs.First.{Begins}
 use Rattle.table.specs.Prepared.{succOf, Tables, Prepared, Ready}
@@ -17,12 +14,6 @@ use Rattle.place.specs.declared.Found.{Found}
 use Rattle.place.specs.Bytes.{nodeBytes, nodeSets, linkBytes}
 use Rattle.place.specs.Match.{ballOf, found, placeNodes, placeLinks, placeTable}
 use Rattle.place.specs.Spread.{Lists}
-
--- two circuits that were read: each within its role's maxima, and the board's links in the file's order
-pub record Drawn (pattern board : Circuit) : Type 0 where
-  pub parts : Bounded Pattern pattern
-  pub nodes : Bounded Board board
-  pub rise : LinksRise (board .starts) (board .ends)
 
 -- tables of a pattern and of a board whose links join its nodes
 pub record Tabled (pattern board : Circuit) (t : Tables) : Type 0 where

@@ -9,12 +9,13 @@ use lib.Seq.{take-at, take-append-le}
 use Rattle.base_lists.specs.List.{Below}
 use Rattle.graph.specs.Circuit.{Circuit}
 use Rattle.graph.proofs.Groups.{below-le, all-below}
+use Rattle.file_format.specs.Circuit.{Drawn}
 use Rattle.file_format.proofs.Accepted.{bounded-starts}
 use Rattle.table.specs.Fill.{marksOf, NodeList, tableAt}
 use Rattle.table.specs.Prepared.{Tables, Prepared, Ready}
 use Rattle.place.specs.declared.Around.{Around}
 use Rattle.place.specs.Bytes.{LinksFit, linkMarks}
-use Rattle.place.specs.Find.{Drawn, Located}
+use Rattle.place.specs.Find.{Located}
 use Rattle.place.specs.Match.{placeNodes, placeLinks, placeTable}
 use Rattle.place.proofs.Find.{located-nodes, located-links, located-table}
 use Rattle.place_circuits.specs.declared.InBall.{InBall}

@@ -16,9 +16,9 @@ use table_prepare::lookups::prepare;
 ghost use mathlib.Core.Path.{_≡_};
 ghost use Prim.Native.Nat.{_≤_, _<_};
 ghost use lib.ListN.{length};
+ghost use Rattle.file_format.specs.Circuit.{Drawn};
 ghost use Rattle.graph.specs.Circuit.{Circuit, circuit};
 ghost use Rattle.table.specs.Prepared.{tables};
-ghost use Rattle.place.specs.Find.{Drawn};
 ghost use Rattle.place.specs.Outcome.{placeReply, placeAround};
 ghost use Rattle.place_circuits.specs.Ball.{SomeTabled, EveryPlaced};
 

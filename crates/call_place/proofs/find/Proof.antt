@@ -4,7 +4,7 @@ use mathlib.Core.Path.{sym}
 use borrow.Author.Needs.{needs}
 use Rattle.graph.specs.Circuit.{Circuit}
 use Rattle.file_pair.specs.Pair.{BothRead}
-use Rattle.file_pair.proofs.Both.{both-read, refused-pair, pattern-bounded, board-bounded}
+use Rattle.file_pair.proofs.Both.{both-read, refused-pair, both-drawn}
 use Rattle.file_format.proofs.Reading.{stands-size, stands-room}
 use Rattle.call_place.proofs.Finding.{find-refused, find-read}
 use Rattle.call_place.proofs.find.Statement.{statement}
@@ -46,14 +46,17 @@ read-pair-requires c κs = search needs
 enum-known-verdict : tie.Need-enum-known-verdict
 enum-known-verdict c = search needs
 
+turned-away-requires : tie.Need-turned-away-requires
+turned-away-requires c κs = search needs
+
+returns : tie.Need-returns
+returns c = rw (c .turned-away .ensures) (find-refused _ _ _ _ _ _ _ (refused-pair (c .before .before .before .before .before .before .before .before .before .before .read-pair .ensures) (c .before .before .verdict .given .1)))
+
 enum-told : tie.Need-enum-told
 enum-told c = search needs
 
 radius-for-requires : tie.Need-radius-for-requires
 radius-for-requires c κs = search needs
-
-turned-away-requires : tie.Need-turned-away-requires
-turned-away-requires c κs = search needs
 
 -- both were read
 abbrev reading : tie.After-enum-told → tie.After-read-pair
@@ -103,17 +106,7 @@ slice-aggregate-find-on-6 : tie.Need-slice-aggregate-find-on-6
 slice-aggregate-find-on-6 c = sym (stands-size (both (c .before .before .before .before .before .before .before) .given) .2)
 
 find-on-requires : tie.Need-find-on-requires
-find-on-requires c κs =
-    let read = both (c .before .before .before .before .before .before .before .before .before .before) in
-    (pattern-bounded read, board-bounded read)
-
-returns : tie.Need-returns
-returns c =
-    let passed = c .before in
-    let told = passed .before in
-    let read = told .before .before .before .before .before .before .before .before in
-    rw (c .turned-away .ensures)
-    (find-refused _ _ _ _ _ _ _ (refused-pair _ _ _ _ (read .read-pair .ensures) (passed .refusal-of .ensures) (told .enum-told .given .1)))
+find-on-requires c κs = both-drawn (both (c .before .before .before .before .before .before .before .before .before .before))
 
 same-length : tie.Need-same-length
 same-length c = search needs
@@ -125,10 +118,7 @@ same-length-3 : tie.Need-same-length-3
 same-length-3 c = search needs
 
 returns-2 : tie.Need-returns-2
-returns-2 c =
-    let found = c .before .before .before .before .before .before in
-    let read = found .before .before .before .before .before .before .before .before .before .before .before in
-    find-read _ _ _ _ _ _ _ (both read) (found .find-on .ensures)
+returns-2 c = find-read _ _ _ _ _ _ _ (both (c .before .before .before .before .before .before .before .before .before .before .before .before .before .before .before .before .before)) (c .before .before .before .before .before .before .before .before .before .before .before .before .before .before .before .before .radius-for .ensures) (c .before .before .before .before .before .before .find-on .ensures)
 
 pub find-spec : {M : Type 1} → statement M
 find-spec =
@@ -141,11 +131,11 @@ find-spec =
     slice-aggregate-read-pair-5
     slice-aggregate-read-pair-6
     read-pair-requires
-    enum-known-read
-    enum-told
-    refusal-of-requires
+    enum-known-verdict
     turned-away-requires
     returns
+    enum-told
+    radius-for-requires
     array-share-prefix-pk
     slice-aggregate-find-on
     array-share-prefix-ps

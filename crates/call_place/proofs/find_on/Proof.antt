@@ -42,14 +42,13 @@ inside c = c .before .before .before
 abbrev entry : tie.Else4 → tie.Start
 entry c = inside c .before .before .before .before .before .before .before .before .before .before
 
-cast-place-circuits : tie.Need-cast-place-circuits
-cast-place-circuits c = search needs
+cast-t20 : tie.Need-cast-t20
+cast-t20 c = search needs
 
 place-circuits-requires : tie.Need-place-circuits-requires
 place-circuits-requires c κs =
     let here = c .before .before .before in
-    let p = entry here .pre in
-    (p .0, (p .1, (inside here .if1 .left, (here .before .before .if2 .left, here .before .if3 .left, here .if4 .left))))
+    (entry here .pre, (inside here .if1 .left, (here .before .before .if2 .left, here .before .if3 .left, here .if4 .left)))
 
 same-length : tie.Need-same-length
 same-length c = search needs
@@ -79,7 +78,7 @@ find-on-spec =
     returns-3
     turned-away-requires-4
     returns-4
-    cast-place-circuits
+    cast-t20
     place-circuits-requires
     same-length
     same-length-2

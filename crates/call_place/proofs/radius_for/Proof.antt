@@ -17,7 +17,7 @@ returns c = rw (c .enum-told .given .1) refl
 
 returns-2 : tie.Need-returns-2
 unfolding radiusFor
-returns-2 c = rw (c .reach .given .1) refl
+returns-2 c = rw (c .before .reach .given .1) refl
 
 pub radius-for-spec : {M : Type 1} → statement M
 radius-for-spec =
