@@ -10,6 +10,8 @@ statements is free:
 
   kind NAME NUMBER     a name for a kind, which is a number from 0 to 65535
   node NAME KIND       a node and its kind, a number or a name for one
+  node NAME any        a part of a pattern that matches a node of every kind
+  node NAME unidentified   a node of a board that only such a part matches
   NAME -> NAME         a link from the node that drives to the one driven
   NAME <- NAME         the same link written from its other end
   NAME <-> NAME        a link each way
@@ -35,6 +37,7 @@ import sys
 ARROWS = ("->", "<-", "<->")
 MOST = 65535
 LIMITS = {"pattern": (1, 32, 256), "board": (0, 512, 4096)}
+ZERO = {"any": "pattern", "unidentified": "board"}  # the names of kind 0, and the role each is for
 STATEMENTS = "expected 'kind NAME NUMBER', 'node NAME KIND' or 'NAME -> NAME'"
 
 
@@ -80,8 +83,9 @@ def good_name(name):
 class Reader:
     """Reads a text statement by statement, and gathers what is wrong."""
 
-    def __init__(self, name):
+    def __init__(self, name, role=None):
         self.name = name
+        self.role = role
         self.line = 0
         self.faults = []
         self.kinds = {}  # name: (number, line)
@@ -116,6 +120,8 @@ class Reader:
         number = number_of(word)
         if name[0].isdigit() or not good_name(name):
             self.fault(f"'{name}' can't name a kind")
+        elif name in ZERO:
+            self.fault(f"'{name}' names kind 0 already")
         elif number is None or number > MOST:
             self.fault(f"'{word}' is not a number from 0 to {MOST}")
         elif name in self.kinds:
@@ -155,6 +161,10 @@ class Reader:
         """The number of a node's kind, 0 if it has none."""
         word, line = self.nodes[name]
         number = number_of(word)
+        if word in ZERO:
+            if self.role not in (None, ZERO[word]):
+                self.fault(f"'{word}' is for a {ZERO[word]}, and this is a {self.role}", line)
+            return 0
         if number is None and word in self.kinds:
             return self.kinds[word][0]
         if number is None:
@@ -193,21 +203,21 @@ class Reader:
         return Circuit(names, kinds, links)
 
 
-def read_text(text, name):
-    """The circuit of a text."""
-    reader = Reader(name)
+def read_text(text, name, role=None):
+    """The circuit of a text, which is for a role if that is told."""
+    reader = Reader(name, role)
     lines = text.replace("\r\n", "\n").replace("\r", "\n").split("\n")
     for reader.line, line in enumerate(lines, 1):
         reader.statement(line)
     return reader.circuit()
 
 
-def load_text(path):
-    """The circuit of a text file."""
+def load_text(path, role=None):
+    """The circuit of a text file, which is for a role if that is told."""
     with open(path, "rb") as file:
         data = file.read()
     try:
-        return read_text(data.decode("utf-8-sig"), path)
+        return read_text(data.decode("utf-8-sig"), path, role)
     except UnicodeDecodeError as error:
         line = data[: error.start].count(b"\n") + 1
         raise Faults([f"{path}:{line}: not a UTF-8 text"]) from None
@@ -303,7 +313,7 @@ def named(word, names):
 
 def make(arguments):
     """The command 'make'."""
-    circuit = load_text(arguments.text)
+    circuit = load_text(arguments.text, arguments.role)
     if arguments.role:
         check_role(circuit, arguments.role, arguments.text)
     with open(arguments.out, "wb") as file:

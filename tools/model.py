@@ -136,9 +136,14 @@ def write(role, kinds, starts, ends, out):
     return ("written", len(data))
 
 
+def agree(part, node):
+    """Whether a part of one kind matches a node of another: kind 0 in a pattern is any part, on a board an unidentified one."""
+    return part == 0 or part == node
+
+
 def start_set(pattern, board):
-    """R0: the pairs (part, node) with equal kinds."""
-    return {(u, v) for u, k in enumerate(pattern.kinds) for v, j in enumerate(board.kinds) if k == j}
+    """R0: the pairs (part, node) that agree."""
+    return {(u, v) for u, k in enumerate(pattern.kinds) for v, j in enumerate(board.kinds) if agree(k, j)}
 
 
 def directed(circuit):

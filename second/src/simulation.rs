@@ -3,6 +3,17 @@
 use crate::circuit::Circuit;
 use crate::graph::Subgraph;
 
+/// Whether a part of one kind matches a node of another: a part of kind 0
+/// matches a node of every kind, and a node of kind 0 is matched by such a
+/// part only.
+pub fn agree(part: u16, node: u16) -> bool {
+    match (part, node) {
+        (0, _) => true,
+        (_, 0) => false,
+        (part, node) => part == node,
+    }
+}
+
 /// A set of pairs: `rows[u][v]` says whether it has (part u, node v).
 #[derive(Clone, Debug, PartialEq, Eq)]
 pub struct Pairs {
@@ -10,11 +21,12 @@ pub struct Pairs {
 }
 
 impl Pairs {
-    /// R0: the pairs of equal kinds, over the nodes of a subgraph of the board.
+    /// R0: the pairs that agree, over the nodes of a subgraph of the board.
     pub fn first(pattern: &Circuit, board: &Circuit, graph: &Subgraph) -> Pairs {
-        let row = |part: &u16| {
+        let row = |&part: &u16| {
             let nodes = board.kinds.iter().zip(&graph.nodes);
-            nodes.map(|(node, &taken)| taken && node == part).collect()
+            let meant = |(&node, &taken): (&u16, &bool)| taken && agree(part, node);
+            nodes.map(meant).collect()
         };
         Pairs {
             rows: pattern.kinds.iter().map(row).collect(),

@@ -59,7 +59,12 @@ impl Graph<'_> {
     }
 }
 
-/// Whether a pair has equal kinds and partners in a set of pairs for each of
+/// Whether a part matches a node by their kinds alone.
+fn agree(part: u16, node: u16) -> bool {
+    part == 0 || part == node
+}
+
+/// Whether a pair agrees and has partners in a set of pairs for each of
 /// its part's links.
 fn is_good(pattern: &Circuit, graph: &Graph, pairs: Set, u: usize, v: usize) -> bool {
     let nodes = graph.board.kinds.len();
@@ -67,7 +72,7 @@ fn is_good(pattern: &Circuit, graph: &Graph, pairs: Set, u: usize, v: usize) -> 
     let forward = |t: usize| graph.links().any(|(from, to)| from == v && has(t, to));
     let backward = |t: usize| graph.links().any(|(from, to)| to == v && has(t, from));
     let mut links = pattern.links.iter();
-    pattern.kinds[u] == graph.board.kinds[v]
+    agree(pattern.kinds[u], graph.board.kinds[v])
         && graph.has_node(v)
         && links.all(|&(from, to)| (from != u || forward(to)) && (to != u || backward(from)))
 }
@@ -88,7 +93,7 @@ fn is_dual_simulation(pattern: &Circuit, graph: &Graph, pairs: Set) -> bool {
 fn first_tried(pattern: &Circuit, graph: &Graph) -> Set {
     let nodes = graph.board.kinds.len();
     let (part, node) = (|pair| pair / nodes, |pair| pair % nodes);
-    let equal = |pair: usize| pattern.kinds[part(pair)] == graph.board.kinds[node(pair)];
+    let equal = |pair: usize| agree(pattern.kinds[part(pair)], graph.board.kinds[node(pair)]);
     let all = 0..pattern.kinds.len() * nodes;
     all.filter(|&pair| equal(pair) && graph.has_node(node(pair)))
         .map(|pair| 1 << pair)

@@ -200,3 +200,38 @@ fn report_at_the_edges() {
     assert_eq!(report(&[], &[]), "refused 1 pattern\n");
     assert_eq!(report(&one, &[]), "refused 1 board\n");
 }
+
+#[test]
+fn a_part_of_kind_0_matches_every_kind() {
+    let any_to_20 = circuit(&[0, 20], &[(0, 1)]).bytes();
+    let mut table = [9; 6];
+    let reply = calls::match_table(&any_to_20, &b(), &mut table);
+    assert_eq!((reply.number, reply.counts), (0, counts(8, 2, 6, 1)));
+    assert_eq!(table, [1, 2, 0, 0, 0, 0]);
+    let any = circuit(&[0], &[]).bytes();
+    for centre in 0..6 {
+        let (reply, nodes, ..) = place(&any, &b(), centre, None);
+        let only = (0..6).map(|v| u8::from(v == centre)).collect::<Vec<_>>();
+        assert_eq!((reply.number, nodes), (0, only));
+    }
+}
+
+#[test]
+fn a_node_of_kind_0_is_matched_by_such_a_part_only() {
+    let board = circuit(&[0, 20], &[(0, 1)]).bytes();
+    let ten = circuit(&[10, 20], &[(0, 1)]).bytes();
+    let any = circuit(&[0, 20], &[(0, 1)]).bytes();
+    for centre in 0..2 {
+        assert_eq!(place(&ten, &board, centre, None).0.number, 9);
+        assert_eq!(place(&any, &board, centre, None).1, [1, 1]);
+    }
+}
+
+#[test]
+fn parts_of_kind_0_and_10_do_not_merge() {
+    let (reply, classes, _) = merge(&circuit(&[20, 0, 10], &[(0, 1), (0, 2)]).bytes());
+    assert_eq!((reply.first, &classes[..3]), (3, &[0, 1, 2][..]));
+    let (reply, classes, out) = merge(&circuit(&[20, 0, 0], &[(0, 1), (0, 2)]).bytes());
+    assert_eq!((reply.first, &classes[..3]), (2, &[0, 1, 1][..]));
+    assert_eq!(out[..12], circuit(&[20, 0], &[(0, 1)]).bytes());
+}

@@ -55,6 +55,7 @@ enum Fault {
     CentreCut,
     RadiusCut,
     KindCut,
+    AnyPartFindsNone,
     SelfLinksIgnored,
     WritingCut,
     WritingUneven,
@@ -73,7 +74,7 @@ enum Fault {
     LoadNamesBoard,
 }
 
-const FAULTS: [Fault; 50] = [
+const FAULTS: [Fault; 51] = [
     Fault::OneRound,
     Fault::EveryLink,
     Fault::MergedRadius,
@@ -109,6 +110,7 @@ const FAULTS: [Fault; 50] = [
     Fault::CentreCut,
     Fault::RadiusCut,
     Fault::KindCut,
+    Fault::AnyPartFindsNone,
     Fault::SelfLinksIgnored,
     Fault::WritingCut,
     Fault::WritingUneven,
@@ -351,6 +353,10 @@ impl Faulty {
         match self.0 {
             Fault::KindCut => changed(Role::Pattern, pattern, |circuit| {
                 circuit.kinds.iter_mut().for_each(|kind| *kind %= 256)
+            }),
+            Fault::AnyPartFindsNone => changed(Role::Pattern, pattern, |circuit| {
+                let zeros = circuit.kinds.iter_mut().filter(|kind| **kind == 0);
+                zeros.for_each(|kind| *kind = 65535)
             }),
             Fault::SelfLinksIgnored => changed(Role::Pattern, pattern, |circuit| {
                 circuit.links.retain(|link| link.0 != link.1)

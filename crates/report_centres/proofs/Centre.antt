@@ -19,7 +19,7 @@ use Rattle.table.specs.Fill.{NodeList}
 use Rattle.table.specs.First.{Written}
 use Rattle.table.specs.Host.{everything}
 use Rattle.table.specs.Row.{inTable, InTable}
-use Rattle.table.specs.Prepared.{succOf, Tables}
+use Rattle.table.specs.Prepared.{Tables}
 use Rattle.table.proofs.Begun.{copied-begins}
 use Rattle.table.proofs.Host.{everything-taken}
 use Rattle.table.proofs.Meaning.{last-fits}
@@ -99,7 +99,7 @@ module _ {pattern board : Circuit} {t : Tables} {table : List ℕ} {r : ℕ} (s 
 
   -- and where there is one, the line that is put is the centre's
   pub source-line : (c : ℕ) (b : Bool) {dist sets place : List ℕ} → b ≡ found pattern board c r → b ≡ true
-      → Located pattern board c r (succOf (t .masks)) dist sets place → lineText t dist sets c ≡ centreLine pattern board c
+      → Located pattern board t c r dist sets place → lineText t dist sets c ≡ centreLine pattern board c
   unfolding hasPlace
   source-line c b e f l =
       centre-located (s .ready) (s .drawn .nodes .parallel) (source-tabled .starts) (s .drawn .rise) c (rw (← s .own) (sym e ∙ f)) (rw (s .own) at l)

@@ -9,12 +9,13 @@ use lib.ListN.{length, take}
 use Rattle.base_lists.specs.Below.{countBelow, leastBelow, concatBelow}
 use Rattle.base_text.specs.Text.{Put, Fits}
 use Rattle.graph.specs.Circuit.{Circuit}
+use Rattle.file_format.specs.Circuit.{Drawn}
 use Rattle.table.specs.Host.{everything}
 use Rattle.table.specs.Row.{lastTable}
-use Rattle.table.specs.Prepared.{succOf, Tables, Ready, Prepared}
+use Rattle.table.specs.Prepared.{Tables, Prepared}
 use Rattle.place.specs.declared.Around.{Around}
 use Rattle.place.specs.declared.Found.{Found}
-use Rattle.place.specs.Find.{Drawn, Located}
+use Rattle.place.specs.Find.{Located}
 use Rattle.place.specs.Match.{radiusOf, found}
 use Rattle.report.specs.Lines.{longestLine}
 use Rattle.report.specs.Report.{hasPlace, centreLine, endLine}
@@ -82,12 +83,10 @@ pub record SourceOfSome (t : Tables) (table : List ℕ) (r : ℕ) : Type 0 where
   pub board : Circuit
   pub source : Source pattern board t table r
 
--- What is known of a centre: whether there is a place around it, tables of sets that serve with the lookups, and where there is a place the
--- place in the tables.
+-- what is known of a centre: whether there is a place around it, and then the place in the tables
 pub record Known (pattern board : Circuit) (t : Tables) (around : Around) (dist queue sets : List ℕ) (a : Found) : Type 0 where
   pub answer : a .found ≡ found pattern board (around .centre) (around .radius)
-  pub ready : Ready t sets
-  pub there : a .found ≡ true → Located pattern board (around .centre) (around .radius) (succOf (t .masks)) dist sets (take (a .size) queue)
+  pub there : a .found ≡ true → Located pattern board t (around .centre) (around .radius) dist sets (take (a .size) queue)
 
 -- this of every pattern and board that a line is put from
 abbrev pub EveryKnown : Tables → List ℕ → Around → List ℕ → List ℕ → List ℕ → Found → Type 0

@@ -135,7 +135,8 @@ fn put_centre(
         sets,
         spare,
     );
-    if !place.found {
+    let there = place.found;
+    if !there {
         return at;
     }
     put_line(names, masks, offsets, links, dist, sets, c, out, at)

@@ -9,7 +9,6 @@ use lib.ListN.{length, take, length-take}
 use Rattle.graph.specs.Circuit.{Circuit}
 use Rattle.table.specs.Prepared.{tables}
 use Rattle.place.specs.Find.{Sought}
-use Rattle.place.proofs.Find.{sets-ready}
 use Rattle.report_centres.specs.Pieces.{Source}
 use Rattle.report_centres.proofs.Centre.{source-net, source-short, source-list, source-sought}
 use Rattle.report_centres.proofs.locate.Statement.{statement}
@@ -92,9 +91,8 @@ same-length-4 c = search needs
 returns : tie.Need-returns
 returns c pattern board s =
     let done = c .before .before .before .before .before .before .before .before in
-    let begun = sought (done .before) pattern board s in
-    let place = done .find .ensures pattern board _ begun in
-    record { answer = place .answer; ready = sets-ready begun (place .rested); there = place .there }
+    let place = done .find .ensures pattern board _ (sought (done .before) pattern board s) in
+    record { answer = place .answer; there = place .there }
 
 pub locate-spec : {M : Type 1} → statement M
 locate-spec =

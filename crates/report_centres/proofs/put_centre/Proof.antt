@@ -68,10 +68,10 @@ locate-requires c κs =
 
 -- ---- whether there is a place is known
 
-abbrev known : tie.After-struct-known2 → tie.After-locate
-known c = c .before .before .before .before .before .before .before
+abbrev known : tie.After-slice-known3 → tie.After-locate
+known c = c .before .before .before .before .before .before
 
-abbrev begun : tie.After-struct-known2 → tie.Start
+abbrev begun : tie.After-slice-known3 → tie.Start
 begun c = start (known c .before .before .before .before .before .before .before)
 
 returns-2 : tie.Need-returns-2
@@ -92,7 +92,7 @@ put-line-requires c κs =
       (
         l .long ∙ sym (l .size),
         (
-          place .ready,
+          l .ready,
           fits-same (sym (source-line source _ _ (place .answer) there l)) (centre-fits _ _ _ (source .drawn .nodes) (rw (source-long source) at (p .1 .0)) (p .1 .1 .1)),
         ),
       ),

@@ -1,149 +1,95 @@
--- `report_pieces::put_piece` meets its contract: nothing past the last line, else the pattern's radius, and scratch tables with room for every
--- pattern and board. Assumes nothing.
+-- `report_pieces::put_piece` meets its contract: nothing past the last line, else the whole board is matched and the lines are put from that.
+-- Assumes nothing.
 use denote.Ref.{now}
-use mathlib.Core.Path.{sym}
-use native.Mathlib.Nat.{lt-of-le-of-lt}
+use mathlib.Core.Path.{refl, sym}
 use borrow.Author.Needs.{needs}
-use lib.Dec.{lit≤}
+use lib.ListN.{length}
 use lib.Seq.{length-take-le}
-use Rattle.place.specs.Match.{radiusOf}
+use Rattle.graph.specs.Circuit.{circuit}
+use Rattle.table.specs.Prepared.{tables}
+use Rattle.report_centres.specs.Pieces.{Source}
 use Rattle.report_centres.proofs.Pieces.{past-wrote}
 use Rattle.report_pieces.proofs.put_piece.Statement.{statement}
 use Rattle.report_pieces.proofs.put_piece.Tie as tie
 
--- the radius is known
-abbrev entry : tie.After-radius-of → tie.Start
-entry c = c .before .before .before .before .before .before .before .before .before
+abbrev entry : tie.After-slice-known → tie.Start
+entry c = c .before .before .before .before .before .before .before
 
 returns : tie.Need-returns
 returns c =
-    let s = c .before .before .before .before .before .before .before .before in
-    past-wrote _ _ (s .args .from) (s .args .found) (now (s .args .out)) (s .pre .nodes) (s .fits .found .fits) (c .if1 .taken)
+    let s = entry (c .before) in
+    past-wrote _ _ (s .args .from) (s .args .found) (now (s .args .out)) (s .pre .0 .nodes) (s .fits .found .fits) (c .if1 .taken)
 
-radius-of-requires : tie.Need-radius-of-requires
-radius-of-requires c κs = search needs
+array-borrow-prefix-table : tie.Need-array-borrow-prefix-table
+array-borrow-prefix-table c = search needs
 
-array-borrow-prefix-whole : tie.Need-array-borrow-prefix-whole
-array-borrow-prefix-whole c = search needs
+slice-aggregate-whole : tie.Need-slice-aggregate-whole
+slice-aggregate-whole c = sym (length-take-le _ _ (entry (c .before .before) .pre .0 .nodes .nodes))
 
-slice-aggregate-run : tie.Need-slice-aggregate-run
-slice-aggregate-run c = sym (length-take-le _ _ (entry (c .before) .pre .nodes .nodes))
+slice-aggregate-prepare-and-match : tie.Need-slice-aggregate-prepare-and-match
+slice-aggregate-prepare-and-match c = search needs
 
-array-borrow-prefix-succ : tie.Need-array-borrow-prefix-succ
-array-borrow-prefix-succ c = search needs
+slice-aggregate-prepare-and-match-2 : tie.Need-slice-aggregate-prepare-and-match-2
+slice-aggregate-prepare-and-match-2 c = search needs
 
-slice-aggregate-run-2 : tie.Need-slice-aggregate-run-2
-slice-aggregate-run-2 c = sym (length-take-le _ _ (entry (c .before .before) .pre .parts .nodes))
+slice-aggregate-prepare-and-match-3 : tie.Need-slice-aggregate-prepare-and-match-3
+slice-aggregate-prepare-and-match-3 c = search needs
 
-array-borrow-prefix-pred : tie.Need-array-borrow-prefix-pred
-array-borrow-prefix-pred c = search needs
+abbrev begun : tie.After-links → tie.Start
+begun c = entry (c .before .before .before .before .before .before)
 
-slice-aggregate-run-3 : tie.Need-slice-aggregate-run-3
-slice-aggregate-run-3 c = sym (length-take-le _ _ (entry (c .before .before .before) .pre .parts .nodes))
+prepare-and-match-requires : tie.Need-prepare-and-match-requires
+prepare-and-match-requires c κs =
+    let drawn = begun c .pre .0 in
+    (drawn .parts, (drawn .nodes, (length-take-le _ _ (drawn .nodes .nodes), (refl, record { inOffsets = refl; inLinks = refl }))))
 
-slice-aggregate-run-4 : tie.Need-slice-aggregate-run-4
-slice-aggregate-run-4 c = search needs
+slice-aggregate-put-lines : tie.Need-slice-aggregate-put-lines
+slice-aggregate-put-lines c = search needs
 
-array-borrow-prefix-ft : tie.Need-array-borrow-prefix-ft
-array-borrow-prefix-ft c = search needs
+slice-aggregate-put-lines-2 : tie.Need-slice-aggregate-put-lines-2
+slice-aggregate-put-lines-2 c = search needs
 
-slice-aggregate-run-5 : tie.Need-slice-aggregate-run-5
-slice-aggregate-run-5 c = sym (length-take-le _ _ (entry (c .before .before .before .before .before) .pre .nodes .links))
+slice-aggregate-put-lines-3 : tie.Need-slice-aggregate-put-lines-3
+slice-aggregate-put-lines-3 c = search needs
 
-slice-aggregate-run-6 : tie.Need-slice-aggregate-run-6
-slice-aggregate-run-6 c = search needs
+-- the whole board is matched: lines can be put
+source : (c : tie.After-prepare-and-match) →
+    let a = begun (c .before) .args in
+    let l = c .prepare-and-match .last .1 .1 .1 .1 .1 .1 in
+    Source (circuit (now (a .part-kinds)) (now (a .part-starts)) (now (a .part-ends))) (circuit (now (a .node-kinds)) (now (a .node-starts)) (now (a .node-ends)))
+    (tables (l .1 .0) (l .1 .1 .0) (l .1 .1 .1 .0)) (l .0) (a .r)
+source c =
+    let p = begun (c .before) .pre in
+    record { drawn = p .0; ready = c .prepare-and-match .ensures .1; whole = c .prepare-and-match .ensures .0 .last; own = p .1 }
 
-array-borrow-prefix-bt : tie.Need-array-borrow-prefix-bt
-array-borrow-prefix-bt c = search needs
+abbrev matched : tie.After-put-lines-arg → tie.After-prepare-and-match
+matched c = c .before .before .before .before .before .before .before .before .before .before
 
-slice-aggregate-run-7 : tie.Need-slice-aggregate-run-7
-slice-aggregate-run-7 c = sym (length-take-le _ _ (entry (c .before .before .before .before .before .before .before) .pre .nodes .links))
-
-array-borrow-prefix-dist : tie.Need-array-borrow-prefix-dist
-array-borrow-prefix-dist c = search needs
-
-slice-aggregate-run-8 : tie.Need-slice-aggregate-run-8
-slice-aggregate-run-8 c = sym (length-take-le _ _ (entry (c .before .before .before .before .before .before .before .before) .pre .nodes .nodes))
-
-array-borrow-prefix-queue : tie.Need-array-borrow-prefix-queue
-array-borrow-prefix-queue c = search needs
-
-slice-aggregate-run-9 : tie.Need-slice-aggregate-run-9
-slice-aggregate-run-9 c = sym (length-take-le _ _ (entry (c .before .before .before .before .before .before .before .before .before) .pre .nodes .nodes))
-
-array-borrow-prefix-sets : tie.Need-array-borrow-prefix-sets
-array-borrow-prefix-sets c = search needs
-
-slice-aggregate-run-10 : tie.Need-slice-aggregate-run-10
-slice-aggregate-run-10 c = sym (length-take-le _ _ (entry (c .before .before .before .before .before .before .before .before .before .before) .pre .nodes .nodes))
-
-array-borrow-prefix-spare : tie.Need-array-borrow-prefix-spare
-array-borrow-prefix-spare c = search needs
-
-slice-aggregate-run-11 : tie.Need-slice-aggregate-run-11
-slice-aggregate-run-11 c = sym (length-take-le _ _ (entry (c .before .before .before .before .before .before .before .before .before .before .before) .pre .nodes .nodes))
-
-run-requires : tie.Need-run-requires
-unfolding radiusOf
-run-requires c κs =
-    let measured = c .before .before .before .before .before .before .before .before .before .before .before .before in
-    let p = entry measured .pre in
-    let pattern = p .parts in
-    let board = p .nodes in (
-      p,
-      (
-        record {
-          succ = length-take-le _ _ (pattern .nodes);
-          pred = length-take-le _ _ (pattern .nodes);
-          forwardOffsets = lt-of-le-of-lt (board .nodes) (lit≤ tt);
-          forward = length-take-le _ _ (board .links);
-          backwardOffsets = lt-of-le-of-lt (board .nodes) (lit≤ tt);
-          backward = length-take-le _ _ (board .links);
-        },
-        (
-          record {
-            distances = length-take-le _ _ (board .nodes);
-            queued = length-take-le _ _ (board .nodes);
-            ball = length-take-le _ _ (board .nodes);
-            other = length-take-le _ _ (board .nodes);
-          },
-          (length-take-le _ _ (board .nodes), measured .radius-of .ensures),
-        ),
-      ),
-    )
+put-lines-requires : tie.Need-put-lines-requires
+put-lines-requires c κs = record { pattern = _; board = _; source = source (matched c) }
 
 same-length : tie.Need-same-length
 same-length c = search needs
 
 returns-2 : tie.Need-returns-2
-returns-2 c = search needs
+returns-2 c =
+    let done = c .before .before .before in
+    done .put-lines .ensures _ _ (source (matched (done .before)))
 
 pub put-piece-spec : {M : Type 1} → statement M
 put-piece-spec =
     tie.close
     (tie.spec
     returns
-    radius-of-requires
-    array-borrow-prefix-whole
-    slice-aggregate-run
-    array-borrow-prefix-succ
-    slice-aggregate-run-2
-    array-borrow-prefix-pred
-    slice-aggregate-run-3
-    slice-aggregate-run-4
-    array-borrow-prefix-ft
-    slice-aggregate-run-5
-    slice-aggregate-run-6
-    array-borrow-prefix-bt
-    slice-aggregate-run-7
-    array-borrow-prefix-dist
-    slice-aggregate-run-8
-    array-borrow-prefix-queue
-    slice-aggregate-run-9
-    array-borrow-prefix-sets
-    slice-aggregate-run-10
-    array-borrow-prefix-spare
-    slice-aggregate-run-11
-    run-requires
+    array-borrow-prefix-table
+    slice-aggregate-whole
+    slice-aggregate-prepare-and-match
+    slice-aggregate-prepare-and-match-2
+    slice-aggregate-prepare-and-match-3
+    prepare-and-match-requires
+    slice-aggregate-put-lines
+    slice-aggregate-put-lines-2
+    slice-aggregate-put-lines-3
+    put-lines-requires
     same-length
     returns-2)
