@@ -13,7 +13,7 @@ use lib.Dec.{T, leb, le→leb}
 use lib.ListN.{length, getD, take, drop, List·getD-append}
 use lib.Seq.{take-at, drop-at}
 use Rattle.base_lists.proofs.Tests.{T-true, both}
-use Rattle.graph.specs.Circuit.{circuitGraph}
+use Rattle.graph.specs.Circuit.{Circuit, circuitGraph}
 use Rattle.simulation.specs.Closed.{Relation}
 use Rattle.simulation.specs.Simulation.{Largest}
 use Rattle.simulation.specs.Quotient.{Mutual}
@@ -33,6 +33,7 @@ use Rattle.table.specs.Host.{KindsMatch}
 use Rattle.table.specs.Row.{InTable}
 use Rattle.call_match.specs.Call.{matching}
 use Rattle.call_match.proofs.Promise as matched
+use Rattle.file_write.specs.Bytes.{fileBytes}
 use Rattle.file_write.proofs.FileFields.{kinds-written, starts-written, ends-written, length-written}
 use Rattle.file_write.proofs.RoundTrip.{same-verdict}
 use Rattle.merge.specs.Merged.{classOf, classCount, classes, merged}
@@ -63,6 +64,21 @@ unfolding reply
 reply-verdict accept values = refl
 reply-verdict (refuse x) values = refl
 
+-- ---- the file of a circuit that can be the content of a pattern file
+
+module _ {q : Circuit} (c : PatternContent q) where
+  -- it is accepted as a pattern file,
+  content-verdict : first (fileConditions Pattern (fileBytes (q .kinds) (q .starts) (q .ends))) ≡ accept
+  content-verdict = sym (same-verdict Pattern _ _ _ (c .range) (c .parallel)) ∙ content-sound c
+
+  pub content-accepted : Accepted Pattern (fileBytes (q .kinds) (q .starts) (q .ends))
+  content-accepted = accepted Pattern _ content-verdict
+
+  -- and holds the circuit
+  pub content-circuit : circuitOf (fileBytes (q .kinds) (q .starts) (q .ends)) ≡ q
+  content-circuit =
+      rw (kinds-written (q .kinds) (q .starts) (q .ends), starts-written (q .kinds) (q .starts) (q .ends), ends-written (q .kinds) (q .starts) (q .ends) (c .parallel))
+
 -- ---- the merged file of an accepted pattern file
 
 module _ {file : List ℕ} (a : Accepted Pattern file) where
@@ -72,8 +88,7 @@ module _ {file : List ℕ} (a : Accepted Pattern file) where
   -- it is accepted as a pattern file,
   pub merged-verdict : first (fileConditions Pattern (mergedBytes (circuitOf file))) ≡ accept
   unfolding mergedBytes
-  merged-verdict =
-      sym (same-verdict Pattern _ _ _ (merged-content content .range) (merged-content content .parallel)) ∙ content-sound (merged-content content)
+  merged-verdict = content-verdict (merged-content content)
 
   pub merged-accepted : Accepted Pattern (mergedBytes (circuitOf file))
   merged-accepted = accepted Pattern _ merged-verdict
@@ -81,9 +96,7 @@ module _ {file : List ℕ} (a : Accepted Pattern file) where
   -- holds the merged pattern,
   pub merged-circuit : circuitOf (mergedBytes (circuitOf file)) ≡ merged (circuitOf file)
   unfolding mergedBytes
-  merged-circuit =
-      let q = merged (circuitOf file) in
-      rw (kinds-written (q .kinds) (q .starts) (q .ends), starts-written (q .kinds) (q .starts) (q .ends), ends-written (q .kinds) (q .starts) (q .ends) (merged-content content .parallel))
+  merged-circuit = content-circuit (merged-content content)
 
   -- and is no longer than the first
   pub merged-size : length (mergedBytes (circuitOf file)) ≤ length file
@@ -107,12 +120,15 @@ board-verdict {file} a =
     let rises : rising (startsOf file) (endsOf file) ≡ true = T-true (a .rises) in
     simp (le-ltb _ _ (a .bytes), range, eq-eqb _ _ (a .size), below, rises)
 
+pub pattern-board : {file : List ℕ} → Accepted Pattern file → Accepted Board file
+pattern-board {file} a = accepted Board file (board-verdict a)
+
 matches-itself :
     (file : List ℕ) → first (fileConditions Pattern file) ≡ accept → (table : List ℕ) → nodesOf file ≤ length table →
     matching file file table .reply .verdict ≡ accept
 matches-itself file sound table room =
     let a = accepted Pattern file sound in
-    matched.accepts file file table a (accepted Board file (board-verdict a)) room
+    matched.accepts file file table a (pattern-board a) room
 
 module _ (file lent out : List ℕ) where
   verdict-is : merging file lent out .reply .verdict ≡ first (mergeConditions file (length lent) (length out))

@@ -31,7 +31,7 @@ use Rattle.merge.specs.Merged.{selfTable, classOf, classCount, classes, merged}
 use Rattle.merge.specs.Steps.{marks, scannedStarts, scannedEnds}
 use Rattle.merge.proofs.Content.{PatternContent, most-parts, most-links, content-bounded}
 use Rattle.merge.proofs.Classes.{self-fits, length-classes, class-at, class-lt, classCount-le}
-use Rattle.merge.proofs.Merging.{length-merged-kinds}
+use Rattle.merge.proofs.Merging.{length-merged-kinds, merged-kinds}
 use Rattle.merge.proofs.Accepted.{merged-content, merged-links-le, merged-length-le}
 use Rattle.merge.proofs.Steps.{self-led, marks-classes, merged-starts, merged-ends}
 use Rattle.call_merge.specs.Call.{mergedBytes}
@@ -109,8 +109,8 @@ module _ {p : Circuit} (c : PatternContent p) where
     numbers-are = rw (table-size, self)
 
     pub kinds-are : leaderKinds t (p .kinds) ≡ merged p .kinds
-    unfolding leaderKinds merged
-    kinds-are = rw (table-size, self)
+    unfolding leaderKinds
+    kinds-are = rw (table-size, self) (sym (merged-kinds c))
 
   -- ---- the rows
 

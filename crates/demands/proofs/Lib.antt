@@ -2,6 +2,8 @@ pub mod Demands
 pub mod Decided
 pub mod Counts
 pub mod Merged
+pub mod Groupings
+pub mod GroupingExamples
 pub mod Report
 pub mod Examples
 pub mod Files

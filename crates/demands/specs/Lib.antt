@@ -1,3 +1,4 @@
 pub mod Demands
+pub mod Groupings
 pub mod Examples
 pub mod Files

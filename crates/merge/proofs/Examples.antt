@@ -1,22 +1,26 @@
 -- Document 01's examples of merging, by computation. Assumes nothing.
-use mathlib.Core.List.{[], _∷_}
-use mathlib.Core.Path.{_≡_, refl, ap, _∙_}
-use Rattle.base_lists.specs.List.{all, allBelow, anyBelow}
+use mathlib.Core.List.{List, [], _∷_}
+use mathlib.Core.Path.{_≡_, refl, ap, subst, _∙_}
+use Prim.Native.Nat.{ℕ}
+use Rattle.base_lists.specs.List.{all, allBelow, anyBelow, tabulate}
 use Rattle.base_lists.specs.Below.{leastBelow, collect}
+use Rattle.base_bits.specs.Bits.{bit}
 use Rattle.graph.specs.Search.{beside, ball, connected}
 use Rattle.graph_pairs.specs.Pairs.{pairTest, pairStarts, pairEnds}
-use Rattle.table.specs.Examples.{rowComputed}
+use Rattle.table.specs.Examples.{circuitT, rowComputed}
+use Rattle.table.specs.Host.{everything}
+use Rattle.table.specs.Row.{inTable, lastTable, InTable}
 use Rattle.file_format.specs.Links.{linksBelow, earlier, rising}
 use Rattle.place.specs.Match.{radiusOf}
 use Rattle.place.specs.Examples.{circuitY, oneLink}
 use Rattle.place.proofs.Examples.{radius-Y, radius-oneLink}
-use Rattle.merge.specs.Merged.{equivalent, leader, isLeader, classIn, selfTable, classOf, classCount, classes, joins, linked, merged}
+use Rattle.merge.specs.Merged.{equivalent, leader, isLeader, classIn, selfTable, classOf, classCount, classes, firstMember, joins, linked, grouped, merged}
 use Rattle.merge.specs.Examples.{circuitE8, tenAndAny}
 use Rattle.merge.proofs.Content.{PatternContent}
 
 -- all that is opened where a merged pattern is computed
 opened : Unit {0}
-unfolding rowComputed anyBelow leastBelow collect equivalent leader isLeader classIn selfTable classOf classCount classes joins linked pairTest pairStarts pairEnds merged
+unfolding rowComputed anyBelow tabulate leastBelow collect equivalent leader isLeader classIn selfTable classOf classCount classes firstMember joins linked pairTest pairStarts pairEnds grouped merged
 opened = tt
 
 -- ---- "E6 Y: 0:10, 1:20, 2:20, links 0-1, 0-2: classes 0, 1, 1; the merged radius is 1, Y's is 2."
@@ -57,6 +61,25 @@ E8-classes = refl
 pub E8-merged : merged circuitE8 ≡ circuitE8
 unfolding opened circuitE8
 E8-merged = refl
+
+-- E8 can be a pattern
+pub content-E8 : PatternContent circuitE8
+unfolding opened circuitE8 all allBelow linksBelow rising earlier beside ball connected
+content-E8 = record { range = tt; parallel = refl; below = tt; rises = tt; joined = tt }
+
+-- in which node 1 matches part 1,
+pub E8-member : InTable (selfTable circuitE8) 1 1
+unfolding opened circuitE8
+E8-member = tt
+
+-- and T on it, in which node 1 matches no part
+pub E8-T : lastTable circuitT circuitE8 (everything circuitE8) ≡ 1 ∷ 0 ∷ 2 ∷ 4 ∷ []
+unfolding opened circuitT circuitE8
+E8-T = refl
+
+pub E8-none : InTable (lastTable circuitT circuitE8 (everything circuitE8)) 1 1 → ⊥
+unfolding inTable bit
+E8-none t = subst (λ (x : List ℕ). InTable x 1 1) E8-T t
 
 -- ---- parts of kind 0 and of kind 10 with the same links: the first matches the second, and not the other way round
 

@@ -1,5 +1,6 @@
 pub mod Content
 pub mod Classes
+pub mod Grouped
 pub mod Merging
 pub mod Accepted
 pub mod Places

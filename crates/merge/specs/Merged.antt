@@ -2,6 +2,7 @@
 -- merged pattern is the quotient graph.) proofs/ ties this to simulation's Quotient.
 use mathlib.Core.Bool.{Bool, _&&_}
 use mathlib.Core.List.{List}
+use mathlib.Core.Path.{_≡_}
 use Prim.Native.Nat.{ℕ}
 use lib.Dec.{eqb}
 use lib.ListN.{length, getD}
@@ -49,22 +50,34 @@ classCount p = countBelow (length (p .kinds)) (isLeader (length (p .kinds)) (sel
 unfoldable pub classes : Circuit → List ℕ
 classes p = tabulate (length (p .kinds)) (classOf p)
 
--- ---- the merged pattern
+-- ---- the pattern that a grouping of the parts makes: class gives the group of each part, and there are k groups, numbered from 0
 
--- some of the first j links goes from a member of a to a member of b, where class gives the class of each part
+-- two parts are ".. of the same kind"
+unfoldable pub SameKind : Circuit → ℕ → ℕ → Type 0
+SameKind p u v = getD (p .kinds) u 0 ≡ getD (p .kinds) v 0
+
+-- the smallest member of group a
+unfoldable pub firstMember : Circuit → (ℕ → ℕ) → ℕ → ℕ
+firstMember p class a = leastBelow (length (p .kinds)) (λ u. eqb (class u) a)
+
+-- some of the first j links goes from a member of a to a member of b
 unfoldable pub joins : (ℕ → ℕ) → List ℕ → List ℕ → ℕ → ℕ → ℕ → Bool
 joins class starts ends j a b = anyBelow j (λ i. eqb (class (getD starts i 0)) a && eqb (class (getD ends i 0)) b)
 
 -- "a link from class a to class b, b equal to a included, where some member of a has a link to some member of b"
-unfoldable pub linked : Circuit → ℕ → ℕ → Bool
-linked p = joins (classOf p) (p .starts) (p .ends) (length (p .starts))
+unfoldable pub linked : Circuit → (ℕ → ℕ) → ℕ → ℕ → Bool
+linked p class = joins class (p .starts) (p .ends) (length (p .starts))
 
--- "The merged pattern has a part per class, of the same kind, and a link .."
-unfoldable pub merged : Circuit → Circuit
-merged p =
-    let k = classCount p in
+-- "The merged pattern has a part per class, of the same kind, and a link ..": for any grouping
+unfoldable pub grouped : Circuit → (ℕ → ℕ) → ℕ → Circuit
+grouped p class k =
     record {
-      kinds = collect (length (p .kinds)) (isLeader (length (p .kinds)) (selfTable p)) (λ u. getD (p .kinds) u 0);
-      starts = pairStarts k (linked p);
-      ends = pairEnds k (linked p);
+      kinds = tabulate k (λ a. getD (p .kinds) (firstMember p class a) 0);
+      starts = pairStarts k (linked p class);
+      ends = pairEnds k (linked p class);
     }
+
+-- ---- the merged pattern
+
+unfoldable pub merged : Circuit → Circuit
+merged p = grouped p (classOf p) (classCount p)

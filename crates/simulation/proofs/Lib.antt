@@ -6,3 +6,4 @@ pub mod Component
 pub mod Place
 pub mod Same
 pub mod Quotient
+pub mod Grouping

@@ -2,3 +2,4 @@ pub mod Closed
 pub mod Simulation
 pub mod Perfect
 pub mod Quotient
+pub mod Grouping
