@@ -99,6 +99,11 @@ heronditch_reply heronditch_ball(const uint8_t *board, size_t board_len, size_t 
 heronditch_counts heronditch_match(const uint8_t *pattern, size_t pattern_len, const uint8_t *board, size_t board_len, uint32_t *table,
                                    size_t table_len);
 
+/* The same one way: a pair needs partners for what its part drives, and none for what drives it. Each pair of the table above is in this
+ * one. */
+heronditch_counts heronditch_match_one_way(const uint8_t *pattern, size_t pattern_len, const uint8_t *board, size_t board_len,
+                                           uint32_t *table, size_t table_len);
+
 /* Finds the pattern around a node of the board, at the pattern's radius: N node bytes and M link bytes, 1 in the place, else 0, and N
  * numbers as above over the place's nodes, 0 elsewhere. The counts are those of the whole ball. */
 heronditch_counts heronditch_place(const uint8_t *pattern, size_t pattern_len, const uint8_t *board, size_t board_len, size_t centre,

@@ -179,13 +179,15 @@ def row(pattern, board):
         sets.append(new)
 
 
-def largest(pattern, board):
-    """The last set of the row, and the counts started, kept, struck and rounds.
+def largest(pattern, board, one_way=False):
+    """The last set of the row, and the counts started, kept, struck and rounds; one way, only what a part drives needs partners.
 
     The same row without looking at every pair in each round: after the first, only a pair with a link to or from a pair struck in the
     round before can have lost a partner. All pairs of a round are tested before any is struck.
     """
     ways = list(zip(directed(pattern), directed(board)))
+    back = ways[1:] if one_way else ways[::-1]  # a pair struck takes a partner from what drives it, and two ways also from what it drives
+    ways = ways[:1] if one_way else ways
     pairs = start_set(pattern, board)
     started, rounds, doubtful = len(pairs), 0, set(pairs)
     while True:
@@ -194,11 +196,11 @@ def largest(pattern, board):
             return pairs, (started, len(pairs), started - len(pairs), rounds)
         pairs.difference_update(struck)
         rounds += 1
-        doubtful = {(x, w) for u, v in struck for parts, nodes in ways for x in parts[u] for w in nodes[v]}
+        doubtful = {(x, w) for u, v in struck for parts, nodes in back for x in parts[u] for w in nodes[v]}
 
 
-def match_table(pattern_data, board_data, table):
-    """The reply of the whole-board call; the table is a list that it fills in place. The pattern may be in several bits."""
+def match_table(pattern_data, board_data, table, one_way=False):
+    """The reply of the whole-board call, two ways or one way; the table is a list that it fills in place. The pattern may be in several bits."""
     pattern = parse_in_bits("pattern", pattern_data)
     if isinstance(pattern, int):
         return ("refused", pattern, "pattern")
@@ -208,7 +210,7 @@ def match_table(pattern_data, board_data, table):
     n = len(board.kinds)
     if len(table) < n:
         return ("refused", 8, "neither")
-    pairs, counts = largest(pattern, board)
+    pairs, counts = largest(pattern, board, one_way)
     if len({u for u, _ in pairs}) < len(pattern.kinds):
         pairs, counts = set(), (counts[0], 0, counts[0], counts[3])
     table[:n] = [0] * n

@@ -6,7 +6,7 @@ use crate::circuit::{both, both_in_bits, gather, parse, Circuit, File, Refusal, 
 use crate::graph::{ball as ball_of, radius as radius_of};
 use crate::merged::merged;
 use crate::place::{place as place_of, Place};
-use crate::simulation::{on_board, Counts};
+use crate::simulation::{on_board, Counts, Ways};
 
 /// The reply of a call without counts: number 0 when accepted, and up to two
 /// values, 0 where there is none.
@@ -151,10 +151,20 @@ fn inside(centre: usize, board: &Circuit) -> Result<(), Refusal> {
 /// Fills the match table on the whole board; replies with the counts. The
 /// pattern may be in several bits.
 pub fn match_table(pattern: &[u8], board: &[u8], table: &mut [u32]) -> Counted {
+    match_by(Ways::Both, pattern, board, table)
+}
+
+/// The same one way: a pair needs partners for what its part drives alone.
+pub fn match_one_way(pattern: &[u8], board: &[u8], table: &mut [u32]) -> Counted {
+    match_by(Ways::Forward, pattern, board, table)
+}
+
+/// The whole-board table by some ways.
+fn match_by(ways: Ways, pattern: &[u8], board: &[u8], table: &mut [u32]) -> Counted {
     either(both_in_bits(pattern, board).and_then(|(pattern, board)| {
         let n = board.kinds.len();
         long_enough(&[(table.len(), n)])?;
-        let (pairs, counts) = on_board(&pattern, &board);
+        let (pairs, counts) = on_board(ways, &pattern, &board);
         fill(table, (0..n).map(|v| pairs.word(v)));
         Ok(Counted::accepted(counts))
     }))

@@ -58,12 +58,13 @@ enum Fault {
     SixOnTheBoard,
     PartsLeftOut,
     ClearedRound,
+    BothWays,
     SelfLinksIgnored,
     WritingCut,
     WritingUneven,
 }
 
-const FAULTS: [Fault; 42] = [
+const FAULTS: [Fault; 43] = [
     Fault::OneRound,
     Fault::EveryLink,
     Fault::MergedRadius,
@@ -103,6 +104,7 @@ const FAULTS: [Fault; 42] = [
     Fault::SixOnTheBoard,
     Fault::PartsLeftOut,
     Fault::ClearedRound,
+    Fault::BothWays,
     Fault::SelfLinksIgnored,
     Fault::WritingCut,
     Fault::WritingUneven,
@@ -492,6 +494,13 @@ impl Finder for Faulty {
                 [0, 0, started, 0, struck, rounds + 1]
             }
             _ => self.counts(words),
+        }
+    }
+
+    fn match_one_way(&self, pattern: &[u8], board: &[u8], table: &mut [u32]) -> Words {
+        match self.0 {
+            Fault::BothWays => Second.match_table(pattern, board, table),
+            _ => Second.match_one_way(pattern, board, table),
         }
     }
 

@@ -55,6 +55,7 @@ static void no_arrays(void)
     check(is_counts(heronditch_match(NULL, 0, NULL, 0, NULL, 0), 1, HERONDITCH_PATTERN, 0, 0, 0, 0), "match of nothing");
     check(is_counts(heronditch_match(TWO_BITS, sizeof TWO_BITS, NULL, 0, NULL, 0), 1, HERONDITCH_BOARD, 0, 0, 0, 0),
           "match of a pattern in two bits on nothing");
+    check(is_counts(heronditch_match_one_way(NULL, 0, NULL, 0, NULL, 0), 1, HERONDITCH_PATTERN, 0, 0, 0, 0), "match_one_way of nothing");
     check(is_counts(heronditch_match(T, sizeof T, NULL, 0, NULL, 0), 1, HERONDITCH_BOARD, 0, 0, 0, 0), "match on nothing");
     check(is_counts(heronditch_place(NULL, 0, NULL, 0, 0, NULL, 0, NULL, 0, NULL, 0), 1, HERONDITCH_PATTERN, 0, 0, 0, 0),
           "place of nothing");

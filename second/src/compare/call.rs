@@ -33,6 +33,10 @@ pub enum Call<'a> {
         pattern: &'a [u8],
         board: &'a [u8],
     },
+    MatchOneWay {
+        pattern: &'a [u8],
+        board: &'a [u8],
+    },
     Place {
         pattern: &'a [u8],
         board: &'a [u8],
@@ -71,6 +75,7 @@ impl Call<'_> {
             Call::Radius { .. } => "radius",
             Call::Ball { .. } => "ball",
             Call::Match { .. } => "match",
+            Call::MatchOneWay { .. } => "match_one_way",
             Call::Place { .. } => "place",
             Call::PlaceWithin { .. } => "place_within",
             Call::Merge { .. } => "merge",
@@ -91,7 +96,9 @@ impl Call<'_> {
                 )]
             }
             Call::Radius { .. } => vec![],
-            Call::Ball { board, .. } | Call::Match { board, .. } => vec![sizes(board).0],
+            Call::Ball { board, .. }
+            | Call::Match { board, .. }
+            | Call::MatchOneWay { board, .. } => vec![sizes(board).0],
             Call::Place { board, .. } | Call::PlaceWithin { board, .. } => {
                 let (n, m) = sizes(board);
                 vec![n, m, n]
@@ -132,7 +139,9 @@ impl fmt::Display for Call<'_> {
                 centre,
                 radius,
             } => write!(f, " centre {centre} radius {radius}\nboard {}", Hex(board)),
-            Call::Match { pattern, board } => both(f, pattern, board),
+            Call::Match { pattern, board } | Call::MatchOneWay { pattern, board } => {
+                both(f, pattern, board)
+            }
             Call::Place {
                 pattern,
                 board,
@@ -259,6 +268,11 @@ pub fn run(finder: &dyn Finder, call: &Call, lent: &Lent) -> Outcome {
         Call::Match { pattern, board } => {
             let mut table = lent.words(0);
             let reply = finder.match_table(pattern, board, &mut table);
+            (reply, vec![table])
+        }
+        Call::MatchOneWay { pattern, board } => {
+            let mut table = lent.words(0);
+            let reply = finder.match_one_way(pattern, board, &mut table);
             (reply, vec![table])
         }
         Call::Merge { pattern } => {

@@ -168,6 +168,7 @@ impl Case {
                 pattern,
                 board: pattern,
             },
+            Call::MatchOneWay { pattern, board },
             Call::Merge { pattern },
         ]
     }

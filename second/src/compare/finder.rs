@@ -28,6 +28,7 @@ pub trait Finder {
     fn radius(&self, pattern: &[u8]) -> Words;
     fn ball(&self, board: &[u8], centre: usize, radius: u16, out: &mut [u8]) -> Words;
     fn match_table(&self, pattern: &[u8], board: &[u8], table: &mut [u32]) -> Words;
+    fn match_one_way(&self, pattern: &[u8], board: &[u8], table: &mut [u32]) -> Words;
     fn place(&self, pattern: &[u8], board: &[u8], centre: usize, out: PlaceTables) -> Words;
     fn place_within(
         &self,
@@ -102,6 +103,10 @@ impl Finder for Second {
 
     fn match_table(&self, pattern: &[u8], board: &[u8], table: &mut [u32]) -> Words {
         calls::match_table(pattern, board, table).into()
+    }
+
+    fn match_one_way(&self, pattern: &[u8], board: &[u8], table: &mut [u32]) -> Words {
+        calls::match_one_way(pattern, board, table).into()
     }
 
     fn place(&self, pattern: &[u8], board: &[u8], centre: usize, out: PlaceTables) -> Words {

@@ -108,6 +108,14 @@ extern "C" {
         table: *mut u32,
         table_length: usize,
     ) -> Counts;
+    fn heronditch_match_one_way(
+        pattern: *const u8,
+        pattern_length: usize,
+        board: *const u8,
+        board_length: usize,
+        table: *mut u32,
+        table_length: usize,
+    ) -> Counts;
     fn heronditch_place(
         pattern: *const u8,
         pattern_length: usize,
@@ -271,6 +279,20 @@ impl Finder for Host {
     fn match_table(&self, pattern: &[u8], board: &[u8], table: &mut [u32]) -> Words {
         unsafe {
             heronditch_match(
+                given(pattern),
+                pattern.len(),
+                given(board),
+                board.len(),
+                lent(table),
+                table.len(),
+            )
+        }
+        .words()
+    }
+
+    fn match_one_way(&self, pattern: &[u8], board: &[u8], table: &mut [u32]) -> Words {
+        unsafe {
+            heronditch_match_one_way(
                 given(pattern),
                 pattern.len(),
                 given(board),
