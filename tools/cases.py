@@ -1,6 +1,6 @@
-"""Makes the cases that the proved programs are run on, and what each must print, from model.py.
+"""Makes the cases that the proved program `cases` is run on, and what it must print, from model.py.
 
-    python3 tools/cases.py            writes crates/NAME/data/cases and crates/NAME/stdout
+    python3 tools/cases.py            writes crates/cases/data/* and crates/cases/stdout
     python3 tools/cases.py --check    says whether what is stored is what it would write
 """
 import random
@@ -131,8 +131,7 @@ def write_read_cases():
         tables = [[7777] * x for x in (k, s, e)]
         reply = model.read(role, data, *tables)
         lines.append(" ".join(str(x) for x in (*reply, *map(digest, tables))))
-    assert len(blob) <= 65536, len(blob)
-    return {"crates/read_cases/data/cases": blob, "crates/read_cases/stdout": ("\n".join(lines) + "\n").encode()}
+    return "reads", blob, lines
 
 
 def circuit_of(n, pairs):
@@ -223,8 +222,7 @@ def write_distance_cases():
             table = [77] * size
             reply = model.ball(data, c, r, table)
             lines.append(" ".join(map(str, (*reply, digest(table + [77] * (600 - size))))))
-    assert len(blob) <= 65536, len(blob)
-    return {"crates/distance_cases/data/cases": blob, "crates/distance_cases/stdout": ("\n".join(lines) + "\n").encode()}
+    return "distances", blob, lines
 
 
 def write_cases():
@@ -294,8 +292,7 @@ def write_write_cases():
         table = [77] * room
         reply = model.write(role, kinds, starts, ends, table)
         lines.append(" ".join(str(x) for x in (*reply, digest(table))))
-    assert len(blob) <= 65536, len(blob)
-    return {"crates/write_cases/data/cases": blob, "crates/write_cases/stdout": ("\n".join(lines) + "\n").encode()}
+    return "writes", blob, lines
 
 
 def circuit(kinds, pairs):
@@ -473,16 +470,16 @@ def write_table_cases():
         table = [7777] * lent
         reply = model.match_table(pattern, board, table)
         lines.append(" ".join(str(x) for x in (*reply, digest(table))))
-    assert len(blob) <= 131072, len(blob)
-    return {"crates/table_cases/data/cases": blob, "crates/table_cases/stdout": ("\n".join(lines) + "\n").encode()}
+    return "tables", blob, lines
 
 
 def main():
-    made = {}
-    made.update(write_read_cases())
-    made.update(write_distance_cases())
-    made.update(write_write_cases())
-    made.update(write_table_cases())
+    made, printed = {}, []
+    for name, blob, lines in (write_read_cases(), write_write_cases(), write_distance_cases(), write_table_cases()):
+        assert len(blob) <= 131072, (name, len(blob))
+        made[f"crates/cases/data/{name}"] = blob
+        printed += lines
+    made["crates/cases/stdout"] = ("\n".join(printed) + "\n").encode()
     stale = []
     for name, content in made.items():
         target = ROOT / name

@@ -1,0 +1,57 @@
+-- `cases::distances::queries` ends, and each lookup lies within the case. Assumes nothing.
+use mathlib.Core.Path.{_≡_, refl}
+use native.Mathlib.Omega.{arith}
+use Prim.Native.Nat.{_-_, _≤_}
+use borrow.Author.Needs.{needs}
+use lib.ListN.{length}
+use Rattle.cases.proofs.distances.queries.Statement.{statement}
+use Rattle.cases.proofs.distances.queries.Tie as tie
+
+abbrev Inv-loop : tie.InvT-loop
+Inv-loop b at count file out₀ i₀ out i = (i ≤ count) × (length out ≡ length out₀)
+
+abbrev μ-loop : tie.MeasureT-loop
+μ-loop b at count file out₀ i₀ out i = count - i
+
+loop-holds : tie.Need-loop-holds Inv-loop μ-loop
+loop-holds c = (omega arith, refl)
+
+mul-query : tie.Need-mul-query Inv-loop μ-loop
+mul-query c = omega arith
+
+add-query : tie.Need-add-query Inv-loop μ-loop
+add-query c = omega arith
+
+query-requires : tie.Need-query-requires Inv-loop μ-loop
+query-requires c κs = omega arith
+
+add-i : tie.Need-add-i Inv-loop μ-loop
+add-i c = omega arith
+
+loop-less : tie.Need-loop-less Inv-loop μ-loop
+loop-less c = omega arith
+
+loop-again : tie.Need-loop-again Inv-loop μ-loop
+loop-again c = (omega arith, search needs)
+
+same-length : tie.Need-same-length Inv-loop μ-loop
+same-length c = c .before .loop .inv .1
+
+returns : tie.Need-returns Inv-loop μ-loop
+returns c = tt
+
+pub queries-spec : {M : Type 1} → statement M
+queries-spec =
+    tie.close
+    (tie.spec
+    Inv-loop
+    μ-loop
+    loop-holds
+    mul-query
+    add-query
+    query-requires
+    add-i
+    loop-less
+    loop-again
+    same-length
+    returns)

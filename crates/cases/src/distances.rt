@@ -1,0 +1,86 @@
+// Runs the two calls of `distance` on each file of its cases: the radius once, as a pattern, and the ball lookup, as
+// a board, at each centre, radius and table length that the case names. Writes a line for each call: what it answered, and for a ball a
+// digest of the whole table, so that a byte that was touched shows.
+use crate::show::digest_bytes;
+use crate::show::end_line;
+use crate::show::least;
+use crate::show::load;
+use crate::show::number;
+use crate::show::refill_bytes;
+use crate::show::show_number;
+use crate::show::show_refusal;
+use crate::show::wide;
+use call_distance::BallAnswer;
+use call_distance::RadiusAnswer;
+ghost use Prim.Native.Nat.{_+_, _*_, _≤_};
+ghost use lib.ListN.{length};
+
+fn show_radius(answer: RadiusAnswer) {
+    match answer {
+        RadiusAnswer::Radius(d) => {
+            io::write_all(1, b"radius");
+            show_number(d as u64);
+        }
+        RadiusAnswer::Refused(x) => show_refusal(x),
+    }
+}
+
+fn show_ball(answer: BallAnswer) {
+    match answer {
+        BallAnswer::Ball(n) => {
+            io::write_all(1, b"ball");
+            show_number(n as u64);
+        }
+        BallAnswer::Refused(x) => show_refusal(x),
+    }
+}
+
+// One ball lookup: a centre of 32 bits, a radius and the table's length at an offset.
+fn query(b: &[u8], at: usize, file: &[u8], out: &mut [u8])
+    requires { ⌜ at + 8 ≤ length (now b) ⌝ }
+{
+    let centre = number(b, at) * 65536 + number(b, at + 2);
+    let radius = number(b, at + 4) as u16;
+    let lent = least(number(b, at + 6), out.len());
+    refill_bytes(out);
+    show_ball(call_distance::ball(file, centre, radius, &mut out[..lent]));
+    show_number(digest_bytes(out));
+    end_line();
+}
+
+fn queries(b: &[u8], at: usize, count: usize, file: &[u8], out: &mut [u8])
+    requires { ⌜ at + 8 * count ≤ length (now b) ⌝ }
+{
+    for i in 0..count {
+        query(b, at + 8 * i, file, out);
+    }
+}
+
+// The case at an offset, a file length, a number of lookups, the lookups and the file; answers where the next one begins.
+fn step(b: &[u8], at: usize, out: &mut [u8]) -> usize
+    requires { ⌜ at + 3 ≤ length (now b) ⌝ }
+    ensures { λ r. ⌜ (at + 3 ≤ r) × (r ≤ length (now (b .entry))) ⌝ }
+{
+    let first = at + 3;
+    let count = least(wide(b[at + 2]), (b.len() - first) / 8);
+    let from = first + 8 * count;
+    let size = least(number(b, at), b.len() - from);
+    let to = from + size;
+    show_radius(call_distance::radius(&b[from..to]));
+    end_line();
+    queries(b, first, count, &b[from..to], out);
+    to
+}
+
+fn run_all(b: &[u8], out: &mut [u8]) {
+    let mut at = 0;
+    while at + 3 <= b.len() {
+        at = step(b, at, out);
+    }
+}
+
+// All cases of the file. The tables are lent whole, so that their entries are not looked at one by one in the proof.
+pub fn run(buf: &mut [u8], out: &mut [u8]) {
+    let n = load(b"distances", buf);
+    run_all(&buf[..n], out);
+}

@@ -1,0 +1,64 @@
+// Matches each case of its file, a pattern and a board, with a table lent at the length that the case
+// names, and writes a line for each: what the call answered, and a digest of the table, so that a table that was touched shows.
+use crate::show::digest_sets;
+use crate::show::end_line;
+use crate::show::least;
+use crate::show::load;
+use crate::show::number;
+use crate::show::refill_sets;
+use crate::show::show_number;
+use crate::show::show_refusal;
+use call_match::TableAnswer;
+use call_match::match_table;
+use table::Counts;
+ghost use Prim.Native.Nat.{_+_, _≤_};
+ghost use lib.ListN.{length};
+
+fn show_counts(counts: Counts) {
+    io::write_all(1, b"matched");
+    show_number(counts.started as u64);
+    show_number(counts.kept as u64);
+    show_number(counts.struck as u64);
+    show_number(counts.rounds as u64);
+}
+
+fn show_answer(answer: TableAnswer) {
+    match answer {
+        TableAnswer::Matched(counts) => show_counts(counts),
+        TableAnswer::Refused(x) => show_refusal(x),
+    }
+}
+
+// One case: the answer and the table afterwards.
+fn run_case(pattern: &[u8], board: &[u8], table: &mut [u32]) {
+    refill_sets(table);
+    show_answer(match_table(pattern, board, table));
+    show_number(digest_sets(table));
+    end_line();
+}
+
+// The case at an offset, the table's length, the lengths of the two files and the files; answers where the next one begins.
+fn step(b: &[u8], at: usize, table: &mut [u32]) -> usize
+    requires { ⌜ at + 6 ≤ length (now b) ⌝ }
+    ensures { λ r. ⌜ (at + 6 ≤ r) × (r ≤ length (now (b .entry))) ⌝ }
+{
+    let lent = least(number(b, at), table.len());
+    let from = at + 6;
+    let middle = from + least(number(b, at + 2), b.len() - from);
+    let to = middle + least(number(b, at + 4), b.len() - middle);
+    run_case(&b[from..middle], &b[middle..to], &mut table[..lent]);
+    to
+}
+
+fn run_all(b: &[u8], table: &mut [u32]) {
+    let mut at = 0;
+    while at + 6 <= b.len() {
+        at = step(b, at, table);
+    }
+}
+
+// All cases of the file. The tables are lent whole, so that their entries are not looked at one by one in the proof.
+pub fn run(buf: &mut [u8], table: &mut [u32]) {
+    let n = load(b"tables", buf);
+    run_all(&buf[..n], table);
+}
