@@ -55,9 +55,12 @@ static void plain_match(size_t centre, struct result *r)
     r->counts = native_match(FILES, TABLE);
 }
 
+/* what the place call fills besides; the plain C has it in its list of the ball */
+static uint16_t distances[NATIVE_NODES];
+
 static void proved_place(size_t centre, struct result *r)
 {
-    r->counts = counts_of(heronditch_place(FILES, centre, TABLES));
+    r->counts = counts_of(heronditch_place(FILES, centre, TABLES, distances, NATIVE_NODES));
 }
 
 static void plain_place(size_t centre, struct result *r)
