@@ -67,6 +67,13 @@ pub ball-refused-keeps : (file : List ℕ) (centre r : ℕ) (out : List ℕ) (x 
 unfolding ballCall filled
 ball-refused-keeps file centre r out x e = rw e
 
+-- no distance on a board is 65,535: its nodes are at most 512
+pub distance-few : (file : List ℕ) → first (fileConditions Board file) ≡ accept → (centre v d : ℕ) → centre < nodesOf file
+    → Distance (fileGraph file) centre v d → d < 512
+distance-few file e centre v d h p =
+    let few = range-bounds Board (nodesOf file) (linksOf file) (accepted Board file e .range) .0 in
+    omega (arith, distance-below (accepted-within Board file e) centre v d h p)
+
 module _ (file : List ℕ) (centre r : ℕ) (out : List ℕ) (e : first (fileConditions Board file) ≡ accept) (h : centre < nodesOf file) (room : nodesOf file ≤ length out) where
   links : Within (nodesOf file) (startsOf file) (endsOf file)
   links = accepted-within Board file e
@@ -81,12 +88,6 @@ module _ (file : List ℕ) (centre r : ℕ) (out : List ℕ) (e : first (fileCon
   pub ball-means : (v : ℕ) → v < nodesOf file → DistanceEntry (fileGraph file) centre r v (getD (ballCall file centre r out .out) v 0)
   ball-means v below =
       rw (entry-is v below) (distances-entry links centre r v 0 (let few = range-bounds Board (nodesOf file) (linksOf file) (accepted Board file e .range) .0 in omega arith) below)
-
-  -- no distance on a board is 65,535: they are below 512
-  pub ball-near : (v d : ℕ) → Distance (fileGraph file) centre v d → d < 512
-  ball-near v d p =
-      let few = range-bounds Board (nodesOf file) (linksOf file) (accepted Board file e .range) .0 in
-      omega (arith, distance-below links centre v d h p)
 
   -- an entry is another than 65,535 exactly when the ball has its node
   pub ball-entry : (v : ℕ) → v < nodesOf file → (getD (ballCall file centre r out .out) v 0 ≢ 65535) ↔ InBall (fileGraph file) centre r v

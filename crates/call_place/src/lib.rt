@@ -86,7 +86,10 @@ fn roomy(n: usize, m: usize, lent: Lengths) -> bool
     if lent.table < n {
         return false;
     }
-    n <= lent.distances
+    if lent.distances < n {
+        return false;
+    }
+    true
 }
 
 // The call on two circuits that were read and prepared. Everything is tested, and the place found, before anything is written to the lent
@@ -167,16 +170,7 @@ fn read_prepared(
     let mut pe = [0u16; Pattern::MAX_LINKS];
     let mut ns = [0u16; Board::MAX_LINKS];
     let mut ne = [0u16; Board::MAX_LINKS];
-    let read = read_pair(
-        pattern,
-        board,
-        pk,
-        &mut ps,
-        &mut pe,
-        nk,
-        &mut ns,
-        &mut ne,
-    );
+    let read = read_pair(pattern, board, pk, &mut ps, &mut pe, nk, &mut ns, &mut ne);
     let verdict = read.verdict;
     let FileVerdict::Accepted = verdict else {
         return read;

@@ -159,7 +159,7 @@ mark-requires c κs =
         cut-list (w .drawn) (w .prepared) b f _ _,
         (
           cut-fit (w .drawn) (w .prepared) b f _ [] (take m (now (s .args .bytes)))
-          (length-take-le m _ (room .0 .1) ∙ tabled-links (drawn-tabled (w .drawn) (w .prepared))),
+              (length-take-le m _ (room .0 .1) ∙ tabled-links (drawn-tabled (w .drawn) (w .prepared))),
           (length-take-le _ _ (room .0 .0) ∙ sym long, length-take-le _ _ (room .1 .0) ∙ sym long),
         ),
       ),
