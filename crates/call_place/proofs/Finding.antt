@@ -7,19 +7,15 @@ use lib.ListN.{length, take}
 use Rattle.graph.specs.Circuit.{Circuit}
 use Rattle.graph.specs.Search.{radius}
 use Rattle.file_format.specs.declared.File.the-variants.{Neither}
-use Rattle.file_format.specs.declared.FileVerdict.the-variants as verdict
 use Rattle.file_format.specs.declared.Refusal.{Refusal}
 use Rattle.file_format.specs.Circuit.{circuitOf}
-use Rattle.file_format.specs.Layout.{startsOf, endsOf}
-use Rattle.file_format.specs.Reading.{verdictOf, front}
+use Rattle.file_format.specs.Layout.{nodesOf, linksOf, startsOf, endsOf}
 use Rattle.file_format.specs.Refusals.{Verdict, accept, refuse, first, centreOutside}
 use Rattle.file_format.proofs.Fields.{length-kinds, length-starts}
-use Rattle.file_format.proofs.Reading.{stands-room}
-use Rattle.file_format.proofs.Refusals.{first-accept, first-refuse, accept-not-refuse}
+use Rattle.file_format.proofs.Refusals.{first-accept, first-refuse}
 use Rattle.file_pair.specs.declared.Pair.{Pair}
-use Rattle.file_pair.specs.Pair.{pairConditions, BothRead, PairRead}
-use Rattle.file_pair.proofs.Both.{refused-pair, both-drawn}
-use Rattle.table.specs.Prepared.{Tables, Prepared}
+use Rattle.file_pair.specs.Pair.{pairConditions}
+use Rattle.table.specs.Prepared.{Tables}
 use Rattle.table.specs.Reply.{noCounts}
 use Rattle.place.specs.declared.PlaceAnswer.the-variants.{Refused}
 use Rattle.place.specs.Match.{radiusOf}
@@ -27,7 +23,7 @@ use Rattle.place.specs.Outcome.{PlaceOutcome, placeReply, placeAround}
 use Rattle.place_circuits.specs.Ball.{SomeDrawn, EveryDrawn}
 use Rattle.call_place.specs.declared.Reach.{Reach}
 use Rattle.call_place.specs.Call.{tooShort, roomConditions, placeConditions, inputConditions, decided, placeAt, radiusFor, placeOn}
-use Rattle.call_place.specs.Read.{BothPrepared, PairPrepared}
+use Rattle.call_prepare.specs.Read.{BothPrepared}
 
 -- a call that is turned away leaves the four tables as they were
 abbrev pub untouched : Refusal → List ℕ → List ℕ → List ℕ → List ℕ → PlaceOutcome
@@ -73,43 +69,6 @@ module _ (r : ℕ) (p b : Circuit) (w : ℕ) (nodes links table distances : List
 
 -- ---- two files that were read
 
-module _ {pattern board : List ℕ} {read : Pair} {parts nodes : Circuit} where
-  -- one is refused
-  pub pair-turned : {partKinds nodeKinds : List ℕ} {t : Tables} {x : Refusal} → PairRead pattern board read parts nodes → read .verdict ≡ verdict.Refused x
-      → PairPrepared pattern board read partKinds nodeKinds t
-  pair-turned p e = record { verdict = p .verdict; both = λ a. absurd (accept-not-refuse (sym a ∙ refused-pair p e)) }
-
-  -- both are accepted, and their links were prepared
-  pub pair-ready : {t : Tables} → PairRead pattern board read parts nodes → (both : BothRead pattern board read parts nodes)
-      → Prepared (front (read .parts) (read .joins) parts) (front (read .nodes) (read .links) nodes) t
-      → PairPrepared pattern board read (parts .kinds) (nodes .kinds) t
-  unfolding radiusOf
-  pair-ready p both made =
-      record {
-        verdict = p .verdict;
-        both =
-            λ a.
-            record {
-              parts = record { room = stands-room (both .drawn) .0; content = ap (λ (c : Circuit). c .kinds) (both .drawn .content) };
-              nodes = record { room = stands-room (both .given) .0; content = ap (λ (c : Circuit). c .kinds) (both .given .content) };
-              measured = both .measured ∙ sym (ap (λ (n : ℕ). radius n (startsOf pattern) (endsOf pattern)) (length-kinds pattern));
-              drawn = rw (← both .drawn .content, ← both .given .content) (both-drawn both);
-              prepared = rw (← both .drawn .content, ← both .given .content) made;
-            };
-      }
-
-module _ {pattern board : List ℕ} {read : Pair} {partKinds nodeKinds : List ℕ} {t : Tables} (p : PairPrepared pattern board read partKinds nodeKinds t) where
-  pub turned-pair : {x : Refusal} → read .verdict ≡ verdict.Refused x → first (pairConditions pattern board) ≡ refuse x
-  unfolding verdictOf
-  turned-pair e = sym (p .verdict) ∙ ap verdictOf e
-
-  pub ready-verdict : read .verdict ≡ verdict.Accepted → first (pairConditions pattern board) ≡ accept
-  unfolding verdictOf
-  ready-verdict e = sym (p .verdict) ∙ ap verdictOf e
-
-  pub ready-both : read .verdict ≡ verdict.Accepted → BothPrepared pattern board read partKinds nodeKinds t
-  ready-both e = p .both (ready-verdict e)
-
 -- what the search starts from
 pub ready-drawn : {pattern board : List ℕ} {read : Pair} {partKinds nodeKinds : List ℕ} {t : Tables} → BothPrepared pattern board read partKinds nodeKinds t
     → SomeDrawn (take (read .parts) partKinds) (take (read .nodes) nodeKinds) t
@@ -128,22 +87,37 @@ module _ (reach : Reach) (pattern board : List ℕ) (w : ℕ) (nodes links table
   abbrev outcome : PlaceOutcome
   outcome = placeAt pattern board w (radiusFor reach (radiusOf (circuitOf pattern))) nodes links table distances
 
+  abbrev inputs : Verdict
+  inputs = first (inputConditions pattern board w (length nodes) (length links) (length table) (length distances))
+
+  -- the files' conditions come before the others: theirs is the first to hold,
+  inputs-refused : {x : Refusal} → first (pairConditions pattern board) ≡ refuse x → inputs ≡ refuse x
+  unfolding inputConditions
+  inputs-refused {x} e = first-refuse (pairConditions pattern board) _ x e
+
+  -- or none of theirs holds
+  inputs-go-on : first (pairConditions pattern board) ≡ accept
+      → inputs ≡ first (placeConditions (nodesOf board) (linksOf board) w (length nodes) (length links) (length table) (length distances))
+  unfolding inputConditions
+  inputs-go-on e = first-accept (pairConditions pattern board) _ e
+
   pub find-refused : {x : Refusal} → first (pairConditions pattern board) ≡ refuse x → untouched x nodes links table distances ≡ outcome
-  unfolding placeAt inputConditions decided placeReply
-  find-refused e = rw (first-refuse _ _ _ e)
+  unfolding placeAt decided placeReply
+  find-refused e = rw (inputs-refused e)
 
   find-accepted : first (pairConditions pattern board) ≡ accept
       → placeOn (radiusFor reach (radiusOf (circuitOf pattern))) (circuitOf pattern) (circuitOf board) w nodes links table distances ≡ outcome
-  unfolding placeOn placeAt inputConditions
-  find-accepted e = rw (first-accept _ _ e, length-kinds board, length-starts board)
+  unfolding placeOn placeAt
+  find-accepted e = rw (inputs-go-on e, length-kinds board, length-starts board)
 
   pub find-read : {p : Pair} {partKinds nodeKinds : List ℕ} {t : Tables} {r : ℕ} → first (pairConditions pattern board) ≡ accept
       → BothPrepared pattern board p partKinds nodeKinds t → r ≡ radiusFor reach (p .radius) → {o : PlaceOutcome}
       → EveryDrawn (take (p .parts) partKinds) (take (p .nodes) nodeKinds) t o (λ pattern board. placeOn r pattern board w nodes links table distances)
       → o ≡ outcome
-  unfolding ready-drawn
+  unfolding ready-drawn radiusOf
   find-read {r = r} ok both reached {o} every =
+      let measured = both .measured ∙ sym (ap (λ (n : ℕ). radius n (startsOf pattern) (endsOf pattern)) (length-kinds pattern)) in
       let some = ready-drawn both in
       let e : o ≡ placeOn r (circuitOf pattern) (circuitOf board) w nodes links table distances =
       rw (both .parts .content, both .nodes .content) at (every (startsOf pattern) (endsOf pattern) (startsOf board) (endsOf board) (some .drawn) (some .prepared)) in
-      (rw (reached ∙ ap (radiusFor reach) (both .measured)) at e) ∙ find-accepted ok
+      (rw (reached ∙ ap (radiusFor reach) measured) at e) ∙ find-accepted ok

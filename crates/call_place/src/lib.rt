@@ -1,11 +1,10 @@
 // The place calls: a pattern file, the board of another file and a centre, at the pattern's radius or at a radius given.
+use call_prepare::read_prepared;
 use file_format::Board;
 use file_format::File;
 use file_format::FileVerdict;
 use file_format::Pattern;
 use file_format::Refusal;
-use file_pair::Pair;
-use file_pair::read_pair;
 use graph_neighbours::tables::LINKS;
 use graph_neighbours::tables::OFFSETS;
 use place::Around;
@@ -13,20 +12,16 @@ use place::PlaceAnswer;
 use place_circuits::place_circuits;
 use table::Counts;
 use table::MASKS;
-use table_prepare::lookups::prepare;
 ghost use mathlib.Core.Bool.{cond};
 ghost use mathlib.Core.Path.{_≡_};
-ghost use lib.ListN.{length};
 ghost use Rattle.file_format.specs.Circuit.{circuitOf};
 ghost use Rattle.file_format.specs.Refusals.{accept, refuse, first};
-ghost use Rattle.graph.specs.Net.{NetRoom};
 ghost use Rattle.table.specs.Prepared.{tables};
 ghost use Rattle.table.specs.Reply.{noCounts};
 ghost use Rattle.place.specs.Match.{radiusOf};
 ghost use Rattle.place.specs.Outcome.{placeReply};
 ghost use Rattle.place_circuits.specs.Ball.{SomeDrawn, EveryDrawn};
 ghost use Rattle.call_place.specs.Call.{tooShort, roomConditions, radiusFor, placeOn, placeAt};
-ghost use Rattle.call_place.specs.Read.{PairPrepared};
 
 // At which radius a place is asked for: the pattern's own, or one given.
 pub enum Reach {
@@ -150,44 +145,6 @@ fn find_on(
         table,
         distances,
     )
-}
-
-// Reads both files, and makes of their links what the search looks up; or the first refusal. The kinds are left at the front of their tables.
-fn read_prepared(
-    pattern: &[u8],
-    board: &[u8],
-    pk: &mut [u16],
-    nk: &mut [u16],
-    masks: &mut [u32],
-    offsets: &mut [u16],
-    links: &mut [u16],
-) -> Pair
-    requires { ⌜ (length (now pk) ≡ 32) × (length (now nk) ≡ 512) ⌝ }
-    requires { ⌜ (length (now masks) ≡ 64) × NetRoom (now offsets) (now links) ⌝ }
-    ensures { λ r. ⌜ PairPrepared (now (pattern .entry)) (now (board .entry)) r (now (pk .exit)) (now (nk .exit)) (tables (now (masks .exit)) (now (offsets .exit)) (now (links .exit))) ⌝ }
-{
-    let mut ps = [0u16; Pattern::MAX_LINKS];
-    let mut pe = [0u16; Pattern::MAX_LINKS];
-    let mut ns = [0u16; Board::MAX_LINKS];
-    let mut ne = [0u16; Board::MAX_LINKS];
-    let read = read_pair(pattern, board, pk, &mut ps, &mut pe, nk, &mut ns, &mut ne);
-    let verdict = read.verdict;
-    let FileVerdict::Accepted = verdict else {
-        return read;
-    };
-    let joins = read.joins;
-    let m = read.links;
-    prepare(
-        read.nodes,
-        &ps[..joins],
-        &pe[..joins],
-        &ns[..m],
-        &ne[..m],
-        masks,
-        offsets,
-        links,
-    );
-    read
 }
 
 // The call on two files.

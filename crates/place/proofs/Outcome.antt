@@ -8,6 +8,7 @@ use lib.ListN.{length, getD, drop}
 use Rattle.graph.specs.Circuit.{Circuit}
 use Rattle.file_format.specs.declared.File.the-variants.{Neither}
 use Rattle.file_format.specs.Reading.{filled}
+use Rattle.file_format.specs.Refusals.{accept}
 use Rattle.table.specs.declared.Counts.{Counts}
 use Rattle.table.specs.Refine.{countsOf}
 use Rattle.place.specs.declared.PlaceAnswer.the-variants.{Placed, Refused}
@@ -39,6 +40,11 @@ pub around-none :
 unfolding placeAround placeVerdict placeReply filled
 around-none pattern board w r counts k e nodes links table distances = rw (e, k)
 
+-- entries that stand at the front of a table have filled it
+front : (values old : List ℕ) {left : List ℕ} {n : ℕ} → length values ≡ n → left ≡ values ++ drop n old → left ≡ filled accept values old
+unfolding filled
+front values old size e = e ∙ ap (λ (k : ℕ). values ++ drop k old) (sym size)
+
 -- It is found: the place is written at the front of three tables, and the distances in the ball at the front of the fourth.
 pub around-some :
     (pattern board : Circuit) (w r : ℕ) (counts : Counts) → counts ≡ countsOf pattern board (ballOf board w r) → found pattern board w r ≡ true →
@@ -49,17 +55,13 @@ pub around-some :
     distances′ ≡ distancesOf board w r ++ drop (length (board .kinds)) distances →
     record { reply = placeReply (Placed counts); nodes = nodes′; links = links′; table = table′; distances = distances′ }
     ≡ placeAround pattern board w r nodes links table distances
-unfolding placeAround placeVerdict placeReply filled
+unfolding placeAround placeVerdict placeReply
 around-some pattern board w r counts k e nodes links table distances en el et ed =
     rw (
       e,
       k,
-      en,
-      el,
-      et,
-      ed,
-      nodes-marks pattern board w r .size,
-      links-marks pattern board w r .size,
-      length-table pattern board w r,
-      length-ballDistances board w r,
+      front (placeNodes pattern board w r) nodes (nodes-marks pattern board w r .size) en,
+      front (placeLinks pattern board w r) links (links-marks pattern board w r .size) el,
+      front (placeTable pattern board w r) table (length-table pattern board w r) et,
+      front (distancesOf board w r) distances (length-ballDistances board w r) ed,
     )

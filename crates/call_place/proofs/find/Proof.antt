@@ -5,8 +5,9 @@ use mathlib.Core.Path.{refl, sym}
 use borrow.Author.Needs.{needs}
 use lib.Seq.{length-take-le}
 use Rattle.table.specs.Prepared.{tables}
-use Rattle.call_place.specs.Read.{BothPrepared}
-use Rattle.call_place.proofs.Finding.{turned-pair, ready-verdict, ready-both, ready-drawn, find-refused, find-read}
+use Rattle.call_prepare.specs.Read.{BothPrepared}
+use Rattle.call_prepare.proofs.Ready.{turned-pair, ready-verdict, ready-both}
+use Rattle.call_place.proofs.Finding.{ready-drawn, find-refused, find-read}
 use Rattle.call_place.proofs.find.Statement.{statement}
 use Rattle.call_place.proofs.find.Tie as tie
 

@@ -1,4 +1,4 @@
--- `call_place::read_prepared` meets its contract: a file is refused, or what is prepared is of the two circuits that were read. Assumes nothing.
+-- `call_prepare::read_prepared` meets its contract: a file is refused, or what is prepared is of the two circuits that were read. Assumes nothing.
 use denote.Ref.{now}
 use mathlib.Core.Path.{sym, _∙_}
 use native.Mathlib.Omega.{arith}
@@ -11,9 +11,9 @@ use Rattle.file_format.proofs.Reading.{stands-size, stands-room}
 use Rattle.file_pair.specs.Pair.{BothRead}
 use Rattle.file_pair.proofs.Both.{both-read, pattern-bounded, board-bounded}
 use Rattle.table.proofs.Prepare.{prepared}
-use Rattle.call_place.proofs.Finding.{pair-turned, pair-ready}
-use Rattle.call_place.proofs.read_prepared.Statement.{statement}
-use Rattle.call_place.proofs.read_prepared.Tie as tie
+use Rattle.call_prepare.proofs.Ready.{pair-turned, pair-ready}
+use Rattle.call_prepare.proofs.read_prepared.Statement.{statement}
+use Rattle.call_prepare.proofs.read_prepared.Tie as tie
 
 abbrev entry : tie.After-read-pair → tie.Start
 entry c = c .before .before .before .before .before .before .before .before .before .before .before .before .before .before

@@ -3,14 +3,14 @@ use mathlib.Core.List.{List}
 use mathlib.Core.Path.{_≡_}
 use Prim.Native.Nat.{ℕ, _≤_}
 use lib.ListN.{length, take}
+use Rattle.graph.specs.Search.{radius}
 use Rattle.file_format.specs.Circuit.{circuitOf, Drawn}
-use Rattle.file_format.specs.Layout.{kindsOf}
+use Rattle.file_format.specs.Layout.{nodesOf, kindsOf, startsOf, endsOf}
 use Rattle.file_format.specs.Reading.{verdictOf}
 use Rattle.file_format.specs.Refusals.{accept, first}
 use Rattle.file_pair.specs.declared.Pair.{Pair}
 use Rattle.file_pair.specs.Pair.{pairConditions}
 use Rattle.table.specs.Prepared.{Tables, Prepared}
-use Rattle.place.specs.Match.{radiusOf}
 
 -- a file's kinds stand at the front of a table, n of them
 pub record KindsStand (file : List ℕ) (n : ℕ) (kinds : List ℕ) : Type 0 where
@@ -21,7 +21,7 @@ pub record KindsStand (file : List ℕ) (n : ℕ) (kinds : List ℕ) : Type 0 wh
 pub record BothPrepared (pattern board : List ℕ) (read : Pair) (partKinds nodeKinds : List ℕ) (t : Tables) : Type 0 where
   pub parts : KindsStand pattern (read .parts) partKinds
   pub nodes : KindsStand board (read .nodes) nodeKinds
-  pub measured : read .radius ≡ radiusOf (circuitOf pattern)
+  pub measured : read .radius ≡ radius (nodesOf pattern) (startsOf pattern) (endsOf pattern)
   pub drawn : Drawn (circuitOf pattern) (circuitOf board)
   pub prepared : Prepared (circuitOf pattern) (circuitOf board) t
 
