@@ -99,6 +99,7 @@ static void place_with(size_t nodes_len, size_t links_len, size_t table_len, siz
 static void lengths(void)
 {
     place_with(6, 3, 6, 6, 0, 0, "exactly the needed lengths");
+    place_with(7, 4, 7, 7, 2, 0, "one entry more each");
     place_with(8, 8, 8, 8, 1, 0, "longer tables");
     place_with(5, 3, 6, 6, 0, 8, "one node byte less");
     place_with(6, 2, 6, 6, 0, 8, "one link byte less");
