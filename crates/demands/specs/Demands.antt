@@ -49,7 +49,7 @@ use Rattle.call_report.specs.Call.{reporting, needFor, verdictOf}
 abbrev pub graph : List ℕ → Graph
 graph file = circuitGraph (circuitOf file)
 
--- a part of the pattern and a node of the board have equal kinds
+-- a part of the pattern and a node of the board have equal kinds, as Ask 1 reads it: the part has kind 0, or the node has the part's kind
 abbrev pub equal : List ℕ → List ℕ → Relation
 equal pattern board = KindsMatch (circuitOf pattern) (circuitOf board)
 
