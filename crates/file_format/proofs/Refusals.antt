@@ -14,7 +14,7 @@ use Rattle.graph.specs.Search.{connected}
 use Rattle.file_format.specs.declared.File.the-variants.{Neither}
 use Rattle.file_format.specs.declared.Refusal.{Refusal}
 use Rattle.file_format.specs.declared.Role.{Role}
-use Rattle.file_format.specs.declared.Role.the-variants.{Pattern, Board}
+use Rattle.file_format.specs.declared.Role.the-variants.{Pattern, Board, AnyPattern}
 use Rattle.file_format.specs.Layout.{nodesOf, linksOf, lengthOf, startsOf, endsOf}
 use Rattle.file_format.specs.Links.{linksBelow, rising}
 use Rattle.file_format.specs.Refusals.{Accepted, Condition, Verdict, accept, refuse, NoneHolds, first, FirstHolding, linkConditions, fileConditions, asksConnected, sizeNumber, orderNumber, linkNumber, shortTable}
@@ -349,8 +349,12 @@ range-orders r n m t =
     let rest : T (most && links) = both-right least (most && links) t in
     (leb→le _ _ (both-left least (most && links) t), leb→le _ _ (both-left most links rest), leb→le _ _ (both-right most links rest))
 
-pub range-pattern : (r : Role) (n m : ℕ) → r ≡ Pattern → T (inRange r n m) → (0 < n) × (n ≤ 32) × (m ≤ 256)
-range-pattern r n m e t = range-orders Pattern n m (subst (λ (x : Role). T (inRange x n m)) e t)
+-- a role that is asked to be connected has a pattern's range
+pub range-asked : (r : Role) (n m : ℕ) → T (asksConnected r) → T (inRange r n m) → (0 < n) × (n ≤ 32) × (m ≤ 256)
+unfolding asksConnected
+range-asked Pattern n m a t = range-orders Pattern n m t
+range-asked Board n m a t = absurd a
+range-asked AnyPattern n m a t = absurd a
 
 -- what every role's range leaves
 pub range-bounds : (r : Role) (n m : ℕ) → T (inRange r n m) → (n ≤ 512) × (m ≤ 4096)
@@ -360,3 +364,35 @@ range-bounds Pattern n m t =
 range-bounds Board n m t =
     let h = range-orders Board n m t in
     (omega arith, omega arith)
+range-bounds AnyPattern n m t =
+    let h = range-orders AnyPattern n m t in
+    (omega arith, omega arith)
+
+-- Any pattern is refused as a pattern is, where that is not refused with 6.
+pub any-verdict : (file : List ℕ) → (first (fileConditions Pattern file) ≡ turned Pattern 6 → ⊥) → first (fileConditions AnyPattern file) ≡ first (fileConditions Pattern file)
+unfolding first fileConditions linkConditions asksConnected turned
+any-verdict file =
+    let n = nodesOf file in
+    let starts = startsOf file in
+    let ends = endsOf file in
+    go (ltb (length file) 4) (not (inRange Pattern n (linksOf file))) (not (eqb (length file) (lengthOf n (linksOf file))))
+    (not (linksBelow n starts ends)) (not (rising starts ends)) (not (connected n starts ends))
+  where
+    -- the six tests, of which the last is a pattern's alone
+    go : (a b c d e f : Bool)
+        → (cond a (turned Pattern 1) (cond b (turned Pattern 2) (cond c (turned Pattern 3) (cond d (turned Pattern 4) (cond e (turned Pattern 5) (cond f (turned Pattern 6) accept)))))
+        ≡ turned Pattern 6 → ⊥)
+        → cond a (turned Pattern 1) (cond b (turned Pattern 2) (cond c (turned Pattern 3) (cond d (turned Pattern 4) (cond e (turned Pattern 5) accept))))
+        ≡ cond a (turned Pattern 1) (cond b (turned Pattern 2) (cond c (turned Pattern 3) (cond d (turned Pattern 4) (cond e (turned Pattern 5) (cond f (turned Pattern 6) accept)))))
+    go true b c d e f h = refl
+    go false true c d e f h = refl
+    go false false true d e f h = refl
+    go false false false true e f h = refl
+    go false false false false true f h = refl
+    go false false false false false true h = absurd (h refl)
+    go false false false false false false h = refl
+
+-- A pattern is any pattern.
+pub accepted-any : {file : List ℕ} → Accepted Pattern file → Accepted AnyPattern file
+unfolding asksConnected
+accepted-any a = record { bytes = a .bytes; range = a .range; size = a .size; below = a .below; rises = a .rises; joined = λ t. absurd t }

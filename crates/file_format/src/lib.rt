@@ -17,10 +17,11 @@ pub struct Refusal {
     pub file: File,
 }
 
-// What a file is read or written as.
+// What a file is read or written as. A pattern is connected; the whole-board match tables take any pattern, connected or not.
 pub enum Role {
     Pattern,
     Board,
+    AnyPattern,
 }
 
 // What reading a file comes to: N and M, or why it was turned away.
