@@ -2,10 +2,11 @@
 use mathlib.Core.List.{List, [], _∷_}
 use mathlib.Core.Path.{_≡_, refl, ap, subst, _∙_}
 use Prim.Native.Nat.{ℕ}
-use Rattle.base_lists.specs.List.{all, allBelow, anyBelow, tabulate}
+use lib.Dec.{lit≤}
+use Rattle.base_lists.specs.List.{all, allBelow, anyBelow, tabulate, maximum}
 use Rattle.base_lists.specs.Below.{leastBelow, collect}
 use Rattle.base_bits.specs.Bits.{bit}
-use Rattle.graph.specs.Search.{beside, ball, connected}
+use Rattle.graph.specs.Search.{beside, ball, misses, distances, connected, radius}
 use Rattle.graph_pairs.specs.Pairs.{pairTest, pairStarts, pairEnds}
 use Rattle.table.specs.Examples.{circuitT, rowComputed}
 use Rattle.table.specs.Host.{everything}
@@ -28,7 +29,7 @@ opened = tt
 -- Y can be a pattern
 pub content-Y : PatternContent circuitY
 unfolding opened circuitY all allBelow linksBelow rising earlier beside ball connected
-content-Y = record { range = tt; parallel = refl; below = tt; rises = tt; joined = tt }
+content-Y = record { range = tt; parallel = refl; below = tt; rises = tt; joined = tt; narrow = rw radius-Y (lit≤ tt) }
 
 pub E6-table : selfTable circuitY ≡ 1 ∷ 6 ∷ 6 ∷ []
 unfolding opened circuitY
@@ -62,10 +63,14 @@ pub E8-merged : merged circuitE8 ≡ circuitE8
 unfolding opened circuitE8
 E8-merged = refl
 
+E8-radius : radiusOf circuitE8 ≡ 3
+unfolding opened circuitE8 radiusOf radius maximum distances misses ball beside
+E8-radius = refl
+
 -- E8 can be a pattern
 pub content-E8 : PatternContent circuitE8
 unfolding opened circuitE8 all allBelow linksBelow rising earlier beside ball connected
-content-E8 = record { range = tt; parallel = refl; below = tt; rises = tt; joined = tt }
+content-E8 = record { range = tt; parallel = refl; below = tt; rises = tt; joined = tt; narrow = rw E8-radius (lit≤ tt) }
 
 -- in which node 1 matches part 1,
 pub E8-member : InTable (selfTable circuitE8) 1 1
