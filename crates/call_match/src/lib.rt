@@ -4,6 +4,7 @@ use file_format::File;
 use file_format::FileVerdict;
 use file_format::Pattern;
 use file_format::Refusal;
+use file_format::Role;
 use file_pair::read_pair;
 use table::Counts;
 use table_whole::match_circuits;
@@ -64,6 +65,7 @@ pub fn match_table(pattern: &[u8], board: &[u8], table: &mut [u32]) -> TableAnsw
     let mut ns = [0u16; Board::MAX_LINKS];
     let mut ne = [0u16; Board::MAX_LINKS];
     let read = read_pair(
+        Role::Pattern,
         pattern,
         board,
         &mut pk,

@@ -14,24 +14,23 @@ use file_format::Pattern;
 use file_format::Refusal;
 use file_format::Role;
 
+// The file that a role's refusals name.
+fn file_of(role: Role) -> File
+    ensures { λ r. ⌜ r ≡ fileOf role ⌝ }
+{
+    match role {
+        Role::Pattern => File::Pattern,
+        Role::Board => File::Board,
+        Role::AnyPattern => File::Pattern,
+    }
+}
+
 // The refusal of a file in a role.
 pub fn refusal(role: Role, number: u8) -> Refusal
     ensures { λ r. ⌜ r ≡ record { number = number; file = fileOf role } ⌝ }
 {
-    match role {
-        Role::Pattern => Refusal {
-            number,
-            file: File::Pattern,
-        },
-        Role::Board => Refusal {
-            number,
-            file: File::Board,
-        },
-        Role::AnyPattern => Refusal {
-            number,
-            file: File::Pattern,
-        },
-    }
+    let file = file_of(role);
+    Refusal { number, file }
 }
 
 // N and M are in the role's range.
