@@ -17,7 +17,7 @@ use Rattle.call_place.specs.declared.Reach.the-variants.{Own, Given}
 abbrev pub placeConditions : ℕ → ℕ → ℕ → ℕ → ℕ → ℕ → List Condition
 placeConditions n m w nodes links table = centreOutside n w ∷ shortTable n nodes ∷ shortTable m links ∷ shortTable n table ∷ []
 
--- the pattern's 1 to 6 before the board's, then 7 and 8
+-- the pattern's 1 to 6 and 11 before the board's, then 7 and 8
 unfoldable pub inputConditions : List ℕ → List ℕ → ℕ → ℕ → ℕ → ℕ → List Condition
 inputConditions pattern board w nodes links table =
     pairConditions Pattern pattern board ++ placeConditions (nodesOf board) (linksOf board) w nodes links table

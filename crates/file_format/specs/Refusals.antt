@@ -30,7 +30,7 @@ pub data Verdict : Type 0 where
 unfoldable pub NoneHolds : List Condition → Type 0
 NoneHolds cs = (c : Condition) → List·Memᴰ c cs → c .holds ≡ false
 
--- "Rising numbers are the order"
+-- "Rising numbers are the order" of document 01's; of document 02's, 11 comes after 6 and 10 ahead of 8. The order is the list's.
 unfoldable pub first : List Condition → Verdict
 first [] = accept
 first (c ∷ cs) = cond (c .holds) (refuse (record { number = c .number; file = c .file })) (first cs)

@@ -9,7 +9,7 @@ use Rattle.base_lists.specs.List.{all}
 use Rattle.base_lists.proofs.Tests.{both-left, both-right}
 use Rattle.graph.specs.Circuit.{Circuit, circuitGraph}
 use Rattle.graph.specs.Graph.{Connected, Radius}
-use Rattle.graph.specs.Search.{connected}
+use Rattle.graph.specs.Search.{connected, radius}
 use Rattle.graph.proofs.Ball.{Within, within-all}
 use Rattle.graph.proofs.Distance.{connected-iff, radius-is}
 use Rattle.file_format.specs.declared.Role.the-variants.{Pattern, Board}
@@ -29,11 +29,11 @@ pub record PatternContent (p : Circuit) : Type 0 where
   pub below : T (linksBelow (length (p .kinds)) (p .starts) (p .ends))
   pub rises : T (rising (p .starts) (p .ends))
   pub joined : T (connected (length (p .kinds)) (p .starts) (p .ends))
-  pub narrow : radiusOf p ≤ widest
+  pub narrow : radius (length (p .kinds)) (p .starts) (p .ends) ≤ widest
 
 -- an accepted pattern file holds such a circuit
 pub accepted-content : {file : List ℕ} → Accepted Pattern file → PatternContent (circuitOf file)
-unfolding asksConnected radiusOf
+unfolding asksConnected
 accepted-content {file} a =
     record {
       range = rw (length-kinds, length-starts) (a .range);

@@ -28,8 +28,8 @@ opened = tt
 
 -- Y can be a pattern
 pub content-Y : PatternContent circuitY
-unfolding opened circuitY all allBelow linksBelow rising earlier beside ball connected
-content-Y = record { range = tt; parallel = refl; below = tt; rises = tt; joined = tt; narrow = rw radius-Y (lit≤ tt) }
+unfolding opened circuitY all allBelow linksBelow rising earlier beside ball connected radius maximum distances misses
+content-Y = record { range = tt; parallel = refl; below = tt; rises = tt; joined = tt; narrow = lit≤ tt }
 
 pub E6-table : selfTable circuitY ≡ 1 ∷ 6 ∷ 6 ∷ []
 unfolding opened circuitY
@@ -63,14 +63,10 @@ pub E8-merged : merged circuitE8 ≡ circuitE8
 unfolding opened circuitE8
 E8-merged = refl
 
-E8-radius : radiusOf circuitE8 ≡ 3
-unfolding opened circuitE8 radiusOf radius maximum distances misses ball beside
-E8-radius = refl
-
 -- E8 can be a pattern
 pub content-E8 : PatternContent circuitE8
-unfolding opened circuitE8 all allBelow linksBelow rising earlier beside ball connected
-content-E8 = record { range = tt; parallel = refl; below = tt; rises = tt; joined = tt; narrow = rw E8-radius (lit≤ tt) }
+unfolding opened circuitE8 all allBelow linksBelow rising earlier beside ball connected radius maximum distances misses
+content-E8 = record { range = tt; parallel = refl; below = tt; rises = tt; joined = tt; narrow = lit≤ tt }
 
 -- in which node 1 matches part 1,
 pub E8-member : InTable (selfTable circuitE8) 1 1

@@ -221,6 +221,7 @@ module _ {p : Circuit} (c : PatternContent p) {class : ℕ → ℕ} {k : ℕ} (g
   -- ---- so the grouped pattern is a pattern
 
   pub grouped-content : PatternContent (grouped p class k)
+  unfolding radiusOf
   grouped-content =
       let n = length (grouped p class k .kinds) in
       let m = length (grouped p class k .starts) in
