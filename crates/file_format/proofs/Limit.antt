@@ -3,14 +3,14 @@
 use mathlib.Core.Bool.{Bool, true, false, cond}
 use mathlib.Core.List.{List, [], _∷_, _++_}
 use mathlib.Core.Logic.{_↔_}
-use mathlib.Core.Path.{_≡_, refl, sym, subst, _∙_}
+use mathlib.Core.Path.{_≡_, refl, sym, ap, subst, _∙_}
 use Prim.Native.Nat.{ℕ, _≤_, _<_}
 use native.Mathlib.Omega.{arith}
 use borrow.Author.Tests.{lt-ltb, le-ltb, ltb-true, ltb-false, eqb-true, eqb-false}
 use lib.Dec.{T, eqb, ltb}
 use Rattle.base_lists.proofs.Tests.{refuted}
-use Rattle.graph.specs.Circuit.{circuitGraph}
-use Rattle.graph.specs.Graph.{Radius}
+use Rattle.graph.specs.Circuit.{graphOf, circuitGraph}
+use Rattle.graph.specs.Graph.{Graph, Radius}
 use Rattle.graph.specs.Search.{connected, radius}
 use Rattle.graph.proofs.Distance.{radius-is}
 use Rattle.graph.proofs.Walks.{radius-unique}
@@ -75,24 +75,96 @@ without-same k (c ∷ cs) f =
     go true q rest = same-gone k own _ _ (c .holds) (eqb-true _ _ q) f rest
     go false q rest = same-kept own _ _ (c .holds) rest
 
--- ---- the patterns that are refused with 11
+-- list by list
+without-append : (k : ℕ) (cs ds : List Condition) → without k (cs ++ ds) ≡ without k cs ++ without k ds
+unfolding without
+without-append k [] ds = refl
+without-append k (c ∷ cs) ds = go (eqb (c .number) k) (without-append k cs ds)
+  where
+    go : (b : Bool) → without k (cs ++ ds) ≡ without k cs ++ without k ds →
+        cond b (without k (cs ++ ds)) (c ∷ without k (cs ++ ds)) ≡ cond b (without k cs) (c ∷ without k cs) ++ without k ds
+    go true e = e
+    go false e = ap (λ (l : List Condition). c ∷ l) e
+
+same-first : (cs cs′ ds ds′ : List Condition) → first cs ≡ first cs′ → first ds ≡ first ds′ → first (cs ++ ds) ≡ first (cs′ ++ ds′)
+same-first cs cs′ ds ds′ p q = go (first cs) refl
+  where
+    go : (v : Verdict) → first cs ≡ v → first (cs ++ ds) ≡ first (cs′ ++ ds′)
+    go accept e = first-accept cs ds e ∙ q ∙ sym (first-accept cs′ ds′ (sym p ∙ e))
+    go (refuse x) e = first-refuse cs ds x e ∙ sym (first-refuse cs′ ds′ x (sym p ∙ e))
+
+pub without-both : (k : ℕ) (cs ds : List Condition) → first (without k cs) ≡ first cs → first (without k ds) ≡ first ds → first (without k (cs ++ ds)) ≡ first (cs ++ ds)
+without-both k cs ds p q = ap first (without-append k cs ds) ∙ same-first (without k cs) cs (without k ds) ds p q
+
+-- ---- 11 as the last of a list of conditions, after those that leave only what has a radius
+
+module _ (cs : List Condition) (n : ℕ) (starts ends : List ℕ) where
+  abbrev before : List Condition
+  before = without 11 cs
+
+  abbrev width : ℕ
+  width = radius n starts ends
+
+  abbrev Wide : Type 0
+  Wide = (first before ≡ accept) × ((r : ℕ) × Radius (graphOf n starts ends) r × (widest < r))
+
+  abbrev Narrow : Type 0
+  Narrow = (first before ≡ accept) × ((r : ℕ) → Radius (graphOf n starts ends) r → r ≤ widest)
+
+  module _ (split : cs ≡ before ++ (tooWide Pattern n starts ends ∷ []))
+      (measured : first before ≡ accept → Radius (graphOf n starts ends) width) where
+    -- where the others leave it, the limit decides,
+    limit : first before ≡ accept → first cs ≡ cond (ltb widest width) (refuse eleven) accept
+    unfolding first asksConnected
+    limit e = ap first split ∙ first-accept before (tooWide Pattern n starts ends ∷ []) e
+
+    -- and where they do not, they refuse by another number
+    other : (x : Refusal) → first before ≡ refuse x → (first cs ≡ refuse x) × (x .number ≡ 11 → ⊥)
+    other x e = (ap first split ∙ first-refuse before (tooWide Pattern n starts ends ∷ []) x e, without-never 11 cs x e)
+
+    to-wide : first cs ≡ refuse eleven → (v : Verdict) → first before ≡ v → Wide
+    to-wide e accept h = (h, (width, measured h, above (ltb widest width) refl (sym (limit h) ∙ e)))
+      where
+        above : (b : Bool) → ltb widest width ≡ b → cond b (refuse eleven) accept ≡ refuse eleven → widest < width
+        above true q _ = ltb-true _ _ q
+        above false q f = absurd (accept-not-refuse f)
+    to-wide e (refuse x) h = let (f, apart) = other x h in absurd (apart (let same : refuse x ≡ refuse eleven = sym f ∙ e in cc))
+
+    to-narrow : first cs ≡ accept → (v : Verdict) → first before ≡ v → Narrow
+    to-narrow e accept h = (h, λ r is. subst (λ (k : ℕ). k ≤ widest) (radius-unique (measured h) is) (below (ltb widest width) refl (sym (limit h) ∙ e)))
+      where
+        below : (b : Bool) → ltb widest width ≡ b → cond b (refuse eleven) accept ≡ accept → width ≤ widest
+        below true q f = absurd (accept-not-refuse (sym f))
+        below false q _ = ltb-false _ _ q
+    to-narrow e (refuse x) h = let (f, _) = other x h in absurd (accept-not-refuse (sym e ∙ f))
+
+    -- A pattern is refused with 11 exactly when none of the others holds and its radius is above 12,
+    pub wide-iff : (first cs ≡ refuse eleven) ↔ Wide
+    wide-iff = (
+      λ e. to-wide e (first before) refl,
+      λ (h, (r, is, l)). limit h ∙ rw (lt-ltb widest width (subst (λ (k : ℕ). widest < k) (radius-unique is (measured h)) l)),
+    )
+
+    -- and accepted exactly when none of them holds and its radius is at most 12.
+    pub narrow-iff : (first cs ≡ accept) ↔ Narrow
+    narrow-iff = (
+      λ e. to-narrow e (first before) refl,
+      λ (h, f). limit h ∙ rw (le-ltb widest width (f width (measured h))),
+    )
+
+-- ---- so of a file, after 1 to 6
+
+split-file : (r : Role) (file : List ℕ) → fileConditions r file ≡ without 11 (fileConditions r file) ++ (tooWide r (nodesOf file) (startsOf file) (endsOf file) ∷ [])
+unfolding fileConditions linkConditions without
+split-file r file = refl
 
 module _ (file : List ℕ) where
-  -- the conditions as they were before the limit, 1 to 6
-  abbrev before : List Condition
-  before = without 11 (fileConditions Pattern file)
+  abbrev G : Graph
+  G = graphOf (nodesOf file) (startsOf file) (endsOf file)
 
-  abbrev wide : Condition
-  wide = tooWide Pattern (nodesOf file) (startsOf file) (endsOf file)
-
-  split : fileConditions Pattern file ≡ before ++ (wide ∷ [])
-  unfolding fileConditions linkConditions without
-  split = refl
-
-  -- a pattern that they leave has a radius
-  pub before-radius : first (without 11 (fileConditions Pattern file)) ≡ accept → Radius (circuitGraph (circuitOf file)) (radius (nodesOf file) (startsOf file) (endsOf file))
-  unfolding fileConditions linkConditions without asksConnected circuitGraph
-  before-radius e =
+  file-measured : first (without 11 (fileConditions Pattern file)) ≡ accept → Radius G (radius (nodesOf file) (startsOf file) (endsOf file))
+  unfolding fileConditions linkConditions without asksConnected
+  file-measured e =
       let n = nodesOf file in
       let h1 = first-holds _ _ e in
       let h2 = first-holds _ _ (h1 .1) in
@@ -102,52 +174,32 @@ module _ (file : List ℕ) where
       let h6 = first-holds _ _ (h5 .1) in
       let some = range-orders Pattern n (linksOf file) (refuted (inRange Pattern n (linksOf file)) (h2 .0)) .0 in
       let below = refuted (linksBelow n (startsOf file) (endsOf file)) (h4 .0) in
-      rw length-kinds (radius-is (links-within n (startsOf file) (endsOf file) below) some (refuted (connected n (startsOf file) (endsOf file)) (h6 .0)))
+      radius-is (links-within n (startsOf file) (endsOf file) below) some (refuted (connected n (startsOf file) (endsOf file)) (h6 .0))
 
-  abbrev width : ℕ
-  width = radius (nodesOf file) (startsOf file) (endsOf file)
-
-  -- where they leave it, the limit decides
-  limit : first before ≡ accept → first (fileConditions Pattern file) ≡ cond (ltb widest width) (refuse eleven) accept
-  unfolding first asksConnected
-  limit e = rw split (first-accept before (wide ∷ []) e)
-
-  -- and where they do not, they refuse by another number
-  other : (x : Refusal) → first before ≡ refuse x → (first (fileConditions Pattern file) ≡ refuse x) × (x .number ≡ 11 → ⊥)
-  other x e = (rw split (first-refuse before (wide ∷ []) x e), without-never 11 (fileConditions Pattern file) x e)
-
-  -- A pattern is refused with 11 exactly when none of the conditions 1 to 6 holds and its radius is above 12,
-  pub wide-iff :
+  pub wide-file :
       (first (fileConditions Pattern file) ≡ refuse eleven) ↔
       ((first (without 11 (fileConditions Pattern file)) ≡ accept) × ((r : ℕ) × Radius (circuitGraph (circuitOf file)) r × (widest < r)))
-  wide-iff = (
-    λ e. to e (first before) refl,
-    λ (h, (r, is, l)). limit h ∙ rw (lt-ltb widest width (subst (λ (k : ℕ). widest < k) (radius-unique is (before-radius h)) l)),
-  )
-    where
-      to : first (fileConditions Pattern file) ≡ refuse eleven → (v : Verdict) → first before ≡ v →
-          (first before ≡ accept) × ((r : ℕ) × Radius (circuitGraph (circuitOf file)) r × (widest < r))
-      to e accept h = (h, (width, before-radius h, above (ltb widest width) refl (sym (limit h) ∙ e)))
-        where
-          above : (b : Bool) → ltb widest width ≡ b → cond b (refuse eleven) accept ≡ refuse eleven → widest < width
-          above true q _ = ltb-true _ _ q
-          above false q f = absurd (accept-not-refuse f)
-      to e (refuse x) h = let (f, apart) = other x h in absurd (apart (let same : refuse x ≡ refuse eleven = sym f ∙ e in cc))
+  unfolding circuitGraph
+  wide-file = rw length-kinds (wide-iff (fileConditions Pattern file) (nodesOf file) (startsOf file) (endsOf file) (split-file Pattern file) file-measured)
 
-  -- and accepted exactly when none of them holds and its radius is at most 12.
-  pub narrow-iff :
+  pub narrow-file :
       (first (fileConditions Pattern file) ≡ accept) ↔
       ((first (without 11 (fileConditions Pattern file)) ≡ accept) × ((r : ℕ) → Radius (circuitGraph (circuitOf file)) r → r ≤ widest))
-  narrow-iff = (
-    λ e. to e (first before) refl,
-    λ (h, f). limit h ∙ rw (le-ltb widest width (f width (before-radius h))),
-  )
-    where
-      to : first (fileConditions Pattern file) ≡ accept → (v : Verdict) → first before ≡ v →
-          (first before ≡ accept) × ((r : ℕ) → Radius (circuitGraph (circuitOf file)) r → r ≤ widest)
-      to e accept h = (h, λ r is. subst (λ (k : ℕ). k ≤ widest) (radius-unique (before-radius h) is) (below (ltb widest width) refl (sym (limit h) ∙ e)))
-        where
-          below : (b : Bool) → ltb widest width ≡ b → cond b (refuse eleven) accept ≡ accept → width ≤ widest
-          below true q f = absurd (accept-not-refuse (sym f))
-          below false q _ = ltb-false _ _ q
-      to e (refuse x) h = let (f, apart) = other x h in absurd (accept-not-refuse (sym e ∙ f))
+  unfolding circuitGraph
+  narrow-file = rw length-kinds (narrow-iff (fileConditions Pattern file) (nodesOf file) (startsOf file) (endsOf file) (split-file Pattern file) file-measured)
+
+  -- For an accepted pattern the verdict is that of before the limit,
+  pub accepted-before : first (fileConditions Pattern file) ≡ accept → first (without 11 (fileConditions Pattern file)) ≡ first (fileConditions Pattern file)
+  accepted-before e = narrow-file .0 e .0 ∙ sym e
+
+-- and for a file in a role that need not be connected it always is.
+pub unasked-before : (r : Role) (file : List ℕ) → asksConnected r ≡ false → first (without 11 (fileConditions r file)) ≡ first (fileConditions r file)
+unfolding first
+unasked-before r file e = sym (ap first (split-file r file) ∙ go (without 11 (fileConditions r file)) (first (without 11 (fileConditions r file))) refl)
+  where
+    wide : Condition
+    wide = tooWide r (nodesOf file) (startsOf file) (endsOf file)
+
+    go : (cs : List Condition) (v : Verdict) → first cs ≡ v → first (cs ++ (wide ∷ [])) ≡ first cs
+    go cs accept h = first-accept cs (wide ∷ []) h ∙ rw e (sym h)
+    go cs (refuse x) h = first-refuse cs (wide ∷ []) x h ∙ sym h
