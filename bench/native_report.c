@@ -107,12 +107,12 @@ static void put_report(native_finder *f)
 {
     uint32_t whole[NATIVE_NODES];
     uint8_t nodes[NATIVE_NODES], links[NATIVE_LINKS];
-    unsigned found = 0, radius = native_radius(f);
+    unsigned found = 0;
     native_neighbours(f);
     native_whole(f, whole);
     make_names(f->board.n);
     for (unsigned centre = 0; centre < f->board.n; centre++)
-        if (native_locate(f, whole, centre, radius, nodes, links)) {
+        if (native_locate(f, whole, centre, f->radius, nodes, links)) {
             put_line(f, centre, nodes, links);
             found++;
         }
@@ -133,7 +133,7 @@ int main(int argc, char **argv)
         fail(argv[1]);
     load("pattern.cir", &pattern);
     load("board.cir", &board);
-    native_counts said = native_read(pattern.bytes, pattern.size, board.bytes, board.size, &f);
+    native_counts said = native_read(pattern.bytes, pattern.size, board.bytes, board.size, false, &f);
     if (said.number)
         used = (size_t)snprintf(buffer, sizeof buffer, "refused %u %s\n", said.number, said.file == NATIVE_PATTERN ? "pattern" : "board");
     else

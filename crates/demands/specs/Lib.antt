@@ -1,4 +1,5 @@
 pub mod Demands
 pub mod Groupings
+pub mod Limit
 pub mod Examples
 pub mod Files
