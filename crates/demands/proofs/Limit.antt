@@ -45,6 +45,15 @@ use Rattle.demands.proofs.Merged.{file-is}
 
 -- ---- which patterns
 
+unfoldable number : Verdict → ℕ
+number accept = 0
+number (refuse x) = x .number
+
+eight-not : (b : Bool) → cond b (refuse (record { number = 8; file = Neither })) accept ≡ refuse eleven → ⊥
+unfolding number
+eight-not true e = let z : _≡_ {A = ℕ} 8 11 = ap number e in omega arith
+eight-not false e = accept-not-refuse e
+
 narrow-accepted : (file : List ℕ) → Accepted Pattern file ↔ ((before (fileConditions Pattern file) ≡ accept) × ((r : ℕ) → Radius (graph file) r → r ≤ 12))
 narrow-accepted file = (λ a. narrow-file file .0 (accepted-verdict a), λ h. accepted Pattern file (narrow-file file .1 h))
 
@@ -68,10 +77,6 @@ module _ (kinds starts ends : List ℕ) where
       radius-is (links-within n starts ends below) some (refuted (connected n starts ends) (h6 .0))
 
   -- where a list of conditions, and then 8, come to 11, it is the list that does
-  eight-not : (b : Bool) → cond b (refuse (record { number = 8; file = Neither })) accept ≡ refuse eleven → ⊥
-  eight-not true e = let z : _≡_ {A = ℕ} 8 11 = cc in omega arith
-  eight-not false e = accept-not-refuse e
-
   by-circuit : (out : List ℕ) → first (writeConditions Pattern kinds starts ends (length out)) ≡ refuse eleven → first (circuitConditions Pattern kinds starts ends) ≡ refuse eleven
   unfolding writeConditions first shortTable
   by-circuit out e = go (first (circuitConditions Pattern kinds starts ends)) refl
