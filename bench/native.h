@@ -45,6 +45,9 @@ native_counts native_read(const uint8_t *pattern, size_t pattern_size, const uin
 /* Makes the board's neighbour tables. */
 void native_neighbours(native_finder *f);
 
+/* The pattern's radius. */
+unsigned native_radius(const native_finder *f);
+
 /* The match table on the whole board. */
 void native_whole(const native_finder *f, uint32_t *table);
 

@@ -107,12 +107,12 @@ static void put_report(native_finder *f)
 {
     uint32_t whole[NATIVE_NODES];
     uint8_t nodes[NATIVE_NODES], links[NATIVE_LINKS];
-    unsigned found = 0;
+    unsigned found = 0, radius = native_radius(f);
     native_neighbours(f);
     native_whole(f, whole);
     make_names(f->board.n);
     for (unsigned centre = 0; centre < f->board.n; centre++)
-        if (native_locate(f, whole, centre, f->radius, nodes, links)) {
+        if (native_locate(f, whole, centre, radius, nodes, links)) {
             put_line(f, centre, nodes, links);
             found++;
         }
