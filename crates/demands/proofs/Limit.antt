@@ -34,7 +34,7 @@ use Rattle.report.specs.Report.{fileWord, refusalLine, reportFor, reportOf}
 use Rattle.merge.proofs.Accepted.{merged-content, merged-radius-le}
 use Rattle.merge.proofs.Content.{accepted-content, content-radius}
 use Rattle.call_distance.specs.Calls.{radiusCall}
-use Rattle.call_place.specs.Call.{inputConditions, placeAt}
+use Rattle.call_place.specs.Call.{roomConditions, inputConditions, placeAt}
 use Rattle.call_place.proofs.Promise.{input-refused}
 use Rattle.call_merge.specs.Call.{mergeConditions, merging}
 use Rattle.call_merge.proofs.Promise.{pattern-accepted, merged-accepted, merged-circuit}
@@ -106,7 +106,7 @@ module _ (pattern : List ℕ) (e : first (fileConditions Pattern pattern) ≡ re
   turned-places : (board : List ℕ) (w r : ℕ) (lent : Lent) → placed pattern board w r lent .reply .verdict ≡ refuse eleven
   unfolding placed inputConditions
   turned-places board w r lent =
-      input-refused pattern board w r (lent .nodes) (lent .links) (lent .table) eleven (first-refuse (pairConditions Pattern pattern board) _ eleven (pair-turned board)) .0
+      input-refused pattern board w r (lent .nodes) (lent .links) (lent .table) (lent .distances) eleven (first-refuse (pairConditions Pattern pattern board) _ eleven (pair-turned board)) .0
 
   turned-reads : (kinds starts ends : List ℕ) → reading Pattern pattern kinds starts ends .reply .verdict ≡ refuse eleven
   unfolding readReply
@@ -149,9 +149,9 @@ module _ (pattern : List ℕ) (a : Accepted Pattern pattern) where
   unfolding readConditions shortTable without
   same-read k s e = without-both 11 (fileConditions Pattern pattern) _ same-file refl
 
-  same-input : (board : List ℕ) (w k s e : ℕ) → before (inputConditions pattern board w k s e) ≡ first (inputConditions pattern board w k s e)
-  unfolding inputConditions centreOutside shortTable without
-  same-input board w k s e = without-both 11 (pairConditions Pattern pattern board) _ (same-pair board) refl
+  same-input : (board : List ℕ) (w k s e d : ℕ) → before (inputConditions pattern board w k s e d) ≡ first (inputConditions pattern board w k s e d)
+  unfolding inputConditions roomConditions centreOutside shortTable without
+  same-input board w k s e d = without-both 11 (pairConditions Pattern pattern board) _ (same-pair board) refl
 
   same-merge : (k s : ℕ) → before (mergeConditions pattern k s) ≡ first (mergeConditions pattern k s)
   unfolding mergeConditions shortTable without
@@ -167,7 +167,7 @@ module _ (pattern : List ℕ) (a : Accepted Pattern pattern) where
 
   same-places : (board : List ℕ) (w r : ℕ) (lent : Lent) → placed pattern board w r lent ≡ placedBefore pattern board w r lent
   unfolding placed placeAt placedBefore
-  same-places board w r lent = rw (same-input board w (length (lent .nodes)) (length (lent .links)) (length (lent .table)))
+  same-places board w r lent = rw (same-input board w (length (lent .nodes)) (length (lent .links)) (length (lent .table)) (length (lent .distances)))
 
   same-merges : (lent out : List ℕ) → merging pattern lent out ≡ mergingBefore pattern lent out
   unfolding merging mergingBefore

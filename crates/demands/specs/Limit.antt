@@ -48,9 +48,9 @@ radiusBefore file = reply (before (fileConditions Pattern file)) (radius (nodesO
 
 unfoldable pub placedBefore : List ℕ → List ℕ → ℕ → ℕ → Lent → PlaceOutcome
 placedBefore pattern board w r lent =
-    decided (before (inputConditions pattern board w (length (lent .nodes)) (length (lent .links)) (length (lent .table)))) (lent .nodes) (lent .links)
-    (lent .table)
-    (placeAround (circuitOf pattern) (circuitOf board) w r (lent .nodes) (lent .links) (lent .table))
+    decided (before (inputConditions pattern board w (length (lent .nodes)) (length (lent .links)) (length (lent .table)) (length (lent .distances))))
+    (lent .nodes) (lent .links) (lent .table) (lent .distances)
+    (placeAround (circuitOf pattern) (circuitOf board) w r (lent .nodes) (lent .links) (lent .table) (lent .distances))
 
 unfoldable pub mergingBefore : List ℕ → List ℕ → List ℕ → MergeOutcome
 mergingBefore file lent out =
