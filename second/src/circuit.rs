@@ -100,10 +100,16 @@ impl Circuit {
         Ok(())
     }
 
-    /// Refusal 6.
+    /// Refusals 6 and 11, in this order.
     fn judge_shape(&self, role: Role) -> Result<(), Refusal> {
-        if role == Role::Pattern && !graph::connected(self.kinds.len(), &self.links) {
+        if role == Role::Board {
+            return Ok(());
+        }
+        if !graph::connected(self.kinds.len(), &self.links) {
             return Err(role.refuses(6));
+        }
+        if graph::radius(self) > 12 {
+            return Err(role.refuses(11));
         }
         Ok(())
     }
@@ -117,7 +123,7 @@ fn fields(bytes: &[u8]) -> Vec<u16> {
         .collect()
 }
 
-/// The circuit in a file read in a role, or the first of refusals 1 to 6.
+/// The circuit in a file read in a role, or the first of refusals 1 to 6 and 11.
 pub fn parse(role: Role, bytes: &[u8]) -> Result<Circuit, Refusal> {
     let circuit = parse_in_bits(role, bytes)?;
     circuit.judge_shape(role)?;
@@ -156,7 +162,7 @@ pub fn both_in_bits(pattern: &[u8], board: &[u8]) -> Result<(Circuit, Circuit), 
     Ok((pattern, parse(Role::Board, board)?))
 }
 
-/// The circuit given as three tables, or the first of refusals 2 to 6.
+/// The circuit given as three tables, or the first of refusals 2 to 6 and 11.
 pub fn gather(role: Role, kinds: &[u16], starts: &[u16], ends: &[u16]) -> Result<Circuit, Refusal> {
     if !role.allows(kinds.len(), starts.len()) {
         return Err(role.refuses(2));

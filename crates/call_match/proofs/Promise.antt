@@ -185,14 +185,14 @@ first-same xs ys zs e = go (first ys) refl
     go accept f = first-accept xs zs (e ∙ f) ∙ sym (first-accept ys zs f)
     go (refuse x) f = first-refuse xs zs x (e ∙ f) ∙ sym (first-refuse ys zs x f)
 
--- any pattern is refused as a connected one is, where that is not refused with 6
+-- any pattern is refused as a connected one is, where that is refused neither with 6 nor with 11
 same-verdict : (pattern board : List ℕ) (lent : ℕ) → (first (connectedConditions pattern board lent) ≡ turned Pattern 6 → ⊥)
-    → first (matchConditions pattern board lent) ≡ first (connectedConditions pattern board lent)
+    → (first (connectedConditions pattern board lent) ≡ turned Pattern 11 → ⊥) → first (matchConditions pattern board lent) ≡ first (connectedConditions pattern board lent)
 unfolding matchConditions connectedConditions pairConditions turned
-same-verdict pattern board lent other =
+same-verdict pattern board lent other narrow =
     first-same (fileConditions AnyPattern pattern ++ fileConditions Board board) (fileConditions Pattern pattern ++ fileConditions Board board) _
     (first-same (fileConditions AnyPattern pattern) (fileConditions Pattern pattern) (fileConditions Board board)
-    (any-verdict pattern (λ e. other (first-refuse _ _ _ (first-refuse _ _ _ e)))))
+    (any-verdict pattern (λ e. other (first-refuse _ _ _ (first-refuse _ _ _ e))) (λ e. narrow (first-refuse _ _ _ (first-refuse _ _ _ e)))))
 
 -- where the answer is the row's, the outcome is
 same-outcome : (v : Verdict) (p b : Circuit) (table : List ℕ)
@@ -202,13 +202,14 @@ same-outcome accept p b table plain = let a = plain refl in rw (sym (a .counted)
 same-outcome (refuse x) p b table plain = refl
 
 -- "Connected patterns get the table and counts they always got": the whole reply and the table are those of the call that document 01 has,
--- wherever that does not give 6.
+-- wherever that gives neither 6 nor 11.
 pub as-before :
     (pattern board table : List ℕ) → (connectedMatching pattern board table .reply .verdict ≡ turned Pattern 6 → ⊥) →
+    (connectedMatching pattern board table .reply .verdict ≡ turned Pattern 11 → ⊥) →
     matching pattern board table ≡ connectedMatching pattern board table
 unfolding matching connectedMatching connectedConditions
-as-before pattern board table other =
-    rw (same-verdict pattern board (length table) (λ e. other (replied-verdict _ _ ∙ e)))
+as-before pattern board table other narrow =
+    rw (same-verdict pattern board (length table) (λ e. other (replied-verdict _ _ ∙ e)) (λ e. narrow (replied-verdict _ _ ∙ e)))
     (same-outcome _ (circuitOf pattern) (circuitOf board) table
     (λ e.
     let drawn = accepted Pattern pattern (pair-parts Pattern pattern board (first-parts (pairConditions Pattern pattern board) _ e .0) .0) in

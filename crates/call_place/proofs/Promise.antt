@@ -98,7 +98,7 @@ module _ (pattern board : List ℕ) (w r : ℕ) (nodes links table distances : L
       nodesOf board ≤ length table → nodesOf board ≤ length distances → first inputs ≡ accept
   unfolding inputConditions first centreOutside
   inputs-accept a b h n m t d =
-      rw (first-accept _ _ (pair-accept pattern board a b), lt-ltb _ _ h)
+      rw (first-accept _ _ (pair-accept Pattern pattern board a b), lt-ltb _ _ h)
       (room-enough (nodesOf board) (linksOf board) (length nodes) (length links) (length table) (length distances) n m t d)
 
   -- and only there.
