@@ -18,6 +18,7 @@ static struct file pattern, board;
 struct result {
     native_counts counts;
     uint32_t table[NATIVE_NODES];
+    uint16_t distances[NATIVE_NODES];
     uint8_t nodes[NATIVE_NODES], links[NATIVE_LINKS];
 };
 
@@ -41,7 +42,7 @@ static native_counts counts_of(heronditch_counts c)
 
 #define FILES pattern.bytes, pattern.size, board.bytes, board.size
 #define TABLE r->table, NATIVE_NODES
-#define TABLES r->nodes, NATIVE_NODES, r->links, NATIVE_LINKS, TABLE
+#define TABLES r->nodes, NATIVE_NODES, r->links, NATIVE_LINKS, TABLE, r->distances, NATIVE_NODES
 
 static void proved_match(size_t centre, struct result *r)
 {
@@ -68,7 +69,7 @@ static void plain_place(size_t centre, struct result *r)
 /* The ball as wide as can be, and the radius. There is no plain C of these two. */
 static void proved_ball(size_t centre, struct result *r)
 {
-    r->counts.number = heronditch_ball(board.bytes, board.size, centre, 65535, r->nodes, NATIVE_NODES).number;
+    r->counts.number = heronditch_ball(board.bytes, board.size, centre, 65535, r->distances, NATIVE_NODES).number;
 }
 
 static void proved_radius(size_t centre, struct result *r)
