@@ -6,3 +6,4 @@ pub mod Net
 pub mod Counting
 pub mod Search
 pub mod Bfs
+pub mod Chosen
