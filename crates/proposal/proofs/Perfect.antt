@@ -10,6 +10,7 @@ use borrow.Author.Tests.{leb-true, le-leb}
 use lib.Dec.{T, leb}
 use lib.ListN.{length, getD}
 use Rattle.base_lists.proofs.Tests.{both, both-left, both-right, either-left, either-right, decide, T-true, true-T, allBelow-at, at-allBelow, all-at, at-all}
+use Rattle.base_lists.specs.List.{allBelow}
 use Rattle.graph.specs.Circuit.{Circuit, LinkAt, HasLink, graphOf, circuitGraph}
 use Rattle.graph.specs.Graph.{Graph, Subgraph, Contains, Connected, Walk, stay, step, InBall, Ball}
 use Rattle.graph.specs.Search.{inside}
@@ -83,11 +84,6 @@ pub with-link :
     markedGraph board nodes links .Link v v′ ↔ HasLink (withLinks board links .starts) (withLinks board links .ends) v v′
 unfolding withLinks markedGraph
 with-link board nodes links v v′ = Iff·symm (chosen-iff links (board .starts) (board .ends) v v′)
-
--- a node of the ball
-ball-node : {board : Circuit} {w r v : ℕ} → Ball (circuitGraph board) w r .Node v → InBall (circuitGraph board) w r v
-unfolding Ball
-ball-node b = b
 
 module _ {pattern board : Circuit} (a : Admissible pattern board) (w r : ℕ) (nodes links : List ℕ) where
   -- the marked subgraph, and the board with its links
@@ -236,35 +232,61 @@ module _ {pattern board : Circuit} (a : Admissible pattern board) (w r : ℕ) (n
   unfolding endsMarked
   at-ends f =
       at-allBelow (length links) (λ i. not (inside links i) || (inside nodes (getD (board .starts) i 0) && inside nodes (getD (board .ends) i 0)))
-      (λ i h. at-unless (inside links i) _ (λ m. both _ _ (f i m .0) (f i m .1)))
+      (λ i h.
+      let s = inside nodes (getD (board .starts) i 0) in
+      let e = inside nodes (getD (board .ends) i 0) in
+      at-unless (inside links i) (s && e) (λ m. both s e (f i m .0) (f i m .1)))
+
+  -- what is tested, part by part
+  abbrev bytes : Bool
+  bytes = bits nodes && bits links
+
+  abbrev joins : Bool
+  joins = inside nodes w && endsMarked (board .starts) (board .ends) nodes links
+
+  abbrev every-link : Bool
+  every-link = allBelow (length (H .starts)) (inside (placeLinks pattern H w n))
+
+  abbrev whole : Bool
+  whole = inRow (placeNodes pattern H w n) nodes && every-link
+
+  abbrev near : Bool
+  near = inRow (ballOf board w r) nodes
+
+  abbrev placed : Bool
+  placed = found pattern H w n && whole
 
   yes-perfect : T (checks pattern board w r nodes links) → PerfectMarks pattern board w r nodes links
   unfolding checks marksSubgraph fills
   yes-perfect t =
-      let subgraph = both-left _ _ t in
-      let rest = both-right _ _ t in
-      let bytes = both-left _ _ subgraph in
-      let joined = both-right _ _ subgraph in
-      let filled = both-right _ _ rest in
-      let whole = both-right _ _ filled in
-      let ends = ends-at (both-right _ _ joined) in
+      let marks = both-left (bytes && joins) (near && placed) t in
+      let rest = both-right (bytes && joins) (near && placed) t in
+      let b = both-left bytes joins marks in
+      let j = both-right bytes joins marks in
+      let f = both-right near placed rest in
+      let all = both-right (found pattern H w n) whole f in
+      let ends = ends-at (both-right (inside nodes w) (endsMarked (board .starts) (board .ends) nodes links) j) in
       record {
-        nodeBytes = bits-at nodes (both-left _ _ bytes);
-        linkBytes = bits-at links (both-right _ _ bytes);
+        nodeBytes = bits-at nodes (both-left (bits nodes) (bits links) b);
+        linkBytes = bits-at links (both-right (bits nodes) (bits links) b);
         ends = ends;
         perfect =
-            is-perfect ends (λ v m. near-iff v .0 (row-at (ballOf board w r) nodes (both-left _ _ rest) v m)) (both-left _ _ joined) (both-left _ _ filled)
-            (row-at (placeNodes pattern H w n) nodes (both-left _ _ whole)) (allBelow-at (length (H .starts)) (inside (placeLinks pattern H w n)) (both-right _ _ whole));
+            is-perfect ends (λ v m. near-iff v .0 (row-at (ballOf board w r) nodes (both-left near placed rest) v m))
+            (both-left (inside nodes w) (endsMarked (board .starts) (board .ends) nodes links) j) (both-left (found pattern H w n) whole f)
+            (row-at (placeNodes pattern H w n) nodes (both-left (inRow (placeNodes pattern H w n) nodes) every-link all))
+            (allBelow-at (length (H .starts)) (inside (placeLinks pattern H w n)) (both-right (inRow (placeNodes pattern H w n) nodes) every-link all));
       }
 
   perfect-yes : length (board .starts) ≡ length (board .ends) → PerfectMarks pattern board w r nodes links → T (checks pattern board w r nodes links)
-  unfolding checks marksSubgraph fills markedGraph
+  unfolding checks marksSubgraph fills markedGraph Ball
   perfect-yes parallel m =
       let p = m .perfect in
-      both _ _ (both _ _ (both _ _ (at-bits nodes (m .nodeBytes)) (at-bits links (m .linkBytes))) (both _ _ (p .centre) (at-ends (m .ends))))
-      (both _ _ (at-row (ballOf board w r) nodes (λ v t. near-iff v .1 (ball-node (p .subgraph .nodes v t))))
-      (both _ _ (is-found p) (both _ _ (at-row (placeNodes pattern H w n) nodes (node-placed p))
-      (at-allBelow (length (H .starts)) (inside (placeLinks pattern H w n)) (λ i h. link-placed p i h (rw (← with-parallel board links parallel) h))))))
+      let b = both (bits nodes) (bits links) (at-bits nodes (m .nodeBytes)) (at-bits links (m .linkBytes)) in
+      let j = both (inside nodes w) (endsMarked (board .starts) (board .ends) nodes links) (p .centre) (at-ends (m .ends)) in
+      let e = at-allBelow (length (H .starts)) (inside (placeLinks pattern H w n)) (λ i h. link-placed p i h (rw (← with-parallel board links parallel) h)) in
+      let all = both (inRow (placeNodes pattern H w n) nodes) every-link (at-row (placeNodes pattern H w n) nodes (node-placed p)) e in
+      both (bytes && joins) (near && placed) (both bytes joins b j)
+      (both near placed (at-row (ballOf board w r) nodes (λ v t. near-iff v .1 (p .subgraph .nodes v t))) (both (found pattern H w n) whole (is-found p) all))
 
   -- The check says yes exactly when every byte is 0 or 1, every marked link has both its ends marked, and what is marked is a perfect subgraph
   -- around the centre at the radius, largest or not.
