@@ -32,20 +32,20 @@ use Rattle.proposal.specs.Meaning.{PerfectMarks}
 -- ---- tests
 
 -- where a mark is set, what is asked there holds
-unless-at : (b c : Bool) → T (not b || c) → T b → T c
+pub unless-at : (b c : Bool) → T (not b || c) → T b → T c
 unless-at true c t s = t
 unless-at false c t s = absurd s
 
-at-unless : (b c : Bool) → (T b → T c) → T (not b || c)
+pub at-unless : (b c : Bool) → (T b → T c) → T (not b || c)
 at-unless true c f = f tt
 at-unless false c f = tt
 
 -- every byte is 0 or 1
-bits-at : (bytes : List ℕ) → T (bits bytes) → (i : ℕ) → i < length bytes → getD bytes i 0 ≤ 1
+pub bits-at : (bytes : List ℕ) → T (bits bytes) → (i : ℕ) → i < length bytes → getD bytes i 0 ≤ 1
 unfolding bits
 bits-at bytes t i h = leb-true _ _ (T-true {b = leb (getD bytes i 0) 1} (all-at (λ b. leb b 1) bytes t i h))
 
-at-bits : (bytes : List ℕ) → ((i : ℕ) → i < length bytes → getD bytes i 0 ≤ 1) → T (bits bytes)
+pub at-bits : (bytes : List ℕ) → ((i : ℕ) → i < length bytes → getD bytes i 0 ≤ 1) → T (bits bytes)
 unfolding bits
 at-bits bytes f = at-all (λ b. leb b 1) bytes (λ i h. true-T (le-leb _ _ (f i h)))
 
