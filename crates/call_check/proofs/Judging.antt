@@ -41,12 +41,12 @@ module _ (r : ℕ) (p b : Circuit) (w : ℕ) (nodes links : List ℕ) where
       unfolding checkReply checkOn first centreOutside otherLength reply
       on-links f = rw (lt-ltb _ _ inside, eq-eqb _ _ same, ne-eqb _ _ f)
 
-      pub on-judged : length links ≡ length (b .starts) → {a : CheckAnswer} {yes : Bool} → a ≡ answered yes → yes ≡ checks p b w r nodes links →
+      pub on-judged : length links ≡ length (b .starts) → {a : CheckAnswer} {t : Bool} → a ≡ answered t → t ≡ checks p b w r nodes links →
           checkReply a ≡ checkOn r p b w nodes links
       unfolding checkOn first centreOutside otherLength reply checkReply answered
-      on-judged e {yes = yes} q s = ap checkReply q ∙ value yes ∙ rw (lt-ltb _ _ inside, eq-eqb _ _ same, eq-eqb _ _ e, s)
+      on-judged e {t = t} q s = ap checkReply q ∙ value t ∙ rw (lt-ltb _ _ inside, eq-eqb _ _ same, eq-eqb _ _ e, s)
         where
-          value : (yes : Bool) → checkReply (answered yes) ≡ reply accept (yesValue yes ∷ [])
+          value : (t : Bool) → checkReply (answered t) ≡ reply accept (yesValue t ∷ [])
           value true = refl
           value false = refl
 

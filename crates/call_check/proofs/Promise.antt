@@ -8,7 +8,7 @@ use Prim.Native.Nat.{ℕ, _<_}
 use native.Mathlib.Omega.{arith}
 use borrow.Author.Tests.{ltb-true, eqb-true, not-false, lt-ltb, eq-eqb}
 use lib.Dec.{T, eqb, ltb}
-use lib.ListN.{length}
+use lib.ListN.{length, getD}
 use Rattle.base_lists.proofs.Tests.{T-true, T-false, true-T, decide}
 use Rattle.graph.specs.Circuit.{Circuit, circuitGraph}
 use Rattle.graph.specs.Graph.{Radius}
@@ -51,8 +51,8 @@ module _ (pattern board : List ℕ) (w : ℕ) (nodes links : List ℕ) where
   abbrev result : Reply
   result = checkCall pattern board w nodes links
 
-  abbrev yes : Bool
-  yes = checks P B w (radiusOf P) nodes links
+  abbrev judged : Bool
+  judged = checks P B w (radiusOf P) nodes links
 
   -- A condition on the inputs that holds, and no other holds before it, refuses.
   pub input-refused : (x : Refusal) → first inputs ≡ refuse x → result ≡ record { verdict = refuse x; values = [] }
@@ -91,22 +91,22 @@ module _ (pattern board : List ℕ) (w : ℕ) (nodes links : List ℕ) where
     pub radius-own : Radius (circuitGraph P) (radiusOf P)
     radius-own = accepted-radius (parts .0)
 
-    answer-is : (b : Bool) → yes ≡ b → result ≡ record { verdict = accept; values = yesValue b ∷ [] }
+    answer-is : (b : Bool) → judged ≡ b → result ≡ record { verdict = accept; values = yesValue b ∷ [] }
     unfolding checkCall reply
     answer-is b e = rw (sound, e)
 
     -- The call says yes or no.
     pub yes-or-no : (result ≡ says-yes) ⊎ (result ≡ says-no)
-    yes-or-no = ⊎-elim (λ t. inl (answer-is true (T-true t))) (λ f. inr (answer-is false (T-false f))) (decide yes)
+    yes-or-no = ⊎-elim (λ t. inl (answer-is true (T-true t))) (λ f. inr (answer-is false (T-false f))) (decide judged)
 
-    result-yes : (result ≡ says-yes) ↔ T yes
+    result-yes : (result ≡ says-yes) ↔ T judged
     result-yes = (
-      λ e. ⊎-elim (λ t. t) (λ f. absurd (apart (sym (answer-is false (T-false f)) ∙ e))) (decide yes),
+      λ e. ⊎-elim (λ t. t) (λ f. absurd (apart (sym (answer-is false (T-false f)) ∙ e))) (decide judged),
       λ t. answer-is true (T-true t),
     )
       where
         apart : says-no ≡ says-yes → ⊥
-        apart e = let z : _≡_ {A = ℕ} 0 1 = cc in omega arith
+        apart e = let z : _≡_ {A = ℕ} 0 1 = ap (λ (o : Reply). getD (o .values) 0 0) e in omega arith
 
     -- Yes exactly when every byte is 0 or 1, every marked link has both its ends marked, and what is marked is a perfect subgraph around the
     -- centre at the pattern's radius. The answer depends on the bytes alone: "Whoever proposed it, a yes means the same".

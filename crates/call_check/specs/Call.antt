@@ -16,7 +16,7 @@ use Rattle.call_check.specs.declared.CheckAnswer.the-variants.{Yes, No, 
 
 -- yes is 1, no is 0
 abbrev pub yesValue : Bool → ℕ
-yesValue yes = cond yes 1 0
+yesValue b = cond b 1 0
 
 -- number and values of each case of the answer
 unfoldable pub checkReply : CheckAnswer → Reply

@@ -9,6 +9,7 @@ use place::Around;
 use proposal_check::check_circuits;
 ghost use mathlib.Core.Path.{_≡_};
 ghost use Rattle.file_format.specs.Circuit.{Drawn};
+ghost use Rattle.file_format.specs.declared.File.the-variants.{Neither};
 ghost use Rattle.graph.specs.Circuit.{Circuit, circuit};
 ghost use Rattle.call_check.specs.Call.{answered, checkReply, checkOn, checkCall};
 
@@ -25,11 +26,21 @@ struct Asked {
     pub radius: u16,
 }
 
-// The answer to a question that was put.
-fn judged(yes: bool) -> CheckAnswer
-    ensures { λ a. ⌜ a ≡ answered yes ⌝ }
+// A refusal that means neither file.
+fn refused(number: u8) -> CheckAnswer
+    ensures { λ a. ⌜ a ≡ CheckAnswer.Refused (record { number = number; file = Neither }) ⌝ }
 {
-    if yes {
+    CheckAnswer::Refused(Refusal {
+        number,
+        file: File::Neither,
+    })
+}
+
+// The answer to a question that was put.
+fn judged(is: bool) -> CheckAnswer
+    ensures { λ a. ⌜ a ≡ answered is ⌝ }
+{
+    if is {
         return CheckAnswer::Yes;
     }
     CheckAnswer::No
@@ -55,20 +66,13 @@ fn check_on(
     let n = node_kinds.len();
     let centre = asked.centre;
     if n <= centre {
-        return CheckAnswer::Refused(Refusal {
-            number: 7,
-            file: File::Neither,
-        });
+        return refused(7);
     }
-    let other = Refusal {
-        number: 3,
-        file: File::Neither,
-    };
     if nodes.len() != n {
-        return CheckAnswer::Refused(other);
+        return refused(3);
     }
     if links.len() != node_starts.len() {
-        return CheckAnswer::Refused(other);
+        return refused(3);
     }
     judged(check_circuits(
         part_kinds,

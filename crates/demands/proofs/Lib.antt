@@ -4,6 +4,7 @@ pub mod Counts
 pub mod Merged
 pub mod Groupings
 pub mod GroupingExamples
+pub mod Proposals
 pub mod Report
 pub mod Examples
 pub mod Files

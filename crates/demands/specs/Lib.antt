@@ -1,4 +1,5 @@
 pub mod Demands
 pub mod Groupings
+pub mod Proposals
 pub mod Examples
 pub mod Files
