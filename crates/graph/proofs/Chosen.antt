@@ -1,24 +1,22 @@
--- The entries of a list that are kept by a test of their index, as chosen links are: which links two lists kept alike hold, how long they
--- are, and what passes in them. Assumes nothing.
+-- Choosing entries and links by a test of their index, or by a byte for each: which links the kept lists hold. Assumes nothing.
 use mathlib.Core.Bool.{Bool, true, false, cond}
-use mathlib.Core.List.{List, [], _∷_, _++_}
+use mathlib.Core.List.{List, [], _∷_}
 use mathlib.Core.Logic.{_↔_}
-use mathlib.Core.Path.{_≡_, refl, ap, subst, _∙_}
+use mathlib.Core.Path.{_≡_, refl, ap, subst}
 use Prim.Native.Nat.{ℕ, zero, suc, _+_, _≤_, _<_, zero-le}
 use native.Mathlib.Nat.{add-zero, not-suc-le-zero}
 use native.Mathlib.Omega.{arith}
 use lib.Dec.{T}
-use lib.ListN.{length, getD, take}
-use lib.Seq.{take-suc, length-take-le}
+use lib.ListN.{length, getD}
+use Rattle.base_lists.specs.List.{Below}
 use Rattle.base_lists.specs.Below.{keepFrom}
-use Rattle.base_lists.specs.List.{all}
-use Rattle.base_lists.proofs.Tests.{both, both-left, both-right, true-T, T-true}
-use Rattle.graph.specs.Chosen.{chosen}
-use Rattle.graph.specs.Circuit.{LinkAt, HasLink}
+use Rattle.base_lists.proofs.Tests.{true-T, T-true}
+use Rattle.graph.specs.Circuit.{Circuit, LinkAt, HasLink}
 use Rattle.graph.specs.Search.{inside}
-use Rattle.graph.proofs.Ball.{Within, link-later, link-earlier, link-first}
+use Rattle.graph.specs.Chosen.{picked, chosen, ChosenLink}
+use Rattle.graph.proofs.Ball.{link-later, link-earlier, link-first}
 
--- ---- the links
+-- ---- the kept entries of two parallel lists
 
 -- a link of the kept entries is a link whose index passes
 kept-link :
@@ -61,7 +59,7 @@ link-kept i p (s ∷ ss) (e ∷ es) v w (suc k) l t =
     go true (j, l) = (suc j, link-later l)
     go false l = l
 
--- the kept lists hold the links whose index passes
+-- The kept lists hold the links whose index passes.
 pub kept-iff :
     (p : ℕ → Bool) (ss es : List ℕ) (v w : ℕ) →
     HasLink (keepFrom zero p ss) (keepFrom zero p es) v w ↔ ((i : ℕ) × LinkAt ss es v w i × T (p i))
@@ -71,43 +69,31 @@ kept-iff p ss es v w = (
   λ (i, l, t). link-kept zero p ss es v w i l (rw add-zero t),
 )
 
--- the chosen lists hold the links that are marked,
-pub chosen-iff :
-    (marks ss es : List ℕ) (v w : ℕ) →
-    HasLink (chosen marks ss) (chosen marks es) v w ↔ ((i : ℕ) × LinkAt ss es v w i × T (inside marks i))
-unfolding chosen
-chosen-iff marks ss es v w = kept-iff (inside marks) ss es v w
+-- ---- chosen links
 
--- all of them links that there were before,
-pub chosen-had : (marks ss es : List ℕ) (v w : ℕ) → HasLink (chosen marks ss) (chosen marks es) v w → HasLink ss es v w
-unfolding HasLink
-chosen-had marks ss es v w l = let (i, k, t) = chosen-iff marks ss es v w .0 l in (i, k)
+-- The chosen circuit's links are the circuit's links whose byte is 1.
+pub chosen-iff : (c : Circuit) (marks : List ℕ) (v w : ℕ) → HasLink (chosen c marks .starts) (chosen c marks .ends) v w ↔ ChosenLink c marks v w
+unfolding chosen picked ChosenLink
+chosen-iff c marks v w = kept-iff (inside marks) (c .starts) (c .ends) v w
 
--- so they join nodes where those did.
-pub chosen-within : (n : ℕ) (marks ss es : List ℕ) → Within n ss es → Within n (chosen marks ss) (chosen marks es)
-chosen-within n marks ss es links =
-    record {
-      starts = λ v w l. links .starts v w (chosen-had marks ss es v w l);
-      ends = λ v w l. links .ends v w (chosen-had marks ss es v w l);
-    }
+-- they are links of the circuit
+pub chosen-has : (c : Circuit) (marks : List ℕ) (v w : ℕ) → ChosenLink c marks v w → HasLink (c .starts) (c .ends) v w
+unfolding ChosenLink HasLink
+chosen-has c marks v w (i, l, t) = (i, l)
 
--- ---- the lists
+-- ---- the kept entries of one list
 
--- no more are kept than there are,
-kept-le : (i : ℕ) (p : ℕ → Bool) (xs : List ℕ) → length (keepFrom i p xs) ≤ length xs
+-- no more are kept than there are
+kept-short : (i : ℕ) (p : ℕ → Bool) (xs : List ℕ) → length (keepFrom i p xs) ≤ length xs
 unfolding keepFrom
-kept-le i p [] = zero-le
-kept-le i p (x ∷ xs) = go (p i) (kept-le (suc i) p xs)
+kept-short i p [] = zero-le
+kept-short i p (x ∷ xs) = go (p i) (kept-short (suc i) p xs)
   where
     go : (b : Bool) → length (keepFrom (suc i) p xs) ≤ length xs → length (cond b (x ∷ keepFrom (suc i) p xs) (keepFrom (suc i) p xs)) ≤ suc (length xs)
     go true h = omega arith
     go false h = omega arith
 
-pub chosen-le : (marks xs : List ℕ) → length (chosen marks xs) ≤ length xs
-unfolding chosen
-chosen-le marks xs = kept-le zero (inside marks) xs
-
--- as many of one list as of another that is as long,
+-- of lists of the same length equally many
 kept-parallel : (i : ℕ) (p : ℕ → Bool) (xs ys : List ℕ) → length xs ≡ length ys → length (keepFrom i p xs) ≡ length (keepFrom i p ys)
 unfolding keepFrom
 kept-parallel i p [] [] e = refl
@@ -115,51 +101,55 @@ kept-parallel i p [] (y ∷ ys) e = absurd (omega arith)
 kept-parallel i p (x ∷ xs) [] e = absurd (omega arith)
 kept-parallel i p (x ∷ xs) (y ∷ ys) e = go (p i) (kept-parallel (suc i) p xs ys (omega arith))
   where
-    go :
-        (b : Bool) → length (keepFrom (suc i) p xs) ≡ length (keepFrom (suc i) p ys) →
-        length (cond b (x ∷ keepFrom (suc i) p xs) (keepFrom (suc i) p xs)) ≡ length (cond b (y ∷ keepFrom (suc i) p ys) (keepFrom (suc i) p ys))
+    go : (b : Bool) → length (keepFrom (suc i) p xs) ≡ length (keepFrom (suc i) p ys)
+        → length (cond b (x ∷ keepFrom (suc i) p xs) (keepFrom (suc i) p xs)) ≡ length (cond b (y ∷ keepFrom (suc i) p ys) (keepFrom (suc i) p ys))
     go true h = ap suc h
     go false h = h
 
-pub chosen-parallel : (marks xs ys : List ℕ) → length xs ≡ length ys → length (chosen marks xs) ≡ length (chosen marks ys)
-unfolding chosen
-chosen-parallel marks xs ys e = kept-parallel zero (inside marks) xs ys e
-
--- and what all pass, those kept pass.
-kept-all : (i : ℕ) (p q : ℕ → Bool) (xs : List ℕ) → T (all q xs) → T (all q (keepFrom i p xs))
-unfolding keepFrom all
-kept-all i p q [] t = t
-kept-all i p q (x ∷ xs) t = go (p i) (kept-all (suc i) p q xs (both-right (q x) (all q xs) t))
-  where
-    go : (b : Bool) → T (all q (keepFrom (suc i) p xs)) → T (all q (cond b (x ∷ keepFrom (suc i) p xs) (keepFrom (suc i) p xs)))
-    go true h = both (q x) (all q (keepFrom (suc i) p xs)) (both-left (q x) (all q xs) t) h
-    go false h = h
-
-pub chosen-all : (q : ℕ → Bool) (marks xs : List ℕ) → T (all q xs) → T (all q (chosen marks xs))
-unfolding chosen
-chosen-all q marks xs t = kept-all zero (inside marks) q xs t
-
--- ---- one after another
-
-kept-append : (i : ℕ) (p : ℕ → Bool) (xs ys : List ℕ) → keepFrom i p (xs ++ ys) ≡ keepFrom i p xs ++ keepFrom (length xs + i) p ys
+-- what holds of each entry holds of each kept one
+kept-at : (i : ℕ) (p : ℕ → Bool) (xs : List ℕ) (j : ℕ) → j < length (keepFrom i p xs) → (k : ℕ) × (k < length xs) × (getD (keepFrom i p xs) j 0 ≡ getD xs k 0)
 unfolding keepFrom
-kept-append i p [] ys = ap (λ (j : ℕ). keepFrom j p ys) (omega arith)
-kept-append i p (x ∷ xs) ys = go (p i) (kept-append (suc i) p xs ys) (omega arith)
+kept-at i p [] j h = absurd (not-suc-le-zero h)
+kept-at i p (x ∷ xs) j h = go (p i) j h (kept-at (suc i) p xs)
   where
-    go :
-        (b : Bool) → keepFrom (suc i) p (xs ++ ys) ≡ keepFrom (suc i) p xs ++ keepFrom (length xs + suc i) p ys → length xs + suc i ≡ suc (length xs) + i →
-        cond b (x ∷ keepFrom (suc i) p (xs ++ ys)) (keepFrom (suc i) p (xs ++ ys))
-        ≡ cond b (x ∷ keepFrom (suc i) p xs) (keepFrom (suc i) p xs) ++ keepFrom (suc (length xs) + i) p ys
-    go true h e = rw (h, e)
-    go false h e = rw (h, e)
+    Entry : ℕ → Type 0
+    Entry y = (k : ℕ) × (k < suc (length xs)) × (y ≡ getD (x ∷ xs) k 0)
 
--- the chosen ones of the first i entries, and then of one more
-pub chosen-more :
-    (marks xs : List ℕ) (i : ℕ) → i < length xs →
-    chosen marks (take (suc i) xs) ≡ chosen marks (take i xs) ++ cond (inside marks i) (getD xs i 0 ∷ []) []
-unfolding chosen keepFrom
-chosen-more marks xs i h =
-    ap (keepFrom zero (inside marks)) (take-suc xs i 0 h)
-    ∙ kept-append zero (inside marks) (take i xs) (getD xs i 0 ∷ [])
-    ∙ ap (λ (j : ℕ). keepFrom zero (inside marks) (take i xs) ++ cond (inside marks j) (getD xs i 0 ∷ []) [])
-    (rw (length-take-le i xs (omega arith)) (add-zero i))
+    go : (b : Bool) (j : ℕ) → j < length (cond b (x ∷ keepFrom (suc i) p xs) (keepFrom (suc i) p xs))
+        → ((j : ℕ) → j < length (keepFrom (suc i) p xs) → (k : ℕ) × (k < length xs) × (getD (keepFrom (suc i) p xs) j 0 ≡ getD xs k 0))
+        → Entry (getD (cond b (x ∷ keepFrom (suc i) p xs) (keepFrom (suc i) p xs)) j 0)
+    go true zero h r = (zero, omega arith, refl)
+    go true (suc j) h r = let (k, l, e) = r j (omega arith) in (suc k, omega arith, e)
+    go false j h r = let (k, l, e) = r j h in (suc k, omega arith, e)
+
+-- where each index passes, all are kept
+kept-all : (i : ℕ) (p : ℕ → Bool) (xs : List ℕ) → ((k : ℕ) → k < length xs → T (p (k + i))) → keepFrom i p xs ≡ xs
+unfolding keepFrom
+kept-all i p [] t = refl
+kept-all i p (x ∷ xs) t =
+    rw (T-true {b = p i} (subst (λ n. T (p n)) (omega arith) (t zero (omega arith))))
+    (ap (λ (ys : List ℕ). x ∷ ys) (kept-all (suc i) p xs (λ k h. subst (λ n. T (p n)) (omega arith) (t (suc k) (omega arith)))))
+
+module _ (marks : List ℕ) where
+  pub length-picked : (xs : List ℕ) → length (picked marks xs) ≤ length xs
+  unfolding picked
+  length-picked xs = kept-short zero (inside marks) xs
+
+  pub picked-parallel : (xs ys : List ℕ) → length xs ≡ length ys → length (picked marks xs) ≡ length (picked marks ys)
+  unfolding picked
+  picked-parallel xs ys e = kept-parallel zero (inside marks) xs ys e
+
+  pub picked-below : (n : ℕ) (xs : List ℕ) → Below n xs → Below n (picked marks xs)
+  unfolding picked Below
+  picked-below n xs b j h = let (k, l, e) = kept-at zero (inside marks) xs j h in rw e (b k l)
+
+  -- with a byte of 1 for each entry all are picked
+  pub picked-all : (xs : List ℕ) → ((i : ℕ) → i < length xs → T (inside marks i)) → picked marks xs ≡ xs
+  unfolding picked
+  picked-all xs t = kept-all zero (inside marks) xs (λ k h. rw add-zero (t k h))
+
+-- So with a byte of 1 for each link the chosen circuit is the circuit.
+pub chosen-all :
+    (c : Circuit) (marks : List ℕ) → length (c .starts) ≡ length (c .ends) → ((i : ℕ) → i < length (c .starts) → T (inside marks i)) → chosen c marks ≡ c
+unfolding chosen
+chosen-all c marks parallel t = rw (picked-all marks (c .starts) t, picked-all marks (c .ends) (λ i h. t i (omega arith)))

@@ -1,4 +1,4 @@
--- The links that match: what the test means, which links the kept lists hold, and that they are the links of the match graph. Assumes nothing.
+-- The links that match: what the test means, and that the kept lists hold the links of the match graph. Assumes nothing.
 use mathlib.Core.Bool.{Bool, _&&_}
 use mathlib.Core.List.{List}
 use mathlib.Core.Logic.{_↔_}

@@ -31,7 +31,7 @@ pub struct InBall {
 
 // Finds the place from the ball's pairs of equal kinds. The search clears `dist` whole, and the first table and the rounds both tables of sets; all
 // other work is in the ball.
-pub fn find_in_ball(
+fn find_in_ball(
     part_kinds: &[u16],
     node_kinds: &[u16],
     masks: &[u32],

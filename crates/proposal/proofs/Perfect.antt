@@ -11,11 +11,12 @@ use lib.Dec.{T, leb}
 use lib.ListN.{length, getD}
 use Rattle.base_lists.proofs.Tests.{both, both-left, both-right, either-left, either-right, decide, T-true, true-T, allBelow-at, at-allBelow, all-at, at-all}
 use Rattle.base_lists.specs.List.{allBelow}
+use Rattle.graph.specs.Chosen.{picked, chosen, ChosenLink}
 use Rattle.graph.specs.Circuit.{Circuit, LinkAt, HasLink, graphOf, circuitGraph}
 use Rattle.graph.specs.Graph.{Graph, Subgraph, Contains, Connected, Walk, stay, step, InBall, Ball}
 use Rattle.graph.specs.Search.{inside}
 use Rattle.graph.proofs.Ball.{inside-below, component-iff}
-use Rattle.graph.proofs.Chosen.{chosen-iff, chosen-within, chosen-parallel}
+use Rattle.graph.proofs.Chosen.{chosen-iff, chosen-has, picked-parallel}
 use Rattle.graph.proofs.Distance.{inBall-iff}
 use Rattle.simulation.specs.Perfect.{PerfectIn, SameGraph}
 use Rattle.simulation.proofs.Same.{same-refl, perfect-same, perfect-within}
@@ -26,7 +27,7 @@ use Rattle.place.proofs.Ball.{Admissible}
 use Rattle.place.proofs.Links.{link-matches}
 use Rattle.place.proofs.Marks.{link-marked}
 use Rattle.place.proofs.Place.{placeGraph, place-found, place-none}
-use Rattle.proposal.specs.Check.{bits, endsMarked, marksSubgraph, inRow, withLinks, fills, checks}
+use Rattle.proposal.specs.Check.{bits, endsMarked, marksSubgraph, inRow, fills, checks}
 use Rattle.proposal.specs.Meaning.{PerfectMarks}
 
 -- ---- tests
@@ -63,27 +64,31 @@ at-row row nodes f = at-allBelow (length nodes) (λ v. not (inside nodes v) || i
 
 module _ {pattern board : Circuit} (a : Admissible pattern board) (links : List ℕ) where
   -- it is a board as good as the first
-  pub with-admissible : Admissible pattern (withLinks board links)
-  unfolding withLinks
+  pub with-admissible : Admissible pattern (chosen board links)
+  unfolding chosen
   with-admissible =
       record {
         most = a .most;
         parallel = a .parallel;
         connected = a .connected;
-        links = chosen-within (length (board .kinds)) links (board .starts) (board .ends) (a .links);
+        links =
+            record {
+              starts = λ v w l. a .links .starts v w (chosen-has board links v w (chosen-iff board links v w .0 l));
+              ends = λ v w l. a .links .ends v w (chosen-has board links v w (chosen-iff board links v w .0 l));
+            };
       }
 
 -- which has as many starts as ends
-pub with-parallel : (board : Circuit) (links : List ℕ) → length (board .starts) ≡ length (board .ends) → length (withLinks board links .starts) ≡ length (withLinks board links .ends)
-unfolding withLinks
-with-parallel board links e = chosen-parallel links (board .starts) (board .ends) e
+pub with-parallel : (board : Circuit) (links : List ℕ) → length (board .starts) ≡ length (board .ends) → length (chosen board links .starts) ≡ length (chosen board links .ends)
+unfolding chosen
+with-parallel board links e = picked-parallel links (board .starts) (board .ends) e
 
 -- its links are those of the subgraph that is marked
 pub with-link :
     (board : Circuit) (nodes links : List ℕ) (v v′ : ℕ) →
-    markedGraph board nodes links .Link v v′ ↔ HasLink (withLinks board links .starts) (withLinks board links .ends) v v′
-unfolding withLinks markedGraph
-with-link board nodes links v v′ = Iff·symm (chosen-iff links (board .starts) (board .ends) v v′)
+    markedGraph board nodes links .Link v v′ ↔ HasLink (chosen board links .starts) (chosen board links .ends) v v′
+unfolding markedGraph ChosenLink
+with-link board nodes links v v′ = Iff·symm (chosen-iff board links v v′)
 
 module _ {pattern board : Circuit} (a : Admissible pattern board) (w r : ℕ) (nodes links : List ℕ) where
   -- the marked subgraph, and the board with its links
@@ -91,14 +96,14 @@ module _ {pattern board : Circuit} (a : Admissible pattern board) (w r : ℕ) (n
   G = markedGraph board nodes links
 
   abbrev H : Circuit
-  H = withLinks board links
+  H = chosen board links
 
   abbrev n : ℕ
   n = length (H .kinds)
 
   -- the two boards have the same nodes, of the same kinds
   kinds-same : (u v : ℕ) → KindsMatch pattern H u v ↔ KindsMatch pattern board u v
-  unfolding KindsMatch withLinks
+  unfolding KindsMatch chosen
   kinds-same u v = Iff·rfl
 
   -- ---- from a yes
@@ -166,7 +171,7 @@ module _ {pattern board : Circuit} (a : Admissible pattern board) (w r : ℕ) (n
   module _ (p : PerfectIn (circuitGraph pattern) (KindsMatch pattern board) (Ball (circuitGraph board) w r) w G) where
     -- what is marked is joined to the centre by marked links
     in-ball : (v : ℕ) → G .Node v → InBall (circuitGraph H) w n v
-    unfolding Connected Ball InBall circuitGraph graphOf withLinks
+    unfolding Connected Ball InBall circuitGraph graphOf chosen
     in-ball v t =
         let links′ = with-admissible a links .links in
         let (k, q) = p .connected w v (p .centre) t in

@@ -7,7 +7,7 @@ use lib.Dec.{leb}
 use lib.ListN.{length, getD}
 use Rattle.base_lists.specs.List.{all, allBelow}
 use Rattle.graph.specs.Chosen.{chosen}
-use Rattle.graph.specs.Circuit.{Circuit, circuit}
+use Rattle.graph.specs.Circuit.{Circuit}
 use Rattle.graph.specs.Search.{inside}
 use Rattle.place.specs.Match.{ballOf, found, placeNodes, placeLinks}
 
@@ -29,10 +29,6 @@ marksSubgraph board w nodes links =
 unfoldable pub inRow : List ℕ → List ℕ → Bool
 inRow row nodes = allBelow (length nodes) (λ v. not (inside nodes v) || inside row v)
 
--- the board with its marked links alone
-unfoldable pub withLinks : Circuit → List ℕ → Circuit
-withLinks board links = circuit (board .kinds) (chosen links (board .starts)) (chosen links (board .ends))
-
 -- The place around w in a board, at a radius that leaves out nothing that links join to w, has all the marked nodes and all links.
 unfoldable pub fills : Circuit → Circuit → ℕ → List ℕ → Bool
 fills pattern board w nodes =
@@ -42,4 +38,4 @@ fills pattern board w nodes =
 -- "say yes exactly when these are a perfect subgraph around the centre at the pattern's radius, largest or not": w is the centre, r the radius
 unfoldable pub checks : Circuit → Circuit → ℕ → ℕ → List ℕ → List ℕ → Bool
 checks pattern board w r nodes links =
-    marksSubgraph board w nodes links && (inRow (ballOf board w r) nodes && fills pattern (withLinks board links) w nodes)
+    marksSubgraph board w nodes links && (inRow (ballOf board w r) nodes && fills pattern (chosen board links) w nodes)

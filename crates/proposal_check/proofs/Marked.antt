@@ -4,15 +4,16 @@ use mathlib.Core.List.{List}
 use mathlib.Core.Path.{_≡_, sym, ap, ap₂, _∙_}
 use Prim.Native.Nat.{ℕ, _≤_}
 use native.Mathlib.Omega.{arith}
-use borrow.Author.Tests.{eq-eqb, ne-eqb}
+use borrow.Author.Tests.{lt-ltb, eq-eqb, ne-eqb}
 use lib.Dec.{T, ltb}
 use lib.ListN.{length, getD}
-use Rattle.base_lists.specs.List.{allBelow, all}
-use Rattle.graph.specs.Chosen.{chosen}
+use Rattle.base_lists.specs.List.{allBelow, all, Below}
+use Rattle.base_lists.proofs.Tests.{true-T, at-all}
+use Rattle.graph.specs.Chosen.{picked, chosen}
 use Rattle.graph.specs.Circuit.{Circuit, circuit}
 use Rattle.graph.specs.Net.{NetOf}
 use Rattle.graph.specs.Search.{ball, inside}
-use Rattle.graph.proofs.Chosen.{chosen-le, chosen-parallel, chosen-all}
+use Rattle.graph.proofs.Chosen.{length-picked, picked-parallel, picked-below}
 use Rattle.graph.proofs.Groups.{all-below}
 use Rattle.file_format.specs.Circuit.{Drawn}
 use Rattle.file_format.proofs.Accepted.{bounded-starts, bounded-ends}
@@ -21,7 +22,7 @@ use Rattle.table.proofs.Prepare.{prepared}
 use Rattle.place.specs.Bytes.{nodeBytes, linkBytes}
 use Rattle.place.specs.Find.{Tabled, Located}
 use Rattle.place.specs.Match.{ballOf, found, placeNodes, placeLinks}
-use Rattle.proposal.specs.Check.{bits, endsMarked, marksSubgraph, inRow, withLinks, fills, checks}
+use Rattle.proposal.specs.Check.{bits, endsMarked, marksSubgraph, inRow, fills, checks}
 
 -- ---- the bytes mark a subgraph with the centre
 
@@ -77,30 +78,34 @@ module _ (pattern board : Circuit) (w r : ℕ) (nodes links : List ℕ) where
     near-not e = rw (m, ← size, e)
 
     pub fills-left : inRow (ball n (board .starts) (board .ends) w r) nodes ≡ true →
-        {starts ends : List ℕ} → starts ≡ chosen links (board .starts) → ends ≡ chosen links (board .ends) →
+        {starts ends : List ℕ} → starts ≡ picked links (board .starts) → ends ≡ picked links (board .ends) →
         fills pattern (circuit (board .kinds) starts ends) w nodes ≡ checks pattern board w r nodes links
-    unfolding checks ballOf withLinks
+    unfolding checks ballOf chosen
     fills-left e s t =
         ap₂ (λ (ss es : List ℕ). fills pattern (circuit (board .kinds) ss es) w nodes) s t
         ∙ rw (m, ap (λ (k : ℕ). inRow (ball k (board .starts) (board .ends) w r) nodes) (sym size) ∙ e)
 
 -- ---- the links that are left
 
+below-all : (n : ℕ) (xs : List ℕ) → Below n xs → T (all (λ v. ltb v n) xs)
+unfolding Below
+below-all n xs b = at-all (λ v. ltb v n) xs (λ i h. true-T (lt-ltb _ _ (b i h)))
+
 module _ {pattern board : Circuit} (d : Drawn pattern board) (links : List ℕ) {starts ends : List ℕ}
-    (s : starts ≡ chosen links (board .starts)) (e : ends ≡ chosen links (board .ends))
+    (s : starts ≡ picked links (board .starts)) (e : ends ≡ picked links (board .ends))
   where
     pub left-parallel : length starts ≡ length ends
-    left-parallel = ap length s ∙ chosen-parallel links (board .starts) (board .ends) (d .nodes .parallel) ∙ sym (ap length e)
+    left-parallel = ap length s ∙ picked-parallel links (board .starts) (board .ends) (d .nodes .parallel) ∙ sym (ap length e)
 
     pub left-sizes : (length (board .kinds) ≤ 512) × (length starts ≡ length ends) × (length starts ≤ 4096)
     left-sizes =
         let most : length (board .starts) ≤ 4096 = d .nodes .links in
-        (d .nodes .nodes, left-parallel, omega (arith, ap length s, chosen-le links (board .starts)))
+        (d .nodes .nodes, left-parallel, omega (arith, ap length s, length-picked links (board .starts)))
 
     pub left-nodes : T (all (λ v. ltb v (length (board .kinds))) starts) × T (all (λ v. ltb v (length (board .kinds))) ends)
     left-nodes = (
-      rw s (chosen-all (λ v. ltb v (length (board .kinds))) links (board .starts) (bounded-starts (d .nodes))),
-      rw e (chosen-all (λ v. ltb v (length (board .kinds))) links (board .ends) (bounded-ends (d .nodes))),
+      rw s (below-all _ _ (picked-below links _ (board .starts) (all-below _ _ (bounded-starts (d .nodes))))),
+      rw e (below-all _ _ (picked-below links _ (board .ends) (all-below _ _ (bounded-ends (d .nodes))))),
     )
 
     -- they are tabled as a board of their own

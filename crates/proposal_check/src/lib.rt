@@ -9,7 +9,8 @@ use graph_neighbours::tables::OFFSETS;
 use graph_neighbours::tables::neighbour_tables;
 use graph_search::search;
 use place::Around;
-use place_circuits::find_in_ball;
+use place_around::find;
+use table::first::start;
 use table_prepare::lookups::prepare;
 ghost use mathlib.Core.Path.{_≡_};
 ghost use Prim.Native.Nat.{_≤_, _<_};
@@ -22,7 +23,8 @@ ghost use Rattle.graph.specs.Net.{NetRoom};
 ghost use Rattle.graph.specs.Search.{ball};
 ghost use Rattle.table.specs.Prepared.{tables};
 ghost use Rattle.proposal.specs.Check.{inRow, checks};
-ghost use Rattle.proposal_check.specs.Tabled.{SomePattern, EveryFills};
+ghost use Rattle.place_circuits.specs.Ball.{SomeTabled};
+ghost use Rattle.proposal_check.specs.Tabled.{SomePattern, EveryFills, EveryJoined};
 
 pub mod chosen;
 pub mod marks;
@@ -57,8 +59,45 @@ fn near(
     in_row(&dist[..n], nodes)
 }
 
-// Whether the place around the centre in a board has all the marked nodes and all links: every node that links join to the centre is in
-// reach of the search.
+// Whether there is a place around c among all that links join to c: no walk needs more links than there are nodes. Where there is one, `dist` is
+// left with `UNREACHED` outside it, and `sets` with the table of those nodes.
+fn find_joined(
+    part_kinds: &[u16],
+    node_kinds: &[u16],
+    masks: &[u32],
+    offsets: &[u16],
+    links: &[u16],
+    c: u16,
+    dist: &mut [u16],
+    queue: &mut [u16],
+    sets: &mut [u32],
+    spare: &mut [u32],
+) -> bool
+    requires { ⌜ SomeTabled (now «part_kinds») (now «node_kinds») (tables (now masks) (now offsets) (now links)) ⌝ }
+    requires { ⌜ (length (now «node_kinds») ≤ 512) × (c < length (now «node_kinds»)) ⌝ }
+    requires { ⌜ (length (now dist) ≡ length (now «node_kinds»)) × (length (now queue) ≡ length (now «node_kinds»)) ⌝ }
+    requires { ⌜ (length (now sets) ≡ length (now «node_kinds»)) × (length (now spare) ≡ length (now «node_kinds»)) ⌝ }
+    ensures { λ a. ⌜ EveryJoined (now («part_kinds» .entry)) (now («node_kinds» .entry)) (tables (now (masks .entry)) (now (offsets .entry)) (now (links .entry))) c (now (dist .exit)) (now (sets .exit)) a ⌝ }
+{
+    let n = node_kinds.len();
+    let k = search(offsets, links, c, n as u16, dist, queue);
+    let started = start(&queue[..k], part_kinds, node_kinds, sets);
+    let place = find(
+        masks,
+        offsets,
+        links,
+        c,
+        k,
+        started,
+        dist,
+        queue,
+        sets,
+        spare,
+    );
+    place.found
+}
+
+// Whether the place around the centre in a board has all the marked nodes and all links.
 fn fills(
     part_kinds: &[u16],
     node_kinds: &[u16],
@@ -80,22 +119,19 @@ fn fills(
     let mut queue = [0u16; Board::MAX_NODES];
     let mut sets = [0u32; Board::MAX_NODES];
     let mut spare = [0u32; Board::MAX_NODES];
-    let place = find_in_ball(
+    let found = find_joined(
         part_kinds,
         node_kinds,
         masks,
         offsets,
         links,
-        Around {
-            centre: c,
-            radius: n as u16,
-        },
+        c,
         &mut dist[..n],
         &mut queue[..n],
         &mut sets[..n],
         &mut spare[..n],
     );
-    if !place.found {
+    if !found {
         return false;
     }
     if !in_row(&dist[..n], nodes) {
