@@ -8,3 +8,4 @@ pub mod Proposals
 pub mod Report
 pub mod Examples
 pub mod Files
+pub mod Distances

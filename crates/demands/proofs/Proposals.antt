@@ -65,9 +65,9 @@ module _ (pattern board : List ℕ) (w : ℕ) (lent : Lent) (x : Ready pattern b
       let B = circuitOf board in
       let n = placeNodes P B w r in
       let l = placeLinks P B w r in
-      let f = found-verdict P B w r (sym (verdict-is pattern board w r (lent .nodes) (lent .links) (lent .table) (ready-sound x)) ∙ ok) in
+      let f = found-verdict P B w r (sym (verdict-is pattern board w r (lent .nodes) (lent .links) (lent .table) (lent .distances) (ready-sound x)) ∙ ok) in
       let s = inputs-accept pattern board w n l (x .drawn) (x .given) (x .centre) (nodes-marks P B w r .size ∙ length-kinds board) (links-marks P B w r .size ∙ length-starts board) in
-      rw (nodes-front pattern board w r (lent .nodes) (lent .links) (lent .table) (ready-sound x) ok, links-front pattern board w r (lent .nodes) (lent .links) (lent .table) (ready-sound x) ok)
+      rw (nodes-front pattern board w r (lent .nodes) (lent .links) (lent .table) (lent .distances) (ready-sound x) ok, links-front pattern board w r (lent .nodes) (lent .links) (lent .table) (lent .distances) (ready-sound x) ok)
       (yes-test pattern board w n l s .1 (place-checks (accepted-admissible (x .drawn) (x .given)) (accepted-bounded (x .given) .parallel) w r f))
 
   -- what a yes says of them

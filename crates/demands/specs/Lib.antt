@@ -3,3 +3,4 @@ pub mod Groupings
 pub mod Proposals
 pub mod Examples
 pub mod Files
+pub mod Distances

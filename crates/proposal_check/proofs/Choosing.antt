@@ -48,8 +48,8 @@ pub record ChosenTo (marks xs : List ℕ) (i k : ℕ) (l : List ℕ) : Type 0 wh
   pub front : take k l ≡ picked marks (take i xs)
   pub rest : (j : ℕ) → i ≤ j → getD l j 0 ≡ getD xs j 0
 
-none-chosen : (marks : List ℕ) → [] ≡ picked marks []
-unfolding chosen keepFrom
+none-picked : (marks : List ℕ) → [] ≡ picked marks []
+unfolding picked keepFrom
 none-picked marks = refl
 
 pub chosen-none : (marks xs : List ℕ) → ChosenTo marks xs 0 0 xs

@@ -1,9 +1,8 @@
 -- `proposal_check::find_joined` meets its contract: the nodes that the search lists are all that links join to the centre, and the pairs of
 -- equal kinds among them are a first table. Assumes nothing.
 use mathlib.Core.List.{List}
-use mathlib.Core.Path.{_≡_, sym, ap, _∙_}
+use mathlib.Core.Path.{_≡_, sym, _∙_}
 use Prim.Native.Nat.{ℕ, _≤_}
-use native.Mathlib.Omega.{arith}
 use borrow.Author.Needs.{needs}
 use denote.Ref.{now}
 use lib.ListN.{length, take}
@@ -11,8 +10,7 @@ use lib.Seq.{length-take-le}
 use Rattle.graph.specs.Bfs.{bfs, adjacent, Found}
 use Rattle.graph.specs.Circuit.{circuit}
 use Rattle.table.specs.Prepared.{tables, Tables}
-use Rattle.table.specs.Refine.{countsOf}
-use Rattle.table.proofs.Begun.{started-begins, kept-first, refined}
+use Rattle.table.proofs.Begun.{started-begins}
 use Rattle.place.specs.Find.{Tabled, Sought}
 use Rattle.place.proofs.Find.{tabled-net, ball-short, ball-list, ball-sought}
 use Rattle.proposal_check.proofs.find_joined.Statement.{statement}
@@ -20,6 +18,9 @@ use Rattle.proposal_check.proofs.find_joined.Tie as tie
 
 abbrev tablesOf : tie.Start → Tables
 tablesOf s = tables (now (s .args .masks)) (now (s .args .offsets)) (now (s .args .links))
+
+cast-search : tie.Need-cast-search
+cast-search c = search needs
 
 search-requires : tie.Need-search-requires
 search-requires c κs =
@@ -92,16 +93,17 @@ same-length-4 c = search needs
 
 returns : tie.Need-returns
 returns c =
-    let s = c .before .before .before .before .before .before .before .before .before .before .before .before .before .before .before .before .before .before .before .before .before .before .before .before .before .before .before .before .before .before .before .before .before .before .before in
+    let s = c .before .before .before .before .before .before .before .before .before .before .before .before .before .before .before .before .before .before .before .before .before .before .before .before .before .before .before .before .before .before .before .before .before .before in
     λ ps pe ns ne d.
-    let g = seek (c .before .before .before .before .before .before .before .before .before .before .before .before .before .before .before .before) ps pe ns ne (length (now (s .args .node-kinds))) (c .before .before .before .before .before .before .before .before .before .before .before .before .before .before .before .before .before .before .before .before .before .before .before .search .ensures) d in
-    let f = c .before .before .before .before .before .before .before .before .before .find .ensures _ _ _ g in
+    let g = seek (c .before .before .before .before .before .before .before .before .before .before .before .before .before .before .before) ps pe ns ne (length (now (s .args .node-kinds))) (c .before .before .before .before .before .before .before .before .before .before .before .before .before .before .before .before .before .before .before .before .before .before .search .ensures) d in
+    let f = c .before .before .before .before .before .before .before .before .find .ensures _ _ _ g in
     record { answer = f .answer; there = λ e. (_, f .there e) }
 
 pub find-joined-spec : {M : Type 1} → statement M
 find-joined-spec =
     tie.close
     (tie.spec
+    cast-search
     search-requires
     slice-reshare-prefix-start
     slice-aggregate-start
