@@ -3,7 +3,7 @@
 
 use second::calls::check;
 use second::check::{marked, perfect};
-use second::circuit::Circuit;
+use second::circuit::{parse, Circuit, Role};
 use second::compare::boards::{board, pattern, Size};
 use second::compare::proposals::{proposals, Proposal};
 use second::graph::{ball, connected, radius, Subgraph};
@@ -129,12 +129,22 @@ fn accepts(wrong: Wrong, pattern: &Circuit, board: &Circuit, w: usize, graph: &S
     joins && counts.kept > 0 && occur && (match_all || wrong == Wrong::LinkUnmatched)
 }
 
+/// A random pattern that is accepted: in one piece, and not too wide.
+fn accepted(random: &mut Random, size: Size) -> Circuit {
+    loop {
+        let drawn = pattern(random, size);
+        if parse(Role::Pattern, &drawn.bytes()).is_ok() {
+            return drawn;
+        }
+    }
+}
+
 /// A random pattern and board with proposals around a centre, now and then
 /// outside.
 fn case(number: u64) -> (Circuit, Circuit, Vec<Proposal>) {
     let mut random = Random::of_case(9, number);
     let size = random.pick(&[Size::Tiny, Size::Tiny, Size::Small]);
-    let pattern = pattern(&mut random, size);
+    let pattern = accepted(&mut random, size);
     let board = board(&mut random, size, &pattern);
     let centre = random.below(board.kinds.len() + 1);
     let mut all = proposals(&mut random, &pattern, &board, centre);

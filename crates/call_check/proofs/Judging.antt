@@ -8,6 +8,7 @@ use lib.ListN.{length}
 use Rattle.graph.specs.Circuit.{Circuit}
 use Rattle.graph.specs.Search.{radius}
 use Rattle.file_format.specs.declared.File.the-variants.{Neither}
+use Rattle.file_format.specs.declared.Role.the-variants.{Pattern}
 use Rattle.file_format.specs.declared.Refusal.{Refusal}
 use Rattle.file_format.specs.Circuit.{circuitOf}
 use Rattle.file_format.specs.Layout.{startsOf, endsOf}
@@ -18,6 +19,7 @@ use Rattle.file_format.proofs.Fields.{length-kinds, length-starts}
 use Rattle.file_format.proofs.Refusals.{first-accept, first-refuse}
 use Rattle.file_pair.specs.declared.Pair.{Pair}
 use Rattle.file_pair.specs.Pair.{pairConditions, BothRead}
+use Rattle.file_pair.proofs.Both.{pair-radius}
 use Rattle.place.specs.Match.{radiusOf}
 use Rattle.proposal.specs.Check.{checks}
 use Rattle.call_check.specs.declared.CheckAnswer.{CheckAnswer}
@@ -53,18 +55,18 @@ module _ (r : ℕ) (p b : Circuit) (w : ℕ) (nodes links : List ℕ) where
 -- ---- two files
 
 module _ (pattern board : List ℕ) (w : ℕ) (nodes links : List ℕ) where
-  pub check-refused : {x : Refusal} → first (pairConditions pattern board) ≡ refuse x → checkReply (Refused x) ≡ checkCall pattern board w nodes links
+  pub check-refused : {x : Refusal} → first (pairConditions Pattern pattern board) ≡ refuse x → checkReply (Refused x) ≡ checkCall pattern board w nodes links
   unfolding checkReply checkCall checkConditions reply
   check-refused e = rw (first-refuse _ _ _ e)
 
-  check-accepted : first (pairConditions pattern board) ≡ accept →
+  check-accepted : first (pairConditions Pattern pattern board) ≡ accept →
       checkOn (radiusOf (circuitOf pattern)) (circuitOf pattern) (circuitOf board) w nodes links ≡ checkCall pattern board w nodes links
   unfolding checkOn checkCall checkConditions
   check-accepted e = rw (first-accept _ _ e, length-kinds board, length-starts board)
 
-  pub check-read : {p : Pair} {parts host : Circuit} → BothRead pattern board p parts host → {o : Reply} →
+  pub check-read : {p : Pair} {parts host : Circuit} → BothRead Pattern pattern board p parts host → {o : Reply} →
       o ≡ checkOn (p .radius) (front (p .parts) (p .joins) parts) (front (p .nodes) (p .links) host) w nodes links → o ≡ checkCall pattern board w nodes links
   unfolding radiusOf
   check-read read e =
-      let own = read .measured ∙ sym (ap (λ (n : ℕ). radius n (startsOf pattern) (endsOf pattern)) (length-kinds pattern)) in
+      let own = pair-radius read ∙ sym (ap (λ (n : ℕ). radius n (startsOf pattern) (endsOf pattern)) (length-kinds pattern)) in
       (rw (own, read .drawn .content, read .given .content) at e) ∙ check-accepted (read .verdict)

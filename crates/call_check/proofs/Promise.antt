@@ -64,7 +64,7 @@ module _ (pattern board : List ℕ) (w : ℕ) (nodes links : List ℕ) where
       Accepted Pattern pattern → Accepted Board board → w < nodesOf board → length nodes ≡ nodesOf board → length links ≡ linksOf board → first inputs ≡ accept
   unfolding checkConditions first centreOutside otherLength
   inputs-accept a b h n m =
-      rw (first-accept _ _ (pair-accept pattern board a b))
+      rw (first-accept _ _ (pair-accept Pattern pattern board a b))
       (simp (lt-ltb _ _ h, eq-eqb _ _ n, eq-eqb _ _ m))
 
   -- and only there.
@@ -73,8 +73,8 @@ module _ (pattern board : List ℕ) (w : ℕ) (nodes links : List ℕ) where
     pub parts : Accepted Pattern pattern × Accepted Board board × (w < nodesOf board) × (length nodes ≡ nodesOf board) × (length links ≡ linksOf board)
     unfolding checkConditions centreOutside otherLength
     parts =
-        let (files, rest) = first-parts (pairConditions pattern board) _ sound in
-        let (drawn, given) = pair-parts pattern board files in
+        let (files, rest) = first-parts (pairConditions Pattern pattern board) _ sound in
+        let (drawn, given) = pair-parts Pattern pattern board files in
         let (c, bytes) = first-holds _ _ rest in
         let (n, last) = first-holds _ _ bytes in (
           accepted Pattern pattern drawn,

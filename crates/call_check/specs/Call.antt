@@ -4,6 +4,7 @@ use mathlib.Core.List.{List, [], _∷_, _++_}
 use Prim.Native.Nat.{ℕ}
 use lib.ListN.{length}
 use Rattle.graph.specs.Circuit.{Circuit}
+use Rattle.file_format.specs.declared.Role.the-variants.{Pattern}
 use Rattle.file_format.specs.Circuit.{circuitOf}
 use Rattle.file_format.specs.Layout.{nodesOf, linksOf}
 use Rattle.file_format.specs.Refusals.{Condition, accept, refuse, first, centreOutside, otherLength}
@@ -34,7 +35,7 @@ bytesConditions n m w nodes links = centreOutside n w ∷ otherLength n nodes �
 
 -- the conditions on both files, then those
 unfoldable pub checkConditions : List ℕ → List ℕ → ℕ → ℕ → ℕ → List Condition
-checkConditions pattern board w nodes links = pairConditions pattern board ++ bytesConditions (nodesOf board) (linksOf board) w nodes links
+checkConditions pattern board w nodes links = pairConditions Pattern pattern board ++ bytesConditions (nodesOf board) (linksOf board) w nodes links
 
 -- the call, at the pattern's radius
 unfoldable pub checkCall : List ℕ → List ℕ → ℕ → List ℕ → List ℕ → Reply

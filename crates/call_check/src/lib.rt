@@ -4,6 +4,7 @@ use file_format::File;
 use file_format::FileVerdict;
 use file_format::Pattern;
 use file_format::Refusal;
+use file_format::Role;
 use file_pair::read_pair;
 use place::Around;
 use proposal_check::check_circuits;
@@ -101,6 +102,7 @@ pub fn check(pattern: &[u8], board: &[u8], centre: usize, nodes: &[u8], links: &
     let mut ns = [0u16; Board::MAX_LINKS];
     let mut ne = [0u16; Board::MAX_LINKS];
     let read = read_pair(
+        Role::Pattern,
         pattern,
         board,
         &mut pk,
