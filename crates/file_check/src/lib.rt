@@ -3,16 +3,19 @@ ghost use mathlib.Core.Path.{_≡_};
 ghost use lib.Dec.{T, ltb};
 ghost use lib.ListN.{length};
 ghost use Rattle.base_lists.specs.List.{all};
+ghost use Rattle.file_format.specs.Layout.{inEdition};
 ghost use Rattle.file_format.specs.Links.{earlier, rising};
 ghost use Rattle.file_format.specs.Reading.{LinksTested};
 ghost use Rattle.file_format.specs.Refusals.{sizeNumber, orderNumber};
 ghost use Rattle.file_format.specs.Role.{inRange, fileOf};
 use file_fields::field_at;
 use file_format::Board;
+use file_format::Edition;
 use file_format::File;
 use file_format::Pattern;
 use file_format::Refusal;
 use file_format::Role;
+use file_format::package_count;
 
 // The refusal of a file in a role.
 pub fn refusal(role: Role, number: u8) -> Refusal
@@ -41,8 +44,8 @@ pub fn in_range(role: Role, nodes: usize, links: usize) -> bool
 }
 
 // 1, 2 or 3, the first that the file's size gives, or 0.
-pub fn size_number(role: Role, file: &[u8]) -> u8
-    ensures { λ r. ⌜ r ≡ sizeNumber role (now (file .entry)) ⌝ }
+pub fn size_number(role: Role, edition: Edition, file: &[u8]) -> u8
+    ensures { λ r. ⌜ r ≡ sizeNumber role (inEdition edition (now (file .entry))) ⌝ }
 {
     if file.len() < 4 {
         return 1;
@@ -52,7 +55,8 @@ pub fn size_number(role: Role, file: &[u8]) -> u8
     if !in_range(role, n, m) {
         return 2;
     }
-    if file.len() != 4 + 2 * n + 4 * m {
+    let p = package_count(edition, n);
+    if file.len() != 4 + 2 * n + 2 * p + 4 * m {
         return 3;
     }
     0

@@ -8,7 +8,7 @@ use Rattle.file_format.specs.declared.FileVerdict.the-variants.{Accepted, Refus
 use Rattle.file_format.specs.declared.Refusal.{Refusal}
 use Rattle.file_format.specs.declared.Role.the-variants as role
 use Rattle.file_format.specs.Circuit.{Bounded, Drawn}
-use Rattle.file_format.specs.Layout.{startsOf, endsOf}
+use Rattle.file_format.specs.Layout.{CircuitFile, startsOf, endsOf}
 use Rattle.file_format.specs.Reading.{verdictOf, front, Loaded}
 use Rattle.file_format.specs.Refusals as File
 use Rattle.file_format.specs.Refusals.{accept, refuse, first, fileConditions, asksConnected}
@@ -20,7 +20,7 @@ use Rattle.file_pair.specs.Pair.{pairConditions, BothRead, PairRead}
 
 -- ---- as the reading goes
 
-module _ (pattern board : List ℕ) (parts nodes : Circuit) where
+module _ (pattern board : CircuitFile) (parts nodes : Circuit) where
   -- the pattern is refused
   pub pair-pattern : {drawn : FileRead} {read : Pair} {x : Refusal} → Loaded role.Pattern pattern drawn parts → drawn .verdict ≡ Refused x
       → read .verdict ≡ drawn .verdict → PairRead pattern board read parts nodes
@@ -51,7 +51,7 @@ module _ (pattern board : List ℕ) (parts nodes : Circuit) where
 
 -- ---- the conditions on both are those on each
 
-module _ (pattern board : List ℕ) where
+module _ (pattern board : CircuitFile) where
   pub pair-accept : File.Accepted role.Pattern pattern → File.Accepted role.Board board → first (pairConditions pattern board) ≡ accept
   unfolding pairConditions
   pair-accept a b = first-accept (fileConditions role.Pattern pattern) _ (accepted-verdict a) ∙ accepted-verdict b
@@ -63,7 +63,7 @@ module _ (pattern board : List ℕ) where
 
 -- ---- what a call knows of the two files
 
-module _ {pattern board : List ℕ} {read : Pair} {parts nodes : Circuit} (r : PairRead pattern board read parts nodes) where
+module _ {pattern board : CircuitFile} {read : Pair} {parts nodes : Circuit} (r : PairRead pattern board read parts nodes) where
   pub both-read : read .verdict ≡ Accepted → BothRead pattern board read parts nodes
   unfolding verdictOf
   both-read e = r .both (sym (r .verdict) ∙ ap verdictOf e)
@@ -73,7 +73,7 @@ module _ {pattern board : List ℕ} {read : Pair} {parts nodes : Circuit} (r : P
   unfolding verdictOf
   refused-pair e = sym (r .verdict) ∙ ap verdictOf e
 
-module _ {pattern board : List ℕ} {read : Pair} {parts nodes : Circuit} (both : BothRead pattern board read parts nodes) where
+module _ {pattern board : CircuitFile} {read : Pair} {parts nodes : Circuit} (both : BothRead pattern board read parts nodes) where
   pub both-accepted : (first (fileConditions role.Pattern pattern) ≡ accept) × (first (fileConditions role.Board board) ≡ accept)
   both-accepted = pair-parts pattern board (both .verdict)
 
