@@ -8,10 +8,10 @@ use Rattle.graph.specs.Circuit.{Circuit}
 use Rattle.file_format.specs.declared.File.the-variants.{Neither}
 use Rattle.file_format.specs.declared.Refusal.{Refusal}
 use Rattle.file_format.specs.Circuit.{circuitOf}
-use Rattle.file_format.specs.Layout.{nodesOf}
+use Rattle.file_format.specs.Layout.{CircuitFile, nodesOf}
 use Rattle.file_format.specs.Reading.{filled, front}
 use Rattle.file_format.specs.Refusals.{accept, refuse, first, shortTable}
-use Rattle.file_format.proofs.Fields.{length-kinds}
+use Rattle.file_format.proofs.Fields.{length-labels}
 use Rattle.file_format.proofs.Refusals.{first-accept, first-refuse}
 use Rattle.file_pair.specs.Pair.{pairConditions, BothRead}
 use Rattle.file_pair.specs.declared.Pair.{Pair}
@@ -25,9 +25,9 @@ use Rattle.table.specs.Row.{lastTable}
 use Rattle.table.proofs.Meaning.{last-fits}
 
 -- the table has an entry for each node
-pub length-last : (pattern board : List ℕ)
+pub length-last : (pattern board : CircuitFile)
     → length (lastTable (circuitOf pattern) (circuitOf board) (everything (circuitOf board))) ≡ nodesOf board
-length-last pattern board = last-fits (circuitOf pattern) (circuitOf board) (everything (circuitOf board)) .size ∙ length-kinds board
+length-last pattern board = last-fits (circuitOf pattern) (circuitOf board) (everything (circuitOf board)) .size ∙ length-labels board
 
 -- ---- two circuits
 
@@ -44,7 +44,7 @@ module _ (p b : Circuit) (table : List ℕ) where
 
 -- ---- two files
 
-module _ (pattern board table : List ℕ) where
+module _ (pattern board : CircuitFile) (table : List ℕ) where
   pub matching-refused : {x : Refusal} → first (pairConditions pattern board) ≡ refuse x
       → record { reply = replyOf (Refused x); table = table } ≡ matching pattern board table
   unfolding matching matchConditions replied replyOf filled
@@ -53,7 +53,7 @@ module _ (pattern board table : List ℕ) where
   matching-accepted : first (pairConditions pattern board) ≡ accept
       → matchOn (circuitOf pattern) (circuitOf board) table ≡ matching pattern board table
   unfolding matchOn matching matchConditions
-  matching-accepted e = rw (first-accept _ _ e, length-kinds board)
+  matching-accepted e = rw (first-accept _ _ e, length-labels board)
 
   pub matching-read : {p : Pair} {parts nodes : Circuit} → BothRead pattern board p parts nodes → {o : TableOutcome}
       → o ≡ matchOn (front (p .parts) (p .joins) parts) (front (p .nodes) (p .links) nodes) table → o ≡ matching pattern board table

@@ -18,7 +18,7 @@ use Rattle.simulation.proofs.Simulation.{largest-unique}
 use Rattle.file_format.specs.declared.Refusal.{Refusal}
 use Rattle.file_format.specs.declared.Role.the-variants.{Pattern, Board}
 use Rattle.file_format.specs.Circuit.{circuitOf}
-use Rattle.file_format.specs.Layout.{nodesOf}
+use Rattle.file_format.specs.Layout.{CircuitFile, nodesOf}
 use Rattle.file_format.specs.Reading.{filled}
 use Rattle.file_format.specs.Refusals.{Condition, Verdict, accept, refuse, first, fileConditions, Accepted, shortTable}
 use Rattle.file_format.proofs.Accepted.{accepted-bounded, accepted-within, accepted-connected}
@@ -59,7 +59,7 @@ in-front : (n : ℕ) (t : List ℕ) (u v : ℕ) → v < n → inTable (take n t)
 unfolding inTable
 in-front n t u v h = ap (λ (x : ℕ). bit x u) (getD-take n t v 0 h)
 
-module _ (pattern board table : List ℕ) where
+module _ (pattern board : CircuitFile) (table : List ℕ) where
   verdict-is : matching pattern board table .reply .verdict ≡ first (matchConditions pattern board (length table))
   unfolding matching
   verdict-is = replied-verdict _ _

@@ -4,7 +4,7 @@ use Prim.Native.Nat.{ℕ}
 use lib.ListN.{length}
 use Rattle.graph.specs.Circuit.{Circuit}
 use Rattle.file_format.specs.Circuit.{circuitOf}
-use Rattle.file_format.specs.Layout.{nodesOf}
+use Rattle.file_format.specs.Layout.{CircuitFile, nodesOf}
 use Rattle.file_format.specs.Reading.{filled}
 use Rattle.file_format.specs.Refusals.{Condition, Verdict, accept, refuse, first, shortTable}
 use Rattle.file_pair.specs.Pair.{pairConditions}
@@ -16,7 +16,7 @@ use Rattle.table.specs.Reply.{Reply, noCounts, replied}
 use Rattle.table.specs.Row.{lastTable}
 
 -- "Rising numbers are the order, the pattern's 1 to 6 before the board's. Needed: .. match table N"
-unfoldable pub matchConditions : List ℕ → List ℕ → ℕ → List Condition
+unfoldable pub matchConditions : CircuitFile → CircuitFile → ℕ → List Condition
 matchConditions pattern board lent = pairConditions pattern board ++ (shortTable (nodesOf board) lent ∷ [])
 
 -- each case of the answer, so read: a refusal has no counts
@@ -40,5 +40,5 @@ unfoldable pub matchOn : Circuit → Circuit → List ℕ → TableOutcome
 matchOn p b table = matchedBy (first (shortTable (length (b .kinds)) (length table) ∷ [])) p b table
 
 -- the call on two files
-unfoldable pub matching : List ℕ → List ℕ → List ℕ → TableOutcome
+unfoldable pub matching : CircuitFile → CircuitFile → List ℕ → TableOutcome
 matching pattern board table = matchedBy (first (matchConditions pattern board (length table))) (circuitOf pattern) (circuitOf board) table

@@ -10,11 +10,11 @@ use Rattle.file_format.specs.declared.File.the-variants.{Neither}
 use Rattle.file_format.specs.declared.Refusal.{Refusal}
 use Rattle.file_format.specs.declared.Role.the-variants.{Pattern}
 use Rattle.file_format.specs.Circuit.{circuitOf}
-use Rattle.file_format.specs.Layout.{nodesOf, lengthOf}
+use Rattle.file_format.specs.Layout.{CircuitFile, nodesOf, lengthOf}
 use Rattle.file_format.specs.Reading.{filled, front, Stands}
 use Rattle.file_format.specs.Refusals.{accept, refuse, first, fileConditions, shortTable, Accepted}
 use Rattle.file_format.specs.Reply.{reply}
-use Rattle.file_format.proofs.Fields.{length-kinds, length-starts}
+use Rattle.file_format.proofs.Fields.{length-labels, length-starts}
 use Rattle.file_format.proofs.Refusals.{accepted, first-accept, first-refuse}
 use Rattle.file_format.proofs.Reading.{stands-size}
 use Rattle.file_write.specs.Writing.{circuitConditions}
@@ -28,7 +28,7 @@ use Rattle.call_merge.proofs.Quotient.{content-sound}
 
 -- ---- the pattern that was read
 
-module _ {file : List ℕ} {n m : ℕ} {t : Circuit} (sound : first (fileConditions Pattern file) ≡ accept) (s : Stands file n m t) where
+module _ {file : CircuitFile} {n m : ℕ} {t : Circuit} (sound : first (fileConditions Pattern file) ≡ accept) (s : Stands file n m t) where
   -- writing it as a pattern would not be refused,
   pub front-sound : first (circuitConditions Pattern (take n (t .kinds)) (take m (t .starts)) (take m (t .ends))) ≡ accept
   front-sound =
@@ -43,7 +43,7 @@ module _ {file : List ℕ} {n m : ℕ} {t : Circuit} (sound : first (fileConditi
 
 -- ---- the verdict
 
-module _ (file lent out : List ℕ) where
+module _ (file : CircuitFile) (lent out : List ℕ) where
   verdict-file : (x : Refusal) → first (fileConditions Pattern file) ≡ refuse x → first (mergeConditions file (length lent) (length out)) ≡ refuse x
   unfolding mergeConditions
   verdict-file x e = first-refuse _ _ x e
@@ -77,7 +77,7 @@ module _ (file lent out : List ℕ) where
       record { reply = mergeReply answer; classes = bytes ++ drop (nodesOf file) lent; out = after } ≡ merging file lent out
   unfolding merging mergeReply reply filled
   merged e m =
-      let size : length (classes (circuitOf file)) ≡ nodesOf file = length-classes (circuitOf file) ∙ length-kinds file in
+      let size : length (classes (circuitOf file)) ≡ nodesOf file = length-classes (circuitOf file) ∙ length-labels file in
       rw (e, m .answered, m .numbered, m .written, size)
 
   -- ---- as the call goes

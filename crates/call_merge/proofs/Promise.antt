@@ -21,13 +21,13 @@ use Rattle.simulation.proofs.Simulation.{largest-unique}
 use Rattle.file_format.specs.declared.Refusal.{Refusal}
 use Rattle.file_format.specs.declared.Role.the-variants.{Pattern, Board}
 use Rattle.file_format.specs.Circuit.{circuitOf}
-use Rattle.file_format.specs.Layout.{nodesOf, linksOf, startsOf, endsOf}
+use Rattle.file_format.specs.Layout.{CircuitFile, nodesOf, linksOf, startsOf, endsOf}
 use Rattle.file_format.specs.Links.{linksBelow, rising}
 use Rattle.file_format.specs.Reading.{filled}
 use Rattle.file_format.specs.Refusals.{Condition, Verdict, accept, refuse, first, fileConditions, linkConditions, asksConnected, Accepted}
 use Rattle.file_format.specs.Reply.{Reply, reply}
 use Rattle.file_format.specs.Role.{inRange}
-use Rattle.file_format.proofs.Fields.{length-kinds, length-starts}
+use Rattle.file_format.proofs.Fields.{length-labels, length-starts}
 use Rattle.file_format.proofs.Refusals.{accepted, first-parts, refuses-iff, range-orders}
 use Rattle.table.specs.Host.{KindsMatch}
 use Rattle.table.specs.Row.{InTable}
@@ -81,7 +81,7 @@ module _ {q : Circuit} (c : PatternContent q) where
 
 -- ---- the merged file of an accepted pattern file
 
-module _ {file : List ℕ} (a : Accepted Pattern file) where
+module _ {file : CircuitFile} (a : Accepted Pattern file) where
   content : PatternContent (circuitOf file)
   content = accepted-content a
 
@@ -104,11 +104,11 @@ module _ {file : List ℕ} (a : Accepted Pattern file) where
   merged-size =
       let q = merged (circuitOf file) in
       le-trans (le-of-eq (length-written (q .kinds) (q .starts) (q .ends) (merged-content content .parallel)))
-      (le-trans (merged-length-le content) (le-of-eq (rw (length-kinds file, length-starts file) (sym (a .size)))))
+      (le-trans (merged-length-le content) (le-of-eq (rw (length-labels file, length-starts file) (sym (a .size)))))
 
 -- ---- an accepted pattern file is accepted as a board too, so that it can be matched on itself
 
-board-verdict : {file : List ℕ} → Accepted Pattern file → first (fileConditions Board file) ≡ accept
+board-verdict : {file : CircuitFile} → Accepted Pattern file → first (fileConditions Board file) ≡ accept
 unfolding first fileConditions linkConditions asksConnected
 board-verdict {file} a =
     let n = nodesOf file in
@@ -120,17 +120,17 @@ board-verdict {file} a =
     let rises : rising (startsOf file) (endsOf file) ≡ true = T-true (a .rises) in
     simp (le-ltb _ _ (a .bytes), range, eq-eqb _ _ (a .size), below, rises)
 
-pub pattern-board : {file : List ℕ} → Accepted Pattern file → Accepted Board file
+pub pattern-board : {file : CircuitFile} → Accepted Pattern file → Accepted Board file
 pattern-board {file} a = accepted Board file (board-verdict a)
 
 matches-itself :
-    (file : List ℕ) → first (fileConditions Pattern file) ≡ accept → (table : List ℕ) → nodesOf file ≤ length table →
+    (file : CircuitFile) → first (fileConditions Pattern file) ≡ accept → (table : List ℕ) → nodesOf file ≤ length table →
     matching file file table .reply .verdict ≡ accept
 matches-itself file sound table room =
     let a = accepted Pattern file sound in
     matched.accepts file file table a (pattern-board a) room
 
-module _ (file lent out : List ℕ) where
+module _ (file : CircuitFile) (lent out : List ℕ) where
   verdict-is : merging file lent out .reply .verdict ≡ first (mergeConditions file (length lent) (length out))
   unfolding merging
   verdict-is = reply-verdict _ _
@@ -178,14 +178,14 @@ module _ (file lent out : List ℕ) where
 
     classes-are : merging file lent out .classes ≡ classes (circuitOf file) ++ drop (nodesOf file) lent
     unfolding merging filled
-    classes-are = rw (sound, length-classes (circuitOf file), length-kinds file)
+    classes-are = rw (sound, length-classes (circuitOf file), length-labels file)
 
     out-is : merging file lent out .out ≡ mergedBytes (circuitOf file) ++ drop (length (mergedBytes (circuitOf file))) out
     unfolding merging filled
     out-is = rw sound
 
     classes-size : length (classes (circuitOf file)) ≡ nodesOf file
-    classes-size = length-classes (circuitOf file) ∙ length-kinds file
+    classes-size = length-classes (circuitOf file) ∙ length-labels file
 
     -- gives "the class of each part, a byte each, and the merged file",
     pub classes-front : take (nodesOf file) (merging file lent out .classes) ≡ classes (circuitOf file)
@@ -205,7 +205,7 @@ module _ (file lent out : List ℕ) where
     -- ---- the class bytes
 
     below-parts : (u : ℕ) → u < nodesOf file → u < length (circuitOf file .kinds)
-    below-parts u h = rw (length-kinds file) h
+    below-parts u h = rw (length-labels file) h
 
     -- each is the class of its part
     pub byte-is : (u : ℕ) → u < nodesOf file → classByte file lent out u ≡ classOf (circuitOf file) u
@@ -247,7 +247,7 @@ module _ (file lent out : List ℕ) where
         let p = circuitOf file in
         let c = content pattern-accepted in
         let inside = below-parts u h in
-        let low : leaderOf p u < nodesOf file = rw (← length-kinds file) (leader-lt c u inside) in
+        let low : leaderOf p u < nodesOf file = rw (← length-labels file) (leader-lt c u inside) in
         let member = leader-member c u inside in
         record {
           below = low;
@@ -275,7 +275,7 @@ module _ (file lent out : List ℕ) where
     pub byte-onto : (a : ℕ) → a < classCount (circuitOf file) → (u : ℕ) × (u < nodesOf file) × (classByte file lent out u ≡ a)
     byte-onto a h =
         let (u, l, _, e) = class-onto (content pattern-accepted) a h in
-        let k : u < nodesOf file = rw (← length-kinds file) l in
+        let k : u < nodesOf file = rw (← length-labels file) l in
         (u, k, byte-is u k ∙ e)
 
 -- ---- what a caller knows of the answer and of the two tables, by cases of the answer

@@ -22,13 +22,13 @@ ghost use Rattle.merge_classes.specs.Passes.{Quotient};
 // The class of each part, and the merged pattern at the front of three tables; returns its size. The pattern's table on itself and the
 // rows of linked classes are scratch.
 fn quotient(
-    kinds: &[u16],
+    kinds: &[u32],
     starts: &[u16],
     ends: &[u16],
     classes: &mut [u8],
     table: &mut [u32],
     rows: &mut [u32],
-    mk: &mut [u16],
+    mk: &mut [u32],
     ms: &mut [u16],
     me: &mut [u16],
 ) -> Pattern
@@ -48,7 +48,7 @@ fn quotient(
 // The class of each part, and the merged file at the front of bytes that have room for the pattern's own file. A merged pattern is a
 // pattern, so that writing it is not refused.
 pub fn merge_circuit(
-    kinds: &[u16],
+    kinds: &[u32],
     starts: &[u16],
     ends: &[u16],
     classes: &mut [u8],
@@ -60,7 +60,7 @@ pub fn merge_circuit(
 {
     let mut table = [0u32; Pattern::MAX_NODES];
     let mut rows = [0u32; Pattern::MAX_NODES];
-    let mut mk = [0u16; Pattern::MAX_NODES];
+    let mut mk = [0u32; Pattern::MAX_NODES];
     let mut ms = [0u16; Pattern::MAX_LINKS];
     let mut me = [0u16; Pattern::MAX_LINKS];
     let n = kinds.len();

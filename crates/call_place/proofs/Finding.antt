@@ -10,10 +10,10 @@ use Rattle.graph.specs.Search.{radius}
 use Rattle.file_format.specs.declared.File.the-variants.{Neither}
 use Rattle.file_format.specs.declared.Refusal.{Refusal}
 use Rattle.file_format.specs.Circuit.{circuitOf}
-use Rattle.file_format.specs.Layout.{startsOf, endsOf}
+use Rattle.file_format.specs.Layout.{CircuitFile, startsOf, endsOf}
 use Rattle.file_format.specs.Reading.{front}
 use Rattle.file_format.specs.Refusals.{Verdict, accept, refuse, first, centreOutside}
-use Rattle.file_format.proofs.Fields.{length-kinds, length-starts}
+use Rattle.file_format.proofs.Fields.{length-labels, length-starts}
 use Rattle.file_format.proofs.Refusals.{first-accept, first-refuse, tables-short, tables-fit}
 use Rattle.file_pair.specs.declared.Pair.{Pair}
 use Rattle.file_pair.specs.Pair.{pairConditions, BothRead}
@@ -61,7 +61,7 @@ module _ (r : ℕ) (p b : Circuit) (w : ℕ) (nodes links table : List ℕ) wher
 
 -- ---- two files
 
-module _ (reach : Reach) (pattern board : List ℕ) (w : ℕ) (nodes links table : List ℕ) where
+module _ (reach : Reach) (pattern board : CircuitFile) (w : ℕ) (nodes links table : List ℕ) where
   -- what the call comes to
   abbrev outcome : PlaceOutcome
   outcome = placeAt pattern board w (radiusFor reach (radiusOf (circuitOf pattern))) nodes links table
@@ -73,11 +73,11 @@ module _ (reach : Reach) (pattern board : List ℕ) (w : ℕ) (nodes links table
   find-accepted : first (pairConditions pattern board) ≡ accept
       → placeOn (radiusFor reach (radiusOf (circuitOf pattern))) (circuitOf pattern) (circuitOf board) w nodes links table ≡ outcome
   unfolding placeOn placeAt inputConditions
-  find-accepted e = rw (first-accept _ _ e, length-kinds board, length-starts board)
+  find-accepted e = rw (first-accept _ _ e, length-labels board, length-starts board)
 
   pub find-read : {p : Pair} {parts host : Circuit} {r : ℕ} → BothRead pattern board p parts host → r ≡ radiusFor reach (p .radius) → {o : PlaceOutcome}
       → o ≡ placeOn r (front (p .parts) (p .joins) parts) (front (p .nodes) (p .links) host) w nodes links table → o ≡ outcome
   unfolding radiusOf
   find-read read own e =
-      let radius = own ∙ ap (radiusFor reach) (read .measured ∙ sym (ap (λ (n : ℕ). radius n (startsOf pattern) (endsOf pattern)) (length-kinds pattern))) in
+      let radius = own ∙ ap (radiusFor reach) (read .measured ∙ sym (ap (λ (n : ℕ). radius n (startsOf pattern) (endsOf pattern)) (length-labels pattern))) in
       (rw (radius, read .drawn .content, read .given .content) at e) ∙ find-accepted (read .verdict)

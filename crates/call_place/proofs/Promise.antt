@@ -18,10 +18,10 @@ use Rattle.file_format.specs.declared.File.the-variants.{Neither}
 use Rattle.file_format.specs.declared.Refusal.{Refusal}
 use Rattle.file_format.specs.declared.Role.the-variants.{Pattern, Board}
 use Rattle.file_format.specs.Circuit.{circuitOf}
-use Rattle.file_format.specs.Layout.{nodesOf, linksOf}
+use Rattle.file_format.specs.Layout.{CircuitFile, nodesOf, linksOf}
 use Rattle.file_format.specs.Reading.{filled}
 use Rattle.file_format.specs.Refusals.{Condition, accept, refuse, first, fileConditions, centreOutside, shortTable, Accepted}
-use Rattle.file_format.proofs.Fields.{length-kinds, length-starts}
+use Rattle.file_format.proofs.Fields.{length-labels, length-starts}
 use Rattle.file_format.proofs.Refusals.{accepted, first-accept, first-parts, first-holds, refuses-iff}
 use Rattle.file_pair.specs.Pair.{pairConditions}
 use Rattle.file_pair.proofs.Both.{pair-accept, pair-parts}
@@ -63,7 +63,7 @@ module _ (pattern board : Circuit) (w r : ℕ) where
 
 -- ---- a call
 
-module _ (pattern board : List ℕ) (w r : ℕ) (nodes links table : List ℕ) where
+module _ (pattern board : CircuitFile) (w r : ℕ) (nodes links table : List ℕ) where
   -- the two circuits, the conditions on the inputs, and what the call comes to
   abbrev P : Circuit
   P = circuitOf pattern
@@ -173,18 +173,18 @@ module _ (pattern board : List ℕ) (w r : ℕ) (nodes links table : List ℕ) w
 
       -- the first N node bytes, M link bytes and N sets are the place's
       pub nodes-front : take (nodesOf board) (result .nodes) ≡ placeNodes P B w r
-      nodes-front = rw nodes-are (take-at (placeNodes P B w r) _ (nodesOf board) (nodes-marks P B w r .size ∙ length-kinds board))
+      nodes-front = rw nodes-are (take-at (placeNodes P B w r) _ (nodesOf board) (nodes-marks P B w r .size ∙ length-labels board))
 
       pub links-front : take (linksOf board) (result .links) ≡ placeLinks P B w r
       links-front = rw links-are (take-at (placeLinks P B w r) _ (linksOf board) (links-marks P B w r .size ∙ length-starts board))
 
       pub table-front : take (nodesOf board) (result .table) ≡ placeTable P B w r
-      table-front = rw table-is (take-at (placeTable P B w r) _ (nodesOf board) (length-table P B w r ∙ length-kinds board))
+      table-front = rw table-is (take-at (placeTable P B w r) _ (nodesOf board) (length-table P B w r ∙ length-labels board))
 
       -- "Accepted calls leave entries past those needed."
       pub nodes-rest : drop (nodesOf board) (result .nodes) ≡ drop (nodesOf board) nodes
       nodes-rest =
-          let size : length (placeNodes P B w r) ≡ nodesOf board = nodes-marks P B w r .size ∙ length-kinds board in
+          let size : length (placeNodes P B w r) ≡ nodesOf board = nodes-marks P B w r .size ∙ length-labels board in
           rw nodes-are (drop-at (placeNodes P B w r) _ (nodesOf board) size ∙ ap (λ (k : ℕ). drop k nodes) size)
 
       pub links-rest : drop (linksOf board) (result .links) ≡ drop (linksOf board) links
@@ -194,7 +194,7 @@ module _ (pattern board : List ℕ) (w r : ℕ) (nodes links table : List ℕ) w
 
       pub table-rest : drop (nodesOf board) (result .table) ≡ drop (nodesOf board) table
       table-rest =
-          let size : length (placeTable P B w r) ≡ nodesOf board = length-table P B w r ∙ length-kinds board in
+          let size : length (placeTable P B w r) ≡ nodesOf board = length-table P B w r ∙ length-labels board in
           rw table-is (drop-at (placeTable P B w r) _ (nodesOf board) size ∙ ap (λ (k : ℕ). drop k table) size)
 
       -- the subgraph of the board that those bytes mark

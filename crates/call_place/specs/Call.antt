@@ -4,7 +4,7 @@ use Prim.Native.Nat.{ℕ}
 use lib.ListN.{length}
 use Rattle.graph.specs.Circuit.{Circuit}
 use Rattle.file_format.specs.Circuit.{circuitOf}
-use Rattle.file_format.specs.Layout.{nodesOf, linksOf}
+use Rattle.file_format.specs.Layout.{CircuitFile, nodesOf, linksOf}
 use Rattle.file_format.specs.Refusals.{Condition, Verdict, accept, refuse, first, centreOutside, shortTable}
 use Rattle.file_pair.specs.Pair.{pairConditions}
 use Rattle.table.specs.Reply.{noCounts}
@@ -17,7 +17,7 @@ abbrev pub placeConditions : ℕ → ℕ → ℕ → ℕ → ℕ → ℕ → Lis
 placeConditions n m w nodes links table = centreOutside n w ∷ shortTable n nodes ∷ shortTable m links ∷ shortTable n table ∷ []
 
 -- the pattern's 1 to 6 before the board's, then 7 and 8
-unfoldable pub inputConditions : List ℕ → List ℕ → ℕ → ℕ → ℕ → ℕ → List Condition
+unfoldable pub inputConditions : CircuitFile → CircuitFile → ℕ → ℕ → ℕ → ℕ → List Condition
 inputConditions pattern board w nodes links table =
     pairConditions pattern board ++ placeConditions (nodesOf board) (linksOf board) w nodes links table
 
@@ -28,7 +28,7 @@ decided (refuse x) nodes links table placed =
     record { reply = record { verdict = refuse x; counts = noCounts }; nodes = nodes; links = links; table = table }
 
 -- the call at a radius
-unfoldable pub placeAt : List ℕ → List ℕ → ℕ → ℕ → List ℕ → List ℕ → List ℕ → PlaceOutcome
+unfoldable pub placeAt : CircuitFile → CircuitFile → ℕ → ℕ → List ℕ → List ℕ → List ℕ → PlaceOutcome
 placeAt pattern board w r nodes links table =
     decided (first (inputConditions pattern board w (length nodes) (length links) (length table))) nodes links table
     (placeAround (circuitOf pattern) (circuitOf board) w r nodes links table)

@@ -1,5 +1,6 @@
 // The place calls: a pattern file, the board of another file and a centre, at the pattern's radius or at a radius given.
 use file_format::Board;
+use file_format::Editions;
 use file_format::File;
 use file_format::FileVerdict;
 use file_format::Pattern;
@@ -11,6 +12,7 @@ use place_circuits::place_circuits;
 use table::Counts;
 ghost use mathlib.Core.Path.{_≡_};
 ghost use Rattle.file_format.specs.Circuit.{circuitOf, Drawn};
+ghost use Rattle.file_format.specs.Layout.{inEdition};
 ghost use Rattle.graph.specs.Circuit.{Circuit, circuit};
 ghost use Rattle.table.specs.Reply.{noCounts};
 ghost use Rattle.place.specs.Match.{radiusOf};
@@ -56,10 +58,10 @@ struct Asked {
 
 // The call on two circuits that were read. Everything is tested, and the place found, before anything is written to the lent tables.
 fn find_on(
-    part_kinds: &[u16],
+    part_kinds: &[u32],
     part_starts: &[u16],
     part_ends: &[u16],
-    node_kinds: &[u16],
+    node_kinds: &[u32],
     node_starts: &[u16],
     node_ends: &[u16],
     asked: Asked,
@@ -114,6 +116,7 @@ fn find_on(
 // The call on two files.
 fn find(
     reach: Reach,
+    editions: Editions,
     pattern: &[u8],
     board: &[u8],
     centre: usize,
@@ -122,15 +125,16 @@ fn find(
     table: &mut [u32],
 ) -> PlaceAnswer
     ensures { λ a. ⌜ record { reply = placeReply a; nodes = now (nodes .exit); links = now (links .exit); table = now (table .exit) }
-        ≡ placeAt (now (pattern .entry)) (now (board .entry)) centre (radiusFor reach (radiusOf (circuitOf (now (pattern .entry))))) (now (nodes .entry)) (now (links .entry)) (now (table .entry)) ⌝ }
+        ≡ placeAt (inEdition (editions .pattern) (now (pattern .entry))) (inEdition (editions .board) (now (board .entry))) centre (radiusFor reach (radiusOf (circuitOf (inEdition (editions .pattern) (now (pattern .entry)))))) (now (nodes .entry)) (now (links .entry)) (now (table .entry)) ⌝ }
 {
-    let mut pk = [0u16; Pattern::MAX_NODES];
+    let mut pk = [0u32; Pattern::MAX_NODES];
     let mut ps = [0u16; Pattern::MAX_LINKS];
     let mut pe = [0u16; Pattern::MAX_LINKS];
-    let mut nk = [0u16; Board::MAX_NODES];
+    let mut nk = [0u32; Board::MAX_NODES];
     let mut ns = [0u16; Board::MAX_LINKS];
     let mut ne = [0u16; Board::MAX_LINKS];
     let read = read_pair(
+        editions,
         pattern,
         board,
         &mut pk,
@@ -166,6 +170,7 @@ fn find(
 // The place around the centre at the pattern's radius: the ball's four counts, with a byte per board node and one per board link, 1 in the
 // place and else 0, and a set of parts per node, at the front of the three tables; or the refusal, which leaves them as they were.
 pub fn place(
+    editions: Editions,
     pattern: &[u8],
     board: &[u8],
     centre: usize,
@@ -174,13 +179,23 @@ pub fn place(
     table: &mut [u32],
 ) -> PlaceAnswer
     ensures { λ a. ⌜ record { reply = placeReply a; nodes = now (nodes .exit); links = now (links .exit); table = now (table .exit) }
-        ≡ placeAt (now (pattern .entry)) (now (board .entry)) centre (radiusOf (circuitOf (now (pattern .entry)))) (now (nodes .entry)) (now (links .entry)) (now (table .entry)) ⌝ }
+        ≡ placeAt (inEdition (editions .pattern) (now (pattern .entry))) (inEdition (editions .board) (now (board .entry))) centre (radiusOf (circuitOf (inEdition (editions .pattern) (now (pattern .entry))))) (now (nodes .entry)) (now (links .entry)) (now (table .entry)) ⌝ }
 {
-    find(Reach::Own, pattern, board, centre, nodes, links, table)
+    find(
+        Reach::Own,
+        editions,
+        pattern,
+        board,
+        centre,
+        nodes,
+        links,
+        table,
+    )
 }
 
 // The same at a radius given.
 pub fn place_within(
+    editions: Editions,
     pattern: &[u8],
     board: &[u8],
     centre: usize,
@@ -190,10 +205,11 @@ pub fn place_within(
     table: &mut [u32],
 ) -> PlaceAnswer
     ensures { λ a. ⌜ record { reply = placeReply a; nodes = now (nodes .exit); links = now (links .exit); table = now (table .exit) }
-        ≡ placeAt (now (pattern .entry)) (now (board .entry)) centre radius (now (nodes .entry)) (now (links .entry)) (now (table .entry)) ⌝ }
+        ≡ placeAt (inEdition (editions .pattern) (now (pattern .entry))) (inEdition (editions .board) (now (board .entry))) centre radius (now (nodes .entry)) (now (links .entry)) (now (table .entry)) ⌝ }
 {
     find(
         Reach::Given(radius),
+        editions,
         pattern,
         board,
         centre,

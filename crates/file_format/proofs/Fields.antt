@@ -1,6 +1,6 @@
 -- Laws of the fields of a stretch, for the loops that go through them. Assumes nothing.
 use mathlib.Core.List.{List, _++_}
-use mathlib.Core.Path.{_≡_, ap, ap₂, _∙_}
+use mathlib.Core.Path.{_≡_, refl, ap, ap₂, _∙_}
 use Prim.Native.Nat.{ℕ, _+_, _*_, _-_, _≤_, _<_}
 use native.Mathlib.Nat.{add-sub-cancel-left}
 use native.Mathlib.Omega.{arith}
@@ -36,6 +36,10 @@ length-packages file = length-fields _ (packageCount (file .edition) (nodesOf fi
 pub package-count-le : (e : Edition) (n : ℕ) → packageCount e n ≤ n
 package-count-le First n = omega arith
 package-count-le Second n = omega arith
+
+pub count-again : (e : Edition) (n : ℕ) → packageCount e (packageCount e n) ≡ packageCount e n
+count-again First n = refl
+count-again Second n = refl
 
 pub length-starts : (file : CircuitFile) → length (startsOf file) ≡ linksOf file
 unfolding startsOf

@@ -1,3 +1,4 @@
+pub mod Labels
 pub mod Fields
 pub mod Refusals
 pub mod Accepted

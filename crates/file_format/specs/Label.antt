@@ -18,3 +18,10 @@ packageIn l = l / 65536
 -- the labels of nodes: a node without a package has package 0
 unfoldable pub labels : List ℕ → List ℕ → List ℕ
 labels kinds packages = tabulate (length kinds) (λ v. label (getD kinds v 0) (getD packages v 0))
+
+-- the kinds and the packages that labels have
+unfoldable pub kindsIn : List ℕ → List ℕ
+kindsIn ls = tabulate (length ls) (λ v. kindIn (getD ls v 0))
+
+unfoldable pub packagesIn : List ℕ → List ℕ
+packagesIn ls = tabulate (length ls) (λ v. packageIn (getD ls v 0))

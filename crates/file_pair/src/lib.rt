@@ -51,12 +51,14 @@ pub fn read_pair(
     ensures { λ r. ⌜ PairRead (inEdition (editions .pattern) (now (pattern .entry))) (inEdition (editions .board) (now (board .entry))) r
         (circuit (now (pk .exit)) (now (ps .exit)) (now (pe .exit))) (circuit (now (nk .exit)) (now (ns .exit)) (now (ne .exit))) ⌝ }
 {
-    let drawn = load(Role::Pattern, editions.pattern, pattern, pk, ps, pe);
+    let edition = editions.pattern;
+    let drawn = load(Role::Pattern, edition, pattern, pk, ps, pe);
     let first = drawn.verdict;
     let FileVerdict::Accepted = first else {
         return turned_away(first);
     };
-    let given = load(Role::Board, editions.board, board, nk, ns, ne);
+    let edition = editions.board;
+    let given = load(Role::Board, edition, board, nk, ns, ne);
     let verdict = given.verdict;
     Pair {
         verdict,

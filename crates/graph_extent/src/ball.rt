@@ -33,7 +33,7 @@ fn measure(starts: &[u16], ends: &[u16], c: u16, r: u16, dist: &mut [u16], out: 
 }
 
 // The ball of radius r around node c of a board.
-pub fn fill_ball(kinds: &[u16], starts: &[u16], ends: &[u16], c: u16, r: u16, out: &mut [u8])
+pub fn fill_ball(kinds: &[u32], starts: &[u16], ends: &[u16], c: u16, r: u16, out: &mut [u8])
     requires { ⌜ Bounded role.Board (record { kinds = now kinds; starts = now starts; ends = now ends }) ⌝ }
     requires { ⌜ (c < length (now kinds)) × (length (now kinds) ≤ length (now out)) ⌝ }
     ensures { λ _. ⌜ now (out .exit) ≡ ball (length (now (kinds .entry))) (now (starts .entry)) (now (ends .entry)) c r ++ drop (length (now (kinds .entry))) (now (out .entry)) ⌝ }

@@ -32,8 +32,8 @@ pub struct InBall {
 // Finds the place from the ball's pairs of equal kinds. The search clears `dist` whole, and the first table and the rounds both tables of sets; all
 // other work is in the ball.
 fn find_in_ball(
-    part_kinds: &[u16],
-    node_kinds: &[u16],
+    part_kinds: &[u32],
+    node_kinds: &[u32],
     masks: &[u32],
     offsets: &[u16],
     links: &[u16],
@@ -75,10 +75,10 @@ fn find_in_ball(
 // The place around a centre: the ball's counts, and the three lent tables written; or number 9 with the ball's counts, which leaves those
 // tables as they were.
 pub fn place_circuits(
-    part_kinds: &[u16],
+    part_kinds: &[u32],
     part_starts: &[u16],
     part_ends: &[u16],
-    node_kinds: &[u16],
+    node_kinds: &[u32],
     node_starts: &[u16],
     node_ends: &[u16],
     around: Around,
