@@ -7,7 +7,7 @@ use Rattle.file_format.specs.Layout.{CircuitFile, nodesOf}
 use Rattle.call_merge.specs.Call.{merging}
 
 -- "the class of each part, a byte each": the byte of part u as the call leaves it
-abbrev pub classByte : List ℕ → List ℕ → List ℕ → ℕ → ℕ
+abbrev pub classByte : CircuitFile → List ℕ → List ℕ → ℕ → ℕ
 classByte file lent out u = getD (merging file lent out .classes) u 0
 
 -- the smallest part with the byte of u

@@ -10,7 +10,7 @@ use Rattle.graph.specs.Circuit.{Circuit}
 use Rattle.graph.specs.Search.{radius}
 use Rattle.file_format.specs.declared.File.the-variants.{Neither}
 use Rattle.file_format.specs.declared.Refusal.{Refusal}
-use Rattle.file_format.specs.Layout.{startsOf, endsOf}
+use Rattle.file_format.specs.Layout.{firstEdition, startsOf, endsOf}
 use Rattle.file_format.specs.Reading.{filled, front}
 use Rattle.file_format.specs.Refusals.{refuse, first, shortTable}
 use Rattle.file_format.specs.Reply.{reply}
@@ -42,19 +42,19 @@ module _ (need : ℕ) (p : Piece) (out : List ℕ) where
 -- ---- two files
 
 module _ (pattern board : List ℕ) (from found : ℕ) (out : List ℕ) where
-  pub reporting-refused : {x : Refusal} → first (pairConditions pattern board) ≡ refuse x
+  pub reporting-refused : {x : Refusal} → first (pairConditions (firstEdition pattern) (firstEdition board)) ≡ refuse x
       → outcomeFor longestRefusal (refusalPiece x from found) out ≡ reporting pattern board from found out
   unfolding reporting needFor pieceOf pieceFor
   reporting-refused e = rw e
 
-  pub reporting-lines : {read : Pair} {parts nodes : Circuit} → BothRead pattern board read parts nodes
+  pub reporting-lines : {read : Pair} {parts nodes : Circuit} → BothRead (firstEdition pattern) (firstEdition board) read parts nodes
       → outcomeFor longestLine (linesPiece (front (read .parts) (read .joins) parts) (front (read .nodes) (read .links) nodes) from found (length out)) out
       ≡ reporting pattern board from found out
   unfolding reporting needFor pieceOf pieceFor
   reporting-lines read = rw (read .verdict, read .drawn .content, read .given .content)
 
 -- the radius that comes with the reading is the pattern's
-pub read-radius : {pattern board : List ℕ} {read : Pair} {parts nodes : Circuit} → BothRead pattern board read parts nodes
+pub read-radius : {pattern board : List ℕ} {read : Pair} {parts nodes : Circuit} → BothRead (firstEdition pattern) (firstEdition board) read parts nodes
     → read .radius ≡ radiusOf (front (read .parts) (read .joins) parts)
 unfolding radiusOf
 read-radius {pattern} both = both .measured ∙ sym (ap (λ (n : ℕ). radius n (startsOf pattern) (endsOf pattern)) (length-kinds pattern)) ∙ ap radiusOf (sym (both .drawn .content))

@@ -23,6 +23,9 @@ pub record CircuitFile : Type 0 where
 abbrev pub inEdition : Edition → List ℕ → CircuitFile
 inEdition edition bytes = record { edition = edition; bytes = bytes }
 
+abbrev pub firstEdition : List ℕ → CircuitFile
+firstEdition bytes = inEdition First bytes
+
 -- ---- where each stretch begins
 
 -- "N, M, then N kinds, then two parallel arrays, M link starts and M link ends. The length is 4 + 2N + 4M bytes."

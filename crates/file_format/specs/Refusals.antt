@@ -7,6 +7,9 @@ use Prim.Native.Nat.{ℕ, _≤_}
 use lib.Dec.{T, eqb, ltb}
 use lib.ListN.{length}
 use Rattle.graph.specs.Search.{connected}
+use Rattle.base_lists.specs.List.{any}
+use Rattle.file_format.specs.declared.Edition.{Edition}
+use Rattle.file_format.specs.declared.Edition.the-variants.{First, Second}
 use Rattle.file_format.specs.declared.File.{File}
 use Rattle.file_format.specs.declared.File.the-variants.{Neither}
 use Rattle.file_format.specs.declared.Refusal.{Refusal}
@@ -108,3 +111,12 @@ shortTable needed lent = record { number = 8; file = Neither; holds = ltb lent n
 -- 10 "one of the four numbers out of its range" (document 02, a test load): `fits` says whether all are in theirs. It is tried ahead of 8.
 unfoldable pub numberOutside : Bool → Condition
 numberOutside fits = record { number = 10; file = Neither; holds = not fits }
+
+-- "Turned away: 12, converting to the first edition a file with a package other than 0, checked after its content and ahead of 8." It names
+-- the file in the role told.
+unfoldable pub lostPackage : Edition → List ℕ → Bool
+lostPackage First packages = any (λ p. not (eqb p 0)) packages
+lostPackage Second packages = false
+
+unfoldable pub packageLost : Role → Edition → List ℕ → Condition
+packageLost r to packages = record { number = 12; file = fileOf r; holds = lostPackage to packages }

@@ -3,18 +3,18 @@
 use mathlib.Core.List.{List, _++_}
 use mathlib.Core.Logic.{_↔_}
 use mathlib.Core.Path.{_≡_, refl, sym, ap, ap₂, _∙_}
-use Prim.Native.Nat.{ℕ, _≤_, _<_}
+use Prim.Native.Nat.{ℕ, _≤_}
 use native.Mathlib.Nat.{le-of-eq}
 use native.Mathlib.Omega.{arith}
 use lib.Dec.{T, ltb}
-use lib.ListN.{length, getD, take, drop}
+use lib.ListN.{length, take, drop}
 use lib.Seq.{take-at, take-all}
 use Rattle.base_lists.specs.List.{all}
 use Rattle.base_lists.proofs.Tests.{T-true}
 use Rattle.graph.specs.Circuit.{Circuit, HasLink}
 use Rattle.file_format.specs.Circuit.{circuitOf}
-use Rattle.file_format.specs.Label.{labels, kindsIn, packagesIn, packageIn}
-use Rattle.file_format.proofs.Labels.{length-kinds-in, length-packages-in, labels-kinds, labels-again, kinds-again}
+use Rattle.file_format.specs.Label.{labels, kindsIn, packagesIn}
+use Rattle.file_format.proofs.Labels.{length-kinds-in, length-packages-in, labels-kinds, labels-again}
 use Rattle.graph.proofs.RisingLinks.{rising-determined}
 use Rattle.file_format.specs.declared.Edition.{Edition}
 use Rattle.file_format.specs.declared.Edition.the-variants.{First, Second}
@@ -32,7 +32,7 @@ use Rattle.file_format.proofs.Refusals.{accepted}
 use Rattle.file_format.proofs.Refusals as file
 use Rattle.file_format.proofs.Rising.{rising-links}
 use Rattle.file_write.specs.declared.WriteAnswer.the-variants.{Written, Refused}
-use Rattle.file_write.specs.Bytes.{fileBytes, circuitBytes}
+use Rattle.file_write.specs.Bytes.{fileBytes, kindsFor, circuitBytes}
 use Rattle.file_write.specs.Writing.{circuitConditions, WriteOutcome, writing, writeReply}
 use Rattle.file_write.proofs.FileFields.{nodes-written, links-written, kinds-written, packages-written, starts-written, ends-written, length-written, file-below, file-again}
 use Rattle.file_write.proofs.Writing.{verdict-links, sound, writing-refused, writing-filled, writing-accepted}
@@ -107,7 +107,8 @@ module _ (r : Role) (e : Edition) (kinds packages starts ends out : List ℕ) (s
         ends = ends ++ drop (length ends) es;
       }
   written-reads ks ps ss es a b c d =
-      let (pairs, given) = let h = sound r e kinds packages starts ends ok in (h .pairs, h .given) in
+      let pairs = sound r e kinds packages starts ends ok .pairs in
+      let given = sound r e kinds packages starts ends ok .given in
       let n = nodes-written e kinds packages starts ends in
       let m = links-written e kinds packages starts ends in
       let written = inEdition e (fileBytes e kinds packages starts ends) in
@@ -192,25 +193,34 @@ module _ (r r′ : Role) (e : Edition) (file file′ : List ℕ) (bytes : T (all
 
 -- ---- the file of a circuit, whose labels have kinds and packages
 
--- the packages that an edition leaves out are 0
-abbrev pub Keeps : Edition → List ℕ → Type 0
-Keeps e ls = (v : ℕ) → v < length ls → packageCount e 1 ≡ 0 → packageIn (getD ls v 0) ≡ 0
+pub length-kinds-for : (e : Edition) (ls : List ℕ) → length (kindsFor e ls) ≡ length ls
+unfolding kindsFor
+length-kinds-for First ls = refl
+length-kinds-for Second ls = length-kinds-in ls
+
+-- kinds and packages as an edition writes them, put together again
+labels-for : (e : Edition) (ls : List ℕ) → labels (kindsFor e ls) (take (packageCount e (length (kindsFor e ls))) (packagesIn ls)) ≡ ls
+unfolding kindsFor
+labels-for First ls = labels-kinds ls
+labels-for Second ls =
+    ap (labels (kindsIn ls)) (take-all _ (packagesIn ls) (le-of-eq (length-packages-in ls ∙ sym (length-kinds-in ls)))) ∙ labels-again ls
 
 module _ (e : Edition) (c : Circuit) where
-  pub packages-in-given : packageCount e (length (packagesIn (c .kinds))) ≡ packageCount e (length (kindsIn (c .kinds)))
-  packages-in-given = ap (packageCount e) (length-packages-in (c .kinds) ∙ sym (length-kinds-in (c .kinds)))
+  pub packages-in-given : packageCount e (length (packagesIn (c .kinds))) ≡ packageCount e (length (kindsFor e (c .kinds)))
+  packages-in-given = ap (packageCount e) (length-packages-in (c .kinds) ∙ sym (length-kinds-for e (c .kinds)))
 
   -- what is read of it is the circuit
-  pub circuit-again : Keeps e (c .kinds) → length (c .starts) ≡ length (c .ends) → circuitOf (inEdition e (circuitBytes e c)) ≡ c
+  pub circuit-again : length (c .starts) ≡ length (c .ends) → circuitOf (inEdition e (circuitBytes e c)) ≡ c
   unfolding circuitBytes labelsOf
-  circuit-again keeps pairs =
-      let ks = kindsIn (c .kinds) in
+  circuit-again pairs =
+      let ks = kindsFor e (c .kinds) in
       let ps = packagesIn (c .kinds) in
       rw (kinds-written e ks ps (c .starts) (c .ends), packages-written e ks ps (c .starts) (c .ends) packages-in-given, starts-written e ks ps (c .starts) (c .ends) packages-in-given, ends-written e ks ps (c .starts) (c .ends) packages-in-given pairs)
-      (ap (λ (l : List ℕ). record { kinds = l; starts = c .starts; ends = c .ends }) (labels-kept e keeps))
-    where
-      labels-kept : (e : Edition) → Keeps e (c .kinds) → labels (kindsIn (c .kinds)) (take (packageCount e (length (kindsIn (c .kinds)))) (packagesIn (c .kinds))) ≡ c .kinds
-      labels-kept First keeps = labels-kinds (kindsIn (c .kinds)) ∙ kinds-again (c .kinds) (λ v h. keeps v h refl)
-      labels-kept Second keeps =
-          ap (labels (kindsIn (c .kinds))) (take-all _ (packagesIn (c .kinds)) (le-of-eq (length-packages-in (c .kinds) ∙ sym (length-kinds-in (c .kinds)))))
-          ∙ labels-again (c .kinds)
+      (ap (λ (l : List ℕ). record { kinds = l; starts = c .starts; ends = c .ends }) (labels-for e (c .kinds)))
+
+  -- and it is as long as it should be
+  pub circuit-length : length (c .starts) ≡ length (c .ends) → length (circuitBytes e c) ≡ lengthOf e (length (c .kinds)) (length (c .starts))
+  unfolding circuitBytes
+  circuit-length pairs =
+      length-written e (kindsFor e (c .kinds)) (packagesIn (c .kinds)) (c .starts) (c .ends) packages-in-given pairs
+      ∙ ap (λ (n : ℕ). lengthOf e n (length (c .starts))) (length-kinds-for e (c .kinds))

@@ -3,7 +3,9 @@ use mathlib.Core.List.{List, [], _∷_, _++_}
 use Prim.Native.Nat.{ℕ, _+_, _*_, _/_, _%_}
 use lib.ListN.{length, take, drop}
 use Rattle.graph.specs.Circuit.{Circuit}
+use Rattle.base_lists.specs.List.{Below}
 use Rattle.file_format.specs.declared.Edition.{Edition}
+use Rattle.file_format.specs.declared.Edition.the-variants.{First, Second}
 use Rattle.file_format.specs.Label.{kindsIn, packagesIn}
 use Rattle.file_format.specs.Layout.{packageCount}
 
@@ -21,9 +23,19 @@ stretchBytes kinds packages starts ends = bytesOf (length kinds ∷ length start
 abbrev pub fileBytes : Edition → List ℕ → List ℕ → List ℕ → List ℕ → List ℕ
 fileBytes e kinds packages starts ends = stretchBytes kinds (take (packageCount e (length kinds)) packages) starts ends
 
+-- the kinds that an edition writes of labels: labels without packages are kinds
+unfoldable pub kindsFor : Edition → List ℕ → List ℕ
+kindsFor First ls = ls
+kindsFor Second ls = kindsIn ls
+
 -- the file of a circuit, whose labels have both the kinds and the packages
 unfoldable pub circuitBytes : Edition → Circuit → List ℕ
-circuitBytes e c = fileBytes e (kindsIn (c .kinds)) (packagesIn (c .kinds)) (c .starts) (c .ends)
+circuitBytes e c = fileBytes e (kindsFor e (c .kinds)) (packagesIn (c .kinds)) (c .starts) (c .ends)
+
+-- labels that an edition can hold: in the first all packages are 0
+unfoldable pub LabelsFit : Edition → List ℕ → Type 0
+LabelsFit First ls = Below 65536 ls
+LabelsFit Second ls = Unit {0}
 
 -- a table in which the bytes of numbers stand from an offset on; the entries before and after are the old ones
 unfoldable pub stored : List ℕ → ℕ → List ℕ → List ℕ

@@ -1,11 +1,13 @@
 // Writing circuit files: a circuit as the bytes of its file, or a refusal by number.
+ghost use mathlib.Core.List.{[]};
 ghost use mathlib.Core.Path.{_≡_};
 ghost use Prim.Native.Nat.{_+_, _*_, _<_, _≤_};
 ghost use lib.ListN.{length};
-ghost use Rattle.file_format.specs.Label.{kindsIn, packagesIn};
+ghost use Rattle.file_format.specs.declared.Edition.the-variants as editions;
+ghost use Rattle.file_format.specs.Label.{packagesIn};
 ghost use Rattle.file_format.specs.Reading.{filled};
 ghost use Rattle.file_format.specs.Refusals.{Verdict};
-ghost use Rattle.file_write.specs.Bytes.{stretchBytes};
+ghost use Rattle.file_write.specs.Bytes.{stretchBytes, kindsFor, LabelsFit};
 ghost use Rattle.file_write.specs.Writing.{writing, writeReply};
 
 mod bytes;
@@ -76,6 +78,22 @@ pub fn write(
     answer
 }
 
+// Writes a first-edition file: there are no packages.
+pub fn write_first(role: Role, kinds: &[u16], starts: &[u16], ends: &[u16], out: &mut [u8]) -> WriteAnswer
+    ensures { λ r. ⌜ record { answer = r; reply = writeReply r; out = now (out .exit) }
+        ≡ writing role editions.First (now (kinds .entry)) [] (now (starts .entry)) (now (ends .entry)) (now (out .entry)) ⌝ }
+{
+    write(
+        role,
+        Edition::First,
+        kinds,
+        &kinds[0..0],
+        starts,
+        ends,
+        out,
+    )
+}
+
 // Writes the file of a circuit, whose labels have the kinds and the packages.
 pub fn write_circuit(
     role: Role,
@@ -85,9 +103,9 @@ pub fn write_circuit(
     ends: &[u16],
     out: &mut [u8],
 ) -> WriteAnswer
-    requires { ⌜ length (now labels) ≤ 512 ⌝ }
+    requires { ⌜ (length (now labels) ≤ 512) × LabelsFit edition (now labels) ⌝ }
     ensures { λ r. ⌜ record { answer = r; reply = writeReply r; out = now (out .exit) }
-        ≡ writing role edition (kindsIn (now (labels .entry))) (packagesIn (now (labels .entry))) (now (starts .entry)) (now (ends .entry)) (now (out .entry)) ⌝ }
+        ≡ writing role edition (kindsFor edition (now (labels .entry))) (packagesIn (now (labels .entry))) (now (starts .entry)) (now (ends .entry)) (now (out .entry)) ⌝ }
 {
     let mut kinds = [0u16; Board::MAX_NODES];
     let mut packages = [0u16; Board::MAX_NODES];
