@@ -5,6 +5,7 @@ use Prim.Native.Nat.{ℕ, _≤_, _<_}
 use borrow.Author.Tests.{lt-ltb, le-ltb}
 use lib.ListN.{length, drop}
 use Rattle.graph.specs.Circuit.{Circuit}
+use Rattle.file_format.specs.declared.Role.the-variants.{Pattern}
 use Rattle.file_format.specs.declared.File.the-variants.{Neither}
 use Rattle.file_format.specs.declared.Refusal.{Refusal}
 use Rattle.file_format.specs.Circuit.{circuitOf}
@@ -45,16 +46,16 @@ module _ (p b : Circuit) (table : List ℕ) where
 -- ---- two files
 
 module _ (pattern board : CircuitFile) (table : List ℕ) where
-  pub matching-refused : {x : Refusal} → first (pairConditions pattern board) ≡ refuse x
+  pub matching-refused : {x : Refusal} → first (pairConditions Pattern pattern board) ≡ refuse x
       → record { reply = replyOf (Refused x); table = table } ≡ matching pattern board table
   unfolding matching matchConditions replied replyOf filled
   matching-refused e = rw (first-refuse _ _ _ e)
 
-  matching-accepted : first (pairConditions pattern board) ≡ accept
+  matching-accepted : first (pairConditions Pattern pattern board) ≡ accept
       → matchOn (circuitOf pattern) (circuitOf board) table ≡ matching pattern board table
   unfolding matchOn matching matchConditions
   matching-accepted e = rw (first-accept _ _ e, length-labels board)
 
-  pub matching-read : {p : Pair} {parts nodes : Circuit} → BothRead pattern board p parts nodes → {o : TableOutcome}
+  pub matching-read : {p : Pair} {parts nodes : Circuit} → BothRead Pattern pattern board p parts nodes → {o : TableOutcome}
       → o ≡ matchOn (front (p .parts) (p .joins) parts) (front (p .nodes) (p .links) nodes) table → o ≡ matching pattern board table
   matching-read read e = (rw (read .drawn .content, read .given .content) at e) ∙ matching-accepted (read .verdict)

@@ -88,7 +88,7 @@ module _ (pattern board : CircuitFile) (table : List ℕ) where
       Accepted Pattern pattern → Accepted Board board → nodesOf board ≤ length table → matching pattern board table .reply .verdict ≡ accept
   unfolding matchConditions first shortTable
   accepts a b room =
-      verdict-is ∙ rw (first-accept _ _ (pair-accept pattern board a b)) (simp (le-ltb _ _ room))
+      verdict-is ∙ rw (first-accept _ _ (pair-accept Pattern pattern board a b)) (simp (le-ltb _ _ room))
 
   module _ (accepts : matching pattern board table .reply .verdict ≡ accept) where
     sound : first (matchConditions pattern board (length table)) ≡ accept
@@ -96,7 +96,7 @@ module _ (pattern board : CircuitFile) (table : List ℕ) where
 
     files-sound : (first (fileConditions Pattern pattern) ≡ accept) × (first (fileConditions Board board) ≡ accept)
     unfolding matchConditions
-    files-sound = pair-parts pattern board (first-parts (pairConditions pattern board) _ sound .0)
+    files-sound = pair-parts Pattern pattern board (first-parts (pairConditions Pattern pattern board) _ sound .0)
 
     pub pattern-accepted : Accepted Pattern pattern
     pattern-accepted = accepted Pattern pattern (files-sound .0)

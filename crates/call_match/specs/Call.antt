@@ -3,6 +3,7 @@ use mathlib.Core.List.{List, [], _∷_, _++_}
 use Prim.Native.Nat.{ℕ}
 use lib.ListN.{length}
 use Rattle.graph.specs.Circuit.{Circuit}
+use Rattle.file_format.specs.declared.Role.the-variants.{Pattern}
 use Rattle.file_format.specs.Circuit.{circuitOf}
 use Rattle.file_format.specs.Layout.{CircuitFile, nodesOf}
 use Rattle.file_format.specs.Reading.{filled}
@@ -17,7 +18,7 @@ use Rattle.table.specs.Row.{lastTable}
 
 -- "Rising numbers are the order, the pattern's 1 to 6 before the board's. Needed: .. match table N"
 unfoldable pub matchConditions : CircuitFile → CircuitFile → ℕ → List Condition
-matchConditions pattern board lent = pairConditions pattern board ++ (shortTable (nodesOf board) lent ∷ [])
+matchConditions pattern board lent = pairConditions Pattern pattern board ++ (shortTable (nodesOf board) lent ∷ [])
 
 -- each case of the answer, so read: a refusal has no counts
 unfoldable pub replyOf : TableAnswer → Reply

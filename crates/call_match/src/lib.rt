@@ -5,6 +5,7 @@ use file_format::File;
 use file_format::FileVerdict;
 use file_format::Pattern;
 use file_format::Refusal;
+use file_format::Role;
 use file_pair::read_pair;
 use table::Counts;
 use table_whole::match_circuits;
@@ -56,7 +57,12 @@ fn match_on(
 
 // Matches the pattern of one file on the whole board of another: the four counts, with the largest dual simulation at the front of the
 // table, a 32-bit number per node; or the refusal, which leaves the table as it was.
-pub fn match_table(editions: Editions, pattern: &[u8], board: &[u8], table: &mut [u32]) -> TableAnswer
+pub fn match_table(
+    editions: Editions,
+    pattern: &[u8],
+    board: &[u8],
+    table: &mut [u32],
+) -> TableAnswer
     ensures { λ r. ⌜ record { reply = replyOf r; table = now (table .exit) }
         ≡ matching (inEdition (editions .pattern) (now (pattern .entry))) (inEdition (editions .board) (now (board .entry))) (now (table .entry)) ⌝ }
 {
@@ -67,6 +73,7 @@ pub fn match_table(editions: Editions, pattern: &[u8], board: &[u8], table: &mut
     let mut ns = [0u16; Board::MAX_LINKS];
     let mut ne = [0u16; Board::MAX_LINKS];
     let read = read_pair(
+        Role::Pattern,
         editions,
         pattern,
         board,

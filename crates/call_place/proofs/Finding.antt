@@ -7,6 +7,7 @@ use borrow.Author.Tests.{lt-ltb, le-ltb}
 use lib.ListN.{length}
 use Rattle.graph.specs.Circuit.{Circuit}
 use Rattle.graph.specs.Search.{radius}
+use Rattle.file_format.specs.declared.Role.the-variants.{Pattern}
 use Rattle.file_format.specs.declared.File.the-variants.{Neither}
 use Rattle.file_format.specs.declared.Refusal.{Refusal}
 use Rattle.file_format.specs.Circuit.{circuitOf}
@@ -16,6 +17,7 @@ use Rattle.file_format.specs.Refusals.{Verdict, accept, refuse, first, centreOu
 use Rattle.file_format.proofs.Fields.{length-labels, length-starts}
 use Rattle.file_format.proofs.Refusals.{first-accept, first-refuse, tables-short, tables-fit}
 use Rattle.file_pair.specs.declared.Pair.{Pair}
+use Rattle.file_pair.proofs.Both.{pair-radius}
 use Rattle.file_pair.specs.Pair.{pairConditions, BothRead}
 use Rattle.table.specs.Reply.{noCounts}
 use Rattle.place.specs.declared.PlaceAnswer.the-variants.{Refused}
@@ -66,18 +68,18 @@ module _ (reach : Reach) (pattern board : CircuitFile) (w : ℕ) (nodes links ta
   abbrev outcome : PlaceOutcome
   outcome = placeAt pattern board w (radiusFor reach (radiusOf (circuitOf pattern))) nodes links table
 
-  pub find-refused : {x : Refusal} → first (pairConditions pattern board) ≡ refuse x → untouched x nodes links table ≡ outcome
+  pub find-refused : {x : Refusal} → first (pairConditions Pattern pattern board) ≡ refuse x → untouched x nodes links table ≡ outcome
   unfolding placeAt inputConditions decided placeReply
   find-refused e = rw (first-refuse _ _ _ e)
 
-  find-accepted : first (pairConditions pattern board) ≡ accept
+  find-accepted : first (pairConditions Pattern pattern board) ≡ accept
       → placeOn (radiusFor reach (radiusOf (circuitOf pattern))) (circuitOf pattern) (circuitOf board) w nodes links table ≡ outcome
   unfolding placeOn placeAt inputConditions
   find-accepted e = rw (first-accept _ _ e, length-labels board, length-starts board)
 
-  pub find-read : {p : Pair} {parts host : Circuit} {r : ℕ} → BothRead pattern board p parts host → r ≡ radiusFor reach (p .radius) → {o : PlaceOutcome}
+  pub find-read : {p : Pair} {parts host : Circuit} {r : ℕ} → BothRead Pattern pattern board p parts host → r ≡ radiusFor reach (p .radius) → {o : PlaceOutcome}
       → o ≡ placeOn r (front (p .parts) (p .joins) parts) (front (p .nodes) (p .links) host) w nodes links table → o ≡ outcome
   unfolding radiusOf
   find-read read own e =
-      let radius = own ∙ ap (radiusFor reach) (read .measured ∙ sym (ap (λ (n : ℕ). radius n (startsOf pattern) (endsOf pattern)) (length-labels pattern))) in
+      let radius = own ∙ ap (radiusFor reach) (pair-radius read ∙ sym (ap (λ (n : ℕ). radius n (startsOf pattern) (endsOf pattern)) (length-labels pattern))) in
       (rw (radius, read .drawn .content, read .given .content) at e) ∙ find-accepted (read .verdict)

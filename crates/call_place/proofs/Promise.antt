@@ -94,7 +94,7 @@ module _ (pattern board : CircuitFile) (w r : ℕ) (nodes links table : List ℕ
       nodesOf board ≤ length table → first inputs ≡ accept
   unfolding inputConditions first centreOutside shortTable
   inputs-accept a b h n m t =
-      rw (first-accept _ _ (pair-accept pattern board a b))
+      rw (first-accept _ _ (pair-accept Pattern pattern board a b))
       (simp (lt-ltb _ _ h, le-ltb _ _ n, le-ltb _ _ m, le-ltb _ _ t))
 
   -- and only there.
@@ -111,8 +111,8 @@ module _ (pattern board : CircuitFile) (w r : ℕ) (nodes links table : List ℕ
     parts : (first (fileConditions Pattern pattern) ≡ accept) × (first (fileConditions Board board) ≡ accept) × (w < nodesOf board)
     unfolding inputConditions centreOutside
     parts =
-        let (files, rest) = first-parts (pairConditions pattern board) _ sound in
-        let (drawn, given) = pair-parts pattern board files in
+        let (files, rest) = first-parts (pairConditions Pattern pattern board) _ sound in
+        let (drawn, given) = pair-parts Pattern pattern board files in
         (drawn, given, ltb-true w (nodesOf board) (not-false (ltb w (nodesOf board)) (first-holds _ _ rest .0)))
 
     pub pattern-accepted : Accepted Pattern pattern

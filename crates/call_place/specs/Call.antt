@@ -3,6 +3,7 @@ use mathlib.Core.List.{List, [], _∷_, _++_}
 use Prim.Native.Nat.{ℕ}
 use lib.ListN.{length}
 use Rattle.graph.specs.Circuit.{Circuit}
+use Rattle.file_format.specs.declared.Role.the-variants.{Pattern}
 use Rattle.file_format.specs.Circuit.{circuitOf}
 use Rattle.file_format.specs.Layout.{CircuitFile, nodesOf, linksOf}
 use Rattle.file_format.specs.Refusals.{Condition, Verdict, accept, refuse, first, centreOutside, shortTable}
@@ -19,7 +20,7 @@ placeConditions n m w nodes links table = centreOutside n w ∷ shortTable n nod
 -- the pattern's 1 to 6 before the board's, then 7 and 8
 unfoldable pub inputConditions : CircuitFile → CircuitFile → ℕ → ℕ → ℕ → ℕ → List Condition
 inputConditions pattern board w nodes links table =
-    pairConditions pattern board ++ placeConditions (nodesOf board) (linksOf board) w nodes links table
+    pairConditions Pattern pattern board ++ placeConditions (nodesOf board) (linksOf board) w nodes links table
 
 -- "All lent tables keep their content; counts are 0" where a condition on the inputs holds; else it is as the place has it
 unfoldable pub decided : Verdict → List ℕ → List ℕ → List ℕ → PlaceOutcome → PlaceOutcome

@@ -5,6 +5,7 @@ use file_format::File;
 use file_format::FileVerdict;
 use file_format::Pattern;
 use file_format::Refusal;
+use file_format::Role;
 use file_pair::read_pair;
 use place::Around;
 use place::PlaceAnswer;
@@ -134,6 +135,7 @@ fn find(
     let mut ns = [0u16; Board::MAX_LINKS];
     let mut ne = [0u16; Board::MAX_LINKS];
     let read = read_pair(
+        Role::Pattern,
         editions,
         pattern,
         board,

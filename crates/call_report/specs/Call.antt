@@ -7,6 +7,7 @@ use Prim.Native.Nat.{ℕ}
 use lib.Dec.{eqb}
 use lib.ListN.{length}
 use Rattle.graph.specs.Circuit.{Circuit}
+use Rattle.file_format.specs.declared.Role.the-variants.{Pattern}
 use Rattle.file_format.specs.declared.Refusal.{Refusal}
 use Rattle.file_format.specs.Circuit.{circuitOf}
 use Rattle.file_format.specs.Layout.{firstEdition}
@@ -27,7 +28,7 @@ refusalPiece x from found =
 
 -- whether a file is refused; "the pattern's 1 to 6 before the board's"
 abbrev pub verdictOf : List ℕ → List ℕ → Verdict
-verdictOf pattern board = first (pairConditions (firstEdition pattern) (firstEdition board))
+verdictOf pattern board = first (pairConditions Pattern (firstEdition pattern) (firstEdition board))
 
 -- the piece of two files, by that
 unfoldable pub pieceFor : Verdict → Circuit → Circuit → ℕ → ℕ → ℕ → Piece

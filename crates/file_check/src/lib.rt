@@ -6,7 +6,7 @@ ghost use Rattle.base_lists.specs.List.{all};
 ghost use Rattle.file_format.specs.Layout.{inEdition};
 ghost use Rattle.file_format.specs.Links.{packed, numbersRise};
 ghost use Rattle.file_format.specs.Reading.{LinksTested};
-ghost use Rattle.file_format.specs.Refusals.{sizeNumber, orderNumber};
+ghost use Rattle.file_format.specs.Refusals.{asksConnected, sizeNumber, orderNumber};
 ghost use Rattle.file_format.specs.Role.{inRange, fileOf};
 use file_fields::field_at;
 use file_format::Board;
@@ -17,20 +17,23 @@ use file_format::Refusal;
 use file_format::Role;
 use file_format::package_count;
 
+// The file that a role's refusals name.
+fn file_of(role: Role) -> File
+    ensures { λ r. ⌜ r ≡ fileOf role ⌝ }
+{
+    match role {
+        Role::Pattern => File::Pattern,
+        Role::Board => File::Board,
+        Role::AnyPattern => File::Pattern,
+    }
+}
+
 // The refusal of a file in a role.
 pub fn refusal(role: Role, number: u8) -> Refusal
     ensures { λ r. ⌜ r ≡ record { number = number; file = fileOf role } ⌝ }
 {
-    match role {
-        Role::Pattern => Refusal {
-            number,
-            file: File::Pattern,
-        },
-        Role::Board => Refusal {
-            number,
-            file: File::Board,
-        },
-    }
+    let file = file_of(role);
+    Refusal { number, file }
 }
 
 // N and M are in the role's range.
@@ -40,6 +43,18 @@ pub fn in_range(role: Role, nodes: usize, links: usize) -> bool
     match role {
         Role::Pattern => Pattern::new(nodes, links).in_range(),
         Role::Board => Board::new(nodes, links).in_range(),
+        Role::AnyPattern => Pattern::new(nodes, links).in_range(),
+    }
+}
+
+// A circuit in the role has to be connected.
+fn asks_connected(role: Role) -> bool
+    ensures { λ r. ⌜ r ≡ asksConnected role ⌝ }
+{
+    match role {
+        Role::Pattern => true,
+        Role::Board => false,
+        Role::AnyPattern => false,
     }
 }
 
@@ -136,18 +151,15 @@ pub fn test_links(role: Role, n: usize, starts: &[u16], ends: &[u16]) -> Links
     if number != 0 {
         return Links { number, radius: 0 };
     }
-    match role {
-        Role::Pattern => {
-            let radius = graph_radius::radius(n, starts, ends);
-            if radius == 65535 {
-                Links { number: 6, radius }
-            } else {
-                Links { number: 0, radius }
-            }
-        }
-        Role::Board => Links {
+    if !asks_connected(role) {
+        return Links {
             number: 0,
             radius: 0,
-        },
+        };
     }
+    let radius = graph_radius::radius(n, starts, ends);
+    if radius == 65535 {
+        return Links { number: 6, radius };
+    }
+    Links { number: 0, radius }
 }

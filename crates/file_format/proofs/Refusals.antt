@@ -14,7 +14,7 @@ use Rattle.graph.specs.Search.{connected}
 use Rattle.file_format.specs.declared.File.the-variants.{Neither}
 use Rattle.file_format.specs.declared.Refusal.{Refusal}
 use Rattle.file_format.specs.declared.Role.{Role}
-use Rattle.file_format.specs.declared.Role.the-variants.{Pattern, Board}
+use Rattle.file_format.specs.declared.Role.the-variants.{Pattern, Board, AnyPattern}
 use Rattle.file_format.specs.Layout.{CircuitFile, nodesOf, linksOf, lengthOf, startsOf, endsOf}
 use Rattle.file_format.specs.Links.{linksBelow, rising}
 use Rattle.file_format.specs.Refusals.{Accepted, Condition, Verdict, accept, refuse, NoneHolds, first, FirstHolding, linkConditions, fileConditions, asksConnected, sizeNumber, orderNumber, linkNumber, shortTable}
@@ -361,8 +361,12 @@ range-orders r n m t =
     let rest : T (most && links) = both-right least (most && links) t in
     (leb→le _ _ (both-left least (most && links) t), leb→le _ _ (both-left most links rest), leb→le _ _ (both-right most links rest))
 
-pub range-pattern : (r : Role) (n m : ℕ) → r ≡ Pattern → T (inRange r n m) → (0 < n) × (n ≤ 32) × (m ≤ 256)
-range-pattern r n m e t = range-orders Pattern n m (subst (λ (x : Role). T (inRange x n m)) e t)
+-- a role that is asked to be connected has a pattern's range
+pub range-asked : (r : Role) (n m : ℕ) → T (asksConnected r) → T (inRange r n m) → (0 < n) × (n ≤ 32) × (m ≤ 256)
+unfolding asksConnected
+range-asked Pattern n m a t = range-orders Pattern n m t
+range-asked Board n m a t = absurd a
+range-asked AnyPattern n m a t = absurd a
 
 -- what every role's range leaves
 pub range-bounds : (r : Role) (n m : ℕ) → T (inRange r n m) → (n ≤ 512) × (m ≤ 4096)
@@ -371,4 +375,7 @@ range-bounds Pattern n m t =
     (omega arith, omega arith)
 range-bounds Board n m t =
     let h = range-orders Board n m t in
+    (omega arith, omega arith)
+range-bounds AnyPattern n m t =
+    let h = range-orders AnyPattern n m t in
     (omega arith, omega arith)

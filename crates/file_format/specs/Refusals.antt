@@ -45,10 +45,12 @@ pub record FirstHolding (cs : List Condition) (x : Refusal) : Type 0 where
   pub place : cs ≡ before ++ (record { number = x .number; file = x .file; holds = true } ∷ after)
   pub none : NoneHolds before
 
--- 6 "pattern not connected"
+-- 6 "pattern not connected". "the whole-board call applies neither 6 nor 11" (document 02, patterns in several bits): there a file is read as
+-- any pattern.
 unfoldable pub asksConnected : Role → Bool
 asksConnected role.Pattern = true
 asksConnected role.Board = false
+asksConnected role.AnyPattern = false
 
 -- 5 "links not strictly rising": by start, then by end,
 abbrev pub fallsByLinks : Role → List ℕ → List ℕ → Condition

@@ -19,10 +19,11 @@ pub struct Refusal {
     pub file: File,
 }
 
-// What a file is read or written as.
+// What a file is read or written as. A pattern is connected; the whole-board match tables take any pattern, connected or not.
 pub enum Role {
     Pattern,
     Board,
+    AnyPattern,
 }
 
 // Which edition of the circuit file a file is: the first has no packages, the second has one for each node.

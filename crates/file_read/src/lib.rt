@@ -28,7 +28,14 @@ use file_format::Role;
 use file_format::package_count;
 
 // The starts and the ends of a file of n nodes and m links, each stored in its table.
-fn fill_links(edition: Edition, file: &[u8], n: usize, m: usize, starts: &mut [u16], ends: &mut [u16])
+fn fill_links(
+    edition: Edition,
+    file: &[u8],
+    n: usize,
+    m: usize,
+    starts: &mut [u16],
+    ends: &mut [u16],
+)
     requires { ⌜ length (now file) ≡ lengthOf edition n m ⌝ }
     requires { ⌜ (m ≤ length (now starts)) × (m ≤ length (now ends)) ⌝ }
     ensures { λ r. ⌜ now (starts .exit) ≡ fields (drop (startsAt edition n) (now (file .entry))) m ++ drop m (now (starts .entry)) ⌝ }
@@ -45,11 +52,24 @@ fn fill_labels(edition: Edition, file: &[u8], n: usize, m: usize, labels: &mut [
     ensures { λ r. ⌜ now (labels .exit) ≡ labelsFrom edition (now (file .entry)) n ++ drop n (now (labels .entry)) ⌝ }
 {
     let p = package_count(edition, n);
-    store_labels(stretch(file, 4, n), n, stretch(file, 4 + 2 * n, p), p, labels);
+    store_labels(
+        stretch(file, 4, n),
+        n,
+        stretch(file, 4 + 2 * n, p),
+        p,
+        labels,
+    );
 }
 
 // The kinds of a file of n nodes and m links, and the packages where its edition has them, each stored in its table.
-fn fill_nodes(edition: Edition, file: &[u8], n: usize, m: usize, kinds: &mut [u16], packages: &mut [u16])
+fn fill_nodes(
+    edition: Edition,
+    file: &[u8],
+    n: usize,
+    m: usize,
+    kinds: &mut [u16],
+    packages: &mut [u16],
+)
     requires { ⌜ length (now file) ≡ lengthOf edition n m ⌝ }
     requires { ⌜ (n ≤ length (now kinds)) × (packageCount edition n ≤ length (now packages)) ⌝ }
     ensures { λ r. ⌜ now (kinds .exit) ≡ fields (drop kindsAt (now (file .entry))) n ++ drop n (now (kinds .entry)) ⌝ }

@@ -79,19 +79,17 @@ pub fn write(
 }
 
 // Writes a first-edition file: there are no packages.
-pub fn write_first(role: Role, kinds: &[u16], starts: &[u16], ends: &[u16], out: &mut [u8]) -> WriteAnswer
+pub fn write_first(
+    role: Role,
+    kinds: &[u16],
+    starts: &[u16],
+    ends: &[u16],
+    out: &mut [u8],
+) -> WriteAnswer
     ensures { λ r. ⌜ record { answer = r; reply = writeReply r; out = now (out .exit) }
         ≡ writing role editions.First (now (kinds .entry)) [] (now (starts .entry)) (now (ends .entry)) (now (out .entry)) ⌝ }
 {
-    write(
-        role,
-        Edition::First,
-        kinds,
-        &kinds[0..0],
-        starts,
-        ends,
-        out,
-    )
+    write(role, Edition::First, kinds, &kinds[0..0], starts, ends, out)
 }
 
 // Writes the file of a circuit, whose labels have the kinds and the packages.

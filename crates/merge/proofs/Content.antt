@@ -1,5 +1,5 @@
 -- A circuit that can be the content of a pattern file. Assumes nothing.
-use mathlib.Core.Path.{_≡_, refl, sym, _∙_}
+use mathlib.Core.Path.{_≡_, sym, _∙_}
 use Prim.Native.Nat.{ℕ, _≤_, _<_}
 use native.Mathlib.Nat.{le-trans}
 use lib.Dec.{T, ltb, lit≤}
@@ -16,7 +16,7 @@ use Rattle.file_format.specs.Layout.{CircuitFile}
 use Rattle.file_format.specs.Links.{linksBelow, rising}
 use Rattle.file_format.specs.Role.{inRange}
 use Rattle.file_format.specs.Refusals.{asksConnected, Accepted}
-use Rattle.file_format.proofs.Refusals.{range-pattern}
+use Rattle.file_format.proofs.Refusals.{range-orders}
 use Rattle.place.specs.Match.{radiusOf}
 use Rattle.place.proofs.Ball.{Admissible}
 use Rattle.file_format.specs.Circuit.{circuitOf, Bounded}
@@ -46,7 +46,7 @@ accepted-content {file} a =
 
 module _ {p : Circuit} (c : PatternContent p) where
   sizes : (0 < length (p .kinds)) × (length (p .kinds) ≤ 32) × (length (p .starts) ≤ 256)
-  sizes = range-pattern Pattern (length (p .kinds)) (length (p .starts)) refl (c .range)
+  sizes = range-orders Pattern (length (p .kinds)) (length (p .starts)) (c .range)
 
   pub some-parts : 0 < length (p .kinds)
   some-parts = sizes .0

@@ -33,8 +33,8 @@ agree-iff part node =
         eqb→eq (packageIn part) (packageIn node) (both-left same (any || equal) t),
       ),
       λ (k, e).
-      both same (any || equal) (true-T (eq-eqb (packageIn part) (packageIn node) e))
-      (⊎-elim (λ z. either-left any equal (true-T (eq-eqb (kindIn part) 0 z))) (λ q. either-right any equal (true-T (eq-eqb (kindIn part) (kindIn node) q))) k),
+          both same (any || equal) (true-T (eq-eqb (packageIn part) (packageIn node) e))
+          (⊎-elim (λ z. either-left any equal (true-T (eq-eqb (kindIn part) 0 z))) (λ q. either-right any equal (true-T (eq-eqb (kindIn part) (kindIn node) q))) k),
     )
 
 -- what the agreement says of labels, it says of kinds and packages of 16 bits: "a kind-0 part of package 3 takes nodes of package 3 only"
