@@ -22,8 +22,7 @@ use Rattle.file_format.specs.Reply.{Reply, reply}
 -- "Needed: reading N, M, M"; "Reading the second fills N packages too"
 unfoldable pub readConditions : Role → CircuitFile → ℕ → ℕ → ℕ → ℕ → List Condition
 readConditions role file kinds packages starts ends =
-    fileConditions role file ++
-    (shortTable (nodesOf file) kinds ∷ shortTable (packageCount (file .edition) (nodesOf file)) packages ∷ shortTable (linksOf file) starts ∷ shortTable (linksOf file) ends ∷ [])
+    fileConditions role file ++ (shortTable (nodesOf file) kinds ∷ shortTable (packageCount (file .edition) (nodesOf file)) packages ∷ shortTable (linksOf file) starts ∷ shortTable (linksOf file) ends ∷ [])
 
 -- "Reading fills kinds, starts and ends and replies with N and M."
 unfoldable pub readAnswer : Verdict → ℕ → ℕ → ReadAnswer

@@ -7,14 +7,14 @@ use Prim.Native.Nat.{ℕ, _≤_}
 use native.Mathlib.Nat.{le-of-eq}
 use native.Mathlib.Omega.{arith}
 use lib.Dec.{T, ltb}
-use lib.ListN.{length, take, drop}
+use lib.ListN.{length, getD, take, drop}
 use lib.Seq.{take-at, take-all}
-use Rattle.base_lists.specs.List.{all}
+use Rattle.base_lists.specs.List.{all, Below}
 use Rattle.base_lists.proofs.Tests.{T-true}
 use Rattle.graph.specs.Circuit.{Circuit, HasLink}
 use Rattle.file_format.specs.Circuit.{circuitOf}
 use Rattle.file_format.specs.Label.{labels, kindsIn, packagesIn}
-use Rattle.file_format.proofs.Labels.{length-kinds-in, length-packages-in, labels-kinds, labels-again}
+use Rattle.file_format.proofs.Labels.{length-kinds-in, length-packages-in, plain-package, labels-kinds, labels-again, kinds-again}
 use Rattle.graph.proofs.RisingLinks.{rising-determined}
 use Rattle.file_format.specs.declared.Edition.{Edition}
 use Rattle.file_format.specs.declared.Edition.the-variants.{First, Second}
@@ -32,7 +32,7 @@ use Rattle.file_format.proofs.Refusals.{accepted}
 use Rattle.file_format.proofs.Refusals as file
 use Rattle.file_format.proofs.Rising.{rising-links}
 use Rattle.file_write.specs.declared.WriteAnswer.the-variants.{Written, Refused}
-use Rattle.file_write.specs.Bytes.{fileBytes, kindsFor, circuitBytes}
+use Rattle.file_write.specs.Bytes.{fileBytes, kindsFor, circuitBytes, LabelsFit}
 use Rattle.file_write.specs.Writing.{circuitConditions, WriteOutcome, writing, writeReply}
 use Rattle.file_write.proofs.FileFields.{nodes-written, links-written, kinds-written, packages-written, starts-written, ends-written, length-written, file-below, file-again}
 use Rattle.file_write.proofs.Writing.{verdict-links, sound, writing-refused, writing-filled, writing-accepted}
@@ -197,6 +197,12 @@ pub length-kinds-for : (e : Edition) (ls : List ℕ) → length (kindsFor e ls) 
 unfolding kindsFor
 length-kinds-for First ls = refl
 length-kinds-for Second ls = length-kinds-in ls
+
+-- labels that fit an edition have the kinds that it writes
+pub kinds-for : (e : Edition) (ls : List ℕ) → LabelsFit e ls → kindsIn ls ≡ kindsFor e ls
+unfolding kindsFor LabelsFit Below
+kinds-for First ls fit = kinds-again ls (λ v h. plain-package (getD ls v 0) (fit v h))
+kinds-for Second ls fit = refl
 
 -- kinds and packages as an edition writes them, put together again
 labels-for : (e : Edition) (ls : List ℕ) → labels (kindsFor e ls) (take (packageCount e (length (kindsFor e ls))) (packagesIn ls)) ≡ ls

@@ -92,7 +92,26 @@ pub fn write_first(
     write(role, Edition::First, kinds, &kinds[0..0], starts, ends, out)
 }
 
-// Writes the file of a circuit, whose labels have the kinds and the packages.
+// Writes the file of a circuit, whose labels have the kinds and the packages, with tables for these.
+fn write_parts(
+    role: Role,
+    edition: Edition,
+    labels: &[u32],
+    kinds: &mut [u16],
+    packages: &mut [u16],
+    starts: &[u16],
+    ends: &[u16],
+    out: &mut [u8],
+) -> WriteAnswer
+    requires { ⌜ (length (now kinds) ≡ length (now labels)) × (length (now packages) ≡ length (now labels)) × LabelsFit edition (now labels) ⌝ }
+    ensures { λ r. ⌜ record { answer = r; reply = writeReply r; out = now (out .exit) }
+        ≡ writing role edition (kindsFor edition (now (labels .entry))) (packagesIn (now (labels .entry))) (now (starts .entry)) (now (ends .entry)) (now (out .entry)) ⌝ }
+{
+    split(labels, kinds, packages);
+    write(role, edition, kinds, packages, starts, ends, out)
+}
+
+// The same with tables of its own.
 pub fn write_circuit(
     role: Role,
     edition: Edition,
@@ -108,12 +127,12 @@ pub fn write_circuit(
     let mut kinds = [0u16; Board::MAX_NODES];
     let mut packages = [0u16; Board::MAX_NODES];
     let n = labels.len();
-    split(labels, &mut kinds[..n], &mut packages[..n]);
-    write(
+    write_parts(
         role,
         edition,
-        &kinds[..n],
-        &packages[..n],
+        labels,
+        &mut kinds[..n],
+        &mut packages[..n],
         starts,
         ends,
         out,

@@ -61,7 +61,7 @@ returns c =
     let links = c .before .before .before .before .before .before .before .before .before .before in
     let nodes = links .before .before .before .before .before .before .before .before in
     rw (c .before .before .store4 .ensures, c .before .before .before .before .before .before .store3 .ensures, links .store2 .ensures, links .before .before .before .before .store .ensures, nodes .store-field2 .ensures, nodes .before .before .before .before .store-field .ensures)
-    (file-stored _ _ _ _ _ (omega arith) (omega arith))
+    (file-stored _ _ _ _ _ (c .before .before .before .before .before .before .before .before .before .before .before .before .before .before .before .before .before .before .before .before .before .before .before .before .before .before .before .before .before .pre .0 .3) (c .before .before .before .before .before .before .before .before .before .before .before .before .before .before .before .before .before .before .before .before .before .before .before .before .before .before .before .before .before .pre .1))
 
 pub fill-spec : {M : Type 1} → statement M
 fill-spec =
