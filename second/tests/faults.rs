@@ -4,7 +4,7 @@
 //! in limits, orders and tables.
 
 use second::calls::PlaceTables;
-use second::circuit::{both, parse, Circuit, Role};
+use second::circuit::{both, parse, parse_in, Circuit, Edition, Role};
 use second::compare::finder::{Finder, Second, Words};
 use second::compare::tally::Tally;
 use second::compare::{case, edges};
@@ -72,9 +72,12 @@ enum Fault {
     LoadNoKinds,
     LoadNoNodes,
     LoadNamesBoard,
+    // Of the editions.
+    PackagesIgnored,
+    PackagesDropped,
 }
 
-const FAULTS: [Fault; 51] = [
+const FAULTS: [Fault; 53] = [
     Fault::OneRound,
     Fault::EveryLink,
     Fault::MergedRadius,
@@ -126,6 +129,8 @@ const FAULTS: [Fault; 51] = [
     Fault::LoadNoKinds,
     Fault::LoadNoNodes,
     Fault::LoadNamesBoard,
+    Fault::PackagesIgnored,
+    Fault::PackagesDropped,
 ];
 
 /// The second finder with a planted fault.
@@ -560,6 +565,75 @@ impl Finder for Faulty {
     fn load(&self, numbers: Numbers, out: &mut [u8]) -> Words {
         self.load_call(numbers, out)
     }
+
+    fn read_second(
+        &self,
+        role: Role,
+        file: &[u8],
+        kinds: &mut [u16],
+        packages: &mut [u16],
+        starts: &mut [u16],
+        ends: &mut [u16],
+    ) -> Words {
+        Second.read_second(role, file, kinds, packages, starts, ends)
+    }
+
+    fn write_second(
+        &self,
+        role: Role,
+        kinds: &[u16],
+        packages: &[u16],
+        starts: &[u16],
+        ends: &[u16],
+        out: &mut [u8],
+    ) -> Words {
+        Second.write_second(role, kinds, packages, starts, ends, out)
+    }
+
+    fn radius_second(&self, pattern: &[u8]) -> Words {
+        Second.radius_second(pattern)
+    }
+
+    fn ball_second(&self, board: &[u8], centre: usize, radius: u16, out: &mut [u8]) -> Words {
+        Second.ball_second(board, centre, radius, out)
+    }
+
+    fn match_in(
+        &self,
+        editions: [Edition; 2],
+        pattern: &[u8],
+        board: &[u8],
+        table: &mut [u32],
+    ) -> Words {
+        if self.0 == Fault::PackagesIgnored {
+            let without = |edition, role, file: &[u8]| match parse_in(edition, role, file) {
+                Ok(circuit) => (Edition::First, circuit.bytes()),
+                Err(_) => (edition, file.to_vec()),
+            };
+            let (a, pattern) = without(editions[0], Role::Pattern, pattern);
+            let (b, board) = without(editions[1], Role::Board, board);
+            return Second.match_in([a, b], &pattern, &board, table);
+        }
+        Second.match_in(editions, pattern, board, table)
+    }
+
+    fn merge_second(&self, pattern: &[u8], classes: &mut [u8], out: &mut [u8]) -> Words {
+        Second.merge_second(pattern, classes, out)
+    }
+
+    fn convert(&self, role: Role, from: Edition, file: &[u8], out: &mut [u8]) -> Words {
+        let words = Second.convert(role, from, file, out);
+        if self.0 != Fault::PackagesDropped || words[0] != 12 {
+            return words;
+        }
+        let circuit = parse_in(from, role, file).expect("a sound file");
+        let bytes = circuit.bytes();
+        if out.len() < bytes.len() {
+            return [8, 0, 0, 0, 0, 0];
+        }
+        out[..bytes.len()].copy_from_slice(&bytes);
+        [0, 0, bytes.len() as u32, 0, 0, 0]
+    }
 }
 
 /// A load's bytes as a faulty generator makes them.
@@ -598,7 +672,11 @@ fn faulty_load(fault: Fault, numbers: Numbers) -> Vec<u8> {
         let mut seen = std::collections::BTreeSet::new();
         links.retain(|&link| seen.insert(link));
     }
-    Circuit { kinds, links }.bytes()
+    Circuit {
+        kinds,
+        packages: Vec::new(),
+        links,
+    }.bytes()
 }
 
 impl Faulty {

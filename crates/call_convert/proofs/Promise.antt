@@ -1,20 +1,17 @@
 -- What the converter's promise means: the new file is accepted, holds the circuit of the old one, and there and back again gives the same
 -- bytes. Assumes nothing.
-use mathlib.Core.Bool.{Bool, false, not}
+use mathlib.Core.Bool.{false}
 use mathlib.Core.List.{List, [], _∷_, _++_}
-use mathlib.Core.Logic.{⊎-elim}
-use mathlib.Core.Path.{_≡_, refl, sym, ap, ap₂, subst, _∙_}
+use mathlib.Core.Path.{_≡_, refl, sym, ap, ap₂, _∙_}
 use Prim.Native.Nat.{ℕ, _≤_, _<_}
-use native.Mathlib.Decide.{decLt}
 use native.Mathlib.Nat.{le-of-eq}
 use native.Mathlib.Omega.{arith}
 use borrow.Author.Tests.{le-ltb, ltb-false}
-use lib.Dec.{T, eqb, ltb, eqb→eq}
-use lib.ListN.{length, getD, take, drop, List·getD-eq-default}
+use lib.Dec.{T, ltb}
+use lib.ListN.{length, getD, take, drop}
 use lib.Seq.{take-at, take-all}
-use Rattle.base_lists.specs.List.{all, any, tabulate}
+use Rattle.base_lists.specs.List.{all, tabulate}
 use Rattle.base_lists.proofs.Tables.{getD-tabulate, is-tabulate, tabulate-same}
-use Rattle.base_lists.proofs.Tests.{T-false, false-T, decide, any-at, at-any}
 use Rattle.file_format.specs.declared.Edition.{Edition}
 use Rattle.file_format.specs.declared.Edition.the-variants.{First, Second}
 use Rattle.file_format.specs.declared.Role.{Role}
@@ -31,31 +28,8 @@ use Rattle.file_write.specs.Bytes.{stretchBytes, fileBytes}
 use Rattle.file_write.proofs.FileFields.{nodes-written, links-written, kinds-written, packages-written, starts-written, ends-written, length-written}
 use Rattle.file_write.proofs.RoundTrip.{same-verdict, accepted-file}
 use Rattle.call_convert.specs.Call.{everyPackage, convertedBytes, convertConditions, ConvertOutcome, converting}
+use Rattle.call_convert.proofs.Packages.{lost-none, none-lost, second-kept}
 use Rattle.call_convert.proofs.Converting.{every-length, every-given, file-sound}
-
--- ---- packages other than 0
-
--- none is lost: they are all 0
-lost-none : (ps : List ℕ) → lostPackage First ps ≡ false → (v : ℕ) → getD ps v 0 ≡ 0
-unfolding lostPackage
-lost-none ps e v = go (decLt v (length ps))
-  where
-    go : Dec (v < length ps) → getD ps v 0 ≡ 0
-    go (no h) = List·getD-eq-default ps 0 {n = v} (omega arith)
-    go (yes h) =
-        ⊎-elim (λ t. eqb→eq (getD ps v 0) 0 t)
-        (λ f. absurd (false-T e (at-any (λ p. not (eqb p 0)) ps v h (subst (λ (b : Bool). T (not b)) (sym (T-false f)) tt))))
-        (decide (eqb (getD ps v 0) 0))
-
-none-lost : (to : Edition) (ps : List ℕ) → ((v : ℕ) → getD ps v 0 ≡ 0) → lostPackage to ps ≡ false
-unfolding lostPackage
-none-lost Second ps zero = refl
-none-lost First ps zero = T-false (λ t. let (v, h, n) = any-at (λ p. not (eqb p 0)) ps t in subst (λ (x : ℕ). T (not (eqb x 0))) (zero v) n)
-
--- the second edition loses none
-second-kept : (ps : List ℕ) → lostPackage Second ps ≡ false
-unfolding lostPackage
-second-kept ps = refl
 
 -- ---- the packages of a file, one for each node
 
@@ -74,11 +48,8 @@ every-own Second bytes =
 -- a first-edition file has none that could be lost
 first-kept : (to : Edition) (bytes : List ℕ) → lostPackage to (everyPackage (firstEdition bytes)) ≡ false
 first-kept to bytes =
-    none-lost to (everyPackage (firstEdition bytes)) (λ v. go v (decLt v (nodesOf (firstEdition bytes))))
-  where
-    go : (v : ℕ) → Dec (v < nodesOf (firstEdition bytes)) → getD (everyPackage (firstEdition bytes)) v 0 ≡ 0
-    go v (yes h) = every-at (firstEdition bytes) v h ∙ ap (λ (l : List ℕ). getD l v 0) (first-packages bytes)
-    go v (no h) = List·getD-eq-default (everyPackage (firstEdition bytes)) 0 {n = v} (omega (arith, every-length (firstEdition bytes)))
+    none-lost to (everyPackage (firstEdition bytes))
+    (λ v h. every-at (firstEdition bytes) v (omega (arith, every-length (firstEdition bytes))) ∙ ap (λ (l : List ℕ). getD l v 0) (first-packages bytes))
 
 -- ---- the new file
 

@@ -43,7 +43,8 @@ pub fn radius(edition: Edition, file: &[u8]) -> RadiusAnswer
     if let FileVerdict::Refused(x) = verdict {
         return RadiusAnswer::Refused(x);
     }
-    RadiusAnswer::Radius(read.radius as usize)
+    let width = read.radius as usize;
+    RadiusAnswer::Radius(width)
 }
 
 // The ball around a node of a board: a byte for each node, 1 inside and 0 outside, first in `out`; or the refusal, which leaves `out` as it

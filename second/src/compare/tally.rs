@@ -5,11 +5,11 @@ use std::fmt;
 
 use super::call::{Call, Outcome};
 
-/// For each call how often it gave each number from 0 to 10, and for the laws
+/// For each call how often it gave each number from 0 to 12, and for the laws
 /// how often each was put to the test.
 #[derive(Default)]
 pub struct Tally {
-    numbers: BTreeMap<&'static str, [u64; 11]>,
+    numbers: BTreeMap<&'static str, [u64; 13]>,
     laws: BTreeMap<&'static str, u64>,
 }
 
@@ -38,12 +38,12 @@ impl Tally {
 
 impl fmt::Display for Tally {
     fn fmt(&self, f: &mut fmt::Formatter) -> fmt::Result {
-        write!(f, "{:14}{:>9}", "call", "accepted")?;
-        for number in 1..11 {
+        write!(f, "{:20}{:>9}", "call", "accepted")?;
+        for number in 1..13 {
             write!(f, "{number:>9}")?;
         }
         for (name, row) in &self.numbers {
-            write!(f, "\n{name:14}")?;
+            write!(f, "\n{name:20}")?;
             row.iter().try_for_each(|times| write!(f, "{times:>9}"))?;
         }
         let places = self.of("place", 0) + self.of("place_within", 0);
