@@ -1,13 +1,13 @@
 -- What the converter comes to, by cases: a refused file, a package that would be lost, too few bytes lent, or the new file. Assumes nothing.
 use mathlib.Core.Bool.{true, false}
 use mathlib.Core.List.{List, [], _∷_, _++_}
-use mathlib.Core.Path.{_≡_, refl, sym, ap, _∙_}
+use mathlib.Core.Path.{_≡_, refl, sym, ap, subst, _∙_}
 use Prim.Native.Nat.{ℕ, _≤_, _<_}
 use native.Mathlib.Decide.{decLt}
 use native.Mathlib.Nat.{le-trans}
 use native.Mathlib.Omega.{arith}
 use borrow.Author.Tests.{lt-ltb, le-ltb}
-use lib.ListN.{length, getD, take, drop}
+use lib.ListN.{length, getD, take, drop, replicate, length-replicate, getD-replicate}
 use lib.Seq.{take-at, getD-take, length-take-le}
 use Rattle.base_lists.specs.List.{Below}
 use Rattle.base_lists.proofs.Tables.{length-tabulate, is-tabulate}
@@ -15,6 +15,7 @@ use Rattle.base_lists.proofs.Tests.{T-true}
 use Rattle.file_format.specs.declared.Edition.{Edition}
 use Rattle.file_format.specs.declared.Edition.the-variants.{First, Second}
 use Rattle.file_format.specs.declared.File.the-variants.{Neither}
+use Rattle.file_format.specs.declared.ReadAnswer.{ReadAnswer}
 use Rattle.file_format.specs.declared.ReadAnswer.the-variants as read
 use Rattle.file_format.specs.declared.Refusal.{Refusal}
 use Rattle.file_format.specs.declared.Role.{Role}
@@ -179,3 +180,56 @@ module _ (role : Role) (e : Edition) (bytes ks ps ss es : List ℕ) (k : 512 ≤
 
     pub whole-ends : take m (reading role file ks ps ss es .ends) ≡ endsOf file
     whole-ends = ap (λ (o : ReadOutcome). take m (o .ends)) outcome ∙ take-at (endsOf file) _ m (length-ends file ∙ sym (f .links))
+
+-- what is known of a file that was read so
+pub record Whole (role : Role) (e : Edition) (bytes : List ℕ) (n m : ℕ) (k p s t : List ℕ) : Type 0 where
+  pub sound : first (fileConditions role (inEdition e bytes)) ≡ accept
+  pub nodes : n ≡ nodesOf (inEdition e bytes)
+  pub links : m ≡ linksOf (inEdition e bytes)
+  pub kinds : take n k ≡ kindsOf (inEdition e bytes)
+  pub packages : take n p ≡ everyPackage (inEdition e bytes)
+  pub starts : take m s ≡ startsOf (inEdition e bytes)
+  pub ends : take m t ≡ endsOf (inEdition e bytes)
+
+module _ (role : Role) (e : Edition) (bytes ks ps ss es : List ℕ)
+    (long : (512 ≤ length ks) × (512 ≤ length ps) × (4096 ≤ length ss) × (4096 ≤ length es)) {a : ReadAnswer} {k p s t : List ℕ}
+    (o : record { answer = a; reply = readReply a; kinds = k; packages = p; starts = s; ends = t } ≡ reading role (inEdition e bytes) ks ps ss es) where
+  pub whole-turned : {x : Refusal} → a ≡ read.Refused x → first (fileConditions role (inEdition e bytes)) ≡ refuse x
+  whole-turned {x} q =
+      whole-refused role e bytes ks ps ss es (long .0) (long .1) (long .2) (long .3) x (sym (ap (λ (o : ReadOutcome). o .answer) o) ∙ q)
+
+  pub whole-read : Below 1 ps → {n m : ℕ} → a ≡ read.Read n m → Whole role e bytes n m k p s t
+  whole-read zero {n} {m} q =
+      let is : reading role (inEdition e bytes) ks ps ss es .answer ≡ read.Read n m = sym (ap (λ (o : ReadOutcome). o .answer) o) ∙ q in
+      let f = reading-accepted role (inEdition e bytes) ks ps ss es n m is in
+      record {
+        sound = f .sound;
+        nodes = f .nodes;
+        links = f .links;
+        kinds = ap (λ (o : ReadOutcome). take n (o .kinds)) o ∙ whole-kinds role e bytes ks ps ss es (long .0) (long .1) (long .2) (long .3) zero n m is;
+        packages = ap (λ (o : ReadOutcome). take n (o .packages)) o ∙ whole-packages role e bytes ks ps ss es (long .0) (long .1) (long .2) (long .3) zero n m is;
+        starts = ap (λ (o : ReadOutcome). take m (o .starts)) o ∙ whole-starts role e bytes ks ps ss es (long .0) (long .1) (long .2) (long .3) zero n m is;
+        ends = ap (λ (o : ReadOutcome). take m (o .ends)) o ∙ whole-ends role e bytes ks ps ss es (long .0) (long .1) (long .2) (long .3) zero n m is;
+      }
+
+module _ {role : Role} {e : Edition} {bytes : List ℕ} {n m : ℕ} {k p s t : List ℕ} (w : Whole role e bytes n m k p s t) where
+  -- each front has the size that was read
+  pub whole-sizes : (length (take n k) ≡ n) × (length (take n p) ≡ n) × (length (take m s) ≡ m) × (length (take m t) ≡ m)
+  whole-sizes = (
+    ap length (w .kinds) ∙ length-kinds (inEdition e bytes) ∙ sym (w .nodes),
+    ap length (w .packages) ∙ every-length (inEdition e bytes) ∙ sym (w .nodes),
+    ap length (w .starts) ∙ length-starts (inEdition e bytes) ∙ sym (w .links),
+    ap length (w .ends) ∙ length-ends (inEdition e bytes) ∙ sym (w .links),
+  )
+
+  pub whole-circuit : (to : Edition) → first (circuitConditions role to (take n k) (take n p) (take m s) (take m t)) ≡ accept
+  whole-circuit to = rw (w .kinds, w .packages, w .starts, w .ends) (file-sound role to (inEdition e bytes) (w .sound))
+
+  pub whole-converted : (to : Edition) (out : List ℕ) {o : ConvertOutcome} → o ≡ convertOn role to (take n k) (take n p) (take m s) (take m t) out
+      → o ≡ converting role to (inEdition e bytes) out
+  whole-converted to out q = (rw (w .kinds, w .packages, w .starts, w .ends) at q) ∙ converting-on role to (inEdition e bytes) out (w .sound)
+
+-- a table of zeros
+pub zeros : (n : ℕ) → Below 1 (replicate n 0)
+unfolding Below
+zeros n i h = rw (getD-replicate n i 0 0 (subst (λ (k : ℕ). i < k) (length-replicate n 0) h)) (omega arith)

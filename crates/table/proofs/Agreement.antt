@@ -7,6 +7,7 @@ use Prim.Native.Nat.{ℕ, _<_}
 use lib.Dec.{T, eqb, eqb→eq}
 use lib.ListN.{length, getD}
 use borrow.Author.Tests.{eq-eqb}
+use Rattle.base_lists.specs.List.{Below}
 use Rattle.base_lists.proofs.Tests.{true-T, both, both-left, both-right, same-test, either-left, either-right, either-cases}
 use Rattle.base_bits.specs.Bits.{numberOf}
 use Rattle.graph.specs.Circuit.{Circuit}
@@ -18,7 +19,7 @@ use Rattle.graph.specs.Search.{inside}
 use Rattle.table_row.specs.Row.{startedOf, lastOf, keptOf, struckOf, roundsOf}
 use Rattle.table_row.specs.Reading.{Equivalent}
 use Rattle.table_row.proofs.Wider.{last-same, started-same, kept-same, struck-same, rounds-same}
-use Rattle.table.specs.Row.{kindsAgree, agrees, problemOf, byEqualKinds, lastTable, started, kept, struck, rounds}
+use Rattle.table.specs.Row.{kindsAgree, agrees, problemOf, byEqualKinds, byKinds, lastTable, started, kept, struck, rounds}
 
 -- ---- the test
 
@@ -153,3 +154,41 @@ module _ (pattern host : Circuit) (taken : List ℕ) (plain : Plain pattern) whe
       × (struck pattern host taken ≡ struckOf (byEqualKinds pattern host taken))
       × (rounds pattern host taken ≡ roundsOf (byEqualKinds pattern host taken))
   plain-counts = (started-same plain-same, kept-same plain-same, struck-same plain-same, rounds-same plain-same)
+
+-- ---- circuits without packages
+
+-- Labels of 16 bits, as circuits of first-edition files have: the problem is that of kinds, so its tables and counts, and all that is made from
+-- them, are those of before there were packages.
+module _ (pattern host : Circuit) (taken : List ℕ) (parts : Below 65536 (pattern .kinds)) (nodes : Below 65536 (host .kinds)) where
+  unpacked-agree : (u v : ℕ) → u < length (pattern .kinds) → v < length (host .kinds)
+      → agrees pattern host u v ≡ (eqb (getD (pattern .kinds) u 0) 0 || eqb (getD (pattern .kinds) u 0) (getD (host .kinds) v 0))
+  unfolding agrees Below
+  unpacked-agree u v h l = agree-plain (getD (pattern .kinds) u 0) (getD (host .kinds) v 0) (parts u h) (nodes v l)
+
+  pub unpacked-same : Equivalent (problemOf pattern host taken) (byKinds pattern host taken)
+  unfolding problemOf byKinds
+  unpacked-same =
+      record {
+        nodes = refl;
+        parts = refl;
+        wider =
+            record {
+              agree = λ u v a. record { part = a .part; node = a .node; agree = subst (λ b. T (inside taken v && b)) (unpacked-agree u v (a .part) (a .node)) (a .agree) };
+              step = λ d u u′ l. (d, record { way = l .way; step = l .step }, λ v v′ a b m. record { move = m .move });
+            };
+        narrower =
+            record {
+              agree = λ u v a. record { part = a .part; node = a .node; agree = subst (λ b. T (inside taken v && b)) (sym (unpacked-agree u v (a .part) (a .node))) (a .agree) };
+              step = λ d u u′ l. (d, record { way = l .way; step = l .step }, λ v v′ a b m. record { move = m .move });
+            };
+      }
+
+  pub unpacked-last : lastTable pattern host taken ≡ lastOf (byKinds pattern host taken)
+  unpacked-last = last-same unpacked-same
+
+  pub unpacked-counts :
+      (started pattern host taken ≡ startedOf (byKinds pattern host taken))
+      × (kept pattern host taken ≡ keptOf (byKinds pattern host taken))
+      × (struck pattern host taken ≡ struckOf (byKinds pattern host taken))
+      × (rounds pattern host taken ≡ roundsOf (byKinds pattern host taken))
+  unpacked-counts = (started-same unpacked-same, kept-same unpacked-same, struck-same unpacked-same, rounds-same unpacked-same)

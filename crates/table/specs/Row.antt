@@ -56,6 +56,18 @@ byEqualKinds pattern host taken =
       moves = neighbours host;
     }
 
+-- the same by the kinds of circuits without packages, as it was before there were any
+unfoldable pub byKinds : Circuit → Circuit → List ℕ → Problem Direction
+byKinds pattern host taken =
+    record {
+      parts = length (pattern .kinds);
+      nodes = length (host .kinds);
+      agree = λ u v. inside taken v && (eqb (getD (pattern .kinds) u 0) 0 || eqb (getD (pattern .kinds) u 0) (getD (host .kinds) v 0));
+      ways = forwards ∷ backwards ∷ [];
+      steps = neighbours pattern;
+      moves = neighbours host;
+    }
+
 -- ---- its row
 
 -- "R0 is the set of pairs with equal kinds."

@@ -2,7 +2,9 @@
 use denote.Ref.{now}
 use mathlib.Core.Bool.{true, false, not}
 use mathlib.Core.Path.{_≡_, sym, _∙_}
+use Prim.Native.Nat.{_+_, _*_, _≤_, _<_}
 use native.Mathlib.Omega.{arith}
+use lib.ListN.{length}
 use borrow.Author.Tests.{ltb-true, ltb-false, not-true, not-false}
 use Rattle.base_lists.proofs.Tests.{true-T}
 use Rattle.load.specs.Load.{inRange}
@@ -49,7 +51,7 @@ returns-2 : tie.Need-returns-2
 returns-2 c =
     let at = c .before .before .before in
     let a = at .before .before .args in
-    let short = ltb-true _ _ (c .before .if2 .taken) in
+    let short : length (now (a .out)) < 4 + 2 * a .n + 4 * a .m = ltb-true _ _ (c .before .if2 .taken) in
     rw (c .refused2 .ensures)
     (loading-short (a .seed) (a .n) (a .m) (a .k) (now (a .out)) (inside at (c .before .before .if1 .left)) (omega arith))
 
@@ -57,7 +59,7 @@ make-requires : tie.Need-make-requires
 make-requires c κs =
     let at = c .before .before .before in
     let a = at .before .before .args in
-    let room = ltb-false _ _ (c .before .if2 .left) in
+    let room : 4 + 2 * a .n + 4 * a .m ≤ length (now (a .out)) = ltb-false _ _ (c .before .if2 .left) in
     (in-range (a .n) (a .m) (a .k) (true-T (inside at (c .before .before .if1 .left))), omega arith)
 
 same-length : tie.Need-same-length
@@ -69,7 +71,7 @@ returns-3 c =
     let long = made .before .before in
     let at = long .before .before in
     let a = at .before .before .args in
-    let room = ltb-false _ _ (long .if2 .left) in
+    let room : 4 + 2 * a .n + 4 * a .m ≤ length (now (a .out)) = ltb-false _ _ (long .if2 .left) in
     loading-made (a .seed) (a .n) (a .m) (a .k) (now (a .out)) (inside at (long .before .if1 .left)) _ _ (omega arith) (made .make .ensures)
 
 pub load-spec : {M : Type 1} → statement M
