@@ -15,7 +15,7 @@ use Rattle.file_format.specs.Layout.{firstEdition, startsOf, endsOf}
 use Rattle.file_format.specs.Reading.{filled, front}
 use Rattle.file_format.specs.Refusals.{refuse, first, shortTable}
 use Rattle.file_format.specs.Reply.{reply}
-use Rattle.file_format.proofs.Fields.{length-kinds}
+use Rattle.file_format.proofs.Fields.{length-labels}
 use Rattle.file_pair.specs.declared.Pair.{Pair}
 use Rattle.file_pair.proofs.Both.{pair-radius}
 use Rattle.file_pair.specs.Pair.{pairConditions, BothRead}
@@ -59,4 +59,4 @@ module _ (pattern board : List ℕ) (from found : ℕ) (out : List ℕ) where
 pub read-radius : {pattern board : List ℕ} {read : Pair} {parts nodes : Circuit} → BothRead Pattern (firstEdition pattern) (firstEdition board) read parts nodes
     → read .radius ≡ radiusOf (front (read .parts) (read .joins) parts)
 unfolding radiusOf
-read-radius {pattern} both = pair-radius both ∙ sym (ap (λ (n : ℕ). radius n (startsOf pattern) (endsOf pattern)) (length-kinds pattern)) ∙ ap radiusOf (sym (both .drawn .content))
+read-radius {pattern} both = pair-radius both ∙ sym (ap (λ (n : ℕ). radius n (startsOf (firstEdition pattern)) (endsOf (firstEdition pattern))) (length-labels (firstEdition pattern))) ∙ ap radiusOf (sym (both .drawn .content))

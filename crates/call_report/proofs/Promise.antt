@@ -138,7 +138,7 @@ module _ (pattern board : List ℕ) where
   -- the board of two accepted files
   few : verdictOf pattern board ≡ accept → length (circuitOf (firstEdition board) .kinds) ≤ 512
   unfolding pairConditions
-  few e = accepted-bounded (accepted Board board (first-parts (fileConditions Pattern (firstEdition pattern)) (fileConditions Board (firstEdition board)) e .1)) .nodes
+  few e = accepted-bounded (accepted Board (firstEdition board) (first-parts (fileConditions Pattern (firstEdition pattern)) (fileConditions Board (firstEdition board)) e .1)) .nodes
 
   -- There are at most 513 items: so many calls are enough.
   pub items-few : itemsOf pattern board ≤ 513
