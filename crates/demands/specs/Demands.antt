@@ -55,21 +55,23 @@ graph file = circuitGraph (circuitOf file)
 abbrev pub equal : CircuitFile → CircuitFile → Relation
 equal pattern board = KindsMatch (circuitOf pattern) (circuitOf board)
 
--- the three tables that are lent to a place call: a byte per node, a byte per link, a set of parts per node
+-- the four tables that are lent to a place call: a byte per node, a byte per link, a set of parts per node, a distance per node
 pub record Lent : Type 0 where
   pub nodes : List ℕ
   pub links : List ℕ
   pub table : List ℕ
+  pub distances : List ℕ
 
 -- they are long enough for a board
 pub record Room (board : CircuitFile) (lent : Lent) : Type 0 where
   pub nodes : nodesOf board ≤ length (lent .nodes)
   pub links : linksOf board ≤ length (lent .links)
   pub table : nodesOf board ≤ length (lent .table)
+  pub distances : nodesOf board ≤ length (lent .distances)
 
 -- the place call with a radius given, and the one at the pattern's radius
 unfoldable pub placed : CircuitFile → CircuitFile → ℕ → ℕ → Lent → PlaceOutcome
-placed pattern board w r lent = placeAt pattern board w r (lent .nodes) (lent .links) (lent .table)
+placed pattern board w r lent = placeAt pattern board w r (lent .nodes) (lent .links) (lent .table) (lent .distances)
 
 unfoldable pub placedOwn : CircuitFile → CircuitFile → ℕ → Lent → PlaceOutcome
 placedOwn pattern board w lent = placed pattern board w (radiusOf (circuitOf pattern)) lent
@@ -100,11 +102,12 @@ noPlace pattern board w r = record { number = 9; file = Neither; holds = not (fo
 -- the conditions of the place calls
 unfoldable pub placedConditions : CircuitFile → CircuitFile → ℕ → ℕ → Lent → List Condition
 placedConditions pattern board w r lent =
-    inputConditions pattern board w (length (lent .nodes)) (length (lent .links)) (length (lent .table)) ++ (noPlace pattern board w r ∷ [])
+    inputConditions pattern board w (length (lent .nodes)) (length (lent .links)) (length (lent .table)) (length (lent .distances)) ++ (noPlace pattern board w r ∷ [])
 
 -- a call has left the tables as they were lent
 unfoldable pub Untouched : Lent → PlaceOutcome → Type 0
-Untouched lent result = (result .nodes ≡ lent .nodes) × (result .links ≡ lent .links) × (result .table ≡ lent .table)
+Untouched lent result =
+    (result .nodes ≡ lent .nodes) × (result .links ≡ lent .links) × (result .table ≡ lent .table) × (result .distances ≡ lent .distances)
 
 unfoldable pub Unread : List ℕ → List ℕ → List ℕ → List ℕ → ReadOutcome → Type 0
 Unread kinds packages starts ends result = (result .kinds ≡ kinds) × (result .packages ≡ packages) × (result .starts ≡ starts) × (result .ends ≡ ends)
