@@ -22,14 +22,15 @@
  * the first edition counts as having all packages 0. The calls read the first edition; those whose names end in _2, or in two digits, read
  * the second: of two digits the first is the pattern's edition and the second the board's, or that of the old file and that of the new.
  *
- * Numbers of refusal. Where several hold, the pattern's 1 to 6 come first, then the board's 1 to 5, then 7, 10, 12, 8 and 9:
+ * Numbers of refusal. Where several hold, the pattern's 1 to 6 come first, then its 11, then the board's 1 to 5, then 7, 10, 12, 8 and 9:
  *   1  a file of under 4 bytes                         6  the pattern is not connected
  *   2  the number of nodes or links out of range       7  the centre is not a node of the board
  *   3  a length that is not the edition's;             8  a lent table is too short
  *      on writing, not as many ends as starts,         9  no place around the centre
  *      or not as many packages as kinds               10  a number of a test load out of its range
- *   4  a link to or from a node that is not there     12  converting to the first edition, a package other than 0
- *   5  links that do not rise strictly, by start and then by end
+ *   4  a link to or from a node that is not there     11  the pattern's radius is above HERONDITCH_RADIUS: two of its parts
+ *   5  links that do not rise strictly,                   are farther apart, which is a mistake in its drawing
+ *      by start and then by end                       12  converting to the first edition, a package other than 0
  */
 #ifndef HERONDITCH_H
 #define HERONDITCH_H
@@ -52,9 +53,10 @@ extern "C" {
 #define HERONDITCH_PATTERN 1
 #define HERONDITCH_BOARD 2
 
-/* the largest circuits: parts and links of a pattern, nodes and links of a board, bytes of their files */
+/* the largest circuits: parts, links and radius of a pattern, nodes and links of a board, bytes of their files */
 #define HERONDITCH_PARTS 32
 #define HERONDITCH_PATTERN_LINKS 256
+#define HERONDITCH_RADIUS 12
 #define HERONDITCH_PATTERN_BYTES (4 + 2 * HERONDITCH_PARTS + 4 * HERONDITCH_PATTERN_LINKS)
 #define HERONDITCH_NODES 512
 #define HERONDITCH_BOARD_LINKS 4096
@@ -138,7 +140,7 @@ heronditch_counts heronditch_place(const uint8_t *pattern, size_t pattern_len, c
                                    uint8_t *nodes, size_t nodes_len, uint8_t *links, size_t links_len, uint32_t *table, size_t table_len,
                                    uint16_t *distances, size_t distances_len);
 
-/* The same at a radius given. */
+/* The same at a radius given, which may be any: HERONDITCH_RADIUS is about the pattern's own. */
 heronditch_counts heronditch_place_within(const uint8_t *pattern, size_t pattern_len, const uint8_t *board, size_t board_len,
                                           size_t centre, uint16_t radius, uint8_t *nodes, size_t nodes_len, uint8_t *links,
                                           size_t links_len, uint32_t *table, size_t table_len, uint16_t *distances, size_t distances_len);

@@ -3,13 +3,14 @@
 //! past those needed keep their content.
 
 use crate::circuit::{
-    both, both_in, gather, gather_second, parse, parse_in, Circuit, Edition, File, Refusal, Role,
+    both, both_in_bits, gather, gather_second, parse, parse_in, Circuit, Edition, File, Refusal,
+    Role,
 };
 use crate::graph::{radius as radius_of, within, Subgraph};
 use crate::load::{load as load_of, Numbers};
 use crate::merged::merged;
 use crate::place::{place as place_of, Place};
-use crate::simulation::{largest, Counts};
+use crate::simulation::{on_board, Counts};
 
 /// The reply of a call without counts: number 0 when accepted, and up to two
 /// values, 0 where there is none.
@@ -230,7 +231,8 @@ fn inside(centre: usize, board: &Circuit) -> Result<(), Refusal> {
     Ok(())
 }
 
-/// Fills the match table on the whole board; replies with the counts.
+/// Fills the match table on the whole board; replies with the counts. The
+/// pattern may be in several bits.
 pub fn match_table(pattern: &[u8], board: &[u8], table: &mut [u32]) -> Counted {
     match_in([Edition::First; 2], pattern, board, table)
 }
@@ -242,10 +244,10 @@ pub fn match_in(
     board: &[u8],
     table: &mut [u32],
 ) -> Counted {
-    either(both_in(editions, pattern, board).and_then(|(pattern, board)| {
+    either(both_in_bits(editions, pattern, board).and_then(|(pattern, board)| {
         let n = board.kinds.len();
         long_enough(&[(table.len(), n)])?;
-        let (pairs, counts) = largest(&pattern, &board, &Subgraph::whole(&board));
+        let (pairs, counts) = on_board(&pattern, &board);
         fill(table, (0..n).map(|v| pairs.word(v)));
         Ok(Counted::accepted(counts))
     }))

@@ -27,7 +27,7 @@ roomConditions n m nodes links table distances = shortTable n nodes ∷ shortTab
 abbrev pub placeConditions : ℕ → ℕ → ℕ → ℕ → ℕ → ℕ → ℕ → List Condition
 placeConditions n m w nodes links table distances = centreOutside n w ∷ roomConditions n m nodes links table distances
 
--- the pattern's 1 to 6 before the board's, then 7 and 8
+-- the pattern's 1 to 6 and 11 before the board's, then 7 and 8
 unfoldable pub inputConditions : CircuitFile → CircuitFile → ℕ → ℕ → ℕ → ℕ → ℕ → List Condition
 inputConditions pattern board w nodes links table distances =
     pairConditions Pattern pattern board ++ placeConditions (nodesOf board) (linksOf board) w nodes links table distances

@@ -16,7 +16,7 @@ use Rattle.base_lists.specs.List.{Below, sum}
 use Rattle.graph.specs.Circuit.{graphOf, circuitGraph}
 use Rattle.graph.specs.Graph.{Graph, Ball, Connected, Radius}
 use Rattle.graph.specs.Rising.{LinksRise}
-use Rattle.graph.specs.Search.{connected}
+use Rattle.graph.specs.Search.{connected, radius}
 use Rattle.simulation.specs.Closed.{Relation, _⊆_, Row}
 use Rattle.simulation.specs.Simulation.{Candidate, Along, Largest}
 use Rattle.simulation.specs.Perfect.{Perfect, Place}
@@ -143,11 +143,13 @@ pub record Demand1 : Type 0 where
       (reporting pattern board from before out .out ≡ out)
   pub converts : (role : Role) (to : Edition) (file : CircuitFile) (out : List ℕ) →
       Decided (convertConditions role to file (length out)) (converting role to file out .reply .verdict) (converting role to file out .out ≡ out)
-  -- what the other demands mean by accepted, and what the conditions 4, 5 and 6 test
+  -- what the other demands mean by accepted, and what the conditions 4, 5, 6 and 11 test
   pub accepts : (role : Role) (file : CircuitFile) → Accepted role file ↔ ReadsAs role file
   pub below : (n : ℕ) (starts ends : List ℕ) → T (linksBelow n starts ends) ↔ (Below n starts × Below n ends)
   pub rises : (starts ends : List ℕ) → T (rising starts ends) ↔ LinksRise starts ends
   pub joins : (n : ℕ) (starts ends : List ℕ) → T (linksBelow n starts ends) → T (connected n starts ends) ↔ Connected (graphOf n starts ends)
+  pub spans : (n : ℕ) (starts ends : List ℕ) → 0 < n → T (linksBelow n starts ends) → T (connected n starts ends) →
+      Radius (graphOf n starts ends) (radius n starts ends)
 
 -- ---- Demand 2
 
