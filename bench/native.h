@@ -7,7 +7,7 @@
 #include <stdint.h>
 
 enum { NATIVE_NEITHER, NATIVE_PATTERN, NATIVE_BOARD };
-enum { NATIVE_PARTS = 32, NATIVE_PATTERN_LINKS = 256, NATIVE_NODES = 512, NATIVE_LINKS = 4096 };
+enum { NATIVE_PARTS = 32, NATIVE_PATTERN_LINKS = 256, NATIVE_NODES = 512, NATIVE_LINKS = 4096, NATIVE_RADIUS = 12 };
 
 /* number 0: accepted; else the refusal's number, and the file that it means. */
 typedef struct {
@@ -17,9 +17,11 @@ typedef struct {
 /* The match table of a pattern file on a whole board file. */
 native_counts native_match(const uint8_t *pattern, size_t pattern_size, const uint8_t *board, size_t board_size, uint32_t *table, size_t table_size);
 
-/* The place of a pattern file around a centre of a board file: a byte for each node and each link, and the table over the place. */
+/* The place of a pattern file around a centre of a board file: a byte for each node and each link, the table over the place, and the distances in
+   the ball. */
 native_counts native_place(const uint8_t *pattern, size_t pattern_size, const uint8_t *board, size_t board_size, size_t centre, uint8_t *nodes,
-                           size_t nodes_size, uint8_t *links, size_t links_size, uint32_t *table, size_t table_size);
+                           size_t nodes_size, uint8_t *links, size_t links_size, uint32_t *table, size_t table_size, uint16_t *distances,
+                           size_t distances_size);
 
 /* ---- the pieces of these calls, for who asks for one centre after another */
 
@@ -33,12 +35,14 @@ typedef struct {
    drives is the board's link ends from forward_at[v] up to forward_at[v + 1], as links rise by start; what drives it stands in `backward`. */
 typedef struct {
     native_circuit pattern, board;
+    unsigned radius;
     uint32_t succ[NATIVE_PARTS], pred[NATIVE_PARTS];
     uint16_t forward_at[NATIVE_NODES + 1], backward_at[NATIVE_NODES + 1], backward[NATIVE_LINKS];
 } native_finder;
 
-/* Reads and checks both files: accepted, or the refusal. */
-native_counts native_read(const uint8_t *pattern, size_t pattern_size, const uint8_t *board, size_t board_size, native_finder *to);
+/* Reads and checks both files: accepted, or the refusal. The pattern has to be connected and of radius 12 at most, and then its radius is
+   kept, unless `any` pattern will do. */
+native_counts native_read(const uint8_t *pattern, size_t pattern_size, const uint8_t *board, size_t board_size, bool any, native_finder *to);
 
 /* Makes the board's neighbour tables. */
 void native_neighbours(native_finder *f);

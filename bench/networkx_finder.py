@@ -45,6 +45,8 @@ def read_circuit(path, role):
     graph.add_edges_from(pairs)
     if role == "pattern" and not nx.is_weakly_connected(graph):
         raise Refused(f"refused 6 {role}")
+    if role == "pattern" and nx.diameter(graph.to_undirected()) > 12:
+        raise Refused(f"refused 11 {role}")
     return graph
 
 
@@ -63,7 +65,7 @@ def dual_simulation(pattern, graph):
     """The nodes of each part in the largest dual simulation."""
     matches = {}
     for part, kind in pattern.nodes(data="kind"):
-        matches[part] = {node for node, other in graph.nodes(data="kind") if other == kind}
+        matches[part] = {node for node, other in graph.nodes(data="kind") if kind in (0, other)}
     changed = True
     while changed:
         changed = False

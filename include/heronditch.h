@@ -22,14 +22,15 @@
  * the first edition counts as having all packages 0. The calls read the first edition; those whose names end in _2, or in two digits, read
  * the second: of two digits the first is the pattern's edition and the second the board's, or that of the old file and that of the new.
  *
- * Numbers of refusal. Where several hold, the pattern's 1 to 6 come first, then the board's 1 to 5, then 7, 10, 12, 8 and 9:
+ * Numbers of refusal. Where several hold, the pattern's 1 to 6 come first, then its 11, then the board's 1 to 5, then 7, 10, 12, 8 and 9:
  *   1  a file of under 4 bytes                         6  the pattern is not connected
  *   2  the number of nodes or links out of range       7  the centre is not a node of the board
  *   3  a length that is not the edition's;             8  a lent table is too short
  *      on writing, not as many ends as starts,         9  no place around the centre
  *      or not as many packages as kinds               10  a number of a test load out of its range
- *   4  a link to or from a node that is not there     12  converting to the first edition, a package other than 0
- *   5  links that do not rise strictly, by start and then by end
+ *   4  a link to or from a node that is not there     11  the pattern's radius is above HERONDITCH_RADIUS: two of its parts
+ *   5  links that do not rise strictly,                   are farther apart, which is a mistake in its drawing
+ *      by start and then by end                       12  converting to the first edition, a package other than 0
  */
 #ifndef HERONDITCH_H
 #define HERONDITCH_H
@@ -41,14 +42,21 @@
 extern "C" {
 #endif
 
+/* The version of this interface. 2: the ball lookup fills distances, and the place calls have a fourth table with them. */
+#define HERONDITCH_VERSION 2
+
+/* The entry of a node outside the ball in a table of distances. */
+#define HERONDITCH_OUTSIDE 65535
+
 /* which file a refusal means */
 #define HERONDITCH_NEITHER 0
 #define HERONDITCH_PATTERN 1
 #define HERONDITCH_BOARD 2
 
-/* the largest circuits: parts and links of a pattern, nodes and links of a board, bytes of their files */
+/* the largest circuits: parts, links and radius of a pattern, nodes and links of a board, bytes of their files */
 #define HERONDITCH_PARTS 32
 #define HERONDITCH_PATTERN_LINKS 256
+#define HERONDITCH_RADIUS 12
 #define HERONDITCH_PATTERN_BYTES (4 + 2 * HERONDITCH_PARTS + 4 * HERONDITCH_PATTERN_LINKS)
 #define HERONDITCH_NODES 512
 #define HERONDITCH_BOARD_LINKS 4096
@@ -117,23 +125,25 @@ heronditch_reply heronditch_driven(const uint16_t *forward_offsets, size_t forwa
 /* Replies with the pattern's radius: the largest distance between two of its parts. */
 heronditch_reply heronditch_radius(const uint8_t *pattern, size_t pattern_len);
 
-/* Marks the ball around a node of the board: N bytes, 1 inside, else 0. Replies with N. */
-heronditch_reply heronditch_ball(const uint8_t *board, size_t board_len, size_t centre, uint16_t radius, uint8_t *out, size_t out_len);
+/* Measures the ball around a node of the board: N entries, each node's distance from the centre, and HERONDITCH_OUTSIDE for a node outside
+ * the ball. Replies with N. */
+heronditch_reply heronditch_ball(const uint8_t *board, size_t board_len, size_t centre, uint16_t radius, uint16_t *out, size_t out_len);
 
 /* Matches the pattern on the whole board: N numbers, in which bit u of entry v says that part u matches node v. */
 heronditch_counts heronditch_match(const uint8_t *pattern, size_t pattern_len, const uint8_t *board, size_t board_len, uint32_t *table,
                                    size_t table_len);
 
 /* Finds the pattern around a node of the board, at the pattern's radius: N node bytes and M link bytes, 1 in the place, else 0, and N
- * numbers as above over the place's nodes, 0 elsewhere. The counts are those of the whole ball. */
+ * numbers as above over the place's nodes, 0 elsewhere; and N distances as of heronditch_ball, whether a node is in the place or not. The
+ * counts are those of the whole ball. */
 heronditch_counts heronditch_place(const uint8_t *pattern, size_t pattern_len, const uint8_t *board, size_t board_len, size_t centre,
-                                   uint8_t *nodes, size_t nodes_len, uint8_t *links, size_t links_len, uint32_t *table,
-                                   size_t table_len);
+                                   uint8_t *nodes, size_t nodes_len, uint8_t *links, size_t links_len, uint32_t *table, size_t table_len,
+                                   uint16_t *distances, size_t distances_len);
 
-/* The same at a radius given. */
+/* The same at a radius given, which may be any: HERONDITCH_RADIUS is about the pattern's own. */
 heronditch_counts heronditch_place_within(const uint8_t *pattern, size_t pattern_len, const uint8_t *board, size_t board_len,
                                           size_t centre, uint16_t radius, uint8_t *nodes, size_t nodes_len, uint8_t *links,
-                                          size_t links_len, uint32_t *table, size_t table_len);
+                                          size_t links_len, uint32_t *table, size_t table_len, uint16_t *distances, size_t distances_len);
 
 /* Merges the parts of a pattern that match each other: the class of each of its N parts, and the merged pattern's file. Lend N bytes and
  * as many bytes as the pattern's file has. Replies with the number of classes and the merged file's length. */
@@ -170,7 +180,7 @@ heronditch_reply heronditch_write_board_2(const uint16_t *kinds, size_t kinds_le
                                           size_t out_len);
 
 heronditch_reply heronditch_radius_2(const uint8_t *pattern, size_t pattern_len);
-heronditch_reply heronditch_ball_2(const uint8_t *board, size_t board_len, size_t centre, uint16_t radius, uint8_t *out, size_t out_len);
+heronditch_reply heronditch_ball_2(const uint8_t *board, size_t board_len, size_t centre, uint16_t radius, uint16_t *out, size_t out_len);
 
 /* Matches a pattern on a board: pattern of the first edition and board of the second, the other way round, and both of the second. */
 heronditch_counts heronditch_match_12(const uint8_t *pattern, size_t pattern_len, const uint8_t *board, size_t board_len, uint32_t *table,

@@ -5,7 +5,7 @@
                   TEXT OUT.cir
                                              write the file of a text
   circuit.py show FILE.cir                   print a text that makes the file
-  circuit.py tell TEXT [REPORT]              print a report with a board's names
+  circuit.py tell [--distance] TEXT [REPORT] print a report with a board's names
   circuit.py convert FILE.cir OUT.cir        write the file in the other edition
 
 The text has one statement a line; '#' begins a comment, and the order of
@@ -34,7 +34,8 @@ packages out.
 
 With --as pattern or --as board the circuit must also fit that role: a pattern
 has 1 to 32 nodes, at most 256 links and is connected; a board has at most 512
-nodes and 4096 links.
+nodes and 4096 links. --as bits is for a pattern in several bits, which need not
+be connected: only the whole-board match table takes one.
 
 Errors in a text are told with its name and line number, all of them at once.
 """
@@ -46,7 +47,7 @@ import sys
 
 ARROWS = ("->", "<-", "<->")
 MOST = 65535
-LIMITS = {"pattern": (1, 32, 256), "board": (0, 512, 4096)}
+LIMITS = {"pattern": (1, 32, 256), "bits": (1, 32, 256), "board": (0, 512, 4096)}
 ZERO = {"any": "pattern", "unidentified": "board"}  # the names of kind 0, and the role each is for
 STATEMENTS = "expected 'kind NAME NUMBER', 'package NAME NUMBER', 'node NAME KIND' or 'NAME -> NAME'"
 
@@ -192,8 +193,9 @@ class Reader:
         (word, _), line = self.nodes[name]
         number = number_of(word)
         if word in ZERO:
-            if self.role not in (None, ZERO[word]):
-                self.fault(f"'{word}' is for a {ZERO[word]}, and this is a {self.role}", line)
+            role = "pattern" if self.role == "bits" else self.role
+            if role not in (None, ZERO[word]):
+                self.fault(f"'{word}' is for a {ZERO[word]}, and this is a {role}", line)
             return 0
         if number is None and word in self.kinds:
             return self.kinds[word][0]
@@ -269,33 +271,40 @@ def load_text(path, role=None):
         raise Faults([f"{path}:{line}: not a UTF-8 text"]) from None
 
 
+def distances(circuit, centre):
+    """The distance of each node that a path joins to the centre, directions ignored."""
+    neighbours = {number: set() for number in range(len(circuit.kinds))}
+    for start, end in circuit.links:
+        neighbours[start].add(end)
+        neighbours[end].add(start)
+    far, ring, step = {centre: 0}, {centre}, 0
+    while ring:
+        step += 1
+        ring = {other for node in ring for other in neighbours[node]} - far.keys()
+        far.update(dict.fromkeys(ring, step))
+    return far
+
+
 def unreached(circuit):
     """The names of the nodes that no path joins to node 0, directions ignored."""
-    neighbours = {number: [] for number in range(len(circuit.kinds))}
-    for start, end in circuit.links:
-        neighbours[start].append(end)
-        neighbours[end].append(start)
-    reached, waiting = {0}, [0]
-    while waiting:
-        for other in neighbours[waiting.pop()]:
-            if other not in reached:
-                reached.add(other)
-                waiting.append(other)
-    return [name for number, name in enumerate(circuit.names) if number not in reached]
+    far = distances(circuit, 0)
+    return [name for number, name in enumerate(circuit.names) if number not in far]
 
 
 def check_role(circuit, role, path):
     """Demands that a circuit fits a role."""
     least, most, most_links = LIMITS[role]
     nodes, links = len(circuit.kinds), len(circuit.links)
+    what = "pattern" if role == "bits" else role
     if not least <= nodes <= most:
-        raise Faults([f"{path}: {nodes} nodes, and a {role} has {least} to {most}"])
+        raise Faults([f"{path}: {nodes} nodes, and a {what} has {least} to {most}"])
     if links > most_links:
-        raise Faults([f"{path}: {links} links, and a {role} has at most {most_links}"])
+        raise Faults([f"{path}: {links} links, and a {what} has at most {most_links}"])
     apart = unreached(circuit) if role == "pattern" else []
     if apart:
         raise Faults([f"{path}: a pattern is connected, but no path joins "
-                      f"'{apart[0]}' to '{circuit.names[0]}'"])
+                      f"'{apart[0]}' to '{circuit.names[0]}' (--as bits: a pattern in several bits, "
+                      "for the whole-board match table alone)"])
 
 
 def read_file(data, name):
@@ -337,18 +346,29 @@ def text_of(circuit):
     return "\n".join(lines) + "\n"
 
 
-def told(report, circuit):
-    """A report with the names of a board's nodes in place of their numbers."""
+def told(report, circuit, probing=False):
+    """A report with the names of a board's nodes in place of their numbers, or by their distance from the centre."""
     lines = []
     for line in report.splitlines():
         words = line.split()
         if words[:1] == ["place"]:
             try:
-                words = [named(word, circuit.names) for word in words]
-            except (ValueError, IndexError):
+                words = by_distance(words, circuit) if probing else [named(word, circuit.names) for word in words]
+            except (ValueError, IndexError, KeyError):
                 raise Faults([f"not a report on this board: {line}"]) from None
         lines.append(" ".join(words) + "\n")
     return "".join(lines)
+
+
+def by_distance(words, circuit):
+    """The nodes of a place's line, each distance from the centre followed by the nodes there."""
+    nodes = [int(word) for word in words[2:words.index("/")]]
+    far = distances(circuit, int(words[1][:-1]))
+    listed = []
+    for distance in sorted({far[node] for node in nodes}):
+        listed.append(f"{distance}:")
+        listed += [circuit.names[node] for node in nodes if far[node] == distance]
+    return ["place", circuit.names[int(words[1][:-1])] + ",", *listed]
 
 
 def named(word, names):
@@ -394,7 +414,7 @@ def tell(arguments):
     """The command 'tell'."""
     circuit = load_text(arguments.text)
     with open(arguments.report or 0, encoding="utf-8") as file:
-        sys.stdout.write(told(file.read(), circuit))
+        sys.stdout.write(told(file.read(), circuit, arguments.distance))
 
 
 def convert(arguments):
@@ -429,6 +449,7 @@ def command_line():
     one.set_defaults(run=show)
     one = commands.add_parser("tell", help="print a report with a board's names")
     one.add_argument("text", metavar="TEXT")
+    one.add_argument("--distance", action="store_true", help="each place's nodes by their distance from the centre")
     one.add_argument("report", metavar="REPORT", nargs="?", help="standard input if left out")
     one.set_defaults(run=tell)
     return parser

@@ -163,6 +163,10 @@ def test_roles(folder):
     for role in ("pattern", "board"):
         done, made = file_of(folder, GOOD[0][1], "--as", role)
         check(f"T as {role}", made == bytes.fromhex(T_FILE), done)
+    done, made = file_of(folder, "node a any\nnode b 1\nb -> b", "--as", "bits")
+    check("a pattern in several bits", made is not None, done)
+    done, made = file_of(folder, "", "--as", "bits")
+    check("no bit", done.returncode == 1 and "0 nodes, and a pattern has 1 to 32" in done.stderr, done)
     done, made = file_of(folder, "", "--as", "board")
     check("a board without nodes", made == bytes(4), done)
 
@@ -209,6 +213,8 @@ def test_tell(folder):
     report.write_text(REPORT, encoding="utf-8")
     check("a report", run("tell", text, report).stdout == NAMED)
     check("a report given", run("tell", text, given=REPORT).stdout == NAMED)
+    near = "place a, 0: a 1: b 2: c\nplace f, 0: f\nend 2 of 6\n"
+    check("a report by distance", run("tell", "--distance", text, report).stdout == near)
     check("a refusal", run("tell", text, given="refused 3 board\n").stdout == "refused 3 board\n")
     done = run("tell", text, given="place 9: 9 /\n")
     check("another board's report", done.returncode == 1 and "not a report" in done.stderr, done)

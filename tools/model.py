@@ -70,9 +70,11 @@ def link_refusal(role, circuit):
     pairs = links(circuit)
     if any(not a < b for a, b in zip(pairs, pairs[1:])):
         return 5
-    if role == "pattern" and not connected(circuit):
-        return 6
     return 0
+
+
+def shape_refusal(role, circuit):
+    return 6 if role == "pattern" and not connected(circuit) else 0
 
 
 def out_of_range(role, n, m):
@@ -82,6 +84,12 @@ def out_of_range(role, n, m):
 
 def parse(role, data, edition=1):
     """The circuit of a file of an edition, or the number of the first of the conditions 1 to 6 that holds."""
+    circuit = parse_in_bits(role, data, edition)
+    return circuit if isinstance(circuit, int) else shape_refusal(role, circuit) or circuit
+
+
+def parse_in_bits(role, data, edition=1):
+    """The circuit, connected or not, or the number of the first of the conditions 1 to 5 that holds."""
     if len(data) < 4:
         return 1
     n, m = field(data, 0), field(data, 2)
@@ -141,7 +149,7 @@ def ball(data, centre, r, out):
     if len(out) < n:
         return ("refused", 8, "neither")
     found = distances(circuit, centre)
-    out[:n] = [1 if v in found and found[v] <= r else 0 for v in range(n)]
+    out[:n] = [found[v] if v in found and found[v] <= r else 65535 for v in range(n)]
     return ("ball", n)
 
 
@@ -152,7 +160,7 @@ def write(role, kinds, starts, ends, out):
     if len(starts) != len(ends):
         return ("refused", 3, role)
     circuit = Circuit(kinds, starts, ends)
-    number = link_refusal(role, circuit)
+    number = link_refusal(role, circuit) or shape_refusal(role, circuit)
     if number:
         return ("refused", number, role)
     data = encode(circuit)
@@ -217,8 +225,8 @@ def largest(pattern, board):
 
 
 def match_table(pattern_data, board_data, table, editions=(1, 1)):
-    """The reply of the whole-board call; the table is a list that it fills in place."""
-    pattern = parse("pattern", pattern_data, editions[0])
+    """The reply of the whole-board call; the table is a list that it fills in place. The pattern may be in several bits."""
+    pattern = parse_in_bits("pattern", pattern_data, editions[0])
     if isinstance(pattern, int):
         return ("refused", pattern, "pattern")
     board = parse("board", board_data, editions[1])
@@ -228,6 +236,8 @@ def match_table(pattern_data, board_data, table, editions=(1, 1)):
     if len(table) < n:
         return ("refused", 8, "neither")
     pairs, counts = largest(pattern, board)
+    if len({u for u, _ in pairs}) < len(pattern.kinds):
+        pairs, counts = set(), (counts[0], 0, counts[0], counts[3])
     table[:n] = [0] * n
     for u, v in pairs:
         table[v] += 2**u

@@ -125,8 +125,8 @@ impl Circuit {
         }
     }
 
-    /// Refusals 4, 5 and 6, in this order.
-    pub fn judge(&self, role: Role) -> Result<(), Refusal> {
+    /// Refusals 4 and 5, in this order.
+    fn judge_links(&self, role: Role) -> Result<(), Refusal> {
         let nodes = self.kinds.len();
         if self.links.iter().any(|&(v, w)| v >= nodes || w >= nodes) {
             return Err(role.refuses(4));
@@ -134,7 +134,12 @@ impl Circuit {
         if self.links.windows(2).any(|pair| pair[0] >= pair[1]) {
             return Err(role.refuses(5));
         }
-        if role == Role::Pattern && !graph::connected(nodes, &self.links) {
+        Ok(())
+    }
+
+    /// Refusal 6.
+    fn judge_shape(&self, role: Role) -> Result<(), Refusal> {
+        if role == Role::Pattern && !graph::connected(self.kinds.len(), &self.links) {
             return Err(role.refuses(6));
         }
         Ok(())
@@ -157,6 +162,14 @@ pub fn parse(role: Role, bytes: &[u8]) -> Result<Circuit, Refusal> {
 /// The circuit in a file of an edition read in a role, or the first of the
 /// refusals about one file.
 pub fn parse_in(edition: Edition, role: Role, bytes: &[u8]) -> Result<Circuit, Refusal> {
+    let circuit = parse_in_bits(edition, role, bytes)?;
+    circuit.judge_shape(role)?;
+    Ok(circuit)
+}
+
+/// The circuit in a file of an edition read in a role, connected or not, or
+/// the first of refusals 1 to 5.
+fn parse_in_bits(edition: Edition, role: Role, bytes: &[u8]) -> Result<Circuit, Refusal> {
     if bytes.len() < 4 {
         return Err(role.refuses(1));
     }
@@ -175,7 +188,7 @@ pub fn parse_in(edition: Edition, role: Role, bytes: &[u8]) -> Result<Circuit, R
     };
     let (starts, ends) = links.split_at(m);
     let circuit = assemble(kinds, packages, starts, ends);
-    circuit.judge(role)?;
+    circuit.judge_links(role)?;
     Ok(circuit)
 }
 
@@ -196,6 +209,16 @@ pub fn both_in(
     ))
 }
 
+/// Both files for the whole-board table, which takes patterns in several bits.
+pub fn both_in_bits(
+    editions: [Edition; 2],
+    pattern: &[u8],
+    board: &[u8],
+) -> Result<(Circuit, Circuit), Refusal> {
+    let pattern = parse_in_bits(editions[0], Role::Pattern, pattern)?;
+    Ok((pattern, parse_in(editions[1], Role::Board, board)?))
+}
+
 /// The circuit given as three tables, to be written in the first edition, or
 /// the first of refusals 2 to 6.
 pub fn gather(role: Role, kinds: &[u16], starts: &[u16], ends: &[u16]) -> Result<Circuit, Refusal> {
@@ -206,7 +229,8 @@ pub fn gather(role: Role, kinds: &[u16], starts: &[u16], ends: &[u16]) -> Result
         return Err(role.refuses(3));
     }
     let circuit = assemble(kinds, &[], starts, ends);
-    circuit.judge(role)?;
+    circuit.judge_links(role)?;
+    circuit.judge_shape(role)?;
     Ok(circuit)
 }
 
@@ -225,7 +249,8 @@ pub fn gather_second(
         return Err(role.refuses(3));
     }
     let circuit = assemble(kinds, packages, starts, ends);
-    circuit.judge(role)?;
+    circuit.judge_links(role)?;
+    circuit.judge_shape(role)?;
     Ok(circuit)
 }
 

@@ -4,11 +4,11 @@
 //! in limits, orders and tables.
 
 use second::calls::PlaceTables;
-use second::circuit::{both, parse, parse_in, Circuit, Edition, Role};
+use second::circuit::{both, both_in_bits, parse, parse_in, Circuit, Edition, Role};
 use second::compare::finder::{Finder, Second, Words};
 use second::compare::tally::Tally;
 use second::compare::{case, edges};
-use second::graph::{ball, distances, radius, Subgraph};
+use second::graph::{ball, distances, radius, within, Subgraph};
 use second::load::Numbers;
 use second::merged::merged;
 use second::simulation::{largest, match_graph, Pairs};
@@ -56,6 +56,12 @@ enum Fault {
     RadiusCut,
     KindCut,
     AnyPartFindsNone,
+    OutsideAtZero,
+    DistanceInThePlace,
+    DistancePastTheBall,
+    SixOnTheBoard,
+    PartsLeftOut,
+    ClearedRound,
     SelfLinksIgnored,
     WritingCut,
     WritingUneven,
@@ -77,7 +83,7 @@ enum Fault {
     PackagesDropped,
 }
 
-const FAULTS: [Fault; 53] = [
+const FAULTS: [Fault; 59] = [
     Fault::OneRound,
     Fault::EveryLink,
     Fault::MergedRadius,
@@ -114,6 +120,12 @@ const FAULTS: [Fault; 53] = [
     Fault::RadiusCut,
     Fault::KindCut,
     Fault::AnyPartFindsNone,
+    Fault::OutsideAtZero,
+    Fault::DistanceInThePlace,
+    Fault::DistancePastTheBall,
+    Fault::SixOnTheBoard,
+    Fault::PartsLeftOut,
+    Fault::ClearedRound,
     Fault::SelfLinksIgnored,
     Fault::WritingCut,
     Fault::WritingUneven,
@@ -249,10 +261,30 @@ impl Faulty {
                 let bytes = |table: Vec<bool>| table.into_iter().map(u8::from).collect::<Vec<u8>>();
                 out.nodes[..graph.nodes.len()].copy_from_slice(&bytes(graph.nodes));
                 out.links[..graph.links.len()].copy_from_slice(&bytes(graph.links));
+                let far = self.distances(files.1, centre, radius, &out.nodes[..table.len()]);
+                out.distances[..table.len()].copy_from_slice(&far);
                 out.table[..table.len()].copy_from_slice(&table);
             }
         }
         words
+    }
+
+    /// The distances of a place call by the faulty rules.
+    fn distances(&self, board: &Circuit, centre: usize, radius: usize, place: &[u8]) -> Vec<u16> {
+        let far = match self.0 {
+            Fault::DistancePastTheBall => within(board, centre, usize::MAX),
+            _ => within(board, centre, radius),
+        };
+        let outside = match self.0 {
+            Fault::OutsideAtZero => 0,
+            _ => 65535,
+        };
+        let only = self.0 == Fault::DistanceInThePlace;
+        let entry = |(d, &is): (&Option<usize>, &u8)| match d {
+            Some(d) if is == 1 || !only => *d as u16,
+            _ => outside,
+        };
+        far.iter().zip(place).map(entry).collect()
     }
 
     /// Faults in a reply with counts.
@@ -320,11 +352,13 @@ impl Faulty {
             nodes,
             links,
             table,
+            distances,
         } = out;
         let inner = PlaceTables {
             nodes: &mut *nodes,
             links,
             table,
+            distances,
         };
         let words = self.refill((pattern, board), call.centre, r, words, inner);
         if self.0 == Fault::LaterCleared && words[0] == 0 {
@@ -384,10 +418,12 @@ impl PlaceCall<'_> {
     fn sound(&self, out: &PlaceTables) -> Words {
         let (mut nodes, mut links, mut table) =
             (out.nodes.to_vec(), out.links.to_vec(), out.table.to_vec());
+        let mut distances = out.distances.to_vec();
         let out = PlaceTables {
             nodes: &mut nodes,
             links: &mut links,
             table: &mut table,
+            distances: &mut distances,
         };
         match self.radius {
             None => Second.place(&self.pattern, self.board, self.centre, out),
@@ -497,7 +533,7 @@ impl Finder for Faulty {
         Second.radius(pattern)
     }
 
-    fn ball(&self, board: &[u8], centre: usize, radius: u16, out: &mut [u8]) -> Words {
+    fn ball(&self, board: &[u8], centre: usize, radius: u16, out: &mut [u16]) -> Words {
         Second.ball(board, centre, radius, out)
     }
 
@@ -507,6 +543,14 @@ impl Finder for Faulty {
         match (self.0, words, sound) {
             (Fault::BoardBeforePattern, [_, 1, ..], Err(refusal)) => {
                 [refusal.number, 2, 0, 0, 0, 0]
+            }
+            (Fault::SixOnTheBoard, ..) => match parse(Role::Pattern, pattern) {
+                Err(refusal) => [refusal.number, 1, 0, 0, 0, 0],
+                Ok(_) => words,
+            },
+            (Fault::PartsLeftOut, [0, ..], Ok(board)) => plain_row(pattern, &board, table),
+            (Fault::ClearedRound, [0, 0, started, 0, struck, rounds], _) if started > 0 => {
+                [0, 0, started, 0, struck, rounds + 1]
             }
             _ => self.counts(words),
         }
@@ -594,7 +638,7 @@ impl Finder for Faulty {
         Second.radius_second(pattern)
     }
 
-    fn ball_second(&self, board: &[u8], centre: usize, radius: u16, out: &mut [u8]) -> Words {
+    fn ball_second(&self, board: &[u8], centre: usize, radius: u16, out: &mut [u16]) -> Words {
         Second.ball_second(board, centre, radius, out)
     }
 
@@ -703,6 +747,18 @@ impl Faulty {
         out[..bytes.len()].copy_from_slice(&bytes);
         [0, 0, bytes.len() as u32, 0, 0, 0]
     }
+}
+
+/// The whole-board call without the rule that every part has a node.
+fn plain_row(pattern: &[u8], board: &Circuit, table: &mut [u32]) -> Words {
+    let (pattern, _) = both_in_bits([Edition::First; 2], pattern, &board.bytes()).expect("accepted files");
+    let (pairs, counts) = largest(&pattern, board, &Subgraph::whole(board));
+    for (v, entry) in table.iter_mut().enumerate().take(board.kinds.len()) {
+        *entry = pairs.word(v);
+    }
+    let word = |number: usize| number as u32;
+    let (started, kept) = (word(counts.started), word(counts.kept));
+    [0, 0, started, kept, started - kept, word(counts.rounds)]
 }
 
 /// The number of the first of so many random cases that tells the finders apart.

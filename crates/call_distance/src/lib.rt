@@ -47,9 +47,15 @@ pub fn radius(edition: Edition, file: &[u8]) -> RadiusAnswer
     RadiusAnswer::Radius(width)
 }
 
-// The ball around a node of a board: a byte for each node, 1 inside and 0 outside, first in `out`; or the refusal, which leaves `out` as it
-// was.
-pub fn ball(edition: Edition, file: &[u8], centre: usize, radius: u16, out: &mut [u8]) -> BallAnswer
+// The ball around a node of a board: the distance of each node from the centre, and 65,535 outside, first in `out`; or the refusal, which
+// leaves `out` as it was.
+pub fn ball(
+    edition: Edition,
+    file: &[u8],
+    centre: usize,
+    radius: u16,
+    out: &mut [u16],
+) -> BallAnswer
     ensures { λ r. ⌜ record { reply = ballReply r; out = now (out .exit) } ≡ ballCall (inEdition edition (now (file .entry))) centre radius (now (out .entry)) ⌝ }
 {
     let mut labels = [0u32; Board::MAX_NODES];
@@ -75,11 +81,12 @@ pub fn ball(edition: Edition, file: &[u8], centre: usize, radius: u16, out: &mut
             file: File::Neither,
         });
     }
+    let short = Refusal {
+        number: 8,
+        file: File::Neither,
+    };
     if out.len() < n {
-        return BallAnswer::Refused(Refusal {
-            number: 8,
-            file: File::Neither,
-        });
+        return BallAnswer::Refused(short);
     }
     fill_ball(
         &labels[..n],

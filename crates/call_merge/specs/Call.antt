@@ -20,7 +20,7 @@ use Rattle.call_merge.specs.declared.MergeAnswer.the-variants.{Merged, R
 unfoldable pub mergedBytes : Edition → Circuit → List ℕ
 mergedBytes e p = circuitBytes e (merged p)
 
--- the pattern's 1 to 6, then 8: "Needed: .. merging N classes and the first pattern's file length"
+-- the pattern's 1 to 6 and 11, then 8: "Needed: .. merging N classes and the first pattern's file length"
 unfoldable pub mergeConditions : CircuitFile → ℕ → ℕ → List Condition
 mergeConditions file classes out = fileConditions Pattern file ++ (shortTable (nodesOf file) classes ∷ shortTable (length (file .bytes)) out ∷ [])
 

@@ -61,7 +61,7 @@ outcomeFor need p out =
     let verdict = first (shortTable need (length out) ∷ []) in
     record { reply = reply verdict (p .next ∷ p .found ∷ length (p .text) ∷ []); out = filled verdict (p .text) out }
 
--- "Rising numbers are the order": 1 to 6 come before 8 here too, and what a refused file comes to is text. 8 is the only refusal. For the
+-- "Rising numbers are the order": the files' conditions come before 8 here too, and what a refused file comes to is text. 8 is the only refusal. For the
 -- lines the room needed is a bound, as merging needs the first pattern's file length: 8 is then known without matching, and what does for
 -- one piece does for every later one, so that no report is refused half-way. Bytes after the piece keep their content.
 unfoldable pub reporting : List ℕ → List ℕ → ℕ → ℕ → List ℕ → ReportOutcome

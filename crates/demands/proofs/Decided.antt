@@ -10,7 +10,7 @@ use lib.Dec.{T, ltb, ltb→lt, lt→ltb}
 use lib.ListN.{length}
 use Rattle.base_lists.specs.List.{all, Below}
 use Rattle.base_lists.proofs.Tests.{both, both-left, both-right, all-at, at-all}
-use Rattle.graph.proofs.Distance.{connected-iff}
+use Rattle.graph.proofs.Distance.{connected-iff, radius-is}
 use Rattle.file_format.specs.declared.Edition.{Edition}
 use Rattle.file_format.specs.declared.Refusal.{Refusal}
 use Rattle.file_format.specs.declared.Role.{Role}
@@ -145,24 +145,24 @@ verdict-nine pattern board w r = turned (found (circuitOf pattern) (circuitOf bo
 
 module _ (pattern board : CircuitFile) (w r : ℕ) (lent : Lent) where
   abbrev inputs : List Condition
-  inputs = inputConditions pattern board w (length (lent .nodes)) (length (lent .links)) (length (lent .table))
+  inputs = inputConditions pattern board w (length (lent .nodes)) (length (lent .links)) (length (lent .table)) (length (lent .distances))
 
   by-inputs : (x : Refusal) → first inputs ≡ refuse x → (placed pattern board w r lent .reply .verdict ≡ refuse x) × Untouched lent (placed pattern board w r lent)
   unfolding placed Untouched
   by-inputs x e =
-      let (verdict, _, nodes, links, table) = input-refused pattern board w r (lent .nodes) (lent .links) (lent .table) x e in
-      (verdict, (nodes, links, table))
+      let (verdict, _, nodes, links, table, distances) = input-refused pattern board w r (lent .nodes) (lent .links) (lent .table) (lent .distances) x e in
+      (verdict, (nodes, links, table, distances))
 
   verdict-place : first inputs ≡ accept → placed pattern board w r lent .reply .verdict ≡ placeVerdict (circuitOf pattern) (circuitOf board) w r
   unfolding placed
-  verdict-place = verdict-is pattern board w r (lent .nodes) (lent .links) (lent .table)
+  verdict-place = verdict-is pattern board w r (lent .nodes) (lent .links) (lent .table) (lent .distances)
 
   by-nine : first inputs ≡ accept → (x : Refusal) → placed pattern board w r lent .reply .verdict ≡ refuse x → Untouched lent (placed pattern board w r lent)
   unfolding placed Untouched
   by-nine sound x e =
       ⊎-elim (λ ok. let apart : refuse x ≡ accept = sym e ∙ ok in let z : _≡_ {A = ℕ} 0 1 = cc in absurd (omega arith))
-      (λ none. nine-keeps pattern board w r (lent .nodes) (lent .links) (lent .table) sound none)
-      (accept-or-nine pattern board w r (lent .nodes) (lent .links) (lent .table) sound)
+      (λ none. nine-keeps pattern board w r (lent .nodes) (lent .links) (lent .table) (lent .distances) sound none)
+      (accept-or-nine pattern board w r (lent .nodes) (lent .links) (lent .table) (lent .distances) sound)
 
   verdict-all : placed pattern board w r lent .reply .verdict ≡ first (placedConditions pattern board w r lent)
   unfolding placedConditions
@@ -182,7 +182,7 @@ module _ (pattern board : CircuitFile) (w r : ℕ) (lent : Lent) where
   places : Decided (placedConditions pattern board w r lent) (placed pattern board w r lent .reply .verdict) (Untouched lent (placed pattern board w r lent))
   places = by-first (placedConditions pattern board w r lent) verdict-all untouched
 
--- ---- what is accepted, and what the conditions 4, 5 and 6 test
+-- ---- what is accepted, and what the conditions 4, 5, 6 and 11 test
 
 reads-as : (role : Role) (file : CircuitFile) → Accepted role file ↔ ReadsAs role file
 unfolding ReadsAs readReply readConditions
@@ -225,4 +225,5 @@ decided-1 =
       below = below-iff;
       rises = rising-iff;
       joins = λ n starts ends t. connected-iff (links-within n starts ends t);
+      spans = λ n starts ends some t joined. radius-is (links-within n starts ends t) some joined;
     }

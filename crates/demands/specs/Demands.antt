@@ -16,7 +16,7 @@ use Rattle.base_lists.specs.List.{Below, sum}
 use Rattle.graph.specs.Circuit.{graphOf, circuitGraph}
 use Rattle.graph.specs.Graph.{Graph, Ball, Connected, Radius}
 use Rattle.graph.specs.Rising.{LinksRise}
-use Rattle.graph.specs.Search.{connected}
+use Rattle.graph.specs.Search.{connected, radius}
 use Rattle.simulation.specs.Closed.{Relation, _⊆_, Row}
 use Rattle.simulation.specs.Simulation.{Candidate, Along, Largest}
 use Rattle.simulation.specs.Perfect.{Perfect, Place}
@@ -55,21 +55,23 @@ graph file = circuitGraph (circuitOf file)
 abbrev pub equal : CircuitFile → CircuitFile → Relation
 equal pattern board = KindsMatch (circuitOf pattern) (circuitOf board)
 
--- the three tables that are lent to a place call: a byte per node, a byte per link, a set of parts per node
+-- the four tables that are lent to a place call: a byte per node, a byte per link, a set of parts per node, a distance per node
 pub record Lent : Type 0 where
   pub nodes : List ℕ
   pub links : List ℕ
   pub table : List ℕ
+  pub distances : List ℕ
 
 -- they are long enough for a board
 pub record Room (board : CircuitFile) (lent : Lent) : Type 0 where
   pub nodes : nodesOf board ≤ length (lent .nodes)
   pub links : linksOf board ≤ length (lent .links)
   pub table : nodesOf board ≤ length (lent .table)
+  pub distances : nodesOf board ≤ length (lent .distances)
 
 -- the place call with a radius given, and the one at the pattern's radius
 unfoldable pub placed : CircuitFile → CircuitFile → ℕ → ℕ → Lent → PlaceOutcome
-placed pattern board w r lent = placeAt pattern board w r (lent .nodes) (lent .links) (lent .table)
+placed pattern board w r lent = placeAt pattern board w r (lent .nodes) (lent .links) (lent .table) (lent .distances)
 
 unfoldable pub placedOwn : CircuitFile → CircuitFile → ℕ → Lent → PlaceOutcome
 placedOwn pattern board w lent = placed pattern board w (radiusOf (circuitOf pattern)) lent
@@ -100,11 +102,12 @@ noPlace pattern board w r = record { number = 9; file = Neither; holds = not (fo
 -- the conditions of the place calls
 unfoldable pub placedConditions : CircuitFile → CircuitFile → ℕ → ℕ → Lent → List Condition
 placedConditions pattern board w r lent =
-    inputConditions pattern board w (length (lent .nodes)) (length (lent .links)) (length (lent .table)) ++ (noPlace pattern board w r ∷ [])
+    inputConditions pattern board w (length (lent .nodes)) (length (lent .links)) (length (lent .table)) (length (lent .distances)) ++ (noPlace pattern board w r ∷ [])
 
 -- a call has left the tables as they were lent
 unfoldable pub Untouched : Lent → PlaceOutcome → Type 0
-Untouched lent result = (result .nodes ≡ lent .nodes) × (result .links ≡ lent .links) × (result .table ≡ lent .table)
+Untouched lent result =
+    (result .nodes ≡ lent .nodes) × (result .links ≡ lent .links) × (result .table ≡ lent .table) × (result .distances ≡ lent .distances)
 
 unfoldable pub Unread : List ℕ → List ℕ → List ℕ → List ℕ → ReadOutcome → Type 0
 Unread kinds packages starts ends result = (result .kinds ≡ kinds) × (result .packages ≡ packages) × (result .starts ≡ starts) × (result .ends ≡ ends)
@@ -140,11 +143,13 @@ pub record Demand1 : Type 0 where
       (reporting pattern board from before out .out ≡ out)
   pub converts : (role : Role) (to : Edition) (file : CircuitFile) (out : List ℕ) →
       Decided (convertConditions role to file (length out)) (converting role to file out .reply .verdict) (converting role to file out .out ≡ out)
-  -- what the other demands mean by accepted, and what the conditions 4, 5 and 6 test
+  -- what the other demands mean by accepted, and what the conditions 4, 5, 6 and 11 test
   pub accepts : (role : Role) (file : CircuitFile) → Accepted role file ↔ ReadsAs role file
   pub below : (n : ℕ) (starts ends : List ℕ) → T (linksBelow n starts ends) ↔ (Below n starts × Below n ends)
   pub rises : (starts ends : List ℕ) → T (rising starts ends) ↔ LinksRise starts ends
   pub joins : (n : ℕ) (starts ends : List ℕ) → T (linksBelow n starts ends) → T (connected n starts ends) ↔ Connected (graphOf n starts ends)
+  pub spans : (n : ℕ) (starts ends : List ℕ) → 0 < n → T (linksBelow n starts ends) → T (connected n starts ends) →
+      Radius (graphOf n starts ends) (radius n starts ends)
 
 -- ---- Demand 2
 

@@ -1,4 +1,4 @@
-// The conditions 1 to 6 on a file or on a circuit, tried in their order. Nothing is written.
+// The conditions 1 to 6 and 11 on a file or on a circuit, tried in their order. Nothing is written.
 ghost use mathlib.Core.Path.{_≡_};
 ghost use lib.Dec.{T, ltb};
 ghost use lib.ListN.{length};
@@ -6,7 +6,7 @@ ghost use Rattle.base_lists.specs.List.{all};
 ghost use Rattle.file_format.specs.Layout.{inEdition};
 ghost use Rattle.file_format.specs.Links.{packed, numbersRise};
 ghost use Rattle.file_format.specs.Reading.{LinksTested};
-ghost use Rattle.file_format.specs.Refusals.{asksConnected, sizeNumber, orderNumber};
+ghost use Rattle.file_format.specs.Refusals.{asksConnected, sizeNumber, orderNumber, widthNumber};
 ghost use Rattle.file_format.specs.Role.{inRange, fileOf};
 use file_fields::field_at;
 use file_format::Board;
@@ -136,13 +136,27 @@ fn order_number(n: usize, starts: &[u16], ends: &[u16]) -> u8
     0
 }
 
-// What the links come to: 4, 5 or 6, the first that they give, or 0; and a pattern's radius where they give none.
+// 6 or 11, by a pattern's radius, which is 65535 where the links do not join all parts; or 0.
+fn width_number(radius: u16) -> u8
+    ensures { λ r. ⌜ r ≡ widthNumber radius ⌝ }
+{
+    if radius == 65535 {
+        return 6;
+    }
+    if Pattern::MAX_RADIUS < radius {
+        return 11;
+    }
+    0
+}
+
+// What the links come to: 4, 5, 6 or 11, the first that they give, or 0; and a pattern's radius where they give none.
 pub struct Links {
     pub number: u8,
     pub radius: u16,
 }
 
-// The links of a circuit in a role, tested. One search finds whether a pattern is connected, and its radius. Reading and writing both call it.
+// The links of a circuit in a role, tested. One search finds whether a pattern is connected, and its radius, which decides 11. Reading and
+// writing both call it.
 pub fn test_links(role: Role, n: usize, starts: &[u16], ends: &[u16]) -> Links
     requires { ⌜ T (inRange role n (length (now starts))) × (length (now starts) ≡ length (now ends)) ⌝ }
     ensures { λ r. ⌜ LinksTested role n (now (starts .entry)) (now (ends .entry)) (r .number) (r .radius) ⌝ }
@@ -158,8 +172,8 @@ pub fn test_links(role: Role, n: usize, starts: &[u16], ends: &[u16]) -> Links
         };
     }
     let radius = graph_radius::radius(n, starts, ends);
-    if radius == 65535 {
-        return Links { number: 6, radius };
+    Links {
+        number: width_number(radius),
+        radius,
     }
-    Links { number: 0, radius }
 }

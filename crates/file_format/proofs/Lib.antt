@@ -6,3 +6,4 @@ pub mod Reading
 pub mod Rising
 pub mod Packed
 pub mod FirstEdition
+pub mod Limit

@@ -94,6 +94,8 @@ impl Pattern {
 
     pub const MAX_LINKS: usize = 256;
 
+    pub const MAX_RADIUS: u16 = 12;
+
     pub fn new(nodes: usize, links: usize) -> Self
         ensures { λ r. ⌜ (r .nodes ≡ nodes) × (r .links ≡ links) ⌝ }
     {

@@ -100,7 +100,12 @@ pub extern "C" fn heronditch_radius(pattern: &[u8]) -> Reply
 }
 
 #[no_mangle]
-pub extern "C" fn heronditch_ball(board: &[u8], centre: usize, radius: u16, out: &mut [u8]) -> Reply
+pub extern "C" fn heronditch_ball(
+    board: &[u8],
+    centre: usize,
+    radius: u16,
+    out: &mut [u16],
+) -> Reply
     ensures { λ r. ⌜ record { reply = r; out = now (out .exit) } ≡ hostBall (ballCall (firstEdition (now (board .entry))) centre radius (now (out .entry))) ⌝ }
 {
     of_ball(call_distance::ball(Edition::First, board, centre, radius, out))
@@ -129,9 +134,10 @@ pub extern "C" fn heronditch_place(
     nodes: &mut [u8],
     links: &mut [u8],
     table: &mut [u32],
+    distances: &mut [u16],
 ) -> Counted
-    ensures { λ r. ⌜ record { reply = r; nodes = now (nodes .exit); links = now (links .exit); table = now (table .exit) }
-        ≡ hostPlace (placeAt (firstEdition (now (pattern .entry))) (firstEdition (now (board .entry))) centre (radiusOf (circuitOf (firstEdition (now (pattern .entry))))) (now (nodes .entry)) (now (links .entry)) (now (table .entry))) ⌝ }
+    ensures { λ r. ⌜ record { reply = r; nodes = now (nodes .exit); links = now (links .exit); table = now (table .exit); distances = now (distances .exit) }
+        ≡ hostPlace (placeAt (firstEdition (now (pattern .entry))) (firstEdition (now (board .entry))) centre (radiusOf (circuitOf (firstEdition (now (pattern .entry))))) (now (nodes .entry)) (now (links .entry)) (now (table .entry)) (now (distances .entry))) ⌝ }
 {
     of_place(call_place::place(
         Editions {
@@ -144,6 +150,7 @@ pub extern "C" fn heronditch_place(
         nodes,
         links,
         table,
+        distances,
     ))
 }
 
@@ -156,9 +163,10 @@ pub extern "C" fn heronditch_place_within(
     nodes: &mut [u8],
     links: &mut [u8],
     table: &mut [u32],
+    distances: &mut [u16],
 ) -> Counted
-    ensures { λ r. ⌜ record { reply = r; nodes = now (nodes .exit); links = now (links .exit); table = now (table .exit) }
-        ≡ hostPlace (placeAt (firstEdition (now (pattern .entry))) (firstEdition (now (board .entry))) centre radius (now (nodes .entry)) (now (links .entry)) (now (table .entry))) ⌝ }
+    ensures { λ r. ⌜ record { reply = r; nodes = now (nodes .exit); links = now (links .exit); table = now (table .exit); distances = now (distances .exit) }
+        ≡ hostPlace (placeAt (firstEdition (now (pattern .entry))) (firstEdition (now (board .entry))) centre radius (now (nodes .entry)) (now (links .entry)) (now (table .entry)) (now (distances .entry))) ⌝ }
 {
     of_place(call_place::place_within(
         Editions {
@@ -172,6 +180,7 @@ pub extern "C" fn heronditch_place_within(
         nodes,
         links,
         table,
+        distances,
     ))
 }
 

@@ -120,18 +120,19 @@ pub extern "C" fn heronditch_radius_2(pattern: &[u8]) -> Reply
 }
 
 #[no_mangle]
-pub extern "C" fn heronditch_ball_2(board: &[u8], centre: usize, radius: u16, out: &mut [u8]) -> Reply
+pub extern "C" fn heronditch_ball_2(
+    board: &[u8],
+    centre: usize,
+    radius: u16,
+    out: &mut [u16],
+) -> Reply
     ensures { λ r. ⌜ record { reply = r; out = now (out .exit) } ≡ hostBall (ballCall (inEdition editions.Second (now (board .entry))) centre radius (now (out .entry))) ⌝ }
 {
     of_ball(call_distance::ball(Edition::Second, board, centre, radius, out))
 }
 
 #[no_mangle]
-pub extern "C" fn heronditch_match_12(
-    pattern: &[u8],
-    board: &[u8],
-    table: &mut [u32],
-) -> Counted
+pub extern "C" fn heronditch_match_12(pattern: &[u8], board: &[u8], table: &mut [u32]) -> Counted
     ensures { λ r. ⌜ record { reply = r; table = now (table .exit) }
         ≡ hostMatch (matching (firstEdition (now (pattern .entry))) (inEdition editions.Second (now (board .entry))) (now (table .entry))) ⌝ }
 {
@@ -147,11 +148,7 @@ pub extern "C" fn heronditch_match_12(
 }
 
 #[no_mangle]
-pub extern "C" fn heronditch_match_21(
-    pattern: &[u8],
-    board: &[u8],
-    table: &mut [u32],
-) -> Counted
+pub extern "C" fn heronditch_match_21(pattern: &[u8], board: &[u8], table: &mut [u32]) -> Counted
     ensures { λ r. ⌜ record { reply = r; table = now (table .exit) }
         ≡ hostMatch (matching (inEdition editions.Second (now (pattern .entry))) (firstEdition (now (board .entry))) (now (table .entry))) ⌝ }
 {
@@ -167,11 +164,7 @@ pub extern "C" fn heronditch_match_21(
 }
 
 #[no_mangle]
-pub extern "C" fn heronditch_match_22(
-    pattern: &[u8],
-    board: &[u8],
-    table: &mut [u32],
-) -> Counted
+pub extern "C" fn heronditch_match_22(pattern: &[u8], board: &[u8], table: &mut [u32]) -> Counted
     ensures { λ r. ⌜ record { reply = r; table = now (table .exit) }
         ≡ hostMatch (matching (inEdition editions.Second (now (pattern .entry))) (inEdition editions.Second (now (board .entry))) (now (table .entry))) ⌝ }
 {
@@ -195,69 +188,33 @@ pub extern "C" fn heronditch_merge_2(pattern: &[u8], classes: &mut [u8], out: &m
 }
 
 #[no_mangle]
-pub extern "C" fn heronditch_convert_pattern_12(
-    file: &[u8],
-    out: &mut [u8],
-) -> Reply
+pub extern "C" fn heronditch_convert_pattern_12(file: &[u8], out: &mut [u8]) -> Reply
     ensures { λ r. ⌜ record { reply = r; out = now (out .exit) }
         ≡ hostConvert (converting role.Pattern editions.Second (firstEdition (now (file .entry))) (now (out .entry))) ⌝ }
 {
-    of_convert(call_convert::convert(
-        Role::Pattern,
-        Edition::First,
-        Edition::Second,
-        file,
-        out,
-    ))
+    of_convert(call_convert::convert(Role::Pattern, Edition::First, Edition::Second, file, out))
 }
 
 #[no_mangle]
-pub extern "C" fn heronditch_convert_pattern_21(
-    file: &[u8],
-    out: &mut [u8],
-) -> Reply
+pub extern "C" fn heronditch_convert_pattern_21(file: &[u8], out: &mut [u8]) -> Reply
     ensures { λ r. ⌜ record { reply = r; out = now (out .exit) }
         ≡ hostConvert (converting role.Pattern editions.First (inEdition editions.Second (now (file .entry))) (now (out .entry))) ⌝ }
 {
-    of_convert(call_convert::convert(
-        Role::Pattern,
-        Edition::Second,
-        Edition::First,
-        file,
-        out,
-    ))
+    of_convert(call_convert::convert(Role::Pattern, Edition::Second, Edition::First, file, out))
 }
 
 #[no_mangle]
-pub extern "C" fn heronditch_convert_board_12(
-    file: &[u8],
-    out: &mut [u8],
-) -> Reply
+pub extern "C" fn heronditch_convert_board_12(file: &[u8], out: &mut [u8]) -> Reply
     ensures { λ r. ⌜ record { reply = r; out = now (out .exit) }
         ≡ hostConvert (converting role.Board editions.Second (firstEdition (now (file .entry))) (now (out .entry))) ⌝ }
 {
-    of_convert(call_convert::convert(
-        Role::Board,
-        Edition::First,
-        Edition::Second,
-        file,
-        out,
-    ))
+    of_convert(call_convert::convert(Role::Board, Edition::First, Edition::Second, file, out))
 }
 
 #[no_mangle]
-pub extern "C" fn heronditch_convert_board_21(
-    file: &[u8],
-    out: &mut [u8],
-) -> Reply
+pub extern "C" fn heronditch_convert_board_21(file: &[u8], out: &mut [u8]) -> Reply
     ensures { λ r. ⌜ record { reply = r; out = now (out .exit) }
         ≡ hostConvert (converting role.Board editions.First (inEdition editions.Second (now (file .entry))) (now (out .entry))) ⌝ }
 {
-    of_convert(call_convert::convert(
-        Role::Board,
-        Edition::Second,
-        Edition::First,
-        file,
-        out,
-    ))
+    of_convert(call_convert::convert(Role::Board, Edition::Second, Edition::First, file, out))
 }

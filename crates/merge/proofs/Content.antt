@@ -8,27 +8,28 @@ use Rattle.base_lists.specs.List.{all}
 use Rattle.base_lists.proofs.Tests.{both-left, both-right}
 use Rattle.graph.specs.Circuit.{Circuit, circuitGraph}
 use Rattle.graph.specs.Graph.{Connected, Radius}
-use Rattle.graph.specs.Search.{connected}
+use Rattle.graph.specs.Search.{connected, radius}
 use Rattle.graph.proofs.Ball.{Within, within-all}
 use Rattle.graph.proofs.Distance.{connected-iff, radius-is}
 use Rattle.file_format.specs.declared.Role.the-variants.{Pattern, Board}
 use Rattle.file_format.specs.Layout.{CircuitFile}
 use Rattle.file_format.specs.Links.{linksBelow, rising}
 use Rattle.file_format.specs.Role.{inRange}
-use Rattle.file_format.specs.Refusals.{asksConnected, Accepted}
+use Rattle.file_format.specs.Refusals.{asksConnected, widest, Accepted}
 use Rattle.file_format.proofs.Refusals.{range-orders}
 use Rattle.place.specs.Match.{radiusOf}
 use Rattle.place.proofs.Ball.{Admissible}
 use Rattle.file_format.specs.Circuit.{circuitOf, Bounded}
 use Rattle.file_format.proofs.Fields.{length-labels, length-starts, length-ends}
 
--- Every condition on a pattern that is not about the bytes of a file: numbers 2, 4, 5 and 6, and "as many starts as ends".
+-- Every condition on a pattern that is not about the bytes of a file: numbers 2, 4, 5, 6 and 11, and "as many starts as ends".
 pub record PatternContent (p : Circuit) : Type 0 where
   pub range : T (inRange Pattern (length (p .kinds)) (length (p .starts)))
   pub parallel : length (p .starts) ≡ length (p .ends)
   pub below : T (linksBelow (length (p .kinds)) (p .starts) (p .ends))
   pub rises : T (rising (p .starts) (p .ends))
   pub joined : T (connected (length (p .kinds)) (p .starts) (p .ends))
+  pub narrow : radius (length (p .kinds)) (p .starts) (p .ends) ≤ widest
 
 -- an accepted pattern file holds such a circuit
 pub accepted-content : {file : CircuitFile} → Accepted Pattern file → PatternContent (circuitOf file)
@@ -40,6 +41,7 @@ accepted-content {file} a =
       below = rw length-labels (a .below);
       rises = a .rises;
       joined = rw length-labels (a .joined tt);
+      narrow = rw length-labels (a .narrow tt);
     }
 
 -- ---- what follows

@@ -24,7 +24,7 @@ use Rattle.report.specs.Report.{marked, linkItem, nodeItems, linkItems, 
 
 -- both files are accepted, and hold T and B
 T-and-B : first (fileConditions Pattern (firstEdition fileT) ++ fileConditions Board (firstEdition fileB)) ≡ accept
-unfolding fileT fileB first fileConditions linkConditions asksConnected linksBelow rising earlier nodesOf linksOf startsOf endsOf fields field connected ball tabulate inside beside all allBelow
+unfolding fileT fileB first fileConditions linkConditions asksConnected linksBelow rising earlier nodesOf linksOf startsOf endsOf fields field connected radius maximum distances misses ball tabulate inside beside all allBelow
 T-and-B = refl
 
 holds-T : circuitOf (firstEdition fileT) ≡ circuitT
@@ -101,7 +101,7 @@ line-end = refl
 
 -- all that is opened where files are read
 reading : Unit {0}
-unfolding first fileConditions linkConditions asksConnected linksBelow rising earlier nodesOf linksOf kindsOf packagesOf startsOf endsOf labelsOf labels label fields field connected ball tabulate inside beside all allBelow
+unfolding first fileConditions linkConditions asksConnected linksBelow rising earlier nodesOf linksOf kindsOf packagesOf startsOf endsOf labelsOf labels label fields field connected radius maximum distances misses ball tabulate inside beside all allBelow
 reading = tt
 
 -- all that is opened where a report is put together

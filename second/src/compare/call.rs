@@ -150,7 +150,7 @@ impl Call<'_> {
             Call::Ball { board, .. } | Call::Match { board, .. } => vec![sizes(board).0],
             Call::Place { board, .. } | Call::PlaceWithin { board, .. } => {
                 let (n, m) = sizes(board);
-                vec![n, m, n]
+                vec![n, m, n, n]
             }
             Call::Merge { pattern } => {
                 let (n, m) = sizes(pattern);
@@ -353,7 +353,7 @@ pub fn run(finder: &dyn Finder, call: &Call, lent: &Lent) -> Outcome {
             centre,
             radius,
         } => {
-            let mut out = lent.bytes(0);
+            let mut out = lent.fields(0);
             let reply = finder.ball(board, centre, radius, &mut out);
             (reply, vec![wide(out)])
         }
@@ -403,7 +403,7 @@ fn run_second(finder: &dyn Finder, call: &Call, lent: &Lent) -> (Words, Vec<Vec<
             centre,
             radius,
         } => {
-            let mut out = lent.bytes(0);
+            let mut out = lent.fields(0);
             let reply = finder.ball_second(board, centre, radius, &mut out);
             (reply, vec![wide(out)])
         }
@@ -433,10 +433,12 @@ fn run_second(finder: &dyn Finder, call: &Call, lent: &Lent) -> (Words, Vec<Vec<
 /// Runs one of the two place calls.
 fn run_place(finder: &dyn Finder, call: &Call, lent: &Lent) -> (Words, Vec<Vec<u32>>) {
     let (mut a, mut b, mut c) = (lent.bytes(0), lent.bytes(1), lent.words(2));
+    let mut d = lent.fields(3);
     let out = PlaceTables {
         nodes: &mut a,
         links: &mut b,
         table: &mut c,
+        distances: &mut d,
     };
     let reply = match *call {
         Call::Place {
@@ -452,5 +454,5 @@ fn run_place(finder: &dyn Finder, call: &Call, lent: &Lent) -> (Words, Vec<Vec<u
         } => finder.place_within(pattern, board, centre, radius, out),
         _ => unreachable!("not a place call"),
     };
-    (reply, vec![wide(a), wide(b), c])
+    (reply, vec![wide(a), wide(b), c, wide(d)])
 }

@@ -1,9 +1,7 @@
 -- `file_check::test_links` meets its contract: 4 or 5 by the links' order; and the radius of a pattern, which is `far` where it is not
 -- connected. Assumes nothing.
-use borrow.Author.Tests.{eq-eqb, ne-eqb, not-true, not-false}
-use mathlib.Core.Bool.{true, false}
-use mathlib.Core.Path.{_≡_, sym, _∙_}
-use native.Mathlib.Omega.{arith}
+use borrow.Author.Tests.{not-true, not-false}
+use mathlib.Core.Path.{sym, _∙_}
 use Rattle.base_lists.proofs.Tests.{true-T, false-T}
 use Rattle.file_format.proofs.Accepted.{starts-below, ends-below}
 use Rattle.file_format.proofs.Refusals.{ordered, number-order, range-asked}
@@ -45,25 +43,19 @@ radius-requires c κs =
     let (_, few, _) = range-asked _ _ _ (true-T (sym (c .before .asks-connected .ensures) ∙ not-false _ (c .if2 .left))) (start .pre .0) in
     ((start .pre .1, few), (starts-below _ _ _ below, ends-below _ _ _ below))
 
+width-number-requires : tie.Need-width-number-requires
+width-number-requires c κs = search needs
+
 returns-3 : tie.Need-returns-3
 returns-3 c =
     let start = c .before .before .before .before .before .before .before .before in
     let order = sym (c .before .before .before .before .before .order-number .ensures) ∙ c .before .before .before .before .if1 .left in
     let asked = sym (c .before .before .before .asks-connected .ensures) ∙ not-false _ (c .before .before .if2 .left) in
     record {
-      number = sym (pattern-number _ _ _ _ _ true asked (start .pre .0) order (c .before .radius .ensures) (eq-eqb _ _ (c .if3 .taken)));
-      measured = λ e. absurd (omega arith);
-    }
-
-returns-4 : tie.Need-returns-4
-returns-4 c =
-    let start = c .before .before .before .before .before .before .before .before in
-    let order = sym (c .before .before .before .before .before .order-number .ensures) ∙ c .before .before .before .before .if1 .left in
-    let asked = sym (c .before .before .before .asks-connected .ensures) ∙ not-false _ (c .before .before .if2 .left) in
-    record {
-      number = sym (pattern-number _ _ _ _ _ false asked (start .pre .0) order (c .before .radius .ensures) (ne-eqb _ _ (c .if3 .left)));
+      number = c .width-number .ensures ∙ sym (pattern-number _ _ _ _ _ asked (start .pre .0) order (c .before .radius .ensures));
       measured = λ e t. c .before .radius .ensures;
     }
 
 pub test-links-spec : {M : Type 1} → statement M
-test-links-spec = tie.close (tie.spec order-number-requires returns asks-connected-requires returns-2 radius-requires returns-3 returns-4)
+test-links-spec =
+    tie.close (tie.spec order-number-requires returns asks-connected-requires returns-2 radius-requires width-number-requires returns-3)
