@@ -164,6 +164,13 @@ static void second_edition(void)
     check(is_reply(heronditch_radius_2(T, sizeof T), 3, HERONDITCH_PATTERN, 0, 0), "a first-edition file read as the second");
     check(is_reply(heronditch_radius(T2, sizeof T2), 3, HERONDITCH_PATTERN, 0, 0), "a second-edition file read as the first");
     check(is_reply(heronditch_merge_2(NULL, 0, NULL, 0, NULL, 0), 1, HERONDITCH_PATTERN, 0, 0), "merge_2 of nothing");
+    check(is_reply(heronditch_ball_2(NULL, 0, 0, 0, NULL, 0), 1, HERONDITCH_BOARD, 0, 0), "ball_2 of nothing");
+    uint16_t far[4] = {7, 7, 7, 7};
+    check(is_reply(heronditch_ball_2(T2, sizeof T2, 0, 1, far, 2), 8, HERONDITCH_NEITHER, 0, 0) && far[0] == 7, "one distance of ball_2 less");
+    check(is_reply(heronditch_ball_2(T2, sizeof T2, 3, 1, far, 3), 7, HERONDITCH_NEITHER, 0, 0), "ball_2 around no node");
+    check(is_reply(heronditch_ball_2(T2, sizeof T2, 0, 1, far, 4), 0, HERONDITCH_NEITHER, 3, 0) && far[0] == 0 && far[1] == 1 &&
+              far[2] == HERONDITCH_OUTSIDE && far[3] == 7,
+          "ball_2");
     uint16_t kinds[4], packages[4], starts[3], ends[3];
     for (size_t lent = 2; lent <= 4; lent++) {
         memset(kinds, 0xA5, sizeof kinds);
@@ -355,6 +362,7 @@ static size_t path_of(size_t parts, uint8_t *file)
 static void widths(void)
 {
     uint8_t twelve[256], thirteen[256], nodes[16], links[16];
+    uint16_t far[16];
     uint32_t table[16];
     size_t len = path_of(13, twelve), wide = path_of(14, thirteen);
     check(is_reply(heronditch_radius(twelve, len), 0, HERONDITCH_NEITHER, HERONDITCH_RADIUS, 0), "radius 12");
@@ -367,11 +375,11 @@ static void widths(void)
     check(is_reply(heronditch_write_pattern(kinds, 13, starts, 12, ends, 12, NULL, 0), 8, HERONDITCH_NEITHER, 0, 0), "radius 12 in writing");
     check(is_reply(heronditch_write_board(kinds, 14, starts, 13, ends, 13, NULL, 0), 8, HERONDITCH_NEITHER, 0, 0), "a board has no limit");
     check(is_reply(heronditch_merge(thirteen, wide, NULL, 0, NULL, 0), 11, HERONDITCH_PATTERN, 0, 0), "11 comes before 8 in merging");
-    check(is_counts(heronditch_place(thirteen, wide, NULL, 0, 0, NULL, 0, NULL, 0, NULL, 0), 11, HERONDITCH_PATTERN, 0, 0, 0, 0),
+    check(is_counts(heronditch_place(thirteen, wide, NULL, 0, 0, NULL, 0, NULL, 0, NULL, 0, NULL, 0), 11, HERONDITCH_PATTERN, 0, 0, 0, 0),
           "11 comes before the board's 1");
-    check(is_counts(heronditch_place_within(thirteen, wide, thirteen, wide, 0, 2, nodes, 16, links, 16, table, 16), 11, HERONDITCH_PATTERN, 0, 0, 0, 0),
+    check(is_counts(heronditch_place_within(thirteen, wide, thirteen, wide, 0, 2, nodes, 16, links, 16, table, 16, far, 16), 11, HERONDITCH_PATTERN, 0, 0, 0, 0),
           "11 whatever radius is given");
-    check(is_counts(heronditch_place_within(twelve, len, thirteen, wide, 0, 13, nodes, 16, links, 16, table, 16), 0, HERONDITCH_NEITHER, 182, 26, 156, 12),
+    check(is_counts(heronditch_place_within(twelve, len, thirteen, wide, 0, 13, nodes, 16, links, 16, table, 16, far, 16), 0, HERONDITCH_NEITHER, 182, 26, 156, 12),
           "a radius of 13 given");
     memset(room, 0xA5, sizeof room);
     check(is_piece(heronditch_report(thirteen, wide, NULL, 0, 0, 0, room, 20), 0, 1, 0, 19) && !memcmp(room, "refused 11 pattern\n", 19) && untouched(room, 19, sizeof room),

@@ -18,7 +18,7 @@ stood :
     (c : tie.After-answer) →
     let a = entry (reading c) .args in
     let l = reading c .read .last .1 .1 .1 in
-    Whole (a .role) (a .from) (now (a .file)) (c .answer .given .0 .0) (c .answer .given .0 .1) (l .0) (l .1 .0) (l .1 .1 .0) (l .1 .1 .1 .0)
+    Whole (a .role) (a .from) (now (a .file)) (c .answer .given .0 .0) (c .answer .given .0 .1 .0) (l .0) (l .1 .0) (l .1 .1 .0) (l .1 .1 .1 .0)
 stood c =
     let s = entry (reading c) in
     whole-read _ _ _ _ _ _ _ (s .pre .0) (reading c .read .ensures) (s .pre .1) (c .answer .given .1)
