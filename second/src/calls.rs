@@ -244,13 +244,15 @@ pub fn match_in(
     board: &[u8],
     table: &mut [u32],
 ) -> Counted {
-    either(both_in_bits(editions, pattern, board).and_then(|(pattern, board)| {
-        let n = board.kinds.len();
-        long_enough(&[(table.len(), n)])?;
-        let (pairs, counts) = on_board(&pattern, &board);
-        fill(table, (0..n).map(|v| pairs.word(v)));
-        Ok(Counted::accepted(counts))
-    }))
+    either(
+        both_in_bits(editions, pattern, board).and_then(|(pattern, board)| {
+            let n = board.kinds.len();
+            long_enough(&[(table.len(), n)])?;
+            let (pairs, counts) = on_board(&pattern, &board);
+            fill(table, (0..n).map(|v| pairs.word(v)));
+            Ok(Counted::accepted(counts))
+        }),
+    )
 }
 
 /// What the two place calls fill: a byte per board node, a byte per board
@@ -336,21 +338,23 @@ pub fn merge(pattern: &[u8], classes: &mut [u8], out: &mut [u8]) -> Reply {
 
 /// The same on a pattern of an edition; the merged file is of that edition.
 pub fn merge_in(edition: Edition, pattern: &[u8], classes: &mut [u8], out: &mut [u8]) -> Reply {
-    either(parse_in(edition, Role::Pattern, pattern).and_then(|circuit| {
-        long_enough(&[
-            (classes.len(), circuit.kinds.len()),
-            (out.len(), pattern.len()),
-        ])?;
-        let (class, merged) = merged(&circuit);
-        let bytes = merged.bytes_in(edition);
-        let (count, length) = (merged.kinds.len(), bytes.len());
-        fill(
-            classes,
-            class.into_iter().map(|c| u8::try_from(c).expect("a byte")),
-        );
-        fill(out, bytes);
-        Ok(Reply::accepted(count, length))
-    }))
+    either(
+        parse_in(edition, Role::Pattern, pattern).and_then(|circuit| {
+            long_enough(&[
+                (classes.len(), circuit.kinds.len()),
+                (out.len(), pattern.len()),
+            ])?;
+            let (class, merged) = merged(&circuit);
+            let bytes = merged.bytes_in(edition);
+            let (count, length) = (merged.kinds.len(), bytes.len());
+            fill(
+                classes,
+                class.into_iter().map(|c| u8::try_from(c).expect("a byte")),
+            );
+            fill(out, bytes);
+            Ok(Reply::accepted(count, length))
+        }),
+    )
 }
 
 /// Makes the test load of four numbers; replies with its file's length. The

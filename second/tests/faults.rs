@@ -720,7 +720,8 @@ fn faulty_load(fault: Fault, numbers: Numbers) -> Vec<u8> {
         kinds,
         packages: Vec::new(),
         links,
-    }.bytes()
+    }
+    .bytes()
 }
 
 impl Faulty {
@@ -751,7 +752,8 @@ impl Faulty {
 
 /// The whole-board call without the rule that every part has a node.
 fn plain_row(pattern: &[u8], board: &Circuit, table: &mut [u32]) -> Words {
-    let (pattern, _) = both_in_bits([Edition::First; 2], pattern, &board.bytes()).expect("accepted files");
+    let (pattern, _) =
+        both_in_bits([Edition::First; 2], pattern, &board.bytes()).expect("accepted files");
     let (pairs, counts) = largest(&pattern, board, &Subgraph::whole(board));
     for (v, entry) in table.iter_mut().enumerate().take(board.kinds.len()) {
         *entry = pairs.word(v);

@@ -98,10 +98,10 @@ impl Draft {
         let mut links: Vec<_> = links.map(|&(v, w)| (order[v], order[w])).collect();
         links.sort_unstable();
         Circuit {
-        kinds,
-        packages: Vec::new(),
-        links,
-    }
+            kinds,
+            packages: Vec::new(),
+            links,
+        }
     }
 }
 
