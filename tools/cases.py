@@ -95,6 +95,15 @@ def read_cases():
     for n in (32, 33):
         for role in both:
             case(role, encode(path(n)))
+    # radius 11, 12 and 13: paths, rings, stars of five arms; 6 before 11, 8 after it
+    for n in (12, 13, 14):
+        case("pattern", encode(path(n)))
+        case("pattern", encode(path(n)), 0, 0, 0)
+    for n in (23, 24, 25, 26, 27):
+        case("pattern", encode(ring(n)))
+    for arm in (5, 6):
+        case("pattern", encode(circuit_of(5 * arm + 1, [(0 if v % arm == 1 else v - 1, v) for v in range(1, 5 * arm + 1)])))
+    case("pattern", encode(Circuit([7] * 16, list(range(14)), list(range(1, 15)))))
     case("pattern", encode(full(32, 256, rng)), 40, 300, 300)
     case("pattern", encode(full(32, 257, rng)), 40, 300, 300)
     case("pattern", encode(Circuit([7] * 32, [], [])))

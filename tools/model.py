@@ -74,7 +74,14 @@ def link_refusal(role, circuit):
 
 
 def shape_refusal(role, circuit):
-    return 6 if role == "pattern" and not connected(circuit) else 0
+    if role == "board":
+        return 0
+    return 6 if not connected(circuit) else 11 if width(circuit) > 12 else 0
+
+
+def width(circuit):
+    """The radius of a connected circuit."""
+    return max(max(distances(circuit, v).values()) for v in range(len(circuit.kinds)))
 
 
 def out_of_range(role, n, m):
@@ -83,7 +90,7 @@ def out_of_range(role, n, m):
 
 
 def parse(role, data, edition=1):
-    """The circuit of a file of an edition, or the number of the first of the conditions 1 to 6 that holds."""
+    """The circuit of a file of an edition, or the number of the first of the conditions 1 to 6 and 11 that holds."""
     circuit = parse_in_bits(role, data, edition)
     return circuit if isinstance(circuit, int) else shape_refusal(role, circuit) or circuit
 
@@ -135,7 +142,7 @@ def radius(data):
     circuit = parse("pattern", data)
     if isinstance(circuit, int):
         return ("refused", circuit, "pattern")
-    return ("radius", max(max(distances(circuit, v).values()) for v in range(len(circuit.kinds))))
+    return ("radius", width(circuit))
 
 
 def ball(data, centre, r, out):

@@ -137,10 +137,16 @@ impl Circuit {
         Ok(())
     }
 
-    /// Refusal 6.
+    /// Refusals 6 and 11, in this order.
     fn judge_shape(&self, role: Role) -> Result<(), Refusal> {
-        if role == Role::Pattern && !graph::connected(self.kinds.len(), &self.links) {
+        if role == Role::Board {
+            return Ok(());
+        }
+        if !graph::connected(self.kinds.len(), &self.links) {
             return Err(role.refuses(6));
+        }
+        if graph::radius(self) > 12 {
+            return Err(role.refuses(11));
         }
         Ok(())
     }
@@ -220,7 +226,7 @@ pub fn both_in_bits(
 }
 
 /// The circuit given as three tables, to be written in the first edition, or
-/// the first of refusals 2 to 6.
+/// the first of refusals 2 to 6 and 11.
 pub fn gather(role: Role, kinds: &[u16], starts: &[u16], ends: &[u16]) -> Result<Circuit, Refusal> {
     if !role.allows(kinds.len(), starts.len()) {
         return Err(role.refuses(2));

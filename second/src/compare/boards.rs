@@ -171,7 +171,9 @@ pub fn pattern(random: &mut Random, size: Size) -> Circuit {
     ]);
     let shape = random.below(4);
     for v in 1..parts {
-        let to = [v - 1, 0, random.below(v), random.below(v)][shape];
+        // A long path is broken off now and then, so that most patterns have a radius of at most 12.
+        let last = if random.once_in(8) { v / 2 } else { v - 1 };
+        let to = [last, 0, random.below(v), random.below(v)][shape];
         draft.join(random, way, to, v);
     }
     if random.once_in(3) {
