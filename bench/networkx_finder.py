@@ -65,7 +65,7 @@ def dual_simulation(pattern, graph):
     """The nodes of each part in the largest dual simulation."""
     matches = {}
     for part, kind in pattern.nodes(data="kind"):
-        matches[part] = {node for node, other in graph.nodes(data="kind") if kind in (0, other)}
+        matches[part] = {node for node, other in graph.nodes(data="kind") if other == kind}
     changed = True
     while changed:
         changed = False
