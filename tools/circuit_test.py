@@ -156,6 +156,10 @@ def test_roles(folder):
     for role in ("pattern", "board"):
         done, made = file_of(folder, GOOD[0][1], "--as", role)
         check(f"T as {role}", made == bytes.fromhex(T_FILE), done)
+    done, made = file_of(folder, "node a any\nnode b 1\nb -> b", "--as", "bits")
+    check("a pattern in several bits", made is not None, done)
+    done, made = file_of(folder, "", "--as", "bits")
+    check("no bit", done.returncode == 1 and "0 nodes, and a pattern has 1 to 32" in done.stderr, done)
     done, made = file_of(folder, "", "--as", "board")
     check("a board without nodes", made == bytes(4), done)
 

@@ -9,6 +9,9 @@
 static const uint8_t T[] = {3, 0, 2, 0, 10, 0, 20, 0, 30, 0, 0, 0, 1, 0, 1, 0, 2, 0};
 static const uint8_t B[] = {6, 0, 3, 0, 10, 0, 20, 0, 30, 0, 20, 0, 30, 0, 10, 0, 0, 0, 1, 0, 3, 0, 1, 0, 2, 0, 4, 0};
 
+/* two parts of kinds 10 and 20, and no link */
+static const uint8_t TWO_BITS[] = {2, 0, 0, 0, 10, 0, 20, 0};
+
 static int checks, failed;
 
 static void check(int ok, const char *what)
@@ -55,6 +58,8 @@ static void no_arrays(void)
     check(is_reply(heronditch_radius(NULL, 0), 1, HERONDITCH_PATTERN, 0, 0), "radius of nothing");
     check(is_reply(heronditch_ball(NULL, 0, 0, 0, NULL, 0), 1, HERONDITCH_BOARD, 0, 0), "ball of nothing");
     check(is_counts(heronditch_match(NULL, 0, NULL, 0, NULL, 0), 1, HERONDITCH_PATTERN, 0, 0, 0, 0), "match of nothing");
+    check(is_counts(heronditch_match(TWO_BITS, sizeof TWO_BITS, NULL, 0, NULL, 0), 1, HERONDITCH_BOARD, 0, 0, 0, 0),
+          "match of a pattern in two bits on nothing");
     check(is_counts(heronditch_match(T, sizeof T, NULL, 0, NULL, 0), 1, HERONDITCH_BOARD, 0, 0, 0, 0), "match on nothing");
     check(is_counts(heronditch_place(NULL, 0, NULL, 0, 0, NULL, 0, NULL, 0, NULL, 0), 1, HERONDITCH_PATTERN, 0, 0, 0, 0),
           "place of nothing");

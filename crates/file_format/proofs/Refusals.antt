@@ -367,3 +367,32 @@ range-bounds Board n m t =
 range-bounds AnyPattern n m t =
     let h = range-orders AnyPattern n m t in
     (omega arith, omega arith)
+
+-- Any pattern is refused as a pattern is, where that is not refused with 6.
+pub any-verdict : (file : List ℕ) → (first (fileConditions Pattern file) ≡ turned Pattern 6 → ⊥) → first (fileConditions AnyPattern file) ≡ first (fileConditions Pattern file)
+unfolding first fileConditions linkConditions asksConnected turned
+any-verdict file =
+    let n = nodesOf file in
+    let starts = startsOf file in
+    let ends = endsOf file in
+    go (ltb (length file) 4) (not (inRange Pattern n (linksOf file))) (not (eqb (length file) (lengthOf n (linksOf file))))
+    (not (linksBelow n starts ends)) (not (rising starts ends)) (not (connected n starts ends))
+  where
+    -- the six tests, of which the last is a pattern's alone
+    go : (a b c d e f : Bool)
+        → (cond a (turned Pattern 1) (cond b (turned Pattern 2) (cond c (turned Pattern 3) (cond d (turned Pattern 4) (cond e (turned Pattern 5) (cond f (turned Pattern 6) accept)))))
+        ≡ turned Pattern 6 → ⊥)
+        → cond a (turned Pattern 1) (cond b (turned Pattern 2) (cond c (turned Pattern 3) (cond d (turned Pattern 4) (cond e (turned Pattern 5) accept))))
+        ≡ cond a (turned Pattern 1) (cond b (turned Pattern 2) (cond c (turned Pattern 3) (cond d (turned Pattern 4) (cond e (turned Pattern 5) (cond f (turned Pattern 6) accept)))))
+    go true b c d e f h = refl
+    go false true c d e f h = refl
+    go false false true d e f h = refl
+    go false false false true e f h = refl
+    go false false false false true f h = refl
+    go false false false false false true h = absurd (h refl)
+    go false false false false false false h = refl
+
+-- A pattern is any pattern.
+pub accepted-any : {file : List ℕ} → Accepted Pattern file → Accepted AnyPattern file
+unfolding asksConnected
+accepted-any a = record { bytes = a .bytes; range = a .range; size = a .size; below = a .below; rises = a .rises; joined = λ t. absurd t }

@@ -129,8 +129,24 @@ impl Draft {
     }
 }
 
-/// A random connected pattern: a path, a star or a tree, at times closed to a
-/// ring, with further links.
+impl Draft {
+    /// A path that no link joins to the rest, as far as there is room.
+    fn further_bit(&mut self, random: &mut Random, kinds: usize) {
+        let mut last = None;
+        for _ in 0..random.between(1, 4) {
+            let Some(node) = self.node(kind(random.below(kinds))) else {
+                return;
+            };
+            if let Some(last) = last {
+                self.link(last, node);
+            }
+            last = Some(node);
+        }
+    }
+}
+
+/// A random pattern: a path, a star or a tree, at times closed to a ring, with
+/// further links, and now and then a bit that is not joined to it.
 pub fn pattern(random: &mut Random, size: Size) -> Circuit {
     let parts = size.parts(random);
     let kinds = if random.once_in(6) {
@@ -164,6 +180,9 @@ pub fn pattern(random: &mut Random, size: Size) -> Circuit {
     };
     for _ in 0..further {
         draft.link(random.below(parts), random.below(parts));
+    }
+    if random.once_in(8) {
+        draft.further_bit(random, kinds);
     }
     draft.finish(random)
 }
