@@ -129,7 +129,8 @@ heronditch_reply heronditch_radius(const uint8_t *pattern, size_t pattern_len);
  * the ball. Replies with N. */
 heronditch_reply heronditch_ball(const uint8_t *board, size_t board_len, size_t centre, uint16_t radius, uint16_t *out, size_t out_len);
 
-/* Matches the pattern on the whole board: N numbers, in which bit u of entry v says that part u matches node v. */
+/* Matches the pattern on the whole board: N numbers, in which bit u of entry v says that part u matches node v. The pattern need not be
+ * connected (6 is not given): where some part is left without a node, the table is all 0, kept is 0 and struck is started. */
 heronditch_counts heronditch_match(const uint8_t *pattern, size_t pattern_len, const uint8_t *board, size_t board_len, uint32_t *table,
                                    size_t table_len);
 

@@ -1,4 +1,4 @@
-// The match-table call: a pattern file on the whole board of another file.
+// The match-table call: a pattern file on the whole board of another file. The pattern may lie in several bits.
 use file_format::Board;
 use file_format::Editions;
 use file_format::File;
@@ -8,7 +8,7 @@ use file_format::Refusal;
 use file_format::Role;
 use file_pair::read_pair;
 use table::Counts;
-use table_whole::match_circuits;
+use table_whole::match_whole;
 ghost use mathlib.Core.Path.{_≡_};
 ghost use Rattle.file_format.specs.Circuit.{Bounded};
 ghost use Rattle.file_format.specs.Layout.{inEdition};
@@ -44,7 +44,7 @@ fn match_on(
             file: File::Neither,
         });
     }
-    TableAnswer::Matched(match_circuits(
+    TableAnswer::Matched(match_whole(
         part_kinds,
         part_starts,
         part_ends,
@@ -55,8 +55,9 @@ fn match_on(
     ))
 }
 
-// Matches the pattern of one file on the whole board of another: the four counts, with the largest dual simulation at the front of the
-// table, a 32-bit number per node; or the refusal, which leaves the table as it was.
+// Matches the pattern of one file, connected or not, on the whole board of another: the four counts, with the largest dual simulation at the
+// front of the table, a 32-bit number per node, which is all 0 where some part is left without a node; or the refusal, which leaves the table
+// as it was.
 pub fn match_table(
     editions: Editions,
     pattern: &[u8],
@@ -73,7 +74,7 @@ pub fn match_table(
     let mut ns = [0u16; Board::MAX_LINKS];
     let mut ne = [0u16; Board::MAX_LINKS];
     let read = read_pair(
-        Role::Pattern,
+        Role::AnyPattern,
         editions,
         pattern,
         board,

@@ -390,3 +390,34 @@ range-bounds Board n m t =
 range-bounds AnyPattern n m t =
     let h = range-orders AnyPattern n m t in
     (omega arith, omega arith)
+
+-- Any pattern is refused as a pattern is, where that is refused neither with 6 nor with 11.
+pub any-verdict : (file : CircuitFile) → (first (fileConditions Pattern file) ≡ turned Pattern 6 → ⊥) → (first (fileConditions Pattern file) ≡ turned Pattern 11 → ⊥)
+    → first (fileConditions AnyPattern file) ≡ first (fileConditions Pattern file)
+unfolding first fileConditions linkConditions asksConnected turned
+any-verdict file =
+    let n = nodesOf file in
+    let starts = startsOf file in
+    let ends = endsOf file in
+    go (ltb (length (file .bytes)) 4) (not (inRange Pattern n (linksOf file))) (not (eqb (length (file .bytes)) (lengthOf (file .edition) n (linksOf file))))
+    (not (linksBelow n starts ends)) (not (rising starts ends)) (not (connected n starts ends)) (ltb widest (radius n starts ends))
+  where
+    -- the seven tests, of which the last two are a pattern's alone
+    go : (a b c d e f g : Bool)
+        → (cond a (turned Pattern 1) (cond b (turned Pattern 2) (cond c (turned Pattern 3) (cond d (turned Pattern 4) (cond e (turned Pattern 5) (cond f (turned Pattern 6) (cond g (turned Pattern 11) accept)))))) ≡ turned Pattern 6 → ⊥)
+        → (cond a (turned Pattern 1) (cond b (turned Pattern 2) (cond c (turned Pattern 3) (cond d (turned Pattern 4) (cond e (turned Pattern 5) (cond f (turned Pattern 6) (cond g (turned Pattern 11) accept)))))) ≡ turned Pattern 11 → ⊥)
+        → cond a (turned Pattern 1) (cond b (turned Pattern 2) (cond c (turned Pattern 3) (cond d (turned Pattern 4) (cond e (turned Pattern 5) accept))))
+        ≡ cond a (turned Pattern 1) (cond b (turned Pattern 2) (cond c (turned Pattern 3) (cond d (turned Pattern 4) (cond e (turned Pattern 5) (cond f (turned Pattern 6) (cond g (turned Pattern 11) accept))))))
+    go true b c d e f g h k = refl
+    go false true c d e f g h k = refl
+    go false false true d e f g h k = refl
+    go false false false true e f g h k = refl
+    go false false false false true f g h k = refl
+    go false false false false false true g h k = absurd (h refl)
+    go false false false false false false true h k = absurd (k refl)
+    go false false false false false false false h k = refl
+
+-- A pattern is any pattern.
+pub accepted-any : {file : CircuitFile} → Accepted Pattern file → Accepted AnyPattern file
+unfolding asksConnected
+accepted-any a = record { bytes = a .bytes; range = a .range; size = a .size; below = a .below; rises = a .rises; joined = λ t. absurd t; narrow = λ t. absurd t }

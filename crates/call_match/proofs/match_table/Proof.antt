@@ -3,10 +3,11 @@ use denote.Ref.{now}
 use mathlib.Core.Path.{sym}
 use borrow.Author.Needs.{needs}
 use Rattle.graph.specs.Circuit.{Circuit}
+use Rattle.file_format.proofs.Accepted.{bounded-any}
 use Rattle.file_format.specs.Layout.{inEdition}
 use Rattle.file_pair.specs.Pair.{BothRead}
 use Rattle.file_pair.proofs.Both.{both-read, refused-pair, pattern-bounded, board-bounded}
-use Rattle.file_format.specs.declared.Role.the-variants.{Pattern}
+use Rattle.file_format.specs.declared.Role.the-variants.{AnyPattern}
 use Rattle.file_format.proofs.Reading.{stands-size, stands-room}
 use Rattle.call_match.proofs.Matching.{matching-refused, matching-read}
 use Rattle.call_match.proofs.match_table.Statement.{statement}
@@ -51,7 +52,7 @@ reading c = c .before .before .before .before .before .before .before .before
 
 both : (c : tie.After-enum-told)
     → let a = entry (reading c) .args in
-    BothRead Pattern (inEdition (a .editions .pattern) (now (a .pattern))) (inEdition (a .editions .board) (now (a .board))) (reading c .read-pair .result) (parts (reading c)) (nodes (reading c))
+    BothRead AnyPattern (inEdition (a .editions .pattern) (now (a .pattern))) (inEdition (a .editions .board) (now (a .board))) (reading c .read-pair .result) (parts (reading c)) (nodes (reading c))
 both c = both-read (reading c .read-pair .ensures) (c .enum-told .given .1)
 
 -- ---- the match
@@ -95,7 +96,7 @@ slice-aggregate-match-on-6 c = sym (stands-size (both (c .before .before .before
 match-on-requires : tie.Need-match-on-requires
 match-on-requires c κs =
     let read = both (c .before .before .before .before .before .before .before) in
-    (pattern-bounded read, board-bounded read)
+    (bounded-any (pattern-bounded read), board-bounded read)
 
 enum-known-verdict : tie.Need-enum-known-verdict
 enum-known-verdict c = search needs
