@@ -391,6 +391,13 @@ range-bounds AnyPattern n m t =
     let h = range-orders AnyPattern n m t in
     (omega arith, omega arith)
 
+-- the first five tests are any pattern's too, the last two a pattern's alone
+abbrev asked : (a b c d e : Bool) → Verdict → Verdict
+asked a b c d e last = cond a (turned Pattern 1) (cond b (turned Pattern 2) (cond c (turned Pattern 3) (cond d (turned Pattern 4) (cond e (turned Pattern 5) last))))
+
+abbrev shape : (f g : Bool) → Verdict
+shape f g = cond f (turned Pattern 6) (cond g (turned Pattern 11) accept)
+
 -- Any pattern is refused as a pattern is, where that is refused neither with 6 nor with 11.
 pub any-verdict : (file : CircuitFile) → (first (fileConditions Pattern file) ≡ turned Pattern 6 → ⊥) → (first (fileConditions Pattern file) ≡ turned Pattern 11 → ⊥)
     → first (fileConditions AnyPattern file) ≡ first (fileConditions Pattern file)
@@ -402,12 +409,8 @@ any-verdict file =
     go (ltb (length (file .bytes)) 4) (not (inRange Pattern n (linksOf file))) (not (eqb (length (file .bytes)) (lengthOf (file .edition) n (linksOf file))))
     (not (linksBelow n starts ends)) (not (rising starts ends)) (not (connected n starts ends)) (ltb widest (radius n starts ends))
   where
-    -- the seven tests, of which the last two are a pattern's alone
-    go : (a b c d e f g : Bool)
-        → (cond a (turned Pattern 1) (cond b (turned Pattern 2) (cond c (turned Pattern 3) (cond d (turned Pattern 4) (cond e (turned Pattern 5) (cond f (turned Pattern 6) (cond g (turned Pattern 11) accept)))))) ≡ turned Pattern 6 → ⊥)
-        → (cond a (turned Pattern 1) (cond b (turned Pattern 2) (cond c (turned Pattern 3) (cond d (turned Pattern 4) (cond e (turned Pattern 5) (cond f (turned Pattern 6) (cond g (turned Pattern 11) accept)))))) ≡ turned Pattern 11 → ⊥)
-        → cond a (turned Pattern 1) (cond b (turned Pattern 2) (cond c (turned Pattern 3) (cond d (turned Pattern 4) (cond e (turned Pattern 5) accept))))
-        ≡ cond a (turned Pattern 1) (cond b (turned Pattern 2) (cond c (turned Pattern 3) (cond d (turned Pattern 4) (cond e (turned Pattern 5) (cond f (turned Pattern 6) (cond g (turned Pattern 11) accept))))))
+    go : (a b c d e f g : Bool) → (asked a b c d e (shape f g) ≡ turned Pattern 6 → ⊥) → (asked a b c d e (shape f g) ≡ turned Pattern 11 → ⊥)
+        → asked a b c d e accept ≡ asked a b c d e (shape f g)
     go true b c d e f g h k = refl
     go false true c d e f g h k = refl
     go false false true d e f g h k = refl
