@@ -100,3 +100,7 @@ shortTable needed lent = record { number = 8; file = Neither; holds = ltb lent n
 -- 10 "one of the four numbers out of its range" (document 02, a test load): `fits` says whether all are in theirs. It is tried ahead of 8.
 unfoldable pub numberOutside : Bool → Condition
 numberOutside fits = record { number = 10; file = Neither; holds = not fits }
+
+-- 15 "the centre has a place" (document 02, the least that still says none), "checked after 8": `found` says whether it has
+unfoldable pub centrePlaced : Bool → Condition
+centrePlaced found = record { number = 15; file = Neither; holds = found }

@@ -1,0 +1,4 @@
+pub mod Dropping
+pub mod Bars
+pub mod Least
+pub mod Examples
