@@ -2,6 +2,7 @@
 //! its whole result or a refusal, and only then fills what was lent; entries
 //! past those needed keep their content.
 
+use crate::barring::least;
 use crate::circuit::{both, gather, parse, Circuit, File, Refusal, Role};
 use crate::graph::{ball as ball_of, radius as radius_of, Subgraph};
 use crate::load::{load as load_of, Numbers};
@@ -226,6 +227,25 @@ fn found(
     };
     out.fill(place);
     Ok(Counted::accepted(counts))
+}
+
+/// Fills a byte per pattern link, 1 for those of the least that still says
+/// none; replies with how many are 1. Refusal 15 where the centre has a place.
+pub fn bar(pattern: &[u8], board: &[u8], centre: usize, out: &mut [u8]) -> Reply {
+    either(both(pattern, board).and_then(|(pattern, board)| {
+        inside(centre, &board)?;
+        long_enough(&[(out.len(), pattern.links.len())])?;
+        if place_of(&pattern, &board, centre, radius_of(&pattern))
+            .0
+            .is_some()
+        {
+            return Err(Refusal::neither(15));
+        }
+        let kept = least(&pattern, &board, centre);
+        let count = kept.iter().filter(|&&is| is).count();
+        fill(out, kept.into_iter().map(u8::from));
+        Ok(Reply::accepted(count, 0))
+    }))
 }
 
 /// Fills the class of each part and the merged file; replies with the number

@@ -67,6 +67,19 @@ unfolding countBelow
 count-none zero = refl
 count-none (suc n) = omega (arith, count-none n)
 
+-- the byte of each link is 1 at first
+all-marked : (m i : ℕ) → i < m → T (inside (allLinks m) i)
+unfolding inside
+all-marked m i h = true-T (eq-eqb _ 1 (getD-replicate m i 1 0 h))
+
+-- so the test of all links is that of the pattern itself
+pub all-test : (pattern board : Circuit) → length (pattern .starts) ≡ length (pattern .ends) → (w r : ℕ) →
+    bars pattern board w r (allLinks (length (pattern .starts))) ≡ not (found pattern board w r)
+unfolding bars
+all-test pattern board parallel w r =
+    let m = length (pattern .starts) in
+    ap (λ (c : Circuit). not (found c board w r)) (chosen-all pattern (allLinks m) parallel (all-marked m))
+
 module _ {pattern board : Circuit} (a : Admissible pattern board) (w r : ℕ) where
   -- a set of the pattern's links bars in the ball around w at radius r
   abbrev pub BarsHere : Relation → Type 1
@@ -77,18 +90,9 @@ module _ {pattern board : Circuit} (a : Admissible pattern board) (w r : ℕ) wh
 
   -- ---- all links
 
-  -- the byte of each link is 1 at first
-  all-marked : (i : ℕ) → i < size → T (inside (allLinks size) i)
-  unfolding inside
-  all-marked i h = true-T (eq-eqb _ 1 (getD-replicate size i 1 0 h))
-
-  pub all-test : bars pattern board w r (allLinks size) ≡ not (found pattern board w r)
-  unfolding bars
-  all-test = ap (λ (c : Circuit). not (found c board w r)) (chosen-all pattern (allLinks size) (a .parallel) all-marked)
-
   all-chosen : circuitGraph pattern .Link ⊆ ChosenLink pattern (allLinks size)
   unfolding circuitGraph graphOf HasLink ChosenLink
-  all-chosen u u′ (i, l) = (i, l, all-marked i (l .inStarts))
+  all-chosen u u′ (i, l) = (i, l, all-marked size i (l .inStarts))
 
   -- There is no place exactly when all links together bar.
   pub all-bar : (T (found pattern board w r) → ⊥) ↔ BarsHere (circuitGraph pattern .Link)
@@ -96,10 +100,10 @@ module _ {pattern board : Circuit} (a : Admissible pattern board) (w r : ℕ) wh
   all-bar = (
     λ none.
         bars-same (chosen-has pattern (allLinks size)) all-chosen
-        (bars-iff pattern board (a .most) (a .links) w r (allLinks size) .0 (rw all-test (none-not (found pattern board w r) none))),
+        (bars-iff pattern board (a .most) (a .links) w r (allLinks size) .0 (rw (all-test pattern board (a .parallel) w r) (none-not (found pattern board w r) none))),
     λ b t.
         not-both (found pattern board w r)
-        (rw all-test at (barring-more pattern board (a .most) (a .links) w r (circuitGraph pattern .Link) (allLinks size) all-chosen b)) t,
+        (rw (all-test pattern board (a .parallel) w r) at (barring-more pattern board (a .most) (a .links) w r (circuitGraph pattern .Link) (allLinks size) all-chosen b)) t,
   )
 
   -- ---- the kept links
@@ -118,7 +122,7 @@ module _ {pattern board : Circuit} (a : Admissible pattern board) (w r : ℕ) wh
     unfolding least
     least-bars =
         bars-iff pattern board (a .most) (a .links) w r (least pattern board w r) .0
-        (drop-passes (bars pattern board w r) 0 size (allLinks size) (rw all-test (none-not (found pattern board w r) none)))
+        (drop-passes (bars pattern board w r) 0 size (allLinks size) (rw (all-test pattern board (a .parallel) w r) (none-not (found pattern board w r) none)))
 
     -- the rest without the i-th, where that is one of them, does not
     without-one : (i : ℕ) → i < size → T (inside (least pattern board w r) i) → T (bars pattern board w r (set (least pattern board w r) i 0)) → ⊥

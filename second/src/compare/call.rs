@@ -45,6 +45,11 @@ pub enum Call<'a> {
         centre: usize,
         radius: u16,
     },
+    Bar {
+        pattern: &'a [u8],
+        board: &'a [u8],
+        centre: usize,
+    },
     Merge {
         pattern: &'a [u8],
     },
@@ -77,6 +82,7 @@ impl Call<'_> {
             Call::Match { .. } => "match",
             Call::Place { .. } => "place",
             Call::PlaceWithin { .. } => "place_within",
+            Call::Bar { .. } => "bar",
             Call::Merge { .. } => "merge",
             Call::Load { .. } => "load",
         }
@@ -101,6 +107,7 @@ impl Call<'_> {
                 let (n, m) = sizes(board);
                 vec![n, m, n]
             }
+            Call::Bar { pattern, .. } => vec![sizes(pattern).1],
             Call::Merge { pattern } => {
                 let (n, m) = sizes(pattern);
                 vec![n, Circuit::length(n, m)]
@@ -144,6 +151,11 @@ impl fmt::Display for Call<'_> {
             Call::Load { numbers } => write!(f, " {numbers:?}"),
             Call::Match { pattern, board } => both(f, pattern, board),
             Call::Place {
+                pattern,
+                board,
+                centre,
+            }
+            | Call::Bar {
                 pattern,
                 board,
                 centre,
@@ -270,6 +282,15 @@ pub fn run(finder: &dyn Finder, call: &Call, lent: &Lent) -> Outcome {
             let mut table = lent.words(0);
             let reply = finder.match_table(pattern, board, &mut table);
             (reply, vec![table])
+        }
+        Call::Bar {
+            pattern,
+            board,
+            centre,
+        } => {
+            let mut out = lent.bytes(0);
+            let reply = finder.bar(pattern, board, centre, &mut out);
+            (reply, vec![wide(out)])
         }
         Call::Merge { pattern } => {
             let (mut classes, mut out) = (lent.bytes(0), lent.bytes(1));

@@ -163,6 +163,11 @@ impl Case {
                 board,
                 centre,
             });
+            calls.push(Call::Bar {
+                pattern,
+                board,
+                centre,
+            });
             calls.push(Call::PlaceWithin {
                 pattern,
                 board,

@@ -38,6 +38,7 @@ pub trait Finder {
         radius: u16,
         out: PlaceTables,
     ) -> Words;
+    fn bar(&self, pattern: &[u8], board: &[u8], centre: usize, out: &mut [u8]) -> Words;
     fn merge(&self, pattern: &[u8], classes: &mut [u8], out: &mut [u8]) -> Words;
     fn load(&self, numbers: Numbers, out: &mut [u8]) -> Words;
 }
@@ -119,6 +120,10 @@ impl Finder for Second {
         out: PlaceTables,
     ) -> Words {
         calls::place_within(pattern, board, centre, radius, out).into()
+    }
+
+    fn bar(&self, pattern: &[u8], board: &[u8], centre: usize, out: &mut [u8]) -> Words {
+        calls::bar(pattern, board, centre, out).into()
     }
 
     fn merge(&self, pattern: &[u8], classes: &mut [u8], out: &mut [u8]) -> Words {

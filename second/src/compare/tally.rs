@@ -5,11 +5,11 @@ use std::fmt;
 
 use super::call::{Call, Outcome};
 
-/// For each call how often it gave each number from 0 to 10, and for the laws
+/// For each call how often it gave each number from 0 to 15, and for the laws
 /// how often each was put to the test.
 #[derive(Default)]
 pub struct Tally {
-    numbers: BTreeMap<&'static str, [u64; 11]>,
+    numbers: BTreeMap<&'static str, [u64; 16]>,
     laws: BTreeMap<&'static str, u64>,
 }
 
@@ -39,7 +39,7 @@ impl Tally {
 impl fmt::Display for Tally {
     fn fmt(&self, f: &mut fmt::Formatter) -> fmt::Result {
         write!(f, "{:14}{:>9}", "call", "accepted")?;
-        for number in 1..11 {
+        for number in 1..16 {
             write!(f, "{number:>9}")?;
         }
         for (name, row) in &self.numbers {

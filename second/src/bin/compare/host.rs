@@ -136,6 +136,15 @@ extern "C" {
         table: *mut u32,
         table_length: usize,
     ) -> Counts;
+    fn heronditch_bar(
+        pattern: *const u8,
+        pattern_length: usize,
+        board: *const u8,
+        board_length: usize,
+        centre: usize,
+        out: *mut u8,
+        out_length: usize,
+    ) -> Reply;
     fn heronditch_merge(
         pattern: *const u8,
         pattern_length: usize,
@@ -332,6 +341,21 @@ impl Finder for Host {
                 out.links.len(),
                 lent(out.table),
                 out.table.len(),
+            )
+        }
+        .words()
+    }
+
+    fn bar(&self, pattern: &[u8], board: &[u8], centre: usize, out: &mut [u8]) -> Words {
+        unsafe {
+            heronditch_bar(
+                given(pattern),
+                pattern.len(),
+                given(board),
+                board.len(),
+                centre,
+                lent(out),
+                out.len(),
             )
         }
         .words()

@@ -1,0 +1,91 @@
+-- `barring_find::first_in_ball` meets its contract: the nodes that the search lists are the ball, and the table has the pairs that agree at them.
+-- Assumes nothing.
+use mathlib.Core.Path.{sym, ap, _∙_}
+use Prim.Native.Nat.{ℕ, _≤_}
+use denote.Ref.{now}
+use lib.ListN.{length}
+use lib.Seq.{length-take-le}
+use Rattle.table.specs.Fill.{tableAt}
+use Rattle.table.specs.First.{startNode}
+use Rattle.table.proofs.Begun.{started-begins}
+use Rattle.place.proofs.Find.{tabled-net, ball-short, ball-list, ball-sought}
+use borrow.Author.Needs.{needs}
+use Rattle.barring_find.proofs.first_in_ball.Statement.{statement}
+use Rattle.barring_find.proofs.first_in_ball.Tie as tie
+use Rattle.barring_find.proofs.first_in_ball.Reads as reads
+use Rattle.barring_find.proofs.first_in_ball.Lts as lts
+use Rattle.graph_search.proofs.search.Reads as search-reads
+use Rattle.table.proofs.first.start.Reads as start-reads
+
+-- src/lib.rt:45:9
+search-requires : tie.Need-search-requires
+search-requires c κs =
+    let p = c .before .before .before .before .before .before .before .before .before .pre in
+    let e = p .1 .1 .0 in
+    (rw e (tabled-net (p .0 .tabled)), (rw e (p .1 .0), e ∙ sym (p .1 .1 .1)))
+
+-- no more nodes are listed than the queue has room for
+short : (c : tie.After-search) → c .search .result ≤ length (c .search .last .1 .1 .1 .1 .1 .0)
+short c =
+    let s = c .before .before .before .before .before .before .before .before .before .before in
+    let p = s .pre in
+    rw (c .search .kept .1 .1 .1 .1 .1 .0, p .1 .1 .1)
+    (ball-short (p .0 .tabled) (s .args .around .centre) _ (p .1 .0) (rw (p .1 .1 .0) at (c .search .ensures)))
+
+-- src/lib.rt:53:11
+slice-reshare-prefix-start : tie.Need-slice-reshare-prefix-start
+slice-reshare-prefix-start c = short (c .before .before .before .before)
+
+-- src/lib.rt:53:11
+slice-aggregate-start : tie.Need-slice-aggregate-start
+slice-aggregate-start c = sym (length-take-le _ _ (short (c .before .before .before .before .before)))
+
+-- src/lib.rt:53:5
+start-requires : tie.Need-start-requires
+start-requires c κs =
+    let s = c .before .before .before .before .before .before .before .before .before .before .before .before .before .before .before .before in
+    let p = s .pre in
+    let list = ball-list (p .0 .tabled) (s .args .around .centre) _ (p .1 .0) (rw (p .1 .1 .0) at (c .before .before .before .before .before .before .search .ensures)) in
+    (p .0 .tabled .prepared .parts, (rw (p .1 .1 .2) list, list .below))
+
+-- src/lib.rt:30:1
+same-length : tie.Need-same-length
+same-length c = search needs
+
+-- src/lib.rt:30:1
+same-length-2 : tie.Need-same-length-2
+same-length-2 c = search needs
+
+-- src/lib.rt:30:1
+same-length-3 : tie.Need-same-length-3
+same-length-3 c = search needs
+
+-- src/lib.rt:30:1
+returns : tie.Need-returns
+returns c =
+    let s = c .before .before .before .before .before .before .before .before .before .before .before .before .before .before .before .before .before .before .before in
+    let p = s .pre in
+    let w = s .args .around .centre in
+    let r = s .args .around .radius in
+    let written = c .before .before .start .ensures in
+    λ masks ps pe ns ne d.
+    let f = rw (p .1 .1 .0) at (c .before .before .before .before .before .before .before .before .before .search .ensures) in
+    record {
+      short = short (c .before .before .before .before .before .before .before .before .before);
+      list = ball-list d w r (p .1 .0) f;
+      ball = ball-sought d w r (p .1 .0) f (started-begins _ _ _ (p .1 .1 .2) written) .ball;
+      agree = written .made ∙ ap (λ (n : ℕ). tableAt n (startNode (now (s .args .part-kinds)) (now (s .args .node-kinds))) _) (p .1 .1 .2);
+    }
+
+pub first-in-ball-spec : {M : Type 1} → statement M
+first-in-ball-spec =
+    tie.close
+    (tie.spec
+    search-requires
+    slice-reshare-prefix-start
+    slice-aggregate-start
+    start-requires
+    same-length
+    same-length-2
+    same-length-3
+    returns)
