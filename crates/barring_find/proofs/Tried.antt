@@ -31,6 +31,10 @@ length-at : (n : ℕ) (f : ℕ → ℕ) (nodes : List ℕ) → length (tableAt n
 unfolding tableAt
 length-at n f nodes = length-tabulate n (λ v. cond (listed nodes v) (f v) 0)
 
+-- what is written is the rule's table, whatever its length is called
+pub written-at : {m n : ℕ} {f : ℕ → ℕ} {nodes table : List ℕ} {count : ℕ} → Written m f nodes table count → m ≡ n → table ≡ tableAt n f nodes
+written-at {f = f} {nodes = nodes} w e = w .made ∙ ap (λ (m : ℕ). tableAt m f nodes) e
+
 -- to copy a table at the nodes at which it was written is to write it again
 copied-again : (n : ℕ) (f : ℕ → ℕ) (nodes : List ℕ) → tableAt n (λ v. getD (tableAt n f nodes) v 0) nodes ≡ tableAt n f nodes
 unfolding tableAt

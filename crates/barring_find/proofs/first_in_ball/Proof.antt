@@ -1,13 +1,12 @@
 -- `barring_find::first_in_ball` meets its contract: the nodes that the search lists are the ball, and the table has the pairs that agree at them.
 -- Assumes nothing.
-use mathlib.Core.Path.{sym, ap, _∙_}
+use mathlib.Core.Path.{sym, _∙_}
 use Prim.Native.Nat.{ℕ, _≤_}
 use denote.Ref.{now}
 use lib.ListN.{length}
 use lib.Seq.{length-take-le}
-use Rattle.table.specs.Fill.{tableAt}
-use Rattle.table.specs.First.{startNode}
 use Rattle.table.proofs.Begun.{started-begins}
+use Rattle.barring_find.proofs.Tried.{written-at}
 use Rattle.place.proofs.Find.{tabled-net, ball-short, ball-list, ball-sought}
 use borrow.Author.Needs.{needs}
 use Rattle.barring_find.proofs.first_in_ball.Statement.{statement}
@@ -74,7 +73,7 @@ returns c =
       short = short (c .before .before .before .before .before .before .before .before .before);
       list = ball-list d w r (p .1 .0) f;
       ball = ball-sought d w r (p .1 .0) f (started-begins _ _ _ (p .1 .1 .2) written) .ball;
-      agree = written .made ∙ ap (λ (n : ℕ). tableAt n (startNode (now (s .args .part-kinds)) (now (s .args .node-kinds))) _) (p .1 .1 .2);
+      agree = written-at written (p .1 .1 .2);
     }
 
 pub first-in-ball-spec : {M : Type 1} → statement M
