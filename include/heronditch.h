@@ -17,13 +17,14 @@
  * Kinds: a part of kind 0 matches a node of every kind; a node of kind 0, which is not identified, is matched by such a part only; any other
  * part matches the nodes of its own kind.
  *
- * Numbers of refusal. Where several hold, the pattern's 1 to 6 come first, then the board's 1 to 5, then 7, 10, 8 and 9:
+ * Numbers of refusal. Where several hold, the pattern's 1 to 6 come first, then the board's 1 to 5, then 7, 10, 8, 9 and 15:
  *   1  a file of under 4 bytes                         6  the pattern is not connected
  *   2  the number of nodes or links out of range       7  the centre is not a node of the board
  *   3  a length that is not 4 + 2 N + 4 M;             8  a lent table is too short
  *      on writing, not as many ends as starts          9  no place around the centre
  *   4  a link to or from a node that is not there     10  a number of a test load out of its range
- *   5  links that do not rise strictly, by start and then by end
+ *   5  links that do not rise strictly,              15  the centre has a place
+ *      by start and then by end
  */
 #ifndef HERONDITCH_H
 #define HERONDITCH_H
@@ -124,6 +125,14 @@ heronditch_counts heronditch_place(const uint8_t *pattern, size_t pattern_len, c
 heronditch_counts heronditch_place_within(const uint8_t *pattern, size_t pattern_len, const uint8_t *board, size_t board_len,
                                           size_t centre, uint16_t radius, uint8_t *nodes, size_t nodes_len, uint8_t *links,
                                           size_t links_len, uint32_t *table, size_t table_len);
+
+/* Says why there is no place around a node of the board, at the pattern's radius, by few of the pattern's links: a byte for each of its M links,
+ * 1 for kept. The kept links alone leave the centre without a match (in the ball, all parts kept and none required to occur), and with any one
+ * or more of them taken away the rest does not. They are found from all links, in file order, by dropping each one without which the rest still
+ * does. Replies with how many are 1; 0 where no part matches the centre's kind. Turned away with 15 where the centre has a place. Lend
+ * HERONDITCH_PATTERN_LINKS bytes to have room for every pattern. */
+heronditch_reply heronditch_bar(const uint8_t *pattern, size_t pattern_len, const uint8_t *board, size_t board_len, size_t centre, uint8_t *out,
+                                size_t out_len);
 
 /* Merges the parts of a pattern that match each other: the class of each of its N parts, and the merged pattern's file. Lend N bytes and
  * as many bytes as the pattern's file has. Replies with the number of classes and the merged file's length. */

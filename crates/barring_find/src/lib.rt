@@ -1,4 +1,6 @@
 // The least of a pattern's links that still says that there is no place around a centre, of circuits that were read.
+use crate::dropping::drop_links;
+use crate::trial::bars;
 use barring::BarAnswer;
 use file_format::Board;
 use file_format::File;
@@ -12,8 +14,6 @@ use place::Around;
 use table::MASKS;
 use table::first::start;
 use table_prepare::lookups::prepare;
-use crate::dropping::drop_links;
-use crate::trial::bars;
 ghost use mathlib.Core.Path.{_≡_};
 ghost use Prim.Native.Nat.{_≤_, _<_};
 ghost use lib.ListN.{length};
@@ -42,14 +42,7 @@ fn first_in_ball(
     requires { ⌜ (length (now dist) ≡ length (now «node_kinds»)) × (length (now queue) ≡ length (now «node_kinds»)) × (length (now first) ≡ length (now «node_kinds»)) ⌝ }
     ensures { λ k. ⌜ EveryListed (now («part_kinds» .entry)) (now («node_kinds» .entry)) (now (offsets .entry)) (now (links .entry)) around (now (queue .exit)) (now (first .exit)) k ⌝ }
 {
-    let k = search(
-        offsets,
-        links,
-        around.centre,
-        around.radius,
-        dist,
-        queue,
-    );
+    let k = search(offsets, links, around.centre, around.radius, dist, queue);
     start(&queue[..k], part_kinds, node_kinds, first);
     k
 }
@@ -78,16 +71,7 @@ fn least_in_ball(
             file: File::Neither,
         });
     }
-    drop_links(
-        nodes,
-        starts,
-        ends,
-        offsets,
-        links,
-        first,
-        w,
-        &mut out[..m],
-    );
+    drop_links(nodes, starts, ends, offsets, links, first, w, &mut out[..m]);
     BarAnswer::Kept(count(&out[..m]))
 }
 

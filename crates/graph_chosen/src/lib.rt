@@ -30,12 +30,12 @@ pub fn count(marks: &[u8]) -> usize
     ensures { λ k. ⌜ k ≡ countBelow (length (now (marks .entry))) (inside (now (marks .entry))) ⌝ }
 {
     let mut k = 0;
-    let mut i = 0;
-    while i < marks.len() {
-        if marks[i] == 1 {
+    let mut j = 0;
+    while j < marks.len() {
+        if marks[j] == 1 {
             k += 1;
         }
-        i += 1;
+        j += 1;
     }
     k
 }

@@ -10,15 +10,17 @@ ghost use Rattle.call_match.specs.Call.{matching};
 ghost use Rattle.file_format.specs.Circuit.{circuitOf};
 ghost use Rattle.place.specs.Match.{radiusOf};
 ghost use Rattle.call_place.specs.Call.{placeAt};
+ghost use Rattle.call_barring.specs.Call.{barCall};
 ghost use Rattle.call_merge.specs.Call.{merging};
 ghost use Rattle.call_load.specs.Call.{loading};
 ghost use Rattle.call_report.specs.Call.{reporting};
-ghost use Rattle.heronditch.specs.Host.{slots, hostRead, hostWrite, hostBall, hostMatch, hostPlace, hostMerge, hostLoad, hostNeighbours, hostReport};
+ghost use Rattle.heronditch.specs.Host.{slots, hostRead, hostWrite, hostBall, hostMatch, hostPlace, hostBar, hostMerge, hostLoad, hostNeighbours, hostReport};
 use crate::copied::copy_out;
 use crate::reply::Counted;
 use crate::reply::Piece;
 use crate::reply::Reply;
 use crate::reply::of_ball;
+use crate::reply::of_bar;
 use crate::reply::of_load;
 use crate::reply::of_match;
 use crate::reply::of_merge;
@@ -136,6 +138,18 @@ pub extern "C" fn heronditch_place_within(
         ≡ hostPlace (placeAt (now (pattern .entry)) (now (board .entry)) centre radius (now (nodes .entry)) (now (links .entry)) (now (table .entry))) ⌝ }
 {
     of_place(call_place::place_within(pattern, board, centre, radius, nodes, links, table))
+}
+
+#[no_mangle]
+pub extern "C" fn heronditch_bar(
+    pattern: &[u8],
+    board: &[u8],
+    centre: usize,
+    out: &mut [u8],
+) -> Reply
+    ensures { λ r. ⌜ record { reply = r; out = now (out .exit) } ≡ hostBar (barCall (now (pattern .entry)) (now (board .entry)) centre (now (out .entry))) ⌝ }
+{
+    of_bar(call_barring::bar(pattern, board, centre, out))
 }
 
 #[no_mangle]

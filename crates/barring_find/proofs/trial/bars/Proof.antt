@@ -53,8 +53,7 @@ slice-aggregate-empty-at-3 c = sym (length-take-le _ _ (most (c .before .before 
 empty-at-requires : tie.Need-empty-at-requires
 empty-at-requires c κs =
     let s = c .before .before .before .before .before .before .before .before .before .before .before .before .before in
-    let t = s .pre .0 .tried in
-    (
+    let t = s .pre .0 .tried in (
       record { pattern = _; board = _; begun = tried-begun t _ (c .before .before .before .before .chosen-masks .ensures) },
       (subst (λ (n : ℕ). s .args .w < n) (sym (tried-long t)) (t .centre), (length-take-le _ _ (most s), length-take-le _ _ (most s))),
     )

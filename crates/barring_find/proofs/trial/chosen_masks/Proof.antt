@@ -77,8 +77,7 @@ pattern-masks-requires c κs =
     let from = front (c .before .before .before .before .before .before .before) in
     let to = front-2 (c .before .before .before .before) in
     let s = c .before .before .before .before .before .before .before .before .before .before .before .before .before in
-    let marks = now (s .args .marks) in
-    (
+    let marks = now (s .args .marks) in (
       (
         ap length from ∙ picked-parallel marks _ _ (s .pre .0 .0) ∙ sym (ap length to),
         subst (Below 32) (sym from) (picked-below marks 32 _ (s .pre .1 .0 .0)),

@@ -15,8 +15,7 @@ use Rattle.barring_find.proofs.trial.empty_at.Tie as tie
 copy-requires : tie.Need-copy-requires
 copy-requires c κs =
     let s = c .before .before .before .before .before .before .before .before in
-    let b = s .pre .0 .begun in
-    (
+    let b = s .pre .0 .begun in (
       subst (λ (n : ℕ). NodeList n (now (s .args .nodes))) (sym (s .pre .1 .1 .0 ∙ begun-long b)) (b .list),
       subst (λ (n : ℕ). Below n (now (s .args .nodes))) (sym (begun-long b)) (b .list .below),
     )
@@ -26,8 +25,7 @@ refine-requires c κs =
     let s = c .before .before .before .before .before .before .before .before .before .before .before .before .before in
     let b = s .pre .0 .begun in
     let w = c .before .before .before .before .copy .ensures in
-    let long = copied-long b (s .pre .1 .1 .0) w in
-    (
+    let long = copied-long b (s .pre .1 .1 .0) w in (
       copied-known b (s .pre .1 .1 .0) w,
       (subst (λ (n : ℕ). NodeList n (now (s .args .nodes))) (sym long) (b .list), (s .pre .1 .1 .1 ∙ begun-long b ∙ sym long, w .size)),
     )
