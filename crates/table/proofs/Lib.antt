@@ -8,6 +8,10 @@ pub mod Narrow
 pub mod Host
 pub mod PreparedMasks
 pub mod StrikeFill
+pub mod Following
+mod Pending
+mod Waking
+mod StrikeDue
 pub mod NodeLists
 pub mod Masks
 pub mod Prepare

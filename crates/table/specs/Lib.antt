@@ -7,3 +7,5 @@ pub mod Refine
 pub mod Reply
 pub mod Examples
 pub mod Strike
+pub mod Follow
+pub mod Pending
