@@ -18,6 +18,7 @@ static struct file pattern, board;
 struct result {
     native_counts counts;
     uint32_t table[NATIVE_NODES];
+    uint16_t distances[NATIVE_NODES];
     uint8_t nodes[NATIVE_NODES], links[NATIVE_LINKS];
 };
 
@@ -41,7 +42,7 @@ static native_counts counts_of(heronditch_counts c)
 
 #define FILES pattern.bytes, pattern.size, board.bytes, board.size
 #define TABLE r->table, NATIVE_NODES
-#define TABLES r->nodes, NATIVE_NODES, r->links, NATIVE_LINKS, TABLE
+#define TABLES r->nodes, NATIVE_NODES, r->links, NATIVE_LINKS, TABLE, r->distances, NATIVE_NODES
 
 static void proved_match(size_t centre, struct result *r)
 {

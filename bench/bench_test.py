@@ -35,8 +35,8 @@ DIGESTS = {
     "one-kind/pattern.cir": "7825f093312cecf6",
     "one-part/board.cir": "099e5ce74a66c154",
     "one-part/pattern.cir": "a90d4563c6a0ae04",
-    "planted-32/board.cir": "b4feb5cadf42ffb6",
-    "planted-32/pattern.cir": "5f4b687e406f74bf",
+    "planted-32/board.cir": "07e8addea288562b",
+    "planted-32/pattern.cir": "0fa047cfe4cf5f03",
     "planted/board.cir": "523f27f4b73cf1a3",
     "planted/pattern.cir": "591010d95e3ff0f0",
     "strikes-small/board.cir": "61512109b80813da",
@@ -72,7 +72,7 @@ def write(folder, pattern, board):
 def small_case(random):
     """A small pattern, and a board of copies of it and of noise."""
     parts, kinds = 1 + random.below(7), 1 + random.below(4)
-    pattern_kinds = [random.below(kinds) for _ in range(parts)]
+    pattern_kinds = [1 + random.below(kinds) for _ in range(parts)]
     pattern_links = boards.random_tree(random, parts)
     for _ in range(random.below(parts + 2)):
         pattern_links.add((random.below(parts), random.below(parts)))

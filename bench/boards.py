@@ -92,7 +92,7 @@ def planted_32():
     """Copies of a pattern of 32 parts and six kinds, among other nodes of its
     kinds, and links at random between all of them."""
     random = Random(4)
-    pattern_kinds = [random.below(6) for _ in range(32)]
+    pattern_kinds = [1 + random.below(6) for _ in range(32)]
     pattern_links = random_tree(random, 32)
     add_links(random, pattern_links, 32, 40)
     kinds = pattern_kinds * 12 + [pattern_kinds[random.below(32)] for _ in range(128)]

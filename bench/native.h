@@ -17,9 +17,11 @@ typedef struct {
 /* The match table of a pattern file on a whole board file. */
 native_counts native_match(const uint8_t *pattern, size_t pattern_size, const uint8_t *board, size_t board_size, uint32_t *table, size_t table_size);
 
-/* The place of a pattern file around a centre of a board file: a byte for each node and each link, and the table over the place. */
+/* The place of a pattern file around a centre of a board file: a byte for each node and each link, the table over the place, and the distances in
+   the ball. */
 native_counts native_place(const uint8_t *pattern, size_t pattern_size, const uint8_t *board, size_t board_size, size_t centre, uint8_t *nodes,
-                           size_t nodes_size, uint8_t *links, size_t links_size, uint32_t *table, size_t table_size);
+                           size_t nodes_size, uint8_t *links, size_t links_size, uint32_t *table, size_t table_size, uint16_t *distances,
+                           size_t distances_size);
 
 /* ---- the pieces of these calls, for who asks for one centre after another */
 

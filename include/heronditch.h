@@ -35,6 +35,12 @@
 extern "C" {
 #endif
 
+/* The version of this interface. 2: the ball lookup fills distances, and the place calls have a fourth table with them. */
+#define HERONDITCH_VERSION 2
+
+/* The entry of a node outside the ball in a table of distances. */
+#define HERONDITCH_OUTSIDE 65535
+
 /* which file a refusal means */
 #define HERONDITCH_NEITHER 0
 #define HERONDITCH_PATTERN 1
@@ -107,23 +113,25 @@ heronditch_reply heronditch_driven(const uint16_t *forward_offsets, size_t forwa
 /* Replies with the pattern's radius: the largest distance between two of its parts. */
 heronditch_reply heronditch_radius(const uint8_t *pattern, size_t pattern_len);
 
-/* Marks the ball around a node of the board: N bytes, 1 inside, else 0. Replies with N. */
-heronditch_reply heronditch_ball(const uint8_t *board, size_t board_len, size_t centre, uint16_t radius, uint8_t *out, size_t out_len);
+/* Measures the ball around a node of the board: N entries, each node's distance from the centre, and HERONDITCH_OUTSIDE for a node outside
+ * the ball. Replies with N. */
+heronditch_reply heronditch_ball(const uint8_t *board, size_t board_len, size_t centre, uint16_t radius, uint16_t *out, size_t out_len);
 
 /* Matches the pattern on the whole board: N numbers, in which bit u of entry v says that part u matches node v. */
 heronditch_counts heronditch_match(const uint8_t *pattern, size_t pattern_len, const uint8_t *board, size_t board_len, uint32_t *table,
                                    size_t table_len);
 
 /* Finds the pattern around a node of the board, at the pattern's radius: N node bytes and M link bytes, 1 in the place, else 0, and N
- * numbers as above over the place's nodes, 0 elsewhere. The counts are those of the whole ball. */
+ * numbers as above over the place's nodes, 0 elsewhere; and N distances as of heronditch_ball, whether a node is in the place or not. The
+ * counts are those of the whole ball. */
 heronditch_counts heronditch_place(const uint8_t *pattern, size_t pattern_len, const uint8_t *board, size_t board_len, size_t centre,
-                                   uint8_t *nodes, size_t nodes_len, uint8_t *links, size_t links_len, uint32_t *table,
-                                   size_t table_len);
+                                   uint8_t *nodes, size_t nodes_len, uint8_t *links, size_t links_len, uint32_t *table, size_t table_len,
+                                   uint16_t *distances, size_t distances_len);
 
 /* The same at a radius given. */
 heronditch_counts heronditch_place_within(const uint8_t *pattern, size_t pattern_len, const uint8_t *board, size_t board_len,
                                           size_t centre, uint16_t radius, uint8_t *nodes, size_t nodes_len, uint8_t *links,
-                                          size_t links_len, uint32_t *table, size_t table_len);
+                                          size_t links_len, uint32_t *table, size_t table_len, uint16_t *distances, size_t distances_len);
 
 /* Merges the parts of a pattern that match each other: the class of each of its N parts, and the merged pattern's file. Lend N bytes and
  * as many bytes as the pattern's file has. Replies with the number of classes and the merged file's length. */

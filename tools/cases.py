@@ -210,9 +210,9 @@ def write_distance_cases():
         blob += data
         lines.append(" ".join(map(str, model.radius(data))))
         for c, r, size in queries:
-            table = [77] * size
+            table = [7777] * size
             reply = model.ball(data, c, r, table)
-            lines.append(" ".join(map(str, (*reply, digest(table + [77] * (600 - size))))))
+            lines.append(" ".join(map(str, (*reply, digest(table + [7777] * (600 - size))))))
     return "distances", blob, lines
 
 

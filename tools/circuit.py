@@ -3,7 +3,7 @@
 
   circuit.py make [--as ROLE] TEXT OUT.cir   write the file of a text
   circuit.py show FILE.cir                   print a text that makes the file
-  circuit.py tell TEXT [REPORT]              print a report with a board's names
+  circuit.py tell [--distance] TEXT [REPORT] print a report with a board's names
 
 The text has one statement a line; '#' begins a comment, and the order of
 statements is free:
@@ -223,19 +223,24 @@ def load_text(path, role=None):
         raise Faults([f"{path}:{line}: not a UTF-8 text"]) from None
 
 
+def distances(circuit, centre):
+    """The distance of each node that a path joins to the centre, directions ignored."""
+    neighbours = {number: set() for number in range(len(circuit.kinds))}
+    for start, end in circuit.links:
+        neighbours[start].add(end)
+        neighbours[end].add(start)
+    far, ring, step = {centre: 0}, {centre}, 0
+    while ring:
+        step += 1
+        ring = {other for node in ring for other in neighbours[node]} - far.keys()
+        far.update(dict.fromkeys(ring, step))
+    return far
+
+
 def unreached(circuit):
     """The names of the nodes that no path joins to node 0, directions ignored."""
-    neighbours = {number: [] for number in range(len(circuit.kinds))}
-    for start, end in circuit.links:
-        neighbours[start].append(end)
-        neighbours[end].append(start)
-    reached, waiting = {0}, [0]
-    while waiting:
-        for other in neighbours[waiting.pop()]:
-            if other not in reached:
-                reached.add(other)
-                waiting.append(other)
-    return [name for number, name in enumerate(circuit.names) if number not in reached]
+    far = distances(circuit, 0)
+    return [name for number, name in enumerate(circuit.names) if number not in far]
 
 
 def check_role(circuit, role, path):
@@ -288,18 +293,29 @@ def text_of(circuit):
     return "\n".join(lines) + "\n"
 
 
-def told(report, circuit):
-    """A report with the names of a board's nodes in place of their numbers."""
+def told(report, circuit, probing=False):
+    """A report with the names of a board's nodes in place of their numbers, or by their distance from the centre."""
     lines = []
     for line in report.splitlines():
         words = line.split()
         if words[:1] == ["place"]:
             try:
-                words = [named(word, circuit.names) for word in words]
-            except (ValueError, IndexError):
+                words = by_distance(words, circuit) if probing else [named(word, circuit.names) for word in words]
+            except (ValueError, IndexError, KeyError):
                 raise Faults([f"not a report on this board: {line}"]) from None
         lines.append(" ".join(words) + "\n")
     return "".join(lines)
+
+
+def by_distance(words, circuit):
+    """The nodes of a place's line, each distance from the centre followed by the nodes there."""
+    nodes = [int(word) for word in words[2:words.index("/")]]
+    far = distances(circuit, int(words[1][:-1]))
+    listed = []
+    for distance in sorted({far[node] for node in nodes}):
+        listed.append(f"{distance}:")
+        listed += [circuit.names[node] for node in nodes if far[node] == distance]
+    return ["place", circuit.names[int(words[1][:-1])] + ",", *listed]
 
 
 def named(word, names):
@@ -331,7 +347,7 @@ def tell(arguments):
     """The command 'tell'."""
     circuit = load_text(arguments.text)
     with open(arguments.report or 0, encoding="utf-8") as file:
-        sys.stdout.write(told(file.read(), circuit))
+        sys.stdout.write(told(file.read(), circuit, arguments.distance))
 
 
 def command_line():
@@ -350,6 +366,7 @@ def command_line():
     one.set_defaults(run=show)
     one = commands.add_parser("tell", help="print a report with a board's names")
     one.add_argument("text", metavar="TEXT")
+    one.add_argument("--distance", action="store_true", help="each place's nodes by their distance from the centre")
     one.add_argument("report", metavar="REPORT", nargs="?", help="standard input if left out")
     one.set_defaults(run=tell)
     return parser

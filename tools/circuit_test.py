@@ -180,6 +180,8 @@ def test_tell(folder):
     report.write_text(REPORT, encoding="utf-8")
     check("a report", run("tell", text, report).stdout == NAMED)
     check("a report given", run("tell", text, given=REPORT).stdout == NAMED)
+    near = "place a, 0: a 1: b 2: c\nplace f, 0: f\nend 2 of 6\n"
+    check("a report by distance", run("tell", "--distance", text, report).stdout == near)
     check("a refusal", run("tell", text, given="refused 3 board\n").stdout == "refused 3 board\n")
     done = run("tell", text, given="place 9: 9 /\n")
     check("another board's report", done.returncode == 1 and "not a report" in done.stderr, done)

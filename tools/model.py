@@ -115,7 +115,7 @@ def ball(data, centre, r, out):
     if len(out) < n:
         return ("refused", 8, "neither")
     found = distances(circuit, centre)
-    out[:n] = [1 if v in found and found[v] <= r else 0 for v in range(n)]
+    out[:n] = [found[v] if v in found and found[v] <= r else 65535 for v in range(n)]
     return ("ball", n)
 
 

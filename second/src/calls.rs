@@ -3,7 +3,7 @@
 //! past those needed keep their content.
 
 use crate::circuit::{both, gather, parse, Circuit, File, Refusal, Role};
-use crate::graph::{ball as ball_of, radius as radius_of, Subgraph};
+use crate::graph::{radius as radius_of, within, Subgraph};
 use crate::load::{load as load_of, Numbers};
 use crate::merged::merged;
 use crate::place::{place as place_of, Place};
@@ -129,14 +129,20 @@ pub fn radius(pattern: &[u8]) -> Reply {
     either(parse(Role::Pattern, pattern).map(|circuit| Reply::accepted(radius_of(&circuit), 0)))
 }
 
-/// Fills a byte per board node, 1 inside the ball; replies with N.
-pub fn ball(board: &[u8], centre: usize, radius: u16, out: &mut [u8]) -> Reply {
+/// The distances in a ball as a lent table has them, 65,535 outside it.
+fn entries(board: &Circuit, centre: usize, radius: usize) -> Vec<u16> {
+    let far = within(board, centre, radius).into_iter();
+    far.map(|d| d.map_or(65535, field)).collect()
+}
+
+/// Fills the distance of each board node from the centre, 65,535 outside the
+/// ball; replies with N.
+pub fn ball(board: &[u8], centre: usize, radius: u16, out: &mut [u16]) -> Reply {
     either(parse(Role::Board, board).and_then(|board| {
         let n = board.kinds.len();
         inside(centre, &board)?;
         long_enough(&[(out.len(), n)])?;
-        let ball = ball_of(&board, centre, radius.into());
-        fill(out, ball.nodes.into_iter().map(u8::from));
+        fill(out, entries(&board, centre, radius.into()));
         Ok(Reply::accepted(n, 0))
     }))
 }
@@ -161,23 +167,30 @@ pub fn match_table(pattern: &[u8], board: &[u8], table: &mut [u32]) -> Counted {
 }
 
 /// What the two place calls fill: a byte per board node, a byte per board
-/// link, and the table over the place's nodes.
+/// link, the table over the place's nodes, and the distances in the ball.
 pub struct PlaceTables<'a> {
     pub nodes: &'a mut [u8],
     pub links: &'a mut [u8],
     pub table: &'a mut [u32],
+    pub distances: &'a mut [u16],
 }
 
 impl PlaceTables<'_> {
-    /// Refusal 8 unless all three are long enough for the board.
+    /// Refusal 8 unless all four are long enough for the board.
     fn long_enough(&self, board: &Circuit) -> Result<(), Refusal> {
         let (n, m) = (board.kinds.len(), board.links.len());
         let (nodes, links, table) = (self.nodes.len(), self.links.len(), self.table.len());
-        long_enough(&[(nodes, n), (links, m), (table, n)])
+        long_enough(&[
+            (nodes, n),
+            (links, m),
+            (table, n),
+            (self.distances.len(), n),
+        ])
     }
 
-    /// Fills all three.
-    fn fill(self, place: Place) {
+    /// Fills all four.
+    fn fill(self, place: Place, distances: Vec<u16>) {
+        fill(self.distances, distances);
         fill(self.nodes, place.graph.nodes.into_iter().map(u8::from));
         fill(self.links, place.graph.links.into_iter().map(u8::from));
         fill(self.table, place.table);
@@ -224,7 +237,7 @@ fn found(
             counts,
         });
     };
-    out.fill(place);
+    out.fill(place, entries(board, centre, radius));
     Ok(Counted::accepted(counts))
 }
 

@@ -80,11 +80,17 @@ pub fn radius(circuit: &Circuit) -> usize {
     far.into_iter().flatten().max().unwrap_or(0)
 }
 
+/// The distance of each node of the ball around a centre, none outside it.
+pub fn within(board: &Circuit, centre: usize, radius: usize) -> Vec<Option<usize>> {
+    let far = distances(board.kinds.len(), &board.links, centre);
+    far.iter().map(|d| d.filter(|&d| d <= radius)).collect()
+}
+
 /// The ball around a centre: the nodes at most so far from it, and all links
 /// between them.
 pub fn ball(board: &Circuit, centre: usize, radius: usize) -> Subgraph {
-    let far = distances(board.kinds.len(), &board.links, centre);
-    let nodes: Vec<bool> = far.iter().map(|d| d.is_some_and(|d| d <= radius)).collect();
+    let nodes = within(board, centre, radius);
+    let nodes: Vec<bool> = nodes.iter().map(Option::is_some).collect();
     let inside = |&(v, w): &(usize, usize)| nodes[v] && nodes[w];
     let links = board.links.iter().map(inside).collect();
     Subgraph { nodes, links }

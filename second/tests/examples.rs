@@ -41,10 +41,12 @@ fn place(pattern: &[u8], board: &[u8], centre: usize, radius: Option<u16>) -> Fo
     let field = |at: usize| usize::from(u16::from_le_bytes([board[at], board[at + 1]]));
     let (n, m) = (field(0), field(2));
     let (mut nodes, mut links, mut table) = (vec![7; n], vec![7; m], vec![7; n]);
+    let mut distances = vec![7; n];
     let out = PlaceTables {
         nodes: &mut nodes,
         links: &mut links,
         table: &mut table,
+        distances: &mut distances,
     };
     let reply = match radius {
         Some(radius) => calls::place_within(pattern, board, centre, radius, out),

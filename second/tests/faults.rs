@@ -8,7 +8,7 @@ use second::circuit::{both, parse, Circuit, Role};
 use second::compare::finder::{Finder, Second, Words};
 use second::compare::tally::Tally;
 use second::compare::{case, edges};
-use second::graph::{ball, distances, radius, Subgraph};
+use second::graph::{ball, distances, radius, within, Subgraph};
 use second::load::Numbers;
 use second::merged::merged;
 use second::simulation::{largest, match_graph, Pairs};
@@ -56,6 +56,9 @@ enum Fault {
     RadiusCut,
     KindCut,
     AnyPartFindsNone,
+    OutsideAtZero,
+    DistanceInThePlace,
+    DistancePastTheBall,
     SelfLinksIgnored,
     WritingCut,
     WritingUneven,
@@ -74,7 +77,7 @@ enum Fault {
     LoadNamesBoard,
 }
 
-const FAULTS: [Fault; 51] = [
+const FAULTS: [Fault; 54] = [
     Fault::OneRound,
     Fault::EveryLink,
     Fault::MergedRadius,
@@ -111,6 +114,9 @@ const FAULTS: [Fault; 51] = [
     Fault::RadiusCut,
     Fault::KindCut,
     Fault::AnyPartFindsNone,
+    Fault::OutsideAtZero,
+    Fault::DistanceInThePlace,
+    Fault::DistancePastTheBall,
     Fault::SelfLinksIgnored,
     Fault::WritingCut,
     Fault::WritingUneven,
@@ -244,10 +250,30 @@ impl Faulty {
                 let bytes = |table: Vec<bool>| table.into_iter().map(u8::from).collect::<Vec<u8>>();
                 out.nodes[..graph.nodes.len()].copy_from_slice(&bytes(graph.nodes));
                 out.links[..graph.links.len()].copy_from_slice(&bytes(graph.links));
+                let far = self.distances(files.1, centre, radius, &out.nodes[..table.len()]);
+                out.distances[..table.len()].copy_from_slice(&far);
                 out.table[..table.len()].copy_from_slice(&table);
             }
         }
         words
+    }
+
+    /// The distances of a place call by the faulty rules.
+    fn distances(&self, board: &Circuit, centre: usize, radius: usize, place: &[u8]) -> Vec<u16> {
+        let far = match self.0 {
+            Fault::DistancePastTheBall => within(board, centre, usize::MAX),
+            _ => within(board, centre, radius),
+        };
+        let outside = match self.0 {
+            Fault::OutsideAtZero => 0,
+            _ => 65535,
+        };
+        let only = self.0 == Fault::DistanceInThePlace;
+        let entry = |(d, &is): (&Option<usize>, &u8)| match d {
+            Some(d) if is == 1 || !only => *d as u16,
+            _ => outside,
+        };
+        far.iter().zip(place).map(entry).collect()
     }
 
     /// Faults in a reply with counts.
@@ -315,11 +341,13 @@ impl Faulty {
             nodes,
             links,
             table,
+            distances,
         } = out;
         let inner = PlaceTables {
             nodes: &mut *nodes,
             links,
             table,
+            distances,
         };
         let words = self.refill((pattern, board), call.centre, r, words, inner);
         if self.0 == Fault::LaterCleared && words[0] == 0 {
@@ -379,10 +407,12 @@ impl PlaceCall<'_> {
     fn sound(&self, out: &PlaceTables) -> Words {
         let (mut nodes, mut links, mut table) =
             (out.nodes.to_vec(), out.links.to_vec(), out.table.to_vec());
+        let mut distances = out.distances.to_vec();
         let out = PlaceTables {
             nodes: &mut nodes,
             links: &mut links,
             table: &mut table,
+            distances: &mut distances,
         };
         match self.radius {
             None => Second.place(&self.pattern, self.board, self.centre, out),
@@ -492,7 +522,7 @@ impl Finder for Faulty {
         Second.radius(pattern)
     }
 
-    fn ball(&self, board: &[u8], centre: usize, radius: u16, out: &mut [u8]) -> Words {
+    fn ball(&self, board: &[u8], centre: usize, radius: u16, out: &mut [u16]) -> Words {
         Second.ball(board, centre, radius, out)
     }
 

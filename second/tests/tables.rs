@@ -93,7 +93,7 @@ fn ball() {
         let reply = calls::ball(&pattern(), 1, 1, &mut out);
         if enough {
             assert_eq!((reply.number, reply.first), (0, 3));
-            assert_eq!(out, starting(&[1, 1, 0], length));
+            assert_eq!(out, starting(&[1, 0, 65535], length));
         } else {
             too_short(&reply);
             assert_eq!(out, filled(length));
@@ -120,12 +120,14 @@ fn match_table() {
 #[test]
 fn place() {
     for radius in [None, Some(1)] {
-        for ([a, b, c], enough) in lengths([3, 3, 3]) {
+        for ([a, b, c, d], enough) in lengths([3, 3, 3, 3]) {
             let (mut nodes, mut links, mut table) = (filled(a), filled(b), filled(c));
+            let mut distances = filled(d);
             let out = PlaceTables {
                 nodes: &mut nodes,
                 links: &mut links,
                 table: &mut table,
+                distances: &mut distances,
             };
             let reply = match radius {
                 None => calls::place(&pattern(), &pattern(), 1, out),
@@ -133,15 +135,18 @@ fn place() {
             };
             let last = u8::from(radius.is_none());
             let words = [1, 6, 6 * u32::from(last)];
-            let tables = (nodes, links, table);
+            let far = [1, 0, if radius.is_none() { 2 } else { 65535 }];
+            let tables = (nodes, links, table, distances);
             if enough {
                 assert_eq!(reply.number, 0);
                 let (ones, words) = (starting(&[1, 1, last], a), starting(&words, c));
-                assert_eq!(tables, (ones, starting(&[1, 1, last], b), words));
+                let links = starting(&[1, 1, last], b);
+                assert_eq!(tables, (ones, links, words, starting(&far, d)));
             } else {
                 assert_eq!((reply.number, reply.file), (8, File::Neither));
                 assert_eq!(reply.counts, Default::default());
-                assert_eq!(tables, (filled(a), filled(b), filled(c)));
+                let kept = (filled(a), filled(b), filled(c), filled(d));
+                assert_eq!(tables, kept);
             }
         }
     }

@@ -56,59 +56,71 @@ static void no_arrays(void)
     check(is_reply(heronditch_ball(NULL, 0, 0, 0, NULL, 0), 1, HERONDITCH_BOARD, 0, 0), "ball of nothing");
     check(is_counts(heronditch_match(NULL, 0, NULL, 0, NULL, 0), 1, HERONDITCH_PATTERN, 0, 0, 0, 0), "match of nothing");
     check(is_counts(heronditch_match(T, sizeof T, NULL, 0, NULL, 0), 1, HERONDITCH_BOARD, 0, 0, 0, 0), "match on nothing");
-    check(is_counts(heronditch_place(NULL, 0, NULL, 0, 0, NULL, 0, NULL, 0, NULL, 0), 1, HERONDITCH_PATTERN, 0, 0, 0, 0),
+    check(is_counts(heronditch_place(NULL, 0, NULL, 0, 0, NULL, 0, NULL, 0, NULL, 0, NULL, 0), 1, HERONDITCH_PATTERN, 0, 0, 0, 0),
           "place of nothing");
-    check(is_counts(heronditch_place(T, sizeof T, B, sizeof B, 0, NULL, 0, NULL, 0, NULL, 0), 8, HERONDITCH_NEITHER, 0, 0, 0, 0),
+    check(is_counts(heronditch_place(T, sizeof T, B, sizeof B, 0, NULL, 0, NULL, 0, NULL, 0, NULL, 0), 8, HERONDITCH_NEITHER, 0, 0, 0, 0),
           "place with nothing lent");
-    check(is_counts(heronditch_place_within(T, sizeof T, NULL, 0, 0, 0, NULL, 0, NULL, 0, NULL, 0), 1, HERONDITCH_BOARD, 0, 0, 0, 0),
+    check(is_counts(heronditch_place_within(T, sizeof T, NULL, 0, 0, 0, NULL, 0, NULL, 0, NULL, 0, NULL, 0), 1, HERONDITCH_BOARD, 0, 0, 0, 0),
           "place_within on nothing");
     check(is_reply(heronditch_merge(NULL, 0, NULL, 0, NULL, 0), 1, HERONDITCH_PATTERN, 0, 0), "merge of nothing");
     static const uint8_t none[] = {0, 0, 0, 0};
     check(is_reply(heronditch_read_board(none, 4, NULL, 0, NULL, 0, NULL, 0), 0, HERONDITCH_NEITHER, 0, 0), "a board of no node");
     check(is_counts(heronditch_match(T, sizeof T, none, 4, NULL, 0), 0, HERONDITCH_NEITHER, 0, 0, 0, 0), "match on no node");
-    check(is_counts(heronditch_place(T, sizeof T, none, 4, 0, NULL, 0, NULL, 0, NULL, 0), 7, HERONDITCH_NEITHER, 0, 0, 0, 0),
+    check(is_counts(heronditch_place(T, sizeof T, none, 4, 0, NULL, 0, NULL, 0, NULL, 0, NULL, 0), 7, HERONDITCH_NEITHER, 0, 0, 0, 0),
           "place on no node");
 }
 
 /* the place call with tables of these lengths, at a centre; checks what is past the needed entries */
-static void place_with(size_t nodes_len, size_t links_len, size_t table_len, size_t centre, uint32_t number, const char *what)
+static void place_with(size_t nodes_len, size_t links_len, size_t table_len, size_t distances_len, size_t centre, uint32_t number,
+                       const char *what)
 {
     uint8_t nodes[8], links[8];
     uint32_t table[8];
+    uint16_t distances[8];
+    memset(distances, 0xA5, sizeof distances);
     memset(nodes, 0xA5, sizeof nodes);
     memset(links, 0xA5, sizeof links);
     memset(table, 0xA5, sizeof table);
     heronditch_counts c =
-        heronditch_place(T, sizeof T, B, sizeof B, centre, nodes, nodes_len, links, links_len, table, table_len);
+        heronditch_place(T, sizeof T, B, sizeof B, centre, nodes, nodes_len, links, links_len, table, table_len, distances, distances_len);
     check(c.number == number && c.file == HERONDITCH_NEITHER, what);
     size_t n = number == 0 ? 6 : 0, m = number == 0 ? 3 : 0;
     check(untouched(nodes, n, sizeof nodes) && untouched(links, m, sizeof links) && untouched(table, 4 * n, sizeof table), what);
+    check(untouched(distances, 2 * n, sizeof distances), what);
     if (number == 0) {
         static const uint8_t in[] = {1, 1, 1, 0, 0, 0}, on[] = {1, 1, 0};
         static const uint32_t sets[] = {1, 2, 4, 0, 0, 0};
         check(!memcmp(nodes, in, 6) && !memcmp(links, on, 3) && !memcmp(table, sets, 24), what);
+        for (size_t v = 0; v < 6; v++) /* nodes 0, 1, 2 are a path, and no path leads to the others */
+            check(distances[v] == (v > 2 ? HERONDITCH_OUTSIDE : v > centre ? v - centre : centre - v), what);
     }
 }
 
 static void lengths(void)
 {
-    place_with(6, 3, 6, 0, 0, "exactly the needed lengths");
-    place_with(8, 8, 8, 1, 0, "longer tables");
-    place_with(5, 3, 6, 0, 8, "one node byte less");
-    place_with(6, 2, 6, 0, 8, "one link byte less");
-    place_with(6, 3, 5, 0, 8, "one set less");
-    place_with(5, 2, 5, 6, 7, "7 comes before 8");
-    place_with(6, 3, 6, 3, 9, "no place");
-    place_with(6, 3, 6, SIZE_MAX, 7, "the largest centre");
+    place_with(6, 3, 6, 6, 0, 0, "exactly the needed lengths");
+    place_with(7, 4, 7, 7, 2, 0, "one entry more each");
+    place_with(8, 8, 8, 8, 1, 0, "longer tables");
+    place_with(5, 3, 6, 6, 0, 8, "one node byte less");
+    place_with(6, 2, 6, 6, 0, 8, "one link byte less");
+    place_with(6, 3, 5, 6, 0, 8, "one set less");
+    place_with(6, 3, 6, 5, 0, 8, "one distance less");
+    place_with(5, 2, 5, 6, 6, 7, "7 comes before 8");
+    place_with(6, 3, 6, 6, 3, 9, "no place");
+    place_with(6, 3, 6, 6, SIZE_MAX, 7, "the largest centre");
     uint32_t table[6];
     check(is_counts(heronditch_match(T, sizeof T, B, sizeof B, table, 6), 0, HERONDITCH_NEITHER, 6, 3, 3, 2), "counts of T on B");
     check(is_counts(heronditch_match(T, sizeof T, B, sizeof B, table, 5), 8, HERONDITCH_NEITHER, 0, 0, 0, 0), "a short table");
     uint8_t nodes[6], links[3];
-    check(is_counts(heronditch_place(T, sizeof T, B, sizeof B, 3, nodes, 6, links, 3, table, 6), 9, HERONDITCH_NEITHER, 2, 0, 2, 2),
+    uint16_t far[7] = {7, 7, 7, 7, 7, 7, 7};
+    check(is_reply(heronditch_ball(B, sizeof B, 1, 1, far, 5), 8, HERONDITCH_NEITHER, 0, 0) && far[0] == 7, "one distance of a ball less");
+    check(is_reply(heronditch_ball(B, sizeof B, 0, 1, far, 7), 0, HERONDITCH_NEITHER, 6, 0), "a ball");
+    check(far[0] == 0 && far[1] == 1 && far[2] == HERONDITCH_OUTSIDE && far[5] == HERONDITCH_OUTSIDE && far[6] == 7, "distances in a ball");
+    check(is_counts(heronditch_place(T, sizeof T, B, sizeof B, 3, nodes, 6, links, 3, table, 6, far, 6), 9, HERONDITCH_NEITHER, 2, 0, 2, 2),
           "9 carries the ball's counts");
-    check(is_counts(heronditch_place_within(T, sizeof T, B, sizeof B, 0, 0, nodes, 6, links, 3, table, 6), 9, HERONDITCH_NEITHER, 1, 0, 1, 1),
+    check(is_counts(heronditch_place_within(T, sizeof T, B, sizeof B, 0, 0, nodes, 6, links, 3, table, 6, far, 6), 9, HERONDITCH_NEITHER, 1, 0, 1, 1),
           "radius 0");
-    check(is_counts(heronditch_place_within(T, sizeof T, B, sizeof B, 0, 65535, nodes, 6, links, 3, table, 6), 0, HERONDITCH_NEITHER, 3, 3, 0, 0),
+    check(is_counts(heronditch_place_within(T, sizeof T, B, sizeof B, 0, 65535, nodes, 6, links, 3, table, 6, far, 6), 0, HERONDITCH_NEITHER, 3, 3, 0, 0),
           "the largest radius");
     uint8_t out[sizeof T + 1];
     memset(out, 0xA5, sizeof out);

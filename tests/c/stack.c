@@ -53,7 +53,7 @@ static void *radius(void *x)
 }
 static void *ball(void *x)
 {
-    refused |= heronditch_ball(BOARD, 0, 65535, bytes, HERONDITCH_NODES).number;
+    refused |= heronditch_ball(BOARD, 0, 65535, kinds, HERONDITCH_NODES).number;
     return x;
 }
 static void *match(void *x)
@@ -63,7 +63,7 @@ static void *match(void *x)
 }
 static void *place(void *x)
 {
-    refused |= heronditch_place(PATTERN, BOARD, 0, bytes, HERONDITCH_NODES, links, HERONDITCH_BOARD_LINKS, table, HERONDITCH_NODES).number;
+    refused |= heronditch_place(PATTERN, BOARD, 0, bytes, HERONDITCH_NODES, links, HERONDITCH_BOARD_LINKS, table, HERONDITCH_NODES, kinds, HERONDITCH_NODES).number;
     return x;
 }
 static void *merge(void *x)

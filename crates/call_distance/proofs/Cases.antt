@@ -5,8 +5,8 @@ use Prim.Native.Nat.{ℕ, _≤_, _<_}
 use borrow.Author.Tests.{lt-ltb, le-ltb}
 use lib.ListN.{length, take, drop}
 use Rattle.graph.specs.Circuit.{Circuit}
-use Rattle.graph.specs.Search.{ball, radius}
-use Rattle.graph.proofs.Ball.{length-ball}
+use Rattle.graph.specs.Search.{distances, radius}
+use Rattle.graph.proofs.Distance.{length-distances}
 use Rattle.file_format.specs.declared.File.the-variants.{Neither}
 use Rattle.file_format.specs.declared.Refusal.{Refusal}
 use Rattle.file_format.specs.declared.Role.the-variants.{Pattern, Board}
@@ -53,16 +53,16 @@ module _ (file : List ℕ) (centre r : ℕ) (out : List ℕ) where
         → ballCall file centre r out
         ≡ record {
           reply = record { verdict = accept; values = nodesOf file ∷ [] };
-          out = ball (nodesOf file) (startsOf file) (endsOf file) centre r ++ drop (nodesOf file) out;
+          out = distances (nodesOf file) (startsOf file) (endsOf file) centre r ++ drop (nodesOf file) out;
         }
     unfolding ballCall ballConditions ballEntries first centreOutside shortTable reply filled
-    ball-filled h l = rw (first-accept _ _ e) (simp (lt-ltb _ _ h, le-ltb _ _ l, length-ball))
+    ball-filled h l = rw (first-accept _ _ e) (simp (lt-ltb _ _ h, le-ltb _ _ l, length-distances))
 
 -- ---- the ball of a file that was read, filled in from the fronts of its tables
 
 pub ball-read : (file : List ℕ) (centre r : ℕ) (out : List ℕ) {n m : ℕ} {t : Circuit} → first (fileConditions Board file) ≡ accept → Stands file n m t
     → centre < n → n ≤ length out → {after : List ℕ}
-    → after ≡ ball (length (take n (t .kinds))) (take m (t .starts)) (take m (t .ends)) centre r ++ drop (length (take n (t .kinds))) out
+    → after ≡ distances (length (take n (t .kinds))) (take m (t .starts)) (take m (t .ends)) centre r ++ drop (length (take n (t .kinds))) out
     → record { reply = record { verdict = accept; values = n ∷ [] }; out = after } ≡ ballCall file centre r out
 ball-read file centre r out sound s inside room e =
     let held = s .content in

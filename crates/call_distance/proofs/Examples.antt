@@ -28,8 +28,8 @@ pub B-centre-6 : (r : ℕ) (out : List ℕ)
 unfolding fileB ballCall ballConditions filled reply first fileConditions linkConditions centreOutside shortTable asksConnected linksBelow rising earlier nodesOf linksOf startsOf endsOf fields field tabulate all allBelow
 B-centre-6 r out = refl
 
--- the ball of radius 1 around node 1 of B, in a table of seven bytes: the seventh keeps its content
-pub B-ball : ballCall fileB 1 1 (9 ∷ 9 ∷ 9 ∷ 9 ∷ 9 ∷ 9 ∷ 9 ∷ [])
-    ≡ record { reply = record { verdict = accept; values = 6 ∷ [] }; out = 1 ∷ 1 ∷ 1 ∷ 0 ∷ 0 ∷ 0 ∷ 9 ∷ [] }
-unfolding fileB ballCall ballConditions ballEntries filled reply first fileConditions linkConditions centreOutside shortTable asksConnected linksBelow rising earlier nodesOf linksOf startsOf endsOf fields field tabulate all allBelow ball inside beside
+-- the ball of radius 1 around node 0 of B, in a table of seven entries: the seventh keeps its content
+pub B-ball : ballCall fileB 0 1 (9 ∷ 9 ∷ 9 ∷ 9 ∷ 9 ∷ 9 ∷ 9 ∷ [])
+    ≡ record { reply = record { verdict = accept; values = 6 ∷ [] }; out = 0 ∷ 1 ∷ 65535 ∷ 65535 ∷ 65535 ∷ 65535 ∷ 9 ∷ [] }
+unfolding fileB ballCall ballConditions ballEntries filled reply first fileConditions linkConditions centreOutside shortTable asksConnected linksBelow rising earlier nodesOf linksOf startsOf endsOf fields field tabulate all allBelow distances misses ball inside beside
 B-ball = refl

@@ -1,17 +1,16 @@
--- What the replies and the bytes of the two calls mean, in the terms of the graph's definitions. Assumes nothing.
-use mathlib.Core.Bool.{Bool, cond}
+-- What the replies and the entries of the two calls mean, in the terms of the graph's definitions. Assumes nothing.
 use mathlib.Core.List.{List, [], _∷_}
-use mathlib.Core.Logic.{_⊎_, inl, inr, _↔_, ⊎-elim}
+use mathlib.Core.Logic.{_↔_, _≢_, ⊎-elim}
 use mathlib.Core.Path.{_≡_, sym, ap, subst, _∙_}
 use Prim.Native.Nat.{ℕ, _≤_, _<_}
 use native.Mathlib.Omega.{arith}
 use lib.ListN.{length, getD, drop, List·getD-append}
-use Rattle.base_lists.proofs.Tests.{T-true, T-false, decide}
+use Rattle.base_lists.proofs.Tests.{decide}
 use Rattle.graph.specs.Circuit.{HasLink, graphOf}
-use Rattle.graph.specs.Graph.{Graph, Radius, InBall, Ball}
-use Rattle.graph.specs.Search.{inside, ball, radius}
-use Rattle.graph.proofs.Ball.{Within, within-all, length-ball, ball-entry}
-use Rattle.graph.proofs.Distance.{inBall-iff, radius-is}
+use Rattle.graph.specs.Graph.{Graph, Radius, Distance, DistanceEntry, InBall, Ball}
+use Rattle.graph.specs.Search.{inside, ball, distances, radius}
+use Rattle.graph.proofs.Ball.{Within, within-all}
+use Rattle.graph.proofs.Distance.{inBall-iff, radius-is, length-distances, distances-entry, distance-below}
 use Rattle.file_format.specs.declared.Refusal.{Refusal}
 use Rattle.file_format.specs.declared.Role.{Role}
 use Rattle.file_format.specs.declared.Role.the-variants.{Pattern, Board}
@@ -19,12 +18,12 @@ use Rattle.file_format.specs.Layout.{nodesOf, linksOf, startsOf, endsOf}
 use Rattle.file_format.specs.Reading.{filled}
 use Rattle.file_format.specs.Refusals.{accept, refuse, first, fileConditions, asksConnected}
 use Rattle.file_format.specs.Reply.{Reply}
-use Rattle.file_format.proofs.Refusals.{accepted, accepted-links, range-orders}
+use Rattle.file_format.proofs.Refusals.{accepted, accepted-links, range-orders, range-bounds}
 use Rattle.call_distance.specs.declared.RadiusAnswer.{RadiusAnswer}
 use Rattle.call_distance.specs.declared.RadiusAnswer.the-variants as radius-answer
 use Rattle.call_distance.specs.declared.BallAnswer.{BallAnswer}
 use Rattle.call_distance.specs.declared.BallAnswer.the-variants as ball-answer
-use Rattle.call_distance.specs.Calls.{radiusReply, ballReply, radiusCall, ballConditions, ballCall, BallOutcome, fileGraph, Marked}
+use Rattle.call_distance.specs.Calls.{radiusReply, ballReply, radiusCall, ballConditions, ballCall, BallOutcome, fileGraph}
 use Rattle.call_distance.proofs.Cases.{radius-replied, ball-filled}
 
 -- the links of an accepted file join its nodes
@@ -68,39 +67,44 @@ pub ball-refused-keeps : (file : List ℕ) (centre r : ℕ) (out : List ℕ) (x 
 unfolding ballCall filled
 ball-refused-keeps file centre r out x e = rw e
 
+-- no distance on a board is 65,535: its nodes are at most 512
+pub distance-few : (file : List ℕ) → first (fileConditions Board file) ≡ accept → (centre v d : ℕ) → centre < nodesOf file
+    → Distance (fileGraph file) centre v d → d < 512
+distance-few file e centre v d h p =
+    let few = range-bounds Board (nodesOf file) (linksOf file) (accepted Board file e .range) .0 in
+    omega (arith, distance-below (accepted-within Board file e) centre v d h p)
+
 module _ (file : List ℕ) (centre r : ℕ) (out : List ℕ) (e : first (fileConditions Board file) ≡ accept) (h : centre < nodesOf file) (room : nodesOf file ≤ length out) where
   links : Within (nodesOf file) (startsOf file) (endsOf file)
   links = accepted-within Board file e
 
-  byte-is : (v : ℕ) → v < nodesOf file → getD (ballCall file centre r out .out) v 0 ≡ cond (inside (ball (nodesOf file) (startsOf file) (endsOf file) centre r) v) 1 0
-  byte-is v below =
+  entry-is : (v : ℕ) → v < nodesOf file → getD (ballCall file centre r out .out) v 0 ≡ getD (distances (nodesOf file) (startsOf file) (endsOf file) centre r) v 0
+  entry-is v below =
       ap (λ (o : BallOutcome). getD (o .out) v 0) (ball-filled file centre r out e h room)
-      ∙ List·getD-append (ball (nodesOf file) (startsOf file) (endsOf file) centre r) (drop (nodesOf file) out) 0 v (subst (λ (k : ℕ). v < k) (sym (length-ball (nodesOf file) (startsOf file) (endsOf file) centre r)) below)
-      ∙ ball-entry (nodesOf file) (startsOf file) (endsOf file) centre r v below
+      ∙ List·getD-append (distances (nodesOf file) (startsOf file) (endsOf file) centre r) (drop (nodesOf file) out) 0 v
+      (subst (λ (k : ℕ). v < k) (sym (length-distances (nodesOf file) (startsOf file) (endsOf file) centre r)) below)
 
-  -- "fills a byte per node, 1 inside, else 0"
-  pub ball-means : (v : ℕ) → v < nodesOf file → Marked (fileGraph file) centre r v (getD (ballCall file centre r out .out) v 0)
+  -- "each node's distance from the centre, and 65,535 for a node outside the ball"
+  pub ball-means : (v : ℕ) → v < nodesOf file → DistanceEntry (fileGraph file) centre r v (getD (ballCall file centre r out .out) v 0)
   ball-means v below =
+      rw (entry-is v below) (distances-entry links centre r v 0 (let few = range-bounds Board (nodesOf file) (linksOf file) (accepted Board file e .range) .0 in omega arith) below)
+
+  -- an entry is another than 65,535 exactly when the ball has its node
+  pub ball-entry : (v : ℕ) → v < nodesOf file → (getD (ballCall file centre r out .out) v 0 ≢ 65535) ↔ InBall (fileGraph file) centre r v
+  unfolding Ball
+  ball-entry v below =
       let within = inside (ball (nodesOf file) (startsOf file) (endsOf file) centre r) v in
-      let meaning = inBall-iff links centre r v in
-      ⊎-elim
-      (λ t. inl (byte-is v below ∙ ap (λ (b : Bool). cond b 1 0) {x = within} (T-true t), meaning .0 t))
-      (λ f. inr (byte-is v below ∙ ap (λ (b : Bool). cond b 1 0) {x = within} (T-false f), λ m. f (meaning .1 m)))
-      (decide within)
+      let meaning = inBall-iff links centre r v in (
+        λ other. ⊎-elim (λ t. meaning .0 t) (λ f. absurd (other (ball-means v below .outside .1 (λ m. f (meaning .1 m))))) (decide within),
+        λ m q. ball-means v below .outside .0 q m,
+      )
 
-  -- a byte is 1 exactly when the ball has its node
-  pub ball-byte : (v : ℕ) → v < nodesOf file → (getD (ballCall file centre r out .out) v 0 ≡ 1) ↔ InBall (fileGraph file) centre r v
-  ball-byte v below = (
-    λ one. ⊎-elim (λ m. m .1) (λ m. absurd (omega (arith, m .0))) (ball-means v below),
-    λ m. ⊎-elim (λ p. p .0) (λ p. absurd (p .1 m)) (ball-means v below),
-  )
-
-  -- "and all board links between them": the ball's links are the board's links between nodes whose bytes are 1
+  -- "and all board links between them": the ball's links are the board's links between nodes that have a distance
   pub ball-links : (v w : ℕ)
       → Ball (fileGraph file) centre r .Link v w
-      ↔ (HasLink (startsOf file) (endsOf file) v w × (getD (ballCall file centre r out .out) v 0 ≡ 1) × (getD (ballCall file centre r out .out) w 0 ≡ 1))
+      ↔ (HasLink (startsOf file) (endsOf file) v w × (getD (ballCall file centre r out .out) v 0 ≢ 65535) × (getD (ballCall file centre r out .out) w 0 ≢ 65535))
   unfolding Ball graphOf
   ball-links v w = (
-    λ (l, a, b). (l, ball-byte v (links .starts v w l) .1 a, ball-byte w (links .ends v w l) .1 b),
-    λ (l, a, b). (l, ball-byte v (links .starts v w l) .0 a, ball-byte w (links .ends v w l) .0 b),
+    λ (l, a, b). (l, ball-entry v (links .starts v w l) .1 a, ball-entry w (links .ends v w l) .1 b),
+    λ (l, a, b). (l, ball-entry v (links .starts v w l) .0 a, ball-entry w (links .ends v w l) .0 b),
   )

@@ -1,12 +1,10 @@
 -- The radius call and the ball lookup, whole: the reply, and the lent table's later content, from the inputs alone.
 use mathlib.Core.List.{List, [], _∷_, _++_}
-use mathlib.Core.Logic.{_⊎_}
-use mathlib.Core.Path.{_≡_}
 use Prim.Native.Nat.{ℕ}
 use lib.ListN.{length}
 use Rattle.graph.specs.Circuit.{graphOf}
-use Rattle.graph.specs.Graph.{Graph, InBall}
-use Rattle.graph.specs.Search.{ball, radius}
+use Rattle.graph.specs.Graph.{Graph}
+use Rattle.graph.specs.Search.{distances, radius}
 use Rattle.file_format.specs.declared.Role.the-variants.{Pattern, Board}
 use Rattle.file_format.specs.Layout.{nodesOf, startsOf, endsOf}
 use Rattle.file_format.specs.Reading.{filled}
@@ -28,7 +26,8 @@ radiusReply (radius-answer.Refused x) = record { verdict = refuse x; values = []
 unfoldable pub radiusCall : List ℕ → Reply
 radiusCall file = reply (first (fileConditions Pattern file)) (radius (nodesOf file) (startsOf file) (endsOf file) ∷ [])
 
--- ---- the ball lookup: it "takes a board, a centre and a radius and fills a byte per node, 1 inside, else 0; it replies with N"
+-- ---- the ball lookup: it "takes a board, a centre and a radius .. it replies with N" and "fills N entries of 16 bits in place of its bytes:
+-- each node's distance from the centre, and 65,535 for a node outside the ball" (document 02, Ask 2)
 
 -- number and values of each case of its answer
 unfoldable pub ballReply : BallAnswer → Reply
@@ -42,7 +41,7 @@ ballConditions file centre lent =
 
 -- what is filled in for the nodes
 unfoldable pub ballEntries : List ℕ → ℕ → ℕ → List ℕ
-ballEntries file centre r = ball (nodesOf file) (startsOf file) (endsOf file) centre r
+ballEntries file centre r = distances (nodesOf file) (startsOf file) (endsOf file) centre r
 
 -- the reply, and the table as the call leaves it
 pub record BallOutcome : Type 0 where
@@ -54,12 +53,8 @@ ballCall file centre r out =
     let verdict = first (ballConditions file centre (length out)) in
     record { reply = reply verdict (nodesOf file ∷ []); out = filled verdict (ballEntries file centre r) out }
 
--- ---- what the two mean
+-- ---- what the two speak of
 
 -- the graph of a circuit file
 abbrev pub fileGraph : List ℕ → Graph
 fileGraph file = graphOf (nodesOf file) (startsOf file) (endsOf file)
-
--- The byte of a node: 1, and the ball around the centre at radius r has the node; or 0, and it does not.
-abbrev pub Marked : Graph → ℕ → ℕ → ℕ → ℕ → Type 0
-Marked G centre r v byte = ((byte ≡ 1) × InBall G centre r v) ⊎ ((byte ≡ 0) × (InBall G centre r v → ⊥))

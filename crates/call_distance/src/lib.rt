@@ -37,9 +37,9 @@ pub fn radius(file: &[u8]) -> RadiusAnswer
     RadiusAnswer::Radius(read.radius as usize)
 }
 
-// The ball around a node of a board: a byte for each node, 1 inside and 0 outside, first in `out`; or the refusal, which leaves `out` as it
-// was.
-pub fn ball(file: &[u8], centre: usize, radius: u16, out: &mut [u8]) -> BallAnswer
+// The ball around a node of a board: the distance of each node from the centre, and 65,535 outside, first in `out`; or the refusal, which
+// leaves `out` as it was.
+pub fn ball(file: &[u8], centre: usize, radius: u16, out: &mut [u16]) -> BallAnswer
     ensures { λ r. ⌜ record { reply = ballReply r; out = now (out .exit) } ≡ ballCall (now (file .entry)) centre radius (now (out .entry)) ⌝ }
 {
     let mut kinds = [0u16; Board::MAX_NODES];
@@ -58,11 +58,12 @@ pub fn ball(file: &[u8], centre: usize, radius: u16, out: &mut [u8]) -> BallAnsw
             file: File::Neither,
         });
     }
+    let short = Refusal {
+        number: 8,
+        file: File::Neither,
+    };
     if out.len() < n {
-        return BallAnswer::Refused(Refusal {
-            number: 8,
-            file: File::Neither,
-        });
+        return BallAnswer::Refused(short);
     }
     fill_ball(
         &kinds[..n],

@@ -1,83 +1,123 @@
 -- What the call comes to, by cases: a refused file, a centre outside, a short table, or what is found. Assumes nothing.
 use mathlib.Core.List.{List}
-use mathlib.Core.Logic.{_⊎_}
 use mathlib.Core.Path.{_≡_, sym, ap, _∙_}
 use Prim.Native.Nat.{ℕ, _≤_, _<_}
 use borrow.Author.Tests.{lt-ltb, le-ltb}
-use lib.ListN.{length}
+use lib.ListN.{length, take}
 use Rattle.graph.specs.Circuit.{Circuit}
 use Rattle.graph.specs.Search.{radius}
 use Rattle.file_format.specs.declared.File.the-variants.{Neither}
 use Rattle.file_format.specs.declared.Refusal.{Refusal}
 use Rattle.file_format.specs.Circuit.{circuitOf}
-use Rattle.file_format.specs.Layout.{startsOf, endsOf}
-use Rattle.file_format.specs.Reading.{front}
+use Rattle.file_format.specs.Layout.{nodesOf, linksOf, startsOf, endsOf}
 use Rattle.file_format.specs.Refusals.{Verdict, accept, refuse, first, centreOutside}
 use Rattle.file_format.proofs.Fields.{length-kinds, length-starts}
-use Rattle.file_format.proofs.Refusals.{first-accept, first-refuse, tables-short, tables-fit}
+use Rattle.file_format.proofs.Refusals.{first-accept, first-refuse}
 use Rattle.file_pair.specs.declared.Pair.{Pair}
-use Rattle.file_pair.specs.Pair.{pairConditions, BothRead}
+use Rattle.file_pair.specs.Pair.{pairConditions}
+use Rattle.table.specs.Prepared.{Tables}
 use Rattle.table.specs.Reply.{noCounts}
 use Rattle.place.specs.declared.PlaceAnswer.the-variants.{Refused}
 use Rattle.place.specs.Match.{radiusOf}
 use Rattle.place.specs.Outcome.{PlaceOutcome, placeReply, placeAround}
+use Rattle.place_circuits.specs.Ball.{SomeDrawn, EveryDrawn}
 use Rattle.call_place.specs.declared.Reach.{Reach}
-use Rattle.call_place.specs.Call.{placeConditions, inputConditions, decided, placeAt, radiusFor, placeOn}
+use Rattle.call_place.specs.Call.{tooShort, roomConditions, placeConditions, inputConditions, decided, placeAt, radiusFor, placeOn}
+use Rattle.call_prepare.specs.Read.{BothPrepared}
 
--- a call that is turned away leaves the three tables as they were
-abbrev pub untouched : Refusal → List ℕ → List ℕ → List ℕ → PlaceOutcome
-untouched x nodes links table = record { reply = placeReply (Refused x noCounts); nodes = nodes; links = links; table = table }
+-- a call that is turned away leaves the four tables as they were
+abbrev pub untouched : Refusal → List ℕ → List ℕ → List ℕ → List ℕ → PlaceOutcome
+untouched x nodes links table distances =
+    record { reply = placeReply (Refused x noCounts); nodes = nodes; links = links; table = table; distances = distances }
 
 -- ---- two circuits
 
-module _ (r : ℕ) (p b : Circuit) (w : ℕ) (nodes links table : List ℕ) where
-  abbrev verdict : Verdict
-  verdict = first (placeConditions (length (b .kinds)) (length (b .starts)) w (length nodes) (length links) (length table))
+module _ (r : ℕ) (p b : Circuit) (w : ℕ) (nodes links table distances : List ℕ) where
+  abbrev result : PlaceOutcome
+  result = placeOn r p b w nodes links table distances
 
-  refused : {x : Refusal} → verdict ≡ refuse x → untouched x nodes links table ≡ placeOn r p b w nodes links table
+  abbrev own : Verdict
+  own = first (placeConditions (length (b .kinds)) (length (b .starts)) w (length nodes) (length links) (length table) (length distances))
+
+  -- what the test of the tables' lengths says, for a board of m links
+  abbrev room : ℕ → Verdict
+  room m = first (roomConditions (length (b .kinds)) m (length nodes) (length links) (length table) (length distances))
+
+  refused : {x : Refusal} → own ≡ refuse x → untouched x nodes links table distances ≡ result
   unfolding placeOn decided placeReply
   refused e = rw e
 
-  searched : {o : PlaceOutcome} → verdict ≡ accept → o ≡ placeAround p b w r nodes links table
-      → o ≡ placeOn r p b w nodes links table
+  searched : {o : PlaceOutcome} → own ≡ accept → o ≡ placeAround p b w r nodes links table distances → o ≡ result
   unfolding placeOn decided
   searched e q = q ∙ rw e
 
-  pub on-centre : length (b .kinds) ≤ w
-      → untouched (record { number = 7; file = Neither }) nodes links table ≡ placeOn r p b w nodes links table
+  pub on-centre : length (b .kinds) ≤ w → untouched (record { number = 7; file = Neither }) nodes links table distances ≡ result
   unfolding first centreOutside
   on-centre h = refused (rw (le-ltb _ _ h))
 
-  module _ (inside : w < length (b .kinds)) where
-    pub on-short : (length nodes < length (b .kinds)) ⊎ ((length links < length (b .starts)) ⊎ (length table < length (b .kinds)))
-        → untouched (record { number = 8; file = Neither }) nodes links table ≡ placeOn r p b w nodes links table
+  module _ (inside : w < length (b .kinds)) {m : ℕ} (last : m ≡ length (b .starts)) where
+    -- the centre is a node: the tables decide
+    by-room : {v : Verdict} → room m ≡ v → own ≡ v
     unfolding first centreOutside
-    on-short h = refused (rw (lt-ltb _ _ inside) (tables-short _ _ _ _ _ _ h))
+    by-room e = rw (lt-ltb _ _ inside, ← last) e
 
-    pub on-placed : length (b .kinds) ≤ length nodes → length (b .starts) ≤ length links → length (b .kinds) ≤ length table
-        → {o : PlaceOutcome} → o ≡ placeAround p b w r nodes links table → o ≡ placeOn r p b w nodes links table
-    unfolding first centreOutside
-    on-placed n m t = searched (rw (lt-ltb _ _ inside) (tables-fit _ _ _ _ _ _ n m t))
+    pub on-short : room m ≡ refuse tooShort → untouched tooShort nodes links table distances ≡ result
+    on-short e = refused (by-room e)
 
--- ---- two files
+    pub on-placed : room m ≡ accept → {o : PlaceOutcome} → o ≡ placeAround p b w r nodes links table distances → o ≡ result
+    on-placed e = searched (by-room e)
 
-module _ (reach : Reach) (pattern board : List ℕ) (w : ℕ) (nodes links table : List ℕ) where
+-- ---- two files that were read
+
+-- what the search starts from
+pub ready-drawn : {pattern board : List ℕ} {read : Pair} {partKinds nodeKinds : List ℕ} {t : Tables} → BothPrepared pattern board read partKinds nodeKinds t
+    → SomeDrawn (take (read .parts) partKinds) (take (read .nodes) nodeKinds) t
+ready-drawn {pattern} {board} b =
+    record {
+      partStarts = startsOf pattern;
+      partEnds = endsOf pattern;
+      nodeStarts = startsOf board;
+      nodeEnds = endsOf board;
+      drawn = rw (b .parts .content, b .nodes .content) (b .drawn);
+      prepared = rw (b .parts .content, b .nodes .content) (b .prepared);
+    }
+
+module _ (reach : Reach) (pattern board : List ℕ) (w : ℕ) (nodes links table distances : List ℕ) where
   -- what the call comes to
   abbrev outcome : PlaceOutcome
-  outcome = placeAt pattern board w (radiusFor reach (radiusOf (circuitOf pattern))) nodes links table
+  outcome = placeAt pattern board w (radiusFor reach (radiusOf (circuitOf pattern))) nodes links table distances
 
-  pub find-refused : {x : Refusal} → first (pairConditions pattern board) ≡ refuse x → untouched x nodes links table ≡ outcome
-  unfolding placeAt inputConditions decided placeReply
-  find-refused e = rw (first-refuse _ _ _ e)
+  abbrev inputs : Verdict
+  inputs = first (inputConditions pattern board w (length nodes) (length links) (length table) (length distances))
+
+  -- the files' conditions come before the others: theirs is the first to hold,
+  inputs-refused : {x : Refusal} → first (pairConditions pattern board) ≡ refuse x → inputs ≡ refuse x
+  unfolding inputConditions
+  inputs-refused {x} e = first-refuse (pairConditions pattern board) _ x e
+
+  -- or none of theirs holds
+  inputs-go-on : first (pairConditions pattern board) ≡ accept
+      → inputs ≡ first (placeConditions (nodesOf board) (linksOf board) w (length nodes) (length links) (length table) (length distances))
+  unfolding inputConditions
+  inputs-go-on e = first-accept (pairConditions pattern board) _ e
+
+  pub find-refused : {x : Refusal} → first (pairConditions pattern board) ≡ refuse x → untouched x nodes links table distances ≡ outcome
+  unfolding placeAt decided placeReply
+  find-refused e = rw (inputs-refused e)
 
   find-accepted : first (pairConditions pattern board) ≡ accept
-      → placeOn (radiusFor reach (radiusOf (circuitOf pattern))) (circuitOf pattern) (circuitOf board) w nodes links table ≡ outcome
-  unfolding placeOn placeAt inputConditions
-  find-accepted e = rw (first-accept _ _ e, length-kinds board, length-starts board)
+      → placeOn (radiusFor reach (radiusOf (circuitOf pattern))) (circuitOf pattern) (circuitOf board) w nodes links table distances ≡ outcome
+  unfolding placeOn placeAt
+  find-accepted e = rw (inputs-go-on e, length-kinds board, length-starts board)
 
-  pub find-read : {p : Pair} {parts host : Circuit} {r : ℕ} → BothRead pattern board p parts host → r ≡ radiusFor reach (p .radius) → {o : PlaceOutcome}
-      → o ≡ placeOn r (front (p .parts) (p .joins) parts) (front (p .nodes) (p .links) host) w nodes links table → o ≡ outcome
-  unfolding radiusOf
-  find-read read own e =
-      let radius = own ∙ ap (radiusFor reach) (read .measured ∙ sym (ap (λ (n : ℕ). radius n (startsOf pattern) (endsOf pattern)) (length-kinds pattern))) in
-      (rw (radius, read .drawn .content, read .given .content) at e) ∙ find-accepted (read .verdict)
+  pub find-read : {p : Pair} {partKinds nodeKinds : List ℕ} {t : Tables} {r : ℕ} → first (pairConditions pattern board) ≡ accept
+      → BothPrepared pattern board p partKinds nodeKinds t → r ≡ radiusFor reach (p .radius) → {o : PlaceOutcome}
+      → EveryDrawn (take (p .parts) partKinds) (take (p .nodes) nodeKinds) t o (λ pattern board. placeOn r pattern board w nodes links table distances)
+      → o ≡ outcome
+  unfolding ready-drawn radiusOf
+  find-read {r = r} ok both reached {o} every =
+      let measured = both .measured ∙ sym (ap (λ (n : ℕ). radius n (startsOf pattern) (endsOf pattern)) (length-kinds pattern)) in
+      let some = ready-drawn both in
+      let e : o ≡ placeOn r (circuitOf pattern) (circuitOf board) w nodes links table distances =
+      rw (both .parts .content, both .nodes .content) at (every (startsOf pattern) (endsOf pattern) (startsOf board) (endsOf board) (some .drawn) (some .prepared)) in
+      (rw (reached ∙ ap (radiusFor reach) measured) at e) ∙ find-accepted ok

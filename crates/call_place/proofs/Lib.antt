@@ -1,2 +1,3 @@
+pub mod Rooms
 pub mod Finding
 pub mod Promise

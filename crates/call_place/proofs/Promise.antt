@@ -5,22 +5,25 @@ use mathlib.Core.Logic.{_↔_, _⊎_, inl, inr, ⊎-elim}
 use mathlib.Core.Path.{_≡_, sym, ap, _∙_}
 use Prim.Native.Nat.{ℕ, _≤_, _<_}
 use native.Mathlib.Omega.{arith}
-use borrow.Author.Tests.{ltb-true, not-false, lt-ltb, le-ltb}
+use borrow.Author.Tests.{ltb-true, not-false, lt-ltb}
 use lib.Dec.{T, ltb}
-use lib.ListN.{length, take, drop}
+use lib.ListN.{length, getD, take, drop, List·getD-append}
 use lib.Seq.{take-at, drop-at}
 use Rattle.base_lists.proofs.Tests.{T-true, T-false, decide}
 use Rattle.graph.specs.Circuit.{Circuit, circuitGraph}
-use Rattle.graph.specs.Graph.{Graph}
+use Rattle.graph.specs.Graph.{Graph, DistanceEntry}
+use Rattle.graph.specs.Search as search
+use Rattle.graph.proofs.Distance.{distances-entry}
 use Rattle.simulation.specs.Simulation.{Largest}
 use Rattle.simulation.specs.Perfect.{Perfect, Place}
 use Rattle.file_format.specs.declared.File.the-variants.{Neither}
 use Rattle.file_format.specs.declared.Refusal.{Refusal}
 use Rattle.file_format.specs.declared.Role.the-variants.{Pattern, Board}
 use Rattle.file_format.specs.Circuit.{circuitOf}
-use Rattle.file_format.specs.Layout.{nodesOf, linksOf}
+use Rattle.file_format.specs.Layout.{nodesOf, linksOf, startsOf, endsOf}
 use Rattle.file_format.specs.Reading.{filled}
-use Rattle.file_format.specs.Refusals.{Condition, accept, refuse, first, fileConditions, centreOutside, shortTable, Accepted}
+use Rattle.file_format.specs.Refusals.{Condition, accept, refuse, first, fileConditions, centreOutside, Accepted}
+use Rattle.file_format.proofs.Accepted.{accepted-bounded}
 use Rattle.file_format.proofs.Fields.{length-kinds, length-starts}
 use Rattle.file_format.proofs.Refusals.{accepted, first-accept, first-parts, first-holds, refuses-iff}
 use Rattle.file_pair.specs.Pair.{pairConditions}
@@ -29,12 +32,13 @@ use Rattle.table.specs.Reply.{noCounts}
 use Rattle.table.specs.Host.{KindsMatch}
 use Rattle.table.specs.Refine.{countsOf}
 use Rattle.table.specs.Row.{InTable}
-use Rattle.place.specs.Match.{ballOf, found, placeNodes, placeLinks, placeTable, markedGraph}
+use Rattle.place.specs.Match.{ballOf, distancesOf, found, placeNodes, placeLinks, placeTable, markedGraph}
 use Rattle.place.specs.Outcome.{PlaceOutcome, placeVerdict, placeAround}
 use Rattle.call_place.specs.Call.{inputConditions, decided, placeAt}
+use Rattle.call_place.proofs.Rooms.{room-holds, room-enough}
 use Rattle.place.proofs.Accepted.{accepted-admissible}
 use Rattle.place.proofs.Ball.{Admissible}
-use Rattle.place.proofs.Marks.{nodes-marks, links-marks, length-table}
+use Rattle.place.proofs.Marks.{nodes-marks, links-marks, length-table, length-ballDistances}
 use Rattle.place.proofs.Place.{place-found, none-iff, place-table}
 
 -- number 9, of neither file
@@ -63,7 +67,7 @@ module _ (pattern board : Circuit) (w r : ℕ) where
 
 -- ---- a call
 
-module _ (pattern board : List ℕ) (w r : ℕ) (nodes links table : List ℕ) where
+module _ (pattern board : List ℕ) (w r : ℕ) (nodes links table distances : List ℕ) where
   -- the two circuits, the conditions on the inputs, and what the call comes to
   abbrev P : Circuit
   P = circuitOf pattern
@@ -72,17 +76,17 @@ module _ (pattern board : List ℕ) (w r : ℕ) (nodes links table : List ℕ) w
   B = circuitOf board
 
   abbrev inputs : List Condition
-  inputs = inputConditions pattern board w (length nodes) (length links) (length table)
+  inputs = inputConditions pattern board w (length nodes) (length links) (length table) (length distances)
 
   abbrev result : PlaceOutcome
-  result = placeAt pattern board w r nodes links table
+  result = placeAt pattern board w r nodes links table distances
 
   -- A condition on the inputs that holds, and no other holds before it, refuses: "All lent tables keep their content; counts are 0".
   pub input-refused :
       (x : Refusal) → first inputs ≡ refuse x →
-      (result .reply .verdict ≡ refuse x) × (result .reply .counts ≡ noCounts) × (result .nodes ≡ nodes) × (result .links ≡ links) × (result .table ≡ table)
+      (result .reply .verdict ≡ refuse x) × (result .reply .counts ≡ noCounts) × (result .nodes ≡ nodes) × (result .links ≡ links) × (result .table ≡ table) × (result .distances ≡ distances)
   unfolding placeAt decided
-  input-refused x e = (rw e, rw e, rw e, rw e, rw e)
+  input-refused x e = (rw e, rw e, rw e, rw e, rw e, rw e)
 
   -- there is such a condition exactly when some condition on the inputs holds
   pub inputs-iff : ((x : Refusal) × (first inputs ≡ refuse x)) ↔ ((c : Condition) × List·Memᴰ c inputs × T (c .holds))
@@ -91,15 +95,15 @@ module _ (pattern board : List ℕ) (w r : ℕ) (nodes links table : List ℕ) w
   -- None holds where both files are accepted, the centre is a node and the tables are long enough,
   pub inputs-accept :
       Accepted Pattern pattern → Accepted Board board → w < nodesOf board → nodesOf board ≤ length nodes → linksOf board ≤ length links →
-      nodesOf board ≤ length table → first inputs ≡ accept
-  unfolding inputConditions first centreOutside shortTable
-  inputs-accept a b h n m t =
-      rw (first-accept _ _ (pair-accept pattern board a b))
-      (simp (lt-ltb _ _ h, le-ltb _ _ n, le-ltb _ _ m, le-ltb _ _ t))
+      nodesOf board ≤ length table → nodesOf board ≤ length distances → first inputs ≡ accept
+  unfolding inputConditions first centreOutside
+  inputs-accept a b h n m t d =
+      rw (first-accept _ _ (pair-accept pattern board a b), lt-ltb _ _ h)
+      (room-enough (nodesOf board) (linksOf board) (length nodes) (length links) (length table) (length distances) n m t d)
 
   -- and only there.
   module _ (sound : first inputs ≡ accept) where
-    result-is : result ≡ placeAround P B w r nodes links table
+    result-is : result ≡ placeAround P B w r nodes links table distances
     unfolding placeAt decided
     result-is = rw sound
 
@@ -114,6 +118,13 @@ module _ (pattern board : List ℕ) (w r : ℕ) (nodes links table : List ℕ) w
         let (files, rest) = first-parts (pairConditions pattern board) _ sound in
         let (drawn, given) = pair-parts pattern board files in
         (drawn, given, ltb-true w (nodesOf board) (not-false (ltb w (nodesOf board)) (first-holds _ _ rest .0)))
+
+    pub centre-inside : w < nodesOf board
+    centre-inside = parts .2
+
+    pub distances-room : nodesOf board ≤ length distances
+    unfolding inputConditions
+    distances-room = room-holds _ _ _ _ _ _ (first-holds _ _ (first-parts (pairConditions pattern board) _ sound .1) .1) .3
 
     pub pattern-accepted : Accepted Pattern pattern
     pattern-accepted = accepted Pattern pattern (parts .0)
@@ -144,11 +155,11 @@ module _ (pattern board : List ℕ) (w r : ℕ) (nodes links table : List ℕ) w
     )
 
     -- 9 too leaves the tables as they were
-    pub nine-keeps : result .reply .verdict ≡ refuse nine → (result .nodes ≡ nodes) × (result .links ≡ links) × (result .table ≡ table)
+    pub nine-keeps : result .reply .verdict ≡ refuse nine → (result .nodes ≡ nodes) × (result .links ≡ links) × (result .table ≡ table) × (result .distances ≡ distances)
     unfolding placeAround filled
     nine-keeps e =
         let v : placeVerdict P B w r ≡ refuse nine = sym verdict-is ∙ e in
-        (rw (result-is, v), rw (result-is, v), rw (result-is, v))
+        (rw (result-is, v), rw (result-is, v), rw (result-is, v), rw (result-is, v))
 
     -- ---- the place
 
@@ -171,7 +182,14 @@ module _ (pattern board : List ℕ) (w r : ℕ) (nodes links table : List ℕ) w
       unfolding placeAround filled
       table-is = rw (result-is, ok)
 
-      -- the first N node bytes, M link bytes and N sets are the place's
+      distances-are : result .distances ≡ distancesOf B w r ++ drop (length (distancesOf B w r)) distances
+      unfolding placeAround filled
+      distances-are = rw (result-is, ok)
+
+      distances-size : length (distancesOf B w r) ≡ nodesOf board
+      distances-size = length-ballDistances B w r ∙ length-kinds board
+
+      -- the first N node bytes, M link bytes and N sets are the place's, and the first N distances the ball's
       pub nodes-front : take (nodesOf board) (result .nodes) ≡ placeNodes P B w r
       nodes-front = rw nodes-are (take-at (placeNodes P B w r) _ (nodesOf board) (nodes-marks P B w r .size ∙ length-kinds board))
 
@@ -180,6 +198,9 @@ module _ (pattern board : List ℕ) (w r : ℕ) (nodes links table : List ℕ) w
 
       pub table-front : take (nodesOf board) (result .table) ≡ placeTable P B w r
       table-front = rw table-is (take-at (placeTable P B w r) _ (nodesOf board) (length-table P B w r ∙ length-kinds board))
+
+      pub distances-front : take (nodesOf board) (result .distances) ≡ distancesOf B w r
+      distances-front = rw distances-are (take-at (distancesOf B w r) _ (nodesOf board) distances-size)
 
       -- "Accepted calls leave entries past those needed."
       pub nodes-rest : drop (nodesOf board) (result .nodes) ≡ drop (nodesOf board) nodes
@@ -196,6 +217,22 @@ module _ (pattern board : List ℕ) (w r : ℕ) (nodes links table : List ℕ) w
       table-rest =
           let size : length (placeTable P B w r) ≡ nodesOf board = length-table P B w r ∙ length-kinds board in
           rw table-is (drop-at (placeTable P B w r) _ (nodesOf board) size ∙ ap (λ (k : ℕ). drop k table) size)
+
+      pub distances-rest : drop (nodesOf board) (result .distances) ≡ drop (nodesOf board) distances
+      distances-rest = rw distances-are (drop-at (distancesOf B w r) _ (nodesOf board) distances-size ∙ ap (λ (k : ℕ). drop k distances) distances-size)
+
+      -- "each node's distance from the centre, and 65,535 for a node outside the ball", "whether a node is in the place or not"
+      pub distances-mean : (v : ℕ) → v < nodesOf board → DistanceEntry (circuitGraph B) w r v (getD (result .distances) v 0)
+      unfolding circuitGraph distancesOf
+      distances-mean v h =
+          let few = accepted-bounded board-accepted .nodes in
+          rw (distances-are, List·getD-append (distancesOf B w r) (drop (length (distancesOf B w r)) distances) 0 v (rw distances-size h))
+          (distances-entry (admissible .links) w r v 0 (omega arith) (rw (length-kinds board) h))
+
+      -- the table is as a ball lookup would leave it
+      pub distances-ball : result .distances ≡ search.distances (nodesOf board) (startsOf board) (endsOf board) w r ++ drop (nodesOf board) distances
+      unfolding distancesOf
+      distances-ball = distances-are ∙ rw (distances-size, length-kinds board)
 
       -- the subgraph of the board that those bytes mark
       abbrev pub marked : Graph

@@ -1,21 +1,27 @@
 // The place calls: a pattern file, the board of another file and a centre, at the pattern's radius or at a radius given.
+use call_prepare::read_prepared;
 use file_format::Board;
 use file_format::File;
 use file_format::FileVerdict;
 use file_format::Pattern;
 use file_format::Refusal;
-use file_pair::read_pair;
+use graph_neighbours::tables::LINKS;
+use graph_neighbours::tables::OFFSETS;
 use place::Around;
 use place::PlaceAnswer;
 use place_circuits::place_circuits;
 use table::Counts;
+use table::MASKS;
+ghost use mathlib.Core.Bool.{cond};
 ghost use mathlib.Core.Path.{_≡_};
-ghost use Rattle.file_format.specs.Circuit.{circuitOf, Drawn};
-ghost use Rattle.graph.specs.Circuit.{Circuit, circuit};
+ghost use Rattle.file_format.specs.Circuit.{circuitOf};
+ghost use Rattle.file_format.specs.Refusals.{accept, refuse, first};
+ghost use Rattle.table.specs.Prepared.{tables};
 ghost use Rattle.table.specs.Reply.{noCounts};
 ghost use Rattle.place.specs.Match.{radiusOf};
 ghost use Rattle.place.specs.Outcome.{placeReply};
-ghost use Rattle.call_place.specs.Call.{radiusFor, placeOn, placeAt};
+ghost use Rattle.place_circuits.specs.Ball.{SomeDrawn, EveryDrawn};
+ghost use Rattle.call_place.specs.Call.{tooShort, roomConditions, radiusFor, placeOn, placeAt};
 
 // At which radius a place is asked for: the pattern's own, or one given.
 pub enum Reach {
@@ -54,26 +60,61 @@ struct Asked {
     pub radius: u16,
 }
 
-// The call on two circuits that were read. Everything is tested, and the place found, before anything is written to the lent tables.
+// How many entries each of the four lent tables has.
+struct Lengths {
+    pub nodes: usize,
+    pub links: usize,
+    pub table: usize,
+    pub distances: usize,
+}
+
+// Whether all four have what a board of n nodes and m links needs.
+fn roomy(n: usize, m: usize, lent: Lengths) -> bool
+    ensures { λ r. ⌜ first (roomConditions n m (lent .nodes) (lent .links) (lent .table) (lent .distances)) ≡ cond r accept (refuse tooShort) ⌝ }
+{
+    if lent.nodes < n {
+        return false;
+    }
+    if lent.links < m {
+        return false;
+    }
+    if lent.table < n {
+        return false;
+    }
+    if lent.distances < n {
+        return false;
+    }
+    true
+}
+
+// The call on two circuits that were read and prepared. Everything is tested, and the place found, before anything is written to the lent
+// tables. The last offset is how many links the board has.
 fn find_on(
     part_kinds: &[u16],
-    part_starts: &[u16],
-    part_ends: &[u16],
     node_kinds: &[u16],
-    node_starts: &[u16],
-    node_ends: &[u16],
+    masks: &[u32],
+    offsets: &[u16],
+    stretches: &[u16],
     asked: Asked,
     nodes: &mut [u8],
     links: &mut [u8],
     table: &mut [u32],
+    distances: &mut [u16],
 ) -> PlaceAnswer
-    ghost { Circuit × Circuit }
-    requires { λ α. ⌜ (circuit (now «part_kinds») (now «part_starts») (now «part_ends»), circuit (now «node_kinds») (now «node_starts») (now «node_ends»)) ≡ α ⌝ }
-    requires { λ α. ⌜ Drawn (α .0) (α .1) ⌝ }
-    ensures { λ α a. ⌜ record { reply = placeReply a; nodes = now (nodes .exit); links = now (links .exit); table = now (table .exit) }
-        ≡ placeOn (asked .radius) (α .0) (α .1) (asked .centre) (now (nodes .entry)) (now (links .entry)) (now (table .entry)) ⌝ }
+    requires { ⌜ SomeDrawn (now «part_kinds») (now «node_kinds») (tables (now masks) (now offsets) (now stretches)) ⌝ }
+    ensures { λ a. ⌜ EveryDrawn (now («part_kinds» .entry)) (now («node_kinds» .entry)) (tables (now (masks .entry)) (now (offsets .entry)) (now (stretches .entry)))
+        (record { reply = placeReply a; nodes = now (nodes .exit); links = now (links .exit); table = now (table .exit); distances = now (distances .exit) })
+        (λ pattern board. placeOn (asked .radius) pattern board (asked .centre) (now (nodes .entry)) (now (links .entry)) (now (table .entry)) (now (distances .entry))) ⌝ }
 {
     let n = node_kinds.len();
+    let m = offsets[n] as usize;
+    let lent = Lengths {
+        nodes: nodes.len(),
+        links: links.len(),
+        table: table.len(),
+        distances: distances.len(),
+    };
+    let room = roomy(n, m, lent);
     let centre = asked.centre;
     if n <= centre {
         return turned_away(Refusal {
@@ -85,29 +126,24 @@ fn find_on(
         number: 8,
         file: File::Neither,
     };
-    if nodes.len() < n {
+    if !room {
         return turned_away(short);
     }
-    if links.len() < node_starts.len() {
-        return turned_away(short);
-    }
-    if table.len() < n {
-        return turned_away(short);
-    }
+    let around = Around {
+        centre: centre as u16,
+        radius: asked.radius,
+    };
     place_circuits(
         part_kinds,
-        part_starts,
-        part_ends,
         node_kinds,
-        node_starts,
-        node_ends,
-        Around {
-            centre: centre as u16,
-            radius: asked.radius,
-        },
+        masks,
+        offsets,
+        stretches,
+        around,
         nodes,
         links,
         table,
+        distances,
     )
 }
 
@@ -120,25 +156,24 @@ fn find(
     nodes: &mut [u8],
     links: &mut [u8],
     table: &mut [u32],
+    distances: &mut [u16],
 ) -> PlaceAnswer
-    ensures { λ a. ⌜ record { reply = placeReply a; nodes = now (nodes .exit); links = now (links .exit); table = now (table .exit) }
-        ≡ placeAt (now (pattern .entry)) (now (board .entry)) centre (radiusFor reach (radiusOf (circuitOf (now (pattern .entry))))) (now (nodes .entry)) (now (links .entry)) (now (table .entry)) ⌝ }
+    ensures { λ a. ⌜ record { reply = placeReply a; nodes = now (nodes .exit); links = now (links .exit); table = now (table .exit); distances = now (distances .exit) }
+        ≡ placeAt (now (pattern .entry)) (now (board .entry)) centre (radiusFor reach (radiusOf (circuitOf (now (pattern .entry))))) (now (nodes .entry)) (now (links .entry)) (now (table .entry)) (now (distances .entry)) ⌝ }
 {
     let mut pk = [0u16; Pattern::MAX_NODES];
-    let mut ps = [0u16; Pattern::MAX_LINKS];
-    let mut pe = [0u16; Pattern::MAX_LINKS];
     let mut nk = [0u16; Board::MAX_NODES];
-    let mut ns = [0u16; Board::MAX_LINKS];
-    let mut ne = [0u16; Board::MAX_LINKS];
-    let read = read_pair(
+    let mut masks = [0u32; MASKS];
+    let mut offsets = [0u16; OFFSETS];
+    let mut stretches = [0u16; LINKS];
+    let read = read_prepared(
         pattern,
         board,
         &mut pk,
-        &mut ps,
-        &mut pe,
         &mut nk,
-        &mut ns,
-        &mut ne,
+        &mut masks,
+        &mut offsets,
+        &mut stretches,
     );
     let verdict = read.verdict;
     if let FileVerdict::Refused(x) = verdict {
@@ -146,25 +181,24 @@ fn find(
     }
     let radius = radius_for(reach, read.radius);
     let parts = read.parts;
-    let joins = read.joins;
     let n = read.nodes;
-    let m = read.links;
     find_on(
         &pk[..parts],
-        &ps[..joins],
-        &pe[..joins],
         &nk[..n],
-        &ns[..m],
-        &ne[..m],
+        &masks,
+        &offsets,
+        &stretches,
         Asked { centre, radius },
         nodes,
         links,
         table,
+        distances,
     )
 }
 
 // The place around the centre at the pattern's radius: the ball's four counts, with a byte per board node and one per board link, 1 in the
-// place and else 0, and a set of parts per node, at the front of the three tables; or the refusal, which leaves them as they were.
+// place and else 0, a set of parts per node, and each node's distance from the centre, 65,535 outside the ball, at the front of the four
+// tables; or the refusal, which leaves them as they were.
 pub fn place(
     pattern: &[u8],
     board: &[u8],
@@ -172,11 +206,21 @@ pub fn place(
     nodes: &mut [u8],
     links: &mut [u8],
     table: &mut [u32],
+    distances: &mut [u16],
 ) -> PlaceAnswer
-    ensures { λ a. ⌜ record { reply = placeReply a; nodes = now (nodes .exit); links = now (links .exit); table = now (table .exit) }
-        ≡ placeAt (now (pattern .entry)) (now (board .entry)) centre (radiusOf (circuitOf (now (pattern .entry)))) (now (nodes .entry)) (now (links .entry)) (now (table .entry)) ⌝ }
+    ensures { λ a. ⌜ record { reply = placeReply a; nodes = now (nodes .exit); links = now (links .exit); table = now (table .exit); distances = now (distances .exit) }
+        ≡ placeAt (now (pattern .entry)) (now (board .entry)) centre (radiusOf (circuitOf (now (pattern .entry)))) (now (nodes .entry)) (now (links .entry)) (now (table .entry)) (now (distances .entry)) ⌝ }
 {
-    find(Reach::Own, pattern, board, centre, nodes, links, table)
+    find(
+        Reach::Own,
+        pattern,
+        board,
+        centre,
+        nodes,
+        links,
+        table,
+        distances,
+    )
 }
 
 // The same at a radius given.
@@ -188,9 +232,10 @@ pub fn place_within(
     nodes: &mut [u8],
     links: &mut [u8],
     table: &mut [u32],
+    distances: &mut [u16],
 ) -> PlaceAnswer
-    ensures { λ a. ⌜ record { reply = placeReply a; nodes = now (nodes .exit); links = now (links .exit); table = now (table .exit) }
-        ≡ placeAt (now (pattern .entry)) (now (board .entry)) centre radius (now (nodes .entry)) (now (links .entry)) (now (table .entry)) ⌝ }
+    ensures { λ a. ⌜ record { reply = placeReply a; nodes = now (nodes .exit); links = now (links .exit); table = now (table .exit); distances = now (distances .exit) }
+        ≡ placeAt (now (pattern .entry)) (now (board .entry)) centre radius (now (nodes .entry)) (now (links .entry)) (now (table .entry)) (now (distances .entry)) ⌝ }
 {
     find(
         Reach::Given(radius),
@@ -200,5 +245,6 @@ pub fn place_within(
         nodes,
         links,
         table,
+        distances,
     )
 }

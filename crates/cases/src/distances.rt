@@ -1,12 +1,12 @@
 // Runs the two calls of `distance` on each file of its cases: the radius once, as a pattern, and the ball lookup, as
 // a board, at each centre, radius and table length that the case names. Writes a line for each call: what it answered, and for a ball a
-// digest of the whole table, so that a byte that was touched shows.
-use crate::show::digest_bytes;
+// digest of the whole table, so that an entry that was touched shows.
+use crate::show::digest;
 use crate::show::end_line;
 use crate::show::least;
 use crate::show::load;
 use crate::show::number;
-use crate::show::refill_bytes;
+use crate::show::refill;
 use crate::show::show_number;
 use crate::show::show_refusal;
 use crate::show::wide;
@@ -36,19 +36,19 @@ fn show_ball(answer: BallAnswer) {
 }
 
 // One ball lookup: a centre of 32 bits, a radius and the table's length at an offset.
-fn query(b: &[u8], at: usize, file: &[u8], out: &mut [u8])
+fn query(b: &[u8], at: usize, file: &[u8], out: &mut [u16])
     requires { ⌜ at + 8 ≤ length (now b) ⌝ }
 {
     let centre = number(b, at) * 65536 + number(b, at + 2);
     let radius = number(b, at + 4) as u16;
     let lent = least(number(b, at + 6), out.len());
-    refill_bytes(out);
+    refill(out);
     show_ball(call_distance::ball(file, centre, radius, &mut out[..lent]));
-    show_number(digest_bytes(out));
+    show_number(digest(out));
     end_line();
 }
 
-fn queries(b: &[u8], at: usize, count: usize, file: &[u8], out: &mut [u8])
+fn queries(b: &[u8], at: usize, count: usize, file: &[u8], out: &mut [u16])
     requires { ⌜ at + 8 * count ≤ length (now b) ⌝ }
 {
     for i in 0..count {
@@ -57,7 +57,7 @@ fn queries(b: &[u8], at: usize, count: usize, file: &[u8], out: &mut [u8])
 }
 
 // The case at an offset, a file length, a number of lookups, the lookups and the file; answers where the next one begins.
-fn step(b: &[u8], at: usize, out: &mut [u8]) -> usize
+fn step(b: &[u8], at: usize, out: &mut [u16]) -> usize
     requires { ⌜ at + 3 ≤ length (now b) ⌝ }
     ensures { λ r. ⌜ (at + 3 ≤ r) × (r ≤ length (now (b .entry))) ⌝ }
 {
@@ -72,7 +72,7 @@ fn step(b: &[u8], at: usize, out: &mut [u8]) -> usize
     to
 }
 
-fn run_all(b: &[u8], out: &mut [u8]) {
+fn run_all(b: &[u8], out: &mut [u16]) {
     let mut at = 0;
     while at + 3 <= b.len() {
         at = step(b, at, out);
@@ -80,7 +80,7 @@ fn run_all(b: &[u8], out: &mut [u8]) {
 }
 
 // All cases of the file. The tables are lent whole, so that their entries are not looked at one by one in the proof.
-pub fn run(buf: &mut [u8], out: &mut [u8]) {
+pub fn run(buf: &mut [u8], out: &mut [u16]) {
     let n = load(b"distances", buf);
     run_all(&buf[..n], out);
 }

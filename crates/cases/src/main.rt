@@ -12,10 +12,9 @@ fn main() {
     let mut starts = [0u16; 4200];
     let mut ends = [0u16; 4200];
     let mut out = [0u8; 17500];
-    let mut bytes = [0u8; 600];
     let mut table = [0u32; 600];
     reads::run(&mut buf, &mut kinds, &mut starts, &mut ends);
     writes::run(&mut buf, &mut kinds, &mut starts, &mut ends, &mut out);
-    distances::run(&mut buf, &mut bytes);
+    distances::run(&mut buf, &mut kinds);
     tables::run(&mut buf, &mut table);
 }

@@ -137,24 +137,24 @@ verdict-nine pattern board w r = turned (found (circuitOf pattern) (circuitOf bo
 
 module _ (pattern board : List ℕ) (w r : ℕ) (lent : Lent) where
   abbrev inputs : List Condition
-  inputs = inputConditions pattern board w (length (lent .nodes)) (length (lent .links)) (length (lent .table))
+  inputs = inputConditions pattern board w (length (lent .nodes)) (length (lent .links)) (length (lent .table)) (length (lent .distances))
 
   by-inputs : (x : Refusal) → first inputs ≡ refuse x → (placed pattern board w r lent .reply .verdict ≡ refuse x) × Untouched lent (placed pattern board w r lent)
   unfolding placed Untouched
   by-inputs x e =
-      let (verdict, _, nodes, links, table) = input-refused pattern board w r (lent .nodes) (lent .links) (lent .table) x e in
-      (verdict, (nodes, links, table))
+      let (verdict, _, nodes, links, table, distances) = input-refused pattern board w r (lent .nodes) (lent .links) (lent .table) (lent .distances) x e in
+      (verdict, (nodes, links, table, distances))
 
   verdict-place : first inputs ≡ accept → placed pattern board w r lent .reply .verdict ≡ placeVerdict (circuitOf pattern) (circuitOf board) w r
   unfolding placed
-  verdict-place = verdict-is pattern board w r (lent .nodes) (lent .links) (lent .table)
+  verdict-place = verdict-is pattern board w r (lent .nodes) (lent .links) (lent .table) (lent .distances)
 
   by-nine : first inputs ≡ accept → (x : Refusal) → placed pattern board w r lent .reply .verdict ≡ refuse x → Untouched lent (placed pattern board w r lent)
   unfolding placed Untouched
   by-nine sound x e =
       ⊎-elim (λ ok. let apart : refuse x ≡ accept = sym e ∙ ok in let z : _≡_ {A = ℕ} 0 1 = cc in absurd (omega arith))
-      (λ none. nine-keeps pattern board w r (lent .nodes) (lent .links) (lent .table) sound none)
-      (accept-or-nine pattern board w r (lent .nodes) (lent .links) (lent .table) sound)
+      (λ none. nine-keeps pattern board w r (lent .nodes) (lent .links) (lent .table) (lent .distances) sound none)
+      (accept-or-nine pattern board w r (lent .nodes) (lent .links) (lent .table) (lent .distances) sound)
 
   verdict-all : placed pattern board w r lent .reply .verdict ≡ first (placedConditions pattern board w r lent)
   unfolding placedConditions

@@ -77,7 +77,7 @@ ball-counted pattern board w r lent x =
     let P = circuitOf pattern in
     let B = circuitOf board in
     row-counts P B (ballOf B w r) (accepted-bounded (x .drawn) .nodes) (ball-host (accepted-admissible (x .drawn) (x .given)) w r) _
-    (counts-are pattern board w r (lent .nodes) (lent .links) (lent .table) (ready-sound x)) .0
+    (counts-are pattern board w r (lent .nodes) (lent .links) (lent .table) (lent .distances) (ready-sound x)) .0
 
 -- an accepted writing call has written a file of the length replied
 written :
@@ -148,12 +148,12 @@ unfolding placed nine
 found-at pattern board w r lent x =
     let sound = ready-sound x in
     record {
-      none = nine-iff pattern board w r (lent .nodes) (lent .links) (lent .table) sound;
-      accepted = λ other. ⊎-elim (λ ok. ok) (λ e. absurd (other e)) (accept-or-nine pattern board w r (lent .nodes) (lent .links) (lent .table) sound);
-      place = marked-place pattern board w r (lent .nodes) (lent .links) (lent .table) sound;
+      none = nine-iff pattern board w r (lent .nodes) (lent .links) (lent .table) (lent .distances) sound;
+      accepted = λ other. ⊎-elim (λ ok. ok) (λ e. absurd (other e)) (accept-or-nine pattern board w r (lent .nodes) (lent .links) (lent .table) (lent .distances) sound);
+      place = marked-place pattern board w r (lent .nodes) (lent .links) (lent .table) (lent .distances) sound;
       bytes = λ ok. (
-        rw (nodes-front pattern board w r (lent .nodes) (lent .links) (lent .table) sound ok) (marks-below (nodes-marks (circuitOf pattern) (circuitOf board) w r)),
-        rw (links-front pattern board w r (lent .nodes) (lent .links) (lent .table) sound ok) (marks-below (links-marks (circuitOf pattern) (circuitOf board) w r)),
+        rw (nodes-front pattern board w r (lent .nodes) (lent .links) (lent .table) (lent .distances) sound ok) (marks-below (nodes-marks (circuitOf pattern) (circuitOf board) w r)),
+        rw (links-front pattern board w r (lent .nodes) (lent .links) (lent .table) (lent .distances) sound ok) (marks-below (links-marks (circuitOf pattern) (circuitOf board) w r)),
       );
     }
 

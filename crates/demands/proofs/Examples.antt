@@ -14,7 +14,7 @@ use Rattle.place.specs.Outcome.{placeVerdict, placeAround}
 use Rattle.place.specs.Examples.{oneLink}
 use Rattle.place.proofs.Examples as place
 use Rattle.merge.proofs.Examples as merge
-use Rattle.demands.specs.Examples.{PlaceIs, NoPlace, onePart, onePartLooped, E1, E2, E3, E4, E5, E6, E7, E8, E9, AnyOnB, ZeroOnBoard, AnyNotMerged, AnyAround, examples, AllHold}
+use Rattle.demands.specs.Examples.{PlaceIs, NoPlace, onePart, onePartLooped, E1, E2, E3, E4, E5, E6, E7, E8, E9, AnyOnB, ZeroOnBoard, AnyNotMerged, AnyAround, Probed, examples, AllHold}
 
 e1 : E1
 unfolding E1 onePart onePartLooped radiusOf radius maximum distances misses ball beside inside tabulate
@@ -30,7 +30,7 @@ e3 = (rw place.radius-T place.E3-0, rw place.radius-T place.E3-1, rw place.radiu
 
 e4 : E4
 unfolding E4 placeAround placeVerdict countsOf
-e4 nodes links table = rw (place.radius-T, T-false {b = found circuitT circuitB 3 2} place.E4-none, struck-minus, place.E4-started, place.E4-kept, place.E4-rounds)
+e4 nodes links table distances = rw (place.radius-T, T-false {b = found circuitT circuitB 3 2} place.E4-none, struck-minus, place.E4-started, place.E4-kept, place.E4-rounds)
 
 -- a centre of the ring that is not found has number 9
 none : (w : ℕ) → (T (found twoWay ring w 1) → ⊥) → NoPlace twoWay ring w
@@ -78,7 +78,11 @@ anyAround : AnyAround
 unfolding AnyAround
 anyAround w h = rw place.radius-anyPart (place.any-around w h)
 
+probed : Probed
+unfolding Probed
+probed = (place.probed-place, place.probed-near, place.probed-nearer)
+
 -- All of them hold.
 pub examples-hold : AllHold examples
 unfolding AllHold examples
-examples-hold = (e1, (e2, (e3, (e4, (e5, (e6, (e7, (e8, (e9, (anyOnB, (zeroOnBoard, (anyNotMerged, (anyAround, tt)))))))))))))
+examples-hold = (e1, (e2, (e3, (e4, (e5, (e6, (e7, (e8, (e9, (anyOnB, (zeroOnBoard, (anyNotMerged, (anyAround, (probed, tt))))))))))))))

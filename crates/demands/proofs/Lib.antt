@@ -7,3 +7,4 @@ pub mod GroupingExamples
 pub mod Report
 pub mod Examples
 pub mod Files
+pub mod Distances

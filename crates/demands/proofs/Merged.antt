@@ -30,10 +30,10 @@ use Rattle.demands.specs.Demands.{Lent, Room, Ready, placed, nine, merge
 -- no condition on the inputs holds
 pub ready-sound :
     {pattern board : List ℕ} {w : ℕ} {lent : Lent} → Ready pattern board w lent →
-    first (inputConditions pattern board w (length (lent .nodes)) (length (lent .links)) (length (lent .table))) ≡ accept
+    first (inputConditions pattern board w (length (lent .nodes)) (length (lent .links)) (length (lent .table)) (length (lent .distances))) ≡ accept
 ready-sound {pattern} {board} {w} {lent} x =
-    inputs-accept pattern board w 0 (lent .nodes) (lent .links) (lent .table) (x .drawn) (x .given) (x .centre) (x .room .nodes) (x .room .links)
-    (x .room .table)
+    inputs-accept pattern board w 0 (lent .nodes) (lent .links) (lent .table) (lent .distances) (x .drawn) (x .given) (x .centre) (x .room .nodes) (x .room .links)
+    (x .room .table) (x .room .distances)
 
 module _ (file lent out : List ℕ) (ok : merging file lent out .reply .verdict ≡ accept) where
   abbrev second : List ℕ
@@ -55,9 +55,9 @@ module _ (file lent out : List ℕ) (ok : merging file lent out .reply .verdict 
     verdicts : placed second board w r tables′ .reply .verdict ≡ placed file board w r tables .reply .verdict
     unfolding placed placeVerdict nine
     verdicts =
-        verdict-is second board w r (tables′ .nodes) (tables′ .links) (tables′ .table) (ready-sound merged-ready)
+        verdict-is second board w r (tables′ .nodes) (tables′ .links) (tables′ .table) (tables′ .distances) (ready-sound merged-ready)
         ∙ ap (λ (b : Bool). cond b accept (refuse nine)) (sym (same .found))
-        ∙ sym (verdict-is file board w r (tables .nodes) (tables .links) (tables .table) (ready-sound x))
+        ∙ sym (verdict-is file board w r (tables .nodes) (tables .links) (tables .table) (tables .distances) (ready-sound x))
 
     -- at every radius, on every board and around every centre
     pub merged-same : SameFound (nodesOf board) (linksOf board) (placed second board w r tables′) (placed file board w r tables)
@@ -67,12 +67,12 @@ module _ (file lent out : List ℕ) (ok : merging file lent out .reply .verdict 
           nine = rw verdicts Iff·rfl;
           nodes =
               λ e.
-              nodes-front second board w r (tables′ .nodes) (tables′ .links) (tables′ .table) (ready-sound merged-ready) e ∙ sym (same .nodes)
-              ∙ sym (nodes-front file board w r (tables .nodes) (tables .links) (tables .table) (ready-sound x) (sym verdicts ∙ e));
+              nodes-front second board w r (tables′ .nodes) (tables′ .links) (tables′ .table) (tables′ .distances) (ready-sound merged-ready) e ∙ sym (same .nodes)
+              ∙ sym (nodes-front file board w r (tables .nodes) (tables .links) (tables .table) (tables .distances) (ready-sound x) (sym verdicts ∙ e));
           links =
               λ e.
-              links-front second board w r (tables′ .nodes) (tables′ .links) (tables′ .table) (ready-sound merged-ready) e ∙ sym (same .links)
-              ∙ sym (links-front file board w r (tables .nodes) (tables .links) (tables .table) (ready-sound x) (sym verdicts ∙ e));
+              links-front second board w r (tables′ .nodes) (tables′ .links) (tables′ .table) (tables′ .distances) (ready-sound merged-ready) e ∙ sym (same .links)
+              ∙ sym (links-front file board w r (tables .nodes) (tables .links) (tables .table) (tables .distances) (ready-sound x) (sym verdicts ∙ e));
         }
 
 -- ---- the first pattern's radius

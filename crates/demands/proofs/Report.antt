@@ -31,10 +31,10 @@ module _ (pattern board : List ℕ) (w : ℕ) (lent : Lent) (x : Ready pattern b
       → line ≡ placeLine w (nodeItems (take (nodesOf board) (result .nodes))) (linkItems (startsOf board) (endsOf board) (take (linksOf board) (result .links)))
   unfolding placedOwn placed centreLine hasPlace
   line-place e =
-      let is-found = found-verdict (circuitOf pattern) (circuitOf board) w r (sym (verdict-is pattern board w r (lent .nodes) (lent .links) (lent .table) (ready-sound x)) ∙ e) in
+      let is-found = found-verdict (circuitOf pattern) (circuitOf board) w r (sym (verdict-is pattern board w r (lent .nodes) (lent .links) (lent .table) (lent .distances) (ready-sound x)) ∙ e) in
       rw (
-        nodes-front pattern board w r (lent .nodes) (lent .links) (lent .table) (ready-sound x) e,
-        links-front pattern board w r (lent .nodes) (lent .links) (lent .table) (ready-sound x) e,
+        nodes-front pattern board w r (lent .nodes) (lent .links) (lent .table) (lent .distances) (ready-sound x) e,
+        links-front pattern board w r (lent .nodes) (lent .links) (lent .table) (lent .distances) (ready-sound x) e,
         T-true {b = found (circuitOf pattern) (circuitOf board) w r} is-found,
       )
 
@@ -42,13 +42,13 @@ module _ (pattern board : List ℕ) (w : ℕ) (lent : Lent) (x : Ready pattern b
   unfolding placedOwn placed nine centreLine hasPlace
   line-none e =
       rw (T-false {b = found (circuitOf pattern) (circuitOf board) w r}
-      (none-verdict (circuitOf pattern) (circuitOf board) w r (sym (verdict-is pattern board w r (lent .nodes) (lent .links) (lent .table) (ready-sound x)) ∙ e)))
+      (none-verdict (circuitOf pattern) (circuitOf board) w r (sym (verdict-is pattern board w r (lent .nodes) (lent .links) (lent .table) (lent .distances) (ready-sound x)) ∙ e)))
 
   -- and the last line counts the centres with a place
   pub has-place : T (hasPlace (circuitOf pattern) (circuitOf board) w) ↔ (result .reply .verdict ≡ accept)
   unfolding placedOwn placed hasPlace placeVerdict
   has-place =
-      let is = verdict-is pattern board w r (lent .nodes) (lent .links) (lent .table) (ready-sound x) in (
+      let is = verdict-is pattern board w r (lent .nodes) (lent .links) (lent .table) (lent .distances) (ready-sound x) in (
         λ t. is ∙ rw (T-true {b = found (circuitOf pattern) (circuitOf board) w r} t),
         λ e. found-verdict (circuitOf pattern) (circuitOf board) w r (sym is ∙ e),
       )

@@ -49,25 +49,27 @@ use Rattle.call_report.specs.Call.{reporting, needFor, verdictOf}
 abbrev pub graph : List ℕ → Graph
 graph file = circuitGraph (circuitOf file)
 
--- a part of the pattern and a node of the board have equal kinds
+-- a part of the pattern and a node of the board have equal kinds, as Ask 1 reads it: the part has kind 0, or the node has the part's kind
 abbrev pub equal : List ℕ → List ℕ → Relation
 equal pattern board = KindsMatch (circuitOf pattern) (circuitOf board)
 
--- the three tables that are lent to a place call: a byte per node, a byte per link, a set of parts per node
+-- the four tables that are lent to a place call: a byte per node, a byte per link, a set of parts per node, a distance per node
 pub record Lent : Type 0 where
   pub nodes : List ℕ
   pub links : List ℕ
   pub table : List ℕ
+  pub distances : List ℕ
 
 -- they are long enough for a board
 pub record Room (board : List ℕ) (lent : Lent) : Type 0 where
   pub nodes : nodesOf board ≤ length (lent .nodes)
   pub links : linksOf board ≤ length (lent .links)
   pub table : nodesOf board ≤ length (lent .table)
+  pub distances : nodesOf board ≤ length (lent .distances)
 
 -- the place call with a radius given, and the one at the pattern's radius
 unfoldable pub placed : List ℕ → List ℕ → ℕ → ℕ → Lent → PlaceOutcome
-placed pattern board w r lent = placeAt pattern board w r (lent .nodes) (lent .links) (lent .table)
+placed pattern board w r lent = placeAt pattern board w r (lent .nodes) (lent .links) (lent .table) (lent .distances)
 
 unfoldable pub placedOwn : List ℕ → List ℕ → ℕ → Lent → PlaceOutcome
 placedOwn pattern board w lent = placed pattern board w (radiusOf (circuitOf pattern)) lent
@@ -98,11 +100,12 @@ noPlace pattern board w r = record { number = 9; file = Neither; holds = not (fo
 -- the conditions of the place calls
 unfoldable pub placedConditions : List ℕ → List ℕ → ℕ → ℕ → Lent → List Condition
 placedConditions pattern board w r lent =
-    inputConditions pattern board w (length (lent .nodes)) (length (lent .links)) (length (lent .table)) ++ (noPlace pattern board w r ∷ [])
+    inputConditions pattern board w (length (lent .nodes)) (length (lent .links)) (length (lent .table)) (length (lent .distances)) ++ (noPlace pattern board w r ∷ [])
 
 -- a call has left the tables as they were lent
 unfoldable pub Untouched : Lent → PlaceOutcome → Type 0
-Untouched lent result = (result .nodes ≡ lent .nodes) × (result .links ≡ lent .links) × (result .table ≡ lent .table)
+Untouched lent result =
+    (result .nodes ≡ lent .nodes) × (result .links ≡ lent .links) × (result .table ≡ lent .table) × (result .distances ≡ lent .distances)
 
 unfoldable pub Unread : List ℕ → List ℕ → List ℕ → ReadOutcome → Type 0
 Unread kinds starts ends result = (result .kinds ≡ kinds) × (result .starts ≡ starts) × (result .ends ≡ ends)

@@ -11,7 +11,7 @@ use Rattle.table.specs.Host.{everything}
 use Rattle.table.specs.Refine.{countsOf}
 use Rattle.table.specs.Row.{lastTable}
 use Rattle.place.specs.Examples.{circuitY, oneLink, anyPart}
-use Rattle.place.specs.Match.{radiusOf, found, placeNodes, placeLinks}
+use Rattle.place.specs.Match.{radiusOf, distancesOf, found, placeNodes, placeLinks}
 use Rattle.place.specs.Outcome.{placeVerdict, placeAround}
 use Rattle.merge.specs.Examples.{circuitE8, tenAndAny}
 use Rattle.merge.specs.Merged.{selfTable, classes, merged}
@@ -52,8 +52,8 @@ E3 =
 -- "T on B at 3: 9, started 2, kept 0, rounds 2.", whatever tables are lent
 unfoldable pub E4 : Type 0
 E4 =
-    (nodes links table : List ℕ) →
-    placeAround circuitT circuitB 3 (radiusOf circuitT) nodes links table .reply
+    (nodes links table distances : List ℕ) →
+    placeAround circuitT circuitB 3 (radiusOf circuitT) nodes links table distances .reply
     ≡ record { verdict = refuse (record { number = 9; file = Neither }); counts = record { started = 2; kept = 0; struck = 2; rounds = 2 } }
 
 -- "Pattern 0:10, 1:20, links 0-1, 1-0, on the ring ..: table 1, 2, 1, 2, yet 9 at each centre."
@@ -98,6 +98,14 @@ AnyNotMerged = (selfTable tenAndAny ≡ 1 ∷ 2 ∷ 6 ∷ []) × (classes tenAnd
 unfoldable pub AnyAround : Type 0
 AnyAround = (w : ℕ) → w < 6 → T (found anyPart circuitB w (radiusOf anyPart))
 
+-- A pattern of one link from kind 10 to kind 20 around node 0 of B at radius 2: its place has nodes 0 and 1, and node 2 has its distance, "whether
+-- a node is in the place or not"; at radius 1 it has 65,535.
+unfoldable pub Probed : Type 0
+Probed =
+    (placeNodes oneLink circuitB 0 2 ≡ 1 ∷ 1 ∷ 0 ∷ 0 ∷ 0 ∷ 0 ∷ [])
+    × (distancesOf circuitB 0 2 ≡ 0 ∷ 1 ∷ 2 ∷ 65535 ∷ 65535 ∷ 65535 ∷ [])
+    × (distancesOf circuitB 0 1 ≡ 0 ∷ 1 ∷ 65535 ∷ 65535 ∷ 65535 ∷ 65535 ∷ [])
+
 -- "Proved of the definitions, as a single list that one theorem covers"
 pub data Statements : Type 1 where
   done : Statements
@@ -106,7 +114,8 @@ pub data Statements : Type 1 where
 infixr 3 _also_
 unfoldable pub examples : Statements
 examples =
-    E1 also E2 also E3 also E4 also E5 also E6 also E7 also E8 also E9 also AnyOnB also ZeroOnBoard also AnyNotMerged also AnyAround also done
+    E1 also E2 also E3 also E4 also E5 also E6 also E7 also E8 also E9 also AnyOnB also ZeroOnBoard also AnyNotMerged also AnyAround also
+    Probed also done
 
 -- every statement of a list holds
 unfoldable pub AllHold : Statements → Type 0

@@ -2,3 +2,4 @@ pub mod Demands
 pub mod Groupings
 pub mod Examples
 pub mod Files
+pub mod Distances

@@ -1,8 +1,10 @@
 -- Laws of the tests on links, for the loops that go through them. Assumes nothing.
-use mathlib.Core.Bool.{Bool, true, false, not, cond, Bool·not-not}
+use mathlib.Core.Bool.{Bool, true, false, cond, Bool·not-not}
 use mathlib.Core.List.{List}
+use mathlib.Core.Logic.{_⊎_, inl, inr}
 use mathlib.Core.Path.{_≡_, sym, ap, _∙_}
 use Prim.Native.Nat.{ℕ, _+_, _-_, _≤_, _<_}
+use native.Mathlib.Nat.{eq-or-lt-of-le}
 use native.Mathlib.Omega.{arith}
 use lib.Dec.{T, eqb, ltb, lt→ltb, ltb→lt}
 use lib.ListN.{length, getD}
@@ -12,7 +14,7 @@ use Rattle.graph.specs.Search.{far, radius}
 use Rattle.graph_radius.proofs.Spanning.{connected-radius}
 use Rattle.file_format.specs.declared.Role.{Role}
 use Rattle.file_format.specs.declared.Role.the-variants.{Pattern, Board}
-use Rattle.file_format.specs.Links.{earlier, rising}
+use Rattle.file_format.specs.Links.{packed, numbersRise}
 use Rattle.file_format.specs.Refusals.{asksConnected, orderNumber, linkNumber}
 use Rattle.file_format.specs.Role.{inRange}
 use Rattle.file_format.proofs.Accepted.{links-within}
@@ -27,20 +29,71 @@ module _ (xs : List ℕ) (n : ℕ) where
   pub not-all-below : (i : ℕ) → i < length xs → n ≤ getD xs i 0 → all (λ v. ltb v n) xs ≡ false
   not-all-below i h le = T-false (λ t. omega (arith, ltb→lt (getD xs i 0) n (all-at (λ v. ltb v n) xs t i h)))
 
--- ---- each link before the next
+-- ---- each link's number below the next one's
 
--- the i-th link comes before the next
-unfoldable pub linkRises : List ℕ → List ℕ → ℕ → Bool
-linkRises starts ends i = earlier (getD starts i 0) (getD ends i 0) (getD starts (i + 1) 0) (getD ends (i + 1) 0)
+-- the number of the i-th link
+unfoldable pub numberAt : List ℕ → List ℕ → ℕ → ℕ
+numberAt starts ends i = packed (getD starts i 0) (getD ends i 0)
+
+-- Of the first i links each number is below the next one's, and `last` is the latest.
+pub record Rose (starts ends : List ℕ) (last i : ℕ) : Type 0 where
+  pub some : 0 < i
+  pub within : i ≤ length starts
+  pub latest : (k : ℕ) → k + 1 ≡ i → last ≡ numberAt starts ends k
+  pub rose : (j : ℕ) → j + 1 < i → numberAt starts ends j < numberAt starts ends (j + 1)
 
 module _ (starts ends : List ℕ) where
-  pub links-rise : ((i : ℕ) → i + 1 < length starts → T (linkRises starts ends i)) → rising starts ends ≡ true
-  unfolding rising linkRises
-  links-rise f = T-true (at-allBelow (length starts - 1) _ (λ i h. f i (omega arith)))
+  all-rise : ((i : ℕ) → i + 1 < length starts → numberAt starts ends i < numberAt starts ends (i + 1)) → numbersRise starts ends ≡ true
+  unfolding numbersRise numberAt
+  all-rise f = T-true (at-allBelow (length starts - 1) _ (λ i h. lt→ltb _ _ (f i (omega arith))))
 
-  pub not-links-rise : (i : ℕ) → i + 1 < length starts → (T (linkRises starts ends i) → ⊥) → rising starts ends ≡ false
-  unfolding rising linkRises
-  not-links-rise i h f = T-false (λ t. f (allBelow-at (length starts - 1) _ t i (omega arith)))
+  one-falls : (i : ℕ) → i + 1 < length starts → numberAt starts ends (i + 1) ≤ numberAt starts ends i → numbersRise starts ends ≡ false
+  unfolding numbersRise numberAt
+  one-falls i h l =
+      T-false
+      (λ t.
+      omega (arith, ltb→lt (packed (getD starts i 0) (getD ends i 0)) (packed (getD starts (i + 1) 0) (getD ends (i + 1) 0)) (allBelow-at (length starts - 1) _ t i (omega arith))))
+
+  pub no-links : length starts ≡ 0 → numbersRise starts ends ≡ true
+  no-links e = all-rise (λ i h. absurd (omega arith))
+
+  pub rose-first : {last : ℕ} → (length starts ≡ 0 → ⊥) → last ≡ packed (getD starts 0 0) (getD ends 0 0) → Rose starts ends last 1
+  unfolding numberAt
+  rose-first f e =
+      record {
+        some = omega arith;
+        within = omega arith;
+        latest = λ k q. e ∙ ap (λ (x : ℕ). packed (getD starts x 0) (getD ends x 0)) (omega arith);
+        rose = λ j h. absurd (omega arith);
+      }
+
+  module _ {last i : ℕ} (r : Rose starts ends last i) where
+    module _ {next : ℕ} (h : i < length starts) (e : next ≡ packed (getD starts i 0) (getD ends i 0)) where
+      -- the next number is below it, or the same
+      pub rose-not : next ≤ last → numbersRise starts ends ≡ false
+      unfolding numberAt
+      rose-not l =
+          let k : i - 1 + 1 ≡ i = let s = r .some in omega arith in
+          one-falls (i - 1) (rw k h) (rw k (omega (arith, r .latest (i - 1) k)))
+
+      -- or above it
+      pub rose-more : last < next → Rose starts ends next (i + 1)
+      unfolding numberAt
+      rose-more l =
+          record {
+            some = omega arith;
+            within = omega arith;
+            latest = λ k q. e ∙ ap (λ (x : ℕ). packed (getD starts x 0) (getD ends x 0)) (omega arith);
+            rose = λ j g. go j (eq-or-lt-of-le (omega arith));
+          }
+        where
+          go : (j : ℕ) → (j + 1 ≡ i) ⊎ (j + 1 < i) → numberAt starts ends j < numberAt starts ends (j + 1)
+          go j (inl q) = rw q (omega (arith, r .latest j q))
+          go j (inr m) = r .rose j m
+
+    -- all were passed
+    pub rose-all : length starts ≤ i → numbersRise starts ends ≡ true
+    rose-all h = all-rise (λ j g. r .rose j (omega arith))
 
 -- ---- one search for a pattern's links
 

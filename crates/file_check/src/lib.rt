@@ -3,7 +3,7 @@ ghost use mathlib.Core.Path.{_≡_};
 ghost use lib.Dec.{T, ltb};
 ghost use lib.ListN.{length};
 ghost use Rattle.base_lists.specs.List.{all};
-ghost use Rattle.file_format.specs.Links.{earlier, rising};
+ghost use Rattle.file_format.specs.Links.{packed, numbersRise};
 ghost use Rattle.file_format.specs.Reading.{LinksTested};
 ghost use Rattle.file_format.specs.Refusals.{sizeNumber, orderNumber};
 ghost use Rattle.file_format.specs.Role.{inRange, fileOf};
@@ -72,29 +72,29 @@ fn all_below(numbers: &[u16], n: usize) -> bool
     true
 }
 
-// One link, a start and an end, comes before another.
-fn comes_before(start: u16, end: u16, next_start: u16, next_end: u16) -> bool
-    ensures { λ r. ⌜ r ≡ earlier start end «next_start» «next_end» ⌝ }
+// One number of a link: its start times 65,536 plus its end.
+fn number_of(start: u16, end: u16) -> u32
+    ensures { λ r. ⌜ r ≡ packed start end ⌝ }
 {
-    if start < next_start {
-        return true;
-    }
-    if next_start < start {
-        return false;
-    }
-    end < next_end
+    start as u32 * 65536 + end as u32
 }
 
-// The links rise strictly: each comes before the next.
+// The links rise strictly: the number of each is below that of the next. Each is made once, and compared once with the one before.
 fn links_rise(starts: &[u16], ends: &[u16]) -> bool
     requires { ⌜ length (now starts) ≡ length (now ends) ⌝ }
-    ensures { λ r. ⌜ r ≡ rising (now (starts .entry)) (now (ends .entry)) ⌝ }
+    ensures { λ r. ⌜ r ≡ numbersRise (now (starts .entry)) (now (ends .entry)) ⌝ }
 {
-    let mut i = 0;
-    while i + 1 < starts.len() {
-        if !comes_before(starts[i], ends[i], starts[i + 1], ends[i + 1]) {
+    if starts.len() == 0 {
+        return true;
+    }
+    let mut last = number_of(starts[0], ends[0]);
+    let mut i = 1;
+    while i < starts.len() {
+        let next = number_of(starts[i], ends[i]);
+        if next <= last {
             return false;
         }
+        last = next;
         i += 1;
     }
     true

@@ -3,3 +3,4 @@ pub mod Refusals
 pub mod Accepted
 pub mod Reading
 pub mod Rising
+pub mod Packed

@@ -21,6 +21,18 @@ earlier-before s e s′ e′ t =
     ⊎-elim (λ h. inl (ltb→lt s s′ h)) (λ h. inr (eqb→eq s s′ (both-left (eqb s s′) _ h), ltb→lt e e′ (both-right (eqb s s′) _ h)))
     (either-cases (ltb s s′) _ t)
 
+before-earlier : (s e s′ e′ : ℕ) → Before s e s′ e′ → T (earlier s e s′ e′)
+unfolding earlier
+before-earlier s e s′ e′ b =
+    ⊎-elim
+    (λ l. either-left (ltb s s′) (eqb s s′ && ltb e e′) (lt→ltb s s′ l))
+    (λ (q, l). either-right (ltb s s′) (eqb s s′ && ltb e e′) (both (eqb s s′) (ltb e e′) (true-T (eq-eqb s s′ q)) (lt→ltb e e′ l)))
+    b
+
+-- what the test of two links means
+pub earlier-iff : (s e s′ e′ : ℕ) → T (earlier s e s′ e′) ↔ Before s e s′ e′
+earlier-iff s e s′ e′ = (earlier-before s e s′ e′, before-earlier s e s′ e′)
+
 before-trans : (s e s′ e′ s″ e″ : ℕ) → Before s e s′ e′ → Before s′ e′ s″ e″ → Before s e s″ e″
 before-trans s e s′ e′ s″ e″ (inl a) (inl b) = inl (omega arith)
 before-trans s e s′ e′ s″ e″ (inl a) (inr (p, b)) = inl (omega arith)
@@ -53,18 +65,9 @@ module _ (starts ends : List ℕ) (t : T (rising starts ends)) where
 
 -- links that rise pass the test of the files
 pub rise-test : (starts ends : List ℕ) → LinksRise starts ends → T (rising starts ends)
-unfolding rising earlier LinksRise
+unfolding rising LinksRise
 rise-test starts ends rise =
-    at-allBelow (length starts - 1) _
-    (λ i h.
-    let s = getD starts i 0 in
-    let s′ = getD starts (i + 1) 0 in
-    let e = getD ends i 0 in
-    let e′ = getD ends (i + 1) 0 in
-    ⊎-elim
-    (λ l. either-left (ltb s s′) (eqb s s′ && ltb e e′) (lt→ltb s s′ l))
-    (λ (q, l). either-right (ltb s s′) (eqb s s′ && ltb e e′) (both (eqb s s′) (ltb e e′) (true-T (eq-eqb s s′ q)) (lt→ltb e e′ l)))
-    (rise i (i + 1) (omega arith) (omega arith)))
+    at-allBelow (length starts - 1) _ (λ i h. before-earlier _ _ _ _ (rise i (i + 1) (omega arith) (omega arith)))
 
 -- "links not strictly rising" is that, and no more
 pub rising-iff : (starts ends : List ℕ) → T (rising starts ends) ↔ LinksRise starts ends

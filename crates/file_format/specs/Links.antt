@@ -1,7 +1,7 @@
 -- What is asked of a circuit's links.
 use mathlib.Core.Bool.{Bool, _&&_, _||_}
 use mathlib.Core.List.{List}
-use Prim.Native.Nat.{ℕ, _+_, _-_}
+use Prim.Native.Nat.{ℕ, _+_, _*_, _-_}
 use lib.Dec.{eqb, ltb}
 use lib.ListN.{length, getD}
 use Rattle.base_lists.specs.List.{all, allBelow}
@@ -18,3 +18,14 @@ earlier s e s′ e′ = ltb s s′ || (eqb s s′ && ltb e e′)
 unfoldable pub rising : List ℕ → List ℕ → Bool
 rising starts ends =
     allBelow (length starts - 1) (λ i. earlier (getD starts i 0) (getD ends i 0) (getD starts (i + 1) 0) (getD ends (i + 1) 0))
+
+-- ---- the same by one number per link
+
+-- "one number per link, start times 65,536 plus end"
+abbrev pub packed : ℕ → ℕ → ℕ
+packed start end = start * 65536 + end
+
+-- each link's number is below the next one's
+unfoldable pub numbersRise : List ℕ → List ℕ → Bool
+numbersRise starts ends =
+    allBelow (length starts - 1) (λ i. ltb (packed (getD starts i 0) (getD ends i 0)) (packed (getD starts (i + 1) 0) (getD ends (i + 1) 0)))

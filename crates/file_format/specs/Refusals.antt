@@ -13,7 +13,7 @@ use Rattle.file_format.specs.declared.Refusal.{Refusal}
 use Rattle.file_format.specs.declared.Role.{Role}
 use Rattle.file_format.specs.declared.Role.the-variants as role
 use Rattle.file_format.specs.Layout.{nodesOf, linksOf, lengthOf, startsOf, endsOf}
-use Rattle.file_format.specs.Links.{linksBelow, rising}
+use Rattle.file_format.specs.Links.{linksBelow, rising, numbersRise}
 use Rattle.file_format.specs.Role.{inRange, fileOf}
 
 pub record Condition : Type 0 where
@@ -47,11 +47,19 @@ unfoldable pub asksConnected : Role → Bool
 asksConnected role.Pattern = true
 asksConnected role.Board = false
 
+-- 5 "links not strictly rising": by start, then by end,
+abbrev pub fallsByLinks : Role → List ℕ → List ℕ → Condition
+fallsByLinks r starts ends = record { number = 5; file = fileOf r; holds = not (rising starts ends) }
+
+-- and as the code tests it, by one number per link
+abbrev pub fallsByNumbers : Role → List ℕ → List ℕ → Condition
+fallsByNumbers r starts ends = record { number = 5; file = fileOf r; holds = not (numbersRise starts ends) }
+
 -- 4 a link end or start not below N; 5 links not strictly rising; 6 pattern not connected. Reading and writing both ask these.
 unfoldable pub linkConditions : Role → ℕ → List ℕ → List ℕ → List Condition
 linkConditions r n starts ends =
     record { number = 4; file = fileOf r; holds = not (linksBelow n starts ends) } ∷
-    record { number = 5; file = fileOf r; holds = not (rising starts ends) } ∷
+    fallsByLinks r starts ends ∷
     record { number = 6; file = fileOf r; holds = asksConnected r && not (connected n starts ends) } ∷ []
 
 -- 1 file under 4 bytes; 2 N or M outside its role's range; 3 length not 4 + 2N + 4M; then the links

@@ -14,7 +14,7 @@ use Rattle.base_lists.specs.List.{all, tabulate, maximum}
 use Rattle.base_lists.proofs.Tests.{T-true, T-false, decide, all-at, at-all}
 use Rattle.base_lists.proofs.Tables.{length-tabulate, getD-tabulate, is-tabulate}
 use Rattle.base_lists.proofs.Rows.{getD-le-maximum, maximum-attained, rule-le-maximum, rule-maximum-attained}
-use Rattle.graph.specs.Graph.{Graph, Walk, Distance, InBall, Connected, Radius}
+use Rattle.graph.specs.Graph.{Graph, Walk, Distance, InBall, Ball, DistanceEntry, Connected, Radius}
 use Rattle.graph.specs.Circuit.{HasLink, graphOf}
 use Rattle.graph.specs.Search.{far, beside, inside, ball, misses, distances, connected, radius}
 use Rattle.graph.proofs.Walks.{recount, reverse, append, distance-unique}
@@ -155,6 +155,27 @@ module _ {n : ℕ} {ss es : List ℕ} (links : Within n ss es) where
   distances-unique c r xs l d =
       ext-getD 0 xs (distances n ss es c r) (l ∙ sym (length-distances n ss es c r))
       (λ v h. let b : v < n = subst (λ x. v < x) l h in distanceUpTo-unique (graphOf n ss es) c r v _ _ (d v b) (distances-upTo c r v 0 b))
+
+  -- The entry of a node is its distance, or 65,535 outside the ball, and never both.
+  pub distances-entry : (c r v y : ℕ) → n ≤ far → v < n → DistanceEntry (graphOf n ss es) c r v (getD (distances n ss es c r) v y)
+  unfolding Ball graphOf
+  distances-entry c r v y b h =
+      let x = getD (distances n ss es c r) v y in
+      ⊎-elim
+      (λ (t, p, l).
+      record {
+        inside = λ d _. (λ e. subst (λ (k : ℕ). Distance (graphOf n ss es) c v k × (k ≤ r)) e (p, l), λ (q, _). distance-unique p q);
+        outside = (λ e. absurd (distance-near c v x (inside-centre n ss es c r v t) b p e), λ f. absurd (f (inBall-iff c r v .0 t)));
+      })
+      (λ (f, e, w).
+      record {
+        inside = λ d ne. (λ q. absurd (ne (sym q ∙ e)), λ (q, l). absurd (not-le-of-lt (longer w d q) l));
+        outside = (λ _ m. f (inBall-iff c r v .1 m), λ _. e);
+      })
+      (distances-spec c r v y h)
+    where
+      longer : ((k : ℕ) → Walk (HasLink ss es) c v k → r < k) → (d : ℕ) → Distance (graphOf n ss es) c v d → r < d
+      longer w d q = w d (q .walk)
 
   -- a node's entry is `far` exactly when the ball does not have it
   far-outside : (c r v : ℕ) → n ≤ far → v < n → eqb (getD (distances n ss es c r) v 0) far ≡ not (inside (ball n ss es c r) v)

@@ -1,20 +1,16 @@
--- What the search finds over the neighbour tables of a circuit are the distances, and their marks are the ball. Assumes nothing.
-use mathlib.Core.Bool.{Bool, true, false, not, cond}
+-- What the search finds over the neighbour tables of a circuit are the distances. Assumes nothing.
 use mathlib.Core.List.{List}
 use mathlib.Core.Logic.{inl, inr}
-use mathlib.Core.Path.{_≡_, refl, sym, _∙_}
-use Prim.Native.Nat.{ℕ, _≤_, _<_}
+use mathlib.Core.Path.{_≡_}
+use Prim.Native.Nat.{ℕ, _<_}
 use native.Mathlib.Omega.{arith}
-use lib.Dec.{eqb}
-use lib.ListN.{getD}
-use Rattle.base_lists.proofs.Tables.{tabulate-same}
 use Rattle.graph.specs.Bfs.{Adjacency, Measured, bfs, adjacent}
 use Rattle.graph.specs.Circuit.{HasLink, graphOf}
 use Rattle.graph.specs.Net.{NetOf}
-use Rattle.graph.specs.Search.{far, mark, marks, ball, distances}
+use Rattle.graph.specs.Search.{far, distances}
 use Rattle.graph.proofs.Ball.{Within}
 use Rattle.graph.proofs.Bfs.{bfs-measured, bfs-ready}
-use Rattle.graph.proofs.Distance.{distances-unique, DistanceUpTo, ball-distances, length-distances}
+use Rattle.graph.proofs.Distance.{distances-unique, DistanceUpTo}
 use Rattle.graph.proofs.Net.{net-of, net-few, net-adjacency}
 
 -- what a search finds along the links that an adjacency function lists are the distances
@@ -37,19 +33,3 @@ pub net-distances :
     bfs (adjacent offsets links) n c r .dist ≡ distances n ss es c r
 net-distances {n} {offsets = offsets} {links = links} t nodes c h r =
     search-distances nodes (adjacent offsets links) (net-adjacency t) c h (let few = net-few (net-of t) in omega arith) r
-
--- ---- the ball's bytes
-
-mark-far : (x : ℕ) → mark x ≡ cond (eqb x far) 0 1
-unfolding mark
-mark-far x = go (eqb x far)
-  where
-    go : (b : Bool) → _≡_ {A = ℕ} (cond (not b) 1 0) (cond b 0 1)
-    go true = refl
-    go false = refl
-
--- the marks of the distances are the ball
-pub ball-marks : {n : ℕ} {ss es : List ℕ} → Within n ss es → (c r : ℕ) → n ≤ far → marks (distances n ss es c r) ≡ ball n ss es c r
-unfolding marks
-ball-marks {n} {ss} {es} links c r few =
-    rw (length-distances n ss es c r) (tabulate-same n _ _ (λ v h. mark-far (getD (distances n ss es c r) v 0)) ∙ sym (ball-distances links c r few))

@@ -3,18 +3,21 @@ use mathlib.Core.List.{List, _++_}
 use mathlib.Core.Logic.{_⊎_, _↔_, inl, inr, ⊎-elim}
 use mathlib.Core.Path.{_≡_, sym, subst, _∙_}
 use Prim.Native.Nat.{ℕ, suc, _≤_, _<_}
+use native.Mathlib.Nat.{le-refl}
 use native.Mathlib.Omega.{arith}
-use lib.Dec.{T, ltb}
-use lib.ListN.{length, length-append}
-use Rattle.base_lists.specs.List.{all, Occurs, Below}
+use lib.Dec.{T, ltb, lt→ltb}
+use lib.ListN.{length, getD, length-append}
+use lib.Seq.{getD-take}
+use Rattle.base_lists.specs.List.{all, part, Occurs, Below}
 use Rattle.base_lists.proofs.Parts.{length-part-le, halved, part-first, part-second, length-halved}
+use Rattle.base_lists.proofs.Tests.{at-all}
 use Rattle.graph.specs.Bfs.{adjacent, Adjacency}
 use Rattle.graph.specs.Circuit.{HasLink}
 use Rattle.graph.specs.Neighbours.{select, offsetsOf, grouped, stretch}
 use Rattle.graph.specs.Net.{NetRoom, driven, driving, Stretches, Net, NetOf}
 use Rattle.graph.proofs.Below.{below-append}
 use Rattle.graph.proofs.BfsScan.{occurs-append}
-use Rattle.graph.proofs.Groups.{key-below, below-mono, length-groups, length-offsets, offset-at, stretch-select, select-link, select-mem, select-mem-back}
+use Rattle.graph.proofs.Groups.{key-below, below-mono, below-all, length-groups, length-offsets, offset-at, stretch-select, select-link, select-mem, select-mem-back}
 use Rattle.graph.proofs.Lookup.{Sound}
 
 -- ---- tables that grouping has filled
@@ -106,6 +109,14 @@ module _ {n : ℕ} {starts ends offsets links : List ℕ} (t : NetOf n starts en
 
   pub driving-link : (v w : ℕ) → v < n → Occurs (driving offsets links v) w ↔ HasLink starts ends w v
   driving-link v w h = rw (t .drivenBy v h) (select-mem-back starts ends v w)
+
+  -- the last of the forward offsets is how many links there are
+  pub net-links : Below n starts → getD offsets n 0 ≡ length starts
+  unfolding part Below
+  net-links b =
+      sym (getD-take 513 offsets n 0 (omega (arith, t .forward .held, length-part-le 0 513 offsets)))
+      ∙ t .begins n (le-refl n)
+      ∙ below-all n starts (at-all (λ v. ltb v n) starts (λ i h. lt→ltb _ _ (b i h)))
 
   -- so the neighbours of a node are those that a link joins it to
   pub net-adjacency : Adjacency n (adjacent offsets links) (HasLink starts ends)

@@ -1,6 +1,7 @@
 -- What is meant by graph, subgraph, distance, ball, radius and connected. Sets are arbitrary predicates on numbers, so "every subgraph"
 -- is every one, and not only those that a program can build. The quoted sentences are document 01's.
-use mathlib.Core.Logic.{_⊎_}
+use mathlib.Core.Logic.{_⊎_, _↔_, _≢_}
+use mathlib.Core.Path.{_≡_}
 use Prim.Native.Nat.{ℕ, zero, suc, _≤_}
 
 -- A directed graph: which numbers are its nodes, and from which node to which it has a link.
@@ -37,6 +38,12 @@ InBall G w r v = G .Node v × ((d : ℕ) × Distance G w v d × d ≤ r)
 
 unfoldable pub Ball : Graph → ℕ → ℕ → Graph
 Ball G w r = record { Node = InBall G w r; Link = λ v v′. G .Link v v′ × InBall G w r v × InBall G w r v′ }
+
+-- x is the entry of node v for the ball around w at radius r: "each node's distance from the centre, and 65,535 for a node outside the ball".
+-- (Document 02, Ask 2. No distance on a board is 65,535: proofs/Distance `distance-below`.)
+pub record DistanceEntry (G : Graph) (w r v x : ℕ) : Type 0 where
+  pub inside : (d : ℕ) → d ≢ 65535 → (x ≡ d) ↔ (Distance G w v d × (d ≤ r))
+  pub outside : (x ≡ 65535) ↔ (Ball G w r .Node v → ⊥)
 
 -- "It is connected when its own links, directions ignored, join all its nodes; a single node is connected."
 unfoldable pub Connected : Graph → Type 0

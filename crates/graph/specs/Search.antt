@@ -3,7 +3,7 @@ use mathlib.Core.Bool.{Bool, false, not, _&&_, _||_, cond}
 use mathlib.Core.List.{List, [], _∷_}
 use Prim.Native.Nat.{ℕ, zero, suc, _+_}
 use lib.Dec.{eqb}
-use lib.ListN.{length, getD}
+use lib.ListN.{getD}
 use Rattle.base_lists.specs.List.{all, tabulate, maximum}
 
 -- the entry of a node that no walk within the radius reaches
@@ -13,14 +13,6 @@ far = 65535
 -- an entry is a distance: a walk reaches its node
 abbrev pub reached : ℕ → Bool
 reached entry = not (eqb entry far)
-
--- a node's byte from its entry, "1 inside, else 0"
-unfoldable pub mark : ℕ → ℕ
-mark entry = cond (reached entry) 1 0
-
--- the bytes of all nodes
-unfoldable pub marks : List ℕ → List ℕ
-marks dist = tabulate (length dist) (λ v. mark (getD dist v 0))
 
 -- some link joins v, directions ignored, to a node that passes the test
 unfoldable pub beside : List ℕ → List ℕ → (ℕ → Bool) → ℕ → Bool
@@ -44,7 +36,7 @@ unfoldable pub misses : ℕ → List ℕ → List ℕ → ℕ → ℕ → ℕ �
 misses n ss es c zero v = zero
 misses n ss es c (suc r) v = cond (inside (ball n ss es c r) v) 0 1 + misses n ss es c r v
 
--- the distance of each node from c, and `far` for a node outside the ball at radius r
+-- "each node's distance from the centre, and 65,535 for a node outside the ball"
 unfoldable pub distances : ℕ → List ℕ → List ℕ → ℕ → ℕ → List ℕ
 distances n ss es c r = tabulate n (λ v. cond (inside (ball n ss es c r) v) (misses n ss es c r v) far)
 

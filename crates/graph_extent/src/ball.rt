@@ -1,27 +1,25 @@
-// The ball around a node of a board that was read, as a byte for each node.
+// The ball around a node of a board that was read, as a distance for each node.
 ghost use mathlib.Core.Path.{_≡_};
 ghost use mathlib.Core.List.{_++_};
 ghost use Prim.Native.Nat.{_≤_, _<_};
 ghost use lib.Dec.{T, ltb};
 ghost use lib.ListN.{length, drop};
 ghost use Rattle.base_lists.specs.List.{all};
-ghost use Rattle.graph.specs.Search.{ball};
+ghost use Rattle.graph.specs.Search.{distances};
 ghost use Rattle.file_format.specs.Circuit.{Bounded};
 ghost use Rattle.file_format.specs.declared.Role.the-variants as role;
 use file_format::Board;
-use graph::mark_reached;
 use graph_neighbours::tables::LINKS;
 use graph_neighbours::tables::OFFSETS;
 use graph_neighbours::tables::neighbour_tables;
 use graph_search::search;
 
-// The ball of radius r around node c, from the distances, one for each entry of `dist`. These are scratch; the neighbour tables and the
-// queue are its own.
-fn measure(starts: &[u16], ends: &[u16], c: u16, r: u16, dist: &mut [u16], out: &mut [u8])
+// The distances from node c, up to r, one for each entry of `dist`: 65,535 where it is more. The neighbour tables and the queue are its own.
+fn measure(starts: &[u16], ends: &[u16], c: u16, r: u16, dist: &mut [u16])
     requires { ⌜ (length (now starts) ≡ length (now ends)) × (length (now starts) ≤ 4096) ⌝ }
     requires { ⌜ T (all (λ v. ltb v (length (now dist))) (now starts)) × T (all (λ v. ltb v (length (now dist))) (now ends)) ⌝ }
-    requires { ⌜ (c < length (now dist)) × (length (now dist) ≤ 512) × (length (now dist) ≤ length (now out)) ⌝ }
-    ensures { λ _. ⌜ now (out .exit) ≡ ball (length (now (dist .entry))) (now (starts .entry)) (now (ends .entry)) c r ++ drop (length (now (dist .entry))) (now (out .entry)) ⌝ }
+    requires { ⌜ (c < length (now dist)) × (length (now dist) ≤ 512) ⌝ }
+    ensures { λ _. ⌜ now (dist .exit) ≡ distances (length (now (dist .entry))) (now (starts .entry)) (now (ends .entry)) c r ⌝ }
 {
     let mut offsets = [0u16; OFFSETS];
     let mut links = [0u16; LINKS];
@@ -29,16 +27,14 @@ fn measure(starts: &[u16], ends: &[u16], c: u16, r: u16, dist: &mut [u16], out: 
     let n = dist.len();
     neighbour_tables(n, starts, ends, &mut offsets, &mut links);
     search(&offsets, &links, c, r, dist, &mut queue[..n]);
-    mark_reached(dist, out);
 }
 
-// The ball of radius r around node c of a board.
-pub fn fill_ball(kinds: &[u16], starts: &[u16], ends: &[u16], c: u16, r: u16, out: &mut [u8])
+// The distances in the ball of radius r around node c of a board, first in `out`.
+pub fn fill_ball(kinds: &[u16], starts: &[u16], ends: &[u16], c: u16, r: u16, out: &mut [u16])
     requires { ⌜ Bounded role.Board (record { kinds = now kinds; starts = now starts; ends = now ends }) ⌝ }
     requires { ⌜ (c < length (now kinds)) × (length (now kinds) ≤ length (now out)) ⌝ }
-    ensures { λ _. ⌜ now (out .exit) ≡ ball (length (now (kinds .entry))) (now (starts .entry)) (now (ends .entry)) c r ++ drop (length (now (kinds .entry))) (now (out .entry)) ⌝ }
+    ensures { λ _. ⌜ now (out .exit) ≡ distances (length (now (kinds .entry))) (now (starts .entry)) (now (ends .entry)) c r ++ drop (length (now (kinds .entry))) (now (out .entry)) ⌝ }
 {
-    let mut dist = [0u16; Board::MAX_NODES];
     let n = kinds.len();
-    measure(starts, ends, c, r, &mut dist[..n], out);
+    measure(starts, ends, c, r, &mut out[..n]);
 }

@@ -98,9 +98,10 @@ pub record HostPlace : Type 0 where
   pub nodes : List ℕ
   pub links : List ℕ
   pub table : List ℕ
+  pub distances : List ℕ
 
 unfoldable pub hostPlace : PlaceOutcome → HostPlace
-hostPlace o = record { reply = counted (o .reply); nodes = o .nodes; links = o .links; table = o .table }
+hostPlace o = record { reply = counted (o .reply); nodes = o .nodes; links = o .links; table = o .table; distances = o .distances }
 
 pub record HostMerge : Type 0 where
   pub reply : Reply

@@ -94,7 +94,12 @@ pub extern "C" fn heronditch_radius(pattern: &[u8]) -> Reply
 }
 
 #[no_mangle]
-pub extern "C" fn heronditch_ball(board: &[u8], centre: usize, radius: u16, out: &mut [u8]) -> Reply
+pub extern "C" fn heronditch_ball(
+    board: &[u8],
+    centre: usize,
+    radius: u16,
+    out: &mut [u16],
+) -> Reply
     ensures { λ r. ⌜ record { reply = r; out = now (out .exit) } ≡ hostBall (ballCall (now (board .entry)) centre radius (now (out .entry))) ⌝ }
 {
     of_ball(call_distance::ball(board, centre, radius, out))
@@ -115,11 +120,12 @@ pub extern "C" fn heronditch_place(
     nodes: &mut [u8],
     links: &mut [u8],
     table: &mut [u32],
+    distances: &mut [u16],
 ) -> Counted
-    ensures { λ r. ⌜ record { reply = r; nodes = now (nodes .exit); links = now (links .exit); table = now (table .exit) }
-        ≡ hostPlace (placeAt (now (pattern .entry)) (now (board .entry)) centre (radiusOf (circuitOf (now (pattern .entry)))) (now (nodes .entry)) (now (links .entry)) (now (table .entry))) ⌝ }
+    ensures { λ r. ⌜ record { reply = r; nodes = now (nodes .exit); links = now (links .exit); table = now (table .exit); distances = now (distances .exit) }
+        ≡ hostPlace (placeAt (now (pattern .entry)) (now (board .entry)) centre (radiusOf (circuitOf (now (pattern .entry)))) (now (nodes .entry)) (now (links .entry)) (now (table .entry)) (now (distances .entry))) ⌝ }
 {
-    of_place(call_place::place(pattern, board, centre, nodes, links, table))
+    of_place(call_place::place(pattern, board, centre, nodes, links, table, distances))
 }
 
 #[no_mangle]
@@ -131,11 +137,21 @@ pub extern "C" fn heronditch_place_within(
     nodes: &mut [u8],
     links: &mut [u8],
     table: &mut [u32],
+    distances: &mut [u16],
 ) -> Counted
-    ensures { λ r. ⌜ record { reply = r; nodes = now (nodes .exit); links = now (links .exit); table = now (table .exit) }
-        ≡ hostPlace (placeAt (now (pattern .entry)) (now (board .entry)) centre radius (now (nodes .entry)) (now (links .entry)) (now (table .entry))) ⌝ }
+    ensures { λ r. ⌜ record { reply = r; nodes = now (nodes .exit); links = now (links .exit); table = now (table .exit); distances = now (distances .exit) }
+        ≡ hostPlace (placeAt (now (pattern .entry)) (now (board .entry)) centre radius (now (nodes .entry)) (now (links .entry)) (now (table .entry)) (now (distances .entry))) ⌝ }
 {
-    of_place(call_place::place_within(pattern, board, centre, radius, nodes, links, table))
+    of_place(call_place::place_within(
+        pattern,
+        board,
+        centre,
+        radius,
+        nodes,
+        links,
+        table,
+        distances,
+    ))
 }
 
 #[no_mangle]

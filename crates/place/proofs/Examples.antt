@@ -10,7 +10,7 @@ use Rattle.graph.specs.Circuit.{Circuit}
 use Rattle.graph.specs.Search.{beside, ball, misses, distances, radius}
 use Rattle.table.specs.Row.{started, kept, rounds}
 use Rattle.table.specs.Examples.{rowComputed, circuitT, circuitB, twoWay, ring, anyTo20}
-use Rattle.place.specs.Match.{radiusOf, ballOf, ballTable, found, matches, linkMatches, matchStarts, matchEnds, component, placeNodes, placeLinks}
+use Rattle.place.specs.Match.{radiusOf, ballOf, distancesOf, ballTable, found, matches, linkMatches, matchStarts, matchEnds, component, placeNodes, placeLinks}
 use Rattle.place.specs.Examples.{circuitY, oneLink, anyPart}
 
 -- all that is opened where a place is computed
@@ -149,3 +149,17 @@ any-around (suc (suc (suc zero))) h = tt
 any-around (suc (suc (suc (suc zero)))) h = tt
 any-around (suc (suc (suc (suc (suc zero))))) h = tt
 any-around (suc (suc (suc (suc (suc (suc w)))))) h = let none : ⊥ = omega arith in absurd none
+
+-- ---- distances in a ball: node 2 of B is in the ball around 0 at radius 2, and not in the place
+
+pub probed-place : placeNodes oneLink circuitB 0 2 ≡ 1 ∷ 1 ∷ 0 ∷ 0 ∷ 0 ∷ 0 ∷ []
+unfolding opened oneLink circuitB
+probed-place = refl
+
+pub probed-near : distancesOf circuitB 0 2 ≡ 0 ∷ 1 ∷ 2 ∷ 65535 ∷ 65535 ∷ 65535 ∷ []
+unfolding opened distancesOf circuitB
+probed-near = refl
+
+pub probed-nearer : distancesOf circuitB 0 1 ≡ 0 ∷ 1 ∷ 65535 ∷ 65535 ∷ 65535 ∷ 65535 ∷ []
+unfolding opened distancesOf circuitB
+probed-nearer = refl

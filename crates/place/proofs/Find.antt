@@ -14,7 +14,7 @@ use Rattle.graph.specs.Rising.{LinksRise}
 use Rattle.graph.specs.Search.{far, inside}
 use Rattle.graph.proofs.Ball.{Within, within}
 use Rattle.graph.proofs.Groups.{all-below}
-use Rattle.graph.proofs.Net.{net-of}
+use Rattle.graph.proofs.Net.{net-of, net-links}
 use Rattle.graph.proofs.Sorted.{rise-sorted}
 use Rattle.file_format.specs.Circuit.{Drawn}
 use Rattle.file_format.proofs.Accepted.{bounded-starts, bounded-ends}
@@ -25,14 +25,14 @@ use Rattle.table.specs.Prepared.{succOf, Tables, Prepared, Ready}
 use Rattle.table.specs.Refine.{Known, Rested}
 use Rattle.table.specs.Row.{problemOf}
 use Rattle.table.proofs.Sets.{fits-word}
-use Rattle.place.specs.Match.{ballOf, ballTable, found, placeNodes, placeLinks, placeTable}
+use Rattle.place.specs.Match.{ballOf, distancesOf, ballTable, found, placeNodes, placeLinks, placeTable}
 use Rattle.place.specs.Spread.{matched, Spread, Lists}
 use Rattle.place.specs.Bytes.{linkBytes, nodeSets, linkMarks}
 use Rattle.place.specs.Find.{Tabled, Sought, Located, FoundIn}
 use Rattle.place.proofs.Ball.{ball-fits}
 use Rattle.place.proofs.Bytes.{bytes-nodes, bytes-links, sets-table}
 use Rattle.place.proofs.Listed.{marks-bytes, table-sets, links-bytes}
-use Rattle.place.proofs.Matched.{found-short, found-list, found-marks, forward-test, spread-component}
+use Rattle.place.proofs.Matched.{found-short, found-list, found-distances, found-marks, forward-test, spread-component}
 use Rattle.place.proofs.Outcome.{found-none, found-some}
 
 -- ---- the ball
@@ -58,13 +58,20 @@ module _ {pattern board : Circuit} {t : Tables} (d : Tabled pattern board t) whe
   pub tabled-net : Net size (t .offsets) (t .links)
   tabled-net = net-of (d .prepared .net)
 
-  -- the search lists the ball's nodes
+  -- the last offset is how many links the board has
+  pub tabled-links : getD (t .offsets) size 0 ≡ length (board .starts)
+  tabled-links = net-links (d .prepared .net) (d .starts)
+
+  -- the search lists the ball's nodes, and finds their distances
   module _ (w r : ℕ) (h : w < size) {k : ℕ} {dist queue : List ℕ} (f : Searched k dist queue (bfs (adjacent (t .offsets) (t .links)) size w r)) where
     pub ball-short : k ≤ size
     ball-short = found-short (d .prepared) tabled-joins w r h k dist queue f
 
     pub ball-list : NodeList size (take k queue)
     ball-list = found-list (d .prepared) tabled-joins w r h k dist queue f
+
+    pub ball-measured : dist ≡ distancesOf board w r
+    ball-measured = found-distances (d .prepared) tabled-joins w r h k dist queue f
 
     pub ball-sought : {first : List ℕ} → Begins pattern board (marksOf size (take k queue)) first → Sought pattern board t w r (take k queue) first
     ball-sought b =

@@ -15,14 +15,20 @@ use Rattle.base_bits.proofs.Digits.{bit-of-zero}
 use Rattle.graph.specs.Circuit.{Circuit}
 use Rattle.graph.specs.Search.{inside}
 use Rattle.graph.proofs.Ball.{length-ball, ball-bits, inside-bits, bits-le, inside-below}
+use Rattle.graph.proofs.Distance.{length-distances}
 use Rattle.table.specs.Row.{inTable, InTable}
-use Rattle.place.specs.Match.{ballTable, linkMatches, component, placeNodes, placeLinks, placeTable}
+use Rattle.place.specs.Match.{distancesOf, ballTable, linkMatches, component, placeNodes, placeLinks, placeTable}
 use Rattle.place.proofs.Ball.{BallPairs}
 
 -- A row of n bytes, each 0 or 1.
 pub record Marks (n : ℕ) (row : List ℕ) : Type 0 where
   pub size : length row ≡ n
   pub bytes : (i : ℕ) → i < n → getD row i 0 ≤ 1
+
+-- an entry per board node
+pub length-ballDistances : (board : Circuit) (w r : ℕ) → length (distancesOf board w r) ≡ length (board .kinds)
+unfolding distancesOf
+length-ballDistances board w r = length-distances _ _ _ w r
 
 module _ (pattern board : Circuit) (w r : ℕ) where
   -- "a byte per board node and one per board link"

@@ -27,7 +27,7 @@ use Rattle.graph.proofs.Net.{net-of, net-few, driven-link, driving-link, net-ad
 use Rattle.graph.proofs.Reached.{bfs-listed}
 use Rattle.table.specs.Fill.{listed, marksOf, Distinct, NodeList}
 use Rattle.table.specs.Prepared.{succOf, predOf, Tables, masksOf, Prepared}
-use Rattle.place.specs.Match.{ballOf, matches, matchStarts, matchEnds, component}
+use Rattle.place.specs.Match.{ballOf, distancesOf, matches, matchStarts, matchEnds, component}
 use Rattle.table.specs.Follow.{meeting}
 use Rattle.table.proofs.Following.{meeting-occurs}
 use Rattle.place.specs.Spread.{matched, Spread}
@@ -79,6 +79,10 @@ module _ {pattern board : Circuit} {t : Tables} (p : Prepared pattern board t) (
         let (i, b, e) = l .complete v m (λ q. subst T (ap not (eq-eqb _ far q)) t) in
         at-any (λ w. eqb w v) ballList i b (true-T (eq-eqb _ _ e)))
 
+    -- the entries are the distances
+    entries : bfs around n c r .dist ≡ distances n (board .starts) (board .ends) c r
+    entries = search-distances links around board-adjacency c h few r
+
     -- the list is the ball
     ball-marks : marksOf n ballList ≡ ballOf board c r
     unfolding marksOf ballOf listed
@@ -86,9 +90,6 @@ module _ {pattern board : Circuit} {t : Tables} (p : Prepared pattern board t) (
         tabulate-same n _ _ (λ v m. ap (λ (b : Bool). cond b 1 0) (listed-test v m ∙ ap (λ (l : List ℕ). not (eqb (getD l v 0) far)) entries) ∙ turned (eqb (getD (distances n (board .starts) (board .ends) c r) v 0) far))
         ∙ sym (ball-distances links c r (le-of-lt few))
       where
-        entries : bfs around n c r .dist ≡ distances n (board .starts) (board .ends) c r
-        entries = search-distances links around board-adjacency c h few r
-
         turned : (b : Bool) → _≡_ {A = ℕ} (cond (not b) 1 0) (cond b 0 1)
         turned true = refl
         turned false = refl
@@ -100,6 +101,10 @@ module _ {pattern board : Circuit} {t : Tables} (p : Prepared pattern board t) (
 
       pub found-list : NodeList n (take k queue)
       found-list = rw (f .nodes) ball-list
+
+      pub found-distances : dist ≡ distancesOf board c r
+      unfolding distancesOf
+      found-distances = f .distances ∙ entries
 
       pub found-marks : marksOf n (take k queue) ≡ ballOf board c r
       found-marks = ap (marksOf n) (f .nodes) ∙ ball-marks

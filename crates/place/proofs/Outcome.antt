@@ -8,12 +8,13 @@ use lib.ListN.{length, getD, drop}
 use Rattle.graph.specs.Circuit.{Circuit}
 use Rattle.file_format.specs.declared.File.the-variants.{Neither}
 use Rattle.file_format.specs.Reading.{filled}
+use Rattle.file_format.specs.Refusals.{accept}
 use Rattle.table.specs.declared.Counts.{Counts}
 use Rattle.table.specs.Refine.{countsOf}
 use Rattle.place.specs.declared.PlaceAnswer.the-variants.{Placed, Refused}
-use Rattle.place.specs.Match.{ballOf, ballTable, found, placeNodes, placeLinks, placeTable}
+use Rattle.place.specs.Match.{ballOf, distancesOf, ballTable, found, placeNodes, placeLinks, placeTable}
 use Rattle.place.specs.Outcome.{placeReply, placeVerdict, placeAround}
-use Rattle.place.proofs.Marks.{nodes-marks, links-marks, length-table}
+use Rattle.place.proofs.Marks.{nodes-marks, links-marks, length-table, length-ballDistances}
 
 -- whether the centre is found is whether its set in the ball's table is not empty
 pub found-none : (pattern board : Circuit) (w r : ℕ) (sets : List ℕ) → sets ≡ ballTable pattern board w r → getD sets w 0 ≡ 0 → found pattern board w r ≡ false
@@ -27,20 +28,40 @@ found-some pattern board w r sets e f = rw (ne-eqb _ 0 (λ q. f (ap (λ (l : Lis
 -- The centre is not found: number 9 with the ball's counts, and the tables as they were.
 pub around-none :
     (pattern board : Circuit) (w r : ℕ) (counts : Counts) → counts ≡ countsOf pattern board (ballOf board w r) → found pattern board w r ≡ false →
-    (nodes links table : List ℕ) →
-    record { reply = placeReply (Refused (record { number = 9; file = Neither }) counts); nodes = nodes; links = links; table = table }
-    ≡ placeAround pattern board w r nodes links table
+    (nodes links table distances : List ℕ) →
+    record {
+      reply = placeReply (Refused (record { number = 9; file = Neither }) counts);
+      nodes = nodes;
+      links = links;
+      table = table;
+      distances = distances;
+    }
+    ≡ placeAround pattern board w r nodes links table distances
 unfolding placeAround placeVerdict placeReply filled
-around-none pattern board w r counts k e nodes links table = rw (e, k)
+around-none pattern board w r counts k e nodes links table distances = rw (e, k)
 
--- It is found, and the place is written at the front of the tables.
+-- entries that stand at the front of a table have filled it
+front : (values old : List ℕ) {left : List ℕ} {n : ℕ} → length values ≡ n → left ≡ values ++ drop n old → left ≡ filled accept values old
+unfolding filled
+front values old size e = e ∙ ap (λ (k : ℕ). values ++ drop k old) (sym size)
+
+-- It is found: the place is written at the front of three tables, and the distances in the ball at the front of the fourth.
 pub around-some :
     (pattern board : Circuit) (w r : ℕ) (counts : Counts) → counts ≡ countsOf pattern board (ballOf board w r) → found pattern board w r ≡ true →
-    (nodes links table : List ℕ) {nodes′ links′ table′ : List ℕ} →
+    (nodes links table distances : List ℕ) {nodes′ links′ table′ distances′ : List ℕ} →
     nodes′ ≡ placeNodes pattern board w r ++ drop (length (board .kinds)) nodes →
     links′ ≡ placeLinks pattern board w r ++ drop (length (board .starts)) links →
     table′ ≡ placeTable pattern board w r ++ drop (length (board .kinds)) table →
-    record { reply = placeReply (Placed counts); nodes = nodes′; links = links′; table = table′ } ≡ placeAround pattern board w r nodes links table
-unfolding placeAround placeVerdict placeReply filled
-around-some pattern board w r counts k e nodes links table en el et =
-    rw (e, k, en, el, et, nodes-marks pattern board w r .size, links-marks pattern board w r .size, length-table pattern board w r)
+    distances′ ≡ distancesOf board w r ++ drop (length (board .kinds)) distances →
+    record { reply = placeReply (Placed counts); nodes = nodes′; links = links′; table = table′; distances = distances′ }
+    ≡ placeAround pattern board w r nodes links table distances
+unfolding placeAround placeVerdict placeReply
+around-some pattern board w r counts k e nodes links table distances en el et ed =
+    rw (
+      e,
+      k,
+      front (placeNodes pattern board w r) nodes (nodes-marks pattern board w r .size) en,
+      front (placeLinks pattern board w r) links (links-marks pattern board w r .size) el,
+      front (placeTable pattern board w r) table (length-table pattern board w r) et,
+      front (distancesOf board w r) distances (length-ballDistances board w r) ed,
+    )

@@ -9,7 +9,7 @@ use Rattle.base_lists.specs.List.{anyBelow, tabulate}
 use Rattle.base_lists.specs.Below.{keepFrom}
 use Rattle.graph.specs.Circuit.{Circuit, LinkAt}
 use Rattle.graph.specs.Graph.{Graph}
-use Rattle.graph.specs.Search.{ball, inside, radius}
+use Rattle.graph.specs.Search.{ball, inside, distances, radius}
 use Rattle.table.specs.Row.{inTable, lastTable}
 
 -- "One call uses the pattern's radius, one a radius given."
@@ -19,6 +19,10 @@ radiusOf pattern = radius (length (pattern .kinds)) (pattern .starts) (pattern .
 -- the ball around the centre, a byte per node
 unfoldable pub ballOf : Circuit → ℕ → ℕ → List ℕ
 ballOf board w r = ball (length (board .kinds)) (board .starts) (board .ends) w r
+
+-- the distances in the ball, and 65,535 for a node outside it (document 02, Ask 2)
+unfoldable pub distancesOf : Circuit → ℕ → ℕ → List ℕ
+distancesOf board w r = distances (length (board .kinds)) (board .starts) (board .ends) w r
 
 -- the largest dual simulation of the pattern in the ball
 unfoldable pub ballTable : Circuit → Circuit → ℕ → ℕ → List ℕ

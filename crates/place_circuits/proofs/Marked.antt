@@ -4,7 +4,7 @@ use mathlib.Core.List.{List, _++_}
 use mathlib.Core.Path.{_≡_, sym, ap, ap₂, _∙_}
 use Prim.Native.Nat.{ℕ, suc, _≤_, _<_}
 use native.Mathlib.Omega.{arith}
-use lib.ListN.{length, getD, take, length-append}
+use lib.ListN.{length, getD, take, drop, length-append}
 use lib.Seq.{take-at, take-append-le}
 use Rattle.base_lists.specs.List.{Below}
 use Rattle.graph.specs.Circuit.{Circuit}
@@ -16,8 +16,9 @@ use Rattle.table.specs.Prepared.{Tables, Prepared, Ready}
 use Rattle.place.specs.declared.Around.{Around}
 use Rattle.place.specs.Bytes.{LinksFit, linkMarks}
 use Rattle.place.specs.Find.{Located}
-use Rattle.place.specs.Match.{placeNodes, placeLinks, placeTable}
+use Rattle.place.specs.Match.{distancesOf, placeNodes, placeLinks, placeTable}
 use Rattle.place.proofs.Find.{located-nodes, located-links, located-table}
+use Rattle.place.proofs.Marks.{length-ballDistances}
 use Rattle.place_circuits.specs.declared.InBall.{InBall}
 use Rattle.place_circuits.specs.Ball.{PlacedIn}
 
@@ -28,8 +29,8 @@ module _ {pattern board : Circuit} {t : Tables} {around : Around} {dist queue se
     abbrev n : ℕ
     n = length (board .kinds)
 
-    abbrev here : Located pattern board t (around .centre) (around .radius) dist sets (take (a .size) queue)
-    here = b .there f
+    abbrev here : Located pattern board t (around .centre) (around .radius) (b .there f .0) sets (take (a .size) queue)
+    here = b .there f .1
 
     -- the tables of the ball, cut from longer ones
     cut-sets : take n (sets ++ after) ≡ sets
@@ -70,3 +71,14 @@ module _ {pattern board : Circuit} {t : Tables} {around : Around} {dist queue se
         bytes ≡ placeLinks pattern board (around .centre) (around .radius)
     marked-links e q =
         q ∙ rw (e, cut-sets, cut-place) (located-links p (drawn .nodes .parallel) (all-below _ _ (bounded-starts (drawn .nodes))) (drawn .rise) here)
+
+    -- the ball's distances, cut from a longer table
+    measured-size : length dist ≡ n
+    measured-size = ap length (b .measured) ∙ length-ballDistances board (around .centre) (around .radius)
+
+    pub dist-room : n ≤ length (dist ++ after)
+    dist-room = omega (arith, length-append dist after, measured-size)
+
+    pub copied : (lent : List ℕ) {out : List ℕ} → out ≡ take n (dist ++ after) ++ drop (length (take n (dist ++ after))) lent →
+        out ≡ distancesOf board (around .centre) (around .radius) ++ drop n lent
+    copied lent e = e ∙ rw (take-at dist after n measured-size, measured-size, b .measured)

@@ -1,15 +1,18 @@
--- Finding in the ball around a centre, from the kinds and from tables: whose links these are of need not be handed on.
+-- Finding in the ball around a centre, from the kinds and from tables: whose links these are of need not be handed on, and every pattern and
+-- board that they are of has the same place.
 use mathlib.Core.Bool.{true}
 use mathlib.Core.List.{List}
 use mathlib.Core.Path.{_≡_}
 use Prim.Native.Nat.{ℕ, _≤_}
 use lib.ListN.{length, take}
 use Rattle.graph.specs.Circuit.{Circuit, circuit}
-use Rattle.table.specs.Prepared.{Tables}
+use Rattle.file_format.specs.Circuit.{Drawn}
+use Rattle.table.specs.Prepared.{Tables, Prepared}
 use Rattle.table.specs.Refine.{countsOf}
 use Rattle.place.specs.declared.Around.{Around}
 use Rattle.place.specs.Find.{Tabled, Located}
-use Rattle.place.specs.Match.{ballOf, found}
+use Rattle.place.specs.Match.{ballOf, distancesOf, found}
+use Rattle.place.specs.Outcome.{PlaceOutcome}
 use Rattle.place_circuits.specs.declared.InBall.{InBall}
 
 -- the tables are those of a pattern and a board that have these kinds, and some links
@@ -20,12 +23,13 @@ pub record SomeTabled (partKinds nodeKinds : List ℕ) (t : Tables) : Type 0 whe
   pub nodeEnds : List ℕ
   pub tabled : Tabled (circuit partKinds partStarts partEnds) (circuit nodeKinds nodeStarts nodeEnds) t
 
--- the ball's counts, whether there is a place, and then the place in the tables
+-- the ball's counts and distances, whether there is a place, and then the place in the tables, by another search's entries
 pub record PlacedIn (pattern board : Circuit) (t : Tables) (around : Around) (dist queue sets : List ℕ) (a : InBall) : Type 0 where
   pub counted : a .counts ≡ countsOf pattern board (ballOf board (around .centre) (around .radius))
   pub answer : a .found ≡ found pattern board (around .centre) (around .radius)
   pub short : a .size ≤ length queue
-  pub there : a .found ≡ true → Located pattern board t (around .centre) (around .radius) dist sets (take (a .size) queue)
+  pub measured : dist ≡ distancesOf board (around .centre) (around .radius)
+  pub there : a .found ≡ true → (joined : List ℕ) × Located pattern board t (around .centre) (around .radius) joined sets (take (a .size) queue)
 
 -- this for every pattern and board with these kinds that the tables are of
 abbrev pub EveryPlaced : List ℕ → List ℕ → Tables → Around → List ℕ → List ℕ → List ℕ → InBall → Type 0
@@ -33,3 +37,22 @@ EveryPlaced partKinds nodeKinds t around dist queue sets a =
     (partStarts partEnds nodeStarts nodeEnds : List ℕ) →
     Tabled (circuit partKinds partStarts partEnds) (circuit nodeKinds nodeStarts nodeEnds) t →
     PlacedIn (circuit partKinds partStarts partEnds) (circuit nodeKinds nodeStarts nodeEnds) t around dist queue sets a
+
+-- ---- what was read
+
+-- the tables are those of a pattern and a board that were read, with these kinds and some links
+pub record SomeDrawn (partKinds nodeKinds : List ℕ) (t : Tables) : Type 0 where
+  pub partStarts : List ℕ
+  pub partEnds : List ℕ
+  pub nodeStarts : List ℕ
+  pub nodeEnds : List ℕ
+  pub drawn : Drawn (circuit partKinds partStarts partEnds) (circuit nodeKinds nodeStarts nodeEnds)
+  pub prepared : Prepared (circuit partKinds partStarts partEnds) (circuit nodeKinds nodeStarts nodeEnds) t
+
+-- what a call leaves is what `outcome` says of every such pattern and board
+abbrev pub EveryDrawn : List ℕ → List ℕ → Tables → PlaceOutcome → (Circuit → Circuit → PlaceOutcome) → Type 0
+EveryDrawn partKinds nodeKinds t left outcome =
+    (partStarts partEnds nodeStarts nodeEnds : List ℕ) →
+    Drawn (circuit partKinds partStarts partEnds) (circuit nodeKinds nodeStarts nodeEnds) →
+    Prepared (circuit partKinds partStarts partEnds) (circuit nodeKinds nodeStarts nodeEnds) t →
+    left ≡ outcome (circuit partKinds partStarts partEnds) (circuit nodeKinds nodeStarts nodeEnds)

@@ -99,7 +99,7 @@ impl Call<'_> {
             Call::Ball { board, .. } | Call::Match { board, .. } => vec![sizes(board).0],
             Call::Place { board, .. } | Call::PlaceWithin { board, .. } => {
                 let (n, m) = sizes(board);
-                vec![n, m, n]
+                vec![n, m, n, n]
             }
             Call::Merge { pattern } => {
                 let (n, m) = sizes(pattern);
@@ -262,7 +262,7 @@ pub fn run(finder: &dyn Finder, call: &Call, lent: &Lent) -> Outcome {
             centre,
             radius,
         } => {
-            let mut out = lent.bytes(0);
+            let mut out = lent.fields(0);
             let reply = finder.ball(board, centre, radius, &mut out);
             (reply, vec![wide(out)])
         }
@@ -289,10 +289,12 @@ pub fn run(finder: &dyn Finder, call: &Call, lent: &Lent) -> Outcome {
 /// Runs one of the two place calls.
 fn run_place(finder: &dyn Finder, call: &Call, lent: &Lent) -> (Words, Vec<Vec<u32>>) {
     let (mut a, mut b, mut c) = (lent.bytes(0), lent.bytes(1), lent.words(2));
+    let mut d = lent.fields(3);
     let out = PlaceTables {
         nodes: &mut a,
         links: &mut b,
         table: &mut c,
+        distances: &mut d,
     };
     let reply = match *call {
         Call::Place {
@@ -308,5 +310,5 @@ fn run_place(finder: &dyn Finder, call: &Call, lent: &Lent) -> (Words, Vec<Vec<u
         } => finder.place_within(pattern, board, centre, radius, out),
         _ => unreachable!("not a place call"),
     };
-    (reply, vec![wide(a), wide(b), c])
+    (reply, vec![wide(a), wide(b), c, wide(d)])
 }

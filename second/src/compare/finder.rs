@@ -27,7 +27,7 @@ pub trait Finder {
         out: &mut [u8],
     ) -> Words;
     fn radius(&self, pattern: &[u8]) -> Words;
-    fn ball(&self, board: &[u8], centre: usize, radius: u16, out: &mut [u8]) -> Words;
+    fn ball(&self, board: &[u8], centre: usize, radius: u16, out: &mut [u16]) -> Words;
     fn match_table(&self, pattern: &[u8], board: &[u8], table: &mut [u32]) -> Words;
     fn place(&self, pattern: &[u8], board: &[u8], centre: usize, out: PlaceTables) -> Words;
     fn place_within(
@@ -98,7 +98,7 @@ impl Finder for Second {
         calls::radius(pattern).into()
     }
 
-    fn ball(&self, board: &[u8], centre: usize, radius: u16, out: &mut [u8]) -> Words {
+    fn ball(&self, board: &[u8], centre: usize, radius: u16, out: &mut [u16]) -> Words {
         calls::ball(board, centre, radius, out).into()
     }
 

@@ -1,12 +1,17 @@
 -- `call_load::in_range` meets its contract: each return rewrites with the tests that led there. Assumes nothing.
+use mathlib.Core.Bool.{Bool, _&&_}
+use mathlib.Core.Path.{sym, ap}
 use borrow.Author.Tests.{le-leb, lt-leb}
+use lib.Dec.{leb}
 use Rattle.load.specs.Load.{inRange}
 use Rattle.call_load.proofs.in_range.Statement.{statement}
 use Rattle.call_load.proofs.in_range.Tie as tie
 
 returns : tie.Need-returns
 unfolding inRange
-returns c = simp (lt-leb _ _ (c .if1 .taken))
+returns c =
+    let a = c .before .args in
+    ap (λ (b : Bool). b && (leb (a .n) 512 && (leb (a .m) 4096 && (leb 1 (a .k) && leb (a .k) 65536)))) (sym (lt-leb _ _ (c .if1 .taken)))
 
 returns-2 : tie.Need-returns-2
 unfolding inRange

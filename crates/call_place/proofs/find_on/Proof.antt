@@ -1,54 +1,67 @@
 -- `call_place::find_on` meets its contract: the centre is outside, or a table is short, or the place is sought. Assumes nothing.
-use mathlib.Core.Logic.{inl, inr}
+use mathlib.Core.Bool.{Bool, true, false, cond}
+use mathlib.Core.Path.{_≡_, ap, _∙_}
+use native.Mathlib.Omega.{arith}
 use borrow.Author.Needs.{needs}
+use borrow.Author.Tests.{not-true, not-false}
+use denote.Ref.{now}
+use lib.ListN.{length, getD}
+use Rattle.file_format.specs.Refusals.{accept, refuse, first}
+use Rattle.place.proofs.Find.{drawn-tabled, tabled-links}
+use Rattle.call_place.specs.Call.{tooShort, roomConditions}
 use Rattle.call_place.proofs.Finding.{on-centre, on-short, on-placed}
+use Rattle.call_place.proofs.Rooms.{room-holds}
 use Rattle.call_place.proofs.find_on.Statement.{statement}
 use Rattle.call_place.proofs.find_on.Tie as tie
+
+mul-m : tie.Need-mul-m
+mul-m c = omega (arith, c .before .before .before .before .before .before .before .before .before .pre .drawn .nodes .nodes)
+
+shared-slice-read-m : tie.Need-shared-slice-read-m
+shared-slice-read-m c =
+    let some = c .before .before .before .before .before .before .before .before .before .before .pre in
+    omega (arith, some .drawn .nodes .nodes, some .prepared .net .room .inOffsets)
+
+cast-m : tie.Need-cast-m
+cast-m c = omega (arith, c .shared-slice-known6 .given (length (now (c .before .before .before .before .before .before .before .before .before .before .args .node-kinds))))
+
+roomy-requires : tie.Need-roomy-requires
+roomy-requires c κs = search needs
 
 turned-away-requires : tie.Need-turned-away-requires
 turned-away-requires c κs = search needs
 
 returns : tie.Need-returns
-returns c = rw (c .turned-away .ensures) (on-centre _ _ _ _ _ _ _ (c .before .if1 .taken))
+returns c = λ ps pe ns ne d p. rw (c .turned-away .ensures) (on-centre _ _ _ _ _ _ _ _ (c .before .if1 .taken))
 
 turned-away-requires-2 : tie.Need-turned-away-requires-2
 turned-away-requires-2 c κs = search needs
 
+-- what the test of the lengths comes to
+tested : (c : tie.After-roomy) (b : Bool) → c .roomy .result ≡ b →
+    let a = c .before .before .before .before .before .before .before .before .before .before .before .args in
+    let n = length (now (a .node-kinds)) in
+    first (roomConditions n (getD (now (a .offsets)) n 0) (length (now (a .nodes))) (length (now (a .links))) (length (now (a .table))) (length (now (a .distances))))
+    ≡ cond b accept (refuse tooShort)
+tested c b e = c .roomy .ensures ∙ ap (λ (x : Bool). cond x accept (refuse tooShort)) e
+
 returns-2 : tie.Need-returns-2
 returns-2 c =
-    let test = c .before in
-    rw (c .turned-away2 .ensures) (on-short _ _ _ _ _ _ _ (test .before .if1 .left) (inl (test .if2 .taken)))
-
-turned-away-requires-3 : tie.Need-turned-away-requires-3
-turned-away-requires-3 c κs = search needs
-
-returns-3 : tie.Need-returns-3
-returns-3 c =
-    let test = c .before in
-    rw (c .turned-away3 .ensures) (on-short _ _ _ _ _ _ _ (test .before .before .if1 .left) (inr (inl (test .if3 .taken))))
-
-turned-away-requires-4 : tie.Need-turned-away-requires-4
-turned-away-requires-4 c κs = search needs
-
-returns-4 : tie.Need-returns-4
-returns-4 c =
-    let test = c .before in
-    rw (c .turned-away4 .ensures) (on-short _ _ _ _ _ _ _ (test .before .before .before .if1 .left) (inr (inr (test .if4 .taken))))
+    let room = tested (c .before .before .before) false (not-true _ (c .before .if2 .taken)) in
+    λ ps pe ns ne d p. rw (c .turned-away2 .ensures) (on-short _ _ _ _ _ _ _ _ (c .before .before .if1 .left) (tabled-links (drawn-tabled d p)) room)
 
 -- the centre is a node, and the tables are long enough
-abbrev inside : tie.Else4 → tie.Else1
-inside c = c .before .before .before
-
-abbrev entry : tie.Else4 → tie.Start
-entry c = inside c .before .before .before .before .before .before .before .before .before .before
+abbrev entry : tie.Else2 → tie.Start
+entry c = c .before .before .before .before .before .before .before .before .before .before .before .before .before
 
 cast-t20 : tie.Need-cast-t20
-cast-t20 c = search needs
+cast-t20 c = omega (arith, c .before .if1 .left, entry c .pre .drawn .nodes .nodes)
 
 place-circuits-requires : tie.Need-place-circuits-requires
 place-circuits-requires c κs =
-    let here = c .before .before .before in
-    (entry here .pre, (inside here .if1 .left, (here .before .before .if2 .left, here .before .if3 .left, here .if4 .left)))
+    let here = c .before .before .before .before in
+    let (nodes, links, table, distances) = room-holds _ _ _ _ _ _ (tested (here .before .before) true (not-false _ (here .if2 .left))) in
+    (entry here .pre, (here .before .if1 .left, ((nodes, links), (table, distances))))
 
 same-length : tie.Need-same-length
 same-length c = search needs
@@ -59,28 +72,32 @@ same-length-2 c = search needs
 same-length-3 : tie.Need-same-length-3
 same-length-3 c = search needs
 
-returns-5 : tie.Need-returns-5
-returns-5 c =
-    let placed = c .before .before .before .before .before .before in
-    let here = placed .before .before .before .before in
-    on-placed _ _ _ _ _ _ _ (inside here .if1 .left) (here .before .before .if2 .left) (here .before .if3 .left) (here .if4 .left)
-    (placed .place-circuits .ensures)
+same-length-4 : tie.Need-same-length-4
+same-length-4 c = search needs
+
+returns-3 : tie.Need-returns-3
+returns-3 c =
+    let here = c .before .before .before .before .before .before .before .before .before .before .before .before .before in
+    let room = tested (here .before .before) true (not-false _ (here .if2 .left)) in
+    λ ps pe ns ne d p.
+    on-placed _ _ _ _ _ _ _ _ (here .before .if1 .left) (tabled-links (drawn-tabled d p)) room (c .before .before .before .before .before .before .before .before .place-circuits .ensures ps pe ns ne d p)
 
 pub find-on-spec : {M : Type 1} → statement M
 find-on-spec =
     tie.close
     (tie.spec
+    mul-m
+    shared-slice-read-m
+    cast-m
+    roomy-requires
     turned-away-requires
     returns
     turned-away-requires-2
     returns-2
-    turned-away-requires-3
-    returns-3
-    turned-away-requires-4
-    returns-4
     cast-t20
     place-circuits-requires
     same-length
     same-length-2
     same-length-3
-    returns-5)
+    same-length-4
+    returns-3)

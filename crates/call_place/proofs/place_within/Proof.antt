@@ -16,9 +16,12 @@ same-length-2 c = search needs
 same-length-3 : tie.Need-same-length-3
 same-length-3 c = search needs
 
+same-length-4 : tie.Need-same-length-4
+same-length-4 c = search needs
+
 returns : tie.Need-returns
 unfolding radiusFor
-returns c = c .before .before .before .before .before .before .find .ensures
+returns c = c .before .before .before .before .before .before .before .before .find .ensures
 
 pub place-within-spec : {M : Type 1} → statement M
 place-within-spec =
@@ -28,4 +31,5 @@ place-within-spec =
     same-length
     same-length-2
     same-length-3
+    same-length-4
     returns)

@@ -1,64 +1,51 @@
--- `file_check::links_rise` meets its contract. The loop's invariant: each link passed comes before the next. Assumes nothing.
-use borrow.Author.Count.{below-none, below-more}
-use borrow.Author.Tests.{not-true, not-false}
-use mathlib.Core.Path.{sym, _∙_}
+-- `file_check::links_rise` meets its contract. The loop's invariant: of the links passed each number is below the next one's. Assumes nothing.
+use mathlib.Core.Path.{sym}
+use Prim.Native.Nat.{_-_}
 use native.Mathlib.Omega.{arith}
-use Prim.Native.Nat.{ℕ, _-_, _≤_, _<_}
-use lib.Dec.{T}
+use borrow.Author.Needs.{needs}
 use lib.ListN.{length}
-use Rattle.base_lists.proofs.Tests.{true-T, false-T}
-use Rattle.file_check.proofs.LinkTests.{linkRises, links-rise, not-links-rise}
+use Rattle.file_check.proofs.LinkTests.{Rose, no-links, rose-first, rose-not, rose-more, rose-all}
 use Rattle.file_check.proofs.links_rise.Statement.{statement}
 use Rattle.file_check.proofs.links_rise.Tie as tie
 
 abbrev Inv-loop : tie.InvT-loop
-Inv-loop starts ends i₀ i = (i ≤ length starts) × ((j : ℕ) → j < i → T (linkRises starts ends j))
+Inv-loop starts ends last₀ i₀ last i = Rose starts ends last i
 
 abbrev μ-loop : tie.MeasureT-loop
-μ-loop starts ends i₀ i = length starts - i
-
-loop-holds : tie.Need-loop-holds Inv-loop μ-loop
-loop-holds c = (omega arith, below-none _)
-
-add-loop : tie.Need-add-loop Inv-loop μ-loop
-add-loop c = omega arith
-
-mul-comes-before : tie.Need-mul-comes-before Inv-loop μ-loop
-mul-comes-before c = omega arith
-
-shared-slice-read-comes-before : tie.Need-shared-slice-read-comes-before Inv-loop μ-loop
-shared-slice-read-comes-before c = omega arith
-
-mul-comes-before-2 : tie.Need-mul-comes-before-2 Inv-loop μ-loop
-mul-comes-before-2 c = omega arith
-
-shared-slice-read-comes-before-2 : tie.Need-shared-slice-read-comes-before-2 Inv-loop μ-loop
-shared-slice-read-comes-before-2 c = omega arith
-
-add-comes-before : tie.Need-add-comes-before Inv-loop μ-loop
-add-comes-before c = omega arith
-
-mul-comes-before-3 : tie.Need-mul-comes-before-3 Inv-loop μ-loop
-mul-comes-before-3 c = omega arith
-
-shared-slice-read-comes-before-3 : tie.Need-shared-slice-read-comes-before-3 Inv-loop μ-loop
-shared-slice-read-comes-before-3 c = omega arith
-
-add-comes-before-2 : tie.Need-add-comes-before-2 Inv-loop μ-loop
-add-comes-before-2 c = omega arith
-
-mul-comes-before-4 : tie.Need-mul-comes-before-4 Inv-loop μ-loop
-mul-comes-before-4 c = omega arith
-
-shared-slice-read-comes-before-4 : tie.Need-shared-slice-read-comes-before-4 Inv-loop μ-loop
-shared-slice-read-comes-before-4 c = omega arith
-
-comes-before-requires : tie.Need-comes-before-requires Inv-loop μ-loop
-comes-before-requires c κs = omega arith
+μ-loop starts ends last₀ i₀ last i = length starts - i
 
 returns : tie.Need-returns Inv-loop μ-loop
-unfolding linkRises
-returns c = sym (not-links-rise _ _ (c .before .before .before .before .before .before .before .loop .i) (omega arith) (false-T (sym (c .before .comes-before .ensures) ∙ not-true _ (c .if1 .taken))))
+returns c = sym (no-links _ _ (c .if1 .taken))
+
+shared-slice-read-number-of : tie.Need-shared-slice-read-number-of Inv-loop μ-loop
+shared-slice-read-number-of c = omega arith
+
+shared-slice-read-number-of-2 : tie.Need-shared-slice-read-number-of-2 Inv-loop μ-loop
+shared-slice-read-number-of-2 c = omega arith
+
+number-of-requires : tie.Need-number-of-requires Inv-loop μ-loop
+number-of-requires c κs = search needs
+
+loop-holds : tie.Need-loop-holds Inv-loop μ-loop
+loop-holds c = rose-first _ _ (c .before .before .before .if1 .left) (c .number-of .ensures)
+
+mul-number-of : tie.Need-mul-number-of Inv-loop μ-loop
+mul-number-of c = omega arith
+
+shared-slice-read-number-of-3 : tie.Need-shared-slice-read-number-of-3 Inv-loop μ-loop
+shared-slice-read-number-of-3 c = omega arith
+
+mul-number-of-2 : tie.Need-mul-number-of-2 Inv-loop μ-loop
+mul-number-of-2 c = omega arith
+
+shared-slice-read-number-of-4 : tie.Need-shared-slice-read-number-of-4 Inv-loop μ-loop
+shared-slice-read-number-of-4 c = omega arith
+
+number-of-requires-2 : tie.Need-number-of-requires-2 Inv-loop μ-loop
+number-of-requires-2 c κs = search needs
+
+returns-2 : tie.Need-returns-2 Inv-loop μ-loop
+returns-2 c = sym (rose-not _ _ (c .before .before .before .before .before .loop .inv) (omega arith) (c .before .number-of2 .ensures) (omega arith))
 
 add-i : tie.Need-add-i Inv-loop μ-loop
 add-i c = omega arith
@@ -67,11 +54,10 @@ loop-less : tie.Need-loop-less Inv-loop μ-loop
 loop-less c = omega arith
 
 loop-again : tie.Need-loop-again Inv-loop μ-loop
-unfolding linkRises
-loop-again c = (omega arith, below-more _ _ (c .before .before .before .before .before .before .before .loop .inv .1) (true-T (sym (c .before .comes-before .ensures) ∙ not-false _ (c .if1 .left))))
+loop-again c = rose-more _ _ (c .before .before .before .before .before .loop .inv) (omega arith) (c .before .number-of2 .ensures) (c .if2 .left)
 
-returns-2 : tie.Need-returns-2 Inv-loop μ-loop
-returns-2 c = sym (links-rise _ _ (λ i h. c .before .loop .inv .1 i (omega arith)))
+returns-3 : tie.Need-returns-3 Inv-loop μ-loop
+returns-3 c = sym (rose-all _ _ (c .before .loop .inv) (c .loop-test .left))
 
 pub links-rise-spec : {M : Type 1} → statement M
 links-rise-spec =
@@ -79,21 +65,18 @@ links-rise-spec =
     (tie.spec
     Inv-loop
     μ-loop
-    loop-holds
-    add-loop
-    mul-comes-before
-    shared-slice-read-comes-before
-    mul-comes-before-2
-    shared-slice-read-comes-before-2
-    add-comes-before
-    mul-comes-before-3
-    shared-slice-read-comes-before-3
-    add-comes-before-2
-    mul-comes-before-4
-    shared-slice-read-comes-before-4
-    comes-before-requires
     returns
+    shared-slice-read-number-of
+    shared-slice-read-number-of-2
+    number-of-requires
+    loop-holds
+    mul-number-of
+    shared-slice-read-number-of-3
+    mul-number-of-2
+    shared-slice-read-number-of-4
+    number-of-requires-2
+    returns-2
     add-i
     loop-less
     loop-again
-    returns-2)
+    returns-3)

@@ -1,6 +1,10 @@
 -- `file_check::order_number` meets its contract: each return rewrites with the tests that led there. Assumes nothing.
 use borrow.Author.Tests.{not-true, not-false}
-use mathlib.Core.Path.{sym, _∙_}
+use denote.Ref.{now}
+use mathlib.Core.Path.{_≡_, sym, _∙_}
+use native.Mathlib.Omega.{arith}
+use Rattle.file_format.specs.Links.{rising}
+use Rattle.file_format.proofs.Packed.{numbers-rise}
 use Rattle.file_format.proofs.Refusals.{order-starts, order-ends, order-falls, order-rises}
 use borrow.Author.Needs.{needs}
 use Rattle.file_check.proofs.order_number.Statement.{statement}
@@ -29,13 +33,17 @@ returns-2 c =
 links-rise-requires : tie.Need-links-rise-requires
 links-rise-requires c κs = search needs
 
+-- what the numbers say, the links say: an end is of 16 bits
+by-numbers : (c : tie.After-links-rise) → let a = c .before .before .before .before .before .before .before .args in c .links-rise .result ≡ rising (now (a .starts)) (now (a .ends))
+by-numbers c = c .links-rise .ensures ∙ numbers-rise _ _ (λ i. omega (arith, c .before .before .before .before .before .shared-slice-known2 .given i))
+
 returns-3 : tie.Need-returns-3
 returns-3 c =
     sym
     (order-falls _ _ _
     (sym (c .before .before .before .before .before .all-below .ensures) ∙ not-false _ (c .before .before .before .before .if1 .left))
     (sym (c .before .before .before .all-below2 .ensures) ∙ not-false _ (c .before .before .if2 .left))
-    (sym (c .before .links-rise .ensures) ∙ not-true _ (c .if3 .taken)))
+    (sym (by-numbers (c .before)) ∙ not-true _ (c .if3 .taken)))
 
 returns-4 : tie.Need-returns-4
 returns-4 c =
@@ -43,7 +51,7 @@ returns-4 c =
     (order-rises _ _ _
     (sym (c .before .before .before .before .before .all-below .ensures) ∙ not-false _ (c .before .before .before .before .if1 .left))
     (sym (c .before .before .before .all-below2 .ensures) ∙ not-false _ (c .before .before .if2 .left))
-    (sym (c .before .links-rise .ensures) ∙ not-false _ (c .if3 .left)))
+    (sym (by-numbers (c .before)) ∙ not-false _ (c .if3 .left)))
 
 pub order-number-spec : {M : Type 1} → statement M
 order-number-spec =

@@ -98,7 +98,7 @@ extern "C" {
         board_length: usize,
         centre: usize,
         radius: u16,
-        out: *mut u8,
+        out: *mut u16,
         out_length: usize,
     ) -> Reply;
     fn heronditch_match(
@@ -121,6 +121,8 @@ extern "C" {
         links_length: usize,
         table: *mut u32,
         table_length: usize,
+        distances: *mut u16,
+        distances_length: usize,
     ) -> Counts;
     fn heronditch_place_within(
         pattern: *const u8,
@@ -135,6 +137,8 @@ extern "C" {
         links_length: usize,
         table: *mut u32,
         table_length: usize,
+        distances: *mut u16,
+        distances_length: usize,
     ) -> Counts;
     fn heronditch_merge(
         pattern: *const u8,
@@ -263,7 +267,7 @@ impl Finder for Host {
         unsafe { heronditch_radius(given(pattern), pattern.len()) }.words()
     }
 
-    fn ball(&self, board: &[u8], centre: usize, radius: u16, out: &mut [u8]) -> Words {
+    fn ball(&self, board: &[u8], centre: usize, radius: u16, out: &mut [u16]) -> Words {
         unsafe {
             heronditch_ball(
                 given(board),
@@ -305,6 +309,8 @@ impl Finder for Host {
                 out.links.len(),
                 lent(out.table),
                 out.table.len(),
+                lent(out.distances),
+                out.distances.len(),
             )
         }
         .words()
@@ -332,6 +338,8 @@ impl Finder for Host {
                 out.links.len(),
                 lent(out.table),
                 out.table.len(),
+                lent(out.distances),
+                out.distances.len(),
             )
         }
         .words()

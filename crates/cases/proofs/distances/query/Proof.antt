@@ -38,8 +38,8 @@ number-requires-4 c κs = search needs
 least-requires : tie.Need-least-requires
 least-requires c κs = search needs
 
-refill-bytes-requires : tie.Need-refill-bytes-requires
-refill-bytes-requires c κs = search needs
+refill-requires : tie.Need-refill-requires
+refill-requires c κs = search needs
 
 slice-relend-prefix-ball : tie.Need-slice-relend-prefix-ball
 slice-relend-prefix-ball c = search needs
@@ -53,8 +53,8 @@ ball-requires c κs = search needs
 show-ball-requires : tie.Need-show-ball-requires
 show-ball-requires c κs = search needs
 
-digest-bytes-requires : tie.Need-digest-bytes-requires
-digest-bytes-requires c κs = search needs
+digest-requires : tie.Need-digest-requires
+digest-requires c κs = search needs
 
 show-number-requires : tie.Need-show-number-requires
 show-number-requires c κs = search needs
@@ -83,12 +83,12 @@ query-spec =
     add-number-3
     number-requires-4
     least-requires
-    refill-bytes-requires
+    refill-requires
     slice-relend-prefix-ball
     slice-aggregate-ball
     ball-requires
     show-ball-requires
-    digest-bytes-requires
+    digest-requires
     show-number-requires
     end-line-requires
     same-length

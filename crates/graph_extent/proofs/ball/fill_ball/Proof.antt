@@ -1,13 +1,13 @@
--- `graph_extent::ball::fill_ball` meets its contract: its table of distances has room for every board. Assumes nothing.
+-- `graph_extent::ball::fill_ball` meets its contract: the distances are written into the front of the lent table. Assumes nothing.
 use denote.Ref.{now}
 use mathlib.Core.List.{List, _++_}
-use mathlib.Core.Path.{_≡_, refl, sym, _∙_, subst}
+use mathlib.Core.Path.{sym, ap, _∙_, subst}
 use Prim.Native.Nat.{ℕ, _≤_, _<_}
 use lib.Dec.{T, ltb}
 use lib.ListN.{length, drop, take}
 use lib.Seq.{length-take-le}
 use Rattle.base_lists.specs.List.{all}
-use Rattle.graph.specs.Search.{ball}
+use Rattle.graph.specs.Search.{distances}
 use Rattle.file_format.proofs.Accepted.{bounded-starts, bounded-ends}
 use borrow.Author.Needs.{needs}
 use Rattle.graph_extent.proofs.ball.fill_ball.Statement.{statement}
@@ -17,22 +17,22 @@ use Rattle.graph_extent.proofs.ball.fill_ball.Tie as tie
 lent : (n : ℕ) (table : List ℕ) (P : ℕ → Type 0) → n ≤ length table → P n → P (length (take n table))
 lent n table P h = subst P (sym (length-take-le n table h))
 
-array-borrow-prefix-dist : tie.Need-array-borrow-prefix-dist
-array-borrow-prefix-dist c = search needs
+slice-relend-prefix-measure : tie.Need-slice-relend-prefix-measure
+slice-relend-prefix-measure c = c .before .before .before .before .pre .1 .1
 
 slice-aggregate-measure : tie.Need-slice-aggregate-measure
-slice-aggregate-measure c = sym (length-take-le _ _ (c .before .before .before .before .before .pre .0 .nodes))
+slice-aggregate-measure c = sym (length-take-le _ _ (c .before .before .before .before .before .pre .1 .1))
 
 measure-requires : tie.Need-measure-requires
 measure-requires c κs =
-    let s = c .before .before .before .before .before .before in
+    let s = c .before .before .before .before .before in
     let a = s .args in
     let board = s .pre .0 in (
       (board .parallel, board .links),
-      lent (length (now (a .kinds))) _
-          (λ k. (T (all (λ v. ltb v k) (now (a .starts))) × T (all (λ v. ltb v k) (now (a .ends)))) × ((a .c < k) × (k ≤ 512) × (k ≤ length (now (a .out)))))
-          (board .nodes)
-          ((bounded-starts board, bounded-ends board), (s .pre .1 .0, board .nodes, s .pre .1 .1)),
+      lent (length (now (a .kinds))) (now (a .out))
+          (λ k. (T (all (λ v. ltb v k) (now (a .starts))) × T (all (λ v. ltb v k) (now (a .ends)))) × ((a .c < k) × (k ≤ 512)))
+          (s .pre .1 .1)
+          ((bounded-starts board, bounded-ends board), (s .pre .1 .0, board .nodes)),
     )
 
 same-length : tie.Need-same-length
@@ -40,19 +40,17 @@ same-length c = search needs
 
 returns : tie.Need-returns
 returns c =
-    let s = c .before .before .before .before .before .before .before .before .before .before in
+    let s = c .before .before .before .before .before .before .before .before in
     let a = s .args in
-    c .before .before .before .measure .ensures
-    ∙ lent (length (now (a .kinds))) _
-    (λ k. ball k (now (a .starts)) (now (a .ends)) (a .c) (a .r) ++ drop k (now (a .out)) ≡ ball (length (now (a .kinds))) (now (a .starts)) (now (a .ends)) (a .c) (a .r) ++ drop (length (now (a .kinds))) (now (a .out)))
-    (s .pre .0 .nodes)
-    refl
+    ap (λ (xs : List ℕ). xs ++ drop (length (now (a .kinds))) (now (a .out)))
+    (c .before .before .measure .ensures
+    ∙ ap (λ (k : ℕ). distances k (now (a .starts)) (now (a .ends)) (a .c) (a .r)) (length-take-le (length (now (a .kinds))) (now (a .out)) (s .pre .1 .1)))
 
 pub fill-ball-spec : {M : Type 1} → statement M
 fill-ball-spec =
     tie.close
     (tie.spec
-    array-borrow-prefix-dist
+    slice-relend-prefix-measure
     slice-aggregate-measure
     measure-requires
     same-length

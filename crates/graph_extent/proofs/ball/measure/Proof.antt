@@ -1,26 +1,14 @@
--- `graph_extent::ball::measure` meets its contract: the search over the tables just made finds the distances, and their marks are the ball.
--- Assumes nothing.
+-- `graph_extent::ball::measure` meets its contract: the search over the tables just made finds the distances. Assumes nothing.
 use denote.Ref.{now}
-use mathlib.Core.List.{List, _++_}
-use mathlib.Core.Path.{_≡_, refl, sym, _∙_}
-use Prim.Native.Nat.{ℕ, _≤_}
-use native.Mathlib.Nat.{le-trans}
-use lib.Dec.{lit≤}
-use lib.ListN.{length, drop}
+use mathlib.Core.Path.{refl, sym, _∙_}
+use lib.ListN.{length}
 use lib.Seq.{length-take-le}
-use Rattle.graph.specs.Search.{far, marks, ball, distances}
-use Rattle.graph.proofs.Ball.{Within, within-all}
-use Rattle.graph.proofs.Distance.{length-distances}
-use Rattle.graph.proofs.Measures.{net-distances, ball-marks}
+use Rattle.graph.proofs.Ball.{within-all}
+use Rattle.graph.proofs.Measures.{net-distances}
 use Rattle.graph.proofs.Net.{net-of}
 use borrow.Author.Needs.{needs}
 use Rattle.graph_extent.proofs.ball.measure.Statement.{statement}
 use Rattle.graph_extent.proofs.ball.measure.Tie as tie
-
--- the marks of the distances, with what stands behind them
-marked : (n : ℕ) (ss es : List ℕ) (c r : ℕ) (dist out : List ℕ) → Within n ss es → n ≤ far → dist ≡ distances n ss es c r
-    → marks dist ++ drop (length dist) out ≡ ball n ss es c r ++ drop n out
-marked n ss es c r dist out links few e = rw (e, length-distances n ss es c r, ball-marks links c r few)
 
 slice-aggregate-neighbour-tables : tie.Need-slice-aggregate-neighbour-tables
 slice-aggregate-neighbour-tables c = search needs
@@ -30,7 +18,7 @@ slice-aggregate-neighbour-tables-2 c = search needs
 
 neighbour-tables-requires : tie.Need-neighbour-tables-requires
 neighbour-tables-requires c κs =
-    let p = c .before .before .before .before .before .before .pre in
+    let p = c .before .before .before .before .before .pre in
     (record { inOffsets = refl; inLinks = refl }, (p .1 .1 .1, (p .0, p .1 .0)))
 
 slice-aggregate-search : tie.Need-slice-aggregate-search
@@ -43,32 +31,24 @@ array-borrow-prefix-queue : tie.Need-array-borrow-prefix-queue
 array-borrow-prefix-queue c = search needs
 
 slice-aggregate-search-3 : tie.Need-slice-aggregate-search-3
-slice-aggregate-search-3 c = sym (length-take-le _ _ (c .before .before .before .before .before .before .before .before .before .before .before .before .before .pre .1 .1 .1))
+slice-aggregate-search-3 c = sym (length-take-le _ _ (c .before .before .before .before .before .before .before .before .before .before .before .before .pre .1 .1 .1))
 
 search-requires : tie.Need-search-requires
 search-requires c κs =
-    let p = c .before .before .before .before .before .before .before .before .before .before .before .before .before .pre in
+    let p = c .before .before .before .before .before .before .before .before .before .before .before .before .pre in
     (net-of (c .before .before .before .before .before .before .neighbour-tables .ensures), (p .1 .1 .0, sym (length-take-le _ _ (p .1 .1 .1))))
-
-mark-reached-requires : tie.Need-mark-reached-requires
-mark-reached-requires c κs = search needs
 
 same-length : tie.Need-same-length
 same-length c = search needs
 
-same-length-2 : tie.Need-same-length-2
-same-length-2 c = search needs
-
 returns : tie.Need-returns
 returns c =
-    let at-start = c .before .before .before .before .before .before .before .before .before .before .before .before .before .before .before .before .before .before .before .before .before .before in
+    let at-start = c .before .before .before .before .before .before .before .before .before .before .before .before .before .before .before .before in
     let a = at-start .args in
     let p = at-start .pre in
     let n = length (now (a .dist)) in
     let links = within-all n (now (a .starts)) (now (a .ends)) (p .1 .0 .0) (p .1 .0 .1) in
-    c .before .before .mark-reached .ensures
-    ∙ marked n (now (a .starts)) (now (a .ends)) (a .c) (a .r) _ (now (a .out)) links (le-trans (p .1 .1 .1) (lit≤ tt))
-    (c .before .before .before .before .before .before .before .before .search .ensures .distances ∙ net-distances (c .before .before .before .before .before .before .before .before .before .before .before .before .before .before .before .neighbour-tables .ensures) links (a .c) (p .1 .1 .0) (a .r))
+    c .before .before .before .search .ensures .distances ∙ net-distances (c .before .before .before .before .before .before .before .before .before .before .neighbour-tables .ensures) links (a .c) (p .1 .1 .0) (a .r)
 
 pub measure-spec : {M : Type 1} → statement M
 measure-spec =
@@ -82,7 +62,5 @@ measure-spec =
     array-borrow-prefix-queue
     slice-aggregate-search-3
     search-requires
-    mark-reached-requires
     same-length
-    same-length-2
     returns)

@@ -1,4 +1,4 @@
--- `heronditch::copied::copy` meets its contract. The loop's invariant: the first i entries are copied, and the others as they were. The
+-- `graph::copy` meets its contract. The loop's invariant: the first i entries are copied, and the others as they were. The
 -- measure is how many are left. Assumes nothing.
 use mathlib.Core.List.{List, _++_}
 use mathlib.Core.Path.{_≡_, refl, sym, ap, _∙_}
@@ -8,8 +8,8 @@ use denote.Ref.{now}
 use lib.ListN.{length, getD, drop, length-set}
 use Rattle.base_lists.specs.List.{tabulate}
 use Rattle.base_lists.proofs.Tables.{is-tabulate, filled-none, filled-more}
-use Rattle.heronditch.proofs.copied.copy.Statement.{statement}
-use Rattle.heronditch.proofs.copied.copy.Tie as tie
+use Rattle.graph.proofs.copy.Statement.{statement}
+use Rattle.graph.proofs.copy.Tie as tie
 
 abbrev Inv-loop : tie.InvT-loop
 Inv-loop part out₀ i₀ out i = (i ≤ length part) × (length out ≡ length out₀) × (out ≡ tabulate i (λ j. getD part j 0) ++ drop i out₀)

@@ -1,0 +1,157 @@
+-- `call_prepare::read_prepared` meets its contract: a file is refused, or what is prepared is of the two circuits that were read. Assumes nothing.
+use denote.Ref.{now}
+use mathlib.Core.Path.{sym, _∙_}
+use native.Mathlib.Omega.{arith}
+use borrow.Author.Needs.{needs}
+use Rattle.graph.specs.Circuit.{Circuit}
+use Rattle.graph.proofs.Below.{below-wider}
+use Rattle.graph.proofs.Groups.{all-below}
+use Rattle.file_format.proofs.Accepted.{bounded-starts, bounded-ends}
+use Rattle.file_format.proofs.Reading.{stands-size, stands-room}
+use Rattle.file_pair.specs.Pair.{BothRead}
+use Rattle.file_pair.proofs.Both.{both-read, pattern-bounded, board-bounded}
+use Rattle.table.proofs.Prepare.{prepared}
+use Rattle.call_prepare.proofs.Ready.{pair-turned, pair-ready}
+use Rattle.call_prepare.proofs.read_prepared.Statement.{statement}
+use Rattle.call_prepare.proofs.read_prepared.Tie as tie
+
+abbrev entry : tie.After-read-pair → tie.Start
+entry c = c .before .before .before .before .before .before .before .before .before .before .before .before .before .before
+
+-- what reading the two files left
+abbrev parts : tie.After-read-pair → Circuit
+parts c = let l = c .read-pair .last .1 .1 in record { kinds = l .0; starts = l .1 .0; ends = l .1 .1 .0 }
+
+abbrev nodes : tie.After-read-pair → Circuit
+nodes c = let l = c .read-pair .last .1 .1 .1 .1 .1 in record { kinds = l .0; starts = l .1 .0; ends = l .1 .1 .0 }
+
+slice-aggregate-read-pair : tie.Need-slice-aggregate-read-pair
+slice-aggregate-read-pair c = search needs
+
+slice-aggregate-read-pair-2 : tie.Need-slice-aggregate-read-pair-2
+slice-aggregate-read-pair-2 c = search needs
+
+slice-aggregate-read-pair-3 : tie.Need-slice-aggregate-read-pair-3
+slice-aggregate-read-pair-3 c = search needs
+
+slice-aggregate-read-pair-4 : tie.Need-slice-aggregate-read-pair-4
+slice-aggregate-read-pair-4 c = search needs
+
+read-pair-requires : tie.Need-read-pair-requires
+read-pair-requires c κs =
+    let p = c .before .before .before .before .before .before .before .before .before .before .before .before .before .pre in (
+      record { forKinds = omega (arith, p .0 .0); forStarts = search needs; forEnds = search needs },
+      record { forKinds = omega (arith, p .0 .1); forStarts = search needs; forEnds = search needs },
+    )
+
+enum-told : tie.Need-enum-told
+enum-told c = search needs
+
+enum-told-2 : tie.Need-enum-told-2
+enum-told-2 c = search needs
+
+same-length : tie.Need-same-length
+same-length c = search needs
+
+same-length-2 : tie.Need-same-length-2
+same-length-2 c = search needs
+
+returns : tie.Need-returns
+returns c = pair-turned (c .before .before .before .before .before .before .before .before .before .before .read-pair .ensures) (c .enum-told2 .given .1)
+
+-- both were read
+both : (c : tie.After-enum-told) →
+    let read = c .before .before .before .before .before .before .before .before .before .before in
+    let a = entry read .args in
+    BothRead (now (a .pattern)) (now (a .board)) (read .read-pair .result) (parts read) (nodes read)
+both c = both-read (c .before .before .before .before .before .before .before .before .before .before .read-pair .ensures) (c .enum-told .given .1)
+
+array-share-prefix-ps : tie.Need-array-share-prefix-ps
+array-share-prefix-ps c = stands-room (both c .drawn) .1
+
+slice-aggregate-prepare : tie.Need-slice-aggregate-prepare
+slice-aggregate-prepare c = sym (stands-size (both (c .before) .drawn) .1)
+
+array-share-prefix-pe : tie.Need-array-share-prefix-pe
+array-share-prefix-pe c = stands-room (both (c .before) .drawn) .2
+
+slice-aggregate-prepare-2 : tie.Need-slice-aggregate-prepare-2
+slice-aggregate-prepare-2 c = sym (stands-size (both (c .before .before) .drawn) .2)
+
+array-share-prefix-ns : tie.Need-array-share-prefix-ns
+array-share-prefix-ns c = stands-room (both (c .before .before) .given) .1
+
+slice-aggregate-prepare-3 : tie.Need-slice-aggregate-prepare-3
+slice-aggregate-prepare-3 c = sym (stands-size (both (c .before .before .before) .given) .1)
+
+array-share-prefix-ne : tie.Need-array-share-prefix-ne
+array-share-prefix-ne c = stands-room (both (c .before .before .before) .given) .2
+
+slice-aggregate-prepare-4 : tie.Need-slice-aggregate-prepare-4
+slice-aggregate-prepare-4 c = sym (stands-size (both (c .before .before .before .before) .given) .2)
+
+prepare-requires : tie.Need-prepare-requires
+prepare-requires c κs =
+    let b = both (c .before .before .before .before .before .before .before) in
+    let pattern = pattern-bounded b in
+    let board = board-bounded b in
+    let size = stands-size (b .given) .0 in
+    let starts = below-wider _ 32 _ (pattern .nodes) (all-below _ _ (bounded-starts pattern)) in
+    let ends = below-wider _ 32 _ (pattern .nodes) (all-below _ _ (bounded-ends pattern)) in (
+      (pattern .parallel, starts, ends),
+      (
+        (rw size at (board .nodes), board .parallel, board .links),
+        ((rw size at (bounded-starts board), rw size at (bounded-ends board)), c .before .before .before .before .before .before .before .before .before .before .before .before .before .before .before .before .before .before .before .before .before .before .before .before .before .before .before .before .before .before .before .pre .1),
+      ),
+    )
+
+same-length-3 : tie.Need-same-length-3
+same-length-3 c = search needs
+
+same-length-4 : tie.Need-same-length-4
+same-length-4 c = search needs
+
+same-length-5 : tie.Need-same-length-5
+same-length-5 c = search needs
+
+same-length-6 : tie.Need-same-length-6
+same-length-6 c = search needs
+
+same-length-7 : tie.Need-same-length-7
+same-length-7 c = search needs
+
+returns-2 : tie.Need-returns-2
+returns-2 c =
+    let b = both (c .before .before .before .before .before .before .before .before .before .before .before .before .before .before) in
+    let made = c .before .before .before .before .before .before .prepare .ensures in
+    pair-ready (c .before .before .before .before .before .before .before .before .before .before .before .before .before .before .before .before .before .before .before .before .before .before .before .before .read-pair .ensures) b (prepared (pattern-bounded b) (made .0) (rw (stands-size (b .given) .0) (made .1)))
+
+pub read-prepared-spec : {M : Type 1} → statement M
+read-prepared-spec =
+    tie.close
+    (tie.spec
+    slice-aggregate-read-pair
+    slice-aggregate-read-pair-2
+    slice-aggregate-read-pair-3
+    slice-aggregate-read-pair-4
+    read-pair-requires
+    enum-told
+    enum-told-2
+    same-length
+    same-length-2
+    returns
+    array-share-prefix-ps
+    slice-aggregate-prepare
+    array-share-prefix-pe
+    slice-aggregate-prepare-2
+    array-share-prefix-ns
+    slice-aggregate-prepare-3
+    array-share-prefix-ne
+    slice-aggregate-prepare-4
+    prepare-requires
+    same-length-3
+    same-length-4
+    same-length-5
+    same-length-6
+    same-length-7
+    returns-2)

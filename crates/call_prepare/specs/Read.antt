@@ -1,0 +1,31 @@
+-- Two files that were read for a search, with what it looks up.
+use mathlib.Core.List.{List}
+use mathlib.Core.Path.{_≡_}
+use Prim.Native.Nat.{ℕ, _≤_}
+use lib.ListN.{length, take}
+use Rattle.graph.specs.Search.{radius}
+use Rattle.file_format.specs.Circuit.{circuitOf, Drawn}
+use Rattle.file_format.specs.Layout.{nodesOf, kindsOf, startsOf, endsOf}
+use Rattle.file_format.specs.Reading.{verdictOf}
+use Rattle.file_format.specs.Refusals.{accept, first}
+use Rattle.file_pair.specs.declared.Pair.{Pair}
+use Rattle.file_pair.specs.Pair.{pairConditions}
+use Rattle.table.specs.Prepared.{Tables, Prepared}
+
+-- a file's kinds stand at the front of a table, n of them
+pub record KindsStand (file : List ℕ) (n : ℕ) (kinds : List ℕ) : Type 0 where
+  pub room : n ≤ length kinds
+  pub content : take n kinds ≡ kindsOf file
+
+-- both files are accepted, their kinds stand in the tables, and their links are prepared
+pub record BothPrepared (pattern board : List ℕ) (read : Pair) (partKinds nodeKinds : List ℕ) (t : Tables) : Type 0 where
+  pub parts : KindsStand pattern (read .parts) partKinds
+  pub nodes : KindsStand board (read .nodes) nodeKinds
+  pub measured : read .radius ≡ radius (nodesOf pattern) (startsOf pattern) (endsOf pattern)
+  pub drawn : Drawn (circuitOf pattern) (circuitOf board)
+  pub prepared : Prepared (circuitOf pattern) (circuitOf board) t
+
+-- the two files were read: the verdict is that of the first condition on them that holds
+pub record PairPrepared (pattern board : List ℕ) (read : Pair) (partKinds nodeKinds : List ℕ) (t : Tables) : Type 0 where
+  pub verdict : verdictOf (read .verdict) ≡ first (pairConditions pattern board)
+  pub both : first (pairConditions pattern board) ≡ accept → BothPrepared pattern board read partKinds nodeKinds t
