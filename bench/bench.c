@@ -1,5 +1,5 @@
 /* Makes one call on the two files of a folder, by the proved library or in plain C: the match table, or the place around each of some
- * centres. bench/run counts the instructions inside the calls. With `compare` both are called, and must reply and leave the same. */
+ * centres; and by the library alone the ball or the radius. bench/run counts the instructions inside the calls. With `compare` both are called, and must reply and leave the same. */
 #include <stdio.h>
 #include <stdlib.h>
 #include <string.h>
@@ -66,6 +66,18 @@ static void plain_place(size_t centre, struct result *r)
     r->counts = native_place(FILES, centre, TABLES);
 }
 
+/* The ball as wide as can be, and the radius. There is no plain C of these two. */
+static void proved_ball(size_t centre, struct result *r)
+{
+    r->counts.number = heronditch_ball(board.bytes, board.size, centre, 65535, r->distances, NATIVE_NODES).number;
+}
+
+static void proved_radius(size_t centre, struct result *r)
+{
+    (void)centre;
+    r->counts.number = heronditch_radius(pattern.bytes, pattern.size).number;
+}
+
 /* The result of a call that is lent tables full of ones. */
 static void make(void (*call)(size_t, struct result *), size_t centre, struct result *r)
 {
@@ -76,7 +88,7 @@ static void make(void (*call)(size_t, struct result *), size_t centre, struct re
 static struct {
     const char *name;
     void (*proved)(size_t, struct result *), (*plain)(size_t, struct result *);
-} jobs[] = {{"match", proved_match, plain_match}, {"place", proved_place, plain_place}};
+} jobs[] = {{"match", proved_match, plain_match}, {"place", proved_place, plain_place}, {"ball", proved_ball, proved_ball}, {"radius", proved_radius, proved_radius}};
 
 /* Makes the calls for some centres, and prints how many were accepted, and the counts of the last. */
 static int run(unsigned job, const char *how, size_t first, size_t last)
@@ -108,6 +120,6 @@ int main(int argc, char **argv)
             if (!strcmp(argv[1], jobs[job].name))
                 return run(job, argv[2], strtoul(argv[4], NULL, 10), strtoul(argv[5], NULL, 10));
     }
-    fprintf(stderr, "usage: %s match|place proved|plain|compare FOLDER FIRST-CENTRE LAST-CENTRE\n", argv[0]);
+    fprintf(stderr, "usage: %s match|place|ball|radius proved|plain|compare FOLDER FIRST-CENTRE LAST-CENTRE\n", argv[0]);
     return 2;
 }

@@ -25,6 +25,8 @@ DIGESTS = {
     "chain/pattern.cir": "cb1360202634073f",
     "full-random/board.cir": "4fe1cc63dbf13f7b",
     "full-random/pattern.cir": "c887396608fbbf82",
+    "no-pair-12/board.cir": "41daf89a3b342909",
+    "no-pair-12/pattern.cir": "e43fb78277c84f2f",
     "no-pair/board.cir": "41daf89a3b342909",
     "no-pair/pattern.cir": "b94e35e326ec9854",
     "one-kind-dense/board.cir": "9c80276ef8ed6fdd",
@@ -39,18 +41,21 @@ DIGESTS = {
     "planted-32/pattern.cir": "0fa047cfe4cf5f03",
     "planted/board.cir": "523f27f4b73cf1a3",
     "planted/pattern.cir": "591010d95e3ff0f0",
+    "strikes-12/board.cir": "03f90f8b50a6217f",
+    "strikes-12/pattern.cir": "9b70668aaa467cd3",
     "strikes-small/board.cir": "61512109b80813da",
     "strikes-small/pattern.cir": "d8719584798ea423",
     "strikes/board.cir": "03f90f8b50a6217f",
     "strikes/pattern.cir": "0d90b09501777848",
 }
-QUICK = ("planted", "chain", "no-pair", "one-part", "strikes-small")
+QUICK = ("planted", "chain", "no-pair", "no-pair-12", "one-part", "strikes", "strikes-small")
 
 FAULTY = [
     b"", b"\x02\x00\x01", bytes(4), b"\x01\x00\x00\x00",
     b"\x01\x00\x01\x00\x0a\x00\x00\x00\x01\x00",
     b"\x01\x00\x02\x00\x0a\x00\x00\x00\x00\x00\x00\x00\x00\x00",
     b"\x02\x00\x00\x00\x0a\x00\x14\x00",
+    boards.circuit_file([1] * 14, [(v, v + 1) for v in range(13)]),
     boards.circuit_file([1] * 33, [(v, v + 1) for v in range(32)]),
     boards.circuit_file([1] * 513, []),
 ]

@@ -11,9 +11,14 @@ out on every machine.
   one-kind        512 nodes and 4,096 links of one kind, and 32 parts of that kind
   one-kind-dense  the same with 256 pattern links, and nothing to strike
   one-kind-sparse the same with 64 pattern links on 1,000 links
-  no-pair         512 nodes and 4,096 links, none of a kind that a part has
+  no-pair         512 nodes and 4,096 links, none of a kind that a part has; the
+                  pattern is a path, too wide for a place, so that only the
+                  match table takes it
+  no-pair-12      the same board, and a pattern of radius 12
   one-part        a pattern of one part: each ball is a single node
-  strikes         a row of sets of 15,810 rounds, one pair struck in each
+  strikes         a row of sets of 15,810 rounds, one pair struck in each; the
+                  pattern has radius 16, so that only the match table takes it
+  strikes-12      the same with a pattern of radius 12: 11,730 rounds
   strikes-small   the same on 66 nodes: 448 rounds
 """
 
@@ -184,13 +189,15 @@ def one_kind_sparse():
     return ([7] * 32, pattern_links), ([7] * 512, links)
 
 
-def no_pair():
-    """A path of parts, and a board with none of their kind."""
+def no_pair(length):
+    """A path of parts, the rest of 32 beside its middle, and a board with none
+    of their kind."""
     random = Random(8)
     links = set()
     add_links(random, links, 512, 4096)
-    path = {(part, part + 1) for part in range(31)}
-    return ([9] * 32, path), ([1 + random.below(3) for _ in range(512)], links)
+    parts = {(part, part + 1) for part in range(length - 1)}
+    parts |= {(length // 2, part) for part in range(length, 32)}
+    return ([9] * 32, parts), ([1 + random.below(3) for _ in range(512)], links)
 
 
 def one_part():
@@ -209,9 +216,11 @@ BOARDS = {
     "one-kind": one_kind,
     "one-kind-dense": one_kind_dense,
     "one-kind-sparse": one_kind_sparse,
-    "no-pair": no_pair,
+    "no-pair": lambda: no_pair(32),
+    "no-pair-12": lambda: no_pair(13),
     "one-part": one_part,
     "strikes": lambda: strikes(31, 510),
+    "strikes-12": lambda: strikes(23, 510),
     "strikes-small": lambda: strikes(7, 64),
 }
 

@@ -7,7 +7,7 @@
 #include <stdint.h>
 
 enum { NATIVE_NEITHER, NATIVE_PATTERN, NATIVE_BOARD };
-enum { NATIVE_PARTS = 32, NATIVE_PATTERN_LINKS = 256, NATIVE_NODES = 512, NATIVE_LINKS = 4096 };
+enum { NATIVE_PARTS = 32, NATIVE_PATTERN_LINKS = 256, NATIVE_NODES = 512, NATIVE_LINKS = 4096, NATIVE_RADIUS = 12 };
 
 /* number 0: accepted; else the refusal's number, and the file that it means. */
 typedef struct {
@@ -35,12 +35,14 @@ typedef struct {
    drives is the board's link ends from forward_at[v] up to forward_at[v + 1], as links rise by start; what drives it stands in `backward`. */
 typedef struct {
     native_circuit pattern, board;
+    unsigned radius;
     uint32_t succ[NATIVE_PARTS], pred[NATIVE_PARTS];
     uint16_t forward_at[NATIVE_NODES + 1], backward_at[NATIVE_NODES + 1], backward[NATIVE_LINKS];
 } native_finder;
 
-/* Reads and checks both files: accepted, or the refusal. */
-native_counts native_read(const uint8_t *pattern, size_t pattern_size, const uint8_t *board, size_t board_size, native_finder *to);
+/* Reads and checks both files: accepted, or the refusal. The pattern has to be connected and of radius 12 at most, and then its radius is
+   kept, unless `any` pattern will do. */
+native_counts native_read(const uint8_t *pattern, size_t pattern_size, const uint8_t *board, size_t board_size, bool any, native_finder *to);
 
 /* Makes the board's neighbour tables. */
 void native_neighbours(native_finder *f);

@@ -163,7 +163,7 @@ int main(int argc, char **argv)
         fail(argv[1]);
     load("pattern.cir", &pattern);
     load("board.cir", &board);
-    native_counts said = native_read(pattern.bytes, pattern.size, board.bytes, board.size, &f);
+    native_counts said = native_read(pattern.bytes, pattern.size, board.bytes, board.size, false, &f);
     if (said.number)
         used = (size_t)snprintf(buffer, sizeof buffer, "refused %u %s\n", said.number, said.file == NATIVE_PATTERN ? "pattern" : "board");
     else

@@ -45,6 +45,8 @@ def read_circuit(path, role):
     graph.add_edges_from(pairs)
     if role == "pattern" and not nx.is_weakly_connected(graph):
         raise Refused(f"refused 6 {role}")
+    if role == "pattern" and nx.diameter(graph.to_undirected()) > 12:
+        raise Refused(f"refused 11 {role}")
     return graph
 
 

@@ -17,13 +17,14 @@
  * Kinds: a part of kind 0 matches a node of every kind; a node of kind 0, which is not identified, is matched by such a part only; any other
  * part matches the nodes of its own kind.
  *
- * Numbers of refusal. Where several hold, the pattern's 1 to 6 come first, then the board's 1 to 5, then 7, 10, 8 and 9:
+ * Numbers of refusal. Where several hold, the pattern's 1 to 6 come first, then its 11, then the board's 1 to 5, then 7, 10, 8 and 9:
  *   1  a file of under 4 bytes                         6  the pattern is not connected
  *   2  the number of nodes or links out of range       7  the centre is not a node of the board
  *   3  a length that is not 4 + 2 N + 4 M;             8  a lent table is too short
  *      on writing, not as many ends as starts          9  no place around the centre
  *   4  a link to or from a node that is not there     10  a number of a test load out of its range
- *   5  links that do not rise strictly, by start and then by end
+ *   5  links that do not rise strictly,               11  the pattern's radius is above HERONDITCH_RADIUS: two of its parts
+ *      by start and then by end                           are farther apart, which is a mistake in its drawing
  */
 #ifndef HERONDITCH_H
 #define HERONDITCH_H
@@ -46,9 +47,10 @@ extern "C" {
 #define HERONDITCH_PATTERN 1
 #define HERONDITCH_BOARD 2
 
-/* the largest circuits: parts and links of a pattern, nodes and links of a board, bytes of their files */
+/* the largest circuits: parts, links and radius of a pattern, nodes and links of a board, bytes of their files */
 #define HERONDITCH_PARTS 32
 #define HERONDITCH_PATTERN_LINKS 256
+#define HERONDITCH_RADIUS 12
 #define HERONDITCH_PATTERN_BYTES (4 + 2 * HERONDITCH_PARTS + 4 * HERONDITCH_PATTERN_LINKS)
 #define HERONDITCH_NODES 512
 #define HERONDITCH_BOARD_LINKS 4096
@@ -117,7 +119,8 @@ heronditch_reply heronditch_radius(const uint8_t *pattern, size_t pattern_len);
  * the ball. Replies with N. */
 heronditch_reply heronditch_ball(const uint8_t *board, size_t board_len, size_t centre, uint16_t radius, uint16_t *out, size_t out_len);
 
-/* Matches the pattern on the whole board: N numbers, in which bit u of entry v says that part u matches node v. */
+/* Matches the pattern on the whole board: N numbers, in which bit u of entry v says that part u matches node v. The pattern need not be
+ * connected (6 is not given): where some part is left without a node, the table is all 0, kept is 0 and struck is started. */
 heronditch_counts heronditch_match(const uint8_t *pattern, size_t pattern_len, const uint8_t *board, size_t board_len, uint32_t *table,
                                    size_t table_len);
 
@@ -128,7 +131,7 @@ heronditch_counts heronditch_place(const uint8_t *pattern, size_t pattern_len, c
                                    uint8_t *nodes, size_t nodes_len, uint8_t *links, size_t links_len, uint32_t *table, size_t table_len,
                                    uint16_t *distances, size_t distances_len);
 
-/* The same at a radius given. */
+/* The same at a radius given, which may be any: HERONDITCH_RADIUS is about the pattern's own. */
 heronditch_counts heronditch_place_within(const uint8_t *pattern, size_t pattern_len, const uint8_t *board, size_t board_len,
                                           size_t centre, uint16_t radius, uint8_t *nodes, size_t nodes_len, uint8_t *links,
                                           size_t links_len, uint32_t *table, size_t table_len, uint16_t *distances, size_t distances_len);

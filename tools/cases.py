@@ -95,6 +95,15 @@ def read_cases():
     for n in (32, 33):
         for role in both:
             case(role, encode(path(n)))
+    # radius 11, 12 and 13: paths, rings, stars of five arms; 6 before 11, 8 after it
+    for n in (12, 13, 14):
+        case("pattern", encode(path(n)))
+        case("pattern", encode(path(n)), 0, 0, 0)
+    for n in (23, 24, 25, 26, 27):
+        case("pattern", encode(ring(n)))
+    for arm in (5, 6):
+        case("pattern", encode(circuit_of(5 * arm + 1, [(0 if v % arm == 1 else v - 1, v) for v in range(1, 5 * arm + 1)])))
+    case("pattern", encode(Circuit([7] * 16, list(range(14)), list(range(1, 15)))))
     case("pattern", encode(full(32, 256, rng)), 40, 300, 300)
     case("pattern", encode(full(32, 257, rng)), 40, 300, 300)
     case("pattern", encode(Circuit([7] * 32, [], [])))
@@ -368,13 +377,27 @@ def table_cases():
     case(loop, path(1))
     case(T, circuit([], []), 0)
     case(T, circuit([], []), 3)
-    # kind 0, which is like any other, in the pattern, on the board, and in both; the largest kind
+    # kind 0, any part in the pattern and an unidentified one on the board, in the pattern, on the board, and in both; the largest kind
     case(path(2, 0), circuit([0, 1, 0, 2], [(0, 1), (1, 2), (0, 2), (3, 2)]))
     case(path(2, 5), circuit([0, 5, 5, 0], [(0, 1), (1, 2), (2, 3)]))
     case(path(2, 0), path(4))
     case(path(2), path(4, 0))
     case(path(2, 0), path(4, 0))
     case(circuit([0, 65535], [(0, 1)]), circuit([65535, 0, 255, 65535, 65280], [(0, 1), (1, 2), (1, 3), (3, 4)]))
+    # patterns in several bits: all bits there, one of them, none; a part without links, of a kind that no node has and of one that some
+    # node has; a bit that is struck while the other stays; radius above 12
+    stereo = circuit([10, 20, 30, 11, 21, 31], [(0, 1), (1, 2), (3, 4), (4, 5)])
+    case(stereo, circuit([10, 20, 30, 11, 21, 31, 20], [(0, 1), (1, 2), (3, 4), (4, 5)]))
+    case(stereo, B)
+    case(stereo, stereo, 5)
+    case(stereo, circuit([], []))
+    case(circuit([10, 20, 99], [(0, 1)]), B)
+    case(circuit([10, 20, 30], [(0, 1)]), B)
+    case(circuit([10, 20, 0], [(0, 1)]), B)
+    case(circuit([10, 20, 30, 30], [(0, 1), (2, 3)]), B)
+    case(circuit([10, 20, 20, 10], [(0, 1), (2, 3)]), B)
+    case(circuit([7] * 32, [(v, v + 1) for v in range(15)] + [(v, v + 1) for v in range(16, 31)]), path(30))
+    case(circuit([7] * 32, []), path(3))
     # the table N - 1, N and N + 1 long, on boards with one kind
     for board in (path(1), path(9), circuit([7, 7], [])):
         for lent in (-1, 0, 1):
@@ -427,7 +450,7 @@ def table_cases():
 
 def check_row(pattern, board):
     """The model's quick row against the definition, where the definition is quick enough; rows that must be long are."""
-    pattern, board = model.parse("pattern", pattern), model.parse("board", board)
+    pattern, board = model.parse_in_bits("pattern", pattern), model.parse("board", board)
     if isinstance(pattern, int) or isinstance(board, int):
         return 0
     last, counts = model.largest(pattern, board)

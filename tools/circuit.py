@@ -23,8 +23,10 @@ none of '#', '<' and '>'. 'kind' and 'node' name no node, and a name for a kind
 does not begin with a digit.
 
 With --as pattern or --as board the circuit must also fit that role: a pattern
-has 1 to 32 nodes, at most 256 links and is connected; a board has at most 512
-nodes and 4096 links.
+has 1 to 32 nodes, at most 256 links, is connected and has radius 12 at most; a
+board has at most 512 nodes and 4096 links. --as bits is for a pattern in
+several bits, which need not be connected nor of radius 12 at most: only the
+whole-board match table takes one.
 
 Errors in a text are told with its name and line number, all of them at once.
 """
@@ -36,7 +38,8 @@ import sys
 
 ARROWS = ("->", "<-", "<->")
 MOST = 65535
-LIMITS = {"pattern": (1, 32, 256), "board": (0, 512, 4096)}
+LIMITS = {"pattern": (1, 32, 256), "bits": (1, 32, 256), "board": (0, 512, 4096)}
+WIDEST = 12  # the largest radius of a pattern
 ZERO = {"any": "pattern", "unidentified": "board"}  # the names of kind 0, and the role each is for
 STATEMENTS = "expected 'kind NAME NUMBER', 'node NAME KIND' or 'NAME -> NAME'"
 
@@ -162,8 +165,9 @@ class Reader:
         word, line = self.nodes[name]
         number = number_of(word)
         if word in ZERO:
-            if self.role not in (None, ZERO[word]):
-                self.fault(f"'{word}' is for a {ZERO[word]}, and this is a {self.role}", line)
+            role = "pattern" if self.role == "bits" else self.role
+            if role not in (None, ZERO[word]):
+                self.fault(f"'{word}' is for a {ZERO[word]}, and this is a {role}", line)
             return 0
         if number is None and word in self.kinds:
             return self.kinds[word][0]
@@ -243,18 +247,42 @@ def unreached(circuit):
     return [name for number, name in enumerate(circuit.names) if number not in far]
 
 
+def widest(circuit):
+    """The largest distance between two nodes of a connected circuit, directions ignored, and the names of such two."""
+    neighbours = {number: set() for number in range(len(circuit.kinds))}
+    for start, end in circuit.links:
+        neighbours[start].add(end)
+        neighbours[end].add(start)
+    found = []
+    for start in neighbours:
+        reached, ring, far = {start}, {start}, 0
+        while ring:
+            last, ring = ring, {other for node in ring for other in neighbours[node]} - reached
+            reached |= ring
+            far += bool(ring)
+        found.append((far, circuit.names[start], circuit.names[min(last)]))
+    return max(found, key=lambda two: two[0])
+
+
 def check_role(circuit, role, path):
     """Demands that a circuit fits a role."""
     least, most, most_links = LIMITS[role]
     nodes, links = len(circuit.kinds), len(circuit.links)
+    what = "pattern" if role == "bits" else role
     if not least <= nodes <= most:
-        raise Faults([f"{path}: {nodes} nodes, and a {role} has {least} to {most}"])
+        raise Faults([f"{path}: {nodes} nodes, and a {what} has {least} to {most}"])
     if links > most_links:
-        raise Faults([f"{path}: {links} links, and a {role} has at most {most_links}"])
+        raise Faults([f"{path}: {links} links, and a {what} has at most {most_links}"])
     apart = unreached(circuit) if role == "pattern" else []
     if apart:
         raise Faults([f"{path}: a pattern is connected, but no path joins "
-                      f"'{apart[0]}' to '{circuit.names[0]}'"])
+                      f"'{apart[0]}' to '{circuit.names[0]}' (--as bits: a pattern in several bits, "
+                      "for the whole-board match table alone)"])
+    if role == "pattern":
+        far, one, other = widest(circuit)
+        if far > WIDEST:
+            raise Faults([f"{path}: '{one}' and '{other}' are {far} links apart, and the parts of a pattern "
+                          f"at most {WIDEST}"])
 
 
 def read_file(data, name):

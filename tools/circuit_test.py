@@ -69,6 +69,8 @@ BAD_ROLES = [
     ("pattern", "", "0 nodes, and a pattern has 1 to 32"),
     ("pattern", "".join(f"node {n} 1\n" for n in range(33)), "33 nodes, and a pattern has 1 to 32"),
     ("pattern", "node a 1\nnode b 1\nb -> b", "no path joins 'b' to 'a'"),
+    ("pattern", "".join(f"node {n} 1\n" for n in range(14)) + " -> ".join(map(str, range(14))),
+     "'0' and '13' are 13 links apart, and the parts of a pattern at most 12"),
     ("pattern", "node a unidentified", "1: 'unidentified' is for a board, and this is a pattern"),
     ("board", "node a 1\nnode b any", "2: 'any' is for a pattern, and this is a board"),
     ("board", "".join(f"node {n} 1\n" for n in range(513)), "513 nodes, and a board has 0 to 512"),
@@ -156,6 +158,12 @@ def test_roles(folder):
     for role in ("pattern", "board"):
         done, made = file_of(folder, GOOD[0][1], "--as", role)
         check(f"T as {role}", made == bytes.fromhex(T_FILE), done)
+    text = "".join(f"node {n} 1\n" for n in range(13)) + " <- ".join(map(str, range(13)))
+    check("radius 12", file_of(folder, text, "--as", "pattern")[1] is not None)
+    done, made = file_of(folder, "node a any\nnode b 1\nb -> b", "--as", "bits")
+    check("a pattern in several bits", made is not None, done)
+    done, made = file_of(folder, "", "--as", "bits")
+    check("no bit", done.returncode == 1 and "0 nodes, and a pattern has 1 to 32" in done.stderr, done)
     done, made = file_of(folder, "", "--as", "board")
     check("a board without nodes", made == bytes(4), done)
 

@@ -61,9 +61,18 @@ def link_refusal(role, circuit):
     pairs = links(circuit)
     if any(not a < b for a, b in zip(pairs, pairs[1:])):
         return 5
-    if role == "pattern" and not connected(circuit):
-        return 6
     return 0
+
+
+def shape_refusal(role, circuit):
+    if role == "board":
+        return 0
+    return 6 if not connected(circuit) else 11 if width(circuit) > 12 else 0
+
+
+def width(circuit):
+    """The radius of a connected circuit."""
+    return max(max(distances(circuit, v).values()) for v in range(len(circuit.kinds)))
 
 
 def out_of_range(role, n, m):
@@ -72,7 +81,13 @@ def out_of_range(role, n, m):
 
 
 def parse(role, data):
-    """A circuit, or the number of the first of the conditions 1 to 6 that holds."""
+    """A circuit, or the number of the first of the conditions 1 to 6 and 11 that holds."""
+    circuit = parse_in_bits(role, data)
+    return circuit if isinstance(circuit, int) else shape_refusal(role, circuit) or circuit
+
+
+def parse_in_bits(role, data):
+    """A circuit, connected or not, or the number of the first of the conditions 1 to 5 that holds."""
     if len(data) < 4:
         return 1
     n, m = field(data, 0), field(data, 2)
@@ -101,7 +116,7 @@ def radius(data):
     circuit = parse("pattern", data)
     if isinstance(circuit, int):
         return ("refused", circuit, "pattern")
-    return ("radius", max(max(distances(circuit, v).values()) for v in range(len(circuit.kinds))))
+    return ("radius", width(circuit))
 
 
 def ball(data, centre, r, out):
@@ -126,7 +141,7 @@ def write(role, kinds, starts, ends, out):
     if len(starts) != len(ends):
         return ("refused", 3, role)
     circuit = Circuit(kinds, starts, ends)
-    number = link_refusal(role, circuit)
+    number = link_refusal(role, circuit) or shape_refusal(role, circuit)
     if number:
         return ("refused", number, role)
     data = encode(circuit)
@@ -190,8 +205,8 @@ def largest(pattern, board):
 
 
 def match_table(pattern_data, board_data, table):
-    """The reply of the whole-board call; the table is a list that it fills in place."""
-    pattern = parse("pattern", pattern_data)
+    """The reply of the whole-board call; the table is a list that it fills in place. The pattern may be in several bits."""
+    pattern = parse_in_bits("pattern", pattern_data)
     if isinstance(pattern, int):
         return ("refused", pattern, "pattern")
     board = parse("board", board_data)
@@ -201,6 +216,8 @@ def match_table(pattern_data, board_data, table):
     if len(table) < n:
         return ("refused", 8, "neither")
     pairs, counts = largest(pattern, board)
+    if len({u for u, _ in pairs}) < len(pattern.kinds):
+        pairs, counts = set(), (counts[0], 0, counts[0], counts[3])
     table[:n] = [0] * n
     for u, v in pairs:
         table[v] += 2**u

@@ -2,12 +2,12 @@
 //! its whole result or a refusal, and only then fills what was lent; entries
 //! past those needed keep their content.
 
-use crate::circuit::{both, gather, parse, Circuit, File, Refusal, Role};
-use crate::graph::{radius as radius_of, within, Subgraph};
+use crate::circuit::{both, both_in_bits, gather, parse, Circuit, File, Refusal, Role};
+use crate::graph::{radius as radius_of, within};
 use crate::load::{load as load_of, Numbers};
 use crate::merged::merged;
 use crate::place::{place as place_of, Place};
-use crate::simulation::{largest, Counts};
+use crate::simulation::{on_board, Counts};
 
 /// The reply of a call without counts: number 0 when accepted, and up to two
 /// values, 0 where there is none.
@@ -155,12 +155,13 @@ fn inside(centre: usize, board: &Circuit) -> Result<(), Refusal> {
     Ok(())
 }
 
-/// Fills the match table on the whole board; replies with the counts.
+/// Fills the match table on the whole board; replies with the counts. The
+/// pattern may be in several bits.
 pub fn match_table(pattern: &[u8], board: &[u8], table: &mut [u32]) -> Counted {
-    either(both(pattern, board).and_then(|(pattern, board)| {
+    either(both_in_bits(pattern, board).and_then(|(pattern, board)| {
         let n = board.kinds.len();
         long_enough(&[(table.len(), n)])?;
-        let (pairs, counts) = largest(&pattern, &board, &Subgraph::whole(&board));
+        let (pairs, counts) = on_board(&pattern, &board);
         fill(table, (0..n).map(|v| pairs.word(v)));
         Ok(Counted::accepted(counts))
     }))

@@ -88,8 +88,8 @@ impl Circuit {
         4 + 2 * nodes + 4 * links
     }
 
-    /// Refusals 4, 5 and 6, in this order.
-    pub fn judge(&self, role: Role) -> Result<(), Refusal> {
+    /// Refusals 4 and 5, in this order.
+    fn judge_links(&self, role: Role) -> Result<(), Refusal> {
         let nodes = self.kinds.len();
         if self.links.iter().any(|&(v, w)| v >= nodes || w >= nodes) {
             return Err(role.refuses(4));
@@ -97,8 +97,19 @@ impl Circuit {
         if self.links.windows(2).any(|pair| pair[0] >= pair[1]) {
             return Err(role.refuses(5));
         }
-        if role == Role::Pattern && !graph::connected(nodes, &self.links) {
+        Ok(())
+    }
+
+    /// Refusals 6 and 11, in this order.
+    fn judge_shape(&self, role: Role) -> Result<(), Refusal> {
+        if role == Role::Board {
+            return Ok(());
+        }
+        if !graph::connected(self.kinds.len(), &self.links) {
             return Err(role.refuses(6));
+        }
+        if graph::radius(self) > 12 {
+            return Err(role.refuses(11));
         }
         Ok(())
     }
@@ -112,8 +123,16 @@ fn fields(bytes: &[u8]) -> Vec<u16> {
         .collect()
 }
 
-/// The circuit in a file read in a role, or the first of refusals 1 to 6.
+/// The circuit in a file read in a role, or the first of refusals 1 to 6 and 11.
 pub fn parse(role: Role, bytes: &[u8]) -> Result<Circuit, Refusal> {
+    let circuit = parse_in_bits(role, bytes)?;
+    circuit.judge_shape(role)?;
+    Ok(circuit)
+}
+
+/// The circuit in a file read in a role, connected or not, or the first of
+/// refusals 1 to 5.
+fn parse_in_bits(role: Role, bytes: &[u8]) -> Result<Circuit, Refusal> {
     if bytes.len() < 4 {
         return Err(role.refuses(1));
     }
@@ -128,7 +147,7 @@ pub fn parse(role: Role, bytes: &[u8]) -> Result<Circuit, Refusal> {
     let (kinds, links) = fields[2..].split_at(n);
     let (starts, ends) = links.split_at(m);
     let circuit = assemble(kinds, starts, ends);
-    circuit.judge(role)?;
+    circuit.judge_links(role)?;
     Ok(circuit)
 }
 
@@ -137,7 +156,13 @@ pub fn both(pattern: &[u8], board: &[u8]) -> Result<(Circuit, Circuit), Refusal>
     Ok((parse(Role::Pattern, pattern)?, parse(Role::Board, board)?))
 }
 
-/// The circuit given as three tables, or the first of refusals 2 to 6.
+/// Both files for the whole-board table, which takes patterns in several bits.
+pub fn both_in_bits(pattern: &[u8], board: &[u8]) -> Result<(Circuit, Circuit), Refusal> {
+    let pattern = parse_in_bits(Role::Pattern, pattern)?;
+    Ok((pattern, parse(Role::Board, board)?))
+}
+
+/// The circuit given as three tables, or the first of refusals 2 to 6 and 11.
 pub fn gather(role: Role, kinds: &[u16], starts: &[u16], ends: &[u16]) -> Result<Circuit, Refusal> {
     if !role.allows(kinds.len(), starts.len()) {
         return Err(role.refuses(2));
@@ -146,7 +171,8 @@ pub fn gather(role: Role, kinds: &[u16], starts: &[u16], ends: &[u16]) -> Result
         return Err(role.refuses(3));
     }
     let circuit = assemble(kinds, starts, ends);
-    circuit.judge(role)?;
+    circuit.judge_links(role)?;
+    circuit.judge_shape(role)?;
     Ok(circuit)
 }
 

@@ -115,6 +115,19 @@ pub fn largest(pattern: &Circuit, board: &Circuit, graph: &Subgraph) -> (Pairs, 
     (last, counts)
 }
 
+/// The match table on a whole board and its counts. If some part is left
+/// without a node, nothing is kept; the rounds stay those of the row.
+pub fn on_board(pattern: &Circuit, board: &Circuit) -> (Pairs, Counts) {
+    let (mut pairs, mut counts) = largest(pattern, board, &Subgraph::whole(board));
+    let left_out = |row: &Vec<bool>| row.iter().all(|&is| !is);
+    if pairs.rows.iter().any(left_out) {
+        pairs.rows.iter_mut().for_each(|row| row.fill(false));
+        counts.kept = 0;
+        counts.struck = counts.started;
+    }
+    (pairs, counts)
+}
+
 /// The match graph of a set of pairs in a subgraph of a board.
 pub fn match_graph(
     pattern: &Circuit,

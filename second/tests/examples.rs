@@ -237,3 +237,23 @@ fn parts_of_kind_0_and_10_do_not_merge() {
     assert_eq!((reply.first, &classes[..3]), (2, &[0, 1, 1][..]));
     assert_eq!(out[..12], circuit(&[20, 0], &[(0, 1)]).bytes());
 }
+
+#[test]
+fn patterns_in_several_bits() {
+    let stereo = circuit(&[10, 20, 30, 11, 21, 31], &[(0, 1), (1, 2), (3, 4), (4, 5)]).bytes();
+    let both = circuit(
+        &[10, 20, 30, 11, 21, 31, 20],
+        &[(0, 1), (1, 2), (3, 4), (4, 5)],
+    )
+    .bytes();
+    let mut table = [9; 8];
+    let reply = calls::match_table(&stereo, &both, &mut table);
+    assert_eq!((reply.number, reply.counts), (0, counts(7, 6, 1, 1)));
+    assert_eq!(table, [1, 2, 4, 8, 16, 32, 0, 9]);
+    let reply = calls::match_table(&stereo, &b(), &mut table);
+    assert_eq!((reply.number, reply.counts), (0, counts(6, 0, 6, 2)));
+    assert_eq!(table, [0, 0, 0, 0, 0, 0, 0, 9]);
+    assert_eq!(calls::radius(&stereo).number, 6);
+    assert_eq!(place(&stereo, &both, 0, None).0.number, 6);
+    assert_eq!(report(&stereo, &both), "refused 6 pattern\n");
+}

@@ -4,7 +4,7 @@
 //! in limits, orders and tables.
 
 use second::calls::PlaceTables;
-use second::circuit::{both, parse, Circuit, Role};
+use second::circuit::{both, both_in_bits, parse, Circuit, Role};
 use second::compare::finder::{Finder, Second, Words};
 use second::compare::tally::Tally;
 use second::compare::{case, edges};
@@ -56,6 +56,9 @@ enum Fault {
     RadiusCut,
     KindCut,
     AnyPartFindsNone,
+    SixOnTheBoard,
+    PartsLeftOut,
+    ClearedRound,
     OutsideAtZero,
     DistanceInThePlace,
     DistancePastTheBall,
@@ -77,7 +80,7 @@ enum Fault {
     LoadNamesBoard,
 }
 
-const FAULTS: [Fault; 54] = [
+const FAULTS: [Fault; 57] = [
     Fault::OneRound,
     Fault::EveryLink,
     Fault::MergedRadius,
@@ -114,6 +117,9 @@ const FAULTS: [Fault; 54] = [
     Fault::RadiusCut,
     Fault::KindCut,
     Fault::AnyPartFindsNone,
+    Fault::SixOnTheBoard,
+    Fault::PartsLeftOut,
+    Fault::ClearedRound,
     Fault::OutsideAtZero,
     Fault::DistanceInThePlace,
     Fault::DistancePastTheBall,
@@ -533,6 +539,14 @@ impl Finder for Faulty {
             (Fault::BoardBeforePattern, [_, 1, ..], Err(refusal)) => {
                 [refusal.number, 2, 0, 0, 0, 0]
             }
+            (Fault::SixOnTheBoard, ..) => match parse(Role::Pattern, pattern) {
+                Err(refusal) => [refusal.number, 1, 0, 0, 0, 0],
+                Ok(_) => words,
+            },
+            (Fault::PartsLeftOut, [0, ..], Ok(board)) => plain_row(pattern, &board, table),
+            (Fault::ClearedRound, [0, 0, started, 0, struck, rounds], _) if started > 0 => {
+                [0, 0, started, 0, struck, rounds + 1]
+            }
             _ => self.counts(words),
         }
     }
@@ -655,6 +669,18 @@ impl Faulty {
         out[..bytes.len()].copy_from_slice(&bytes);
         [0, 0, bytes.len() as u32, 0, 0, 0]
     }
+}
+
+/// The whole-board call without the rule that every part has a node.
+fn plain_row(pattern: &[u8], board: &Circuit, table: &mut [u32]) -> Words {
+    let (pattern, _) = both_in_bits(pattern, &board.bytes()).expect("accepted files");
+    let (pairs, counts) = largest(&pattern, board, &Subgraph::whole(board));
+    for (v, entry) in table.iter_mut().enumerate().take(board.kinds.len()) {
+        *entry = pairs.word(v);
+    }
+    let word = |number: usize| number as u32;
+    let (started, kept) = (word(counts.started), word(counts.kept));
+    [0, 0, started, kept, started - kept, word(counts.rounds)]
 }
 
 /// The number of the first of so many random cases that tells the finders apart.

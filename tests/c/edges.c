@@ -9,6 +9,9 @@
 static const uint8_t T[] = {3, 0, 2, 0, 10, 0, 20, 0, 30, 0, 0, 0, 1, 0, 1, 0, 2, 0};
 static const uint8_t B[] = {6, 0, 3, 0, 10, 0, 20, 0, 30, 0, 20, 0, 30, 0, 10, 0, 0, 0, 1, 0, 3, 0, 1, 0, 2, 0, 4, 0};
 
+/* two parts of kinds 10 and 20, and no link */
+static const uint8_t TWO_BITS[] = {2, 0, 0, 0, 10, 0, 20, 0};
+
 static int checks, failed;
 
 static void check(int ok, const char *what)
@@ -55,6 +58,8 @@ static void no_arrays(void)
     check(is_reply(heronditch_radius(NULL, 0), 1, HERONDITCH_PATTERN, 0, 0), "radius of nothing");
     check(is_reply(heronditch_ball(NULL, 0, 0, 0, NULL, 0), 1, HERONDITCH_BOARD, 0, 0), "ball of nothing");
     check(is_counts(heronditch_match(NULL, 0, NULL, 0, NULL, 0), 1, HERONDITCH_PATTERN, 0, 0, 0, 0), "match of nothing");
+    check(is_counts(heronditch_match(TWO_BITS, sizeof TWO_BITS, NULL, 0, NULL, 0), 1, HERONDITCH_BOARD, 0, 0, 0, 0),
+          "match of a pattern in two bits on nothing");
     check(is_counts(heronditch_match(T, sizeof T, NULL, 0, NULL, 0), 1, HERONDITCH_BOARD, 0, 0, 0, 0), "match on nothing");
     check(is_counts(heronditch_place(NULL, 0, NULL, 0, 0, NULL, 0, NULL, 0, NULL, 0, NULL, 0), 1, HERONDITCH_PATTERN, 0, 0, 0, 0),
           "place of nothing");
@@ -253,12 +258,60 @@ static void loads(void)
     check(r.number == 0 && back.number == 0 && back.first == 512 && 4 + 2 * 512 + 4 * back.second == r.first, "the largest load is a board");
 }
 
+/* The file of a path of so many parts, whose radius is one less; returns its length. */
+static size_t path_of(size_t parts, uint8_t *file)
+{
+    uint16_t fields[2 + 3 * HERONDITCH_PARTS];
+    size_t k = 0;
+    fields[k++] = (uint16_t)parts;
+    fields[k++] = (uint16_t)(parts - 1);
+    for (size_t v = 0; v < parts; v++)
+        fields[k++] = 10;
+    for (size_t v = 0; v + 1 < parts; v++)
+        fields[k++] = (uint16_t)v;
+    for (size_t v = 0; v + 1 < parts; v++)
+        fields[k++] = (uint16_t)(v + 1);
+    for (size_t i = 0; i < k; i++) {
+        file[2 * i] = (uint8_t)(fields[i] & 255);
+        file[2 * i + 1] = (uint8_t)(fields[i] >> 8);
+    }
+    return 2 * k;
+}
+
+static void widths(void)
+{
+    uint8_t twelve[256], thirteen[256], nodes[16], links[16];
+    uint32_t table[16];
+    uint16_t distances[16];
+    size_t len = path_of(13, twelve), wide = path_of(14, thirteen);
+    check(is_reply(heronditch_radius(twelve, len), 0, HERONDITCH_NEITHER, HERONDITCH_RADIUS, 0), "radius 12");
+    check(is_reply(heronditch_radius(thirteen, wide), 11, HERONDITCH_PATTERN, 0, 0), "radius 13");
+    check(is_reply(heronditch_read_pattern(thirteen, wide, NULL, 0, NULL, 0, NULL, 0), 11, HERONDITCH_PATTERN, 0, 0), "11 comes before 8 in reading");
+    uint16_t kinds[14] = {0}, starts[13], ends[13];
+    for (uint16_t v = 0; v < 13; v++)
+        starts[v] = v, ends[v] = (uint16_t)(v + 1);
+    check(is_reply(heronditch_write_pattern(kinds, 14, starts, 13, ends, 13, NULL, 0), 11, HERONDITCH_PATTERN, 0, 0), "11 comes before 8 in writing");
+    check(is_reply(heronditch_write_pattern(kinds, 13, starts, 12, ends, 12, NULL, 0), 8, HERONDITCH_NEITHER, 0, 0), "radius 12 in writing");
+    check(is_reply(heronditch_write_board(kinds, 14, starts, 13, ends, 13, NULL, 0), 8, HERONDITCH_NEITHER, 0, 0), "a board has no limit");
+    check(is_reply(heronditch_merge(thirteen, wide, NULL, 0, NULL, 0), 11, HERONDITCH_PATTERN, 0, 0), "11 comes before 8 in merging");
+    check(is_counts(heronditch_place(thirteen, wide, NULL, 0, 0, NULL, 0, NULL, 0, NULL, 0, NULL, 0), 11, HERONDITCH_PATTERN, 0, 0, 0, 0),
+          "11 comes before the board's 1");
+    check(is_counts(heronditch_place_within(thirteen, wide, thirteen, wide, 0, 2, nodes, 16, links, 16, table, 16, distances, 16), 11, HERONDITCH_PATTERN, 0, 0, 0, 0),
+          "11 whatever radius is given");
+    check(is_counts(heronditch_place_within(twelve, len, thirteen, wide, 0, 13, nodes, 16, links, 16, table, 16, distances, 16), 0, HERONDITCH_NEITHER, 182, 26, 156, 12),
+          "a radius of 13 given");
+    memset(room, 0xA5, sizeof room);
+    check(is_piece(heronditch_report(thirteen, wide, NULL, 0, 0, 0, room, 20), 0, 1, 0, 19) && !memcmp(room, "refused 11 pattern\n", 19) && untouched(room, 19, sizeof room),
+          "the line of a pattern that is too wide");
+}
+
 int main(void)
 {
     no_arrays();
     lengths();
     reports();
     loads();
+    widths();
     lookups();
     printf("edges: %d checks, %d failed\n", checks, failed);
     return failed != 0;

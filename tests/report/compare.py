@@ -82,6 +82,9 @@ def folders():
     yield "board too long", one, one + bytes(40000)
     yield "both refused", b"\1", b"\2"
     yield "not connected", encode([1, 1], []), one
+    for parts in (13, 14):
+        yield f"a path of {parts}", encode([1] * parts, [(v, v + 1) for v in range(parts - 1)]), encode([1] * 20, [(v, v + 1) for v in range(19)])
+    yield "too wide, and no board", encode([1] * 14, [(v, v + 1) for v in range(13)]), None
     yield "longest line", *longest()
     pattern, board = largest(32, 256), largest(512, 4096)
     yield "largest files", pattern, board

@@ -164,12 +164,16 @@ def large(folder, paths):
 def short(paths):
     """A file that cannot be read is said on standard error alone; a refused file's line is a whole report."""
     one = boards.circuit_file([1], [])
-    for is_readable, line, statuses in ((False, b"", (0, 2, 2)), (True, b"refused 1 pattern\n", (0, 0, 1))):
+    wide = boards.circuit_file([1] * 14, [(v, v + 1) for v in range(13)])
+    for is_readable, pattern, line, statuses in ((False, None, b"", (0, 2, 2)), (True, None, b"refused 1 pattern\n", (0, 0, 1)),
+                                                 (True, wide, b"refused 11 pattern\n", (0, 0, 1))):
         with tempfile.TemporaryDirectory() as name:
             folder = Path(name)
             (folder / "board.cir").write_bytes(one)
             if not is_readable:
                 (folder / "pattern.cir").mkdir()
+            elif pattern:
+                (folder / "pattern.cir").write_bytes(pattern)
             for program, status in zip(programs(folder, paths), statuses):
                 said = subprocess.run(program.command, cwd=program.cwd, capture_output=True, check=False)
                 check((said.stdout, said.returncode) == (line, status), program.name, said)

@@ -22,7 +22,7 @@ unfoldable pub radiusReply : RadiusAnswer → Reply
 radiusReply (radius-answer.Radius d) = record { verdict = accept; values = d ∷ [] }
 radiusReply (radius-answer.Refused x) = record { verdict = refuse x; values = [] }
 
--- refused by the pattern's 1 to 6
+-- refused by the pattern's 1 to 6 and 11
 unfoldable pub radiusCall : List ℕ → Reply
 radiusCall file = reply (first (fileConditions Pattern file)) (radius (nodesOf file) (startsOf file) (endsOf file) ∷ [])
 

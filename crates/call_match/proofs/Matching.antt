@@ -1,16 +1,17 @@
 -- What the call comes to, by cases: a refused file, a short table, or the match. Assumes nothing.
-use mathlib.Core.List.{List, _++_}
-use mathlib.Core.Path.{_≡_, _∙_}
+use mathlib.Core.List.{List, [], _∷_, _++_}
+use mathlib.Core.Path.{_≡_, sym, ap, ap₂, _∙_}
 use Prim.Native.Nat.{ℕ, _≤_, _<_}
 use borrow.Author.Tests.{lt-ltb, le-ltb}
 use lib.ListN.{length, drop}
 use Rattle.graph.specs.Circuit.{Circuit}
+use Rattle.file_format.specs.declared.Role.the-variants.{AnyPattern}
 use Rattle.file_format.specs.declared.File.the-variants.{Neither}
 use Rattle.file_format.specs.declared.Refusal.{Refusal}
 use Rattle.file_format.specs.Circuit.{circuitOf}
 use Rattle.file_format.specs.Layout.{nodesOf}
 use Rattle.file_format.specs.Reading.{filled, front}
-use Rattle.file_format.specs.Refusals.{accept, refuse, first, shortTable}
+use Rattle.file_format.specs.Refusals.{Verdict, accept, refuse, first, shortTable}
 use Rattle.file_format.proofs.Fields.{length-kinds}
 use Rattle.file_format.proofs.Refusals.{first-accept, first-refuse}
 use Rattle.file_pair.specs.Pair.{pairConditions, BothRead}
@@ -19,15 +20,14 @@ use Rattle.call_match.specs.declared.TableAnswer.the-variants.{Matched, 
 use Rattle.table.specs.declared.Counts.{Counts}
 use Rattle.call_match.specs.Call.{TableOutcome, matchConditions, replyOf, matchOn, matching}
 use Rattle.table.specs.Host.{everything}
-use Rattle.table.specs.Refine.{MatchedOn}
-use Rattle.table.specs.Reply.{replied}
-use Rattle.table.specs.Row.{lastTable}
-use Rattle.table.proofs.Meaning.{last-fits}
+use Rattle.table.specs.Answer.{answerTable, answerCounts, AnsweredOn}
+use Rattle.table.specs.Reply.{Reply, replied}
+use Rattle.table.proofs.Answer.{answer-fits}
 
 -- the table has an entry for each node
-pub length-last : (pattern board : List ℕ)
-    → length (lastTable (circuitOf pattern) (circuitOf board) (everything (circuitOf board))) ≡ nodesOf board
-length-last pattern board = last-fits (circuitOf pattern) (circuitOf board) (everything (circuitOf board)) .size ∙ length-kinds board
+pub length-answer : (pattern board : List ℕ)
+    → length (answerTable (circuitOf pattern) (circuitOf board) (everything (circuitOf board))) ≡ nodesOf board
+length-answer pattern board = answer-fits (circuitOf pattern) (circuitOf board) (everything (circuitOf board)) .size ∙ length-kinds board
 
 -- ---- two circuits
 
@@ -37,24 +37,52 @@ module _ (p b : Circuit) (table : List ℕ) where
   unfolding matchOn first shortTable replied replyOf filled
   on-short h = rw (lt-ltb _ _ h)
 
-  pub on-matched : length (b .kinds) ≤ length table → {counts : Counts} {last : List ℕ} → MatchedOn p b last counts
+  -- the table is long enough: the call is accepted
+  fits-verdict : length (b .kinds) ≤ length table → first (shortTable (length (b .kinds)) (length table) ∷ []) ≡ accept
+  unfolding first shortTable
+  fits-verdict h = rw (le-ltb _ _ h)
+
+  -- the counts are replied with,
+  fits-reply : length (b .kinds) ≤ length table → {counts : Counts} → counts ≡ answerCounts p b (everything b)
+      → replyOf (Matched counts) ≡ matchOn p b table .reply
+  unfolding matchOn replied replyOf
+  fits-reply h e = rw e (ap (λ (v : Verdict). replied v (answerCounts p b (everything b))) (sym (fits-verdict h)))
+
+  -- and the answer stands at the table's front, before the entries that stay
+  fits-table : length (b .kinds) ≤ length table → {last : List ℕ} → last ≡ answerTable p b (everything b)
+      → last ++ drop (length (b .kinds)) table ≡ matchOn p b table .table
+  unfolding matchOn filled
+  fits-table h {last} e =
+      let front : last ++ drop (length (b .kinds)) table ≡ filled accept (answerTable p b (everything b)) table = rw (e, answer-fits p b (everything b) .size) in
+      front ∙ ap (λ (v : Verdict). filled v (answerTable p b (everything b)) table) (sym (fits-verdict h))
+
+  pub on-matched : length (b .kinds) ≤ length table → {counts : Counts} {last : List ℕ} → AnsweredOn p b last counts
       → record { reply = replyOf (Matched counts); table = last ++ drop (length (b .kinds)) table } ≡ matchOn p b table
-  unfolding matchOn first shortTable replied replyOf filled
-  on-matched h m = rw (le-ltb _ _ h, m .counted, m .last, last-fits p b (everything b) .size)
+  on-matched h m = ap₂ (λ (r : Reply) (t : List ℕ). record { reply = r; table = t }) (fits-reply h (m .counted)) (fits-table h (m .last))
 
 -- ---- two files
 
 module _ (pattern board table : List ℕ) where
-  pub matching-refused : {x : Refusal} → first (pairConditions pattern board) ≡ refuse x
+  -- what the table is too short for comes after what is wrong with the files
+  files-first : {x : Refusal} → first (pairConditions AnyPattern pattern board) ≡ refuse x → first (matchConditions pattern board (length table)) ≡ refuse x
+  unfolding matchConditions
+  files-first e = first-refuse (pairConditions AnyPattern pattern board) _ _ e
+
+  then-table : first (pairConditions AnyPattern pattern board) ≡ accept
+      → first (matchConditions pattern board (length table)) ≡ first (shortTable (nodesOf board) (length table) ∷ [])
+  unfolding matchConditions
+  then-table e = first-accept (pairConditions AnyPattern pattern board) _ e
+
+  pub matching-refused : {x : Refusal} → first (pairConditions AnyPattern pattern board) ≡ refuse x
       → record { reply = replyOf (Refused x); table = table } ≡ matching pattern board table
-  unfolding matching matchConditions replied replyOf filled
-  matching-refused e = rw (first-refuse _ _ _ e)
+  unfolding matching replied replyOf filled
+  matching-refused e = rw (files-first e)
 
-  matching-accepted : first (pairConditions pattern board) ≡ accept
+  matching-accepted : first (pairConditions AnyPattern pattern board) ≡ accept
       → matchOn (circuitOf pattern) (circuitOf board) table ≡ matching pattern board table
-  unfolding matchOn matching matchConditions
-  matching-accepted e = rw (first-accept _ _ e, length-kinds board)
+  unfolding matchOn matching
+  matching-accepted e = rw (then-table e, length-kinds board)
 
-  pub matching-read : {p : Pair} {parts nodes : Circuit} → BothRead pattern board p parts nodes → {o : TableOutcome}
+  pub matching-read : {p : Pair} {parts nodes : Circuit} → BothRead AnyPattern pattern board p parts nodes → {o : TableOutcome}
       → o ≡ matchOn (front (p .parts) (p .joins) parts) (front (p .nodes) (p .links) nodes) table → o ≡ matching pattern board table
   matching-read read e = (rw (read .drawn .content, read .given .content) at e) ∙ matching-accepted (read .verdict)

@@ -3,6 +3,7 @@ use mathlib.Core.List.{List, [], _∷_, _++_}
 use Prim.Native.Nat.{ℕ}
 use lib.ListN.{length}
 use Rattle.graph.specs.Circuit.{Circuit}
+use Rattle.file_format.specs.declared.Role.the-variants.{Pattern, AnyPattern}
 use Rattle.file_format.specs.Circuit.{circuitOf}
 use Rattle.file_format.specs.Layout.{nodesOf}
 use Rattle.file_format.specs.Reading.{filled}
@@ -10,14 +11,16 @@ use Rattle.file_format.specs.Refusals.{Condition, Verdict, accept, refuse, firs
 use Rattle.file_pair.specs.Pair.{pairConditions}
 use Rattle.call_match.specs.declared.TableAnswer.{TableAnswer}
 use Rattle.call_match.specs.declared.TableAnswer.the-variants.{Matched, Refused}
+use Rattle.table.specs.Answer.{answerTable, answerCounts}
 use Rattle.table.specs.Host.{everything}
 use Rattle.table.specs.Refine.{countsOf}
 use Rattle.table.specs.Reply.{Reply, noCounts, replied}
 use Rattle.table.specs.Row.{lastTable}
 
--- "Rising numbers are the order, the pattern's 1 to 6 before the board's. Needed: .. match table N"
+-- "Rising numbers are the order, the pattern's .. before the board's. Needed: .. match table N". "the whole-board call applies neither 6 nor
+-- 11": the pattern may be any, connected or not.
 unfoldable pub matchConditions : List ℕ → List ℕ → ℕ → List Condition
-matchConditions pattern board lent = pairConditions pattern board ++ (shortTable (nodesOf board) lent ∷ [])
+matchConditions pattern board lent = pairConditions AnyPattern pattern board ++ (shortTable (nodesOf board) lent ∷ [])
 
 -- each case of the answer, so read: a refusal has no counts
 unfoldable pub replyOf : TableAnswer → Reply
@@ -29,11 +32,11 @@ pub record TableOutcome : Type 0 where
   pub reply : Reply
   pub table : List ℕ
 
--- The pattern on the whole board: the four counts, and the last set of the row at the front of the table, whose entries past N stay. On a
--- refusal the whole table stays.
+-- The pattern on the whole board: the four counts, and at the front of the table, whose entries past N stay, the last set of the row, or all
+-- 0 where some part is left without a node. On a refusal the whole table stays.
 abbrev pub matchedBy : Verdict → Circuit → Circuit → List ℕ → TableOutcome
 matchedBy verdict p b table =
-    record { reply = replied verdict (countsOf p b (everything b)); table = filled verdict (lastTable p b (everything b)) table }
+    record { reply = replied verdict (answerCounts p b (everything b)); table = filled verdict (answerTable p b (everything b)) table }
 
 -- the call on two circuits that were read: the table may be short
 unfoldable pub matchOn : Circuit → Circuit → List ℕ → TableOutcome
@@ -42,3 +45,17 @@ matchOn p b table = matchedBy (first (shortTable (length (b .kinds)) (length tab
 -- the call on two files
 unfoldable pub matching : List ℕ → List ℕ → List ℕ → TableOutcome
 matching pattern board table = matchedBy (first (matchConditions pattern board (length table))) (circuitOf pattern) (circuitOf board) table
+
+-- ---- connected patterns alone, as document 01 has the call
+
+-- "the pattern's 1 to 6 before the board's"
+unfoldable pub connectedConditions : List ℕ → List ℕ → ℕ → List Condition
+connectedConditions pattern board lent = pairConditions Pattern pattern board ++ (shortTable (nodesOf board) lent ∷ [])
+
+-- the last set of the row, with its counts. proofs/Promise: "Connected patterns get the table and counts they always got."
+abbrev pub rowBy : Verdict → Circuit → Circuit → List ℕ → TableOutcome
+rowBy verdict p b table =
+    record { reply = replied verdict (countsOf p b (everything b)); table = filled verdict (lastTable p b (everything b)) table }
+
+unfoldable pub connectedMatching : List ℕ → List ℕ → List ℕ → TableOutcome
+connectedMatching pattern board table = rowBy (first (connectedConditions pattern board (length table))) (circuitOf pattern) (circuitOf board) table

@@ -1,12 +1,13 @@
-// The match-table call: a pattern file on the whole board of another file.
+// The match-table call: a pattern file on the whole board of another file. The pattern may lie in several bits.
 use file_format::Board;
 use file_format::File;
 use file_format::FileVerdict;
 use file_format::Pattern;
 use file_format::Refusal;
+use file_format::Role;
 use file_pair::read_pair;
 use table::Counts;
-use table_whole::match_circuits;
+use table_whole::match_whole;
 ghost use mathlib.Core.Path.{_≡_};
 ghost use Rattle.file_format.specs.Circuit.{Bounded};
 ghost use Rattle.file_format.specs.declared.Role.the-variants as role;
@@ -41,7 +42,7 @@ fn match_on(
             file: File::Neither,
         });
     }
-    TableAnswer::Matched(match_circuits(
+    TableAnswer::Matched(match_whole(
         part_kinds,
         part_starts,
         part_ends,
@@ -52,8 +53,9 @@ fn match_on(
     ))
 }
 
-// Matches the pattern of one file on the whole board of another: the four counts, with the largest dual simulation at the front of the
-// table, a 32-bit number per node; or the refusal, which leaves the table as it was.
+// Matches the pattern of one file, connected or not, on the whole board of another: the four counts, with the largest dual simulation at the
+// front of the table, a 32-bit number per node, which is all 0 where some part is left without a node; or the refusal, which leaves the table
+// as it was.
 pub fn match_table(pattern: &[u8], board: &[u8], table: &mut [u32]) -> TableAnswer
     ensures { λ r. ⌜ record { reply = replyOf r; table = now (table .exit) } ≡ matching (now (pattern .entry)) (now (board .entry)) (now (table .entry)) ⌝ }
 {
@@ -64,6 +66,7 @@ pub fn match_table(pattern: &[u8], board: &[u8], table: &mut [u32]) -> TableAnsw
     let mut ns = [0u16; Board::MAX_LINKS];
     let mut ne = [0u16; Board::MAX_LINKS];
     let read = read_pair(
+        Role::AnyPattern,
         pattern,
         board,
         &mut pk,

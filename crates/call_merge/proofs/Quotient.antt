@@ -5,19 +5,20 @@ use mathlib.Core.Path.{_≡_, sym, ap, _∙_}
 use Prim.Native.Nat.{ℕ, _+_, _≤_, _<_}
 use native.Mathlib.Nat.{le-trans, lt-of-lt-of-le}
 use native.Mathlib.Omega.{arith}
+use borrow.Author.Tests.{le-ltb, ltb-false}
 use lib.ListN.{length, getD, take}
 use lib.Seq.{sets, sets-eq, take-at}
 use Rattle.base_lists.proofs.Tests.{T-true, refuted}
 use Rattle.base_lists.specs.List.{Below}
 use Rattle.graph.specs.Circuit.{Circuit, circuit}
-use Rattle.graph.specs.Search.{connected}
+use Rattle.graph.specs.Search.{connected, radius}
 use Rattle.file_format.specs.declared.Pattern as pattern
 use Rattle.file_format.specs.declared.Refusal.{Refusal}
 use Rattle.file_format.specs.declared.Role.the-variants.{Pattern}
 use Rattle.file_format.specs.Layout.{lengthOf}
 use Rattle.file_format.specs.Links.{linksBelow, rising}
 use Rattle.file_format.specs.Reading.{filled}
-use Rattle.file_format.specs.Refusals.{accept, first, linkConditions, asksConnected}
+use Rattle.file_format.specs.Refusals.{accept, first, widest, linkConditions, asksConnected}
 use Rattle.file_format.proofs.Refusals.{first-holds}
 use Rattle.table.specs.declared.Counts.{Counts}
 use Rattle.table.specs.Refine.{MatchedOn}
@@ -48,12 +49,14 @@ sound-content kinds starts ends ok =
     let h4 = first-holds _ _ (s .links) in
     let h5 = first-holds _ _ (h4 .1) in
     let h6 = first-holds _ _ (h5 .1) in
+    let h11 = first-holds _ _ (h6 .1) in
     record {
       range = s .range;
       parallel = s .pairs;
       below = refuted (linksBelow n starts ends) (h4 .0);
       rises = refuted (rising starts ends) (h5 .0);
       joined = refuted (connected n starts ends) (h6 .0);
+      narrow = ltb-false _ _ (h11 .0);
     }
 
 pub content-sound : {p : Circuit} → PatternContent p → first (circuitConditions Pattern (p .kinds) (p .starts) (p .ends)) ≡ accept
@@ -64,7 +67,7 @@ content-sound {p} c =
     let rises : rising (p .starts) (p .ends) ≡ true = T-true (c .rises) in
     let joined : connected n (p .starts) (p .ends) ≡ true = T-true (c .joined) in
     verdict-links Pattern (p .kinds) (p .starts) (p .ends) (T-true (c .range)) (c .parallel)
-    ∙ simp (below, rises, joined)
+    ∙ simp (below, rises, joined, le-ltb widest (radius n (p .starts) (p .ends)) (c .narrow))
 
 -- ---- what was stored at the front
 

@@ -6,6 +6,7 @@ use borrow.Author.Tests.{lt-ltb, le-ltb}
 use lib.ListN.{length, take}
 use Rattle.graph.specs.Circuit.{Circuit}
 use Rattle.graph.specs.Search.{radius}
+use Rattle.file_format.specs.declared.Role.the-variants.{Pattern}
 use Rattle.file_format.specs.declared.File.the-variants.{Neither}
 use Rattle.file_format.specs.declared.Refusal.{Refusal}
 use Rattle.file_format.specs.Circuit.{circuitOf}
@@ -91,26 +92,26 @@ module _ (reach : Reach) (pattern board : List ℕ) (w : ℕ) (nodes links table
   inputs = first (inputConditions pattern board w (length nodes) (length links) (length table) (length distances))
 
   -- the files' conditions come before the others: theirs is the first to hold,
-  inputs-refused : {x : Refusal} → first (pairConditions pattern board) ≡ refuse x → inputs ≡ refuse x
+  inputs-refused : {x : Refusal} → first (pairConditions Pattern pattern board) ≡ refuse x → inputs ≡ refuse x
   unfolding inputConditions
-  inputs-refused {x} e = first-refuse (pairConditions pattern board) _ x e
+  inputs-refused {x} e = first-refuse (pairConditions Pattern pattern board) _ x e
 
   -- or none of theirs holds
-  inputs-go-on : first (pairConditions pattern board) ≡ accept
+  inputs-go-on : first (pairConditions Pattern pattern board) ≡ accept
       → inputs ≡ first (placeConditions (nodesOf board) (linksOf board) w (length nodes) (length links) (length table) (length distances))
   unfolding inputConditions
-  inputs-go-on e = first-accept (pairConditions pattern board) _ e
+  inputs-go-on e = first-accept (pairConditions Pattern pattern board) _ e
 
-  pub find-refused : {x : Refusal} → first (pairConditions pattern board) ≡ refuse x → untouched x nodes links table distances ≡ outcome
+  pub find-refused : {x : Refusal} → first (pairConditions Pattern pattern board) ≡ refuse x → untouched x nodes links table distances ≡ outcome
   unfolding placeAt decided placeReply
   find-refused e = rw (inputs-refused e)
 
-  find-accepted : first (pairConditions pattern board) ≡ accept
+  find-accepted : first (pairConditions Pattern pattern board) ≡ accept
       → placeOn (radiusFor reach (radiusOf (circuitOf pattern))) (circuitOf pattern) (circuitOf board) w nodes links table distances ≡ outcome
   unfolding placeOn placeAt
   find-accepted e = rw (inputs-go-on e, length-kinds board, length-starts board)
 
-  pub find-read : {p : Pair} {partKinds nodeKinds : List ℕ} {t : Tables} {r : ℕ} → first (pairConditions pattern board) ≡ accept
+  pub find-read : {p : Pair} {partKinds nodeKinds : List ℕ} {t : Tables} {r : ℕ} → first (pairConditions Pattern pattern board) ≡ accept
       → BothPrepared pattern board p partKinds nodeKinds t → r ≡ radiusFor reach (p .radius) → {o : PlaceOutcome}
       → EveryDrawn (take (p .parts) partKinds) (take (p .nodes) nodeKinds) t o (λ pattern board. placeOn r pattern board w nodes links table distances)
       → o ≡ outcome

@@ -98,7 +98,7 @@ module _ (pattern board : List ℕ) (w r : ℕ) (nodes links table distances : L
       nodesOf board ≤ length table → nodesOf board ≤ length distances → first inputs ≡ accept
   unfolding inputConditions first centreOutside
   inputs-accept a b h n m t d =
-      rw (first-accept _ _ (pair-accept pattern board a b), lt-ltb _ _ h)
+      rw (first-accept _ _ (pair-accept Pattern pattern board a b), lt-ltb _ _ h)
       (room-enough (nodesOf board) (linksOf board) (length nodes) (length links) (length table) (length distances) n m t d)
 
   -- and only there.
@@ -115,8 +115,8 @@ module _ (pattern board : List ℕ) (w r : ℕ) (nodes links table distances : L
     parts : (first (fileConditions Pattern pattern) ≡ accept) × (first (fileConditions Board board) ≡ accept) × (w < nodesOf board)
     unfolding inputConditions centreOutside
     parts =
-        let (files, rest) = first-parts (pairConditions pattern board) _ sound in
-        let (drawn, given) = pair-parts pattern board files in
+        let (files, rest) = first-parts (pairConditions Pattern pattern board) _ sound in
+        let (drawn, given) = pair-parts Pattern pattern board files in
         (drawn, given, ltb-true w (nodesOf board) (not-false (ltb w (nodesOf board)) (first-holds _ _ rest .0)))
 
     pub centre-inside : w < nodesOf board
@@ -124,7 +124,7 @@ module _ (pattern board : List ℕ) (w r : ℕ) (nodes links table distances : L
 
     pub distances-room : nodesOf board ≤ length distances
     unfolding inputConditions
-    distances-room = room-holds _ _ _ _ _ _ (first-holds _ _ (first-parts (pairConditions pattern board) _ sound .1) .1) .3
+    distances-room = room-holds _ _ _ _ _ _ (first-holds _ _ (first-parts (pairConditions Pattern pattern board) _ sound .1) .1) .3
 
     pub pattern-accepted : Accepted Pattern pattern
     pattern-accepted = accepted Pattern pattern (parts .0)

@@ -3,6 +3,7 @@ use mathlib.Core.List.{List, [], _∷_, _++_}
 use Prim.Native.Nat.{ℕ}
 use lib.ListN.{length}
 use Rattle.graph.specs.Circuit.{Circuit}
+use Rattle.file_format.specs.declared.Role.the-variants.{Pattern}
 use Rattle.file_format.specs.declared.File.the-variants.{Neither}
 use Rattle.file_format.specs.declared.Refusal.{Refusal}
 use Rattle.file_format.specs.Circuit.{circuitOf}
@@ -26,10 +27,10 @@ roomConditions n m nodes links table distances = shortTable n nodes ∷ shortTab
 abbrev pub placeConditions : ℕ → ℕ → ℕ → ℕ → ℕ → ℕ → ℕ → List Condition
 placeConditions n m w nodes links table distances = centreOutside n w ∷ roomConditions n m nodes links table distances
 
--- the pattern's 1 to 6 before the board's, then 7 and 8
+-- the pattern's 1 to 6 and 11 before the board's, then 7 and 8
 unfoldable pub inputConditions : List ℕ → List ℕ → ℕ → ℕ → ℕ → ℕ → ℕ → List Condition
 inputConditions pattern board w nodes links table distances =
-    pairConditions pattern board ++ placeConditions (nodesOf board) (linksOf board) w nodes links table distances
+    pairConditions Pattern pattern board ++ placeConditions (nodesOf board) (linksOf board) w nodes links table distances
 
 -- "All lent tables keep their content; counts are 0" where a condition on the inputs holds; else it is as the place has it
 unfoldable pub decided : Verdict → List ℕ → List ℕ → List ℕ → List ℕ → PlaceOutcome → PlaceOutcome

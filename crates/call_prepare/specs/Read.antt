@@ -4,6 +4,7 @@ use mathlib.Core.Path.{_≡_}
 use Prim.Native.Nat.{ℕ, _≤_}
 use lib.ListN.{length, take}
 use Rattle.graph.specs.Search.{radius}
+use Rattle.file_format.specs.declared.Role.the-variants.{Pattern}
 use Rattle.file_format.specs.Circuit.{circuitOf, Drawn}
 use Rattle.file_format.specs.Layout.{nodesOf, kindsOf, startsOf, endsOf}
 use Rattle.file_format.specs.Reading.{verdictOf}
@@ -27,5 +28,5 @@ pub record BothPrepared (pattern board : List ℕ) (read : Pair) (partKinds node
 
 -- the two files were read: the verdict is that of the first condition on them that holds
 pub record PairPrepared (pattern board : List ℕ) (read : Pair) (partKinds nodeKinds : List ℕ) (t : Tables) : Type 0 where
-  pub verdict : verdictOf (read .verdict) ≡ first (pairConditions pattern board)
-  pub both : first (pairConditions pattern board) ≡ accept → BothPrepared pattern board read partKinds nodeKinds t
+  pub verdict : verdictOf (read .verdict) ≡ first (pairConditions Pattern pattern board)
+  pub both : first (pairConditions Pattern pattern board) ≡ accept → BothPrepared pattern board read partKinds nodeKinds t

@@ -2,6 +2,7 @@
 use file_format::Board;
 use file_format::FileVerdict;
 use file_format::Pattern;
+use file_format::Role;
 use file_pair::Pair;
 use file_pair::read_pair;
 use table_prepare::lookups::prepare;
@@ -29,7 +30,17 @@ pub fn read_prepared(
     let mut pe = [0u16; Pattern::MAX_LINKS];
     let mut ns = [0u16; Board::MAX_LINKS];
     let mut ne = [0u16; Board::MAX_LINKS];
-    let read = read_pair(pattern, board, pk, &mut ps, &mut pe, nk, &mut ns, &mut ne);
+    let read = read_pair(
+        Role::Pattern,
+        pattern,
+        board,
+        pk,
+        &mut ps,
+        &mut pe,
+        nk,
+        &mut ns,
+        &mut ne,
+    );
     let verdict = read.verdict;
     let FileVerdict::Accepted = verdict else {
         return read;

@@ -7,6 +7,7 @@ use Prim.Native.Nat.{ℕ}
 use lib.Dec.{eqb}
 use lib.ListN.{length}
 use Rattle.graph.specs.Circuit.{Circuit}
+use Rattle.file_format.specs.declared.Role.the-variants.{Pattern}
 use Rattle.file_format.specs.declared.Refusal.{Refusal}
 use Rattle.file_format.specs.Circuit.{circuitOf}
 use Rattle.file_format.specs.Reading.{filled}
@@ -26,7 +27,7 @@ refusalPiece x from found =
 
 -- whether a file is refused; "the pattern's 1 to 6 before the board's"
 abbrev pub verdictOf : List ℕ → List ℕ → Verdict
-verdictOf pattern board = first (pairConditions pattern board)
+verdictOf pattern board = first (pairConditions Pattern pattern board)
 
 -- the piece of two files, by that
 unfoldable pub pieceFor : Verdict → Circuit → Circuit → ℕ → ℕ → ℕ → Piece
@@ -59,7 +60,7 @@ outcomeFor need p out =
     let verdict = first (shortTable need (length out) ∷ []) in
     record { reply = reply verdict (p .next ∷ p .found ∷ length (p .text) ∷ []); out = filled verdict (p .text) out }
 
--- "Rising numbers are the order": 1 to 6 come before 8 here too, and what a refused file comes to is text. 8 is the only refusal. For the
+-- "Rising numbers are the order": the files' conditions come before 8 here too, and what a refused file comes to is text. 8 is the only refusal. For the
 -- lines the room needed is a bound, as merging needs the first pattern's file length: 8 is then known without matching, and what does for
 -- one piece does for every later one, so that no report is refused half-way. Bytes after the piece keep their content.
 unfoldable pub reporting : List ℕ → List ℕ → ℕ → ℕ → List ℕ → ReportOutcome

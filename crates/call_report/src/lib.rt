@@ -4,6 +4,7 @@ use file_format::File;
 use file_format::FileVerdict;
 use file_format::Pattern;
 use file_format::Refusal;
+use file_format::Role;
 use file_pair::read_pair;
 use report::lines::put_refusal;
 use report_centres::LONGEST;
@@ -82,6 +83,7 @@ pub fn report(pattern: &[u8], board: &[u8], from: usize, found: u16, out: &mut [
     let mut ns = [0u16; Board::MAX_LINKS];
     let mut ne = [0u16; Board::MAX_LINKS];
     let read = read_pair(
+        Role::Pattern,
         pattern,
         board,
         &mut pk,

@@ -3,7 +3,7 @@ use mathlib.Core.List.{List, map}
 use mathlib.Core.Logic.{_↔_, Iff·trans}
 use mathlib.Core.Path.{_≡_, sym, ap, subst, _∙_}
 use Prim.Native.Nat.{ℕ, zero, suc, _≤_}
-use native.Mathlib.Nat.{le-refl, le-of-eq}
+use native.Mathlib.Nat.{le-of-eq}
 use native.Mathlib.Omega.{arith}
 use lib.Count.{ones}
 use lib.ListN.{length}
@@ -17,11 +17,11 @@ use Rattle.simulation.proofs.Simulation.{along-wider}
 use Rattle.table.specs.declared.Counts.{Counts}
 use Rattle.table.specs.Host.{hostGraph, KindsMatch}
 use Rattle.table.specs.Refine.{countsOf}
-use Rattle.table.specs.Row.{InTable, row, rounds, lastTable}
+use Rattle.table.specs.Row.{InTable, row, started, rounds, lastTable}
 use Rattle.table.proofs.Counting.{struck-minus, started-ones, kept-ones, rounds-differ, rounds-last}
 use Rattle.table.proofs.Row.{row-first, row-fits, row-inside, row-in}
 use Rattle.table.proofs.Sets.{same-pairs}
-use Rattle.demands.specs.Demands.{Sets, RowCounts}
+use Rattle.demands.specs.Demands.{Sets, RowRun, RowCounts}
 
 -- the row depends on the graph alone
 sets-same : (P : Graph) (Agree : Relation) {H H′ : Graph} → SameGraph H H′ → (k : ℕ) → Sets P Agree H k ⊆ Sets P Agree H′ k
@@ -51,24 +51,32 @@ module _ (pattern host : Circuit) (taken : List ℕ) (most : length (pattern .ki
       (row-inside pattern host taken k)
       (λ u v m. set-is (suc k) u v .1 (inside u v (set-is k u v .0 m)))
 
-  -- the four counts are those of the row, and its last set is the last table
-  pub row-counts :
-      (counts : Counts) → counts ≡ countsOf pattern host taken →
-      (c : RowCounts (circuitGraph pattern) (KindsMatch pattern host) H counts) × (c .table (counts .rounds) ≡ lastTable pattern host taken)
-  unfolding countsOf
-  row-counts counts e =
+  -- the row, as it is run, and its last set, which is the last table
+  pub row-run :
+      {s r : ℕ} → s ≡ started pattern host taken → r ≡ rounds pattern host taken →
+      (c : RowRun (circuitGraph pattern) (KindsMatch pattern host) H s r) × (c .table r ≡ lastTable pattern host taken)
+  row-run s r =
       let last = rounds-last pattern host taken most in (
         record {
           table = row pattern host taken;
           holds = set-is;
-          started = rw (e, row-first) (started-ones pattern host taken most);
-          kept = rw e (kept-ones pattern host taken most ∙ ap (λ (t : List ℕ). sum (map ones t)) (sym (last (rounds pattern host taken) (le-refl _))));
-          struck = rw e (struck-minus pattern host taken);
-          differ = λ k h inside. rounds-differ pattern host taken most k (rw e at h) (repeats k inside);
+          started = rw (s, row-first) (started-ones pattern host taken most);
+          differ = λ k h inside. rounds-differ pattern host taken most k (rw r at h) (repeats k inside);
           rest = λ k h u v m.
-              let h′ : rounds pattern host taken ≤ k = rw e at h in
+              let h′ : rounds pattern host taken ≤ k = rw r at h in
               let stays : row pattern host taken k ≡ row pattern host taken (suc k) = last k h′ ∙ sym (last (suc k) (omega arith)) in
               set-is (suc k) u v .0 (subst (λ (t : List ℕ). InTable t u v) stays (set-is k u v .1 m));
         },
-        last _ (le-of-eq (sym (ap (λ (c : Counts). c .rounds) e))),
+        last _ (le-of-eq (sym r)),
       )
+
+  -- the four counts are those of the row
+  pub row-counts : {counts : Counts} → counts ≡ countsOf pattern host taken → RowCounts (circuitGraph pattern) (KindsMatch pattern host) H counts
+  unfolding countsOf
+  row-counts e =
+      let (run, last) = row-run (ap (λ (c : Counts). c .started) e) (ap (λ (c : Counts). c .rounds) e) in
+      record {
+        run = run;
+        kept = ap (λ (c : Counts). c .kept) e ∙ kept-ones pattern host taken most ∙ ap (λ (t : List ℕ). sum (map ones t)) (sym last);
+        struck = rw e (struck-minus pattern host taken);
+      }

@@ -10,7 +10,7 @@ use lib.Dec.{T, ltb, ltb→lt, lt→ltb}
 use lib.ListN.{length}
 use Rattle.base_lists.specs.List.{all, Below}
 use Rattle.base_lists.proofs.Tests.{both, both-left, both-right, all-at, at-all}
-use Rattle.graph.proofs.Distance.{connected-iff}
+use Rattle.graph.proofs.Distance.{connected-iff, radius-is}
 use Rattle.file_format.specs.declared.Refusal.{Refusal}
 use Rattle.file_format.specs.declared.Role.{Role}
 use Rattle.file_format.specs.declared.Role.the-variants.{Pattern}
@@ -174,7 +174,7 @@ module _ (pattern board : List ℕ) (w r : ℕ) (lent : Lent) where
   places : Decided (placedConditions pattern board w r lent) (placed pattern board w r lent .reply .verdict) (Untouched lent (placed pattern board w r lent))
   places = by-first (placedConditions pattern board w r lent) verdict-all untouched
 
--- ---- what is accepted, and what the conditions 4, 5 and 6 test
+-- ---- what is accepted, and what the conditions 4, 5, 6 and 11 test
 
 reads-as : (role : Role) (file : List ℕ) → Accepted role file ↔ ReadsAs role file
 unfolding ReadsAs readReply readConditions
@@ -216,4 +216,5 @@ decided-1 =
       below = below-iff;
       rises = rising-iff;
       joins = λ n starts ends t. connected-iff (links-within n starts ends t);
+      spans = λ n starts ends some t joined. radius-is (links-within n starts ends t) some joined;
     }

@@ -14,16 +14,21 @@ use Rattle.graph.specs.Graph.{Ball, Radius}
 use Rattle.graph.proofs.Walks.{radius-unique}
 use Rattle.file_format.specs.declared.ReadAnswer.the-variants as read
 use Rattle.file_format.specs.declared.Role.{Role}
-use Rattle.file_format.specs.declared.Role.the-variants.{Pattern, Board}
+use Rattle.file_format.specs.declared.Role.the-variants.{Pattern, Board, AnyPattern}
 use Rattle.file_format.specs.Circuit.{circuitOf}
 use Rattle.file_format.specs.Layout.{nodesOf, linksOf, lengthOf}
 use Rattle.file_format.specs.Reading.{ReadOutcome, readConditions, readAnswer, reading}
 use Rattle.file_format.specs.Refusals.{accept, first, Accepted}
 use Rattle.file_format.specs.Reply.{readReply, reply}
-use Rattle.file_format.proofs.Accepted.{accepted-bounded, accepted-within}
+use Rattle.file_format.proofs.Accepted.{accepted-bounded, accepted-within, accepted-connected}
+use Rattle.file_format.proofs.Fields.{length-kinds}
 use Rattle.file_format.proofs.Refusals.{accepted-verdict}
 use Rattle.table.proofs.Host.{everything-same, within-joins}
+use Rattle.table.specs.declared.Counts.{Counts}
+use Rattle.table.specs.Answer.{answerCounts}
 use Rattle.table.specs.Host.{everything}
+use Rattle.table.proofs.Answer.{answer-found, answer-missing, answer-connected}
+use Rattle.table_answer.proofs.AllParts.{none-tabulated}
 use Rattle.place.specs.Match.{radiusOf, ballOf}
 use Rattle.place.proofs.Accepted.{accepted-admissible, accepted-radius}
 use Rattle.place.proofs.Ball.{ball-host}
@@ -37,7 +42,7 @@ use Rattle.call_place.proofs.Promise.{counts-are, accept-or-nine, nine-iff, mar
 use Rattle.call_merge.specs.Call.{merging}
 use Rattle.call_merge.proofs.Promise as merge-call
 use Rattle.demands.specs.Demands.{Lent, Room, Ready, placed, placedOwn, mergedFile, SameFound, graph, equal, Demand1, RowCounts, Matched, ReadBack, Demand2, nine, FoundAt, Demand3}
-use Rattle.demands.proofs.Counts.{row-counts}
+use Rattle.demands.proofs.Counts.{row-run, row-counts}
 use Rattle.demands.proofs.Decided.{reply-verdict, decided-1}
 use Rattle.demands.proofs.Merged.{ready-sound, merged-same, radius-fits}
 
@@ -52,20 +57,31 @@ demand-1 = decided-1
 
 -- the table call
 table-matched :
-    (pattern board table : List ℕ) → Accepted Pattern pattern → Accepted Board board → nodesOf board ≤ length table →
+    (pattern board table : List ℕ) → Accepted AnyPattern pattern → Accepted Board board → nodesOf board ≤ length table →
     Matched pattern board (matching pattern board table)
+unfolding answerCounts
 table-matched pattern board table a b room =
     let P = circuitOf pattern in
     let B = circuitOf board in
     let ok = match-call.accepts pattern board table a b room in
     let most = accepted-bounded a .nodes in
-    let (row, ends) =
-    row-counts P B (everything B) most (everything-same B (within-joins B (accepted-within b))) _ (match-call.counts-are pattern board table ok) in
+    let host = everything-same B (within-joins B (accepted-within b)) in
+    let counted = match-call.counts-are pattern board table ok in
+    let begun = ap (λ (c : Counts). c .started) counted in
+    let rounds = ap (λ (c : Counts). c .rounds) counted in
+    let front = match-call.front-is pattern board table ok in
+    let (run, ends) = row-run P B (everything B) most host begun rounds in
     record {
       accepted = ok;
       largest = match-call.front-largest pattern board table ok;
-      counts = row;
-      last = match-call.front-is pattern board table ok ∙ sym ends;
+      run = run;
+      kept = match-call.counts-ones pattern board table ok;
+      struck = match-call.counts-struck pattern board table ok;
+      found = λ all. front ∙ sym (answer-found P B (everything B) (λ u h. rw ends at (all u (rw (length-kinds pattern) at h))) .last) ∙ sym ends;
+      missing = λ u h none. front ∙ sym (answer-missing P B (everything B) u (rw (length-kinds pattern) h) (λ v m. none v (rw ends m)) .last) ∙ rw (length-kinds board) (sym (none-tabulated (nodesOf board)));
+      connected = λ c.
+          let plain = answer-connected P B (everything B) most (accepted-connected c) in
+          (row-counts P B (everything B) most host (counted ∙ sym (plain .counted)), front ∙ sym (plain .last) ∙ sym ends);
     }
 
 -- the place calls' counts
@@ -76,8 +92,8 @@ unfolding placed
 ball-counted pattern board w r lent x =
     let P = circuitOf pattern in
     let B = circuitOf board in
-    row-counts P B (ballOf B w r) (accepted-bounded (x .drawn) .nodes) (ball-host (accepted-admissible (x .drawn) (x .given)) w r) _
-    (counts-are pattern board w r (lent .nodes) (lent .links) (lent .table) (lent .distances) (ready-sound x)) .0
+    row-counts P B (ballOf B w r) (accepted-bounded (x .drawn) .nodes) (ball-host (accepted-admissible (x .drawn) (x .given)) w r)
+    (counts-are pattern board w r (lent .nodes) (lent .links) (lent .table) (lent .distances) (ready-sound x))
 
 -- an accepted writing call has written a file of the length replied
 written :

@@ -1,7 +1,7 @@
 -- Document 01's examples of files and its table of refusals, by computation. Assumes nothing.
 use mathlib.Core.Path.{refl}
-use Rattle.base_lists.specs.List.{all, allBelow, tabulate}
-use Rattle.graph.specs.Search.{beside, inside, ball, connected}
+use Rattle.base_lists.specs.List.{all, allBelow, tabulate, maximum}
+use Rattle.graph.specs.Search.{beside, inside, ball, misses, distances, connected, radius}
 use Rattle.file_format.specs.Layout.{field, fields, nodesOf, linksOf, kindsOf, startsOf, endsOf}
 use Rattle.file_format.specs.Links.{linksBelow, earlier, rising}
 use Rattle.file_format.specs.Reading.{reading, readConditions}
@@ -51,7 +51,7 @@ unfolding R7 fileB ballConditions centreOutside shortTable first fileConditions 
 r7 lent = refl
 
 r8 : R8
-unfolding R8 fileT reading readConditions reply shortTable first fileConditions linkConditions asksConnected linksBelow rising earlier nodesOf linksOf startsOf endsOf fields field connected ball inside beside tabulate all allBelow refused
+unfolding R8 fileT reading readConditions reply shortTable first fileConditions linkConditions asksConnected linksBelow rising earlier nodesOf linksOf startsOf endsOf fields field connected radius maximum distances misses ball inside beside tabulate all allBelow refused
 r8 = refl
 
 -- They hold.

@@ -17,7 +17,7 @@ use Rattle.file_format.specs.Layout.{nodesOf}
 use Rattle.file_format.specs.Refusals.{accept, Accepted}
 use Rattle.file_format.proofs.Accepted.{accepted-bounded, accepted-within, accepted-connected}
 use Rattle.file_format.proofs.Fields.{length-kinds}
-use Rattle.file_format.proofs.Refusals.{accepted-verdict}
+use Rattle.file_format.proofs.Refusals.{accepted-any, accepted-verdict}
 use Rattle.file_write.specs.Bytes.{fileBytes}
 use Rattle.table.specs.Host.{everything, KindsMatch}
 use Rattle.table.specs.Row.{lastTable, InTable}
@@ -47,7 +47,7 @@ module _ {pattern board : List ℕ} (a : Accepted Pattern pattern) (b : Accepted
   matches-iff {S} largest u v h =
       let node : v < nodesOf board = rw (← length-kinds board) h in
       let entry : (lent : List ℕ) → nodesOf board ≤ length lent → InTable (matching pattern board lent .table) u v ↔ S u v =
-      λ lent room. match-call.entry-bit pattern board lent (match-call.accepts pattern board lent a b room) largest u v node in
+      λ lent room. match-call.entry-bit pattern board lent (match-call.accepts pattern board lent (accepted-any a) b room) largest u v node in
       let some : nodesOf board ≤ length {A = ℕ} (replicate (nodesOf board) 0) = le-of-eq (sym (length-replicate (nodesOf board) 0)) in
       (λ m. entry (replicate (nodesOf board) 0) some .0 (m (replicate (nodesOf board) 0) some), λ s lent room. entry lent room .1 s)
 

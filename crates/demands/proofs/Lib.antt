@@ -3,6 +3,7 @@ pub mod Decided
 pub mod Counts
 pub mod Merged
 pub mod Groupings
+pub mod Limit
 pub mod GroupingExamples
 pub mod Report
 pub mod Examples

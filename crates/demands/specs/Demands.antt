@@ -11,12 +11,12 @@ use mathlib.Core.Path.{_≡_}
 use Prim.Native.Nat.{ℕ, suc, _-_, _≤_, _<_}
 use lib.Count.{ones}
 use lib.Dec.{T}
-use lib.ListN.{length, getD, take}
+use lib.ListN.{length, getD, take, replicate}
 use Rattle.base_lists.specs.List.{Below, sum}
 use Rattle.graph.specs.Circuit.{graphOf, circuitGraph}
 use Rattle.graph.specs.Graph.{Graph, Ball, Connected, Radius}
 use Rattle.graph.specs.Rising.{LinksRise}
-use Rattle.graph.specs.Search.{connected}
+use Rattle.graph.specs.Search.{connected, radius}
 use Rattle.simulation.specs.Closed.{Relation, _⊆_, Row}
 use Rattle.simulation.specs.Simulation.{Candidate, Along, Largest}
 use Rattle.simulation.specs.Perfect.{Perfect, Place}
@@ -24,7 +24,7 @@ use Rattle.simulation.specs.Quotient.{Mutual}
 use Rattle.file_format.specs.declared.File.the-variants.{Neither}
 use Rattle.file_format.specs.declared.Refusal.{Refusal}
 use Rattle.file_format.specs.declared.Role.{Role}
-use Rattle.file_format.specs.declared.Role.the-variants.{Pattern, Board}
+use Rattle.file_format.specs.declared.Role.the-variants.{Pattern, Board, AnyPattern}
 use Rattle.file_format.specs.Circuit.{circuitOf}
 use Rattle.file_format.specs.Layout.{nodesOf, linksOf}
 use Rattle.file_format.specs.Links.{linksBelow, rising}
@@ -139,11 +139,13 @@ pub record Demand1 : Type 0 where
   pub reports : (pattern board : List ℕ) (from before : ℕ) (out : List ℕ) →
       Decided (shortTable (needFor (verdictOf pattern board)) (length out) ∷ []) (reporting pattern board from before out .reply .verdict)
       (reporting pattern board from before out .out ≡ out)
-  -- what the other demands mean by accepted, and what the conditions 4, 5 and 6 test
+  -- what the other demands mean by accepted, and what the conditions 4, 5, 6 and 11 test
   pub accepts : (role : Role) (file : List ℕ) → Accepted role file ↔ ReadsAs role file
   pub below : (n : ℕ) (starts ends : List ℕ) → T (linksBelow n starts ends) ↔ (Below n starts × Below n ends)
   pub rises : (starts ends : List ℕ) → T (rising starts ends) ↔ LinksRise starts ends
   pub joins : (n : ℕ) (starts ends : List ℕ) → T (linksBelow n starts ends) → T (connected n starts ends) ↔ Connected (graphOf n starts ends)
+  pub spans : (n : ℕ) (starts ends : List ℕ) → 0 < n → T (linksBelow n starts ends) → T (connected n starts ends) →
+      Radius (graphOf n starts ends) (radius n starts ends)
 
 -- ---- Demand 2
 
@@ -154,24 +156,40 @@ pub record Demand1 : Type 0 where
 abbrev pub Sets : Graph → Relation → Graph → ℕ → Relation
 Sets P Agree H = Row (Along (P .Link)) (Along (H .Link)) (Candidate P Agree H)
 
--- "four counts: started, the pairs of R0; kept, the pairs left; struck, started minus kept; rounds, how many sets differ from the one before":
--- each set before `rounds` has a pair that the next one has not, and no later one has. Pairs are counted as one bits of tables that hold the
--- sets.
-pub record RowCounts (P : Graph) (Agree : Relation) (H : Graph) (counts : Counts) : Type 0 where
+-- "started, the pairs of R0; .. rounds, how many sets differ from the one before": each set before `rounds` has a pair that the next one has
+-- not, and no later one has. Pairs are counted as one bits of tables that hold the sets.
+pub record RowRun (P : Graph) (Agree : Relation) (H : Graph) (begun rounds : ℕ) : Type 0 where
   pub table : ℕ → List ℕ
   pub holds : (k u v : ℕ) → InTable (table k) u v ↔ Sets P Agree H k u v
-  pub started : counts .started ≡ sum (map ones (table 0))
-  pub kept : counts .kept ≡ sum (map ones (table (counts .rounds)))
-  pub struck : counts .struck ≡ counts .started - counts .kept
-  pub differ : (k : ℕ) → k < counts .rounds → Sets P Agree H k ⊆ Sets P Agree H (suc k) → ⊥
-  pub rest : (k : ℕ) → counts .rounds ≤ k → Sets P Agree H k ⊆ Sets P Agree H (suc k)
+  pub started : begun ≡ sum (map ones (table 0))
+  pub differ : (k : ℕ) → k < rounds → Sets P Agree H k ⊆ Sets P Agree H (suc k) → ⊥
+  pub rest : (k : ℕ) → rounds ≤ k → Sets P Agree H k ⊆ Sets P Agree H (suc k)
 
--- What the table call comes to: "The last set of this row is the largest dual simulation."
+-- "four counts: started ..; kept, the pairs left; struck, started minus kept; rounds .."
+pub record RowCounts (P : Graph) (Agree : Relation) (H : Graph) (counts : Counts) : Type 0 where
+  pub run : RowRun P Agree H (counts .started) (counts .rounds)
+  pub kept : counts .kept ≡ sum (map ones (run .table (counts .rounds)))
+  pub struck : counts .struck ≡ counts .started - counts .kept
+
+-- What the table call comes to: the largest dual simulation, with the pattern connected or not. The row is run to its end; its last set is the
+-- table, and "If some part is left without a node, the table is all 0, kept is 0, struck equals started, and rounds count as before."
 pub record Matched (pattern board : List ℕ) (result : TableOutcome) : Type 1 where
   pub accepted : result .reply .verdict ≡ accept
   pub largest : Largest (graph pattern) (equal pattern board) (graph board) (InTable (take (nodesOf board) (result .table)))
-  pub counts : RowCounts (graph pattern) (equal pattern board) (graph board) (result .reply .counts)
-  pub last : take (nodesOf board) (result .table) ≡ counts .table (result .reply .counts .rounds)
+  pub run : RowRun (graph pattern) (equal pattern board) (graph board) (result .reply .counts .started) (result .reply .counts .rounds)
+  -- "kept is the number of one bits in the whole table"
+  pub kept : result .reply .counts .kept ≡ sum (map ones (take (nodesOf board) (result .table)))
+  pub struck : result .reply .counts .struck ≡ result .reply .counts .started - result .reply .counts .kept
+  pub found :
+      ((u : ℕ) → u < nodesOf pattern → (v : ℕ) × InTable (run .table (result .reply .counts .rounds)) u v) →
+      take (nodesOf board) (result .table) ≡ run .table (result .reply .counts .rounds)
+  pub missing :
+      (u : ℕ) → u < nodesOf pattern → ((v : ℕ) → InTable (run .table (result .reply .counts .rounds)) u v → ⊥) →
+      take (nodesOf board) (result .table) ≡ replicate (nodesOf board) 0
+  -- "Connected patterns get the table and counts they always got."
+  pub connected :
+      Accepted Pattern pattern →
+      RowCounts (graph pattern) (equal pattern board) (graph board) (result .reply .counts) × (take (nodesOf board) (result .table) ≡ run .table (result .reply .counts .rounds))
 
 -- a circuit stands at the front of the tables that a reading call was lent
 pub record ReadBack (kinds starts ends : List ℕ) (result : ReadOutcome) : Type 0 where
@@ -182,7 +200,8 @@ pub record ReadBack (kinds starts ends : List ℕ) (result : ReadOutcome) : Type
   pub endsAre : take (length ends) (result .ends) ≡ ends
 
 pub record Demand2 : Type 1 where
-  pub table : (pattern board table : List ℕ) → Accepted Pattern pattern → Accepted Board board → nodesOf board ≤ length table →
+  -- of any pattern: the whole-board call applies neither 6 nor 11
+  pub table : (pattern board table : List ℕ) → Accepted AnyPattern pattern → Accepted Board board → nodesOf board ≤ length table →
       Matched pattern board (matching pattern board table)
   -- the place calls' counts are those of the row in the ball, whether there is a place or not
   pub ball : (pattern board : List ℕ) (w r : ℕ) (lent : Lent) → Ready pattern board w lent →

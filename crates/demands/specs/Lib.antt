@@ -1,5 +1,6 @@
 pub mod Demands
 pub mod Groupings
+pub mod Limit
 pub mod Examples
 pub mod Files
 pub mod Distances

@@ -9,16 +9,15 @@ use native.Mathlib.Omega.{arith}
 use lib.Dec.{T, eqb, ltb, lt→ltb, ltb→lt}
 use lib.ListN.{length, getD}
 use Rattle.base_lists.specs.List.{all}
-use Rattle.base_lists.proofs.Tests.{all-at, at-all, allBelow-at, at-allBelow, T-true, T-false}
+use Rattle.base_lists.proofs.Tests.{all-at, at-all, allBelow-at, at-allBelow, T-true, T-false, true-T}
 use Rattle.graph.specs.Search.{far, radius}
 use Rattle.graph_radius.proofs.Spanning.{connected-radius}
 use Rattle.file_format.specs.declared.Role.{Role}
-use Rattle.file_format.specs.declared.Role.the-variants.{Pattern, Board}
 use Rattle.file_format.specs.Links.{packed, numbersRise}
-use Rattle.file_format.specs.Refusals.{asksConnected, orderNumber, linkNumber}
+use Rattle.file_format.specs.Refusals.{asksConnected, orderNumber, linkNumber, widthNumber}
 use Rattle.file_format.specs.Role.{inRange}
 use Rattle.file_format.proofs.Accepted.{links-within}
-use Rattle.file_format.proofs.Refusals.{ordered, number-joined, range-pattern}
+use Rattle.file_format.proofs.Refusals.{ordered, number-joined, range-asked}
 
 -- ---- each number below n
 
@@ -97,17 +96,15 @@ module _ (starts ends : List ℕ) where
 
 -- ---- one search for a pattern's links
 
--- a pattern's links that are in order give 6 where the radius is `far`, and nothing where it is not
-pub pattern-number : (r : Role) (n w : ℕ) (starts ends : List ℕ) (b : Bool) → r ≡ Pattern → T (inRange r n (length starts)) → orderNumber n starts ends ≡ 0
-    → w ≡ radius n starts ends → eqb w far ≡ b → linkNumber r n starts ends ≡ cond b 6 0
-unfolding asksConnected
-pattern-number r n w starts ends b e t o q f =
-    let (some, few, _) = range-pattern r n (length starts) e t in
+-- a pattern's links that are in order give what their radius does: 6 where it is `far`, 11 where it is above 12
+pub pattern-number : (r : Role) (n w : ℕ) (starts ends : List ℕ) → asksConnected r ≡ true → T (inRange r n (length starts)) → orderNumber n starts ends ≡ 0
+    → w ≡ radius n starts ends → linkNumber r n starts ends ≡ widthNumber w
+unfolding widthNumber
+pattern-number r n w starts ends e t o q =
+    let (some, few, _) = range-asked r n (length starts) (true-T e) t in
     let one = connected-radius (links-within n starts ends (ordered n starts ends o .0)) (omega arith) some in
-    number-joined n starts ends r b o
-    (rw (e, one) (Bool·not-not (eqb (radius n starts ends) far)) ∙ ap (λ (x : ℕ). eqb x far) (sym q) ∙ f)
+    number-joined n starts ends r o ∙ rw (e, one, q) (simp (Bool·not-not (eqb (radius n starts ends) far)))
 
--- a board's give nothing
-pub board-number : (r : Role) (n : ℕ) (starts ends : List ℕ) → r ≡ Board → orderNumber n starts ends ≡ 0 → linkNumber r n starts ends ≡ 0
-unfolding asksConnected
-board-number r n starts ends e o = number-joined n starts ends r false o (rw e)
+-- the links of a role that need not be connected give nothing
+pub unasked-number : (r : Role) (n : ℕ) (starts ends : List ℕ) → asksConnected r ≡ false → orderNumber n starts ends ≡ 0 → linkNumber r n starts ends ≡ 0
+unasked-number r n starts ends e o = number-joined n starts ends r o ∙ rw e

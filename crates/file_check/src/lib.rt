@@ -1,11 +1,11 @@
-// The conditions 1 to 6 on a file or on a circuit, tried in their order. Nothing is written.
+// The conditions 1 to 6 and 11 on a file or on a circuit, tried in their order. Nothing is written.
 ghost use mathlib.Core.Path.{_≡_};
 ghost use lib.Dec.{T, ltb};
 ghost use lib.ListN.{length};
 ghost use Rattle.base_lists.specs.List.{all};
 ghost use Rattle.file_format.specs.Links.{packed, numbersRise};
 ghost use Rattle.file_format.specs.Reading.{LinksTested};
-ghost use Rattle.file_format.specs.Refusals.{sizeNumber, orderNumber};
+ghost use Rattle.file_format.specs.Refusals.{asksConnected, sizeNumber, orderNumber, widthNumber};
 ghost use Rattle.file_format.specs.Role.{inRange, fileOf};
 use file_fields::field_at;
 use file_format::Board;
@@ -14,20 +14,23 @@ use file_format::Pattern;
 use file_format::Refusal;
 use file_format::Role;
 
+// The file that a role's refusals name.
+fn file_of(role: Role) -> File
+    ensures { λ r. ⌜ r ≡ fileOf role ⌝ }
+{
+    match role {
+        Role::Pattern => File::Pattern,
+        Role::Board => File::Board,
+        Role::AnyPattern => File::Pattern,
+    }
+}
+
 // The refusal of a file in a role.
 pub fn refusal(role: Role, number: u8) -> Refusal
     ensures { λ r. ⌜ r ≡ record { number = number; file = fileOf role } ⌝ }
 {
-    match role {
-        Role::Pattern => Refusal {
-            number,
-            file: File::Pattern,
-        },
-        Role::Board => Refusal {
-            number,
-            file: File::Board,
-        },
-    }
+    let file = file_of(role);
+    Refusal { number, file }
 }
 
 // N and M are in the role's range.
@@ -37,6 +40,18 @@ pub fn in_range(role: Role, nodes: usize, links: usize) -> bool
     match role {
         Role::Pattern => Pattern::new(nodes, links).in_range(),
         Role::Board => Board::new(nodes, links).in_range(),
+        Role::AnyPattern => Pattern::new(nodes, links).in_range(),
+    }
+}
+
+// A circuit in the role has to be connected.
+fn asks_connected(role: Role) -> bool
+    ensures { λ r. ⌜ r ≡ asksConnected role ⌝ }
+{
+    match role {
+        Role::Pattern => true,
+        Role::Board => false,
+        Role::AnyPattern => false,
     }
 }
 
@@ -117,13 +132,27 @@ fn order_number(n: usize, starts: &[u16], ends: &[u16]) -> u8
     0
 }
 
-// What the links come to: 4, 5 or 6, the first that they give, or 0; and a pattern's radius where they give none.
+// 6 or 11, by a pattern's radius, which is 65535 where the links do not join all parts; or 0.
+fn width_number(radius: u16) -> u8
+    ensures { λ r. ⌜ r ≡ widthNumber radius ⌝ }
+{
+    if radius == 65535 {
+        return 6;
+    }
+    if Pattern::MAX_RADIUS < radius {
+        return 11;
+    }
+    0
+}
+
+// What the links come to: 4, 5, 6 or 11, the first that they give, or 0; and a pattern's radius where they give none.
 pub struct Links {
     pub number: u8,
     pub radius: u16,
 }
 
-// The links of a circuit in a role, tested. One search finds whether a pattern is connected, and its radius. Reading and writing both call it.
+// The links of a circuit in a role, tested. One search finds whether a pattern is connected, and its radius, which decides 11. Reading and
+// writing both call it.
 pub fn test_links(role: Role, n: usize, starts: &[u16], ends: &[u16]) -> Links
     requires { ⌜ T (inRange role n (length (now starts))) × (length (now starts) ≡ length (now ends)) ⌝ }
     ensures { λ r. ⌜ LinksTested role n (now (starts .entry)) (now (ends .entry)) (r .number) (r .radius) ⌝ }
@@ -132,18 +161,15 @@ pub fn test_links(role: Role, n: usize, starts: &[u16], ends: &[u16]) -> Links
     if number != 0 {
         return Links { number, radius: 0 };
     }
-    match role {
-        Role::Pattern => {
-            let radius = graph_radius::radius(n, starts, ends);
-            if radius == 65535 {
-                Links { number: 6, radius }
-            } else {
-                Links { number: 0, radius }
-            }
-        }
-        Role::Board => Links {
+    if !asks_connected(role) {
+        return Links {
             number: 0,
             radius: 0,
-        },
+        };
+    }
+    let radius = graph_radius::radius(n, starts, ends);
+    Links {
+        number: width_number(radius),
+        radius,
     }
 }

@@ -11,7 +11,7 @@ use Rattle.graph.specs.Graph.{Connected}
 use Rattle.graph.proofs.Ball.{Within, within-all}
 use Rattle.graph.proofs.Distance.{connected-iff}
 use Rattle.file_format.specs.declared.Role.{Role}
-use Rattle.file_format.specs.declared.Role.the-variants.{Pattern}
+use Rattle.file_format.specs.declared.Role.the-variants.{Pattern, AnyPattern}
 use Rattle.file_format.specs.Circuit.{circuitOf, Bounded}
 use Rattle.file_format.specs.Layout.{nodesOf, linksOf, kindsOf, startsOf, endsOf}
 use Rattle.file_format.specs.Links.{linksBelow}
@@ -64,3 +64,7 @@ accepted-within {file = file} a = rw length-kinds (accepted-below a)
 pub accepted-connected : {file : List ℕ} → Accepted Pattern file → Connected (circuitGraph (circuitOf file))
 unfolding circuitGraph asksConnected
 accepted-connected {file} a = rw length-kinds (connected-iff (accepted-below a) .0 (a .joined tt))
+
+-- any pattern is within a pattern's maxima
+pub bounded-any : {c : Circuit} → Bounded AnyPattern c → Bounded Pattern c
+bounded-any b = record { nodes = b .nodes; links = b .links; parallel = b .parallel; below = b .below }

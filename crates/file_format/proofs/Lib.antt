@@ -4,3 +4,4 @@ pub mod Accepted
 pub mod Reading
 pub mod Rising
 pub mod Packed
+pub mod Limit

@@ -201,7 +201,8 @@ module _ (r : Role) (file : List ℕ) (n m : ℕ) (t : Circuit) (s : Stands file
       held-loaded r file _ t refl (by-links ∙ number-accept r k e)
       (record { stands = s; measured = λ c. l .measured e c ∙ stands-links s radius })
 
--- the larger of the two roles' maxima
+-- the largest of the roles' maxima
 pub role-bounds : (r : Role) → (maxNodes r ≤ 512) × (maxLinks r ≤ 4096)
 role-bounds role.Pattern = (lit≤ tt, lit≤ tt)
 role-bounds role.Board = (lit≤ tt, lit≤ tt)
+role-bounds role.AnyPattern = (lit≤ tt, lit≤ tt)

@@ -10,14 +10,14 @@ use lib.Dec.{T, eqb, ltb, leb, leb→le}
 use lib.ListN.{length}
 use Rattle.base_lists.specs.List.{all}
 use Rattle.base_lists.proofs.Tests.{refuted, both-false, both-left, both-right, true-T, false-T, T-true, T-false}
-use Rattle.graph.specs.Search.{connected}
+use Rattle.graph.specs.Search.{connected, radius}
 use Rattle.file_format.specs.declared.File.the-variants.{Neither}
 use Rattle.file_format.specs.declared.Refusal.{Refusal}
 use Rattle.file_format.specs.declared.Role.{Role}
-use Rattle.file_format.specs.declared.Role.the-variants.{Pattern, Board}
+use Rattle.file_format.specs.declared.Role.the-variants.{Pattern, Board, AnyPattern}
 use Rattle.file_format.specs.Layout.{nodesOf, linksOf, lengthOf, startsOf, endsOf}
 use Rattle.file_format.specs.Links.{linksBelow, rising}
-use Rattle.file_format.specs.Refusals.{Accepted, Condition, Verdict, accept, refuse, NoneHolds, first, FirstHolding, linkConditions, fileConditions, asksConnected, sizeNumber, orderNumber, linkNumber, shortTable}
+use Rattle.file_format.specs.Refusals.{Accepted, Condition, Verdict, accept, refuse, NoneHolds, first, FirstHolding, linkConditions, fileConditions, widest, tooWide, asksConnected, sizeNumber, orderNumber, linkNumber, without, shortTable}
 use Rattle.file_format.specs.Role.{minNodes, maxNodes, maxLinks, inRange, fileOf}
 
 -- ---- the first of a list of conditions
@@ -194,16 +194,18 @@ module _ (n : ℕ) (starts ends : List ℕ) where
   number-order r = go (linksBelow n starts ends) (rising starts ends)
     where
       go : (x y : Bool) → (_≡_ {A = ℕ} (cond x (cond y 0 5) 4) 0 → ⊥)
-          → _≡_ {A = ℕ} (cond x (cond y (cond (asksConnected r && not (connected n starts ends)) 6 0) 5) 4) (cond x (cond y 0 5) 4)
+          → _≡_ {A = ℕ} (cond x (cond y (cond (asksConnected r && not (connected n starts ends)) 6 (cond (asksConnected r && ltb widest (radius n starts ends)) 11 0)) 5) 4) (cond x (cond y 0 5) 4)
       go true true f = absurd (f refl)
       go true false f = refl
       go false y f = refl
 
-  pub number-joined : (r : Role) (d : Bool) → orderNumber n starts ends ≡ 0 → (asksConnected r && not (connected n starts ends)) ≡ d → linkNumber r n starts ends ≡ cond d 6 0
+  -- and of links in order, by what is asked of a pattern's alone
+  pub number-joined : (r : Role) → orderNumber n starts ends ≡ 0
+      → linkNumber r n starts ends ≡ cond (asksConnected r && not (connected n starts ends)) 6 (cond (asksConnected r && ltb widest (radius n starts ends)) 11 0)
   unfolding linkNumber
-  number-joined r d e f =
+  number-joined r e =
       let (below, rises) = ordered e in
-      simp (T-true {b = linksBelow n starts ends} below, T-true {b = rising starts ends} rises, f)
+      simp (T-true {b = linksBelow n starts ends} below, T-true {b = rising starts ends} rises)
 
 -- ---- the conditions on a file, one after another: the number of bytes, the range, the length, the links
 
@@ -227,13 +229,15 @@ number-accept r k h = simp (eq-eqb _ _ h)
 pub verdict-number : (r : Role) (n : ℕ) (starts ends : List ℕ) → first (linkConditions r n starts ends) ≡ byNumber r (linkNumber r n starts ends)
 unfolding first linkConditions linkNumber byNumber turned
 verdict-number r n starts ends =
-    go (linksBelow n starts ends) (rising starts ends) (asksConnected r && not (connected n starts ends))
+    go (linksBelow n starts ends) (rising starts ends) (asksConnected r && not (connected n starts ends)) (asksConnected r && ltb widest (radius n starts ends))
   where
-    go : (x y z : Bool) → cond (not x) (turned r 4) (cond (not y) (turned r 5) (cond z (turned r 6) accept)) ≡ byNumber r (cond x (cond y (cond z 6 0) 5) 4)
-    go true true true = refl
-    go true true false = refl
-    go true false z = refl
-    go false y z = refl
+    go : (x y z w : Bool) → cond (not x) (turned r 4) (cond (not y) (turned r 5) (cond z (turned r 6) (cond w (turned r 11) accept)))
+        ≡ byNumber r (cond x (cond y (cond z 6 (cond w 11 0)) 5) 4)
+    go true true true w = refl
+    go true true false true = refl
+    go true true false false = refl
+    go true false z w = refl
+    go false y z w = refl
 
 -- The tests of the size in their order, with N and M as the code has read them.
 module _ (r : Role) (file : List ℕ) where
@@ -305,6 +309,7 @@ accepted r file e =
     let h4 = first-holds _ _ (h3 .1) in
     let h5 = first-holds _ _ (h4 .1) in
     let h6 = first-holds _ _ (h5 .1) in
+    let h11 = first-holds _ _ (h6 .1) in
     record {
       bytes = ltb-false _ _ (h1 .0);
       range = refuted (inRange r (nodesOf file) (linksOf file)) (h2 .0);
@@ -312,13 +317,18 @@ accepted r file e =
       below = refuted (linksBelow (nodesOf file) (startsOf file) (endsOf file)) (h4 .0);
       rises = refuted (rising (startsOf file) (endsOf file)) (h5 .0);
       joined = λ t. refuted (connected (nodesOf file) (startsOf file) (endsOf file)) (both-false (asksConnected r) _ t (h6 .0));
+      narrow = λ t. ltb-false _ _ (both-false (asksConnected r) _ t (h11 .0));
     }
 
 -- and the other way round: a file that has all this is not refused
-not-asked : (b c : Bool) → (T b → T c) → b && not c ≡ false
-not-asked true true f = refl
-not-asked true false f = absurd (f tt)
+not-asked : (b c : Bool) → (T b → c ≡ false) → b && c ≡ false
+not-asked true c f = f tt
 not-asked false c f = refl
+
+-- the condition 11 does not hold where the radius is at most 12
+pub not-wide : (r : Role) (n : ℕ) (starts ends : List ℕ) → (T (asksConnected r) → radius n starts ends ≤ widest)
+    → (asksConnected r && ltb widest (radius n starts ends)) ≡ false
+not-wide r n starts ends f = not-asked (asksConnected r) _ (λ t. le-ltb _ _ (f t))
 
 pub accepted-verdict : {r : Role} {file : List ℕ} → Accepted r file → first (fileConditions r file) ≡ accept
 unfolding first fileConditions linkConditions
@@ -327,8 +337,9 @@ accepted-verdict {r} {file} a =
     let range : inRange r n (linksOf file) ≡ true = T-true (a .range) in
     let below : linksBelow n (startsOf file) (endsOf file) ≡ true = T-true (a .below) in
     let rises : rising (startsOf file) (endsOf file) ≡ true = T-true (a .rises) in
-    let joined = not-asked (asksConnected r) (connected n (startsOf file) (endsOf file)) (a .joined) in
-    simp (le-ltb _ _ (a .bytes), range, eq-eqb _ _ (a .size), below, rises, joined)
+    let joined = not-asked (asksConnected r) (not (connected n (startsOf file) (endsOf file))) (λ t. ap not (T-true {b = connected n (startsOf file) (endsOf file)} (a .joined t))) in
+    let narrow = not-wide r n (startsOf file) (endsOf file) (a .narrow) in
+    simp (le-ltb _ _ (a .bytes), range, eq-eqb _ _ (a .size), below, rises, joined, narrow)
 
 -- its links, as what makes or searches neighbour tables asks of them
 pub accepted-links : (r : Role) (file : List ℕ) → Accepted r file → T (all (λ v. ltb v (nodesOf file)) (startsOf file)) × T (all (λ v. ltb v (nodesOf file)) (endsOf file))
@@ -349,8 +360,12 @@ range-orders r n m t =
     let rest : T (most && links) = both-right least (most && links) t in
     (leb→le _ _ (both-left least (most && links) t), leb→le _ _ (both-left most links rest), leb→le _ _ (both-right most links rest))
 
-pub range-pattern : (r : Role) (n m : ℕ) → r ≡ Pattern → T (inRange r n m) → (0 < n) × (n ≤ 32) × (m ≤ 256)
-range-pattern r n m e t = range-orders Pattern n m (subst (λ (x : Role). T (inRange x n m)) e t)
+-- a role that is asked to be connected has a pattern's range
+pub range-asked : (r : Role) (n m : ℕ) → T (asksConnected r) → T (inRange r n m) → (0 < n) × (n ≤ 32) × (m ≤ 256)
+unfolding asksConnected
+range-asked Pattern n m a t = range-orders Pattern n m t
+range-asked Board n m a t = absurd a
+range-asked AnyPattern n m a t = absurd a
 
 -- what every role's range leaves
 pub range-bounds : (r : Role) (n m : ℕ) → T (inRange r n m) → (n ≤ 512) × (m ≤ 4096)
@@ -360,3 +375,40 @@ range-bounds Pattern n m t =
 range-bounds Board n m t =
     let h = range-orders Board n m t in
     (omega arith, omega arith)
+range-bounds AnyPattern n m t =
+    let h = range-orders AnyPattern n m t in
+    (omega arith, omega arith)
+
+-- the first five tests are any pattern's too, the last two a pattern's alone
+abbrev asked : (a b c d e : Bool) → Verdict → Verdict
+asked a b c d e last = cond a (turned Pattern 1) (cond b (turned Pattern 2) (cond c (turned Pattern 3) (cond d (turned Pattern 4) (cond e (turned Pattern 5) last))))
+
+abbrev shape : (f g : Bool) → Verdict
+shape f g = cond f (turned Pattern 6) (cond g (turned Pattern 11) accept)
+
+-- Any pattern is refused as a pattern is, where that is refused neither with 6 nor with 11.
+pub any-verdict : (file : List ℕ) → (first (fileConditions Pattern file) ≡ turned Pattern 6 → ⊥) → (first (fileConditions Pattern file) ≡ turned Pattern 11 → ⊥)
+    → first (fileConditions AnyPattern file) ≡ first (fileConditions Pattern file)
+unfolding first fileConditions linkConditions asksConnected turned
+any-verdict file =
+    let n = nodesOf file in
+    let starts = startsOf file in
+    let ends = endsOf file in
+    go (ltb (length file) 4) (not (inRange Pattern n (linksOf file))) (not (eqb (length file) (lengthOf n (linksOf file))))
+    (not (linksBelow n starts ends)) (not (rising starts ends)) (not (connected n starts ends)) (ltb widest (radius n starts ends))
+  where
+    go : (a b c d e f g : Bool) → (asked a b c d e (shape f g) ≡ turned Pattern 6 → ⊥) → (asked a b c d e (shape f g) ≡ turned Pattern 11 → ⊥)
+        → asked a b c d e accept ≡ asked a b c d e (shape f g)
+    go true b c d e f g h k = refl
+    go false true c d e f g h k = refl
+    go false false true d e f g h k = refl
+    go false false false true e f g h k = refl
+    go false false false false true f g h k = refl
+    go false false false false false true g h k = absurd (h refl)
+    go false false false false false false true h k = absurd (k refl)
+    go false false false false false false false h k = refl
+
+-- A pattern is any pattern.
+pub accepted-any : {file : List ℕ} → Accepted Pattern file → Accepted AnyPattern file
+unfolding asksConnected
+accepted-any a = record { bytes = a .bytes; range = a .range; size = a .size; below = a .below; rises = a .rises; joined = λ t. absurd t; narrow = λ t. absurd t }

@@ -81,12 +81,12 @@ pub record Held (r : Role) (file : List ℕ) (read : FileRead) (tables : Circuit
   pub stands : Stands file (read .nodes) (read .links) tables
   pub measured : T (asksConnected r) → read .radius ≡ radius (nodesOf file) (startsOf file) (endsOf file)
 
--- a file was read: the verdict is that of the conditions 1 to 6
+-- a file was read: the verdict is that of the conditions 1 to 6 and 11
 pub record Loaded (r : Role) (file : List ℕ) (read : FileRead) (tables : Circuit) : Type 0 where
   pub verdict : verdictOf (read .verdict) ≡ first (fileConditions r file)
   pub held : first (fileConditions r file) ≡ accept → Held r file read tables
 
--- the conditions 4 to 6 on links that are given as numbers, and a pattern's radius where none of them holds
+-- the conditions 4, 5, 6 and 11 on links that are given as numbers, and a pattern's radius where none of them holds
 pub record LinksTested (r : Role) (n : ℕ) (starts ends : List ℕ) (k width : ℕ) : Type 0 where
   pub number : k ≡ linkNumber r n starts ends
   pub measured : k ≡ 0 → T (asksConnected r) → width ≡ radius n starts ends

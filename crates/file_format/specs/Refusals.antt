@@ -6,7 +6,7 @@ use mathlib.Core.Path.{_≡_}
 use Prim.Native.Nat.{ℕ, _≤_}
 use lib.Dec.{T, eqb, ltb}
 use lib.ListN.{length}
-use Rattle.graph.specs.Search.{connected}
+use Rattle.graph.specs.Search.{far, connected, radius}
 use Rattle.file_format.specs.declared.File.{File}
 use Rattle.file_format.specs.declared.File.the-variants.{Neither}
 use Rattle.file_format.specs.declared.Refusal.{Refusal}
@@ -30,7 +30,7 @@ pub data Verdict : Type 0 where
 unfoldable pub NoneHolds : List Condition → Type 0
 NoneHolds cs = (c : Condition) → List·Memᴰ c cs → c .holds ≡ false
 
--- "Rising numbers are the order"
+-- "Rising numbers are the order" of document 01's; of document 02's, 11 comes after 6 and 10 ahead of 8. The order is the list's.
 unfoldable pub first : List Condition → Verdict
 first [] = accept
 first (c ∷ cs) = cond (c .holds) (refuse (record { number = c .number; file = c .file })) (first cs)
@@ -42,10 +42,12 @@ pub record FirstHolding (cs : List Condition) (x : Refusal) : Type 0 where
   pub place : cs ≡ before ++ (record { number = x .number; file = x .file; holds = true } ∷ after)
   pub none : NoneHolds before
 
--- 6 "pattern not connected"
+-- 6 "pattern not connected". "the whole-board call applies neither 6 nor 11" (document 02, patterns in several bits): there a file is read as
+-- any pattern.
 unfoldable pub asksConnected : Role → Bool
 asksConnected role.Pattern = true
 asksConnected role.Board = false
+asksConnected role.AnyPattern = false
 
 -- 5 "links not strictly rising": by start, then by end,
 abbrev pub fallsByLinks : Role → List ℕ → List ℕ → Condition
@@ -55,12 +57,22 @@ fallsByLinks r starts ends = record { number = 5; file = fileOf r; holds = not (
 abbrev pub fallsByNumbers : Role → List ℕ → List ℕ → Condition
 fallsByNumbers r starts ends = record { number = 5; file = fileOf r; holds = not (numbersRise starts ends) }
 
--- 4 a link end or start not below N; 5 links not strictly rising; 6 pattern not connected. Reading and writing both ask these.
+-- "Twelve becomes the limit." (document 02, radius twelve)
+abbrev pub widest : ℕ
+widest = 12
+
+-- 11 "pattern radius above 12, checked in every call that checks 6, after it and before the board's 1"
+abbrev pub tooWide : Role → ℕ → List ℕ → List ℕ → Condition
+tooWide r n starts ends = record { number = 11; file = fileOf r; holds = asksConnected r && ltb widest (radius n starts ends) }
+
+-- 4 a link end or start not below N; 5 links not strictly rising; 6 pattern not connected; 11 pattern radius above 12. Reading and writing both
+-- ask these.
 unfoldable pub linkConditions : Role → ℕ → List ℕ → List ℕ → List Condition
 linkConditions r n starts ends =
     record { number = 4; file = fileOf r; holds = not (linksBelow n starts ends) } ∷
     fallsByLinks r starts ends ∷
-    record { number = 6; file = fileOf r; holds = asksConnected r && not (connected n starts ends) } ∷ []
+    record { number = 6; file = fileOf r; holds = asksConnected r && not (connected n starts ends) } ∷
+    tooWide r n starts ends ∷ []
 
 -- 1 file under 4 bytes; 2 N or M outside its role's range; 3 length not 4 + 2N + 4M; then the links
 unfoldable pub fileConditions : Role → List ℕ → List Condition
@@ -72,7 +84,7 @@ fileConditions r file =
     record { number = 3; file = fileOf r; holds = not (eqb (length file) (lengthOf n m)) } ∷
     linkConditions r n (startsOf file) (endsOf file)
 
--- A file of which none of the conditions 1 to 6 holds: each of them, turned round.
+-- A file of which none of the conditions 1 to 6 and 11 holds: each of them, turned round.
 pub record Accepted (r : Role) (file : List ℕ) : Type 0 where
   pub bytes : 4 ≤ length file
   pub range : T (inRange r (nodesOf file) (linksOf file))
@@ -80,6 +92,7 @@ pub record Accepted (r : Role) (file : List ℕ) : Type 0 where
   pub below : T (linksBelow (nodesOf file) (startsOf file) (endsOf file))
   pub rises : T (rising (startsOf file) (endsOf file))
   pub joined : T (asksConnected r) → T (connected (nodesOf file) (startsOf file) (endsOf file))
+  pub narrow : T (asksConnected r) → radius (nodesOf file) (startsOf file) (endsOf file) ≤ widest
 
 -- the number of the first condition on a file's size that holds, 1, 2 or 3, and 0 where none does
 unfoldable pub sizeNumber : Role → List ℕ → ℕ
@@ -92,10 +105,27 @@ sizeNumber r file =
 unfoldable pub orderNumber : ℕ → List ℕ → List ℕ → ℕ
 orderNumber n starts ends = cond (linksBelow n starts ends) (cond (rising starts ends) 0 5) 4
 
--- the number of the first condition on the links that holds, 4, 5 or 6, and 0 where none does
+-- the number of the first condition on the links that holds, 4, 5, 6 or 11, and 0 where none does
 unfoldable pub linkNumber : Role → ℕ → List ℕ → List ℕ → ℕ
 linkNumber r n starts ends =
-    cond (linksBelow n starts ends) (cond (rising starts ends) (cond (asksConnected r && not (connected n starts ends)) 6 0) 5) 4
+    cond (linksBelow n starts ends)
+    (cond (rising starts ends) (cond (asksConnected r && not (connected n starts ends)) 6 (cond (asksConnected r && ltb widest (radius n starts ends)) 11 0)) 5)
+    4
+
+-- 6 or 11, by the radius that a search finds, which is `far` where the links do not join all nodes; and 0 where it is at most 12
+unfoldable pub widthNumber : ℕ → ℕ
+widthNumber width = cond (eqb width far) 6 (cond (ltb widest width) 11 0)
+
+-- its refusal: "11, pattern radius above 12", which means the pattern
+abbrev pub eleven : Refusal
+eleven = record { number = 11; file = fileOf role.Pattern }
+
+-- ---- before a number came in
+
+-- a list of conditions without those of a number
+unfoldable pub without : ℕ → List Condition → List Condition
+without k [] = []
+without k (c ∷ cs) = cond (eqb (c .number) k) (without k cs) (c ∷ without k cs)
 
 -- 7 centre not below the board's N
 unfoldable pub centreOutside : ℕ → ℕ → Condition

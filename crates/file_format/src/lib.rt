@@ -17,10 +17,11 @@ pub struct Refusal {
     pub file: File,
 }
 
-// What a file is read or written as.
+// What a file is read or written as. A pattern is connected; the whole-board match tables take any pattern, connected or not.
 pub enum Role {
     Pattern,
     Board,
+    AnyPattern,
 }
 
 // What reading a file comes to: N and M, or why it was turned away.
@@ -68,6 +69,8 @@ impl Pattern {
     pub const MAX_NODES: usize = 32;
 
     pub const MAX_LINKS: usize = 256;
+
+    pub const MAX_RADIUS: u16 = 12;
 
     pub fn new(nodes: usize, links: usize) -> Self
         ensures { λ r. ⌜ (r .nodes ≡ nodes) × (r .links ≡ links) ⌝ }

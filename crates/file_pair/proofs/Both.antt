@@ -3,12 +3,14 @@ use mathlib.Core.List.{List}
 use mathlib.Core.Path.{_≡_, sym, ap, _∙_}
 use Prim.Native.Nat.{ℕ}
 use Rattle.graph.specs.Circuit.{Circuit}
+use Rattle.graph.specs.Search.{radius}
 use Rattle.file_format.specs.declared.FileRead.{FileRead}
 use Rattle.file_format.specs.declared.FileVerdict.the-variants.{Accepted, Refused}
 use Rattle.file_format.specs.declared.Refusal.{Refusal}
+use Rattle.file_format.specs.declared.Role.{Role}
 use Rattle.file_format.specs.declared.Role.the-variants as role
 use Rattle.file_format.specs.Circuit.{Bounded, Drawn}
-use Rattle.file_format.specs.Layout.{startsOf, endsOf}
+use Rattle.file_format.specs.Layout.{nodesOf, startsOf, endsOf}
 use Rattle.file_format.specs.Reading.{verdictOf, front, Loaded}
 use Rattle.file_format.specs.Refusals as File
 use Rattle.file_format.specs.Refusals.{accept, refuse, first, fileConditions, asksConnected}
@@ -20,76 +22,82 @@ use Rattle.file_pair.specs.Pair.{pairConditions, BothRead, PairRead}
 
 -- ---- as the reading goes
 
-module _ (pattern board : List ℕ) (parts nodes : Circuit) where
+module _ (r : Role) (pattern board : List ℕ) (parts nodes : Circuit) where
   -- the pattern is refused
-  pub pair-pattern : {drawn : FileRead} {read : Pair} {x : Refusal} → Loaded role.Pattern pattern drawn parts → drawn .verdict ≡ Refused x
-      → read .verdict ≡ drawn .verdict → PairRead pattern board read parts nodes
+  pub pair-pattern : {drawn : FileRead} {read : Pair} {x : Refusal} → Loaded r pattern drawn parts → drawn .verdict ≡ Refused x
+      → read .verdict ≡ drawn .verdict → PairRead r pattern board read parts nodes
   unfolding pairConditions verdictOf
   pair-pattern {x = x} l e q =
       let away = first-refuse _ (fileConditions role.Board board) x (loaded-refused l e) in
       record { verdict = ap verdictOf (q ∙ e) ∙ sym away; both = λ a. absurd (accept-not-refuse (sym a ∙ away)) }
 
   -- it is accepted, and the board's verdict is that of the pair
-  pub pair-board : {drawn given : FileRead} → Loaded role.Pattern pattern drawn parts → drawn .verdict ≡ Accepted → Loaded role.Board board given nodes
-      → PairRead pattern board
+  pub pair-board : {drawn given : FileRead} → Loaded r pattern drawn parts → drawn .verdict ≡ Accepted → Loaded role.Board board given nodes
+      → PairRead r pattern board
       (record { verdict = given .verdict; parts = drawn .nodes; joins = drawn .links; radius = drawn .radius; nodes = given .nodes; links = given .links }) parts nodes
-  unfolding pairConditions asksConnected
+  unfolding pairConditions
   pair-board l e g =
       let sound = loaded-accepted l e in
       record {
-        verdict = g .verdict ∙ sym (first-accept (fileConditions role.Pattern pattern) _ sound);
+        verdict = g .verdict ∙ sym (first-accept (fileConditions r pattern) _ sound);
         both =
             λ a.
             let held = l .held sound in
             record {
               verdict = a;
               drawn = held .stands;
-              given = g .held (first-parts (fileConditions role.Pattern pattern) _ a .1) .stands;
-              measured = held .measured tt;
+              given = g .held (first-parts (fileConditions r pattern) _ a .1) .stands;
+              measured = held .measured;
             };
       }
 
 -- ---- the conditions on both are those on each
 
-module _ (pattern board : List ℕ) where
-  pub pair-accept : File.Accepted role.Pattern pattern → File.Accepted role.Board board → first (pairConditions pattern board) ≡ accept
+module _ (r : Role) (pattern board : List ℕ) where
+  pub pair-accept : File.Accepted r pattern → File.Accepted role.Board board → first (pairConditions r pattern board) ≡ accept
   unfolding pairConditions
-  pair-accept a b = first-accept (fileConditions role.Pattern pattern) _ (accepted-verdict a) ∙ accepted-verdict b
+  pair-accept a b = first-accept (fileConditions r pattern) _ (accepted-verdict a) ∙ accepted-verdict b
 
-  pub pair-parts : first (pairConditions pattern board) ≡ accept
-      → (first (fileConditions role.Pattern pattern) ≡ accept) × (first (fileConditions role.Board board) ≡ accept)
+  pub pair-parts : first (pairConditions r pattern board) ≡ accept
+      → (first (fileConditions r pattern) ≡ accept) × (first (fileConditions role.Board board) ≡ accept)
   unfolding pairConditions
-  pair-parts e = first-parts (fileConditions role.Pattern pattern) _ e
+  pair-parts e = first-parts (fileConditions r pattern) _ e
 
 -- ---- what a call knows of the two files
 
-module _ {pattern board : List ℕ} {read : Pair} {parts nodes : Circuit} (r : PairRead pattern board read parts nodes) where
-  pub both-read : read .verdict ≡ Accepted → BothRead pattern board read parts nodes
+module _ {r : Role} {pattern board : List ℕ} {read : Pair} {parts nodes : Circuit} (p : PairRead r pattern board read parts nodes) where
+  pub both-read : read .verdict ≡ Accepted → BothRead r pattern board read parts nodes
   unfolding verdictOf
-  both-read e = r .both (sym (r .verdict) ∙ ap verdictOf e)
+  both-read e = p .both (sym (p .verdict) ∙ ap verdictOf e)
 
   -- what is passed up is the first refusal
-  pub refused-pair : {x : Refusal} → read .verdict ≡ Refused x → first (pairConditions pattern board) ≡ refuse x
+  pub refused-pair : {x : Refusal} → read .verdict ≡ Refused x → first (pairConditions r pattern board) ≡ refuse x
   unfolding verdictOf
-  refused-pair e = sym (r .verdict) ∙ ap verdictOf e
+  refused-pair e = sym (p .verdict) ∙ ap verdictOf e
 
-module _ {pattern board : List ℕ} {read : Pair} {parts nodes : Circuit} (both : BothRead pattern board read parts nodes) where
-  pub both-accepted : (first (fileConditions role.Pattern pattern) ≡ accept) × (first (fileConditions role.Board board) ≡ accept)
-  both-accepted = pair-parts pattern board (both .verdict)
+module _ {r : Role} {pattern board : List ℕ} {read : Pair} {parts nodes : Circuit} (both : BothRead r pattern board read parts nodes) where
+  pub both-accepted : (first (fileConditions r pattern) ≡ accept) × (first (fileConditions role.Board board) ≡ accept)
+  both-accepted = pair-parts r pattern board (both .verdict)
 
-  pub pattern-bounded : Bounded role.Pattern (front (read .parts) (read .joins) parts)
-  pattern-bounded = stands-bounded (both .drawn) role.Pattern (both-accepted .0)
+  pub pattern-bounded : Bounded r (front (read .parts) (read .joins) parts)
+  pattern-bounded = stands-bounded (both .drawn) r (both-accepted .0)
 
   pub board-bounded : Bounded role.Board (front (read .nodes) (read .links) nodes)
   board-bounded = stands-bounded (both .given) role.Board (both-accepted .1)
 
-  -- so a call draws from them
+-- the radius of a pattern, which is connected
+module _ {pattern board : List ℕ} {read : Pair} {parts nodes : Circuit} (both : BothRead role.Pattern pattern board read parts nodes) where
+  pub pair-radius : read .radius ≡ radius (nodesOf pattern) (startsOf pattern) (endsOf pattern)
+  unfolding asksConnected
+  pair-radius = both .measured tt
+
+  -- so a call draws from the two
   pub both-drawn : Drawn (front (read .parts) (read .joins) parts) (front (read .nodes) (read .links) nodes)
   both-drawn =
       record {
-        parts = pattern-bounded;
-        nodes = board-bounded;
+        parts = pattern-bounded both;
+        nodes = board-bounded both;
         rise =
             rw (ap (λ (c : Circuit). c .starts) (both .given .content), ap (λ (c : Circuit). c .ends) (both .given .content))
-            (rising-links (startsOf board) (endsOf board) (accepted role.Board board (both-accepted .1) .rises));
+            (rising-links (startsOf board) (endsOf board) (accepted role.Board board (both-accepted both .1) .rises));
       }

@@ -5,11 +5,11 @@ use file_read::load;
 ghost use mathlib.Core.Path.{_≡_};
 ghost use Rattle.graph.specs.Circuit.{circuit};
 ghost use Rattle.file_format.specs.Reading.{Room};
-ghost use Rattle.file_format.specs.declared.Role.the-variants as role;
+ghost use Rattle.file_format.specs.declared.Role.the-variants as roles;
 ghost use Rattle.file_pair.specs.Pair.{PairRead};
 
-// What reading the two comes to: both are accepted, or why one was turned away; and where both are accepted the pattern's N and M and its
-// radius, and the board's N and M.
+// What reading the two comes to: both are accepted, or why one was turned away; and where both are accepted the pattern's N and M and, if it
+// has to be connected, its radius, and the board's N and M.
 pub struct Pair {
     pub verdict: FileVerdict,
     pub parts: usize,
@@ -33,8 +33,9 @@ fn turned_away(verdict: FileVerdict) -> Pair
     }
 }
 
-// Reads the pattern, then the board: their sizes, with the two circuits at the front of the tables, three for each; or the first refusal.
+// Reads the pattern, in the role told, then the board: their sizes, with the two circuits at the front of the tables, three for each; or the first refusal.
 pub fn read_pair(
+    role: Role,
     pattern: &[u8],
     board: &[u8],
     pk: &mut [u16],
@@ -44,11 +45,11 @@ pub fn read_pair(
     ns: &mut [u16],
     ne: &mut [u16],
 ) -> Pair
-    requires { ⌜ Room role.Pattern (circuit (now pk) (now ps) (now pe)) × Room role.Board (circuit (now nk) (now ns) (now ne)) ⌝ }
-    ensures { λ r. ⌜ PairRead (now (pattern .entry)) (now (board .entry)) r
+    requires { ⌜ Room role (circuit (now pk) (now ps) (now pe)) × Room roles.Board (circuit (now nk) (now ns) (now ne)) ⌝ }
+    ensures { λ r. ⌜ PairRead role (now (pattern .entry)) (now (board .entry)) r
         (circuit (now (pk .exit)) (now (ps .exit)) (now (pe .exit))) (circuit (now (nk .exit)) (now (ns .exit)) (now (ne .exit))) ⌝ }
 {
-    let drawn = load(Role::Pattern, pattern, pk, ps, pe);
+    let drawn = load(role, pattern, pk, ps, pe);
     let first = drawn.verdict;
     let FileVerdict::Accepted = first else {
         return turned_away(first);

@@ -1,6 +1,6 @@
 -- A circuit that can be the content of a pattern file. Assumes nothing.
 use mathlib.Core.List.{List}
-use mathlib.Core.Path.{_≡_, refl, sym, _∙_}
+use mathlib.Core.Path.{_≡_, sym, _∙_}
 use Prim.Native.Nat.{ℕ, _≤_, _<_}
 use native.Mathlib.Nat.{le-trans}
 use lib.Dec.{T, ltb, lit≤}
@@ -9,26 +9,27 @@ use Rattle.base_lists.specs.List.{all}
 use Rattle.base_lists.proofs.Tests.{both-left, both-right}
 use Rattle.graph.specs.Circuit.{Circuit, circuitGraph}
 use Rattle.graph.specs.Graph.{Connected, Radius}
-use Rattle.graph.specs.Search.{connected}
+use Rattle.graph.specs.Search.{connected, radius}
 use Rattle.graph.proofs.Ball.{Within, within-all}
 use Rattle.graph.proofs.Distance.{connected-iff, radius-is}
 use Rattle.file_format.specs.declared.Role.the-variants.{Pattern, Board}
 use Rattle.file_format.specs.Links.{linksBelow, rising}
 use Rattle.file_format.specs.Role.{inRange}
-use Rattle.file_format.specs.Refusals.{asksConnected, Accepted}
-use Rattle.file_format.proofs.Refusals.{range-pattern}
+use Rattle.file_format.specs.Refusals.{asksConnected, widest, Accepted}
+use Rattle.file_format.proofs.Refusals.{range-orders}
 use Rattle.place.specs.Match.{radiusOf}
 use Rattle.place.proofs.Ball.{Admissible}
 use Rattle.file_format.specs.Circuit.{circuitOf, Bounded}
 use Rattle.file_format.proofs.Fields.{length-kinds, length-starts, length-ends}
 
--- Every condition on a pattern that is not about the bytes of a file: numbers 2, 4, 5 and 6, and "as many starts as ends".
+-- Every condition on a pattern that is not about the bytes of a file: numbers 2, 4, 5, 6 and 11, and "as many starts as ends".
 pub record PatternContent (p : Circuit) : Type 0 where
   pub range : T (inRange Pattern (length (p .kinds)) (length (p .starts)))
   pub parallel : length (p .starts) ≡ length (p .ends)
   pub below : T (linksBelow (length (p .kinds)) (p .starts) (p .ends))
   pub rises : T (rising (p .starts) (p .ends))
   pub joined : T (connected (length (p .kinds)) (p .starts) (p .ends))
+  pub narrow : radius (length (p .kinds)) (p .starts) (p .ends) ≤ widest
 
 -- an accepted pattern file holds such a circuit
 pub accepted-content : {file : List ℕ} → Accepted Pattern file → PatternContent (circuitOf file)
@@ -40,13 +41,14 @@ accepted-content {file} a =
       below = rw length-kinds (a .below);
       rises = a .rises;
       joined = rw length-kinds (a .joined tt);
+      narrow = rw length-kinds (a .narrow tt);
     }
 
 -- ---- what follows
 
 module _ {p : Circuit} (c : PatternContent p) where
   sizes : (0 < length (p .kinds)) × (length (p .kinds) ≤ 32) × (length (p .starts) ≤ 256)
-  sizes = range-pattern Pattern (length (p .kinds)) (length (p .starts)) refl (c .range)
+  sizes = range-orders Pattern (length (p .kinds)) (length (p .starts)) (c .range)
 
   pub some-parts : 0 < length (p .kinds)
   some-parts = sizes .0

@@ -2,10 +2,11 @@
 use mathlib.Core.List.{List, [], _∷_}
 use mathlib.Core.Path.{_≡_, refl, ap, subst, _∙_}
 use Prim.Native.Nat.{ℕ}
-use Rattle.base_lists.specs.List.{all, allBelow, anyBelow, tabulate}
+use lib.Dec.{lit≤}
+use Rattle.base_lists.specs.List.{all, allBelow, anyBelow, tabulate, maximum}
 use Rattle.base_lists.specs.Below.{leastBelow, collect}
 use Rattle.base_bits.specs.Bits.{bit}
-use Rattle.graph.specs.Search.{beside, ball, connected}
+use Rattle.graph.specs.Search.{beside, ball, misses, distances, connected, radius}
 use Rattle.graph_pairs.specs.Pairs.{pairTest, pairStarts, pairEnds}
 use Rattle.table.specs.Examples.{circuitT, rowComputed}
 use Rattle.table.specs.Host.{everything}
@@ -27,8 +28,8 @@ opened = tt
 
 -- Y can be a pattern
 pub content-Y : PatternContent circuitY
-unfolding opened circuitY all allBelow linksBelow rising earlier beside ball connected
-content-Y = record { range = tt; parallel = refl; below = tt; rises = tt; joined = tt }
+unfolding opened circuitY all allBelow linksBelow rising earlier beside ball connected radius maximum distances misses
+content-Y = record { range = tt; parallel = refl; below = tt; rises = tt; joined = tt; narrow = lit≤ tt }
 
 pub E6-table : selfTable circuitY ≡ 1 ∷ 6 ∷ 6 ∷ []
 unfolding opened circuitY
@@ -64,8 +65,8 @@ E8-merged = refl
 
 -- E8 can be a pattern
 pub content-E8 : PatternContent circuitE8
-unfolding opened circuitE8 all allBelow linksBelow rising earlier beside ball connected
-content-E8 = record { range = tt; parallel = refl; below = tt; rises = tt; joined = tt }
+unfolding opened circuitE8 all allBelow linksBelow rising earlier beside ball connected radius maximum distances misses
+content-E8 = record { range = tt; parallel = refl; below = tt; rises = tt; joined = tt; narrow = lit≤ tt }
 
 -- in which node 1 matches part 1,
 pub E8-member : InTable (selfTable circuitE8) 1 1

@@ -15,10 +15,11 @@ use Rattle.base_lists.proofs.Tests.{both, both-left, both-right, true-T, anyBel
 use Rattle.base_lists.proofs.Tables.{length-tabulate, getD-tabulate, tabulate-same}
 use Rattle.base_lists.proofs.Below.{anyBelow-same, leastBelow-min, leastBelow-at, leastBelow-same}
 use Rattle.graph.specs.Circuit.{Circuit, HasLink, graphOf, circuitGraph}
-use Rattle.graph.specs.Graph.{Connected}
+use Rattle.graph.specs.Graph.{Connected, Radius}
+use Rattle.graph.specs.Search.{connected}
 use Rattle.graph.specs.Rising.{LinksRise}
 use Rattle.graph.proofs.Ball.{Within}
-use Rattle.graph.proofs.Distance.{connected-iff}
+use Rattle.graph.proofs.Distance.{connected-iff, radius-is}
 use Rattle.graph_pairs.proofs.Pairs.{pairCount, length-pair-starts, length-pair-ends, pair-link, pairs-le, pairs-rise, pairs-same}
 use Rattle.simulation.specs.Grouping.{Grouping}
 use Rattle.simulation.specs.Perfect.{SameGraph}
@@ -204,10 +205,23 @@ module _ {p : Circuit} (c : PatternContent p) {class : ℕ → ℕ} {k : ℕ} (g
   pub grouped-connected : Connected (circuitGraph (grouped p class k))
   grouped-connected = connected-same (same-symm grouped-graph) (quotient-connected (circuitGraph p) class (content-connected c))
 
-  -- ---- the grouped pattern is a pattern
+  grouped-joined : T (connected (length (grouped p class k .kinds)) (grouped p class k .starts) (grouped p class k .ends))
+  unfolding circuitGraph
+  grouped-joined = connected-iff grouped-within .1 grouped-connected
+
+  grouped-radius : Radius (circuitGraph (grouped p class k)) (radiusOf (grouped p class k))
+  unfolding circuitGraph radiusOf
+  grouped-radius = radius-is grouped-within (rw length-grouped-kinds grouped-some) grouped-joined
+
+  -- "a merged pattern never has the larger radius"
+  pub grouped-radius-le : radiusOf (grouped p class k) ≤ radiusOf p
+  grouped-radius-le =
+      quotient-radius (circuitGraph p) class (radiusOf p) (radiusOf (grouped p class k)) (content-radius c) (radius-same grouped-graph grouped-radius)
+
+  -- ---- so the grouped pattern is a pattern
 
   pub grouped-content : PatternContent (grouped p class k)
-  unfolding circuitGraph
+  unfolding radiusOf
   grouped-content =
       let n = length (grouped p class k .kinds) in
       let m = length (grouped p class k .starts) in
@@ -218,14 +232,9 @@ module _ {p : Circuit} (c : PatternContent p) {class : ℕ → ℕ} {k : ℕ} (g
         parallel = grouped-parallel p class k;
         below = grouped-below;
         rises = rise-test (grouped p class k .starts) (grouped p class k .ends) grouped-rise;
-        joined = connected-iff grouped-within .1 grouped-connected;
+        joined = grouped-joined;
+        narrow = le-trans grouped-radius-le (c .narrow);
       }
-
-  -- its radius is not the larger one
-  pub grouped-radius-le : radiusOf (grouped p class k) ≤ radiusOf p
-  grouped-radius-le =
-      quotient-radius (circuitGraph p) class (radiusOf p) (radiusOf (grouped p class k)) (content-radius c)
-      (radius-same grouped-graph (content-radius grouped-content))
 
 -- ---- groupings that agree at the parts make one pattern
 

@@ -23,7 +23,7 @@ use Rattle.report.specs.Report.{marked, linkItem, nodeItems, linkItems, 
 
 -- both files are accepted, and hold T and B
 T-and-B : first (fileConditions Pattern fileT ++ fileConditions Board fileB) ≡ accept
-unfolding fileT fileB first fileConditions linkConditions asksConnected linksBelow rising earlier nodesOf linksOf startsOf endsOf fields field connected ball tabulate inside beside all allBelow
+unfolding fileT fileB first fileConditions linkConditions asksConnected linksBelow rising earlier nodesOf linksOf startsOf endsOf fields field connected radius maximum distances misses ball tabulate inside beside all allBelow
 T-and-B = refl
 
 holds-T : circuitOf fileT ≡ circuitT
@@ -100,7 +100,7 @@ line-end = refl
 
 -- all that is opened where files are read
 reading : Unit {0}
-unfolding first fileConditions linkConditions asksConnected linksBelow rising earlier nodesOf linksOf kindsOf startsOf endsOf fields field connected ball tabulate inside beside all allBelow
+unfolding first fileConditions linkConditions asksConnected linksBelow rising earlier nodesOf linksOf kindsOf startsOf endsOf fields field connected radius maximum distances misses ball tabulate inside beside all allBelow
 reading = tt
 
 -- all that is opened where a report is put together

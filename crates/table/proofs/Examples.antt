@@ -1,9 +1,10 @@
 -- Document 01's examples of the match table, by computation. Assumes nothing.
 use mathlib.Core.List.{[], _∷_}
 use mathlib.Core.Path.{_≡_, refl}
+use Rattle.table.specs.Answer.{answerTable, answerCounts}
 use Rattle.table.specs.Host.{everything}
 use Rattle.table.specs.Row.{started, lastTable, kept, struck, rounds}
-use Rattle.table.specs.Examples.{rowComputed, circuitT, circuitB, twoWay, ring, anyTo20}
+use Rattle.table.specs.Examples.{rowComputed, answerComputed, circuitT, circuitB, twoWay, ring, anyTo20, twoT, bothBits, oneBit, loneT}
 
 -- "E2 T on all of B: table 1, 2, 4, 0, 0, 0; started 6, kept 3, struck 3, rounds 2."
 pub E2-table : lastTable circuitT circuitB (everything circuitB) ≡ 1 ∷ 2 ∷ 4 ∷ 0 ∷ 0 ∷ 0 ∷ []
@@ -60,3 +61,36 @@ any-kept = refl
 pub any-rounds : rounds anyTo20 circuitB (everything circuitB) ≡ 1
 unfolding rowComputed anyTo20 circuitB
 any-rounds = refl
+
+-- ---- patterns in several bits
+
+-- on a board that has both bits the table is as for each alone
+pub both-bits-table : answerTable twoT bothBits (everything bothBits) ≡ 1 ∷ 2 ∷ 4 ∷ 0 ∷ 0 ∷ 0 ∷ 8 ∷ 16 ∷ 32 ∷ []
+unfolding rowComputed answerComputed twoT bothBits
+both-bits-table = refl
+
+pub both-bits-counts : answerCounts twoT bothBits (everything bothBits) ≡ record { started = 9; kept = 6; struck = 3; rounds = 2 }
+unfolding rowComputed answerComputed twoT bothBits
+both-bits-counts = refl
+
+-- on one that has the first only the row leaves that bit, and the table is all 0: "kept is 0, struck equals started, and rounds count as before"
+pub one-bit-row : lastTable twoT oneBit (everything oneBit) ≡ 1 ∷ 2 ∷ 4 ∷ 0 ∷ 0 ∷ 0 ∷ 0 ∷ 0 ∷ []
+unfolding rowComputed twoT oneBit
+one-bit-row = refl
+
+pub one-bit-table : answerTable twoT oneBit (everything oneBit) ≡ 0 ∷ 0 ∷ 0 ∷ 0 ∷ 0 ∷ 0 ∷ 0 ∷ 0 ∷ []
+unfolding rowComputed answerComputed twoT oneBit
+one-bit-table = refl
+
+pub one-bit-counts : answerCounts twoT oneBit (everything oneBit) ≡ record { started = 8; kept = 0; struck = 8; rounds = 2 }
+unfolding rowComputed answerComputed twoT oneBit
+one-bit-counts = refl
+
+-- a part without links, of a kind that no node has, is left without a node too
+pub lone-table : answerTable loneT circuitB (everything circuitB) ≡ 0 ∷ 0 ∷ 0 ∷ 0 ∷ 0 ∷ 0 ∷ []
+unfolding rowComputed answerComputed loneT circuitB
+lone-table = refl
+
+pub lone-counts : answerCounts loneT circuitB (everything circuitB) ≡ record { started = 6; kept = 0; struck = 6; rounds = 2 }
+unfolding rowComputed answerComputed loneT circuitB
+lone-counts = refl

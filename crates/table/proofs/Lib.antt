@@ -6,6 +6,7 @@ pub mod Counting
 pub mod Meaning
 pub mod Narrow
 pub mod Host
+pub mod Answer
 pub mod PreparedMasks
 pub mod StrikeFill
 pub mod Following

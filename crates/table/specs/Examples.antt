@@ -1,12 +1,14 @@
 -- The circuits of document 01's examples, and what is opened where their tables are computed.
 use mathlib.Core.List.{[], _∷_}
-use Rattle.base_lists.specs.List.{all, any, tabulate, sum}
+use Rattle.base_lists.specs.List.{all, any, allBelow, anyBelow, tabulate, sum}
 use Rattle.base_lists.specs.Below.{countBelow}
 use Rattle.base_bits.specs.Bits.{bit, numberOf, sizeOf}
 use Rattle.graph.specs.Circuit.{Circuit}
 use Rattle.graph.specs.Neighbours.{select}
 use Rattle.graph.specs.Search.{inside}
 use Rattle.table_row.specs.Row.{inTable, tableOf, pairs, same, startOf, answered, every, supported, strikeOf, rowFrom, rowOf, startedOf, lastOf, keptOf, struckOf, roundsOf}
+use Rattle.table_row.specs.Answer.{allOccur, allOrNone, answerOf, answerKept, answerStruck}
+use Rattle.table.specs.Answer.{answerCounts}
 use Rattle.table.specs.Host.{everything}
 use Rattle.table.specs.Row.{kindsAgree, agrees, neighbours, problemOf}
 
@@ -14,6 +16,11 @@ use Rattle.table.specs.Row.{kindsAgree, agrees, neighbours, problemOf}
 unfoldable pub rowComputed : Unit {0}
 unfolding all any tabulate sum countBelow bit numberOf sizeOf select inside everything inTable tableOf pairs same startOf answered every supported strikeOf rowFrom rowOf startedOf lastOf keptOf struckOf roundsOf kindsAgree agrees neighbours problemOf
 rowComputed = tt
+
+-- `unfolding answerComputed` opens the whole-board call's answer beside them
+unfoldable pub answerComputed : Unit {0}
+unfolding allBelow anyBelow allOccur allOrNone answerOf answerKept answerStruck answerCounts
+answerComputed = tt
 
 -- "T: 0:10, 1:20, 2:30, links 0-1, 1-2."
 unfoldable pub circuitT : Circuit
@@ -34,3 +41,25 @@ ring = record { kinds = 10 ∷ 20 ∷ 10 ∷ 20 ∷ []; starts = 0 ∷ 1 ∷ 2 �
 -- any part that drives one of kind 20; as a board: a node that is not identified and drives one of kind 20
 unfoldable pub anyTo20 : Circuit
 anyTo20 = record { kinds = 0 ∷ 20 ∷ []; starts = 0 ∷ []; ends = 1 ∷ [] }
+
+-- T and a copy of it with other kinds, as one pattern of six parts: a pattern in two bits
+unfoldable pub twoT : Circuit
+twoT = record { kinds = 10 ∷ 20 ∷ 30 ∷ 40 ∷ 50 ∷ 60 ∷ []; starts = 0 ∷ 1 ∷ 3 ∷ 4 ∷ []; ends = 1 ∷ 2 ∷ 4 ∷ 5 ∷ [] }
+
+-- B and a copy of T with those kinds: a board that has both bits
+unfoldable pub bothBits : Circuit
+bothBits =
+    record {
+      kinds = 10 ∷ 20 ∷ 30 ∷ 20 ∷ 30 ∷ 10 ∷ 40 ∷ 50 ∷ 60 ∷ [];
+      starts = 0 ∷ 1 ∷ 3 ∷ 6 ∷ 7 ∷ [];
+      ends = 1 ∷ 2 ∷ 4 ∷ 7 ∷ 8 ∷ [];
+    }
+
+-- B and two parts of the copy, with the link between them: a board that has the first bit only
+unfoldable pub oneBit : Circuit
+oneBit =
+    record { kinds = 10 ∷ 20 ∷ 30 ∷ 20 ∷ 30 ∷ 10 ∷ 40 ∷ 50 ∷ []; starts = 0 ∷ 1 ∷ 3 ∷ 6 ∷ []; ends = 1 ∷ 2 ∷ 4 ∷ 7 ∷ [] }
+
+-- T and a part of another kind, without links
+unfoldable pub loneT : Circuit
+loneT = record { kinds = 10 ∷ 20 ∷ 30 ∷ 70 ∷ []; starts = 0 ∷ 1 ∷ []; ends = 1 ∷ 2 ∷ [] }

@@ -4,6 +4,7 @@ pub mod Fill
 pub mod Prepared
 pub mod First
 pub mod Refine
+pub mod Answer
 pub mod Reply
 pub mod Examples
 pub mod Strike

@@ -4,7 +4,7 @@ use mathlib.Core.Bool.{Bool, true, false, cond}
 use mathlib.Core.List.{List, map}
 use mathlib.Core.Logic.{_↔_}
 use mathlib.Core.Path.{_≡_, sym, ap, _∙_}
-use Prim.Native.Nat.{ℕ, _+_, _≤_, _<_}
+use Prim.Native.Nat.{ℕ, _+_, _-_, _≤_, _<_}
 use native.Mathlib.Nat.{le-refl, lt-of-lt-of-le}
 use native.Mathlib.Omega.{arith}
 use lib.Count.{ones}
@@ -16,7 +16,7 @@ use Rattle.simulation.specs.Closed.{Relation, _⊆_, Occurring}
 use Rattle.simulation.specs.Simulation.{Candidate, Along, Largest}
 use Rattle.simulation.proofs.Simulation.{dual-closed, dual-occurring, closed-dual}
 use Rattle.table_row.specs.Problem.{Problem}
-use Rattle.table_row.specs.Row.{inTable, pairs, startedOf, lastOf, keptOf, roundsOf}
+use Rattle.table_row.specs.Row.{inTable, pairs, startedOf, lastOf, keptOf, struckOf, roundsOf}
 use Rattle.table_row.specs.Answer.{allOccur, allOrNone, answerOf, answerKept, answerStruck}
 use Rattle.table_row.specs.Reading.{InTable, TableOf, Reading, LargestOccurring, Wider, Equivalent}
 use Rattle.table_row.proofs.Sets.{fits-node, fits-word, same-pairs, none-fits, none-in, pairs-none, pairs-ones}
@@ -26,7 +26,7 @@ use Rattle.table_row.proofs.Wider.{last-wider, last-same}
 
 module _ {D : Type 0} (p : Problem D) where
   -- what the test for every part says
-  pub occur-iff : {t : List ℕ} → TableOf p t → T (allOccur p t) ↔ ((u : ℕ) → u < p .parts → (v : ℕ) × InTable t u v)
+  pub occur-iff : {t : List ℕ} → TableOf p t → T (allOccur (p .nodes) (p .parts) t) ↔ ((u : ℕ) → u < p .parts → (v : ℕ) × InTable t u v)
   unfolding allOccur
   occur-iff {t} f = (
     λ s u h. let (v, l, m) = anyBelow-at (p .nodes) (λ v. inTable t u v) (allBelow-at (p .parts) _ s u h) in (v, m),
@@ -37,27 +37,27 @@ module _ {D : Type 0} (p : Problem D) where
 
   -- ---- the two cases
 
-  pub answer-all : T (allOccur p (lastOf p)) → answerOf p ≡ lastOf p
+  pub answer-all : T (allOccur (p .nodes) (p .parts) (lastOf p)) → answerOf p ≡ lastOf p
   unfolding answerOf allOrNone
-  answer-all s = ap (λ (b : Bool). cond b (lastOf p) (tabulate (p .nodes) (λ v. 0))) (T-true {b = allOccur p (lastOf p)} s)
+  answer-all s = ap (λ (b : Bool). cond b (lastOf p) (tabulate (p .nodes) (λ v. 0))) (T-true {b = allOccur (p .nodes) (p .parts) (lastOf p)} s)
 
   -- "If some part is left without a node, the table is all 0 .."
-  pub answer-none : allOccur p (lastOf p) ≡ false → answerOf p ≡ tabulate (p .nodes) (λ v. 0)
+  pub answer-none : allOccur (p .nodes) (p .parts) (lastOf p) ≡ false → answerOf p ≡ tabulate (p .nodes) (λ v. 0)
   unfolding answerOf allOrNone
   answer-none e = ap (λ (b : Bool). cond b (lastOf p) (tabulate (p .nodes) (λ v. 0))) e
 
   pub answer-fits : TableOf p (answerOf p)
   unfolding answerOf allOrNone
-  answer-fits = go (allOccur p (lastOf p))
+  answer-fits = go (allOccur (p .nodes) (p .parts) (lastOf p))
     where
       go : (b : Bool) → TableOf p (cond b (lastOf p) (tabulate (p .nodes) (λ v. 0)))
       go true = last-fits p
       go false = none-fits (p .nodes) (p .parts)
 
   -- a pair of it says that every part occurs
-  pub answer-pair : (u v : ℕ) → InTable (answerOf p) u v → T (allOccur p (lastOf p))
+  pub answer-pair : (u v : ℕ) → InTable (answerOf p) u v → T (allOccur (p .nodes) (p .parts) (lastOf p))
   unfolding answerOf allOrNone
-  answer-pair u v = go (allOccur p (lastOf p))
+  answer-pair u v = go (allOccur (p .nodes) (p .parts) (lastOf p))
     where
       go : (b : Bool) → InTable (cond b (lastOf p) (tabulate (p .nodes) (λ v. 0))) u v → T b
       go true m = tt
@@ -98,7 +98,7 @@ module _ {D : Type 0} (p : Problem D) (most : p .parts ≤ 32) {Agree : Relation
             };
         contains =
             λ R c o u v s.
-            let all : T (allOccur p (lastOf p)) =
+            let all : T (allOccur (p .nodes) (p .parts) (lastOf p)) =
             occur .1 (λ x h. let (y, s′) = o .occurs u v s x (parts x .1 h) in (y, last .contains R c x y s′)) in
             rw (answer-all p all) (last .contains R c u v s);
       }
@@ -117,17 +117,26 @@ occurring-dual l =
 
 module _ {D : Type 0} (p : Problem D) where
   -- ".. kept is 0, struck equals started .."
-  pub none-kept : allOccur p (lastOf p) ≡ false → answerKept p ≡ 0
+  pub none-kept : allOccur (p .nodes) (p .parts) (lastOf p) ≡ false → answerKept p ≡ 0
   unfolding answerKept
   none-kept e = ap pairs (answer-none p e) ∙ pairs-none (p .nodes)
 
-  pub none-struck : allOccur p (lastOf p) ≡ false → answerStruck p ≡ startedOf p
+  pub none-struck : allOccur (p .nodes) (p .parts) (lastOf p) ≡ false → answerStruck p ≡ startedOf p
   unfolding answerStruck
   none-struck e = omega (arith, none-kept e)
 
+  -- where the answer is the row's last set, the counts are the row's
+  pub plain-kept : answerOf p ≡ lastOf p → answerKept p ≡ keptOf p
+  unfolding answerKept keptOf
+  plain-kept e = ap pairs e
+
+  pub plain-struck : answerOf p ≡ lastOf p → answerStruck p ≡ struckOf p
+  unfolding answerStruck struckOf
+  plain-struck e = ap (λ (k : ℕ). startedOf p - k) (plain-kept e)
+
   answer-kept : answerKept p ≤ keptOf p
   unfolding answerKept keptOf answerOf allOrNone
-  answer-kept = go (allOccur p (lastOf p))
+  answer-kept = go (allOccur (p .nodes) (p .parts) (lastOf p))
     where
       go : (b : Bool) → pairs (cond b (lastOf p) (tabulate (p .nodes) (λ v. 0))) ≤ pairs (lastOf p)
       go true = le-refl _

@@ -7,16 +7,16 @@ use Rattle.base_lists.specs.List.{allBelow, anyBelow, tabulate}
 use Rattle.table_row.specs.Problem.{Problem}
 use Rattle.table_row.specs.Row.{inTable, pairs, startedOf, lastOf}
 
--- every part has a node in the table
-unfoldable pub allOccur : {D : Type 0} → Problem D → List ℕ → Bool
-allOccur p t = allBelow (p .parts) (λ u. anyBelow (p .nodes) (λ v. inTable t u v))
+-- each of so many parts has one of so many nodes in the table
+unfoldable pub allOccur : ℕ → ℕ → List ℕ → Bool
+allOccur nodes parts t = allBelow parts (λ u. anyBelow nodes (λ v. inTable t u v))
 
 -- the table, or all 0
-unfoldable pub allOrNone : {D : Type 0} → Problem D → List ℕ → List ℕ
-allOrNone p t = cond (allOccur p t) t (tabulate (p .nodes) (λ v. 0))
+unfoldable pub allOrNone : ℕ → ℕ → List ℕ → List ℕ
+allOrNone nodes parts t = cond (allOccur nodes parts t) t (tabulate nodes (λ v. 0))
 
 unfoldable pub answerOf : {D : Type 0} → Problem D → List ℕ
-answerOf p = allOrNone p (lastOf p)
+answerOf p = allOrNone (p .nodes) (p .parts) (lastOf p)
 
 unfoldable pub answerKept : {D : Type 0} → Problem D → ℕ
 answerKept p = pairs (answerOf p)

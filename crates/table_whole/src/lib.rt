@@ -7,6 +7,7 @@ use table::MASKS;
 use table::first::start;
 use table::largest::counted;
 use table::largest::refine;
+use table_answer::all_or_none;
 use table_prepare::lookups::prepare;
 use table_prepare::nodes::list_all;
 ghost use mathlib.Core.Path.{_≡_};
@@ -16,6 +17,7 @@ ghost use Rattle.file_format.specs.declared.Role.the-variants as role;
 ghost use Rattle.graph.specs.Circuit.{Circuit, circuit};
 ghost use Rattle.graph.specs.Net.{NetRoom};
 ghost use Rattle.table.specs.Refine.{MatchedOn};
+ghost use Rattle.table.specs.Answer.{AnsweredOn};
 ghost use Rattle.table_whole.specs.Kinds.{SomeLinks, EveryMatched};
 ghost use Rattle.table.specs.Prepared.{tables, Prepared};
 
@@ -120,4 +122,33 @@ pub fn match_circuits(
         &mut offsets,
         &mut links,
     )
+}
+
+// The answer of a call on a whole board: the same, with the table all 0 where some part is left without a node.
+pub fn match_whole(
+    part_kinds: &[u16],
+    part_starts: &[u16],
+    part_ends: &[u16],
+    node_kinds: &[u16],
+    node_starts: &[u16],
+    node_ends: &[u16],
+    table: &mut [u32],
+) -> Counts
+    ghost { Circuit × Circuit }
+    requires { λ α. ⌜ (circuit (now «part_kinds») (now «part_starts») (now «part_ends»), circuit (now «node_kinds») (now «node_starts») (now «node_ends»)) ≡ α ⌝ }
+    requires { λ α. ⌜ Bounded role.Pattern (α .0) ⌝ }
+    requires { λ α. ⌜ Bounded role.Board (α .1) ⌝ }
+    requires { λ α. ⌜ length (now table) ≡ length (now «node_kinds») ⌝ }
+    ensures { λ α r. ⌜ AnsweredOn (α .0) (α .1) (now (table .exit)) r ⌝ }
+{
+    let counts = match_circuits(
+        part_kinds,
+        part_starts,
+        part_ends,
+        node_kinds,
+        node_starts,
+        node_ends,
+        table,
+    );
+    all_or_none(part_kinds.len(), table, counts)
 }

@@ -129,8 +129,24 @@ impl Draft {
     }
 }
 
-/// A random connected pattern: a path, a star or a tree, at times closed to a
-/// ring, with further links.
+impl Draft {
+    /// A path that no link joins to the rest, as far as there is room.
+    fn further_bit(&mut self, random: &mut Random, kinds: usize) {
+        let mut last = None;
+        for _ in 0..random.between(1, 4) {
+            let Some(node) = self.node(kind(random.below(kinds))) else {
+                return;
+            };
+            if let Some(last) = last {
+                self.link(last, node);
+            }
+            last = Some(node);
+        }
+    }
+}
+
+/// A random pattern: a path, a star or a tree, at times closed to a ring, with
+/// further links, and now and then a bit that is not joined to it.
 pub fn pattern(random: &mut Random, size: Size) -> Circuit {
     let parts = size.parts(random);
     let kinds = if random.once_in(6) {
@@ -151,7 +167,9 @@ pub fn pattern(random: &mut Random, size: Size) -> Circuit {
     ]);
     let shape = random.below(4);
     for v in 1..parts {
-        let to = [v - 1, 0, random.below(v), random.below(v)][shape];
+        // A long path is broken off now and then, so that most patterns have a radius of at most 12.
+        let last = if random.once_in(8) { v / 2 } else { v - 1 };
+        let to = [last, 0, random.below(v), random.below(v)][shape];
         draft.join(random, way, to, v);
     }
     if random.once_in(3) {
@@ -164,6 +182,9 @@ pub fn pattern(random: &mut Random, size: Size) -> Circuit {
     };
     for _ in 0..further {
         draft.link(random.below(parts), random.below(parts));
+    }
+    if random.once_in(8) {
+        draft.further_bit(random, kinds);
     }
     draft.finish(random)
 }

@@ -118,6 +118,33 @@ fn small_pairs() -> Vec<Pair> {
     ]
 }
 
+/// A ring of so many nodes of one kind.
+fn ring(nodes: usize) -> Circuit {
+    let mut links: Vec<_> = (0..nodes).map(|v| (v, (v + 1) % nodes)).collect();
+    links.sort_unstable();
+    circuit(&vec![10; nodes], &links)
+}
+
+/// Patterns of a radius around the limit.
+fn wide_pairs() -> Vec<Pair> {
+    let star = |arms: usize, length: usize| {
+        let before = |v: usize| if v % length == 1 { 0 } else { v - 1 };
+        let mut links: Vec<_> = (1..=arms * length).map(|v| (before(v), v)).collect();
+        links.sort_unstable();
+        circuit(&vec![10; arms * length + 1], &links)
+    };
+    vec![
+        ("radius 11, a path", path(12, 12), path(40, 12)),
+        ("radius 12, a path", path(13, 13), path(40, 13)),
+        ("radius 13, a path", path(14, 14), path(40, 14)),
+        ("radius 12, a ring of 24", ring(24), ring(48)),
+        ("radius 12, a ring of 25", ring(25), ring(50)),
+        ("radius 13, a ring of 26", ring(26), ring(52)),
+        ("radius 12, a star of five arms", star(5, 6), star(5, 6)),
+        ("radius 14, a star of four arms", star(4, 7), star(4, 7)),
+    ]
+}
+
 /// The pairs of large circuits.
 fn large_pairs() -> Vec<Pair> {
     vec![
@@ -263,7 +290,7 @@ fn written() -> Vec<Tables> {
 /// All edges by name, each with its cases.
 fn cases() -> Vec<(String, Vec<Case>)> {
     let t = circuit(&[10, 20, 30], &[(0, 1), (1, 2)]);
-    let all = [examples(), small_pairs(), large_pairs()].concat();
+    let all = [examples(), small_pairs(), wide_pairs(), large_pairs()].concat();
     let mut cases: Vec<_> = all
         .into_iter()
         .map(|(name, pattern, board)| (name.to_string(), of_pair(&pattern, &board)))
@@ -356,14 +383,19 @@ fn loads(finder: &dyn Finder, tally: &mut Tally) -> Result<(), Difference> {
     Ok(())
 }
 
-/// The longest row of sets known: 15,810 rounds.
+/// The longest rows of sets known: 15,810 rounds on a whole board, and the
+/// longest with a pattern of radius 12 around a centre.
 fn longest(finder: &dyn Finder, tally: &mut Tally) -> Result<(), Difference> {
     let (pattern, board) = (chain_pattern(31).bytes(), chain_board(510).bytes());
-    let (pattern, board) = (&pattern[..], &board[..]);
+    let narrow = chain_pattern(23).bytes();
+    let board = &board[..];
     for call in [
-        Call::Match { pattern, board },
+        Call::Match {
+            pattern: &pattern,
+            board,
+        },
         Call::Place {
-            pattern,
+            pattern: &narrow,
             board,
             centre: 510,
         },

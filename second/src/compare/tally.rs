@@ -5,11 +5,11 @@ use std::fmt;
 
 use super::call::{Call, Outcome};
 
-/// For each call how often it gave each number from 0 to 10, and for the laws
+/// For each call how often it gave each number from 0 to 15, and for the laws
 /// how often each was put to the test.
 #[derive(Default)]
 pub struct Tally {
-    numbers: BTreeMap<&'static str, [u64; 11]>,
+    numbers: BTreeMap<&'static str, [u64; 16]>,
     laws: BTreeMap<&'static str, u64>,
 }
 
@@ -38,13 +38,13 @@ impl Tally {
 
 impl fmt::Display for Tally {
     fn fmt(&self, f: &mut fmt::Formatter) -> fmt::Result {
-        write!(f, "{:14}{:>9}", "call", "accepted")?;
-        for number in 1..11 {
-            write!(f, "{number:>9}")?;
+        write!(f, "{:14}{:>8}", "call", "0")?;
+        for number in 1..16 {
+            write!(f, "{number:>8}")?;
         }
         for (name, row) in &self.numbers {
             write!(f, "\n{name:14}")?;
-            row.iter().try_for_each(|times| write!(f, "{times:>9}"))?;
+            row.iter().try_for_each(|times| write!(f, "{times:>8}"))?;
         }
         let places = self.of("place", 0) + self.of("place_within", 0);
         write!(f, "\nplaces found: {places}")?;

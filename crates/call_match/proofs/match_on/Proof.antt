@@ -9,14 +9,14 @@ use Rattle.call_match.proofs.match_on.Tie as tie
 returns : tie.Need-returns
 returns c = on-short _ _ _ (c .if1 .taken)
 
-slice-relend-prefix-match-circuits : tie.Need-slice-relend-prefix-match-circuits
-slice-relend-prefix-match-circuits c = search needs
+slice-relend-prefix-match-whole : tie.Need-slice-relend-prefix-match-whole
+slice-relend-prefix-match-whole c = search needs
 
-slice-aggregate-match-circuits : tie.Need-slice-aggregate-match-circuits
-slice-aggregate-match-circuits c = sym (length-take-le _ _ (c .before .if1 .left))
+slice-aggregate-match-whole : tie.Need-slice-aggregate-match-whole
+slice-aggregate-match-whole c = sym (length-take-le _ _ (c .before .if1 .left))
 
-match-circuits-requires : tie.Need-match-circuits-requires
-match-circuits-requires c κs =
+match-whole-requires : tie.Need-match-whole-requires
+match-whole-requires c κs =
     let test = c .before in
     let p = test .before .before .before .before .before .before .before .before .pre in
     (p .0, (p .1, length-take-le _ _ (test .if1 .left)))
@@ -27,15 +27,15 @@ same-length c = search needs
 returns-2 : tie.Need-returns-2
 returns-2 c =
     let matched = c .before .before in
-    on-matched _ _ _ (matched .before .before .if1 .left) (matched .match-circuits .ensures)
+    on-matched _ _ _ (matched .before .before .if1 .left) (matched .match-whole .ensures)
 
 pub match-on-spec : {M : Type 1} → statement M
 match-on-spec =
     tie.close
     (tie.spec
     returns
-    slice-relend-prefix-match-circuits
-    slice-aggregate-match-circuits
-    match-circuits-requires
+    slice-relend-prefix-match-whole
+    slice-aggregate-match-whole
+    match-whole-requires
     same-length
     returns-2)

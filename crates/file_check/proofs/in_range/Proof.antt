@@ -4,39 +4,44 @@ use borrow.Author.Needs.{needs}
 use Rattle.file_check.proofs.in_range.Statement.{statement}
 use Rattle.file_check.proofs.in_range.Tie as tie
 
--- src/check.rt:27:26
 enum-told : tie.Need-enum-told
 enum-told c = search needs
 
--- src/check.rt:27:26
 new-requires : tie.Need-new-requires
 new-requires c κs = search needs
 
--- src/check.rt:27:26
 in-range-requires : tie.Need-in-range-requires
 in-range-requires c κs = search needs
 
--- src/check.rt:28:24
 enum-told-2 : tie.Need-enum-told-2
 enum-told-2 c = search needs
 
--- src/check.rt:28:24
 new-requires-2 : tie.Need-new-requires-2
 new-requires-2 c κs = search needs
 
--- src/check.rt:28:24
 in-range-requires-2 : tie.Need-in-range-requires-2
 in-range-requires-2 c κs = search needs
 
--- src/check.rt:23:1
+enum-told-3 : tie.Need-enum-told-3
+enum-told-3 c = search needs
+
+new-requires-3 : tie.Need-new-requires-3
+new-requires-3 c κs = search needs
+
+in-range-requires-3 : tie.Need-in-range-requires-3
+in-range-requires-3 c κs = search needs
+
 returns : tie.Need-returns
 returns c =
     c .in-range .ensures ∙ rw (c .before .before .enum-told .given .1, c .before .new .ensures .0, c .before .new .ensures .1)
 
--- src/check.rt:23:1
 returns-2 : tie.Need-returns-2
 returns-2 c =
     c .in-range2 .ensures ∙ rw (c .before .before .enum-told2 .given .1, c .before .new2 .ensures .0, c .before .new2 .ensures .1)
+
+returns-3 : tie.Need-returns-3
+returns-3 c =
+    c .in-range3 .ensures ∙ rw (c .before .before .enum-told3 .given .1, c .before .new3 .ensures .0, c .before .new3 .ensures .1)
 
 pub in-range-spec : {M : Type 1} → statement M
 in-range-spec =
@@ -48,5 +53,9 @@ in-range-spec =
     enum-told-2
     new-requires-2
     in-range-requires-2
+    enum-told-3
+    new-requires-3
+    in-range-requires-3
     returns
-    returns-2)
+    returns-2
+    returns-3)

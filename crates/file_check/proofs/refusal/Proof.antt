@@ -1,19 +1,13 @@
--- `file_check::refusal` meets its contract, by cases on the role. Assumes nothing.
+-- `file_check::refusal` meets its contract. Assumes nothing.
 use borrow.Author.Needs.{needs}
 use Rattle.file_check.proofs.refusal.Statement.{statement}
 use Rattle.file_check.proofs.refusal.Tie as tie
 
-enum-told : tie.Need-enum-told
-enum-told c = search needs
-
-enum-told-2 : tie.Need-enum-told-2
-enum-told-2 c = search needs
+file-of-requires : tie.Need-file-of-requires
+file-of-requires c κs = search needs
 
 returns : tie.Need-returns
-returns c = rw (c .enum-told .given .1)
-
-returns-2 : tie.Need-returns-2
-returns-2 c = rw (c .enum-told2 .given .1)
+returns c = rw (c .file-of .ensures)
 
 pub refusal-spec : {M : Type 1} → statement M
-refusal-spec = tie.close (tie.spec enum-told enum-told-2 returns returns-2)
+refusal-spec = tie.close (tie.spec file-of-requires returns)

@@ -26,7 +26,7 @@ same-length-3 : tie.Need-same-length-3
 same-length-3 c = search needs
 
 returns : tie.Need-returns
-returns c = pair-pattern _ _ _ _ (c .before .before .before .before .before .before .before .before .before .load .ensures) (c .before .enum-told2 .given .1) (c .turned-away .ensures)
+returns c = pair-pattern _ _ _ _ _ (c .before .before .before .before .before .before .before .before .before .load .ensures) (c .before .enum-told2 .given .1) (c .turned-away .ensures)
 
 load-requires-2 : tie.Need-load-requires-2
 load-requires-2 c κs = search needs
@@ -50,7 +50,7 @@ same-length-9 : tie.Need-same-length-9
 same-length-9 c = search needs
 
 returns-2 : tie.Need-returns-2
-returns-2 c = pair-board _ _ _ _ (c .before .before .before .before .before .before .before .before .before .before .before .before .before .before .before .before .before .before .load .ensures) (c .before .before .before .before .before .before .before .before .before .before .enum-told .given .1) (c .before .before .before .before .before .before .load2 .ensures)
+returns-2 c = pair-board _ _ _ _ _ (c .before .before .before .before .before .before .before .before .before .before .before .before .before .before .before .before .before .before .load .ensures) (c .before .before .before .before .before .before .before .before .before .before .enum-told .given .1) (c .before .before .before .before .before .before .load2 .ensures)
 
 pub read-pair-spec : {M : Type 1} → statement M
 read-pair-spec =

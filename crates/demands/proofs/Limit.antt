@@ -1,0 +1,216 @@
+-- Ask 5 holds: the limit on a pattern's radius. Assumes nothing.
+use mathlib.Core.Bool.{Bool, true, false, cond}
+use mathlib.Core.List.{List, [], _∷_, _++_}
+use mathlib.Core.Logic.{_↔_}
+use mathlib.Core.Path.{_≡_, refl, sym, ap, subst₂, _∙_}
+use Prim.Native.Nat.{ℕ, _≤_, _<_}
+use native.Mathlib.Omega.{arith}
+use lib.Dec.{ltb}
+use lib.ListN.{length}
+use Rattle.base_lists.proofs.Tests.{refuted}
+use Rattle.base_text.specs.Text.{bytes, digits, decimal}
+use Rattle.graph.specs.Circuit.{graphOf}
+use Rattle.graph.specs.Graph.{Radius}
+use Rattle.graph.specs.Search.{connected, radius}
+use Rattle.graph.proofs.Distance.{radius-is}
+use Rattle.graph.proofs.Walks.{radius-unique}
+use Rattle.file_format.specs.declared.File.the-variants.{Neither}
+use Rattle.file_format.specs.declared.Refusal.{Refusal}
+use Rattle.file_format.specs.declared.Role.the-variants.{Pattern, Board}
+use Rattle.file_format.specs.Layout.{lengthOf}
+use Rattle.file_format.specs.Links.{linksBelow}
+use Rattle.file_format.specs.Reading.{ReadOutcome, readConditions, reading}
+use Rattle.file_format.specs.Refusals.{Verdict, accept, refuse, first, tooWide, eleven, without, asksConnected, linkConditions, fileConditions, centreOutside, shortTable, Accepted}
+use Rattle.file_format.specs.Reply.{readReply}
+use Rattle.file_format.specs.Role.{inRange}
+use Rattle.file_format.proofs.Accepted.{links-within}
+use Rattle.file_format.proofs.Limit.{wide-iff, wide-file, narrow-file, accepted-before, unasked-before, without-both}
+use Rattle.file_format.proofs.Reading.{reading-refused}
+use Rattle.file_format.proofs.Refusals.{accept-not-refuse, first-accept, first-refuse, first-holds, range-orders, accepted, accepted-verdict}
+use Rattle.file_pair.specs.Pair.{pairConditions}
+use Rattle.file_write.specs.Writing.{WriteOutcome, circuitConditions, writeConditions, writing, writeReply}
+use Rattle.file_write.proofs.Writing.{writing-refused}
+use Rattle.report.specs.Report.{fileWord, refusalLine, reportFor, reportOf}
+use Rattle.merge.proofs.Accepted.{merged-content, merged-radius-le}
+use Rattle.merge.proofs.Content.{accepted-content, content-radius}
+use Rattle.call_distance.specs.Calls.{radiusCall}
+use Rattle.call_place.specs.Call.{roomConditions, inputConditions, placeAt}
+use Rattle.call_place.proofs.Promise.{input-refused}
+use Rattle.call_merge.specs.Call.{mergeConditions, merging}
+use Rattle.call_merge.proofs.Promise.{pattern-accepted, merged-accepted, merged-circuit}
+use Rattle.demands.specs.Demands.{graph, Lent, placed, mergedFile}
+use Rattle.demands.specs.Limit.{before, readingBefore, radiusBefore, placedBefore, mergingBefore, reportBefore, TurnedAway, AsBefore, Limit}
+use Rattle.demands.proofs.Decided.{reply-verdict}
+use Rattle.demands.proofs.Merged.{file-is}
+
+-- ---- which patterns
+
+unfoldable number : Verdict → ℕ
+number accept = 0
+number (refuse x) = x .number
+
+eight-not : (b : Bool) → cond b (refuse (record { number = 8; file = Neither })) accept ≡ refuse eleven → ⊥
+unfolding number
+eight-not true e = let z : _≡_ {A = ℕ} 8 11 = ap number e in omega arith
+eight-not false e = accept-not-refuse e
+
+narrow-accepted : (file : List ℕ) → Accepted Pattern file ↔ ((before (fileConditions Pattern file) ≡ accept) × ((r : ℕ) → Radius (graph file) r → r ≤ 12))
+narrow-accepted file = (λ a. narrow-file file .0 (accepted-verdict a), λ h. accepted Pattern file (narrow-file file .1 h))
+
+module _ (kinds starts ends : List ℕ) where
+  split-circuit : circuitConditions Pattern kinds starts ends
+      ≡ without 11 (circuitConditions Pattern kinds starts ends) ++ (tooWide Pattern (length kinds) starts ends ∷ [])
+  unfolding circuitConditions linkConditions without
+  split-circuit = refl
+
+  circuit-measured : before (circuitConditions Pattern kinds starts ends) ≡ accept → Radius (graphOf (length kinds) starts ends) (radius (length kinds) starts ends)
+  unfolding circuitConditions linkConditions without asksConnected
+  circuit-measured e =
+      let n = length kinds in
+      let h2 = first-holds _ _ e in
+      let h3 = first-holds _ _ (h2 .1) in
+      let h4 = first-holds _ _ (h3 .1) in
+      let h5 = first-holds _ _ (h4 .1) in
+      let h6 = first-holds _ _ (h5 .1) in
+      let some = range-orders Pattern n (length starts) (refuted (inRange Pattern n (length starts)) (h2 .0)) .0 in
+      let below = refuted (linksBelow n starts ends) (h4 .0) in
+      radius-is (links-within n starts ends below) some (refuted (connected n starts ends) (h6 .0))
+
+  -- where a list of conditions, and then 8, come to 11, it is the list that does
+  by-circuit : (out : List ℕ) → first (writeConditions Pattern kinds starts ends (length out)) ≡ refuse eleven → first (circuitConditions Pattern kinds starts ends) ≡ refuse eleven
+  unfolding writeConditions first shortTable
+  by-circuit out e = go (first (circuitConditions Pattern kinds starts ends)) refl
+    where
+      go : (v : Verdict) → first (circuitConditions Pattern kinds starts ends) ≡ v → first (circuitConditions Pattern kinds starts ends) ≡ refuse eleven
+      go accept h =
+          absurd (eight-not (ltb (length out) (lengthOf (length kinds) (length starts))) (sym (first-accept (circuitConditions Pattern kinds starts ends) _ h) ∙ e))
+      go (refuse x) h = h ∙ sym (first-refuse (circuitConditions Pattern kinds starts ends) _ x h) ∙ e
+
+  wide-written : (out : List ℕ) →
+      (writing Pattern kinds starts ends out .reply .verdict ≡ refuse eleven) ↔
+      ((before (circuitConditions Pattern kinds starts ends) ≡ accept) × ((r : ℕ) × Radius (graphOf (length kinds) starts ends) r × (12 < r)))
+  unfolding writing writeReply
+  wide-written out =
+      let iff = wide-iff (circuitConditions Pattern kinds starts ends) (length kinds) starts ends split-circuit circuit-measured in (
+        λ e. iff .0 (by-circuit out (sym (reply-verdict _ _) ∙ e)),
+        λ w. ap (λ (o : WriteOutcome). o .reply .verdict) (writing-refused Pattern kinds starts ends out eleven (iff .1 w)),
+      )
+
+-- ---- turned away
+
+module _ (pattern : List ℕ) (e : first (fileConditions Pattern pattern) ≡ refuse eleven) where
+  pair-turned : (board : List ℕ) → first (pairConditions Pattern pattern board) ≡ refuse eleven
+  unfolding pairConditions
+  pair-turned board = first-refuse (fileConditions Pattern pattern) _ eleven e
+
+  turned-places : (board : List ℕ) (w r : ℕ) (lent : Lent) → placed pattern board w r lent .reply .verdict ≡ refuse eleven
+  unfolding placed inputConditions
+  turned-places board w r lent =
+      input-refused pattern board w r (lent .nodes) (lent .links) (lent .table) (lent .distances) eleven (first-refuse (pairConditions Pattern pattern board) _ eleven (pair-turned board)) .0
+
+  turned-reads : (kinds starts ends : List ℕ) → reading Pattern pattern kinds starts ends .reply .verdict ≡ refuse eleven
+  unfolding readReply
+  turned-reads kinds starts ends = ap (λ (o : ReadOutcome). o .reply .verdict) (reading-refused Pattern pattern kinds starts ends eleven e)
+
+  turned-measures : radiusCall pattern .verdict ≡ refuse eleven
+  unfolding radiusCall
+  turned-measures = reply-verdict _ _ ∙ e
+
+  turned-merges : (lent out : List ℕ) → merging pattern lent out .reply .verdict ≡ refuse eleven
+  unfolding merging mergeConditions
+  turned-merges lent out = reply-verdict _ _ ∙ first-refuse (fileConditions Pattern pattern) _ eleven e
+
+  turned-reports : (board : List ℕ) → reportOf pattern board ≡ bytes "refused 11 pattern\n"
+  unfolding reportOf reportFor refusalLine fileWord bytes decimal digits
+  turned-reports board = rw (first-refuse (fileConditions Pattern pattern) (fileConditions Board board) eleven e)
+
+  turned-away : TurnedAway pattern
+  turned-away =
+      record {
+        reads = turned-reads;
+        measures = turned-measures;
+        places = turned-places;
+        merges = turned-merges;
+        reports = turned-reports;
+      }
+
+-- ---- as before
+
+module _ (pattern : List ℕ) (a : Accepted Pattern pattern) where
+  same-file : before (fileConditions Pattern pattern) ≡ first (fileConditions Pattern pattern)
+  same-file = accepted-before pattern (accepted-verdict a)
+
+  same-pair : (board : List ℕ) → before (pairConditions Pattern pattern board) ≡ first (pairConditions Pattern pattern board)
+  unfolding pairConditions asksConnected
+  same-pair board = without-both 11 (fileConditions Pattern pattern) (fileConditions Board board) same-file (unasked-before Board board refl)
+
+  -- 7 and 8 are other numbers
+  same-read : (k s e : ℕ) → before (readConditions Pattern pattern k s e) ≡ first (readConditions Pattern pattern k s e)
+  unfolding readConditions shortTable without
+  same-read k s e = without-both 11 (fileConditions Pattern pattern) _ same-file refl
+
+  same-input : (board : List ℕ) (w k s e d : ℕ) → before (inputConditions pattern board w k s e d) ≡ first (inputConditions pattern board w k s e d)
+  unfolding inputConditions roomConditions centreOutside shortTable without
+  same-input board w k s e d = without-both 11 (pairConditions Pattern pattern board) _ (same-pair board) refl
+
+  same-merge : (k s : ℕ) → before (mergeConditions pattern k s) ≡ first (mergeConditions pattern k s)
+  unfolding mergeConditions shortTable without
+  same-merge k s = without-both 11 (fileConditions Pattern pattern) _ same-file refl
+
+  same-reads : (kinds starts ends : List ℕ) → reading Pattern pattern kinds starts ends ≡ readingBefore Pattern pattern kinds starts ends
+  unfolding reading readingBefore
+  same-reads kinds starts ends = rw (same-read (length kinds) (length starts) (length ends))
+
+  same-measures : radiusCall pattern ≡ radiusBefore pattern
+  unfolding radiusCall radiusBefore
+  same-measures = rw same-file
+
+  same-places : (board : List ℕ) (w r : ℕ) (lent : Lent) → placed pattern board w r lent ≡ placedBefore pattern board w r lent
+  unfolding placed placeAt placedBefore
+  same-places board w r lent = rw (same-input board w (length (lent .nodes)) (length (lent .links)) (length (lent .table)) (length (lent .distances)))
+
+  same-merges : (lent out : List ℕ) → merging pattern lent out ≡ mergingBefore pattern lent out
+  unfolding merging mergingBefore
+  same-merges lent out = rw (same-merge (length lent) (length out))
+
+  same-reports : (board : List ℕ) → reportOf pattern board ≡ reportBefore pattern board
+  unfolding reportOf reportBefore pairConditions
+  same-reports board = rw (same-pair board)
+
+  as-before : AsBefore pattern
+  as-before =
+      record {
+        reads = same-reads;
+        measures = same-measures;
+        places = same-places;
+        merges = same-merges;
+        reports = same-reports;
+      }
+
+-- ---- merging
+
+module _ (pattern lent out : List ℕ) (ok : merging pattern lent out .reply .verdict ≡ accept) where
+  merged-narrow : (r s : ℕ) → Radius (graph pattern) r → Radius (graph (mergedFile (merging pattern lent out))) s → s ≤ r
+  merged-narrow r s is second =
+      let a = pattern-accepted pattern lent out ok in
+      let c = accepted-content a in
+      let own = radius-unique (content-radius c) is in
+      let second′ = rw (file-is pattern lent out ok, merged-circuit a) at second in
+      subst₂ (λ (x y : ℕ). x ≤ y) (radius-unique (content-radius (merged-content c)) second′) own (merged-radius-le c)
+
+  merged-taken : Accepted Pattern (mergedFile (merging pattern lent out))
+  merged-taken = rw (file-is pattern lent out ok) (merged-accepted (pattern-accepted pattern lent out ok))
+
+-- "Twelve becomes the limit. Users keep every guarantee about places and merging for patterns up to it; a merged pattern never has the larger
+-- radius. Turned away: 11, pattern radius above 12, checked in every call that checks 6, after it and before the board's 1."
+pub radius-twelve : Limit
+radius-twelve =
+    record {
+      wide = wide-file;
+      narrow = narrow-accepted;
+      written = wide-written;
+      turned = turned-away;
+      same = as-before;
+      merged = merged-narrow;
+      accepts = merged-taken;
+    }

@@ -1,0 +1,48 @@
+-- What the whole-board call answers, for patterns that may lie in several bits: "If some part is left without a node, the table is all 0,
+-- kept is 0, struck equals started, and rounds count as before." The row is run to its end, and clearing the table is no round.
+use mathlib.Core.Bool.{Bool, true, false}
+use mathlib.Core.List.{List}
+use mathlib.Core.Path.{_≡_}
+use Prim.Native.Nat.{ℕ}
+use Rattle.graph.specs.Circuit.{Circuit}
+use Rattle.table_row.specs.Answer.{answerOf, answerKept, answerStruck}
+unfoldable pub use Rattle.table_row.specs.Answer.{allOccur, allOrNone}
+pub use Rattle.table_row.specs.Reading.{Fits}
+use Rattle.table.specs.Host.{everything}
+use Rattle.table.specs.Row.{problemOf, started, rounds}
+use Rattle.table.specs.declared.Counts.{Counts}
+
+-- the table: the last set of the row, or all 0
+abbrev pub answerTable : Circuit → Circuit → List ℕ → List ℕ
+answerTable pattern host taken = answerOf (problemOf pattern host taken)
+
+-- the four counts: kept are the pairs of that table
+unfoldable pub answerCounts : Circuit → Circuit → List ℕ → Counts
+answerCounts pattern host taken =
+    record {
+      started = started pattern host taken;
+      kept = answerKept (problemOf pattern host taken);
+      struck = answerStruck (problemOf pattern host taken);
+      rounds = rounds pattern host taken;
+    }
+
+-- the answer on a circuit's part that has the nodes taken
+pub record Answered (pattern host : Circuit) (taken table : List ℕ) (counts : Counts) : Type 0 where
+  pub counted : counts ≡ answerCounts pattern host taken
+  pub last : table ≡ answerTable pattern host taken
+
+-- the answer on the whole board
+abbrev pub AnsweredOn : Circuit → Circuit → List ℕ → Counts → Type 0
+AnsweredOn pattern board table counts = Answered pattern board (everything board) table counts
+
+-- ---- how the rule is applied
+
+-- a row's counts, by whether every part has a node in its last set
+unfoldable pub countsWhere : Bool → Counts → Counts
+countsWhere true counts = counts
+countsWhere false counts = record { started = counts .started; kept = 0; struck = counts .started; rounds = counts .rounds }
+
+-- the rule, applied to the table of a row's last set and to the row's counts
+pub record Ruled (parts nodes : ℕ) (last : List ℕ) (counts : Counts) (table : List ℕ) (answer : Counts) : Type 0 where
+  pub made : table ≡ allOrNone nodes parts last
+  pub counted : answer ≡ countsWhere (allOccur nodes parts last) counts
