@@ -19,6 +19,7 @@ use Rattle.place.specs.Find.{Located}
 use Rattle.place.specs.Match.{radiusOf, found}
 use Rattle.report.specs.Lines.{longestLine}
 use Rattle.report.specs.Report.{hasPlace, centreLine, endLine}
+use Rattle.report_centres.specs.declared.Ball.{Ball}
 use Rattle.report_centres.specs.declared.Part.{Part}
 
 -- ---- the lines of some centres
@@ -82,6 +83,10 @@ pub record SourceOfSome (t : Tables) (table : List ℕ) (r : ℕ) : Type 0 where
   pub pattern : Circuit
   pub board : Circuit
   pub source : Source pattern board t table r
+
+-- the centre and the radius of a ball
+abbrev pub aroundOf : Ball → Around
+aroundOf ball = record { centre = ball .centre; radius = ball .radius }
 
 -- what is known of a centre: whether there is a place around it, and then the place in the tables
 pub record Known (pattern board : Circuit) (t : Tables) (around : Around) (dist queue sets : List ℕ) (a : Found) : Type 0 where
