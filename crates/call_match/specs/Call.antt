@@ -11,7 +11,9 @@ use Rattle.file_format.specs.Refusals.{Condition, Verdict, accept, refuse, firs
 use Rattle.file_pair.specs.Pair.{pairConditions}
 use Rattle.call_match.specs.declared.TableAnswer.{TableAnswer}
 use Rattle.call_match.specs.declared.TableAnswer.the-variants.{Matched, Refused}
-use Rattle.table.specs.Answer.{answerTable, answerCounts}
+use Rattle.table.specs.declared.Ways.{Ways}
+use Rattle.table.specs.declared.Ways.the-variants.{Both, Forward}
+use Rattle.table.specs.Answer.{answerBy, answerCountsBy}
 use Rattle.table.specs.Host.{everything}
 use Rattle.table.specs.Refine.{countsOf}
 use Rattle.table.specs.Reply.{Reply, noCounts, replied}
@@ -34,17 +36,24 @@ pub record TableOutcome : Type 0 where
 
 -- The pattern on the whole board: the four counts, and at the front of the table, whose entries past N stay, the last set of the row, or all
 -- 0 where some part is left without a node. On a refusal the whole table stays.
-abbrev pub matchedBy : Verdict → Circuit → Circuit → List ℕ → TableOutcome
-matchedBy verdict p b table =
-    record { reply = replied verdict (answerCounts p b (everything b)); table = filled verdict (answerTable p b (everything b)) table }
+abbrev pub matchedBy : Ways → Verdict → Circuit → Circuit → List ℕ → TableOutcome
+matchedBy ways verdict p b table =
+    record { reply = replied verdict (answerCountsBy ways p b (everything b)); table = filled verdict (answerBy ways p b (everything b)) table }
 
 -- the call on two circuits that were read: the table may be short
-unfoldable pub matchOn : Circuit → Circuit → List ℕ → TableOutcome
-matchOn p b table = matchedBy (first (shortTable (length (b .kinds)) (length table) ∷ [])) p b table
+unfoldable pub matchOn : Ways → Circuit → Circuit → List ℕ → TableOutcome
+matchOn ways p b table = matchedBy ways (first (shortTable (length (b .kinds)) (length table) ∷ [])) p b table
 
--- the call on two files
-unfoldable pub matching : List ℕ → List ℕ → List ℕ → TableOutcome
-matching pattern board table = matchedBy (first (matchConditions pattern board (length table))) (circuitOf pattern) (circuitOf board) table
+-- the call on two files, in the directions chosen
+unfoldable pub matchingBy : Ways → List ℕ → List ℕ → List ℕ → TableOutcome
+matchingBy ways pattern board table = matchedBy ways (first (matchConditions pattern board (length table))) (circuitOf pattern) (circuitOf board) table
+
+-- the match-table call, and "a variant whose pairs need partners along forward links only"
+abbrev pub matching : List ℕ → List ℕ → List ℕ → TableOutcome
+matching pattern board table = matchingBy Both pattern board table
+
+abbrev pub forwardMatching : List ℕ → List ℕ → List ℕ → TableOutcome
+forwardMatching pattern board table = matchingBy Forward pattern board table
 
 -- ---- connected patterns alone, as document 01 has the call
 

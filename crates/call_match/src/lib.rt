@@ -7,12 +7,13 @@ use file_format::Refusal;
 use file_format::Role;
 use file_pair::read_pair;
 use table::Counts;
+use table::Ways;
 use table_whole::match_whole;
 ghost use mathlib.Core.Path.{_≡_};
 ghost use Rattle.file_format.specs.Circuit.{Bounded};
 ghost use Rattle.file_format.specs.declared.Role.the-variants as role;
 ghost use Rattle.graph.specs.Circuit.{circuit};
-ghost use Rattle.call_match.specs.Call.{replyOf, matchOn, matching};
+ghost use Rattle.call_match.specs.Call.{replyOf, matchOn, matchingBy, matching, forwardMatching};
 
 // What the call comes to: the four counts, or why it was turned away.
 pub enum TableAnswer {
@@ -22,6 +23,7 @@ pub enum TableAnswer {
 
 // The call on two circuits that were read. The table's length is tested before anything is written to it.
 fn match_on(
+    ways: Ways,
     part_kinds: &[u16],
     part_starts: &[u16],
     part_ends: &[u16],
@@ -33,7 +35,7 @@ fn match_on(
     requires { ⌜ Bounded role.Pattern (circuit (now «part_kinds») (now «part_starts») (now «part_ends»)) ⌝ }
     requires { ⌜ Bounded role.Board (circuit (now «node_kinds») (now «node_starts») (now «node_ends»)) ⌝ }
     ensures { λ r. ⌜ record { reply = replyOf r; table = now (table .exit) }
-        ≡ matchOn (circuit (now («part_kinds» .entry)) (now («part_starts» .entry)) (now («part_ends» .entry))) (circuit (now («node_kinds» .entry)) (now («node_starts» .entry)) (now («node_ends» .entry))) (now (table .entry)) ⌝ }
+        ≡ matchOn ways (circuit (now («part_kinds» .entry)) (now («part_starts» .entry)) (now («part_ends» .entry))) (circuit (now («node_kinds» .entry)) (now («node_starts» .entry)) (now («node_ends» .entry))) (now (table .entry)) ⌝ }
 {
     let n = node_kinds.len();
     if table.len() < n {
@@ -43,6 +45,7 @@ fn match_on(
         });
     }
     TableAnswer::Matched(match_whole(
+        ways,
         part_kinds,
         part_starts,
         part_ends,
@@ -53,11 +56,9 @@ fn match_on(
     ))
 }
 
-// Matches the pattern of one file, connected or not, on the whole board of another: the four counts, with the largest dual simulation at the
-// front of the table, a 32-bit number per node, which is all 0 where some part is left without a node; or the refusal, which leaves the table
-// as it was.
-pub fn match_table(pattern: &[u8], board: &[u8], table: &mut [u32]) -> TableAnswer
-    ensures { λ r. ⌜ record { reply = replyOf r; table = now (table .exit) } ≡ matching (now (pattern .entry)) (now (board .entry)) (now (table .entry)) ⌝ }
+// The call on two files, in the directions that count.
+fn match_files(ways: Ways, pattern: &[u8], board: &[u8], table: &mut [u32]) -> TableAnswer
+    ensures { λ r. ⌜ record { reply = replyOf r; table = now (table .exit) } ≡ matchingBy ways (now (pattern .entry)) (now (board .entry)) (now (table .entry)) ⌝ }
 {
     let mut pk = [0u16; Pattern::MAX_NODES];
     let mut ps = [0u16; Pattern::MAX_LINKS];
@@ -85,6 +86,7 @@ pub fn match_table(pattern: &[u8], board: &[u8], table: &mut [u32]) -> TableAnsw
     let n = read.nodes;
     let m = read.links;
     match_on(
+        ways,
         &pk[..parts],
         &ps[..joins],
         &pe[..joins],
@@ -93,4 +95,20 @@ pub fn match_table(pattern: &[u8], board: &[u8], table: &mut [u32]) -> TableAnsw
         &ne[..m],
         table,
     )
+}
+
+// Matches the pattern of one file, connected or not, on the whole board of another: the four counts, with the largest dual simulation at the
+// front of the table, a 32-bit number per node, which is all 0 where some part is left without a node; or the refusal, which leaves the table
+// as it was.
+pub fn match_table(pattern: &[u8], board: &[u8], table: &mut [u32]) -> TableAnswer
+    ensures { λ r. ⌜ record { reply = replyOf r; table = now (table .exit) } ≡ matching (now (pattern .entry)) (now (board .entry)) (now (table .entry)) ⌝ }
+{
+    match_files(Ways::Both, pattern, board, table)
+}
+
+// The same one way: a pair needs partners for what its part drives, and none for what drives it.
+pub fn match_forward(pattern: &[u8], board: &[u8], table: &mut [u32]) -> TableAnswer
+    ensures { λ r. ⌜ record { reply = replyOf r; table = now (table .exit) } ≡ forwardMatching (now (pattern .entry)) (now (board .entry)) (now (table .entry)) ⌝ }
+{
+    match_files(Ways::Forward, pattern, board, table)
 }

@@ -16,7 +16,7 @@ use Rattle.simulation.proofs.Same.{same-symm}
 use Rattle.simulation.proofs.Simulation.{along-wider}
 use Rattle.table.specs.declared.Counts.{Counts}
 use Rattle.table.specs.Host.{hostGraph, KindsMatch}
-use Rattle.table.specs.Refine.{countsOf}
+use Rattle.table.specs.Refine.{countsBy, countsOf}
 use Rattle.table.specs.Row.{InTable, row, started, rounds, lastTable}
 use Rattle.table.proofs.Counting.{struck-minus, started-ones, kept-ones, rounds-differ, rounds-last}
 use Rattle.table.proofs.Row.{row-first, row-fits, row-inside, row-in}
@@ -72,7 +72,7 @@ module _ (pattern host : Circuit) (taken : List ℕ) (most : length (pattern .ki
 
   -- the four counts are those of the row
   pub row-counts : {counts : Counts} → counts ≡ countsOf pattern host taken → RowCounts (circuitGraph pattern) (KindsMatch pattern host) H counts
-  unfolding countsOf
+  unfolding countsBy
   row-counts e =
       let (run, last) = row-run (ap (λ (c : Counts). c .started) e) (ap (λ (c : Counts). c .rounds) e) in
       record {

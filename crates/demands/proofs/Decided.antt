@@ -31,7 +31,9 @@ use Rattle.place.specs.Match.{found}
 use Rattle.place.specs.Outcome.{placeVerdict}
 use Rattle.file_write.specs.Writing.{writeConditions, writing}
 use Rattle.call_distance.specs.Calls.{radiusCall, ballConditions, ballCall}
-use Rattle.call_match.specs.Call.{matchConditions, matching}
+use Rattle.call_match.specs.Call.{matchConditions, matchingBy}
+use Rattle.table.specs.declared.Ways.{Ways}
+use Rattle.table.specs.declared.Ways.the-variants.{Both, Forward}
 use Rattle.call_place.specs.Call.{inputConditions}
 use Rattle.call_place.proofs.Promise.{input-refused, verdict-is, accept-or-nine, nine-keeps}
 use Rattle.call_merge.specs.Call.{mergeConditions, merging}
@@ -102,11 +104,11 @@ unfolding ballCall
 balls file w r out = by-first (ballConditions file w (length out)) (reply-verdict _ _) (λ x e. keeps _ out e)
 
 matches :
-    (pattern board table : List ℕ) →
-    Decided (matchConditions pattern board (length table)) (matching pattern board table .reply .verdict)
-    (matching pattern board table .table ≡ table)
-unfolding matching
-matches pattern board table =
+    (ways : Ways) (pattern board table : List ℕ) →
+    Decided (matchConditions pattern board (length table)) (matchingBy ways pattern board table .reply .verdict)
+    (matchingBy ways pattern board table .table ≡ table)
+unfolding matchingBy
+matches ways pattern board table =
     by-first (matchConditions pattern board (length table)) (replied-verdict _ _) (λ x e. keeps _ table e)
 
 merges :
@@ -208,7 +210,8 @@ decided-1 =
       writes = writes;
       measures = measures;
       balls = balls;
-      matches = matches;
+      matches = matches Both;
+      forwards = matches Forward;
       places = places;
       merges = merges;
       reports = reports;

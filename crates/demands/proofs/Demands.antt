@@ -25,7 +25,8 @@ use Rattle.file_format.proofs.Fields.{length-kinds}
 use Rattle.file_format.proofs.Refusals.{accepted-verdict}
 use Rattle.table.proofs.Host.{everything-same, within-joins}
 use Rattle.table.specs.declared.Counts.{Counts}
-use Rattle.table.specs.Answer.{answerCounts}
+use Rattle.table.specs.declared.Ways.the-variants.{Both, Forward}
+use Rattle.table.specs.Answer.{answerCountsBy}
 use Rattle.table.specs.Host.{everything}
 use Rattle.table.proofs.Answer.{answer-found, answer-missing, answer-connected}
 use Rattle.table_answer.proofs.AllParts.{none-tabulated}
@@ -36,12 +37,12 @@ use Rattle.place.proofs.Marks.{Marks, nodes-marks, links-marks}
 use Rattle.file_write.specs.declared.WriteAnswer.the-variants.{Written}
 use Rattle.file_write.specs.Writing.{WriteOutcome, writeConditions, writeAnswer, writing}
 use Rattle.file_write.proofs.RoundTrip.{written-reads, read-writes}
-use Rattle.call_match.specs.Call.{matching}
+use Rattle.call_match.specs.Call.{matching, forwardMatching}
 use Rattle.call_match.proofs.Promise as match-call
 use Rattle.call_place.proofs.Promise.{counts-are, accept-or-nine, nine-iff, marked-place, nodes-front, links-front}
 use Rattle.call_merge.specs.Call.{merging}
 use Rattle.call_merge.proofs.Promise as merge-call
-use Rattle.demands.specs.Demands.{Lent, Room, Ready, placed, placedOwn, mergedFile, SameFound, graph, equal, Demand1, RowCounts, Matched, ReadBack, Demand2, nine, FoundAt, Demand3}
+use Rattle.demands.specs.Demands.{Lent, Room, Ready, placed, placedOwn, mergedFile, SameFound, graph, equal, Demand1, RowCounts, Matched, MatchedForward, ReadBack, Demand2, nine, FoundAt, Demand3}
 use Rattle.demands.proofs.Counts.{row-run, row-counts}
 use Rattle.demands.proofs.Decided.{reply-verdict, decided-1}
 use Rattle.demands.proofs.Merged.{ready-sound, merged-same, radius-fits}
@@ -59,29 +60,44 @@ demand-1 = decided-1
 table-matched :
     (pattern board table : List ℕ) → Accepted AnyPattern pattern → Accepted Board board → nodesOf board ≤ length table →
     Matched pattern board (matching pattern board table)
-unfolding answerCounts
+unfolding answerCountsBy
 table-matched pattern board table a b room =
     let P = circuitOf pattern in
     let B = circuitOf board in
-    let ok = match-call.accepts pattern board table a b room in
+    let ok = match-call.accepts Both pattern board table a b room in
     let most = accepted-bounded a .nodes in
     let host = everything-same B (within-joins B (accepted-within b)) in
-    let counted = match-call.counts-are pattern board table ok in
+    let counted = match-call.counts-are Both pattern board table ok in
     let begun = ap (λ (c : Counts). c .started) counted in
     let rounds = ap (λ (c : Counts). c .rounds) counted in
-    let front = match-call.front-is pattern board table ok in
+    let front = match-call.front-is Both pattern board table ok in
     let (run, ends) = row-run P B (everything B) most host begun rounds in
     record {
       accepted = ok;
       largest = match-call.front-largest pattern board table ok;
       run = run;
-      kept = match-call.counts-ones pattern board table ok;
-      struck = match-call.counts-struck pattern board table ok;
-      found = λ all. front ∙ sym (answer-found P B (everything B) (λ u h. rw ends at (all u (rw (length-kinds pattern) at h))) .last) ∙ sym ends;
-      missing = λ u h none. front ∙ sym (answer-missing P B (everything B) u (rw (length-kinds pattern) h) (λ v m. none v (rw ends m)) .last) ∙ rw (length-kinds board) (sym (none-tabulated (nodesOf board)));
+      kept = match-call.counts-ones Both pattern board table ok;
+      struck = match-call.counts-struck Both pattern board table ok;
+      found = λ all. front ∙ sym (answer-found Both P B (everything B) (λ u h. rw ends at (all u (rw (length-kinds pattern) at h))) .last) ∙ sym ends;
+      missing = λ u h none. front ∙ sym (answer-missing Both P B (everything B) u (rw (length-kinds pattern) h) (λ v m. none v (rw ends m)) .last) ∙ rw (length-kinds board) (sym (none-tabulated (nodesOf board)));
       connected = λ c.
           let plain = answer-connected P B (everything B) most (accepted-connected c) in
           (row-counts P B (everything B) most host (counted ∙ sym (plain .counted)), front ∙ sym (plain .last) ∙ sym ends);
+    }
+
+-- the call along forward links
+forward-matched :
+    (pattern board table table′ : List ℕ) → Accepted AnyPattern pattern → Accepted Board board → nodesOf board ≤ length table →
+    nodesOf board ≤ length table′ → MatchedForward pattern board (matching pattern board table) (forwardMatching pattern board table′)
+forward-matched pattern board table table′ a b room room′ =
+    let both = match-call.accepts Both pattern board table a b room in
+    let ok = match-call.accepts Forward pattern board table′ a b room′ in
+    record {
+      accepted = ok;
+      largest = match-call.front-graph pattern board table′ ok;
+      kept = match-call.counts-ones Forward pattern board table′ ok;
+      struck = match-call.counts-struck Forward pattern board table′ ok;
+      contains = match-call.forward-contains-both pattern board table table′ both ok;
     }
 
 -- the place calls' counts
@@ -149,7 +165,7 @@ writes-back role file ks ss es out bytes e room =
 -- "The match table is the largest dual simulation, pair by pair as 01 reads it: each of its pairs holds, and every dual simulation lies inside
 -- it. Counts and rounds are those of 01's row of sets. A circuit written reads back as itself; an accepted file writes back to its own bytes."
 pub demand-2 : Demand2
-demand-2 = record { table = table-matched; ball = ball-counted; reads = reads-back; writes = writes-back }
+demand-2 = record { table = table-matched; forward = forward-matched; ball = ball-counted; reads = reads-back; writes = writes-back }
 
 -- ---- Demand 3
 

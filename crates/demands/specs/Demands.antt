@@ -18,7 +18,7 @@ use Rattle.graph.specs.Graph.{Graph, Ball, Connected, Radius}
 use Rattle.graph.specs.Rising.{LinksRise}
 use Rattle.graph.specs.Search.{connected}
 use Rattle.simulation.specs.Closed.{Relation, _⊆_, Row}
-use Rattle.simulation.specs.Simulation.{Candidate, Along, Largest}
+use Rattle.simulation.specs.Simulation.{Candidate, Along, Largest, LargestGraphSimulation}
 use Rattle.simulation.specs.Perfect.{Perfect, Place}
 use Rattle.simulation.specs.Quotient.{Mutual}
 use Rattle.file_format.specs.declared.File.the-variants.{Neither}
@@ -37,7 +37,7 @@ use Rattle.place.specs.Match.{radiusOf, found, markedGraph}
 use Rattle.place.specs.Outcome.{PlaceOutcome}
 use Rattle.file_write.specs.Writing.{writeConditions, writing}
 use Rattle.call_distance.specs.Calls.{radiusCall, ballConditions, ballCall}
-use Rattle.call_match.specs.Call.{TableOutcome, matchConditions, matching}
+use Rattle.call_match.specs.Call.{TableOutcome, matchConditions, matching, forwardMatching}
 use Rattle.call_place.specs.Call.{inputConditions, placeAt}
 use Rattle.call_merge.specs.Call.{MergeOutcome, mergeConditions, merging}
 use Rattle.call_merge.specs.Classes.{classByte}
@@ -127,6 +127,9 @@ pub record Demand1 : Type 0 where
   pub matches : (pattern board table : List ℕ) →
       Decided (matchConditions pattern board (length table)) (matching pattern board table .reply .verdict)
       (matching pattern board table .table ≡ table)
+  pub forwards : (pattern board table : List ℕ) →
+      Decided (matchConditions pattern board (length table)) (forwardMatching pattern board table .reply .verdict)
+      (forwardMatching pattern board table .table ≡ table)
   pub places : (pattern board : List ℕ) (w r : ℕ) (lent : Lent) →
       Decided (placedConditions pattern board w r lent) (placed pattern board w r lent .reply .verdict)
       (Untouched lent (placed pattern board w r lent))
@@ -186,6 +189,15 @@ pub record Matched (pattern board : List ℕ) (result : TableOutcome) : Type 1 w
       Accepted Pattern pattern →
       RowCounts (graph pattern) (equal pattern board) (graph board) (result .reply .counts) × (take (nodesOf board) (result .table) ≡ run .table (result .reply .counts .rounds))
 
+-- "a variant whose pairs need partners along forward links only (graph simulation, source document 000), over the whole board, with the all-0
+-- rule and the refusals of Ask 7 and the four counts. Its table contains the two-way table for each pattern and board."
+pub record MatchedForward (pattern board : List ℕ) (both result : TableOutcome) : Type 1 where
+  pub accepted : result .reply .verdict ≡ accept
+  pub largest : LargestGraphSimulation (graph pattern) (equal pattern board) (graph board) (InTable (take (nodesOf board) (result .table)))
+  pub kept : result .reply .counts .kept ≡ sum (map ones (take (nodesOf board) (result .table)))
+  pub struck : result .reply .counts .struck ≡ result .reply .counts .started - result .reply .counts .kept
+  pub contains : (u v : ℕ) → v < nodesOf board → InTable (both .table) u v → InTable (result .table) u v
+
 -- a circuit stands at the front of the tables that a reading call was lent
 pub record ReadBack (kinds starts ends : List ℕ) (result : ReadOutcome) : Type 0 where
   pub accepted : result .reply .verdict ≡ accept
@@ -198,6 +210,9 @@ pub record Demand2 : Type 1 where
   -- of any pattern: the whole-board call applies neither 6 nor 11
   pub table : (pattern board table : List ℕ) → Accepted AnyPattern pattern → Accepted Board board → nodesOf board ≤ length table →
       Matched pattern board (matching pattern board table)
+  -- the call along forward links, beside the call on the same files along both
+  pub forward : (pattern board table table′ : List ℕ) → Accepted AnyPattern pattern → Accepted Board board → nodesOf board ≤ length table →
+      nodesOf board ≤ length table′ → MatchedForward pattern board (matching pattern board table) (forwardMatching pattern board table′)
   -- the place calls' counts are those of the row in the ball, whether there is a place or not
   pub ball : (pattern board : List ℕ) (w r : ℕ) (lent : Lent) → Ready pattern board w lent →
       RowCounts (graph pattern) (equal pattern board) (Ball (graph board) w r) (placed pattern board w r lent .reply .counts)

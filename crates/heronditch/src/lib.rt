@@ -6,7 +6,7 @@ ghost use Rattle.file_format.specs.declared.Role.the-variants as role;
 ghost use Rattle.file_format.specs.Reading.{reading};
 ghost use Rattle.call_distance.specs.Calls.{radiusCall, ballCall};
 ghost use Rattle.file_write.specs.Writing.{writing};
-ghost use Rattle.call_match.specs.Call.{matching};
+ghost use Rattle.call_match.specs.Call.{matching, forwardMatching};
 ghost use Rattle.file_format.specs.Circuit.{circuitOf};
 ghost use Rattle.place.specs.Match.{radiusOf};
 ghost use Rattle.call_place.specs.Call.{placeAt};
@@ -105,6 +105,17 @@ pub extern "C" fn heronditch_match(pattern: &[u8], board: &[u8], table: &mut [u3
     ensures { λ r. ⌜ record { reply = r; table = now (table .exit) } ≡ hostMatch (matching (now (pattern .entry)) (now (board .entry)) (now (table .entry))) ⌝ }
 {
     of_match(call_match::match_table(pattern, board, table))
+}
+
+#[no_mangle]
+pub extern "C" fn heronditch_match_one_way(
+    pattern: &[u8],
+    board: &[u8],
+    table: &mut [u32],
+) -> Counted
+    ensures { λ r. ⌜ record { reply = r; table = now (table .exit) } ≡ hostMatch (forwardMatching (now (pattern .entry)) (now (board .entry)) (now (table .entry))) ⌝ }
+{
+    of_match(call_match::match_forward(pattern, board, table))
 }
 
 #[no_mangle]

@@ -20,10 +20,11 @@ use Rattle.file_format.specs.Circuit.{Drawn}
 use Rattle.file_format.proofs.Accepted.{bounded-starts, bounded-ends}
 use Rattle.table.specs.declared.Rest.{Rest}
 use Rattle.table.specs.Fill.{marksOf, NodeList, tableAt}
+use Rattle.table.specs.declared.Ways.the-variants.{Both}
 use Rattle.table.specs.First.{Begins}
 use Rattle.table.specs.Prepared.{succOf, Tables, Prepared, Ready}
-use Rattle.table.specs.Refine.{Known, Rested}
-use Rattle.table.specs.Row.{problemOf}
+use Rattle.table.specs.Refine.{Known, RestedBy}
+use Rattle.table.specs.Row.{problemFor}
 use Rattle.table.proofs.Sets.{fits-word}
 use Rattle.place.specs.Match.{ballOf, ballTable, found, placeNodes, placeLinks, placeTable}
 use Rattle.place.specs.Spread.{matched, Spread, Lists}
@@ -84,11 +85,11 @@ module _ {pattern board : Circuit} {t : Tables} {w r : ℕ} {nodes first : List 
 
   -- the rounds may begin with the first table
   pub sought-known : Known t nodes first
-  sought-known = record { pattern = pattern; host = board; prepared = s .tabled .prepared; begins = s .begins }
+  sought-known = record { ways = Both; pattern = pattern; host = board; prepared = s .tabled .prepared; begins = s .begins }
 
   -- which has a set for each node
   pub sought-long : length first ≡ length (board .kinds)
-  unfolding problemOf
+  unfolding problemFor
   sought-long = s .begins .long
 
   joins : Within n (board .starts) (board .ends)
@@ -97,7 +98,7 @@ module _ {pattern board : Circuit} {t : Tables} {w r : ℕ} {nodes first : List 
   small : (v : ℕ) → getD (ballTable pattern board w r) v 0 < 2 ^ 32
   small = fits-word (s .tabled .prepared .parts) (ball-fits pattern board w r)
 
-  module _ {sets : List ℕ} {rest : Rest} (e : Rested pattern board (marksOf n nodes) first sets rest) where
+  module _ {sets : List ℕ} {rest : Rest} (e : RestedBy Both pattern board (marksOf n nodes) first sets rest) where
     -- they end with the ball's table
     pub sets-ball : sets ≡ ballTable pattern board w r
     unfolding ballTable

@@ -4,7 +4,7 @@ use mathlib.Core.Logic.{Iff·rfl, Iff·symm, Iff·trans}
 use Prim.Native.Nat.{ℕ}
 use Rattle.graph.specs.Graph.{Graph, Subgraph, Contains, Connected, Distance, Radius}
 use Rattle.simulation.specs.Closed.{Relation, _⊆_}
-use Rattle.simulation.specs.Simulation.{DualSimulation, Largest}
+use Rattle.simulation.specs.Simulation.{DualSimulation, Largest, GraphSimulation, LargestGraphSimulation}
 use Rattle.simulation.specs.Perfect.{MatchGraph, PerfectIn, PlaceIn, SameGraph, SameAgree}
 use Rattle.simulation.proofs.Closed.{weaken, closed-same-set, occurring-same-set}
 use Rattle.simulation.proofs.Simulation.{along-wider, dual-closed, dual-occurring, closed-dual}
@@ -174,3 +174,18 @@ place-same p a b g f =
 pub place-unique :
     {P : Graph} {Agree : Relation} {B : Graph} {w : ℕ} {G H : Graph} → PlaceIn P Agree B w G → PlaceIn P Agree B w H → SameGraph G H
 place-unique g h = contains-same (g .contains _ (h .perfect)) (h .contains _ (g .perfect))
+
+-- ── Graph simulations ──
+
+graph-simulation-same : {P : Graph} {Agree : Relation} {H H′ : Graph} {S : Relation} → SameGraph H H′ → GraphSimulation P Agree H S → GraphSimulation P Agree H′ S
+graph-simulation-same g s =
+    record {
+      part = s .part;
+      node = λ u v m. g .nodes v .0 (s .node u v m);
+      kinds = s .kinds;
+      forward = λ u v u′ m l. let (v′, k, n) = s .forward u v u′ m l in (v′, g .links v v′ .0 k, n);
+      occurs = s .occurs;
+    }
+
+pub graph-same : {P : Graph} {Agree : Relation} {H H′ : Graph} {S : Relation} → SameGraph H H′ → LargestGraphSimulation P Agree H S → LargestGraphSimulation P Agree H′ S
+graph-same g l = record { holds = graph-simulation-same g (l .holds); contains = λ R r. l .contains R (graph-simulation-same (same-symm g) r) }

@@ -3,7 +3,7 @@ use mathlib.Core.Logic.{_⊎_, inl, inr, _↔_}
 use Prim.Native.Nat.{ℕ}
 use Rattle.graph.specs.Graph.{Graph, Subgraph, Connected, Walk, stay, step}
 use Rattle.simulation.specs.Closed.{Relation, _⊆_, Closed, Occurring, LargestClosed, Union, Compose}
-use Rattle.simulation.specs.Simulation.{DualSimulation, Largest, Candidate, Direction, forwards, backwards, Along}
+use Rattle.simulation.specs.Simulation.{DualSimulation, Largest, GraphSimulation, Candidate, Direction, forwards, backwards, Along}
 use Rattle.simulation.proofs.Closed.{union-closed, union-occurring, compose-closed, compose-occurring, weaken}
 
 -- a wider relation is wider in each direction
@@ -41,6 +41,10 @@ module _ {P : Graph} {Agree : Relation} {H : Graph} {S : Relation} where
       DualSimulation P Agree H S ↔
       (Closed (Candidate P Agree H) (Along (P .Link)) (Along (H .Link)) S × Occurring (P .Node) S)
   dual-iff-closed = (λ s. (dual-closed s, dual-occurring s), λ (c, o). closed-dual c o)
+
+-- a dual simulation is a graph simulation
+pub dual-graph : {P : Graph} {Agree : Relation} {H : Graph} {S : Relation} → DualSimulation P Agree H S → GraphSimulation P Agree H S
+dual-graph s = record { part = s .part; node = s .node; kinds = s .kinds; forward = s .forward; occurs = s .occurs }
 
 -- a link that joins two nodes, directions ignored, leads from the one to the other in some direction
 joins-along : (Link : Relation) (v w : ℕ) → Link v w ⊎ Link w v → (d : Direction) × Along Link d v w

@@ -16,7 +16,7 @@ use Rattle.graph.specs.Search.{inside}
 use Rattle.table_row.specs.Row.{startedOf, lastOf, keptOf, struckOf, roundsOf}
 use Rattle.table_row.specs.Reading.{Equivalent}
 use Rattle.table_row.proofs.Wider.{last-same, started-same, kept-same, struck-same, rounds-same}
-use Rattle.table.specs.Row.{kindsAgree, agrees, problemOf, byEqualKinds, lastTable, started, kept, struck, rounds}
+use Rattle.table.specs.Row.{kindsAgree, agrees, problemFor, problemOf, byEqualKinds, lastTable, started, kept, struck, rounds}
 
 -- ---- the test
 
@@ -80,7 +80,7 @@ module _ (pattern host : Circuit) (taken : List ℕ) (plain : Plain pattern) whe
   plain-agree u v h = rw (ne-eqb (getD (pattern .kinds) u 0) 0 (plain u h))
 
   pub plain-same : Equivalent (problemOf pattern host taken) (byEqualKinds pattern host taken)
-  unfolding problemOf byEqualKinds
+  unfolding problemFor byEqualKinds
   plain-same =
       record {
         nodes = refl;

@@ -10,8 +10,11 @@ use Rattle.graph.specs.Circuit.{Circuit}
 use Rattle.graph.specs.Neighbours.{select}
 use Rattle.graph.specs.Search.{inside}
 use Rattle.simulation.specs.Simulation.{Direction, forwards, backwards}
+use Rattle.table.specs.declared.Ways.{Ways}
+use Rattle.table.specs.declared.Ways.the-variants.{Both, Forward}
 use Rattle.table_row.specs.Problem.{Problem}
-use Rattle.table_row.specs.Row.{startOf, strikeOf, rowOf, startedOf, lastOf, keptOf, struckOf, roundsOf}
+unfoldable pub use Rattle.table_row.specs.Row.{startOf}
+use Rattle.table_row.specs.Row.{strikeOf, rowOf, startedOf, lastOf, keptOf, struckOf, roundsOf}
 unfoldable pub use Rattle.table_row.specs.Row.{inTable, pairs}
 pub use Rattle.table_row.specs.Reading.{InTable}
 
@@ -30,17 +33,29 @@ unfoldable pub neighbours : Circuit → Direction → ℕ → List ℕ
 neighbours c forwards v = select (c .starts) (c .ends) v
 neighbours c backwards v = select (c .ends) (c .starts) v
 
--- to match a pattern on those nodes of a circuit that are taken
-unfoldable pub problemOf : Circuit → Circuit → List ℕ → Problem Direction
-problemOf pattern host taken =
+-- to match a pattern on those nodes of a circuit that are taken, along the directions chosen
+unfoldable pub problemFor : List Direction → Circuit → Circuit → List ℕ → Problem Direction
+problemFor directions pattern host taken =
     record {
       parts = length (pattern .kinds);
       nodes = length (host .kinds);
       agree = λ u v. inside taken v && agrees pattern host u v;
-      ways = forwards ∷ backwards ∷ [];
+      ways = directions;
       steps = neighbours pattern;
       moves = neighbours host;
     }
+
+-- the two choices that calls make: both directions, or "partners along forward links only"
+abbrev pub directionsOf : Ways → List Direction
+directionsOf Both = forwards ∷ backwards ∷ []
+directionsOf Forward = forwards ∷ []
+
+abbrev pub problemBy : Ways → Circuit → Circuit → List ℕ → Problem Direction
+problemBy ways pattern host taken = problemFor (directionsOf ways) pattern host taken
+
+-- both directions, which is what is meant where nothing is said of them
+abbrev pub problemOf : Circuit → Circuit → List ℕ → Problem Direction
+problemOf pattern host taken = problemBy Both pattern host taken
 
 -- the same by equal kinds alone, as it was when kind 0 was a kind like any other
 unfoldable pub byEqualKinds : Circuit → Circuit → List ℕ → Problem Direction

@@ -1,9 +1,9 @@
 -- The answer where every part has to occur: the largest set that is closed and in which every part occurs, unless it is empty; and its
 -- counts. Assumes nothing.
 use mathlib.Core.Bool.{Bool, true, false, cond}
-use mathlib.Core.List.{List, map}
-use mathlib.Core.Logic.{_↔_}
-use mathlib.Core.Path.{_≡_, sym, ap, _∙_}
+use mathlib.Core.List.{List, [], _∷_, map}
+use mathlib.Core.Logic.{_↔_, inl, inr}
+use mathlib.Core.Path.{_≡_, refl, sym, ap, _∙_}
 use Prim.Native.Nat.{ℕ, _+_, _-_, _≤_, _<_}
 use native.Mathlib.Nat.{le-refl, lt-of-lt-of-le}
 use native.Mathlib.Omega.{arith}
@@ -13,9 +13,9 @@ use Rattle.base_lists.specs.List.{anyBelow, tabulate, sum}
 use Rattle.base_lists.proofs.Tests.{T-true, allBelow-at, at-allBelow, anyBelow-at, at-anyBelow}
 use Rattle.graph.specs.Graph.{Graph}
 use Rattle.simulation.specs.Closed.{Relation, _⊆_, Occurring}
-use Rattle.simulation.specs.Simulation.{Candidate, Along, Largest}
+use Rattle.simulation.specs.Simulation.{Candidate, forwards, backwards, Along, Largest, LargestGraphSimulation}
 use Rattle.simulation.proofs.Simulation.{dual-closed, dual-occurring, closed-dual}
-use Rattle.table_row.specs.Problem.{Problem}
+use Rattle.table_row.specs.Problem.{Problem, Way}
 use Rattle.table_row.specs.Row.{inTable, pairs, startedOf, lastOf, keptOf, struckOf, roundsOf}
 use Rattle.table_row.specs.Answer.{allOccur, allOrNone, answerOf, answerKept, answerStruck}
 use Rattle.table_row.specs.Reading.{InTable, TableOf, Reading, LargestOccurring, Wider, Equivalent}
@@ -103,6 +103,12 @@ module _ {D : Type 0} (p : Problem D) (most : p .parts ≤ 32) {Agree : Relation
             rw (answer-all p all) (last .contains R c u v s);
       }
 
+-- the direction that does not count
+no-way : Way (forwards ∷ []) backwards → ⊥
+unfolding Way
+no-way (inl e) = let z : _≡_ {A = ℕ} 0 1 = cc in omega arith
+no-way (inr w) = w
+
 -- For both directions of links that is the largest dual simulation, whether the pattern is connected or not.
 pub occurring-dual :
     {P : Graph} {Agree : Relation} {H : Graph} {S : Relation} →
@@ -111,6 +117,33 @@ occurring-dual l =
     record {
       holds = closed-dual (l .closed) (l .occurring);
       contains = λ R r. l .contains R (dual-closed r) (dual-occurring r);
+    }
+
+-- For forward links alone it is the largest graph simulation.
+pub occurring-graph :
+    {P : Graph} {Agree : Relation} {H : Graph} {S : Relation} →
+    LargestOccurring (P .Node) (Candidate P Agree H) (λ d u u′. Way (forwards ∷ []) d × Along (P .Link) d u u′) (Along (H .Link)) S →
+    LargestGraphSimulation P Agree H S
+unfolding Way Along
+occurring-graph l =
+    let c = l .closed in
+    record {
+      holds =
+          record {
+            part = λ u v m. c .agree u v m .part;
+            node = λ u v m. c .agree u v m .node;
+            kinds = λ u v m. c .agree u v m .kinds;
+            forward = λ u v u′ m k. c .partner forwards u v u′ m (inl refl, k);
+            occurs = l .occurring .occurs;
+          };
+      contains =
+          λ R r.
+          l .contains R
+          (record {
+            agree = λ u v m. record { part = r .part u v m; node = r .node u v m; kinds = r .kinds u v m };
+            partner = elim [ forwards ↦ λ u v u′ m k. r .forward u v u′ m (k .1) | backwards ↦ λ u v u′ m k. absurd (no-way (k .0)) ];
+          })
+          (record { occurs = r .occurs });
     }
 
 -- ---- its counts

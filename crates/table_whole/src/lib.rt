@@ -4,10 +4,12 @@ use graph_neighbours::tables::LINKS;
 use graph_neighbours::tables::OFFSETS;
 use table::Counts;
 use table::MASKS;
+use table::Ways;
 use table::first::start;
 use table::largest::counted;
 use table::largest::refine;
 use table_answer::all_or_none;
+use table_prepare::lookups::choose;
 use table_prepare::lookups::prepare;
 use table_prepare::nodes::list_all;
 ghost use mathlib.Core.Path.{_≡_};
@@ -124,8 +126,10 @@ pub fn match_circuits(
     )
 }
 
-// The answer of a call on a whole board: the same, with the table all 0 where some part is left without a node.
+// The answer of a call on a whole board, in the directions that count: the last set of the row, with the table all 0 where some part is left
+// without a node.
 pub fn match_whole(
+    ways: Ways,
     part_kinds: &[u16],
     part_starts: &[u16],
     part_ends: &[u16],
@@ -139,16 +143,34 @@ pub fn match_whole(
     requires { λ α. ⌜ Bounded role.Pattern (α .0) ⌝ }
     requires { λ α. ⌜ Bounded role.Board (α .1) ⌝ }
     requires { λ α. ⌜ length (now table) ≡ length (now «node_kinds») ⌝ }
-    ensures { λ α r. ⌜ AnsweredOn (α .0) (α .1) (now (table .exit)) r ⌝ }
+    ensures { λ α r. ⌜ AnsweredOn ways (α .0) (α .1) (now (table .exit)) r ⌝ }
 {
-    let counts = match_circuits(
-        part_kinds,
+    let mut masks = [0u32; MASKS];
+    let mut offsets = [0u16; OFFSETS];
+    let mut links = [0u16; LINKS];
+    let mut nodes = [0u16; Board::MAX_NODES];
+    let mut spare = [0u32; Board::MAX_NODES];
+    let n = node_kinds.len();
+    prepare(
+        n,
         part_starts,
         part_ends,
-        node_kinds,
         node_starts,
         node_ends,
+        &mut masks,
+        &mut offsets,
+        &mut links,
+    );
+    choose(ways, &mut masks);
+    let counts = match_prepared(
+        part_kinds,
+        node_kinds,
+        &masks,
+        &offsets,
+        &links,
         table,
+        &mut nodes[..n],
+        &mut spare[..n],
     );
     all_or_none(part_kinds.len(), table, counts)
 }

@@ -9,6 +9,7 @@ use Rattle.graph.specs.Circuit.{circuit}
 use Rattle.graph.proofs.Below.{below-wider}
 use Rattle.graph.proofs.Groups.{all-below}
 use Rattle.file_format.proofs.Accepted.{bounded-starts, bounded-ends}
+use Rattle.table.specs.declared.Ways.the-variants.{Both}
 use Rattle.table.specs.Prepared.{tables, Prepared}
 use Rattle.table.proofs.Prepare.{prepared}
 use Rattle.table_whole.proofs.prepare_and_match.Statement.{statement}
@@ -54,7 +55,7 @@ match-prepared-requires : tie.Need-match-prepared-requires
 match-prepared-requires c κs =
     let tabled = ready (c .before .before) in
     let p = entry (tabled .before) .pre in (
-      record { partStarts = _; partEnds = _; nodeStarts = _; nodeEnds = _; prepared = made tabled },
+      record { ways = Both; partStarts = _; partEnds = _; nodeStarts = _; nodeEnds = _; prepared = made tabled },
       (p .1 .1 .0, length-take-le _ _ (p .1 .0 .nodes), length-take-le _ _ (p .1 .0 .nodes)),
     )
 
@@ -74,7 +75,7 @@ returns : tie.Need-returns
 returns c =
     let matched = c .before .before .before .before in
     let tabled = ready (matched .before .before .before) in
-    (matched .match-prepared .ensures _ _ _ _ (made tabled), made tabled)
+    (matched .match-prepared .ensures Both _ _ _ _ (made tabled), made tabled)
 
 pub prepare-and-match-spec : {M : Type 1} → statement M
 prepare-and-match-spec =

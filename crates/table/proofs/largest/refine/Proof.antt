@@ -62,7 +62,7 @@ returns : tie.Need-returns Inv-loop μ-loop
 returns c =
     let loop = c .before .before .before .before .before .before in
     let end = round-last (loop .loop .inv .0) (list loop) (c .before .before .before .strike .ensures) (c .if1 .taken) in
-    λ pattern host p b. settled-rested p (now (entry loop .args .nodes)) b end
+    λ ways pattern host p b. settled-rested p (now (entry loop .args .nodes)) b end
 
 -- where the first of the two rounds struck a pair
 abbrev second : tie.Else1 Inv-loop μ-loop → tie.At-loop Inv-loop μ-loop
@@ -117,7 +117,7 @@ returns-2 c =
     let one = c .before .before .before .before .before .before in
     let fill = c .before .before .before .strike2 .ensures in
     let end = round-last (round one) (list-2 one) fill (c .if2 .taken) in
-    λ pattern host p b.
+    λ ways pattern host p b.
     rw (round-same (round one) (list-2 one) fill (c .if2 .taken), c .if2 .taken) (settled-rested p (now (entry (second one) .args .nodes)) b end)
 
 fewer-2 : (c : tie.Else2 Inv-loop μ-loop) → c .before .before .before .strike2 .result < counted (c .before .before .before .before .before .before)

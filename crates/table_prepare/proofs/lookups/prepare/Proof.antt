@@ -8,6 +8,7 @@ use borrow.Author.Needs.{needs}
 use denote.Ref.{now}
 use lib.ListN.{length, take, drop, length-take, length-drop, length-append}
 use lib.Seq.{length-take-le}
+use Rattle.table.specs.declared.Ways.the-variants.{Both}
 use Rattle.table.specs.Prepared.{masksOf}
 use Rattle.table.proofs.Prepare.{masked}
 use Rattle.table_prepare.proofs.lookups.prepare.Statement.{statement}
@@ -91,7 +92,7 @@ returns c =
     let a = start .args in
     let long = start .pre .1 .1 .1 .0 in
     let one = half (now (a .masks)) long in (
-      masked (now (a .part-starts)) (now (a .part-ends)) (now (a .masks)) long
+      masked Both (now (a .part-starts)) (now (a .part-ends)) (now (a .masks)) long
           (first .masks-of .ensures ∙ ap (λ (k : ℕ). masksOf k (now (a .part-starts)) (now (a .part-ends))) one)
           (second .masks-of2 .ensures
           ∙ ap (λ (k : ℕ). masksOf k (now (a .part-ends)) (now (a .part-starts))) (half-2 (first .masks-of .last .1 .1 .0) (now (a .masks)) (first .masks-of .kept .1 .1 .0 ∙ one) long)),
