@@ -17,11 +17,13 @@
  * Kinds: a part of kind 0 matches a node of every kind; a node of kind 0, which is not identified, is matched by such a part only; any other
  * part matches the nodes of its own kind.
  *
- * Numbers of refusal. Where several hold, the pattern's 1 to 6 come first, then its 11, then the board's 1 to 5, then 7, 10, 8 and 9:
+ * Numbers of refusal. Where several hold, the pattern's 1 to 6 come first, then its 11, then the board's 1 to 5, then 7, the check's 3, 10, 8
+ * and 9:
  *   1  a file of under 4 bytes                         6  the pattern is not connected
  *   2  the number of nodes or links out of range       7  the centre is not a node of the board
  *   3  a length that is not 4 + 2 N + 4 M;             8  a lent table is too short
- *      on writing, not as many ends as starts          9  no place around the centre
+ *      on writing, not as many ends as starts;         9  no place around the centre
+ *      on checking, not N node bytes or M link bytes
  *   4  a link to or from a node that is not there     10  a number of a test load out of its range
  *   5  links that do not rise strictly,               11  the pattern's radius is above HERONDITCH_RADIUS: two of its parts
  *      by start and then by end                           are farther apart, which is a mistake in its drawing
@@ -135,6 +137,13 @@ heronditch_counts heronditch_place(const uint8_t *pattern, size_t pattern_len, c
 heronditch_counts heronditch_place_within(const uint8_t *pattern, size_t pattern_len, const uint8_t *board, size_t board_len,
                                           size_t centre, uint16_t radius, uint8_t *nodes, size_t nodes_len, uint8_t *links,
                                           size_t links_len, uint32_t *table, size_t table_len, uint16_t *distances, size_t distances_len);
+
+/* Checks a place from elsewhere: N node bytes and M link bytes, neither more nor fewer. Replies with 1 where they are a perfect subgraph around
+ * the centre at the pattern's radius, largest or not, and with 0 where they are not; bytes other than 0 and 1, or a marked link whose ends are
+ * not both marked, give 0. Whatever heronditch_place marks gets a 1, and a 1 means that heronditch_place finds a place there that has all that
+ * was proposed. Nothing is written, so 8 and 9 are never replied. */
+heronditch_reply heronditch_check(const uint8_t *pattern, size_t pattern_len, const uint8_t *board, size_t board_len, size_t centre,
+                                  const uint8_t *nodes, size_t nodes_len, const uint8_t *links, size_t links_len);
 
 /* Merges the parts of a pattern that match each other: the class of each of its N parts, and the merged pattern's file. Lend N bytes and
  * as many bytes as the pattern's file has. Replies with the number of classes and the merged file's length. */

@@ -601,6 +601,17 @@ impl Finder for Faulty {
         }
     }
 
+    fn check(
+        &self,
+        pattern: &[u8],
+        board: &[u8],
+        centre: usize,
+        nodes: &[u8],
+        links: &[u8],
+    ) -> Words {
+        Second.check(pattern, board, centre, nodes, links)
+    }
+
     fn load(&self, numbers: Numbers, out: &mut [u8]) -> Words {
         self.load_call(numbers, out)
     }

@@ -258,6 +258,34 @@ static void loads(void)
     check(r.number == 0 && back.number == 0 && back.first == 512 && 4 + 2 * 512 + 4 * back.second == r.first, "the largest load is a board");
 }
 
+/* what the check replies to T on B with these bytes at a centre; longer arrays are read no further than told */
+static int is_check(const uint8_t *nodes, size_t nodes_len, const uint8_t *links, size_t links_len, size_t centre, uint32_t number, size_t yes)
+{
+    return is_reply(heronditch_check(T, sizeof T, B, sizeof B, centre, nodes, nodes_len, links, links_len), number, HERONDITCH_NEITHER, yes, 0);
+}
+
+static void proposals(void)
+{
+    static const uint8_t in[] = {1, 1, 1, 0, 0, 0, 0}, on[] = {1, 1, 0, 0}, two[] = {2, 1, 1, 0, 0, 0}, all[] = {1, 1, 1, 1, 1, 1};
+    static const uint8_t less[] = {1, 0, 0}, more[] = {1, 1, 1}, none[] = {0, 0, 0, 0, 0, 0}, empty[] = {0, 0, 0, 0};
+    check(is_check(in, 6, on, 3, 0, 0, 1) && is_check(in, 6, on, 3, 2, 0, 1), "the place around 0 and around 2");
+    check(is_check(in, 6, on, 3, 3, 0, 0), "the place around 0 is none around 3");
+    check(is_check(in, 6, less, 3, 0, 0, 0), "a link left out");
+    check(is_check(in, 6, more, 3, 0, 0, 0), "a link whose ends are not marked");
+    check(is_check(all, 6, more, 3, 0, 0, 0), "the whole board");
+    check(is_check(two, 6, on, 3, 0, 0, 0), "a byte 2");
+    check(is_check(none, 6, none, 3, 0, 0, 0), "nothing marked");
+    check(is_check(in, 5, on, 3, 0, 3, 0) && is_check(in, 7, on, 3, 0, 3, 0), "one node byte less, and one more");
+    check(is_check(in, 6, on, 2, 0, 3, 0) && is_check(in, 6, on, 4, 0, 3, 0), "one link byte less, and one more");
+    check(is_check(in, 5, on, 2, 6, 7, 0) && is_check(in, 5, on, 2, SIZE_MAX, 7, 0), "7 comes before 3");
+    check(is_check(NULL, 0, NULL, 0, 0, 3, 0), "no bytes");
+    check(is_reply(heronditch_check(NULL, 0, NULL, 0, 0, NULL, 0, NULL, 0), 1, HERONDITCH_PATTERN, 0, 0), "a check of nothing");
+    check(is_reply(heronditch_check(T, sizeof T, NULL, 0, 0, in, 6, on, 3), 1, HERONDITCH_BOARD, 0, 0), "a check on nothing");
+    check(is_reply(heronditch_check(T, sizeof T, empty, 4, 0, NULL, 0, NULL, 0), 7, HERONDITCH_NEITHER, 0, 0), "a check on no node");
+    static const uint8_t part[] = {1, 0, 0, 0, 10, 0};
+    check(is_reply(heronditch_check(part, 6, part, 6, 0, more, 1, NULL, 0), 0, HERONDITCH_NEITHER, 1, 0), "one part on itself, without links");
+}
+
 /* The file of a path of so many parts, whose radius is one less; returns its length. */
 static size_t path_of(size_t parts, uint8_t *file)
 {
@@ -313,6 +341,7 @@ int main(void)
     loads();
     widths();
     lookups();
+    proposals();
     printf("edges: %d checks, %d failed\n", checks, failed);
     return failed != 0;
 }

@@ -5,6 +5,7 @@ pub mod Merged
 pub mod Groupings
 pub mod Limit
 pub mod GroupingExamples
+pub mod Proposals
 pub mod Report
 pub mod Examples
 pub mod Files

@@ -138,3 +138,8 @@ shortTable needed lent = record { number = 8; file = Neither; holds = ltb lent n
 -- 10 "one of the four numbers out of its range" (document 02, a test load): `fits` says whether all are in theirs. It is tried ahead of 8.
 unfoldable pub numberOutside : Bool → Condition
 numberOutside fits = record { number = 10; file = Neither; holds = not fits }
+
+-- 3 "Node or link bytes of another length than N and M are 3 with neither file named, checked after 7" (document 02, check a place from
+-- elsewhere): asked is what the length shall be, given what it is. Longer is wrong too.
+unfoldable pub otherLength : ℕ → ℕ → Condition
+otherLength asked given = record { number = 3; file = Neither; holds = not (eqb given asked) }

@@ -45,6 +45,13 @@ pub enum Call<'a> {
         centre: usize,
         radius: u16,
     },
+    Check {
+        pattern: &'a [u8],
+        board: &'a [u8],
+        centre: usize,
+        nodes: &'a [u8],
+        links: &'a [u8],
+    },
     Merge {
         pattern: &'a [u8],
     },
@@ -77,6 +84,7 @@ impl Call<'_> {
             Call::Match { .. } => "match",
             Call::Place { .. } => "place",
             Call::PlaceWithin { .. } => "place_within",
+            Call::Check { .. } => "check",
             Call::Merge { .. } => "merge",
             Call::Load { .. } => "load",
         }
@@ -95,7 +103,7 @@ impl Call<'_> {
                     starts.len().min(4100),
                 )]
             }
-            Call::Radius { .. } => vec![],
+            Call::Radius { .. } | Call::Check { .. } => vec![],
             Call::Ball { board, .. } | Call::Match { board, .. } => vec![sizes(board).0],
             Call::Place { board, .. } | Call::PlaceWithin { board, .. } => {
                 let (n, m) = sizes(board);
@@ -149,6 +157,16 @@ impl fmt::Display for Call<'_> {
                 centre,
             } => {
                 write!(f, " centre {centre}")?;
+                both(f, pattern, board)
+            }
+            Call::Check {
+                pattern,
+                board,
+                centre,
+                nodes,
+                links,
+            } => {
+                write!(f, " centre {centre}\nnodes {nodes:?}\nlinks {links:?}")?;
                 both(f, pattern, board)
             }
             Call::PlaceWithin {
@@ -271,6 +289,13 @@ pub fn run(finder: &dyn Finder, call: &Call, lent: &Lent) -> Outcome {
             let reply = finder.match_table(pattern, board, &mut table);
             (reply, vec![table])
         }
+        Call::Check {
+            pattern,
+            board,
+            centre,
+            nodes,
+            links,
+        } => (finder.check(pattern, board, centre, nodes, links), vec![]),
         Call::Merge { pattern } => {
             let (mut classes, mut out) = (lent.bytes(0), lent.bytes(1));
             let reply = finder.merge(pattern, &mut classes, &mut out);

@@ -8,6 +8,7 @@ pub mod damage;
 pub mod edges;
 pub mod finder;
 pub mod laws;
+pub mod proposals;
 pub mod tally;
 
 use std::fmt;

@@ -140,6 +140,17 @@ extern "C" {
         distances: *mut u16,
         distances_length: usize,
     ) -> Counts;
+    fn heronditch_check(
+        pattern: *const u8,
+        pattern_length: usize,
+        board: *const u8,
+        board_length: usize,
+        centre: usize,
+        nodes: *const u8,
+        nodes_length: usize,
+        links: *const u8,
+        links_length: usize,
+    ) -> Reply;
     fn heronditch_merge(
         pattern: *const u8,
         pattern_length: usize,
@@ -340,6 +351,30 @@ impl Finder for Host {
                 out.table.len(),
                 lent(out.distances),
                 out.distances.len(),
+            )
+        }
+        .words()
+    }
+
+    fn check(
+        &self,
+        pattern: &[u8],
+        board: &[u8],
+        centre: usize,
+        nodes: &[u8],
+        links: &[u8],
+    ) -> Words {
+        unsafe {
+            heronditch_check(
+                given(pattern),
+                pattern.len(),
+                given(board),
+                board.len(),
+                centre,
+                given(nodes),
+                nodes.len(),
+                given(links),
+                links.len(),
             )
         }
         .words()
