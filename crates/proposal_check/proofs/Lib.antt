@@ -1,0 +1,4 @@
+pub mod Tests
+pub mod Choosing
+pub mod Searched
+pub mod Marked
