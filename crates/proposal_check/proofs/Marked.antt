@@ -4,9 +4,9 @@ use mathlib.Core.List.{List}
 use mathlib.Core.Path.{_≡_, sym, ap, ap₂, _∙_}
 use Prim.Native.Nat.{ℕ, _≤_}
 use native.Mathlib.Omega.{arith}
-use borrow.Author.Tests.{lt-ltb, eq-eqb, ne-eqb}
+use borrow.Author.Tests.{lt-ltb}
 use lib.Dec.{T, ltb}
-use lib.ListN.{length, getD}
+use lib.ListN.{length}
 use Rattle.base_lists.specs.List.{allBelow, all, Below}
 use Rattle.base_lists.proofs.Tests.{true-T, at-all}
 use Rattle.graph.specs.Chosen.{picked, chosen}
@@ -22,28 +22,7 @@ use Rattle.table.proofs.Prepare.{prepared}
 use Rattle.place.specs.Bytes.{nodeBytes, linkBytes}
 use Rattle.place.specs.Find.{Tabled, Located}
 use Rattle.place.specs.Match.{ballOf, found, placeNodes, placeLinks}
-use Rattle.proposal.specs.Check.{bits, endsMarked, marksSubgraph, inRow, fills, checks}
-
--- ---- the bytes mark a subgraph with the centre
-
-module _ (board : Circuit) (w : ℕ) (nodes links : List ℕ) where
-  pub nodes-not : bits nodes ≡ false → false ≡ marksSubgraph board w nodes links
-  unfolding marksSubgraph
-  nodes-not e = rw e
-
-  module _ (n : bits nodes ≡ true) where
-    pub links-not : bits links ≡ false → false ≡ marksSubgraph board w nodes links
-    unfolding marksSubgraph
-    links-not e = rw (n, e)
-
-    module _ (l : bits links ≡ true) where
-      pub centre-not : (getD nodes w 0 ≡ 1 → ⊥) → false ≡ marksSubgraph board w nodes links
-      unfolding marksSubgraph inside
-      centre-not e = rw (n, l, ne-eqb (getD nodes w 0) 1 e)
-
-      pub ends-left : getD nodes w 0 ≡ 1 → endsMarked (board .starts) (board .ends) nodes links ≡ marksSubgraph board w nodes links
-      unfolding marksSubgraph inside
-      ends-left e = rw (n, l, eq-eqb (getD nodes w 0) 1 e)
+use Rattle.proposal.specs.Check.{marksSubgraph, inRow, fills, checks}
 
 -- ---- the board is filled by its place
 

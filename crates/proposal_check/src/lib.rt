@@ -1,8 +1,4 @@
 // Checking a proposed place on a pattern and a board that were read.
-use crate::chosen::choose;
-use crate::marks::in_row;
-use crate::marks::links_placed;
-use crate::marks::marks_subgraph;
 use file_format::Board;
 use graph_neighbours::tables::LINKS;
 use graph_neighbours::tables::OFFSETS;
@@ -10,6 +6,10 @@ use graph_neighbours::tables::neighbour_tables;
 use graph_search::search;
 use place::Around;
 use place_around::find;
+use proposal_marks::chosen::choose;
+use proposal_marks::marks::in_row;
+use proposal_marks::marks::links_placed;
+use proposal_marks::marks::marks_subgraph;
 use table::first::start;
 use table_prepare::lookups::prepare;
 ghost use mathlib.Core.Path.{_≡_};
@@ -25,9 +25,6 @@ ghost use Rattle.table.specs.Prepared.{tables};
 ghost use Rattle.proposal.specs.Check.{inRow, checks};
 ghost use Rattle.place_circuits.specs.Ball.{SomeTabled};
 ghost use Rattle.proposal_check.specs.Tabled.{SomePattern, EveryFills, EveryJoined};
-
-pub mod chosen;
-pub mod marks;
 
 // Whether every marked node is in the ball around the centre at the radius, in the whole board. The neighbour tables are scratch.
 fn near(

@@ -1,4 +1,5 @@
 -- `call_check::check_on` meets its contract: the centre is outside, or the bytes have another length, or it is yes or no. Assumes nothing.
+use native.Mathlib.Omega.{arith}
 use borrow.Author.Needs.{needs}
 use Rattle.call_check.proofs.Judging.{on-centre, on-nodes, on-links, on-judged}
 use Rattle.call_check.proofs.check_on.Statement.{statement}
@@ -20,13 +21,13 @@ refused-requires-3 : tie.Need-refused-requires-3
 refused-requires-3 c κs = search needs
 
 returns-3 : tie.Need-returns-3
-returns-3 c = rw (c .refused3 .ensures) (on-links _ _ _ _ _ _ (c .before .before .before .if1 .left) (c .before .before .if2 .left) (c .before .if3 .taken))
+returns-3 c = rw (c .refused3 .ensures) (on-links _ _ _ _ _ _ (c .before .before .before .if1 .left) (c .before .before .if2 .left) (omega (arith, c .before .if3 .taken)))
 
 cast-t19 : tie.Need-cast-t19
 cast-t19 c = search needs
 
 check-circuits-requires : tie.Need-check-circuits-requires
-check-circuits-requires c κs = (c .before .before .before .before .before .before .before .before .before .before .before .before .before .pre, (c .before .before .before .before .if1 .left, (c .before .before .before .if2 .left, c .before .before .if3 .left)))
+check-circuits-requires c κs = (c .before .before .before .before .before .before .before .before .before .before .before .before .before .pre, (c .before .before .before .before .if1 .left, (c .before .before .before .if2 .left, omega (arith, c .before .before .if3 .left))))
 
 judged-requires : tie.Need-judged-requires
 judged-requires c κs = search needs

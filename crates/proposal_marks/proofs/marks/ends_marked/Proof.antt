@@ -1,4 +1,4 @@
--- `proposal_check::marks::ends_marked` meets its contract: the links passed have both ends marked, where they are marked. Assumes nothing.
+-- `proposal_marks::marks::ends_marked` meets its contract: the links passed have both ends marked, where they are marked. Assumes nothing.
 use mathlib.Core.Logic.{⊎-elim}
 use mathlib.Core.Path.{_≡_, sym, _∙_}
 use Prim.Native.Nat.{ℕ, _≤_, _<_, _-_}
@@ -8,9 +8,9 @@ use borrow.Author.Count.{below-more}
 use borrow.Author.Needs.{needs}
 use lib.ListN.{length, getD}
 use Rattle.base_lists.specs.List.{Below}
-use Rattle.proposal_check.proofs.Tests.{EndsAt, ends-true, ends-false}
-use Rattle.proposal_check.proofs.marks.ends_marked.Statement.{statement}
-use Rattle.proposal_check.proofs.marks.ends_marked.Tie as tie
+use Rattle.proposal_marks.proofs.Tests.{EndsAt, ends-true, ends-false}
+use Rattle.proposal_marks.proofs.marks.ends_marked.Statement.{statement}
+use Rattle.proposal_marks.proofs.marks.ends_marked.Tie as tie
 
 abbrev Inv-loop : tie.InvT-loop
 Inv-loop starts ends nodes links i₀ i = (i ≤ length links) × ((k : ℕ) → k < i → EndsAt starts ends nodes links k)

@@ -1,4 +1,4 @@
--- `proposal_check::marks::in_row` meets its contract: the nodes passed were reached, where they are marked. Assumes nothing.
+-- `proposal_marks::marks::in_row` meets its contract: the nodes passed were reached, where they are marked. Assumes nothing.
 use mathlib.Core.Logic.{⊎-elim}
 use mathlib.Core.Path.{_≡_}
 use Prim.Native.Nat.{ℕ, _≤_, _<_, _-_}
@@ -7,9 +7,9 @@ use borrow.Author.Count.{below-more}
 use borrow.Author.Needs.{needs}
 use lib.ListN.{length, getD}
 use Rattle.graph.specs.Search.{far}
-use Rattle.proposal_check.proofs.Tests.{row-true, row-false}
-use Rattle.proposal_check.proofs.marks.in_row.Statement.{statement}
-use Rattle.proposal_check.proofs.marks.in_row.Tie as tie
+use Rattle.proposal_marks.proofs.Tests.{row-true, row-false}
+use Rattle.proposal_marks.proofs.marks.in_row.Statement.{statement}
+use Rattle.proposal_marks.proofs.marks.in_row.Tie as tie
 
 abbrev Inv-loop : tie.InvT-loop
 Inv-loop dist nodes v₀ v = (v ≤ length nodes) × ((k : ℕ) → k < v → getD nodes k 0 ≡ 1 → getD dist k 0 ≡ far → ⊥)

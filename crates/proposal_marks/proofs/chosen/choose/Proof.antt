@@ -1,12 +1,12 @@
--- `proposal_check::chosen::choose` meets its contract: the chosen ones of the entries passed stand in front. Assumes nothing.
+-- `proposal_marks::chosen::choose` meets its contract: the chosen ones of the entries passed stand in front. Assumes nothing.
 use mathlib.Core.Logic.{⊎-elim}
 use Prim.Native.Nat.{ℕ, _≤_, _<_, _-_}
 use native.Mathlib.Omega.{arith}
 use borrow.Author.Needs.{needs}
 use lib.ListN.{length, getD}
-use Rattle.proposal_check.proofs.Choosing.{ChosenTo, chosen-none, chosen-one, chosen-other, chosen-all}
-use Rattle.proposal_check.proofs.chosen.choose.Statement.{statement}
-use Rattle.proposal_check.proofs.chosen.choose.Tie as tie
+use Rattle.proposal_marks.proofs.Choosing.{ChosenTo, chosen-none, chosen-one, chosen-other, chosen-all}
+use Rattle.proposal_marks.proofs.chosen.choose.Statement.{statement}
+use Rattle.proposal_marks.proofs.chosen.choose.Tie as tie
 
 abbrev Inv-loop : tie.InvT-loop
 Inv-loop marks xs₀ k₀ i₀ xs k i = ChosenTo marks xs₀ i k xs
@@ -44,7 +44,7 @@ loop-less c = search needs
 loop-again : tie.Need-loop-again Inv-loop μ-loop
 loop-again c =
     ⊎-elim
-    (λ w. rw (w .2, w .3) (chosen-one (c .before .before .before .before .pre) (c .before .before .before .loop .inv) (search needs) (w .0 .taken)))
+    (λ w. rw (w .2, w .3) (chosen-one (c .before .before .before .before .pre) (c .before .before .before .loop .inv) (search needs) (omega (arith, w .0 .taken))))
     (λ w. rw (w .1, w .2) (chosen-other (c .before .before .before .before .pre) (c .before .before .before .loop .inv) (search needs) (w .0 .left)))
     (c .if1 .came)
 

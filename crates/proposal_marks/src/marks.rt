@@ -12,7 +12,7 @@ ghost use Rattle.graph.specs.Search.{inside};
 ghost use Rattle.table.specs.Prepared.{succOf};
 ghost use Rattle.place.specs.Bytes.{nodeBytes, linkBytes};
 ghost use Rattle.proposal.specs.Check.{bits, endsMarked, marksSubgraph, inRow};
-ghost use Rattle.proposal_check.specs.Link.{placed};
+ghost use Rattle.proposal_marks.specs.Link.{placed};
 
 // Whether every byte is 0 or 1.
 fn bits(bytes: &[u8]) -> bool

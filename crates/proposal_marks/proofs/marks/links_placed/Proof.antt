@@ -1,4 +1,4 @@
--- `proposal_check::marks::links_placed` meets its contract: the links passed are in the place. Assumes nothing.
+-- `proposal_marks::marks::links_placed` meets its contract: the links passed are in the place. Assumes nothing.
 use denote.Ref.{now}
 use mathlib.Core.Bool.{true}
 use mathlib.Core.Path.{_≡_, sym, _∙_}
@@ -10,9 +10,9 @@ use borrow.Author.Needs.{needs}
 use lib.ListN.{length, getD}
 use Rattle.base_lists.specs.List.{Below}
 use Rattle.table.specs.Prepared.{succOf}
-use Rattle.proposal_check.proofs.Tests.{placed-at, placed-true, placed-false}
-use Rattle.proposal_check.proofs.marks.links_placed.Statement.{statement}
-use Rattle.proposal_check.proofs.marks.links_placed.Tie as tie
+use Rattle.proposal_marks.proofs.Tests.{placed-at, placed-true, placed-false}
+use Rattle.proposal_marks.proofs.marks.links_placed.Statement.{statement}
+use Rattle.proposal_marks.proofs.marks.links_placed.Tie as tie
 
 abbrev Inv-loop : tie.InvT-loop
 Inv-loop masks starts ends dist sets i₀ i = (i ≤ length starts) × ((k : ℕ) → k < i → placed-at starts ends (succOf masks) dist sets k ≡ true)

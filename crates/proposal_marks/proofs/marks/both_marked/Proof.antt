@@ -1,9 +1,9 @@
--- `proposal_check::marks::both_marked` meets its contract. Assumes nothing.
+-- `proposal_marks::marks::both_marked` meets its contract. Assumes nothing.
 use borrow.Author.Tests.{eq-eqb, ne-eqb}
 use borrow.Author.Needs.{needs}
 use Rattle.graph.specs.Search.{inside}
-use Rattle.proposal_check.proofs.marks.both_marked.Statement.{statement}
-use Rattle.proposal_check.proofs.marks.both_marked.Tie as tie
+use Rattle.proposal_marks.proofs.marks.both_marked.Statement.{statement}
+use Rattle.proposal_marks.proofs.marks.both_marked.Tie as tie
 
 shared-slice-read-if1 : tie.Need-shared-slice-read-if1
 shared-slice-read-if1 c = search needs

@@ -15,7 +15,7 @@ use Rattle.base_bits.specs.Bits.{intersects}
 use Rattle.graph.specs.Search.{far, inside}
 use Rattle.graph.proofs.Ball.{inside-below}
 use Rattle.place.specs.Bytes.{unlessFar, nodeBytes, drivenBy, linkByte, linkBytes}
-use Rattle.proposal_check.specs.Link.{placed}
+use Rattle.proposal_marks.specs.Link.{placed}
 use Rattle.proposal.specs.Check.{bits, endsMarked, inRow}
 use Rattle.proposal.proofs.Perfect.{bits-at, at-bits, unless-at, at-unless, row-at, at-row}
 

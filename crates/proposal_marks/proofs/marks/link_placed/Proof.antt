@@ -1,13 +1,13 @@
--- `proposal_check::marks::link_placed` meets its contract. Assumes nothing.
+-- `proposal_marks::marks::link_placed` meets its contract. Assumes nothing.
 use mathlib.Core.Path.{refl, ap₂, _∙_}
 use borrow.Author.Tests.{eq-eqb, ne-eqb}
 use borrow.Author.Needs.{needs}
 use Rattle.base_bits.specs.Bits.{intersects}
 use Rattle.graph.specs.Search.{far}
 use Rattle.place.specs.Bytes.{drivenBy}
-use Rattle.proposal_check.specs.Link.{placed}
-use Rattle.proposal_check.proofs.marks.link_placed.Statement.{statement}
-use Rattle.proposal_check.proofs.marks.link_placed.Tie as tie
+use Rattle.proposal_marks.specs.Link.{placed}
+use Rattle.proposal_marks.proofs.marks.link_placed.Statement.{statement}
+use Rattle.proposal_marks.proofs.marks.link_placed.Tie as tie
 
 mul-if1 : tie.Need-mul-if1
 mul-if1 c = search needs
