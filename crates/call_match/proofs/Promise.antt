@@ -30,7 +30,7 @@ use Rattle.file_format.specs.Reading.{filled}
 use Rattle.file_format.specs.Refusals.{Condition, Verdict, accept, refuse, first, without, asksConnected, linkConditions, fileConditions, Accepted, shortTable}
 use Rattle.file_format.specs.Role.{inRange}
 use Rattle.file_format.proofs.Accepted.{accepted-bounded, accepted-below, accepted-within, accepted-connected}
-use Rattle.file_format.proofs.Fields.{length-kinds}
+use Rattle.file_format.proofs.Fields.{length-labels}
 use Rattle.file_format.proofs.Refusals.{accepted, first-accept, first-refuse, first-holds, first-parts, refuses-iff, turned, turned-accept}
 use Rattle.file_pair.specs.Pair.{pairConditions}
 use Rattle.file_pair.proofs.Both.{pair-accept, pair-parts}
@@ -234,7 +234,7 @@ module _ (file : CircuitFile) where
 
   before-connected : Accepted AnyPattern file → before ≡ accept → Connected (circuitGraph (circuitOf file))
   unfolding circuitGraph
-  before-connected a e = rw length-kinds (connected-iff (accepted-below a) .0 (before-joined e))
+  before-connected a e = rw length-labels (connected-iff (accepted-below a) .0 (before-joined e))
 
 -- so the two calls' conditions come to the same, where the earlier one did not refuse with 6
 same-verdict : (pattern board : CircuitFile) (lent : ℕ) → (first (connectedConditions pattern board lent) ≡ turned Pattern 6 → ⊥)
