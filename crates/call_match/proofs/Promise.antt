@@ -1,5 +1,6 @@
 -- What the exported call's promise means: a refusal is one of the conditions; else the table holds the largest dual simulation of the
 -- pattern in the board, and the counts are those of the row. Assumes nothing.
+use mathlib.Core.Bool.{Bool, true, false, not, cond}
 use mathlib.Core.List.{List, _++_, map, List·Memᴰ}
 use mathlib.Core.Logic.{_↔_}
 use mathlib.Core.Path.{_≡_, refl, sym, ap, subst, _∙_}
@@ -7,23 +8,30 @@ use Prim.Native.Nat.{ℕ, _+_, _-_, _≤_, _<_}
 use native.Mathlib.Omega.{arith}
 use borrow.Author.Tests.{le-ltb}
 use lib.Count.{ones}
-use lib.Dec.{T}
+use lib.Dec.{T, eqb, ltb}
 use lib.ListN.{length, take, drop}
 use lib.Seq.{take-at, drop-at, getD-take}
 use Rattle.base_lists.specs.List.{sum}
+use Rattle.base_lists.proofs.Tests.{refuted}
 use Rattle.base_bits.specs.Bits.{bit}
 use Rattle.graph.specs.Circuit.{Circuit, circuitGraph}
+use Rattle.graph.specs.Graph.{Connected}
+use Rattle.graph.specs.Search.{connected}
+use Rattle.graph.proofs.Distance.{connected-iff}
 use Rattle.simulation.specs.Closed.{Relation}
 use Rattle.simulation.specs.Simulation.{Largest}
 use Rattle.simulation.proofs.Simulation.{largest-unique}
 use Rattle.file_format.specs.declared.Refusal.{Refusal}
 use Rattle.file_format.specs.declared.Role.the-variants.{Pattern, Board, AnyPattern}
 use Rattle.file_format.specs.Circuit.{circuitOf}
-use Rattle.file_format.specs.Layout.{nodesOf}
+use Rattle.file_format.specs.Layout.{nodesOf, linksOf, lengthOf, startsOf, endsOf}
+use Rattle.file_format.specs.Links.{linksBelow, rising}
 use Rattle.file_format.specs.Reading.{filled}
-use Rattle.file_format.specs.Refusals.{Condition, Verdict, accept, refuse, first, fileConditions, Accepted, shortTable}
-use Rattle.file_format.proofs.Accepted.{accepted-bounded, accepted-within, accepted-connected}
-use Rattle.file_format.proofs.Refusals.{accepted, first-accept, first-refuse, first-parts, refuses-iff, turned, any-verdict}
+use Rattle.file_format.specs.Refusals.{Condition, Verdict, accept, refuse, first, without, asksConnected, linkConditions, fileConditions, Accepted, shortTable}
+use Rattle.file_format.specs.Role.{inRange}
+use Rattle.file_format.proofs.Accepted.{accepted-bounded, accepted-below, accepted-within, accepted-connected}
+use Rattle.file_format.proofs.Fields.{length-kinds}
+use Rattle.file_format.proofs.Refusals.{accepted, first-accept, first-refuse, first-holds, first-parts, refuses-iff, turned, turned-accept}
 use Rattle.file_pair.specs.Pair.{pairConditions}
 use Rattle.file_pair.proofs.Both.{pair-accept, pair-parts}
 use Rattle.call_match.specs.declared.TableAnswer.{TableAnswer}
@@ -185,14 +193,58 @@ first-same xs ys zs e = go (first ys) refl
     go accept f = first-accept xs zs (e ∙ f) ∙ sym (first-accept ys zs f)
     go (refuse x) f = first-refuse xs zs x (e ∙ f) ∙ sym (first-refuse ys zs x f)
 
--- any pattern is refused as a connected one is, where that is refused neither with 6 nor with 11
+-- the first five tests on a pattern, and what the others come to
+abbrev asked : (a b c d e : Bool) → Verdict → Verdict
+asked a b c d e last = cond a (turned Pattern 1) (cond b (turned Pattern 2) (cond c (turned Pattern 3) (cond d (turned Pattern 4) (cond e (turned Pattern 5) last))))
+
+module _ (file : List ℕ) where
+  abbrev before : Verdict
+  before = first (without 11 (fileConditions Pattern file))
+
+  -- Any pattern is refused as a connected one was before 11 came in, where that was not refused with 6.
+  any-before : (before ≡ turned Pattern 6 → ⊥) → first (fileConditions AnyPattern file) ≡ before
+  unfolding first fileConditions linkConditions asksConnected without turned
+  any-before =
+      let n = nodesOf file in
+      let starts = startsOf file in
+      let ends = endsOf file in
+      go (ltb (length file) 4) (not (inRange Pattern n (linksOf file))) (not (eqb (length file) (lengthOf n (linksOf file))))
+      (not (linksBelow n starts ends)) (not (rising starts ends)) (not (connected n starts ends))
+    where
+      go : (a b c d e f : Bool) → (asked a b c d e (cond f (turned Pattern 6) accept) ≡ turned Pattern 6 → ⊥)
+          → asked a b c d e accept ≡ asked a b c d e (cond f (turned Pattern 6) accept)
+      go true b c d e f h = refl
+      go false true c d e f h = refl
+      go false false true d e f h = refl
+      go false false false true e f h = refl
+      go false false false false true f h = refl
+      go false false false false false true h = absurd (h refl)
+      go false false false false false false h = refl
+
+  -- and one that was accepted is connected
+  before-joined : before ≡ accept → T (connected (nodesOf file) (startsOf file) (endsOf file))
+  unfolding fileConditions linkConditions asksConnected without
+  before-joined e =
+      let h1 = first-holds _ _ e in
+      let h2 = first-holds _ _ (h1 .1) in
+      let h3 = first-holds _ _ (h2 .1) in
+      let h4 = first-holds _ _ (h3 .1) in
+      let h5 = first-holds _ _ (h4 .1) in
+      refuted (connected (nodesOf file) (startsOf file) (endsOf file)) (first-holds _ _ (h5 .1) .0)
+
+  before-connected : Accepted AnyPattern file → before ≡ accept → Connected (circuitGraph (circuitOf file))
+  unfolding circuitGraph
+  before-connected a e = rw length-kinds (connected-iff (accepted-below a) .0 (before-joined e))
+
+-- so the two calls' conditions come to the same, where the earlier one did not refuse with 6
 same-verdict : (pattern board : List ℕ) (lent : ℕ) → (first (connectedConditions pattern board lent) ≡ turned Pattern 6 → ⊥)
-    → (first (connectedConditions pattern board lent) ≡ turned Pattern 11 → ⊥) → first (matchConditions pattern board lent) ≡ first (connectedConditions pattern board lent)
+    → first (matchConditions pattern board lent) ≡ first (connectedConditions pattern board lent)
 unfolding matchConditions connectedConditions pairConditions turned
-same-verdict pattern board lent other narrow =
-    first-same (fileConditions AnyPattern pattern ++ fileConditions Board board) (fileConditions Pattern pattern ++ fileConditions Board board) _
-    (first-same (fileConditions AnyPattern pattern) (fileConditions Pattern pattern) (fileConditions Board board)
-    (any-verdict pattern (λ e. other (first-refuse _ _ _ (first-refuse _ _ _ e))) (λ e. narrow (first-refuse _ _ _ (first-refuse _ _ _ e)))))
+same-verdict pattern board lent other =
+    let drawn = without 11 (fileConditions Pattern pattern) in
+    first-same (fileConditions AnyPattern pattern ++ fileConditions Board board) (drawn ++ fileConditions Board board) _
+    (first-same (fileConditions AnyPattern pattern) drawn (fileConditions Board board)
+    (any-before pattern (λ e. other (first-refuse _ _ _ (first-refuse _ _ _ e)))))
 
 -- where the answer is the row's, the outcome is
 same-outcome : (v : Verdict) (p b : Circuit) (table : List ℕ)
@@ -202,18 +254,19 @@ same-outcome accept p b table plain = let a = plain refl in rw (sym (a .counted)
 same-outcome (refuse x) p b table plain = refl
 
 -- "Connected patterns get the table and counts they always got": the whole reply and the table are those of the call that document 01 has,
--- wherever that gives neither 6 nor 11.
+-- wherever that does not give 6.
 pub as-before :
     (pattern board table : List ℕ) → (connectedMatching pattern board table .reply .verdict ≡ turned Pattern 6 → ⊥) →
-    (connectedMatching pattern board table .reply .verdict ≡ turned Pattern 11 → ⊥) →
     matching pattern board table ≡ connectedMatching pattern board table
 unfolding matching connectedMatching connectedConditions
-as-before pattern board table other narrow =
-    rw (same-verdict pattern board (length table) (λ e. other (replied-verdict _ _ ∙ e)) (λ e. narrow (replied-verdict _ _ ∙ e)))
+as-before pattern board table other =
+    let same = same-verdict pattern board (length table) (λ e. other (replied-verdict _ _ ∙ e)) in
+    rw same
     (same-outcome _ (circuitOf pattern) (circuitOf board) table
     (λ e.
-    let drawn = accepted Pattern pattern (pair-parts Pattern pattern board (first-parts (pairConditions Pattern pattern board) _ e .0) .0) in
-    answer-connected (circuitOf pattern) (circuitOf board) (everything (circuitOf board)) (accepted-bounded drawn .nodes) (accepted-connected drawn)))
+    let drawn = first-parts _ _ (first-parts _ _ e .0) .0 in
+    let read = accepted AnyPattern pattern (any-before pattern (λ six. turned-accept Pattern 6 _ six drawn) ∙ drawn) in
+    answer-connected (circuitOf pattern) (circuitOf board) (everything (circuitOf board)) (accepted-bounded read .nodes) (before-connected pattern read drawn)))
 
 -- So the first N entries are the last set of the row,
 pub front-connected :

@@ -3,11 +3,11 @@ use mathlib.Core.List.{List, [], _∷_, _++_}
 use Prim.Native.Nat.{ℕ}
 use lib.ListN.{length}
 use Rattle.graph.specs.Circuit.{Circuit}
-use Rattle.file_format.specs.declared.Role.the-variants.{Pattern, AnyPattern}
+use Rattle.file_format.specs.declared.Role.the-variants.{Pattern, Board, AnyPattern}
 use Rattle.file_format.specs.Circuit.{circuitOf}
 use Rattle.file_format.specs.Layout.{nodesOf}
 use Rattle.file_format.specs.Reading.{filled}
-use Rattle.file_format.specs.Refusals.{Condition, Verdict, accept, refuse, first, shortTable}
+use Rattle.file_format.specs.Refusals.{Condition, Verdict, accept, refuse, first, without, fileConditions, shortTable}
 use Rattle.file_pair.specs.Pair.{pairConditions}
 use Rattle.call_match.specs.declared.TableAnswer.{TableAnswer}
 use Rattle.call_match.specs.declared.TableAnswer.the-variants.{Matched, Refused}
@@ -48,9 +48,10 @@ matching pattern board table = matchedBy (first (matchConditions pattern board (
 
 -- ---- connected patterns alone, as document 01 has the call
 
--- "the pattern's 1 to 6 before the board's"
+-- "the pattern's 1 to 6 before the board's": without document 02's 11
 unfoldable pub connectedConditions : List ℕ → List ℕ → ℕ → List Condition
-connectedConditions pattern board lent = pairConditions Pattern pattern board ++ (shortTable (nodesOf board) lent ∷ [])
+connectedConditions pattern board lent =
+    (without 11 (fileConditions Pattern pattern) ++ fileConditions Board board) ++ (shortTable (nodesOf board) lent ∷ [])
 
 -- the last set of the row, with its counts. proofs/Promise: "Connected patterns get the table and counts they always got."
 abbrev pub rowBy : Verdict → Circuit → Circuit → List ℕ → TableOutcome

@@ -176,24 +176,24 @@ fn find(
         &mut stretches,
     );
     let verdict = read.verdict;
-    if let FileVerdict::Refused(x) = verdict {
-        return turned_away(x);
-    }
-    let radius = radius_for(reach, read.radius);
-    let parts = read.parts;
-    let n = read.nodes;
-    find_on(
-        &pk[..parts],
-        &nk[..n],
-        &masks,
-        &offsets,
-        &stretches,
-        Asked { centre, radius },
-        nodes,
-        links,
-        table,
-        distances,
-    )
+    let FileVerdict::Refused(x) = verdict else {
+        let radius = radius_for(reach, read.radius);
+        let parts = read.parts;
+        let n = read.nodes;
+        return find_on(
+            &pk[..parts],
+            &nk[..n],
+            &masks,
+            &offsets,
+            &stretches,
+            Asked { centre, radius },
+            nodes,
+            links,
+            table,
+            distances,
+        );
+    };
+    turned_away(x)
 }
 
 // The place around the centre at the pattern's radius: the ball's four counts, with a byte per board node and one per board link, 1 in the

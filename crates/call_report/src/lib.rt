@@ -94,26 +94,26 @@ pub fn report(pattern: &[u8], board: &[u8], from: usize, found: u16, out: &mut [
         &mut ne,
     );
     let verdict = read.verdict;
-    if let FileVerdict::Refused(x) = verdict {
-        return answer_refused(x, from, found, out);
-    }
-    if out.len() < LONGEST {
-        return too_short();
-    }
-    let parts = read.parts;
-    let joins = read.joins;
-    let n = read.nodes;
-    let m = read.links;
-    ReportAnswer::Put(put_piece(
-        &pk[..parts],
-        &ps[..joins],
-        &pe[..joins],
-        &nk[..n],
-        &ns[..m],
-        &ne[..m],
-        read.radius,
-        from,
-        found,
-        out,
-    ))
+    let FileVerdict::Refused(x) = verdict else {
+        if out.len() < LONGEST {
+            return too_short();
+        }
+        let parts = read.parts;
+        let joins = read.joins;
+        let n = read.nodes;
+        let m = read.links;
+        return ReportAnswer::Put(put_piece(
+            &pk[..parts],
+            &ps[..joins],
+            &pe[..joins],
+            &nk[..n],
+            &ns[..m],
+            &ne[..m],
+            read.radius,
+            from,
+            found,
+            out,
+        ));
+    };
+    answer_refused(x, from, found, out)
 }

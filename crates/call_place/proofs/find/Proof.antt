@@ -32,13 +32,6 @@ read-prepared-requires c κs = ((refl, refl), (refl, record { inOffsets = refl; 
 enum-known-verdict : tie.Need-enum-known-verdict
 enum-known-verdict c = search needs
 
-turned-away-requires : tie.Need-turned-away-requires
-turned-away-requires c κs = search needs
-
-returns : tie.Need-returns
-returns c =
-    rw (c .turned-away .ensures) (find-refused _ _ _ _ _ _ _ _ (turned-pair (c .before .before .before .before .before .before .before .before .before .read-prepared .ensures) (c .before .before .verdict .given .1)))
-
 enum-told : tie.Need-enum-told
 enum-told c = search needs
 
@@ -89,10 +82,17 @@ same-length-3 c = search needs
 same-length-4 : tie.Need-same-length-4
 same-length-4 c = search needs
 
-returns-2 : tie.Need-returns-2
-returns-2 c =
+returns : tie.Need-returns
+returns c =
     find-read _ _ _ _ _ _ _ _ (ready-verdict (c .before .before .before .before .before .before .before .before .before .before .before .before .before .before .before .before .before .before .before .before .before .before .before .before .before .before .read-prepared .ensures) (c .before .before .before .before .before .before .before .before .before .before .before .before .before .before .before .before .before .before .before .enum-told .given .1)) (ready (c .before .before .before .before .before .before .before .before .before .before .before .before .before .before .before .before .before .before .before))
     (c .before .before .before .before .before .before .before .before .before .before .before .before .before .before .before .before .before .before .radius-for .ensures) (c .before .before .before .before .before .before .before .before .find-on .ensures)
+
+turned-away-requires : tie.Need-turned-away-requires
+turned-away-requires c κs = search needs
+
+returns-2 : tie.Need-returns-2
+returns-2 c =
+    rw (c .turned-away .ensures) (find-refused _ _ _ _ _ _ _ _ (turned-pair (c .before .before .before .before .before .before .before .before .before .read-prepared .ensures) (c .before .before .verdict .given .1)))
 
 pub find-spec : {M : Type 1} → statement M
 find-spec =
@@ -105,8 +105,6 @@ find-spec =
     slice-aggregate-read-prepared-5
     read-prepared-requires
     enum-known-verdict
-    turned-away-requires
-    returns
     enum-told
     radius-for-requires
     array-share-prefix-pk
@@ -121,4 +119,6 @@ find-spec =
     same-length-2
     same-length-3
     same-length-4
+    returns
+    turned-away-requires
     returns-2)

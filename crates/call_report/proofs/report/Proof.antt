@@ -48,20 +48,6 @@ read-pair-requires c κs = search needs
 enum-known-verdict : tie.Need-enum-known-verdict
 enum-known-verdict c = search needs
 
-answer-refused-requires : tie.Need-answer-refused-requires
-answer-refused-requires c κs = search needs
-
-same-length : tie.Need-same-length
-same-length c = search needs
-
--- a file is refused
-returns : tie.Need-returns
-returns c =
-    let put = c .before .before in
-    let told = put .before .before .before in
-    put .answer-refused .ensures
-    ∙ reporting-refused _ _ _ _ _ (refused-pair (told .before .before .before .before .before .before .before .before .read-pair .ensures) (told .verdict .given .1))
-
 enum-told : tie.Need-enum-told
 enum-told c = search needs
 
@@ -77,8 +63,8 @@ both c = both-read (reading c .read-pair .ensures) (c .enum-told .given .1)
 too-short-requires : tie.Need-too-short-requires
 too-short-requires c κs = search needs
 
-returns-2 : tie.Need-returns-2
-returns-2 c =
+returns : tie.Need-returns
+returns c =
     outcome-short _ _ _ (c .too-short .ensures) (c .before .if1 .taken)
     ∙ reporting-lines _ _ _ _ _ (both (c .before .before))
 
@@ -123,15 +109,30 @@ slice-aggregate-put-piece-6 c = sym (stands-size (both (c .before .before .befor
 put-piece-requires : tie.Need-put-piece-requires
 put-piece-requires c κs = let read = both (c .before .before .before .before .before .before .before .before) in (both-drawn read, read-radius read)
 
+same-length : tie.Need-same-length
+same-length c = search needs
+
+returns-2 : tie.Need-returns-2
+returns-2 c =
+    let put = c .before .before in
+    let roomy = put .before .before .before .before .before .before .before .before in
+    outcome-put _ _ _ (roomy .if1 .left) (put .put-piece .ensures)
+    ∙ reporting-lines _ _ _ _ _ (both (roomy .before))
+
+-- ---- a file is refused
+
+answer-refused-requires : tie.Need-answer-refused-requires
+answer-refused-requires c κs = search needs
+
 same-length-2 : tie.Need-same-length-2
 same-length-2 c = search needs
 
 returns-3 : tie.Need-returns-3
 returns-3 c =
     let put = c .before .before in
-    let roomy = put .before .before .before .before .before .before .before .before in
-    outcome-put _ _ _ (roomy .if1 .left) (put .put-piece .ensures)
-    ∙ reporting-lines _ _ _ _ _ (both (roomy .before))
+    let told = put .before .before .before in
+    put .answer-refused .ensures
+    ∙ reporting-refused _ _ _ _ _ (refused-pair (told .before .before .before .before .before .before .before .before .read-pair .ensures) (told .verdict .given .1))
 
 pub report-spec : {M : Type 1} → statement M
 report-spec =
@@ -145,12 +146,9 @@ report-spec =
     slice-aggregate-read-pair-6
     read-pair-requires
     enum-known-verdict
-    answer-refused-requires
-    same-length
-    returns
     enum-told
     too-short-requires
-    returns-2
+    returns
     array-share-prefix-pk
     slice-aggregate-put-piece
     array-share-prefix-ps
@@ -164,5 +162,8 @@ report-spec =
     array-share-prefix-ne
     slice-aggregate-put-piece-6
     put-piece-requires
+    same-length
+    returns-2
+    answer-refused-requires
     same-length-2
     returns-3)
