@@ -24,13 +24,13 @@ use Rattle.simulation.proofs.Simulation.{largest-unique}
 use Rattle.file_format.specs.declared.Refusal.{Refusal}
 use Rattle.file_format.specs.declared.Role.the-variants.{Pattern, Board, AnyPattern}
 use Rattle.file_format.specs.Circuit.{circuitOf}
-use Rattle.file_format.specs.Layout.{nodesOf, linksOf, lengthOf, startsOf, endsOf}
+use Rattle.file_format.specs.Layout.{CircuitFile, nodesOf, linksOf, lengthOf, startsOf, endsOf}
 use Rattle.file_format.specs.Links.{linksBelow, rising}
 use Rattle.file_format.specs.Reading.{filled}
 use Rattle.file_format.specs.Refusals.{Condition, Verdict, accept, refuse, first, without, asksConnected, linkConditions, fileConditions, Accepted, shortTable}
 use Rattle.file_format.specs.Role.{inRange}
 use Rattle.file_format.proofs.Accepted.{accepted-bounded, accepted-below, accepted-within, accepted-connected}
-use Rattle.file_format.proofs.Fields.{length-kinds}
+use Rattle.file_format.proofs.Fields.{length-labels}
 use Rattle.file_format.proofs.Refusals.{accepted, first-accept, first-refuse, first-holds, first-parts, refuses-iff, turned, turned-accept}
 use Rattle.file_pair.specs.Pair.{pairConditions}
 use Rattle.file_pair.proofs.Both.{pair-accept, pair-parts}
@@ -70,7 +70,7 @@ in-front : (n : ℕ) (t : List ℕ) (u v : ℕ) → v < n → inTable (take n t)
 unfolding inTable
 in-front n t u v h = ap (λ (x : ℕ). bit x u) (getD-take n t v 0 h)
 
-module _ (pattern board table : List ℕ) where
+module _ (pattern board : CircuitFile) (table : List ℕ) where
   verdict-is : matching pattern board table .reply .verdict ≡ first (matchConditions pattern board (length table))
   unfolding matching
   verdict-is = replied-verdict _ _
@@ -197,7 +197,7 @@ first-same xs ys zs e = go (first ys) refl
 abbrev asked : (a b c d e : Bool) → Verdict → Verdict
 asked a b c d e last = cond a (turned Pattern 1) (cond b (turned Pattern 2) (cond c (turned Pattern 3) (cond d (turned Pattern 4) (cond e (turned Pattern 5) last))))
 
-module _ (file : List ℕ) where
+module _ (file : CircuitFile) where
   abbrev before : Verdict
   before = first (without 11 (fileConditions Pattern file))
 
@@ -208,7 +208,7 @@ module _ (file : List ℕ) where
       let n = nodesOf file in
       let starts = startsOf file in
       let ends = endsOf file in
-      go (ltb (length file) 4) (not (inRange Pattern n (linksOf file))) (not (eqb (length file) (lengthOf n (linksOf file))))
+      go (ltb (length (file .bytes)) 4) (not (inRange Pattern n (linksOf file))) (not (eqb (length (file .bytes)) (lengthOf (file .edition) n (linksOf file))))
       (not (linksBelow n starts ends)) (not (rising starts ends)) (not (connected n starts ends))
     where
       go : (a b c d e f : Bool) → (asked a b c d e (cond f (turned Pattern 6) accept) ≡ turned Pattern 6 → ⊥)
@@ -234,10 +234,10 @@ module _ (file : List ℕ) where
 
   before-connected : Accepted AnyPattern file → before ≡ accept → Connected (circuitGraph (circuitOf file))
   unfolding circuitGraph
-  before-connected a e = rw length-kinds (connected-iff (accepted-below a) .0 (before-joined e))
+  before-connected a e = rw length-labels (connected-iff (accepted-below a) .0 (before-joined e))
 
 -- so the two calls' conditions come to the same, where the earlier one did not refuse with 6
-same-verdict : (pattern board : List ℕ) (lent : ℕ) → (first (connectedConditions pattern board lent) ≡ turned Pattern 6 → ⊥)
+same-verdict : (pattern board : CircuitFile) (lent : ℕ) → (first (connectedConditions pattern board lent) ≡ turned Pattern 6 → ⊥)
     → first (matchConditions pattern board lent) ≡ first (connectedConditions pattern board lent)
 unfolding matchConditions connectedConditions pairConditions turned
 same-verdict pattern board lent other =
@@ -256,7 +256,7 @@ same-outcome (refuse x) p b table plain = refl
 -- "Connected patterns get the table and counts they always got": the whole reply and the table are those of the call that document 01 has,
 -- wherever that does not give 6.
 pub as-before :
-    (pattern board table : List ℕ) → (connectedMatching pattern board table .reply .verdict ≡ turned Pattern 6 → ⊥) →
+    (pattern board : CircuitFile) (table : List ℕ) → (connectedMatching pattern board table .reply .verdict ≡ turned Pattern 6 → ⊥) →
     matching pattern board table ≡ connectedMatching pattern board table
 unfolding matching connectedMatching connectedConditions
 as-before pattern board table other =
@@ -270,7 +270,7 @@ as-before pattern board table other =
 
 -- So the first N entries are the last set of the row,
 pub front-connected :
-    (pattern board table : List ℕ) → Accepted Pattern pattern → matching pattern board table .reply .verdict ≡ accept →
+    (pattern board : CircuitFile) (table : List ℕ) → Accepted Pattern pattern → matching pattern board table .reply .verdict ≡ accept →
     take (nodesOf board) (matching pattern board table .table) ≡ lastTable (circuitOf pattern) (circuitOf board) (everything (circuitOf board))
 front-connected pattern board table drawn ok =
     front-is pattern board table ok

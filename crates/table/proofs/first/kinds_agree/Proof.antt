@@ -1,16 +1,18 @@
--- `table::first::kinds_agree` meets its contract: each return rewrites with the test that led there. Assumes nothing.
-use borrow.Author.Tests.{eq-eqb, ne-eqb}
-use Rattle.table.specs.Row.{kindsAgree}
+-- `table::first::kinds_agree` meets its contract: the label that it tries first is that of any part of the node's package. Assumes nothing.
+use mathlib.Core.Path.{sym}
+use native.Mathlib.Omega.{arith}
+use Rattle.table.proofs.Agreement.{agree-any, agree-own}
 use Rattle.table.proofs.first.kinds_agree.Statement.{statement}
 use Rattle.table.proofs.first.kinds_agree.Tie as tie
 
+mul-any : tie.Need-mul-any
+mul-any c = omega arith
+
 returns : tie.Need-returns
-unfolding kindsAgree
-returns c = simp (eq-eqb (c .before .args .part) 0 (c .if1 .taken))
+returns c = let a = c .before .args in sym (agree-any (a .part) (a .node) (c .if1 .taken))
 
 returns-2 : tie.Need-returns-2
-unfolding kindsAgree
-returns-2 c = simp (ne-eqb (c .before .args .part) 0 (c .if1 .left))
+returns-2 c = let a = c .before .args in sym (agree-own (a .part) (a .node) (c .if1 .left))
 
 pub kinds-agree-spec : {M : Type 1} → statement M
-kinds-agree-spec = tie.close (tie.spec returns returns-2)
+kinds-agree-spec = tie.close (tie.spec mul-any returns returns-2)
