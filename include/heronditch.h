@@ -22,12 +22,14 @@
  * the first edition counts as having all packages 0. The calls read the first edition; those whose names end in _2, or in two digits, read
  * the second: of two digits the first is the pattern's edition and the second the board's, or that of the old file and that of the new.
  *
- * Numbers of refusal. Where several hold, the pattern's 1 to 6 come first, then its 11, then the board's 1 to 5, then 7, 10, 12, 8 and 9:
+ * Numbers of refusal. Where several hold, the pattern's 1 to 6 come first, then its 11, then the board's 1 to 5, then 7, the check's 3, 10, 12,
+ * 8 and 9:
  *   1  a file of under 4 bytes                         6  the pattern is not connected
  *   2  the number of nodes or links out of range       7  the centre is not a node of the board
  *   3  a length that is not the edition's;             8  a lent table is too short
  *      on writing, not as many ends as starts,         9  no place around the centre
- *      or not as many packages as kinds               10  a number of a test load out of its range
+ *      or not as many packages as kinds; on           10  a number of a test load out of its range
+ *      checking, not N node bytes or M link bytes
  *   4  a link to or from a node that is not there     11  the pattern's radius is above HERONDITCH_RADIUS: two of its parts
  *   5  links that do not rise strictly,                   are farther apart, which is a mistake in its drawing
  *      by start and then by end                       12  converting to the first edition, a package other than 0
@@ -146,6 +148,13 @@ heronditch_counts heronditch_place_within(const uint8_t *pattern, size_t pattern
                                           size_t centre, uint16_t radius, uint8_t *nodes, size_t nodes_len, uint8_t *links,
                                           size_t links_len, uint32_t *table, size_t table_len, uint16_t *distances, size_t distances_len);
 
+/* Checks a place from elsewhere: N node bytes and M link bytes, neither more nor fewer. Replies with 1 where they are a perfect subgraph around
+ * the centre at the pattern's radius, largest or not, and with 0 where they are not; bytes other than 0 and 1, or a marked link whose ends are
+ * not both marked, give 0. Whatever heronditch_place marks gets a 1, and a 1 means that heronditch_place finds a place there that has all that
+ * was proposed. Nothing is written, so 8 and 9 are never replied. */
+heronditch_reply heronditch_check(const uint8_t *pattern, size_t pattern_len, const uint8_t *board, size_t board_len, size_t centre,
+                                  const uint8_t *nodes, size_t nodes_len, const uint8_t *links, size_t links_len);
+
 /* Merges the parts of a pattern that match each other: the class of each of its N parts, and the merged pattern's file. Lend N bytes and
  * as many bytes as the pattern's file has. Replies with the number of classes and the merged file's length. */
 heronditch_reply heronditch_merge(const uint8_t *pattern, size_t pattern_len, uint8_t *classes, size_t classes_len, uint8_t *out,
@@ -190,6 +199,14 @@ heronditch_counts heronditch_match_21(const uint8_t *pattern, size_t pattern_len
                                       size_t table_len);
 heronditch_counts heronditch_match_22(const uint8_t *pattern, size_t pattern_len, const uint8_t *board, size_t board_len, uint32_t *table,
                                       size_t table_len);
+
+/* Checks a place from elsewhere, on files of these editions. */
+heronditch_reply heronditch_check_12(const uint8_t *pattern, size_t pattern_len, const uint8_t *board, size_t board_len, size_t centre,
+                                     const uint8_t *nodes, size_t nodes_len, const uint8_t *links, size_t links_len);
+heronditch_reply heronditch_check_21(const uint8_t *pattern, size_t pattern_len, const uint8_t *board, size_t board_len, size_t centre,
+                                     const uint8_t *nodes, size_t nodes_len, const uint8_t *links, size_t links_len);
+heronditch_reply heronditch_check_22(const uint8_t *pattern, size_t pattern_len, const uint8_t *board, size_t board_len, size_t centre,
+                                     const uint8_t *nodes, size_t nodes_len, const uint8_t *links, size_t links_len);
 
 /* Merges the parts of a second-edition pattern. A merged part has its class's package; the merged file is of the second edition. */
 heronditch_reply heronditch_merge_2(const uint8_t *pattern, size_t pattern_len, uint8_t *classes, size_t classes_len, uint8_t *out,

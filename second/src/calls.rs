@@ -2,8 +2,9 @@
 //! its whole result or a refusal, and only then fills what was lent; entries
 //! past those needed keep their content.
 
+use crate::check::{marked, perfect};
 use crate::circuit::{
-    both, both_in_bits, gather, gather_second, parse, parse_in, Circuit, Edition, File, Refusal,
+    both, both_in, both_in_bits, gather, gather_second, parse, parse_in, Circuit, Edition, File, Refusal,
     Role,
 };
 use crate::graph::{radius as radius_of, within};
@@ -328,6 +329,32 @@ fn found(
     };
     out.fill(place, entries(board, centre, radius));
     Ok(Counted::accepted(counts))
+}
+
+/// Replies with 1 where the bytes are a perfect subgraph around the centre at
+/// the pattern's radius, largest or not, and with 0 where they are not.
+pub fn check(pattern: &[u8], board: &[u8], centre: usize, nodes: &[u8], links: &[u8]) -> Reply {
+    check_in([Edition::First; 2], pattern, board, centre, nodes, links)
+}
+
+/// The same on files each of its edition.
+pub fn check_in(
+    editions: [Edition; 2],
+    pattern: &[u8],
+    board: &[u8],
+    centre: usize,
+    nodes: &[u8],
+    links: &[u8],
+) -> Reply {
+    either(both_in(editions, pattern, board).and_then(|(pattern, board)| {
+        inside(centre, &board)?;
+        if nodes.len() != board.kinds.len() || links.len() != board.links.len() {
+            return Err(Refusal::neither(3));
+        }
+        let graph = marked(&board, nodes, links);
+        let yes = |graph| perfect(&pattern, &board, centre, radius_of(&pattern), &graph);
+        Ok(Reply::accepted(usize::from(graph.is_some_and(yes)), 0))
+    }))
 }
 
 /// Fills the class of each part and the merged file; replies with the number

@@ -7,6 +7,7 @@
 #![forbid(unsafe_code)]
 
 pub mod calls;
+pub mod check;
 pub mod circuit;
 pub mod compare;
 pub mod graph;

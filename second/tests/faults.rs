@@ -606,6 +606,18 @@ impl Finder for Faulty {
         }
     }
 
+    fn check(
+        &self,
+        editions: [Edition; 2],
+        pattern: &[u8],
+        board: &[u8],
+        centre: usize,
+        nodes: &[u8],
+        links: &[u8],
+    ) -> Words {
+        Second.check(editions, pattern, board, centre, nodes, links)
+    }
+
     fn load(&self, numbers: Numbers, out: &mut [u8]) -> Words {
         self.load_call(numbers, out)
     }

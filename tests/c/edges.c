@@ -203,6 +203,17 @@ static void second_edition(void)
     check(is_counts(heronditch_match_21(T2, sizeof T2, T, sizeof T, table, 3), 0, HERONDITCH_NEITHER, 1, 0, 1, 1), "T with packages on T without");
     check(is_counts(heronditch_match_21(T0, sizeof T0, B, sizeof B, table, 4), 8, HERONDITCH_NEITHER, 0, 0, 0, 0), "match_21 with a short table");
     check(is_counts(heronditch_match_12(NULL, 0, NULL, 0, NULL, 0), 1, HERONDITCH_PATTERN, 0, 0, 0, 0), "match_12 of nothing");
+    static const uint8_t all[] = {1, 1, 1, 1};
+    check(is_reply(heronditch_check_22(T2, sizeof T2, T2, sizeof T2, 0, all, 3, all, 2), 0, HERONDITCH_NEITHER, 1, 0), "T with packages is its own place");
+    check(is_reply(heronditch_check_12(T, sizeof T, T2, sizeof T2, 0, all, 3, all, 2), 0, HERONDITCH_NEITHER, 0, 0), "and none of T without");
+    check(is_reply(heronditch_check_21(T2, sizeof T2, T, sizeof T, 0, all, 3, all, 2), 0, HERONDITCH_NEITHER, 0, 0), "nor the other way round");
+    check(is_reply(heronditch_check_12(T, sizeof T, T0, sizeof T0, 0, all, 3, all, 2), 0, HERONDITCH_NEITHER, 1, 0), "T without packages on T with package 0");
+    check(is_reply(heronditch_check_21(T0, sizeof T0, T, sizeof T, 0, all, 3, all, 2), 0, HERONDITCH_NEITHER, 1, 0), "and the other way round");
+    check(is_reply(heronditch_check_22(T2, sizeof T2, T2, sizeof T2, 0, all, 4, all, 2), 3, HERONDITCH_NEITHER, 0, 0), "check_22 with one node byte more");
+    check(is_reply(heronditch_check_22(T2, sizeof T2, T2, sizeof T2, 0, all, 3, all, 1), 3, HERONDITCH_NEITHER, 0, 0), "check_22 with one link byte less");
+    check(is_reply(heronditch_check_22(T2, sizeof T2, T, sizeof T, 0, all, 3, all, 2), 3, HERONDITCH_BOARD, 0, 0), "check_22 on a first-edition board");
+    check(is_reply(heronditch_check_12(NULL, 0, NULL, 0, 0, NULL, 0, NULL, 0), 1, HERONDITCH_PATTERN, 0, 0), "check_12 of nothing");
+    check(is_reply(heronditch_check_21(NULL, 0, NULL, 0, 0, NULL, 0, NULL, 0), 1, HERONDITCH_PATTERN, 0, 0), "check_21 of nothing");
     uint8_t classes[4] = {0xA5, 0xA5, 0xA5, 0xA5};
     memset(out, 0xA5, sizeof out);
     check(is_reply(heronditch_merge_2(T2, sizeof T2, classes, 3, out, sizeof T2 - 1), 8, HERONDITCH_NEITHER, 0, 0), "merge_2 with one byte less");
@@ -339,6 +350,34 @@ static void loads(void)
     check(r.number == 0 && back.number == 0 && back.first == 512 && 4 + 2 * 512 + 4 * back.second == r.first, "the largest load is a board");
 }
 
+/* what the check replies to T on B with these bytes at a centre; longer arrays are read no further than told */
+static int is_check(const uint8_t *nodes, size_t nodes_len, const uint8_t *links, size_t links_len, size_t centre, uint32_t number, size_t yes)
+{
+    return is_reply(heronditch_check(T, sizeof T, B, sizeof B, centre, nodes, nodes_len, links, links_len), number, HERONDITCH_NEITHER, yes, 0);
+}
+
+static void proposals(void)
+{
+    static const uint8_t in[] = {1, 1, 1, 0, 0, 0, 0}, on[] = {1, 1, 0, 0}, two[] = {2, 1, 1, 0, 0, 0}, all[] = {1, 1, 1, 1, 1, 1};
+    static const uint8_t less[] = {1, 0, 0}, more[] = {1, 1, 1}, none[] = {0, 0, 0, 0, 0, 0}, empty[] = {0, 0, 0, 0};
+    check(is_check(in, 6, on, 3, 0, 0, 1) && is_check(in, 6, on, 3, 2, 0, 1), "the place around 0 and around 2");
+    check(is_check(in, 6, on, 3, 3, 0, 0), "the place around 0 is none around 3");
+    check(is_check(in, 6, less, 3, 0, 0, 0), "a link left out");
+    check(is_check(in, 6, more, 3, 0, 0, 0), "a link whose ends are not marked");
+    check(is_check(all, 6, more, 3, 0, 0, 0), "the whole board");
+    check(is_check(two, 6, on, 3, 0, 0, 0), "a byte 2");
+    check(is_check(none, 6, none, 3, 0, 0, 0), "nothing marked");
+    check(is_check(in, 5, on, 3, 0, 3, 0) && is_check(in, 7, on, 3, 0, 3, 0), "one node byte less, and one more");
+    check(is_check(in, 6, on, 2, 0, 3, 0) && is_check(in, 6, on, 4, 0, 3, 0), "one link byte less, and one more");
+    check(is_check(in, 5, on, 2, 6, 7, 0) && is_check(in, 5, on, 2, SIZE_MAX, 7, 0), "7 comes before 3");
+    check(is_check(NULL, 0, NULL, 0, 0, 3, 0), "no bytes");
+    check(is_reply(heronditch_check(NULL, 0, NULL, 0, 0, NULL, 0, NULL, 0), 1, HERONDITCH_PATTERN, 0, 0), "a check of nothing");
+    check(is_reply(heronditch_check(T, sizeof T, NULL, 0, 0, in, 6, on, 3), 1, HERONDITCH_BOARD, 0, 0), "a check on nothing");
+    check(is_reply(heronditch_check(T, sizeof T, empty, 4, 0, NULL, 0, NULL, 0), 7, HERONDITCH_NEITHER, 0, 0), "a check on no node");
+    static const uint8_t part[] = {1, 0, 0, 0, 10, 0};
+    check(is_reply(heronditch_check(part, 6, part, 6, 0, more, 1, NULL, 0), 0, HERONDITCH_NEITHER, 1, 0), "one part on itself, without links");
+}
+
 /* The file of a path of so many parts, whose radius is one less; returns its length. */
 static size_t path_of(size_t parts, uint8_t *file)
 {
@@ -395,6 +434,7 @@ int main(void)
     widths();
     second_edition();
     lookups();
+    proposals();
     printf("edges: %d checks, %d failed\n", checks, failed);
     return failed != 0;
 }

@@ -66,6 +66,14 @@ static void *place(void *x)
     refused |= heronditch_place(PATTERN, BOARD, 0, bytes, HERONDITCH_NODES, links, HERONDITCH_BOARD_LINKS, table, HERONDITCH_NODES, kinds, HERONDITCH_NODES).number;
     return x;
 }
+static void *check(void *x)
+{
+    memset(bytes, 1, HERONDITCH_NODES);
+    memset(links, 1, sizeof links);
+    heronditch_reply r = heronditch_check(PATTERN, BOARD, 0, bytes, HERONDITCH_NODES, links, HERONDITCH_BOARD_LINKS);
+    refused |= r.number || r.first != 1; /* a yes, so that the whole check is gone through */
+    return x;
+}
 static void *merge(void *x)
 {
     refused |= heronditch_merge(PATTERN, links, HERONDITCH_PARTS, bytes, sizeof pattern).number;
@@ -105,7 +113,7 @@ int main(void)
     static const struct {
         const char *name;
         void *(*call)(void *);
-    } calls[] = {{"read", read_board}, {"write", write_board}, {"radius", radius}, {"ball", ball}, {"match", match}, {"place", place}, {"merge", merge}, {"report", report}, {"load", load}};
+    } calls[] = {{"read", read_board}, {"write", write_board}, {"radius", radius}, {"ball", ball}, {"match", match}, {"place", place}, {"check", check}, {"merge", merge}, {"report", report}, {"load", load}};
     size_t most = 0;
     if (circuit(HERONDITCH_PARTS, HERONDITCH_PATTERN_LINKS, pattern) != sizeof pattern || circuit(HERONDITCH_NODES, HERONDITCH_BOARD_LINKS, board) != sizeof board)
         return 2;

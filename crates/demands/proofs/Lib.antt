@@ -6,6 +6,7 @@ pub mod Groupings
 pub mod Limit
 pub mod FirstEdition
 pub mod GroupingExamples
+pub mod Proposals
 pub mod Report
 pub mod Examples
 pub mod Files

@@ -2,6 +2,7 @@ pub mod Demands
 pub mod Groupings
 pub mod Limit
 pub mod FirstEdition
+pub mod Proposals
 pub mod Examples
 pub mod Files
 pub mod Distances

@@ -142,6 +142,11 @@ shortTable needed lent = record { number = 8; file = Neither; holds = ltb lent n
 unfoldable pub numberOutside : Bool → Condition
 numberOutside fits = record { number = 10; file = Neither; holds = not fits }
 
+-- 3 "Node or link bytes of another length than N and M are 3 with neither file named, checked after 7" (document 02, check a place from
+-- elsewhere): asked is what the length shall be, given what it is. Longer is wrong too.
+unfoldable pub otherLength : ℕ → ℕ → Condition
+otherLength asked given = record { number = 3; file = Neither; holds = not (eqb given asked) }
+
 -- "Turned away: 12, converting to the first edition a file with a package other than 0, checked after its content and ahead of 8." It names
 -- the file in the role told.
 unfoldable pub lostPackage : Edition → List ℕ → Bool

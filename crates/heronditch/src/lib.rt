@@ -13,6 +13,7 @@ ghost use Rattle.call_match.specs.Call.{matching};
 ghost use Rattle.file_format.specs.Circuit.{circuitOf};
 ghost use Rattle.place.specs.Match.{radiusOf};
 ghost use Rattle.call_place.specs.Call.{placeAt};
+ghost use Rattle.call_check.specs.Call.{checkCall};
 ghost use Rattle.call_merge.specs.Call.{merging};
 ghost use Rattle.call_load.specs.Call.{loading};
 ghost use Rattle.call_report.specs.Call.{reporting};
@@ -22,6 +23,7 @@ use crate::reply::Counted;
 use crate::reply::Piece;
 use crate::reply::Reply;
 use crate::reply::of_ball;
+use crate::reply::of_check;
 use crate::reply::of_load;
 use crate::reply::of_match;
 use crate::reply::of_merge;
@@ -181,6 +183,29 @@ pub extern "C" fn heronditch_place_within(
         links,
         table,
         distances,
+    ))
+}
+
+#[no_mangle]
+pub extern "C" fn heronditch_check(
+    pattern: &[u8],
+    board: &[u8],
+    centre: usize,
+    nodes: &[u8],
+    links: &[u8],
+) -> Reply
+    ensures { λ r. ⌜ r ≡ slots (checkCall (firstEdition (now (pattern .entry))) (firstEdition (now (board .entry))) centre (now (nodes .entry)) (now (links .entry))) ⌝ }
+{
+    of_check(call_check::check(
+        Editions {
+            pattern: Edition::First,
+            board: Edition::First,
+        },
+        pattern,
+        board,
+        centre,
+        nodes,
+        links,
     ))
 }
 

@@ -1,6 +1,7 @@
 // Replies as a host program sees them: structs of numbers, in place of the enums.
 ghost use mathlib.Core.Path.{_≡_};
 ghost use Rattle.file_format.specs.Reply.{readReply};
+ghost use Rattle.call_check.specs.Call.{checkReply};
 ghost use Rattle.call_convert.specs.Call.{convertReply};
 ghost use Rattle.call_distance.specs.Calls.{radiusReply, ballReply};
 ghost use Rattle.file_write.specs.Writing.{writeReply};
@@ -10,6 +11,7 @@ ghost use Rattle.call_merge.specs.Call.{mergeReply};
 ghost use Rattle.call_load.specs.Call.{loadReply};
 ghost use Rattle.call_report.specs.Call.{reportReply};
 ghost use Rattle.heronditch.specs.Host.{fileNumber, slots, counted, pieced};
+use call_check::CheckAnswer;
 use call_convert::ConvertAnswer;
 use call_distance::BallAnswer;
 use call_distance::RadiusAnswer;
@@ -131,6 +133,16 @@ pub fn of_ball(answer: BallAnswer) -> Reply
     match answer {
         BallAnswer::Ball(n) => accepted(n, 0),
         BallAnswer::Refused(x) => refused(x),
+    }
+}
+
+pub fn of_check(answer: CheckAnswer) -> Reply
+    ensures { λ r. ⌜ r ≡ slots (checkReply answer) ⌝ }
+{
+    match answer {
+        CheckAnswer::Yes => accepted(1, 0),
+        CheckAnswer::No => accepted(0, 0),
+        CheckAnswer::Refused(x) => refused(x),
     }
 }
 

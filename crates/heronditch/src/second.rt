@@ -5,6 +5,7 @@ ghost use Rattle.file_format.specs.declared.Edition.the-variants as editions;
 ghost use Rattle.file_format.specs.declared.Role.the-variants as role;
 ghost use Rattle.file_format.specs.Layout.{firstEdition, inEdition};
 ghost use Rattle.file_format.specs.Reading.{reading};
+ghost use Rattle.call_check.specs.Call.{checkCall};
 ghost use Rattle.call_convert.specs.Call.{converting};
 ghost use Rattle.call_distance.specs.Calls.{radiusCall, ballCall};
 ghost use Rattle.file_write.specs.Writing.{writing};
@@ -14,6 +15,7 @@ ghost use Rattle.heronditch.specs.Host.{slots, hostReadPackages, hostWri
 use crate::reply::Counted;
 use crate::reply::Reply;
 use crate::reply::of_ball;
+use crate::reply::of_check;
 use crate::reply::of_convert;
 use crate::reply::of_match;
 use crate::reply::of_merge;
@@ -176,6 +178,75 @@ pub extern "C" fn heronditch_match_22(pattern: &[u8], board: &[u8], table: &mut 
         pattern,
         board,
         table,
+    ))
+}
+
+#[no_mangle]
+pub extern "C" fn heronditch_check_12(
+    pattern: &[u8],
+    board: &[u8],
+    centre: usize,
+    nodes: &[u8],
+    links: &[u8],
+) -> Reply
+    ensures { λ r. ⌜ r ≡ slots (checkCall (firstEdition (now (pattern .entry))) (inEdition editions.Second (now (board .entry))) centre (now (nodes .entry)) (now (links .entry))) ⌝ }
+{
+    of_check(call_check::check(
+        Editions {
+            pattern: Edition::First,
+            board: Edition::Second,
+        },
+        pattern,
+        board,
+        centre,
+        nodes,
+        links,
+    ))
+}
+
+#[no_mangle]
+pub extern "C" fn heronditch_check_21(
+    pattern: &[u8],
+    board: &[u8],
+    centre: usize,
+    nodes: &[u8],
+    links: &[u8],
+) -> Reply
+    ensures { λ r. ⌜ r ≡ slots (checkCall (inEdition editions.Second (now (pattern .entry))) (firstEdition (now (board .entry))) centre (now (nodes .entry)) (now (links .entry))) ⌝ }
+{
+    of_check(call_check::check(
+        Editions {
+            pattern: Edition::Second,
+            board: Edition::First,
+        },
+        pattern,
+        board,
+        centre,
+        nodes,
+        links,
+    ))
+}
+
+#[no_mangle]
+pub extern "C" fn heronditch_check_22(
+    pattern: &[u8],
+    board: &[u8],
+    centre: usize,
+    nodes: &[u8],
+    links: &[u8],
+) -> Reply
+    ensures { λ r. ⌜ r ≡ slots (checkCall (inEdition editions.Second (now (pattern .entry))) (inEdition editions.Second (now (board .entry))) centre (now (nodes .entry)) (now (links .entry))) ⌝ }
+{
+    of_check(call_check::check(
+        Editions {
+            pattern: Edition::Second,
+            board: Edition::Second,
+        },
+        pattern,
+        board,
+        centre,
+        nodes,
+        links,
     ))
 }
 

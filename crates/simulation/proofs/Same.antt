@@ -124,6 +124,20 @@ match-same S p h =
       );
     }
 
+-- a perfect subgraph is one wherever it is a subgraph: of what lies around it nothing else is asked
+pub perfect-within : {P B B′ G : Graph} {Agree : Relation} {w : ℕ} → Subgraph G B′ → PerfectIn P Agree B w G → PerfectIn P Agree B′ w G
+perfect-within s g =
+    record {
+      subgraph = s;
+      connected = g .connected;
+      centre = g .centre;
+      S = g .S;
+      largest = g .largest;
+      pair = g .pair;
+      holdsMatches = g .holdsMatches;
+      onlyMatches = g .onlyMatches;
+    }
+
 -- a perfect subgraph of one pattern is one of another, if the two have the same match graph in it
 pub perfect-change :
     {P Q B G : Graph} {Agree AgreeQ R : Relation} {w : ℕ} (g : PerfectIn P Agree B w G) → Largest Q AgreeQ G R →

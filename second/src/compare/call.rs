@@ -45,6 +45,14 @@ pub enum Call<'a> {
         centre: usize,
         radius: u16,
     },
+    Check {
+        editions: [Edition; 2],
+        pattern: &'a [u8],
+        board: &'a [u8],
+        centre: usize,
+        nodes: &'a [u8],
+        links: &'a [u8],
+    },
     Merge {
         pattern: &'a [u8],
     },
@@ -109,6 +117,12 @@ impl Call<'_> {
             Call::Match { .. } => "match",
             Call::Place { .. } => "place",
             Call::PlaceWithin { .. } => "place_within",
+            Call::Check { editions, .. } => match editions {
+                [Edition::First, Edition::First] => "check",
+                [Edition::First, Edition::Second] => "check_12",
+                [Edition::Second, Edition::First] => "check_21",
+                [Edition::Second, Edition::Second] => "check_22",
+            },
             Call::Merge { .. } => "merge",
             Call::Load { .. } => "load",
             Call::ReadSecond { role, .. } if *role == Role::Pattern => "read_pattern_2",
@@ -146,7 +160,7 @@ impl Call<'_> {
                     starts.len().min(4100),
                 )]
             }
-            Call::Radius { .. } => vec![],
+            Call::Radius { .. } | Call::Check { .. } => vec![],
             Call::Ball { board, .. } | Call::Match { board, .. } => vec![sizes(board).0],
             Call::Place { board, .. } | Call::PlaceWithin { board, .. } => {
                 let (n, m) = sizes(board);
@@ -240,6 +254,17 @@ impl fmt::Display for Call<'_> {
                 centre,
             } => {
                 write!(f, " centre {centre}")?;
+                both(f, pattern, board)
+            }
+            Call::Check {
+                pattern,
+                board,
+                centre,
+                nodes,
+                links,
+                ..
+            } => {
+                write!(f, " centre {centre}\nnodes {nodes:?}\nlinks {links:?}")?;
                 both(f, pattern, board)
             }
             Call::PlaceWithin {
@@ -361,6 +386,17 @@ pub fn run(finder: &dyn Finder, call: &Call, lent: &Lent) -> Outcome {
             let mut table = lent.words(0);
             let reply = finder.match_table(pattern, board, &mut table);
             (reply, vec![table])
+        }
+        Call::Check {
+            editions,
+            pattern,
+            board,
+            centre,
+            nodes,
+            links,
+        } => {
+            let reply = finder.check(editions, pattern, board, centre, nodes, links);
+            (reply, vec![])
         }
         Call::Merge { pattern } => {
             let (mut classes, mut out) = (lent.bytes(0), lent.bytes(1));

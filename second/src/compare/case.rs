@@ -5,9 +5,10 @@ use super::boards::{board, pattern, Size};
 use super::call::{Call, Lent};
 use super::damage::{spoil, upset};
 use super::finder::Finder;
+use super::proposals::{proposals, Proposal};
 use super::tally::Tally;
 use super::{agree, editions, laws, Difference};
-use crate::circuit::{Circuit, Role};
+use crate::circuit::{Circuit, Edition, Role};
 use crate::graph;
 use crate::load::Numbers;
 use crate::random::Random;
@@ -28,6 +29,7 @@ pub struct Case {
     pub radius: u16,
     pub tables: Tables,
     pub numbers: Numbers,
+    pub proposals: Vec<Proposal>,
 }
 
 /// A random size, the large ones seldom.
@@ -131,7 +133,9 @@ impl Case {
         let pattern = pattern(random, size);
         let board = board(random, size, &pattern);
         let centres = (0..random.between(1, 3)).map(|_| centre(random, board.kinds.len()));
-        let centres = centres.collect();
+        let centres: Vec<usize> = centres.collect();
+        let mut around = |&centre| proposals(random, &pattern, &board, centre);
+        let proposals = centres.iter().take(1).flat_map(&mut around).collect();
         let radius = radius(random, graph::radius(&pattern));
         let tables = if random.once_in(2) {
             tables(random, Role::Pattern, &pattern)
@@ -145,6 +149,7 @@ impl Case {
             radius,
             tables,
             numbers: numbers(random, size),
+            proposals,
         }
     }
 
@@ -170,6 +175,14 @@ impl Case {
                 radius,
             });
         }
+        calls.extend(self.proposals.iter().map(|proposal| Call::Check {
+            editions: [Edition::First; 2],
+            pattern,
+            board,
+            centre: proposal.centre,
+            nodes: &proposal.nodes,
+            links: &proposal.links,
+        }));
         calls
     }
 

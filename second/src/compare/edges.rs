@@ -5,11 +5,13 @@
 use super::call::{Call, Lent};
 use super::case::{Case, Tables};
 use super::finder::Finder;
+use super::proposals::{proposals, Proposal};
 use super::tally::Tally;
 use super::{agree, laws, Difference};
-use crate::circuit::{Circuit, Role};
+use crate::circuit::{both, Circuit, Role};
 use crate::graph;
 use crate::load::Numbers;
+use crate::random::Random;
 
 /// A circuit of these kinds and links.
 fn circuit(kinds: &[u16], links: &[(usize, usize)]) -> Circuit {
@@ -183,6 +185,7 @@ fn case(pattern: Vec<u8>, board: Vec<u8>, nodes: usize, radius: u16, tables: Tab
     centres.extend(far);
     centres.sort_unstable();
     centres.dedup();
+    let proposals = offered(&pattern, &board, &centres);
     Case {
         pattern,
         board,
@@ -190,7 +193,24 @@ fn case(pattern: Vec<u8>, board: Vec<u8>, nodes: usize, radius: u16, tables: Tab
         radius,
         tables,
         numbers: numbers(1, 3, 4, 10),
+        proposals,
     }
+}
+
+/// Proposals around each centre where both files are accepted, and else one of
+/// no bytes.
+fn offered(pattern: &[u8], board: &[u8], centres: &[usize]) -> Vec<Proposal> {
+    let mut random = Random::of_case(5, 1);
+    let Ok((pattern, board)) = both(pattern, board) else {
+        let (nodes, links) = (vec![], vec![]);
+        return vec![Proposal {
+            centre: 0,
+            nodes,
+            links,
+        }];
+    };
+    let around = |&centre| proposals(&mut random, &pattern, &board, centre);
+    centres.iter().flat_map(around).collect()
 }
 
 /// The numbers of a load.

@@ -6,6 +6,7 @@ use super::call::Call;
 use super::case::{centre, lend, radius, size};
 use super::damage::{spoil, upset};
 use super::finder::Finder;
+use super::proposals::proposals;
 use super::tally::Tally;
 use super::{agree, Difference};
 use crate::circuit::{Circuit, Edition, Role};
@@ -128,6 +129,29 @@ pub fn check(
     for call in calls {
         let lent = lend(random, &call);
         agree(finder, &call, &lent, tally)?;
+    }
+    let unpacked = Circuit {
+        packages: Vec::new(),
+        ..board.clone()
+    };
+    let around = [
+        ([First, Second], (&p1, &plain), (&b2, &board)),
+        ([Second, First], (&p2, &pattern), (&b1, &unpacked)),
+        ([Second, Second], (&p2, &pattern), (&b2, &board)),
+    ];
+    for (editions, (pattern, drawn), (board, given)) in around {
+        for proposal in proposals(random, drawn, given, centre) {
+            let call = Call::Check {
+                editions,
+                pattern,
+                board,
+                centre,
+                nodes: &proposal.nodes,
+                links: &proposal.links,
+            };
+            let lent = lend(random, &call);
+            agree(finder, &call, &lent, tally)?;
+        }
     }
     Ok(())
 }

@@ -38,6 +38,15 @@ pub trait Finder {
         radius: u16,
         out: PlaceTables,
     ) -> Words;
+    fn check(
+        &self,
+        editions: [Edition; 2],
+        pattern: &[u8],
+        board: &[u8],
+        centre: usize,
+        nodes: &[u8],
+        links: &[u8],
+    ) -> Words;
     fn merge(&self, pattern: &[u8], classes: &mut [u8], out: &mut [u8]) -> Words;
     fn load(&self, numbers: Numbers, out: &mut [u8]) -> Words;
     fn read_second(
@@ -156,6 +165,18 @@ impl Finder for Second {
         out: PlaceTables,
     ) -> Words {
         calls::place_within(pattern, board, centre, radius, out).into()
+    }
+
+    fn check(
+        &self,
+        editions: [Edition; 2],
+        pattern: &[u8],
+        board: &[u8],
+        centre: usize,
+        nodes: &[u8],
+        links: &[u8],
+    ) -> Words {
+        calls::check_in(editions, pattern, board, centre, nodes, links).into()
     }
 
     fn merge(&self, pattern: &[u8], classes: &mut [u8], out: &mut [u8]) -> Words {

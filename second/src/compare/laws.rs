@@ -1,13 +1,13 @@
 //! What a finder owes by itself: a merged pattern at the first one's radius
 //! has the first one's places, an accepted file writes back to its own bytes,
-//! and what is written reads back.
+//! what is written reads back, and the check says yes to every place.
 
 use super::call::{run, Call, Lent, Outcome};
 use super::case::{Case, Tables};
 use super::finder::Finder;
 use super::tally::Tally;
 use super::Difference;
-use crate::circuit::Role;
+use crate::circuit::{Edition, Role};
 
 /// What a call comes to with tables as long as needed.
 fn outcome(finder: &dyn Finder, call: &Call) -> Outcome {
@@ -33,9 +33,11 @@ pub fn check(finder: &dyn Finder, case: &Case, tally: &mut Tally) -> Result<(), 
     write_back(finder, Role::Pattern, &case.pattern, tally)?;
     write_back(finder, Role::Board, &case.board, tally)?;
     read_back(finder, &case.tables, tally)?;
-    case.centres
-        .iter()
-        .try_for_each(|&centre| merged(finder, &case.pattern, &case.board, centre, tally))
+    for &centre in &case.centres {
+        merged(finder, &case.pattern, &case.board, centre, tally)?;
+        place_checked(finder, &case.pattern, &case.board, centre, tally)?;
+    }
+    Ok(())
 }
 
 /// An accepted file, read and then written, is the same file.
@@ -150,5 +152,40 @@ pub fn merged(
     let (one, two) = (first.told(), second.told());
     let text =
         format!("the merged pattern has another place\n{first_call}\n{one}\n{second_call}\n{two}");
+    Err(Difference { text })
+}
+
+/// The check says yes to the place that the place call fills.
+pub fn place_checked(
+    finder: &dyn Finder,
+    pattern: &[u8],
+    board: &[u8],
+    centre: usize,
+    tally: &mut Tally,
+) -> Result<(), Difference> {
+    let call = Call::Place {
+        pattern,
+        board,
+        centre,
+    };
+    let place = outcome(finder, &call);
+    if place.reply[0] != 0 {
+        return Ok(());
+    }
+    tally.law("places that the check says yes to");
+    let (nodes, links) = (bytes(&place.tables[0]), bytes(&place.tables[1]));
+    let check = Call::Check {
+        editions: [Edition::First; 2],
+        pattern,
+        board,
+        centre,
+        nodes: &nodes,
+        links: &links,
+    };
+    let checked = outcome(finder, &check);
+    if checked.reply == [0, 0, 1, 0, 0, 0] {
+        return Ok(());
+    }
+    let text = format!("a place gets no yes\n{check}\n{}", checked.told());
     Err(Difference { text })
 }

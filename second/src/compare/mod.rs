@@ -9,6 +9,7 @@ pub mod edges;
 pub mod editions;
 pub mod finder;
 pub mod laws;
+pub mod proposals;
 pub mod tally;
 
 use std::fmt;

@@ -140,6 +140,17 @@ extern "C" {
         distances: *mut u16,
         distances_length: usize,
     ) -> Counts;
+    fn heronditch_check(
+        pattern: *const u8,
+        pattern_length: usize,
+        board: *const u8,
+        board_length: usize,
+        centre: usize,
+        nodes: *const u8,
+        nodes_length: usize,
+        links: *const u8,
+        links_length: usize,
+    ) -> Reply;
     fn heronditch_merge(
         pattern: *const u8,
         pattern_length: usize,
@@ -229,6 +240,39 @@ extern "C" {
         table: *mut u32,
         table_length: usize,
     ) -> Counts;
+    fn heronditch_check_12(
+        pattern: *const u8,
+        pattern_length: usize,
+        board: *const u8,
+        board_length: usize,
+        centre: usize,
+        nodes: *const u8,
+        nodes_length: usize,
+        links: *const u8,
+        links_length: usize,
+    ) -> Reply;
+    fn heronditch_check_21(
+        pattern: *const u8,
+        pattern_length: usize,
+        board: *const u8,
+        board_length: usize,
+        centre: usize,
+        nodes: *const u8,
+        nodes_length: usize,
+        links: *const u8,
+        links_length: usize,
+    ) -> Reply;
+    fn heronditch_check_22(
+        pattern: *const u8,
+        pattern_length: usize,
+        board: *const u8,
+        board_length: usize,
+        centre: usize,
+        nodes: *const u8,
+        nodes_length: usize,
+        links: *const u8,
+        links_length: usize,
+    ) -> Reply;
     fn heronditch_merge_2(
         pattern: *const u8,
         pattern_length: usize,
@@ -453,6 +497,37 @@ impl Finder for Host {
                 out.table.len(),
                 lent(out.distances),
                 out.distances.len(),
+            )
+        }
+        .words()
+    }
+
+    fn check(
+        &self,
+        editions: [Edition; 2],
+        pattern: &[u8],
+        board: &[u8],
+        centre: usize,
+        nodes: &[u8],
+        links: &[u8],
+    ) -> Words {
+        let call = match editions {
+            [Edition::First, Edition::First] => heronditch_check,
+            [Edition::First, Edition::Second] => heronditch_check_12,
+            [Edition::Second, Edition::First] => heronditch_check_21,
+            [Edition::Second, Edition::Second] => heronditch_check_22,
+        };
+        unsafe {
+            call(
+                given(pattern),
+                pattern.len(),
+                given(board),
+                board.len(),
+                centre,
+                given(nodes),
+                nodes.len(),
+                given(links),
+                links.len(),
             )
         }
         .words()

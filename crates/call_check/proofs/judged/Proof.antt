@@ -1,0 +1,15 @@
+-- `call_check::judged` meets its contract. Assumes nothing.
+use Rattle.call_check.specs.Call.{answered}
+use Rattle.call_check.proofs.judged.Statement.{statement}
+use Rattle.call_check.proofs.judged.Tie as tie
+
+returns : tie.Need-returns
+unfolding answered
+returns c = rw (c .if1 .taken)
+
+returns-2 : tie.Need-returns-2
+unfolding answered
+returns-2 c = rw (c .if1 .left)
+
+pub judged-spec : {M : Type 1} → statement M
+judged-spec = tie.close (tie.spec returns returns-2)

@@ -1,0 +1,146 @@
+// The call that checks a place from elsewhere: a pattern file, a board file, a centre, a byte per node and a byte per link.
+use file_format::Board;
+use file_format::Editions;
+use file_format::File;
+use file_format::FileVerdict;
+use file_format::Pattern;
+use file_format::Refusal;
+use file_format::Role;
+use file_pair::read_pair;
+use place::Around;
+use proposal_check::check_circuits;
+ghost use mathlib.Core.Path.{_≡_};
+ghost use Rattle.file_format.specs.Circuit.{Drawn};
+ghost use Rattle.file_format.specs.Layout.{inEdition};
+ghost use Rattle.file_format.specs.declared.File.the-variants.{Neither};
+ghost use Rattle.graph.specs.Circuit.{Circuit, circuit};
+ghost use Rattle.call_check.specs.Call.{answered, checkReply, checkOn, checkCall};
+
+// Yes or no, or why the call was turned away.
+pub enum CheckAnswer {
+    Yes,
+    No,
+    Refused(Refusal),
+}
+
+// What is asked for: a centre, which may be none of the board's nodes, and a radius.
+struct Asked {
+    pub centre: usize,
+    pub radius: u16,
+}
+
+// A refusal that means neither file.
+fn refused(number: u8) -> CheckAnswer
+    ensures { λ a. ⌜ a ≡ CheckAnswer.Refused (record { number = number; file = Neither }) ⌝ }
+{
+    CheckAnswer::Refused(Refusal {
+        number,
+        file: File::Neither,
+    })
+}
+
+// The answer to a question that was put.
+fn judged(is: bool) -> CheckAnswer
+    ensures { λ a. ⌜ a ≡ answered is ⌝ }
+{
+    if is {
+        return CheckAnswer::Yes;
+    }
+    CheckAnswer::No
+}
+
+// The call on two circuits that were read.
+fn check_on(
+    part_kinds: &[u32],
+    part_starts: &[u16],
+    part_ends: &[u16],
+    node_kinds: &[u32],
+    node_starts: &mut [u16],
+    node_ends: &mut [u16],
+    asked: Asked,
+    nodes: &[u8],
+    links: &[u8],
+) -> CheckAnswer
+    ghost { Circuit × Circuit }
+    requires { λ α. ⌜ (circuit (now «part_kinds») (now «part_starts») (now «part_ends»), circuit (now «node_kinds») (now «node_starts») (now «node_ends»)) ≡ α ⌝ }
+    requires { λ α. ⌜ Drawn (α .0) (α .1) ⌝ }
+    ensures { λ α a. ⌜ checkReply a ≡ checkOn (asked .radius) (α .0) (α .1) (asked .centre) (now (nodes .entry)) (now (links .entry)) ⌝ }
+{
+    let n = node_kinds.len();
+    let centre = asked.centre;
+    if n <= centre {
+        return refused(7);
+    }
+    if nodes.len() != n {
+        return refused(3);
+    }
+    if links.len() != node_starts.len() {
+        return refused(3);
+    }
+    judged(check_circuits(
+        part_kinds,
+        part_starts,
+        part_ends,
+        node_kinds,
+        node_starts,
+        node_ends,
+        Around {
+            centre: centre as u16,
+            radius: asked.radius,
+        },
+        nodes,
+        links,
+    ))
+}
+
+// Whether the bytes are a perfect subgraph around the centre at the pattern's radius, largest or not, each
+// file in its edition. Nothing is written.
+pub fn check(
+    editions: Editions,
+    pattern: &[u8],
+    board: &[u8],
+    centre: usize,
+    nodes: &[u8],
+    links: &[u8],
+) -> CheckAnswer
+    ensures { λ a. ⌜ checkReply a ≡ checkCall (inEdition (editions .pattern) (now (pattern .entry))) (inEdition (editions .board) (now (board .entry))) centre (now (nodes .entry)) (now (links .entry)) ⌝ }
+{
+    let mut pk = [0u32; Pattern::MAX_NODES];
+    let mut ps = [0u16; Pattern::MAX_LINKS];
+    let mut pe = [0u16; Pattern::MAX_LINKS];
+    let mut nk = [0u32; Board::MAX_NODES];
+    let mut ns = [0u16; Board::MAX_LINKS];
+    let mut ne = [0u16; Board::MAX_LINKS];
+    let read = read_pair(
+        Role::Pattern,
+        editions,
+        pattern,
+        board,
+        &mut pk,
+        &mut ps,
+        &mut pe,
+        &mut nk,
+        &mut ns,
+        &mut ne,
+    );
+    let verdict = read.verdict;
+    if let FileVerdict::Refused(x) = verdict {
+        return CheckAnswer::Refused(x);
+    }
+    let radius = read.radius;
+    let parts = read.parts;
+    let joins = read.joins;
+    let n = read.nodes;
+    let m = read.links;
+    check_on(
+        &pk[..parts],
+        &ps[..joins],
+        &pe[..joins],
+        &nk[..n],
+        &mut ns[..m],
+        &mut ne[..m],
+        Asked { centre, radius },
+        nodes,
+        links,
+    )
+}

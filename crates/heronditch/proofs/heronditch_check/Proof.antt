@@ -1,0 +1,16 @@
+-- `heronditch::heronditch_check` meets its contract: the call of the crate below, its reply as numbers. Assumes nothing.
+use borrow.Author.Needs.{needs}
+use Rattle.heronditch.proofs.heronditch_check.Statement.{statement}
+use Rattle.heronditch.proofs.heronditch_check.Tie as tie
+
+check-requires : tie.Need-check-requires
+check-requires c κs = search needs
+
+of-check-requires : tie.Need-of-check-requires
+of-check-requires c κs = search needs
+
+returns : tie.Need-returns
+returns c = rw (c .of-check .ensures, c .before .check .ensures)
+
+pub heronditch-check-spec : {M : Type 1} → statement M
+heronditch-check-spec = tie.close (tie.spec check-requires of-check-requires returns)

@@ -1,0 +1,3 @@
+pub mod Perfect
+pub mod Finder
+pub mod Examples

@@ -1,0 +1,176 @@
+-- `proposal_check::check_circuits` meets its contract: the tests one after another; what is left of the links is a board of its own. Assumes nothing.
+use mathlib.Core.Path.{sym, _∙_}
+use borrow.Author.Tests.{not-true, not-false}
+use borrow.Author.Needs.{needs}
+use lib.Seq.{length-take-le}
+use Rattle.graph.proofs.Groups.{all-below}
+use Rattle.graph.proofs.Below.{below-wider}
+use Rattle.file_format.proofs.Accepted.{bounded-starts, bounded-ends}
+use Rattle.proposal_check.proofs.Marked.{marks-not, near-not, fills-left, left-parallel, left-sizes, left-nodes, left-tabled}
+use Rattle.proposal_check.proofs.check_circuits.Statement.{statement}
+use Rattle.proposal_check.proofs.check_circuits.Tie as tie
+
+cast-marks-subgraph : tie.Need-cast-marks-subgraph
+cast-marks-subgraph c = search needs
+
+marks-subgraph-requires : tie.Need-marks-subgraph-requires
+marks-subgraph-requires c κs =
+    let p = c .before .before .before .before .before .before .before .before .before .before .pre in
+    let board = p .0 .nodes in (
+      (p .1 .1 .1, p .1 .1 .1 ∙ board .parallel),
+      (rw (p .1 .1 .0) (all-below _ _ (bounded-starts board), all-below _ _ (bounded-ends board)), rw (p .1 .1 .0) (p .1 .0)),
+    )
+
+same-length : tie.Need-same-length
+same-length c = search needs
+
+same-length-2 : tie.Need-same-length-2
+same-length-2 c = search needs
+
+returns : tie.Need-returns
+returns c = marks-not _ _ _ _ _ _ (sym (c .before .marks-subgraph .ensures _) ∙ not-true _ (c .if1 .taken))
+
+slice-aggregate-near : tie.Need-slice-aggregate-near
+slice-aggregate-near c = search needs
+
+slice-aggregate-near-2 : tie.Need-slice-aggregate-near-2
+slice-aggregate-near-2 c = search needs
+
+near-requires : tie.Need-near-requires
+near-requires c κs =
+    let p = c .before .before .before .before .before .before .before .before .before .before .before .before .before .before .before .before .pre in
+    let board = p .0 .nodes in
+    (search needs, (rw (p .1 .1 .0) (board .nodes, p .1 .0), ((board .parallel, board .links), rw (p .1 .1 .0) (bounded-starts board, bounded-ends board))))
+
+same-length-3 : tie.Need-same-length-3
+same-length-3 c = search needs
+
+same-length-4 : tie.Need-same-length-4
+same-length-4 c = search needs
+
+returns-2 : tie.Need-returns-2
+returns-2 c =
+    let s = c .before .before .before .before .before .before .before .before .before .before .before .before .before .before .before .before .before .before .before .before in
+    near-not _ _ _ _ _ _ (sym (c .before .before .before .before .before .before .before .before .before .marks-subgraph .ensures _) ∙ not-false _ (c .before .before .before .before .before .before .before .before .if1 .left)) (s .pre .1 .1 .0)
+    (sym (c .before .before .before .near .ensures) ∙ not-true _ (c .if2 .taken))
+
+choose-requires : tie.Need-choose-requires
+choose-requires c κs = search needs
+
+choose-requires-2 : tie.Need-choose-requires-2
+choose-requires-2 c κs = search needs
+
+slice-reshare-prefix-prepare : tie.Need-slice-reshare-prefix-prepare
+slice-reshare-prefix-prepare c = search needs
+
+slice-aggregate-prepare : tie.Need-slice-aggregate-prepare
+slice-aggregate-prepare c = sym (length-take-le _ _ (c .before .before .before .before .before .before .before .choose .ensures .0))
+
+slice-reshare-prefix-prepare-2 : tie.Need-slice-reshare-prefix-prepare-2
+slice-reshare-prefix-prepare-2 c = search needs
+
+slice-aggregate-prepare-2 : tie.Need-slice-aggregate-prepare-2
+slice-aggregate-prepare-2 c = sym (length-take-le _ _ (c .before .before .before .before .choose2 .ensures .0))
+
+slice-aggregate-prepare-3 : tie.Need-slice-aggregate-prepare-3
+slice-aggregate-prepare-3 c = search needs
+
+slice-aggregate-prepare-4 : tie.Need-slice-aggregate-prepare-4
+slice-aggregate-prepare-4 c = search needs
+
+slice-aggregate-prepare-5 : tie.Need-slice-aggregate-prepare-5
+slice-aggregate-prepare-5 c = search needs
+
+prepare-requires : tie.Need-prepare-requires
+prepare-requires c κs =
+    let p = c .before .before .before .before .before .before .before .before .before .before .before .before .before .before .before .before .before .before .before .before .before .before .before .before .before .before .before .before .before .before .before .before .before .pre .0 in
+    let pattern = p .parts in
+    let starts = below-wider _ 32 _ (pattern .nodes) (all-below _ _ (bounded-starts pattern)) in
+    let ends = below-wider _ 32 _ (pattern .nodes) (all-below _ _ (bounded-ends pattern)) in
+    let s = c .before .before .before .before .before .before .before .before .before .before .before .choose .ensures .1 in
+    let e = c .before .before .before .before .before .before .before .choose2 .ensures .1 in
+    ((pattern .parallel, starts, ends), (left-sizes p _ s e, (left-nodes p _ s e, search needs)))
+
+slice-aggregate-fills : tie.Need-slice-aggregate-fills
+slice-aggregate-fills c = search needs
+
+slice-aggregate-fills-2 : tie.Need-slice-aggregate-fills-2
+slice-aggregate-fills-2 c = search needs
+
+slice-aggregate-fills-3 : tie.Need-slice-aggregate-fills-3
+slice-aggregate-fills-3 c = search needs
+
+slice-reshare-prefix-fills : tie.Need-slice-reshare-prefix-fills
+slice-reshare-prefix-fills c = search needs
+
+slice-aggregate-fills-4 : tie.Need-slice-aggregate-fills-4
+slice-aggregate-fills-4 c = sym (length-take-le _ _ (c .before .before .before .before .before .before .before .before .before .before .before .before .before .before .before .before .before .before .before .choose .ensures .0))
+
+slice-reshare-prefix-fills-2 : tie.Need-slice-reshare-prefix-fills-2
+slice-reshare-prefix-fills-2 c = search needs
+
+slice-aggregate-fills-5 : tie.Need-slice-aggregate-fills-5
+slice-aggregate-fills-5 c = sym (length-take-le _ _ (c .before .before .before .before .before .before .before .before .before .before .before .before .before .before .before .before .choose2 .ensures .0))
+
+fills-requires : tie.Need-fills-requires
+fills-requires c κs =
+    let p = c .before .before .before .before .before .before .before .before .before .before .before .before .before .before .before .before .before .before .before .before .before .before .before .before .before .before .before .before .before .before .before .before .before .before .before .before .before .before .before .before .before .before .pre in
+    let s = c .before .before .before .before .before .before .before .before .before .before .before .before .before .before .before .before .before .before .before .before .choose .ensures .1 in
+    let e = c .before .before .before .before .before .before .before .before .before .before .before .before .before .before .before .before .choose2 .ensures .1 in
+    let made = c .before .before .before .before .before .before .before .before .prepare .ensures in (
+      record { partStarts = _; partEnds = _; tabled = left-tabled (p .0) _ s e (made .0) (made .1) },
+      (left-parallel (p .0) _ s e, (p .0 .nodes .nodes, p .1 .0, p .1 .1 .0)),
+    )
+
+same-length-5 : tie.Need-same-length-5
+same-length-5 c = search needs
+
+same-length-6 : tie.Need-same-length-6
+same-length-6 c = search needs
+
+returns-3 : tie.Need-returns-3
+returns-3 c =
+    let p = c .before .before .before .before .before .before .before .before .before .before .before .before .before .before .before .before .before .before .before .before .before .before .before .before .before .before .before .before .before .before .before .before .before .before .before .before .before .before .before .before .before .before .before .pre in
+    let s = c .before .before .before .before .before .before .before .before .before .before .before .before .before .before .before .before .before .before .before .before .before .choose .ensures .1 in
+    let e = c .before .before .before .before .before .before .before .before .before .before .before .before .before .before .before .before .before .choose2 .ensures .1 in
+    let made = c .before .before .before .before .before .before .before .before .before .prepare .ensures in
+    c .fills .ensures _ _ (left-tabled (p .0) _ s e (made .0) (made .1))
+    ∙ fills-left _ _ _ _ _ _ (sym (c .before .before .before .before .before .before .before .before .before .before .before .before .before .before .before .before .before .before .before .before .before .before .before .before .before .before .before .before .before .before .before .before .marks-subgraph .ensures _) ∙ not-false _ (c .before .before .before .before .before .before .before .before .before .before .before .before .before .before .before .before .before .before .before .before .before .before .before .before .before .before .before .before .before .before .before .if1 .left)) (p .1 .1 .0)
+    (sym (c .before .before .before .before .before .before .before .before .before .before .before .before .before .before .before .before .before .before .before .before .before .before .before .before .before .before .near .ensures) ∙ not-false _ (c .before .before .before .before .before .before .before .before .before .before .before .before .before .before .before .before .before .before .before .before .before .before .before .if2 .left)) s e
+
+pub check-circuits-spec : {M : Type 1} → statement M
+check-circuits-spec =
+    tie.close
+    (tie.spec
+    cast-marks-subgraph
+    marks-subgraph-requires
+    same-length
+    same-length-2
+    returns
+    slice-aggregate-near
+    slice-aggregate-near-2
+    near-requires
+    same-length-3
+    same-length-4
+    returns-2
+    choose-requires
+    choose-requires-2
+    slice-reshare-prefix-prepare
+    slice-aggregate-prepare
+    slice-reshare-prefix-prepare-2
+    slice-aggregate-prepare-2
+    slice-aggregate-prepare-3
+    slice-aggregate-prepare-4
+    slice-aggregate-prepare-5
+    prepare-requires
+    slice-aggregate-fills
+    slice-aggregate-fills-2
+    slice-aggregate-fills-3
+    slice-reshare-prefix-fills
+    slice-aggregate-fills-4
+    slice-reshare-prefix-fills-2
+    slice-aggregate-fills-5
+    fills-requires
+    same-length-5
+    same-length-6
+    returns-3)
