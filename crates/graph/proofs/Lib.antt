@@ -13,3 +13,4 @@ pub mod Measures
 pub mod RisingLinks
 pub mod Reached
 pub mod Sorted
+pub mod Chosen

@@ -5,4 +5,5 @@ pub mod Neighbours
 pub mod Net
 pub mod Counting
 pub mod Search
+pub mod Chosen
 pub mod Bfs

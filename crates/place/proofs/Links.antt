@@ -1,21 +1,19 @@
--- The links that match: what the test means, which links the kept lists hold, and that they are the links of the match graph. Assumes nothing.
-use mathlib.Core.Bool.{Bool, true, false, _&&_, cond}
-use mathlib.Core.List.{List, [], _∷_}
+-- The links that match: what the test means, and that the kept lists hold the links of the match graph. Assumes nothing.
+use mathlib.Core.Bool.{Bool, _&&_}
+use mathlib.Core.List.{List}
 use mathlib.Core.Logic.{_↔_}
 use mathlib.Core.Path.{_≡_, refl, sym, ap₂, subst}
-use Prim.Native.Nat.{ℕ, zero, suc, _+_, _<_}
-use native.Mathlib.Nat.{add-zero, not-suc-le-zero}
-use native.Mathlib.Omega.{arith}
+use Prim.Native.Nat.{ℕ, _<_}
 use lib.Dec.{T}
 use lib.ListN.{length, getD}
-use Rattle.base_lists.proofs.Tests.{both, both-left, both-right, true-T, T-true, anyBelow-at, at-anyBelow}
+use Rattle.base_lists.proofs.Tests.{both, both-left, both-right, anyBelow-at, at-anyBelow}
 use Rattle.graph.specs.Circuit.{Circuit, LinkAt, HasLink, graphOf, circuitGraph}
 use Rattle.graph.specs.Graph.{Ball}
-use Rattle.graph.proofs.Ball.{Within, link-later, link-earlier, link-first}
+use Rattle.graph.proofs.Ball.{Within}
+use Rattle.graph.proofs.Chosen.{kept-iff}
 use Rattle.simulation.specs.Perfect.{MatchGraph}
 use Rattle.table.specs.Row.{inTable, InTable}
 use Rattle.place.specs.Match.{matches, linkMatches, matchStarts, matchEnds, ballTable}
-use Rattle.base_lists.specs.Below.{keepFrom}
 use Rattle.place.proofs.Ball.{Admissible, ballGraph, BallPairs, ball-largest}
 
 -- ---- the test of a link
@@ -50,59 +48,6 @@ matches-iff pattern parallel t v v′ = (
 
     passes : ℕ → Bool
     passes i = inTable t (start i) v && inTable t (end i) v′
-
--- ---- the kept lists
-
--- a link of the kept entries is a link whose index passes
-kept-link :
-    (i : ℕ) (p : ℕ → Bool) (ss es : List ℕ) (v w j : ℕ) → LinkAt (keepFrom i p ss) (keepFrom i p es) v w j →
-    (k : ℕ) × LinkAt ss es v w k × T (p (k + i))
-unfolding keepFrom
-kept-link i p [] es v w j l = absurd (not-suc-le-zero (l .inStarts))
-kept-link i p (s ∷ ss) [] v w j l = absurd (not-suc-le-zero (l .inEnds))
-kept-link i p (s ∷ ss) (e ∷ es) v w j l = go (p i) refl j l (λ j l. later (kept-link (suc i) p ss es v w j l))
-  where
-    Link : Type 0
-    Link = (k : ℕ) × LinkAt (s ∷ ss) (e ∷ es) v w k × T (p (k + i))
-
-    later : (k : ℕ) × LinkAt ss es v w k × T (p (k + suc i)) → Link
-    later (k, l, t) = (suc k, link-later l, subst (λ x. T (p x)) (omega arith) t)
-
-    go :
-        (b : Bool) → p i ≡ b → (j : ℕ) →
-        LinkAt (cond b (s ∷ keepFrom (suc i) p ss) (keepFrom (suc i) p ss)) (cond b (e ∷ keepFrom (suc i) p es) (keepFrom (suc i) p es)) v w j →
-        ((j : ℕ) → LinkAt (keepFrom (suc i) p ss) (keepFrom (suc i) p es) v w j → Link) → Link
-    go true q zero l r = (zero, link-first ss es (l .start) (l .end), subst (λ x. T (p x)) (omega arith) (true-T q))
-    go true q (suc j) l r = r j (link-earlier l)
-    go false q j l r = r j l
-
--- and the other way round
-link-kept :
-    (i : ℕ) (p : ℕ → Bool) (ss es : List ℕ) (v w k : ℕ) → LinkAt ss es v w k → T (p (k + i)) →
-    HasLink (keepFrom i p ss) (keepFrom i p es) v w
-unfolding keepFrom HasLink
-link-kept i p [] es v w k l t = absurd (not-suc-le-zero (l .inStarts))
-link-kept i p (s ∷ ss) [] v w k l t = absurd (not-suc-le-zero (l .inEnds))
-link-kept i p (s ∷ ss) (e ∷ es) v w zero l t =
-    rw (T-true {b = p i} (subst (λ x. T (p x)) (omega arith) t)) (zero, link-first _ _ (l .start) (l .end))
-link-kept i p (s ∷ ss) (e ∷ es) v w (suc k) l t =
-    go (p i) (link-kept (suc i) p ss es v w k (link-earlier l) (subst (λ x. T (p x)) (omega arith) t))
-  where
-    go :
-        (b : Bool) → HasLink (keepFrom (suc i) p ss) (keepFrom (suc i) p es) v w →
-        HasLink (cond b (s ∷ keepFrom (suc i) p ss) (keepFrom (suc i) p ss)) (cond b (e ∷ keepFrom (suc i) p es) (keepFrom (suc i) p es)) v w
-    go true (j, l) = (suc j, link-later l)
-    go false l = l
-
--- the kept lists hold the links whose index passes
-pub kept-iff :
-    (p : ℕ → Bool) (ss es : List ℕ) (v w : ℕ) →
-    HasLink (keepFrom zero p ss) (keepFrom zero p es) v w ↔ ((i : ℕ) × LinkAt ss es v w i × T (p i))
-unfolding HasLink
-kept-iff p ss es v w = (
-  λ (j, l). let (i, m, t) = kept-link zero p ss es v w j l in (i, m, rw add-zero at t),
-  λ (i, l, t). link-kept zero p ss es v w i l (rw add-zero t),
-)
 
 -- ---- the match graph's links
 
