@@ -1,0 +1,42 @@
+-- Examples of the least that still says none, by computation. Assumes nothing.
+use mathlib.Core.Bool.{not}
+use mathlib.Core.List.{List, [], _∷_}
+use mathlib.Core.Path.{_≡_, refl}
+use Prim.Native.Nat.{ℕ}
+use Rattle.base_lists.specs.List.{maximum}
+use Rattle.base_lists.specs.Below.{keepFrom}
+use Rattle.graph.specs.Chosen.{picked, chosen}
+use Rattle.graph.specs.Circuit.{Circuit}
+use Rattle.graph.specs.Search.{beside, ball, misses, distances, radius}
+use Rattle.table.specs.Examples.{rowComputed, circuitT, circuitB}
+use Rattle.place.specs.Examples.{oneLink}
+use Rattle.place.specs.Match.{radiusOf, ballOf, ballTable, found}
+use Rattle.barring.specs.Least.{bars, dropFrom, least, keptCount}
+
+-- all that is opened where the kept links are computed
+opened : Unit {0}
+unfolding rowComputed maximum beside ball misses distances radius radiusOf ballOf ballTable found keepFrom picked chosen bars dropFrom least keptCount
+opened = tt
+
+-- around w, at the pattern's radius, these links are kept, so many
+abbrev pub Keeps : Circuit → Circuit → ℕ → List ℕ → ℕ → Type 0
+Keeps pattern board w marks k = (least pattern board w (radiusOf pattern) ≡ marks) × (keptCount (least pattern board w (radiusOf pattern)) ≡ k)
+
+-- T on B around 3, which gives 9 (E4): node 3 has no driver, so that the link 0-1 bars by itself, and 1-2 is dropped.
+pub T-B-3 : Keeps circuitT circuitB 3 (1 ∷ 0 ∷ []) 1
+unfolding opened circuitT circuitB
+T-B-3 = (refl, refl)
+
+-- T on the board 0:10, 1:20, link 0-1, around 0: the walk breaks off at its second link, and each link of the pattern is needed to say so.
+pub every-link : Keeps circuitT oneLink 0 (1 ∷ 1 ∷ []) 2
+unfolding opened circuitT oneLink
+every-link = (refl, refl)
+
+-- a board of one node, of kind 40
+unfoldable pub stranger : Circuit
+stranger = record { kinds = 40 ∷ []; starts = []; ends = [] }
+
+-- T around a centre whose kind no part has: the empty set bars, nothing is kept, and the reply is 0.
+pub no-link : Keeps circuitT stranger 0 (0 ∷ 0 ∷ []) 0
+unfolding opened circuitT stranger
+no-link = (refl, refl)

@@ -1,0 +1,5 @@
+pub mod Dropping
+pub mod Bars
+pub mod Least
+pub mod Outcome
+pub mod Examples

@@ -1,0 +1,146 @@
+-- What the promise of the call means: 15 exactly where the centre has a place; else the bytes mark links that bar, of which none can be spared.
+-- Assumes nothing.
+use mathlib.Core.Bool.{true, false}
+use mathlib.Core.List.{List, [], _∷_, _++_}
+use mathlib.Core.Logic.{_↔_, _⊎_, inl, inr, ⊎-elim}
+use mathlib.Core.Path.{_≡_, refl, sym, ap, subst, _∙_}
+use Prim.Native.Nat.{ℕ, _≤_, _<_}
+use native.Mathlib.Omega.{arith}
+use borrow.Author.Tests.{lt-ltb, le-ltb}
+use lib.Dec.{T}
+use lib.ListN.{length, take, drop}
+use lib.Seq.{take-at, drop-at}
+use Rattle.base_lists.proofs.Tests.{T-true, T-false, decide}
+use Rattle.graph.specs.Chosen.{ChosenLink}
+use Rattle.graph.specs.Circuit.{Circuit, circuitGraph}
+use Rattle.graph.specs.Graph.{Graph}
+use Rattle.simulation.specs.Closed.{Relation, _⊆_}
+use Rattle.simulation.specs.Perfect.{Perfect, Place}
+use Rattle.file_format.specs.declared.File.the-variants.{Neither}
+use Rattle.file_format.specs.declared.Refusal.{Refusal}
+use Rattle.file_format.specs.declared.Role.the-variants.{Pattern, Board}
+use Rattle.file_format.specs.Circuit.{circuitOf}
+use Rattle.file_format.specs.Layout.{CircuitFile, nodesOf, linksOf}
+use Rattle.file_format.specs.Reading.{filled}
+use Rattle.file_format.specs.Refusals.{Verdict, accept, refuse, first, centreOutside, shortTable, centrePlaced, Accepted}
+use Rattle.file_format.specs.Reply.{reply}
+use Rattle.file_format.proofs.Fields.{length-starts}
+use Rattle.file_format.proofs.Refusals.{first-accept}
+use Rattle.file_pair.proofs.Both.{pair-accept}
+use Rattle.table.specs.Host.{KindsMatch}
+use Rattle.place.specs.Match.{radiusOf, found}
+use Rattle.place.proofs.Accepted.{accepted-admissible, accepted-radius}
+use Rattle.place.proofs.Ball.{Admissible}
+use Rattle.place.proofs.Place.{found-place, none-iff}
+use Rattle.barring.specs.Barring.{Bars}
+use Rattle.barring.specs.Least.{least, keptCount}
+use Rattle.barring.specs.Outcome.{BarOutcome, barring}
+use Rattle.barring.proofs.Least.{all-bar, least-size, least-bars, least-needed, bars-radius}
+use Rattle.call_barring.specs.Call.{hasPlace, barInputs, barCall}
+
+-- number 15, of neither file
+abbrev pub fifteen : Refusal
+fifteen = record { number = 15; file = Neither }
+
+refuse-not-accept : {x : Refusal} → refuse x ≡ accept → ⊥
+refuse-not-accept e = let z : _≡_ {A = ℕ} 0 1 = cc in omega arith
+
+module _ (pattern board : CircuitFile) (w : ℕ) (out : List ℕ) where
+  abbrev P : Circuit
+  P = circuitOf pattern
+
+  abbrev B : Circuit
+  B = circuitOf board
+
+  abbrev r : ℕ
+  r = radiusOf P
+
+  abbrev result : BarOutcome
+  result = barCall pattern board w out
+
+  -- Nothing is written on a refusal, and it has no value.
+  pub refused-keeps : (x : Refusal) → first (barInputs pattern board w (length out)) ≡ refuse x →
+      (result .reply .verdict ≡ refuse x) × (result .reply .values ≡ []) × (result .out ≡ out)
+  unfolding barCall barring reply filled
+  refused-keeps x e = (rw e, rw e, rw e)
+
+  -- Where both files are accepted, the centre is a node and the bytes are long enough
+  module _ (a : Accepted Pattern pattern) (b : Accepted Board board) (h : w < nodesOf board) (room : linksOf pattern ≤ length out) where
+    verdict-is : first (barInputs pattern board w (length out)) ≡ first (centrePlaced (hasPlace pattern board w) ∷ [])
+    unfolding barInputs first centreOutside shortTable
+    verdict-is = rw (first-accept _ _ (pair-accept Pattern pattern board a b)) (simp (lt-ltb _ _ h, le-ltb _ _ room))
+
+    admissible : Admissible P B
+    admissible = accepted-admissible a b
+
+    placed-verdict : T (found P B w r) → result .reply .verdict ≡ refuse fifteen
+    unfolding barCall barring reply first centrePlaced hasPlace
+    placed-verdict t = rw (verdict-is, T-true {b = found P B w r} t)
+
+    none-verdict : (T (found P B w r) → ⊥) → result .reply .verdict ≡ accept
+    unfolding barCall barring reply first centrePlaced hasPlace
+    none-verdict f = rw (verdict-is, T-false {b = found P B w r} f)
+
+    pub fifteen-found : (result .reply .verdict ≡ refuse fifteen) ↔ T (found P B w r)
+    fifteen-found = (λ e. ⊎-elim (λ t. t) (λ f. absurd (refuse-not-accept (sym e ∙ none-verdict f))) (decide (found P B w r)), placed-verdict)
+
+    pub accept-none : (result .reply .verdict ≡ accept) ↔ (T (found P B w r) → ⊥)
+    accept-none = (λ e t. refuse-not-accept (sym (placed-verdict t) ∙ e), none-verdict)
+
+    -- it is 15 exactly when there is a place around the centre at the pattern's radius,
+    pub fifteen-iff : (result .reply .verdict ≡ refuse fifteen) ↔ ((G : Graph) × Place (circuitGraph P) (KindsMatch P B) (circuitGraph B) w r G)
+    fifteen-iff = (λ e. found-place admissible w r .0 (fifteen-found .0 e), λ p. fifteen-found .1 (found-place admissible w r .1 p))
+
+    -- and accepted exactly when there is no perfect subgraph,
+    pub accept-iff : (result .reply .verdict ≡ accept) ↔ ((G : Graph) → Perfect (circuitGraph P) (KindsMatch P B) (circuitGraph B) w r G → ⊥)
+    accept-iff = (λ e. none-iff admissible w r .0 (accept-none .0 e), λ n. accept-none .1 (none-iff admissible w r .1 n))
+
+    -- which is exactly when all links together bar.
+    pub accept-bars : (result .reply .verdict ≡ accept) ↔ Bars (circuitGraph P) (KindsMatch P B) (circuitGraph B) w (circuitGraph P .Link)
+    accept-bars =
+        let same = bars-radius P B w r (accepted-radius a) (circuitGraph P .Link) in (
+          λ e. same .0 (all-bar admissible w r .0 (accept-none .0 e)),
+          λ d. accept-none .1 (all-bar admissible w r .1 (same .1 d)),
+        )
+
+    -- ---- the kept links
+
+    module _ (accepts : result .reply .verdict ≡ accept) where
+      none : T (found P B w r) → ⊥
+      none = accept-none .0 accepts
+
+      accepted : first (barInputs pattern board w (length out)) ≡ accept
+      unfolding first centrePlaced hasPlace
+      accepted = verdict-is ∙ rw (T-false {b = found P B w r} none)
+
+      size : length (least P B w r) ≡ linksOf pattern
+      size = least-size admissible w r ∙ length-starts pattern
+
+      out-is : result .out ≡ least P B w r ++ drop (length (least P B w r)) out
+      unfolding barCall barring filled
+      out-is = rw accepted
+
+      -- the first M bytes are those of the procedure, and the others as they were; the reply is how many of them are 1
+      pub bytes-front : take (linksOf pattern) (result .out) ≡ least P B w r
+      bytes-front = rw out-is (take-at (least P B w r) _ (linksOf pattern) size)
+
+      pub bytes-rest : drop (linksOf pattern) (result .out) ≡ drop (linksOf pattern) out
+      bytes-rest = rw out-is (drop-at (least P B w r) _ (linksOf pattern) size ∙ ap (λ (k : ℕ). drop k out) size)
+
+      pub values-are : result .reply .values ≡ keptCount (take (linksOf pattern) (result .out)) ∷ []
+      unfolding barCall barring reply
+      values-are = rw (accepted, bytes-front)
+
+      -- the links that the bytes mark
+      abbrev pub Kept : Relation
+      Kept = ChosenLink P (take (linksOf pattern) (result .out))
+
+      -- "The kept links bar,
+      pub kept-bars : Bars (circuitGraph P) (KindsMatch P B) (circuitGraph B) w Kept
+      kept-bars = rw bytes-front (bars-radius P B w r (accepted-radius a) (ChosenLink P (least P B w r)) .0 (least-bars admissible w r none))
+
+      -- and with any one or more of them taken away the rest does not."
+      pub kept-needed :
+          (L : Relation) → L ⊆ Kept → (u u′ : ℕ) → Kept u u′ → (L u u′ → ⊥) → Bars (circuitGraph P) (KindsMatch P B) (circuitGraph B) w L → ⊥
+      kept-needed L fewer u u′ k gone d =
+          least-needed admissible w r none L (λ x x′ m. rw bytes-front at (fewer x x′ m)) u u′ (rw bytes-front at k) gone (bars-radius P B w r (accepted-radius a) L .1 d)
