@@ -7,7 +7,7 @@ use super::damage::{spoil, upset};
 use super::finder::Finder;
 use super::tally::Tally;
 use super::{agree, editions, laws, Difference};
-use crate::circuit::{Circuit, Role};
+use crate::circuit::{Circuit, Edition, Role};
 use crate::graph;
 use crate::load::Numbers;
 use crate::random::Random;
@@ -159,6 +159,12 @@ impl Case {
                 radius,
             });
             calls.push(Call::Place {
+                pattern,
+                board,
+                centre,
+            });
+            calls.push(Call::Bar {
+                editions: [Edition::First; 2],
                 pattern,
                 board,
                 centre,

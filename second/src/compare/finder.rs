@@ -38,6 +38,14 @@ pub trait Finder {
         radius: u16,
         out: PlaceTables,
     ) -> Words;
+    fn bar(
+        &self,
+        editions: [Edition; 2],
+        pattern: &[u8],
+        board: &[u8],
+        centre: usize,
+        out: &mut [u8],
+    ) -> Words;
     fn merge(&self, pattern: &[u8], classes: &mut [u8], out: &mut [u8]) -> Words;
     fn load(&self, numbers: Numbers, out: &mut [u8]) -> Words;
     fn read_second(
@@ -156,6 +164,17 @@ impl Finder for Second {
         out: PlaceTables,
     ) -> Words {
         calls::place_within(pattern, board, centre, radius, out).into()
+    }
+
+    fn bar(
+        &self,
+        editions: [Edition; 2],
+        pattern: &[u8],
+        board: &[u8],
+        centre: usize,
+        out: &mut [u8],
+    ) -> Words {
+        calls::bar(editions, pattern, board, centre, out).into()
     }
 
     fn merge(&self, pattern: &[u8], classes: &mut [u8], out: &mut [u8]) -> Words {

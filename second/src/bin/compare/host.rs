@@ -140,6 +140,15 @@ extern "C" {
         distances: *mut u16,
         distances_length: usize,
     ) -> Counts;
+    fn heronditch_bar(
+        pattern: *const u8,
+        pattern_length: usize,
+        board: *const u8,
+        board_length: usize,
+        centre: usize,
+        out: *mut u8,
+        out_length: usize,
+    ) -> Reply;
     fn heronditch_merge(
         pattern: *const u8,
         pattern_length: usize,
@@ -229,6 +238,33 @@ extern "C" {
         table: *mut u32,
         table_length: usize,
     ) -> Counts;
+    fn heronditch_bar_12(
+        pattern: *const u8,
+        pattern_length: usize,
+        board: *const u8,
+        board_length: usize,
+        centre: usize,
+        out: *mut u8,
+        out_length: usize,
+    ) -> Reply;
+    fn heronditch_bar_21(
+        pattern: *const u8,
+        pattern_length: usize,
+        board: *const u8,
+        board_length: usize,
+        centre: usize,
+        out: *mut u8,
+        out_length: usize,
+    ) -> Reply;
+    fn heronditch_bar_22(
+        pattern: *const u8,
+        pattern_length: usize,
+        board: *const u8,
+        board_length: usize,
+        centre: usize,
+        out: *mut u8,
+        out_length: usize,
+    ) -> Reply;
     fn heronditch_merge_2(
         pattern: *const u8,
         pattern_length: usize,
@@ -453,6 +489,34 @@ impl Finder for Host {
                 out.table.len(),
                 lent(out.distances),
                 out.distances.len(),
+            )
+        }
+        .words()
+    }
+
+    fn bar(
+        &self,
+        editions: [Edition; 2],
+        pattern: &[u8],
+        board: &[u8],
+        centre: usize,
+        out: &mut [u8],
+    ) -> Words {
+        let call = match editions {
+            [Edition::First, Edition::First] => heronditch_bar,
+            [Edition::First, Edition::Second] => heronditch_bar_12,
+            [Edition::Second, Edition::First] => heronditch_bar_21,
+            [Edition::Second, Edition::Second] => heronditch_bar_22,
+        };
+        unsafe {
+            call(
+                given(pattern),
+                pattern.len(),
+                given(board),
+                board.len(),
+                centre,
+                lent(out),
+                out.len(),
             )
         }
         .words()
