@@ -232,4 +232,4 @@ module _ {role : Role} {e : Edition} {bytes : List ℕ} {n m : ℕ} {k p s t : L
 -- a table of zeros
 pub zeros : (n : ℕ) → Below 1 (replicate n 0)
 unfolding Below
-zeros n i h = rw (getD-replicate n i 0 0 (subst (λ (k : ℕ). i < k) (length-replicate n 0) h)) (omega arith)
+zeros n i h = rw (getD-replicate {A = ℕ} n i 0 0 (subst (λ (k : ℕ). i < k) (length-replicate {A = ℕ} n 0) h)) (omega arith)
