@@ -244,6 +244,16 @@ static void barred(void)
     bar_with(B, sizeof B, SIZE_MAX, 2, 7, 0, "", "the largest centre, of bar");
     bar_with(one_link, sizeof one_link, 0, 2, 0, 2, "\1\1", "every link is needed");
     bar_with(stranger, sizeof stranger, 0, 2, 0, 0, "\0\0", "a centre of a kind that no part has");
+    uint8_t out[3] = {0xA5, 0xA5, 0xA5};
+    check(is_reply(heronditch_bar_12(T, sizeof T, T2, sizeof T2, 1, out, 2), 0, HERONDITCH_NEITHER, 1, 0) && out[0] == 0 && out[1] == 1 && out[2] == 0xA5,
+          "T without packages on T with some, around the one node that has none: either link bars, and the first is dropped");
+    check(is_reply(heronditch_bar_21(T2, sizeof T2, T, sizeof T, 0, out, 2), 0, HERONDITCH_NEITHER, 0, 0) && out[0] == 0 && out[1] == 0,
+          "a centre of a package that no part of its kind has");
+    check(is_reply(heronditch_bar_22(T2, sizeof T2, T2, sizeof T2, 0, out, 2), 15, HERONDITCH_NEITHER, 0, 0), "T with packages has a place on itself");
+    check(is_reply(heronditch_bar_22(T2, sizeof T2, T2, sizeof T2, 0, out, 1), 8, HERONDITCH_NEITHER, 0, 0), "bar_22 with one byte less");
+    check(is_reply(heronditch_bar_22(T, sizeof T, T2, sizeof T2, 0, out, 2), 3, HERONDITCH_PATTERN, 0, 0), "a first-edition pattern read as the second by bar_22");
+    check(is_reply(heronditch_bar_12(NULL, 0, NULL, 0, 0, NULL, 0), 1, HERONDITCH_PATTERN, 0, 0), "bar_12 of nothing");
+    check(is_reply(heronditch_bar_21(T2, sizeof T2, NULL, 0, 0, NULL, 0), 1, HERONDITCH_BOARD, 0, 0), "bar_21 on nothing");
     static const uint8_t part[] = {1, 0, 0, 0, 10, 0};
     check(is_reply(heronditch_bar(part, sizeof part, stranger, sizeof stranger, 0, NULL, 0), 0, HERONDITCH_NEITHER, 0, 0), "a pattern without links");
 }

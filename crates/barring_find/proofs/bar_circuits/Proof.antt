@@ -24,7 +24,7 @@ slice-aggregate-neighbour-tables-2 c = search needs
 
 neighbour-tables-requires : tie.Need-neighbour-tables-requires
 neighbour-tables-requires c κs =
-    let board = c .before .before .before .before .before .before .before .before .pre .0 .1 in
+    let board = c .before .before .before .before .before .before .before .before .before .pre .0 .1 in
     (search needs, (board .nodes, ((board .parallel, board .links), (bounded-starts board, bounded-ends board))))
 
 -- no more nodes than the tables have room for
@@ -57,15 +57,15 @@ slice-aggregate-first-in-ball-5 c = sym (length-take-le _ _ (most (c .before .be
 
 -- the tables are those of the board
 made : (c : tie.After-neighbour-tables) →
-    let a = c .before .before .before .before .before .before .before .before .before .args in
+    let a = c .before .before .before .before .before .before .before .before .before .before .args in
     let l = c .neighbour-tables .last .1 .1 .1 in
     Netted (circuit (now (a .node-kinds)) (now (a .node-starts)) (now (a .node-ends))) (l .0) (l .1 .0)
-made c = bounded-netted (c .before .before .before .before .before .before .before .before .before .pre .0 .1) (c .neighbour-tables .ensures)
+made c = bounded-netted (c .before .before .before .before .before .before .before .before .before .before .pre .0 .1) (c .neighbour-tables .ensures)
 
 first-in-ball-requires : tie.Need-first-in-ball-requires
 first-in-ball-requires c κs =
     let s = c .before .before .before .before .before .before .before .before .before .before .before .before .before .before .before .before .before in (
-      (s .pre .0 .0 .nodes, record { nodeStarts = _; nodeEnds = _; netted = made (c .before .before .before .before .before .before .before .before) }),
+      (s .pre .0 .0 .nodes, record { nodeStarts = _; nodeEnds = _; netted = made (c .before .before .before .before .before .before .before) }),
       (s .pre .1 .0, (length-take-le _ _ (most s), length-take-le _ _ (most s), length-take-le _ _ (most s))),
     )
 
@@ -77,18 +77,18 @@ listed : (c : tie.After-first-in-ball) →
     let a = entry c .args in
     Listed (now (a .part-kinds)) (circuit (now (a .node-kinds)) (now (a .node-starts)) (now (a .node-ends))) (a .around) (c .first-in-ball .last .1 .1 .1 .1 .1 .1 .0)
     (c .first-in-ball .last .1 .1 .1 .1 .1 .1 .1 .0) (c .first-in-ball .result)
-listed c = c .first-in-ball .ensures _ _ (made (c .before .before .before .before .before .before .before .before .before))
+listed c = c .first-in-ball .ensures _ _ (made (c .before .before .before .before .before .before .before .before))
 
 sized : (c : tie.After-first-in-ball) → length (c .first-in-ball .last .1 .1 .1 .1 .1 .1 .1 .0) ≡ length (now (entry c .args .node-kinds))
 sized c = c .first-in-ball .kept .1 .1 .1 .1 .1 .1 .1 .0 ∙ length-take-le _ _ (most (entry c))
 
 trial : (c : tie.After-first-in-ball) (past after : List ℕ) →
     let a = entry c .args in
-    let l = c .before .before .before .before .before .before .before .before .before .neighbour-tables .last .1 .1 .1 in
+    let l = c .before .before .before .before .before .before .before .before .neighbour-tables .last .1 .1 .1 in
     Tried (circuit (now (a .part-kinds)) (now (a .part-starts)) (now (a .part-ends))) (circuit (now (a .node-kinds)) (now (a .node-starts)) (now (a .node-ends)))
     (l .0) (l .1 .0) (a .around .centre) (a .around .radius) (take (c .first-in-ball .result) (c .first-in-ball .last .1 .1 .1 .1 .1 .1 .0 ++ past))
     (take (length (now (a .node-kinds))) (c .first-in-ball .last .1 .1 .1 .1 .1 .1 .1 .0 ++ after))
-trial c past after = listed-tried (entry c .pre .0 .0) (entry c .pre .0 .1) (c .before .before .before .before .before .before .before .before .before .neighbour-tables .ensures) (entry c .pre .1 .0) (listed c) (sized c) past after
+trial c past after = listed-tried (entry c .pre .0 .0) (entry c .pre .0 .1) (c .before .before .before .before .before .before .before .before .neighbour-tables .ensures) (entry c .pre .1 .0) (listed c) (sized c) past after
 
 array-share-prefix-queue : tie.Need-array-share-prefix-queue
 array-share-prefix-queue c = let d = c .before .before .before in room _ (d .first-in-ball .last .1 .1 .1 .1 .1 .1 .0) _ (listed d .short)
