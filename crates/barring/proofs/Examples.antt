@@ -40,3 +40,25 @@ stranger = record { kinds = 40 ∷ []; starts = []; ends = [] }
 pub no-link : Keeps circuitT stranger 0 (0 ∷ 0 ∷ []) 0
 unfolding opened circuitT stranger
 no-link = (refl, refl)
+
+-- a board of one node, of kind 20
+unfoldable pub alone : Circuit
+alone = record { kinds = 20 ∷ []; starts = []; ends = [] }
+
+-- T around it: either link bars by itself, and of the two the one that comes first in the file is dropped.
+pub either-link : Keeps circuitT alone 0 (0 ∷ 1 ∷ []) 1
+unfolding opened circuitT alone
+either-link = (refl, refl)
+
+-- a ring of three parts of one kind, whose radius is 1, and a board on which the centre 1 has at its end a node that drives itself
+unfoldable pub ring : Circuit
+ring = record { kinds = 10 ∷ 10 ∷ 10 ∷ []; starts = 0 ∷ 1 ∷ 2 ∷ []; ends = 1 ∷ 2 ∷ 0 ∷ [] }
+
+unfoldable pub branch : Circuit
+branch = record { kinds = 10 ∷ 10 ∷ 10 ∷ 10 ∷ []; starts = 2 ∷ 2 ∷ 3 ∷ []; ends = 2 ∷ 3 ∷ 1 ∷ [] }
+
+-- In the ball at the ring's radius, the nodes 1 and 3, two of its links bar. Without the first link the radius would be 2, and the ball would have the
+-- node that drives itself: it is the full pattern's radius that counts.
+pub own-radius : Keeps ring branch 1 (0 ∷ 1 ∷ 1 ∷ []) 2
+unfolding opened ring branch
+own-radius = (refl, refl)

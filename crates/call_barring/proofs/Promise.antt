@@ -2,15 +2,14 @@
 -- Assumes nothing.
 use mathlib.Core.Bool.{true, false}
 use mathlib.Core.List.{List, [], _∷_, _++_}
-use mathlib.Core.Logic.{_↔_, _⊎_, inl, inr, ⊎-elim}
-use mathlib.Core.Path.{_≡_, refl, sym, ap, subst, _∙_}
+use mathlib.Core.Logic.{_↔_, ⊎-elim}
+use mathlib.Core.Path.{_≡_, refl, sym, ap, _∙_}
 use Prim.Native.Nat.{ℕ, _≤_, _<_}
-use native.Mathlib.Omega.{arith}
-use borrow.Author.Tests.{lt-ltb, le-ltb}
-use lib.Dec.{T}
+use borrow.Author.Tests.{lt-ltb, le-ltb, ltb-true, ltb-false, not-false}
+use lib.Dec.{T, ltb}
 use lib.ListN.{length, take, drop}
 use lib.Seq.{take-at, drop-at}
-use Rattle.base_lists.proofs.Tests.{T-true, T-false, decide}
+use Rattle.base_lists.proofs.Tests.{T-true, T-false, false-T, decide}
 use Rattle.graph.specs.Chosen.{ChosenLink}
 use Rattle.graph.specs.Circuit.{Circuit, circuitGraph}
 use Rattle.graph.specs.Graph.{Graph}
@@ -25,8 +24,9 @@ use Rattle.file_format.specs.Reading.{filled}
 use Rattle.file_format.specs.Refusals.{Verdict, accept, refuse, first, centreOutside, shortTable, centrePlaced, Accepted}
 use Rattle.file_format.specs.Reply.{reply}
 use Rattle.file_format.proofs.Fields.{length-starts}
-use Rattle.file_format.proofs.Refusals.{first-accept}
-use Rattle.file_pair.proofs.Both.{pair-accept}
+use Rattle.file_format.proofs.Refusals.{accepted, accept-not-refuse, first-accept, first-holds, first-parts}
+use Rattle.file_pair.specs.Pair.{pairConditions}
+use Rattle.file_pair.proofs.Both.{pair-accept, pair-parts}
 use Rattle.table.specs.Host.{KindsMatch}
 use Rattle.place.specs.Match.{radiusOf, found}
 use Rattle.place.proofs.Accepted.{accepted-admissible, accepted-radius}
@@ -42,8 +42,10 @@ use Rattle.call_barring.specs.Call.{hasPlace, barInputs, barCall}
 abbrev pub fifteen : Refusal
 fifteen = record { number = 15; file = Neither }
 
-refuse-not-accept : {x : Refusal} → refuse x ≡ accept → ⊥
-refuse-not-accept e = let z : _≡_ {A = ℕ} 0 1 = cc in omega arith
+reply-verdict : (v : Verdict) (values : List ℕ) → reply v values .verdict ≡ v
+unfolding reply
+reply-verdict accept values = refl
+reply-verdict (refuse x) values = refl
 
 module _ (pattern board : CircuitFile) (w : ℕ) (out : List ℕ) where
   abbrev P : Circuit
@@ -58,34 +60,40 @@ module _ (pattern board : CircuitFile) (w : ℕ) (out : List ℕ) where
   abbrev result : BarOutcome
   result = barCall pattern board w out
 
+  -- The verdict is that of the first condition that holds.
+  pub verdict-is : result .reply .verdict ≡ first (barInputs pattern board w (length out))
+  unfolding barCall barring
+  verdict-is = reply-verdict _ _
+
   -- Nothing is written on a refusal, and it has no value.
-  pub refused-keeps : (x : Refusal) → first (barInputs pattern board w (length out)) ≡ refuse x →
-      (result .reply .verdict ≡ refuse x) × (result .reply .values ≡ []) × (result .out ≡ out)
+  pub refused-keeps : (x : Refusal) → first (barInputs pattern board w (length out)) ≡ refuse x → (result .reply .values ≡ []) × (result .out ≡ out)
   unfolding barCall barring reply filled
-  refused-keeps x e = (rw e, rw e, rw e)
+  refused-keeps x e = (rw e, rw e)
 
-  -- Where both files are accepted, the centre is a node and the bytes are long enough
+  -- ---- whether the centre has a place
+
+  -- Where both files are accepted, the centre is a node and the bytes are long enough,
   module _ (a : Accepted Pattern pattern) (b : Accepted Board board) (h : w < nodesOf board) (room : linksOf pattern ≤ length out) where
-    verdict-is : first (barInputs pattern board w (length out)) ≡ first (centrePlaced (hasPlace pattern board w) ∷ [])
-    unfolding barInputs first centreOutside shortTable
-    verdict-is = rw (first-accept _ _ (pair-accept Pattern pattern board a b)) (simp (lt-ltb _ _ h, le-ltb _ _ room))
-
     admissible : Admissible P B
     admissible = accepted-admissible a b
 
+    inputs-are : first (barInputs pattern board w (length out)) ≡ first (centrePlaced (found P B w r) ∷ [])
+    unfolding barInputs first centreOutside shortTable hasPlace
+    inputs-are = rw (first-accept _ _ (pair-accept Pattern pattern board a b)) (simp (lt-ltb _ _ h, le-ltb _ _ room))
+
     placed-verdict : T (found P B w r) → result .reply .verdict ≡ refuse fifteen
-    unfolding barCall barring reply first centrePlaced hasPlace
-    placed-verdict t = rw (verdict-is, T-true {b = found P B w r} t)
+    unfolding first centrePlaced
+    placed-verdict t = verdict-is ∙ inputs-are ∙ rw (T-true {b = found P B w r} t)
 
     none-verdict : (T (found P B w r) → ⊥) → result .reply .verdict ≡ accept
-    unfolding barCall barring reply first centrePlaced hasPlace
-    none-verdict f = rw (verdict-is, T-false {b = found P B w r} f)
+    unfolding first centrePlaced
+    none-verdict f = verdict-is ∙ inputs-are ∙ rw (T-false {b = found P B w r} f)
 
     pub fifteen-found : (result .reply .verdict ≡ refuse fifteen) ↔ T (found P B w r)
-    fifteen-found = (λ e. ⊎-elim (λ t. t) (λ f. absurd (refuse-not-accept (sym e ∙ none-verdict f))) (decide (found P B w r)), placed-verdict)
+    fifteen-found = (λ e. ⊎-elim (λ t. t) (λ f. absurd (accept-not-refuse (sym (none-verdict f) ∙ e))) (decide (found P B w r)), placed-verdict)
 
     pub accept-none : (result .reply .verdict ≡ accept) ↔ (T (found P B w r) → ⊥)
-    accept-none = (λ e t. refuse-not-accept (sym (placed-verdict t) ∙ e), none-verdict)
+    accept-none = (λ e t. accept-not-refuse (sym e ∙ placed-verdict t), none-verdict)
 
     -- it is 15 exactly when there is a place around the centre at the pattern's radius,
     pub fifteen-iff : (result .reply .verdict ≡ refuse fifteen) ↔ ((G : Graph) × Place (circuitGraph P) (KindsMatch P B) (circuitGraph B) w r G)
@@ -103,44 +111,60 @@ module _ (pattern board : CircuitFile) (w : ℕ) (out : List ℕ) where
           λ d. accept-none .1 (all-bar admissible w r .1 (same .1 d)),
         )
 
-    -- ---- the kept links
+  -- ---- the kept links, wherever the call is accepted
 
-    module _ (accepts : result .reply .verdict ≡ accept) where
-      none : T (found P B w r) → ⊥
-      none = accept-none .0 accepts
+  module _ (accepts : result .reply .verdict ≡ accept) where
+    sound : first (barInputs pattern board w (length out)) ≡ accept
+    sound = sym verdict-is ∙ accepts
 
-      accepted : first (barInputs pattern board w (length out)) ≡ accept
-      unfolding first centrePlaced hasPlace
-      accepted = verdict-is ∙ rw (T-false {b = found P B w r} none)
+    pub pattern-accepted : Accepted Pattern pattern
+    unfolding barInputs
+    pattern-accepted = accepted Pattern pattern (pair-parts Pattern pattern board (first-parts (pairConditions Pattern pattern board) _ sound .0) .0)
 
-      size : length (least P B w r) ≡ linksOf pattern
-      size = least-size admissible w r ∙ length-starts pattern
+    pub board-accepted : Accepted Board board
+    unfolding barInputs
+    board-accepted = accepted Board board (pair-parts Pattern pattern board (first-parts (pairConditions Pattern pattern board) _ sound .0) .1)
 
-      out-is : result .out ≡ least P B w r ++ drop (length (least P B w r)) out
-      unfolding barCall barring filled
-      out-is = rw accepted
+    none : T (found P B w r) → ⊥
+    unfolding barInputs centrePlaced hasPlace
+    none =
+        let rest = first-parts (pairConditions Pattern pattern board) _ sound .1 in
+        let (_, room) = first-holds _ _ rest in
+        let (_, last) = first-holds _ _ room in
+        false-T (first-holds _ _ last .0)
 
-      -- the first M bytes are those of the procedure, and the others as they were; the reply is how many of them are 1
-      pub bytes-front : take (linksOf pattern) (result .out) ≡ least P B w r
-      bytes-front = rw out-is (take-at (least P B w r) _ (linksOf pattern) size)
+    fits : Admissible P B
+    fits = accepted-admissible pattern-accepted board-accepted
 
-      pub bytes-rest : drop (linksOf pattern) (result .out) ≡ drop (linksOf pattern) out
-      bytes-rest = rw out-is (drop-at (least P B w r) _ (linksOf pattern) size ∙ ap (λ (k : ℕ). drop k out) size)
+    size : length (least P B w r) ≡ linksOf pattern
+    size = least-size fits w r ∙ length-starts pattern
 
-      pub values-are : result .reply .values ≡ keptCount (take (linksOf pattern) (result .out)) ∷ []
-      unfolding barCall barring reply
-      values-are = rw (accepted, bytes-front)
+    out-is : result .out ≡ least P B w r ++ drop (length (least P B w r)) out
+    unfolding barCall barring filled
+    out-is = rw sound
 
-      -- the links that the bytes mark
-      abbrev pub Kept : Relation
-      Kept = ChosenLink P (take (linksOf pattern) (result .out))
+    -- the first M bytes are those of the procedure, and the others as they were; the reply is how many of them are 1
+    pub bytes-front : take (linksOf pattern) (result .out) ≡ least P B w r
+    bytes-front = rw out-is (take-at (least P B w r) _ (linksOf pattern) size)
 
-      -- "The kept links bar,
-      pub kept-bars : Bars (circuitGraph P) (KindsMatch P B) (circuitGraph B) w Kept
-      kept-bars = rw bytes-front (bars-radius P B w r (accepted-radius a) (ChosenLink P (least P B w r)) .0 (least-bars admissible w r none))
+    pub bytes-rest : drop (linksOf pattern) (result .out) ≡ drop (linksOf pattern) out
+    bytes-rest = rw out-is (drop-at (least P B w r) _ (linksOf pattern) size ∙ ap (λ (k : ℕ). drop k out) size)
 
-      -- and with any one or more of them taken away the rest does not."
-      pub kept-needed :
-          (L : Relation) → L ⊆ Kept → (u u′ : ℕ) → Kept u u′ → (L u u′ → ⊥) → Bars (circuitGraph P) (KindsMatch P B) (circuitGraph B) w L → ⊥
-      kept-needed L fewer u u′ k gone d =
-          least-needed admissible w r none L (λ x x′ m. rw bytes-front at (fewer x x′ m)) u u′ (rw bytes-front at k) gone (bars-radius P B w r (accepted-radius a) L .1 d)
+    pub values-are : result .reply .values ≡ keptCount (take (linksOf pattern) (result .out)) ∷ []
+    unfolding barCall barring reply
+    values-are = rw (sound, bytes-front)
+
+    -- the links that the bytes mark
+    abbrev pub Kept : Relation
+    Kept = ChosenLink P (take (linksOf pattern) (result .out))
+
+    -- "The kept links bar,
+    pub kept-bars : Bars (circuitGraph P) (KindsMatch P B) (circuitGraph B) w Kept
+    kept-bars = rw bytes-front (bars-radius P B w r (accepted-radius pattern-accepted) (ChosenLink P (least P B w r)) .0 (least-bars fits w r none))
+
+    -- and with any one or more of them taken away the rest does not."
+    pub kept-needed :
+        (L : Relation) → L ⊆ Kept → (u u′ : ℕ) → Kept u u′ → (L u u′ → ⊥) → Bars (circuitGraph P) (KindsMatch P B) (circuitGraph B) w L → ⊥
+    kept-needed L fewer u u′ k gone d =
+        least-needed fits w r none L (λ x x′ m. rw bytes-front at (fewer x x′ m)) u u′ (rw bytes-front at k) gone
+        (bars-radius P B w r (accepted-radius pattern-accepted) L .1 d)

@@ -4,3 +4,4 @@ pub mod Limit
 pub mod Examples
 pub mod Files
 pub mod Distances
+pub mod Barring
