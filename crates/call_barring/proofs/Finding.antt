@@ -18,6 +18,7 @@ use Rattle.file_format.proofs.Fields.{length-labels, length-starts}
 use Rattle.file_format.proofs.Refusals.{first-accept, first-refuse}
 use Rattle.file_pair.specs.declared.Pair.{Pair}
 use Rattle.file_pair.specs.Pair.{pairConditions, BothRead}
+use Rattle.file_pair.proofs.Both.{pair-radius}
 use Rattle.place.specs.Match.{radiusOf}
 use Rattle.barring.specs.declared.BarAnswer.the-variants.{Refused}
 use Rattle.barring.specs.Outcome.{BarOutcome, barReply, barring, barAround}
@@ -58,5 +59,5 @@ module _ (pattern board : CircuitFile) (w : ℕ) (out : List ℕ) where
       → o ≡ barOn (p .radius) (front (p .parts) (p .joins) parts) (front (p .nodes) (p .links) host) w out → o ≡ barCall pattern board w out
   unfolding radiusOf
   bar-read read e =
-      let own = read .measured tt ∙ sym (ap (λ (n : ℕ). radius n (startsOf pattern) (endsOf pattern)) (length-labels pattern)) in
+      let own = pair-radius read ∙ sym (ap (λ (n : ℕ). radius n (startsOf pattern) (endsOf pattern)) (length-labels pattern)) in
       (rw (own, read .drawn .content, read .given .content) at e) ∙ bar-accepted (read .verdict)

@@ -150,9 +150,12 @@ module _ (pattern board : CircuitFile) (w : ℕ) (out : List ℕ) where
     pub bytes-rest : drop (linksOf pattern) (result .out) ≡ drop (linksOf pattern) out
     bytes-rest = rw out-is (drop-at (least P B w r) _ (linksOf pattern) size ∙ ap (λ (k : ℕ). drop k out) size)
 
-    pub values-are : result .reply .values ≡ keptCount (take (linksOf pattern) (result .out)) ∷ []
+    values : result .reply .values ≡ keptCount (least P B w r) ∷ []
     unfolding barCall barring reply
-    values-are = rw (sound, bytes-front)
+    values = rw sound
+
+    pub values-are : result .reply .values ≡ keptCount (take (linksOf pattern) (result .out)) ∷ []
+    values-are = values ∙ ap (λ (marks : List ℕ). keptCount marks ∷ []) (sym bytes-front)
 
     -- the links that the bytes mark
     abbrev pub Kept : Relation

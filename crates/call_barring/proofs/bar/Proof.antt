@@ -1,6 +1,6 @@
 -- `call_barring::bar` meets its contract: a file is refused, or the kept links of the two circuits that were read are found. Assumes nothing.
 use denote.Ref.{now}
-use mathlib.Core.Path.{refl, sym}
+use mathlib.Core.Path.{sym}
 use borrow.Author.Needs.{needs}
 use Rattle.graph.specs.Circuit.{Circuit}
 use Rattle.file_format.specs.Layout.{inEdition}
@@ -95,7 +95,7 @@ slice-aggregate-bar-on-6 c = sym (stands-size (both (c .before .before .before .
 bar-on-requires : tie.Need-bar-on-requires
 bar-on-requires c κs =
     let read = both (c .before .before .before .before .before .before .before) in
-    (refl, (pattern-bounded read, board-bounded read))
+    (pattern-bounded read, board-bounded read)
 
 enum-known-verdict : tie.Need-enum-known-verdict
 enum-known-verdict c = search needs
