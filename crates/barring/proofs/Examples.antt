@@ -8,14 +8,14 @@ use Rattle.base_lists.specs.Below.{keepFrom}
 use Rattle.graph.specs.Chosen.{picked, chosen}
 use Rattle.graph.specs.Circuit.{Circuit}
 use Rattle.graph.specs.Search.{beside, ball, misses, distances, radius}
-use Rattle.table.specs.Examples.{rowComputed, circuitT, circuitB}
+use Rattle.table.specs.Examples.{rowComputed, answerComputed, circuitT, circuitB}
 use Rattle.place.specs.Examples.{oneLink}
 use Rattle.place.specs.Match.{radiusOf, ballOf, ballTable, found}
 use Rattle.barring.specs.Least.{bars, dropFrom, least, keptCount}
 
--- all that is opened where the kept links are computed
+-- all that is opened where the kept links are computed, and the rule that every part has to occur, by which they would be others
 opened : Unit {0}
-unfolding rowComputed maximum beside ball misses distances radius radiusOf ballOf ballTable found keepFrom picked chosen bars dropFrom least keptCount
+unfolding rowComputed answerComputed maximum beside ball misses distances radius radiusOf ballOf ballTable found keepFrom picked chosen bars dropFrom least keptCount
 opened = tt
 
 -- around w, at the pattern's radius, these links are kept, so many
