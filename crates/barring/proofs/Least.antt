@@ -27,8 +27,8 @@ use Rattle.place.specs.Match.{found}
 use Rattle.place.proofs.Ball.{Admissible, ballGraph}
 use Rattle.barring.specs.Barring.{BarsIn, Bars}
 use Rattle.barring.specs.Least.{bars, dropFrom, allLinks, least, keptCount}
-use Rattle.barring.proofs.Bars.{not-both, none-not, chosen-largest, bars-none, barring-more, bars-iff, bars-upward}
-use Rattle.barring.proofs.Dropping.{length-drop, drop-passes, drop-needed, without-it, without-other}
+use Rattle.barring.proofs.Meaning.{not-both, none-not, chosen-largest, bars-none, barring-more, bars-iff, bars-upward}
+use Rattle.barring.proofs.Procedure.{length-drop, drop-passes, drop-needed, without-it, without-other}
 
 -- the same links, said in another way
 bars-same : {P : Graph} {Agree : Relation} {H : Graph} {w : ℕ} {L L′ : Relation} → L ⊆ L′ → L′ ⊆ L → BarsIn P Agree H w L → BarsIn P Agree H w L′

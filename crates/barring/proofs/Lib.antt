@@ -1,5 +1,5 @@
 pub mod Examples
-pub mod Dropping
-pub mod Bars
 pub mod Least
+pub mod Meaning
 pub mod Outcome
+pub mod Procedure

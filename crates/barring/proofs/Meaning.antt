@@ -24,7 +24,7 @@ use Rattle.place.specs.Match.{ballOf, ballTable, found}
 use Rattle.place.proofs.Ball.{ballGraph, BallPairs, taken-ball, found-occurs}
 use Rattle.barring.specs.Barring.{BarsIn}
 use Rattle.barring.specs.Least.{bars}
-use Rattle.barring.proofs.Dropping.{Fewer}
+use Rattle.barring.proofs.Procedure.{Fewer}
 
 pub not-both : (b : Bool) → T (not b) → T b → ⊥
 not-both true t f = t
