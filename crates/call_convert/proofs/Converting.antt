@@ -35,7 +35,7 @@ use Rattle.file_write.specs.Writing.{circuitConditions, WriteOutcome, writing, 
 use Rattle.file_write.proofs.Writing.{verdict-links, writing-short, writing-filled}
 use Rattle.call_convert.specs.declared.ConvertAnswer.{ConvertAnswer}
 use Rattle.call_convert.specs.declared.ConvertAnswer.the-variants.{Converted, Refused}
-use Rattle.call_convert.specs.Call.{everyPackage, convertedBytes, convertConditions, convertReply, ConvertOutcome, convertOn, converting}
+use Rattle.call_convert.specs.Call.{everyPackage, convertedBytes, convertConditions, convertReply, ConvertOutcome, convertedBy, convertOn, converting}
 
 -- ---- a circuit that was read
 
@@ -103,7 +103,8 @@ module _ (role : Role) (to : Edition) (file : CircuitFile) where
     pub converting-refused : (x : Refusal) → first (fileConditions role file) ≡ refuse x
         → record { reply = convertReply (Refused x); out = out } ≡ converting role to file out
     unfolding converting convertConditions convertReply reply filled
-    converting-refused x e = rw (first-refuse _ _ x e)
+    converting-refused x e =
+        ap (λ (v : Verdict). convertedBy v (lengthOf to (nodesOf file) (linksOf file)) (convertedBytes to file) out) (sym (first-refuse (fileConditions role file) _ x e))
 
     pub converting-on : first (fileConditions role file) ≡ accept
         → convertOn role to (kindsOf file) (everyPackage file) (startsOf file) (endsOf file) out ≡ converting role to file out

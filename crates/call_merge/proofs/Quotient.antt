@@ -92,8 +92,8 @@ content-sound-in e {p} c =
     ∙ rw (length-kinds-for e (p .kinds)) (content-links c)
 
 -- an entry of a list whose entries are of 16 bits, or 0 past its end
-label-low : {ls : List ℕ} → ((i : ℕ) → i < length ls → getD ls i 0 < 65536) → (i : ℕ) → getD ls i 0 < 65536
-label-low {ls} low i = go (decLt i (length ls))
+label-low : (ls : List ℕ) → ((i : ℕ) → i < length ls → getD ls i 0 < 65536) → (i : ℕ) → getD ls i 0 < 65536
+label-low ls low i = go (decLt i (length ls))
   where
     go : Dec (i < length ls) → getD ls i 0 < 65536
     go (yes h) = low i h
@@ -216,7 +216,7 @@ module _ {p : Circuit} (c : PatternContent p) where
   unfolding LabelsFit Below merged grouped
   labels-fit Second fit = tt
   labels-fit First fit = λ a h.
-      rw (getD-tabulate (classCount p) _ a 0 (subst (λ (k : ℕ). a < k) (length-tabulate (classCount p) _) h)) (label-low fit (firstMember p (classOf p) a))
+      rw (getD-tabulate (classCount p) _ a 0 (subst (λ (k : ℕ). a < k) (length-tabulate (classCount p) _) h)) (label-low (p .kinds) fit (firstMember p (classOf p) a))
 
   -- ---- written, it is the merged file
 

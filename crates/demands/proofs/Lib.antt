@@ -4,6 +4,7 @@ pub mod Counts
 pub mod Merged
 pub mod Groupings
 pub mod Limit
+pub mod FirstEdition
 pub mod GroupingExamples
 pub mod Report
 pub mod Examples

@@ -42,7 +42,7 @@ module _ (file : CircuitFile) (lent out : List ℕ) (ok : merging file lent out 
   -- the merged file is what the definition of the merged pattern says
   pub file-is : second ≡ inEdition (file .edition) (mergedBytes (file .edition) (circuitOf file))
   unfolding mergedFile
-  file-is = rw (values-are file lent out ok) (out-front file lent out ok)
+  file-is = rw (values-are file lent out ok) (ap (λ (bytes : List ℕ). inEdition (file .edition) bytes) (out-front file lent out ok))
 
   module _ (board : CircuitFile) (w r : ℕ) (tables tables′ : Lent) (x : Ready file board w tables) (room : Room board tables′) where
     -- it is accepted as a pattern too

@@ -2,12 +2,14 @@
 use mathlib.Core.Bool.{Bool, true, false, cond, Bool·not-not}
 use mathlib.Core.List.{List}
 use mathlib.Core.Logic.{_⊎_, inl, inr}
-use mathlib.Core.Path.{_≡_, sym, ap, _∙_}
+use mathlib.Core.Path.{_≡_, refl, sym, ap, _∙_}
 use Prim.Native.Nat.{ℕ, _+_, _-_, _≤_, _<_}
-use native.Mathlib.Nat.{eq-or-lt-of-le}
+use native.Mathlib.Decide.{decLt}
+use native.Mathlib.Nat.{eq-or-lt-of-le, le-trans, le-of-eq}
 use native.Mathlib.Omega.{arith}
 use lib.Dec.{T, eqb, ltb, lt→ltb, ltb→lt}
 use lib.ListN.{length, getD}
+use borrow.Author.Tests.{ltb-true, ltb-false}
 use Rattle.base_lists.specs.List.{all}
 use Rattle.base_lists.proofs.Tests.{all-at, at-all, allBelow-at, at-allBelow, T-true, T-false, true-T}
 use Rattle.graph.specs.Search.{far, radius}
@@ -27,6 +29,49 @@ module _ (xs : List ℕ) (n : ℕ) where
 
   pub not-all-below : (i : ℕ) → i < length xs → n ≤ getD xs i 0 → all (λ v. ltb v n) xs ≡ false
   not-all-below i h le = T-false (λ t. omega (arith, ltb→lt (getD xs i 0) n (all-at (λ v. ltb v n) xs t i h)))
+
+-- of the first k numbers one is the greatest
+pub record Greatest (xs : List ℕ) (k most : ℕ) : Type 0 where
+  pub bounds : (j : ℕ) → j < k → getD xs j 0 ≤ most
+  pub place : ℕ
+  pub within : place < k
+  pub is : getD xs place 0 ≡ most
+
+module _ (xs : List ℕ) where
+  pub greatest-one : Greatest xs 1 (getD xs 0 0)
+  greatest-one = record { bounds = only; place = 0; within = omega arith; is = refl }
+    where
+      only : (j : ℕ) → j < 1 → getD xs j 0 ≤ getD xs 0 0
+      only j h = let e : j ≡ 0 = omega arith in le-of-eq (ap (λ (i : ℕ). getD xs i 0) e)
+
+  module _ (k most : ℕ) (g : Greatest xs k most) where
+    -- a further number is the greatest, or the greatest stays so
+    pub greatest-next : most < getD xs k 0 → Greatest xs (k + 1) (getD xs k 0)
+    greatest-next more = record { bounds = up; place = k; within = omega arith; is = refl }
+      where
+        up : (j : ℕ) → j < k + 1 → getD xs j 0 ≤ getD xs k 0
+        up j h = go (decLt j k)
+          where
+            go : Dec (j < k) → getD xs j 0 ≤ getD xs k 0
+            go (yes l) = omega (arith, g .bounds j l)
+            go (no l) = let e : j ≡ k = omega arith in le-of-eq (ap (λ (i : ℕ). getD xs i 0) e)
+
+    pub greatest-stays : getD xs k 0 ≤ most → Greatest xs (k + 1) most
+    greatest-stays less = record { bounds = up; place = g .place; within = omega (arith, g .within); is = g .is }
+      where
+        up : (j : ℕ) → j < k + 1 → getD xs j 0 ≤ most
+        up j h = go (decLt j k)
+          where
+            go : Dec (j < k) → getD xs j 0 ≤ most
+            go (yes l) = g .bounds j l
+            go (no l) = let e : j ≡ k = omega arith in le-trans (le-of-eq (ap (λ (i : ℕ). getD xs i 0) e)) less
+
+  pub greatest-all : (n most : ℕ) → Greatest xs (length xs) most → ltb most n ≡ all (λ v. ltb v n) xs
+  greatest-all n most g = go (ltb most n) refl
+    where
+      go : (b : Bool) → ltb most n ≡ b → b ≡ all (λ v. ltb v n) xs
+      go true e = sym (all-below xs n (λ i h. omega (arith, g .bounds i h, ltb-true most n e)))
+      go false e = sym (not-all-below xs n (g .place) (g .within) (omega (arith, g .is, ltb-false most n e)))
 
 -- ---- each link's number below the next one's
 

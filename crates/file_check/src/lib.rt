@@ -77,18 +77,23 @@ pub fn size_number(role: Role, edition: Edition, file: &[u8]) -> u8
     0
 }
 
-// Each number is below n.
+// Each number is below n: the greatest is. There is one way out of the loop, so that the compiler looks at several numbers at a time.
 fn all_below(numbers: &[u16], n: usize) -> bool
     ensures { λ r. ⌜ r ≡ all (λ v. ltb v n) (now (numbers .entry)) ⌝ }
 {
-    let mut i = 0;
+    if numbers.len() == 0 {
+        return true;
+    }
+    let mut most = numbers[0];
+    let mut i = 1;
     while i < numbers.len() {
-        if n <= numbers[i] as usize {
-            return false;
+        let next = numbers[i];
+        if most < next {
+            most = next;
         }
         i += 1;
     }
-    true
+    (most as usize) < n
 }
 
 // One number of a link: its start times 65,536 plus its end.

@@ -1,20 +1,21 @@
 -- The agreement of a part and a node: what its test means, and what it is good for. Nothing else looks into it. Assumes nothing.
-use mathlib.Core.Bool.{_&&_, _||_}
+use mathlib.Core.Bool.{true, _&&_, _||_}
 use mathlib.Core.List.{List}
 use mathlib.Core.Logic.{_↔_, _⊎_, inl, inr, ⊎-elim}
-use mathlib.Core.Path.{_≡_, refl, sym, ap, subst, _∙_}
-use Prim.Native.Nat.{ℕ, _<_}
+use mathlib.Core.Path.{_≡_, refl, sym, ap, ap₂, subst, _∙_}
+use Prim.Native.Nat.{ℕ, _*_, _/_, _<_}
+use native.Mathlib.Omega.{arith}
 use lib.Dec.{T, eqb, eqb→eq}
 use lib.ListN.{length, getD}
 use borrow.Author.Tests.{eq-eqb}
 use Rattle.base_lists.specs.List.{Below}
-use Rattle.base_lists.proofs.Tests.{true-T, both, both-left, both-right, same-test, either-left, either-right, either-cases}
+use Rattle.base_lists.proofs.Tests.{true-T, T-true, both, both-left, both-right, same-test, either-left, either-right, either-cases}
 use Rattle.base_bits.specs.Bits.{numberOf}
 use Rattle.graph.specs.Circuit.{Circuit}
 use Rattle.table.specs.First.{startNode}
 use Rattle.table.specs.Host.{KindMatches, KindsMatch}
 use Rattle.file_format.specs.Label.{label, kindIn, packageIn}
-use Rattle.file_format.proofs.Labels.{label-kind, label-package, plain-kind, plain-package, same-label}
+use Rattle.file_format.proofs.Labels.{label-kind, label-package, label-parts, plain-kind, plain-package, same-label}
 use Rattle.graph.specs.Search.{inside}
 use Rattle.table_row.specs.Row.{startedOf, lastOf, keptOf, struckOf, roundsOf}
 use Rattle.table_row.specs.Reading.{Equivalent}
@@ -22,6 +23,10 @@ use Rattle.table_row.proofs.Wider.{last-same, started-same, kept-same, struck-s
 use Rattle.table.specs.Row.{kindsAgree, agrees, problemOf, byEqualKinds, byKinds, lastTable, started, kept, struck, rounds}
 
 -- ---- the test
+
+any-label : (node : ℕ) → label 0 (packageIn node) ≡ node / 65536 * 65536
+unfolding label packageIn
+any-label node = omega arith
 
 agree-iff : (part node : ℕ) → T (kindsAgree part node) ↔ (KindMatches (kindIn part) (kindIn node) × (packageIn part ≡ packageIn node))
 unfolding kindsAgree
@@ -37,6 +42,27 @@ agree-iff part node =
           both same (any || equal) (true-T (eq-eqb (packageIn part) (packageIn node) e))
           (⊎-elim (λ z. either-left any equal (true-T (eq-eqb (kindIn part) 0 z))) (λ q. either-right any equal (true-T (eq-eqb (kindIn part) (kindIn node) q))) k),
     )
+
+-- the one label besides its own that agrees with a node's: that of kind 0 and the node's package
+pub agree-any : (part node : ℕ) → part ≡ node / 65536 * 65536 → kindsAgree part node ≡ true
+unfolding kindIn packageIn
+agree-any part node e = T-true (agree-iff part node .1 (inl (omega arith), omega arith))
+
+pub agree-own : (part node : ℕ) → (part ≡ node / 65536 * 65536 → ⊥) → kindsAgree part node ≡ eqb part node
+agree-own part node other = same-test there back
+  where
+    any : kindIn part ≡ 0 → packageIn part ≡ packageIn node → part ≡ node / 65536 * 65536
+    any z p = sym (label-parts part) ∙ ap₂ label z p ∙ any-label node
+
+    there : T (kindsAgree part node) → T (eqb part node)
+    there t =
+        let m = agree-iff part node .0 t in
+        ⊎-elim (λ z. absurd (other (any z (m .1)))) (λ e. true-T (eq-eqb part node (same-label part node e (m .1)))) (m .0)
+
+    back : T (eqb part node) → T (kindsAgree part node)
+    back t =
+        let e = eqb→eq part node t in
+        agree-iff part node .1 (inr (ap kindIn e), ap packageIn e)
 
 -- what the agreement says of labels, it says of kinds and packages of 16 bits: "a kind-0 part of package 3 takes nodes of package 3 only"
 pub agree-pairs :
@@ -108,17 +134,10 @@ kinds-part a b host u x v e m =
 abbrev pub Plain : Circuit → Type 0
 Plain c = (u : ℕ) → u < length (c .kinds) → kindIn (getD (c .kinds) u 0) ≡ 0 → ⊥
 
--- two labels are equal when their kinds and their packages are
+-- such a part agrees with its own label alone
 labels-agree : (part node : ℕ) → (kindIn part ≡ 0 → ⊥) → kindsAgree part node ≡ eqb part node
-unfolding kindsAgree
-labels-agree part node f =
-    same-test
-    (λ t.
-    let m = agree-iff part node .0 t in
-    ⊎-elim (λ z. absurd (f z)) (λ e. true-T (eq-eqb part node (same-label part node e (m .1)))) (m .0))
-    (λ t.
-    let e = eqb→eq part node t in
-    agree-iff part node .1 (inr (ap kindIn e), ap packageIn e))
+unfolding kindIn
+labels-agree part node f = agree-own part node (λ e. f (omega arith))
 
 -- For such a pattern the problem is that of equal labels, whatever kinds and packages the board has: so its tables and counts, and all that is made from
 -- them, are those of before.

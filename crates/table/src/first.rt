@@ -9,17 +9,15 @@ ghost use Rattle.table.specs.Fill.{NodeList};
 ghost use Rattle.table.specs.First.{startNode, Written};
 ghost use Rattle.table.specs.Row.{kindsAgree};
 
-// A part agrees with a node, each given by its label: kind 0 in a pattern is any part of its package.
+// A part agrees with a node, each given by its label: it is of the node's package and of kind 0, any part of that package, or has the same label.
 fn kinds_agree(part: u32, node: u32) -> bool
     ensures { λ r. ⌜ r ≡ kindsAgree part node ⌝ }
 {
-    if part / 65536 != node / 65536 {
-        return false;
-    }
-    if part % 65536 == 0 {
+    let any = node / 65536 * 65536;
+    if part == any {
         return true;
     }
-    part % 65536 == node % 65536
+    part == node
 }
 
 // The set of the parts that agree with a node of this label.

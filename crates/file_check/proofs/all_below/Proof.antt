@@ -1,33 +1,34 @@
--- `file_check::all_below` meets its contract. The loop's invariant: each number passed is below n. Assumes nothing.
-use borrow.Author.Count.{below-none, below-more}
-use mathlib.Core.Path.{sym}
+-- `file_check::all_below` meets its contract. The loop's invariant: one of the numbers passed is the greatest of them. Assumes nothing.
+use denote.Ref.{now}
+use mathlib.Core.Logic.{⊎-elim}
+use mathlib.Core.Path.{_≡_, sym, subst}
 use native.Mathlib.Omega.{arith}
-use Prim.Native.Nat.{ℕ, _-_, _≤_, _<_}
-use lib.ListN.{length, getD}
-use Rattle.file_check.proofs.LinkTests.{all-below, not-all-below}
+use Prim.Native.Nat.{ℕ, _+_, _-_, _≤_}
+use lib.ListN.{length}
+use Rattle.file_check.proofs.LinkTests.{Greatest, greatest-one, greatest-next, greatest-stays, greatest-all, all-below}
 use Rattle.file_check.proofs.all_below.Statement.{statement}
 use Rattle.file_check.proofs.all_below.Tie as tie
 
 abbrev Inv-loop : tie.InvT-loop
-Inv-loop numbers n i₀ i = (i ≤ length numbers) × ((j : ℕ) → j < i → getD numbers j 0 < n)
+Inv-loop numbers n most₀ i₀ most i = (i ≤ length numbers) × Greatest numbers i most
 
 abbrev μ-loop : tie.MeasureT-loop
-μ-loop numbers n i₀ i = length numbers - i
-
-loop-holds : tie.Need-loop-holds Inv-loop μ-loop
-loop-holds c = (omega arith, below-none _)
-
-mul-if1 : tie.Need-mul-if1 Inv-loop μ-loop
-mul-if1 c = omega arith
-
-shared-slice-read-if1 : tie.Need-shared-slice-read-if1 Inv-loop μ-loop
-shared-slice-read-if1 c = omega arith
-
-cast-if1 : tie.Need-cast-if1 Inv-loop μ-loop
-cast-if1 c = omega (arith, c .shared-slice-known .given (c .before .before .loop .i))
+μ-loop numbers n most₀ i₀ most i = length numbers - i
 
 returns : tie.Need-returns Inv-loop μ-loop
-returns c = sym (not-all-below _ _ (c .before .before .before .loop .i) (omega arith) (c .if1 .taken))
+returns c = sym (all-below _ _ (λ i h. absurd (omega arith)))
+
+shared-slice-read-most : tie.Need-shared-slice-read-most Inv-loop μ-loop
+shared-slice-read-most c = omega arith
+
+loop-holds : tie.Need-loop-holds Inv-loop μ-loop
+loop-holds c = (omega arith, greatest-one _)
+
+mul-next : tie.Need-mul-next Inv-loop μ-loop
+mul-next c = omega arith
+
+shared-slice-read-next : tie.Need-shared-slice-read-next Inv-loop μ-loop
+shared-slice-read-next c = omega arith
 
 add-i : tie.Need-add-i Inv-loop μ-loop
 add-i c = omega arith
@@ -36,23 +37,28 @@ loop-less : tie.Need-loop-less Inv-loop μ-loop
 loop-less c = omega arith
 
 loop-again : tie.Need-loop-again Inv-loop μ-loop
-loop-again c = (omega arith, below-more _ _ (c .before .before .before .loop .inv .1) (c .if1 .left))
+loop-again c =
+    let loop = c .before .before .before in
+    let numbers = now (loop .before .before .before .args .numbers) in
+    let k = loop .loop .i in
+    let g = loop .loop .inv .1 in (
+      omega arith,
+      ⊎-elim
+          (λ w. subst (λ (most : ℕ). Greatest numbers (k + 1) most) (sym (w .1)) (greatest-next numbers k (loop .loop .most) g (w .0 .taken)))
+          (λ w. subst (λ (most : ℕ). Greatest numbers (k + 1) most) (sym (w .1)) (greatest-stays numbers k (loop .loop .most) g (w .0 .left)))
+          (c .if2 .came),
+    )
+
+cast-result : tie.Need-cast-result Inv-loop μ-loop
+cast-result c = let g = c .before .loop .inv .1 in omega (arith, g .is, c .before .before .shared-slice-known .given (g .place))
 
 returns-2 : tie.Need-returns-2 Inv-loop μ-loop
-returns-2 c = sym (all-below _ _ (λ i h. c .before .loop .inv .1 i (omega arith)))
+returns-2 c =
+    let numbers = now (c .before .before .before .before .args .numbers) in
+    let e : c .before .loop .i ≡ length numbers = omega arith in
+    greatest-all numbers _ _ (subst (λ (k : ℕ). Greatest numbers k (c .before .loop .most)) e (c .before .loop .inv .1))
 
 pub all-below-spec : {M : Type 1} → statement M
 all-below-spec =
     tie.close
-    (tie.spec
-    Inv-loop
-    μ-loop
-    loop-holds
-    mul-if1
-    shared-slice-read-if1
-    cast-if1
-    returns
-    add-i
-    loop-less
-    loop-again
-    returns-2)
+    (tie.spec Inv-loop μ-loop returns shared-slice-read-most loop-holds mul-next shared-slice-read-next add-i loop-less loop-again cast-result returns-2)

@@ -1,4 +1,10 @@
 -- `file_read::fill_nodes` meets its contract: each stretch is stored in its table. Assumes nothing.
+use denote.Ref.{now}
+use mathlib.Core.List.{List, _++_}
+use mathlib.Core.Path.{_≡_, refl, ap, subst, _∙_}
+use Prim.Native.Nat.{ℕ}
+use lib.ListN.{drop}
+use Rattle.file_format.specs.Layout.{fields, packagesAt}
 use borrow.Author.Needs.{needs}
 use Rattle.file_read.proofs.fill_nodes.Statement.{statement}
 use Rattle.file_read.proofs.fill_nodes.Tie as tie
@@ -30,12 +36,20 @@ same-length c = search needs
 same-length-2 : tie.Need-same-length-2
 same-length-2 c = search needs
 
+-- the fields that were stored are those of the file from an offset on
+stored : (file old : List ℕ) (at : ℕ) {k p : ℕ} {got after : List ℕ} → k ≡ p → got ≡ fields (drop at file) k → after ≡ got ++ drop k old
+    → after ≡ fields (drop at file) p ++ drop p old
+stored file old at {k} {after = after} q e s =
+    subst (λ (p : ℕ). after ≡ fields (drop at file) p ++ drop p old) q (s ∙ ap (λ (l : List ℕ). l ++ drop k old) e)
+
 returns : tie.Need-returns
 returns c =
     let counted = c .before .before .before .before .before .before .before .before .before .before in
-    let first = c .before .before .before .before .before .before .before in (
-      rw (← (first .before .before .stretch .ensures .1)) (first .store .ensures),
-      rw (← (counted .package-count .ensures .0), ← (c .before .before .before .before .stretch2 .ensures .1)) (c .before .before .store2 .ensures),
+    let first = c .before .before .before .before .before .before .before in
+    let a = counted .before .before .before .before .args in (
+      stored (now (a .file)) (now (a .kinds)) 4 refl (first .before .before .stretch .ensures .1) (first .store .ensures),
+      stored (now (a .file)) (now (a .packages)) (packagesAt (a .n)) (counted .package-count .ensures .0) (c .before .before .before .before .stretch2 .ensures .1)
+          (c .before .before .store2 .ensures),
     )
 
 pub fill-nodes-spec : {M : Type 1} → statement M

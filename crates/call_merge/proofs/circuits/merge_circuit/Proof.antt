@@ -90,7 +90,7 @@ slice-aggregate-write-circuit-3 c = sym (size (c .before .before .before) .2)
 
 write-circuit-requires : tie.Need-write-circuit-requires
 write-circuit-requires c κs =
-    let here = c .before .before .before in
+    let here = c .before .before .before .before in
     let first = start (made here .before) in
     let is = ap (λ (q : Circuit). q .kinds) (made here .quotient .ensures .content) in
     let few = le-trans (le-of-eq (size here .0 ∙ made here .quotient .ensures .counted)) (classes-few (content first)) in

@@ -1,0 +1,149 @@
+-- For files of the first edition all is as it was before there were packages: `first-edition`. Assumes nothing.
+use mathlib.Core.Bool.{Bool, true, false, _&&_, not}
+use mathlib.Core.List.{List, [], _∷_, _++_}
+use mathlib.Core.Logic.{_↔_}
+use mathlib.Core.Path.{_≡_, refl, sym, ap, subst, _∙_}
+use Prim.Native.Nat.{ℕ, _+_, _*_, _<_}
+use native.Mathlib.Omega.{arith}
+use lib.Dec.{eqb, ltb}
+use borrow.Author.Tests.{ltb-true, ltb-false, le-ltb}
+use lib.ListN.{length, getD, drop, List·getD-eq-default}
+use Rattle.base_lists.specs.List.{Below}
+use Rattle.graph.specs.Circuit.{Circuit}
+use Rattle.file_format.specs.declared.Edition.the-variants.{First}
+use Rattle.file_format.specs.declared.Role.{Role}
+use Rattle.file_format.specs.Circuit.{circuitOf}
+use Rattle.file_format.specs.Label.{kindIn, packageIn}
+use Rattle.file_format.specs.Layout.{firstEdition, field, fields, nodesOf, linksOf, kindsOf, labelsOf, startsOf, endsOf}
+use Rattle.file_format.specs.Reading.{filled, readConditions, reading}
+use Rattle.file_format.specs.Refusals.{Condition, Verdict, accept, refuse, first, linkConditions, fileConditions, shortTable}
+use Rattle.file_format.specs.Role.{inRange, fileOf}
+use Rattle.file_format.proofs.FirstEdition.{first-packages, first-labels, first-length, first-labels-low}
+use Rattle.file_format.proofs.Labels.{plain-kind, plain-package}
+use Rattle.file_write.specs.Bytes.{stretchBytes, kindsFor, circuitBytes}
+use Rattle.file_write.specs.Writing.{packagesGiven, circuitConditions, writeConditions, writing}
+use Rattle.merge.specs.Merged.{merged}
+use Rattle.table.specs.Host.{KindMatches, KindsMatch}
+use Rattle.call_merge.specs.Call.{mergedBytes}
+use Rattle.demands.specs.Demands.{equal}
+use Rattle.demands.specs.FirstEdition.{circuitBefore, fileBefore, readingBefore, bytesBefore, writingBefore, FirstEdition}
+
+-- ---- what a file holds
+
+module _ (file : List ℕ) where
+  kinds-before : labelsOf (firstEdition file) ≡ circuitBefore file .kinds
+  unfolding circuitBefore kindsOf nodesOf
+  kinds-before = first-labels file
+
+  starts-before : startsOf (firstEdition file) ≡ circuitBefore file .starts
+  unfolding circuitBefore startsOf nodesOf linksOf
+  starts-before =
+      let at : 4 + 2 * field file 0 + 2 * 0 ≡ 4 + 2 * field file 0 = omega arith in
+      ap (λ (k : ℕ). fields (drop k file) (field file 2)) at
+
+  ends-before : endsOf (firstEdition file) ≡ circuitBefore file .ends
+  unfolding circuitBefore endsOf nodesOf linksOf
+  ends-before =
+      let at : 4 + 2 * field file 0 + 2 * 0 + 2 * field file 2 ≡ 4 + 2 * field file 0 + 2 * field file 2 = omega arith in
+      ap (λ (k : ℕ). fields (drop k file) (field file 2)) at
+
+  held-before : circuitOf (firstEdition file) ≡ circuitBefore file
+  held-before = rw (kinds-before, starts-before, ends-before)
+
+  asked-before : (role : Role) → fileConditions role (firstEdition file) ≡ fileBefore role file
+  unfolding fileConditions fileBefore nodesOf linksOf
+  asked-before role =
+      rw (first-length (field file 0) (field file 2), starts-before, ends-before)
+
+-- ---- reading
+
+-- a condition that does not hold may be left out
+left-out : (cs : List Condition) (a c : Condition) (ds : List Condition) → c .holds ≡ false → first (cs ++ (a ∷ c ∷ ds)) ≡ first (cs ++ (a ∷ ds))
+unfolding first
+left-out [] a c ds e = rw e
+left-out (x ∷ cs) a c ds e = rw (left-out cs a c ds e)
+
+filled-none : (v : Verdict) (l : List ℕ) → filled v [] l ≡ l
+unfolding filled
+filled-none accept l = refl
+filled-none (refuse x) l = refl
+
+-- no table is too short for no entries
+none-asked : (lent : ℕ) → shortTable 0 lent .holds ≡ false
+unfolding shortTable
+none-asked lent = le-ltb lent 0 (omega arith)
+
+verdict-before : (role : Role) (file : List ℕ) (k p s e : ℕ)
+    → first (readConditions role (firstEdition file) k p s e)
+    ≡ first (fileBefore role file ++ (shortTable (field file 0) k ∷ shortTable (field file 2) s ∷ shortTable (field file 2) e ∷ []))
+unfolding readConditions nodesOf linksOf
+verdict-before role file k p s e =
+    let n = field file 0 in
+    let m = field file 2 in
+    ap (λ (cs : List Condition). first (cs ++ (shortTable n k ∷ shortTable 0 p ∷ shortTable m s ∷ shortTable m e ∷ []))) (asked-before file role)
+    ∙ left-out (fileBefore role file) (shortTable n k) (shortTable 0 p) (shortTable m s ∷ shortTable m e ∷ []) (none-asked p)
+
+reads-before : (role : Role) (file kinds packages starts ends : List ℕ)
+    → reading role (firstEdition file) kinds packages starts ends ≡ readingBefore role file kinds packages starts ends
+unfolding reading readingBefore nodesOf linksOf kindsOf circuitBefore
+reads-before role file kinds packages starts ends =
+    rw (verdict-before role file (length kinds) (length packages) (length starts) (length ends), first-packages file, filled-none, starts-before file, ends-before file)
+
+-- ---- writing
+
+and-true : (b : Bool) → (b && true) ≡ b
+and-true true = refl
+and-true false = refl
+
+module _ (role : Role) (kinds packages starts ends : List ℕ) where
+  circuit-before :
+      circuitConditions role First kinds packages starts ends
+      ≡ record { number = 2; file = fileOf role; holds = not (inRange role (length kinds) (length starts)) } ∷
+      record { number = 3; file = fileOf role; holds = not (eqb (length starts) (length ends)) } ∷
+      linkConditions role (length kinds) starts ends
+  unfolding circuitConditions packagesGiven
+  circuit-before = rw (and-true (eqb (length starts) (length ends)))
+
+  writes-before : (out : List ℕ) → writing role First kinds packages starts ends out ≡ writingBefore role (record { kinds = kinds; starts = starts; ends = ends }) out
+  unfolding writing writingBefore writeConditions bytesBefore stretchBytes
+  writes-before out = rw (circuit-before, first-length (length kinds) (length starts))
+
+merges-before : (file : List ℕ) → mergedBytes First (circuitOf (firstEdition file)) ≡ bytesBefore (merged (circuitBefore file))
+unfolding mergedBytes circuitBytes kindsFor stretchBytes bytesBefore
+merges-before file = ap (λ (c : Circuit). bytesBefore (merged c)) (held-before file)
+
+-- ---- which part and node are equal
+
+below-all : (k : ℕ) (l : List ℕ) → 0 < k → Below k l → (i : ℕ) → getD l i 0 < k
+unfolding Below
+below-all k l z b i = go (ltb i (length l)) refl
+  where
+    go : (t : Bool) → ltb i (length l) ≡ t → getD l i 0 < k
+    go true e = b i (ltb-true i (length l) e)
+    go false e = subst (λ (x : ℕ). x < k) (sym (List·getD-eq-default l 0 (ltb-false i (length l) e))) z
+
+kinds-low : (file : List ℕ) → Below 256 file → (u : ℕ) → getD (circuitBefore file .kinds) u 0 < 65536
+kinds-low file low =
+    subst (λ (l : List ℕ). (u : ℕ) → getD l u 0 < 65536) (kinds-before file)
+    (below-all 65536 (labelsOf (firstEdition file)) (omega arith) (first-labels-low file (below-all 256 file (omega arith) low)))
+
+plain-match : (a b : ℕ) → a < 65536 → b < 65536 → (KindMatches (kindIn a) (kindIn b) × (packageIn a ≡ packageIn b)) ↔ KindMatches a b
+plain-match a b h k = rw (plain-kind a h, plain-kind b k, plain-package a h, plain-package b k) (λ m. m .0, λ m. (m, refl))
+
+equals-before : (pattern board : List ℕ) → Below 256 pattern → Below 256 board → (u v : ℕ)
+    → equal (firstEdition pattern) (firstEdition board) u v ↔ KindMatches (getD (circuitBefore pattern .kinds) u 0) (getD (circuitBefore board .kinds) v 0)
+unfolding KindsMatch
+equals-before pattern board p b u v =
+    rw (kinds-before pattern, kinds-before board) (plain-match _ _ (kinds-low pattern p u) (kinds-low board b v))
+
+-- "a first-edition file counts as having all packages 0": nothing moved for it
+pub first-edition : FirstEdition
+first-edition =
+    record {
+      asked = λ role file. asked-before file role;
+      held = held-before;
+      reads = reads-before;
+      writes = writes-before;
+      merges = merges-before;
+      equals = equals-before;
+    }
