@@ -470,7 +470,7 @@ def barred(answer, pattern, node):
     links = [word.split("-") for word in words[4:]]
     lines = [f"{node} has no place: {words[1]} of {words[3].rstrip(':')} links stand in the way\n"]
     if not links:
-        lines = [f"{node} has no place: no part matches its kind, whatever the links\n"]
+        lines = [f"{node} has no place: no part matches its kind and package, whatever the links\n"]
     return "".join(lines + [f"{pattern.names[int(start)]} -> {pattern.names[int(end)]}\n" for start, end in links])
 
 
