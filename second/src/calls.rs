@@ -3,6 +3,7 @@
 //! past those needed keep their content.
 
 use crate::check::{marked, perfect};
+use crate::barring::least;
 use crate::circuit::{
     both, both_in, both_in_bits, gather, gather_second, parse, parse_in, Circuit, Edition, File, Refusal,
     Role,
@@ -354,6 +355,31 @@ pub fn check_in(
         let graph = marked(&board, nodes, links);
         let yes = |graph| perfect(&pattern, &board, centre, radius_of(&pattern), &graph);
         Ok(Reply::accepted(usize::from(graph.is_some_and(yes)), 0))
+    }))
+}
+
+/// Fills a byte per pattern link, 1 for those of the least that still says
+/// none; replies with how many are 1. Refusal 15 where the centre has a place.
+pub fn bar(
+    editions: [Edition; 2],
+    pattern: &[u8],
+    board: &[u8],
+    centre: usize,
+    out: &mut [u8],
+) -> Reply {
+    either(both_in(editions, pattern, board).and_then(|(pattern, board)| {
+        inside(centre, &board)?;
+        long_enough(&[(out.len(), pattern.links.len())])?;
+        if place_of(&pattern, &board, centre, radius_of(&pattern))
+            .0
+            .is_some()
+        {
+            return Err(Refusal::neither(15));
+        }
+        let kept = least(&pattern, &board, centre);
+        let count = kept.iter().filter(|&&is| is).count();
+        fill(out, kept.into_iter().map(u8::from));
+        Ok(Reply::accepted(count, 0))
     }))
 }
 
