@@ -16,8 +16,8 @@ ghost use Rattle.heronditch.specs.Host.{slots, hostReadPackages, hostWri
 use crate::reply::Counted;
 use crate::reply::Reply;
 use crate::reply::of_ball;
-use crate::reply::of_check;
 use crate::reply::of_bar;
+use crate::reply::of_check;
 use crate::reply::of_convert;
 use crate::reply::of_match;
 use crate::reply::of_merge;

@@ -44,7 +44,7 @@ loop-less c = search needs
 loop-again : tie.Need-loop-again Inv-loop μ-loop
 loop-again c =
     ⊎-elim
-    (λ w. rw (w .2, w .3) (chosen-one (c .before .before .before .before .pre) (c .before .before .before .loop .inv) (search needs) (w .0 .taken)))
+    (λ w. rw (w .2, w .3) (chosen-one (c .before .before .before .before .pre) (c .before .before .before .loop .inv) (search needs) (omega (arith, w .0 .taken))))
     (λ w. rw (w .1, w .2) (chosen-other (c .before .before .before .before .pre) (c .before .before .before .loop .inv) (search needs) (w .0 .left)))
     (c .if1 .came)
 
