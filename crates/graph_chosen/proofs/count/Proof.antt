@@ -7,7 +7,7 @@ use native.Mathlib.Numerals.{add-one}
 use native.Mathlib.Omega.{arith}
 use borrow.Author.Tests.{eq-eqb, ne-eqb}
 use denote.Ref.{now}
-use lib.ListN.{length}
+use lib.ListN.{length, getD}
 use Rattle.base_lists.specs.Below.{countBelow}
 use Rattle.base_lists.proofs.Below.{countBelow-suc}
 use Rattle.graph.specs.Search.{inside}
@@ -44,7 +44,7 @@ loop-again c =
     let j = loop .loop .j in
     let next = ap (λ (n : ℕ). countBelow n (inside marks)) (add-one j) ∙ countBelow-suc j (inside marks) in
     ⊎-elim
-    (λ w. let one = eq-eqb _ 1 (w .0 .taken) in (omega arith, omega arith, w .1 ∙ rw (next, one, ← loop .loop .inv .2)))
+    (λ w. let one = eq-eqb (getD marks j 0) 1 (omega (arith, w .0 .taken)) in (omega arith, omega arith, w .1 ∙ rw (next, one, ← loop .loop .inv .2)))
     (λ w. let none = ne-eqb _ 1 (w .0 .left) in (omega arith, omega arith, w .1 ∙ rw (next, none, ← loop .loop .inv .2) (omega arith)))
     (c .if1 .came)
 
