@@ -55,7 +55,9 @@ masks-of-requires-2 c κs =
     let start = entry (first .before) in
     let masks = now (start .args .masks) in
     let p = start .pre in
-    (sym (p .0 .0), (rw (half-2 (first .masks-of .last .1 .1 .0) masks (first .masks-of .kept .1 .1 .0 ∙ half masks (p .1)) (p .1)) (p .0 .2), p .0 .1))
+    let starts = p .0 .1 in
+    let ends = p .0 .2 in
+    (omega (arith, p .0 .0), (rw (half-2 (first .masks-of .last .1 .1 .0) masks (first .masks-of .kept .1 .1 .0 ∙ half masks (p .1)) (p .1)) (search needs), search needs))
 
 same-length : tie.Need-same-length
 same-length c = search needs
