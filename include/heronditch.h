@@ -23,7 +23,7 @@
  * the second: of two digits the first is the pattern's edition and the second the board's, or that of the old file and that of the new.
  *
  * Numbers of refusal. Where several hold, the pattern's 1 to 6 come first, then its 11, then the board's 1 to 5, then 7, the check's 3, 10, 12,
- * 8 and 9:
+ * 8, and 9 or 15:
  *   1  a file of under 4 bytes                         6  the pattern is not connected
  *   2  the number of nodes or links out of range       7  the centre is not a node of the board
  *   3  a length that is not the edition's;             8  a lent table is too short
@@ -33,6 +33,7 @@
  *   4  a link to or from a node that is not there     11  the pattern's radius is above HERONDITCH_RADIUS: two of its parts
  *   5  links that do not rise strictly,                   are farther apart, which is a mistake in its drawing
  *      by start and then by end                       12  converting to the first edition, a package other than 0
+ *                                                     15  the centre has a place, where it is asked why it has none
  */
 #ifndef HERONDITCH_H
 #define HERONDITCH_H
@@ -155,6 +156,14 @@ heronditch_counts heronditch_place_within(const uint8_t *pattern, size_t pattern
 heronditch_reply heronditch_check(const uint8_t *pattern, size_t pattern_len, const uint8_t *board, size_t board_len, size_t centre,
                                   const uint8_t *nodes, size_t nodes_len, const uint8_t *links, size_t links_len);
 
+/* Says why there is no place around a node of the board, at the pattern's radius, by few of the pattern's links: a byte for each of its M links,
+ * 1 for kept. The kept links alone leave the centre without a match (in the ball, all parts kept and none required to occur), and with any one
+ * or more of them taken away the rest does not. They are found from all links, in file order, by dropping each one without which the rest still
+ * does. Replies with how many are 1; 0 where no part matches the centre's kind. Turned away with 15 where the centre has a place. Lend
+ * HERONDITCH_PATTERN_LINKS bytes to have room for every pattern. */
+heronditch_reply heronditch_bar(const uint8_t *pattern, size_t pattern_len, const uint8_t *board, size_t board_len, size_t centre,
+                                uint8_t *out, size_t out_len);
+
 /* Merges the parts of a pattern that match each other: the class of each of its N parts, and the merged pattern's file. Lend N bytes and
  * as many bytes as the pattern's file has. Replies with the number of classes and the merged file's length. */
 heronditch_reply heronditch_merge(const uint8_t *pattern, size_t pattern_len, uint8_t *classes, size_t classes_len, uint8_t *out,
@@ -207,6 +216,14 @@ heronditch_reply heronditch_check_21(const uint8_t *pattern, size_t pattern_len,
                                      const uint8_t *nodes, size_t nodes_len, const uint8_t *links, size_t links_len);
 heronditch_reply heronditch_check_22(const uint8_t *pattern, size_t pattern_len, const uint8_t *board, size_t board_len, size_t centre,
                                      const uint8_t *nodes, size_t nodes_len, const uint8_t *links, size_t links_len);
+
+/* Says why there is no place, for the same three pairs of editions; 0 is replied where no part matches the centre's kind and package. */
+heronditch_reply heronditch_bar_12(const uint8_t *pattern, size_t pattern_len, const uint8_t *board, size_t board_len, size_t centre,
+                                   uint8_t *out, size_t out_len);
+heronditch_reply heronditch_bar_21(const uint8_t *pattern, size_t pattern_len, const uint8_t *board, size_t board_len, size_t centre,
+                                   uint8_t *out, size_t out_len);
+heronditch_reply heronditch_bar_22(const uint8_t *pattern, size_t pattern_len, const uint8_t *board, size_t board_len, size_t centre,
+                                   uint8_t *out, size_t out_len);
 
 /* Merges the parts of a second-edition pattern. A merged part has its class's package; the merged file is of the second edition. */
 heronditch_reply heronditch_merge_2(const uint8_t *pattern, size_t pattern_len, uint8_t *classes, size_t classes_len, uint8_t *out,

@@ -7,6 +7,7 @@
   circuit.py show FILE.cir                   print a text that makes the file
   circuit.py tell [--distance] TEXT [REPORT] print a report with a board's names
   circuit.py convert FILE.cir OUT.cir        write the file in the other edition
+  circuit.py bar PATTERN BOARD NODE          print why a node has no place
 
 The text has one statement a line; '#' begins a comment, and the order of
 statements is free:
@@ -39,12 +40,20 @@ several bits, which need not be connected nor of radius 12 at most: only the
 whole-board match table takes one.
 
 Errors in a text are told with its name and line number, all of them at once.
+
+'bar' takes the texts of a pattern and of a board and a node's name, and prints
+which of the pattern's links stand in the way of a place around that node: few
+of them, of which none can be spared. It asks the proved library, through
+tools/bar, which makes it where it is not up to date.
 """
 
 import argparse
+import pathlib
 import signal
 import struct
+import subprocess
 import sys
+import tempfile
 
 ARROWS = ("->", "<-", "<->")
 MOST = 65535
@@ -451,6 +460,39 @@ def convert(arguments):
         file.write(circuit.file())
 
 
+def barred(answer, pattern, node):
+    """What tools/bar printed, by the names of the pattern's text."""
+    words = answer.split()
+    if words == ["refused", "15"]:
+        return f"{node} has a place\n"
+    if words[:1] != ["kept"] or len(words) < 4:
+        raise Faults([f"the library did not take this: {answer.strip()}"])
+    links = [word.split("-") for word in words[4:]]
+    lines = [f"{node} has no place: {words[1]} of {words[3].rstrip(':')} links stand in the way\n"]
+    if not links:
+        lines = [f"{node} has no place: no part matches its kind and package, whatever the links\n"]
+    return "".join(lines + [f"{pattern.names[int(start)]} -> {pattern.names[int(end)]}\n" for start, end in links])
+
+
+def bar(arguments):
+    """The command 'bar'."""
+    circuits = []
+    for role, path in (("pattern", arguments.pattern), ("board", arguments.board)):
+        circuits.append(load_text(path, role))
+        check_role(circuits[-1], role, path)
+    pattern, board = circuits
+    if arguments.node not in board.names:
+        raise Faults([f"{arguments.board}: no node is named '{arguments.node}'"])
+    program = pathlib.Path(__file__).with_name("bar")
+    with tempfile.TemporaryDirectory() as folder:
+        files = [pathlib.Path(folder, name) for name in ("pattern.cir", "board.cir")]
+        for path, circuit in zip(files, circuits):
+            path.write_bytes(circuit.file())
+        centre = str(board.names.index(arguments.node))
+        done = subprocess.run([program, *files, centre], stdout=subprocess.PIPE, text=True, check=False)
+    sys.stdout.write(barred(done.stdout, pattern, arguments.node))
+
+
 def command_line():
     """The parser of the command line."""
     summary, form = __doc__.split("\n\n", 1)
@@ -476,6 +518,11 @@ def command_line():
     one.add_argument("--distance", action="store_true", help="each place's nodes by their distance from the centre")
     one.add_argument("report", metavar="REPORT", nargs="?", help="standard input if left out")
     one.set_defaults(run=tell)
+    one = commands.add_parser("bar", help="print which links of a pattern stand in the way of a place around a node")
+    one.add_argument("pattern", metavar="PATTERN")
+    one.add_argument("board", metavar="BOARD")
+    one.add_argument("node", metavar="NODE")
+    one.set_defaults(run=bar)
     return parser
 
 

@@ -224,6 +224,18 @@ def test_tell(folder):
     check("another board's report", done.returncode == 1 and "not a report" in done.stderr, done)
 
 
+def test_bar(folder):
+    """What 'bar' says without the library: it asks that only of sound texts and a node that is there (tests/c/run has its answers)."""
+    pattern, board = folder / "pattern.txt", folder / "board.txt"
+    pattern.write_text("node a 10\nnode b 20\na -> b\n", encoding="utf-8")
+    board.write_text("node p 10\n", encoding="utf-8")
+    done = run("bar", pattern, board, "q")
+    check("a node that is not there", done.returncode == 1 and "no node is named 'q'" in done.stderr, done)
+    pattern.write_text("node a 10\nnode b 20\n", encoding="utf-8")
+    done = run("bar", pattern, board, "p")
+    check("a pattern that is not connected", done.returncode == 1 and "connected" in done.stderr, done)
+
+
 def test_calls(folder):
     """Wrong calls and missing files."""
     check("no command", run().returncode == 2)
@@ -236,7 +248,7 @@ def test_calls(folder):
 def main():
     """Runs all tests."""
     with tempfile.TemporaryDirectory() as name:
-        for test in (test_good, test_bad, test_roles, test_files, test_editions, test_tell, test_calls):
+        for test in (test_good, test_bad, test_roles, test_files, test_editions, test_tell, test_bar, test_calls):
             test(pathlib.Path(name))
     if failures:
         sys.exit(f"{len(failures)} failed")

@@ -2,10 +2,11 @@
 //! its whole result or a refusal, and only then fills what was lent; entries
 //! past those needed keep their content.
 
+use crate::barring::least;
 use crate::check::{marked, perfect};
 use crate::circuit::{
-    both, both_in, both_in_bits, gather, gather_second, parse, parse_in, Circuit, Edition, File, Refusal,
-    Role,
+    both, both_in, both_in_bits, gather, gather_second, parse, parse_in, Circuit, Edition, File,
+    Refusal, Role,
 };
 use crate::graph::{radius as radius_of, within};
 use crate::load::{load as load_of, Numbers};
@@ -346,15 +347,44 @@ pub fn check_in(
     nodes: &[u8],
     links: &[u8],
 ) -> Reply {
-    either(both_in(editions, pattern, board).and_then(|(pattern, board)| {
-        inside(centre, &board)?;
-        if nodes.len() != board.kinds.len() || links.len() != board.links.len() {
-            return Err(Refusal::neither(3));
-        }
-        let graph = marked(&board, nodes, links);
-        let yes = |graph| perfect(&pattern, &board, centre, radius_of(&pattern), &graph);
-        Ok(Reply::accepted(usize::from(graph.is_some_and(yes)), 0))
-    }))
+    either(
+        both_in(editions, pattern, board).and_then(|(pattern, board)| {
+            inside(centre, &board)?;
+            if nodes.len() != board.kinds.len() || links.len() != board.links.len() {
+                return Err(Refusal::neither(3));
+            }
+            let graph = marked(&board, nodes, links);
+            let yes = |graph| perfect(&pattern, &board, centre, radius_of(&pattern), &graph);
+            Ok(Reply::accepted(usize::from(graph.is_some_and(yes)), 0))
+        }),
+    )
+}
+
+/// Fills a byte per pattern link, 1 for those of the least that still says
+/// none; replies with how many are 1. Refusal 15 where the centre has a place.
+pub fn bar(
+    editions: [Edition; 2],
+    pattern: &[u8],
+    board: &[u8],
+    centre: usize,
+    out: &mut [u8],
+) -> Reply {
+    either(
+        both_in(editions, pattern, board).and_then(|(pattern, board)| {
+            inside(centre, &board)?;
+            long_enough(&[(out.len(), pattern.links.len())])?;
+            if place_of(&pattern, &board, centre, radius_of(&pattern))
+                .0
+                .is_some()
+            {
+                return Err(Refusal::neither(15));
+            }
+            let kept = least(&pattern, &board, centre);
+            let count = kept.iter().filter(|&&is| is).count();
+            fill(out, kept.into_iter().map(u8::from));
+            Ok(Reply::accepted(count, 0))
+        }),
+    )
 }
 
 /// Fills the class of each part and the merged file; replies with the number

@@ -6,6 +6,7 @@
 #![deny(warnings)]
 #![forbid(unsafe_code)]
 
+pub mod barring;
 pub mod calls;
 pub mod check;
 pub mod circuit;

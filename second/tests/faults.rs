@@ -4,7 +4,7 @@
 //! in limits, orders and tables.
 
 use second::calls::PlaceTables;
-use second::circuit::{both, both_in_bits, parse, parse_in, Circuit, Edition, Role};
+use second::circuit::{both, both_in, both_in_bits, parse, parse_in, Circuit, Edition, Role};
 use second::compare::finder::{Finder, Second, Words};
 use second::compare::tally::Tally;
 use second::compare::{case, edges};
@@ -81,9 +81,19 @@ enum Fault {
     // Of the editions.
     PackagesIgnored,
     PackagesDropped,
+    // Of the least that still says none.
+    BarFalling,
+    BarAgainstAll,
+    BarReducedRadius,
+    BarOccurring,
+    BarPartsDropped,
+    BarFifteenFirst,
+    BarNine,
+    BarCountsDropped,
+    BarStops,
 }
 
-const FAULTS: [Fault; 59] = [
+const FAULTS: [Fault; 68] = [
     Fault::OneRound,
     Fault::EveryLink,
     Fault::MergedRadius,
@@ -143,6 +153,15 @@ const FAULTS: [Fault; 59] = [
     Fault::LoadNamesBoard,
     Fault::PackagesIgnored,
     Fault::PackagesDropped,
+    Fault::BarFalling,
+    Fault::BarAgainstAll,
+    Fault::BarReducedRadius,
+    Fault::BarOccurring,
+    Fault::BarPartsDropped,
+    Fault::BarFifteenFirst,
+    Fault::BarNine,
+    Fault::BarCountsDropped,
+    Fault::BarStops,
 ];
 
 /// The second finder with a planted fault.
@@ -583,6 +602,17 @@ impl Finder for Faulty {
         self.place_call(&call, out)
     }
 
+    fn bar(
+        &self,
+        editions: [Edition; 2],
+        pattern: &[u8],
+        board: &[u8],
+        centre: usize,
+        out: &mut [u8],
+    ) -> Words {
+        self.bar_call(editions, pattern, board, centre, out)
+    }
+
     fn merge(&self, pattern: &[u8], classes: &mut [u8], out: &mut [u8]) -> Words {
         let words = Second.merge(pattern, classes, out);
         let Ok(circuit) = parse(Role::Pattern, pattern) else {
@@ -689,6 +719,91 @@ impl Finder for Faulty {
         }
         out[..bytes.len()].copy_from_slice(&bytes);
         [0, 0, bytes.len() as u32, 0, 0, 0]
+    }
+}
+
+/// Whether a faulty finder says that some of a pattern's links bar.
+fn faulty_bars(
+    fault: Fault,
+    pattern: &Circuit,
+    board: &Circuit,
+    centre: usize,
+    chosen: &[bool],
+) -> bool {
+    let links = pattern.links.iter().zip(chosen);
+    let rest = Circuit {
+        links: links.filter(|(_, &is)| is).map(|(&link, _)| link).collect(),
+        ..pattern.clone()
+    };
+    let reach = match fault {
+        Fault::BarReducedRadius => radius(&rest),
+        _ => radius(pattern),
+    };
+    let (pairs, _) = largest(&rest, board, &ball(board, centre, reach));
+    let linked = |u: usize| rest.links.iter().any(|&(s, e)| s == u || e == u);
+    match fault {
+        Fault::BarOccurring => {
+            !pairs.occurs(centre) || pairs.rows.iter().any(|row| !row.contains(&true))
+        }
+        Fault::BarPartsDropped => {
+            let mut rows = pairs.rows.iter().enumerate();
+            !rows.any(|(u, row)| row[centre] && linked(u))
+        }
+        _ => !pairs.occurs(centre),
+    }
+}
+
+/// The kept links as a faulty finder has them.
+fn faulty_least(fault: Fault, pattern: &Circuit, board: &Circuit, centre: usize) -> Vec<bool> {
+    let links = pattern.links.len();
+    let mut order: Vec<usize> = (0..links).collect();
+    if fault == Fault::BarFalling {
+        order.reverse();
+    }
+    let mut kept = vec![true; links];
+    for at in order {
+        let mut tried = match fault {
+            Fault::BarAgainstAll => vec![true; links],
+            _ => kept.clone(),
+        };
+        tried[at] = false;
+        kept[at] = !faulty_bars(fault, pattern, board, centre, &tried);
+        if fault == Fault::BarStops && kept[at] {
+            break;
+        }
+    }
+    kept
+}
+
+impl Faulty {
+    fn bar_call(
+        &self,
+        editions: [Edition; 2],
+        pattern: &[u8],
+        board: &[u8],
+        centre: usize,
+        out: &mut [u8],
+    ) -> Words {
+        let right = Second.bar(editions, pattern, board, centre, &mut out.to_vec());
+        let whole = || Second.bar(editions, pattern, board, centre, &mut [0; 256]);
+        match (self.0, right[0]) {
+            (Fault::BarFifteenFirst, 8) if whole()[0] == 15 => [15, 0, 0, 0, 0, 0],
+            (Fault::BarNine, 15) => [9, 0, 0, 0, 0, 0],
+            (_, 0) => {
+                let Ok((pattern, board)) = both_in(editions, pattern, board) else {
+                    return right;
+                };
+                let kept = faulty_least(self.0, &pattern, &board, centre);
+                let count = kept.iter().filter(|&&is| is).count();
+                out.iter_mut()
+                    .zip(&kept)
+                    .for_each(|(b, &is)| *b = is.into());
+                let dropped = self.0 == Fault::BarCountsDropped;
+                let told = if dropped { kept.len() - count } else { count };
+                [0, 0, told as u32, 0, 0, 0]
+            }
+            _ => right,
+        }
     }
 }
 

@@ -67,12 +67,16 @@ static void no_arrays(void)
           "place with nothing lent");
     check(is_counts(heronditch_place_within(T, sizeof T, NULL, 0, 0, 0, NULL, 0, NULL, 0, NULL, 0, NULL, 0), 1, HERONDITCH_BOARD, 0, 0, 0, 0),
           "place_within on nothing");
+    check(is_reply(heronditch_bar(NULL, 0, NULL, 0, 0, NULL, 0), 1, HERONDITCH_PATTERN, 0, 0), "bar of nothing");
+    check(is_reply(heronditch_bar(T, sizeof T, NULL, 0, 0, NULL, 0), 1, HERONDITCH_BOARD, 0, 0), "bar on nothing");
+    check(is_reply(heronditch_bar(T, sizeof T, B, sizeof B, 3, NULL, 0), 8, HERONDITCH_NEITHER, 0, 0), "bar with nothing lent");
     check(is_reply(heronditch_merge(NULL, 0, NULL, 0, NULL, 0), 1, HERONDITCH_PATTERN, 0, 0), "merge of nothing");
     static const uint8_t none[] = {0, 0, 0, 0};
     check(is_reply(heronditch_read_board(none, 4, NULL, 0, NULL, 0, NULL, 0), 0, HERONDITCH_NEITHER, 0, 0), "a board of no node");
     check(is_counts(heronditch_match(T, sizeof T, none, 4, NULL, 0), 0, HERONDITCH_NEITHER, 0, 0, 0, 0), "match on no node");
     check(is_counts(heronditch_place(T, sizeof T, none, 4, 0, NULL, 0, NULL, 0, NULL, 0, NULL, 0), 7, HERONDITCH_NEITHER, 0, 0, 0, 0),
           "place on no node");
+    check(is_reply(heronditch_bar(T, sizeof T, none, 4, 0, NULL, 0), 7, HERONDITCH_NEITHER, 0, 0), "bar on no node");
 }
 
 /* the place call with tables of these lengths, at a centre; checks what is past the needed entries */
@@ -227,6 +231,42 @@ static void second_edition(void)
     convert_with(heronditch_convert_board_21, T2, sizeof T2, 0, 12, HERONDITCH_BOARD, T, 0, "12 comes before 8, and names the role's file");
     convert_with(heronditch_convert_board_21, T2, sizeof T2 - 1, 32, 3, HERONDITCH_BOARD, T, 0, "3 comes before 12");
     check(is_reply(heronditch_convert_pattern_12(NULL, 0, NULL, 0), 1, HERONDITCH_PATTERN, 0, 0), "convert nothing");
+}
+
+/* the bytes of the kept links of T on a board around a centre, with so many bytes lent; those past the needed ones stay */
+static void bar_with(const uint8_t *board, size_t board_len, size_t centre, size_t lent, uint32_t number, size_t kept, const char *bytes, const char *what)
+{
+    uint8_t out[4];
+    memset(out, 0xA5, sizeof out);
+    check(is_reply(heronditch_bar(T, sizeof T, board, board_len, centre, out, lent), number, HERONDITCH_NEITHER, kept, 0), what);
+    size_t size = number == 0 ? 2 : 0;
+    check(untouched(out, size, sizeof out) && !memcmp(out, bytes, size), what);
+}
+
+static void barred(void)
+{
+    static const uint8_t one_link[] = {2, 0, 1, 0, 10, 0, 20, 0, 0, 0, 1, 0}, stranger[] = {1, 0, 0, 0, 40, 0};
+    bar_with(B, sizeof B, 3, 2, 0, 1, "\1\0", "T on B around 3, exactly the needed length");
+    bar_with(B, sizeof B, 3, 3, 0, 1, "\1\0", "T on B around 3, one byte more");
+    bar_with(B, sizeof B, 3, 1, 8, 0, "", "T on B around 3, one byte less");
+    bar_with(B, sizeof B, 0, 2, 15, 0, "", "a centre that has a place");
+    bar_with(B, sizeof B, 0, 1, 8, 0, "", "8 comes before 15");
+    bar_with(B, sizeof B, 6, 1, 7, 0, "", "7 comes before 8");
+    bar_with(B, sizeof B, SIZE_MAX, 2, 7, 0, "", "the largest centre, of bar");
+    bar_with(one_link, sizeof one_link, 0, 2, 0, 2, "\1\1", "every link is needed");
+    bar_with(stranger, sizeof stranger, 0, 2, 0, 0, "\0\0", "a centre of a kind that no part has");
+    uint8_t out[3] = {0xA5, 0xA5, 0xA5};
+    check(is_reply(heronditch_bar_12(T, sizeof T, T2, sizeof T2, 1, out, 2), 0, HERONDITCH_NEITHER, 1, 0) && out[0] == 0 && out[1] == 1 && out[2] == 0xA5,
+          "T without packages on T with some, around the one node that has none: either link bars, and the first is dropped");
+    check(is_reply(heronditch_bar_21(T2, sizeof T2, T, sizeof T, 0, out, 2), 0, HERONDITCH_NEITHER, 0, 0) && out[0] == 0 && out[1] == 0,
+          "a centre of a package that no part of its kind has");
+    check(is_reply(heronditch_bar_22(T2, sizeof T2, T2, sizeof T2, 0, out, 2), 15, HERONDITCH_NEITHER, 0, 0), "T with packages has a place on itself");
+    check(is_reply(heronditch_bar_22(T2, sizeof T2, T2, sizeof T2, 0, out, 1), 8, HERONDITCH_NEITHER, 0, 0), "bar_22 with one byte less");
+    check(is_reply(heronditch_bar_22(T, sizeof T, T2, sizeof T2, 0, out, 2), 3, HERONDITCH_PATTERN, 0, 0), "a first-edition pattern read as the second by bar_22");
+    check(is_reply(heronditch_bar_12(NULL, 0, NULL, 0, 0, NULL, 0), 1, HERONDITCH_PATTERN, 0, 0), "bar_12 of nothing");
+    check(is_reply(heronditch_bar_21(T2, sizeof T2, NULL, 0, 0, NULL, 0), 1, HERONDITCH_BOARD, 0, 0), "bar_21 on nothing");
+    static const uint8_t part[] = {1, 0, 0, 0, 10, 0};
+    check(is_reply(heronditch_bar(part, sizeof part, stranger, sizeof stranger, 0, NULL, 0), 0, HERONDITCH_NEITHER, 0, 0), "a pattern without links");
 }
 
 /* a small generator, the same on every machine */
@@ -429,6 +469,7 @@ int main(void)
 {
     no_arrays();
     lengths();
+    barred();
     reports();
     loads();
     widths();

@@ -9,7 +9,7 @@
 
 enum { STACK = 1 << 20 };
 
-static uint8_t pattern[HERONDITCH_PATTERN_BYTES], board[HERONDITCH_BOARD_BYTES];
+static uint8_t pattern[HERONDITCH_PATTERN_BYTES], board[HERONDITCH_BOARD_BYTES], other[HERONDITCH_BOARD_BYTES];
 static uint16_t kinds[HERONDITCH_NODES], starts[HERONDITCH_BOARD_LINKS], ends[HERONDITCH_BOARD_LINKS];
 static uint8_t bytes[HERONDITCH_BOARD_BYTES], links[HERONDITCH_BOARD_LINKS];
 static uint32_t table[HERONDITCH_NODES];
@@ -74,6 +74,12 @@ static void *check(void *x)
     refused |= r.number || r.first != 1; /* a yes, so that the whole check is gone through */
     return x;
 }
+static void *bar(void *x)
+{
+    /* the largest pattern's links and, on a board of another kind, no place */
+    refused |= heronditch_bar(PATTERN, other, sizeof other, 0, links, HERONDITCH_PATTERN_LINKS).number;
+    return x;
+}
 static void *merge(void *x)
 {
     refused |= heronditch_merge(PATTERN, links, HERONDITCH_PARTS, bytes, sizeof pattern).number;
@@ -113,10 +119,12 @@ int main(void)
     static const struct {
         const char *name;
         void *(*call)(void *);
-    } calls[] = {{"read", read_board}, {"write", write_board}, {"radius", radius}, {"ball", ball}, {"match", match}, {"place", place}, {"check", check}, {"merge", merge}, {"report", report}, {"load", load}};
+    } calls[] = {{"read", read_board}, {"write", write_board}, {"radius", radius}, {"ball", ball}, {"match", match}, {"place", place}, {"check", check}, {"bar", bar}, {"merge", merge}, {"report", report}, {"load", load}};
     size_t most = 0;
     if (circuit(HERONDITCH_PARTS, HERONDITCH_PATTERN_LINKS, pattern) != sizeof pattern || circuit(HERONDITCH_NODES, HERONDITCH_BOARD_LINKS, board) != sizeof board)
         return 2;
+    memcpy(other, board, sizeof board);
+    memset(other + 4, 9, 2 * HERONDITCH_NODES);
     size_t idle = touched(nothing); /* what a thread needs by itself */
     for (size_t i = 0; i < sizeof calls / sizeof *calls; i++) {
         size_t used = touched(calls[i].call) - idle;

@@ -198,11 +198,11 @@ abbrev asked : (a b c d e : Bool) → Verdict → Verdict
 asked a b c d e last = cond a (turned Pattern 1) (cond b (turned Pattern 2) (cond c (turned Pattern 3) (cond d (turned Pattern 4) (cond e (turned Pattern 5) last))))
 
 module _ (file : CircuitFile) where
-  abbrev before : Verdict
+  abbrev pub before : Verdict
   before = first (without 11 (fileConditions Pattern file))
 
   -- Any pattern is refused as a connected one was before 11 came in, where that was not refused with 6.
-  any-before : (before ≡ turned Pattern 6 → ⊥) → first (fileConditions AnyPattern file) ≡ before
+  pub any-before : (before ≡ turned Pattern 6 → ⊥) → first (fileConditions AnyPattern file) ≡ before
   unfolding first fileConditions linkConditions asksConnected without turned
   any-before =
       let n = nodesOf file in

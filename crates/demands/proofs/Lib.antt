@@ -11,3 +11,4 @@ pub mod Report
 pub mod Examples
 pub mod Files
 pub mod Distances
+pub mod Barring

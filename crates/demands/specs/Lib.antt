@@ -6,3 +6,4 @@ pub mod Proposals
 pub mod Examples
 pub mod Files
 pub mod Distances
+pub mod Barring

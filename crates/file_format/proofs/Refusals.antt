@@ -391,35 +391,6 @@ range-bounds AnyPattern n m t =
     let h = range-orders AnyPattern n m t in
     (omega arith, omega arith)
 
--- the first five tests are any pattern's too, the last two a pattern's alone
-abbrev asked : (a b c d e : Bool) → Verdict → Verdict
-asked a b c d e last = cond a (turned Pattern 1) (cond b (turned Pattern 2) (cond c (turned Pattern 3) (cond d (turned Pattern 4) (cond e (turned Pattern 5) last))))
-
-abbrev shape : (f g : Bool) → Verdict
-shape f g = cond f (turned Pattern 6) (cond g (turned Pattern 11) accept)
-
--- Any pattern is refused as a pattern is, where that is refused neither with 6 nor with 11.
-pub any-verdict : (file : CircuitFile) → (first (fileConditions Pattern file) ≡ turned Pattern 6 → ⊥) → (first (fileConditions Pattern file) ≡ turned Pattern 11 → ⊥)
-    → first (fileConditions AnyPattern file) ≡ first (fileConditions Pattern file)
-unfolding first fileConditions linkConditions asksConnected turned
-any-verdict file =
-    let n = nodesOf file in
-    let starts = startsOf file in
-    let ends = endsOf file in
-    go (ltb (length (file .bytes)) 4) (not (inRange Pattern n (linksOf file))) (not (eqb (length (file .bytes)) (lengthOf (file .edition) n (linksOf file))))
-    (not (linksBelow n starts ends)) (not (rising starts ends)) (not (connected n starts ends)) (ltb widest (radius n starts ends))
-  where
-    go : (a b c d e f g : Bool) → (asked a b c d e (shape f g) ≡ turned Pattern 6 → ⊥) → (asked a b c d e (shape f g) ≡ turned Pattern 11 → ⊥)
-        → asked a b c d e accept ≡ asked a b c d e (shape f g)
-    go true b c d e f g h k = refl
-    go false true c d e f g h k = refl
-    go false false true d e f g h k = refl
-    go false false false true e f g h k = refl
-    go false false false false true f g h k = refl
-    go false false false false false true g h k = absurd (h refl)
-    go false false false false false false true h k = absurd (k refl)
-    go false false false false false false false h k = refl
-
 -- A pattern is any pattern.
 pub accepted-any : {file : CircuitFile} → Accepted Pattern file → Accepted AnyPattern file
 unfolding asksConnected

@@ -155,3 +155,7 @@ lostPackage Second packages = false
 
 unfoldable pub packageLost : Role → Edition → List ℕ → Condition
 packageLost r to packages = record { number = 12; file = fileOf r; holds = lostPackage to packages }
+
+-- 15 "the centre has a place" (document 02, the least that still says none), "checked after 8": `found` says whether it has
+unfoldable pub centrePlaced : Bool → Condition
+centrePlaced found = record { number = 15; file = Neither; holds = found }

@@ -14,6 +14,7 @@ use Rattle.file_write.specs.Writing.{WriteOutcome}
 use Rattle.table.specs.Reply as table
 use Rattle.call_match.specs.Call.{TableOutcome}
 use Rattle.place.specs.Outcome.{PlaceOutcome}
+use Rattle.barring.specs.Outcome.{BarOutcome}
 use Rattle.call_merge.specs.Call.{MergeOutcome}
 use Rattle.call_load.specs.Call.{LoadOutcome}
 use Rattle.call_report.specs.Call.{ReportOutcome}
@@ -117,6 +118,9 @@ pub record HostPlace : Type 0 where
 
 unfoldable pub hostPlace : PlaceOutcome → HostPlace
 hostPlace o = record { reply = counted (o .reply); nodes = o .nodes; links = o .links; table = o .table; distances = o .distances }
+
+unfoldable pub hostBar : BarOutcome → HostOut
+hostBar o = record { reply = slots (o .reply); out = o .out }
 
 pub record HostMerge : Type 0 where
   pub reply : Reply

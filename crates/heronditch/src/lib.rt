@@ -14,15 +14,17 @@ ghost use Rattle.file_format.specs.Circuit.{circuitOf};
 ghost use Rattle.place.specs.Match.{radiusOf};
 ghost use Rattle.call_place.specs.Call.{placeAt};
 ghost use Rattle.call_check.specs.Call.{checkCall};
+ghost use Rattle.call_barring.specs.Call.{barCall};
 ghost use Rattle.call_merge.specs.Call.{merging};
 ghost use Rattle.call_load.specs.Call.{loading};
 ghost use Rattle.call_report.specs.Call.{reporting};
-ghost use Rattle.heronditch.specs.Host.{slots, hostRead, hostWrite, hostBall, hostMatch, hostPlace, hostMerge, hostLoad, hostNeighbours, hostReport};
+ghost use Rattle.heronditch.specs.Host.{slots, hostRead, hostWrite, hostBall, hostMatch, hostPlace, hostBar, hostMerge, hostLoad, hostNeighbours, hostReport};
 use crate::copied::copy_out;
 use crate::reply::Counted;
 use crate::reply::Piece;
 use crate::reply::Reply;
 use crate::reply::of_ball;
+use crate::reply::of_bar;
 use crate::reply::of_check;
 use crate::reply::of_load;
 use crate::reply::of_match;
@@ -206,6 +208,27 @@ pub extern "C" fn heronditch_check(
         centre,
         nodes,
         links,
+    ))
+}
+
+#[no_mangle]
+pub extern "C" fn heronditch_bar(
+    pattern: &[u8],
+    board: &[u8],
+    centre: usize,
+    out: &mut [u8],
+) -> Reply
+    ensures { λ r. ⌜ record { reply = r; out = now (out .exit) } ≡ hostBar (barCall (firstEdition (now (pattern .entry))) (firstEdition (now (board .entry))) centre (now (out .entry))) ⌝ }
+{
+    of_bar(call_barring::bar(
+        Editions {
+            pattern: Edition::First,
+            board: Edition::First,
+        },
+        pattern,
+        board,
+        centre,
+        out,
     ))
 }
 

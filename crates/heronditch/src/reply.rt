@@ -7,10 +7,12 @@ ghost use Rattle.call_distance.specs.Calls.{radiusReply, ballReply};
 ghost use Rattle.file_write.specs.Writing.{writeReply};
 ghost use Rattle.call_match.specs.Call.{replyOf};
 ghost use Rattle.place.specs.Outcome.{placeReply};
+ghost use Rattle.barring.specs.Outcome.{barReply};
 ghost use Rattle.call_merge.specs.Call.{mergeReply};
 ghost use Rattle.call_load.specs.Call.{loadReply};
 ghost use Rattle.call_report.specs.Call.{reportReply};
 ghost use Rattle.heronditch.specs.Host.{fileNumber, slots, counted, pieced};
+use barring::BarAnswer;
 use call_check::CheckAnswer;
 use call_convert::ConvertAnswer;
 use call_distance::BallAnswer;
@@ -197,6 +199,15 @@ pub fn of_place(answer: PlaceAnswer) -> Counted
     match answer {
         PlaceAnswer::Placed(k) => with_counts(k),
         PlaceAnswer::Refused(x, k) => refused_with(x, k),
+    }
+}
+
+pub fn of_bar(answer: BarAnswer) -> Reply
+    ensures { λ r. ⌜ r ≡ slots (barReply answer) ⌝ }
+{
+    match answer {
+        BarAnswer::Kept(k) => accepted(k, 0),
+        BarAnswer::Refused(x) => refused(x),
     }
 }
 

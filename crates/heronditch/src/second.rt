@@ -10,11 +10,13 @@ ghost use Rattle.call_convert.specs.Call.{converting};
 ghost use Rattle.call_distance.specs.Calls.{radiusCall, ballCall};
 ghost use Rattle.file_write.specs.Writing.{writing};
 ghost use Rattle.call_match.specs.Call.{matching};
+ghost use Rattle.call_barring.specs.Call.{barCall};
 ghost use Rattle.call_merge.specs.Call.{merging};
-ghost use Rattle.heronditch.specs.Host.{slots, hostReadPackages, hostWrite, hostBall, hostMatch, hostMerge, hostConvert};
+ghost use Rattle.heronditch.specs.Host.{slots, hostReadPackages, hostWrite, hostBall, hostMatch, hostBar, hostMerge, hostConvert};
 use crate::reply::Counted;
 use crate::reply::Reply;
 use crate::reply::of_ball;
+use crate::reply::of_bar;
 use crate::reply::of_check;
 use crate::reply::of_convert;
 use crate::reply::of_match;
@@ -205,6 +207,28 @@ pub extern "C" fn heronditch_check_12(
 }
 
 #[no_mangle]
+pub extern "C" fn heronditch_bar_12(
+    pattern: &[u8],
+    board: &[u8],
+    centre: usize,
+    out: &mut [u8],
+) -> Reply
+    ensures { λ r. ⌜ record { reply = r; out = now (out .exit) }
+        ≡ hostBar (barCall (firstEdition (now (pattern .entry))) (inEdition editions.Second (now (board .entry))) centre (now (out .entry))) ⌝ }
+{
+    of_bar(call_barring::bar(
+        Editions {
+            pattern: Edition::First,
+            board: Edition::Second,
+        },
+        pattern,
+        board,
+        centre,
+        out,
+    ))
+}
+
+#[no_mangle]
 pub extern "C" fn heronditch_check_21(
     pattern: &[u8],
     board: &[u8],
@@ -228,6 +252,28 @@ pub extern "C" fn heronditch_check_21(
 }
 
 #[no_mangle]
+pub extern "C" fn heronditch_bar_21(
+    pattern: &[u8],
+    board: &[u8],
+    centre: usize,
+    out: &mut [u8],
+) -> Reply
+    ensures { λ r. ⌜ record { reply = r; out = now (out .exit) }
+        ≡ hostBar (barCall (inEdition editions.Second (now (pattern .entry))) (firstEdition (now (board .entry))) centre (now (out .entry))) ⌝ }
+{
+    of_bar(call_barring::bar(
+        Editions {
+            pattern: Edition::Second,
+            board: Edition::First,
+        },
+        pattern,
+        board,
+        centre,
+        out,
+    ))
+}
+
+#[no_mangle]
 pub extern "C" fn heronditch_check_22(
     pattern: &[u8],
     board: &[u8],
@@ -247,6 +293,28 @@ pub extern "C" fn heronditch_check_22(
         centre,
         nodes,
         links,
+    ))
+}
+
+#[no_mangle]
+pub extern "C" fn heronditch_bar_22(
+    pattern: &[u8],
+    board: &[u8],
+    centre: usize,
+    out: &mut [u8],
+) -> Reply
+    ensures { λ r. ⌜ record { reply = r; out = now (out .exit) }
+        ≡ hostBar (barCall (inEdition editions.Second (now (pattern .entry))) (inEdition editions.Second (now (board .entry))) centre (now (out .entry))) ⌝ }
+{
+    of_bar(call_barring::bar(
+        Editions {
+            pattern: Edition::Second,
+            board: Edition::Second,
+        },
+        pattern,
+        board,
+        centre,
+        out,
     ))
 }
 

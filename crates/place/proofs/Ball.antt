@@ -45,12 +45,12 @@ pub ball-fits : (pattern board : Circuit) (w r : ℕ) → Table pattern board (b
 unfolding ballTable
 ball-fits pattern board w r = last-fits pattern board (ballOf board w r)
 
-module _ {pattern board : Circuit} (a : Admissible pattern board) (w r : ℕ) where
+module _ (board : Circuit) (links : Within (length (board .kinds)) (board .starts) (board .ends)) (w r : ℕ) where
   -- a byte of the ball is 1 exactly at a node in the ball
   ball-taken : (v : ℕ) → Taken board (ballOf board w r) v ↔ ballGraph board w r .Node v
   unfolding ballOf Ball circuitGraph
   ball-taken v =
-      let same = inBall-iff (a .links) w r v in (
+      let same = inBall-iff links w r v in (
         λ t. same .0 (t .marked),
         λ b.
             let t = same .1 b in
@@ -58,9 +58,9 @@ module _ {pattern board : Circuit} (a : Admissible pattern board) (w r : ℕ) wh
       )
 
   -- the nodes that the bytes take, and the links between them, are the ball
-  pub ball-host : SameGraph (hostGraph board (ballOf board w r)) (ballGraph board w r)
+  pub taken-ball : SameGraph (hostGraph board (ballOf board w r)) (ballGraph board w r)
   unfolding hostGraph Ball circuitGraph graphOf
-  ball-host =
+  taken-ball =
       record {
         nodes = ball-taken;
         links = λ v v′. (
@@ -69,6 +69,29 @@ module _ {pattern board : Circuit} (a : Admissible pattern board) (w r : ℕ) wh
         );
       }
 
+module _ (pattern board : Circuit) (most : length (pattern .kinds) ≤ 32) (w r : ℕ) where
+  -- the centre's entry is a 32-bit number, so that the test of the whole entry is a test of each part
+  found-any : found pattern board w r ≡ anyBelow 32 (bit (getD (ballTable pattern board w r) w 0))
+  unfolding found
+  found-any =
+      let x = getD (ballTable pattern board w r) w 0 in
+      ap not (zero-test 32 x (fits-word most (ball-fits pattern board w r) w)) ∙ Bool·not-not (anyBelow 32 (bit x))
+
+  -- The centre is found exactly where it occurs in the ball's table.
+  pub found-occurs : T (found pattern board w r) ↔ ((u : ℕ) × BallPairs pattern board w r u w)
+  unfolding inTable
+  found-occurs =
+      let x = getD (ballTable pattern board w r) w 0 in (
+        λ t. let (u, h, m) = anyBelow-at 32 (bit x) (subst T found-any t) in (u, m),
+        λ (u, m).
+            subst T (sym found-any)
+            (at-anyBelow 32 (bit x) u (bit-below 32 x u (fits-word most (ball-fits pattern board w r) w) m) m),
+      )
+
+module _ {pattern board : Circuit} (a : Admissible pattern board) (w r : ℕ) where
+  pub ball-host : SameGraph (hostGraph board (ballOf board w r)) (ballGraph board w r)
+  ball-host = taken-ball board (a .links) w r
+
   -- The ball's table is the largest dual simulation of the pattern in the ball.
   pub ball-largest : Largest (circuitGraph pattern) (KindsMatch pattern board) (ballGraph board w r) (BallPairs pattern board w r)
   unfolding ballTable
@@ -76,20 +99,5 @@ module _ {pattern board : Circuit} (a : Admissible pattern board) (w r : ℕ) wh
       largest-same (same-refl (circuitGraph pattern)) ball-host (record { agree = λ u v m n. Iff·rfl })
       (last-largest pattern board (ballOf board w r) (a .most) (a .connected))
 
-  -- the centre's entry is a 32-bit number, so that the test of the whole entry is a test of each part
-  found-any : found pattern board w r ≡ anyBelow 32 (bit (getD (ballTable pattern board w r) w 0))
-  unfolding found
-  found-any =
-      let x = getD (ballTable pattern board w r) w 0 in
-      ap not (zero-test 32 x (fits-word (a .most) (ball-fits pattern board w r) w)) ∙ Bool·not-not (anyBelow 32 (bit x))
-
-  -- The centre is found exactly where it occurs in the ball's table.
   pub found-iff : T (found pattern board w r) ↔ ((u : ℕ) × BallPairs pattern board w r u w)
-  unfolding inTable
-  found-iff =
-      let x = getD (ballTable pattern board w r) w 0 in (
-        λ t. let (u, h, m) = anyBelow-at 32 (bit x) (subst T found-any t) in (u, m),
-        λ (u, m).
-            subst T (sym found-any)
-            (at-anyBelow 32 (bit x) u (bit-below 32 x u (fits-word (a .most) (ball-fits pattern board w r) w) m) m),
-      )
+  found-iff = found-occurs pattern board (a .most) w r

@@ -65,13 +65,13 @@ module _ {pattern board : Circuit} {t : Tables} (d : Tabled pattern board t) whe
   -- the search lists the ball's nodes, and finds their distances
   module _ (w r : ℕ) (h : w < size) {k : ℕ} {dist queue : List ℕ} (f : Searched k dist queue (bfs (adjacent (t .offsets) (t .links)) size w r)) where
     pub ball-short : k ≤ size
-    ball-short = found-short (d .prepared) tabled-joins w r h k dist queue f
+    ball-short = found-short board (d .prepared .net) tabled-joins w r h k dist queue f
 
     pub ball-list : NodeList size (take k queue)
-    ball-list = found-list (d .prepared) tabled-joins w r h k dist queue f
+    ball-list = found-list board (d .prepared .net) tabled-joins w r h k dist queue f
 
     pub ball-measured : dist ≡ distancesOf board w r
-    ball-measured = found-distances (d .prepared) tabled-joins w r h k dist queue f
+    ball-measured = found-distances board (d .prepared .net) tabled-joins w r h k dist queue f
 
     pub ball-sought : {first : List ℕ} → Begins pattern board (marksOf size (take k queue)) first → Sought pattern board t w r (take k queue) first
     ball-sought b =
@@ -79,7 +79,7 @@ module _ {pattern board : Circuit} {t : Tables} (d : Tabled pattern board t) whe
           tabled = d;
           centre = h;
           list = ball-list;
-          ball = found-marks (d .prepared) tabled-joins w r h k dist queue f;
+          ball = found-marks board (d .prepared .net) tabled-joins w r h k dist queue f;
           begins = b;
         }
 

@@ -16,7 +16,7 @@ use Rattle.base_lists.proofs.Tables.{tabulate-same}
 use Rattle.base_bits.specs.Bits.{intersects, unionOver}
 use Rattle.graph.specs.Bfs.{bfs, adjacent, Adjacency, Found}
 use Rattle.graph.specs.Circuit.{Circuit, HasLink}
-use Rattle.graph.specs.Net.{driven, driving}
+use Rattle.graph.specs.Net.{driven, driving, NetOf}
 use Rattle.graph.specs.Search.{far, ball, inside, distances}
 use Rattle.graph.proofs.Ball.{Within}
 use Rattle.graph.proofs.Bfs.{bfs-ready}
@@ -39,21 +39,22 @@ unfolding Below HasLink
 masks-hold n keys values masks few e below =
     subst (MaskTable keys values) (sym e) (mask-table 32 keys values (λ u x (i, l). let h = subst (λ y. y < n) (l .start) (below i (l .inStarts)) in omega arith))
 
-module _ {pattern board : Circuit} {t : Tables} (p : Prepared pattern board t) (links : Within (length (board .kinds)) (board .starts) (board .ends)) where
+-- ---- the ball: the neighbour tables are enough, whatever the pattern
+
+module _ (board : Circuit) {offsets stretches : List ℕ} (net : NetOf (length (board .kinds)) (board .starts) (board .ends) offsets stretches)
+    (links : Within (length (board .kinds)) (board .starts) (board .ends)) where
   abbrev n : ℕ
   n = length (board .kinds)
 
   few : n < far
-  few = omega (arith, net-few (net-of (p .net)))
-
-  -- ---- the ball
+  few = omega (arith, net-few (net-of net))
 
   -- the neighbours of a node over the tables as they stand
   abbrev around : ℕ → List ℕ
-  around = adjacent (t .offsets) (t .links)
+  around = adjacent offsets stretches
 
   board-adjacency : Adjacency n around (HasLink (board .starts) (board .ends))
-  board-adjacency = net-adjacency (p .net)
+  board-adjacency = net-adjacency net
 
   module _ (c r : ℕ) (h : c < n) where
     -- the nodes that the first search lists
@@ -107,7 +108,11 @@ module _ {pattern board : Circuit} {t : Tables} (p : Prepared pattern board t) (
       pub found-marks : marksOf n (take k queue) ≡ ballOf board c r
       found-marks = ap (marksOf n) (f .nodes) ∙ ball-marks
 
-  -- ---- the component
+-- ---- the component
+
+module _ {pattern board : Circuit} {t : Tables} (p : Prepared pattern board t) (links : Within (length (board .kinds)) (board .starts) (board .ends)) where
+  abbrev size : ℕ
+  size = length (board .kinds)
 
   module _ (parallel : length (pattern .starts) ≡ length (pattern .ends)) (sets : List ℕ) (small : (v : ℕ) → getD sets v 0 < 2 ^ 32) where
     -- a node is looked at along a link exactly where the link matches
@@ -122,7 +127,7 @@ module _ {pattern board : Circuit} {t : Tables} (p : Prepared pattern board t) (
     abbrev Linked : ℕ → ℕ → Type 0
     Linked = HasLink (matchStarts pattern board sets) (matchEnds pattern board sets)
 
-    forward-matched : (v w : ℕ) → v < n → Occurs (meeting (unionOver (succOf (t .masks)) (getD sets v 0)) sets (driven (t .offsets) (t .links) v)) w ↔ Linked v w
+    forward-matched : (v w : ℕ) → v < size → Occurs (meeting (unionOver (succOf (t .masks)) (getD sets v 0)) sets (driven (t .offsets) (t .links) v)) w ↔ Linked v w
     forward-matched v w h =
         let kept = match-kept pattern board sets v w in
         let looked = meeting-occurs (unionOver (succOf (t .masks)) (getD sets v 0)) sets (driven (t .offsets) (t .links) v) w in (
@@ -130,7 +135,7 @@ module _ {pattern board : Circuit} {t : Tables} (p : Prepared pattern board t) (
           λ k. let (l, m) = kept .0 k in looked .1 (driven-link (p .net) v w h .1 l, subst T (sym (forward-test v w)) m),
         )
 
-    backward-matched : (v w : ℕ) → v < n → Occurs (meeting (unionOver (predOf (t .masks)) (getD sets v 0)) sets (driving (t .offsets) (t .links) v)) w ↔ Linked w v
+    backward-matched : (v w : ℕ) → v < size → Occurs (meeting (unionOver (predOf (t .masks)) (getD sets v 0)) sets (driving (t .offsets) (t .links) v)) w ↔ Linked w v
     backward-matched v w h =
         let kept = match-kept pattern board sets w v in
         let looked = meeting-occurs (unionOver (predOf (t .masks)) (getD sets v 0)) sets (driving (t .offsets) (t .links) v) w in (
@@ -139,7 +144,7 @@ module _ {pattern board : Circuit} {t : Tables} (p : Prepared pattern board t) (
         )
 
     -- the search follows the links of the match graph, either way
-    pub matched-adjacency : Adjacency n (matched t sets) Linked
+    pub matched-adjacency : Adjacency size (matched t sets) Linked
     unfolding matched Below
     matched-adjacency =
         record {
@@ -154,7 +159,7 @@ module _ {pattern board : Circuit} {t : Tables} (p : Prepared pattern board t) (
 
     -- What it reaches is the centre's component.
     pub spread-component :
-        (c : ℕ) → c < n → (dist : List ℕ) → Spread n c (matched t sets) dist → (v : ℕ) → v < n →
+        (c : ℕ) → c < size → (dist : List ℕ) → Spread size c (matched t sets) dist → (v : ℕ) → v < size →
         inside (component pattern board sets c) v ≡ not (eqb (getD dist v 0) far)
     unfolding component
     spread-component c h dist g v m =

@@ -1,12 +1,12 @@
 // Checking a proposed place on a pattern and a board that were read.
 use file_format::Board;
+use graph_chosen::choose;
 use graph_neighbours::tables::LINKS;
 use graph_neighbours::tables::OFFSETS;
 use graph_neighbours::tables::neighbour_tables;
 use graph_search::search;
 use place::Around;
 use place_around::find;
-use proposal_marks::chosen::choose;
 use proposal_marks::marks::in_row;
 use proposal_marks::marks::links_placed;
 use proposal_marks::marks::marks_subgraph;

@@ -1,3 +1,2 @@
-// What is asked of proposed bytes alone: their tests, and which links they choose.
-pub mod chosen;
+// What is asked of proposed bytes alone: their tests.
 pub mod marks;

@@ -133,3 +133,14 @@ pub largest-closed-grows :
     Agree ⊆ Agree′ → ((d′ : D′) (u u′ : ℕ) → Step′ d′ u u′ → (d : D) × Step d u u′ × (Move d ⊆ Move′ d′)) →
     LargestClosed Agree Step Move R → LargestClosed Agree′ Step′ Move′ S → R ⊆ S
 largest-closed-grows wider weaker r s = s .contains _ (weaken wider weaker (r .closed))
+
+-- With the same agreement, steps and moves, said in another way, it is the same set.
+pub largest-closed-same :
+    {D : Type 0} {Agree Agree′ : Relation} {Step Step′ Move Move′ : D → Relation} {S : Relation} →
+    Agree ⊆ Agree′ → Agree′ ⊆ Agree → ((d : D) → Step d ⊆ Step′ d) → ((d : D) → Step′ d ⊆ Step d) → ((d : D) → Move d ⊆ Move′ d) → ((d : D) → Move′ d ⊆ Move d) →
+    LargestClosed Agree Step Move S → LargestClosed Agree′ Step′ Move′ S
+largest-closed-same wider narrower more fewer moves back l =
+    record {
+      closed = weaken wider (λ d u u′ p. (d, fewer d u u′ p, moves d)) (l .closed);
+      contains = λ R c. l .contains R (weaken narrower (λ d u u′ p. (d, more d u u′ p, back d)) c);
+    }

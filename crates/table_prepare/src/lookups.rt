@@ -1,8 +1,6 @@
 // What a round looks up: the pattern's masks, and the board's neighbour tables.
-use crate::masks::masks_of;
+use crate::masks::pattern_masks;
 use graph_neighbours::tables::neighbour_tables;
-use table::FORWARD_MASKS;
-use table::MASKS;
 ghost use mathlib.Core.Path.{_≡_};
 ghost use Prim.Native.Nat.{_≤_};
 ghost use lib.Dec.{T, ltb};
@@ -30,6 +28,5 @@ pub fn prepare(
     ensures { λ _. ⌜ NetOf n (now («node_starts» .entry)) (now («node_ends» .entry)) (now (offsets .exit)) (now (links .exit)) ⌝ }
 {
     neighbour_tables(n, node_starts, node_ends, offsets, links);
-    masks_of(part_starts, part_ends, &mut masks[..FORWARD_MASKS]);
-    masks_of(part_ends, part_starts, &mut masks[FORWARD_MASKS..MASKS]);
+    pattern_masks(part_starts, part_ends, masks);
 }

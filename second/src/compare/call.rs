@@ -53,6 +53,12 @@ pub enum Call<'a> {
         nodes: &'a [u8],
         links: &'a [u8],
     },
+    Bar {
+        editions: [Edition; 2],
+        pattern: &'a [u8],
+        board: &'a [u8],
+        centre: usize,
+    },
     Merge {
         pattern: &'a [u8],
     },
@@ -123,6 +129,12 @@ impl Call<'_> {
                 [Edition::Second, Edition::First] => "check_21",
                 [Edition::Second, Edition::Second] => "check_22",
             },
+            Call::Bar { editions, .. } => match editions {
+                [Edition::First, Edition::First] => "bar",
+                [Edition::First, Edition::Second] => "bar_12",
+                [Edition::Second, Edition::First] => "bar_21",
+                [Edition::Second, Edition::Second] => "bar_22",
+            },
             Call::Merge { .. } => "merge",
             Call::Load { .. } => "load",
             Call::ReadSecond { role, .. } if *role == Role::Pattern => "read_pattern_2",
@@ -166,6 +178,7 @@ impl Call<'_> {
                 let (n, m) = sizes(board);
                 vec![n, m, n, n]
             }
+            Call::Bar { pattern, .. } => vec![sizes(pattern).1],
             Call::Merge { pattern } => {
                 let (n, m) = sizes(pattern);
                 vec![n, Circuit::length(n, m)]
@@ -252,6 +265,12 @@ impl fmt::Display for Call<'_> {
                 pattern,
                 board,
                 centre,
+            }
+            | Call::Bar {
+                pattern,
+                board,
+                centre,
+                ..
             } => {
                 write!(f, " centre {centre}")?;
                 both(f, pattern, board)
@@ -397,6 +416,16 @@ pub fn run(finder: &dyn Finder, call: &Call, lent: &Lent) -> Outcome {
         } => {
             let reply = finder.check(editions, pattern, board, centre, nodes, links);
             (reply, vec![])
+        }
+        Call::Bar {
+            editions,
+            pattern,
+            board,
+            centre,
+        } => {
+            let mut out = lent.bytes(0);
+            let reply = finder.bar(editions, pattern, board, centre, &mut out);
+            (reply, vec![wide(out)])
         }
         Call::Merge { pattern } => {
             let (mut classes, mut out) = (lent.bytes(0), lent.bytes(1));

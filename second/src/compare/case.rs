@@ -168,6 +168,12 @@ impl Case {
                 board,
                 centre,
             });
+            calls.push(Call::Bar {
+                editions: [Edition::First; 2],
+                pattern,
+                board,
+                centre,
+            });
             calls.push(Call::PlaceWithin {
                 pattern,
                 board,

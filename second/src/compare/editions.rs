@@ -92,6 +92,12 @@ pub fn check(
         pattern,
         board,
     };
+    let bar = |editions, pattern, board| Call::Bar {
+        editions,
+        pattern,
+        board,
+        centre,
+    };
     let convert = |role, from, file| Call::Convert { role, from, file };
     let write = |role| Call::WriteSecond {
         role,
@@ -118,6 +124,10 @@ pub fn check(
         mix([Second, Second], &p2, &b2),
         mix([Second, Second], &p2, &p2),
         mix([Second, First], &p0, &b1),
+        bar([First, Second], &p1, &b2),
+        bar([Second, First], &p2, &b1),
+        bar([Second, Second], &p2, &b2),
+        bar([Second, First], &p0, &b1),
         Call::MergeSecond { pattern: &p2 },
         convert(Role::Pattern, First, &p1),
         convert(Role::Pattern, Second, &p2),

@@ -47,6 +47,14 @@ pub trait Finder {
         nodes: &[u8],
         links: &[u8],
     ) -> Words;
+    fn bar(
+        &self,
+        editions: [Edition; 2],
+        pattern: &[u8],
+        board: &[u8],
+        centre: usize,
+        out: &mut [u8],
+    ) -> Words;
     fn merge(&self, pattern: &[u8], classes: &mut [u8], out: &mut [u8]) -> Words;
     fn load(&self, numbers: Numbers, out: &mut [u8]) -> Words;
     fn read_second(
@@ -177,6 +185,17 @@ impl Finder for Second {
         links: &[u8],
     ) -> Words {
         calls::check_in(editions, pattern, board, centre, nodes, links).into()
+    }
+
+    fn bar(
+        &self,
+        editions: [Edition; 2],
+        pattern: &[u8],
+        board: &[u8],
+        centre: usize,
+        out: &mut [u8],
+    ) -> Words {
+        calls::bar(editions, pattern, board, centre, out).into()
     }
 
     fn merge(&self, pattern: &[u8], classes: &mut [u8], out: &mut [u8]) -> Words {

@@ -151,6 +151,15 @@ extern "C" {
         links: *const u8,
         links_length: usize,
     ) -> Reply;
+    fn heronditch_bar(
+        pattern: *const u8,
+        pattern_length: usize,
+        board: *const u8,
+        board_length: usize,
+        centre: usize,
+        out: *mut u8,
+        out_length: usize,
+    ) -> Reply;
     fn heronditch_merge(
         pattern: *const u8,
         pattern_length: usize,
@@ -272,6 +281,33 @@ extern "C" {
         nodes_length: usize,
         links: *const u8,
         links_length: usize,
+    ) -> Reply;
+    fn heronditch_bar_12(
+        pattern: *const u8,
+        pattern_length: usize,
+        board: *const u8,
+        board_length: usize,
+        centre: usize,
+        out: *mut u8,
+        out_length: usize,
+    ) -> Reply;
+    fn heronditch_bar_21(
+        pattern: *const u8,
+        pattern_length: usize,
+        board: *const u8,
+        board_length: usize,
+        centre: usize,
+        out: *mut u8,
+        out_length: usize,
+    ) -> Reply;
+    fn heronditch_bar_22(
+        pattern: *const u8,
+        pattern_length: usize,
+        board: *const u8,
+        board_length: usize,
+        centre: usize,
+        out: *mut u8,
+        out_length: usize,
     ) -> Reply;
     fn heronditch_merge_2(
         pattern: *const u8,
@@ -528,6 +564,34 @@ impl Finder for Host {
                 nodes.len(),
                 given(links),
                 links.len(),
+            )
+        }
+        .words()
+    }
+
+    fn bar(
+        &self,
+        editions: [Edition; 2],
+        pattern: &[u8],
+        board: &[u8],
+        centre: usize,
+        out: &mut [u8],
+    ) -> Words {
+        let call = match editions {
+            [Edition::First, Edition::First] => heronditch_bar,
+            [Edition::First, Edition::Second] => heronditch_bar_12,
+            [Edition::Second, Edition::First] => heronditch_bar_21,
+            [Edition::Second, Edition::Second] => heronditch_bar_22,
+        };
+        unsafe {
+            call(
+                given(pattern),
+                pattern.len(),
+                given(board),
+                board.len(),
+                centre,
+                lent(out),
+                out.len(),
             )
         }
         .words()

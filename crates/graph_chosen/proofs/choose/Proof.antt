@@ -1,12 +1,12 @@
--- `proposal_marks::chosen::choose` meets its contract: the chosen ones of the entries passed stand in front. Assumes nothing.
+-- `graph_chosen::choose` meets its contract: the chosen ones of the entries passed stand in front. Assumes nothing.
 use mathlib.Core.Logic.{⊎-elim}
 use Prim.Native.Nat.{ℕ, _≤_, _<_, _-_}
 use native.Mathlib.Omega.{arith}
 use borrow.Author.Needs.{needs}
 use lib.ListN.{length, getD}
-use Rattle.proposal_marks.proofs.Choosing.{ChosenTo, chosen-none, chosen-one, chosen-other, chosen-all}
-use Rattle.proposal_marks.proofs.chosen.choose.Statement.{statement}
-use Rattle.proposal_marks.proofs.chosen.choose.Tie as tie
+use Rattle.graph_chosen.proofs.Choosing.{ChosenTo, chosen-none, chosen-one, chosen-other, chosen-all}
+use Rattle.graph_chosen.proofs.choose.Statement.{statement}
+use Rattle.graph_chosen.proofs.choose.Tie as tie
 
 abbrev Inv-loop : tie.InvT-loop
 Inv-loop marks xs₀ k₀ i₀ xs k i = ChosenTo marks xs₀ i k xs

@@ -1,0 +1,28 @@
+-- What the outcome comes to, by cases of whether the centre is found. Assumes nothing.
+use mathlib.Core.Bool.{true, false}
+use mathlib.Core.List.{List, _++_}
+use mathlib.Core.Path.{_≡_, refl, sym, ap, _∙_}
+use Prim.Native.Nat.{ℕ}
+use lib.ListN.{length, drop}
+use Rattle.graph.specs.Circuit.{Circuit}
+use Rattle.file_format.specs.declared.File.the-variants.{Neither}
+use Rattle.file_format.specs.Reading.{filled}
+use Rattle.file_format.specs.Refusals.{first, centrePlaced}
+use Rattle.file_format.specs.Reply.{reply}
+use Rattle.place.specs.Match.{found}
+use Rattle.barring.specs.declared.BarAnswer.the-variants.{Kept, Refused}
+use Rattle.barring.specs.Least.{bars, least, keptCount, allLinks}
+use Rattle.barring.specs.Outcome.{barReply, barring, barAround}
+
+module _ (pattern board : Circuit) (w r : ℕ) (out : List ℕ) where
+  -- the centre has a place: 15, and the bytes stay
+  pub around-placed : found pattern board w r ≡ true
+      → record { reply = barReply (Refused (record { number = 15; file = Neither })); out = out } ≡ barAround pattern board w r out
+  unfolding barAround barring barReply first centrePlaced reply filled
+  around-placed e = rw e
+
+  -- it has none: how many are kept, and a byte for each link
+  pub around-kept : {k : ℕ} {after : List ℕ} → found pattern board w r ≡ false → k ≡ keptCount (least pattern board w r)
+      → after ≡ least pattern board w r ++ drop (length (least pattern board w r)) out → record { reply = barReply (Kept k); out = after } ≡ barAround pattern board w r out
+  unfolding barAround barring barReply first centrePlaced reply filled
+  around-kept e n a = rw (e, n, a)

@@ -1,0 +1,3 @@
+pub mod Barring
+pub mod Least
+pub mod Outcome

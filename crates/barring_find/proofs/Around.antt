@@ -1,0 +1,68 @@
+-- From the ball's list and first table to the trials, and from the trial of all links to whether the centre has a place. Assumes nothing.
+use mathlib.Core.Bool.{Bool, true, false, not}
+use mathlib.Core.List.{List, _++_}
+use mathlib.Core.Path.{_≡_, sym, ap, subst, _∙_}
+use Prim.Native.Nat.{ℕ, _≤_, _<_}
+use native.Mathlib.Omega.{arith}
+use borrow.Author.Tests.{not-true, not-false}
+use lib.ListN.{length, take, length-append}
+use lib.Seq.{take-at, take-append-le}
+use Rattle.graph.specs.Circuit.{Circuit}
+use Rattle.graph.specs.Net.{NetOf}
+use Rattle.file_format.specs.declared.Role.the-variants as role
+use Rattle.file_format.specs.Circuit.{Bounded}
+use Rattle.table.specs.Fill.{marksOf, NodeList, tableAt}
+use Rattle.table.specs.First.{startNode}
+use Rattle.place.specs.declared.Around.{Around}
+use Rattle.place.specs.Match.{ballOf, found}
+use Rattle.barring.specs.Least.{bars, allLinks}
+use Rattle.barring.proofs.Least.{all-test}
+use Rattle.barring_find.specs.Ball.{Listed}
+use Rattle.barring_find.specs.Trial.{Tried}
+use Rattle.barring_find.proofs.Drops.{take-ones}
+
+-- a front that is short enough for a list is short enough for a longer one
+pub room : (k : ℕ) (xs ys : List ℕ) → k ≤ length xs → k ≤ length (xs ++ ys)
+room k xs ys h = omega (arith, length-append xs ys)
+
+-- the front of a longer list that has the entries of a list
+pub cut-room : (n : ℕ) (xs ys : List ℕ) → length xs ≡ n → n ≤ length (xs ++ ys)
+cut-room n xs ys e = omega (arith, length-append xs ys)
+
+pub cut-size : (n : ℕ) (xs ys : List ℕ) → length xs ≡ n → n ≡ length (take n (xs ++ ys))
+cut-size n xs ys e = sym (ap length (take-at xs ys n e) ∙ e)
+
+-- ---- a trial in the ball that was listed, whose list and table are cut from longer ones
+
+pub listed-tried :
+    {pattern board : Circuit} {offsets links : List ℕ} {around : Around} {queue first : List ℕ} {k : ℕ} → Bounded role.Pattern pattern → Bounded role.Board board →
+    NetOf (length (board .kinds)) (board .starts) (board .ends) offsets links → around .centre < length (board .kinds) →
+    Listed (pattern .kinds) board around queue first k → length first ≡ length (board .kinds) → (past after : List ℕ) →
+    Tried pattern board offsets links (around .centre) (around .radius) (take k (queue ++ past)) (take (length (board .kinds)) (first ++ after))
+listed-tried {pattern} {board} {around = around} {queue} {first} {k} drawn given net centre l long past after =
+    let nodes : take k queue ≡ take k (queue ++ past) = sym (take-append-le k queue past (l .short)) in
+    let table : take (length (board .kinds)) (first ++ after) ≡ first = take-at first after (length (board .kinds)) long in
+    record {
+      parts = drawn;
+      most = given .nodes;
+      net = net;
+      centre = centre;
+      list = subst (λ (xs : List ℕ). NodeList (length (board .kinds)) xs) nodes (l .list);
+      ball = subst (λ (xs : List ℕ). marksOf (length (board .kinds)) xs ≡ ballOf board (around .centre) (around .radius)) nodes (l .ball);
+      agree = table ∙ l .agree ∙ ap (tableAt (length (board .kinds)) (startNode (pattern .kinds) (board .kinds))) nodes;
+    }
+
+-- ---- all links together
+
+module _ (pattern board : Circuit) (parallel : length (pattern .starts) ≡ length (pattern .ends)) (few : length (pattern .starts) ≤ 256) (w r : ℕ)
+    {b : Bool} (e : b ≡ bars pattern board w r (take (length (pattern .starts)) (allLinks 256))) where
+  turned : not (found pattern board w r) ≡ b
+  turned = sym (e ∙ ap (bars pattern board w r) (take-ones (length (pattern .starts)) 256 few) ∙ all-test pattern board parallel w r)
+
+  -- they do not bar: the centre has a place
+  pub is-placed : b ≡ false → found pattern board w r ≡ true
+  is-placed q = not-false (found pattern board w r) (turned ∙ q)
+
+  -- they bar: it has none
+  pub is-none : b ≡ true → found pattern board w r ≡ false
+  is-none q = not-true (found pattern board w r) (turned ∙ q)

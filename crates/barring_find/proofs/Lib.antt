@@ -1,0 +1,4 @@
+pub mod Tried
+pub mod Drops
+pub mod Netted
+pub mod Around

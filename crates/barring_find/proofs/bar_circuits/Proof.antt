@@ -1,0 +1,150 @@
+-- `barring_find::bar_circuits` meets its contract: the tables are prepared, the ball is listed, and in it the kept links are found. Assumes nothing.
+use mathlib.Core.List.{List, _++_}
+use mathlib.Core.Path.{_≡_, sym, ap, _∙_}
+use Prim.Native.Nat.{ℕ, _≤_}
+use native.Mathlib.Omega.{arith}
+use denote.Ref.{now}
+use lib.ListN.{length, take}
+use lib.Seq.{length-take-le, take-at}
+use Rattle.graph.specs.Circuit.{circuit}
+use Rattle.file_format.proofs.Accepted.{bounded-starts, bounded-ends}
+use Rattle.barring_find.specs.Ball.{Netted, Listed}
+use Rattle.barring_find.specs.Trial.{Tried}
+use Rattle.barring_find.proofs.Netted.{bounded-netted}
+use Rattle.barring_find.proofs.Around.{room, cut-room, cut-size, listed-tried}
+use borrow.Author.Needs.{needs}
+use Rattle.barring_find.proofs.bar_circuits.Statement.{statement}
+use Rattle.barring_find.proofs.bar_circuits.Tie as tie
+
+slice-aggregate-neighbour-tables : tie.Need-slice-aggregate-neighbour-tables
+slice-aggregate-neighbour-tables c = search needs
+
+slice-aggregate-neighbour-tables-2 : tie.Need-slice-aggregate-neighbour-tables-2
+slice-aggregate-neighbour-tables-2 c = search needs
+
+neighbour-tables-requires : tie.Need-neighbour-tables-requires
+neighbour-tables-requires c κs =
+    let board = c .before .before .before .before .before .before .before .before .before .pre .0 .1 in
+    (search needs, (board .nodes, ((board .parallel, board .links), (bounded-starts board, bounded-ends board))))
+
+-- no more nodes than the tables have room for
+most : (s : tie.Start) → length (now (s .args .node-kinds)) ≤ 512
+most s = s .pre .0 .1 .nodes
+
+slice-aggregate-first-in-ball : tie.Need-slice-aggregate-first-in-ball
+slice-aggregate-first-in-ball c = search needs
+
+slice-aggregate-first-in-ball-2 : tie.Need-slice-aggregate-first-in-ball-2
+slice-aggregate-first-in-ball-2 c = search needs
+
+array-borrow-prefix-dist : tie.Need-array-borrow-prefix-dist
+array-borrow-prefix-dist c = search needs
+
+slice-aggregate-first-in-ball-3 : tie.Need-slice-aggregate-first-in-ball-3
+slice-aggregate-first-in-ball-3 c = sym (length-take-le _ _ (most (c .before .before .before .before .before .before .before .before .before .before .before .before .before .before .before)))
+
+array-borrow-prefix-queue : tie.Need-array-borrow-prefix-queue
+array-borrow-prefix-queue c = search needs
+
+slice-aggregate-first-in-ball-4 : tie.Need-slice-aggregate-first-in-ball-4
+slice-aggregate-first-in-ball-4 c = sym (length-take-le _ _ (most (c .before .before .before .before .before .before .before .before .before .before .before .before .before .before .before .before)))
+
+array-borrow-prefix-first : tie.Need-array-borrow-prefix-first
+array-borrow-prefix-first c = search needs
+
+slice-aggregate-first-in-ball-5 : tie.Need-slice-aggregate-first-in-ball-5
+slice-aggregate-first-in-ball-5 c = sym (length-take-le _ _ (most (c .before .before .before .before .before .before .before .before .before .before .before .before .before .before .before .before .before)))
+
+-- the tables are those of the board
+made : (c : tie.After-neighbour-tables) →
+    let a = c .before .before .before .before .before .before .before .before .before .before .args in
+    let l = c .neighbour-tables .last .1 .1 .1 in
+    Netted (circuit (now (a .node-kinds)) (now (a .node-starts)) (now (a .node-ends))) (l .0) (l .1 .0)
+made c = bounded-netted (c .before .before .before .before .before .before .before .before .before .before .pre .0 .1) (c .neighbour-tables .ensures)
+
+first-in-ball-requires : tie.Need-first-in-ball-requires
+first-in-ball-requires c κs =
+    let s = c .before .before .before .before .before .before .before .before .before .before .before .before .before .before .before .before .before in (
+      (s .pre .0 .0 .nodes, record { nodeStarts = _; nodeEnds = _; netted = made (c .before .before .before .before .before .before .before) }),
+      (s .pre .1 .0, (length-take-le _ _ (most s), length-take-le _ _ (most s), length-take-le _ _ (most s))),
+    )
+
+-- the ball is listed
+abbrev entry : tie.After-first-in-ball → tie.Start
+entry c = c .before .before .before .before .before .before .before .before .before .before .before .before .before .before .before .before .before .before
+
+listed : (c : tie.After-first-in-ball) →
+    let a = entry c .args in
+    Listed (now (a .part-kinds)) (circuit (now (a .node-kinds)) (now (a .node-starts)) (now (a .node-ends))) (a .around) (c .first-in-ball .last .1 .1 .1 .1 .1 .1 .0)
+    (c .first-in-ball .last .1 .1 .1 .1 .1 .1 .1 .0) (c .first-in-ball .result)
+listed c = c .first-in-ball .ensures _ _ (made (c .before .before .before .before .before .before .before .before))
+
+sized : (c : tie.After-first-in-ball) → length (c .first-in-ball .last .1 .1 .1 .1 .1 .1 .1 .0) ≡ length (now (entry c .args .node-kinds))
+sized c = c .first-in-ball .kept .1 .1 .1 .1 .1 .1 .1 .0 ∙ length-take-le _ _ (most (entry c))
+
+trial : (c : tie.After-first-in-ball) (past after : List ℕ) →
+    let a = entry c .args in
+    let l = c .before .before .before .before .before .before .before .before .neighbour-tables .last .1 .1 .1 in
+    Tried (circuit (now (a .part-kinds)) (now (a .part-starts)) (now (a .part-ends))) (circuit (now (a .node-kinds)) (now (a .node-starts)) (now (a .node-ends)))
+    (l .0) (l .1 .0) (a .around .centre) (a .around .radius) (take (c .first-in-ball .result) (c .first-in-ball .last .1 .1 .1 .1 .1 .1 .0 ++ past))
+    (take (length (now (a .node-kinds))) (c .first-in-ball .last .1 .1 .1 .1 .1 .1 .1 .0 ++ after))
+trial c past after = listed-tried (entry c .pre .0 .0) (entry c .pre .0 .1) (c .before .before .before .before .before .before .before .before .neighbour-tables .ensures) (entry c .pre .1 .0) (listed c) (sized c) past after
+
+array-share-prefix-queue : tie.Need-array-share-prefix-queue
+array-share-prefix-queue c = let d = c .before .before .before in room _ (d .first-in-ball .last .1 .1 .1 .1 .1 .1 .0) _ (listed d .short)
+
+slice-aggregate-least-in-ball : tie.Need-slice-aggregate-least-in-ball
+slice-aggregate-least-in-ball c = let d = c .before .before .before .before in sym (length-take-le _ _ (room _ (d .first-in-ball .last .1 .1 .1 .1 .1 .1 .0) _ (listed d .short)))
+
+slice-aggregate-least-in-ball-2 : tie.Need-slice-aggregate-least-in-ball-2
+slice-aggregate-least-in-ball-2 c = search needs
+
+slice-aggregate-least-in-ball-3 : tie.Need-slice-aggregate-least-in-ball-3
+slice-aggregate-least-in-ball-3 c = search needs
+
+array-share-prefix-first : tie.Need-array-share-prefix-first
+array-share-prefix-first c = let d = c .before .before .before .before .before .before in cut-room _ (d .first-in-ball .last .1 .1 .1 .1 .1 .1 .1 .0) _ (sized d)
+
+slice-aggregate-least-in-ball-4 : tie.Need-slice-aggregate-least-in-ball-4
+slice-aggregate-least-in-ball-4 c = let d = c .before .before .before .before .before .before .before in cut-size _ (d .first-in-ball .last .1 .1 .1 .1 .1 .1 .1 .0) _ (sized d)
+
+cast-least-in-ball : tie.Need-cast-least-in-ball
+cast-least-in-ball c = let s = c .before .before .before .before .before .before .before .before .before .before .before .before .before .before .before .before .before .before .before .before .before .before .before .before .before in omega (arith, s .pre .1 .0, most s)
+
+least-in-ball-requires : tie.Need-least-in-ball-requires
+least-in-ball-requires c κs =
+    let s = c .before .before .before .before .before .before .before .before .before .before .before .before .before .before .before .before .before .before .before .before .before .before .before .before .before .before in
+    (record { partKinds = _; board = _; radius = _; tried = trial (c .before .before .before .before .before .before .before .before) _ _ }, s .pre .1 .1)
+
+same-length : tie.Need-same-length
+same-length c = search needs
+
+returns : tie.Need-returns
+returns c = c .before .before .least-in-ball .ensures _ _ _ (trial (c .before .before .before .before .before .before .before .before .before .before .before) _ _)
+
+pub bar-circuits-spec : {M : Type 1} → statement M
+bar-circuits-spec =
+    tie.close
+    (tie.spec
+    slice-aggregate-neighbour-tables
+    slice-aggregate-neighbour-tables-2
+    neighbour-tables-requires
+    slice-aggregate-first-in-ball
+    slice-aggregate-first-in-ball-2
+    array-borrow-prefix-dist
+    slice-aggregate-first-in-ball-3
+    array-borrow-prefix-queue
+    slice-aggregate-first-in-ball-4
+    array-borrow-prefix-first
+    slice-aggregate-first-in-ball-5
+    first-in-ball-requires
+    array-share-prefix-queue
+    slice-aggregate-least-in-ball
+    slice-aggregate-least-in-ball-2
+    slice-aggregate-least-in-ball-3
+    array-share-prefix-first
+    slice-aggregate-least-in-ball-4
+    cast-least-in-ball
+    least-in-ball-requires
+    same-length
+    returns)

@@ -1,0 +1,88 @@
+-- `barring_find::least_in_ball` meets its contract: all links are tried together, and where they bar the kept ones are found and counted. Assumes
+-- nothing.
+use mathlib.Core.List.{List, _++_}
+use mathlib.Core.Path.{_≡_, sym, ap, _∙_}
+use Prim.Native.Nat.{ℕ}
+use borrow.Author.Tests.{not-true, not-false}
+use denote.Ref.{now}
+use lib.ListN.{length, drop}
+use lib.Seq.{length-take-le, take-at}
+use Rattle.barring.specs.Least.{keptCount}
+use Rattle.barring.proofs.Outcome.{around-placed, around-kept}
+use Rattle.barring_find.proofs.Around.{cut-size, is-placed, is-none}
+use borrow.Author.Needs.{needs}
+use Rattle.barring_find.proofs.least_in_ball.Statement.{statement}
+use Rattle.barring_find.proofs.least_in_ball.Tie as tie
+
+array-share-prefix-all : tie.Need-array-share-prefix-all
+array-share-prefix-all c = search needs
+
+slice-aggregate-bars : tie.Need-slice-aggregate-bars
+slice-aggregate-bars c = sym (length-take-le _ _ (c .before .before .before .before .before .before .before .before .pre .0 .tried .parts .links))
+
+bars-requires : tie.Need-bars-requires
+bars-requires c κs = let p = c .before .before .before .before .before .before .before .before .pre in (p .0, sym (length-take-le _ _ (p .0 .tried .parts .links)))
+
+returns : tie.Need-returns
+returns c =
+    λ partKinds board r t.
+    around-placed _ board _ r _ (is-placed _ board (t .parts .parallel) (t .parts .links) _ r (c .before .bars .ensures partKinds board r t) (not-true _ (c .if1 .taken)))
+
+-- there are as many bytes as links
+long : (c : tie.After-drop-links) → length (c .drop-links .last .1 .1 .1 .1 .1 .1 .1 .0) ≡ length (now (c .before .before .before .before .before .before .before .before .before .before .before .before .args .starts))
+long c = c .drop-links .kept .1 .1 .1 .1 .1 .1 .1 .0 ∙ length-take-le _ _ (c .before .before .before .before .before .before .before .before .before .before .before .before .pre .1)
+
+-- what stands past them is as it was
+kept-after : {marks least : List ℕ} {m : ℕ} (out : List ℕ) → length marks ≡ m → marks ≡ least → marks ++ drop m out ≡ least ++ drop (length least) out
+kept-after {marks} {least} out l e = ap (λ (n : ℕ). marks ++ drop n out) (sym l ∙ ap length e) ∙ ap (λ (xs : List ℕ). xs ++ drop (length least) out) e
+
+slice-relend-prefix-drop-links : tie.Need-slice-relend-prefix-drop-links
+slice-relend-prefix-drop-links c = search needs
+
+slice-aggregate-drop-links : tie.Need-slice-aggregate-drop-links
+slice-aggregate-drop-links c = sym (length-take-le _ _ (c .before .before .before .before .before .before .before .before .before .before .before .pre .1))
+
+drop-links-requires : tie.Need-drop-links-requires
+drop-links-requires c κs = let p = c .before .before .before .before .before .before .before .before .before .before .before .pre in (p .0, sym (length-take-le _ _ (p .1)))
+
+slice-reshare-prefix-count : tie.Need-slice-reshare-prefix-count
+slice-reshare-prefix-count c = search needs
+
+slice-aggregate-count : tie.Need-slice-aggregate-count
+slice-aggregate-count c = let d = c .before .before .before in cut-size _ (d .drop-links .last .1 .1 .1 .1 .1 .1 .1 .0) _ (long d)
+
+count-requires : tie.Need-count-requires
+count-requires c κs = search needs
+
+same-length : tie.Need-same-length
+same-length c = search needs
+
+returns-2 : tie.Need-returns-2
+unfolding keptCount
+returns-2 c =
+    let dropped = c .before .before .before .before in
+    let s = c .before .before .before .before .before .before .before .before .before .before .before .before .before .before .before .before in
+    let l = long dropped in
+    λ partKinds board r t.
+    let kept = dropped .drop-links .ensures partKinds board r t in
+    around-kept _ board _ r _
+    (is-none _ board (t .parts .parallel) (t .parts .links) _ r (c .before .before .before .before .before .before .before .bars .ensures partKinds board r t) (not-false _ (c .before .before .before .before .before .before .if1 .left)))
+    (c .count .ensures ∙ ap keptCount (take-at _ _ _ l ∙ kept))
+    (kept-after (now (s .args .out)) l kept)
+
+pub least-in-ball-spec : {M : Type 1} → statement M
+least-in-ball-spec =
+    tie.close
+    (tie.spec
+    array-share-prefix-all
+    slice-aggregate-bars
+    bars-requires
+    returns
+    slice-relend-prefix-drop-links
+    slice-aggregate-drop-links
+    drop-links-requires
+    slice-reshare-prefix-count
+    slice-aggregate-count
+    count-requires
+    same-length
+    returns-2)

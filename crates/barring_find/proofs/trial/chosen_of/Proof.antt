@@ -1,0 +1,65 @@
+-- `barring_find::trial::chosen_of` meets its contract: the entries are copied, and of the copy the marked ones are moved to the front. Assumes
+-- nothing.
+use mathlib.Core.List.{List, _++_}
+use mathlib.Core.Path.{_≡_, sym, ap, _∙_}
+use Prim.Native.Nat.{ℕ, _≤_}
+use native.Mathlib.Omega.{arith}
+use borrow.Author.Needs.{needs}
+use denote.Ref.{now}
+use lib.ListN.{length, take, length-append}
+use lib.Seq.{length-take-le, take-at, take-append-le}
+use Rattle.graph.specs.Chosen.{picked}
+use Rattle.barring_find.proofs.trial.chosen_of.Statement.{statement}
+use Rattle.barring_find.proofs.trial.chosen_of.Tie as tie
+
+-- a front that is short enough for a list is short enough for a longer one
+longer : (k : ℕ) (xs ys : List ℕ) → k ≤ length xs → k ≤ length (xs ++ ys)
+longer k xs ys h = omega (arith, length-append xs ys)
+
+copy-requires : tie.Need-copy-requires
+copy-requires c κs = search needs
+
+-- ---- the copy
+
+abbrev entry : tie.After-copy → tie.Start
+entry c = c .before .before .before .before .before
+
+room : (c : tie.After-copy) → length (now (entry c .args .marks)) ≤ length (c .copy .last .1 .0)
+room c = omega (arith, c .copy .kept .1 .0, entry c .pre .0, entry c .pre .1)
+
+front : (c : tie.After-copy) → take (length (now (entry c .args .marks))) (c .copy .last .1 .0) ≡ now (entry c .args .xs)
+front c = ap (take (length (now (entry c .args .marks)))) (c .copy .ensures) ∙ take-at (now (entry c .args .xs)) _ _ (entry c .pre .0)
+
+-- ---- of which the marked ones are moved to the front
+
+slice-relend-prefix-choose : tie.Need-slice-relend-prefix-choose
+slice-relend-prefix-choose c = search needs
+
+slice-aggregate-choose : tie.Need-slice-aggregate-choose
+slice-aggregate-choose c = sym (length-take-le _ _ (room (c .before .before .before)))
+
+choose-requires : tie.Need-choose-requires
+choose-requires c κs = sym (length-take-le _ _ (room (c .before .before .before)))
+
+same-length : tie.Need-same-length
+same-length c = search needs
+
+returns : tie.Need-returns
+returns c =
+    let chosen = c .before .before in
+    let copied = chosen .before .before .before .before in
+    let k = chosen .choose .result in
+    let list = chosen .choose .last .1 .0 in
+    let e = chosen .choose .ensures in
+    (longer k list _ (e .0), take-append-le k list _ (e .0) ∙ e .1 ∙ ap (picked (now (entry copied .args .marks))) (front copied))
+
+pub chosen-of-spec : {M : Type 1} → statement M
+chosen-of-spec =
+    tie.close
+    (tie.spec
+    copy-requires
+    slice-relend-prefix-choose
+    slice-aggregate-choose
+    choose-requires
+    same-length
+    returns)

@@ -1,0 +1,62 @@
+-- `barring_find::trial::empty_at` meets its contract: the copied table is one to begin with, and striking ends with the last one. Assumes nothing.
+use mathlib.Core.List.{List}
+use mathlib.Core.Path.{sym, ap, subst, _∙_}
+use Prim.Native.Nat.{ℕ}
+use borrow.Author.Needs.{needs}
+use denote.Ref.{now}
+use lib.Dec.{eqb}
+use lib.ListN.{length, getD}
+use Rattle.base_lists.specs.List.{Below}
+use Rattle.table.specs.Fill.{NodeList}
+use Rattle.barring_find.proofs.Tried.{begun-long, copied-begins, copied-known, copied-long}
+use Rattle.barring_find.proofs.trial.empty_at.Statement.{statement}
+use Rattle.barring_find.proofs.trial.empty_at.Tie as tie
+
+copy-requires : tie.Need-copy-requires
+copy-requires c κs =
+    let s = c .before .before .before .before .before .before .before .before in
+    let b = s .pre .0 .begun in (
+      subst (λ (n : ℕ). NodeList n (now (s .args .nodes))) (sym (s .pre .1 .1 .0 ∙ begun-long b)) (b .list),
+      subst (λ (n : ℕ). Below n (now (s .args .nodes))) (sym (begun-long b)) (b .list .below),
+    )
+
+refine-requires : tie.Need-refine-requires
+refine-requires c κs =
+    let s = c .before .before .before .before .before .before .before .before .before .before .before .before .before in
+    let b = s .pre .0 .begun in
+    let w = c .before .before .before .before .copy .ensures in
+    let long = copied-long b (s .pre .1 .1 .0) w in (
+      copied-known b (s .pre .1 .1 .0) w,
+      (subst (λ (n : ℕ). NodeList n (now (s .args .nodes))) (sym long) (b .list), (s .pre .1 .1 .1 ∙ begun-long b ∙ sym long, w .size)),
+    )
+
+mul-result : tie.Need-mul-result
+mul-result c = search needs
+
+slice-read-result : tie.Need-slice-read-result
+slice-read-result c = search needs
+
+same-length : tie.Need-same-length
+same-length c = search needs
+
+same-length-2 : tie.Need-same-length-2
+same-length-2 c = search needs
+
+returns : tie.Need-returns
+returns c =
+    let s = c .before .before .before .before .before .before .before .before .before .before .before .before .before .before .before .before .before .before .before in
+    λ pattern board b.
+    ap (λ (xs : List ℕ). eqb (getD xs (s .args .w) 0) 0)
+    (c .before .before .before .before .before .refine .ensures pattern board (b .prepared) (copied-begins b (s .pre .1 .1 .0) (c .before .before .before .before .before .before .before .before .before .before .copy .ensures)) .last)
+
+pub empty-at-spec : {M : Type 1} → statement M
+empty-at-spec =
+    tie.close
+    (tie.spec
+    copy-requires
+    refine-requires
+    mul-result
+    slice-read-result
+    same-length
+    same-length-2
+    returns)

@@ -1,0 +1,121 @@
+// The call that finds the least of a pattern's links that still says that there is no place around a centre: a pattern file, the board of another
+// file and a centre.
+use barring::BarAnswer;
+use barring_find::bar_circuits;
+use file_format::Board;
+use file_format::Editions;
+use file_format::File;
+use file_format::FileVerdict;
+use file_format::Pattern;
+use file_format::Refusal;
+use file_format::Role;
+use file_pair::read_pair;
+use place::Around;
+ghost use mathlib.Core.Path.{_≡_};
+ghost use Rattle.file_format.specs.Circuit.{Bounded};
+ghost use Rattle.file_format.specs.declared.Role.the-variants as role;
+ghost use Rattle.file_format.specs.Layout.{inEdition};
+ghost use Rattle.graph.specs.Circuit.{Circuit, circuit};
+ghost use Rattle.barring.specs.Outcome.{barReply};
+ghost use Rattle.call_barring.specs.Call.{barOn, barCall};
+
+// What is asked for: a centre, which may be none of the board's nodes, and the pattern's radius.
+struct Asked {
+    pub centre: usize,
+    pub radius: u16,
+}
+
+// The call on two circuits that were read. Everything is tested before anything is written to the lent bytes.
+fn bar_on(
+    part_kinds: &[u32],
+    part_starts: &[u16],
+    part_ends: &[u16],
+    node_kinds: &[u32],
+    node_starts: &[u16],
+    node_ends: &[u16],
+    asked: Asked,
+    out: &mut [u8],
+) -> BarAnswer
+    ghost { Circuit × Circuit }
+    requires { λ α. ⌜ (circuit (now «part_kinds») (now «part_starts») (now «part_ends»), circuit (now «node_kinds») (now «node_starts») (now «node_ends»)) ≡ α ⌝ }
+    requires { λ α. ⌜ Bounded role.Pattern (α .0) × Bounded role.Board (α .1) ⌝ }
+    ensures { λ α a. ⌜ record { reply = barReply a; out = now (out .exit) } ≡ barOn (asked .radius) (α .0) (α .1) (asked .centre) (now (out .entry)) ⌝ }
+{
+    let centre = asked.centre;
+    if node_kinds.len() <= centre {
+        return BarAnswer::Refused(Refusal {
+            number: 7,
+            file: File::Neither,
+        });
+    }
+    if out.len() < part_starts.len() {
+        return BarAnswer::Refused(Refusal {
+            number: 8,
+            file: File::Neither,
+        });
+    }
+    bar_circuits(
+        part_kinds,
+        part_starts,
+        part_ends,
+        node_kinds,
+        node_starts,
+        node_ends,
+        Around {
+            centre: centre as u16,
+            radius: asked.radius,
+        },
+        out,
+    )
+}
+
+// The least of the pattern's links that still says that there is no place around the centre at the pattern's radius: a byte per pattern link, 1 for
+// kept, first in `out`, and how many are 1; or the refusal, which leaves `out` as it was.
+pub fn bar(
+    editions: Editions,
+    pattern: &[u8],
+    board: &[u8],
+    centre: usize,
+    out: &mut [u8],
+) -> BarAnswer
+    ensures { λ a. ⌜ record { reply = barReply a; out = now (out .exit) }
+        ≡ barCall (inEdition (editions .pattern) (now (pattern .entry))) (inEdition (editions .board) (now (board .entry))) centre (now (out .entry)) ⌝ }
+{
+    let mut pk = [0u32; Pattern::MAX_NODES];
+    let mut ps = [0u16; Pattern::MAX_LINKS];
+    let mut pe = [0u16; Pattern::MAX_LINKS];
+    let mut nk = [0u32; Board::MAX_NODES];
+    let mut ns = [0u16; Board::MAX_LINKS];
+    let mut ne = [0u16; Board::MAX_LINKS];
+    let read = read_pair(
+        Role::Pattern,
+        editions,
+        pattern,
+        board,
+        &mut pk,
+        &mut ps,
+        &mut pe,
+        &mut nk,
+        &mut ns,
+        &mut ne,
+    );
+    let verdict = read.verdict;
+    if let FileVerdict::Refused(x) = verdict {
+        return BarAnswer::Refused(x);
+    }
+    let radius = read.radius;
+    let parts = read.parts;
+    let joins = read.joins;
+    let n = read.nodes;
+    let m = read.links;
+    bar_on(
+        &pk[..parts],
+        &ps[..joins],
+        &pe[..joins],
+        &nk[..n],
+        &ns[..m],
+        &ne[..m],
+        Asked { centre, radius },
+        out,
+    )
+}
