@@ -45,14 +45,6 @@ module _ (most x : ℕ) where
       go true e = rw e (leb-true x most e)
       go false e = rw e (omega arith)
 
-  pub capped-from : (at : ℕ) → at ≤ most → at ≤ x → at ≤ capped most x
-  unfolding capped
-  capped-from at h k = go (leb x most) refl
-    where
-      go : (b : Bool) → leb x most ≡ b → at ≤ capped most x
-      go true e = rw e k
-      go false e = rw e h
-
 module _ (bytes : List ℕ) (x : ℕ) where
   drop-capped : drop (capped (length bytes) x) bytes ≡ drop x bytes
   unfolding capped
@@ -102,8 +94,12 @@ module _ {bytes sizes : List ℕ} {j at : ℕ} (p : Passed bytes sizes j at) (h 
             ∙ ap (λ (x : ℕ). drop x bytes) (sym further);
       }
 
-  -- the part that is handed out
-  pub passed-part : (end : ℕ) → end ≡ capped (length bytes) (at + getD sizes j 0) → take (end - at) (drop at bytes) ≡ getD (cutInto bytes sizes) j []
-  passed-part end e =
-      let k = getD sizes j 0 in
-      ap (λ (x : ℕ). take (x - at) (drop at bytes)) e ∙ part-capped bytes at k (p .within) ∙ ap (take k) (p .rest) ∙ sym (cut-at bytes sizes j h)
+-- the part that is handed out: the string that comes next
+pub passed-last : {bytes sizes : List ℕ} {j at : ℕ} → Passed bytes sizes j at → (i : ℕ) → j ≡ i → i < length sizes
+    → (end : ℕ) → end ≡ capped (length bytes) (at + getD sizes i 0) → take (end - at) (drop at bytes) ≡ getD (cutInto bytes sizes) i []
+passed-last {bytes} {sizes} {j} {at} p i same h end e =
+    let k = getD sizes i 0 in
+    ap (λ (x : ℕ). take (x - at) (drop at bytes)) e
+    ∙ part-capped bytes at k (p .within)
+    ∙ ap (take k) (p .rest ∙ ap (λ (x : ℕ). drop (sum (take x sizes)) bytes) same)
+    ∙ sym (cut-at bytes sizes i h)

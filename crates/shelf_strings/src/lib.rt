@@ -8,7 +8,7 @@ ghost use Rattle.shelf_strings.specs.Strings.{capped, cutInto};
 // So many bytes on, or the end of the bytes where there are fewer.
 fn step(at: usize, size: u32, end: usize) -> usize
     requires { ⌜ at ≤ end ⌝ }
-    ensures { λ r. ⌜ r ≡ capped end (at + size) ⌝ }
+    ensures { λ r. ⌜ (r ≡ capped end (at + size)) × (at ≤ r) × (r ≤ end) ⌝ }
 {
     if size as usize <= end - at {
         return at + size as usize;
