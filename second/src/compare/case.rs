@@ -6,7 +6,7 @@ use super::call::{Call, Lent};
 use super::damage::{spoil, upset};
 use super::finder::Finder;
 use super::tally::Tally;
-use super::{agree, editions, laws, Difference};
+use super::{agree, editions, laws, shelves, Difference};
 use crate::circuit::{Circuit, Role};
 use crate::graph;
 use crate::load::Numbers;
@@ -235,5 +235,6 @@ pub fn check(
         agree(finder, &call, &lent, tally)?;
     }
     laws::check(finder, &case, tally)?;
-    editions::check(finder, seed, number, tally)
+    editions::check(finder, seed, number, tally)?;
+    shelves::check(finder, seed, number, tally)
 }

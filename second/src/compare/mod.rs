@@ -9,6 +9,7 @@ pub mod edges;
 pub mod editions;
 pub mod finder;
 pub mod laws;
+pub mod shelves;
 pub mod tally;
 
 use std::fmt;
