@@ -94,7 +94,7 @@ fn put_name(i: usize, name: &mut [u8])
 }
 
 // How the reading goes on: it ends at the first file that is absent.
-fn next(found: Found, at: usize) -> Next
+fn after(found: Found, at: usize) -> Next
     requires { ⌜ (at ≤ 65536) × Within 65536 found ⌝ }
     ensures { λ r. ⌜ r ≡ nextAfter found at ⌝ }
 {
@@ -117,7 +117,7 @@ fn read_all(bytes: &mut [u8], lengths: &mut [u32], name: &mut [u8]) -> Taken
         put_name(i, name);
         let end = at + FILE_BYTES;
         let found = load(name, &mut bytes[at..end]);
-        match next(found, at) {
+        match after(found, at) {
             Next::Further(past) => {
                 lengths[i] = (past - at) as u32;
                 at = past;
