@@ -8,7 +8,7 @@ use crate::circuit::{
     both, both_in_bits, gather, gather_second, parse, parse_in, Circuit, Edition, File, Refusal,
     Role,
 };
-use crate::graph::{radius as radius_of, within, Subgraph};
+use crate::graph::{radius as radius_of, within};
 use crate::load::{load as load_of, Numbers};
 use crate::merged::merged;
 use crate::place::{place as place_of, Place};
