@@ -10,7 +10,8 @@ ghost use mathlib.Core.Path.{_≡_};
 ghost use Prim.Native.Nat.{_+_, _*_, _<_, _≤_};
 ghost use lib.ListN.{length};
 ghost use Rattle.shelf_strings.specs.Strings.{cutInto};
-ghost use Rattle.shelf.specs.Printing.{isAbsent, named, nextAfter, Within, Few, Tried, textOf};
+ghost use Rattle.call_shelf.specs.Shelf.{mostFiles};
+ghost use Rattle.shelf.specs.Printing.{isAbsent, named, nextAfter, mostBytes, Within, Onward, Few, textOf};
 
 // A byte more than the longest second-edition pattern that is accepted: a longer file is refused as what is read of it is (proofs/Cut).
 const FILE_BYTES: usize = 4 + 4 * Pattern::MAX_NODES + 4 * Pattern::MAX_LINKS + 1;
@@ -95,8 +96,8 @@ fn put_name(i: usize, name: &mut [u8])
 
 // How the reading goes on: it ends at the first file that is absent.
 fn after(found: Found, at: usize) -> Next
-    requires { ⌜ (at ≤ 65536) × Within 65536 found ⌝ }
-    ensures { λ r. ⌜ r ≡ nextAfter found at ⌝ }
+    requires { ⌜ (at ≤ 65536) × Within mostBytes found ⌝ }
+    ensures { λ r. ⌜ (r ≡ nextAfter found at) × Onward at r ⌝ }
 {
     match found {
         Found::Bytes(size) => Next::Further(at + size),
@@ -105,19 +106,28 @@ fn after(found: Found, at: usize) -> Next
     }
 }
 
+// Reads the i-th file to a place of the bytes, where there is room for a byte more than the longest.
+fn read_one(i: usize, at: usize, bytes: &mut [u8], name: &mut [u8]) -> Next
+    requires { ⌜ (i < 100) × (3 ≤ length (now name)) × (at ≤ 65536) × (at + mostBytes ≤ length (now bytes)) ⌝ }
+    ensures { λ r. ⌜ Onward at r ⌝ }
+{
+    put_name(i, name);
+    let end = at + FILE_BYTES;
+    let found = load(name, &mut bytes[at..end]);
+    after(found, at)
+}
+
 // Reads the files one after another, the bytes of each behind those of the one before, and its length into the table of lengths. The name stays
 // that of the last file that was tried.
 fn read_all(bytes: &mut [u8], lengths: &mut [u32], name: &mut [u8]) -> Taken
-    requires { ⌜ (length (now bytes) ≡ 16 * 1157) × (length (now lengths) ≡ 16) × (length (now name) ≡ 7) ⌝ }
+    requires { ⌜ (mostFiles * mostBytes ≤ length (now bytes)) × (mostFiles ≤ length (now lengths)) × (3 ≤ length (now name)) ⌝ }
     ensures { λ r. ⌜ Few r ⌝ }
 {
     let mut at: usize = 0;
     let mut i: usize = 0;
     while i < FILES {
-        put_name(i, name);
-        let end = at + FILE_BYTES;
-        let found = load(name, &mut bytes[at..end]);
-        match after(found, at) {
+        let next = read_one(i, at, bytes, name);
+        match next {
             Next::Further(past) => {
                 lengths[i] = (past - at) as u32;
                 at = past;
@@ -143,7 +153,7 @@ fn hand(bytes: &[u8], lengths: &[u32], text: &[u8]) -> Printed
 
 // Puts the files in order and hands their lines on, by way of a table for their numbers and a buffer for the lines.
 fn print_shelf(bytes: &[u8], lengths: &[u32], order: &mut [u8], out: &mut [u8]) -> Printed
-    requires { ⌜ (length (now lengths) ≤ 16) × (16 ≤ length (now order)) × (48 ≤ length (now out)) ⌝ }
+    requires { ⌜ (length (now lengths) ≤ mostFiles) × (mostFiles ≤ length (now order)) × (3 * mostFiles ≤ length (now out)) ⌝ }
 {
     let answer = call_shelf::shelf(bytes, lengths, order);
     let ShelfAnswer::Ordered(count) = answer else {
@@ -160,8 +170,8 @@ fn cannot_read(name: &[u8]) {
 }
 
 fn run(bytes: &mut [u8], lengths: &mut [u32], name: &mut [u8], order: &mut [u8], out: &mut [u8])
-    requires { ⌜ (length (now bytes) ≡ 16 * 1157) × (length (now lengths) ≡ 16) × (length (now name) ≡ 7) ⌝ }
-    requires { ⌜ (16 ≤ length (now order)) × (48 ≤ length (now out)) ⌝ }
+    requires { ⌜ (mostFiles * mostBytes ≤ length (now bytes)) × (mostFiles ≤ length (now lengths)) × (3 ≤ length (now name)) ⌝ }
+    requires { ⌜ (mostFiles ≤ length (now order)) × (3 * mostFiles ≤ length (now out)) ⌝ }
 {
     let taken = read_all(bytes, lengths, name);
     let Taken::Files(count) = taken else {
