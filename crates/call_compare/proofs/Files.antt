@@ -58,11 +58,12 @@ module _ (r r′ : Role) (a b : List ℕ) (bytes : T (all (λ x. ltb x 256) a)) 
     (e : first (fileConditions r (secondEdition a)) ≡ accept) (f : first (fileConditions r′ (secondEdition b)) ≡ accept) where
   pub equal-files : compareFiles a b ≡ Equal ↔ (a ≡ b)
   unfolding compareFiles
-  equal-files =
-      (λ q.
-      let w = whole-order .same (wholeOf a) (wholeOf b) .0 q in
-      same-file r r′ Second a b bytes bytes′ e f (ap (λ (c : Whole). c .kinds) w) (ap (λ (c : Whole). c .packages) w) (ap (λ (c : Whole). c .starts) w) (ap (λ (c : Whole). c .ends) w),
-      λ q. whole-order .same (wholeOf a) (wholeOf b) .1 (ap wholeOf q))
+  equal-files = (
+    λ q.
+        let w = whole-order .same (wholeOf a) (wholeOf b) .0 q in
+        same-file r r′ Second a b bytes bytes′ e f (ap (λ (c : Whole). c .kinds) w) (ap (λ (c : Whole). c .packages) w) (ap (λ (c : Whole). c .starts) w) (ap (λ (c : Whole). c .ends) w),
+    λ q. whole-order .same (wholeOf a) (wholeOf b) .1 (ap wholeOf q),
+  )
 
 -- the bytes of numbers are those of no other numbers
 bytes-one : (xs ys : List ℕ) → bytesOf xs ≡ bytesOf ys → xs ≡ ys
@@ -89,8 +90,9 @@ file-of-numbers c p =
 
 -- the same of any two circuits with a package for each node and an end for each start
 pub equal-circuits : (c d : Whole) → Parallel c → Parallel d → compareWhole c d ≡ Equal ↔ (fileOf c ≡ fileOf d)
-equal-circuits c d p q =
-    (λ e. ap fileOf (whole-order .same c d .0 e),
-    λ e.
-    let same = bytes-one (numbersOf c) (numbersOf d) (sym (file-of-numbers c p) ∙ e ∙ file-of-numbers d q) in
-    sym (numbers-order p q) ∙ lists-order .same (numbersOf c) (numbersOf d) .1 same)
+equal-circuits c d p q = (
+  λ e. ap fileOf (whole-order .same c d .0 e),
+  λ e.
+      let same = bytes-one (numbersOf c) (numbersOf d) (sym (file-of-numbers c p) ∙ e ∙ file-of-numbers d q) in
+      sym (numbers-order p q) ∙ lists-order .same (numbersOf c) (numbersOf d) .1 same,
+)

@@ -42,9 +42,12 @@ ordered-numbers bytes lengths order after answer few e count is =
     go : (v : Verdict) → record { verdict = accept; values = count ∷ [] } ≡ reply v (length numbers ∷ []) → after ≡ filled v numbers order
         → (count ≡ length numbers) × (take count after ≡ numbers)
     go accept r o =
+        let told : count ∷ [] ≡ length numbers ∷ [] = ap (λ (x : Reply). x .values) r in
         let same : count ≡ length numbers = cc in
         (same, ap (take count) o ∙ take-at numbers (drop (length numbers) order) count (sym same))
-    go (refuse x) r o = let z : _≡_ {A = ℕ} 0 1 = cc in absurd (omega arith)
+    go (refuse x) r o =
+        let told : accept ≡ refuse x = ap (λ (x : Reply). x .verdict) r in
+        let z : _≡_ {A = ℕ} 0 1 = cc in absurd (omega arith)
 
 -- the text of at most 16 numbers has room
 pub text-room : (out numbers : List ℕ) → 3 * length numbers ≤ length out → Fits out 0 (shelfText numbers)

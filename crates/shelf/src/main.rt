@@ -13,7 +13,7 @@ ghost use Rattle.shelf_strings.specs.Strings.{cutInto};
 ghost use Rattle.call_shelf.specs.Shelf.{mostFiles};
 ghost use Rattle.shelf.specs.Printing.{isAbsent, named, nextAfter, mostBytes, Within, Onward, Few, textOf};
 
-// A byte more than the longest second-edition pattern that is accepted: a longer file is refused as what is read of it is (proofs/Cut).
+// A byte more than the longest second-edition pattern that is accepted: so that a longer file is refused by its length.
 const FILE_BYTES: usize = 4 + 4 * Pattern::MAX_NODES + 4 * Pattern::MAX_LINKS + 1;
 
 const SHELF_BYTES: usize = FILES * FILE_BYTES;

@@ -73,20 +73,20 @@ put-numbers-requires : tie.Need-put-numbers-requires
 put-numbers-requires c κs = fits (c .before .before .before)
 
 slice-reshare-prefix-hand : tie.Need-slice-reshare-prefix-hand
-slice-reshare-prefix-hand c = 
+slice-reshare-prefix-hand c =
     let put = c .before .before in
     let a = put .before .before .before .before in
     text-size (put .put-numbers .ensures) (fits a)
 
 slice-aggregate-hand : tie.Need-slice-aggregate-hand
-slice-aggregate-hand c = 
+slice-aggregate-hand c =
     let put = c .before .before .before in
     let a = put .before .before .before .before in
     sym (length-take-le _ _ (text-size (put .put-numbers .ensures) (fits a)))
 
 hand-requires : tie.Need-hand-requires
 unfolding textOf
-hand-requires c κs = 
+hand-requires c κs =
     let put = c .before .before .before in
     let a = put .before .before .before .before in
     text-front (put .put-numbers .ensures) (fits a) ∙ ap shelfText (numbers a)

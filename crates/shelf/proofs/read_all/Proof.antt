@@ -86,7 +86,7 @@ loop-less : tie.Need-loop-less Inv-loop μ-loop
 loop-less c = omega arith
 
 loop-again : tie.Need-loop-again Inv-loop μ-loop
-loop-again c = 
+loop-again c =
     let k = c .before .before .before in
     let inv = turn k .loop .inv in
     (omega arith, omega (arith, onward c .1), call k .read-one .kept .1 .1 .0 ∙ inv .2, simp length-set (inv .3), call k .read-one .kept .1 .1 .1 .0 ∙ inv .4)

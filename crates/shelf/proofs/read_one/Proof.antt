@@ -26,9 +26,9 @@ load-requires : tie.Need-load-requires
 load-requires c κs = search needs
 
 after-requires : tie.Need-after-requires
-after-requires c κs = 
+after-requires c κs =
     let call = c .before .before in
-    (omega arith, within-more _ (length (call .load .last .1 .0)) mostBytes (omega (arith, simp (length-take, length-drop) at (call .load .kept .1 .0))) (call .load .ensures))
+    (omega arith, within-more (call .load .result) (length (call .load .last .1 .0)) mostBytes (omega (arith, simp (length-take, length-drop) at (call .load .kept .1 .0))) (call .load .ensures))
 
 same-length : tie.Need-same-length
 same-length c = search needs

@@ -56,7 +56,7 @@ slice-aggregate-print-shelf c = sym (length-take-le _ _ (room (c .before .before
 print-shelf-requires : tie.Need-print-shelf-requires
 print-shelf-requires c κs =
     let t = c .before .before .before .before .before in
-    (omega (arith, few t, length-take-le (t .taken .given .0 .0) _ (room t)), omega arith, omega arith)
+    (omega (arith, few t, length-take-le (t .taken .given .0 .0) (call t .read-all .last .1 .0) (room t)), omega arith, omega arith)
 
 enum-told-2 : tie.Need-enum-told-2
 enum-told-2 c = search needs
