@@ -1,13 +1,12 @@
 -- How the files of the shelf are read, and what is handed to standard output.
 use mathlib.Core.Bool.{Bool}
-use mathlib.Core.List.{List}
+use mathlib.Core.List.{List, map}
 use Prim.Native.Nat.{ℕ, _+_, _/_, _%_, _≤_}
 use lib.IntN.{ℤ}
 use lib.ListN.{set}
 use Rattle.file_format.specs.declared.Edition.the-variants.{Second}
 use Rattle.file_format.specs.declared.Role.the-variants.{Pattern}
-use Rattle.file_format.specs.Layout.{lengthOf}
-use Rattle.file_format.specs.Role.{maxNodes, maxLinks}
+use Rattle.file_cut.specs.Cut.{most, cut}
 use Rattle.output.specs.Writing.{isError}
 use Rattle.call_shelf.specs.Shelf.{shelfOf, mostFiles}
 use Rattle.shelf_text.specs.Text.{shelfText}
@@ -34,7 +33,11 @@ nextAfter found.Unreadable at = next.GivesUp
 
 -- what is read of a file at most: a byte more than the longest that is accepted
 abbrev pub mostBytes : ℕ
-mostBytes = lengthOf Second (maxNodes Pattern) (maxLinks Pattern) + 1
+mostBytes = most Second Pattern
+
+-- what is read of the files of a shelf so
+abbrev pub cutEach : List (List ℕ) → List (List ℕ)
+cutEach files = map (cut Second Pattern) files
 
 -- what is read has room
 abbrev pub Within : ℕ → Found → Type 0
