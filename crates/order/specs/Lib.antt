@@ -1,3 +1,4 @@
-pub mod Order
+pub mod Examples
 pub mod Meaning
+pub mod Order
 pub mod Sorting
