@@ -102,6 +102,22 @@ typedef struct {
     size_t size;
 } heronditch_piece;
 
+/* a reply of a comparison: which of the two files a refusal means, 1 the first or 2 the second; and how the circuit of the first ranks against
+ * that of the second. 0 where there is none, so that no refusal looks like an order. */
+typedef struct {
+    uint32_t number;
+    uint32_t file;
+    uint32_t which;
+    uint32_t order;
+} heronditch_comparison;
+
+#define HERONDITCH_LESS 1
+#define HERONDITCH_EQUAL 2
+#define HERONDITCH_GREATER 3
+
+/* the files of a shelf */
+#define HERONDITCH_SHELF 16
+
 /* Reads a file: N kinds, M link starts and M link ends. Replies with N and M. Lend 32, 256, 256 entries for a pattern, 512, 4096, 4096
  * for a board, to have room for every file. */
 heronditch_reply heronditch_read_pattern(const uint8_t *file, size_t file_len, uint16_t *kinds, size_t kinds_len, uint16_t *starts,
@@ -235,6 +251,18 @@ heronditch_reply heronditch_convert_pattern_12(const uint8_t *file, size_t file_
 heronditch_reply heronditch_convert_pattern_21(const uint8_t *file, size_t file_len, uint8_t *out, size_t out_len);
 heronditch_reply heronditch_convert_board_12(const uint8_t *file, size_t file_len, uint8_t *out, size_t out_len);
 heronditch_reply heronditch_convert_board_21(const uint8_t *file, size_t file_len, uint8_t *out, size_t out_len);
+
+/* Compares the circuits of two patterns: by N, then M, then kinds, packages, starts and ends, each by size of number, the first difference
+ * deciding. They are equal exactly when the files are the same bytes. Both files are patterns, so that `which` tells the one that is refused;
+ * the first one's refusal comes first. */
+heronditch_comparison heronditch_compare_2(const uint8_t *first, size_t first_len, const uint8_t *second, size_t second_len);
+
+/* Puts a shelf of patterns in order. Their files lie one after another in `bytes`, each as long as its entry of `lengths` says; where the bytes
+ * end, the last are shorter, or empty. Of more than HERONDITCH_SHELF lengths the first so many are the shelf. Fills the numbers (from 0) of the
+ * files that are accepted, in the order of heronditch_compare_2, and of equal circuits the lower number first; a file that is refused is passed
+ * over. Replies with how many are accepted. Lend HERONDITCH_SHELF bytes to have room for every shelf; only 8 is replied. */
+heronditch_reply heronditch_shelf_2(const uint8_t *bytes, size_t bytes_len, const uint32_t *lengths, size_t lengths_len, uint8_t *order,
+                                    size_t order_len);
 
 #ifdef __cplusplus
 }

@@ -264,3 +264,30 @@ def load(seed, n, m, k):
     pairs = [(draw(n), draw(n)) for _ in range(m)]
     drawn = sorted(set(pairs))
     return encode(Circuit(kinds, [v for v, _ in drawn], [w for _, w in drawn]))
+
+
+def compare(first, second):
+    """How the circuits of two accepted second-edition patterns rank: -1, 0 or 1. By N, then M, then kinds, packages, starts, ends."""
+
+    def key(circuit):
+        return (len(circuit.kinds), len(circuit.starts), list(circuit.kinds), packages(circuit), list(circuit.starts), list(circuit.ends))
+
+    return (key(first) > key(second)) - (key(first) < key(second))
+
+
+def shelf(files):
+    """The numbers of the files that are accepted as second-edition patterns, in order, of equal circuits the lower number first."""
+    order = []
+    for number, data in enumerate(files):
+        circuit = parse("pattern", data, 2)
+        if isinstance(circuit, int):
+            continue
+        at = sum(compare(other, circuit) <= 0 for _, other in order)
+        order.insert(at, (number, circuit))
+    return [number for number, _ in order]
+
+
+def shelf_text(files):
+    """What the shelf program prints of files, given as bytes, None for an absent one."""
+    there = files[: files.index(None)] if None in files else files
+    return "".join(f"{number:02}\n" for number in shelf(there[:16])).encode()

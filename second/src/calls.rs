@@ -2,6 +2,8 @@
 //! its whole result or a refusal, and only then fills what was lent; entries
 //! past those needed keep their content.
 
+use std::cmp::Ordering;
+
 use crate::barring::least;
 use crate::check::{marked, perfect};
 use crate::circuit::{
@@ -12,6 +14,7 @@ use crate::graph::{radius as radius_of, within};
 use crate::load::{load as load_of, Numbers};
 use crate::merged::merged;
 use crate::place::{place as place_of, Place};
+use crate::shelf;
 use crate::simulation::{on_board, Counts};
 
 /// The reply of a call without counts: number 0 when accepted, and up to two
@@ -72,6 +75,28 @@ impl From<Refusal> for Counted {
             number: refusal.number,
             file: refusal.file,
             counts: Counts::default(),
+        }
+    }
+}
+
+/// The reply of a comparison: which of the two files a refusal means, 1 or 2,
+/// and how the circuits rank, 1 less, 2 equal, 3 greater; 0 where there is none.
+#[derive(Clone, Copy, Debug, PartialEq, Eq)]
+pub struct Comparison {
+    pub number: u32,
+    pub file: File,
+    pub which: u32,
+    pub order: u32,
+}
+
+impl Comparison {
+    /// A refusal of one of the files.
+    fn refused(refusal: Refusal, which: u32) -> Comparison {
+        Comparison {
+            number: refusal.number,
+            file: refusal.file,
+            which,
+            order: 0,
         }
     }
 }
@@ -423,5 +448,40 @@ pub fn load(numbers: Numbers, out: &mut [u8]) -> Reply {
         let length = bytes.len();
         fill(out, bytes);
         Ok(Reply::accepted(length, 0))
+    }))
+}
+
+/// Compares the circuits of two second-edition pattern files.
+pub fn compare(first: &[u8], second: &[u8]) -> Comparison {
+    let one = match shelf::pattern(first) {
+        Ok(circuit) => circuit,
+        Err(refusal) => return Comparison::refused(refusal, 1),
+    };
+    let other = match shelf::pattern(second) {
+        Ok(circuit) => circuit,
+        Err(refusal) => return Comparison::refused(refusal, 2),
+    };
+    let order = match shelf::compare(&one, &other) {
+        Ordering::Less => 1,
+        Ordering::Equal => 2,
+        Ordering::Greater => 3,
+    };
+    Comparison {
+        number: 0,
+        file: File::Neither,
+        which: 0,
+        order,
+    }
+}
+
+/// Fills the numbers of a shelf's accepted files in order; replies with how
+/// many they are.
+pub fn shelve(bytes: &[u8], lengths: &[u32], order: &mut [u8]) -> Reply {
+    let numbers = shelf::shelf(&shelf::strings(bytes, lengths));
+    either(long_enough(&[(order.len(), numbers.len())]).map(|()| {
+        let count = numbers.len();
+        let bytes = numbers.into_iter();
+        fill(order, bytes.map(|n| u8::try_from(n).expect("a byte")));
+        Reply::accepted(count, 0)
     }))
 }

@@ -17,4 +17,5 @@ pub mod merged;
 pub mod place;
 pub mod random;
 pub mod report;
+pub mod shelf;
 pub mod simulation;

@@ -11,6 +11,7 @@ use second::compare::{case, edges};
 use second::graph::{ball, distances, radius, within, Subgraph};
 use second::load::Numbers;
 use second::merged::merged;
+use second::shelf::{pattern, strings};
 use second::simulation::{largest, match_graph, Pairs};
 
 /// The planted faults.
@@ -91,9 +92,16 @@ enum Fault {
     BarNine,
     BarCountsDropped,
     BarStops,
+    // Of the order and the shelf.
+    OrderByBytes,
+    LinksBeforeNodes,
+    SecondRefusedFirst,
+    HigherNumberFirst,
+    EqualDropped,
+    RefusedStops,
 }
 
-const FAULTS: [Fault; 68] = [
+const FAULTS: [Fault; 74] = [
     Fault::OneRound,
     Fault::EveryLink,
     Fault::MergedRadius,
@@ -162,6 +170,12 @@ const FAULTS: [Fault; 68] = [
     Fault::BarNine,
     Fault::BarCountsDropped,
     Fault::BarStops,
+    Fault::OrderByBytes,
+    Fault::LinksBeforeNodes,
+    Fault::SecondRefusedFirst,
+    Fault::HigherNumberFirst,
+    Fault::EqualDropped,
+    Fault::RefusedStops,
 ];
 
 /// The second finder with a planted fault.
@@ -720,6 +734,59 @@ impl Finder for Faulty {
         out[..bytes.len()].copy_from_slice(&bytes);
         [0, 0, bytes.len() as u32, 0, 0, 0]
     }
+
+    fn compare(&self, first: &[u8], second: &[u8]) -> Words {
+        let words = Second.compare(first, second);
+        let rank = |less: bool, equal: bool| [0, 0, 0, if equal { 2 } else { 3 - 2 * u32::from(less) }, 0, 0];
+        match self.0 {
+            Fault::OrderByBytes if words[0] == 0 => rank(first < second, first == second),
+            Fault::LinksBeforeNodes if words[0] == 0 => {
+                let (one, other) = (swapped(first), swapped(second));
+                rank(one < other, one == other)
+            }
+            Fault::SecondRefusedFirst if words[0] != 0 => {
+                let turned = Second.compare(second, first);
+                [turned[0], turned[1], 3 - turned[2], 0, 0, 0]
+            }
+            _ => words,
+        }
+    }
+
+    fn shelf(&self, bytes: &[u8], lengths: &[u32], order: &mut [u8]) -> Words {
+        let words = Second.shelf(bytes, lengths, order);
+        let files = strings(bytes, lengths);
+        let count = words[2] as usize;
+        let same = |a: u8, b: u8| files[usize::from(a)] == files[usize::from(b)];
+        match self.0 {
+            Fault::HigherNumberFirst if words[0] == 0 => {
+                for at in 1..count {
+                    if same(order[at - 1], order[at]) {
+                        order.swap(at - 1, at);
+                    }
+                }
+                words
+            }
+            Fault::EqualDropped if words[0] == 0 => {
+                let mut kept: Vec<u8> = order[..count].to_vec();
+                kept.dedup_by(|a, b| same(*a, *b));
+                order[..kept.len()].copy_from_slice(&kept);
+                [0, 0, kept.len() as u32, 0, 0, 0]
+            }
+            Fault::RefusedStops => {
+                let sound = files.iter().take_while(|file| pattern(file).is_ok());
+                Second.shelf(bytes, &lengths[..sound.count()], order)
+            }
+            _ => words,
+        }
+    }
+}
+
+/// A file's numbers, with M before N.
+fn swapped(file: &[u8]) -> Vec<u16> {
+    let two = file.chunks_exact(2).map(|two| u16::from_le_bytes([two[0], two[1]]));
+    let mut numbers: Vec<u16> = two.collect();
+    numbers.swap(0, 1);
+    numbers
 }
 
 /// Whether a faulty finder says that some of a pattern's links bar.

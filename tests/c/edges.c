@@ -269,6 +269,61 @@ static void barred(void)
     check(is_reply(heronditch_bar(part, sizeof part, stranger, sizeof stranger, 0, NULL, 0), 0, HERONDITCH_NEITHER, 0, 0), "a pattern without links");
 }
 
+static int is_comparison(heronditch_comparison c, uint32_t number, uint32_t file, uint32_t which, uint32_t order)
+{
+    return c.number == number && c.file == file && c.which == which && c.order == order;
+}
+
+/* second-edition patterns: one part of kind 10 and package 0, 1, 256 */
+static const uint8_t ONE[] = {1, 0, 0, 0, 10, 0, 0, 0};
+static const uint8_t ONE_1[] = {1, 0, 0, 0, 10, 0, 1, 0};
+static const uint8_t ONE_256[] = {1, 0, 0, 0, 10, 0, 0, 1};
+
+static void comparisons(void)
+{
+    check(is_comparison(heronditch_compare_2(ONE, 8, ONE, 8), 0, HERONDITCH_NEITHER, 0, HERONDITCH_EQUAL), "a file and itself");
+    check(is_comparison(heronditch_compare_2(ONE_1, 8, ONE_256, 8), 0, HERONDITCH_NEITHER, 0, HERONDITCH_LESS), "by size of number, not by low byte");
+    check(is_comparison(heronditch_compare_2(ONE_256, 8, ONE_1, 8), 0, HERONDITCH_NEITHER, 0, HERONDITCH_GREATER), "the other way round");
+    check(is_comparison(heronditch_compare_2(ONE_256, 8, T0, sizeof T0), 0, HERONDITCH_NEITHER, 0, HERONDITCH_LESS), "by N first");
+    check(is_comparison(heronditch_compare_2(T0, sizeof T0, T2, sizeof T2), 0, HERONDITCH_NEITHER, 0, HERONDITCH_LESS), "by packages");
+    check(is_comparison(heronditch_compare_2(NULL, 0, ONE, 8), 1, HERONDITCH_PATTERN, 1, 0), "the first is nothing");
+    check(is_comparison(heronditch_compare_2(ONE, 8, NULL, 0), 1, HERONDITCH_PATTERN, 2, 0), "the second is nothing");
+    check(is_comparison(heronditch_compare_2(ONE, 7, NULL, 0), 3, HERONDITCH_PATTERN, 1, 0), "the first one's refusal comes first");
+    check(is_comparison(heronditch_compare_2(ONE, 8, T, sizeof T), 3, HERONDITCH_PATTERN, 2, 0), "a first-edition file");
+}
+
+static void shelves(void)
+{
+    uint8_t bytes[17 * 8];
+    uint32_t lengths[17];
+    uint8_t order[17];
+    for (size_t i = 0; i < 17; i++) {
+        memcpy(bytes + 8 * i, i % 2 ? ONE : ONE_1, 8);
+        lengths[i] = 8;
+    }
+    check(is_reply(heronditch_shelf_2(NULL, 0, NULL, 0, NULL, 0), 0, HERONDITCH_NEITHER, 0, 0), "an empty shelf");
+    for (size_t lent = 15; lent < 18; lent++) {
+        memset(order, 0xA5, sizeof order);
+        heronditch_reply r = heronditch_shelf_2(bytes, sizeof bytes, lengths, 17, order, lent);
+        if (lent < 16) {
+            check(is_reply(r, 8, HERONDITCH_NEITHER, 0, 0) && untouched(order, 0, sizeof order), "one number less");
+            continue;
+        }
+        int in_order = is_reply(r, 0, HERONDITCH_NEITHER, 16, 0) && order[16] == 0xA5;
+        for (size_t i = 0; i < 16; i++)
+            in_order = in_order && order[i] == (i < 8 ? 2 * i + 1 : 2 * (i - 8));
+        check(in_order, "sixteen of seventeen, equal ones by number");
+    }
+    lengths[0] = 0;
+    lengths[1] = 7;
+    lengths[2] = UINT32_MAX;
+    memset(order, 0xA5, sizeof order);
+    check(is_reply(heronditch_shelf_2(bytes, sizeof bytes, lengths, 17, NULL, 0), 0, HERONDITCH_NEITHER, 0, 0), "lengths past the end: all refused");
+    lengths[1] = 8;
+    lengths[2] = 9;
+    check(is_reply(heronditch_shelf_2(bytes, 17, lengths, 4, order, 1), 0, HERONDITCH_NEITHER, 1, 0) && order[0] == 1, "one accepted between refused ones");
+}
+
 /* a small generator, the same on every machine */
 static uint32_t state = 1;
 static size_t draw(size_t below)
@@ -474,6 +529,8 @@ int main(void)
     loads();
     widths();
     second_edition();
+    comparisons();
+    shelves();
     lookups();
     proposals();
     printf("edges: %d checks, %d failed\n", checks, failed);

@@ -97,6 +97,29 @@ static void *report(void *x)
     return x;
 }
 
+/* sixteen copies of the largest pattern, in the second edition: every comparison goes to the end of both files */
+static uint8_t shelved[HERONDITCH_SHELF * HERONDITCH_PATTERN_BYTES_2];
+static uint32_t lengths[HERONDITCH_SHELF];
+static void fill_shelf(void)
+{
+    for (size_t i = 0; i < HERONDITCH_SHELF; i++) {
+        lengths[i] = HERONDITCH_PATTERN_BYTES_2;
+        refused |= heronditch_convert_pattern_12(PATTERN, shelved + i * HERONDITCH_PATTERN_BYTES_2, HERONDITCH_PATTERN_BYTES_2).number;
+    }
+}
+static void *compare(void *x)
+{
+    heronditch_comparison c = heronditch_compare_2(shelved, HERONDITCH_PATTERN_BYTES_2, shelved + HERONDITCH_PATTERN_BYTES_2, HERONDITCH_PATTERN_BYTES_2);
+    refused |= c.number || c.order != 2;
+    return x;
+}
+static void *shelf(void *x)
+{
+    heronditch_reply r = heronditch_shelf_2(shelved, sizeof shelved, lengths, HERONDITCH_SHELF, bytes, HERONDITCH_SHELF);
+    refused |= r.number || r.first != HERONDITCH_SHELF;
+    return x;
+}
+
 static size_t touched(void *(*call)(void *))
 {
     unsigned char *stack;
@@ -119,12 +142,13 @@ int main(void)
     static const struct {
         const char *name;
         void *(*call)(void *);
-    } calls[] = {{"read", read_board}, {"write", write_board}, {"radius", radius}, {"ball", ball}, {"match", match}, {"place", place}, {"check", check}, {"bar", bar}, {"merge", merge}, {"report", report}, {"load", load}};
+    } calls[] = {{"read", read_board}, {"write", write_board}, {"radius", radius}, {"ball", ball}, {"match", match}, {"place", place}, {"check", check}, {"bar", bar}, {"merge", merge}, {"report", report}, {"load", load}, {"compare", compare}, {"shelf", shelf}};
     size_t most = 0;
     if (circuit(HERONDITCH_PARTS, HERONDITCH_PATTERN_LINKS, pattern) != sizeof pattern || circuit(HERONDITCH_NODES, HERONDITCH_BOARD_LINKS, board) != sizeof board)
         return 2;
     memcpy(other, board, sizeof board);
     memset(other + 4, 9, 2 * HERONDITCH_NODES);
+    fill_shelf();
     size_t idle = touched(nothing); /* what a thread needs by itself */
     for (size_t i = 0; i < sizeof calls / sizeof *calls; i++) {
         size_t used = touched(calls[i].call) - idle;

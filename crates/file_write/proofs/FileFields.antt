@@ -187,7 +187,7 @@ unfolding nodesOf linksOf fields tabulate
 head-fields file = refl
 
 -- the fields of a file that has the right length, all of them: N, M, and the stretches
-all-fields : (file : CircuitFile) → let n = nodesOf file in
+pub all-fields : (file : CircuitFile) → let n = nodesOf file in
     let m = linksOf file in
     fields (file .bytes) (2 + (n + (packageCount (file .edition) n + (m + m))))
     ≡ n ∷ m ∷ kindsOf file ++ (packagesOf file ++ (startsOf file ++ endsOf file))

@@ -1,16 +1,14 @@
 -- How much of a file the program reads.
 use mathlib.Core.List.{List}
-use Prim.Native.Nat.{ℕ, _+_}
-use lib.ListN.{take}
+use Prim.Native.Nat.{ℕ}
 use Rattle.file_format.specs.declared.Edition.the-variants.{First}
 use Rattle.file_format.specs.declared.Role.{Role}
-use Rattle.file_format.specs.Layout.{lengthOf}
-use Rattle.file_format.specs.Role.{maxNodes, maxLinks}
+use Rattle.file_cut.specs.Cut as files
 
 -- a byte more than the longest first-edition file that is accepted in a role
 abbrev pub most : Role → ℕ
-most r = lengthOf First (maxNodes r) (maxLinks r) + 1
+most r = files.most First r
 
 -- what is read of a file so
 abbrev pub cut : Role → List ℕ → List ℕ
-cut r file = take (most r) file
+cut r file = files.cut First r file

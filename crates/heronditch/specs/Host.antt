@@ -18,9 +18,13 @@ use Rattle.barring.specs.Outcome.{BarOutcome}
 use Rattle.call_merge.specs.Call.{MergeOutcome}
 use Rattle.call_load.specs.Call.{LoadOutcome}
 use Rattle.call_report.specs.Call.{ReportOutcome}
+use Rattle.call_compare.specs.declared.CompareAnswer.{CompareAnswer}
+use Rattle.call_compare.specs.Call.{compareReply}
+use Rattle.call_shelf.specs.Shelf.{ShelfOutcome}
 use Rattle.heronditch.specs.declared.reply.Reply.{Reply}
 use Rattle.heronditch.specs.declared.reply.Counted.{Counted}
 use Rattle.heronditch.specs.declared.reply.Piece.{Piece}
+use Rattle.heronditch.specs.declared.shelf.Comparison.{Comparison}
 
 -- ---- replies
 
@@ -139,6 +143,15 @@ pub record HostReport : Type 0 where
 
 unfoldable pub hostReport : ReportOutcome → HostReport
 hostReport o = record { reply = pieced (o .reply); out = o .out }
+
+-- which of the two files is meant, and the order found
+unfoldable pub hostCompare : CompareAnswer → Comparison
+hostCompare answer =
+    let c = compareReply answer in
+    record { number = numberOf (c .verdict); file = meantFile (c .verdict); which = c .which; order = c .order }
+
+unfoldable pub hostShelf : ShelfOutcome → HostOut
+hostShelf o = record { reply = slots (o .reply); out = o .order }
 
 -- The neighbour lookup hands out a stretch of one of two tables. C has no form for that: the stretch is copied to the front of the lent
 -- table, and its length replied; 8 where it does not fit.

@@ -43,6 +43,7 @@ use graph_neighbours::neighbours::neighbours;
 mod copied;
 pub mod reply;
 pub mod second;
+pub mod shelf;
 
 #[no_mangle]
 pub extern "C" fn heronditch_read_pattern(

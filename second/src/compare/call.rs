@@ -8,6 +8,7 @@ use crate::calls::PlaceTables;
 use crate::circuit::{Circuit, Edition, Role};
 use crate::load::Numbers;
 use crate::random::Random;
+use crate::shelf::{shelf, strings};
 
 /// One call with all it is given but the lent tables.
 #[derive(Clone, Copy)]
@@ -97,6 +98,14 @@ pub enum Call<'a> {
         from: Edition,
         file: &'a [u8],
     },
+    Compare {
+        first: &'a [u8],
+        second: &'a [u8],
+    },
+    Shelf {
+        bytes: &'a [u8],
+        lengths: &'a [u32],
+    },
 }
 
 /// N and M as a file's first four bytes have them, 0 where it is shorter, and
@@ -156,6 +165,8 @@ impl Call<'_> {
                 (Role::Board, Edition::First) => "convert_board_12",
                 (Role::Board, Edition::Second) => "convert_board_21",
             },
+            Call::Compare { .. } => "compare_2",
+            Call::Shelf { .. } => "shelf_2",
         }
     }
 
@@ -205,6 +216,8 @@ impl Call<'_> {
                 let (n, m) = sizes(file);
                 vec![Circuit::length_in(other(from), n, m)]
             }
+            Call::Compare { .. } => vec![],
+            Call::Shelf { bytes, lengths } => vec![shelf(&strings(bytes, lengths)).len()],
         }
     }
 }
@@ -259,6 +272,12 @@ impl fmt::Display for Call<'_> {
                 centre,
                 radius,
             } => write!(f, " centre {centre} radius {radius}\nboard {}", Hex(board)),
+            Call::Compare { first, second } => {
+                write!(f, "\nfirst {}\nsecond {}", Hex(first), Hex(second))
+            }
+            Call::Shelf { bytes, lengths } => {
+                write!(f, "\nbytes {}\nlengths {lengths:?}", Hex(bytes))
+            }
             Call::MatchIn { pattern, board, .. } => both(f, pattern, board),
             Call::Match { pattern, board } => both(f, pattern, board),
             Call::Place {
@@ -490,6 +509,12 @@ fn run_second(finder: &dyn Finder, call: &Call, lent: &Lent) -> (Words, Vec<Vec<
             let mut out = lent.bytes(0);
             let reply = finder.convert(role, from, file, &mut out);
             (reply, vec![wide(out)])
+        }
+        Call::Compare { first, second } => (finder.compare(first, second), vec![]),
+        Call::Shelf { bytes, lengths } => {
+            let mut order = lent.bytes(0);
+            let reply = finder.shelf(bytes, lengths, &mut order);
+            (reply, vec![wide(order)])
         }
         _ => unreachable!("not on a second-edition file"),
     }

@@ -7,7 +7,7 @@ use super::damage::{spoil, upset};
 use super::finder::Finder;
 use super::proposals::{proposals, Proposal};
 use super::tally::Tally;
-use super::{agree, editions, laws, Difference};
+use super::{agree, editions, laws, shelves, Difference};
 use crate::circuit::{Circuit, Edition, Role};
 use crate::graph;
 use crate::load::Numbers;
@@ -254,5 +254,6 @@ pub fn check(
         agree(finder, &call, &lent, tally)?;
     }
     laws::check(finder, &case, tally)?;
-    editions::check(finder, seed, number, tally)
+    editions::check(finder, seed, number, tally)?;
+    shelves::check(finder, seed, number, tally)
 }

@@ -1,6 +1,6 @@
 //! What both finders offer: every call, with lent tables and one form of reply.
 
-use crate::calls::{self, Counted, PlaceTables, Reply};
+use crate::calls::{self, Comparison, Counted, PlaceTables, Reply};
 use crate::circuit::{Edition, Role};
 use crate::load::Numbers;
 
@@ -86,6 +86,8 @@ pub trait Finder {
     ) -> Words;
     fn merge_second(&self, pattern: &[u8], classes: &mut [u8], out: &mut [u8]) -> Words;
     fn convert(&self, role: Role, from: Edition, file: &[u8], out: &mut [u8]) -> Words;
+    fn compare(&self, first: &[u8], second: &[u8]) -> Words;
+    fn shelf(&self, bytes: &[u8], lengths: &[u32], order: &mut [u8]) -> Words;
 }
 
 /// The edition that is not this one.
@@ -119,6 +121,13 @@ impl From<Counted> for Words {
             word(counts.struck),
             word(counts.rounds),
         ]
+    }
+}
+
+impl From<Comparison> for Words {
+    fn from(reply: Comparison) -> Words {
+        let (file, which) = (reply.file.code(), reply.which);
+        [reply.number, file, which, reply.order, 0, 0]
     }
 }
 
@@ -254,5 +263,13 @@ impl Finder for Second {
 
     fn convert(&self, role: Role, from: Edition, file: &[u8], out: &mut [u8]) -> Words {
         calls::convert(role, from, other(from), file, out).into()
+    }
+
+    fn compare(&self, first: &[u8], second: &[u8]) -> Words {
+        calls::compare(first, second).into()
+    }
+
+    fn shelf(&self, bytes: &[u8], lengths: &[u32], order: &mut [u8]) -> Words {
+        calls::shelve(bytes, lengths, order).into()
     }
 }

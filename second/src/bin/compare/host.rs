@@ -27,6 +27,15 @@ struct Counts {
     rounds: u32,
 }
 
+/// The reply of a comparison.
+#[repr(C)]
+struct Comparison {
+    number: u32,
+    file: u32,
+    which: u32,
+    order: u32,
+}
+
 /// Reads a file in one role.
 type Read = unsafe extern "C" fn(
     *const u8,
@@ -52,6 +61,20 @@ type Write = unsafe extern "C" fn(
 ) -> Reply;
 
 extern "C" {
+    fn heronditch_compare_2(
+        first: *const u8,
+        first_length: usize,
+        second: *const u8,
+        second_length: usize,
+    ) -> Comparison;
+    fn heronditch_shelf_2(
+        bytes: *const u8,
+        bytes_length: usize,
+        lengths: *const u32,
+        lengths_length: usize,
+        order: *mut u8,
+        order_length: usize,
+    ) -> Reply;
     fn heronditch_read_pattern(
         file: *const u8,
         file_length: usize,
@@ -747,5 +770,25 @@ impl Finder for Host {
             (Role::Board, Edition::Second) => heronditch_convert_board_21,
         };
         unsafe { convert(given(file), file.len(), lent(out), out.len()) }.words()
+    }
+
+    fn compare(&self, first: &[u8], second: &[u8]) -> Words {
+        let (one, other) = (given(first), given(second));
+        let reply = unsafe { heronditch_compare_2(one, first.len(), other, second.len()) };
+        [reply.number, reply.file, reply.which, reply.order, 0, 0]
+    }
+
+    fn shelf(&self, bytes: &[u8], lengths: &[u32], order: &mut [u8]) -> Words {
+        unsafe {
+            heronditch_shelf_2(
+                given(bytes),
+                bytes.len(),
+                given(lengths),
+                lengths.len(),
+                lent(order),
+                order.len(),
+            )
+        }
+        .words()
     }
 }

@@ -1,0 +1,16 @@
+-- How much of a file a program reads.
+use mathlib.Core.List.{List}
+use Prim.Native.Nat.{ℕ, _+_}
+use lib.ListN.{take}
+use Rattle.file_format.specs.declared.Edition.{Edition}
+use Rattle.file_format.specs.declared.Role.{Role}
+use Rattle.file_format.specs.Layout.{lengthOf}
+use Rattle.file_format.specs.Role.{maxNodes, maxLinks}
+
+-- a byte more than the longest file of an edition that is accepted in a role
+abbrev pub most : Edition → Role → ℕ
+most e r = lengthOf e (maxNodes r) (maxLinks r) + 1
+
+-- what is read of a file so
+abbrev pub cut : Edition → Role → List ℕ → List ℕ
+cut e r file = take (most e r) file

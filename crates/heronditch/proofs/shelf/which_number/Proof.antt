@@ -1,0 +1,22 @@
+-- `heronditch::shelf::which_number` meets its contract. Assumes nothing.
+use Rattle.call_compare.specs.Call.{whichNumber}
+use borrow.Author.Needs.{needs}
+use Rattle.heronditch.proofs.shelf.which_number.Statement.{statement}
+use Rattle.heronditch.proofs.shelf.which_number.Tie as tie
+
+enum-told : tie.Need-enum-told
+enum-told c = search needs
+
+enum-told-2 : tie.Need-enum-told-2
+enum-told-2 c = search needs
+
+returns : tie.Need-returns
+unfolding whichNumber
+returns c = rw (c .enum-told .given .1)
+
+returns-2 : tie.Need-returns-2
+unfolding whichNumber
+returns-2 c = rw (c .enum-told2 .given .1)
+
+pub which-number-spec : {M : Type 1} → statement M
+which-number-spec = tie.close (tie.spec enum-told enum-told-2 returns returns-2)

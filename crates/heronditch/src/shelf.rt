@@ -1,0 +1,88 @@
+// The comparison of two second-edition patterns, and a shelf of them.
+ghost use mathlib.Core.Path.{_≡_};
+ghost use Rattle.call_compare.specs.Call.{whichNumber, orderNumber, comparing};
+ghost use Rattle.call_shelf.specs.Shelf.{shelfReply, shelving};
+ghost use Rattle.heronditch.specs.Host.{slots, hostCompare, hostShelf};
+use crate::reply::Reply;
+use crate::reply::accepted;
+use crate::reply::refused;
+use call_compare::CompareAnswer;
+use call_compare::Which;
+use call_shelf::ShelfAnswer;
+use order::Order;
+
+// The same as a reply without values, with which of the two files is meant (1 the first, 2 the second) and the order found (1 less, 2 equal,
+// 3 greater).
+#[repr(C)]
+pub struct Comparison {
+    pub number: u32,
+    pub file: u32,
+    pub which: u32,
+    pub order: u32,
+}
+
+// The number that stands for one of two files.
+fn which_number(which: Which) -> u32
+    ensures { λ r. ⌜ r ≡ whichNumber which ⌝ }
+{
+    match which {
+        Which::First => 1,
+        Which::Second => 2,
+    }
+}
+
+// The number that stands for an order.
+fn order_number(order: Order) -> u32
+    ensures { λ r. ⌜ r ≡ orderNumber order ⌝ }
+{
+    match order {
+        Order::Less => 1,
+        Order::Equal => 2,
+        Order::Greater => 3,
+    }
+}
+
+fn of_compare(answer: CompareAnswer) -> Comparison
+    ensures { λ r. ⌜ r ≡ hostCompare answer ⌝ }
+{
+    match answer {
+        CompareAnswer::Compared(order) => Comparison {
+            number: 0,
+            file: 0,
+            which: 0,
+            order: order_number(order),
+        },
+        CompareAnswer::Refused(x, which) => {
+            let reply = refused(x);
+            Comparison {
+                number: reply.number,
+                file: reply.file,
+                which: which_number(which),
+                order: 0,
+            }
+        }
+    }
+}
+
+fn of_shelf(answer: ShelfAnswer) -> Reply
+    ensures { λ r. ⌜ r ≡ slots (shelfReply answer) ⌝ }
+{
+    match answer {
+        ShelfAnswer::Ordered(count) => accepted(count, 0),
+        ShelfAnswer::Refused(x) => refused(x),
+    }
+}
+
+#[no_mangle]
+pub extern "C" fn heronditch_compare_2(first: &[u8], second: &[u8]) -> Comparison
+    ensures { λ r. ⌜ r ≡ hostCompare (comparing (now (first .entry)) (now (second .entry))) ⌝ }
+{
+    of_compare(call_compare::compare(first, second))
+}
+
+#[no_mangle]
+pub extern "C" fn heronditch_shelf_2(bytes: &[u8], lengths: &[u32], order: &mut [u8]) -> Reply
+    ensures { λ r. ⌜ record { reply = r; out = now (order .exit) } ≡ hostShelf (shelving (now (bytes .entry)) (now (lengths .entry)) (now (order .entry))) ⌝ }
+{
+    of_shelf(call_shelf::shelf(bytes, lengths, order))
+}

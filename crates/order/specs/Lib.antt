@@ -1,0 +1,4 @@
+pub mod Examples
+pub mod Meaning
+pub mod Order
+pub mod Sorting

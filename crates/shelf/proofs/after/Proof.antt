@@ -1,0 +1,44 @@
+-- `shelf::after` meets its contract. Assumes nothing.
+use Prim.Native.Nat.{_≤_}
+use native.Mathlib.Omega.{arith}
+use Rattle.shelf.specs.Printing.{mostBytes}
+use borrow.Author.Needs.{needs}
+use Rattle.shelf.proofs.after.Statement.{statement}
+use Rattle.shelf.proofs.after.Tie as tie
+
+-- what was read has room
+room : (c : tie.After-known-told) → c .before .found .given .0 .0 ≤ mostBytes
+room c = let h = rw (c .before .found .given .1) at (c .before .before .before .pre .1) in h
+
+enum-known-found : tie.Need-enum-known-found
+enum-known-found c = search needs
+
+add-t5 : tie.Need-add-t5
+add-t5 c = omega (arith, room c)
+
+enum-told : tie.Need-enum-told
+enum-told c = search needs
+
+enum-told-2 : tie.Need-enum-told-2
+enum-told-2 c = search needs
+
+returns : tie.Need-returns
+returns c = (rw (c .before .found .given .1), (omega arith, omega (arith, room c)))
+
+returns-2 : tie.Need-returns-2
+returns-2 c = (rw (c .enum-told .given .1), tt)
+
+returns-3 : tie.Need-returns-3
+returns-3 c = (rw (c .enum-told2 .given .1), tt)
+
+pub after-spec : {M : Type 1} → statement M
+after-spec =
+    tie.close
+    (tie.spec
+    enum-known-found
+    add-t5
+    enum-told
+    enum-told-2
+    returns
+    returns-2
+    returns-3)

@@ -1,0 +1,120 @@
+-- `shelf::print_shelf` meets its contract. The lines that are handed on are the text of the files. Assumes nothing.
+use mathlib.Core.List.{List}
+use mathlib.Core.Path.{_≡_, sym, ap, _∙_}
+use Prim.Native.Nat.{ℕ, _≤_}
+use native.Mathlib.Omega.{arith}
+use denote.Ref.{now}
+use lib.ListN.{length, take}
+use lib.Seq.{length-take-le}
+use Rattle.base_text.specs.Text.{Fits}
+use Rattle.base_text.proofs.Text.{put-whole, put-length}
+use Rattle.shelf_strings.specs.Strings.{cutInto}
+use Rattle.shelf_text.specs.Text.{shelfText}
+use Rattle.call_shelf.specs.Shelf.{shelfOf}
+use Rattle.shelf.specs.Printing.{textOf}
+use Rattle.shelf.proofs.Printing.{ordered-numbers, ordered-few, text-room, text-front, text-size}
+use borrow.Author.Needs.{needs}
+use Rattle.shelf.proofs.print_shelf.Statement.{statement}
+use Rattle.shelf.proofs.print_shelf.Tie as tie
+
+abbrev call : tie.After-answer → tie.After-shelf
+call c = c .before .before .before .before
+
+abbrev start : tie.After-shelf → tie.Start
+start c = c .before .before .before .before .before .before
+
+abbrev files : tie.After-shelf → List (List ℕ)
+files c = cutInto (now (start c .args .bytes)) (now (start c .args .lengths))
+
+abbrev count : tie.After-answer → ℕ
+count c = c .answer .given .0 .0
+
+abbrev table : tie.After-answer → List ℕ
+table c = call c .shelf .last .1 .1 .0
+
+-- the numbers at the front of the table are the shelf's
+numbers : (c : tie.After-answer) → take (count c) (table c) ≡ shelfOf (files (call c))
+numbers c = ordered-numbers _ _ _ _ _ (start (call c) .pre .0) (call c .shelf .ensures) _ (c .answer .given .1) .1
+
+few : (c : tie.After-answer) → count c ≡ length (shelfOf (files (call c)))
+few c = ordered-numbers _ _ _ _ _ (start (call c) .pre .0) (call c .shelf .ensures) _ (c .answer .given .1) .0
+
+size : (c : tie.After-answer) → length (take (count c) (table c)) ≡ count c
+size c = ap length (numbers c) ∙ sym (few c)
+
+room : (c : tie.After-answer) → count c ≤ length (table c)
+room c = omega (arith, few c, ordered-few (now (start (call c) .args .bytes)) (now (start (call c) .args .lengths)), start (call c) .pre .0, start (call c) .pre .1, call c .shelf .kept .1 .1 .0)
+
+fits : (c : tie.After-answer) → Fits (now (start (call c) .args .out)) 0 (shelfText (take (count c) (table c)))
+fits c = text-room _ _ (omega (arith, size c, few c, ordered-few (now (start (call c) .args .bytes)) (now (start (call c) .args .lengths)), start (call c) .pre .0, start (call c) .pre .2))
+
+shelf-requires : tie.Need-shelf-requires
+shelf-requires c κs = search needs
+
+enum-known-answer : tie.Need-enum-known-answer
+enum-known-answer c = search needs
+
+enum-told : tie.Need-enum-told
+enum-told c = search needs
+
+same-length : tie.Need-same-length
+same-length c = search needs
+
+returns : tie.Need-returns
+returns c = search needs
+
+slice-reshare-prefix-put-numbers : tie.Need-slice-reshare-prefix-put-numbers
+slice-reshare-prefix-put-numbers c = room (c .before)
+
+slice-aggregate-put-numbers : tie.Need-slice-aggregate-put-numbers
+slice-aggregate-put-numbers c = sym (size (c .before .before))
+
+put-numbers-requires : tie.Need-put-numbers-requires
+put-numbers-requires c κs = fits (c .before .before .before)
+
+slice-reshare-prefix-hand : tie.Need-slice-reshare-prefix-hand
+slice-reshare-prefix-hand c =
+    let put = c .before .before in
+    let a = put .before .before .before .before in
+    text-size (put .put-numbers .ensures) (fits a)
+
+slice-aggregate-hand : tie.Need-slice-aggregate-hand
+slice-aggregate-hand c =
+    let put = c .before .before .before in
+    let a = put .before .before .before .before in
+    sym (length-take-le _ _ (text-size (put .put-numbers .ensures) (fits a)))
+
+hand-requires : tie.Need-hand-requires
+unfolding textOf
+hand-requires c κs =
+    let put = c .before .before .before in
+    let a = put .before .before .before .before in
+    text-front (put .put-numbers .ensures) (fits a) ∙ ap shelfText (numbers a)
+
+same-length-2 : tie.Need-same-length-2
+same-length-2 c = search needs
+
+same-length-3 : tie.Need-same-length-3
+same-length-3 c = search needs
+
+returns-2 : tie.Need-returns-2
+returns-2 c = search needs
+
+pub print-shelf-spec : {M : Type 1} → statement M
+print-shelf-spec =
+    tie.close
+    (tie.spec
+    shelf-requires
+    enum-known-answer
+    enum-told
+    same-length
+    returns
+    slice-reshare-prefix-put-numbers
+    slice-aggregate-put-numbers
+    put-numbers-requires
+    slice-reshare-prefix-hand
+    slice-aggregate-hand
+    hand-requires
+    same-length-2
+    same-length-3
+    returns-2)
