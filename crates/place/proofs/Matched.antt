@@ -28,10 +28,12 @@ use Rattle.graph.proofs.Reached.{bfs-listed}
 use Rattle.table.specs.Fill.{listed, marksOf, Distinct, NodeList}
 use Rattle.table.specs.Prepared.{succOf, predOf, Tables, masksOf, Prepared}
 use Rattle.place.specs.Match.{ballOf, distancesOf, matches, matchStarts, matchEnds, component}
-use Rattle.place.specs.Spread.{meeting, matched, Spread}
+use Rattle.graph_follow.specs.Follow.{meeting}
+use Rattle.graph_follow.proofs.Following.{meeting-occurs}
+use Rattle.place.specs.Spread.{matched, Spread}
 use Rattle.place.proofs.Links.{match-kept, match-within}
 use Rattle.place.proofs.Masks.{MaskTable, mask-table, matches-forward, matches-backward}
-use Rattle.place.proofs.Spread.{meeting-occurs, matched-below, spread-ball}
+use Rattle.place.proofs.Spread.{matched-below, spread-ball}
 
 -- the masks that the table layer prepares are such tables
 masks-hold : (n : ℕ) (keys values masks : List ℕ) → n ≤ 32 → masks ≡ masksOf 32 keys values → Below n keys → MaskTable keys values masks
