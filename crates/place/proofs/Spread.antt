@@ -1,8 +1,8 @@
 -- The search for the component: its steps on tables, the loop's invariant, and that what it reaches is what walks join to the centre.
 -- Assumes nothing.
-use mathlib.Core.Bool.{Bool}
+use mathlib.Core.Bool.{Bool, true, false, _&&_, not}
 use mathlib.Core.List.{List, [], _∷_}
-use mathlib.Core.Logic.{_↔_, ⊎-elim}
+use mathlib.Core.Logic.{_↔_, inl, inr, ⊎-elim}
 use mathlib.Core.Path.{_≡_, refl, sym, ap, _∙_, subst}
 use Prim.Native.Nat.{ℕ, zero, suc, _+_, _≤_, _<_}
 use native.Mathlib.Nat.{le-refl, le-step, zero-lt-suc, not-suc-le-zero, le-of-suc-le-suc}
@@ -11,7 +11,7 @@ use lib.Dec.{T}
 use lib.ListN.{length, getD}
 use lib.Seq.{getD-take}
 use Rattle.base_lists.specs.List.{Occurs, Below}
-use Rattle.base_lists.proofs.Tests.{T-true, true-T}
+use Rattle.base_lists.proofs.Tests.{both, both-left, both-right, T-true, true-T}
 use Rattle.base_bits.specs.Bits.{unionOver}
 use Rattle.graph.specs.Bfs.{State, scan, start, Ready, Adjacency, stateOf}
 use Rattle.graph.specs.Circuit.{HasLink}
@@ -158,6 +158,61 @@ module _ (n c : ℕ) (adj : ℕ → List ℕ) where
         near = g .listed .near;
         complete = λ v h. g .listed .complete v (subst (λ m. v < m) (g .ready .size) h);
       }
+
+-- what is reached from a node is reached from each node that is, where links are followed either way
+pub spread-from :
+    {n c : ℕ} {adj : ℕ → List ℕ} {Link : ℕ → ℕ → Type 0} {dist : List ℕ} → Adjacency n adj Link → Spread n c adj dist → (x : ℕ) → x < n → Reached dist x →
+    Spread n x adj dist
+unfolding Below
+spread-from {n} {c} {adj} {Link} {dist} a g x h f =
+    record {
+      size = g .size;
+      centre = f;
+      closed = g .closed;
+      least = λ p t closed v m r. go p t closed (p c) refl v m r;
+    }
+  where
+    back : (v w : ℕ) → v < n → Occurs (adj v) w → (w < n) × Occurs (adj w) v
+    back v w m o =
+        let l : w < n = subst (λ (y : ℕ). y < n) (o .2) (a .inside v m (o .0) (o .1)) in
+        (l, a .joined w v l .1 (⊎-elim inr inl (a .joined v w m .0 o)))
+
+    clash : (b : Bool) → T (not b) → T b → ⊥
+    clash true t u = t
+    clash false t u = u
+
+    others : (p : ℕ → Bool) → ClosedSet n adj p → ClosedSet n adj (λ v. not (p v))
+    others p closed v w m t o = at (p w) refl
+      where
+        at : (b : Bool) → p w ≡ b → T (not b)
+        at false e = tt
+        at true e = let (l, o′) = back v w m o in absurd (clash (p v) t (closed w v l (true-T e) o′))
+
+    go : (p : ℕ → Bool) → T (p x) → ClosedSet n adj p → (b : Bool) → p c ≡ b → (v : ℕ) → v < n → Reached dist v → T (p v)
+    go p t closed true e v m r = g .least p (true-T e) closed v m r
+    go p t closed false e v m r =
+        let other : T (not (p x)) = g .least (λ y. not (p y)) (true-T (ap not e)) (others p closed) x h f in
+        absurd (clash (p x) other t)
+
+-- What is reached along one adjacency is reached along another, where the two list the same for the nodes of a set that has the centre and, with a
+-- node, what is listed for it.
+pub spread-agree :
+    {n c : ℕ} {adj adj′ : ℕ → List ℕ} {dist : List ℕ} (p : ℕ → Bool) → T (p c) → ClosedSet n adj p →
+    ((v w : ℕ) → v < n → T (p v) → Occurs (adj v) w ↔ Occurs (adj′ v) w) → c < n → Spread n c adj dist → Spread n c adj′ dist
+spread-agree {n} {c} {adj} {adj′} {dist} p t closed same h g =
+    record {
+      size = g .size;
+      centre = g .centre;
+      closed = λ v w m r o. g .closed v w m r (same v w m (g .least p t closed v m r) .1 o);
+      least =
+          λ q s closed′ v m r.
+          both-left (q v) (p v)
+          (g .least (λ x. q x && p x) (both (q c) (p c) s t)
+          (λ x y l a o.
+          let b = both-right (q x) (p x) a in
+          both (q y) (p y) (closed′ x y l (both-left (q x) (p x) a) (same x y l b .0 o)) (closed x y l b o))
+          v m r);
+    }
 
 -- ---- what it reaches
 
