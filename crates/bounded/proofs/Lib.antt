@@ -1,0 +1,4 @@
+pub mod Paths
+pub mod Kept
+pub mod Meaning
+pub mod Wider
