@@ -1,4 +1,3 @@
 pub mod Paths
-pub mod Kept
 pub mod Meaning
 pub mod Wider

@@ -26,7 +26,7 @@ use Rattle.table.proofs.Agreement.{agrees-kinds}
 use Rattle.bounded.specs.Path.{PathWithin}
 use Rattle.bounded.specs.Simulation.{BoundedGraph, BoundedSimulation, LargestBounded}
 use Rattle.bounded.specs.Problem.{Bounds, boundedGraph, ofBound, within, Label, labelled, everyLabel, boundedProblem, boundedTable}
-use Rattle.bounded.proofs.Kept.{kept-iff}
+use Rattle.graph.proofs.Chosen.{kept-iff}
 use Rattle.bounded.proofs.Paths.{Near, within-wider, within-along, within-iff}
 
 -- ---- links and moves
