@@ -28,4 +28,4 @@ at-fit bounds f =
     (λ i h. let (a, b) = f i h in both (leb 1 (getD bounds i 0)) (leb (getD bounds i 0) 4) (le→leb 1 (getD bounds i 0) a) (le→leb (getD bounds i 0) 4 b)))
 
 pub not-fit : (bounds : List ℕ) (i : ℕ) → i < length bounds → (Fits bounds i → ⊥) → boundsFit bounds ≡ false
-not-fit bounds i h no = T-false (λ t. no (fit-at bounds t i h))
+not-fit bounds i h outside = T-false (λ t. outside (fit-at bounds t i h))
