@@ -58,7 +58,12 @@ fn match_on(
 // Matches the pattern of a third-edition file, connected or not, on the whole board of another file: a link of the pattern with bound h is met
 // by a directed path of 1 to h links of the board. The four counts, with the largest such set at the front of the table, a 32-bit number per
 // node, which is all 0 where some part is left without a node; or the refusal, which leaves the table as it was.
-pub fn match_bounds(edition: Edition, pattern: &[u8], board: &[u8], table: &mut [u32]) -> TableAnswer
+pub fn match_bounds(
+    edition: Edition,
+    pattern: &[u8],
+    board: &[u8],
+    table: &mut [u32],
+) -> TableAnswer
     ensures { λ r. ⌜ record { reply = replyOf r; table = now (table .exit) }
         ≡ boundedMatching (now (pattern .entry)) (inEdition edition (now (board .entry))) (now (table .entry)) ⌝ }
 {

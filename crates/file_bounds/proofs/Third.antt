@@ -12,13 +12,17 @@ use borrow.Author.Tests.{lt-ltb, le-ltb, eq-eqb, ne-eqb, eqb-true, ltb-false}
 use Rattle.base_lists.specs.List.{all}
 use Rattle.base_lists.proofs.Tests.{true-T, T-true}
 use Rattle.file_format.specs.declared.Edition.the-variants.{Second}
+use Rattle.graph.specs.Circuit.{Circuit}
+use Rattle.file_format.specs.declared.FileRead.{FileRead}
+use Rattle.file_format.specs.declared.FileVerdict.the-variants as verdict
 use Rattle.file_format.specs.declared.Refusal.{Refusal}
 use Rattle.file_format.specs.declared.Role.the-variants.{AnyPattern}
 use Rattle.file_format.specs.Layout.{CircuitFile, inEdition, field, fields, lengthOf, nodesOf, linksOf, startsOf, endsOf}
 use Rattle.file_format.specs.Refusals.{Condition, Verdict, accept, refuse, first, linkConditions, fileConditions, sizeNumber, Accepted}
+use Rattle.file_format.specs.Reading.{verdictOf}
 use Rattle.file_format.specs.Role.{inRange, fileOf}
-use Rattle.file_format.proofs.Refusals.{turned, byNumber, verdict-number, verdict-links, size-0, first-accept, first-refuse, first-parts, accepted}
-use Rattle.file_bounds.specs.Third.{boundsAt, boundedLength, frontOf, boundsOf, boundsFit, boundOutside, thirdConditions, thirdSize}
+use Rattle.file_format.proofs.Refusals.{turned, turned-accept, byNumber, verdict-number, verdict-links, size-0, first-accept, first-refuse, first-parts, accepted}
+use Rattle.file_bounds.specs.Third.{boundsAt, boundedLength, frontOf, boundsOf, boundsFit, boundOutside, thirdConditions, thirdSize, BoundsLoaded}
 
 module _ (bytes : List ℕ) where
   -- ---- the size, as the code tests it
@@ -113,3 +117,10 @@ module _ (bytes : List ℕ) where
         go : (v : Verdict) → first (fileConditions AnyPattern (frontOf bytes)) ≡ v → v ≡ first links → first rest ≡ first (fileConditions AnyPattern (frontOf bytes) ++ (boundOutside (boundsOf bytes) ∷ []))
         go accept e q = first-accept links _ (sym q) ∙ sym (first-accept (fileConditions AnyPattern (frontOf bytes)) _ e)
         go (refuse x) e q = first-refuse links _ x (sym q) ∙ sym (first-refuse (fileConditions AnyPattern (frontOf bytes)) _ x e)
+
+-- ---- as the reader answers
+
+pub turned-loaded : (bytes : List ℕ) (read : FileRead) (tables : Circuit) (bounds : List ℕ) (k : ℕ)
+    → read .verdict ≡ verdict.Refused (record { number = k; file = fileOf AnyPattern }) → first (thirdConditions bytes) ≡ turned AnyPattern k → BoundsLoaded bytes read tables bounds
+unfolding verdictOf turned
+turned-loaded bytes read tables bounds k e v = record { verdict = rw e (sym v); held = λ a. absurd (turned-accept AnyPattern k _ v a) }

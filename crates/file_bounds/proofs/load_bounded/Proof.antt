@@ -3,7 +3,9 @@ use mathlib.Core.Path.{_≡_, sym, ap, _∙_}
 use native.Mathlib.Omega.{arith}
 use denote.Ref.{now}
 use Rattle.file_bounds.specs.Third.{thirdSize}
-use Rattle.file_bounds.proofs.Third.{third-sized}
+use Rattle.file_bounds.proofs.Third.{third-sized, third-turned, turned-loaded}
+use Rattle.file_format.specs.declared.Role.the-variants.{AnyPattern}
+use Rattle.file_format.proofs.Refusals.{turned}
 use borrow.Author.Needs.{needs}
 use Rattle.file_bounds.proofs.load_bounded.Statement.{statement}
 use Rattle.file_bounds.proofs.load_bounded.Tie as tie
@@ -27,7 +29,9 @@ turned-away-requires c κs = search needs
 
 -- src/lib.rt:84:9
 returns : tie.Need-returns
-returns c = ?
+returns c =
+    let number = c .before .before .size-number .ensures in
+    turned-loaded _ _ _ _ _ (c .turned-away .ensures) (third-turned _ (λ e. c .before .if1 .taken (number ∙ e)) ∙ ap (turned AnyPattern) (sym number))
 
 -- src/lib.rt:86:13
 field-at-requires : tie.Need-field-at-requires
