@@ -17,14 +17,20 @@
  * Kinds: a part of kind 0 matches a node of every kind; a node of kind 0, which is not identified, is matched by such a part only; any other
  * part matches the nodes of its own kind.
  *
- * Numbers of refusal. Where several hold, the pattern's 1 to 6 come first, then its 11, then the board's 1 to 5, then 7, 10, 8 and 9:
+ * Editions: a circuit file of the first edition has kinds, a file of the second has packages too, 16 bits each, N of them, between kinds and
+ * starts, and is 4 + 4 N + 4 M bytes long. A part then matches a node only where the packages are the same number, kind 0 included; a file of
+ * the first edition counts as having all packages 0. The calls read the first edition; those whose names end in _2, or in two digits, read
+ * the second: of two digits the first is the pattern's edition and the second the board's, or that of the old file and that of the new.
+ *
+ * Numbers of refusal. Where several hold, the pattern's 1 to 6 come first, then its 11, then the board's 1 to 5, then 7, 10, 12, 8 and 9:
  *   1  a file of under 4 bytes                         6  the pattern is not connected
  *   2  the number of nodes or links out of range       7  the centre is not a node of the board
- *   3  a length that is not 4 + 2 N + 4 M;             8  a lent table is too short
- *      on writing, not as many ends as starts          9  no place around the centre
- *   4  a link to or from a node that is not there     10  a number of a test load out of its range
- *   5  links that do not rise strictly,               11  the pattern's radius is above HERONDITCH_RADIUS: two of its parts
- *      by start and then by end                           are farther apart, which is a mistake in its drawing
+ *   3  a length that is not the edition's;             8  a lent table is too short
+ *      on writing, not as many ends as starts,         9  no place around the centre
+ *      or not as many packages as kinds               10  a number of a test load out of its range
+ *   4  a link to or from a node that is not there     11  the pattern's radius is above HERONDITCH_RADIUS: two of its parts
+ *   5  links that do not rise strictly,                   are farther apart, which is a mistake in its drawing
+ *      by start and then by end                       12  converting to the first edition, a package other than 0
  */
 #ifndef HERONDITCH_H
 #define HERONDITCH_H
@@ -55,6 +61,10 @@ extern "C" {
 #define HERONDITCH_NODES 512
 #define HERONDITCH_BOARD_LINKS 4096
 #define HERONDITCH_BOARD_BYTES (4 + 2 * HERONDITCH_NODES + 4 * HERONDITCH_BOARD_LINKS)
+
+/* the same of the second edition */
+#define HERONDITCH_PATTERN_BYTES_2 (4 + 4 * HERONDITCH_PARTS + 4 * HERONDITCH_PATTERN_LINKS)
+#define HERONDITCH_BOARD_BYTES_2 (4 + 4 * HERONDITCH_NODES + 4 * HERONDITCH_BOARD_LINKS)
 
 /* no line of a report is longer: what is lent for it has room for this many bytes */
 #define HERONDITCH_LINE_BYTES 34829
@@ -153,6 +163,44 @@ heronditch_reply heronditch_load(uint32_t seed, uint32_t n, uint32_t m, uint32_t
  * files are accepted and out has not HERONDITCH_LINE_BYTES, or a file is refused and out has not 20. */
 heronditch_piece heronditch_report(const uint8_t *pattern, size_t pattern_len, const uint8_t *board, size_t board_len, size_t from,
                                    uint16_t found, uint8_t *out, size_t out_len);
+
+/* ---- files of the second edition: what is not said here is as in the call of the same name without its digits */
+
+/* Reads a second-edition file: N kinds, N packages, M link starts and M link ends. Replies with N and M. */
+heronditch_reply heronditch_read_pattern_2(const uint8_t *file, size_t file_len, uint16_t *kinds, size_t kinds_len, uint16_t *packages,
+                                           size_t packages_len, uint16_t *starts, size_t starts_len, uint16_t *ends, size_t ends_len);
+heronditch_reply heronditch_read_board_2(const uint8_t *file, size_t file_len, uint16_t *kinds, size_t kinds_len, uint16_t *packages,
+                                         size_t packages_len, uint16_t *starts, size_t starts_len, uint16_t *ends, size_t ends_len);
+
+/* Writes the second-edition file of a circuit, 4 + 4 N + 4 M bytes. Replies with that length. */
+heronditch_reply heronditch_write_pattern_2(const uint16_t *kinds, size_t kinds_len, const uint16_t *packages, size_t packages_len,
+                                            const uint16_t *starts, size_t starts_len, const uint16_t *ends, size_t ends_len, uint8_t *out,
+                                            size_t out_len);
+heronditch_reply heronditch_write_board_2(const uint16_t *kinds, size_t kinds_len, const uint16_t *packages, size_t packages_len,
+                                          const uint16_t *starts, size_t starts_len, const uint16_t *ends, size_t ends_len, uint8_t *out,
+                                          size_t out_len);
+
+heronditch_reply heronditch_radius_2(const uint8_t *pattern, size_t pattern_len);
+heronditch_reply heronditch_ball_2(const uint8_t *board, size_t board_len, size_t centre, uint16_t radius, uint16_t *out, size_t out_len);
+
+/* Matches a pattern on a board: pattern of the first edition and board of the second, the other way round, and both of the second. */
+heronditch_counts heronditch_match_12(const uint8_t *pattern, size_t pattern_len, const uint8_t *board, size_t board_len, uint32_t *table,
+                                      size_t table_len);
+heronditch_counts heronditch_match_21(const uint8_t *pattern, size_t pattern_len, const uint8_t *board, size_t board_len, uint32_t *table,
+                                      size_t table_len);
+heronditch_counts heronditch_match_22(const uint8_t *pattern, size_t pattern_len, const uint8_t *board, size_t board_len, uint32_t *table,
+                                      size_t table_len);
+
+/* Merges the parts of a second-edition pattern. A merged part has its class's package; the merged file is of the second edition. */
+heronditch_reply heronditch_merge_2(const uint8_t *pattern, size_t pattern_len, uint8_t *classes, size_t classes_len, uint8_t *out,
+                                    size_t out_len);
+
+/* Converts a file from the first edition to the second (12) or from the second to the first (21), and keeps the circuit: 4 + 4 N + 4 M or
+ * 4 + 2 N + 4 M bytes. Checks what reading in the role checks, then 12. Replies with the new file's length. */
+heronditch_reply heronditch_convert_pattern_12(const uint8_t *file, size_t file_len, uint8_t *out, size_t out_len);
+heronditch_reply heronditch_convert_pattern_21(const uint8_t *file, size_t file_len, uint8_t *out, size_t out_len);
+heronditch_reply heronditch_convert_board_12(const uint8_t *file, size_t file_len, uint8_t *out, size_t out_len);
+heronditch_reply heronditch_convert_board_21(const uint8_t *file, size_t file_len, uint8_t *out, size_t out_len);
 
 #ifdef __cplusplus
 }

@@ -1,9 +1,12 @@
 #!/usr/bin/env python3
 """Turns circuits written as text into .cir files and back.
 
-  circuit.py make [--as ROLE] TEXT OUT.cir   write the file of a text
+  circuit.py make [--as ROLE] [--edition first|second] [--without-packages]
+                  TEXT OUT.cir
+                                             write the file of a text
   circuit.py show FILE.cir                   print a text that makes the file
   circuit.py tell [--distance] TEXT [REPORT] print a report with a board's names
+  circuit.py convert FILE.cir OUT.cir        write the file in the other edition
 
 The text has one statement a line; '#' begins a comment, and the order of
 statements is free:
@@ -12,6 +15,8 @@ statements is free:
   node NAME KIND       a node and its kind, a number or a name for one
   node NAME any        a part of a pattern that matches a node of every kind
   node NAME unidentified   a node of a board that only such a part matches
+  package NAME NUMBER  a name for a package, a number from 0 to 65535
+  node NAME KIND PACKAGE   a node with a package, a number or a name for one
   NAME -> NAME         a link from the node that drives to the one driven
   NAME <- NAME         the same link written from its other end
   NAME <-> NAME        a link each way
@@ -21,6 +26,11 @@ Nodes are numbered from 0 in the order of their 'node' lines. Links are sorted.
 Numbers are decimal, or hexadecimal after 0x. A name has no white space and
 none of '#', '<' and '>'. 'kind' and 'node' name no node, and a name for a kind
 does not begin with a digit.
+
+The file is of the second edition where a node has a package, and else of the
+first; --edition says otherwise. A node without one has package 0. The first
+edition has no place for a package other than 0; --without-packages leaves all
+packages out.
 
 With --as pattern or --as board the circuit must also fit that role: a pattern
 has 1 to 32 nodes, at most 256 links, is connected and has radius 12 at most; a
@@ -41,7 +51,7 @@ MOST = 65535
 LIMITS = {"pattern": (1, 32, 256), "bits": (1, 32, 256), "board": (0, 512, 4096)}
 WIDEST = 12  # the largest radius of a pattern
 ZERO = {"any": "pattern", "unidentified": "board"}  # the names of kind 0, and the role each is for
-STATEMENTS = "expected 'kind NAME NUMBER', 'node NAME KIND' or 'NAME -> NAME'"
+STATEMENTS = "expected 'kind NAME NUMBER', 'package NAME NUMBER', 'node NAME KIND' or 'NAME -> NAME'"
 
 
 class Faults(Exception):
@@ -52,16 +62,17 @@ class Faults(Exception):
 
 
 class Circuit:
-    """The names and kinds of the nodes, and the links, sorted."""
+    """The names and kinds of the nodes, their packages (None: of the first edition), and the links, sorted."""
 
-    def __init__(self, names, kinds, links):
+    def __init__(self, names, kinds, links, packages=None):
         self.names = names
         self.kinds = kinds
         self.links = sorted(links)
+        self.packages = packages
 
     def file(self):
         """The bytes of the .cir file."""
-        fields = [len(self.kinds), len(self.links), *self.kinds]
+        fields = [len(self.kinds), len(self.links), *self.kinds, *(self.packages or [])]
         fields += [start for start, _ in self.links]
         fields += [end for _, end in self.links]
         return struct.pack(f"<{len(fields)}H", *fields)
@@ -80,7 +91,7 @@ def number_of(word):
 
 def good_name(name):
     """Whether a word can name a node or a kind."""
-    return not set(name) & set("#<>") and name not in ("kind", "node")
+    return not set(name) & set("#<>") and name not in ("kind", "node", "package")
 
 
 class Reader:
@@ -92,7 +103,8 @@ class Reader:
         self.line = 0
         self.faults = []
         self.kinds = {}  # name: (number, line)
-        self.nodes = {}  # name: (kind as written, line)
+        self.packages = {}  # name: (number, line)
+        self.nodes = {}  # name: (kind and package as written, line); no package is None
         self.links = []  # (start, end, line), the nodes by name
 
     def fault(self, message, line=None):
@@ -108,6 +120,8 @@ class Reader:
             self.link_line(words)
         elif words[0] == "kind":
             self.kind_line(words)
+        elif words[0] == "package":
+            self.package_line(words)
         elif words[0] == "node":
             self.node_line(words)
         elif any(set(word) & set("<>") for word in words):
@@ -132,17 +146,33 @@ class Reader:
         else:
             self.kinds[name] = (number, self.line)
 
-    def node_line(self, words):
-        """node NAME KIND"""
+    def package_line(self, words):
+        """package NAME NUMBER"""
         if len(words) != 3:
-            return self.fault("expected 'node NAME KIND'")
-        _, name, kind = words
+            return self.fault("expected 'package NAME NUMBER'")
+        _, name, word = words
+        number = number_of(word)
+        if name[0].isdigit() or not good_name(name):
+            self.fault(f"'{name}' can't name a package")
+        elif number is None or number > MOST:
+            self.fault(f"'{word}' is not a number from 0 to {MOST}")
+        elif name in self.packages:
+            self.fault(f"package '{name}' is named twice, first in line {self.packages[name][1]}")
+        else:
+            self.packages[name] = (number, self.line)
+
+    def node_line(self, words):
+        """node NAME KIND, and maybe PACKAGE"""
+        if len(words) not in (3, 4):
+            return self.fault("expected 'node NAME KIND' or 'node NAME KIND PACKAGE'")
+        name, kind = words[1:3]
+        package = words[3] if len(words) == 4 else None
         if not good_name(name):
             self.fault(f"'{name}' can't name a node")
         elif name in self.nodes:
             self.fault(f"node '{name}' is named twice, first in line {self.nodes[name][1]}")
         else:
-            self.nodes[name] = (kind, self.line)
+            self.nodes[name] = ((kind, package), self.line)
 
     def link_line(self, words):
         """NAME ARROW NAME, and further arrows and names"""
@@ -162,7 +192,7 @@ class Reader:
 
     def kind_number(self, name):
         """The number of a node's kind, 0 if it has none."""
-        word, line = self.nodes[name]
+        (word, _), line = self.nodes[name]
         number = number_of(word)
         if word in ZERO:
             role = "pattern" if self.role == "bits" else self.role
@@ -173,6 +203,20 @@ class Reader:
             return self.kinds[word][0]
         if number is None:
             self.fault(f"no kind is named '{word}'", line)
+        elif number > MOST:
+            self.fault(f"'{word}' is not a number from 0 to {MOST}", line)
+        else:
+            return number
+        return 0
+
+    def package_number(self, name):
+        """The number of a node's package, 0 if it has none."""
+        (_, word), line = self.nodes[name]
+        number = 0 if word is None else number_of(word)
+        if number is None and word in self.packages:
+            return self.packages[word][0]
+        if number is None:
+            self.fault(f"no package is named '{word}'", line)
         elif number > MOST:
             self.fault(f"'{word}' is not a number from 0 to {MOST}", line)
         else:
@@ -198,13 +242,15 @@ class Reader:
         """The circuit of all that was read."""
         names = list(self.nodes)
         kinds = [self.kind_number(name) for name in names]
+        packages = [self.package_number(name) for name in names]
+        told = any(package is not None for (_, package), _ in self.nodes.values())
         links = self.numbered_links({name: number for number, name in enumerate(names)})
         for what, count in (("nodes", len(names)), ("links", len(links))):
             if count > MOST:
                 self.fault(f"{count} {what}, and a file holds at most {MOST}")
         if self.faults:
             raise Faults([f"{self.name}:{line}: {text}" for line, text in sorted(self.faults)])
-        return Circuit(names, kinds, links)
+        return Circuit(names, kinds, links, packages if told else None)
 
 
 def read_text(text, name, role=None):
@@ -290,12 +336,14 @@ def read_file(data, name):
     if len(data) < 4:
         raise Faults([f"{name}: {len(data)} bytes, and a circuit file has at least 4"])
     nodes, links = struct.unpack_from("<HH", data)
-    length = 4 + 2 * nodes + 4 * links
-    if len(data) != length:
-        raise Faults([f"{name}: {len(data)} bytes, and a circuit file of "
-                      f"{nodes} nodes and {links} links has {length}"])
-    fields = struct.unpack(f"<{nodes + 2 * links}H", data[4:])
-    kinds, starts, ends = fields[:nodes], fields[nodes:nodes + links], fields[nodes + links:]
+    first, second = 4 + 2 * nodes + 4 * links, 4 + 4 * nodes + 4 * links
+    if len(data) not in (first, second):
+        raise Faults([f"{name}: {len(data)} bytes, and a circuit file of {nodes} nodes and "
+                      f"{links} links has {first}, or {second} in the second edition"])
+    packed = nodes if len(data) != first else 0
+    fields = struct.unpack(f"<{nodes + packed + 2 * links}H", data[4:])
+    kinds, packages, fields = fields[:nodes], fields[nodes:nodes + packed], fields[nodes + packed:]
+    starts, ends = fields[:links], fields[links:]
     pairs = list(zip(starts, ends))
     for number, (start, end) in enumerate(pairs):
         if max(start, end) >= nodes:
@@ -304,13 +352,14 @@ def read_file(data, name):
         if one >= next_one:
             raise Faults([f"{name}: link {number}, {next_one[0]}-{next_one[1]}, "
                           f"does not come after {one[0]}-{one[1]}"])
-    return Circuit([f"n{number}" for number in range(nodes)], list(kinds), pairs)
+    return Circuit([f"n{number}" for number in range(nodes)], list(kinds), pairs, list(packages) or None)
 
 
 def text_of(circuit):
     """A text that makes the circuit's file."""
     lines = [f"# {len(circuit.kinds)} nodes, {len(circuit.links)} links"]
-    lines += [f"node {name} {kind}" for name, kind in zip(circuit.names, circuit.kinds)]
+    packages = [""] * len(circuit.kinds) if circuit.packages is None else [f" {p}" for p in circuit.packages]
+    lines += [f"node {name} {kind}{p}" for name, kind, p in zip(circuit.names, circuit.kinds, packages)]
     links = set(circuit.links)
     for start, end in circuit.links:
         two_way = start != end and (end, start) in links
@@ -355,11 +404,25 @@ def named(word, names):
     return "->".join(names[int(number)] for number in word.split("-"))
 
 
+def in_edition(circuit, edition, path):
+    """The circuit for a file of an edition."""
+    if edition == "second":
+        return Circuit(circuit.names, circuit.kinds, circuit.links, circuit.packages or [0] * len(circuit.kinds))
+    for name, package in zip(circuit.names, circuit.packages or []):
+        if package:
+            raise Faults([f"{path}: '{name}' has package {package}, and the first edition has none"])
+    return Circuit(circuit.names, circuit.kinds, circuit.links)
+
+
 def make(arguments):
     """The command 'make'."""
     circuit = load_text(arguments.text, arguments.role)
     if arguments.role:
         check_role(circuit, arguments.role, arguments.text)
+    if arguments.plain:
+        circuit = Circuit(circuit.names, circuit.kinds, circuit.links)
+    if arguments.edition:
+        circuit = in_edition(circuit, arguments.edition, arguments.text)
     with open(arguments.out, "wb") as file:
         file.write(circuit.file())
 
@@ -378,6 +441,16 @@ def tell(arguments):
         sys.stdout.write(told(file.read(), circuit, arguments.distance))
 
 
+def convert(arguments):
+    """The command 'convert'."""
+    with open(arguments.file, "rb") as file:
+        circuit = read_file(file.read(), arguments.file)
+    edition = "first" if circuit.packages is not None else "second"
+    circuit = in_edition(circuit, edition, arguments.file)
+    with open(arguments.out, "wb") as file:
+        file.write(circuit.file())
+
+
 def command_line():
     """The parser of the command line."""
     summary, form = __doc__.split("\n\n", 1)
@@ -386,9 +459,15 @@ def command_line():
     commands = parser.add_subparsers(required=True, metavar="COMMAND")
     one = commands.add_parser("make", help="write the .cir file of a text")
     one.add_argument("--as", dest="role", choices=sorted(LIMITS), help="demand that the circuit fits this role")
+    one.add_argument("--without-packages", dest="plain", action="store_true", help="leave the packages out")
+    one.add_argument("--edition", choices=("first", "second"), help="write the file in this edition")
     one.add_argument("text", metavar="TEXT")
     one.add_argument("out", metavar="OUT.cir")
     one.set_defaults(run=make)
+    one = commands.add_parser("convert", help="write a .cir file in the other edition")
+    one.add_argument("file", metavar="FILE.cir")
+    one.add_argument("out", metavar="OUT.cir")
+    one.set_defaults(run=convert)
     one = commands.add_parser("show", help="print a text that makes a .cir file")
     one.add_argument("file", metavar="FILE.cir")
     one.set_defaults(run=show)

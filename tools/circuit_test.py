@@ -28,6 +28,8 @@ GOOD = [
     ("the largest kind", "node x 65535", "01000000ffff"),
     ("a self-link", "node x 7\nx -> x", "01000100070000000000"),
     ("two ways", "node x 1\nnode y 2\nx <-> y", "02000200" "01000200" "00000100" "01000000"),
+    ("packages", "package SOT 3\nnode a 10 SOT\nnode b 20\nnode c 30 0xffff\na -> b -> c",
+     "030002000a0014001e00" "03000000ffff" "0000010001000200"),
     ("odd names", "node +9V 1\nnode Q1.b 2\nnode ü 3\nkind R:10k 4\nnode - R:10k\n"
      "+9V -> Q1.b\nü <- -", "04000200" "0100020003000400" "00000300" "01000200"),
 ]
@@ -35,7 +37,12 @@ GOOD = [
 # Texts that make no file, and what is said, line numbers included.
 BAD = [
     ("node a", ["1: expected 'node NAME KIND'"]),
-    ("node a 1 2", ["1: expected 'node NAME KIND'"]),
+    ("node a 1 2 3", ["1: expected 'node NAME KIND' or 'node NAME KIND PACKAGE'"]),
+    ("node a 1 x", ["1: no package is named 'x'"]),
+    ("node a 1 65536", ["1: '65536' is not a number from 0 to 65535"]),
+    ("package p", ["1: expected 'package NAME NUMBER'"]),
+    ("package 1p 5", ["1: '1p' can't name a package"]),
+    ("package p 1\npackage p 2", ["2: package 'p' is named twice, first in line 1"]),
     ("\nnode a x", ["2: no kind is named 'x'"]),
     ("node a 65536", ["1: '65536' is not a number from 0 to 65535"]),
     ("node a -1", ["1: no kind is named '-1'"]),
@@ -181,6 +188,28 @@ def test_files(folder):
     check("a board of the largest size", made == data)
 
 
+def test_editions(folder):
+    """A file of one edition is made in the other where nothing is lost."""
+    one, two = folder / "one.cir", folder / "two.cir"
+    first, second = bytes.fromhex(T_FILE), bytes.fromhex(T_FILE[:20] + "0000" * 3 + T_FILE[20:])
+    done, made = file_of(folder, GOOD[0][1], "--edition", "second")
+    check("T in the second edition", made == second, done)
+    one.write_bytes(first)
+    done = run("convert", one, two)
+    check("to the second edition", two.read_bytes() == second, done)
+    done = run("convert", two, one)
+    check("and back", one.read_bytes() == first, done)
+    packed = GOOD[-2][1]
+    done, made = file_of(folder, packed, "--edition", "first")
+    check("a package in the first edition", made is None and "'a' has package 3, and the first edition has none" in done.stderr, done)
+    done, made = file_of(folder, packed, "--without-packages")
+    check("without packages", made == first, done)
+    two.write_bytes(bytes.fromhex(GOOD[-2][2]))
+    done = run("convert", two, folder / "three.cir")
+    lost = done.returncode == 1 and not (folder / "three.cir").exists()
+    check("a package that would be lost", lost and "'n0' has package 3" in done.stderr, done)
+
+
 def test_tell(folder):
     """A report is told by names, from a file and from standard input."""
     text, report = folder / "board.txt", folder / "report.txt"
@@ -207,7 +236,7 @@ def test_calls(folder):
 def main():
     """Runs all tests."""
     with tempfile.TemporaryDirectory() as name:
-        for test in (test_good, test_bad, test_roles, test_files, test_tell, test_calls):
+        for test in (test_good, test_bad, test_roles, test_files, test_editions, test_tell, test_calls):
             test(pathlib.Path(name))
     if failures:
         sys.exit(f"{len(failures)} failed")

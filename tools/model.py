@@ -5,6 +5,7 @@ The vectors that the proved programs are run on are made from it (cases.py). It 
 from collections import namedtuple
 
 Circuit = namedtuple("Circuit", "kinds starts ends")
+Packed = namedtuple("Packed", "kinds starts ends packages")  # of a second-edition file
 
 LIMITS = {"pattern": (1, 32, 256), "board": (0, 512, 4096)}  # least N, most N, most M
 
@@ -17,8 +18,16 @@ def fields(data, at, count):
     return [field(data, at + 2 * i) for i in range(count)]
 
 
-def encode(circuit):
-    numbers = [len(circuit.kinds), len(circuit.starts), *circuit.kinds, *circuit.starts, *circuit.ends]
+def packages(circuit):
+    """A package for each node: a circuit of a first-edition file counts as having all packages 0."""
+    return list(circuit.packages) if isinstance(circuit, Packed) else [0] * len(circuit.kinds)
+
+
+def encode(circuit, edition=1):
+    numbers = [len(circuit.kinds), len(circuit.starts), *circuit.kinds]
+    if edition == 2:
+        numbers += packages(circuit)
+    numbers += [*circuit.starts, *circuit.ends]
     return b"".join(bytes((x % 256, x // 256)) for x in numbers)
 
 
@@ -80,22 +89,25 @@ def out_of_range(role, n, m):
     return not (least <= n <= most and m <= most_links)
 
 
-def parse(role, data):
-    """A circuit, or the number of the first of the conditions 1 to 6 and 11 that holds."""
-    circuit = parse_in_bits(role, data)
+def parse(role, data, edition=1):
+    """The circuit of a file of an edition, or the number of the first of the conditions 1 to 6 and 11 that holds."""
+    circuit = parse_in_bits(role, data, edition)
     return circuit if isinstance(circuit, int) else shape_refusal(role, circuit) or circuit
 
 
-def parse_in_bits(role, data):
-    """A circuit, connected or not, or the number of the first of the conditions 1 to 5 that holds."""
+def parse_in_bits(role, data, edition=1):
+    """The circuit, connected or not, or the number of the first of the conditions 1 to 5 that holds."""
     if len(data) < 4:
         return 1
     n, m = field(data, 0), field(data, 2)
     if out_of_range(role, n, m):
         return 2
-    if len(data) != 4 + 2 * n + 4 * m:
+    at = 4 + 2 * n if edition == 1 else 4 + 4 * n  # where the starts begin
+    if len(data) != at + 4 * m:
         return 3
-    circuit = Circuit(fields(data, 4, n), fields(data, 4 + 2 * n, m), fields(data, 4 + 2 * n + 2 * m, m))
+    circuit = Circuit(fields(data, 4, n), fields(data, at, m), fields(data, at + 2 * m, m))
+    if edition == 2:
+        circuit = Packed(*circuit, fields(data, 4 + 2 * n, n))
     return link_refusal(role, circuit) or circuit
 
 
@@ -109,6 +121,20 @@ def read(role, data, kinds, starts, ends):
         return ("refused", 8, "neither")
     kinds[:n], starts[:m], ends[:m] = circuit.kinds, circuit.starts, circuit.ends
     return ("read", n, m)
+
+
+def convert(role, edition, new_edition, data, out):
+    """The reply of the converter; out is a list of bytes that it fills in place."""
+    circuit = parse(role, data, edition)
+    if isinstance(circuit, int):
+        return ("refused", circuit, role)
+    if new_edition == 1 and any(packages(circuit)):
+        return ("refused", 12, role)
+    new = encode(circuit, new_edition)
+    if len(out) < len(new):
+        return ("refused", 8, "neither")
+    out[:len(new)] = new
+    return ("converted", len(new))
 
 
 def radius(data):
@@ -157,8 +183,9 @@ def agree(part, node):
 
 
 def start_set(pattern, board):
-    """R0: the pairs (part, node) that agree."""
-    return {(u, v) for u, k in enumerate(pattern.kinds) for v, j in enumerate(board.kinds) if agree(k, j)}
+    """R0: the pairs (part, node) whose kinds agree and whose packages are the same number."""
+    parts, nodes = (list(enumerate(zip(circuit.kinds, packages(circuit)))) for circuit in (pattern, board))
+    return {(u, v) for u, (k, p) in parts for v, (j, q) in nodes if agree(k, j) and p == q}
 
 
 def directed(circuit):
@@ -204,12 +231,12 @@ def largest(pattern, board):
         doubtful = {(x, w) for u, v in struck for parts, nodes in ways for x in parts[u] for w in nodes[v]}
 
 
-def match_table(pattern_data, board_data, table):
+def match_table(pattern_data, board_data, table, editions=(1, 1)):
     """The reply of the whole-board call; the table is a list that it fills in place. The pattern may be in several bits."""
-    pattern = parse_in_bits("pattern", pattern_data)
+    pattern = parse_in_bits("pattern", pattern_data, editions[0])
     if isinstance(pattern, int):
         return ("refused", pattern, "pattern")
-    board = parse("board", board_data)
+    board = parse("board", board_data, editions[1])
     if isinstance(board, int):
         return ("refused", board, "board")
     n = len(board.kinds)

@@ -2,8 +2,11 @@
 //! its whole result or a refusal, and only then fills what was lent; entries
 //! past those needed keep their content.
 
-use crate::circuit::{both, both_in_bits, gather, parse, Circuit, File, Refusal, Role};
-use crate::graph::{radius as radius_of, within};
+use crate::circuit::{
+    both, both_in_bits, gather, gather_second, parse, parse_in, Circuit, Edition, File, Refusal,
+    Role,
+};
+use crate::graph::{radius as radius_of, within, Subgraph};
 use crate::load::{load as load_of, Numbers};
 use crate::merged::merged;
 use crate::place::{place as place_of, Place};
@@ -124,9 +127,71 @@ pub fn write(role: Role, kinds: &[u16], starts: &[u16], ends: &[u16], out: &mut 
     }))
 }
 
+/// Reads a second-edition file in a role; replies with N and M.
+pub fn read_second(
+    role: Role,
+    file: &[u8],
+    kinds: &mut [u16],
+    packages: &mut [u16],
+    starts: &mut [u16],
+    ends: &mut [u16],
+) -> Reply {
+    either(parse_in(Edition::Second, role, file).and_then(|circuit| {
+        let (n, m) = (circuit.kinds.len(), circuit.links.len());
+        let nodes = [(kinds.len(), n), (packages.len(), n)];
+        long_enough(&nodes)?;
+        long_enough(&[(starts.len(), m), (ends.len(), m)])?;
+        fill(kinds, circuit.kinds.iter().copied());
+        fill(packages, circuit.all_packages());
+        fill(starts, circuit.links.iter().map(|link| field(link.0)));
+        fill(ends, circuit.links.iter().map(|link| field(link.1)));
+        Ok(Reply::accepted(n, m))
+    }))
+}
+
+/// Writes a second-edition file in a role; replies with its length.
+pub fn write_second(
+    role: Role,
+    kinds: &[u16],
+    packages: &[u16],
+    starts: &[u16],
+    ends: &[u16],
+    out: &mut [u8],
+) -> Reply {
+    either(
+        gather_second(role, kinds, packages, starts, ends).and_then(|circuit| {
+            let bytes = circuit.bytes_in(Edition::Second);
+            long_enough(&[(out.len(), bytes.len())])?;
+            fill(out, bytes.iter().copied());
+            Ok(Reply::accepted(bytes.len(), 0))
+        }),
+    )
+}
+
+/// Converts a file from one edition to another in a role; replies with the new
+/// file's length. The first edition has no place for a package other than 0.
+pub fn convert(role: Role, from: Edition, to: Edition, file: &[u8], out: &mut [u8]) -> Reply {
+    either(parse_in(from, role, file).and_then(|circuit| {
+        let packed = circuit.packages.iter().any(|&package| package != 0);
+        if to == Edition::First && packed {
+            return Err(role.refuses(12));
+        }
+        let bytes = circuit.bytes_in(to);
+        long_enough(&[(out.len(), bytes.len())])?;
+        fill(out, bytes.iter().copied());
+        Ok(Reply::accepted(bytes.len(), 0))
+    }))
+}
+
 /// Replies with a pattern's radius.
 pub fn radius(pattern: &[u8]) -> Reply {
-    either(parse(Role::Pattern, pattern).map(|circuit| Reply::accepted(radius_of(&circuit), 0)))
+    radius_in(Edition::First, pattern)
+}
+
+/// Replies with the radius of a pattern of an edition.
+pub fn radius_in(edition: Edition, pattern: &[u8]) -> Reply {
+    let circuit = parse_in(edition, Role::Pattern, pattern);
+    either(circuit.map(|circuit| Reply::accepted(radius_of(&circuit), 0)))
 }
 
 /// The distances in a ball as a lent table has them, 65,535 outside it.
@@ -138,7 +203,18 @@ fn entries(board: &Circuit, centre: usize, radius: usize) -> Vec<u16> {
 /// Fills the distance of each board node from the centre, 65,535 outside the
 /// ball; replies with N.
 pub fn ball(board: &[u8], centre: usize, radius: u16, out: &mut [u16]) -> Reply {
-    either(parse(Role::Board, board).and_then(|board| {
+    ball_in(Edition::First, board, centre, radius, out)
+}
+
+/// The same on a board of an edition.
+pub fn ball_in(
+    edition: Edition,
+    board: &[u8],
+    centre: usize,
+    radius: u16,
+    out: &mut [u16],
+) -> Reply {
+    either(parse_in(edition, Role::Board, board).and_then(|board| {
         let n = board.kinds.len();
         inside(centre, &board)?;
         long_enough(&[(out.len(), n)])?;
@@ -158,13 +234,25 @@ fn inside(centre: usize, board: &Circuit) -> Result<(), Refusal> {
 /// Fills the match table on the whole board; replies with the counts. The
 /// pattern may be in several bits.
 pub fn match_table(pattern: &[u8], board: &[u8], table: &mut [u32]) -> Counted {
-    either(both_in_bits(pattern, board).and_then(|(pattern, board)| {
-        let n = board.kinds.len();
-        long_enough(&[(table.len(), n)])?;
-        let (pairs, counts) = on_board(&pattern, &board);
-        fill(table, (0..n).map(|v| pairs.word(v)));
-        Ok(Counted::accepted(counts))
-    }))
+    match_in([Edition::First; 2], pattern, board, table)
+}
+
+/// The same on files each of its edition.
+pub fn match_in(
+    editions: [Edition; 2],
+    pattern: &[u8],
+    board: &[u8],
+    table: &mut [u32],
+) -> Counted {
+    either(
+        both_in_bits(editions, pattern, board).and_then(|(pattern, board)| {
+            let n = board.kinds.len();
+            long_enough(&[(table.len(), n)])?;
+            let (pairs, counts) = on_board(&pattern, &board);
+            fill(table, (0..n).map(|v| pairs.word(v)));
+            Ok(Counted::accepted(counts))
+        }),
+    )
 }
 
 /// What the two place calls fill: a byte per board node, a byte per board
@@ -245,21 +333,28 @@ fn found(
 /// Fills the class of each part and the merged file; replies with the number
 /// of classes and that file's length.
 pub fn merge(pattern: &[u8], classes: &mut [u8], out: &mut [u8]) -> Reply {
-    either(parse(Role::Pattern, pattern).and_then(|circuit| {
-        long_enough(&[
-            (classes.len(), circuit.kinds.len()),
-            (out.len(), pattern.len()),
-        ])?;
-        let (class, merged) = merged(&circuit);
-        let bytes = merged.bytes();
-        let (count, length) = (merged.kinds.len(), bytes.len());
-        fill(
-            classes,
-            class.into_iter().map(|c| u8::try_from(c).expect("a byte")),
-        );
-        fill(out, bytes);
-        Ok(Reply::accepted(count, length))
-    }))
+    merge_in(Edition::First, pattern, classes, out)
+}
+
+/// The same on a pattern of an edition; the merged file is of that edition.
+pub fn merge_in(edition: Edition, pattern: &[u8], classes: &mut [u8], out: &mut [u8]) -> Reply {
+    either(
+        parse_in(edition, Role::Pattern, pattern).and_then(|circuit| {
+            long_enough(&[
+                (classes.len(), circuit.kinds.len()),
+                (out.len(), pattern.len()),
+            ])?;
+            let (class, merged) = merged(&circuit);
+            let bytes = merged.bytes_in(edition);
+            let (count, length) = (merged.kinds.len(), bytes.len());
+            fill(
+                classes,
+                class.into_iter().map(|c| u8::try_from(c).expect("a byte")),
+            );
+            fill(out, bytes);
+            Ok(Reply::accepted(count, length))
+        }),
+    )
 }
 
 /// Makes the test load of four numbers; replies with its file's length. The

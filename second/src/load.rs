@@ -60,6 +60,7 @@ pub fn load(numbers: Numbers) -> Circuit {
     }
     Circuit {
         kinds,
+        packages: Vec::new(),
         links: links.into_iter().collect(),
     }
 }

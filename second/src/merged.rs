@@ -19,6 +19,7 @@ pub fn merged(pattern: &Circuit) -> (Vec<usize>, Circuit) {
     let links: BTreeSet<_> = links.map(|&(u, t)| (classes[u], classes[t])).collect();
     let circuit = Circuit {
         kinds: heads.iter().map(|&head| pattern.kinds[head]).collect(),
+        packages: heads.iter().map(|&head| pattern.package(head)).collect(),
         links: links.into_iter().collect(),
     };
     (classes, circuit)

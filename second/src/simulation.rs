@@ -14,6 +14,12 @@ pub fn agree(part: u16, node: u16) -> bool {
     }
 }
 
+/// Whether a part and a node are equal: their kinds agree and their packages
+/// are the same number, kind 0 included.
+pub fn equal(pattern: &Circuit, part: usize, board: &Circuit, node: usize) -> bool {
+    agree(pattern.kinds[part], board.kinds[node]) && pattern.package(part) == board.package(node)
+}
+
 /// A set of pairs: `rows[u][v]` says whether it has (part u, node v).
 #[derive(Clone, Debug, PartialEq, Eq)]
 pub struct Pairs {
@@ -23,13 +29,12 @@ pub struct Pairs {
 impl Pairs {
     /// R0: the pairs that agree, over the nodes of a subgraph of the board.
     pub fn first(pattern: &Circuit, board: &Circuit, graph: &Subgraph) -> Pairs {
-        let row = |&part: &u16| {
-            let nodes = board.kinds.iter().zip(&graph.nodes);
-            let meant = |(&node, &taken): (&u16, &bool)| taken && agree(part, node);
-            nodes.map(meant).collect()
+        let row = |u: usize| {
+            let meant = |v: usize| graph.nodes[v] && equal(pattern, u, board, v);
+            (0..board.kinds.len()).map(meant).collect()
         };
         Pairs {
-            rows: pattern.kinds.iter().map(row).collect(),
+            rows: (0..pattern.kinds.len()).map(row).collect(),
         }
     }
 

@@ -217,6 +217,7 @@ fn tiny(random: &mut Random, least: usize, most: usize, most_links: usize) -> Ci
     links.dedup();
     Circuit {
         kinds: (0..n).map(|_| random.below(kinds) as u16).collect(),
+        packages: Vec::new(),
         links,
     }
 }

@@ -4,7 +4,7 @@
 //! in limits, orders and tables.
 
 use second::calls::PlaceTables;
-use second::circuit::{both, both_in_bits, parse, Circuit, Role};
+use second::circuit::{both, both_in_bits, parse, parse_in, Circuit, Edition, Role};
 use second::compare::finder::{Finder, Second, Words};
 use second::compare::tally::Tally;
 use second::compare::{case, edges};
@@ -56,12 +56,12 @@ enum Fault {
     RadiusCut,
     KindCut,
     AnyPartFindsNone,
-    SixOnTheBoard,
-    PartsLeftOut,
-    ClearedRound,
     OutsideAtZero,
     DistanceInThePlace,
     DistancePastTheBall,
+    SixOnTheBoard,
+    PartsLeftOut,
+    ClearedRound,
     SelfLinksIgnored,
     WritingCut,
     WritingUneven,
@@ -78,9 +78,12 @@ enum Fault {
     LoadNoKinds,
     LoadNoNodes,
     LoadNamesBoard,
+    // Of the editions.
+    PackagesIgnored,
+    PackagesDropped,
 }
 
-const FAULTS: [Fault; 57] = [
+const FAULTS: [Fault; 59] = [
     Fault::OneRound,
     Fault::EveryLink,
     Fault::MergedRadius,
@@ -117,12 +120,12 @@ const FAULTS: [Fault; 57] = [
     Fault::RadiusCut,
     Fault::KindCut,
     Fault::AnyPartFindsNone,
-    Fault::SixOnTheBoard,
-    Fault::PartsLeftOut,
-    Fault::ClearedRound,
     Fault::OutsideAtZero,
     Fault::DistanceInThePlace,
     Fault::DistancePastTheBall,
+    Fault::SixOnTheBoard,
+    Fault::PartsLeftOut,
+    Fault::ClearedRound,
     Fault::SelfLinksIgnored,
     Fault::WritingCut,
     Fault::WritingUneven,
@@ -138,6 +141,8 @@ const FAULTS: [Fault; 57] = [
     Fault::LoadNoKinds,
     Fault::LoadNoNodes,
     Fault::LoadNamesBoard,
+    Fault::PackagesIgnored,
+    Fault::PackagesDropped,
 ];
 
 /// The second finder with a planted fault.
@@ -604,6 +609,75 @@ impl Finder for Faulty {
     fn load(&self, numbers: Numbers, out: &mut [u8]) -> Words {
         self.load_call(numbers, out)
     }
+
+    fn read_second(
+        &self,
+        role: Role,
+        file: &[u8],
+        kinds: &mut [u16],
+        packages: &mut [u16],
+        starts: &mut [u16],
+        ends: &mut [u16],
+    ) -> Words {
+        Second.read_second(role, file, kinds, packages, starts, ends)
+    }
+
+    fn write_second(
+        &self,
+        role: Role,
+        kinds: &[u16],
+        packages: &[u16],
+        starts: &[u16],
+        ends: &[u16],
+        out: &mut [u8],
+    ) -> Words {
+        Second.write_second(role, kinds, packages, starts, ends, out)
+    }
+
+    fn radius_second(&self, pattern: &[u8]) -> Words {
+        Second.radius_second(pattern)
+    }
+
+    fn ball_second(&self, board: &[u8], centre: usize, radius: u16, out: &mut [u16]) -> Words {
+        Second.ball_second(board, centre, radius, out)
+    }
+
+    fn match_in(
+        &self,
+        editions: [Edition; 2],
+        pattern: &[u8],
+        board: &[u8],
+        table: &mut [u32],
+    ) -> Words {
+        if self.0 == Fault::PackagesIgnored {
+            let without = |edition, role, file: &[u8]| match parse_in(edition, role, file) {
+                Ok(circuit) => (Edition::First, circuit.bytes()),
+                Err(_) => (edition, file.to_vec()),
+            };
+            let (a, pattern) = without(editions[0], Role::Pattern, pattern);
+            let (b, board) = without(editions[1], Role::Board, board);
+            return Second.match_in([a, b], &pattern, &board, table);
+        }
+        Second.match_in(editions, pattern, board, table)
+    }
+
+    fn merge_second(&self, pattern: &[u8], classes: &mut [u8], out: &mut [u8]) -> Words {
+        Second.merge_second(pattern, classes, out)
+    }
+
+    fn convert(&self, role: Role, from: Edition, file: &[u8], out: &mut [u8]) -> Words {
+        let words = Second.convert(role, from, file, out);
+        if self.0 != Fault::PackagesDropped || words[0] != 12 {
+            return words;
+        }
+        let circuit = parse_in(from, role, file).expect("a sound file");
+        let bytes = circuit.bytes();
+        if out.len() < bytes.len() {
+            return [8, 0, 0, 0, 0, 0];
+        }
+        out[..bytes.len()].copy_from_slice(&bytes);
+        [0, 0, bytes.len() as u32, 0, 0, 0]
+    }
 }
 
 /// A load's bytes as a faulty generator makes them.
@@ -642,7 +716,12 @@ fn faulty_load(fault: Fault, numbers: Numbers) -> Vec<u8> {
         let mut seen = std::collections::BTreeSet::new();
         links.retain(|&link| seen.insert(link));
     }
-    Circuit { kinds, links }.bytes()
+    Circuit {
+        kinds,
+        packages: Vec::new(),
+        links,
+    }
+    .bytes()
 }
 
 impl Faulty {
@@ -673,7 +752,8 @@ impl Faulty {
 
 /// The whole-board call without the rule that every part has a node.
 fn plain_row(pattern: &[u8], board: &Circuit, table: &mut [u32]) -> Words {
-    let (pattern, _) = both_in_bits(pattern, &board.bytes()).expect("accepted files");
+    let (pattern, _) =
+        both_in_bits([Edition::First; 2], pattern, &board.bytes()).expect("accepted files");
     let (pairs, counts) = largest(&pattern, board, &Subgraph::whole(board));
     for (v, entry) in table.iter_mut().enumerate().take(board.kinds.len()) {
         *entry = pairs.word(v);

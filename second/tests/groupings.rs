@@ -55,6 +55,7 @@ fn made(pattern: &Circuit, grouping: &[usize]) -> Circuit {
     links.dedup();
     Circuit {
         kinds: (0..count(grouping)).map(kind).collect(),
+        packages: Vec::new(),
         links,
     }
 }
@@ -135,6 +136,7 @@ fn circuits(nodes: usize, kinds: u32) -> impl Iterator<Item = Circuit> {
     (0..kinds.pow(nodes as u32)).flat_map(move |kinds| {
         (0..1 << (nodes * nodes)).map(move |links| Circuit {
             kinds: drawn(kinds),
+            packages: Vec::new(),
             links: linked(links),
         })
     })
@@ -163,6 +165,7 @@ fn random_patterns_on_random_boards() {
         links.dedup();
         Circuit {
             kinds: (0..nodes).map(|_| random.below(2) as u16).collect(),
+            packages: Vec::new(),
             links,
         }
     };

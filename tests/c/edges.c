@@ -137,6 +137,87 @@ static void lengths(void)
     check(!memcmp(out, T, sizeof T) && out[sizeof T] == 0xA5 && classes[3] == 0xA5, "later bytes stay");
 }
 
+/* T with packages 3, 0 and 4, and with none, in the second edition */
+static const uint8_t T2[] = {3, 0, 2, 0, 10, 0, 20, 0, 30, 0, 3, 0, 0, 0, 4, 0, 0, 0, 1, 0, 1, 0, 2, 0};
+static const uint8_t T0[] = {3, 0, 2, 0, 10, 0, 20, 0, 30, 0, 0, 0, 0, 0, 0, 0, 0, 0, 1, 0, 1, 0, 2, 0};
+
+/* a conversion into as many bytes as are lent, of a buffer of 32: the reply, and what is past the new file */
+typedef heronditch_reply converter(const uint8_t *, size_t, uint8_t *, size_t);
+static void convert_with(converter *convert, const uint8_t *file, size_t size, size_t lent, uint32_t number, uint32_t meant, const uint8_t *want,
+                         size_t want_size, const char *what)
+{
+    uint8_t out[32];
+    memset(out, 0xA5, sizeof out);
+    check(is_reply(convert(file, size, out, lent), number, meant, number ? 0 : want_size, 0), what);
+    size_t filled = number ? 0 : want_size;
+    check(!memcmp(out, want, filled) && untouched(out, filled, sizeof out), what);
+}
+
+static void second_edition(void)
+{
+    check(is_reply(heronditch_read_pattern_2(NULL, 0, NULL, 0, NULL, 0, NULL, 0, NULL, 0), 1, HERONDITCH_PATTERN, 0, 0), "read_pattern_2 of nothing");
+    check(is_reply(heronditch_read_board_2(NULL, 0, NULL, 0, NULL, 0, NULL, 0, NULL, 0), 1, HERONDITCH_BOARD, 0, 0), "read_board_2 of nothing");
+    check(is_reply(heronditch_write_pattern_2(NULL, 0, NULL, 0, NULL, 0, NULL, 0, NULL, 0), 2, HERONDITCH_PATTERN, 0, 0), "write_pattern_2 of nothing");
+    check(is_reply(heronditch_write_board_2(NULL, 0, NULL, 0, NULL, 0, NULL, 0, NULL, 0), 8, HERONDITCH_NEITHER, 0, 0), "write_board_2 of nothing");
+    check(is_reply(heronditch_radius_2(NULL, 0), 1, HERONDITCH_PATTERN, 0, 0), "radius_2 of nothing");
+    check(is_reply(heronditch_radius_2(T2, sizeof T2), 0, HERONDITCH_NEITHER, 2, 0), "radius_2 of T");
+    check(is_reply(heronditch_radius_2(T, sizeof T), 3, HERONDITCH_PATTERN, 0, 0), "a first-edition file read as the second");
+    check(is_reply(heronditch_radius(T2, sizeof T2), 3, HERONDITCH_PATTERN, 0, 0), "a second-edition file read as the first");
+    check(is_reply(heronditch_merge_2(NULL, 0, NULL, 0, NULL, 0), 1, HERONDITCH_PATTERN, 0, 0), "merge_2 of nothing");
+    check(is_reply(heronditch_ball_2(NULL, 0, 0, 0, NULL, 0), 1, HERONDITCH_BOARD, 0, 0), "ball_2 of nothing");
+    uint16_t far[4] = {7, 7, 7, 7};
+    check(is_reply(heronditch_ball_2(T2, sizeof T2, 0, 1, far, 2), 8, HERONDITCH_NEITHER, 0, 0) && far[0] == 7, "one distance of ball_2 less");
+    check(is_reply(heronditch_ball_2(T2, sizeof T2, 3, 1, far, 3), 7, HERONDITCH_NEITHER, 0, 0), "ball_2 around no node");
+    check(is_reply(heronditch_ball_2(T2, sizeof T2, 0, 1, far, 4), 0, HERONDITCH_NEITHER, 3, 0) && far[0] == 0 && far[1] == 1 &&
+              far[2] == HERONDITCH_OUTSIDE && far[3] == 7,
+          "ball_2");
+    uint16_t kinds[4], packages[4], starts[3], ends[3];
+    for (size_t lent = 2; lent <= 4; lent++) {
+        memset(kinds, 0xA5, sizeof kinds);
+        memset(packages, 0xA5, sizeof packages);
+        memset(starts, 0xA5, sizeof starts);
+        memset(ends, 0xA5, sizeof ends);
+        heronditch_reply r = heronditch_read_pattern_2(T2, sizeof T2, kinds, 4, packages, lent, starts, 2, ends, 2);
+        if (lent < 3)
+            check(is_reply(r, 8, HERONDITCH_NEITHER, 0, 0) && untouched(kinds, 0, sizeof kinds) && untouched(packages, 0, sizeof packages) &&
+                      untouched(starts, 0, sizeof starts) && untouched(ends, 0, sizeof ends),
+                  "one package less");
+        else
+            check(is_reply(r, 0, HERONDITCH_NEITHER, 3, 2) && packages[0] == 3 && packages[1] == 0 && packages[2] == 4 &&
+                      untouched(packages, 6, sizeof packages) && untouched(kinds, 6, sizeof kinds),
+                  "packages read");
+    }
+    uint8_t out[sizeof T2 + 1];
+    memset(out, 0xA5, sizeof out);
+    check(is_reply(heronditch_write_pattern_2(kinds, 3, packages, 2, starts, 2, ends, 2, out, sizeof out), 3, HERONDITCH_PATTERN, 0, 0), "one package less to write");
+    check(is_reply(heronditch_write_pattern_2(kinds, 3, packages, 4, starts, 2, ends, 2, out, sizeof out), 3, HERONDITCH_PATTERN, 0, 0), "one package more to write");
+    check(is_reply(heronditch_write_pattern_2(kinds, 3, packages, 3, starts, 2, ends, 2, out, sizeof T2 - 1), 8, HERONDITCH_NEITHER, 0, 0), "one byte less to write");
+    check(untouched(out, 0, sizeof out), "nothing written");
+    check(is_reply(heronditch_write_pattern_2(kinds, 3, packages, 3, starts, 2, ends, 2, out, sizeof out), 0, HERONDITCH_NEITHER, sizeof T2, 0) &&
+              !memcmp(out, T2, sizeof T2) && out[sizeof T2] == 0xA5,
+          "T written with packages");
+    uint32_t table[4];
+    check(is_counts(heronditch_match_22(T2, sizeof T2, T2, sizeof T2, table, 3), 0, HERONDITCH_NEITHER, 3, 3, 0, 0), "T with packages on itself");
+    check(is_counts(heronditch_match_22(T2, sizeof T2, T2, sizeof T2, table, 2), 8, HERONDITCH_NEITHER, 0, 0, 0, 0), "match_22 with a short table");
+    check(is_counts(heronditch_match_12(T, sizeof T, T2, sizeof T2, table, 3), 0, HERONDITCH_NEITHER, 1, 0, 1, 1), "T without packages on T with some");
+    check(is_counts(heronditch_match_21(T2, sizeof T2, T, sizeof T, table, 3), 0, HERONDITCH_NEITHER, 1, 0, 1, 1), "T with packages on T without");
+    check(is_counts(heronditch_match_21(T0, sizeof T0, B, sizeof B, table, 4), 8, HERONDITCH_NEITHER, 0, 0, 0, 0), "match_21 with a short table");
+    check(is_counts(heronditch_match_12(NULL, 0, NULL, 0, NULL, 0), 1, HERONDITCH_PATTERN, 0, 0, 0, 0), "match_12 of nothing");
+    uint8_t classes[4] = {0xA5, 0xA5, 0xA5, 0xA5};
+    memset(out, 0xA5, sizeof out);
+    check(is_reply(heronditch_merge_2(T2, sizeof T2, classes, 3, out, sizeof T2 - 1), 8, HERONDITCH_NEITHER, 0, 0), "merge_2 with one byte less");
+    check(is_reply(heronditch_merge_2(T2, sizeof T2, classes, 4, out, sizeof out), 0, HERONDITCH_NEITHER, 3, sizeof T2), "T with packages merged");
+    check(!memcmp(out, T2, sizeof T2) && out[sizeof T2] == 0xA5 && classes[3] == 0xA5, "the merged file has the packages");
+    convert_with(heronditch_convert_pattern_12, T, sizeof T, sizeof T0, 0, HERONDITCH_NEITHER, T0, sizeof T0, "T to the second edition");
+    convert_with(heronditch_convert_board_12, T, sizeof T, 32, 0, HERONDITCH_NEITHER, T0, sizeof T0, "T to the second edition as a board");
+    convert_with(heronditch_convert_pattern_12, T, sizeof T, sizeof T0 - 1, 8, HERONDITCH_NEITHER, T0, 0, "one byte less to convert");
+    convert_with(heronditch_convert_pattern_21, T0, sizeof T0, sizeof T, 0, HERONDITCH_NEITHER, T, sizeof T, "and back");
+    convert_with(heronditch_convert_pattern_21, T2, sizeof T2, 32, 12, HERONDITCH_PATTERN, T, 0, "a package that would be lost");
+    convert_with(heronditch_convert_board_21, T2, sizeof T2, 0, 12, HERONDITCH_BOARD, T, 0, "12 comes before 8, and names the role's file");
+    convert_with(heronditch_convert_board_21, T2, sizeof T2 - 1, 32, 3, HERONDITCH_BOARD, T, 0, "3 comes before 12");
+    check(is_reply(heronditch_convert_pattern_12(NULL, 0, NULL, 0), 1, HERONDITCH_PATTERN, 0, 0), "convert nothing");
+}
+
 /* a small generator, the same on every machine */
 static uint32_t state = 1;
 static size_t draw(size_t below)
@@ -281,8 +362,8 @@ static size_t path_of(size_t parts, uint8_t *file)
 static void widths(void)
 {
     uint8_t twelve[256], thirteen[256], nodes[16], links[16];
+    uint16_t far[16];
     uint32_t table[16];
-    uint16_t distances[16];
     size_t len = path_of(13, twelve), wide = path_of(14, thirteen);
     check(is_reply(heronditch_radius(twelve, len), 0, HERONDITCH_NEITHER, HERONDITCH_RADIUS, 0), "radius 12");
     check(is_reply(heronditch_radius(thirteen, wide), 11, HERONDITCH_PATTERN, 0, 0), "radius 13");
@@ -296,9 +377,9 @@ static void widths(void)
     check(is_reply(heronditch_merge(thirteen, wide, NULL, 0, NULL, 0), 11, HERONDITCH_PATTERN, 0, 0), "11 comes before 8 in merging");
     check(is_counts(heronditch_place(thirteen, wide, NULL, 0, 0, NULL, 0, NULL, 0, NULL, 0, NULL, 0), 11, HERONDITCH_PATTERN, 0, 0, 0, 0),
           "11 comes before the board's 1");
-    check(is_counts(heronditch_place_within(thirteen, wide, thirteen, wide, 0, 2, nodes, 16, links, 16, table, 16, distances, 16), 11, HERONDITCH_PATTERN, 0, 0, 0, 0),
+    check(is_counts(heronditch_place_within(thirteen, wide, thirteen, wide, 0, 2, nodes, 16, links, 16, table, 16, far, 16), 11, HERONDITCH_PATTERN, 0, 0, 0, 0),
           "11 whatever radius is given");
-    check(is_counts(heronditch_place_within(twelve, len, thirteen, wide, 0, 13, nodes, 16, links, 16, table, 16, distances, 16), 0, HERONDITCH_NEITHER, 182, 26, 156, 12),
+    check(is_counts(heronditch_place_within(twelve, len, thirteen, wide, 0, 13, nodes, 16, links, 16, table, 16, far, 16), 0, HERONDITCH_NEITHER, 182, 26, 156, 12),
           "a radius of 13 given");
     memset(room, 0xA5, sizeof room);
     check(is_piece(heronditch_report(thirteen, wide, NULL, 0, 0, 0, room, 20), 0, 1, 0, 19) && !memcmp(room, "refused 11 pattern\n", 19) && untouched(room, 19, sizeof room),
@@ -312,6 +393,7 @@ int main(void)
     reports();
     loads();
     widths();
+    second_edition();
     lookups();
     printf("edges: %d checks, %d failed\n", checks, failed);
     return failed != 0;

@@ -10,17 +10,17 @@ use Rattle.graph.proofs.Distance.{length-distances}
 use Rattle.file_format.specs.declared.File.the-variants.{Neither}
 use Rattle.file_format.specs.declared.Refusal.{Refusal}
 use Rattle.file_format.specs.declared.Role.the-variants.{Pattern, Board}
-use Rattle.file_format.specs.Layout.{nodesOf, startsOf, endsOf}
+use Rattle.file_format.specs.Layout.{CircuitFile, nodesOf, startsOf, endsOf}
 use Rattle.file_format.specs.Reading.{filled, Stands}
 use Rattle.file_format.specs.Refusals.{accept, refuse, first, fileConditions, centreOutside, shortTable}
 use Rattle.file_format.specs.Reply.{reply}
-use Rattle.file_format.proofs.Fields.{length-kinds}
+use Rattle.file_format.proofs.Fields.{length-labels}
 use Rattle.file_format.proofs.Refusals.{first-accept, first-refuse}
 use Rattle.call_distance.specs.Calls.{radiusCall, ballConditions, ballEntries, ballCall}
 
 -- ---- the radius
 
-module _ (file : List ℕ) where
+module _ (file : CircuitFile) where
   pub radius-refused : (x : Refusal) → first (fileConditions Pattern file) ≡ refuse x → radiusCall file ≡ record { verdict = refuse x; values = [] }
   unfolding radiusCall reply
   radius-refused x e = rw e
@@ -32,7 +32,7 @@ module _ (file : List ℕ) where
 
 -- ---- the ball
 
-module _ (file : List ℕ) (centre r : ℕ) (out : List ℕ) where
+module _ (file : CircuitFile) (centre r : ℕ) (out : List ℕ) where
   pub ball-refused : (x : Refusal) → first (fileConditions Board file) ≡ refuse x
       → ballCall file centre r out ≡ record { reply = record { verdict = refuse x; values = [] }; out = out }
   unfolding ballCall ballConditions reply filled
@@ -60,11 +60,11 @@ module _ (file : List ℕ) (centre r : ℕ) (out : List ℕ) where
 
 -- ---- the ball of a file that was read, filled in from the fronts of its tables
 
-pub ball-read : (file : List ℕ) (centre r : ℕ) (out : List ℕ) {n m : ℕ} {t : Circuit} → first (fileConditions Board file) ≡ accept → Stands file n m t
+pub ball-read : (file : CircuitFile) (centre r : ℕ) (out : List ℕ) {n m : ℕ} {t : Circuit} → first (fileConditions Board file) ≡ accept → Stands file n m t
     → centre < n → n ≤ length out → {after : List ℕ}
     → after ≡ distances (length (take n (t .kinds))) (take m (t .starts)) (take m (t .ends)) centre r ++ drop (length (take n (t .kinds))) out
     → record { reply = record { verdict = accept; values = n ∷ [] }; out = after } ≡ ballCall file centre r out
 ball-read file centre r out sound s inside room e =
     let held = s .content in
-    rw (e, ap (λ (c : Circuit). c .kinds) held, ap (λ (c : Circuit). c .starts) held, ap (λ (c : Circuit). c .ends) held, length-kinds, s .nodes)
+    rw (e, ap (λ (c : Circuit). c .kinds) held, ap (λ (c : Circuit). c .starts) held, ap (λ (c : Circuit). c .ends) held, length-labels, s .nodes)
     (sym (ball-filled file centre r out sound (rw (← s .nodes) inside) (rw (← s .nodes) room)))

@@ -14,7 +14,7 @@ use Rattle.graph.proofs.Distance.{inBall-iff, radius-is, length-distances, dist
 use Rattle.file_format.specs.declared.Refusal.{Refusal}
 use Rattle.file_format.specs.declared.Role.{Role}
 use Rattle.file_format.specs.declared.Role.the-variants.{Pattern, Board}
-use Rattle.file_format.specs.Layout.{nodesOf, linksOf, startsOf, endsOf}
+use Rattle.file_format.specs.Layout.{CircuitFile, nodesOf, linksOf, startsOf, endsOf}
 use Rattle.file_format.specs.Reading.{filled}
 use Rattle.file_format.specs.Refusals.{accept, refuse, first, fileConditions, asksConnected}
 use Rattle.file_format.specs.Reply.{Reply}
@@ -27,7 +27,7 @@ use Rattle.call_distance.specs.Calls.{radiusReply, ballReply, radiusCall
 use Rattle.call_distance.proofs.Cases.{radius-replied, ball-filled}
 
 -- the links of an accepted file join its nodes
-pub accepted-within : (r : Role) (file : List ℕ) → first (fileConditions r file) ≡ accept → Within (nodesOf file) (startsOf file) (endsOf file)
+pub accepted-within : (r : Role) (file : CircuitFile) → first (fileConditions r file) ≡ accept → Within (nodesOf file) (startsOf file) (endsOf file)
 accepted-within r file e =
     let (s, d) = accepted-links r file (accepted r file e) in
     within-all (nodesOf file) (startsOf file) (endsOf file) s d
@@ -51,7 +51,7 @@ ballReply-injective (ball-answer.Refused x) (ball-answer.Refused y) e = let v = 
 -- ---- the radius
 
 -- "A pattern's radius is the largest distance between two of its parts; it is 0 for one part. A call replies with it."
-pub radius-means : (file : List ℕ) → first (fileConditions Pattern file) ≡ accept
+pub radius-means : (file : CircuitFile) → first (fileConditions Pattern file) ≡ accept
     → (d : ℕ) × (radiusCall file ≡ record { verdict = accept; values = d ∷ [] }) × Radius (fileGraph file) d
 unfolding asksConnected
 radius-means file e =
@@ -62,19 +62,19 @@ radius-means file e =
 -- ---- the ball
 
 -- a refused call leaves the table as it was
-pub ball-refused-keeps : (file : List ℕ) (centre r : ℕ) (out : List ℕ) (x : Refusal) → first (ballConditions file centre (length out)) ≡ refuse x
+pub ball-refused-keeps : (file : CircuitFile) (centre r : ℕ) (out : List ℕ) (x : Refusal) → first (ballConditions file centre (length out)) ≡ refuse x
     → ballCall file centre r out .out ≡ out
 unfolding ballCall filled
 ball-refused-keeps file centre r out x e = rw e
 
 -- no distance on a board is 65,535: its nodes are at most 512
-pub distance-few : (file : List ℕ) → first (fileConditions Board file) ≡ accept → (centre v d : ℕ) → centre < nodesOf file
+pub distance-few : (file : CircuitFile) → first (fileConditions Board file) ≡ accept → (centre v d : ℕ) → centre < nodesOf file
     → Distance (fileGraph file) centre v d → d < 512
 distance-few file e centre v d h p =
     let few = range-bounds Board (nodesOf file) (linksOf file) (accepted Board file e .range) .0 in
     omega (arith, distance-below (accepted-within Board file e) centre v d h p)
 
-module _ (file : List ℕ) (centre r : ℕ) (out : List ℕ) (e : first (fileConditions Board file) ≡ accept) (h : centre < nodesOf file) (room : nodesOf file ≤ length out) where
+module _ (file : CircuitFile) (centre r : ℕ) (out : List ℕ) (e : first (fileConditions Board file) ≡ accept) (h : centre < nodesOf file) (room : nodesOf file ≤ length out) where
   links : Within (nodesOf file) (startsOf file) (endsOf file)
   links = accepted-within Board file e
 

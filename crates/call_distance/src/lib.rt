@@ -1,7 +1,9 @@
 // Distances in circuit files: a pattern's radius, and the ball around a node of a board.
 ghost use mathlib.Core.Path.{_≡_};
+ghost use Rattle.file_format.specs.Layout.{inEdition};
 ghost use Rattle.call_distance.specs.Calls.{radiusReply, radiusCall, ballReply, ballCall};
 use file_format::Board;
+use file_format::Edition;
 use file_format::File;
 use file_format::FileVerdict;
 use file_format::Pattern;
@@ -23,29 +25,50 @@ pub enum BallAnswer {
 }
 
 // The radius of a pattern: the largest distance between two of its parts.
-pub fn radius(file: &[u8]) -> RadiusAnswer
-    ensures { λ r. ⌜ radiusReply r ≡ radiusCall (now (file .entry)) ⌝ }
+pub fn radius(edition: Edition, file: &[u8]) -> RadiusAnswer
+    ensures { λ r. ⌜ radiusReply r ≡ radiusCall (inEdition edition (now (file .entry))) ⌝ }
 {
-    let mut kinds = [0u16; Pattern::MAX_NODES];
+    let mut labels = [0u32; Pattern::MAX_NODES];
     let mut starts = [0u16; Pattern::MAX_LINKS];
     let mut ends = [0u16; Pattern::MAX_LINKS];
-    let read = load(Role::Pattern, file, &mut kinds, &mut starts, &mut ends);
+    let read = load(
+        Role::Pattern,
+        edition,
+        file,
+        &mut labels,
+        &mut starts,
+        &mut ends,
+    );
     let verdict = read.verdict;
     if let FileVerdict::Refused(x) = verdict {
         return RadiusAnswer::Refused(x);
     }
-    RadiusAnswer::Radius(read.radius as usize)
+    let width = read.radius as usize;
+    RadiusAnswer::Radius(width)
 }
 
 // The ball around a node of a board: the distance of each node from the centre, and 65,535 outside, first in `out`; or the refusal, which
 // leaves `out` as it was.
-pub fn ball(file: &[u8], centre: usize, radius: u16, out: &mut [u16]) -> BallAnswer
-    ensures { λ r. ⌜ record { reply = ballReply r; out = now (out .exit) } ≡ ballCall (now (file .entry)) centre radius (now (out .entry)) ⌝ }
+pub fn ball(
+    edition: Edition,
+    file: &[u8],
+    centre: usize,
+    radius: u16,
+    out: &mut [u16],
+) -> BallAnswer
+    ensures { λ r. ⌜ record { reply = ballReply r; out = now (out .exit) } ≡ ballCall (inEdition edition (now (file .entry))) centre radius (now (out .entry)) ⌝ }
 {
-    let mut kinds = [0u16; Board::MAX_NODES];
+    let mut labels = [0u32; Board::MAX_NODES];
     let mut starts = [0u16; Board::MAX_LINKS];
     let mut ends = [0u16; Board::MAX_LINKS];
-    let read = load(Role::Board, file, &mut kinds, &mut starts, &mut ends);
+    let read = load(
+        Role::Board,
+        edition,
+        file,
+        &mut labels,
+        &mut starts,
+        &mut ends,
+    );
     let verdict = read.verdict;
     if let FileVerdict::Refused(x) = verdict {
         return BallAnswer::Refused(x);
@@ -66,7 +89,7 @@ pub fn ball(file: &[u8], centre: usize, radius: u16, out: &mut [u16]) -> BallAns
         return BallAnswer::Refused(short);
     }
     fill_ball(
-        &kinds[..n],
+        &labels[..n],
         &starts[..m],
         &ends[..m],
         centre as u16,

@@ -6,7 +6,7 @@ use Prim.Native.Nat.{ℕ}
 use Rattle.base_lists.specs.Below.{collect}
 use Rattle.base_lists.specs.List.{anyBelow, tabulate}
 use Rattle.graph_pairs.specs.Pairs.{pairTest, pairStarts, pairEnds}
-use Rattle.file_write.specs.Bytes.{bytesOf, fileBytes}
+use Rattle.file_write.specs.Bytes.{bytesOf, stretchBytes}
 use Rattle.load.specs.Draws.{step, draw, stepped, draws}
 use Rattle.load.specs.Load.{kindsDrawn, pairsDrawn, isPair, load}
 use Rattle.call_load.specs.Call.{loadBytes}
@@ -15,10 +15,10 @@ use Rattle.call_load.specs.Call.{loadBytes}
 pub load-of-seven :
     loadBytes 7 3 4 10
     ≡ 3 ∷ 0 ∷ 4 ∷ 0 ∷ 8 ∷ 0 ∷ 6 ∷ 0 ∷ 0 ∷ 0 ∷ 0 ∷ 0 ∷ 0 ∷ 0 ∷ 1 ∷ 0 ∷ 2 ∷ 0 ∷ 1 ∷ 0 ∷ 2 ∷ 0 ∷ 0 ∷ 0 ∷ 2 ∷ 0 ∷ []
-unfolding loadBytes fileBytes bytesOf load kindsDrawn pairsDrawn draws tabulate stepped step draw isPair anyBelow pairStarts pairEnds pairTest collect
+unfolding loadBytes stretchBytes bytesOf load kindsDrawn pairsDrawn draws tabulate stepped step draw isPair anyBelow pairStarts pairEnds pairTest collect
 load-of-seven = refl
 
 -- seed 3, N = 1, M = 5, K = 1: one kind, 0, and one link
 pub load-of-one : loadBytes 3 1 5 1 ≡ 1 ∷ 0 ∷ 1 ∷ 0 ∷ 0 ∷ 0 ∷ 0 ∷ 0 ∷ 0 ∷ 0 ∷ []
-unfolding loadBytes fileBytes bytesOf load kindsDrawn pairsDrawn draws tabulate stepped step draw isPair anyBelow pairStarts pairEnds pairTest collect
+unfolding loadBytes stretchBytes bytesOf load kindsDrawn pairsDrawn draws tabulate stepped step draw isPair anyBelow pairStarts pairEnds pairTest collect
 load-of-one = refl

@@ -1,7 +1,7 @@
 -- The load's circuit as the passes leave it, its file, and what the call comes to by cases. Assumes nothing.
 use mathlib.Core.Bool.{true, false, _&&_}
-use mathlib.Core.List.{List, _++_}
-use mathlib.Core.Path.{_≡_, sym, ap, ap₂, _∙_}
+use mathlib.Core.List.{List, [], _++_}
+use mathlib.Core.Path.{_≡_, refl, sym, ap, ap₂, _∙_}
 use Prim.Native.Nat.{ℕ, _+_, _*_, _≤_, _<_}
 use native.Mathlib.Nat.{le-trans}
 use native.Mathlib.Omega.{arith}
@@ -14,6 +14,7 @@ use Rattle.base_lists.proofs.Below.{anyBelow-same}
 use Rattle.graph.specs.Circuit.{Circuit}
 use Rattle.graph_pairs.specs.Pairs.{pairStarts, pairEnds}
 use Rattle.graph_pairs.proofs.Pairs.{pairs-same}
+use Rattle.file_format.specs.declared.Edition.the-variants.{First}
 use Rattle.file_format.specs.declared.File.the-variants.{Neither}
 use Rattle.file_format.specs.declared.Refusal.{Refusal}
 use Rattle.file_format.specs.declared.Role.the-variants.{Board}
@@ -44,7 +45,7 @@ module _ (seed n m k : ℕ) (r : InRange n m k) where
   made = load seed n m k
 
   -- no condition on a circuit that is written as a board holds of it
-  pub load-sound : first (circuitConditions Board (made .kinds) (made .starts) (made .ends)) ≡ accept
+  pub load-sound : first (circuitConditions Board First (made .kinds) [] (made .starts) (made .ends)) ≡ accept
   unfolding first linkConditions asksConnected
   load-sound =
       let size = load-nodes seed n m k in
@@ -56,10 +57,10 @@ module _ (seed n m k : ℕ) (r : InRange n m k) where
       let range : T (inRange Board nodes links) =
       both (leb 0 nodes) (leb nodes 512 && leb links 4096) (le→leb 0 nodes (omega arith))
       (both (leb nodes 512) (leb links 4096) (le→leb nodes 512 (omega (arith, r .nodes))) (le→leb links 4096 (omega (arith, r .links)))) in
-      verdict-links Board (made .kinds) (made .starts) (made .ends) (T-true range) (load-parallel seed n m k) ∙ simp (below, rises)
+      verdict-links Board First (made .kinds) [] (made .starts) (made .ends) (T-true range) (load-parallel seed n m k) refl ∙ simp (below, rises)
 
   -- its file is no longer than that of as many links as were drawn
-  pub load-length-le : lengthOf (length (made .kinds)) (length (made .starts)) ≤ lengthOf n m
+  pub load-length-le : lengthOf First (length (made .kinds)) (length (made .starts)) ≤ lengthOf First n m
   load-length-le = omega (arith, load-nodes seed n m k, load-links seed n m k)
 
   -- ---- what was drawn and collected, at the front of the tables
@@ -101,8 +102,8 @@ module _ (seed n m k : ℕ) (r : InRange n m k) where
   -- ---- written, it is the load's file
 
   pub written :
-      (kinds starts ends out : List ℕ) → (kinds ≡ made .kinds) × (starts ≡ made .starts) × (ends ≡ made .ends) → lengthOf n m ≤ length out →
-      writing Board kinds starts ends out
+      (kinds starts ends out : List ℕ) → (kinds ≡ made .kinds) × (starts ≡ made .starts) × (ends ≡ made .ends) → lengthOf First n m ≤ length out →
+      writing Board First kinds [] starts ends out
       ≡ record {
         answer = write.Written (length (loadBytes seed n m k));
         reply = writeReply (write.Written (length (loadBytes seed n m k)));
@@ -111,8 +112,8 @@ module _ (seed n m k : ℕ) (r : InRange n m k) where
   unfolding loadBytes
   written kinds starts ends out e room =
       rw (e .0, e .1, e .2)
-      (writing-filled Board (made .kinds) (made .starts) (made .ends) out load-sound (le-trans load-length-le room)
-      ∙ rw (sym (length-written (made .kinds) (made .starts) (made .ends) (load-parallel seed n m k))))
+      (writing-filled Board First (made .kinds) [] (made .starts) (made .ends) out load-sound (le-trans load-length-le room)
+      ∙ rw (sym (length-written First (made .kinds) [] (made .starts) (made .ends) refl (load-parallel seed n m k))))
 
 -- what the answer of writing says then: the length is that of the load's file, and it is no refusal
 module _ (bytes : List ℕ) (o : WriteOutcome) (out : List ℕ)
@@ -137,12 +138,12 @@ module _ (seed n m k : ℕ) (out : List ℕ) where
   loading-outside e = simp e
 
   module _ (e : load.inRange n m k ≡ true) where
-    pub loading-short : length out < lengthOf n m
+    pub loading-short : length out < lengthOf First n m
         → record { reply = loadReply (Refused (record { number = 8; file = Neither })); out = out } ≡ loading seed n m k out
     unfolding loading loadConditions first numberOutside shortTable loadReply reply filled
     loading-short h = simp (e, lt-ltb _ _ h)
 
-    pub loading-made : (answer : LoadAnswer) (after : List ℕ) → lengthOf n m ≤ length out → MadeFrom seed n m k answer out after
+    pub loading-made : (answer : LoadAnswer) (after : List ℕ) → lengthOf First n m ≤ length out → MadeFrom seed n m k answer out after
         → record { reply = loadReply answer; out = after } ≡ loading seed n m k out
     unfolding loading loadConditions first numberOutside shortTable loadReply reply
     loading-made answer after h made = rw (made .answered, made .written) (simp (e, le-ltb _ _ h))

@@ -9,18 +9,20 @@ use lib.ListN.{length, take, drop}
 use lib.Seq.{take-at, drop-at}
 use Rattle.base_lists.proofs.Tests.{true-T, T-true, T-false}
 use Rattle.graph.specs.Circuit.{Circuit, HasLink}
+use Rattle.file_format.specs.declared.Edition.the-variants.{First}
 use Rattle.file_format.specs.declared.File.the-variants.{Neither}
 use Rattle.file_format.specs.declared.ReadAnswer.the-variants as read
 use Rattle.file_format.specs.declared.Role.the-variants.{Board}
 use Rattle.file_format.specs.Circuit.{circuitOf}
-use Rattle.file_format.specs.Layout.{nodesOf, lengthOf, startsOf, endsOf}
+use Rattle.file_format.specs.Layout.{firstEdition, nodesOf, lengthOf, startsOf, endsOf, labelsOf}
 use Rattle.file_format.specs.Reading.{reading, filled}
 use Rattle.file_format.specs.Refusals.{Verdict, accept, refuse, first, fileConditions, shortTable, numberOutside}
 use Rattle.file_format.specs.Reply.{Reply, readReply, reply}
+use Rattle.file_format.proofs.Labels.{labels-kinds}
 use Rattle.file_format.proofs.Refusals.{first-holds}
 use Rattle.file_write.specs.declared.WriteAnswer.the-variants as write
 use Rattle.file_write.specs.Writing.{WriteOutcome}
-use Rattle.file_write.proofs.FileFields.{nodes-written, kinds-written, starts-written, ends-written}
+use Rattle.file_write.proofs.FileFields.{nodes-written, kinds-written, packages-written, starts-written, ends-written}
 use Rattle.file_write.proofs.RoundTrip.{same-verdict, written-file, written-reads}
 use Rattle.file_write.proofs.Writing.{sound}
 use Rattle.load.specs.Load.{inRange, InRange, load, Drawn}
@@ -52,14 +54,14 @@ module _ (seed n m k : ℕ) (out : List ℕ) where
 
   -- "An output under 4 + 2N + 4M bytes, M as given, is 8."
   pub load-short :
-      InRange n m k → length out < lengthOf n m →
+      InRange n m k → length out < lengthOf First n m →
       loading seed n m k out ≡ record { reply = record { verdict = refuse (record { number = 8; file = Neither }); values = [] }; out = out }
   unfolding loadReply
   load-short r h = sym (loading-short seed n m k out (T-true (range-in n m k r)) h)
 
   -- "The reply is the file's length, and bytes past it stay." Nothing else is refused.
   pub load-made :
-      InRange n m k → lengthOf n m ≤ length out →
+      InRange n m k → lengthOf First n m ≤ length out →
       loading seed n m k out
       ≡ record {
         reply = record { verdict = accept; values = length (loadBytes seed n m k) ∷ [] };
@@ -74,7 +76,7 @@ module _ (seed n m k : ℕ) (out : List ℕ) where
   -- a call that replies with a length was given numbers in their ranges and enough bytes
   pub load-replied :
       (size : ℕ) → loading seed n m k out .reply ≡ record { verdict = accept; values = size ∷ [] } →
-      InRange n m k × (lengthOf n m ≤ length out) × (size ≡ length (loadBytes seed n m k))
+      InRange n m k × (lengthOf First n m ≤ length out) × (size ≡ length (loadBytes seed n m k))
   unfolding loading loadConditions numberOutside shortTable
   load-replied size e =
       let (ok, is) = replied-accept (first (loadConditions n m k (length out))) (first (loadConditions n m k (length out))) (length (loadBytes seed n m k)) size refl e in
@@ -85,30 +87,32 @@ module _ (seed n m k : ℕ) (out : List ℕ) where
 
 module _ (seed n m k : ℕ) (r : InRange n m k) where
   -- "The file made is always an accepted board"
-  pub load-accepted : first (fileConditions Board (loadBytes seed n m k)) ≡ accept
+  pub load-accepted : first (fileConditions Board (firstEdition (loadBytes seed n m k))) ≡ accept
   unfolding loadBytes
   load-accepted =
       let made = load seed n m k in
-      let s = sound Board (made .kinds) (made .starts) (made .ends) (load-sound seed n m k r) in
-      sym (same-verdict Board (made .kinds) (made .starts) (made .ends) (s .range) (s .pairs)) ∙ load-sound seed n m k r
+      let s = sound Board First (made .kinds) [] (made .starts) (made .ends) (load-sound seed n m k r) in
+      sym (same-verdict Board First (made .kinds) [] (made .starts) (made .ends) (s .range) (s .pairs) (s .given)) ∙ load-sound seed n m k r
 
   -- that holds the load: N nodes, the kinds drawn,
-  pub load-circuit : circuitOf (loadBytes seed n m k) ≡ load seed n m k
-  unfolding loadBytes
+  pub load-circuit : circuitOf (firstEdition (loadBytes seed n m k)) ≡ load seed n m k
+  unfolding loadBytes labelsOf
   load-circuit =
       let made = load seed n m k in
       rw (
-        kinds-written (made .kinds) (made .starts) (made .ends),
-        starts-written (made .kinds) (made .starts) (made .ends),
-        ends-written (made .kinds) (made .starts) (made .ends) (load-parallel seed n m k),
+        kinds-written First (made .kinds) [] (made .starts) (made .ends),
+        packages-written First (made .kinds) [] (made .starts) (made .ends) refl,
+        starts-written First (made .kinds) [] (made .starts) (made .ends) refl,
+        ends-written First (made .kinds) [] (made .starts) (made .ends) refl (load-parallel seed n m k),
+        labels-kinds (made .kinds),
       )
 
-  pub load-file-nodes : nodesOf (loadBytes seed n m k) ≡ n
+  pub load-file-nodes : nodesOf (firstEdition (loadBytes seed n m k)) ≡ n
   unfolding loadBytes
-  load-file-nodes = let made = load seed n m k in nodes-written (made .kinds) (made .starts) (made .ends) ∙ load-nodes seed n m k
+  load-file-nodes = let made = load seed n m k in nodes-written First (made .kinds) [] (made .starts) (made .ends) ∙ load-nodes seed n m k
 
   -- and a link exactly where that pair was drawn
-  pub load-file-link : (a b : ℕ) → HasLink (startsOf (loadBytes seed n m k)) (endsOf (loadBytes seed n m k)) a b ↔ Drawn seed n m a b
+  pub load-file-link : (a b : ℕ) → HasLink (startsOf (firstEdition (loadBytes seed n m k))) (endsOf (firstEdition (loadBytes seed n m k))) a b ↔ Drawn seed n m a b
   load-file-link a b =
       rw (ap (λ (c : Circuit). c .starts) load-circuit, ap (λ (c : Circuit). c .ends) load-circuit) (load-link seed n m k (r .someNodes) a b)
 
@@ -131,25 +135,26 @@ module _ (seed n m k : ℕ) (out : List ℕ) (size : ℕ) (e : loading seed n m 
 
   -- It reads back as the load's circuit.
   pub front-reads :
-      (ks ss es : List ℕ) → n ≤ length ks → length (load seed n m k .starts) ≤ length ss → length (load seed n m k .ends) ≤ length es →
-      reading Board (take size (loading seed n m k out .out)) ks ss es
+      (ks ps ss es : List ℕ) → n ≤ length ks → length (load seed n m k .starts) ≤ length ss → length (load seed n m k .ends) ≤ length es →
+      reading Board (firstEdition (take size (loading seed n m k out .out))) ks ps ss es
       ≡ record {
         answer = read.Read n (length (load seed n m k .starts));
         reply = readReply (read.Read n (length (load seed n m k .starts)));
         kinds = load seed n m k .kinds ++ drop n ks;
+        packages = ps;
         starts = load seed n m k .starts ++ drop (length (load seed n m k .starts)) ss;
         ends = load seed n m k .ends ++ drop (length (load seed n m k .ends)) es;
       }
   unfolding loadBytes
-  front-reads ks ss es a b d =
+  front-reads ks ps ss es a b d =
       let (r, room, is) = load-replied seed n m k out size e in
       let made = load seed n m k in
       let nodes = load-nodes seed n m k in
       let wrote =
       ap (λ (o : WriteOutcome). o .answer) (written seed n m k r (made .kinds) (made .starts) (made .ends) out (refl, refl, refl) room)
       ∙ ap write.Written (sym is) in
-      ap (λ (file : List ℕ). reading Board file ks ss es) (front-file ∙ sym (written-file Board (made .kinds) (made .starts) (made .ends) out size wrote))
-      ∙ written-reads Board (made .kinds) (made .starts) (made .ends) out size wrote ks ss es (omega arith) b d
+      ap (λ (file : List ℕ). reading Board (firstEdition file) ks ps ss es) (front-file ∙ sym (written-file Board First (made .kinds) [] (made .starts) (made .ends) out size wrote))
+      ∙ written-reads Board First (made .kinds) [] (made .starts) (made .ends) out size wrote ks ps ss es (omega arith) (omega arith) b d
       ∙ rw nodes
 
 -- "equal numbers make equal files": whatever two calls with the same four numbers were lent, of whatever lengths, what they reply is the same

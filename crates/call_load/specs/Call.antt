@@ -3,6 +3,7 @@ use mathlib.Core.List.{List, [], _∷_}
 use mathlib.Core.Path.{_≡_}
 use Prim.Native.Nat.{ℕ}
 use lib.ListN.{length}
+use Rattle.file_format.specs.declared.Edition.the-variants.{First}
 use Rattle.file_format.specs.Layout.{lengthOf}
 use Rattle.file_format.specs.Reading.{filled}
 use Rattle.file_format.specs.Refusals.{Condition, accept, refuse, first, shortTable, numberOutside}
@@ -12,15 +13,15 @@ use Rattle.load.specs.Load.{inRange, load}
 use Rattle.call_load.specs.declared.LoadAnswer.{LoadAnswer}
 use Rattle.call_load.specs.declared.LoadAnswer.the-variants.{Made, Refused}
 
--- the file of a load
+-- the file of a load, of the first edition
 unfoldable pub loadBytes : ℕ → ℕ → ℕ → ℕ → List ℕ
 loadBytes seed n m k =
     let made = load seed n m k in
-    fileBytes (made .kinds) (made .starts) (made .ends)
+    fileBytes First (made .kinds) [] (made .starts) (made .ends)
 
 -- "10, one of the four numbers out of its range, checked ahead of 8"; "An output under 4 + 2N + 4M bytes, M as given, is 8."
 unfoldable pub loadConditions : ℕ → ℕ → ℕ → ℕ → List Condition
-loadConditions n m k lent = numberOutside (inRange n m k) ∷ shortTable (lengthOf n m) lent ∷ []
+loadConditions n m k lent = numberOutside (inRange n m k) ∷ shortTable (lengthOf First n m) lent ∷ []
 
 -- number and values of each case of the answer
 unfoldable pub loadReply : LoadAnswer → Reply

@@ -7,6 +7,7 @@ use load_draw::draw_load;
 use load_draw::pairs::collect_links;
 ghost use Prim.Native.Nat.{_≤_};
 ghost use lib.ListN.{length};
+ghost use Rattle.file_format.specs.declared.Edition.the-variants as editions;
 ghost use Rattle.file_format.specs.Layout.{lengthOf};
 ghost use Rattle.load.specs.Load.{InRange};
 ghost use Rattle.call_load.specs.Call.{MadeFrom};
@@ -14,7 +15,7 @@ ghost use Rattle.call_load.specs.Call.{MadeFrom};
 // Draws a load and writes its file to the front of bytes that have room for the file of as many links as are drawn. A load is a board, so that
 // writing it is not refused.
 pub fn make(seed: u32, n: usize, m: usize, k: usize, out: &mut [u8]) -> LoadAnswer
-    requires { ⌜ InRange n m k × (lengthOf n m ≤ length (now out)) ⌝ }
+    requires { ⌜ InRange n m k × (lengthOf editions.First n m ≤ length (now out)) ⌝ }
     ensures { λ r. ⌜ MadeFrom seed n m k r (now (out .entry)) (now (out .exit)) ⌝ }
 {
     let mut kinds = [0u16; Board::MAX_NODES];
@@ -22,7 +23,7 @@ pub fn make(seed: u32, n: usize, m: usize, k: usize, out: &mut [u8]) -> LoadAnsw
     let mut ends = [0u16; 2 * Board::MAX_LINKS];
     draw_load(seed, n, m, k, &mut kinds, &mut ends);
     let links = collect_links(n, m, &mut starts, &mut ends);
-    let written = file_write::write(
+    let written = file_write::write_first(
         Role::Board,
         &kinds[..n],
         &starts[..links],

@@ -9,10 +9,10 @@ use Rattle.file_format.specs.declared.Role.the-variants.{AnyPattern}
 use Rattle.file_format.specs.declared.File.the-variants.{Neither}
 use Rattle.file_format.specs.declared.Refusal.{Refusal}
 use Rattle.file_format.specs.Circuit.{circuitOf}
-use Rattle.file_format.specs.Layout.{nodesOf}
+use Rattle.file_format.specs.Layout.{CircuitFile, nodesOf}
 use Rattle.file_format.specs.Reading.{filled, front}
 use Rattle.file_format.specs.Refusals.{Verdict, accept, refuse, first, shortTable}
-use Rattle.file_format.proofs.Fields.{length-kinds}
+use Rattle.file_format.proofs.Fields.{length-labels}
 use Rattle.file_format.proofs.Refusals.{first-accept, first-refuse}
 use Rattle.file_pair.specs.Pair.{pairConditions, BothRead}
 use Rattle.file_pair.specs.declared.Pair.{Pair}
@@ -25,9 +25,9 @@ use Rattle.table.specs.Reply.{Reply, replied}
 use Rattle.table.proofs.Answer.{answer-fits}
 
 -- the table has an entry for each node
-pub length-answer : (pattern board : List ℕ)
+pub length-answer : (pattern board : CircuitFile)
     → length (answerTable (circuitOf pattern) (circuitOf board) (everything (circuitOf board))) ≡ nodesOf board
-length-answer pattern board = answer-fits (circuitOf pattern) (circuitOf board) (everything (circuitOf board)) .size ∙ length-kinds board
+length-answer pattern board = answer-fits (circuitOf pattern) (circuitOf board) (everything (circuitOf board)) .size ∙ length-labels board
 
 -- ---- two circuits
 
@@ -62,7 +62,7 @@ module _ (p b : Circuit) (table : List ℕ) where
 
 -- ---- two files
 
-module _ (pattern board table : List ℕ) where
+module _ (pattern board : CircuitFile) (table : List ℕ) where
   -- what the table is too short for comes after what is wrong with the files
   files-first : {x : Refusal} → first (pairConditions AnyPattern pattern board) ≡ refuse x → first (matchConditions pattern board (length table)) ≡ refuse x
   unfolding matchConditions
@@ -81,7 +81,7 @@ module _ (pattern board table : List ℕ) where
   matching-accepted : first (pairConditions AnyPattern pattern board) ≡ accept
       → matchOn (circuitOf pattern) (circuitOf board) table ≡ matching pattern board table
   unfolding matchOn matching
-  matching-accepted e = rw (then-table e, length-kinds board)
+  matching-accepted e = rw (then-table e, length-labels board)
 
   pub matching-read : {p : Pair} {parts nodes : Circuit} → BothRead AnyPattern pattern board p parts nodes → {o : TableOutcome}
       → o ≡ matchOn (front (p .parts) (p .joins) parts) (front (p .nodes) (p .links) nodes) table → o ≡ matching pattern board table

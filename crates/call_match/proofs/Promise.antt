@@ -19,7 +19,7 @@ use Rattle.simulation.proofs.Simulation.{largest-unique}
 use Rattle.file_format.specs.declared.Refusal.{Refusal}
 use Rattle.file_format.specs.declared.Role.the-variants.{Pattern, Board, AnyPattern}
 use Rattle.file_format.specs.Circuit.{circuitOf}
-use Rattle.file_format.specs.Layout.{nodesOf}
+use Rattle.file_format.specs.Layout.{CircuitFile, nodesOf}
 use Rattle.file_format.specs.Reading.{filled}
 use Rattle.file_format.specs.Refusals.{Condition, Verdict, accept, refuse, first, fileConditions, Accepted, shortTable}
 use Rattle.file_format.proofs.Accepted.{accepted-bounded, accepted-within, accepted-connected}
@@ -62,7 +62,7 @@ in-front : (n : ℕ) (t : List ℕ) (u v : ℕ) → v < n → inTable (take n t)
 unfolding inTable
 in-front n t u v h = ap (λ (x : ℕ). bit x u) (getD-take n t v 0 h)
 
-module _ (pattern board table : List ℕ) where
+module _ (pattern board : CircuitFile) (table : List ℕ) where
   verdict-is : matching pattern board table .reply .verdict ≡ first (matchConditions pattern board (length table))
   unfolding matching
   verdict-is = replied-verdict _ _
@@ -186,13 +186,14 @@ first-same xs ys zs e = go (first ys) refl
     go (refuse x) f = first-refuse xs zs x (e ∙ f) ∙ sym (first-refuse ys zs x f)
 
 -- any pattern is refused as a connected one is, where that is refused neither with 6 nor with 11
-same-verdict : (pattern board : List ℕ) (lent : ℕ) → (first (connectedConditions pattern board lent) ≡ turned Pattern 6 → ⊥)
-    → (first (connectedConditions pattern board lent) ≡ turned Pattern 11 → ⊥) → first (matchConditions pattern board lent) ≡ first (connectedConditions pattern board lent)
+same-verdict : (pattern board : CircuitFile) (lent : ℕ) → (first (connectedConditions pattern board lent) ≡ turned Pattern 6 → ⊥)
+    → (first (connectedConditions pattern board lent) ≡ turned Pattern 11 → ⊥)
+    → first (matchConditions pattern board lent) ≡ first (connectedConditions pattern board lent)
 unfolding matchConditions connectedConditions pairConditions turned
-same-verdict pattern board lent other narrow =
+same-verdict pattern board lent six eleven =
     first-same (fileConditions AnyPattern pattern ++ fileConditions Board board) (fileConditions Pattern pattern ++ fileConditions Board board) _
     (first-same (fileConditions AnyPattern pattern) (fileConditions Pattern pattern) (fileConditions Board board)
-    (any-verdict pattern (λ e. other (first-refuse _ _ _ (first-refuse _ _ _ e))) (λ e. narrow (first-refuse _ _ _ (first-refuse _ _ _ e)))))
+    (any-verdict pattern (λ e. six (first-refuse _ _ _ (first-refuse _ _ _ e))) (λ e. eleven (first-refuse _ _ _ (first-refuse _ _ _ e)))))
 
 -- where the answer is the row's, the outcome is
 same-outcome : (v : Verdict) (p b : Circuit) (table : List ℕ)
@@ -204,12 +205,12 @@ same-outcome (refuse x) p b table plain = refl
 -- "Connected patterns get the table and counts they always got": the whole reply and the table are those of the call that document 01 has,
 -- wherever that gives neither 6 nor 11.
 pub as-before :
-    (pattern board table : List ℕ) → (connectedMatching pattern board table .reply .verdict ≡ turned Pattern 6 → ⊥) →
+    (pattern board : CircuitFile) (table : List ℕ) → (connectedMatching pattern board table .reply .verdict ≡ turned Pattern 6 → ⊥) →
     (connectedMatching pattern board table .reply .verdict ≡ turned Pattern 11 → ⊥) →
     matching pattern board table ≡ connectedMatching pattern board table
 unfolding matching connectedMatching connectedConditions
-as-before pattern board table other narrow =
-    rw (same-verdict pattern board (length table) (λ e. other (replied-verdict _ _ ∙ e)) (λ e. narrow (replied-verdict _ _ ∙ e)))
+as-before pattern board table six eleven =
+    rw (same-verdict pattern board (length table) (λ e. six (replied-verdict _ _ ∙ e)) (λ e. eleven (replied-verdict _ _ ∙ e)))
     (same-outcome _ (circuitOf pattern) (circuitOf board) table
     (λ e.
     let drawn = accepted Pattern pattern (pair-parts Pattern pattern board (first-parts (pairConditions Pattern pattern board) _ e .0) .0) in
@@ -217,7 +218,7 @@ as-before pattern board table other narrow =
 
 -- So the first N entries are the last set of the row,
 pub front-connected :
-    (pattern board table : List ℕ) → Accepted Pattern pattern → matching pattern board table .reply .verdict ≡ accept →
+    (pattern board : CircuitFile) (table : List ℕ) → Accepted Pattern pattern → matching pattern board table .reply .verdict ≡ accept →
     take (nodesOf board) (matching pattern board table .table) ≡ lastTable (circuitOf pattern) (circuitOf board) (everything (circuitOf board))
 front-connected pattern board table drawn ok =
     front-is pattern board table ok

@@ -5,7 +5,7 @@ use lib.ListN.{length}
 use Rattle.graph.specs.Circuit.{Circuit}
 use Rattle.file_format.specs.declared.Role.the-variants.{Pattern, AnyPattern}
 use Rattle.file_format.specs.Circuit.{circuitOf}
-use Rattle.file_format.specs.Layout.{nodesOf}
+use Rattle.file_format.specs.Layout.{CircuitFile, nodesOf}
 use Rattle.file_format.specs.Reading.{filled}
 use Rattle.file_format.specs.Refusals.{Condition, Verdict, accept, refuse, first, shortTable}
 use Rattle.file_pair.specs.Pair.{pairConditions}
@@ -19,7 +19,7 @@ use Rattle.table.specs.Row.{lastTable}
 
 -- "Rising numbers are the order, the pattern's .. before the board's. Needed: .. match table N". "the whole-board call applies neither 6 nor
 -- 11": the pattern may be any, connected or not.
-unfoldable pub matchConditions : List ℕ → List ℕ → ℕ → List Condition
+unfoldable pub matchConditions : CircuitFile → CircuitFile → ℕ → List Condition
 matchConditions pattern board lent = pairConditions AnyPattern pattern board ++ (shortTable (nodesOf board) lent ∷ [])
 
 -- each case of the answer, so read: a refusal has no counts
@@ -43,13 +43,13 @@ unfoldable pub matchOn : Circuit → Circuit → List ℕ → TableOutcome
 matchOn p b table = matchedBy (first (shortTable (length (b .kinds)) (length table) ∷ [])) p b table
 
 -- the call on two files
-unfoldable pub matching : List ℕ → List ℕ → List ℕ → TableOutcome
+unfoldable pub matching : CircuitFile → CircuitFile → List ℕ → TableOutcome
 matching pattern board table = matchedBy (first (matchConditions pattern board (length table))) (circuitOf pattern) (circuitOf board) table
 
 -- ---- connected patterns alone, as document 01 has the call
 
 -- "the pattern's 1 to 6 before the board's"
-unfoldable pub connectedConditions : List ℕ → List ℕ → ℕ → List Condition
+unfoldable pub connectedConditions : CircuitFile → CircuitFile → ℕ → List Condition
 connectedConditions pattern board lent = pairConditions Pattern pattern board ++ (shortTable (nodesOf board) lent ∷ [])
 
 -- the last set of the row, with its counts. proofs/Promise: "Connected patterns get the table and counts they always got."
@@ -57,5 +57,5 @@ abbrev pub rowBy : Verdict → Circuit → Circuit → List ℕ → TableOutcome
 rowBy verdict p b table =
     record { reply = replied verdict (countsOf p b (everything b)); table = filled verdict (lastTable p b (everything b)) table }
 
-unfoldable pub connectedMatching : List ℕ → List ℕ → List ℕ → TableOutcome
+unfoldable pub connectedMatching : CircuitFile → CircuitFile → List ℕ → TableOutcome
 connectedMatching pattern board table = rowBy (first (connectedConditions pattern board (length table))) (circuitOf pattern) (circuitOf board) table

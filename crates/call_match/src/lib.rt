@@ -1,5 +1,6 @@
 // The match-table call: a pattern file on the whole board of another file. The pattern may lie in several bits.
 use file_format::Board;
+use file_format::Editions;
 use file_format::File;
 use file_format::FileVerdict;
 use file_format::Pattern;
@@ -10,6 +11,7 @@ use table::Counts;
 use table_whole::match_whole;
 ghost use mathlib.Core.Path.{_≡_};
 ghost use Rattle.file_format.specs.Circuit.{Bounded};
+ghost use Rattle.file_format.specs.Layout.{inEdition};
 ghost use Rattle.file_format.specs.declared.Role.the-variants as role;
 ghost use Rattle.graph.specs.Circuit.{circuit};
 ghost use Rattle.call_match.specs.Call.{replyOf, matchOn, matching};
@@ -22,10 +24,10 @@ pub enum TableAnswer {
 
 // The call on two circuits that were read. The table's length is tested before anything is written to it.
 fn match_on(
-    part_kinds: &[u16],
+    part_kinds: &[u32],
     part_starts: &[u16],
     part_ends: &[u16],
-    node_kinds: &[u16],
+    node_kinds: &[u32],
     node_starts: &[u16],
     node_ends: &[u16],
     table: &mut [u32],
@@ -56,17 +58,24 @@ fn match_on(
 // Matches the pattern of one file, connected or not, on the whole board of another: the four counts, with the largest dual simulation at the
 // front of the table, a 32-bit number per node, which is all 0 where some part is left without a node; or the refusal, which leaves the table
 // as it was.
-pub fn match_table(pattern: &[u8], board: &[u8], table: &mut [u32]) -> TableAnswer
-    ensures { λ r. ⌜ record { reply = replyOf r; table = now (table .exit) } ≡ matching (now (pattern .entry)) (now (board .entry)) (now (table .entry)) ⌝ }
+pub fn match_table(
+    editions: Editions,
+    pattern: &[u8],
+    board: &[u8],
+    table: &mut [u32],
+) -> TableAnswer
+    ensures { λ r. ⌜ record { reply = replyOf r; table = now (table .exit) }
+        ≡ matching (inEdition (editions .pattern) (now (pattern .entry))) (inEdition (editions .board) (now (board .entry))) (now (table .entry)) ⌝ }
 {
-    let mut pk = [0u16; Pattern::MAX_NODES];
+    let mut pk = [0u32; Pattern::MAX_NODES];
     let mut ps = [0u16; Pattern::MAX_LINKS];
     let mut pe = [0u16; Pattern::MAX_LINKS];
-    let mut nk = [0u16; Board::MAX_NODES];
+    let mut nk = [0u32; Board::MAX_NODES];
     let mut ns = [0u16; Board::MAX_LINKS];
     let mut ne = [0u16; Board::MAX_LINKS];
     let read = read_pair(
         Role::AnyPattern,
+        editions,
         pattern,
         board,
         &mut pk,

@@ -1,22 +1,26 @@
 -- What the merging call comes to, by cases: a refused pattern, a short table of classes, too few bytes for the file, or the merged pattern.
 -- Assumes nothing.
-use mathlib.Core.List.{List, _++_}
-use mathlib.Core.Path.{_≡_, sym, subst, _∙_}
+use mathlib.Core.List.{List, [], _++_}
+use mathlib.Core.Path.{_≡_, sym, ap, subst, _∙_}
 use Prim.Native.Nat.{ℕ, _≤_, _<_}
 use borrow.Author.Tests.{lt-ltb, le-ltb}
-use lib.ListN.{length, take, drop}
+use lib.ListN.{length, getD, take, drop}
 use Rattle.graph.specs.Circuit.{Circuit}
+use Rattle.file_format.specs.declared.Edition.{Edition}
+use Rattle.file_format.specs.declared.Edition.the-variants.{First, Second}
 use Rattle.file_format.specs.declared.File.the-variants.{Neither}
 use Rattle.file_format.specs.declared.Refusal.{Refusal}
 use Rattle.file_format.specs.declared.Role.the-variants.{Pattern}
 use Rattle.file_format.specs.Circuit.{circuitOf}
-use Rattle.file_format.specs.Layout.{nodesOf, lengthOf}
+use Rattle.file_format.specs.Layout.{CircuitFile, inEdition, nodesOf, lengthOf, labelsOf}
 use Rattle.file_format.specs.Reading.{filled, front, Stands}
 use Rattle.file_format.specs.Refusals.{accept, refuse, first, fileConditions, shortTable, Accepted}
 use Rattle.file_format.specs.Reply.{reply}
-use Rattle.file_format.proofs.Fields.{length-kinds, length-starts}
+use Rattle.file_format.proofs.FirstEdition.{first-labels-low}
+use Rattle.file_format.proofs.Fields.{length-labels, length-starts}
 use Rattle.file_format.proofs.Refusals.{accepted, first-accept, first-refuse}
 use Rattle.file_format.proofs.Reading.{stands-size}
+use Rattle.file_write.specs.Bytes.{LabelsFit}
 use Rattle.file_write.specs.Writing.{circuitConditions}
 use Rattle.merge.specs.Merged.{classes}
 use Rattle.merge.proofs.Content.{accepted-content}
@@ -28,22 +32,31 @@ use Rattle.call_merge.proofs.Quotient.{content-sound}
 
 -- ---- the pattern that was read
 
-module _ {file : List ℕ} {n m : ℕ} {t : Circuit} (sound : first (fileConditions Pattern file) ≡ accept) (s : Stands file n m t) where
+module _ {file : CircuitFile} {n m : ℕ} {t : Circuit} (sound : first (fileConditions Pattern file) ≡ accept) (s : Stands file n m t) where
   -- writing it as a pattern would not be refused,
-  pub front-sound : first (circuitConditions Pattern (take n (t .kinds)) (take m (t .starts)) (take m (t .ends))) ≡ accept
+  pub front-sound : first (circuitConditions Pattern First (take n (t .kinds)) [] (take m (t .starts)) (take m (t .ends))) ≡ accept
   front-sound =
-      subst (λ (c : Circuit). first (circuitConditions Pattern (c .kinds) (c .starts) (c .ends)) ≡ accept) (sym (s .content))
+      subst (λ (c : Circuit). first (circuitConditions Pattern First (c .kinds) [] (c .starts) (c .ends)) ≡ accept) (sym (s .content))
       (content-sound (accepted-content (accepted Pattern file sound)))
 
   -- and its file has the length of the one that was read
-  pub front-length : lengthOf (length (take n (t .kinds))) (length (take m (t .starts))) ≡ length file
+  pub front-length : lengthOf (file .edition) (length (take n (t .kinds))) (length (take m (t .starts))) ≡ length (file .bytes)
   front-length =
       let (k, a, _) = stands-size s in
       rw (k, a, s .nodes, s .links) (sym (accepted Pattern file sound .size))
 
+-- its labels fit the edition, where the file is of bytes
+fit-edition : (e : Edition) (bytes : List ℕ) → ((i : ℕ) → getD bytes i 0 < 256) → LabelsFit e (labelsOf (inEdition e bytes))
+unfolding LabelsFit
+fit-edition First bytes low = first-labels-low bytes low
+fit-edition Second bytes low = tt
+
+pub front-fits : (e : Edition) (bytes : List ℕ) {n m : ℕ} {t : Circuit} → Stands (inEdition e bytes) n m t → ((i : ℕ) → getD bytes i 0 < 256) → LabelsFit e (take n (t .kinds))
+front-fits e bytes s low = rw (ap (λ (c : Circuit). c .kinds) (s .content)) (fit-edition e bytes low)
+
 -- ---- the verdict
 
-module _ (file lent out : List ℕ) where
+module _ (file : CircuitFile) (lent out : List ℕ) where
   verdict-file : (x : Refusal) → first (fileConditions Pattern file) ≡ refuse x → first (mergeConditions file (length lent) (length out)) ≡ refuse x
   unfolding mergeConditions
   verdict-file x e = first-refuse _ _ x e
@@ -55,11 +68,11 @@ module _ (file lent out : List ℕ) where
     verdict-classes h = rw (first-accept _ _ sound) (simp (lt-ltb _ _ h))
 
     module _ (enough : nodesOf file ≤ length lent) where
-      verdict-out : length out < length file → first (mergeConditions file (length lent) (length out)) ≡ refuse (record { number = 8; file = Neither })
+      verdict-out : length out < length (file .bytes) → first (mergeConditions file (length lent) (length out)) ≡ refuse (record { number = 8; file = Neither })
       unfolding mergeConditions first shortTable
       verdict-out h = rw (first-accept _ _ sound) (simp (le-ltb _ _ enough, lt-ltb _ _ h))
 
-      pub verdict-accept : length file ≤ length out → first (mergeConditions file (length lent) (length out)) ≡ accept
+      pub verdict-accept : length (file .bytes) ≤ length out → first (mergeConditions file (length lent) (length out)) ≡ accept
       unfolding mergeConditions first shortTable
       verdict-accept h = rw (first-accept _ _ sound) (simp (le-ltb _ _ enough, le-ltb _ _ h))
 
@@ -73,11 +86,11 @@ module _ (file lent out : List ℕ) where
 
   merged :
       first (mergeConditions file (length lent) (length out)) ≡ accept →
-      {answer : MergeAnswer} {bytes after : List ℕ} → MergedFrom (circuitOf file) answer bytes out after →
+      {answer : MergeAnswer} {bytes after : List ℕ} → MergedFrom (file .edition) (circuitOf file) answer bytes out after →
       record { reply = mergeReply answer; classes = bytes ++ drop (nodesOf file) lent; out = after } ≡ merging file lent out
   unfolding merging mergeReply reply filled
   merged e m =
-      let size : length (classes (circuitOf file)) ≡ nodesOf file = length-classes (circuitOf file) ∙ length-kinds file in
+      let size : length (classes (circuitOf file)) ≡ nodesOf file = length-classes (circuitOf file) ∙ length-labels file in
       rw (e, m .answered, m .numbered, m .written, size)
 
   -- ---- as the call goes
@@ -96,12 +109,12 @@ module _ (file lent out : List ℕ) where
 
     module _ (enough : n ≤ length lent) where
       pub merging-out :
-          length out < length file →
+          length out < length (file .bytes) →
           record { reply = mergeReply (Refused (record { number = 8; file = Neither })); classes = lent; out = out } ≡ merging file lent out
       merging-out h = refused _ (verdict-out sound (rw (← drawn .nodes) enough) h)
 
       pub merging-merged :
-          length file ≤ length out → {answer : MergeAnswer} {bytes after : List ℕ} → MergedFrom (front n m t) answer bytes out after →
+          length (file .bytes) ≤ length out → {answer : MergeAnswer} {bytes after : List ℕ} → MergedFrom (file .edition) (front n m t) answer bytes out after →
           record { reply = mergeReply answer; classes = bytes ++ drop n lent; out = after } ≡ merging file lent out
       merging-merged h made =
           rw (drawn .nodes)

@@ -18,24 +18,24 @@ use Rattle.simulation.specs.Closed.{Relation}
 use Rattle.simulation.specs.Simulation.{Largest}
 use Rattle.simulation.specs.Quotient.{Mutual}
 use Rattle.simulation.proofs.Simulation.{largest-unique}
+use Rattle.file_format.specs.declared.Edition.{Edition}
 use Rattle.file_format.specs.declared.Refusal.{Refusal}
 use Rattle.file_format.specs.declared.Role.the-variants.{Pattern, Board}
 use Rattle.file_format.specs.Circuit.{circuitOf}
-use Rattle.file_format.specs.Layout.{nodesOf, linksOf, startsOf, endsOf}
+use Rattle.file_format.specs.Layout.{CircuitFile, inEdition, nodesOf, linksOf, startsOf, endsOf}
 use Rattle.file_format.specs.Links.{linksBelow, rising}
 use Rattle.file_format.specs.Reading.{filled}
 use Rattle.file_format.specs.Refusals.{Condition, Verdict, accept, refuse, first, fileConditions, linkConditions, asksConnected, Accepted}
 use Rattle.file_format.specs.Reply.{Reply, reply}
 use Rattle.file_format.specs.Role.{inRange}
-use Rattle.file_format.proofs.Fields.{length-kinds, length-starts}
+use Rattle.file_format.proofs.Fields.{length-labels, length-starts}
 use Rattle.file_format.proofs.Refusals.{accepted, accepted-any, first-parts, refuses-iff, range-orders}
 use Rattle.table.specs.Host.{KindsMatch}
 use Rattle.table.specs.Row.{InTable}
 use Rattle.call_match.specs.Call.{matching}
 use Rattle.call_match.proofs.Promise as matched
-use Rattle.file_write.specs.Bytes.{fileBytes}
-use Rattle.file_write.proofs.FileFields.{kinds-written, starts-written, ends-written, length-written}
-use Rattle.file_write.proofs.RoundTrip.{same-verdict}
+use Rattle.file_write.specs.Bytes.{circuitBytes}
+use Rattle.file_write.proofs.RoundTrip.{same-verdict, packages-in-given, circuit-again, circuit-length}
 use Rattle.merge.specs.Merged.{classOf, classCount, classes, merged}
 use Rattle.merge.proofs.Content.{PatternContent, accepted-content}
 use Rattle.merge.proofs.Classes.{leaderOf, self-largest, length-classes, class-at, class-iff, class-lt, class-rises, class-onto, equivalent-iff, leader-lt, leader-member, leader-min}
@@ -44,7 +44,7 @@ use Rattle.call_merge.specs.declared.MergeAnswer.{MergeAnswer}
 use Rattle.call_merge.specs.declared.MergeAnswer.the-variants.{Merged, Refused}
 use Rattle.call_merge.specs.Call.{mergeConditions, mergeReply, mergedBytes, MergeOutcome, merging}
 use Rattle.call_merge.specs.Classes.{classByte, Smallest}
-use Rattle.call_merge.proofs.Quotient.{content-sound}
+use Rattle.call_merge.proofs.Quotient.{content-range, content-sound-in}
 use Rattle.call_merge.proofs.Merging.{verdict-accept}
 
 -- ---- the two cases of the answer, told apart by what document 01 says of them
@@ -64,51 +64,54 @@ unfolding reply
 reply-verdict accept values = refl
 reply-verdict (refuse x) values = refl
 
--- ---- the file of a circuit that can be the content of a pattern file
+-- ---- the file of a circuit that can be the content of a pattern file, in either edition
 
-module _ {q : Circuit} (c : PatternContent q) where
+module _ (e : Edition) {q : Circuit} (c : PatternContent q) where
   -- it is accepted as a pattern file,
-  content-verdict : first (fileConditions Pattern (fileBytes (q .kinds) (q .starts) (q .ends))) ≡ accept
-  content-verdict = sym (same-verdict Pattern _ _ _ (c .range) (c .parallel)) ∙ content-sound c
+  content-verdict : first (fileConditions Pattern (inEdition e (circuitBytes e q))) ≡ accept
+  unfolding circuitBytes
+  content-verdict = sym (same-verdict Pattern e _ _ _ _ (content-range e c) (c .parallel) (packages-in-given e q)) ∙ content-sound-in e c
 
-  pub content-accepted : Accepted Pattern (fileBytes (q .kinds) (q .starts) (q .ends))
+  pub content-accepted : Accepted Pattern (inEdition e (circuitBytes e q))
   content-accepted = accepted Pattern _ content-verdict
 
   -- and holds the circuit
-  pub content-circuit : circuitOf (fileBytes (q .kinds) (q .starts) (q .ends)) ≡ q
-  content-circuit =
-      rw (kinds-written (q .kinds) (q .starts) (q .ends), starts-written (q .kinds) (q .starts) (q .ends), ends-written (q .kinds) (q .starts) (q .ends) (c .parallel))
+  pub content-circuit : circuitOf (inEdition e (circuitBytes e q)) ≡ q
+  content-circuit = circuit-again e q (c .parallel)
 
 -- ---- the merged file of an accepted pattern file
 
-module _ {file : List ℕ} (a : Accepted Pattern file) where
+module _ {file : CircuitFile} (a : Accepted Pattern file) where
   content : PatternContent (circuitOf file)
   content = accepted-content a
 
-  -- it is accepted as a pattern file,
-  pub merged-verdict : first (fileConditions Pattern (mergedBytes (circuitOf file))) ≡ accept
-  unfolding mergedBytes
-  merged-verdict = content-verdict (merged-content content)
+  -- "the merged file has the pattern's edition"
+  abbrev mergedFile : CircuitFile
+  mergedFile = inEdition (file .edition) (mergedBytes (file .edition) (circuitOf file))
 
-  pub merged-accepted : Accepted Pattern (mergedBytes (circuitOf file))
+  -- it is accepted as a pattern file,
+  pub merged-verdict : first (fileConditions Pattern mergedFile) ≡ accept
+  unfolding mergedBytes
+  merged-verdict = content-verdict (file .edition) (merged-content content)
+
+  pub merged-accepted : Accepted Pattern mergedFile
   merged-accepted = accepted Pattern _ merged-verdict
 
   -- holds the merged pattern,
-  pub merged-circuit : circuitOf (mergedBytes (circuitOf file)) ≡ merged (circuitOf file)
+  pub merged-circuit : circuitOf mergedFile ≡ merged (circuitOf file)
   unfolding mergedBytes
-  merged-circuit = content-circuit (merged-content content)
+  merged-circuit = content-circuit (file .edition) (merged-content content)
 
   -- and is no longer than the first
-  pub merged-size : length (mergedBytes (circuitOf file)) ≤ length file
+  pub merged-size : length (mergedBytes (file .edition) (circuitOf file)) ≤ length (file .bytes)
   unfolding mergedBytes
   merged-size =
-      let q = merged (circuitOf file) in
-      le-trans (le-of-eq (length-written (q .kinds) (q .starts) (q .ends) (merged-content content .parallel)))
-      (le-trans (merged-length-le content) (le-of-eq (rw (length-kinds file, length-starts file) (sym (a .size)))))
+      le-trans (le-of-eq (circuit-length (file .edition) (merged (circuitOf file)) (merged-content content .parallel)))
+      (le-trans (merged-length-le content (file .edition)) (le-of-eq (rw (length-labels file, length-starts file) (sym (a .size)))))
 
 -- ---- an accepted pattern file is accepted as a board too, so that it can be matched on itself
 
-board-verdict : {file : List ℕ} → Accepted Pattern file → first (fileConditions Board file) ≡ accept
+board-verdict : {file : CircuitFile} → Accepted Pattern file → first (fileConditions Board file) ≡ accept
 unfolding first fileConditions linkConditions asksConnected
 board-verdict {file} a =
     let n = nodesOf file in
@@ -120,17 +123,17 @@ board-verdict {file} a =
     let rises : rising (startsOf file) (endsOf file) ≡ true = T-true (a .rises) in
     simp (le-ltb _ _ (a .bytes), range, eq-eqb _ _ (a .size), below, rises)
 
-pub pattern-board : {file : List ℕ} → Accepted Pattern file → Accepted Board file
+pub pattern-board : {file : CircuitFile} → Accepted Pattern file → Accepted Board file
 pattern-board {file} a = accepted Board file (board-verdict a)
 
 matches-itself :
-    (file : List ℕ) → first (fileConditions Pattern file) ≡ accept → (table : List ℕ) → nodesOf file ≤ length table →
+    (file : CircuitFile) → first (fileConditions Pattern file) ≡ accept → (table : List ℕ) → nodesOf file ≤ length table →
     matching file file table .reply .verdict ≡ accept
 matches-itself file sound table room =
     let a = accepted Pattern file sound in
     matched.accepts file file table (accepted-any a) (pattern-board a) room
 
-module _ (file lent out : List ℕ) where
+module _ (file : CircuitFile) (lent out : List ℕ) where
   verdict-is : merging file lent out .reply .verdict ≡ first (mergeConditions file (length lent) (length out))
   unfolding merging
   verdict-is = reply-verdict _ _
@@ -154,7 +157,7 @@ module _ (file lent out : List ℕ) where
 
   -- An accepted pattern file is not refused where N class bytes are lent and as many bytes as the file has.
   pub accepts :
-      first (fileConditions Pattern file) ≡ accept → nodesOf file ≤ length lent → length file ≤ length out →
+      first (fileConditions Pattern file) ≡ accept → nodesOf file ≤ length lent → length (file .bytes) ≤ length out →
       merging file lent out .reply .verdict ≡ accept
   accepts sound n l = verdict-is ∙ verdict-accept file lent out sound n l
 
@@ -172,26 +175,26 @@ module _ (file lent out : List ℕ) where
     pattern-accepted = accepted Pattern file pattern-sound
 
     -- it "replies with the number of classes and that file's length",
-    pub values-are : merging file lent out .reply .values ≡ classCount (circuitOf file) ∷ length (mergedBytes (circuitOf file)) ∷ []
+    pub values-are : merging file lent out .reply .values ≡ classCount (circuitOf file) ∷ length (mergedBytes (file .edition) (circuitOf file)) ∷ []
     unfolding merging reply
     values-are = rw sound
 
     classes-are : merging file lent out .classes ≡ classes (circuitOf file) ++ drop (nodesOf file) lent
     unfolding merging filled
-    classes-are = rw (sound, length-classes (circuitOf file), length-kinds file)
+    classes-are = rw (sound, length-classes (circuitOf file), length-labels file)
 
-    out-is : merging file lent out .out ≡ mergedBytes (circuitOf file) ++ drop (length (mergedBytes (circuitOf file))) out
+    out-is : merging file lent out .out ≡ mergedBytes (file .edition) (circuitOf file) ++ drop (length (mergedBytes (file .edition) (circuitOf file))) out
     unfolding merging filled
     out-is = rw sound
 
     classes-size : length (classes (circuitOf file)) ≡ nodesOf file
-    classes-size = length-classes (circuitOf file) ∙ length-kinds file
+    classes-size = length-classes (circuitOf file) ∙ length-labels file
 
     -- gives "the class of each part, a byte each, and the merged file",
     pub classes-front : take (nodesOf file) (merging file lent out .classes) ≡ classes (circuitOf file)
     classes-front = rw classes-are (take-at _ _ (nodesOf file) classes-size)
 
-    pub out-front : take (length (mergedBytes (circuitOf file))) (merging file lent out .out) ≡ mergedBytes (circuitOf file)
+    pub out-front : take (length (mergedBytes (file .edition) (circuitOf file))) (merging file lent out .out) ≡ mergedBytes (file .edition) (circuitOf file)
     out-front = rw out-is (take-at _ _ _ refl)
 
     -- and the bytes behind both keep their content.
@@ -199,13 +202,13 @@ module _ (file lent out : List ℕ) where
     classes-rest = rw classes-are (drop-at (classes (circuitOf file)) _ (nodesOf file) classes-size)
 
     pub out-rest :
-        drop (length (mergedBytes (circuitOf file))) (merging file lent out .out) ≡ drop (length (mergedBytes (circuitOf file))) out
-    out-rest = rw out-is (drop-at (mergedBytes (circuitOf file)) _ _ refl)
+        drop (length (mergedBytes (file .edition) (circuitOf file))) (merging file lent out .out) ≡ drop (length (mergedBytes (file .edition) (circuitOf file))) out
+    out-rest = rw out-is (drop-at (mergedBytes (file .edition) (circuitOf file)) _ _ refl)
 
     -- ---- the class bytes
 
     below-parts : (u : ℕ) → u < nodesOf file → u < length (circuitOf file .kinds)
-    below-parts u h = rw (length-kinds file) h
+    below-parts u h = rw (length-labels file) h
 
     -- each is the class of its part
     pub byte-is : (u : ℕ) → u < nodesOf file → classByte file lent out u ≡ classOf (circuitOf file) u
@@ -247,7 +250,7 @@ module _ (file lent out : List ℕ) where
         let p = circuitOf file in
         let c = content pattern-accepted in
         let inside = below-parts u h in
-        let low : leaderOf p u < nodesOf file = rw (← length-kinds file) (leader-lt c u inside) in
+        let low : leaderOf p u < nodesOf file = rw (← length-labels file) (leader-lt c u inside) in
         let member = leader-member c u inside in
         record {
           below = low;
@@ -275,24 +278,24 @@ module _ (file lent out : List ℕ) where
     pub byte-onto : (a : ℕ) → a < classCount (circuitOf file) → (u : ℕ) × (u < nodesOf file) × (classByte file lent out u ≡ a)
     byte-onto a h =
         let (u, l, _, e) = class-onto (content pattern-accepted) a h in
-        let k : u < nodesOf file = rw (← length-kinds file) l in
+        let k : u < nodesOf file = rw (← length-labels file) l in
         (u, k, byte-is u k ∙ e)
 
 -- ---- what a caller knows of the answer and of the two tables, by cases of the answer
 
 -- Merged: `before` are the bytes lent for the file, `after` what they are then.
-pub record MergedFile (file lent before bytes after : List ℕ) (count size : ℕ) : Type 0 where
+pub record MergedFile (file : CircuitFile) (lent before bytes after : List ℕ) (count size : ℕ) : Type 0 where
   pub pattern : first (fileConditions Pattern file) ≡ accept
   pub counted : count ≡ classCount (circuitOf file)
   pub numbered : take (nodesOf file) bytes ≡ classes (circuitOf file)
-  pub verdict : first (fileConditions Pattern (take size after)) ≡ accept
-  pub accepted : Accepted Pattern (take size after)
-  pub circuit : circuitOf (take size after) ≡ merged (circuitOf file)
-  pub shorter : size ≤ length file
+  pub verdict : first (fileConditions Pattern (inEdition (file .edition) (take size after))) ≡ accept
+  pub accepted : Accepted Pattern (inEdition (file .edition) (take size after))
+  pub circuit : circuitOf (inEdition (file .edition) (take size after)) ≡ merged (circuitOf file)
+  pub shorter : size ≤ length (file .bytes)
   pub classesKept : drop (nodesOf file) bytes ≡ drop (nodesOf file) lent
   pub outKept : drop size after ≡ drop size before
 
-module _ (file lent before bytes after : List ℕ) (r : MergeAnswer)
+module _ (file : CircuitFile) (lent before bytes after : List ℕ) (r : MergeAnswer)
     (e : record { reply = mergeReply r; classes = bytes; out = after } ≡ merging file lent before) where
   reply-is : mergeReply r ≡ merging file lent before .reply
   reply-is = ap (λ (o : MergeOutcome). o .reply) e
@@ -303,14 +306,14 @@ module _ (file lent before bytes after : List ℕ) (r : MergeAnswer)
       let p = circuitOf file in
       let said : merging file lent before .reply ≡ record { verdict = accept; values = count ∷ size ∷ [] } = sym reply-is ∙ ap mergeReply m in
       let ok : merging file lent before .reply .verdict ≡ accept = ap (λ (x : Reply). x .verdict) said in
-      let values : count ∷ size ∷ [] ≡ classCount p ∷ length (mergedBytes p) ∷ [] =
+      let values : count ∷ size ∷ [] ≡ classCount p ∷ length (mergedBytes (file .edition) p) ∷ [] =
       sym (ap (λ (x : Reply). x .values) said) ∙ values-are file lent before ok in
       let counted : count ≡ classCount p = cc in
-      let sized : size ≡ length (mergedBytes p) = cc in
+      let sized : size ≡ length (mergedBytes (file .edition) p) = cc in
       let a = pattern-accepted file lent before ok in
       let isBytes : bytes ≡ merging file lent before .classes = ap (λ (o : MergeOutcome). o .classes) e in
       let isAfter : after ≡ merging file lent before .out = ap (λ (o : MergeOutcome). o .out) e in
-      let front : take size after ≡ mergedBytes p = rw (isAfter, sized) (out-front file lent before ok) in
+      let front : take size after ≡ mergedBytes (file .edition) p = rw (isAfter, sized) (out-front file lent before ok) in
       record {
         pattern = pattern-sound file lent before ok;
         counted = counted;

@@ -1,21 +1,28 @@
 -- From a pattern's table on itself the passes make its classes and its quotient by them, the merged pattern, which writing does not refuse. Assumes nothing.
 use mathlib.Core.Bool.{true}
-use mathlib.Core.List.{List}
-use mathlib.Core.Path.{_≡_, sym, ap, _∙_}
+use mathlib.Core.List.{List, []}
+use mathlib.Core.Path.{_≡_, refl, sym, ap, subst, _∙_}
 use Prim.Native.Nat.{ℕ, _+_, _≤_, _<_}
 use native.Mathlib.Nat.{le-trans, lt-of-lt-of-le}
 use native.Mathlib.Omega.{arith}
 use borrow.Author.Tests.{le-ltb, ltb-false}
-use lib.ListN.{length, getD, take}
+use lib.Dec.{T}
+use lib.ListN.{length, getD, take, List·getD-eq-default}
+use native.Mathlib.Decide.{decLt}
 use lib.Seq.{sets, sets-eq, take-at}
 use Rattle.base_lists.proofs.Tests.{T-true, refuted}
 use Rattle.base_lists.specs.List.{Below}
+use Rattle.base_lists.proofs.Tables.{length-tabulate, getD-tabulate}
 use Rattle.graph.specs.Circuit.{Circuit, circuit}
 use Rattle.graph.specs.Search.{connected, radius}
+use Rattle.file_format.specs.declared.Edition.{Edition}
+use Rattle.file_format.specs.declared.Edition.the-variants.{First, Second}
 use Rattle.file_format.specs.declared.Pattern as pattern
 use Rattle.file_format.specs.declared.Refusal.{Refusal}
 use Rattle.file_format.specs.declared.Role.the-variants.{Pattern}
+use Rattle.file_format.specs.Label.{packagesIn}
 use Rattle.file_format.specs.Layout.{lengthOf}
+use Rattle.file_format.specs.Role.{inRange}
 use Rattle.file_format.specs.Links.{linksBelow, rising}
 use Rattle.file_format.specs.Reading.{filled}
 use Rattle.file_format.specs.Refusals.{accept, first, widest, linkConditions, asksConnected}
@@ -25,10 +32,12 @@ use Rattle.table.specs.Refine.{MatchedOn}
 use Rattle.graph.proofs.Groups.{all-below}
 use Rattle.file_format.proofs.Accepted.{bounded-starts, bounded-ends}
 use Rattle.file_write.specs.declared.WriteAnswer.the-variants.{Written, Refused}
+use Rattle.file_write.specs.Bytes.{kindsFor, circuitBytes, LabelsFit}
 use Rattle.file_write.specs.Writing.{circuitConditions, WriteOutcome, writing, writeReply}
 use Rattle.file_write.proofs.FileFields.{length-written}
+use Rattle.file_write.proofs.RoundTrip.{length-kinds-for, packages-in-given}
 use Rattle.file_write.proofs.Writing.{verdict-links, sound, writing-filled}
-use Rattle.merge.specs.Merged.{selfTable, classOf, classCount, classes, merged}
+use Rattle.merge.specs.Merged.{selfTable, classOf, classCount, classes, firstMember, grouped, merged}
 use Rattle.merge.specs.Steps.{marks, scannedStarts, scannedEnds}
 use Rattle.merge.proofs.Content.{PatternContent, most-parts, most-links, content-bounded}
 use Rattle.merge.proofs.Classes.{self-fits, length-classes, class-at, class-lt, classCount-le}
@@ -41,10 +50,10 @@ use Rattle.merge_classes.specs.Passes.{SelfTable, Quotient, leaderCount, classN
 -- ---- a circuit that writing does not refuse as a pattern is a pattern's content, and the other way round
 
 pub sound-content :
-    (kinds starts ends : List ℕ) → first (circuitConditions Pattern kinds starts ends) ≡ accept → PatternContent (circuit kinds starts ends)
+    (kinds starts ends : List ℕ) → first (circuitConditions Pattern First kinds [] starts ends) ≡ accept → PatternContent (circuit kinds starts ends)
 unfolding linkConditions asksConnected
 sound-content kinds starts ends ok =
-    let s = sound Pattern kinds starts ends ok in
+    let s = sound Pattern First kinds [] starts ends ok in
     let n = length kinds in
     let h4 = first-holds _ _ (s .links) in
     let h5 = first-holds _ _ (h4 .1) in
@@ -59,15 +68,36 @@ sound-content kinds starts ends ok =
       narrow = ltb-false _ _ (h11 .0);
     }
 
-pub content-sound : {p : Circuit} → PatternContent p → first (circuitConditions Pattern (p .kinds) (p .starts) (p .ends)) ≡ accept
+-- no condition on the links holds
+content-links : {p : Circuit} → PatternContent p → first (linkConditions Pattern (length (p .kinds)) (p .starts) (p .ends)) ≡ accept
 unfolding first linkConditions asksConnected
-content-sound {p} c =
+content-links {p} c =
     let n = length (p .kinds) in
     let below : linksBelow n (p .starts) (p .ends) ≡ true = T-true (c .below) in
     let rises : rising (p .starts) (p .ends) ≡ true = T-true (c .rises) in
     let joined : connected n (p .starts) (p .ends) ≡ true = T-true (c .joined) in
-    verdict-links Pattern (p .kinds) (p .starts) (p .ends) (T-true (c .range)) (c .parallel)
-    ∙ simp (below, rises, joined, le-ltb widest (radius n (p .starts) (p .ends)) (c .narrow))
+    simp (below, rises, joined, le-ltb widest (radius n (p .starts) (p .ends)) (c .narrow))
+
+pub content-sound : {p : Circuit} → PatternContent p → first (circuitConditions Pattern First (p .kinds) [] (p .starts) (p .ends)) ≡ accept
+content-sound {p} c = verdict-links Pattern First (p .kinds) [] (p .starts) (p .ends) (T-true (c .range)) (c .parallel) refl ∙ content-links c
+
+-- the same of its kinds and packages, in either edition
+pub content-range : (e : Edition) {p : Circuit} → PatternContent p → T (inRange Pattern (length (kindsFor e (p .kinds))) (length (p .starts)))
+content-range e {p} c = rw (length-kinds-for e (p .kinds)) (c .range)
+
+pub content-sound-in : (e : Edition) {p : Circuit} → PatternContent p
+    → first (circuitConditions Pattern e (kindsFor e (p .kinds)) (packagesIn (p .kinds)) (p .starts) (p .ends)) ≡ accept
+content-sound-in e {p} c =
+    verdict-links Pattern e (kindsFor e (p .kinds)) (packagesIn (p .kinds)) (p .starts) (p .ends) (T-true (content-range e c)) (c .parallel) (packages-in-given e p)
+    ∙ rw (length-kinds-for e (p .kinds)) (content-links c)
+
+-- an entry of a list whose entries are of 16 bits, or 0 past its end
+label-low : {ls : List ℕ} → ((i : ℕ) → i < length ls → getD ls i 0 < 65536) → (i : ℕ) → getD ls i 0 < 65536
+label-low {ls} low i = go (decLt i (length ls))
+  where
+    go : Dec (i < length ls) → getD ls i 0 < 65536
+    go (yes h) = low i h
+    go (no h) = rw (List·getD-eq-default ls 0 {n = i} (omega arith)) (omega arith)
 
 -- ---- what was stored at the front
 
@@ -180,32 +210,47 @@ module _ {p : Circuit} (c : PatternContent p) where
     ap (λ (x : Circuit). length (x .ends)) (q .content) ∙ sym (merged-content c .parallel) ∙ sym (q .linked),
   )
 
+  -- ---- its labels are among the pattern's
+
+  labels-fit : (e : Edition) → LabelsFit e (p .kinds) → LabelsFit e (merged p .kinds)
+  unfolding LabelsFit Below merged grouped
+  labels-fit Second fit = tt
+  labels-fit First fit = λ a h.
+      rw (getD-tabulate (classCount p) _ a 0 (subst (λ (k : ℕ). a < k) (length-tabulate (classCount p) _) h)) (label-low fit (firstMember p (classOf p) a))
+
   -- ---- written, it is the merged file
 
-  pub written :
-      (kinds starts ends out : List ℕ) → circuit kinds starts ends ≡ merged p → lengthOf (length (p .kinds)) (length (p .starts)) ≤ length out →
-      writing Pattern kinds starts ends out ≡ record { answer = Written (length (mergedBytes p)); reply = writeReply (Written (length (mergedBytes p))); out = filled accept (mergedBytes p) out }
-  unfolding mergedBytes
-  written kinds starts ends out e room =
-      let q = merged p in
-      let k : kinds ≡ q .kinds = ap (λ (x : Circuit). x .kinds) e in
-      let s : starts ≡ q .starts = ap (λ (x : Circuit). x .starts) e in
-      let t : ends ≡ q .ends = ap (λ (x : Circuit). x .ends) e in
-      rw (k, s, t)
-      (writing-filled Pattern (q .kinds) (q .starts) (q .ends) out (content-sound (merged-content c)) (le-trans (merged-length-le c) room)
-      ∙ rw (sym (length-written (q .kinds) (q .starts) (q .ends) (merged-content c .parallel))))
+  module _ (e : Edition) where
+    pub written :
+        (kinds starts ends out : List ℕ) → circuit kinds starts ends ≡ merged p → lengthOf e (length (p .kinds)) (length (p .starts)) ≤ length out →
+        writing Pattern e (kindsFor e kinds) (packagesIn kinds) starts ends out
+        ≡ record { answer = Written (length (mergedBytes e p)); reply = writeReply (Written (length (mergedBytes e p))); out = filled accept (mergedBytes e p) out }
+    unfolding mergedBytes circuitBytes
+    written kinds starts ends out is room =
+        let q = merged p in
+        let k : kinds ≡ q .kinds = ap (λ (x : Circuit). x .kinds) is in
+        let s : starts ≡ q .starts = ap (λ (x : Circuit). x .starts) is in
+        let t : ends ≡ q .ends = ap (λ (x : Circuit). x .ends) is in
+        let long : lengthOf e (length (kindsFor e (q .kinds))) (length (q .starts)) ≤ length out = rw (length-kinds-for e (q .kinds)) (le-trans (merged-length-le c e) room) in
+        rw (k, s, t)
+        (writing-filled Pattern e (kindsFor e (q .kinds)) (packagesIn (q .kinds)) (q .starts) (q .ends) out (content-sound-in e (merged-content c)) long
+        ∙ rw (sym (length-written e (kindsFor e (q .kinds)) (packagesIn (q .kinds)) (q .starts) (q .ends) (packages-in-given e q) (merged-content c .parallel))))
+
+    -- its labels are among the pattern's, so that what holds these holds them
+    pub merged-fits : LabelsFit e (p .kinds) → LabelsFit e (merged p .kinds)
+    merged-fits = labels-fit e
 
 -- what the answer of writing says then: the length is the merged file's, and it is no refusal
 pub written-size :
-    (p : Circuit) (o : WriteOutcome) (out : List ℕ) (size : ℕ) →
-    o ≡ record { answer = Written (length (mergedBytes p)); reply = writeReply (Written (length (mergedBytes p))); out = filled accept (mergedBytes p) out } → o .answer ≡ Written size →
-    size ≡ length (mergedBytes p)
-written-size p o out size e a = let d : Written size ≡ Written (length (mergedBytes p)) = sym a ∙ ap (λ (x : WriteOutcome). x .answer) e in cc
+    (e : Edition) (p : Circuit) (o : WriteOutcome) (out : List ℕ) (size : ℕ) →
+    o ≡ record { answer = Written (length (mergedBytes e p)); reply = writeReply (Written (length (mergedBytes e p))); out = filled accept (mergedBytes e p) out } → o .answer ≡ Written size →
+    size ≡ length (mergedBytes e p)
+written-size e p o out size q a = let d : Written size ≡ Written (length (mergedBytes e p)) = sym a ∙ ap (λ (x : WriteOutcome). x .answer) q in cc
 
 pub written-not-refused :
-    (p : Circuit) (o : WriteOutcome) (out : List ℕ) (x : Refusal) →
-    o ≡ record { answer = Written (length (mergedBytes p)); reply = writeReply (Written (length (mergedBytes p))); out = filled accept (mergedBytes p) out } → o .answer ≡ Refused x → ⊥
-written-not-refused p o out x e a =
-    let d : Refused x ≡ Written (length (mergedBytes p)) = sym a ∙ ap (λ (x : WriteOutcome). x .answer) e in
+    (e : Edition) (p : Circuit) (o : WriteOutcome) (out : List ℕ) (x : Refusal) →
+    o ≡ record { answer = Written (length (mergedBytes e p)); reply = writeReply (Written (length (mergedBytes e p))); out = filled accept (mergedBytes e p) out } → o .answer ≡ Refused x → ⊥
+written-not-refused e p o out x q a =
+    let d : Refused x ≡ Written (length (mergedBytes e p)) = sym a ∙ ap (λ (x : WriteOutcome). x .answer) q in
     let z : _≡_ {A = ℕ} 0 1 = cc in
     omega arith

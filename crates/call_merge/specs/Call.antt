@@ -4,24 +4,25 @@ use mathlib.Core.Path.{_≡_}
 use Prim.Native.Nat.{ℕ}
 use lib.ListN.{length}
 use Rattle.graph.specs.Circuit.{Circuit}
+use Rattle.file_format.specs.declared.Edition.{Edition}
 use Rattle.file_format.specs.declared.Role.the-variants.{Pattern}
 use Rattle.file_format.specs.Circuit.{circuitOf}
-use Rattle.file_format.specs.Layout.{nodesOf}
+use Rattle.file_format.specs.Layout.{CircuitFile, nodesOf}
 use Rattle.file_format.specs.Reading.{filled}
 use Rattle.file_format.specs.Refusals.{Condition, accept, refuse, first, fileConditions, shortTable}
 use Rattle.file_format.specs.Reply.{Reply, reply}
-use Rattle.file_write.specs.Bytes.{fileBytes}
+use Rattle.file_write.specs.Bytes.{circuitBytes}
 use Rattle.merge.specs.Merged.{classCount, classes, merged}
 use Rattle.call_merge.specs.declared.MergeAnswer.{MergeAnswer}
 use Rattle.call_merge.specs.declared.MergeAnswer.the-variants.{Merged, Refused}
 
--- the file of a pattern's merged pattern
-unfoldable pub mergedBytes : Circuit → List ℕ
-mergedBytes p = fileBytes (merged p .kinds) (merged p .starts) (merged p .ends)
+-- the file of a pattern's merged pattern: "the merged file has the pattern's edition"
+unfoldable pub mergedBytes : Edition → Circuit → List ℕ
+mergedBytes e p = circuitBytes e (merged p)
 
 -- the pattern's 1 to 6 and 11, then 8: "Needed: .. merging N classes and the first pattern's file length"
-unfoldable pub mergeConditions : List ℕ → ℕ → ℕ → List Condition
-mergeConditions file classes out = fileConditions Pattern file ++ (shortTable (nodesOf file) classes ∷ shortTable (length file) out ∷ [])
+unfoldable pub mergeConditions : CircuitFile → ℕ → ℕ → List Condition
+mergeConditions file classes out = fileConditions Pattern file ++ (shortTable (nodesOf file) classes ∷ shortTable (length (file .bytes)) out ∷ [])
 
 -- "replies with the number of classes and that file's length": number and values of each case of the answer
 unfoldable pub mergeReply : MergeAnswer → Reply
@@ -36,18 +37,18 @@ pub record MergeOutcome : Type 0 where
 
 -- "The call gives the class of each part, a byte each, and the merged file, and replies with the number of classes and that file's length;
 -- output bytes after the merged file's end keep their content."
-unfoldable pub merging : List ℕ → List ℕ → List ℕ → MergeOutcome
+unfoldable pub merging : CircuitFile → List ℕ → List ℕ → MergeOutcome
 merging file lent out =
     let verdict = first (mergeConditions file (length lent) (length out)) in
     let p = circuitOf file in
     record {
-      reply = reply verdict (classCount p ∷ length (mergedBytes p) ∷ []);
+      reply = reply verdict (classCount p ∷ length (mergedBytes (file .edition) p) ∷ []);
       classes = filled verdict (classes p) lent;
-      out = filled verdict (mergedBytes p) out;
+      out = filled verdict (mergedBytes (file .edition) p) out;
     }
 
 -- what merging a pattern that was read leaves: the answer, the class bytes, and the bytes of the merged file at the front of those lent
-pub record MergedFrom (p : Circuit) (answer : MergeAnswer) (bytes before after : List ℕ) : Type 0 where
-  pub answered : answer ≡ Merged (classCount p) (length (mergedBytes p))
+pub record MergedFrom (e : Edition) (p : Circuit) (answer : MergeAnswer) (bytes before after : List ℕ) : Type 0 where
+  pub answered : answer ≡ Merged (classCount p) (length (mergedBytes e p))
   pub numbered : bytes ≡ classes p
-  pub written : after ≡ filled accept (mergedBytes p) before
+  pub written : after ≡ filled accept (mergedBytes e p) before

@@ -1,5 +1,6 @@
 // The merged pattern of a pattern that was read.
 use crate::MergeAnswer;
+use file_format::Edition;
 use file_format::Pattern;
 use file_format::Role;
 use file_write::WriteAnswer;
@@ -8,13 +9,16 @@ use merge_classes::links::mark_rows;
 use merge_classes::links::scan;
 use merge_classes::number_classes;
 use table_whole::match_circuits;
+ghost use mathlib.Core.List.{[]};
 ghost use mathlib.Core.Path.{_≡_};
 ghost use Prim.Native.Nat.{_≤_};
 ghost use lib.ListN.{length};
+ghost use Rattle.file_format.specs.declared.Edition.the-variants as editions;
 ghost use Rattle.file_format.specs.declared.Role.the-variants as role;
 ghost use Rattle.file_format.specs.Layout.{lengthOf};
 ghost use Rattle.file_format.specs.Refusals.{Verdict, first};
 ghost use Rattle.graph.specs.Circuit.{circuit};
+ghost use Rattle.file_write.specs.Bytes.{LabelsFit};
 ghost use Rattle.file_write.specs.Writing.{circuitConditions};
 ghost use Rattle.call_merge.specs.Call.{MergedFrom};
 ghost use Rattle.merge_classes.specs.Passes.{Quotient};
@@ -22,17 +26,17 @@ ghost use Rattle.merge_classes.specs.Passes.{Quotient};
 // The class of each part, and the merged pattern at the front of three tables; returns its size. The pattern's table on itself and the
 // rows of linked classes are scratch.
 fn quotient(
-    kinds: &[u16],
+    kinds: &[u32],
     starts: &[u16],
     ends: &[u16],
     classes: &mut [u8],
     table: &mut [u32],
     rows: &mut [u32],
-    mk: &mut [u16],
+    mk: &mut [u32],
     ms: &mut [u16],
     me: &mut [u16],
 ) -> Pattern
-    requires { ⌜ first (circuitConditions role.Pattern (now kinds) (now starts) (now ends)) ≡ Verdict.accept ⌝ }
+    requires { ⌜ first (circuitConditions role.Pattern editions.First (now kinds) [] (now starts) (now ends)) ≡ Verdict.accept ⌝ }
     requires { ⌜ (length (now classes) ≡ length (now kinds)) × (length (now table) ≡ length (now kinds)) × (length (now rows) ≡ 32) ⌝ }
     requires { ⌜ (32 ≤ length (now mk)) × (256 ≤ length (now ms)) × (256 ≤ length (now me)) ⌝ }
     ensures { λ r. ⌜ Quotient (circuit (now (kinds .entry)) (now (starts .entry)) (now (ends .entry))) (now (classes .exit)) (now (mk .exit)) (now (ms .exit)) (now (me .exit)) r ⌝ }
@@ -48,19 +52,21 @@ fn quotient(
 // The class of each part, and the merged file at the front of bytes that have room for the pattern's own file. A merged pattern is a
 // pattern, so that writing it is not refused.
 pub fn merge_circuit(
-    kinds: &[u16],
+    edition: Edition,
+    kinds: &[u32],
     starts: &[u16],
     ends: &[u16],
     classes: &mut [u8],
     out: &mut [u8],
 ) -> MergeAnswer
-    requires { ⌜ first (circuitConditions role.Pattern (now kinds) (now starts) (now ends)) ≡ Verdict.accept ⌝ }
-    requires { ⌜ (length (now classes) ≡ length (now kinds)) × (lengthOf (length (now kinds)) (length (now starts)) ≤ length (now out)) ⌝ }
-    ensures { λ r. ⌜ MergedFrom (circuit (now (kinds .entry)) (now (starts .entry)) (now (ends .entry))) r (now (classes .exit)) (now (out .entry)) (now (out .exit)) ⌝ }
+    requires { ⌜ first (circuitConditions role.Pattern editions.First (now kinds) [] (now starts) (now ends)) ≡ Verdict.accept ⌝ }
+    requires { ⌜ (length (now classes) ≡ length (now kinds)) × (lengthOf edition (length (now kinds)) (length (now starts)) ≤ length (now out)) ⌝ }
+    requires { ⌜ LabelsFit edition (now kinds) ⌝ }
+    ensures { λ r. ⌜ MergedFrom edition (circuit (now (kinds .entry)) (now (starts .entry)) (now (ends .entry))) r (now (classes .exit)) (now (out .entry)) (now (out .exit)) ⌝ }
 {
     let mut table = [0u32; Pattern::MAX_NODES];
     let mut rows = [0u32; Pattern::MAX_NODES];
-    let mut mk = [0u16; Pattern::MAX_NODES];
+    let mut mk = [0u32; Pattern::MAX_NODES];
     let mut ms = [0u16; Pattern::MAX_LINKS];
     let mut me = [0u16; Pattern::MAX_LINKS];
     let n = kinds.len();
@@ -77,7 +83,14 @@ pub fn merge_circuit(
     );
     let count = size.nodes;
     let links = size.links;
-    let written = file_write::write(Role::Pattern, &mk[..count], &ms[..links], &me[..links], out);
+    let written = file_write::write_circuit(
+        Role::Pattern,
+        edition,
+        &mk[..count],
+        &ms[..links],
+        &me[..links],
+        out,
+    );
     match written {
         WriteAnswer::Written(length) => MergeAnswer::Merged(count, length),
         WriteAnswer::Refused(x) => MergeAnswer::Refused(x),

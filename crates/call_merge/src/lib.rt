@@ -1,5 +1,6 @@
 // The merging call: the merged pattern of a pattern file.
 use crate::circuits::merge_circuit;
+use file_format::Edition;
 use file_format::File;
 use file_format::FileVerdict;
 use file_format::Pattern;
@@ -7,6 +8,7 @@ use file_format::Refusal;
 use file_format::Role;
 use file_read::load;
 ghost use mathlib.Core.Path.{_≡_};
+ghost use Rattle.file_format.specs.Layout.{inEdition};
 ghost use Rattle.call_merge.specs.Call.{mergeReply, merging};
 
 mod circuits;
@@ -20,13 +22,13 @@ pub enum MergeAnswer {
 // Merges the parts of a pattern file that match each other: the number of classes and the merged file's length, with the class of each
 // part, a byte each, and the merged file at the front of the two tables; or the refusal, which leaves them as they were. The file is read
 // and both lengths are tested before anything is written to the lent tables.
-pub fn merge(pattern: &[u8], classes: &mut [u8], out: &mut [u8]) -> MergeAnswer
-    ensures { λ r. ⌜ record { reply = mergeReply r; classes = now (classes .exit); out = now (out .exit) } ≡ merging (now (pattern .entry)) (now (classes .entry)) (now (out .entry)) ⌝ }
+pub fn merge(edition: Edition, pattern: &[u8], classes: &mut [u8], out: &mut [u8]) -> MergeAnswer
+    ensures { λ r. ⌜ record { reply = mergeReply r; classes = now (classes .exit); out = now (out .exit) } ≡ merging (inEdition edition (now (pattern .entry))) (now (classes .entry)) (now (out .entry)) ⌝ }
 {
-    let mut pk = [0u16; Pattern::MAX_NODES];
+    let mut pk = [0u32; Pattern::MAX_NODES];
     let mut ps = [0u16; Pattern::MAX_LINKS];
     let mut pe = [0u16; Pattern::MAX_LINKS];
-    let read = load(Role::Pattern, pattern, &mut pk, &mut ps, &mut pe);
+    let read = load(Role::Pattern, edition, pattern, &mut pk, &mut ps, &mut pe);
     let verdict = read.verdict;
     if let FileVerdict::Refused(x) = verdict {
         return MergeAnswer::Refused(x);
@@ -43,5 +45,12 @@ pub fn merge(pattern: &[u8], classes: &mut [u8], out: &mut [u8]) -> MergeAnswer
     if out.len() < pattern.len() {
         return MergeAnswer::Refused(short);
     }
-    merge_circuit(&pk[..n], &ps[..m], &pe[..m], &mut classes[..n], out)
+    merge_circuit(
+        edition,
+        &pk[..n],
+        &ps[..m],
+        &pe[..m],
+        &mut classes[..n],
+        out,
+    )
 }

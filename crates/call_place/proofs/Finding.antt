@@ -10,9 +10,9 @@ use Rattle.file_format.specs.declared.Role.the-variants.{Pattern}
 use Rattle.file_format.specs.declared.File.the-variants.{Neither}
 use Rattle.file_format.specs.declared.Refusal.{Refusal}
 use Rattle.file_format.specs.Circuit.{circuitOf}
-use Rattle.file_format.specs.Layout.{nodesOf, linksOf, startsOf, endsOf}
+use Rattle.file_format.specs.Layout.{CircuitFile, nodesOf, linksOf, startsOf, endsOf}
 use Rattle.file_format.specs.Refusals.{Verdict, accept, refuse, first, centreOutside}
-use Rattle.file_format.proofs.Fields.{length-kinds, length-starts}
+use Rattle.file_format.proofs.Fields.{length-labels, length-starts}
 use Rattle.file_format.proofs.Refusals.{first-accept, first-refuse}
 use Rattle.file_pair.specs.declared.Pair.{Pair}
 use Rattle.file_pair.specs.Pair.{pairConditions}
@@ -71,7 +71,7 @@ module _ (r : ℕ) (p b : Circuit) (w : ℕ) (nodes links table distances : List
 -- ---- two files that were read
 
 -- what the search starts from
-pub ready-drawn : {pattern board : List ℕ} {read : Pair} {partKinds nodeKinds : List ℕ} {t : Tables} → BothPrepared pattern board read partKinds nodeKinds t
+pub ready-drawn : {pattern board : CircuitFile} {read : Pair} {partKinds nodeKinds : List ℕ} {t : Tables} → BothPrepared pattern board read partKinds nodeKinds t
     → SomeDrawn (take (read .parts) partKinds) (take (read .nodes) nodeKinds) t
 ready-drawn {pattern} {board} b =
     record {
@@ -83,7 +83,7 @@ ready-drawn {pattern} {board} b =
       prepared = rw (b .parts .content, b .nodes .content) (b .prepared);
     }
 
-module _ (reach : Reach) (pattern board : List ℕ) (w : ℕ) (nodes links table distances : List ℕ) where
+module _ (reach : Reach) (pattern board : CircuitFile) (w : ℕ) (nodes links table distances : List ℕ) where
   -- what the call comes to
   abbrev outcome : PlaceOutcome
   outcome = placeAt pattern board w (radiusFor reach (radiusOf (circuitOf pattern))) nodes links table distances
@@ -109,7 +109,7 @@ module _ (reach : Reach) (pattern board : List ℕ) (w : ℕ) (nodes links table
   find-accepted : first (pairConditions Pattern pattern board) ≡ accept
       → placeOn (radiusFor reach (radiusOf (circuitOf pattern))) (circuitOf pattern) (circuitOf board) w nodes links table distances ≡ outcome
   unfolding placeOn placeAt
-  find-accepted e = rw (inputs-go-on e, length-kinds board, length-starts board)
+  find-accepted e = rw (inputs-go-on e, length-labels board, length-starts board)
 
   pub find-read : {p : Pair} {partKinds nodeKinds : List ℕ} {t : Tables} {r : ℕ} → first (pairConditions Pattern pattern board) ≡ accept
       → BothPrepared pattern board p partKinds nodeKinds t → r ≡ radiusFor reach (p .radius) → {o : PlaceOutcome}
@@ -117,7 +117,7 @@ module _ (reach : Reach) (pattern board : List ℕ) (w : ℕ) (nodes links table
       → o ≡ outcome
   unfolding ready-drawn radiusOf
   find-read {r = r} ok both reached {o} every =
-      let measured = both .measured ∙ sym (ap (λ (n : ℕ). radius n (startsOf pattern) (endsOf pattern)) (length-kinds pattern)) in
+      let measured = both .measured ∙ sym (ap (λ (n : ℕ). radius n (startsOf pattern) (endsOf pattern)) (length-labels pattern)) in
       let some = ready-drawn both in
       let e : o ≡ placeOn r (circuitOf pattern) (circuitOf board) w nodes links table distances =
       rw (both .parts .content, both .nodes .content) at (every (startsOf pattern) (endsOf pattern) (startsOf board) (endsOf board) (some .drawn) (some .prepared)) in

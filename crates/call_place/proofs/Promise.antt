@@ -20,11 +20,11 @@ use Rattle.file_format.specs.declared.File.the-variants.{Neither}
 use Rattle.file_format.specs.declared.Refusal.{Refusal}
 use Rattle.file_format.specs.declared.Role.the-variants.{Pattern, Board}
 use Rattle.file_format.specs.Circuit.{circuitOf}
-use Rattle.file_format.specs.Layout.{nodesOf, linksOf, startsOf, endsOf}
+use Rattle.file_format.specs.Layout.{CircuitFile, nodesOf, linksOf, startsOf, endsOf}
 use Rattle.file_format.specs.Reading.{filled}
 use Rattle.file_format.specs.Refusals.{Condition, accept, refuse, first, fileConditions, centreOutside, Accepted}
 use Rattle.file_format.proofs.Accepted.{accepted-bounded}
-use Rattle.file_format.proofs.Fields.{length-kinds, length-starts}
+use Rattle.file_format.proofs.Fields.{length-labels, length-starts}
 use Rattle.file_format.proofs.Refusals.{accepted, first-accept, first-parts, first-holds, refuses-iff}
 use Rattle.file_pair.specs.Pair.{pairConditions}
 use Rattle.file_pair.proofs.Both.{pair-accept, pair-parts}
@@ -67,7 +67,7 @@ module _ (pattern board : Circuit) (w r : ℕ) where
 
 -- ---- a call
 
-module _ (pattern board : List ℕ) (w r : ℕ) (nodes links table distances : List ℕ) where
+module _ (pattern board : CircuitFile) (w r : ℕ) (nodes links table distances : List ℕ) where
   -- the two circuits, the conditions on the inputs, and what the call comes to
   abbrev P : Circuit
   P = circuitOf pattern
@@ -187,17 +187,17 @@ module _ (pattern board : List ℕ) (w r : ℕ) (nodes links table distances : L
       distances-are = rw (result-is, ok)
 
       distances-size : length (distancesOf B w r) ≡ nodesOf board
-      distances-size = length-ballDistances B w r ∙ length-kinds board
+      distances-size = length-ballDistances B w r ∙ length-labels board
 
       -- the first N node bytes, M link bytes and N sets are the place's, and the first N distances the ball's
       pub nodes-front : take (nodesOf board) (result .nodes) ≡ placeNodes P B w r
-      nodes-front = rw nodes-are (take-at (placeNodes P B w r) _ (nodesOf board) (nodes-marks P B w r .size ∙ length-kinds board))
+      nodes-front = rw nodes-are (take-at (placeNodes P B w r) _ (nodesOf board) (nodes-marks P B w r .size ∙ length-labels board))
 
       pub links-front : take (linksOf board) (result .links) ≡ placeLinks P B w r
       links-front = rw links-are (take-at (placeLinks P B w r) _ (linksOf board) (links-marks P B w r .size ∙ length-starts board))
 
       pub table-front : take (nodesOf board) (result .table) ≡ placeTable P B w r
-      table-front = rw table-is (take-at (placeTable P B w r) _ (nodesOf board) (length-table P B w r ∙ length-kinds board))
+      table-front = rw table-is (take-at (placeTable P B w r) _ (nodesOf board) (length-table P B w r ∙ length-labels board))
 
       pub distances-front : take (nodesOf board) (result .distances) ≡ distancesOf B w r
       distances-front = rw distances-are (take-at (distancesOf B w r) _ (nodesOf board) distances-size)
@@ -205,7 +205,7 @@ module _ (pattern board : List ℕ) (w r : ℕ) (nodes links table distances : L
       -- "Accepted calls leave entries past those needed."
       pub nodes-rest : drop (nodesOf board) (result .nodes) ≡ drop (nodesOf board) nodes
       nodes-rest =
-          let size : length (placeNodes P B w r) ≡ nodesOf board = nodes-marks P B w r .size ∙ length-kinds board in
+          let size : length (placeNodes P B w r) ≡ nodesOf board = nodes-marks P B w r .size ∙ length-labels board in
           rw nodes-are (drop-at (placeNodes P B w r) _ (nodesOf board) size ∙ ap (λ (k : ℕ). drop k nodes) size)
 
       pub links-rest : drop (linksOf board) (result .links) ≡ drop (linksOf board) links
@@ -215,7 +215,7 @@ module _ (pattern board : List ℕ) (w r : ℕ) (nodes links table distances : L
 
       pub table-rest : drop (nodesOf board) (result .table) ≡ drop (nodesOf board) table
       table-rest =
-          let size : length (placeTable P B w r) ≡ nodesOf board = length-table P B w r ∙ length-kinds board in
+          let size : length (placeTable P B w r) ≡ nodesOf board = length-table P B w r ∙ length-labels board in
           rw table-is (drop-at (placeTable P B w r) _ (nodesOf board) size ∙ ap (λ (k : ℕ). drop k table) size)
 
       pub distances-rest : drop (nodesOf board) (result .distances) ≡ drop (nodesOf board) distances
@@ -227,12 +227,12 @@ module _ (pattern board : List ℕ) (w r : ℕ) (nodes links table distances : L
       distances-mean v h =
           let few = accepted-bounded board-accepted .nodes in
           rw (distances-are, List·getD-append (distancesOf B w r) (drop (length (distancesOf B w r)) distances) 0 v (rw distances-size h))
-          (distances-entry (admissible .links) w r v 0 (omega arith) (rw (length-kinds board) h))
+          (distances-entry (admissible .links) w r v 0 (omega arith) (rw (length-labels board) h))
 
       -- the table is as a ball lookup would leave it
       pub distances-ball : result .distances ≡ search.distances (nodesOf board) (startsOf board) (endsOf board) w r ++ drop (nodesOf board) distances
       unfolding distancesOf
-      distances-ball = distances-are ∙ rw (distances-size, length-kinds board)
+      distances-ball = distances-are ∙ rw (distances-size, length-labels board)
 
       -- the subgraph of the board that those bytes mark
       abbrev pub marked : Graph

@@ -7,7 +7,7 @@ use Rattle.file_format.specs.declared.Role.the-variants.{Pattern}
 use Rattle.file_format.specs.declared.File.the-variants.{Neither}
 use Rattle.file_format.specs.declared.Refusal.{Refusal}
 use Rattle.file_format.specs.Circuit.{circuitOf}
-use Rattle.file_format.specs.Layout.{nodesOf, linksOf}
+use Rattle.file_format.specs.Layout.{CircuitFile, nodesOf, linksOf}
 use Rattle.file_format.specs.Refusals.{Condition, Verdict, accept, refuse, first, centreOutside, shortTable}
 use Rattle.file_pair.specs.Pair.{pairConditions}
 use Rattle.table.specs.Reply.{noCounts}
@@ -28,7 +28,7 @@ abbrev pub placeConditions : ℕ → ℕ → ℕ → ℕ → ℕ → ℕ → ℕ
 placeConditions n m w nodes links table distances = centreOutside n w ∷ roomConditions n m nodes links table distances
 
 -- the pattern's 1 to 6 and 11 before the board's, then 7 and 8
-unfoldable pub inputConditions : List ℕ → List ℕ → ℕ → ℕ → ℕ → ℕ → ℕ → List Condition
+unfoldable pub inputConditions : CircuitFile → CircuitFile → ℕ → ℕ → ℕ → ℕ → ℕ → List Condition
 inputConditions pattern board w nodes links table distances =
     pairConditions Pattern pattern board ++ placeConditions (nodesOf board) (linksOf board) w nodes links table distances
 
@@ -39,7 +39,7 @@ decided (refuse x) nodes links table distances placed =
     record { reply = record { verdict = refuse x; counts = noCounts }; nodes = nodes; links = links; table = table; distances = distances }
 
 -- the call at a radius
-unfoldable pub placeAt : List ℕ → List ℕ → ℕ → ℕ → List ℕ → List ℕ → List ℕ → List ℕ → PlaceOutcome
+unfoldable pub placeAt : CircuitFile → CircuitFile → ℕ → ℕ → List ℕ → List ℕ → List ℕ → List ℕ → PlaceOutcome
 placeAt pattern board w r nodes links table distances =
     decided (first (inputConditions pattern board w (length nodes) (length links) (length table) (length distances))) nodes links table distances
     (placeAround (circuitOf pattern) (circuitOf board) w r nodes links table distances)

@@ -1,6 +1,7 @@
 // The place calls: a pattern file, the board of another file and a centre, at the pattern's radius or at a radius given.
 use call_prepare::read_prepared;
 use file_format::Board;
+use file_format::Editions;
 use file_format::File;
 use file_format::FileVerdict;
 use file_format::Pattern;
@@ -15,6 +16,7 @@ use table::MASKS;
 ghost use mathlib.Core.Bool.{cond};
 ghost use mathlib.Core.Path.{_≡_};
 ghost use Rattle.file_format.specs.Circuit.{circuitOf};
+ghost use Rattle.file_format.specs.Layout.{inEdition};
 ghost use Rattle.file_format.specs.Refusals.{accept, refuse, first};
 ghost use Rattle.table.specs.Prepared.{tables};
 ghost use Rattle.table.specs.Reply.{noCounts};
@@ -90,8 +92,8 @@ fn roomy(n: usize, m: usize, lent: Lengths) -> bool
 // The call on two circuits that were read and prepared. Everything is tested, and the place found, before anything is written to the lent
 // tables. The last offset is how many links the board has.
 fn find_on(
-    part_kinds: &[u16],
-    node_kinds: &[u16],
+    part_kinds: &[u32],
+    node_kinds: &[u32],
     masks: &[u32],
     offsets: &[u16],
     stretches: &[u16],
@@ -150,6 +152,7 @@ fn find_on(
 // The call on two files.
 fn find(
     reach: Reach,
+    editions: Editions,
     pattern: &[u8],
     board: &[u8],
     centre: usize,
@@ -159,14 +162,15 @@ fn find(
     distances: &mut [u16],
 ) -> PlaceAnswer
     ensures { λ a. ⌜ record { reply = placeReply a; nodes = now (nodes .exit); links = now (links .exit); table = now (table .exit); distances = now (distances .exit) }
-        ≡ placeAt (now (pattern .entry)) (now (board .entry)) centre (radiusFor reach (radiusOf (circuitOf (now (pattern .entry))))) (now (nodes .entry)) (now (links .entry)) (now (table .entry)) (now (distances .entry)) ⌝ }
+        ≡ placeAt (inEdition (editions .pattern) (now (pattern .entry))) (inEdition (editions .board) (now (board .entry))) centre (radiusFor reach (radiusOf (circuitOf (inEdition (editions .pattern) (now (pattern .entry)))))) (now (nodes .entry)) (now (links .entry)) (now (table .entry)) (now (distances .entry)) ⌝ }
 {
-    let mut pk = [0u16; Pattern::MAX_NODES];
-    let mut nk = [0u16; Board::MAX_NODES];
+    let mut pk = [0u32; Pattern::MAX_NODES];
+    let mut nk = [0u32; Board::MAX_NODES];
     let mut masks = [0u32; MASKS];
     let mut offsets = [0u16; OFFSETS];
     let mut stretches = [0u16; LINKS];
     let read = read_prepared(
+        editions,
         pattern,
         board,
         &mut pk,
@@ -200,6 +204,7 @@ fn find(
 // place and else 0, a set of parts per node, and each node's distance from the centre, 65,535 outside the ball, at the front of the four
 // tables; or the refusal, which leaves them as they were.
 pub fn place(
+    editions: Editions,
     pattern: &[u8],
     board: &[u8],
     centre: usize,
@@ -209,10 +214,11 @@ pub fn place(
     distances: &mut [u16],
 ) -> PlaceAnswer
     ensures { λ a. ⌜ record { reply = placeReply a; nodes = now (nodes .exit); links = now (links .exit); table = now (table .exit); distances = now (distances .exit) }
-        ≡ placeAt (now (pattern .entry)) (now (board .entry)) centre (radiusOf (circuitOf (now (pattern .entry)))) (now (nodes .entry)) (now (links .entry)) (now (table .entry)) (now (distances .entry)) ⌝ }
+        ≡ placeAt (inEdition (editions .pattern) (now (pattern .entry))) (inEdition (editions .board) (now (board .entry))) centre (radiusOf (circuitOf (inEdition (editions .pattern) (now (pattern .entry))))) (now (nodes .entry)) (now (links .entry)) (now (table .entry)) (now (distances .entry)) ⌝ }
 {
     find(
         Reach::Own,
+        editions,
         pattern,
         board,
         centre,
@@ -225,6 +231,7 @@ pub fn place(
 
 // The same at a radius given.
 pub fn place_within(
+    editions: Editions,
     pattern: &[u8],
     board: &[u8],
     centre: usize,
@@ -235,10 +242,11 @@ pub fn place_within(
     distances: &mut [u16],
 ) -> PlaceAnswer
     ensures { λ a. ⌜ record { reply = placeReply a; nodes = now (nodes .exit); links = now (links .exit); table = now (table .exit); distances = now (distances .exit) }
-        ≡ placeAt (now (pattern .entry)) (now (board .entry)) centre radius (now (nodes .entry)) (now (links .entry)) (now (table .entry)) (now (distances .entry)) ⌝ }
+        ≡ placeAt (inEdition (editions .pattern) (now (pattern .entry))) (inEdition (editions .board) (now (board .entry))) centre radius (now (nodes .entry)) (now (links .entry)) (now (table .entry)) (now (distances .entry)) ⌝ }
 {
     find(
         Reach::Given(radius),
+        editions,
         pattern,
         board,
         centre,

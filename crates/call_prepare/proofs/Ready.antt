@@ -6,6 +6,7 @@ use Rattle.graph.specs.Circuit.{Circuit}
 use Rattle.file_format.specs.declared.Role.the-variants.{Pattern}
 use Rattle.file_format.specs.declared.FileVerdict.the-variants as verdict
 use Rattle.file_format.specs.declared.Refusal.{Refusal}
+use Rattle.file_format.specs.Layout.{CircuitFile}
 use Rattle.file_format.specs.Reading.{verdictOf, front}
 use Rattle.file_format.specs.Refusals.{accept, refuse, first}
 use Rattle.file_format.proofs.Reading.{stands-room}
@@ -18,7 +19,7 @@ use Rattle.call_prepare.specs.Read.{BothPrepared, PairPrepared}
 
 -- ---- as the reading goes
 
-module _ {pattern board : List ℕ} {read : Pair} {parts nodes : Circuit} (p : PairRead Pattern pattern board read parts nodes) where
+module _ {pattern board : CircuitFile} {read : Pair} {parts nodes : Circuit} (p : PairRead Pattern pattern board read parts nodes) where
   -- a file is refused
   pub pair-turned : {partKinds nodeKinds : List ℕ} {t : Tables} {x : Refusal} → read .verdict ≡ verdict.Refused x
       → PairPrepared pattern board read partKinds nodeKinds t
@@ -44,7 +45,7 @@ module _ {pattern board : List ℕ} {read : Pair} {parts nodes : Circuit} (p : P
 
 -- ---- what a call knows of the two files
 
-module _ {pattern board : List ℕ} {read : Pair} {partKinds nodeKinds : List ℕ} {t : Tables} (p : PairPrepared pattern board read partKinds nodeKinds t) where
+module _ {pattern board : CircuitFile} {read : Pair} {partKinds nodeKinds : List ℕ} {t : Tables} (p : PairPrepared pattern board read partKinds nodeKinds t) where
   -- what is passed up is the first refusal
   pub turned-pair : {x : Refusal} → read .verdict ≡ verdict.Refused x → first (pairConditions Pattern pattern board) ≡ refuse x
   unfolding verdictOf

@@ -11,11 +11,11 @@ use Rattle.graph.specs.Search.{radius}
 use Rattle.file_format.specs.declared.Role.the-variants.{Pattern}
 use Rattle.file_format.specs.declared.File.the-variants.{Neither}
 use Rattle.file_format.specs.declared.Refusal.{Refusal}
-use Rattle.file_format.specs.Layout.{startsOf, endsOf}
+use Rattle.file_format.specs.Layout.{firstEdition, startsOf, endsOf}
 use Rattle.file_format.specs.Reading.{filled, front}
 use Rattle.file_format.specs.Refusals.{refuse, first, shortTable}
 use Rattle.file_format.specs.Reply.{reply}
-use Rattle.file_format.proofs.Fields.{length-kinds}
+use Rattle.file_format.proofs.Fields.{length-labels}
 use Rattle.file_pair.specs.declared.Pair.{Pair}
 use Rattle.file_pair.proofs.Both.{pair-radius}
 use Rattle.file_pair.specs.Pair.{pairConditions, BothRead}
@@ -44,19 +44,19 @@ module _ (need : ℕ) (p : Piece) (out : List ℕ) where
 -- ---- two files
 
 module _ (pattern board : List ℕ) (from found : ℕ) (out : List ℕ) where
-  pub reporting-refused : {x : Refusal} → first (pairConditions Pattern pattern board) ≡ refuse x
+  pub reporting-refused : {x : Refusal} → first (pairConditions Pattern (firstEdition pattern) (firstEdition board)) ≡ refuse x
       → outcomeFor longestRefusal (refusalPiece x from found) out ≡ reporting pattern board from found out
   unfolding reporting needFor pieceOf pieceFor
   reporting-refused e = rw e
 
-  pub reporting-lines : {read : Pair} {parts nodes : Circuit} → BothRead Pattern pattern board read parts nodes
+  pub reporting-lines : {read : Pair} {parts nodes : Circuit} → BothRead Pattern (firstEdition pattern) (firstEdition board) read parts nodes
       → outcomeFor longestLine (linesPiece (front (read .parts) (read .joins) parts) (front (read .nodes) (read .links) nodes) from found (length out)) out
       ≡ reporting pattern board from found out
   unfolding reporting needFor pieceOf pieceFor
   reporting-lines read = rw (read .verdict, read .drawn .content, read .given .content)
 
 -- the radius that comes with the reading is the pattern's
-pub read-radius : {pattern board : List ℕ} {read : Pair} {parts nodes : Circuit} → BothRead Pattern pattern board read parts nodes
+pub read-radius : {pattern board : List ℕ} {read : Pair} {parts nodes : Circuit} → BothRead Pattern (firstEdition pattern) (firstEdition board) read parts nodes
     → read .radius ≡ radiusOf (front (read .parts) (read .joins) parts)
 unfolding radiusOf
-read-radius {pattern} both = pair-radius both ∙ sym (ap (λ (n : ℕ). radius n (startsOf pattern) (endsOf pattern)) (length-kinds pattern)) ∙ ap radiusOf (sym (both .drawn .content))
+read-radius {pattern} both = pair-radius both ∙ sym (ap (λ (n : ℕ). radius n (startsOf (firstEdition pattern)) (endsOf (firstEdition pattern))) (length-labels (firstEdition pattern))) ∙ ap radiusOf (sym (both .drawn .content))

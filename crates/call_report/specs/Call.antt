@@ -10,6 +10,7 @@ use Rattle.graph.specs.Circuit.{Circuit}
 use Rattle.file_format.specs.declared.Role.the-variants.{Pattern}
 use Rattle.file_format.specs.declared.Refusal.{Refusal}
 use Rattle.file_format.specs.Circuit.{circuitOf}
+use Rattle.file_format.specs.Layout.{firstEdition}
 use Rattle.file_format.specs.Reading.{filled}
 use Rattle.file_format.specs.Refusals.{Verdict, accept, refuse, first, shortTable}
 use Rattle.file_format.specs.Reply.{Reply, reply}
@@ -27,7 +28,7 @@ refusalPiece x from found =
 
 -- whether a file is refused; "the pattern's 1 to 6 before the board's"
 abbrev pub verdictOf : List ℕ → List ℕ → Verdict
-verdictOf pattern board = first (pairConditions Pattern pattern board)
+verdictOf pattern board = first (pairConditions Pattern (firstEdition pattern) (firstEdition board))
 
 -- the piece of two files, by that
 unfoldable pub pieceFor : Verdict → Circuit → Circuit → ℕ → ℕ → ℕ → Piece
@@ -35,7 +36,7 @@ pieceFor accept pattern board from found room = linesPiece pattern board from fo
 pieceFor (refuse x) pattern board from found room = refusalPiece x from found
 
 unfoldable pub pieceOf : List ℕ → List ℕ → ℕ → ℕ → ℕ → Piece
-pieceOf pattern board from found room = pieceFor (verdictOf pattern board) (circuitOf pattern) (circuitOf board) from found room
+pieceOf pattern board from found room = pieceFor (verdictOf pattern board) (circuitOf (firstEdition pattern)) (circuitOf (firstEdition board)) from found room
 
 -- ---- the call
 

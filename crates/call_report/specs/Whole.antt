@@ -9,6 +9,7 @@ use lib.ListN.{length, getD, take}
 use Rattle.base_lists.specs.Below.{countBelow, concatBelow}
 use Rattle.graph.specs.Circuit.{Circuit}
 use Rattle.file_format.specs.Circuit.{circuitOf}
+use Rattle.file_format.specs.Layout.{firstEdition}
 use Rattle.file_format.specs.Refusals.{Verdict, accept, refuse}
 use Rattle.report.specs.Report.{hasPlace, centreLine, refusalLine, linesOf}
 use Rattle.call_report.specs.Call.{verdictOf, ReportOutcome, reporting}
@@ -33,13 +34,13 @@ placesFor (refuse x) pattern board k = 0
 
 -- the same of two files
 abbrev pub itemsOf : List ℕ → List ℕ → ℕ
-itemsOf pattern board = itemsFor (verdictOf pattern board) (circuitOf board)
+itemsOf pattern board = itemsFor (verdictOf pattern board) (circuitOf (firstEdition board))
 
 abbrev pub prefixOf : List ℕ → List ℕ → ℕ → List ℕ
-prefixOf pattern board = prefixFor (verdictOf pattern board) (circuitOf pattern) (circuitOf board)
+prefixOf pattern board = prefixFor (verdictOf pattern board) (circuitOf (firstEdition pattern)) (circuitOf (firstEdition board))
 
 abbrev pub placesOf : List ℕ → List ℕ → ℕ → ℕ
-placesOf pattern board = placesFor (verdictOf pattern board) (circuitOf pattern) (circuitOf board)
+placesOf pattern board = placesFor (verdictOf pattern board) (circuitOf (firstEdition pattern)) (circuitOf (firstEdition board))
 
 -- a piece puts the items from one on up to the one where it says to go on
 pub record Follows (v : Verdict) (pattern board : Circuit) (from : ℕ) (p : Piece) : Type 0 where

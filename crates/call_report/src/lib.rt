@@ -1,5 +1,7 @@
 // The report call: the report of a pattern file on a board file, put piece by piece into a lent buffer.
 use file_format::Board;
+use file_format::Edition;
+use file_format::Editions;
 use file_format::File;
 use file_format::FileVerdict;
 use file_format::Pattern;
@@ -76,14 +78,18 @@ fn answer_refused(x: Refusal, from: usize, found: u16, out: &mut [u8]) -> Report
 pub fn report(pattern: &[u8], board: &[u8], from: usize, found: u16, out: &mut [u8]) -> ReportAnswer
     ensures { λ a. ⌜ record { reply = reportReply a; out = now (out .exit) } ≡ reporting (now (pattern .entry)) (now (board .entry)) from found (now (out .entry)) ⌝ }
 {
-    let mut pk = [0u16; Pattern::MAX_NODES];
+    let mut pk = [0u32; Pattern::MAX_NODES];
     let mut ps = [0u16; Pattern::MAX_LINKS];
     let mut pe = [0u16; Pattern::MAX_LINKS];
-    let mut nk = [0u16; Board::MAX_NODES];
+    let mut nk = [0u32; Board::MAX_NODES];
     let mut ns = [0u16; Board::MAX_LINKS];
     let mut ne = [0u16; Board::MAX_LINKS];
     let read = read_pair(
         Role::Pattern,
+        Editions {
+            pattern: Edition::First,
+            board: Edition::First,
+        },
         pattern,
         board,
         &mut pk,

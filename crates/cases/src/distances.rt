@@ -12,6 +12,7 @@ use crate::show::show_refusal;
 use crate::show::wide;
 use call_distance::BallAnswer;
 use call_distance::RadiusAnswer;
+use file_format::Edition;
 ghost use Prim.Native.Nat.{_+_, _*_, _≤_};
 ghost use lib.ListN.{length};
 
@@ -43,7 +44,7 @@ fn query(b: &[u8], at: usize, file: &[u8], out: &mut [u16])
     let radius = number(b, at + 4) as u16;
     let lent = least(number(b, at + 6), out.len());
     refill(out);
-    show_ball(call_distance::ball(file, centre, radius, &mut out[..lent]));
+    show_ball(call_distance::ball(Edition::First, file, centre, radius, &mut out[..lent]));
     show_number(digest(out));
     end_line();
 }
@@ -66,7 +67,7 @@ fn step(b: &[u8], at: usize, out: &mut [u16]) -> usize
     let from = first + 8 * count;
     let size = least(number(b, at), b.len() - from);
     let to = from + size;
-    show_radius(call_distance::radius(&b[from..to]));
+    show_radius(call_distance::radius(Edition::First, &b[from..to]));
     end_line();
     queries(b, first, count, &b[from..to], out);
     to

@@ -10,6 +10,8 @@ use crate::show::show_number;
 use crate::show::show_refusal;
 use call_match::TableAnswer;
 use call_match::match_table;
+use file_format::Edition;
+use file_format::Editions;
 use table::Counts;
 ghost use Prim.Native.Nat.{_+_, _≤_};
 ghost use lib.ListN.{length};
@@ -32,7 +34,15 @@ fn show_answer(answer: TableAnswer) {
 // One case: the answer and the table afterwards.
 fn run_case(pattern: &[u8], board: &[u8], table: &mut [u32]) {
     refill_sets(table);
-    show_answer(match_table(pattern, board, table));
+    show_answer(match_table(
+        Editions {
+            pattern: Edition::First,
+            board: Edition::First,
+        },
+        pattern,
+        board,
+        table,
+    ));
     show_number(digest_sets(table));
     end_line();
 }

@@ -52,7 +52,7 @@ fn run_case(
     fill(b, 2 * n, starts);
     fill(b, 2 * n + 2 * m, ends);
     refill_bytes(out);
-    show_answer(file_write::write(role, kinds, starts, ends, out));
+    show_answer(file_write::write_first(role, kinds, starts, ends, out));
     show_number(digest_bytes(out));
     end_line();
 }

@@ -11,17 +11,18 @@ use lib.ListN.{length}
 use Rattle.base_lists.specs.List.{all, Below}
 use Rattle.base_lists.proofs.Tests.{both, both-left, both-right, all-at, at-all}
 use Rattle.graph.proofs.Distance.{connected-iff, radius-is}
+use Rattle.file_format.specs.declared.Edition.{Edition}
 use Rattle.file_format.specs.declared.Refusal.{Refusal}
 use Rattle.file_format.specs.declared.Role.{Role}
 use Rattle.file_format.specs.declared.Role.the-variants.{Pattern}
 use Rattle.file_format.specs.Circuit.{circuitOf}
-use Rattle.file_format.specs.Layout.{kindsOf, startsOf, endsOf}
+use Rattle.file_format.specs.Layout.{CircuitFile, kindsOf, packagesOf, startsOf, endsOf}
 use Rattle.file_format.specs.Links.{linksBelow}
 use Rattle.file_format.specs.Reading.{ReadOutcome, readConditions, reading, filled}
 use Rattle.file_format.specs.Refusals.{Condition, Verdict, accept, refuse, first, fileConditions, Accepted, shortTable}
 use Rattle.file_format.specs.Reply.{readReply, reply}
 use Rattle.file_format.proofs.Accepted.{links-within}
-use Rattle.file_format.proofs.Fields.{length-kinds, length-starts, length-ends}
+use Rattle.file_format.proofs.Fields.{length-kinds, length-packages, length-starts, length-ends}
 use Rattle.file_format.proofs.Reading.{reading-filled}
 use Rattle.file_format.proofs.Refusals.{accepted, accepted-verdict, first-accept, first-parts, first-refuse, accepts-iff, refuses-by}
 use Rattle.file_format.proofs.Rising.{rising-iff}
@@ -30,6 +31,7 @@ use Rattle.table.specs.Reply.{replied}
 use Rattle.place.specs.Match.{found}
 use Rattle.place.specs.Outcome.{placeVerdict}
 use Rattle.file_write.specs.Writing.{writeConditions, writing}
+use Rattle.call_convert.specs.Call.{convertConditions, converting}
 use Rattle.call_distance.specs.Calls.{radiusCall, ballConditions, ballCall}
 use Rattle.call_match.specs.Call.{matchConditions, matching}
 use Rattle.call_place.specs.Call.{inputConditions}
@@ -69,40 +71,40 @@ keeps values old e = rw e
 -- ---- the calls
 
 verdict-read :
-    (role : Role) (file kinds starts ends : List ℕ) →
-    reading role file kinds starts ends .reply .verdict ≡ first (readConditions role file (length kinds) (length starts) (length ends))
+    (role : Role) (file : CircuitFile) (kinds packages starts ends : List ℕ) →
+    reading role file kinds packages starts ends .reply .verdict ≡ first (readConditions role file (length kinds) (length packages) (length starts) (length ends))
 unfolding reading
-verdict-read role file kinds starts ends = reply-verdict _ _
+verdict-read role file kinds packages starts ends = reply-verdict _ _
 
 reads :
-    (role : Role) (file kinds starts ends : List ℕ) →
-    Decided (readConditions role file (length kinds) (length starts) (length ends)) (reading role file kinds starts ends .reply .verdict)
-    (Unread kinds starts ends (reading role file kinds starts ends))
+    (role : Role) (file : CircuitFile) (kinds packages starts ends : List ℕ) →
+    Decided (readConditions role file (length kinds) (length packages) (length starts) (length ends)) (reading role file kinds packages starts ends .reply .verdict)
+    (Unread kinds packages starts ends (reading role file kinds packages starts ends))
 unfolding reading Unread
-reads role file kinds starts ends =
-    by-first (readConditions role file (length kinds) (length starts) (length ends)) (verdict-read role file kinds starts ends)
-    (λ x e. (keeps _ kinds e, keeps _ starts e, keeps _ ends e))
+reads role file kinds packages starts ends =
+    by-first (readConditions role file (length kinds) (length packages) (length starts) (length ends)) (verdict-read role file kinds packages starts ends)
+    (λ x e. (keeps _ kinds e, keeps _ packages e, keeps _ starts e, keeps _ ends e))
 
 writes :
-    (role : Role) (kinds starts ends out : List ℕ) →
-    Decided (writeConditions role kinds starts ends (length out)) (writing role kinds starts ends out .reply .verdict)
-    (writing role kinds starts ends out .out ≡ out)
+    (role : Role) (e : Edition) (kinds packages starts ends out : List ℕ) →
+    Decided (writeConditions role e kinds packages starts ends (length out)) (writing role e kinds packages starts ends out .reply .verdict)
+    (writing role e kinds packages starts ends out .out ≡ out)
 unfolding writing
-writes role kinds starts ends out =
-    by-first (writeConditions role kinds starts ends (length out)) (reply-verdict _ _) (λ x e. keeps _ out e)
+writes role e kinds packages starts ends out =
+    by-first (writeConditions role e kinds packages starts ends (length out)) (reply-verdict _ _) (λ x e. keeps _ out e)
 
-measures : (file : List ℕ) → Decided (fileConditions Pattern file) (radiusCall file .verdict) (Unit {0})
+measures : (file : CircuitFile) → Decided (fileConditions Pattern file) (radiusCall file .verdict) (Unit {0})
 unfolding radiusCall
 measures file = by-first (fileConditions Pattern file) (reply-verdict _ _) (λ x e. tt)
 
 balls :
-    (file : List ℕ) (w r : ℕ) (out : List ℕ) →
+    (file : CircuitFile) (w r : ℕ) (out : List ℕ) →
     Decided (ballConditions file w (length out)) (ballCall file w r out .reply .verdict) (ballCall file w r out .out ≡ out)
 unfolding ballCall
 balls file w r out = by-first (ballConditions file w (length out)) (reply-verdict _ _) (λ x e. keeps _ out e)
 
 matches :
-    (pattern board table : List ℕ) →
+    (pattern board : CircuitFile) (table : List ℕ) →
     Decided (matchConditions pattern board (length table)) (matching pattern board table .reply .verdict)
     (matching pattern board table .table ≡ table)
 unfolding matching
@@ -110,7 +112,7 @@ matches pattern board table =
     by-first (matchConditions pattern board (length table)) (replied-verdict _ _) (λ x e. keeps _ table e)
 
 merges :
-    (pattern classes out : List ℕ) →
+    (pattern : CircuitFile) (classes out : List ℕ) →
     Decided (mergeConditions pattern (length classes) (length out)) (merging pattern classes out .reply .verdict)
     ((merging pattern classes out .classes ≡ classes) × (merging pattern classes out .out ≡ out))
 unfolding merging
@@ -125,17 +127,23 @@ unfolding reporting outcomeFor
 reports pattern board from before out =
     by-first (shortTable (needFor (verdictOf pattern board)) (length out) ∷ []) (reply-verdict _ _) (λ x e. keeps _ out e)
 
+converts :
+    (role : Role) (to : Edition) (file : CircuitFile) (out : List ℕ) →
+    Decided (convertConditions role to file (length out)) (converting role to file out .reply .verdict) (converting role to file out .out ≡ out)
+unfolding converting
+converts role to file out = by-first (convertConditions role to file (length out)) (reply-verdict _ _) (λ x e. keeps _ out e)
+
 -- ---- the place calls: the conditions on the inputs, and then 9
 
 turned : (b : Bool) → cond b accept (refuse nine) ≡ cond (not b) (refuse nine) accept
 turned true = refl
 turned false = refl
 
-verdict-nine : (pattern board : List ℕ) (w r : ℕ) → placeVerdict (circuitOf pattern) (circuitOf board) w r ≡ first (noPlace pattern board w r ∷ [])
+verdict-nine : (pattern board : CircuitFile) (w r : ℕ) → placeVerdict (circuitOf pattern) (circuitOf board) w r ≡ first (noPlace pattern board w r ∷ [])
 unfolding placeVerdict first noPlace nine
 verdict-nine pattern board w r = turned (found (circuitOf pattern) (circuitOf board) w r)
 
-module _ (pattern board : List ℕ) (w r : ℕ) (lent : Lent) where
+module _ (pattern board : CircuitFile) (w r : ℕ) (lent : Lent) where
   abbrev inputs : List Condition
   inputs = inputConditions pattern board w (length (lent .nodes)) (length (lent .links)) (length (lent .table)) (length (lent .distances))
 
@@ -176,13 +184,13 @@ module _ (pattern board : List ℕ) (w r : ℕ) (lent : Lent) where
 
 -- ---- what is accepted, and what the conditions 4, 5, 6 and 11 test
 
-reads-as : (role : Role) (file : List ℕ) → Accepted role file ↔ ReadsAs role file
+reads-as : (role : Role) (file : CircuitFile) → Accepted role file ↔ ReadsAs role file
 unfolding ReadsAs readReply readConditions
 reads-as role file = (
-  λ a kinds starts ends k s t. ap (λ (o : ReadOutcome). o .reply .verdict) (reading-filled role file kinds starts ends (accepted-verdict a) k s t),
+  λ a kinds packages starts ends k p s t. ap (λ (o : ReadOutcome). o .reply .verdict) (reading-filled role file kinds packages starts ends (accepted-verdict a) k p s t),
   λ f.
-      let ok = f (kindsOf file) (startsOf file) (endsOf file) (le-of-eq (sym (length-kinds file))) (le-of-eq (sym (length-starts file))) (le-of-eq (sym (length-ends file))) in
-      accepted role file (first-parts (fileConditions role file) _ (sym (verdict-read role file (kindsOf file) (startsOf file) (endsOf file)) ∙ ok) .0),
+      let ok = f (kindsOf file) (packagesOf file) (startsOf file) (endsOf file) (le-of-eq (sym (length-kinds file))) (le-of-eq (sym (length-packages file))) (le-of-eq (sym (length-starts file))) (le-of-eq (sym (length-ends file))) in
+      accepted role file (first-parts (fileConditions role file) _ (sym (verdict-read role file (kindsOf file) (packagesOf file) (startsOf file) (endsOf file)) ∙ ok) .0),
 )
 
 all-below : (n : ℕ) (xs : List ℕ) → T (all (λ v. ltb v n) xs) ↔ Below n xs
@@ -212,6 +220,7 @@ decided-1 =
       places = places;
       merges = merges;
       reports = reports;
+      converts = converts;
       accepts = reads-as;
       below = below-iff;
       rises = rising-iff;

@@ -5,23 +5,24 @@ use mathlib.Core.Path.{_≡_, refl, sym, ap, subst, _∙_}
 use Prim.Native.Nat.{ℕ, _≤_, _<_}
 use native.Mathlib.Omega.{arith}
 use borrow.Author.Tests.{lt-ltb}
-use lib.Dec.{ltb}
+use lib.Dec.{T, ltb}
 use lib.ListN.{length, getD, take}
 use lib.Seq.{take-at}
-use Rattle.base_lists.specs.List.{Below}
+use Rattle.base_lists.specs.List.{all, Below}
 use Rattle.base_lists.proofs.Tests.{true-T, at-all}
 use Rattle.graph.specs.Graph.{Ball, Radius}
 use Rattle.graph.proofs.Walks.{radius-unique}
+use Rattle.file_format.specs.declared.Edition.{Edition}
 use Rattle.file_format.specs.declared.ReadAnswer.the-variants as read
 use Rattle.file_format.specs.declared.Role.{Role}
 use Rattle.file_format.specs.declared.Role.the-variants.{Pattern, Board, AnyPattern}
 use Rattle.file_format.specs.Circuit.{circuitOf}
-use Rattle.file_format.specs.Layout.{nodesOf, linksOf, lengthOf}
+use Rattle.file_format.specs.Layout.{CircuitFile, inEdition, packageCount, nodesOf, linksOf, lengthOf}
 use Rattle.file_format.specs.Reading.{ReadOutcome, readConditions, readAnswer, reading}
 use Rattle.file_format.specs.Refusals.{accept, first, Accepted}
 use Rattle.file_format.specs.Reply.{readReply, reply}
 use Rattle.file_format.proofs.Accepted.{accepted-bounded, accepted-within, accepted-connected}
-use Rattle.file_format.proofs.Fields.{length-kinds}
+use Rattle.file_format.proofs.Fields.{length-labels}
 use Rattle.file_format.proofs.Refusals.{accepted-verdict}
 use Rattle.table.proofs.Host.{everything-same, within-joins}
 use Rattle.table.specs.declared.Counts.{Counts}
@@ -35,7 +36,11 @@ use Rattle.place.proofs.Ball.{ball-host}
 use Rattle.place.proofs.Marks.{Marks, nodes-marks, links-marks}
 use Rattle.file_write.specs.declared.WriteAnswer.the-variants.{Written}
 use Rattle.file_write.specs.Writing.{WriteOutcome, writeConditions, writeAnswer, writing}
+use Rattle.file_write.proofs.FileFields.{packs-length}
+use Rattle.file_write.proofs.Writing.{sound, writing-accepted}
 use Rattle.file_write.proofs.RoundTrip.{written-reads, read-writes}
+use Rattle.call_convert.specs.Call.{convertedBytes, ConvertOutcome, converting}
+use Rattle.call_convert.proofs.Promise.{converted-length, converted-circuit, convert-sound, convert-accepts, there-and-back}
 use Rattle.call_match.specs.Call.{matching}
 use Rattle.call_match.proofs.Promise as match-call
 use Rattle.call_place.proofs.Promise.{counts-are, accept-or-nine, nine-iff, marked-place, nodes-front, links-front}
@@ -57,7 +62,7 @@ demand-1 = decided-1
 
 -- the table call
 table-matched :
-    (pattern board table : List ℕ) → Accepted AnyPattern pattern → Accepted Board board → nodesOf board ≤ length table →
+    (pattern board : CircuitFile) (table : List ℕ) → Accepted AnyPattern pattern → Accepted Board board → nodesOf board ≤ length table →
     Matched pattern board (matching pattern board table)
 unfolding answerCounts
 table-matched pattern board table a b room =
@@ -77,8 +82,8 @@ table-matched pattern board table a b room =
       run = run;
       kept = match-call.counts-ones pattern board table ok;
       struck = match-call.counts-struck pattern board table ok;
-      found = λ all. front ∙ sym (answer-found P B (everything B) (λ u h. rw ends at (all u (rw (length-kinds pattern) at h))) .last) ∙ sym ends;
-      missing = λ u h none. front ∙ sym (answer-missing P B (everything B) u (rw (length-kinds pattern) h) (λ v m. none v (rw ends m)) .last) ∙ rw (length-kinds board) (sym (none-tabulated (nodesOf board)));
+      found = λ all. front ∙ sym (answer-found P B (everything B) (λ u h. rw ends at (all u (rw (length-labels pattern) at h))) .last) ∙ sym ends;
+      missing = λ u h none. front ∙ sym (answer-missing P B (everything B) u (rw (length-labels pattern) h) (λ v m. none v (rw ends m)) .last) ∙ rw (length-labels board) (sym (none-tabulated (nodesOf board)));
       connected = λ c.
           let plain = answer-connected P B (everything B) most (accepted-connected c) in
           (row-counts P B (everything B) most host (counted ∙ sym (plain .counted)), front ∙ sym (plain .last) ∙ sym ends);
@@ -86,7 +91,7 @@ table-matched pattern board table a b room =
 
 -- the place calls' counts
 ball-counted :
-    (pattern board : List ℕ) (w r : ℕ) (lent : Lent) → Ready pattern board w lent →
+    (pattern board : CircuitFile) (w r : ℕ) (lent : Lent) → Ready pattern board w lent →
     RowCounts (graph pattern) (equal pattern board) (Ball (graph board) w r) (placed pattern board w r lent .reply .counts)
 unfolding placed
 ball-counted pattern board w r lent x =
@@ -97,28 +102,32 @@ ball-counted pattern board w r lent x =
 
 -- an accepted writing call has written a file of the length replied
 written :
-    (role : Role) (kinds starts ends out : List ℕ) → writing role kinds starts ends out .reply .verdict ≡ accept →
-    (size : ℕ) × (writing role kinds starts ends out .answer ≡ Written size) × (writing role kinds starts ends out .reply .values ≡ size ∷ [])
+    (role : Role) (e : Edition) (kinds packages starts ends out : List ℕ) → writing role e kinds packages starts ends out .reply .verdict ≡ accept →
+    (size : ℕ) × (writing role e kinds packages starts ends out .answer ≡ Written size) × (writing role e kinds packages starts ends out .reply .values ≡ size ∷ [])
 unfolding writing writeAnswer reply
-written role kinds starts ends out e =
-    let v : first (writeConditions role kinds starts ends (length out)) ≡ accept = sym (reply-verdict _ _) ∙ e in
-    (lengthOf (length kinds) (length starts), rw v, rw v)
+written role e kinds packages starts ends out a =
+    let v : first (writeConditions role e kinds packages starts ends (length out)) ≡ accept = sym (reply-verdict _ _) ∙ a in
+    (lengthOf e (length kinds) (length starts), rw v, rw v)
 
 -- and reads back
 reads-back :
-    (role : Role) (kinds starts ends out ks ss es : List ℕ) → writing role kinds starts ends out .reply .verdict ≡ accept →
-    length kinds ≤ length ks → length starts ≤ length ss → length ends ≤ length es →
-    ReadBack kinds starts ends
-    (reading role (take (getD (writing role kinds starts ends out .reply .values) 0 0) (writing role kinds starts ends out .out)) ks ss es)
+    (role : Role) (e : Edition) (kinds packages starts ends out ks ps ss es : List ℕ) → writing role e kinds packages starts ends out .reply .verdict ≡ accept →
+    length kinds ≤ length ks → packageCount e (length kinds) ≤ length ps → length starts ≤ length ss → length ends ≤ length es →
+    ReadBack e kinds packages starts ends
+    (reading role (inEdition e (take (getD (writing role e kinds packages starts ends out .reply .values) 0 0) (writing role e kinds packages starts ends out .out))) ks ps ss es)
 unfolding readReply
-reads-back role kinds starts ends out ks ss es e k s t =
-    let (size, answer, values) = written role kinds starts ends out e in
-    let same = written-reads role kinds starts ends out size answer ks ss es k s t in
+reads-back role e kinds packages starts ends out ks ps ss es a k p s t =
+    let (size, answer, values) = written role e kinds packages starts ends out a in
+    let same = written-reads role e kinds packages starts ends out size answer ks ps ss es k p s t in
+    let packs = packs-length e kinds packages (sound role e kinds packages starts ends (writing-accepted role e kinds packages starts ends out size answer .0) .given) in
     rw values (
     record {
       accepted = ap (λ (o : ReadOutcome). o .reply .verdict) same;
       values = ap (λ (o : ReadOutcome). o .reply .values) same;
       kindsAre = ap (λ (o : ReadOutcome). take (length kinds) (o .kinds)) same ∙ take-at kinds _ (length kinds) refl;
+      packagesAre =
+          ap (λ (o : ReadOutcome). take (packageCount e (length kinds)) (o .packages)) same
+          ∙ take-at (take (packageCount e (length kinds)) packages) _ (packageCount e (length kinds)) packs;
       startsAre = ap (λ (o : ReadOutcome). take (length starts) (o .starts)) same ∙ take-at starts _ (length starts) refl;
       endsAre = ap (λ (o : ReadOutcome). take (length ends) (o .ends)) same ∙ take-at ends _ (length ends) refl;
     }
@@ -126,30 +135,55 @@ reads-back role kinds starts ends out ks ss es e k s t =
 
 -- an accepted reading call has N and M
 was-read :
-    (role : Role) (file ks ss es : List ℕ) → reading role file ks ss es .reply .verdict ≡ accept →
-    reading role file ks ss es .answer ≡ read.Read (nodesOf file) (linksOf file)
+    (role : Role) (file : CircuitFile) (ks ps ss es : List ℕ) → reading role file ks ps ss es .reply .verdict ≡ accept →
+    reading role file ks ps ss es .answer ≡ read.Read (nodesOf file) (linksOf file)
 unfolding reading readAnswer
-was-read role file ks ss es e =
-    let v : first (readConditions role file (length ks) (length ss) (length es)) ≡ accept = sym (reply-verdict _ _) ∙ e in
+was-read role file ks ps ss es e =
+    let v : first (readConditions role file (length ks) (length ps) (length ss) (length es)) ≡ accept = sym (reply-verdict _ _) ∙ e in
     rw v
+
+-- bytes, as the round trips ask for them
+of-bytes : (file : CircuitFile) → Below 256 (file .bytes) → T (all (λ b. ltb b 256) (file .bytes))
+unfolding Below
+of-bytes file bytes = at-all (λ b. ltb b 256) (file .bytes) (λ i h. true-T (lt-ltb _ _ (bytes i h)))
 
 -- and its tables write back to the file
 writes-back :
-    (role : Role) (file ks ss es out : List ℕ) → Below 256 file → reading role file ks ss es .reply .verdict ≡ accept → length file ≤ length out →
-    take (length file)
-    (writing role (take (nodesOf file) (reading role file ks ss es .kinds)) (take (linksOf file) (reading role file ks ss es .starts))
-    (take (linksOf file) (reading role file ks ss es .ends)) out .out)
-    ≡ file
-unfolding Below
-writes-back role file ks ss es out bytes e room =
-    let small = at-all (λ b. ltb b 256) file (λ i h. true-T (lt-ltb _ _ (bytes i h))) in
-    ap (λ (o : WriteOutcome). take (length file) (o .out)) (read-writes role file small ks ss es out _ _ (was-read role file ks ss es e) room)
-    ∙ take-at file _ (length file) refl
+    (role : Role) (file : CircuitFile) (ks ps ss es out : List ℕ) → Below 256 (file .bytes) → reading role file ks ps ss es .reply .verdict ≡ accept →
+    length (file .bytes) ≤ length out →
+    take (length (file .bytes))
+    (writing role (file .edition) (take (nodesOf file) (reading role file ks ps ss es .kinds))
+    (take (packageCount (file .edition) (nodesOf file)) (reading role file ks ps ss es .packages)) (take (linksOf file) (reading role file ks ps ss es .starts))
+    (take (linksOf file) (reading role file ks ps ss es .ends)) out .out)
+    ≡ file .bytes
+writes-back role file ks ps ss es out bytes e room =
+    ap (λ (o : WriteOutcome). take (length (file .bytes)) (o .out)) (read-writes role file (of-bytes file bytes) ks ps ss es out _ _ (was-read role file ks ps ss es e) room)
+    ∙ take-at (file .bytes) _ (length (file .bytes)) refl
+
+-- the converter
+converts-back :
+    (role : Role) (to : Edition) (file : CircuitFile) (out out′ : List ℕ) → Below 256 (file .bytes) →
+    converting role to file out .reply .verdict ≡ accept → length (file .bytes) ≤ length out′ →
+    let new = inEdition to (take (getD (converting role to file out .reply .values) 0 0) (converting role to file out .out)) in
+    (circuitOf new ≡ circuitOf file)
+    × (take (length (file .bytes)) (converting role (file .edition) new out′ .out) ≡ file .bytes)
+converts-back role to file out out′ bytes ok room =
+    let s = convert-sound role to file out ok in
+    let o = convert-accepts role to file out s in
+    let size : getD (converting role to file out .reply .values) 0 0 ≡ lengthOf to (nodesOf file) (linksOf file) = ap (λ (o : ConvertOutcome). getD (o .reply .values) 0 0) o in
+    let front : take (lengthOf to (nodesOf file) (linksOf file)) (converting role to file out .out) ≡ convertedBytes to file =
+    ap (λ (o : ConvertOutcome). take (lengthOf to (nodesOf file) (linksOf file)) (o .out)) o
+    ∙ take-at (convertedBytes to file) _ _ (converted-length role to file (s .content)) in
+    rw size (
+      ap (λ (b : List ℕ). circuitOf (inEdition to b)) front ∙ converted-circuit role to file (s .content) (s .kept),
+      ap (λ (o : ConvertOutcome). take (length (file .bytes)) (o .out)) (there-and-back role to file out out′ (of-bytes file bytes) ok room)
+          ∙ take-at (file .bytes) _ (length (file .bytes)) refl,
+    )
 
 -- "The match table is the largest dual simulation, pair by pair as 01 reads it: each of its pairs holds, and every dual simulation lies inside
 -- it. Counts and rounds are those of 01's row of sets. A circuit written reads back as itself; an accepted file writes back to its own bytes."
 pub demand-2 : Demand2
-demand-2 = record { table = table-matched; ball = ball-counted; reads = reads-back; writes = writes-back }
+demand-2 = record { table = table-matched; ball = ball-counted; reads = reads-back; writes = writes-back; converts = converts-back }
 
 -- ---- Demand 3
 
@@ -159,7 +193,7 @@ unfolding Below
 marks-below m i h = omega (arith, m .bytes i (subst (λ (k : ℕ). i < k) (m .size) h))
 
 -- the place call at a radius
-found-at : (pattern board : List ℕ) (w r : ℕ) (lent : Lent) → Ready pattern board w lent → FoundAt pattern board w r (placed pattern board w r lent)
+found-at : (pattern board : CircuitFile) (w r : ℕ) (lent : Lent) → Ready pattern board w lent → FoundAt pattern board w r (placed pattern board w r lent)
 unfolding placed nine
 found-at pattern board w r lent x =
     let sound = ready-sound x in
@@ -174,20 +208,20 @@ found-at pattern board w r lent x =
     }
 
 -- the pattern's radius is the one computed
-radius-computed : (pattern : List ℕ) → Accepted Pattern pattern → (r : ℕ) → Radius (graph pattern) r → radiusOf (circuitOf pattern) ≡ r
+radius-computed : (pattern : CircuitFile) → Accepted Pattern pattern → (r : ℕ) → Radius (graph pattern) r → radiusOf (circuitOf pattern) ≡ r
 radius-computed pattern a r is = radius-unique (accepted-radius a) is
 
 own-found :
-    (pattern board : List ℕ) (w : ℕ) (lent : Lent) → Ready pattern board w lent → (r : ℕ) → Radius (graph pattern) r →
+    (pattern board : CircuitFile) (w : ℕ) (lent : Lent) → Ready pattern board w lent → (r : ℕ) → Radius (graph pattern) r →
     FoundAt pattern board w r (placedOwn pattern board w lent)
 unfolding placedOwn
 own-found pattern board w lent x r is = rw (radius-computed pattern (x .drawn) r is) (found-at pattern board w r lent x)
 
 -- the merged pattern
 merged-found :
-    (pattern classes out board : List ℕ) (w : ℕ) (lent again : Lent) → Ready pattern board w lent → Room board again →
-    nodesOf pattern ≤ length classes → length pattern ≤ length out → (r : ℕ) → Radius (graph pattern) r →
-    SameFound (nodesOf board) (linksOf board) (placed (mergedFile (merging pattern classes out)) board w r again) (placedOwn pattern board w lent)
+    (pattern : CircuitFile) (classes out : List ℕ) (board : CircuitFile) (w : ℕ) (lent again : Lent) → Ready pattern board w lent → Room board again →
+    nodesOf pattern ≤ length classes → length (pattern .bytes) ≤ length out → (r : ℕ) → Radius (graph pattern) r →
+    SameFound (nodesOf board) (linksOf board) (placed (mergedFile pattern (merging pattern classes out)) board w r again) (placedOwn pattern board w lent)
 unfolding placedOwn
 merged-found pattern classes out board w lent again x room n m r is =
     let ok = merge-call.accepts pattern classes out (accepted-verdict (x .drawn)) n m in

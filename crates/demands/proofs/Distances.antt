@@ -11,10 +11,10 @@ use Rattle.graph.proofs.Walks.{radius-unique}
 use Rattle.file_format.specs.declared.Refusal.{Refusal}
 use Rattle.file_format.specs.declared.Role.the-variants.{Board}
 use Rattle.file_format.specs.Circuit.{circuitOf}
-use Rattle.file_format.specs.Layout.{nodesOf, startsOf, endsOf}
+use Rattle.file_format.specs.Layout.{CircuitFile, nodesOf, startsOf, endsOf}
 use Rattle.file_format.specs.Reading.{filled}
 use Rattle.file_format.specs.Refusals.{Verdict, accept, refuse, first, Accepted}
-use Rattle.file_format.proofs.Fields.{length-kinds}
+use Rattle.file_format.proofs.Fields.{length-labels}
 use Rattle.file_format.proofs.Refusals.{accepted-verdict, accept-not-refuse}
 use Rattle.place.specs.Match.{radiusOf}
 use Rattle.place.proofs.Accepted.{accepted-radius}
@@ -27,16 +27,16 @@ use Rattle.demands.specs.Demands.{graph, Lent, placed, placedOwn}
 use Rattle.demands.specs.Distances.{Ask2}
 
 -- the graph of a file, from its N and from its kinds
-same-graph : (file : List ℕ) → fileGraph file ≡ graph file
+same-graph : (file : CircuitFile) → fileGraph file ≡ graph file
 unfolding circuitGraph
-same-graph file = ap (λ (n : ℕ). graphOf n (startsOf file) (endsOf file)) (sym (length-kinds file))
+same-graph file = ap (λ (n : ℕ). graphOf n (startsOf file) (endsOf file)) (sym (length-labels file))
 
-ball : (board : List ℕ) (w r : ℕ) (out : List ℕ) → Accepted Board board → w < nodesOf board → nodesOf board ≤ length out →
+ball : (board : CircuitFile) (w r : ℕ) (out : List ℕ) → Accepted Board board → w < nodesOf board → nodesOf board ≤ length out →
     (v : ℕ) → v < nodesOf board → DistanceEntry (graph board) w r v (getD (ballCall board w r out .out) v 0)
 ball board w r out a h room v below =
     subst (λ (G : Graph). DistanceEntry G w r v (getD (ballCall board w r out .out) v 0)) (same-graph board) (ball-means board w r out (accepted-verdict a) h room v below)
 
-rest : (board : List ℕ) (w r : ℕ) (out : List ℕ) → drop (nodesOf board) (ballCall board w r out .out) ≡ drop (nodesOf board) out
+rest : (board : CircuitFile) (w r : ℕ) (out : List ℕ) → drop (nodesOf board) (ballCall board w r out .out) ≡ drop (nodesOf board) out
 unfolding ballCall ballEntries filled
 rest board w r out = go (first (ballConditions board w (length out)))
   where
@@ -47,11 +47,11 @@ rest board w r out = go (first (ballConditions board w (length out)))
     go accept = drop-at (ballEntries board w r) _ (nodesOf board) size ∙ ap (λ (k : ℕ). drop k out) size
     go (refuse x) = refl
 
-near : (board : List ℕ) (w v d : ℕ) → Accepted Board board → w < nodesOf board → Distance (graph board) w v d → d < 512
+near : (board : CircuitFile) (w v d : ℕ) → Accepted Board board → w < nodesOf board → Distance (graph board) w v d → d < 512
 near board w v d a h p = distance-few board (accepted-verdict a) w v d h (subst (λ (G : Graph). Distance G w v d) (sym (same-graph board)) p)
 
 -- an accepted call has conditions that all fail
-module _ (pattern board : List ℕ) (w r : ℕ) (lent : Lent) (ok : placed pattern board w r lent .reply .verdict ≡ accept) where
+module _ (pattern board : CircuitFile) (w r : ℕ) (lent : Lent) (ok : placed pattern board w r lent .reply .verdict ≡ accept) where
   abbrev inputs : Verdict
   inputs = first (inputConditions pattern board w (length (lent .nodes)) (length (lent .links)) (length (lent .table)) (length (lent .distances)))
 
@@ -73,7 +73,7 @@ module _ (pattern board : List ℕ) (w r : ℕ) (lent : Lent) (ok : placed patte
       distances-ball pattern board w r (lent .nodes) (lent .links) (lent .table) (lent .distances) sound ok
       ∙ sym (ap (λ (o : BallOutcome). o .out) (ball-filled board w r (lent .distances) board-ok inside room))
 
-own : (pattern board : List ℕ) (w : ℕ) (lent : Lent) → placedOwn pattern board w lent .reply .verdict ≡ accept →
+own : (pattern board : CircuitFile) (w : ℕ) (lent : Lent) → placedOwn pattern board w lent .reply .verdict ≡ accept →
     (r : ℕ) → Radius (graph pattern) r → placedOwn pattern board w lent .distances ≡ ballCall board w r (lent .distances) .out
 unfolding placedOwn
 own pattern board w lent ok r is =

@@ -2,24 +2,25 @@
 use mathlib.Core.Path.{refl}
 use Rattle.base_lists.specs.List.{all, allBelow, tabulate, maximum}
 use Rattle.graph.specs.Search.{beside, inside, ball, misses, distances, connected, radius}
-use Rattle.file_format.specs.Layout.{field, fields, nodesOf, linksOf, kindsOf, startsOf, endsOf}
+use Rattle.file_format.specs.Label.{label, labels}
+use Rattle.file_format.specs.Layout.{field, fields, nodesOf, linksOf, kindsOf, packagesOf, startsOf, endsOf, labelsOf}
 use Rattle.file_format.specs.Links.{linksBelow, earlier, rising}
 use Rattle.file_format.specs.Reading.{reading, readConditions}
 use Rattle.file_format.specs.Refusals.{first, linkConditions, fileConditions, asksConnected, centreOutside, shortTable}
 use Rattle.file_format.specs.Reply.{reply}
 use Rattle.table.specs.Examples.{circuitT, circuitB}
-use Rattle.file_write.specs.Bytes.{bytesOf, fileBytes}
+use Rattle.file_write.specs.Bytes.{bytesOf, stretchBytes}
 use Rattle.call_distance.specs.Calls.{ballConditions}
 use Rattle.demands.specs.Examples.{AllHold}
 use Rattle.file_format.specs.Examples.{fileT, fileB}
 use Rattle.demands.specs.Files.{refused, ReadT, ReadB, R1, R2, R3, R4, R5, R6, R7, R8, fileExamples}
 
 readT : ReadT
-unfolding ReadT fileT circuitT kindsOf startsOf endsOf nodesOf linksOf fields field fileBytes bytesOf tabulate
+unfolding ReadT fileT circuitT labelsOf labels label kindsOf packagesOf startsOf endsOf nodesOf linksOf fields field stretchBytes bytesOf tabulate
 readT = (refl, refl)
 
 readB : ReadB
-unfolding ReadB fileB circuitB kindsOf startsOf endsOf nodesOf linksOf fields field fileBytes bytesOf tabulate
+unfolding ReadB fileB circuitB labelsOf labels label kindsOf packagesOf startsOf endsOf nodesOf linksOf fields field stretchBytes bytesOf tabulate
 readB = (refl, refl)
 
 r1 : R1

@@ -10,13 +10,15 @@ use Rattle.base_lists.specs.List.{allBelow, anyBelow, tabulate}
 use Rattle.base_lists.proofs.Tests.{allBelow-at}
 use Rattle.graph.specs.Circuit.{Circuit, graphOf, circuitGraph}
 use Rattle.graph_pairs.specs.Pairs.{pairTest, pairStarts, pairEnds}
+use Rattle.file_format.specs.declared.Edition.the-variants.{First}
 use Rattle.file_format.specs.declared.Role.the-variants.{Pattern}
 use Rattle.file_format.specs.Circuit.{circuitOf}
 use Rattle.file_format.specs.Examples.{fileT}
-use Rattle.file_format.specs.Layout.{field, fields, nodesOf, linksOf, kindsOf, startsOf, endsOf}
+use Rattle.file_format.specs.Label.{label, labels, packagesIn}
+use Rattle.file_format.specs.Layout.{firstEdition, field, fields, nodesOf, linksOf, kindsOf, packagesOf, startsOf, endsOf, labelsOf}
 use Rattle.file_format.specs.Refusals.{Accepted}
-use Rattle.file_format.proofs.Fields.{length-kinds}
-use Rattle.file_write.specs.Bytes.{bytesOf, fileBytes}
+use Rattle.file_format.proofs.Fields.{length-labels}
+use Rattle.file_write.specs.Bytes.{bytesOf, stretchBytes, kindsFor, circuitBytes}
 use Rattle.table.specs.Examples.{circuitT}
 use Rattle.place.specs.Examples.{circuitY, oneLink}
 use Rattle.merge.specs.Examples.{circuitE8}
@@ -31,7 +33,7 @@ use Rattle.demands.proofs.Groupings.{matches-last, grouped-made, replie
 
 -- all that is opened where the file of a grouping is computed
 opened : Unit {0}
-unfolding kindsOf startsOf endsOf nodesOf linksOf fields field fileBytes bytesOf tabulate collect leastBelow anyBelow firstMember joins linked pairTest pairStarts pairEnds grouped groupedFile
+unfolding labelsOf labels label kindsOf packagesOf startsOf endsOf nodesOf linksOf fields field stretchBytes circuitBytes kindsFor packagesIn bytesOf tabulate collect leastBelow anyBelow firstMember joins linked pairTest pairStarts pairEnds grouped groupedFile
 opened = tt
 
 -- ---- the finest grouping of Y
@@ -42,7 +44,7 @@ read-Y = refl
 
 accepted-Y : Accepted Pattern fileY
 unfolding opened fileY circuitY
-accepted-Y = content-accepted content-Y
+accepted-Y = content-accepted First content-Y
 
 -- it makes Y again
 finest-Y : groupedFile fileY (λ u. u) 3 ≡ fileY
@@ -77,13 +79,13 @@ read-E8 : circuitOf fileE8 ≡ circuitE8
 unfolding opened fileE8 circuitE8
 read-E8 = refl
 
-read-T : circuitOf fileT ≡ circuitT
+read-T : circuitOf (firstEdition fileT) ≡ circuitT
 unfolding opened fileT circuitT
 read-T = refl
 
 accepted-E8 : Accepted Pattern fileE8
 unfolding opened fileE8 circuitE8
-accepted-E8 = content-accepted content-E8
+accepted-E8 = content-accepted First content-E8
 
 -- the kind of each part is that of its group
 kind : ℕ → ℕ
@@ -111,7 +113,7 @@ groups-E8 =
     }
 
 -- it makes T
-makes-T : groupedFile fileE8 joined 3 ≡ fileT
+makes-T : groupedFile fileE8 joined 3 ≡ firstEdition fileT
 unfolding opened fileE8 joined fileT
 makes-T = refl
 
@@ -121,18 +123,18 @@ below-1 = lit≤ tt
 
 node-1 : graph fileE8 .Node 1
 unfolding circuitGraph graphOf
-node-1 = rw (length-kinds fileE8) below-1
+node-1 = rw (length-labels fileE8) below-1
 
 member-E8 : Matches fileE8 fileE8 1 1
 unfolding selfTable
 member-E8 = matches-last accepted-E8 (pattern-board accepted-E8) 1 1 below-1 .1 (rw read-E8 E8-member)
 
-accepted-T : Accepted Pattern fileT
+accepted-T : Accepted Pattern (firstEdition fileT)
 accepted-T = subst (Accepted Pattern) makes-T (grouped-made accepted-E8 groups-E8 .accepted)
 
 group-E8 : Matches (groupedFile fileE8 joined 3) fileE8 1 1 → ⊥
 group-E8 m =
-    let t : Matches fileT fileE8 1 1 = rw makes-T at m in
+    let t : Matches (firstEdition fileT) fileE8 1 1 = rw makes-T at m in
     E8-none (rw (read-T, read-E8) at (matches-last accepted-T (pattern-board accepted-E8) 1 1 below-1 .0 t))
 
 one : joined 1 ≡ 1

@@ -13,12 +13,12 @@ use Rattle.simulation.proofs.Grouping.{grouping-same, nothing-more, classes-suc
 use Rattle.simulation.proofs.Same.{same-refl, largest-same}
 use Rattle.file_format.specs.declared.Role.the-variants.{Pattern, Board}
 use Rattle.file_format.specs.Circuit.{circuitOf}
-use Rattle.file_format.specs.Layout.{nodesOf}
+use Rattle.file_format.specs.Layout.{CircuitFile, inEdition, nodesOf}
 use Rattle.file_format.specs.Refusals.{accept, Accepted}
 use Rattle.file_format.proofs.Accepted.{accepted-bounded, accepted-within, accepted-connected}
-use Rattle.file_format.proofs.Fields.{length-kinds}
+use Rattle.file_format.proofs.Fields.{length-labels}
 use Rattle.file_format.proofs.Refusals.{accepted-any, accepted-verdict}
-use Rattle.file_write.specs.Bytes.{fileBytes}
+use Rattle.file_write.specs.Bytes.{circuitBytes}
 use Rattle.table.specs.Host.{everything, KindsMatch}
 use Rattle.table.specs.Row.{lastTable, InTable}
 use Rattle.table.proofs.Host.{board-largest, within-joins}
@@ -38,14 +38,14 @@ use Rattle.demands.proofs.Merged.{file-is}
 
 -- ---- what the table call leaves
 
-module _ {pattern board : List ℕ} (a : Accepted Pattern pattern) (b : Accepted Board board) where
+module _ {pattern board : CircuitFile} (a : Accepted Pattern pattern) (b : Accepted Board board) where
   -- a node matches a part exactly when the pair is in the largest dual simulation
   matches-iff :
       {S : Relation} → Largest (graph pattern) (equal pattern board) (graph board) S → (u v : ℕ) → graph board .Node v →
       Matches pattern board u v ↔ S u v
   unfolding Matches circuitGraph graphOf
   matches-iff {S} largest u v h =
-      let node : v < nodesOf board = rw (← length-kinds board) h in
+      let node : v < nodesOf board = rw (← length-labels board) h in
       let entry : (lent : List ℕ) → nodesOf board ≤ length lent → InTable (matching pattern board lent .table) u v ↔ S u v =
       λ lent room. match-call.entry-bit pattern board lent (match-call.accepts pattern board lent (accepted-any a) b room) largest u v node in
       let some : nodesOf board ≤ length {A = ℕ} (replicate (nodesOf board) 0) = le-of-eq (sym (length-replicate (nodesOf board) 0)) in
@@ -62,34 +62,34 @@ module _ {pattern board : List ℕ} (a : Accepted Pattern pattern) (b : Accepted
       (u v : ℕ) → v < nodesOf board →
       Matches pattern board u v ↔ InTable (lastTable (circuitOf pattern) (circuitOf board) (everything (circuitOf board))) u v
   unfolding circuitGraph graphOf
-  matches-last u v h = matches-iff table-largest u v (rw (length-kinds board) h)
+  matches-last u v h = matches-iff table-largest u v (rw (length-labels board) h)
 
 -- the same of a circuit that a file holds
 held-largest :
-    (file board : List ℕ) {q : Circuit} {S : Relation} → circuitOf file ≡ q → Largest (graph file) (equal file board) (graph board) S →
+    (file board : CircuitFile) {q : Circuit} {S : Relation} → circuitOf file ≡ q → Largest (graph file) (equal file board) (graph board) S →
     Largest (circuitGraph q) (KindsMatch q (circuitOf board)) (graph board) S
 held-largest file board {S = S} e largest = subst (λ (q : Circuit). Largest (circuitGraph q) (KindsMatch q (circuitOf board)) (graph board) S) e largest
 
 -- ---- the pattern that a grouping makes
 
-module _ {pattern : List ℕ} (a : Accepted Pattern pattern) where
+module _ {pattern : CircuitFile} (a : Accepted Pattern pattern) where
   content : PatternContent (circuitOf pattern)
   content = accepted-content a
 
   part-below : (u : ℕ) → u < nodesOf pattern → u < length (circuitOf pattern .kinds)
-  part-below u h = rw (length-kinds pattern) h
+  part-below u h = rw (length-labels pattern) h
 
   below-part : (u : ℕ) → u < length (circuitOf pattern .kinds) → u < nodesOf pattern
-  below-part u h = rw (← length-kinds pattern) h
+  below-part u h = rw (← length-labels pattern) h
 
   module _ {group : ℕ → ℕ} {k : ℕ} (g : Groups pattern group k) where
     grouped-accepted : Accepted Pattern (groupedFile pattern group k)
     unfolding groupedFile
-    grouped-accepted = merge-call.content-accepted (grouped-content content g)
+    grouped-accepted = merge-call.content-accepted (pattern .edition) (grouped-content content g)
 
     grouped-circuit : circuitOf (groupedFile pattern group k) ≡ grouped (circuitOf pattern) group k
     unfolding groupedFile
-    grouped-circuit = merge-call.content-circuit (grouped-content content g)
+    grouped-circuit = merge-call.content-circuit (pattern .edition) (grouped-content content g)
 
     pub grouped-made : Made pattern group (groupedFile pattern group k)
     grouped-made =
@@ -131,24 +131,24 @@ module _ {pattern : List ℕ} (a : Accepted Pattern pattern) where
     our-groups = rw replied-is (grouping-same byte-is (classes-grouping content))
 
     -- the pattern that they make is the merged pattern
-    our-bytes : groupedFile pattern (classByte pattern classes out) (replied pattern classes out) ≡ call.mergedBytes (circuitOf pattern)
+    our-bytes : groupedFile pattern (classByte pattern classes out) (replied pattern classes out) ≡ inEdition (pattern .edition) (call.mergedBytes (pattern .edition) (circuitOf pattern))
     unfolding groupedFile call.mergedBytes merged
     our-bytes =
         rw replied-is
-        (ap (λ (q : Circuit). fileBytes (q .kinds) (q .starts) (q .ends))
+        (ap (λ (q : Circuit). inEdition (pattern .edition) (circuitBytes (pattern .edition) q))
         (grouped-same content (classByte pattern classes out) (classOf (circuitOf pattern)) (classCount (circuitOf pattern)) byte-is))
 
     -- which on every board has the pairs of each member
-    merged-each : (board : List ℕ) → Accepted Board board →
+    merged-each : (board : CircuitFile) → Accepted Board board →
         AsEachMember (graph pattern) (classByte pattern classes out) (graph board) (Matches pattern board)
-        (Matches (call.mergedBytes (circuitOf pattern)) board)
+        (Matches (inEdition (pattern .edition) (call.mergedBytes (pattern .edition) (circuitOf pattern))) board)
     unfolding circuitGraph graphOf
     merged-each board b =
         let second = merge-call.merged-accepted a in
         let table = table-largest second b in
         let each =
         classes-such (merging content (circuitOf board)) (table-largest a b)
-        (largest-same (merged-graph content) (same-refl _) (record { agree = λ u v _ _. Iff·rfl }) (held-largest (call.mergedBytes (circuitOf pattern)) board (merge-call.merged-circuit a) table)) in
+        (largest-same (merged-graph content) (same-refl _) (record { agree = λ u v _ _. Iff·rfl }) (held-largest (inEdition (pattern .edition) (call.mergedBytes (pattern .edition) (circuitOf pattern))) board (merge-call.merged-circuit a) table)) in
         record {
           exactly = λ x u v n e h.
               Iff·trans (matches-iff second b table x v h)

@@ -2,7 +2,7 @@
 use mathlib.Core.Bool.{Bool, true, false, cond}
 use mathlib.Core.List.{List, [], _∷_, _++_}
 use mathlib.Core.Logic.{_↔_}
-use mathlib.Core.Path.{_≡_, refl, sym, ap, subst₂, _∙_}
+use mathlib.Core.Path.{_≡_, refl, sym, ap, subst, subst₂, _∙_}
 use Prim.Native.Nat.{ℕ, _≤_, _<_}
 use native.Mathlib.Omega.{arith}
 use lib.Dec.{ltb}
@@ -14,10 +14,11 @@ use Rattle.graph.specs.Graph.{Radius}
 use Rattle.graph.specs.Search.{connected, radius}
 use Rattle.graph.proofs.Distance.{radius-is}
 use Rattle.graph.proofs.Walks.{radius-unique}
+use Rattle.file_format.specs.declared.Edition.{Edition}
 use Rattle.file_format.specs.declared.File.the-variants.{Neither}
 use Rattle.file_format.specs.declared.Refusal.{Refusal}
 use Rattle.file_format.specs.declared.Role.the-variants.{Pattern, Board}
-use Rattle.file_format.specs.Layout.{lengthOf}
+use Rattle.file_format.specs.Layout.{CircuitFile, firstEdition, lengthOf}
 use Rattle.file_format.specs.Links.{linksBelow}
 use Rattle.file_format.specs.Reading.{ReadOutcome, readConditions, reading}
 use Rattle.file_format.specs.Refusals.{Verdict, accept, refuse, first, tooWide, eleven, without, asksConnected, linkConditions, fileConditions, centreOutside, shortTable, Accepted}
@@ -33,6 +34,7 @@ use Rattle.file_write.proofs.Writing.{writing-refused}
 use Rattle.report.specs.Report.{fileWord, refusalLine, reportFor, reportOf}
 use Rattle.merge.proofs.Accepted.{merged-content, merged-radius-le}
 use Rattle.merge.proofs.Content.{accepted-content, content-radius}
+use Rattle.call_convert.specs.Call.{convertConditions, converting}
 use Rattle.call_distance.specs.Calls.{radiusCall}
 use Rattle.call_place.specs.Call.{roomConditions, inputConditions, placeAt}
 use Rattle.call_place.proofs.Promise.{input-refused}
@@ -54,20 +56,20 @@ unfolding number
 eight-not true e = let z : _≡_ {A = ℕ} 8 11 = ap number e in omega arith
 eight-not false e = accept-not-refuse e
 
-narrow-accepted : (file : List ℕ) → Accepted Pattern file ↔ ((before (fileConditions Pattern file) ≡ accept) × ((r : ℕ) → Radius (graph file) r → r ≤ 12))
+narrow-accepted : (file : CircuitFile) → Accepted Pattern file ↔ ((before (fileConditions Pattern file) ≡ accept) × ((r : ℕ) → Radius (graph file) r → r ≤ 12))
 narrow-accepted file = (λ a. narrow-file file .0 (accepted-verdict a), λ h. accepted Pattern file (narrow-file file .1 h))
 
-module _ (kinds starts ends : List ℕ) where
-  split-circuit : circuitConditions Pattern kinds starts ends
-      ≡ without 11 (circuitConditions Pattern kinds starts ends) ++ (tooWide Pattern (length kinds) starts ends ∷ [])
+module _ (e : Edition) (kinds packages starts ends : List ℕ) where
+  split-circuit : circuitConditions Pattern e kinds packages starts ends
+      ≡ without 11 (circuitConditions Pattern e kinds packages starts ends) ++ (tooWide Pattern (length kinds) starts ends ∷ [])
   unfolding circuitConditions linkConditions without
   split-circuit = refl
 
-  circuit-measured : before (circuitConditions Pattern kinds starts ends) ≡ accept → Radius (graphOf (length kinds) starts ends) (radius (length kinds) starts ends)
+  circuit-measured : before (circuitConditions Pattern e kinds packages starts ends) ≡ accept → Radius (graphOf (length kinds) starts ends) (radius (length kinds) starts ends)
   unfolding circuitConditions linkConditions without asksConnected
-  circuit-measured e =
+  circuit-measured sound =
       let n = length kinds in
-      let h2 = first-holds _ _ e in
+      let h2 = first-holds _ _ sound in
       let h3 = first-holds _ _ (h2 .1) in
       let h4 = first-holds _ _ (h3 .1) in
       let h5 = first-holds _ _ (h4 .1) in
@@ -77,40 +79,40 @@ module _ (kinds starts ends : List ℕ) where
       radius-is (links-within n starts ends below) some (refuted (connected n starts ends) (h6 .0))
 
   -- where a list of conditions, and then 8, come to 11, it is the list that does
-  by-circuit : (out : List ℕ) → first (writeConditions Pattern kinds starts ends (length out)) ≡ refuse eleven → first (circuitConditions Pattern kinds starts ends) ≡ refuse eleven
+  by-circuit : (out : List ℕ) → first (writeConditions Pattern e kinds packages starts ends (length out)) ≡ refuse eleven → first (circuitConditions Pattern e kinds packages starts ends) ≡ refuse eleven
   unfolding writeConditions first shortTable
-  by-circuit out e = go (first (circuitConditions Pattern kinds starts ends)) refl
+  by-circuit out q = go (first (circuitConditions Pattern e kinds packages starts ends)) refl
     where
-      go : (v : Verdict) → first (circuitConditions Pattern kinds starts ends) ≡ v → first (circuitConditions Pattern kinds starts ends) ≡ refuse eleven
+      go : (v : Verdict) → first (circuitConditions Pattern e kinds packages starts ends) ≡ v → first (circuitConditions Pattern e kinds packages starts ends) ≡ refuse eleven
       go accept h =
-          absurd (eight-not (ltb (length out) (lengthOf (length kinds) (length starts))) (sym (first-accept (circuitConditions Pattern kinds starts ends) _ h) ∙ e))
-      go (refuse x) h = h ∙ sym (first-refuse (circuitConditions Pattern kinds starts ends) _ x h) ∙ e
+          absurd (eight-not (ltb (length out) (lengthOf e (length kinds) (length starts))) (sym (first-accept (circuitConditions Pattern e kinds packages starts ends) _ h) ∙ q))
+      go (refuse x) h = h ∙ sym (first-refuse (circuitConditions Pattern e kinds packages starts ends) _ x h) ∙ q
 
   wide-written : (out : List ℕ) →
-      (writing Pattern kinds starts ends out .reply .verdict ≡ refuse eleven) ↔
-      ((before (circuitConditions Pattern kinds starts ends) ≡ accept) × ((r : ℕ) × Radius (graphOf (length kinds) starts ends) r × (12 < r)))
+      (writing Pattern e kinds packages starts ends out .reply .verdict ≡ refuse eleven) ↔
+      ((before (circuitConditions Pattern e kinds packages starts ends) ≡ accept) × ((r : ℕ) × Radius (graphOf (length kinds) starts ends) r × (12 < r)))
   unfolding writing writeReply
   wide-written out =
-      let iff = wide-iff (circuitConditions Pattern kinds starts ends) (length kinds) starts ends split-circuit circuit-measured in (
-        λ e. iff .0 (by-circuit out (sym (reply-verdict _ _) ∙ e)),
-        λ w. ap (λ (o : WriteOutcome). o .reply .verdict) (writing-refused Pattern kinds starts ends out eleven (iff .1 w)),
+      let iff = wide-iff (circuitConditions Pattern e kinds packages starts ends) (length kinds) starts ends split-circuit circuit-measured in (
+        λ q. iff .0 (by-circuit out (sym (reply-verdict _ _) ∙ q)),
+        λ w. ap (λ (o : WriteOutcome). o .reply .verdict) (writing-refused Pattern e kinds packages starts ends out eleven (iff .1 w)),
       )
 
 -- ---- turned away
 
-module _ (pattern : List ℕ) (e : first (fileConditions Pattern pattern) ≡ refuse eleven) where
-  pair-turned : (board : List ℕ) → first (pairConditions Pattern pattern board) ≡ refuse eleven
+module _ (pattern : CircuitFile) (e : first (fileConditions Pattern pattern) ≡ refuse eleven) where
+  pair-turned : (board : CircuitFile) → first (pairConditions Pattern pattern board) ≡ refuse eleven
   unfolding pairConditions
   pair-turned board = first-refuse (fileConditions Pattern pattern) _ eleven e
 
-  turned-places : (board : List ℕ) (w r : ℕ) (lent : Lent) → placed pattern board w r lent .reply .verdict ≡ refuse eleven
+  turned-places : (board : CircuitFile) (w r : ℕ) (lent : Lent) → placed pattern board w r lent .reply .verdict ≡ refuse eleven
   unfolding placed inputConditions
   turned-places board w r lent =
       input-refused pattern board w r (lent .nodes) (lent .links) (lent .table) (lent .distances) eleven (first-refuse (pairConditions Pattern pattern board) _ eleven (pair-turned board)) .0
 
-  turned-reads : (kinds starts ends : List ℕ) → reading Pattern pattern kinds starts ends .reply .verdict ≡ refuse eleven
+  turned-reads : (kinds packages starts ends : List ℕ) → reading Pattern pattern kinds packages starts ends .reply .verdict ≡ refuse eleven
   unfolding readReply
-  turned-reads kinds starts ends = ap (λ (o : ReadOutcome). o .reply .verdict) (reading-refused Pattern pattern kinds starts ends eleven e)
+  turned-reads kinds packages starts ends = ap (λ (o : ReadOutcome). o .reply .verdict) (reading-refused Pattern pattern kinds packages starts ends eleven e)
 
   turned-measures : radiusCall pattern .verdict ≡ refuse eleven
   unfolding radiusCall
@@ -120,9 +122,14 @@ module _ (pattern : List ℕ) (e : first (fileConditions Pattern pattern) ≡ re
   unfolding merging mergeConditions
   turned-merges lent out = reply-verdict _ _ ∙ first-refuse (fileConditions Pattern pattern) _ eleven e
 
-  turned-reports : (board : List ℕ) → reportOf pattern board ≡ bytes "refused 11 pattern\n"
+  turned-converts : (to : Edition) (out : List ℕ) → converting Pattern to pattern out .reply .verdict ≡ refuse eleven
+  unfolding converting convertConditions
+  turned-converts to out = reply-verdict _ _ ∙ first-refuse (fileConditions Pattern pattern) _ eleven e
+
+  turned-reports : (file board : List ℕ) → firstEdition file ≡ pattern → reportOf file board ≡ bytes "refused 11 pattern\n"
   unfolding reportOf reportFor refusalLine fileWord bytes decimal digits
-  turned-reports board = rw (first-refuse (fileConditions Pattern pattern) (fileConditions Board board) eleven e)
+  turned-reports file board own =
+      rw (first-refuse (fileConditions Pattern (firstEdition file)) (fileConditions Board (firstEdition board)) eleven (ap (λ (f : CircuitFile). first (fileConditions Pattern f)) own ∙ e))
 
   turned-away : TurnedAway pattern
   turned-away =
@@ -131,25 +138,26 @@ module _ (pattern : List ℕ) (e : first (fileConditions Pattern pattern) ≡ re
         measures = turned-measures;
         places = turned-places;
         merges = turned-merges;
+        converts = turned-converts;
         reports = turned-reports;
       }
 
 -- ---- as before
 
-module _ (pattern : List ℕ) (a : Accepted Pattern pattern) where
+module _ (pattern : CircuitFile) (a : Accepted Pattern pattern) where
   same-file : before (fileConditions Pattern pattern) ≡ first (fileConditions Pattern pattern)
   same-file = accepted-before pattern (accepted-verdict a)
 
-  same-pair : (board : List ℕ) → before (pairConditions Pattern pattern board) ≡ first (pairConditions Pattern pattern board)
+  same-pair : (board : CircuitFile) → before (pairConditions Pattern pattern board) ≡ first (pairConditions Pattern pattern board)
   unfolding pairConditions asksConnected
   same-pair board = without-both 11 (fileConditions Pattern pattern) (fileConditions Board board) same-file (unasked-before Board board refl)
 
   -- 7 and 8 are other numbers
-  same-read : (k s e : ℕ) → before (readConditions Pattern pattern k s e) ≡ first (readConditions Pattern pattern k s e)
+  same-read : (k p s e : ℕ) → before (readConditions Pattern pattern k p s e) ≡ first (readConditions Pattern pattern k p s e)
   unfolding readConditions shortTable without
-  same-read k s e = without-both 11 (fileConditions Pattern pattern) _ same-file refl
+  same-read k p s e = without-both 11 (fileConditions Pattern pattern) _ same-file refl
 
-  same-input : (board : List ℕ) (w k s e d : ℕ) → before (inputConditions pattern board w k s e d) ≡ first (inputConditions pattern board w k s e d)
+  same-input : (board : CircuitFile) (w k s e d : ℕ) → before (inputConditions pattern board w k s e d) ≡ first (inputConditions pattern board w k s e d)
   unfolding inputConditions roomConditions centreOutside shortTable without
   same-input board w k s e d = without-both 11 (pairConditions Pattern pattern board) _ (same-pair board) refl
 
@@ -157,15 +165,15 @@ module _ (pattern : List ℕ) (a : Accepted Pattern pattern) where
   unfolding mergeConditions shortTable without
   same-merge k s = without-both 11 (fileConditions Pattern pattern) _ same-file refl
 
-  same-reads : (kinds starts ends : List ℕ) → reading Pattern pattern kinds starts ends ≡ readingBefore Pattern pattern kinds starts ends
+  same-reads : (kinds packages starts ends : List ℕ) → reading Pattern pattern kinds packages starts ends ≡ readingBefore Pattern pattern kinds packages starts ends
   unfolding reading readingBefore
-  same-reads kinds starts ends = rw (same-read (length kinds) (length starts) (length ends))
+  same-reads kinds packages starts ends = rw (same-read (length kinds) (length packages) (length starts) (length ends))
 
   same-measures : radiusCall pattern ≡ radiusBefore pattern
   unfolding radiusCall radiusBefore
   same-measures = rw same-file
 
-  same-places : (board : List ℕ) (w r : ℕ) (lent : Lent) → placed pattern board w r lent ≡ placedBefore pattern board w r lent
+  same-places : (board : CircuitFile) (w r : ℕ) (lent : Lent) → placed pattern board w r lent ≡ placedBefore pattern board w r lent
   unfolding placed placeAt placedBefore
   same-places board w r lent = rw (same-input board w (length (lent .nodes)) (length (lent .links)) (length (lent .table)) (length (lent .distances)))
 
@@ -173,9 +181,11 @@ module _ (pattern : List ℕ) (a : Accepted Pattern pattern) where
   unfolding merging mergingBefore
   same-merges lent out = rw (same-merge (length lent) (length out))
 
-  same-reports : (board : List ℕ) → reportOf pattern board ≡ reportBefore pattern board
+  same-reports : (file board : List ℕ) → firstEdition file ≡ pattern → reportOf file board ≡ reportBefore file board
   unfolding reportOf reportBefore pairConditions
-  same-reports board = rw (same-pair board)
+  same-reports file board own =
+      let same = subst (λ (f : CircuitFile). before (pairConditions Pattern f (firstEdition board)) ≡ first (pairConditions Pattern f (firstEdition board))) (sym own) (same-pair (firstEdition board)) in
+      rw same
 
   as-before : AsBefore pattern
   as-before =
@@ -189,8 +199,8 @@ module _ (pattern : List ℕ) (a : Accepted Pattern pattern) where
 
 -- ---- merging
 
-module _ (pattern lent out : List ℕ) (ok : merging pattern lent out .reply .verdict ≡ accept) where
-  merged-narrow : (r s : ℕ) → Radius (graph pattern) r → Radius (graph (mergedFile (merging pattern lent out))) s → s ≤ r
+module _ (pattern : CircuitFile) (lent out : List ℕ) (ok : merging pattern lent out .reply .verdict ≡ accept) where
+  merged-narrow : (r s : ℕ) → Radius (graph pattern) r → Radius (graph (mergedFile pattern (merging pattern lent out))) s → s ≤ r
   merged-narrow r s is second =
       let a = pattern-accepted pattern lent out ok in
       let c = accepted-content a in
@@ -198,7 +208,7 @@ module _ (pattern lent out : List ℕ) (ok : merging pattern lent out .reply .ve
       let second′ = rw (file-is pattern lent out ok, merged-circuit a) at second in
       subst₂ (λ (x y : ℕ). x ≤ y) (radius-unique (content-radius (merged-content c)) second′) own (merged-radius-le c)
 
-  merged-taken : Accepted Pattern (mergedFile (merging pattern lent out))
+  merged-taken : Accepted Pattern (mergedFile pattern (merging pattern lent out))
   merged-taken = rw (file-is pattern lent out ok) (merged-accepted (pattern-accepted pattern lent out ok))
 
 -- "Twelve becomes the limit. Users keep every guarantee about places and merging for patterns up to it; a merged pattern never has the larger

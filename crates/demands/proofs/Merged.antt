@@ -11,10 +11,10 @@ use Rattle.graph.specs.Circuit.{circuitGraph, graphOf}
 use Rattle.graph.proofs.Distance.{distance-below}
 use Rattle.file_format.specs.declared.Role.the-variants.{Pattern}
 use Rattle.file_format.specs.Circuit.{circuitOf}
-use Rattle.file_format.specs.Layout.{nodesOf, linksOf}
+use Rattle.file_format.specs.Layout.{CircuitFile, inEdition, nodesOf, linksOf}
 use Rattle.file_format.specs.Refusals.{accept, refuse, first, fileConditions, Accepted}
 use Rattle.file_format.specs.Reply.{reply}
-use Rattle.file_format.proofs.Fields.{length-kinds}
+use Rattle.file_format.proofs.Fields.{length-labels}
 use Rattle.place.specs.Match.{radiusOf}
 use Rattle.place.specs.Outcome.{placeVerdict}
 use Rattle.place.proofs.Accepted.{accepted-admissible}
@@ -29,22 +29,22 @@ use Rattle.demands.specs.Demands.{Lent, Room, Ready, placed, nine, merge
 
 -- no condition on the inputs holds
 pub ready-sound :
-    {pattern board : List ℕ} {w : ℕ} {lent : Lent} → Ready pattern board w lent →
+    {pattern board : CircuitFile} {w : ℕ} {lent : Lent} → Ready pattern board w lent →
     first (inputConditions pattern board w (length (lent .nodes)) (length (lent .links)) (length (lent .table)) (length (lent .distances))) ≡ accept
 ready-sound {pattern} {board} {w} {lent} x =
     inputs-accept pattern board w 0 (lent .nodes) (lent .links) (lent .table) (lent .distances) (x .drawn) (x .given) (x .centre) (x .room .nodes) (x .room .links)
     (x .room .table) (x .room .distances)
 
-module _ (file lent out : List ℕ) (ok : merging file lent out .reply .verdict ≡ accept) where
-  abbrev second : List ℕ
-  second = mergedFile (merging file lent out)
+module _ (file : CircuitFile) (lent out : List ℕ) (ok : merging file lent out .reply .verdict ≡ accept) where
+  abbrev second : CircuitFile
+  second = mergedFile file (merging file lent out)
 
   -- the merged file is what the definition of the merged pattern says
-  pub file-is : second ≡ mergedBytes (circuitOf file)
+  pub file-is : second ≡ inEdition (file .edition) (mergedBytes (file .edition) (circuitOf file))
   unfolding mergedFile
   file-is = rw (values-are file lent out ok) (out-front file lent out ok)
 
-  module _ (board : List ℕ) (w r : ℕ) (tables tables′ : Lent) (x : Ready file board w tables) (room : Room board tables′) where
+  module _ (board : CircuitFile) (w r : ℕ) (tables tables′ : Lent) (x : Ready file board w tables) (room : Room board tables′) where
     -- it is accepted as a pattern too
     pub merged-ready : Ready second board w tables′
     merged-ready = record { drawn = rw file-is (merged-accepted (x .drawn)); given = x .given; centre = x .centre; room = room }
@@ -78,12 +78,12 @@ module _ (file lent out : List ℕ) (ok : merging file lent out .reply .verdict 
 -- ---- the first pattern's radius
 
 -- it is what the radius call replies,
-pub radius-replied : (file : List ℕ) → first (fileConditions Pattern file) ≡ accept → radiusCall file ≡ record { verdict = accept; values = radiusOf (circuitOf file) ∷ [] }
+pub radius-replied : (file : CircuitFile) → first (fileConditions Pattern file) ≡ accept → radiusCall file ≡ record { verdict = accept; values = radiusOf (circuitOf file) ∷ [] }
 unfolding radiusCall reply radiusOf
-radius-replied file e = rw (e, length-kinds file)
+radius-replied file e = rw (e, length-labels file)
 
 -- and fits the 16 bits of a radius given
-pub radius-fits : {file : List ℕ} → Accepted Pattern file → radiusOf (circuitOf file) < 65536
+pub radius-fits : {file : CircuitFile} → Accepted Pattern file → radiusOf (circuitOf file) < 65536
 unfolding radiusOf circuitGraph graphOf
 radius-fits {file} a =
     let c = accepted-content a in

@@ -8,7 +8,7 @@ use lib.Dec.{T}
 use lib.ListN.{take}
 use Rattle.base_lists.proofs.Tests.{T-true, T-false}
 use Rattle.file_format.specs.Circuit.{circuitOf}
-use Rattle.file_format.specs.Layout.{nodesOf, linksOf, startsOf, endsOf}
+use Rattle.file_format.specs.Layout.{CircuitFile, nodesOf, linksOf, startsOf, endsOf}
 use Rattle.file_format.specs.Refusals.{accept, refuse}
 use Rattle.place.specs.Match.{radiusOf, found}
 use Rattle.place.specs.Outcome.{PlaceOutcome, placeVerdict}
@@ -17,7 +17,7 @@ use Rattle.report.specs.Report.{nodeItems, linkItems, placeLine, hasPlace, cent
 use Rattle.demands.specs.Demands.{Lent, Ready, placed, placedOwn, nine}
 use Rattle.demands.proofs.Merged.{ready-sound}
 
-module _ (pattern board : List ℕ) (w : ℕ) (lent : Lent) (x : Ready pattern board w lent) where
+module _ (pattern board : CircuitFile) (w : ℕ) (lent : Lent) (x : Ready pattern board w lent) where
   abbrev r : ℕ
   r = radiusOf (circuitOf pattern)
 

@@ -21,12 +21,13 @@ use Rattle.simulation.specs.Closed.{Relation, _⊆_, Row}
 use Rattle.simulation.specs.Simulation.{Candidate, Along, Largest}
 use Rattle.simulation.specs.Perfect.{Perfect, Place}
 use Rattle.simulation.specs.Quotient.{Mutual}
+use Rattle.file_format.specs.declared.Edition.{Edition}
 use Rattle.file_format.specs.declared.File.the-variants.{Neither}
 use Rattle.file_format.specs.declared.Refusal.{Refusal}
 use Rattle.file_format.specs.declared.Role.{Role}
 use Rattle.file_format.specs.declared.Role.the-variants.{Pattern, Board, AnyPattern}
 use Rattle.file_format.specs.Circuit.{circuitOf}
-use Rattle.file_format.specs.Layout.{nodesOf, linksOf}
+use Rattle.file_format.specs.Layout.{CircuitFile, inEdition, packageCount, nodesOf, linksOf}
 use Rattle.file_format.specs.Links.{linksBelow, rising}
 use Rattle.file_format.specs.Reading.{ReadOutcome, readConditions, reading}
 use Rattle.file_format.specs.Refusals.{Condition, Verdict, accept, refuse, NoneHolds, FirstHolding, fileConditions, Accepted, shortTable}
@@ -36,6 +37,7 @@ use Rattle.table.specs.Row.{InTable}
 use Rattle.place.specs.Match.{radiusOf, found, markedGraph}
 use Rattle.place.specs.Outcome.{PlaceOutcome}
 use Rattle.file_write.specs.Writing.{writeConditions, writing}
+use Rattle.call_convert.specs.Call.{convertConditions, converting}
 use Rattle.call_distance.specs.Calls.{radiusCall, ballConditions, ballCall}
 use Rattle.call_match.specs.Call.{TableOutcome, matchConditions, matching}
 use Rattle.call_place.specs.Call.{inputConditions, placeAt}
@@ -46,11 +48,11 @@ use Rattle.call_report.specs.Call.{reporting, needFor, verdictOf}
 -- ---- the words of all three
 
 -- the graph of the circuit that a file holds
-abbrev pub graph : List ℕ → Graph
+abbrev pub graph : CircuitFile → Graph
 graph file = circuitGraph (circuitOf file)
 
--- a part of the pattern and a node of the board have equal kinds, as Ask 1 reads it: the part has kind 0, or the node has the part's kind
-abbrev pub equal : List ℕ → List ℕ → Relation
+-- a part of the pattern and a node of the board have equal kinds, as Ask 1 reads it, and the same package
+abbrev pub equal : CircuitFile → CircuitFile → Relation
 equal pattern board = KindsMatch (circuitOf pattern) (circuitOf board)
 
 -- the four tables that are lent to a place call: a byte per node, a byte per link, a set of parts per node, a distance per node
@@ -61,21 +63,21 @@ pub record Lent : Type 0 where
   pub distances : List ℕ
 
 -- they are long enough for a board
-pub record Room (board : List ℕ) (lent : Lent) : Type 0 where
+pub record Room (board : CircuitFile) (lent : Lent) : Type 0 where
   pub nodes : nodesOf board ≤ length (lent .nodes)
   pub links : linksOf board ≤ length (lent .links)
   pub table : nodesOf board ≤ length (lent .table)
   pub distances : nodesOf board ≤ length (lent .distances)
 
 -- the place call with a radius given, and the one at the pattern's radius
-unfoldable pub placed : List ℕ → List ℕ → ℕ → ℕ → Lent → PlaceOutcome
+unfoldable pub placed : CircuitFile → CircuitFile → ℕ → ℕ → Lent → PlaceOutcome
 placed pattern board w r lent = placeAt pattern board w r (lent .nodes) (lent .links) (lent .table) (lent .distances)
 
-unfoldable pub placedOwn : List ℕ → List ℕ → ℕ → Lent → PlaceOutcome
+unfoldable pub placedOwn : CircuitFile → CircuitFile → ℕ → Lent → PlaceOutcome
 placedOwn pattern board w lent = placed pattern board w (radiusOf (circuitOf pattern)) lent
 
 -- "every accepted pattern, board and centre, with tables long enough"
-pub record Ready (pattern board : List ℕ) (w : ℕ) (lent : Lent) : Type 0 where
+pub record Ready (pattern board : CircuitFile) (w : ℕ) (lent : Lent) : Type 0 where
   pub drawn : Accepted Pattern pattern
   pub given : Accepted Board board
   pub centre : w < nodesOf board
@@ -94,11 +96,11 @@ pub record Decided (conditions : List Condition) (verdict : Verdict) (Kept : Typ
   pub kept : (x : Refusal) → verdict ≡ refuse x → Kept
 
 -- 9 "no place around the centre": demand 3 says what that is
-unfoldable pub noPlace : List ℕ → List ℕ → ℕ → ℕ → Condition
+unfoldable pub noPlace : CircuitFile → CircuitFile → ℕ → ℕ → Condition
 noPlace pattern board w r = record { number = 9; file = Neither; holds = not (found (circuitOf pattern) (circuitOf board) w r) }
 
 -- the conditions of the place calls
-unfoldable pub placedConditions : List ℕ → List ℕ → ℕ → ℕ → Lent → List Condition
+unfoldable pub placedConditions : CircuitFile → CircuitFile → ℕ → ℕ → Lent → List Condition
 placedConditions pattern board w r lent =
     inputConditions pattern board w (length (lent .nodes)) (length (lent .links)) (length (lent .table)) (length (lent .distances)) ++ (noPlace pattern board w r ∷ [])
 
@@ -107,40 +109,42 @@ unfoldable pub Untouched : Lent → PlaceOutcome → Type 0
 Untouched lent result =
     (result .nodes ≡ lent .nodes) × (result .links ≡ lent .links) × (result .table ≡ lent .table) × (result .distances ≡ lent .distances)
 
-unfoldable pub Unread : List ℕ → List ℕ → List ℕ → ReadOutcome → Type 0
-Unread kinds starts ends result = (result .kinds ≡ kinds) × (result .starts ≡ starts) × (result .ends ≡ ends)
+unfoldable pub Unread : List ℕ → List ℕ → List ℕ → List ℕ → ReadOutcome → Type 0
+Unread kinds packages starts ends result = (result .kinds ≡ kinds) × (result .packages ≡ packages) × (result .starts ≡ starts) × (result .ends ≡ ends)
 
 -- "A pattern or a board is accepted when its file, read in that role with tables long enough, is not refused."
-unfoldable pub ReadsAs : Role → List ℕ → Type 0
+unfoldable pub ReadsAs : Role → CircuitFile → Type 0
 ReadsAs role file =
-    (kinds starts ends : List ℕ) → nodesOf file ≤ length kinds → linksOf file ≤ length starts → linksOf file ≤ length ends →
-    reading role file kinds starts ends .reply .verdict ≡ accept
+    (kinds packages starts ends : List ℕ) → nodesOf file ≤ length kinds → packageCount (file .edition) (nodesOf file) ≤ length packages →
+    linksOf file ≤ length starts → linksOf file ≤ length ends → reading role file kinds packages starts ends .reply .verdict ≡ accept
 
 -- Each call, on every input. (The neighbour lookup refuses nothing.)
 pub record Demand1 : Type 0 where
-  pub reads : (role : Role) (file kinds starts ends : List ℕ) →
-      Decided (readConditions role file (length kinds) (length starts) (length ends)) (reading role file kinds starts ends .reply .verdict)
-      (Unread kinds starts ends (reading role file kinds starts ends))
-  pub writes : (role : Role) (kinds starts ends out : List ℕ) →
-      Decided (writeConditions role kinds starts ends (length out)) (writing role kinds starts ends out .reply .verdict)
-      (writing role kinds starts ends out .out ≡ out)
-  pub measures : (file : List ℕ) → Decided (fileConditions Pattern file) (radiusCall file .verdict) (Unit {0})
-  pub balls : (file : List ℕ) (w r : ℕ) (out : List ℕ) →
+  pub reads : (role : Role) (file : CircuitFile) (kinds packages starts ends : List ℕ) →
+      Decided (readConditions role file (length kinds) (length packages) (length starts) (length ends)) (reading role file kinds packages starts ends .reply .verdict)
+      (Unread kinds packages starts ends (reading role file kinds packages starts ends))
+  pub writes : (role : Role) (e : Edition) (kinds packages starts ends out : List ℕ) →
+      Decided (writeConditions role e kinds packages starts ends (length out)) (writing role e kinds packages starts ends out .reply .verdict)
+      (writing role e kinds packages starts ends out .out ≡ out)
+  pub measures : (file : CircuitFile) → Decided (fileConditions Pattern file) (radiusCall file .verdict) (Unit {0})
+  pub balls : (file : CircuitFile) (w r : ℕ) (out : List ℕ) →
       Decided (ballConditions file w (length out)) (ballCall file w r out .reply .verdict) (ballCall file w r out .out ≡ out)
-  pub matches : (pattern board table : List ℕ) →
+  pub matches : (pattern board : CircuitFile) (table : List ℕ) →
       Decided (matchConditions pattern board (length table)) (matching pattern board table .reply .verdict)
       (matching pattern board table .table ≡ table)
-  pub places : (pattern board : List ℕ) (w r : ℕ) (lent : Lent) →
+  pub places : (pattern board : CircuitFile) (w r : ℕ) (lent : Lent) →
       Decided (placedConditions pattern board w r lent) (placed pattern board w r lent .reply .verdict)
       (Untouched lent (placed pattern board w r lent))
-  pub merges : (pattern classes out : List ℕ) →
+  pub merges : (pattern : CircuitFile) (classes out : List ℕ) →
       Decided (mergeConditions pattern (length classes) (length out)) (merging pattern classes out .reply .verdict)
       ((merging pattern classes out .classes ≡ classes) × (merging pattern classes out .out ≡ out))
   pub reports : (pattern board : List ℕ) (from before : ℕ) (out : List ℕ) →
       Decided (shortTable (needFor (verdictOf pattern board)) (length out) ∷ []) (reporting pattern board from before out .reply .verdict)
       (reporting pattern board from before out .out ≡ out)
+  pub converts : (role : Role) (to : Edition) (file : CircuitFile) (out : List ℕ) →
+      Decided (convertConditions role to file (length out)) (converting role to file out .reply .verdict) (converting role to file out .out ≡ out)
   -- what the other demands mean by accepted, and what the conditions 4, 5, 6 and 11 test
-  pub accepts : (role : Role) (file : List ℕ) → Accepted role file ↔ ReadsAs role file
+  pub accepts : (role : Role) (file : CircuitFile) → Accepted role file ↔ ReadsAs role file
   pub below : (n : ℕ) (starts ends : List ℕ) → T (linksBelow n starts ends) ↔ (Below n starts × Below n ends)
   pub rises : (starts ends : List ℕ) → T (rising starts ends) ↔ LinksRise starts ends
   pub joins : (n : ℕ) (starts ends : List ℕ) → T (linksBelow n starts ends) → T (connected n starts ends) ↔ Connected (graphOf n starts ends)
@@ -173,7 +177,7 @@ pub record RowCounts (P : Graph) (Agree : Relation) (H : Graph) (counts : Counts
 
 -- What the table call comes to: the largest dual simulation, with the pattern connected or not. The row is run to its end; its last set is the
 -- table, and "If some part is left without a node, the table is all 0, kept is 0, struck equals started, and rounds count as before."
-pub record Matched (pattern board : List ℕ) (result : TableOutcome) : Type 1 where
+pub record Matched (pattern board : CircuitFile) (result : TableOutcome) : Type 1 where
   pub accepted : result .reply .verdict ≡ accept
   pub largest : Largest (graph pattern) (equal pattern board) (graph board) (InTable (take (nodesOf board) (result .table)))
   pub run : RowRun (graph pattern) (equal pattern board) (graph board) (result .reply .counts .started) (result .reply .counts .rounds)
@@ -191,30 +195,39 @@ pub record Matched (pattern board : List ℕ) (result : TableOutcome) : Type 1 w
       Accepted Pattern pattern →
       RowCounts (graph pattern) (equal pattern board) (graph board) (result .reply .counts) × (take (nodesOf board) (result .table) ≡ run .table (result .reply .counts .rounds))
 
--- a circuit stands at the front of the tables that a reading call was lent
-pub record ReadBack (kinds starts ends : List ℕ) (result : ReadOutcome) : Type 0 where
+-- a circuit stands at the front of the tables that a reading call was lent, with the packages that the edition has
+pub record ReadBack (e : Edition) (kinds packages starts ends : List ℕ) (result : ReadOutcome) : Type 0 where
   pub accepted : result .reply .verdict ≡ accept
   pub values : result .reply .values ≡ length kinds ∷ length starts ∷ []
   pub kindsAre : take (length kinds) (result .kinds) ≡ kinds
+  pub packagesAre : take (packageCount e (length kinds)) (result .packages) ≡ take (packageCount e (length kinds)) packages
   pub startsAre : take (length starts) (result .starts) ≡ starts
   pub endsAre : take (length ends) (result .ends) ≡ ends
 
 pub record Demand2 : Type 1 where
   -- of any pattern: the whole-board call applies neither 6 nor 11
-  pub table : (pattern board table : List ℕ) → Accepted AnyPattern pattern → Accepted Board board → nodesOf board ≤ length table →
+  pub table : (pattern board : CircuitFile) (table : List ℕ) → Accepted AnyPattern pattern → Accepted Board board → nodesOf board ≤ length table →
       Matched pattern board (matching pattern board table)
   -- the place calls' counts are those of the row in the ball, whether there is a place or not
-  pub ball : (pattern board : List ℕ) (w r : ℕ) (lent : Lent) → Ready pattern board w lent →
+  pub ball : (pattern board : CircuitFile) (w r : ℕ) (lent : Lent) → Ready pattern board w lent →
       RowCounts (graph pattern) (equal pattern board) (Ball (graph board) w r) (placed pattern board w r lent .reply .counts)
-  pub reads : (role : Role) (kinds starts ends out ks ss es : List ℕ) → writing role kinds starts ends out .reply .verdict ≡ accept →
-      length kinds ≤ length ks → length starts ≤ length ss → length ends ≤ length es →
-      ReadBack kinds starts ends (reading role (take (getD (writing role kinds starts ends out .reply .values) 0 0) (writing role kinds starts ends out .out)) ks ss es)
-  pub writes : (role : Role) (file ks ss es out : List ℕ) → Below 256 file → reading role file ks ss es .reply .verdict ≡ accept →
-      length file ≤ length out →
-      take (length file)
-      (writing role (take (nodesOf file) (reading role file ks ss es .kinds)) (take (linksOf file) (reading role file ks ss es .starts))
-      (take (linksOf file) (reading role file ks ss es .ends)) out .out)
-      ≡ file
+  pub reads : (role : Role) (e : Edition) (kinds packages starts ends out ks ps ss es : List ℕ) → writing role e kinds packages starts ends out .reply .verdict ≡ accept →
+      length kinds ≤ length ks → packageCount e (length kinds) ≤ length ps → length starts ≤ length ss → length ends ≤ length es →
+      ReadBack e kinds packages starts ends
+      (reading role (inEdition e (take (getD (writing role e kinds packages starts ends out .reply .values) 0 0) (writing role e kinds packages starts ends out .out))) ks ps ss es)
+  pub writes : (role : Role) (file : CircuitFile) (ks ps ss es out : List ℕ) → Below 256 (file .bytes) → reading role file ks ps ss es .reply .verdict ≡ accept →
+      length (file .bytes) ≤ length out →
+      take (length (file .bytes))
+      (writing role (file .edition) (take (nodesOf file) (reading role file ks ps ss es .kinds))
+      (take (packageCount (file .edition) (nodesOf file)) (reading role file ks ps ss es .packages)) (take (linksOf file) (reading role file ks ps ss es .starts))
+      (take (linksOf file) (reading role file ks ps ss es .ends)) out .out)
+      ≡ file .bytes
+  -- the converter "keeps the circuit", and there and back again gives the same bytes
+  pub converts : (role : Role) (to : Edition) (file : CircuitFile) (out out′ : List ℕ) → Below 256 (file .bytes) →
+      converting role to file out .reply .verdict ≡ accept → length (file .bytes) ≤ length out′ →
+      let new = inEdition to (take (getD (converting role to file out .reply .values) 0 0) (converting role to file out .out)) in
+      (circuitOf new ≡ circuitOf file)
+      × (take (length (file .bytes)) (converting role (file .edition) new out′ .out) ≡ file .bytes)
 
 -- ---- Demand 3
 
@@ -227,20 +240,20 @@ unfoldable pub nine : Refusal
 nine = record { number = 9; file = Neither }
 
 -- the subgraph of the board that the first N node bytes and the first M link bytes mark
-abbrev pub marked : List ℕ → PlaceOutcome → Graph
+abbrev pub marked : CircuitFile → PlaceOutcome → Graph
 marked board result = markedGraph (circuitOf board) (take (nodesOf board) (result .nodes)) (take (linksOf board) (result .links))
 
 -- What a place call comes to at a radius.
-pub record FoundAt (pattern board : List ℕ) (w r : ℕ) (result : PlaceOutcome) : Type 1 where
+pub record FoundAt (pattern board : CircuitFile) (w r : ℕ) (result : PlaceOutcome) : Type 1 where
   pub none : (result .reply .verdict ≡ refuse nine) ↔ ((G : Graph) → Perfect (graph pattern) (equal pattern board) (graph board) w r G → ⊥)
   pub accepted : (result .reply .verdict ≡ refuse nine → ⊥) → result .reply .verdict ≡ accept
   pub place : result .reply .verdict ≡ accept → Place (graph pattern) (equal pattern board) (graph board) w r (marked board result)
   -- "(1 in the place, else 0)"
   pub bytes : result .reply .verdict ≡ accept → Below 2 (take (nodesOf board) (result .nodes)) × Below 2 (take (linksOf board) (result .links))
 
--- the merged file: the front of the lent bytes, of the length replied
-unfoldable pub mergedFile : MergeOutcome → List ℕ
-mergedFile m = take (getD (m .reply .values) 1 0) (m .out)
+-- the merged file: the front of the lent bytes, of the length replied; "the merged file has the pattern's edition"
+unfoldable pub mergedFile : CircuitFile → MergeOutcome → CircuitFile
+mergedFile pattern m = inEdition (pattern .edition) (take (getD (m .reply .values) 1 0) (m .out))
 
 -- "It compares whether 9 is given and, where it is not, the first N node bytes and the first M link bytes, N and M being the board's; counts
 -- and match tables may differ."
@@ -251,17 +264,17 @@ pub record SameFound (n m : ℕ) (a b : PlaceOutcome) : Type 0 where
 
 pub record Demand3 : Type 1 where
   -- an accepted pattern has a radius, which is a 16-bit number
-  pub radius : (pattern : List ℕ) → Accepted Pattern pattern → (r : ℕ) × Radius (graph pattern) r × (r < 65536)
+  pub radius : (pattern : CircuitFile) → Accepted Pattern pattern → (r : ℕ) × Radius (graph pattern) r × (r < 65536)
   -- the call at the pattern's radius, and the one with a radius given
-  pub own : (pattern board : List ℕ) (w : ℕ) (lent : Lent) → Ready pattern board w lent → (r : ℕ) → Radius (graph pattern) r →
+  pub own : (pattern board : CircuitFile) (w : ℕ) (lent : Lent) → Ready pattern board w lent → (r : ℕ) → Radius (graph pattern) r →
       FoundAt pattern board w r (placedOwn pattern board w lent)
-  pub given : (pattern board : List ℕ) (w r : ℕ) (lent : Lent) → Ready pattern board w lent →
+  pub given : (pattern board : CircuitFile) (w r : ℕ) (lent : Lent) → Ready pattern board w lent →
       FoundAt pattern board w r (placed pattern board w r lent)
   -- the merged file, as the merging call leaves it, handed to the call with a radius given
-  pub merged : (pattern classes out board : List ℕ) (w : ℕ) (lent again : Lent) → Ready pattern board w lent → Room board again →
-      nodesOf pattern ≤ length classes → length pattern ≤ length out → (r : ℕ) → Radius (graph pattern) r →
-      SameFound (nodesOf board) (linksOf board) (placed (mergedFile (merging pattern classes out)) board w r again) (placedOwn pattern board w lent)
+  pub merged : (pattern : CircuitFile) (classes out : List ℕ) (board : CircuitFile) (w : ℕ) (lent again : Lent) → Ready pattern board w lent → Room board again →
+      nodesOf pattern ≤ length classes → length (pattern .bytes) ≤ length out → (r : ℕ) → Radius (graph pattern) r →
+      SameFound (nodesOf board) (linksOf board) (placed (mergedFile pattern (merging pattern classes out)) board w r again) (placedOwn pattern board w lent)
   -- "Two parts share a class exactly when each matches the other in the pattern's table on itself."
-  pub classes : (pattern classes out table : List ℕ) → Accepted Pattern pattern → nodesOf pattern ≤ length classes → length pattern ≤ length out →
+  pub classes : (pattern : CircuitFile) (classes out table : List ℕ) → Accepted Pattern pattern → nodesOf pattern ≤ length classes → length (pattern .bytes) ≤ length out →
       nodesOf pattern ≤ length table → (u v : ℕ) → u < nodesOf pattern → v < nodesOf pattern →
       (classByte pattern classes out u ≡ classByte pattern classes out v) ↔ Mutual (InTable (matching pattern pattern table .table)) u v

@@ -11,9 +11,9 @@ use Rattle.simulation.specs.Quotient.{QuotientGraph}
 use Rattle.file_format.specs.declared.Role.the-variants.{Pattern, Board}
 use Rattle.file_format.specs.Circuit.{circuitOf}
 use Rattle.file_format.specs.Examples.{fileT}
-use Rattle.file_format.specs.Layout.{nodesOf, kindsOf}
+use Rattle.file_format.specs.Layout.{CircuitFile, inEdition, firstEdition, nodesOf, labelsOf}
 use Rattle.file_format.specs.Refusals.{Accepted}
-use Rattle.file_write.specs.Bytes.{fileBytes}
+use Rattle.file_write.specs.Bytes.{circuitBytes}
 use Rattle.table.specs.Row.{InTable}
 use Rattle.merge.specs.Merged.{SameKind, grouped}
 use Rattle.call_match.specs.Call.{matching}
@@ -22,61 +22,59 @@ use Rattle.call_merge.specs.Classes.{classByte}
 use Rattle.demands.specs.Demands.{graph, mergedFile}
 
 -- "take every other grouping of the parts, members of a group having the same kind and package number"
-abbrev pub Groups : List ℕ → (ℕ → ℕ) → ℕ → Type 0
+abbrev pub Groups : CircuitFile → (ℕ → ℕ) → ℕ → Type 0
 Groups pattern group k = Grouping (graph pattern) (SameKind (circuitOf pattern)) group k
 
--- ".., made into a pattern as merging does": its file
-unfoldable pub groupedFile : List ℕ → (ℕ → ℕ) → ℕ → List ℕ
-groupedFile pattern group k =
-    let q = grouped (circuitOf pattern) group k in
-    fileBytes (q .kinds) (q .starts) (q .ends)
+-- ".., made into a pattern as merging does": its file, of the pattern's edition
+unfoldable pub groupedFile : CircuitFile → (ℕ → ℕ) → ℕ → CircuitFile
+groupedFile pattern group k = inEdition (pattern .edition) (circuitBytes (pattern .edition) (grouped (circuitOf pattern) group k))
 
 -- node v of a board matches part u: so says the table that the call leaves, whatever table is lent that is long enough
-unfoldable pub Matches : List ℕ → List ℕ → ℕ → ℕ → Type 0
+unfoldable pub Matches : CircuitFile → CircuitFile → ℕ → ℕ → Type 0
 Matches pattern board u v = (lent : List ℕ) → nodesOf board ≤ length lent → InTable (matching pattern board lent .table) u v
 
 -- "Suppose that, for each group, each single member of it and every accepted board, a node matches the group exactly when it matches that
 -- member in the first pattern's table."
-pub record Supposed (pattern : List ℕ) (group : ℕ → ℕ) (k : ℕ) : Type 0 where
-  pub on : (board : List ℕ) → Accepted Board board →
+pub record Supposed (pattern : CircuitFile) (group : ℕ → ℕ) (k : ℕ) : Type 0 where
+  pub on : (board : CircuitFile) → Accepted Board board →
       AsEachMember (graph pattern) group (graph board) (Matches pattern board) (Matches (groupedFile pattern group k) board)
 
 -- "ours": the class bytes that the merging call leaves, and the number of classes that it replies with
-unfoldable pub replied : List ℕ → List ℕ → List ℕ → ℕ
+unfoldable pub replied : CircuitFile → List ℕ → List ℕ → ℕ
 replied pattern classes out = getD (merging pattern classes out .reply .values) 0 0
 
 -- the call is lent N class bytes and as many bytes as the pattern's file has
-pub record Enough (pattern classes out : List ℕ) : Type 0 where
+pub record Enough (pattern : CircuitFile) (classes out : List ℕ) : Type 0 where
   pub bytes : nodesOf pattern ≤ length classes
-  pub file : length pattern ≤ length out
+  pub file : length (pattern .bytes) ≤ length out
 
--- ".. made into a pattern as merging does": it is accepted as a pattern, has a part per group, of its members' kind, and a link from group a to
+-- ".. made into a pattern as merging does": it is accepted as a pattern, has a part per group, of its members' kind and package, and a link from group a to
 -- group b, b equal to a included, where some member of a has a link to some member of b.
-pub record Made (pattern : List ℕ) (group : ℕ → ℕ) (file : List ℕ) : Type 0 where
+pub record Made (pattern : CircuitFile) (group : ℕ → ℕ) (file : CircuitFile) : Type 0 where
   pub accepted : Accepted Pattern file
   pub quotient : SameGraph (graph file) (QuotientGraph (graph pattern) group)
-  pub kinds : (u : ℕ) → u < nodesOf pattern → getD (kindsOf file) (group u) 0 ≡ getD (kindsOf pattern) u 0
+  pub kinds : (u : ℕ) → u < nodesOf pattern → getD (labelsOf file) (group u) 0 ≡ getD (labelsOf pattern) u 0
 
 -- "ours is itself such a grouping"
-pub record Such (pattern classes out : List ℕ) : Type 0 where
+pub record Such (pattern : CircuitFile) (classes out : List ℕ) : Type 0 where
   pub groups : Groups pattern (classByte pattern classes out) (replied pattern classes out)
-  pub file : groupedFile pattern (classByte pattern classes out) (replied pattern classes out) ≡ mergedFile (merging pattern classes out)
+  pub file : groupedFile pattern (classByte pattern classes out) (replied pattern classes out) ≡ mergedFile pattern (merging pattern classes out)
   pub supposed : Supposed pattern (classByte pattern classes out) (replied pattern classes out)
 
 pub record NothingMore : Type 0 where
-  pub makes : (pattern : List ℕ) → Accepted Pattern pattern → (group : ℕ → ℕ) (k : ℕ) → Groups pattern group k →
+  pub makes : (pattern : CircuitFile) → Accepted Pattern pattern → (group : ℕ → ℕ) (k : ℕ) → Groups pattern group k →
       Made pattern group (groupedFile pattern group k)
   -- "Then that grouping has at least as many groups as ours,"
-  pub least : (pattern classes out : List ℕ) → Accepted Pattern pattern → Enough pattern classes out → (group : ℕ → ℕ) (k : ℕ) →
+  pub least : (pattern : CircuitFile) (classes out : List ℕ) → Accepted Pattern pattern → Enough pattern classes out → (group : ℕ → ℕ) (k : ℕ) →
       Groups pattern group k → Supposed pattern group k → replied pattern classes out ≤ k
   -- "and ours is itself such a grouping."
-  pub ours : (pattern classes out : List ℕ) → Accepted Pattern pattern → Enough pattern classes out → Such pattern classes out
+  pub ours : (pattern : CircuitFile) (classes out : List ℕ) → Accepted Pattern pattern → Enough pattern classes out → Such pattern classes out
 
 -- ---- two groupings
 
 -- Y of E6: "0:10, 1:20, 2:20, links 0-1, 0-2"
-unfoldable pub fileY : List ℕ
-fileY = 3 ∷ 0 ∷ 2 ∷ 0 ∷ 10 ∷ 0 ∷ 20 ∷ 0 ∷ 20 ∷ 0 ∷ 0 ∷ 0 ∷ 0 ∷ 0 ∷ 1 ∷ 0 ∷ 2 ∷ 0 ∷ []
+unfoldable pub fileY : CircuitFile
+fileY = firstEdition (3 ∷ 0 ∷ 2 ∷ 0 ∷ 10 ∷ 0 ∷ 20 ∷ 0 ∷ 20 ∷ 0 ∷ 0 ∷ 0 ∷ 0 ∷ 0 ∷ 1 ∷ 0 ∷ 2 ∷ 0 ∷ [])
 
 -- The finest grouping of Y, each part a group, is such a grouping; it has three groups where merging has two.
 pub record FinestY : Type 0 where
@@ -86,9 +84,9 @@ pub record FinestY : Type 0 where
   pub ours : (classes out : List ℕ) → Enough fileY classes out → replied fileY classes out ≡ 2
 
 -- E8: "0:10, 1:20, 2:20, 3:30, links 0-1, 0-2, 2-3"
-unfoldable pub fileE8 : List ℕ
+unfoldable pub fileE8 : CircuitFile
 fileE8 =
-    4 ∷ 0 ∷ 3 ∷ 0 ∷ 10 ∷ 0 ∷ 20 ∷ 0 ∷ 20 ∷ 0 ∷ 30 ∷ 0 ∷ 0 ∷ 0 ∷ 0 ∷ 0 ∷ 2 ∷ 0 ∷ 1 ∷ 0 ∷ 2 ∷ 0 ∷ 3 ∷ 0 ∷ []
+    firstEdition (4 ∷ 0 ∷ 3 ∷ 0 ∷ 10 ∷ 0 ∷ 20 ∷ 0 ∷ 20 ∷ 0 ∷ 30 ∷ 0 ∷ 0 ∷ 0 ∷ 0 ∷ 0 ∷ 2 ∷ 0 ∷ 1 ∷ 0 ∷ 2 ∷ 0 ∷ 3 ∷ 0 ∷ [])
 
 -- its parts 1 and 2, of one kind, in one group
 unfoldable pub joined : ℕ → ℕ
@@ -99,7 +97,7 @@ joined u = getD (0 ∷ 1 ∷ 1 ∷ 2 ∷ []) u 0
 pub record JoinedE8 : Type 0 where
   pub accepted : Accepted Pattern fileE8
   pub groups : Groups fileE8 joined 3
-  pub makes : groupedFile fileE8 joined 3 ≡ fileT
+  pub makes : groupedFile fileE8 joined 3 ≡ firstEdition fileT
   pub board : Accepted Board fileE8
   pub member : Matches fileE8 fileE8 1 1
   pub group : Matches (groupedFile fileE8 joined 3) fileE8 1 1 → ⊥

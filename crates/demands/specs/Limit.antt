@@ -10,10 +10,11 @@ use Rattle.base_text.specs.Text.{bytes}
 use Rattle.graph.specs.Circuit.{graphOf}
 use Rattle.graph.specs.Graph.{Radius}
 use Rattle.graph.specs.Search.{radius}
+use Rattle.file_format.specs.declared.Edition.{Edition}
 use Rattle.file_format.specs.declared.Role.{Role}
 use Rattle.file_format.specs.declared.Role.the-variants.{Pattern}
 use Rattle.file_format.specs.Circuit.{circuitOf}
-use Rattle.file_format.specs.Layout.{nodesOf, linksOf, kindsOf, startsOf, endsOf}
+use Rattle.file_format.specs.Layout.{CircuitFile, firstEdition, nodesOf, linksOf, kindsOf, packagesOf, startsOf, endsOf}
 use Rattle.file_format.specs.Reading.{readConditions, readAnswer, filled, ReadOutcome, reading}
 use Rattle.file_format.specs.Refusals.{Condition, Verdict, accept, refuse, first, eleven, without, fileConditions, Accepted}
 use Rattle.file_format.specs.Reply.{Reply, reply}
@@ -22,6 +23,7 @@ use Rattle.file_write.specs.Writing.{circuitConditions, writing}
 use Rattle.place.specs.Outcome.{PlaceOutcome, placeAround}
 use Rattle.report.specs.Report.{reportFor, reportOf}
 use Rattle.merge.specs.Merged.{classCount, classes}
+use Rattle.call_convert.specs.Call.{converting}
 use Rattle.call_distance.specs.Calls.{radiusCall}
 use Rattle.call_place.specs.Call.{inputConditions, decided}
 use Rattle.call_merge.specs.Call.{mergedBytes, mergeConditions, MergeOutcome, merging}
@@ -32,73 +34,79 @@ use Rattle.demands.specs.Demands.{graph, Lent, placed, mergedFile}
 abbrev pub before : List Condition → Verdict
 before conditions = first (without 11 conditions)
 
-unfoldable pub readingBefore : Role → List ℕ → List ℕ → List ℕ → List ℕ → ReadOutcome
-readingBefore role file kinds starts ends =
-    let verdict = before (readConditions role file (length kinds) (length starts) (length ends)) in
+unfoldable pub readingBefore : Role → CircuitFile → List ℕ → List ℕ → List ℕ → List ℕ → ReadOutcome
+readingBefore role file kinds packages starts ends =
+    let verdict = before (readConditions role file (length kinds) (length packages) (length starts) (length ends)) in
     record {
       answer = readAnswer verdict (nodesOf file) (linksOf file);
       reply = reply verdict (nodesOf file ∷ linksOf file ∷ []);
       kinds = filled verdict (kindsOf file) kinds;
+      packages = filled verdict (packagesOf file) packages;
       starts = filled verdict (startsOf file) starts;
       ends = filled verdict (endsOf file) ends;
     }
 
-unfoldable pub radiusBefore : List ℕ → Reply
+unfoldable pub radiusBefore : CircuitFile → Reply
 radiusBefore file = reply (before (fileConditions Pattern file)) (radius (nodesOf file) (startsOf file) (endsOf file) ∷ [])
 
-unfoldable pub placedBefore : List ℕ → List ℕ → ℕ → ℕ → Lent → PlaceOutcome
+unfoldable pub placedBefore : CircuitFile → CircuitFile → ℕ → ℕ → Lent → PlaceOutcome
 placedBefore pattern board w r lent =
-    decided (before (inputConditions pattern board w (length (lent .nodes)) (length (lent .links)) (length (lent .table)) (length (lent .distances))))
-    (lent .nodes) (lent .links) (lent .table) (lent .distances)
+    decided (before (inputConditions pattern board w (length (lent .nodes)) (length (lent .links)) (length (lent .table)) (length (lent .distances)))) (lent .nodes)
+    (lent .links) (lent .table) (lent .distances)
     (placeAround (circuitOf pattern) (circuitOf board) w r (lent .nodes) (lent .links) (lent .table) (lent .distances))
 
-unfoldable pub mergingBefore : List ℕ → List ℕ → List ℕ → MergeOutcome
+unfoldable pub mergingBefore : CircuitFile → List ℕ → List ℕ → MergeOutcome
 mergingBefore file lent out =
     let verdict = before (mergeConditions file (length lent) (length out)) in
     let p = circuitOf file in
     record {
-      reply = reply verdict (classCount p ∷ length (mergedBytes p) ∷ []);
+      reply = reply verdict (classCount p ∷ length (mergedBytes (file .edition) p) ∷ []);
       classes = filled verdict (classes p) lent;
-      out = filled verdict (mergedBytes p) out;
+      out = filled verdict (mergedBytes (file .edition) p) out;
     }
 
 unfoldable pub reportBefore : List ℕ → List ℕ → List ℕ
-reportBefore pattern board = reportFor (before (pairConditions Pattern pattern board)) (circuitOf pattern) (circuitOf board)
+reportBefore pattern board =
+    let p = firstEdition pattern in
+    let b = firstEdition board in
+    reportFor (before (pairConditions Pattern p b)) (circuitOf p) (circuitOf b)
 
 -- ---- the request
 
 -- a pattern that is turned away with 11 is so by every call that checks 6, whatever the board, the centre, the radius given and the tables
-pub record TurnedAway (pattern : List ℕ) : Type 0 where
-  pub reads : (kinds starts ends : List ℕ) → reading Pattern pattern kinds starts ends .reply .verdict ≡ refuse eleven
+pub record TurnedAway (pattern : CircuitFile) : Type 0 where
+  pub reads : (kinds packages starts ends : List ℕ) → reading Pattern pattern kinds packages starts ends .reply .verdict ≡ refuse eleven
   pub measures : radiusCall pattern .verdict ≡ refuse eleven
-  pub places : (board : List ℕ) (w r : ℕ) (lent : Lent) → placed pattern board w r lent .reply .verdict ≡ refuse eleven
+  pub places : (board : CircuitFile) (w r : ℕ) (lent : Lent) → placed pattern board w r lent .reply .verdict ≡ refuse eleven
   pub merges : (lent out : List ℕ) → merging pattern lent out .reply .verdict ≡ refuse eleven
-  pub reports : (board : List ℕ) → reportOf pattern board ≡ bytes "refused 11 pattern\n"
+  pub converts : (to : Edition) (out : List ℕ) → converting Pattern to pattern out .reply .verdict ≡ refuse eleven
+  -- the report reads the first edition
+  pub reports : (file board : List ℕ) → firstEdition file ≡ pattern → reportOf file board ≡ bytes "refused 11 pattern\n"
 
 -- an accepted pattern's replies, tables, counts and lines are those of before the limit
-pub record AsBefore (pattern : List ℕ) : Type 0 where
-  pub reads : (kinds starts ends : List ℕ) → reading Pattern pattern kinds starts ends ≡ readingBefore Pattern pattern kinds starts ends
+pub record AsBefore (pattern : CircuitFile) : Type 0 where
+  pub reads : (kinds packages starts ends : List ℕ) → reading Pattern pattern kinds packages starts ends ≡ readingBefore Pattern pattern kinds packages starts ends
   pub measures : radiusCall pattern ≡ radiusBefore pattern
-  pub places : (board : List ℕ) (w r : ℕ) (lent : Lent) → placed pattern board w r lent ≡ placedBefore pattern board w r lent
+  pub places : (board : CircuitFile) (w r : ℕ) (lent : Lent) → placed pattern board w r lent ≡ placedBefore pattern board w r lent
   pub merges : (lent out : List ℕ) → merging pattern lent out ≡ mergingBefore pattern lent out
-  pub reports : (board : List ℕ) → reportOf pattern board ≡ reportBefore pattern board
+  pub reports : (file board : List ℕ) → firstEdition file ≡ pattern → reportOf file board ≡ reportBefore file board
 
 pub record Limit : Type 1 where
   -- "11, pattern radius above 12 .., after it": exactly the patterns of which 1 to 6 do not hold, and whose radius is above 12
-  pub wide : (file : List ℕ) →
+  pub wide : (file : CircuitFile) →
       (first (fileConditions Pattern file) ≡ refuse eleven) ↔ ((before (fileConditions Pattern file) ≡ accept) × ((r : ℕ) × Radius (graph file) r × (12 < r)))
   -- "Twelve becomes the limit."
-  pub narrow : (file : List ℕ) →
+  pub narrow : (file : CircuitFile) →
       Accepted Pattern file ↔ ((before (fileConditions Pattern file) ≡ accept) × ((r : ℕ) → Radius (graph file) r → r ≤ 12))
   -- the same of a circuit that is to be written as a pattern: after 2 to 6
-  pub written : (kinds starts ends out : List ℕ) →
-      (writing Pattern kinds starts ends out .reply .verdict ≡ refuse eleven) ↔
-      ((before (circuitConditions Pattern kinds starts ends) ≡ accept) × ((r : ℕ) × Radius (graphOf (length kinds) starts ends) r × (12 < r)))
+  pub written : (e : Edition) (kinds packages starts ends out : List ℕ) →
+      (writing Pattern e kinds packages starts ends out .reply .verdict ≡ refuse eleven) ↔
+      ((before (circuitConditions Pattern e kinds packages starts ends) ≡ accept) × ((r : ℕ) × Radius (graphOf (length kinds) starts ends) r × (12 < r)))
   -- "checked in every call that checks 6, .. before the board's 1"
-  pub turned : (pattern : List ℕ) → first (fileConditions Pattern pattern) ≡ refuse eleven → TurnedAway pattern
+  pub turned : (pattern : CircuitFile) → first (fileConditions Pattern pattern) ≡ refuse eleven → TurnedAway pattern
   -- "Users keep every guarantee about places and merging for patterns up to it"
-  pub same : (pattern : List ℕ) → Accepted Pattern pattern → AsBefore pattern
+  pub same : (pattern : CircuitFile) → Accepted Pattern pattern → AsBefore pattern
   -- "a merged pattern never has the larger radius", and so is never turned away
-  pub merged : (pattern lent out : List ℕ) → merging pattern lent out .reply .verdict ≡ accept → (r s : ℕ) → Radius (graph pattern) r →
-      Radius (graph (mergedFile (merging pattern lent out))) s → s ≤ r
-  pub accepts : (pattern lent out : List ℕ) → merging pattern lent out .reply .verdict ≡ accept → Accepted Pattern (mergedFile (merging pattern lent out))
+  pub merged : (pattern : CircuitFile) (lent out : List ℕ) → merging pattern lent out .reply .verdict ≡ accept → (r s : ℕ) → Radius (graph pattern) r →
+      Radius (graph (mergedFile pattern (merging pattern lent out))) s → s ≤ r
+  pub accepts : (pattern : CircuitFile) (lent out : List ℕ) → merging pattern lent out .reply .verdict ≡ accept → Accepted Pattern (mergedFile pattern (merging pattern lent out))

@@ -3,16 +3,19 @@ ghost use mathlib.Core.Path.{_≡_};
 ghost use lib.Dec.{T, ltb};
 ghost use lib.ListN.{length};
 ghost use Rattle.base_lists.specs.List.{all};
+ghost use Rattle.file_format.specs.Layout.{inEdition};
 ghost use Rattle.file_format.specs.Links.{packed, numbersRise};
 ghost use Rattle.file_format.specs.Reading.{LinksTested};
 ghost use Rattle.file_format.specs.Refusals.{asksConnected, sizeNumber, orderNumber, widthNumber};
 ghost use Rattle.file_format.specs.Role.{inRange, fileOf};
 use file_fields::field_at;
 use file_format::Board;
+use file_format::Edition;
 use file_format::File;
 use file_format::Pattern;
 use file_format::Refusal;
 use file_format::Role;
+use file_format::package_count;
 
 // The file that a role's refusals name.
 fn file_of(role: Role) -> File
@@ -56,8 +59,8 @@ fn asks_connected(role: Role) -> bool
 }
 
 // 1, 2 or 3, the first that the file's size gives, or 0.
-pub fn size_number(role: Role, file: &[u8]) -> u8
-    ensures { λ r. ⌜ r ≡ sizeNumber role (now (file .entry)) ⌝ }
+pub fn size_number(role: Role, edition: Edition, file: &[u8]) -> u8
+    ensures { λ r. ⌜ r ≡ sizeNumber role (inEdition edition (now (file .entry))) ⌝ }
 {
     if file.len() < 4 {
         return 1;
@@ -67,7 +70,8 @@ pub fn size_number(role: Role, file: &[u8]) -> u8
     if !in_range(role, n, m) {
         return 2;
     }
-    if file.len() != 4 + 2 * n + 4 * m {
+    let p = package_count(edition, n);
+    if file.len() != 4 + 2 * n + 2 * p + 4 * m {
         return 3;
     }
     0

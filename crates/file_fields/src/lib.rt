@@ -2,7 +2,8 @@
 ghost use mathlib.Core.Path.{_≡_};
 ghost use mathlib.Core.List.{_++_};
 ghost use Prim.Native.Nat.{_+_, _*_, _<_, _≤_};
-ghost use lib.ListN.{length, drop};
+ghost use lib.ListN.{length, getD, drop};
+ghost use Rattle.file_format.specs.Label.{label, labels};
 ghost use Rattle.file_format.specs.Layout.{field, fields};
 
 // The i-th field of a stretch.
@@ -31,5 +32,27 @@ pub fn store(part: &[u8], k: usize, out: &mut [u16])
 {
     for i in 0..k {
         out[i] = field_at(part, i);
+    }
+}
+
+// The i-th of a stretch of p packages; 0 where there are not so many.
+fn package_at(part: &[u8], p: usize, i: usize) -> u32
+    requires { ⌜ 2 * p ≤ length (now part) ⌝ }
+    ensures { λ r. ⌜ (r ≡ getD (fields (now (part .entry)) p) i 0) × (r < 65536) ⌝ }
+{
+    if p <= i {
+        return 0;
+    }
+    field_at(part, i) as u32
+}
+
+// The labels of k nodes, from the stretch of their kinds and one of p packages: each is the kind and 65,536 times the package.
+pub fn store_labels(kinds: &[u8], k: usize, packages: &[u8], p: usize, out: &mut [u32])
+    requires { ⌜ (2 * k ≤ length (now kinds)) × (2 * p ≤ length (now packages)) × (k ≤ length (now out)) ⌝ }
+    ensures { λ r. ⌜ now (out .exit) ≡ labels (fields (now (kinds .entry)) k) (fields (now (packages .entry)) p) ++ drop k (now (out .entry)) ⌝ }
+{
+    for i in 0..k {
+        let kind = field_at(kinds, i) as u32;
+        out[i] = kind + 65536 * package_at(packages, p, i);
     }
 }

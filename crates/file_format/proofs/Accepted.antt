@@ -13,10 +13,10 @@ use Rattle.graph.proofs.Distance.{connected-iff}
 use Rattle.file_format.specs.declared.Role.{Role}
 use Rattle.file_format.specs.declared.Role.the-variants.{Pattern, AnyPattern}
 use Rattle.file_format.specs.Circuit.{circuitOf, Bounded}
-use Rattle.file_format.specs.Layout.{nodesOf, linksOf, kindsOf, startsOf, endsOf}
+use Rattle.file_format.specs.Layout.{CircuitFile, nodesOf, linksOf, labelsOf, startsOf, endsOf}
 use Rattle.file_format.specs.Links.{linksBelow}
 use Rattle.file_format.specs.Refusals.{asksConnected, Accepted}
-use Rattle.file_format.proofs.Fields.{length-kinds, length-starts, length-ends}
+use Rattle.file_format.proofs.Fields.{length-labels, length-starts, length-ends}
 use Rattle.file_format.proofs.Refusals.{range-orders}
 
 -- ---- links that join nodes
@@ -44,26 +44,26 @@ module _ {role : Role} {c : Circuit} (b : Bounded role c) where
 
 -- ---- an accepted file
 
-pub accepted-bounded : {role : Role} {file : List ℕ} → Accepted role file → Bounded role (circuitOf file)
+pub accepted-bounded : {role : Role} {file : CircuitFile} → Accepted role file → Bounded role (circuitOf file)
 accepted-bounded {role} {file} a =
     record {
-      nodes = rw length-kinds (range-orders role (nodesOf file) (linksOf file) (a .range) .1);
+      nodes = rw length-labels (range-orders role (nodesOf file) (linksOf file) (a .range) .1);
       links = rw length-starts (range-orders role (nodesOf file) (linksOf file) (a .range) .2);
       parallel = length-starts file ∙ sym (length-ends file);
-      below = rw length-kinds (a .below);
+      below = rw length-labels (a .below);
     }
 
 -- its links start and end at its nodes
-pub accepted-below : {role : Role} {file : List ℕ} → Accepted role file → Within (nodesOf file) (startsOf file) (endsOf file)
+pub accepted-below : {role : Role} {file : CircuitFile} → Accepted role file → Within (nodesOf file) (startsOf file) (endsOf file)
 accepted-below {file = file} a = links-within (nodesOf file) (startsOf file) (endsOf file) (a .below)
 
-pub accepted-within : {role : Role} {file : List ℕ} → Accepted role file → Within (length (kindsOf file)) (startsOf file) (endsOf file)
-accepted-within {file = file} a = rw length-kinds (accepted-below a)
+pub accepted-within : {role : Role} {file : CircuitFile} → Accepted role file → Within (length (labelsOf file)) (startsOf file) (endsOf file)
+accepted-within {file = file} a = rw length-labels (accepted-below a)
 
 -- an accepted pattern is connected
-pub accepted-connected : {file : List ℕ} → Accepted Pattern file → Connected (circuitGraph (circuitOf file))
+pub accepted-connected : {file : CircuitFile} → Accepted Pattern file → Connected (circuitGraph (circuitOf file))
 unfolding circuitGraph asksConnected
-accepted-connected {file} a = rw length-kinds (connected-iff (accepted-below a) .0 (a .joined tt))
+accepted-connected {file} a = rw length-labels (connected-iff (accepted-below a) .0 (a .joined tt))
 
 -- any pattern is within a pattern's maxima
 pub bounded-any : {c : Circuit} → Bounded AnyPattern c → Bounded Pattern c

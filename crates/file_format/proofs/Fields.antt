@@ -1,27 +1,51 @@
 -- Laws of the fields of a stretch, for the loops that go through them. Assumes nothing.
 use mathlib.Core.List.{List, _++_}
-use mathlib.Core.Path.{_≡_, ap, ap₂, _∙_}
-use Prim.Native.Nat.{ℕ, _+_, _*_, _-_, _<_}
+use mathlib.Core.Path.{_≡_, refl, ap, ap₂, _∙_}
+use Prim.Native.Nat.{ℕ, _+_, _*_, _-_, _≤_, _<_}
 use native.Mathlib.Nat.{add-sub-cancel-left}
 use native.Mathlib.Omega.{arith}
 use lib.ListN.{length, getD, take, drop, set}
 use lib.Seq.{getD-take, take-at}
+use Rattle.file_format.specs.declared.Edition.{Edition}
+use Rattle.file_format.specs.declared.Edition.the-variants.{First, Second}
+use Rattle.file_format.specs.Label.{labels}
 use Rattle.base_lists.proofs.Tables.{length-tabulate, getD-tabulate, tabulate-same, filled-none, filled-more}
-use Rattle.file_format.specs.Layout.{field, fields, nodesOf, linksOf, kindsOf, startsOf, endsOf}
+use Rattle.file_format.specs.Layout.{CircuitFile, field, fields, packageCount, nodesOf, linksOf, kindsOf, packagesOf, startsOf, endsOf, labelsOf, labelsFrom}
 
 pub length-fields : (s : List ℕ) (k : ℕ) → length (fields s k) ≡ k
 unfolding fields
 length-fields s k = length-tabulate k (λ i. field s (2 * i))
 
-pub length-kinds : (file : List ℕ) → length (kindsOf file) ≡ nodesOf file
+pub length-kinds : (file : CircuitFile) → length (kindsOf file) ≡ nodesOf file
 unfolding kindsOf
 length-kinds file = length-fields _ (nodesOf file)
 
-pub length-starts : (file : List ℕ) → length (startsOf file) ≡ linksOf file
+pub length-labels : (file : CircuitFile) → length (labelsOf file) ≡ nodesOf file
+unfolding labelsOf labels
+length-labels file = length-tabulate _ _ ∙ length-kinds file
+
+pub length-labels-from : (e : Edition) (bytes : List ℕ) (n : ℕ) → length (labelsFrom e bytes n) ≡ n
+unfolding labelsFrom labels
+length-labels-from e bytes n = length-tabulate _ _ ∙ length-fields _ n
+
+-- as many packages as the edition has
+pub length-packages : (file : CircuitFile) → length (packagesOf file) ≡ packageCount (file .edition) (nodesOf file)
+unfolding packagesOf
+length-packages file = length-fields _ (packageCount (file .edition) (nodesOf file))
+
+pub package-count-le : (e : Edition) (n : ℕ) → packageCount e n ≤ n
+package-count-le First n = omega arith
+package-count-le Second n = omega arith
+
+pub count-again : (e : Edition) (n : ℕ) → packageCount e (packageCount e n) ≡ packageCount e n
+count-again First n = refl
+count-again Second n = refl
+
+pub length-starts : (file : CircuitFile) → length (startsOf file) ≡ linksOf file
 unfolding startsOf
 length-starts file = length-fields _ (linksOf file)
 
-pub length-ends : (file : List ℕ) → length (endsOf file) ≡ linksOf file
+pub length-ends : (file : CircuitFile) → length (endsOf file) ≡ linksOf file
 unfolding endsOf
 length-ends file = length-fields _ (linksOf file)
 

@@ -1,7 +1,9 @@
+pub mod Labels
 pub mod Fields
 pub mod Refusals
 pub mod Accepted
 pub mod Reading
 pub mod Rising
 pub mod Packed
+pub mod FirstEdition
 pub mod Limit

@@ -18,11 +18,11 @@ use Rattle.file_format.specs.declared.Refusal.{Refusal}
 use Rattle.file_format.specs.declared.Role.{Role}
 use Rattle.file_format.specs.declared.Role.the-variants.{Pattern}
 use Rattle.file_format.specs.Circuit.{circuitOf}
-use Rattle.file_format.specs.Layout.{nodesOf, linksOf, startsOf, endsOf}
+use Rattle.file_format.specs.Layout.{CircuitFile, nodesOf, linksOf, startsOf, endsOf}
 use Rattle.file_format.specs.Links.{linksBelow}
 use Rattle.file_format.specs.Refusals.{Condition, Verdict, accept, refuse, first, widest, tooWide, linkConditions, fileConditions, asksConnected, eleven, without}
 use Rattle.file_format.specs.Role.{inRange}
-use Rattle.file_format.proofs.Fields.{length-kinds}
+use Rattle.file_format.proofs.Fields.{length-labels}
 use Rattle.file_format.proofs.Refusals.{accept-not-refuse, first-accept, first-refuse, first-holds, range-orders}
 use Rattle.file_format.proofs.Accepted.{links-within}
 
@@ -154,11 +154,11 @@ module _ (cs : List Condition) (n : ℕ) (starts ends : List ℕ) where
 
 -- ---- so of a file, after 1 to 6
 
-split-file : (r : Role) (file : List ℕ) → fileConditions r file ≡ without 11 (fileConditions r file) ++ (tooWide r (nodesOf file) (startsOf file) (endsOf file) ∷ [])
+split-file : (r : Role) (file : CircuitFile) → fileConditions r file ≡ without 11 (fileConditions r file) ++ (tooWide r (nodesOf file) (startsOf file) (endsOf file) ∷ [])
 unfolding fileConditions linkConditions without
 split-file r file = refl
 
-module _ (file : List ℕ) where
+module _ (file : CircuitFile) where
   abbrev G : Graph
   G = graphOf (nodesOf file) (startsOf file) (endsOf file)
 
@@ -180,20 +180,20 @@ module _ (file : List ℕ) where
       (first (fileConditions Pattern file) ≡ refuse eleven) ↔
       ((first (without 11 (fileConditions Pattern file)) ≡ accept) × ((r : ℕ) × Radius (circuitGraph (circuitOf file)) r × (widest < r)))
   unfolding circuitGraph
-  wide-file = rw length-kinds (wide-iff (fileConditions Pattern file) (nodesOf file) (startsOf file) (endsOf file) (split-file Pattern file) file-measured)
+  wide-file = rw length-labels (wide-iff (fileConditions Pattern file) (nodesOf file) (startsOf file) (endsOf file) (split-file Pattern file) file-measured)
 
   pub narrow-file :
       (first (fileConditions Pattern file) ≡ accept) ↔
       ((first (without 11 (fileConditions Pattern file)) ≡ accept) × ((r : ℕ) → Radius (circuitGraph (circuitOf file)) r → r ≤ widest))
   unfolding circuitGraph
-  narrow-file = rw length-kinds (narrow-iff (fileConditions Pattern file) (nodesOf file) (startsOf file) (endsOf file) (split-file Pattern file) file-measured)
+  narrow-file = rw length-labels (narrow-iff (fileConditions Pattern file) (nodesOf file) (startsOf file) (endsOf file) (split-file Pattern file) file-measured)
 
   -- For an accepted pattern the verdict is that of before the limit,
   pub accepted-before : first (fileConditions Pattern file) ≡ accept → first (without 11 (fileConditions Pattern file)) ≡ first (fileConditions Pattern file)
   accepted-before e = narrow-file .0 e .0 ∙ sym e
 
 -- and for a file in a role that need not be connected it always is.
-pub unasked-before : (r : Role) (file : List ℕ) → asksConnected r ≡ false → first (without 11 (fileConditions r file)) ≡ first (fileConditions r file)
+pub unasked-before : (r : Role) (file : CircuitFile) → asksConnected r ≡ false → first (without 11 (fileConditions r file)) ≡ first (fileConditions r file)
 unfolding first
 unasked-before r file e = sym (ap first (split-file r file) ∙ go (without 11 (fileConditions r file)) (first (without 11 (fileConditions r file))) refl)
   where

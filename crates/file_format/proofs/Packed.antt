@@ -14,7 +14,7 @@ use Rattle.base_lists.proofs.Below.{allBelow-same}
 use Rattle.base_lists.proofs.Tests.{same-test}
 use Rattle.graph.proofs.RisingLinks.{Before}
 use Rattle.file_format.specs.declared.Role.{Role}
-use Rattle.file_format.specs.Layout.{field, linksOf, startsOf, endsOf}
+use Rattle.file_format.specs.Layout.{CircuitFile, field, linksOf, startsOf, endsOf}
 use Rattle.file_format.specs.Links.{earlier, rising, packed, numbersRise}
 use Rattle.file_format.specs.Refusals.{Condition, first, fallsByNumbers, fallsByLinks}
 use Rattle.file_format.proofs.Fields.{length-fields, getD-fields}
@@ -73,13 +73,13 @@ field-low : (s : List ℕ) → ((i : ℕ) → getD s i 0 < 256) → (at : ℕ) �
 unfolding field
 field-low s low at = omega (arith, low at, low (at + 1))
 
-ends-low : (file : List ℕ) → Below 256 file → Below 65536 (endsOf file)
+ends-low : (file : CircuitFile) → Below 256 (file .bytes) → Below 65536 (endsOf file)
 unfolding Below endsOf
 ends-low file b i h =
     rw (getD-fields _ (linksOf file) i (subst (λ (k : ℕ). i < k) (length-fields _ (linksOf file)) h))
-    (field-low _ (λ j. rw getD-drop (entry-low 256 file (omega arith) b _)) (2 * i))
+    (field-low _ (λ j. rw getD-drop (entry-low 256 (file .bytes) (omega arith) b _)) (2 * i))
 
-pub numbers-file : (file : List ℕ) → Below 256 file → numbersRise (startsOf file) (endsOf file) ≡ rising (startsOf file) (endsOf file)
+pub numbers-file : (file : CircuitFile) → Below 256 (file .bytes) → numbersRise (startsOf file) (endsOf file) ≡ rising (startsOf file) (endsOf file)
 numbers-file file b = numbers-lists (startsOf file) (endsOf file) (ends-low file b)
 
 -- ---- the condition 5
@@ -89,7 +89,7 @@ pub falls-lists : (r : Role) (starts ends : List ℕ) → Below 65536 ends → f
 falls-lists r starts ends b = rw (numbers-lists starts ends b)
 
 -- and on reading;
-pub falls-file : (r : Role) (file : List ℕ) → Below 256 file → fallsByNumbers r (startsOf file) (endsOf file) ≡ fallsByLinks r (startsOf file) (endsOf file)
+pub falls-file : (r : Role) (file : CircuitFile) → Below 256 (file .bytes) → fallsByNumbers r (startsOf file) (endsOf file) ≡ fallsByLinks r (startsOf file) (endsOf file)
 falls-file r file b = falls-lists r (startsOf file) (endsOf file) (ends-low file b)
 
 -- so in its place in any list of conditions it leaves the verdict: what is accepted, and each refusal with its number and file.

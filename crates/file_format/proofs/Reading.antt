@@ -5,9 +5,10 @@ use mathlib.Core.Path.{_≡_, refl, sym, ap, _∙_}
 use Prim.Native.Nat.{ℕ, _≤_, _<_}
 use native.Mathlib.Omega.{arith}
 use borrow.Author.Tests.{ltb-false}
-use Rattle.file_format.proofs.Fields.{length-fields, length-kinds, length-starts, length-ends, stored-front}
+use Rattle.file_format.proofs.Fields.{length-fields, length-kinds, length-packages, length-labels, length-labels-from, length-starts, length-ends, stored-front}
 use lib.Dec.{lit≤}
 use lib.ListN.{length, take, drop, length-take}
+use lib.Seq.{take-at}
 use Rattle.graph.specs.Circuit.{Circuit, circuit}
 use Rattle.graph.specs.Search.{radius}
 use Rattle.file_format.specs.declared.File.the-variants.{Neither}
@@ -21,10 +22,10 @@ use Rattle.file_format.specs.declared.Role.the-variants as role
 use Rattle.file_format.specs.Circuit.{Bounded}
 use Rattle.file_format.specs.Reading.{reading, readConditions, readAnswer, filled, verdictOf, front, Stands, Held, Loaded, LinksTested}
 use Rattle.file_format.specs.Reply.{Reply, reply, readReply}
-use Rattle.file_format.specs.Layout.{fields, nodesOf, linksOf, kindsAt, startsAt, endsAt, kindsOf, startsOf, endsOf}
+use Rattle.file_format.specs.Layout.{CircuitFile, fields, kindsAt, packageCount, startsAt, endsAt, nodesOf, linksOf, kindsOf, packagesOf, startsOf, endsOf, labelsOf, labelsFrom}
 use Rattle.file_format.specs.Refusals.{Verdict, accept, refuse, first, fileConditions, sizeNumber, linkNumber, shortTable}
 use Rattle.file_format.specs.Role.{minNodes, maxNodes, maxLinks, fileOf}
-use Rattle.file_format.proofs.Refusals.{turned, turned-accept, byNumber, number-turned, number-accept, verdict-links, first-accept, first-refuse, first-parts, first-holds, tables-short, tables-fit, accepted, range-orders}
+use Rattle.file_format.proofs.Refusals.{turned, turned-accept, byNumber, number-turned, number-accept, verdict-links, first-accept, first-refuse, first-parts, first-holds, tables-short-4, tables-fit-4, accepted, range-orders}
 use Rattle.file_format.proofs.Accepted.{accepted-bounded}
 
 pub answer-turned : (r : Role) (k n m : ℕ) (v : Verdict) → v ≡ turned r k → readAnswer v n m ≡ Refused (record { number = k; file = fileOf r })
@@ -63,58 +64,63 @@ readReply-injective (Refused x) (Refused y) e = let v = ap (λ (r : Reply). r .v
 -- ---- the call, by cases
 
 -- What is known of an accepted call.
-pub record Filled (r : Role) (file kinds starts ends : List ℕ) (n m : ℕ) : Type 0 where
+pub record Filled (r : Role) (file : CircuitFile) (kinds packages starts ends : List ℕ) (n m : ℕ) : Type 0 where
   pub sound : first (fileConditions r file) ≡ accept
   pub nodes : n ≡ nodesOf file
   pub links : m ≡ linksOf file
   pub kindsFit : nodesOf file ≤ length kinds
+  pub packagesFit : packageCount (file .edition) (nodesOf file) ≤ length packages
   pub startsFit : linksOf file ≤ length starts
   pub endsFit : linksOf file ≤ length ends
 
-module _ (r : Role) (file kinds starts ends : List ℕ) where
+module _ (r : Role) (file : CircuitFile) (kinds packages starts ends : List ℕ) where
   pub reading-refused : (x : Refusal) → first (fileConditions r file) ≡ refuse x
-      → reading r file kinds starts ends ≡ record { answer = Refused x; reply = readReply (Refused x); kinds = kinds; starts = starts; ends = ends }
+      → reading r file kinds packages starts ends ≡ record { answer = Refused x; reply = readReply (Refused x); kinds = kinds; packages = packages; starts = starts; ends = ends }
   unfolding reading readConditions readAnswer readReply reply filled
   reading-refused x e = rw (first-refuse _ _ x e)
 
   module _ (e : first (fileConditions r file) ≡ accept) where
-    pub reading-short : (length kinds < nodesOf file) ⊎ ((length starts < linksOf file) ⊎ (length ends < linksOf file))
-        → reading r file kinds starts ends ≡ record { answer = Refused (record { number = 8; file = Neither }); reply = readReply (Refused (record { number = 8; file = Neither })); kinds = kinds; starts = starts; ends = ends }
+    pub reading-short :
+        (length kinds < nodesOf file) ⊎ ((length packages < packageCount (file .edition) (nodesOf file)) ⊎ ((length starts < linksOf file) ⊎ (length ends < linksOf file)))
+        → reading r file kinds packages starts ends ≡ record { answer = Refused (record { number = 8; file = Neither }); reply = readReply (Refused (record { number = 8; file = Neither })); kinds = kinds; packages = packages; starts = starts; ends = ends }
     unfolding reading readConditions readAnswer readReply reply filled
-    reading-short h = rw (first-accept _ _ e, tables-short _ _ _ _ _ _ h)
+    reading-short h = rw (first-accept _ _ e, tables-short-4 _ _ _ _ _ _ _ _ h)
 
-    pub reading-filled : nodesOf file ≤ length kinds → linksOf file ≤ length starts → linksOf file ≤ length ends
-        → reading r file kinds starts ends
+    pub reading-filled : nodesOf file ≤ length kinds → packageCount (file .edition) (nodesOf file) ≤ length packages → linksOf file ≤ length starts → linksOf file ≤ length ends
+        → reading r file kinds packages starts ends
         ≡ record {
           answer = Read (nodesOf file) (linksOf file);
           reply = readReply (Read (nodesOf file) (linksOf file));
           kinds = kindsOf file ++ drop (nodesOf file) kinds;
+          packages = packagesOf file ++ drop (packageCount (file .edition) (nodesOf file)) packages;
           starts = startsOf file ++ drop (linksOf file) starts;
           ends = endsOf file ++ drop (linksOf file) ends;
         }
-    unfolding reading readConditions readAnswer readReply reply filled kindsOf startsOf endsOf
-    reading-filled a b d = rw (first-accept _ _ e, tables-fit _ _ _ _ _ _ a b d) (simp length-fields)
+    unfolding reading readConditions readAnswer readReply reply filled
+    reading-filled a p b d = rw (first-accept _ _ e, tables-fit-4 _ _ _ _ _ _ _ _ a p b d) (simp (length-kinds, length-packages, length-starts, length-ends))
 
   -- the reader's answer in document 01's terms
-  pub reading-reply : readReply (reading r file kinds starts ends .answer)
-      ≡ reply (first (readConditions r file (length kinds) (length starts) (length ends))) (nodesOf file ∷ linksOf file ∷ [])
+  pub reading-reply : readReply (reading r file kinds packages starts ends .answer)
+      ≡ reply (first (readConditions r file (length kinds) (length packages) (length starts) (length ends))) (nodesOf file ∷ linksOf file ∷ [])
   unfolding reading
-  reading-reply = answer-reply (first (readConditions r file (length kinds) (length starts) (length ends))) (nodesOf file) (linksOf file)
+  reading-reply = answer-reply (first (readConditions r file (length kinds) (length packages) (length starts) (length ends))) (nodesOf file) (linksOf file)
 
   -- an accepted call: no condition on the file holds, the tables are long enough, and the reply has N and M
-  pub reading-accepted : (n m : ℕ) → reading r file kinds starts ends .answer ≡ Read n m → Filled r file kinds starts ends n m
+  pub reading-accepted : (n m : ℕ) → reading r file kinds packages starts ends .answer ≡ Read n m → Filled r file kinds packages starts ends n m
   unfolding reading readConditions shortTable
   reading-accepted n m e =
       let a = answer-read _ _ _ n m e in
       let h = first-parts (fileConditions r file) _ (a .0) in
       let k = first-holds _ _ (h .1) in
-      let s = first-holds _ _ (k .1) in
+      let p = first-holds _ _ (k .1) in
+      let s = first-holds _ _ (p .1) in
       let t = first-holds _ _ (s .1) in
       record {
         sound = h .0;
         nodes = a .1;
         links = a .2;
         kindsFit = ltb-false _ _ (k .0);
+        packagesFit = ltb-false _ _ (p .0);
         startsFit = ltb-false _ _ (s .0);
         endsFit = ltb-false _ _ (t .0);
       }
@@ -122,7 +128,7 @@ module _ (r : Role) (file kinds starts ends : List ℕ) where
 -- ---- what a call knows of a file that was read for it
 
 -- what an accepted file and what a refused one leave, by the verdict of the code
-module _ {r : Role} {file : List ℕ} {read : FileRead} {tables : Circuit} (l : Loaded r file read tables) where
+module _ {r : Role} {file : CircuitFile} {read : FileRead} {tables : Circuit} (l : Loaded r file read tables) where
   pub loaded-accepted : read .verdict ≡ verdict.Accepted → first (fileConditions r file) ≡ accept
   unfolding verdictOf
   loaded-accepted e = sym (l .verdict) ∙ ap verdictOf e
@@ -132,12 +138,12 @@ module _ {r : Role} {file : List ℕ} {read : FileRead} {tables : Circuit} (l : 
   loaded-refused e = sym (l .verdict) ∙ ap verdictOf e
 
 -- as the reader answers
-module _ (r : Role) (file : List ℕ) (read : FileRead) (tables : Circuit) (k : ℕ) where
+module _ (r : Role) (file : CircuitFile) (read : FileRead) (tables : Circuit) (k : ℕ) where
   pub turned-loaded : read .verdict ≡ verdict.Refused (record { number = k; file = fileOf r }) → first (fileConditions r file) ≡ turned r k → Loaded r file read tables
   unfolding verdictOf turned
   turned-loaded e v = record { verdict = rw e (sym v); held = λ a. absurd (turned-accept r k _ v a) }
 
-pub held-loaded : (r : Role) (file : List ℕ) (read : FileRead) (tables : Circuit) → read .verdict ≡ verdict.Accepted → first (fileConditions r file) ≡ accept
+pub held-loaded : (r : Role) (file : CircuitFile) (read : FileRead) (tables : Circuit) → read .verdict ≡ verdict.Accepted → first (fileConditions r file) ≡ accept
     → Held r file read tables → Loaded r file read tables
 unfolding verdictOf
 held-loaded r file read tables e v h = record { verdict = rw e (sym v); held = λ _. h }
@@ -147,10 +153,10 @@ pub front-room : (k : ℕ) (l : List ℕ) → length (take k l) ≡ k → k ≤ 
 front-room k l e = omega (arith, rw length-take at e)
 
 -- the fronts of the tables are as long as the counts say, and the tables have room for them
-module _ {file : List ℕ} {n m : ℕ} {t : Circuit} (s : Stands file n m t) where
+module _ {file : CircuitFile} {n m : ℕ} {t : Circuit} (s : Stands file n m t) where
   pub stands-size : (length (take n (t .kinds)) ≡ n) × (length (take m (t .starts)) ≡ m) × (length (take m (t .ends)) ≡ m)
   stands-size = (
-    ap (λ (c : Circuit). length (c .kinds)) (s .content) ∙ length-kinds file ∙ sym (s .nodes),
+    ap (λ (c : Circuit). length (c .kinds)) (s .content) ∙ length-labels file ∙ sym (s .nodes),
     ap (λ (c : Circuit). length (c .starts)) (s .content) ∙ length-starts file ∙ sym (s .links),
     ap (λ (c : Circuit). length (c .ends)) (s .content) ∙ length-ends file ∙ sym (s .links),
   )
@@ -175,20 +181,20 @@ module _ {file : List ℕ} {n m : ℕ} {t : Circuit} (s : Stands file n m t) whe
 -- ---- as the reader goes
 
 -- the three stretches, stored
-pub filled-stands : (file kinds starts ends ks ss es : List ℕ) (n m : ℕ) → n ≡ nodesOf file → m ≡ linksOf file
-    → ks ≡ fields (drop kindsAt file) n ++ drop n kinds → ss ≡ fields (drop (startsAt n) file) m ++ drop m starts → es ≡ fields (drop (endsAt n m) file) m ++ drop m ends
-    → Stands file n m (circuit ks ss es)
-unfolding kindsOf startsOf endsOf
-filled-stands file kinds starts ends ks ss es n m isN isM k s e =
+pub filled-stands : (file : CircuitFile) (marks starts ends ls ss es : List ℕ) (n m : ℕ) → n ≡ nodesOf file → m ≡ linksOf file
+    → ls ≡ labelsFrom (file .edition) (file .bytes) n ++ drop n marks → ss ≡ fields (drop (startsAt (file .edition) n) (file .bytes)) m ++ drop m starts → es ≡ fields (drop (endsAt (file .edition) n m) (file .bytes)) m ++ drop m ends
+    → Stands file n m (circuit ls ss es)
+unfolding labelsOf labelsFrom kindsOf packagesOf startsOf endsOf
+filled-stands file marks starts ends ls ss es n m isN isM k s e =
     record {
       nodes = isN;
       links = isM;
       content =
-          rw (stored-front _ kinds ks n k, stored-front _ starts ss m s, stored-front _ ends es m e, isN, isM);
+          rw (ap (take n) k ∙ take-at (labelsFrom (file .edition) (file .bytes) n) (drop n marks) n (length-labels-from (file .edition) (file .bytes) n), stored-front _ starts ss m s, stored-front _ ends es m e, isN, isM);
     }
 
 -- the links, tested where they stand
-module _ (r : Role) (file : List ℕ) (n m : ℕ) (t : Circuit) (s : Stands file n m t) (z : sizeNumber r file ≡ 0) (k w : ℕ)
+module _ (r : Role) (file : CircuitFile) (n m : ℕ) (t : Circuit) (s : Stands file n m t) (z : sizeNumber r file ≡ 0) (k w : ℕ)
     (l : LinksTested r n (take m (t .starts)) (take m (t .ends)) k w) where
   by-links : first (fileConditions r file) ≡ byNumber r k
   by-links = verdict-links r file z ∙ ap (byNumber r) (sym (stands-links s (linkNumber r)) ∙ sym (l .number))

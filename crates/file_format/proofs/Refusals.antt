@@ -15,7 +15,7 @@ use Rattle.file_format.specs.declared.File.the-variants.{Neither}
 use Rattle.file_format.specs.declared.Refusal.{Refusal}
 use Rattle.file_format.specs.declared.Role.{Role}
 use Rattle.file_format.specs.declared.Role.the-variants.{Pattern, Board, AnyPattern}
-use Rattle.file_format.specs.Layout.{nodesOf, linksOf, lengthOf, startsOf, endsOf}
+use Rattle.file_format.specs.Layout.{CircuitFile, nodesOf, linksOf, lengthOf, startsOf, endsOf}
 use Rattle.file_format.specs.Links.{linksBelow, rising}
 use Rattle.file_format.specs.Refusals.{Accepted, Condition, Verdict, accept, refuse, NoneHolds, first, FirstHolding, linkConditions, fileConditions, widest, tooWide, asksConnected, sizeNumber, orderNumber, linkNumber, without, shortTable}
 use Rattle.file_format.specs.Role.{minNodes, maxNodes, maxLinks, inRange, fileOf}
@@ -138,7 +138,7 @@ first-refuses f = rw (f .place) (first-accept (f .before) _ (none-accept (f .bef
 pub refuses-by : (cs : List Condition) (x : Refusal) → (first cs ≡ refuse x) ↔ FirstHolding cs x
 refuses-by cs x = (refuses-first cs x, first-refuses)
 
--- ---- three lent tables
+-- ---- three lent tables, and four
 
 either-way : (x : Bool) (v : Verdict) → cond x v v ≡ v
 either-way true v = refl
@@ -156,6 +156,18 @@ module _ (a b d k s e : ℕ) where
   pub tables-fit : a ≤ k → b ≤ s → d ≤ e → first (shortTable a k ∷ shortTable b s ∷ shortTable d e ∷ []) ≡ accept
   unfolding first shortTable
   tables-fit x y z = rw (le-ltb _ _ x, le-ltb _ _ y, le-ltb _ _ z)
+
+-- one short table of four is enough
+pub tables-short-4 : (a p b d k q s e : ℕ) → (k < a) ⊎ ((q < p) ⊎ ((s < b) ⊎ (e < d)))
+    → first (shortTable a k ∷ shortTable p q ∷ shortTable b s ∷ shortTable d e ∷ []) ≡ refuse (record { number = 8; file = Neither })
+unfolding first shortTable
+tables-short-4 a p b d k q s e (inl h) = rw (lt-ltb _ _ h)
+tables-short-4 a p b d k q s e (inr h) = rw (tables-short p b d q s e h) (either-way (ltb k a) _)
+
+pub tables-fit-4 : (a p b d k q s e : ℕ) → a ≤ k → p ≤ q → b ≤ s → d ≤ e
+    → first (shortTable a k ∷ shortTable p q ∷ shortTable b s ∷ shortTable d e ∷ []) ≡ accept
+unfolding first shortTable
+tables-fit-4 a p b d k q s e x w y z = rw (le-ltb _ _ x) (tables-fit p b d q s e w y z)
 
 -- ---- the links' number, as the tests come out in their order
 
@@ -240,21 +252,21 @@ verdict-number r n starts ends =
     go false y z w = refl
 
 -- The tests of the size in their order, with N and M as the code has read them.
-module _ (r : Role) (file : List ℕ) where
-  pub size-1 : length file < 4 → sizeNumber r file ≡ 1
+module _ (r : Role) (file : CircuitFile) where
+  pub size-1 : length (file .bytes) < 4 → sizeNumber r file ≡ 1
   unfolding sizeNumber
   size-1 a = simp (lt-ltb _ _ a)
 
-  module _ (n m : ℕ) (isN : n ≡ nodesOf file) (isM : m ≡ linksOf file) (a : 4 ≤ length file) where
+  module _ (n m : ℕ) (isN : n ≡ nodesOf file) (isM : m ≡ linksOf file) (a : 4 ≤ length (file .bytes)) where
     pub size-2 : inRange r n m ≡ false → sizeNumber r file ≡ 2
     unfolding sizeNumber
     size-2 b = simp (le-ltb _ _ a, rw (isN, isM) at b)
 
-    pub size-3 : inRange r n m ≡ true → (length file ≡ lengthOf n m → ⊥) → sizeNumber r file ≡ 3
+    pub size-3 : inRange r n m ≡ true → (length (file .bytes) ≡ lengthOf (file .edition) n m → ⊥) → sizeNumber r file ≡ 3
     unfolding sizeNumber
     size-3 b e = simp (le-ltb _ _ a, rw (isN, isM) at b, ne-eqb _ _ (rw (isN, isM) at e))
 
-    pub size-0 : inRange r n m ≡ true → length file ≡ lengthOf n m → sizeNumber r file ≡ 0
+    pub size-0 : inRange r n m ≡ true → length (file .bytes) ≡ lengthOf (file .edition) n m → sizeNumber r file ≡ 0
     unfolding sizeNumber
     size-0 b e = simp (le-ltb _ _ a, rw (isN, isM) at b, eq-eqb _ _ (rw (isN, isM) at e))
 
@@ -263,7 +275,7 @@ module _ (r : Role) (file : List ℕ) where
       ≡ cond (eqb (sizeNumber r file) 0) (first (linkConditions r (nodesOf file) (startsOf file) (endsOf file))) (turned r (sizeNumber r file))
   unfolding first fileConditions sizeNumber turned
   verdict-size =
-      go (ltb (length file) 4) (inRange r (nodesOf file) (linksOf file)) (eqb (length file) (lengthOf (nodesOf file) (linksOf file)))
+      go (ltb (length (file .bytes)) 4) (inRange r (nodesOf file) (linksOf file)) (eqb (length (file .bytes)) (lengthOf (file .edition) (nodesOf file) (linksOf file)))
       (first (linkConditions r (nodesOf file) (startsOf file) (endsOf file)))
     where
       go : (x y z : Bool) (v : Verdict) → cond x (turned r 1) (cond (not y) (turned r 2) (cond (not z) (turned r 3) v))
@@ -281,13 +293,13 @@ module _ (r : Role) (file : List ℕ) where
 
   -- a size that no condition is about
   pub sized : sizeNumber r file ≡ 0
-      → (4 ≤ length file) × T (inRange r (nodesOf file) (linksOf file)) × (length file ≡ lengthOf (nodesOf file) (linksOf file))
+      → (4 ≤ length (file .bytes)) × T (inRange r (nodesOf file) (linksOf file)) × (length (file .bytes) ≡ lengthOf (file .edition) (nodesOf file) (linksOf file))
   unfolding sizeNumber
-  sized = go (ltb (length file) 4) (inRange r (nodesOf file) (linksOf file)) (eqb (length file) (lengthOf (nodesOf file) (linksOf file))) refl refl refl
+  sized = go (ltb (length (file .bytes)) 4) (inRange r (nodesOf file) (linksOf file)) (eqb (length (file .bytes)) (lengthOf (file .edition) (nodesOf file) (linksOf file))) refl refl refl
     where
-      go : (x y z : Bool) → ltb (length file) 4 ≡ x → inRange r (nodesOf file) (linksOf file) ≡ y → eqb (length file) (lengthOf (nodesOf file) (linksOf file)) ≡ z
+      go : (x y z : Bool) → ltb (length (file .bytes)) 4 ≡ x → inRange r (nodesOf file) (linksOf file) ≡ y → eqb (length (file .bytes)) (lengthOf (file .edition) (nodesOf file) (linksOf file)) ≡ z
           → _≡_ {A = ℕ} (cond x 1 (cond y (cond z 0 3) 2)) 0
-          → (4 ≤ length file) × T (inRange r (nodesOf file) (linksOf file)) × (length file ≡ lengthOf (nodesOf file) (linksOf file))
+          → (4 ≤ length (file .bytes)) × T (inRange r (nodesOf file) (linksOf file)) × (length (file .bytes) ≡ lengthOf (file .edition) (nodesOf file) (linksOf file))
       go true y z a b e h = absurd (omega arith)
       go false true true a b e h = (ltb-false _ _ a, true-T b, eqb-true _ _ e)
       go false true false a b e h = absurd (omega arith)
@@ -300,7 +312,7 @@ turned-accept r k v e a = accept-not-refuse (sym a ∙ e)
 
 -- ---- an accepted file
 
-pub accepted : (r : Role) (file : List ℕ) → first (fileConditions r file) ≡ accept → Accepted r file
+pub accepted : (r : Role) (file : CircuitFile) → first (fileConditions r file) ≡ accept → Accepted r file
 unfolding fileConditions linkConditions
 accepted r file e =
     let h1 = first-holds _ _ e in
@@ -330,7 +342,7 @@ pub not-wide : (r : Role) (n : ℕ) (starts ends : List ℕ) → (T (asksConnect
     → (asksConnected r && ltb widest (radius n starts ends)) ≡ false
 not-wide r n starts ends f = not-asked (asksConnected r) _ (λ t. le-ltb _ _ (f t))
 
-pub accepted-verdict : {r : Role} {file : List ℕ} → Accepted r file → first (fileConditions r file) ≡ accept
+pub accepted-verdict : {r : Role} {file : CircuitFile} → Accepted r file → first (fileConditions r file) ≡ accept
 unfolding first fileConditions linkConditions
 accepted-verdict {r} {file} a =
     let n = nodesOf file in
@@ -342,7 +354,7 @@ accepted-verdict {r} {file} a =
     simp (le-ltb _ _ (a .bytes), range, eq-eqb _ _ (a .size), below, rises, joined, narrow)
 
 -- its links, as what makes or searches neighbour tables asks of them
-pub accepted-links : (r : Role) (file : List ℕ) → Accepted r file → T (all (λ v. ltb v (nodesOf file)) (startsOf file)) × T (all (λ v. ltb v (nodesOf file)) (endsOf file))
+pub accepted-links : (r : Role) (file : CircuitFile) → Accepted r file → T (all (λ v. ltb v (nodesOf file)) (startsOf file)) × T (all (λ v. ltb v (nodesOf file)) (endsOf file))
 unfolding linksBelow
 accepted-links r file a =
     let n = nodesOf file in
@@ -387,14 +399,14 @@ abbrev shape : (f g : Bool) → Verdict
 shape f g = cond f (turned Pattern 6) (cond g (turned Pattern 11) accept)
 
 -- Any pattern is refused as a pattern is, where that is refused neither with 6 nor with 11.
-pub any-verdict : (file : List ℕ) → (first (fileConditions Pattern file) ≡ turned Pattern 6 → ⊥) → (first (fileConditions Pattern file) ≡ turned Pattern 11 → ⊥)
+pub any-verdict : (file : CircuitFile) → (first (fileConditions Pattern file) ≡ turned Pattern 6 → ⊥) → (first (fileConditions Pattern file) ≡ turned Pattern 11 → ⊥)
     → first (fileConditions AnyPattern file) ≡ first (fileConditions Pattern file)
 unfolding first fileConditions linkConditions asksConnected turned
 any-verdict file =
     let n = nodesOf file in
     let starts = startsOf file in
     let ends = endsOf file in
-    go (ltb (length file) 4) (not (inRange Pattern n (linksOf file))) (not (eqb (length file) (lengthOf n (linksOf file))))
+    go (ltb (length (file .bytes)) 4) (not (inRange Pattern n (linksOf file))) (not (eqb (length (file .bytes)) (lengthOf (file .edition) n (linksOf file))))
     (not (linksBelow n starts ends)) (not (rising starts ends)) (not (connected n starts ends)) (ltb widest (radius n starts ends))
   where
     go : (a b c d e f g : Bool) → (asked a b c d e (shape f g) ≡ turned Pattern 6 → ⊥) → (asked a b c d e (shape f g) ≡ turned Pattern 11 → ⊥)
@@ -409,6 +421,6 @@ any-verdict file =
     go false false false false false false false h k = refl
 
 -- A pattern is any pattern.
-pub accepted-any : {file : List ℕ} → Accepted Pattern file → Accepted AnyPattern file
+pub accepted-any : {file : CircuitFile} → Accepted Pattern file → Accepted AnyPattern file
 unfolding asksConnected
 accepted-any a = record { bytes = a .bytes; range = a .range; size = a .size; below = a .below; rises = a .rises; joined = λ t. absurd t; narrow = λ t. absurd t }

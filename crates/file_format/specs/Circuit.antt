@@ -1,5 +1,4 @@
 -- The circuit that a file holds, and what an accepted file says of it.
-use mathlib.Core.List.{List}
 use mathlib.Core.Path.{_≡_}
 use Prim.Native.Nat.{ℕ, _≤_}
 use lib.Dec.{T}
@@ -8,13 +7,13 @@ use Rattle.graph.specs.Circuit.{Circuit}
 use Rattle.graph.specs.Rising.{LinksRise}
 use Rattle.file_format.specs.declared.Role.{Role}
 use Rattle.file_format.specs.declared.Role.the-variants as role
-use Rattle.file_format.specs.Layout.{kindsOf, startsOf, endsOf}
+use Rattle.file_format.specs.Layout.{CircuitFile, labelsOf, startsOf, endsOf}
 use Rattle.file_format.specs.Links.{linksBelow}
 use Rattle.file_format.specs.Role.{maxNodes, maxLinks}
 
 -- the circuit that a file holds
-abbrev pub circuitOf : List ℕ → Circuit
-circuitOf file = record { kinds = kindsOf file; starts = startsOf file; ends = endsOf file }
+abbrev pub circuitOf : CircuitFile → Circuit
+circuitOf file = record { kinds = labelsOf file; starts = startsOf file; ends = endsOf file }
 
 -- A circuit within a role's maxima that has as many starts as ends, each of them a node. The circuit of an accepted file is one.
 pub record Bounded (role : Role) (c : Circuit) : Type 0 where

@@ -1,4 +1,5 @@
 pub mod Role
+pub mod Label
 pub mod Layout
 pub mod Links
 pub mod Circuit

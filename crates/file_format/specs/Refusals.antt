@@ -7,12 +7,15 @@ use Prim.Native.Nat.{ℕ, _≤_}
 use lib.Dec.{T, eqb, ltb}
 use lib.ListN.{length}
 use Rattle.graph.specs.Search.{far, connected, radius}
+use Rattle.base_lists.specs.List.{any}
+use Rattle.file_format.specs.declared.Edition.{Edition}
+use Rattle.file_format.specs.declared.Edition.the-variants.{First, Second}
 use Rattle.file_format.specs.declared.File.{File}
 use Rattle.file_format.specs.declared.File.the-variants.{Neither}
 use Rattle.file_format.specs.declared.Refusal.{Refusal}
 use Rattle.file_format.specs.declared.Role.{Role}
 use Rattle.file_format.specs.declared.Role.the-variants as role
-use Rattle.file_format.specs.Layout.{nodesOf, linksOf, lengthOf, startsOf, endsOf}
+use Rattle.file_format.specs.Layout.{CircuitFile, nodesOf, linksOf, lengthOf, startsOf, endsOf}
 use Rattle.file_format.specs.Links.{linksBelow, rising, numbersRise}
 use Rattle.file_format.specs.Role.{inRange, fileOf}
 
@@ -74,32 +77,32 @@ linkConditions r n starts ends =
     record { number = 6; file = fileOf r; holds = asksConnected r && not (connected n starts ends) } ∷
     tooWide r n starts ends ∷ []
 
--- 1 file under 4 bytes; 2 N or M outside its role's range; 3 length not 4 + 2N + 4M; then the links
-unfoldable pub fileConditions : Role → List ℕ → List Condition
+-- 1 file under 4 bytes; 2 N or M outside its role's range; 3 length not 4 + 2N + 4M, or in the second edition 4 + 4N + 4M; then the links
+unfoldable pub fileConditions : Role → CircuitFile → List Condition
 fileConditions r file =
     let n = nodesOf file in
     let m = linksOf file in
-    record { number = 1; file = fileOf r; holds = ltb (length file) 4 } ∷
+    record { number = 1; file = fileOf r; holds = ltb (length (file .bytes)) 4 } ∷
     record { number = 2; file = fileOf r; holds = not (inRange r n m) } ∷
-    record { number = 3; file = fileOf r; holds = not (eqb (length file) (lengthOf n m)) } ∷
+    record { number = 3; file = fileOf r; holds = not (eqb (length (file .bytes)) (lengthOf (file .edition) n m)) } ∷
     linkConditions r n (startsOf file) (endsOf file)
 
 -- A file of which none of the conditions 1 to 6 and 11 holds: each of them, turned round.
-pub record Accepted (r : Role) (file : List ℕ) : Type 0 where
-  pub bytes : 4 ≤ length file
+pub record Accepted (r : Role) (file : CircuitFile) : Type 0 where
+  pub bytes : 4 ≤ length (file .bytes)
   pub range : T (inRange r (nodesOf file) (linksOf file))
-  pub size : length file ≡ lengthOf (nodesOf file) (linksOf file)
+  pub size : length (file .bytes) ≡ lengthOf (file .edition) (nodesOf file) (linksOf file)
   pub below : T (linksBelow (nodesOf file) (startsOf file) (endsOf file))
   pub rises : T (rising (startsOf file) (endsOf file))
   pub joined : T (asksConnected r) → T (connected (nodesOf file) (startsOf file) (endsOf file))
   pub narrow : T (asksConnected r) → radius (nodesOf file) (startsOf file) (endsOf file) ≤ widest
 
 -- the number of the first condition on a file's size that holds, 1, 2 or 3, and 0 where none does
-unfoldable pub sizeNumber : Role → List ℕ → ℕ
+unfoldable pub sizeNumber : Role → CircuitFile → ℕ
 sizeNumber r file =
     let n = nodesOf file in
     let m = linksOf file in
-    cond (ltb (length file) 4) 1 (cond (inRange r n m) (cond (eqb (length file) (lengthOf n m)) 0 3) 2)
+    cond (ltb (length (file .bytes)) 4) 1 (cond (inRange r n m) (cond (eqb (length (file .bytes)) (lengthOf (file .edition) n m)) 0 3) 2)
 
 -- the number of the first condition on the order of the links that holds, 4 or 5, and 0 where none does
 unfoldable pub orderNumber : ℕ → List ℕ → List ℕ → ℕ
@@ -138,3 +141,12 @@ shortTable needed lent = record { number = 8; file = Neither; holds = ltb lent n
 -- 10 "one of the four numbers out of its range" (document 02, a test load): `fits` says whether all are in theirs. It is tried ahead of 8.
 unfoldable pub numberOutside : Bool → Condition
 numberOutside fits = record { number = 10; file = Neither; holds = not fits }
+
+-- "Turned away: 12, converting to the first edition a file with a package other than 0, checked after its content and ahead of 8." It names
+-- the file in the role told.
+unfoldable pub lostPackage : Edition → List ℕ → Bool
+lostPackage First packages = any (λ p. not (eqb p 0)) packages
+lostPackage Second packages = false
+
+unfoldable pub packageLost : Role → Edition → List ℕ → Condition
+packageLost r to packages = record { number = 12; file = fileOf r; holds = lostPackage to packages }

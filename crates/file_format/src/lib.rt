@@ -1,7 +1,9 @@
 // Circuit files: the roles, what is in a role's range, and what refuses a file.
 ghost use mathlib.Core.Path.{_≡_};
 ghost use mathlib.Core.Bool.{_&&_};
+ghost use Prim.Native.Nat.{_≤_};
 ghost use lib.Dec.{leb};
+ghost use Rattle.file_format.specs.Layout.{packageCount};
 ghost use Rattle.file_format.specs.Role.{inRange};
 
 // Which file a refusal means.
@@ -22,6 +24,28 @@ pub enum Role {
     Pattern,
     Board,
     AnyPattern,
+}
+
+// Which edition of the circuit file a file is: the first has no packages, the second has one for each node.
+pub enum Edition {
+    First,
+    Second,
+}
+
+// The editions of a pattern file and of a board file.
+pub struct Editions {
+    pub pattern: Edition,
+    pub board: Edition,
+}
+
+// How many packages a file of n nodes has.
+pub fn package_count(edition: Edition, n: usize) -> usize
+    ensures { λ r. ⌜ (r ≡ packageCount edition n) × (r ≤ n) ⌝ }
+{
+    match edition {
+        Edition::First => 0,
+        Edition::Second => n,
+    }
 }
 
 // What reading a file comes to: N and M, or why it was turned away.

@@ -1,5 +1,4 @@
 -- What reading a pattern file and a board file comes to, by cases, and what a call on both knows of it. Assumes nothing.
-use mathlib.Core.List.{List}
 use mathlib.Core.Path.{_≡_, sym, ap, _∙_}
 use Prim.Native.Nat.{ℕ}
 use Rattle.graph.specs.Circuit.{Circuit}
@@ -10,7 +9,7 @@ use Rattle.file_format.specs.declared.Refusal.{Refusal}
 use Rattle.file_format.specs.declared.Role.{Role}
 use Rattle.file_format.specs.declared.Role.the-variants as role
 use Rattle.file_format.specs.Circuit.{Bounded, Drawn}
-use Rattle.file_format.specs.Layout.{nodesOf, startsOf, endsOf}
+use Rattle.file_format.specs.Layout.{CircuitFile, nodesOf, startsOf, endsOf}
 use Rattle.file_format.specs.Reading.{verdictOf, front, Loaded}
 use Rattle.file_format.specs.Refusals as File
 use Rattle.file_format.specs.Refusals.{accept, refuse, first, fileConditions, asksConnected}
@@ -22,7 +21,7 @@ use Rattle.file_pair.specs.Pair.{pairConditions, BothRead, PairRead}
 
 -- ---- as the reading goes
 
-module _ (r : Role) (pattern board : List ℕ) (parts nodes : Circuit) where
+module _ (r : Role) (pattern board : CircuitFile) (parts nodes : Circuit) where
   -- the pattern is refused
   pub pair-pattern : {drawn : FileRead} {read : Pair} {x : Refusal} → Loaded r pattern drawn parts → drawn .verdict ≡ Refused x
       → read .verdict ≡ drawn .verdict → PairRead r pattern board read parts nodes
@@ -53,7 +52,7 @@ module _ (r : Role) (pattern board : List ℕ) (parts nodes : Circuit) where
 
 -- ---- the conditions on both are those on each
 
-module _ (r : Role) (pattern board : List ℕ) where
+module _ (r : Role) (pattern board : CircuitFile) where
   pub pair-accept : File.Accepted r pattern → File.Accepted role.Board board → first (pairConditions r pattern board) ≡ accept
   unfolding pairConditions
   pair-accept a b = first-accept (fileConditions r pattern) _ (accepted-verdict a) ∙ accepted-verdict b
@@ -65,7 +64,7 @@ module _ (r : Role) (pattern board : List ℕ) where
 
 -- ---- what a call knows of the two files
 
-module _ {r : Role} {pattern board : List ℕ} {read : Pair} {parts nodes : Circuit} (p : PairRead r pattern board read parts nodes) where
+module _ {r : Role} {pattern board : CircuitFile} {read : Pair} {parts nodes : Circuit} (p : PairRead r pattern board read parts nodes) where
   pub both-read : read .verdict ≡ Accepted → BothRead r pattern board read parts nodes
   unfolding verdictOf
   both-read e = p .both (sym (p .verdict) ∙ ap verdictOf e)
@@ -75,7 +74,7 @@ module _ {r : Role} {pattern board : List ℕ} {read : Pair} {parts nodes : Circ
   unfolding verdictOf
   refused-pair e = sym (p .verdict) ∙ ap verdictOf e
 
-module _ {r : Role} {pattern board : List ℕ} {read : Pair} {parts nodes : Circuit} (both : BothRead r pattern board read parts nodes) where
+module _ {r : Role} {pattern board : CircuitFile} {read : Pair} {parts nodes : Circuit} (both : BothRead r pattern board read parts nodes) where
   pub both-accepted : (first (fileConditions r pattern) ≡ accept) × (first (fileConditions role.Board board) ≡ accept)
   both-accepted = pair-parts r pattern board (both .verdict)
 
@@ -86,7 +85,7 @@ module _ {r : Role} {pattern board : List ℕ} {read : Pair} {parts nodes : Circ
   board-bounded = stands-bounded (both .given) role.Board (both-accepted .1)
 
 -- the radius of a pattern, which is connected
-module _ {pattern board : List ℕ} {read : Pair} {parts nodes : Circuit} (both : BothRead role.Pattern pattern board read parts nodes) where
+module _ {pattern board : CircuitFile} {read : Pair} {parts nodes : Circuit} (both : BothRead role.Pattern pattern board read parts nodes) where
   pub pair-radius : read .radius ≡ radius (nodesOf pattern) (startsOf pattern) (endsOf pattern)
   unfolding asksConnected
   pair-radius = both .measured tt

@@ -1,9 +1,11 @@
 // A pattern file and a board file, read for a call on both.
+use file_format::Editions;
 use file_format::FileVerdict;
 use file_format::Role;
 use file_read::load;
 ghost use mathlib.Core.Path.{_≡_};
 ghost use Rattle.graph.specs.Circuit.{circuit};
+ghost use Rattle.file_format.specs.Layout.{inEdition};
 ghost use Rattle.file_format.specs.Reading.{Room};
 ghost use Rattle.file_format.specs.declared.Role.the-variants as roles;
 ghost use Rattle.file_pair.specs.Pair.{PairRead};
@@ -33,28 +35,31 @@ fn turned_away(verdict: FileVerdict) -> Pair
     }
 }
 
-// Reads the pattern, in the role told, then the board: their sizes, with the two circuits at the front of the tables, three for each; or the first refusal.
+// Reads the pattern, in the role told, then the board, each in its edition: their sizes, with the two circuits at the front of the tables, three for each; or the first refusal.
 pub fn read_pair(
     role: Role,
+    editions: Editions,
     pattern: &[u8],
     board: &[u8],
-    pk: &mut [u16],
+    pk: &mut [u32],
     ps: &mut [u16],
     pe: &mut [u16],
-    nk: &mut [u16],
+    nk: &mut [u32],
     ns: &mut [u16],
     ne: &mut [u16],
 ) -> Pair
     requires { ⌜ Room role (circuit (now pk) (now ps) (now pe)) × Room roles.Board (circuit (now nk) (now ns) (now ne)) ⌝ }
-    ensures { λ r. ⌜ PairRead role (now (pattern .entry)) (now (board .entry)) r
+    ensures { λ r. ⌜ PairRead role (inEdition (editions .pattern) (now (pattern .entry))) (inEdition (editions .board) (now (board .entry))) r
         (circuit (now (pk .exit)) (now (ps .exit)) (now (pe .exit))) (circuit (now (nk .exit)) (now (ns .exit)) (now (ne .exit))) ⌝ }
 {
-    let drawn = load(role, pattern, pk, ps, pe);
+    let edition = editions.pattern;
+    let drawn = load(role, edition, pattern, pk, ps, pe);
     let first = drawn.verdict;
     let FileVerdict::Accepted = first else {
         return turned_away(first);
     };
-    let given = load(Role::Board, board, nk, ns, ne);
+    let edition = editions.board;
+    let given = load(Role::Board, edition, board, nk, ns, ne);
     let verdict = given.verdict;
     Pair {
         verdict,

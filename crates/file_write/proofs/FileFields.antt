@@ -1,18 +1,20 @@
 -- The fields of a written file, and the bytes of a file's fields: writing and reading undo each other. Assumes nothing.
 use mathlib.Core.Bool.{Bool}
 use mathlib.Core.List.{List, [], _∷_, _++_, append-assoc, append-nil}
-use mathlib.Core.Path.{_≡_, refl, sym, ap, ap₂, _∙_}
+use mathlib.Core.Path.{_≡_, refl, sym, ap, ap₂, subst, _∙_}
 use Prim.Native.Nat.{ℕ, zero, suc, _+_, _*_, _/_, _%_, _<_}
+use native.Mathlib.Nat.{le-of-eq}
 use native.Mathlib.Omega.{arith}
 use lib.Dec.{T, ltb, lt→ltb, ltb→lt}
-use lib.ListN.{length, getD, drop, length-append}
-use lib.Seq.{drop-at, getD-drop}
+use lib.ListN.{length, getD, take, drop, length-append, length-take}
+use lib.Seq.{drop-at, getD-drop, getD-take, take-all, length-take-le}
 use Rattle.base_lists.specs.List.{all, tabulate}
 use Rattle.base_lists.proofs.Tables.{tabulate-same, tabulate-append}
-use Rattle.base_lists.proofs.Tests.{both, both-left, both-right}
-use Rattle.file_format.specs.Layout.{field, fields, nodesOf, linksOf, kindsOf, startsOf, endsOf, lengthOf, startsAt, endsAt}
-use Rattle.file_format.proofs.Fields.{length-fields}
-use Rattle.file_write.specs.Bytes.{bytesOf, fileBytes}
+use Rattle.base_lists.proofs.Tests.{both, both-left, both-right, all-at, at-all}
+use Rattle.file_format.specs.declared.Edition.{Edition}
+use Rattle.file_format.specs.Layout.{CircuitFile, inEdition, field, fields, nodesOf, linksOf, kindsOf, packagesOf, startsOf, endsOf, lengthOf, packagesAt, packageCount, startsAt, endsAt}
+use Rattle.file_format.proofs.Fields.{length-kinds, length-packages, length-starts, package-count-le}
+use Rattle.file_write.specs.Bytes.{bytesOf, stretchBytes, fileBytes}
 use Rattle.file_write.proofs.Stores.{length-bytes, bytes-append}
 
 -- ---- a stretch, field by field
@@ -45,43 +47,74 @@ fields-behind xs ys zs at k e f =
 
 -- ---- the fields of a circuit's file
 
-module _ (kinds starts ends : List ℕ) where
-  pub nodes-written : nodesOf (fileBytes kinds starts ends) ≡ length kinds
-  unfolding nodesOf field fileBytes bytesOf
+-- of the packages given, those that the edition has
+pub packs-length : (e : Edition) (kinds packages : List ℕ) → packageCount e (length packages) ≡ packageCount e (length kinds)
+    → length (take (packageCount e (length kinds)) packages) ≡ packageCount e (length kinds)
+packs-length e kinds packages given =
+    length-take-le (packageCount e (length kinds)) packages (omega (arith, package-count-le e (length packages)))
+
+module _ (e : Edition) (kinds packages starts ends : List ℕ) where
+  -- the file, and the packages in it
+  abbrev file : CircuitFile
+  file = inEdition e (fileBytes e kinds packages starts ends)
+
+  abbrev packs : List ℕ
+  packs = take (packageCount e (length kinds)) packages
+
+  pub nodes-written : nodesOf file ≡ length kinds
+  unfolding nodesOf field stretchBytes bytesOf
   nodes-written = omega arith
 
-  pub links-written : linksOf (fileBytes kinds starts ends) ≡ length starts
-  unfolding linksOf field fileBytes bytesOf
+  pub links-written : linksOf file ≡ length starts
+  unfolding linksOf field stretchBytes bytesOf
   links-written = omega arith
 
-  starts-stretch : fields (drop (startsAt (length kinds)) (fileBytes kinds starts ends)) (length starts) ≡ starts
-  unfolding fileBytes
-  starts-stretch = fields-behind (length kinds ∷ length starts ∷ kinds) starts ends (startsAt (length kinds)) (length starts) (omega arith) refl
+  pub kinds-written : kindsOf file ≡ kinds
+  unfolding kindsOf stretchBytes
+  kinds-written = fields-behind (length kinds ∷ length starts ∷ []) kinds (packs ++ (starts ++ ends)) _ _ refl nodes-written
 
-  pub kinds-written : kindsOf (fileBytes kinds starts ends) ≡ kinds
-  unfolding kindsOf fileBytes
-  kinds-written = fields-behind (length kinds ∷ length starts ∷ []) kinds (starts ++ ends) _ _ refl nodes-written
+  module _ (given : packageCount e (length packages) ≡ packageCount e (length kinds)) where
+    packs-stretch : fields (drop (packagesAt (length kinds)) (file .bytes)) (packageCount e (length kinds)) ≡ packs
+    unfolding stretchBytes
+    packs-stretch =
+        fields-behind (length kinds ∷ length starts ∷ kinds) packs (starts ++ ends) (packagesAt (length kinds)) (packageCount e (length kinds)) (omega arith)
+        (sym (packs-length e kinds packages given))
 
-  pub starts-written : startsOf (fileBytes kinds starts ends) ≡ starts
-  unfolding startsOf
-  starts-written = ap₂ (λ (n m : ℕ). fields (drop (startsAt n) (fileBytes kinds starts ends)) m) nodes-written links-written ∙ starts-stretch
+    pub packages-written : packagesOf file ≡ packs
+    unfolding packagesOf
+    packages-written = ap (λ (n : ℕ). fields (drop (packagesAt n) (file .bytes)) (packageCount e n)) nodes-written ∙ packs-stretch
 
-  module _ (pairs : length starts ≡ length ends) where
-    ends-stretch : fields (drop (endsAt (length kinds) (length starts)) (fileBytes kinds starts ends)) (length starts) ≡ ends
-    unfolding fileBytes
-    ends-stretch =
+    starts-stretch : fields (drop (startsAt e (length kinds)) (file .bytes)) (length starts) ≡ starts
+    unfolding stretchBytes
+    starts-stretch =
         let front : List ℕ = length kinds ∷ length starts ∷ kinds in
-        ap (λ (l : List ℕ). fields (drop (endsAt (length kinds) (length starts)) (bytesOf l)) (length starts)) (sym (append-assoc front starts ends) ∙ ap (λ (l : List ℕ). (front ++ starts) ++ l) (sym (append-nil ends)))
-        ∙ fields-behind (front ++ starts) ends [] (endsAt (length kinds) (length starts)) (length starts) (omega (arith, length-append front starts)) pairs
+        ap (λ (l : List ℕ). fields (drop (startsAt e (length kinds)) (bytesOf l)) (length starts)) (sym (append-assoc front packs (starts ++ ends)))
+        ∙ fields-behind (front ++ packs) starts ends (startsAt e (length kinds)) (length starts)
+        (omega (arith, length-append front packs, packs-length e kinds packages given)) refl
 
-    pub ends-written : endsOf (fileBytes kinds starts ends) ≡ ends
-    unfolding endsOf
-    ends-written = ap₂ (λ (n m : ℕ). fields (drop (endsAt n m) (fileBytes kinds starts ends)) m) nodes-written links-written ∙ ends-stretch
+    pub starts-written : startsOf file ≡ starts
+    unfolding startsOf
+    starts-written = ap₂ (λ (n m : ℕ). fields (drop (startsAt e n) (file .bytes)) m) nodes-written links-written ∙ starts-stretch
 
-    pub length-written : length (fileBytes kinds starts ends) ≡ lengthOf (length kinds) (length starts)
-    unfolding fileBytes
-    length-written =
-        omega (arith, length-bytes (length kinds ∷ length starts ∷ kinds ++ (starts ++ ends)), length-append kinds (starts ++ ends), length-append starts ends)
+    module _ (pairs : length starts ≡ length ends) where
+      ends-stretch : fields (drop (endsAt e (length kinds) (length starts)) (file .bytes)) (length starts) ≡ ends
+      unfolding stretchBytes
+      ends-stretch =
+          let front : List ℕ = length kinds ∷ length starts ∷ kinds in
+          ap (λ (l : List ℕ). fields (drop (endsAt e (length kinds) (length starts)) (bytesOf l)) (length starts))
+          (sym (append-assoc front packs (starts ++ ends)) ∙ sym (append-assoc (front ++ packs) starts ends) ∙ ap (λ (l : List ℕ). ((front ++ packs) ++ starts) ++ l) (sym (append-nil ends)))
+          ∙ fields-behind ((front ++ packs) ++ starts) ends [] (endsAt e (length kinds) (length starts)) (length starts)
+          (omega (arith, length-append (front ++ packs) starts, length-append front packs, packs-length e kinds packages given)) pairs
+
+      pub ends-written : endsOf file ≡ ends
+      unfolding endsOf
+      ends-written = ap₂ (λ (n m : ℕ). fields (drop (endsAt e n m) (file .bytes)) m) nodes-written links-written ∙ ends-stretch
+
+      pub length-written : length (fileBytes e kinds packages starts ends) ≡ lengthOf e (length kinds) (length starts)
+      unfolding stretchBytes
+      length-written =
+          omega
+          (arith, length-bytes (length kinds ∷ length starts ∷ kinds ++ (packs ++ (starts ++ ends))), length-append kinds (packs ++ (starts ++ ends)), length-append packs (starts ++ ends), length-append starts ends, packs-length e kinds packages given)
 
 -- ---- the bytes of numbers of 16 bits are of 8 bits
 
@@ -98,14 +131,24 @@ unfolding all
 all-append p [] ys t u = u
 all-append p (x ∷ xs) ys t u = both (p x) _ (both-left (p x) _ t) (all-append p xs ys (both-right (p x) _ t) u)
 
-pub file-below : (kinds starts ends : List ℕ) → length kinds < 65536 → length starts < 65536
-    → T (all (λ x. ltb x 65536) kinds) → T (all (λ x. ltb x 65536) starts) → T (all (λ x. ltb x 65536) ends)
-    → T (all (λ b. ltb b 256) (fileBytes kinds starts ends))
-unfolding fileBytes all
-file-below kinds starts ends n m k s e =
-    bytes-below (length kinds ∷ length starts ∷ kinds ++ (starts ++ ends))
+all-take : (p : ℕ → Bool) (k : ℕ) (xs : List ℕ) → T (all p xs) → T (all p (take k xs))
+all-take p k xs t =
+    at-all p (take k xs)
+    (λ i h.
+    let below : i < length xs = omega (arith, length-take k xs) in
+    let front : i < k = omega (arith, length-take k xs) in
+    subst (λ (x : ℕ). T (p x)) (sym (getD-take k xs i 0 front)) (all-at p xs t i below))
+
+pub file-below : (e : Edition) (kinds packages starts ends : List ℕ) → length kinds < 65536 → length starts < 65536
+    → T (all (λ x. ltb x 65536) kinds) → T (all (λ x. ltb x 65536) packages) → T (all (λ x. ltb x 65536) starts) → T (all (λ x. ltb x 65536) ends)
+    → T (all (λ b. ltb b 256) (fileBytes e kinds packages starts ends))
+unfolding stretchBytes all
+file-below e kinds packages starts ends n m k p s t =
+    let packs = take (packageCount e (length kinds)) packages in
+    bytes-below (length kinds ∷ length starts ∷ kinds ++ (packs ++ (starts ++ ends)))
     (both (ltb (length kinds) 65536) _ (lt→ltb _ _ n)
-    (both (ltb (length starts) 65536) _ (lt→ltb _ _ m) (all-append _ kinds (starts ++ ends) k (all-append _ starts ends s e))))
+    (both (ltb (length starts) 65536) _ (lt→ltb _ _ m)
+    (all-append _ kinds (packs ++ (starts ++ ends)) k (all-append _ packs (starts ++ ends) (all-take _ (packageCount e (length kinds)) packages p) (all-append _ starts ends s t)))))
 
 -- ---- the bytes of a file's fields
 
@@ -139,26 +182,37 @@ fields-append s at i j =
     (getD-drop at s (2 * (i + k)) 0 ∙ ap (λ (p : ℕ). getD s p 0) (low k) ∙ sym (getD-drop (at + 2 * i) s (2 * k) 0))
     (getD-drop at s (2 * (i + k) + 1) 0 ∙ ap (λ (p : ℕ). getD s p 0) (high k) ∙ sym (getD-drop (at + 2 * i) s (2 * k + 1) 0))))
 
-head-fields : (file : List ℕ) → fields file 2 ≡ nodesOf file ∷ linksOf file ∷ []
+head-fields : (file : CircuitFile) → fields (file .bytes) 2 ≡ nodesOf file ∷ linksOf file ∷ []
 unfolding nodesOf linksOf fields tabulate
 head-fields file = refl
 
--- the fields of a file that has the right length, all of them: N, M, and the three stretches
-all-fields : (file : List ℕ) → fields file (2 + (nodesOf file + (linksOf file + linksOf file)))
-    ≡ nodesOf file ∷ linksOf file ∷ kindsOf file ++ (startsOf file ++ endsOf file)
-unfolding kindsOf startsOf endsOf
+-- the fields of a file that has the right length, all of them: N, M, and the stretches
+all-fields : (file : CircuitFile) → let n = nodesOf file in
+    let m = linksOf file in
+    fields (file .bytes) (2 + (n + (packageCount (file .edition) n + (m + m))))
+    ≡ n ∷ m ∷ kindsOf file ++ (packagesOf file ++ (startsOf file ++ endsOf file))
+unfolding kindsOf packagesOf startsOf endsOf
 all-fields file =
     let n = nodesOf file in
     let m = linksOf file in
-    fields-append file 0 2 (n + (m + m))
-    ∙ ap (λ (l : List ℕ). l ++ fields (drop 4 file) (n + (m + m))) (head-fields file)
-    ∙ ap (λ (l : List ℕ). n ∷ m ∷ l) (fields-append file 4 n (m + m) ∙ ap (λ (l : List ℕ). fields (drop 4 file) n ++ l) (fields-append file (4 + 2 * n) m m))
+    let p = packageCount (file .edition) n in
+    let s = file .bytes in
+    fields-append s 0 2 (n + (p + (m + m)))
+    ∙ ap (λ (l : List ℕ). l ++ fields (drop 4 s) (n + (p + (m + m)))) (head-fields file)
+    ∙ ap (λ (l : List ℕ). n ∷ m ∷ l)
+    (fields-append s 4 n (p + (m + m))
+    ∙ ap (λ (l : List ℕ). fields (drop 4 s) n ++ l)
+    (fields-append s (4 + 2 * n) p (m + m) ∙ ap (λ (l : List ℕ). fields (drop (4 + 2 * n) s) p ++ l) (fields-append s (4 + 2 * n + 2 * p) m m)))
 
 -- the file of an accepted file's circuit is the file
-pub file-again : (file : List ℕ) → T (all (λ b. ltb b 256) file) → length file ≡ lengthOf (nodesOf file) (linksOf file)
-    → fileBytes (kindsOf file) (startsOf file) (endsOf file) ≡ file
-unfolding fileBytes kindsOf startsOf
+pub file-again : (file : CircuitFile) → T (all (λ b. ltb b 256) (file .bytes)) → length (file .bytes) ≡ lengthOf (file .edition) (nodesOf file) (linksOf file)
+    → fileBytes (file .edition) (kindsOf file) (packagesOf file) (startsOf file) (endsOf file) ≡ file .bytes
+unfolding stretchBytes
 file-again file t e =
-    ap₂ (λ (n m : ℕ). bytesOf (n ∷ m ∷ kindsOf file ++ (startsOf file ++ endsOf file))) (length-fields _ (nodesOf file)) (length-fields _ (linksOf file))
+    let n = nodesOf file in
+    let m = linksOf file in
+    let p = packageCount (file .edition) n in
+    ap₂ (λ (k l : ℕ). bytesOf (k ∷ l ∷ kindsOf file ++ (take (packageCount (file .edition) k) (packagesOf file) ++ (startsOf file ++ endsOf file)))) (length-kinds file) (length-starts file)
+    ∙ ap (λ (l : List ℕ). bytesOf (n ∷ m ∷ kindsOf file ++ (l ++ (startsOf file ++ endsOf file)))) (take-all p (packagesOf file) (le-of-eq (length-packages file)))
     ∙ ap bytesOf (sym (all-fields file))
-    ∙ bytes-fields (2 + (nodesOf file + (linksOf file + linksOf file))) file t (omega arith)
+    ∙ bytes-fields (2 + (n + (p + (m + m)))) (file .bytes) t (omega arith)

@@ -7,10 +7,9 @@ use native.Mathlib.Numerals.{add-one}
 use native.Mathlib.Omega.{arith}
 use lib.ListN.{length, getD, take, drop, set, take-append-drop, length-append}
 use lib.Seq.{sets-eq, take-at, drop-at, drop-drop, take-suc, take-all, length-take-le}
-use Rattle.file_format.specs.Layout.{lengthOf}
 use Rattle.file_format.specs.Reading.{filled}
 use Rattle.file_format.specs.Refusals.{accept}
-use Rattle.file_write.specs.Bytes.{bytesOf, fileBytes, stored}
+use Rattle.file_write.specs.Bytes.{bytesOf, stretchBytes, stored}
 
 pub length-bytes : (xs : List ℕ) → length (bytesOf xs) ≡ 2 * length xs
 unfolding bytesOf
@@ -73,16 +72,27 @@ stored-front old xs =
     let e : 0 + 2 * length xs ≡ length (bytesOf xs) = omega (arith, length-bytes xs) in
     ap (λ (k : ℕ). bytesOf xs ++ drop k old) e
 
-module _ (old kinds starts ends : List ℕ) (pairs : length starts ≡ length ends) (room : lengthOf (length kinds) (length starts) ≤ length old) where
-  pub file-stored : stored (stored (stored (stored (stored old 0 (length kinds ∷ [])) 2 (length starts ∷ [])) 4 kinds) (4 + 2 * length kinds) starts) (4 + 2 * length kinds + 2 * length starts) ends
-      ≡ filled accept (fileBytes kinds starts ends) old
-  unfolding fileBytes
+module _ (old kinds packages starts ends : List ℕ) (pairs : length starts ≡ length ends)
+    (room : 4 + 2 * length kinds + 2 * length packages + 4 * length starts ≤ length old) where
+  -- where the packages, the starts and the ends begin
+  abbrev packs : ℕ
+  packs = 4 + 2 * length kinds
+
+  abbrev links : ℕ
+  links = 4 + 2 * length kinds + 2 * length packages
+
+  pub file-stored :
+      stored (stored (stored (stored (stored (stored old 0 (length kinds ∷ [])) 2 (length starts ∷ [])) 4 kinds) packs packages) links starts) (links + 2 * length starts) ends
+      ≡ filled accept (stretchBytes kinds packages starts ends) old
+  unfolding stretchBytes
   file-stored =
       let front : List ℕ = length kinds ∷ length starts ∷ kinds in
-      let links : length (front ++ starts) ≡ 2 + length kinds + length starts = length-append front starts ∙ omega arith in
-      ap (λ (l : List ℕ). stored (stored (stored l 4 kinds) (4 + 2 * length kinds) starts) (4 + 2 * length kinds + 2 * length starts) ends) (stored-append old 0 (length kinds ∷ []) 2 (length starts ∷ []) refl (omega arith))
-      ∙ ap (λ (l : List ℕ). stored (stored l (4 + 2 * length kinds) starts) (4 + 2 * length kinds + 2 * length starts) ends) (stored-append old 0 (length kinds ∷ length starts ∷ []) 4 kinds refl (omega arith))
-      ∙ ap (λ (l : List ℕ). stored l (4 + 2 * length kinds + 2 * length starts) ends) (stored-append old 0 front (4 + 2 * length kinds) starts (omega arith) (omega arith))
-      ∙ stored-append old 0 (front ++ starts) (4 + 2 * length kinds + 2 * length starts) ends (omega arith) (omega arith)
-      ∙ ap (stored old 0) (append-assoc front starts ends)
-      ∙ stored-front old (front ++ (starts ++ ends))
+      let nodes : length (front ++ packages) ≡ 2 + length kinds + length packages = length-append front packages ∙ omega arith in
+      let most : length ((front ++ packages) ++ starts) ≡ 2 + length kinds + length packages + length starts = length-append (front ++ packages) starts ∙ omega arith in
+      ap (λ (l : List ℕ). stored (stored (stored (stored l 4 kinds) packs packages) links starts) (links + 2 * length starts) ends) (stored-append old 0 (length kinds ∷ []) 2 (length starts ∷ []) refl (omega arith))
+      ∙ ap (λ (l : List ℕ). stored (stored (stored l packs packages) links starts) (links + 2 * length starts) ends) (stored-append old 0 (length kinds ∷ length starts ∷ []) 4 kinds refl (omega arith))
+      ∙ ap (λ (l : List ℕ). stored (stored l links starts) (links + 2 * length starts) ends) (stored-append old 0 front packs packages (omega arith) (omega arith))
+      ∙ ap (λ (l : List ℕ). stored l (links + 2 * length starts) ends) (stored-append old 0 (front ++ packages) links starts (omega arith) (omega arith))
+      ∙ stored-append old 0 ((front ++ packages) ++ starts) (links + 2 * length starts) ends (omega arith) (omega arith)
+      ∙ ap (stored old 0) (append-assoc (front ++ packages) starts ends ∙ append-assoc front packages (starts ++ ends))
+      ∙ stored-front old (front ++ (packages ++ (starts ++ ends)))

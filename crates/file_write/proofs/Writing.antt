@@ -1,16 +1,17 @@
 -- What the writing call comes to, by cases of the verdict. Assumes nothing.
-use mathlib.Core.Bool.{true, false}
+use mathlib.Core.Bool.{true, false, _&&_}
 use mathlib.Core.List.{List}
 use mathlib.Core.Path.{_≡_, refl}
 use Prim.Native.Nat.{ℕ, _≤_, _<_}
-use borrow.Author.Tests.{lt-ltb, le-ltb, eq-eqb, ne-eqb, eqb-true, ltb-false, not-false}
-use lib.Dec.{T}
+use borrow.Author.Tests.{lt-ltb, le-ltb, eq-eqb, ne-eqb, ltb-false}
+use lib.Dec.{T, eqb, eqb→eq}
 use lib.ListN.{length}
-use Rattle.base_lists.proofs.Tests.{refuted}
+use Rattle.base_lists.proofs.Tests.{refuted, both-left, both-right}
 use Rattle.file_format.specs.declared.File.the-variants.{Neither}
 use Rattle.file_format.specs.declared.Refusal.{Refusal}
+use Rattle.file_format.specs.declared.Edition.{Edition}
 use Rattle.file_format.specs.declared.Role.{Role}
-use Rattle.file_format.specs.Layout.{lengthOf}
+use Rattle.file_format.specs.Layout.{packageCount, lengthOf}
 use Rattle.file_format.specs.Reading.{filled}
 use Rattle.file_format.specs.Refusals.{Verdict, accept, refuse, first, linkConditions, shortTable}
 use Rattle.file_format.specs.Reply.{reply}
@@ -18,7 +19,7 @@ use Rattle.file_format.specs.Role.{inRange, fileOf}
 use Rattle.file_format.proofs.Refusals.{turned, first-accept, first-refuse, first-parts, first-holds}
 use Rattle.file_write.specs.declared.WriteAnswer.the-variants.{Written, Refused}
 use Rattle.file_write.specs.Bytes.{fileBytes}
-use Rattle.file_write.specs.Writing.{circuitConditions, writeConditions, writeAnswer, writing, writeReply}
+use Rattle.file_write.specs.Writing.{packagesGiven, circuitConditions, writeConditions, writeAnswer, writing, writeReply}
 
 -- ---- the answer and its verdict
 
@@ -42,62 +43,72 @@ answer-written size (refuse y) k e = (cc, cc)
 
 -- ---- the conditions on a circuit, one after another: the range, as many starts as ends, the links
 
-module _ (r : Role) (kinds starts ends : List ℕ) where
-  pub verdict-2 : inRange r (length kinds) (length starts) ≡ false → first (circuitConditions r kinds starts ends) ≡ turned r 2
+module _ (r : Role) (e : Edition) (kinds packages starts ends : List ℕ) where
+  pub verdict-2 : inRange r (length kinds) (length starts) ≡ false → first (circuitConditions r e kinds packages starts ends) ≡ turned r 2
   unfolding first circuitConditions turned
   verdict-2 b = simp b
 
   pub verdict-3 : inRange r (length kinds) (length starts) ≡ true → (length starts ≡ length ends → ⊥)
-      → first (circuitConditions r kinds starts ends) ≡ turned r 3
+      → first (circuitConditions r e kinds packages starts ends) ≡ turned r 3
   unfolding first circuitConditions turned
-  verdict-3 b e = simp (b, ne-eqb _ _ e)
+  verdict-3 b d = simp (b, ne-eqb _ _ d)
 
-  pub verdict-links : inRange r (length kinds) (length starts) ≡ true → length starts ≡ length ends
-      → first (circuitConditions r kinds starts ends) ≡ first (linkConditions r (length kinds) starts ends)
-  unfolding first circuitConditions
-  verdict-links b e = simp (b, eq-eqb _ _ e)
+  pub verdict-3-packages : inRange r (length kinds) (length starts) ≡ true → length starts ≡ length ends
+      → (packageCount e (length packages) ≡ packageCount e (length kinds) → ⊥) → first (circuitConditions r e kinds packages starts ends) ≡ turned r 3
+  unfolding first circuitConditions packagesGiven turned
+  verdict-3-packages b d f = simp (b, eq-eqb _ _ d, ne-eqb _ _ f)
+
+  pub verdict-links : inRange r (length kinds) (length starts) ≡ true → length starts ≡ length ends → packageCount e (length packages) ≡ packageCount e (length kinds)
+      → first (circuitConditions r e kinds packages starts ends) ≡ first (linkConditions r (length kinds) starts ends)
+  unfolding first circuitConditions packagesGiven
+  verdict-links b d f = simp (b, eq-eqb _ _ d, eq-eqb _ _ f)
 
 -- What is known of a circuit of which none of the conditions 2 to 6 holds.
-pub record Sound (r : Role) (kinds starts ends : List ℕ) : Type 0 where
+pub record Sound (r : Role) (e : Edition) (kinds packages starts ends : List ℕ) : Type 0 where
   pub range : T (inRange r (length kinds) (length starts))
   pub pairs : length starts ≡ length ends
+  pub given : packageCount e (length packages) ≡ packageCount e (length kinds)
   pub links : first (linkConditions r (length kinds) starts ends) ≡ accept
 
-pub sound : (r : Role) (kinds starts ends : List ℕ) → first (circuitConditions r kinds starts ends) ≡ accept → Sound r kinds starts ends
-unfolding circuitConditions
-sound r kinds starts ends e =
-    let h2 = first-holds _ _ e in
+pub sound : (r : Role) (e : Edition) (kinds packages starts ends : List ℕ) → first (circuitConditions r e kinds packages starts ends) ≡ accept → Sound r e kinds packages starts ends
+unfolding circuitConditions packagesGiven
+sound r e kinds packages starts ends a =
+    let h2 = first-holds _ _ a in
     let h3 = first-holds _ _ (h2 .1) in
+    let links = eqb (length starts) (length ends) in
+    let boxes = eqb (packageCount e (length packages)) (packageCount e (length kinds)) in
+    let many = refuted (links && boxes) (h3 .0) in
     record {
       range = refuted (inRange r (length kinds) (length starts)) (h2 .0);
-      pairs = eqb-true _ _ (not-false _ (h3 .0));
+      pairs = eqb→eq _ _ (both-left links boxes many);
+      given = eqb→eq _ _ (both-right links boxes many);
       links = h3 .1;
     }
 
 -- ---- the call, by cases
 
-module _ (r : Role) (kinds starts ends out : List ℕ) where
-  pub writing-refused : (x : Refusal) → first (circuitConditions r kinds starts ends) ≡ refuse x
-      → writing r kinds starts ends out ≡ record { answer = Refused x; reply = writeReply (Refused x); out = out }
+module _ (r : Role) (e : Edition) (kinds packages starts ends out : List ℕ) where
+  pub writing-refused : (x : Refusal) → first (circuitConditions r e kinds packages starts ends) ≡ refuse x
+      → writing r e kinds packages starts ends out ≡ record { answer = Refused x; reply = writeReply (Refused x); out = out }
   unfolding writing writeConditions writeAnswer writeReply reply filled
-  writing-refused x e = rw (first-refuse _ _ x e)
+  writing-refused x q = rw (first-refuse _ _ x q)
 
-  module _ (e : first (circuitConditions r kinds starts ends) ≡ accept) where
-    pub writing-short : length out < lengthOf (length kinds) (length starts)
-        → writing r kinds starts ends out ≡ record { answer = Refused (record { number = 8; file = Neither }); reply = writeReply (Refused (record { number = 8; file = Neither })); out = out }
+  module _ (a : first (circuitConditions r e kinds packages starts ends) ≡ accept) where
+    pub writing-short : length out < lengthOf e (length kinds) (length starts)
+        → writing r e kinds packages starts ends out ≡ record { answer = Refused (record { number = 8; file = Neither }); reply = writeReply (Refused (record { number = 8; file = Neither })); out = out }
     unfolding writing writeConditions first shortTable writeAnswer writeReply reply filled
-    writing-short h = rw (first-accept _ _ e) (simp (lt-ltb _ _ h))
+    writing-short h = rw (first-accept _ _ a) (simp (lt-ltb _ _ h))
 
-    pub writing-filled : lengthOf (length kinds) (length starts) ≤ length out
-        → writing r kinds starts ends out
-        ≡ record { answer = Written (lengthOf (length kinds) (length starts)); reply = writeReply (Written (lengthOf (length kinds) (length starts))); out = filled accept (fileBytes kinds starts ends) out }
+    pub writing-filled : lengthOf e (length kinds) (length starts) ≤ length out
+        → writing r e kinds packages starts ends out
+        ≡ record { answer = Written (lengthOf e (length kinds) (length starts)); reply = writeReply (Written (lengthOf e (length kinds) (length starts))); out = filled accept (fileBytes e kinds packages starts ends) out }
     unfolding writing writeConditions first shortTable writeAnswer writeReply reply
-    writing-filled h = rw (first-accept _ _ e) (simp (le-ltb _ _ h))
+    writing-filled h = rw (first-accept _ _ a) (simp (le-ltb _ _ h))
 
   -- an accepted call has room, and no condition on the circuit holds
-  pub writing-accepted : (size : ℕ) → writing r kinds starts ends out .answer ≡ Written size
-      → (first (circuitConditions r kinds starts ends) ≡ accept) × (lengthOf (length kinds) (length starts) ≤ length out)
+  pub writing-accepted : (size : ℕ) → writing r e kinds packages starts ends out .answer ≡ Written size
+      → (first (circuitConditions r e kinds packages starts ends) ≡ accept) × (lengthOf e (length kinds) (length starts) ≤ length out)
   unfolding writing writeConditions shortTable
-  writing-accepted size e =
-      let h = first-parts _ _ (answer-written _ _ size e .0) in
+  writing-accepted size q =
+      let h = first-parts _ _ (answer-written _ _ size q .0) in
       (h .0, ltb-false _ _ (first-holds _ _ (h .1) .0))

@@ -1,11 +1,12 @@
 -- The call that writes a circuit file, whole: its reply and the later content of the bytes lent, from the inputs alone.
-use mathlib.Core.Bool.{not}
+use mathlib.Core.Bool.{Bool, _&&_, not}
 use mathlib.Core.List.{List, [], _∷_, _++_}
 use Prim.Native.Nat.{ℕ}
 use lib.Dec.{eqb}
 use lib.ListN.{length}
+use Rattle.file_format.specs.declared.Edition.{Edition}
 use Rattle.file_format.specs.declared.Role.{Role}
-use Rattle.file_format.specs.Layout.{lengthOf}
+use Rattle.file_format.specs.Layout.{packageCount, lengthOf}
 use Rattle.file_format.specs.Reading.{filled}
 use Rattle.file_format.specs.Refusals.{Condition, Verdict, accept, refuse, first, linkConditions, shortTable}
 use Rattle.file_format.specs.Reply.{Reply, reply}
@@ -14,18 +15,22 @@ use Rattle.file_write.specs.declared.WriteAnswer.{WriteAnswer}
 use Rattle.file_write.specs.declared.WriteAnswer.the-variants.{Written, Refused}
 use Rattle.file_write.specs.Bytes.{fileBytes}
 
--- What is asked of a circuit that is to be written in a role: 2 N or M outside the role's range; 3 "as many starts as ends not given";
--- then the links. "Writing takes N from the kinds given and M from the starts given."
-unfoldable pub circuitConditions : Role → List ℕ → List ℕ → List ℕ → List Condition
-circuitConditions role kinds starts ends =
+-- "Writing the second with as many packages as kinds not given is 3"; the first neither needs nor touches packages
+unfoldable pub packagesGiven : Edition → List ℕ → List ℕ → Bool
+packagesGiven e kinds packages = eqb (packageCount e (length packages)) (packageCount e (length kinds))
+
+-- What is asked of a circuit that is to be written in a role: 2 N or M outside the role's range; 3 "as many starts as ends not given", or
+-- in the second edition as many packages as kinds; then the links. "Writing takes N from the kinds given and M from the starts given."
+unfoldable pub circuitConditions : Role → Edition → List ℕ → List ℕ → List ℕ → List ℕ → List Condition
+circuitConditions role e kinds packages starts ends =
     record { number = 2; file = fileOf role; holds = not (inRange role (length kinds) (length starts)) } ∷
-    record { number = 3; file = fileOf role; holds = not (eqb (length starts) (length ends)) } ∷
+    record { number = 3; file = fileOf role; holds = not (eqb (length starts) (length ends) && packagesGiven e kinds packages) } ∷
     linkConditions role (length kinds) starts ends
 
 -- "Needed: .. writing the file's length"
-unfoldable pub writeConditions : Role → List ℕ → List ℕ → List ℕ → ℕ → List Condition
-writeConditions role kinds starts ends lent =
-    circuitConditions role kinds starts ends ++ (shortTable (lengthOf (length kinds) (length starts)) lent ∷ [])
+unfoldable pub writeConditions : Role → Edition → List ℕ → List ℕ → List ℕ → List ℕ → ℕ → List Condition
+writeConditions role e kinds packages starts ends lent =
+    circuitConditions role e kinds packages starts ends ++ (shortTable (lengthOf e (length kinds) (length starts)) lent ∷ [])
 
 -- "Writing .. replies with the file's length."
 unfoldable pub writeAnswer : Verdict → ℕ → WriteAnswer
@@ -43,11 +48,11 @@ pub record WriteOutcome : Type 0 where
   pub reply : Reply
   pub out : List ℕ
 
-unfoldable pub writing : Role → List ℕ → List ℕ → List ℕ → List ℕ → WriteOutcome
-writing role kinds starts ends out =
-    let verdict = first (writeConditions role kinds starts ends (length out)) in
+unfoldable pub writing : Role → Edition → List ℕ → List ℕ → List ℕ → List ℕ → List ℕ → WriteOutcome
+writing role e kinds packages starts ends out =
+    let verdict = first (writeConditions role e kinds packages starts ends (length out)) in
     record {
-      answer = writeAnswer verdict (lengthOf (length kinds) (length starts));
-      reply = reply verdict (lengthOf (length kinds) (length starts) ∷ []);
-      out = filled verdict (fileBytes kinds starts ends) out;
+      answer = writeAnswer verdict (lengthOf e (length kinds) (length starts));
+      reply = reply verdict (lengthOf e (length kinds) (length starts) ∷ []);
+      out = filled verdict (fileBytes e kinds packages starts ends) out;
     }

@@ -30,7 +30,7 @@ fn measure(starts: &[u16], ends: &[u16], c: u16, r: u16, dist: &mut [u16])
 }
 
 // The distances in the ball of radius r around node c of a board, first in `out`.
-pub fn fill_ball(kinds: &[u16], starts: &[u16], ends: &[u16], c: u16, r: u16, out: &mut [u16])
+pub fn fill_ball(kinds: &[u32], starts: &[u16], ends: &[u16], c: u16, r: u16, out: &mut [u16])
     requires { ⌜ Bounded role.Board (record { kinds = now kinds; starts = now starts; ends = now ends }) ⌝ }
     requires { ⌜ (c < length (now kinds)) × (length (now kinds) ≤ length (now out)) ⌝ }
     ensures { λ _. ⌜ now (out .exit) ≡ distances (length (now (kinds .entry))) (now (starts .entry)) (now (ends .entry)) c r ++ drop (length (now (kinds .entry))) (now (out .entry)) ⌝ }

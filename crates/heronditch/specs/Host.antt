@@ -8,6 +8,7 @@ use Rattle.file_format.specs.declared.File.the-variants.{Pattern, Board, Neithe
 use Rattle.file_format.specs.Reading.{ReadOutcome, filled}
 use Rattle.file_format.specs.Refusals.{Verdict, accept, refuse, first, shortTable}
 use Rattle.file_format.specs.Reply as files
+use Rattle.call_convert.specs.Call.{ConvertOutcome}
 use Rattle.call_distance.specs.Calls.{BallOutcome}
 use Rattle.file_write.specs.Writing.{WriteOutcome}
 use Rattle.table.specs.Reply as table
@@ -76,12 +77,26 @@ pub record HostRead : Type 0 where
 unfoldable pub hostRead : ReadOutcome → HostRead
 hostRead o = record { reply = slots (o .reply); kinds = o .kinds; starts = o .starts; ends = o .ends }
 
+-- the same of a second-edition file
+pub record HostReadPackages : Type 0 where
+  pub reply : Reply
+  pub kinds : List ℕ
+  pub packages : List ℕ
+  pub starts : List ℕ
+  pub ends : List ℕ
+
+unfoldable pub hostReadPackages : ReadOutcome → HostReadPackages
+hostReadPackages o = record { reply = slots (o .reply); kinds = o .kinds; packages = o .packages; starts = o .starts; ends = o .ends }
+
 pub record HostOut : Type 0 where
   pub reply : Reply
   pub out : List ℕ
 
 unfoldable pub hostWrite : WriteOutcome → HostOut
 hostWrite o = record { reply = slots (o .reply); out = o .out }
+
+unfoldable pub hostConvert : ConvertOutcome → HostOut
+hostConvert o = record { reply = slots (o .reply); out = o .out }
 
 unfoldable pub hostBall : BallOutcome → HostOut
 hostBall o = record { reply = slots (o .reply); out = o .out }

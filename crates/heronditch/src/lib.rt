@@ -1,8 +1,11 @@
 // The calls for programs in other languages: a slice crosses as a pointer and a length, and each reply is a struct of numbers.
+ghost use mathlib.Core.List.{[]};
 ghost use mathlib.Core.Path.{_≡_};
 ghost use Rattle.graph_neighbours.specs.declared.neighbours.Direction.the-variants as direction;
 ghost use Rattle.graph_neighbours.specs.Lookup.{neighboursOf};
+ghost use Rattle.file_format.specs.declared.Edition.the-variants as editions;
 ghost use Rattle.file_format.specs.declared.Role.the-variants as role;
+ghost use Rattle.file_format.specs.Layout.{firstEdition};
 ghost use Rattle.file_format.specs.Reading.{reading};
 ghost use Rattle.call_distance.specs.Calls.{radiusCall, ballCall};
 ghost use Rattle.file_write.specs.Writing.{writing};
@@ -27,12 +30,15 @@ use crate::reply::of_radius;
 use crate::reply::of_read;
 use crate::reply::of_report;
 use crate::reply::of_write;
+use file_format::Edition;
+use file_format::Editions;
 use file_format::Role;
 use graph_neighbours::neighbours::Direction;
 use graph_neighbours::neighbours::neighbours;
 
 mod copied;
 pub mod reply;
+pub mod second;
 
 #[no_mangle]
 pub extern "C" fn heronditch_read_pattern(
@@ -42,9 +48,9 @@ pub extern "C" fn heronditch_read_pattern(
     ends: &mut [u16],
 ) -> Reply
     ensures { λ r. ⌜ record { reply = r; kinds = now (kinds .exit); starts = now (starts .exit); ends = now (ends .exit) }
-        ≡ hostRead (reading role.Pattern (now (file .entry)) (now (kinds .entry)) (now (starts .entry)) (now (ends .entry))) ⌝ }
+        ≡ hostRead (reading role.Pattern (firstEdition (now (file .entry))) (now (kinds .entry)) [] (now (starts .entry)) (now (ends .entry))) ⌝ }
 {
-    of_read(file_read::read(Role::Pattern, file, kinds, starts, ends))
+    of_read(file_read::read_first(Role::Pattern, file, kinds, starts, ends))
 }
 
 #[no_mangle]
@@ -55,9 +61,9 @@ pub extern "C" fn heronditch_read_board(
     ends: &mut [u16],
 ) -> Reply
     ensures { λ r. ⌜ record { reply = r; kinds = now (kinds .exit); starts = now (starts .exit); ends = now (ends .exit) }
-        ≡ hostRead (reading role.Board (now (file .entry)) (now (kinds .entry)) (now (starts .entry)) (now (ends .entry))) ⌝ }
+        ≡ hostRead (reading role.Board (firstEdition (now (file .entry))) (now (kinds .entry)) [] (now (starts .entry)) (now (ends .entry))) ⌝ }
 {
-    of_read(file_read::read(Role::Board, file, kinds, starts, ends))
+    of_read(file_read::read_first(Role::Board, file, kinds, starts, ends))
 }
 
 #[no_mangle]
@@ -68,9 +74,9 @@ pub extern "C" fn heronditch_write_pattern(
     out: &mut [u8],
 ) -> Reply
     ensures { λ r. ⌜ record { reply = r; out = now (out .exit) }
-        ≡ hostWrite (writing role.Pattern (now (kinds .entry)) (now (starts .entry)) (now (ends .entry)) (now (out .entry))) ⌝ }
+        ≡ hostWrite (writing role.Pattern editions.First (now (kinds .entry)) [] (now (starts .entry)) (now (ends .entry)) (now (out .entry))) ⌝ }
 {
-    of_write(file_write::write(Role::Pattern, kinds, starts, ends, out))
+    of_write(file_write::write_first(Role::Pattern, kinds, starts, ends, out))
 }
 
 #[no_mangle]
@@ -81,16 +87,16 @@ pub extern "C" fn heronditch_write_board(
     out: &mut [u8],
 ) -> Reply
     ensures { λ r. ⌜ record { reply = r; out = now (out .exit) }
-        ≡ hostWrite (writing role.Board (now (kinds .entry)) (now (starts .entry)) (now (ends .entry)) (now (out .entry))) ⌝ }
+        ≡ hostWrite (writing role.Board editions.First (now (kinds .entry)) [] (now (starts .entry)) (now (ends .entry)) (now (out .entry))) ⌝ }
 {
-    of_write(file_write::write(Role::Board, kinds, starts, ends, out))
+    of_write(file_write::write_first(Role::Board, kinds, starts, ends, out))
 }
 
 #[no_mangle]
 pub extern "C" fn heronditch_radius(pattern: &[u8]) -> Reply
-    ensures { λ r. ⌜ r ≡ slots (radiusCall (now (pattern .entry))) ⌝ }
+    ensures { λ r. ⌜ r ≡ slots (radiusCall (firstEdition (now (pattern .entry)))) ⌝ }
 {
-    of_radius(call_distance::radius(pattern))
+    of_radius(call_distance::radius(Edition::First, pattern))
 }
 
 #[no_mangle]
@@ -100,16 +106,24 @@ pub extern "C" fn heronditch_ball(
     radius: u16,
     out: &mut [u16],
 ) -> Reply
-    ensures { λ r. ⌜ record { reply = r; out = now (out .exit) } ≡ hostBall (ballCall (now (board .entry)) centre radius (now (out .entry))) ⌝ }
+    ensures { λ r. ⌜ record { reply = r; out = now (out .exit) } ≡ hostBall (ballCall (firstEdition (now (board .entry))) centre radius (now (out .entry))) ⌝ }
 {
-    of_ball(call_distance::ball(board, centre, radius, out))
+    of_ball(call_distance::ball(Edition::First, board, centre, radius, out))
 }
 
 #[no_mangle]
 pub extern "C" fn heronditch_match(pattern: &[u8], board: &[u8], table: &mut [u32]) -> Counted
-    ensures { λ r. ⌜ record { reply = r; table = now (table .exit) } ≡ hostMatch (matching (now (pattern .entry)) (now (board .entry)) (now (table .entry))) ⌝ }
+    ensures { λ r. ⌜ record { reply = r; table = now (table .exit) } ≡ hostMatch (matching (firstEdition (now (pattern .entry))) (firstEdition (now (board .entry))) (now (table .entry))) ⌝ }
 {
-    of_match(call_match::match_table(pattern, board, table))
+    of_match(call_match::match_table(
+        Editions {
+            pattern: Edition::First,
+            board: Edition::First,
+        },
+        pattern,
+        board,
+        table,
+    ))
 }
 
 #[no_mangle]
@@ -123,9 +137,21 @@ pub extern "C" fn heronditch_place(
     distances: &mut [u16],
 ) -> Counted
     ensures { λ r. ⌜ record { reply = r; nodes = now (nodes .exit); links = now (links .exit); table = now (table .exit); distances = now (distances .exit) }
-        ≡ hostPlace (placeAt (now (pattern .entry)) (now (board .entry)) centre (radiusOf (circuitOf (now (pattern .entry)))) (now (nodes .entry)) (now (links .entry)) (now (table .entry)) (now (distances .entry))) ⌝ }
+        ≡ hostPlace (placeAt (firstEdition (now (pattern .entry))) (firstEdition (now (board .entry))) centre (radiusOf (circuitOf (firstEdition (now (pattern .entry))))) (now (nodes .entry)) (now (links .entry)) (now (table .entry)) (now (distances .entry))) ⌝ }
 {
-    of_place(call_place::place(pattern, board, centre, nodes, links, table, distances))
+    of_place(call_place::place(
+        Editions {
+            pattern: Edition::First,
+            board: Edition::First,
+        },
+        pattern,
+        board,
+        centre,
+        nodes,
+        links,
+        table,
+        distances,
+    ))
 }
 
 #[no_mangle]
@@ -140,9 +166,13 @@ pub extern "C" fn heronditch_place_within(
     distances: &mut [u16],
 ) -> Counted
     ensures { λ r. ⌜ record { reply = r; nodes = now (nodes .exit); links = now (links .exit); table = now (table .exit); distances = now (distances .exit) }
-        ≡ hostPlace (placeAt (now (pattern .entry)) (now (board .entry)) centre radius (now (nodes .entry)) (now (links .entry)) (now (table .entry)) (now (distances .entry))) ⌝ }
+        ≡ hostPlace (placeAt (firstEdition (now (pattern .entry))) (firstEdition (now (board .entry))) centre radius (now (nodes .entry)) (now (links .entry)) (now (table .entry)) (now (distances .entry))) ⌝ }
 {
     of_place(call_place::place_within(
+        Editions {
+            pattern: Edition::First,
+            board: Edition::First,
+        },
         pattern,
         board,
         centre,
@@ -156,9 +186,9 @@ pub extern "C" fn heronditch_place_within(
 
 #[no_mangle]
 pub extern "C" fn heronditch_merge(pattern: &[u8], classes: &mut [u8], out: &mut [u8]) -> Reply
-    ensures { λ r. ⌜ record { reply = r; classes = now (classes .exit); out = now (out .exit) } ≡ hostMerge (merging (now (pattern .entry)) (now (classes .entry)) (now (out .entry))) ⌝ }
+    ensures { λ r. ⌜ record { reply = r; classes = now (classes .exit); out = now (out .exit) } ≡ hostMerge (merging (firstEdition (now (pattern .entry))) (now (classes .entry)) (now (out .entry))) ⌝ }
 {
-    of_merge(call_merge::merge(pattern, classes, out))
+    of_merge(call_merge::merge(Edition::First, pattern, classes, out))
 }
 
 #[no_mangle]

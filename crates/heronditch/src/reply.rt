@@ -1,6 +1,7 @@
 // Replies as a host program sees them: structs of numbers, in place of the enums.
 ghost use mathlib.Core.Path.{_≡_};
 ghost use Rattle.file_format.specs.Reply.{readReply};
+ghost use Rattle.call_convert.specs.Call.{convertReply};
 ghost use Rattle.call_distance.specs.Calls.{radiusReply, ballReply};
 ghost use Rattle.file_write.specs.Writing.{writeReply};
 ghost use Rattle.call_match.specs.Call.{replyOf};
@@ -9,6 +10,7 @@ ghost use Rattle.call_merge.specs.Call.{mergeReply};
 ghost use Rattle.call_load.specs.Call.{loadReply};
 ghost use Rattle.call_report.specs.Call.{reportReply};
 ghost use Rattle.heronditch.specs.Host.{fileNumber, slots, counted, pieced};
+use call_convert::ConvertAnswer;
 use call_distance::BallAnswer;
 use call_distance::RadiusAnswer;
 use call_load::LoadAnswer;
@@ -102,6 +104,15 @@ pub fn of_write(answer: WriteAnswer) -> Reply
     match answer {
         WriteAnswer::Written(size) => accepted(size, 0),
         WriteAnswer::Refused(x) => refused(x),
+    }
+}
+
+pub fn of_convert(answer: ConvertAnswer) -> Reply
+    ensures { λ r. ⌜ r ≡ slots (convertReply answer) ⌝ }
+{
+    match answer {
+        ConvertAnswer::Converted(size) => accepted(size, 0),
+        ConvertAnswer::Refused(x) => refused(x),
     }
 }
 

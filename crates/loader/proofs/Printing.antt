@@ -5,6 +5,7 @@ use Prim.Native.Nat.{ℕ, _≤_}
 use native.Mathlib.Omega.{arith}
 use lib.ListN.{length, take}
 use Rattle.file_format.specs.declared.Refusal.{Refusal}
+use Rattle.file_format.specs.declared.Edition.the-variants.{First}
 use Rattle.file_format.specs.Layout.{lengthOf}
 use Rattle.file_format.specs.Refusals.{accept, refuse}
 use Rattle.file_format.specs.Reply.{Reply}
@@ -44,10 +45,10 @@ module _ (seed n m k : ℕ) (before after : List ℕ) (answer : LoadAnswer)
   made-front size a = ap (λ (o : LoadOutcome). take size (o .out)) e ∙ front-file seed n m k before size (made-reply size a)
 
   -- refused, where there is room for the longest file: a number is out of its range
-  pub refused-outside : lengthOf 512 4096 ≤ length before → (x : Refusal) → answer ≡ Refused x → InRange n m k → ⊥
+  pub refused-outside : lengthOf First 512 4096 ≤ length before → (x : Refusal) → answer ≡ Refused x → InRange n m k → ⊥
   unfolding loadReply
   refused-outside room x a r =
-      let fits : lengthOf n m ≤ length before = omega (arith, r .nodes, r .links) in
+      let fits : lengthOf First n m ≤ length before = omega (arith, r .nodes, r .links) in
       let made = ap (λ (o : LoadOutcome). o .reply .verdict) (load-made seed n m k before r fits) in
       let told : refuse x ≡ accept = ap (λ (p : Reply). p .verdict) (sym (ap loadReply a) ∙ replied) ∙ made in
       let z : _≡_ {A = ℕ} 0 1 = cc in

@@ -8,6 +8,7 @@ use output::Output;
 ghost use mathlib.Core.Path.{_≡_};
 ghost use Prim.Native.Nat.{_≤_};
 ghost use lib.ListN.{length};
+ghost use Rattle.file_format.specs.declared.Edition.the-variants as editions;
 ghost use Rattle.file_format.specs.Layout.{lengthOf};
 ghost use Rattle.call_load.specs.Call.{loadBytes};
 ghost use Rattle.loader.specs.Printing.{Tried, Told};
@@ -38,7 +39,7 @@ fn hand(seed: u32, n: u32, m: u32, k: u32, bytes: &[u8]) -> Printed
 
 // Makes the load in a buffer that is long enough for each, and hands it on.
 fn print_load(seed: u32, n: u32, m: u32, k: u32, out: &mut [u8]) -> Printed
-    requires { ⌜ lengthOf 512 4096 ≤ length (now out) ⌝ }
+    requires { ⌜ lengthOf editions.First 512 4096 ≤ length (now out) ⌝ }
     ensures { λ r. ⌜ Told n m k r ⌝ }
 {
     let answer = call_load::load(seed, n, m, k, out);
@@ -66,7 +67,7 @@ fn usage() {
 }
 
 fn run(out: &mut [u8])
-    requires { ⌜ lengthOf 512 4096 ≤ length (now out) ⌝ }
+    requires { ⌜ lengthOf editions.First 512 4096 ≤ length (now out) ⌝ }
 {
     if os::arg_count() != 5 {
         usage();

@@ -3,6 +3,7 @@
 use Prim.Native.Nat.{_≤_}
 use lib.ListN.{length}
 use Rattle.graph.specs.Circuit.{Circuit}
+use Rattle.file_format.specs.declared.Edition.{Edition}
 use Rattle.file_format.specs.Layout.{lengthOf}
 use Rattle.place.specs.Match.{radiusOf}
 use Rattle.merge.specs.Merged.{merged}
@@ -19,8 +20,8 @@ module _ {p : Circuit} (c : PatternContent p) where
   unfolding merged
   merged-links-le = grouped-links-le c (classes-grouping c)
 
-  -- the merged file is no longer than the pattern's
-  pub merged-length-le : lengthOf (length (merged p .kinds)) (length (merged p .starts)) ≤ lengthOf (length (p .kinds)) (length (p .starts))
+  -- the merged file is no longer than the pattern's, in either edition
+  pub merged-length-le : (e : Edition) → lengthOf e (length (merged p .kinds)) (length (merged p .starts)) ≤ lengthOf e (length (p .kinds)) (length (p .starts))
   unfolding merged
   merged-length-le = grouped-length-le c (classes-grouping c)
 

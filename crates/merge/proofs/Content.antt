@@ -1,5 +1,4 @@
 -- A circuit that can be the content of a pattern file. Assumes nothing.
-use mathlib.Core.List.{List}
 use mathlib.Core.Path.{_≡_, sym, _∙_}
 use Prim.Native.Nat.{ℕ, _≤_, _<_}
 use native.Mathlib.Nat.{le-trans}
@@ -13,6 +12,7 @@ use Rattle.graph.specs.Search.{connected, radius}
 use Rattle.graph.proofs.Ball.{Within, within-all}
 use Rattle.graph.proofs.Distance.{connected-iff, radius-is}
 use Rattle.file_format.specs.declared.Role.the-variants.{Pattern, Board}
+use Rattle.file_format.specs.Layout.{CircuitFile}
 use Rattle.file_format.specs.Links.{linksBelow, rising}
 use Rattle.file_format.specs.Role.{inRange}
 use Rattle.file_format.specs.Refusals.{asksConnected, widest, Accepted}
@@ -20,7 +20,7 @@ use Rattle.file_format.proofs.Refusals.{range-orders}
 use Rattle.place.specs.Match.{radiusOf}
 use Rattle.place.proofs.Ball.{Admissible}
 use Rattle.file_format.specs.Circuit.{circuitOf, Bounded}
-use Rattle.file_format.proofs.Fields.{length-kinds, length-starts, length-ends}
+use Rattle.file_format.proofs.Fields.{length-labels, length-starts, length-ends}
 
 -- Every condition on a pattern that is not about the bytes of a file: numbers 2, 4, 5, 6 and 11, and "as many starts as ends".
 pub record PatternContent (p : Circuit) : Type 0 where
@@ -32,16 +32,16 @@ pub record PatternContent (p : Circuit) : Type 0 where
   pub narrow : radius (length (p .kinds)) (p .starts) (p .ends) ≤ widest
 
 -- an accepted pattern file holds such a circuit
-pub accepted-content : {file : List ℕ} → Accepted Pattern file → PatternContent (circuitOf file)
+pub accepted-content : {file : CircuitFile} → Accepted Pattern file → PatternContent (circuitOf file)
 unfolding asksConnected
 accepted-content {file} a =
     record {
-      range = rw (length-kinds, length-starts) (a .range);
+      range = rw (length-labels, length-starts) (a .range);
       parallel = length-starts file ∙ sym (length-ends file);
-      below = rw length-kinds (a .below);
+      below = rw length-labels (a .below);
       rises = a .rises;
-      joined = rw length-kinds (a .joined tt);
-      narrow = rw length-kinds (a .narrow tt);
+      joined = rw length-labels (a .joined tt);
+      narrow = rw length-labels (a .narrow tt);
     }
 
 -- ---- what follows

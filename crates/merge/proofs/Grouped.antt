@@ -27,6 +27,8 @@ use Rattle.simulation.specs.Quotient.{QuotientGraph, QuotientAgree}
 use Rattle.simulation.proofs.Grouping.{finer-more}
 use Rattle.simulation.proofs.Quotient.{quotient-connected, quotient-radius}
 use Rattle.simulation.proofs.Same.{same-symm, connected-same, radius-same}
+use Rattle.file_format.specs.declared.Edition.{Edition}
+use Rattle.file_format.specs.declared.Edition.the-variants.{First, Second}
 use Rattle.file_format.specs.Layout.{lengthOf}
 use Rattle.file_format.specs.Links.{linksBelow}
 use Rattle.file_format.proofs.Rising.{rise-test}
@@ -168,10 +170,11 @@ module _ {p : Circuit} (c : PatternContent p) {class : ℕ → ℕ} {k : ℕ} (g
       let (u, u′, (j, l), e, e′) = linked-iff c class a b .0 t in
       (j, l .inStarts, ap class (l .start) ∙ e, ap class (l .end) ∙ e′)))
 
-  -- its file is no longer than the pattern's
+  -- its file is no longer than the pattern's, in either edition
   pub grouped-length-le :
-      lengthOf (length (grouped p class k .kinds)) (length (grouped p class k .starts)) ≤ lengthOf (length (p .kinds)) (length (p .starts))
-  grouped-length-le = omega (arith, grouped-parts-le, grouped-links-le)
+      (e : Edition) → lengthOf e (length (grouped p class k .kinds)) (length (grouped p class k .starts)) ≤ lengthOf e (length (p .kinds)) (length (p .starts))
+  grouped-length-le First = omega (arith, grouped-parts-le, grouped-links-le)
+  grouped-length-le Second = omega (arith, grouped-parts-le, grouped-links-le)
 
   -- ---- conditions on the links
 

@@ -49,7 +49,7 @@ pub fn number_classes(table: &[u32], classes: &mut [u8]) -> usize
 }
 
 // The kind of each class, that of its smallest part, at the front of a table.
-pub fn leader_kinds(table: &[u32], kinds: &[u16], out: &mut [u16])
+pub fn leader_kinds(table: &[u32], kinds: &[u32], out: &mut [u32])
     requires { ⌜ SelfTable (now table) ⌝ }
     requires { ⌜ (length (now kinds) ≡ length (now table)) × (length (now table) ≤ length (now out)) ⌝ }
     ensures { λ r. ⌜ now (out .exit) ≡ sets (now (out .entry)) 0 (leaderKinds (now (table .entry)) (now (kinds .entry))) ⌝ }

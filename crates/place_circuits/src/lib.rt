@@ -28,8 +28,8 @@ pub struct InBall {
 // Finds the place from the ball's pairs of equal kinds, and leaves the ball's distances in `dist`. The searches clear their entries whole, and the
 // first table and the rounds both tables of sets; all other work is in the ball.
 fn find_in_ball(
-    part_kinds: &[u16],
-    node_kinds: &[u16],
+    part_kinds: &[u32],
+    node_kinds: &[u32],
     masks: &[u32],
     offsets: &[u16],
     links: &[u16],
@@ -74,8 +74,8 @@ fn find_in_ball(
 // The place around a centre: the ball's counts, and the four lent tables written; or number 9 with the ball's counts, which leaves those
 // tables as they were. The last offset is how many links the board has.
 pub fn place_circuits(
-    part_kinds: &[u16],
-    node_kinds: &[u16],
+    part_kinds: &[u32],
+    node_kinds: &[u32],
     masks: &[u32],
     offsets: &[u16],
     links: &[u16],

@@ -13,7 +13,8 @@ use Rattle.graph.specs.Search.{beside, inside, ball, misses, distances, connect
 use Rattle.file_format.specs.Circuit.{circuitOf}
 use Rattle.file_format.specs.declared.Role.the-variants.{Pattern, Board}
 use Rattle.file_format.specs.Examples.{fileT, fileB, fileOne}
-use Rattle.file_format.specs.Layout.{field, fields, nodesOf, linksOf, kindsOf, startsOf, endsOf}
+use Rattle.file_format.specs.Label.{label, labels}
+use Rattle.file_format.specs.Layout.{firstEdition, field, fields, nodesOf, linksOf, kindsOf, packagesOf, startsOf, endsOf, labelsOf}
 use Rattle.file_format.specs.Links.{linksBelow, earlier, rising}
 use Rattle.file_format.specs.Refusals.{Verdict, accept, first, linkConditions, fileConditions, asksConnected}
 use Rattle.table.specs.Examples.{rowComputed, circuitT, circuitB}
@@ -22,16 +23,16 @@ use Rattle.place.proofs.Examples.{Shows, radius-T, E3-0, E3-1, E3-2, E4-none}
 use Rattle.report.specs.Report.{marked, linkItem, nodeItems, linkItems, placeLine, hasPlace, centreLine, endLine, fileWord, refusalLine, linesOf, reportFor, reportOf}
 
 -- both files are accepted, and hold T and B
-T-and-B : first (fileConditions Pattern fileT ++ fileConditions Board fileB) ≡ accept
+T-and-B : first (fileConditions Pattern (firstEdition fileT) ++ fileConditions Board (firstEdition fileB)) ≡ accept
 unfolding fileT fileB first fileConditions linkConditions asksConnected linksBelow rising earlier nodesOf linksOf startsOf endsOf fields field connected radius maximum distances misses ball tabulate inside beside all allBelow
 T-and-B = refl
 
-holds-T : circuitOf fileT ≡ circuitT
-unfolding fileT circuitT kindsOf startsOf endsOf nodesOf linksOf fields field tabulate
+holds-T : circuitOf (firstEdition fileT) ≡ circuitT
+unfolding fileT circuitT kindsOf packagesOf startsOf endsOf labelsOf labels label nodesOf linksOf fields field tabulate
 holds-T = refl
 
-holds-B : circuitOf fileB ≡ circuitB
-unfolding fileB circuitB kindsOf startsOf endsOf nodesOf linksOf fields field tabulate
+holds-B : circuitOf (firstEdition fileB) ≡ circuitB
+unfolding fileB circuitB kindsOf packagesOf startsOf endsOf labelsOf labels label nodesOf linksOf fields field tabulate
 holds-B = refl
 
 -- all that is opened where a place is computed
@@ -89,7 +90,7 @@ pub T-on-B : reportOf fileT fileB
     ≡ bytes "place 0: 0 1 2 / 0-1 1-2\nplace 1: 0 1 2 / 0-1 1-2\nplace 2: 0 1 2 / 0-1 1-2\nend 3 of 6\n"
 unfolding reportOf reportFor
 T-on-B =
-    ap (λ (v : Verdict). reportFor v (circuitOf fileT) (circuitOf fileB)) T-and-B ∙ ap₂ linesOf holds-T holds-B ∙ T-on-B-lines
+    ap (λ (v : Verdict). reportFor v (circuitOf (firstEdition fileT)) (circuitOf (firstEdition fileB))) T-and-B ∙ ap₂ linesOf holds-T holds-B ∙ T-on-B-lines
 
 -- "Every line ends with one byte `0A`."
 pub line-end : bytes "\n" ≡ 0x0A ∷ []
@@ -100,7 +101,7 @@ line-end = refl
 
 -- all that is opened where files are read
 reading : Unit {0}
-unfolding first fileConditions linkConditions asksConnected linksBelow rising earlier nodesOf linksOf kindsOf startsOf endsOf fields field connected radius maximum distances misses ball tabulate inside beside all allBelow
+unfolding first fileConditions linkConditions asksConnected linksBelow rising earlier nodesOf linksOf kindsOf packagesOf startsOf endsOf labelsOf labels label fields field connected radius maximum distances misses ball tabulate inside beside all allBelow
 reading = tt
 
 -- all that is opened where a report is put together

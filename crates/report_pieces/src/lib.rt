@@ -36,10 +36,10 @@ fn put_lines(
 
 // The piece from the centre `from` on, at the pattern's radius r. Past the last line nothing is left to put.
 pub fn put_piece(
-    part_kinds: &[u16],
+    part_kinds: &[u32],
     part_starts: &[u16],
     part_ends: &[u16],
-    node_kinds: &[u16],
+    node_kinds: &[u32],
     node_starts: &[u16],
     node_ends: &[u16],
     r: u16,

@@ -3,6 +3,7 @@ use mathlib.Core.List.{[], _∷_}
 use Rattle.base_lists.specs.List.{all, any, allBelow, anyBelow, tabulate, sum}
 use Rattle.base_lists.specs.Below.{countBelow}
 use Rattle.base_bits.specs.Bits.{bit, numberOf, sizeOf}
+use Rattle.file_format.specs.Label.{kindIn, packageIn}
 use Rattle.graph.specs.Circuit.{Circuit}
 use Rattle.graph.specs.Neighbours.{select}
 use Rattle.graph.specs.Search.{inside}
@@ -14,7 +15,7 @@ use Rattle.table.specs.Row.{kindsAgree, agrees, neighbours, problemOf}
 
 -- `unfolding rowComputed` opens the row, the last table and the counts
 unfoldable pub rowComputed : Unit {0}
-unfolding all any tabulate sum countBelow bit numberOf sizeOf select inside everything inTable tableOf pairs same startOf answered every supported strikeOf rowFrom rowOf startedOf lastOf keptOf struckOf roundsOf kindsAgree agrees neighbours problemOf
+unfolding all any tabulate sum countBelow bit numberOf sizeOf select inside everything inTable tableOf pairs same startOf answered every supported strikeOf rowFrom rowOf startedOf lastOf keptOf struckOf roundsOf kindIn packageIn kindsAgree agrees neighbours problemOf
 rowComputed = tt
 
 -- `unfolding answerComputed` opens the whole-board call's answer beside them

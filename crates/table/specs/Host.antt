@@ -6,6 +6,7 @@ use mathlib.Core.Path.{_≡_}
 use Prim.Native.Nat.{ℕ, _<_}
 use lib.Dec.{T}
 use lib.ListN.{length, getD}
+use Rattle.file_format.specs.Label.{kindIn, packageIn}
 use Rattle.graph.specs.Circuit.{Circuit, HasLink}
 use Rattle.graph.specs.Graph.{Graph}
 use Rattle.graph.specs.Search.{inside}
@@ -25,5 +26,12 @@ everything c = tabulate (length (c .kinds)) (λ v. 1)
 
 -- "From now a pattern part of kind 0 matches a node of every kind, and a board node of kind 0, which means unidentified, is matched by such a
 -- part only. Every sentence of document 01 on equal kinds reads so". It is not symmetric.
+abbrev pub KindMatches : ℕ → ℕ → Type 0
+KindMatches part node = (part ≡ 0) ⊎ (part ≡ node)
+
+-- "Two nodes are now equal when kinds agree by Ask 1 and packages are the same number, kind 0 included."
 unfoldable pub KindsMatch : Circuit → Circuit → ℕ → ℕ → Type 0
-KindsMatch pattern host u v = (getD (pattern .kinds) u 0 ≡ 0) ⊎ (getD (pattern .kinds) u 0 ≡ getD (host .kinds) v 0)
+KindsMatch pattern host u v =
+    let part = getD (pattern .kinds) u 0 in
+    let node = getD (host .kinds) v 0 in
+    KindMatches (kindIn part) (kindIn node) × (packageIn part ≡ packageIn node)

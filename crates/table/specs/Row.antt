@@ -6,6 +6,7 @@ use mathlib.Core.List.{List, [], _∷_}
 use Prim.Native.Nat.{ℕ}
 use lib.Dec.{eqb}
 use lib.ListN.{length, getD}
+use Rattle.file_format.specs.Label.{kindIn, packageIn}
 use Rattle.graph.specs.Circuit.{Circuit}
 use Rattle.graph.specs.Neighbours.{select}
 use Rattle.graph.specs.Search.{inside}
@@ -17,9 +18,10 @@ pub use Rattle.table_row.specs.Reading.{InTable}
 
 -- ---- the problem
 
--- a part and a node of these kinds agree: the part is of kind 0, or the kinds are equal
+-- "Two nodes are now equal when kinds agree by Ask 1 and packages are the same number, kind 0 included": a part and a node with these labels
+-- agree when the packages are the same, and the part is of kind 0, or the kinds are equal
 unfoldable pub kindsAgree : ℕ → ℕ → Bool
-kindsAgree part node = eqb part 0 || eqb part node
+kindsAgree part node = eqb (packageIn part) (packageIn node) && (eqb (kindIn part) 0 || eqb (kindIn part) (kindIn node))
 
 -- part u and node v agree
 unfoldable pub agrees : Circuit → Circuit → ℕ → ℕ → Bool
@@ -42,13 +44,25 @@ problemOf pattern host taken =
       moves = neighbours host;
     }
 
--- the same by equal kinds alone, as it was when kind 0 was a kind like any other
+-- the same by equal labels alone, as it was when kind 0 was a kind like any other
 unfoldable pub byEqualKinds : Circuit → Circuit → List ℕ → Problem Direction
 byEqualKinds pattern host taken =
     record {
       parts = length (pattern .kinds);
       nodes = length (host .kinds);
       agree = λ u v. inside taken v && eqb (getD (pattern .kinds) u 0) (getD (host .kinds) v 0);
+      ways = forwards ∷ backwards ∷ [];
+      steps = neighbours pattern;
+      moves = neighbours host;
+    }
+
+-- the same by the kinds of circuits without packages, as it was before there were any
+unfoldable pub byKinds : Circuit → Circuit → List ℕ → Problem Direction
+byKinds pattern host taken =
+    record {
+      parts = length (pattern .kinds);
+      nodes = length (host .kinds);
+      agree = λ u v. inside taken v && (eqb (getD (pattern .kinds) u 0) 0 || eqb (getD (pattern .kinds) u 0) (getD (host .kinds) v 0));
       ways = forwards ∷ backwards ∷ [];
       steps = neighbours pattern;
       moves = neighbours host;

@@ -9,18 +9,21 @@ ghost use Rattle.table.specs.Fill.{NodeList};
 ghost use Rattle.table.specs.First.{startNode, Written};
 ghost use Rattle.table.specs.Row.{kindsAgree};
 
-// A part of one kind agrees with a node of another: kind 0 in a pattern is any part.
-fn kinds_agree(part: u16, node: u16) -> bool
+// A part agrees with a node, each given by its label: kind 0 in a pattern is any part of its package.
+fn kinds_agree(part: u32, node: u32) -> bool
     ensures { λ r. ⌜ r ≡ kindsAgree part node ⌝ }
 {
-    if part == 0 {
+    if part / 65536 != node / 65536 {
+        return false;
+    }
+    if part % 65536 == 0 {
         return true;
     }
-    part == node
+    part % 65536 == node % 65536
 }
 
-// The set of the parts that agree with a node of this kind.
-fn alike(part_kinds: &[u16], kind: u16) -> u32
+// The set of the parts that agree with a node of this label.
+fn alike(part_kinds: &[u32], kind: u32) -> u32
     requires { ⌜ length (now «part_kinds») ≤ 32 ⌝ }
     ensures { λ r. ⌜ r ≡ numberOf (length (now («part_kinds» .entry))) (λ u. kindsAgree (getD (now («part_kinds» .entry)) u 0) kind) ⌝ }
 {
@@ -36,7 +39,7 @@ fn alike(part_kinds: &[u16], kind: u16) -> u32
 }
 
 // The table that has at each node of the list the parts that agree with it, and is empty elsewhere. Returns how many pairs it has.
-pub fn start(nodes: &[u16], part_kinds: &[u16], node_kinds: &[u16], table: &mut [u32]) -> u32
+pub fn start(nodes: &[u16], part_kinds: &[u32], node_kinds: &[u32], table: &mut [u32]) -> u32
     requires { ⌜ length (now «part_kinds») ≤ 32 ⌝ }
     requires { ⌜ NodeList (length (now table)) (now nodes) ⌝ }
     requires { ⌜ Below (length (now «node_kinds»)) (now nodes) ⌝ }

@@ -24,8 +24,8 @@ ghost use Rattle.table.specs.Prepared.{tables, Prepared};
 // The largest dual simulation of a pattern in a board, from prepared masks and neighbour tables. The list of all nodes and the second table of
 // sets are scratch.
 fn match_prepared(
-    part_kinds: &[u16],
-    node_kinds: &[u16],
+    part_kinds: &[u32],
+    node_kinds: &[u32],
     masks: &[u32],
     offsets: &[u16],
     links: &[u16],
@@ -45,10 +45,10 @@ fn match_prepared(
 
 // The largest dual simulation of a pattern in a board. The masks and the neighbour tables are left prepared.
 pub fn prepare_and_match(
-    part_kinds: &[u16],
+    part_kinds: &[u32],
     part_starts: &[u16],
     part_ends: &[u16],
-    node_kinds: &[u16],
+    node_kinds: &[u32],
     node_starts: &[u16],
     node_ends: &[u16],
     table: &mut [u32],
@@ -92,10 +92,10 @@ pub fn prepare_and_match(
 
 // The same with masks and neighbour tables of its own.
 pub fn match_circuits(
-    part_kinds: &[u16],
+    part_kinds: &[u32],
     part_starts: &[u16],
     part_ends: &[u16],
-    node_kinds: &[u16],
+    node_kinds: &[u32],
     node_starts: &[u16],
     node_ends: &[u16],
     table: &mut [u32],
@@ -126,10 +126,10 @@ pub fn match_circuits(
 
 // The answer of a call on a whole board: the same, with the table all 0 where some part is left without a node.
 pub fn match_whole(
-    part_kinds: &[u16],
+    part_kinds: &[u32],
     part_starts: &[u16],
     part_ends: &[u16],
-    node_kinds: &[u16],
+    node_kinds: &[u32],
     node_starts: &[u16],
     node_ends: &[u16],
     table: &mut [u32],

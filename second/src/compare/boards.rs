@@ -97,7 +97,11 @@ impl Draft {
         let links = self.links.iter();
         let mut links: Vec<_> = links.map(|&(v, w)| (order[v], order[w])).collect();
         links.sort_unstable();
-        Circuit { kinds, links }
+        Circuit {
+            kinds,
+            packages: Vec::new(),
+            links,
+        }
     }
 }
 

@@ -3,9 +3,9 @@
 
 use std::fmt;
 
-use super::finder::{Finder, Words};
+use super::finder::{other, Finder, Words};
 use crate::calls::PlaceTables;
-use crate::circuit::{Circuit, Role};
+use crate::circuit::{Circuit, Edition, Role};
 use crate::load::Numbers;
 use crate::random::Random;
 
@@ -51,6 +51,38 @@ pub enum Call<'a> {
     Load {
         numbers: Numbers,
     },
+    ReadSecond {
+        role: Role,
+        file: &'a [u8],
+    },
+    WriteSecond {
+        role: Role,
+        kinds: &'a [u16],
+        packages: &'a [u16],
+        starts: &'a [u16],
+        ends: &'a [u16],
+    },
+    RadiusSecond {
+        pattern: &'a [u8],
+    },
+    BallSecond {
+        board: &'a [u8],
+        centre: usize,
+        radius: u16,
+    },
+    MatchIn {
+        editions: [Edition; 2],
+        pattern: &'a [u8],
+        board: &'a [u8],
+    },
+    MergeSecond {
+        pattern: &'a [u8],
+    },
+    Convert {
+        role: Role,
+        from: Edition,
+        file: &'a [u8],
+    },
 }
 
 /// N and M as a file's first four bytes have them, 0 where it is shorter, and
@@ -79,6 +111,25 @@ impl Call<'_> {
             Call::PlaceWithin { .. } => "place_within",
             Call::Merge { .. } => "merge",
             Call::Load { .. } => "load",
+            Call::ReadSecond { role, .. } if *role == Role::Pattern => "read_pattern_2",
+            Call::ReadSecond { .. } => "read_board_2",
+            Call::WriteSecond { role, .. } if *role == Role::Pattern => "write_pattern_2",
+            Call::WriteSecond { .. } => "write_board_2",
+            Call::RadiusSecond { .. } => "radius_2",
+            Call::BallSecond { .. } => "ball_2",
+            Call::MatchIn { editions, .. } => match editions {
+                [Edition::First, Edition::First] => "match",
+                [Edition::First, Edition::Second] => "match_12",
+                [Edition::Second, Edition::First] => "match_21",
+                [Edition::Second, Edition::Second] => "match_22",
+            },
+            Call::MergeSecond { .. } => "merge_2",
+            Call::Convert { role, from, .. } => match (role, from) {
+                (Role::Pattern, Edition::First) => "convert_pattern_12",
+                (Role::Pattern, Edition::Second) => "convert_pattern_21",
+                (Role::Board, Edition::First) => "convert_board_12",
+                (Role::Board, Edition::Second) => "convert_board_21",
+            },
         }
     }
 
@@ -108,6 +159,24 @@ impl Call<'_> {
             Call::Load { numbers } => {
                 let (n, m) = (numbers.nodes.min(520), numbers.pairs.min(4100));
                 vec![Circuit::length(n as usize, m as usize)]
+            }
+            Call::ReadSecond { file, .. } => {
+                let (n, m) = sizes(file);
+                vec![n, n, m, m]
+            }
+            Call::WriteSecond { kinds, starts, .. } => {
+                let (n, m) = (kinds.len().min(520), starts.len().min(4100));
+                vec![Circuit::length_in(Edition::Second, n, m)]
+            }
+            Call::RadiusSecond { .. } => vec![],
+            Call::BallSecond { board, .. } | Call::MatchIn { board, .. } => vec![sizes(board).0],
+            Call::MergeSecond { pattern } => {
+                let (n, m) = sizes(pattern);
+                vec![n, Circuit::length_in(Edition::Second, n, m)]
+            }
+            Call::Convert { from, file, .. } => {
+                let (n, m) = sizes(file);
+                vec![Circuit::length_in(other(from), n, m)]
             }
         }
     }
@@ -142,6 +211,28 @@ impl fmt::Display for Call<'_> {
                 radius,
             } => write!(f, " centre {centre} radius {radius}\nboard {}", Hex(board)),
             Call::Load { numbers } => write!(f, " {numbers:?}"),
+            Call::ReadSecond { file, .. } | Call::Convert { file, .. } => {
+                write!(f, "\nfile {}", Hex(file))
+            }
+            Call::WriteSecond {
+                kinds,
+                packages,
+                starts,
+                ends,
+                ..
+            } => write!(
+                f,
+                "\nkinds {kinds:?}\npackages {packages:?}\nstarts {starts:?}\nends {ends:?}"
+            ),
+            Call::RadiusSecond { pattern } | Call::MergeSecond { pattern } => {
+                write!(f, "\npattern {}", Hex(pattern))
+            }
+            Call::BallSecond {
+                board,
+                centre,
+                radius,
+            } => write!(f, " centre {centre} radius {radius}\nboard {}", Hex(board)),
+            Call::MatchIn { pattern, board, .. } => both(f, pattern, board),
             Call::Match { pattern, board } => both(f, pattern, board),
             Call::Place {
                 pattern,
@@ -282,8 +373,61 @@ pub fn run(finder: &dyn Finder, call: &Call, lent: &Lent) -> Outcome {
             (reply, vec![wide(out)])
         }
         Call::Place { .. } | Call::PlaceWithin { .. } => run_place(finder, call, lent),
+        _ => run_second(finder, call, lent),
     };
     Outcome { reply, tables }
+}
+
+/// Runs one of the calls on second-edition files.
+fn run_second(finder: &dyn Finder, call: &Call, lent: &Lent) -> (Words, Vec<Vec<u32>>) {
+    match *call {
+        Call::ReadSecond { role, file } => {
+            let [mut a, mut b, mut c, mut d] = [0, 1, 2, 3].map(|at| lent.fields(at));
+            let reply = finder.read_second(role, file, &mut a, &mut b, &mut c, &mut d);
+            (reply, [a, b, c, d].map(wide).to_vec())
+        }
+        Call::WriteSecond {
+            role,
+            kinds,
+            packages,
+            starts,
+            ends,
+        } => {
+            let mut out = lent.bytes(0);
+            let reply = finder.write_second(role, kinds, packages, starts, ends, &mut out);
+            (reply, vec![wide(out)])
+        }
+        Call::RadiusSecond { pattern } => (finder.radius_second(pattern), vec![]),
+        Call::BallSecond {
+            board,
+            centre,
+            radius,
+        } => {
+            let mut out = lent.fields(0);
+            let reply = finder.ball_second(board, centre, radius, &mut out);
+            (reply, vec![wide(out)])
+        }
+        Call::MatchIn {
+            editions,
+            pattern,
+            board,
+        } => {
+            let mut table = lent.words(0);
+            let reply = finder.match_in(editions, pattern, board, &mut table);
+            (reply, vec![table])
+        }
+        Call::MergeSecond { pattern } => {
+            let (mut classes, mut out) = (lent.bytes(0), lent.bytes(1));
+            let reply = finder.merge_second(pattern, &mut classes, &mut out);
+            (reply, vec![wide(classes), wide(out)])
+        }
+        Call::Convert { role, from, file } => {
+            let mut out = lent.bytes(0);
+            let reply = finder.convert(role, from, file, &mut out);
+            (reply, vec![wide(out)])
+        }
+        _ => unreachable!("not on a second-edition file"),
+    }
 }
 
 /// Runs one of the two place calls.

@@ -6,7 +6,7 @@ use super::call::{Call, Lent};
 use super::damage::{spoil, upset};
 use super::finder::Finder;
 use super::tally::Tally;
-use super::{agree, laws, Difference};
+use super::{agree, editions, laws, Difference};
 use crate::circuit::{Circuit, Role};
 use crate::graph;
 use crate::load::Numbers;
@@ -31,7 +31,7 @@ pub struct Case {
 }
 
 /// A random size, the large ones seldom.
-fn size(random: &mut Random) -> Size {
+pub fn size(random: &mut Random) -> Size {
     match random.below(400) {
         0 => Size::Full,
         1..=15 => Size::Medium,
@@ -41,7 +41,7 @@ fn size(random: &mut Random) -> Size {
 }
 
 /// A random centre, now and then outside the board.
-fn centre(random: &mut Random, nodes: usize) -> usize {
+pub fn centre(random: &mut Random, nodes: usize) -> usize {
     let inside = random.below(nodes.max(1));
     if !random.once_in(10) {
         return inside;
@@ -51,7 +51,7 @@ fn centre(random: &mut Random, nodes: usize) -> usize {
 }
 
 /// A random radius around the pattern's own, or at an edge.
-fn radius(random: &mut Random, own: usize) -> u16 {
+pub fn radius(random: &mut Random, own: usize) -> u16 {
     let near = (own + random.below(3)).saturating_sub(1);
     let near = u16::try_from(near).expect("a small radius");
     let any = random.draw() as u16;
@@ -234,5 +234,6 @@ pub fn check(
         let lent = lend(&mut random, &call);
         agree(finder, &call, &lent, tally)?;
     }
-    laws::check(finder, &case, tally)
+    laws::check(finder, &case, tally)?;
+    editions::check(finder, seed, number, tally)
 }

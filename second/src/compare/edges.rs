@@ -15,6 +15,7 @@ use crate::load::Numbers;
 fn circuit(kinds: &[u16], links: &[(usize, usize)]) -> Circuit {
     Circuit {
         kinds: kinds.to_vec(),
+        packages: Vec::new(),
         links: links.to_vec(),
     }
 }
@@ -23,6 +24,7 @@ fn circuit(kinds: &[u16], links: &[(usize, usize)]) -> Circuit {
 fn path(nodes: usize, kinds: usize) -> Circuit {
     Circuit {
         kinds: (0..nodes).map(|v| (v % kinds) as u16).collect(),
+        packages: Vec::new(),
         links: (1..nodes).map(|v| (v - 1, v)).collect(),
     }
 }
@@ -31,6 +33,7 @@ fn path(nodes: usize, kinds: usize) -> Circuit {
 fn dense(nodes: usize, links: usize) -> Circuit {
     Circuit {
         kinds: vec![10; nodes],
+        packages: Vec::new(),
         links: (0..links).map(|at| (at / nodes, at % nodes)).collect(),
     }
 }
@@ -43,7 +46,11 @@ pub fn chain_pattern(ring: usize) -> Circuit {
     links.sort_unstable();
     let mut kinds = vec![1; ring];
     kinds.push(2);
-    Circuit { kinds, links }
+    Circuit {
+        kinds,
+        packages: Vec::new(),
+        links,
+    }
 }
 
 /// A ring of nodes, a node that drives all of them and itself, and a node
@@ -58,7 +65,11 @@ pub fn chain_board(ring: usize) -> Circuit {
     links.sort_unstable();
     let mut kinds = vec![1; ring + 1];
     kinds.push(2);
-    Circuit { kinds, links }
+    Circuit {
+        kinds,
+        packages: Vec::new(),
+        links,
+    }
 }
 
 /// A pattern and a board, by name.

@@ -1,7 +1,7 @@
 //! What both finders offer: every call, with lent tables and one form of reply.
 
 use crate::calls::{self, Counted, PlaceTables, Reply};
-use crate::circuit::Role;
+use crate::circuit::{Edition, Role};
 use crate::load::Numbers;
 
 /// A reply in one form for all calls: the number, the file, and the values or
@@ -40,6 +40,43 @@ pub trait Finder {
     ) -> Words;
     fn merge(&self, pattern: &[u8], classes: &mut [u8], out: &mut [u8]) -> Words;
     fn load(&self, numbers: Numbers, out: &mut [u8]) -> Words;
+    fn read_second(
+        &self,
+        role: Role,
+        file: &[u8],
+        kinds: &mut [u16],
+        packages: &mut [u16],
+        starts: &mut [u16],
+        ends: &mut [u16],
+    ) -> Words;
+    fn write_second(
+        &self,
+        role: Role,
+        kinds: &[u16],
+        packages: &[u16],
+        starts: &[u16],
+        ends: &[u16],
+        out: &mut [u8],
+    ) -> Words;
+    fn radius_second(&self, pattern: &[u8]) -> Words;
+    fn ball_second(&self, board: &[u8], centre: usize, radius: u16, out: &mut [u16]) -> Words;
+    fn match_in(
+        &self,
+        editions: [Edition; 2],
+        pattern: &[u8],
+        board: &[u8],
+        table: &mut [u32],
+    ) -> Words;
+    fn merge_second(&self, pattern: &[u8], classes: &mut [u8], out: &mut [u8]) -> Words;
+    fn convert(&self, role: Role, from: Edition, file: &[u8], out: &mut [u8]) -> Words;
+}
+
+/// The edition that is not this one.
+pub fn other(edition: Edition) -> Edition {
+    match edition {
+        Edition::First => Edition::Second,
+        Edition::Second => Edition::First,
+    }
 }
 
 /// A number of a reply; none passes 32 bits.
@@ -127,5 +164,55 @@ impl Finder for Second {
 
     fn load(&self, numbers: Numbers, out: &mut [u8]) -> Words {
         calls::load(numbers, out).into()
+    }
+
+    fn read_second(
+        &self,
+        role: Role,
+        file: &[u8],
+        kinds: &mut [u16],
+        packages: &mut [u16],
+        starts: &mut [u16],
+        ends: &mut [u16],
+    ) -> Words {
+        calls::read_second(role, file, kinds, packages, starts, ends).into()
+    }
+
+    fn write_second(
+        &self,
+        role: Role,
+        kinds: &[u16],
+        packages: &[u16],
+        starts: &[u16],
+        ends: &[u16],
+        out: &mut [u8],
+    ) -> Words {
+        calls::write_second(role, kinds, packages, starts, ends, out).into()
+    }
+
+    fn radius_second(&self, pattern: &[u8]) -> Words {
+        calls::radius_in(Edition::Second, pattern).into()
+    }
+
+    fn ball_second(&self, board: &[u8], centre: usize, radius: u16, out: &mut [u16]) -> Words {
+        calls::ball_in(Edition::Second, board, centre, radius, out).into()
+    }
+
+    fn match_in(
+        &self,
+        editions: [Edition; 2],
+        pattern: &[u8],
+        board: &[u8],
+        table: &mut [u32],
+    ) -> Words {
+        calls::match_in(editions, pattern, board, table).into()
+    }
+
+    fn merge_second(&self, pattern: &[u8], classes: &mut [u8], out: &mut [u8]) -> Words {
+        calls::merge_in(Edition::Second, pattern, classes, out).into()
+    }
+
+    fn convert(&self, role: Role, from: Edition, file: &[u8], out: &mut [u8]) -> Words {
+        calls::convert(role, from, other(from), file, out).into()
     }
 }

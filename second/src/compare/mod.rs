@@ -6,6 +6,7 @@ pub mod call;
 pub mod case;
 pub mod damage;
 pub mod edges;
+pub mod editions;
 pub mod finder;
 pub mod laws;
 pub mod tally;

@@ -38,12 +38,12 @@ impl Tally {
 
 impl fmt::Display for Tally {
     fn fmt(&self, f: &mut fmt::Formatter) -> fmt::Result {
-        write!(f, "{:14}{:>8}", "call", "0")?;
+        write!(f, "{:20}{:>8}", "call", "0")?;
         for number in 1..16 {
             write!(f, "{number:>8}")?;
         }
         for (name, row) in &self.numbers {
-            write!(f, "\n{name:14}")?;
+            write!(f, "\n{name:20}")?;
             row.iter().try_for_each(|times| write!(f, "{times:>8}"))?;
         }
         let places = self.of("place", 0) + self.of("place_within", 0);

@@ -6,6 +6,7 @@ use second::circuit::Circuit;
 pub fn circuit(kinds: &[u16], links: &[(usize, usize)]) -> Circuit {
     Circuit {
         kinds: kinds.to_vec(),
+        packages: Vec::new(),
         links: links.to_vec(),
     }
 }

@@ -4,6 +4,7 @@ use mathlib.Core.Path.{_≡_, sym}
 use native.Mathlib.Omega.{arith}
 use Rattle.graph.specs.Circuit.{Circuit, circuit}
 use Rattle.file_format.specs.declared.Role.the-variants.{Board}
+use Rattle.file_format.specs.Layout.{CircuitFile, inEdition}
 use Rattle.file_format.specs.Reading.{Stands}
 use Rattle.file_format.specs.Refusals.{accept, first, fileConditions}
 use Rattle.file_format.proofs.Reading.{loaded-accepted, loaded-refused, stands-size, stands-room, stands-bounded, stands-range}
@@ -21,13 +22,17 @@ reading c = c .before .before .before .before .before
 
 -- what reading the file left
 abbrev tables : tie.After-load → Circuit
-tables c = let l = c .load .last .1 .1 in circuit (l .0) (l .1 .0) (l .1 .1 .0)
+tables c = let l = c .load .last .1 .1 .1 in circuit (l .0) (l .1 .0) (l .1 .1 .0)
+
+-- the file, in the edition told
+abbrev given : tie.After-load → CircuitFile
+given c = inEdition (entry c .args .edition) (now (entry c .args .file))
 
 -- it was accepted
-sound : (c : tie.After-enum-told) → first (fileConditions Board (now (entry (reading c) .args .file))) ≡ accept
+sound : (c : tie.After-enum-told) → first (fileConditions Board (given (reading c))) ≡ accept
 sound c = loaded-accepted (reading c .load .ensures) (c .enum-told .given .1)
 
-held : (c : tie.After-enum-told) → let read = reading c .load .result in Stands (now (entry (reading c) .args .file)) (read .nodes) (read .links) (tables (reading c))
+held : (c : tie.After-enum-told) → let read = reading c .load .result in Stands (given (reading c)) (read .nodes) (read .links) (tables (reading c))
 held c = reading c .load .ensures .held (sound c) .stands
 
 slice-aggregate-load : tie.Need-slice-aggregate-load
@@ -64,8 +69,8 @@ returns-3 c =
     let nodes = held (c .before .before) .nodes in
     sym (ball-short _ _ _ _ (sound (c .before .before)) (omega arith) (omega arith))
 
-array-share-prefix-kinds : tie.Need-array-share-prefix-kinds
-array-share-prefix-kinds c = stands-room (held (c .before .before)) .0
+array-share-prefix-labels : tie.Need-array-share-prefix-labels
+array-share-prefix-labels c = stands-room (held (c .before .before)) .0
 
 slice-aggregate-fill-ball : tie.Need-slice-aggregate-fill-ball
 slice-aggregate-fill-ball c = sym (stands-size (held (c .before .before .before)) .0)
@@ -114,7 +119,7 @@ ball-spec =
     enum-told
     returns-2
     returns-3
-    array-share-prefix-kinds
+    array-share-prefix-labels
     slice-aggregate-fill-ball
     array-share-prefix-starts
     slice-aggregate-fill-ball-2

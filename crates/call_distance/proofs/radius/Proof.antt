@@ -30,8 +30,8 @@ returns c = sym (radius-refused _ _ (loaded-refused (c .before .before .before .
 enum-told : tie.Need-enum-told
 enum-told c = search needs
 
-cast-t15 : tie.Need-cast-t15
-cast-t15 c = search needs
+cast-width : tie.Need-cast-width
+cast-width c = search needs
 
 returns-2 : tie.Need-returns-2
 unfolding radiusReply asksConnected
@@ -51,5 +51,5 @@ radius-spec =
     enum-known-verdict
     returns
     enum-told
-    cast-t15
+    cast-width
     returns-2)

@@ -2,6 +2,9 @@
 use denote.Ref.{now}
 use mathlib.Core.Bool.{true, false, not}
 use mathlib.Core.Path.{_≡_, sym, _∙_}
+use Prim.Native.Nat.{_+_, _*_, _≤_, _<_}
+use native.Mathlib.Omega.{arith}
+use lib.ListN.{length}
 use borrow.Author.Tests.{ltb-true, ltb-false, not-true, not-false}
 use Rattle.base_lists.proofs.Tests.{true-T}
 use Rattle.load.specs.Load.{inRange}
@@ -48,14 +51,16 @@ returns-2 : tie.Need-returns-2
 returns-2 c =
     let at = c .before .before .before in
     let a = at .before .before .args in
+    let short : length (now (a .out)) < 4 + 2 * a .n + 4 * a .m = ltb-true _ _ (c .before .if2 .taken) in
     rw (c .refused2 .ensures)
-    (loading-short (a .seed) (a .n) (a .m) (a .k) (now (a .out)) (inside at (c .before .before .if1 .left)) (ltb-true _ _ (c .before .if2 .taken)))
+    (loading-short (a .seed) (a .n) (a .m) (a .k) (now (a .out)) (inside at (c .before .before .if1 .left)) (omega arith))
 
 make-requires : tie.Need-make-requires
 make-requires c κs =
     let at = c .before .before .before in
     let a = at .before .before .args in
-    (in-range (a .n) (a .m) (a .k) (true-T (inside at (c .before .before .if1 .left))), ltb-false _ _ (c .before .if2 .left))
+    let room : 4 + 2 * a .n + 4 * a .m ≤ length (now (a .out)) = ltb-false _ _ (c .before .if2 .left) in
+    (in-range (a .n) (a .m) (a .k) (true-T (inside at (c .before .before .if1 .left))), omega arith)
 
 same-length : tie.Need-same-length
 same-length c = search needs
@@ -66,7 +71,8 @@ returns-3 c =
     let long = made .before .before in
     let at = long .before .before in
     let a = at .before .before .args in
-    loading-made (a .seed) (a .n) (a .m) (a .k) (now (a .out)) (inside at (long .before .if1 .left)) _ _ (ltb-false _ _ (long .if2 .left)) (made .make .ensures)
+    let room : 4 + 2 * a .n + 4 * a .m ≤ length (now (a .out)) = ltb-false _ _ (long .if2 .left) in
+    loading-made (a .seed) (a .n) (a .m) (a .k) (now (a .out)) (inside at (long .before .if1 .left)) _ _ (omega arith) (made .make .ensures)
 
 pub load-spec : {M : Type 1} → statement M
 load-spec =

@@ -2,14 +2,16 @@
 use denote.Ref.{now}
 use mathlib.Core.Path.{_≡_, sym, _∙_}
 use native.Mathlib.Nat.{le-trans, le-of-eq}
+use native.Mathlib.Omega.{arith}
 use borrow.Author.Needs.{needs}
 use lib.Seq.{length-take-le}
 use Rattle.graph.specs.Circuit.{Circuit, circuit}
 use Rattle.file_format.specs.declared.Role.the-variants.{Pattern}
+use Rattle.file_format.specs.Layout.{CircuitFile, inEdition}
 use Rattle.file_format.specs.Reading.{Stands}
 use Rattle.file_format.specs.Refusals.{accept, first, fileConditions}
 use Rattle.file_format.proofs.Reading.{loaded-accepted, loaded-refused, stands-size, stands-room}
-use Rattle.call_merge.proofs.Merging.{front-sound, front-length, merging-file, merging-classes, merging-out, merging-merged}
+use Rattle.call_merge.proofs.Merging.{front-sound, front-length, front-fits, merging-file, merging-classes, merging-out, merging-merged}
 use Rattle.call_merge.proofs.merge.Statement.{statement}
 use Rattle.call_merge.proofs.merge.Tie as tie
 
@@ -20,16 +22,20 @@ entry c = c .before .before .before .before .before .before .before
 
 -- what reading its file left
 abbrev tables : tie.After-load → Circuit
-tables c = let l = c .load .last .1 .1 in circuit (l .0) (l .1 .0) (l .1 .1 .0)
+tables c = let l = c .load .last .1 .1 .1 in circuit (l .0) (l .1 .0) (l .1 .1 .0)
 
 abbrev reading : tie.After-enum-told → tie.After-load
 reading c = c .before .before .before .before .before
 
+-- the file, in the edition told
+abbrev given : tie.After-load → CircuitFile
+given c = inEdition (entry c .args .edition) (now (entry c .args .pattern))
+
 -- it was accepted
-sound : (c : tie.After-enum-told) → first (fileConditions Pattern (now (entry (reading c) .args .pattern))) ≡ accept
+sound : (c : tie.After-enum-told) → first (fileConditions Pattern (given (reading c))) ≡ accept
 sound c = loaded-accepted (reading c .load .ensures) (c .enum-told .given .1)
 
-held : (c : tie.After-enum-told) → let read = reading c .load .result in Stands (now (entry (reading c) .args .pattern)) (read .nodes) (read .links) (tables (reading c))
+held : (c : tie.After-enum-told) → let read = reading c .load .result in Stands (given (reading c)) (read .nodes) (read .links) (tables (reading c))
 held c = reading c .load .ensures .held (sound c) .stands
 
 slice-aggregate-load : tie.Need-slice-aggregate-load
@@ -102,8 +108,11 @@ merge-circuit-requires c κs =
     let l = held (read here) in (
       front-sound (sound (read here)) l,
       (
-        length-take-le _ _ (here .before .if1 .left) ∙ sym (stands-size l .0),
-        le-trans (le-of-eq (front-length (sound (read here)) l)) (here .if2 .left),
+        (
+          length-take-le _ _ (here .before .if1 .left) ∙ sym (stands-size l .0),
+          le-trans (le-of-eq (front-length (sound (read here)) l)) (here .if2 .left),
+        ),
+        front-fits _ _ l (λ i. omega (arith, reading (read here) .before .before .before .before .before .before .shared-slice-known .given i)),
       ),
     )
 

@@ -4,6 +4,7 @@ use denote.Ref.{now}
 use mathlib.Core.Path.{refl, sym}
 use borrow.Author.Needs.{needs}
 use lib.Seq.{length-take-le}
+use Rattle.file_format.specs.Layout.{inEdition}
 use Rattle.table.specs.Prepared.{tables}
 use Rattle.call_prepare.specs.Read.{BothPrepared}
 use Rattle.call_prepare.proofs.Ready.{turned-pair, ready-verdict, ready-both}
@@ -49,8 +50,8 @@ radius-for-requires c κs = search needs
 ready : (c : tie.After-enum-told) →
     let a = c .before .before .before .before .before .before .before .before .before .before .before .before .before .before .before .before .before .before .before .args in
     let read = c .before .before .before .before .before .before .before .read-prepared in
-    let l = read .last .1 .1 in
-    BothPrepared (now (a .pattern)) (now (a .board)) (read .result) (l .0) (l .1 .0) (tables (l .1 .1 .0) (l .1 .1 .1 .0) (l .1 .1 .1 .1 .0))
+    let l = read .last .1 .1 .1 in
+    BothPrepared (inEdition (a .editions .pattern) (now (a .pattern))) (inEdition (a .editions .board) (now (a .board))) (read .result) (l .0) (l .1 .0) (tables (l .1 .1 .0) (l .1 .1 .1 .0) (l .1 .1 .1 .1 .0))
 ready c = ready-both (c .before .before .before .before .before .before .before .read-prepared .ensures) (c .enum-told .given .1)
 
 array-share-prefix-pk : tie.Need-array-share-prefix-pk

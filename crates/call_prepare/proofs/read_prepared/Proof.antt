@@ -6,9 +6,10 @@ use borrow.Author.Needs.{needs}
 use Rattle.graph.specs.Circuit.{Circuit}
 use Rattle.graph.proofs.Below.{below-wider}
 use Rattle.graph.proofs.Groups.{all-below}
+use Rattle.file_format.specs.declared.Role.the-variants.{Pattern}
+use Rattle.file_format.specs.Layout.{inEdition}
 use Rattle.file_format.proofs.Accepted.{bounded-starts, bounded-ends}
 use Rattle.file_format.proofs.Reading.{stands-size, stands-room}
-use Rattle.file_format.specs.declared.Role.the-variants.{Pattern}
 use Rattle.file_pair.specs.Pair.{BothRead}
 use Rattle.file_pair.proofs.Both.{both-read, pattern-bounded, board-bounded}
 use Rattle.table.proofs.Prepare.{prepared}
@@ -21,10 +22,10 @@ entry c = c .before .before .before .before .before .before .before .before .bef
 
 -- what reading the two files left
 abbrev parts : tie.After-read-pair → Circuit
-parts c = let l = c .read-pair .last .1 .1 .1 in record { kinds = l .0; starts = l .1 .0; ends = l .1 .1 .0 }
+parts c = let l = c .read-pair .last .1 .1 .1 .1 in record { kinds = l .0; starts = l .1 .0; ends = l .1 .1 .0 }
 
 abbrev nodes : tie.After-read-pair → Circuit
-nodes c = let l = c .read-pair .last .1 .1 .1 .1 .1 .1 in record { kinds = l .0; starts = l .1 .0; ends = l .1 .1 .0 }
+nodes c = let l = c .read-pair .last .1 .1 .1 .1 .1 .1 .1 in record { kinds = l .0; starts = l .1 .0; ends = l .1 .1 .0 }
 
 slice-aggregate-read-pair : tie.Need-slice-aggregate-read-pair
 slice-aggregate-read-pair c = search needs
@@ -64,7 +65,7 @@ returns c = pair-turned (c .before .before .before .before .before .before .befo
 both : (c : tie.After-enum-told) →
     let read = c .before .before .before .before .before .before .before .before .before .before in
     let a = entry read .args in
-    BothRead Pattern (now (a .pattern)) (now (a .board)) (read .read-pair .result) (parts read) (nodes read)
+    BothRead Pattern (inEdition (a .editions .pattern) (now (a .pattern))) (inEdition (a .editions .board) (now (a .board))) (read .read-pair .result) (parts read) (nodes read)
 both c = both-read (c .before .before .before .before .before .before .before .before .before .before .read-pair .ensures) (c .enum-told .given .1)
 
 array-share-prefix-ps : tie.Need-array-share-prefix-ps

@@ -37,6 +37,9 @@ returns-2 c =
     (size-2 _ _ _ _ (c .before .before .before .field-at .ensures) (c .before .before .field-at2 .ensures) (c .before .before .before .before .if1 .left)
     (sym (c .before .in-range .ensures) ∙ not-true _ (c .if2 .taken)))
 
+package-count-requires : tie.Need-package-count-requires
+package-count-requires c κs = search needs
+
 mul-if3 : tie.Need-mul-if3
 mul-if3 c = search needs
 
@@ -49,21 +52,27 @@ mul-if3-2 c = search needs
 add-if3-2 : tie.Need-add-if3-2
 add-if3-2 c = search needs
 
+mul-if3-3 : tie.Need-mul-if3-3
+mul-if3-3 c = search needs
+
+add-if3-3 : tie.Need-add-if3-3
+add-if3-3 c = search needs
+
 returns-3 : tie.Need-returns-3
 unfolding nodesOf linksOf
 returns-3 c =
     sym
-    (size-3 _ _ _ _ (c .before .before .before .before .field-at .ensures) (c .before .before .before .field-at2 .ensures) (c .before .before .before .before .before .if1 .left)
-    (sym (c .before .before .in-range .ensures) ∙ not-false _ (c .before .if2 .left))
-    (λ e. c .if3 .taken (omega arith)))
+    (size-3 _ _ _ _ (c .before .before .before .before .before .field-at .ensures) (c .before .before .before .before .field-at2 .ensures) (c .before .before .before .before .before .before .if1 .left)
+    (sym (c .before .before .before .in-range .ensures) ∙ not-false _ (c .before .before .if2 .left))
+    (λ e. c .if3 .taken (omega (arith, c .before .package-count .ensures .0))))
 
 returns-4 : tie.Need-returns-4
 unfolding nodesOf linksOf
 returns-4 c =
     sym
-    (size-0 _ _ _ _ (c .before .before .before .before .field-at .ensures) (c .before .before .before .field-at2 .ensures) (c .before .before .before .before .before .if1 .left)
-    (sym (c .before .before .in-range .ensures) ∙ not-false _ (c .before .if2 .left))
-    (omega arith))
+    (size-0 _ _ _ _ (c .before .before .before .before .before .field-at .ensures) (c .before .before .before .before .field-at2 .ensures) (c .before .before .before .before .before .before .if1 .left)
+    (sym (c .before .before .before .in-range .ensures) ∙ not-false _ (c .before .before .if2 .left))
+    (omega (arith, c .before .package-count .ensures .0)))
 
 pub size-number-spec : {M : Type 1} → statement M
 size-number-spec =
@@ -76,9 +85,12 @@ size-number-spec =
     cast-m
     in-range-requires
     returns-2
+    package-count-requires
     mul-if3
     add-if3
     mul-if3-2
     add-if3-2
+    mul-if3-3
+    add-if3-3
     returns-3
     returns-4)

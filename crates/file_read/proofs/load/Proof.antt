@@ -7,7 +7,7 @@ use native.Mathlib.Omega.{arith}
 use lib.Dec.{T}
 use Rattle.graph.specs.Circuit.{Circuit, circuit}
 use Rattle.file_format.specs.declared.Role.{Role}
-use Rattle.file_format.specs.Layout.{nodesOf, linksOf, lengthOf}
+use Rattle.file_format.specs.Layout.{CircuitFile, inEdition, nodesOf, linksOf, lengthOf}
 use Rattle.file_format.specs.Reading.{Stands}
 use Rattle.file_format.specs.Refusals.{sizeNumber}
 use Rattle.file_format.specs.Role.{inRange}
@@ -16,49 +16,53 @@ use Rattle.file_format.proofs.Refusals.{turned, verdict-turned, sized, range-or
 use borrow.Author.Needs.{needs}
 use Rattle.file_read.proofs.load.Statement.{statement}
 use Rattle.file_read.proofs.load.Tie as tie
-use Rattle.file_read.proofs.load.Reads as reads
-use Rattle.file_read.proofs.load.Lts as lts
-use Rattle.file_check.proofs.size_number.Reads as size-number-reads
-use Rattle.file_check.proofs.test_links.Reads as test-links-reads
-use Rattle.file_fields.proofs.field_at.Reads as field-at-reads
-use Rattle.file_read.proofs.fill.Reads as fill-reads
-use Rattle.file_read.proofs.turned_away.Reads as turned-away-reads
-
-size-number-requires : tie.Need-size-number-requires
-size-number-requires c κs = search needs
 
 -- the size is sound
 abbrev entry : tie.Else1 → tie.Start
 entry c = c .before .before .before .before .before .before
 
-none : (c : tie.Else1) → sizeNumber (entry c .args .role) (now (entry c .args .file)) ≡ 0
+-- the file, in the edition told
+abbrev given : tie.Start → CircuitFile
+given c = inEdition (c .args .edition) (now (c .args .file))
+
+none : (c : tie.Else1) → sizeNumber (entry c .args .role) (given (entry c)) ≡ 0
 none c = sym (c .before .size-number .ensures) ∙ c .if1 .left
 
 abbrev sizes : tie.After-field-at2 → tie.Else1
 sizes c = c .before .before
 
-nodes-are : (c : tie.After-field-at2) → c .before .field-at .result ≡ nodesOf (now (entry (sizes c) .args .file))
+nodes-are : (c : tie.After-field-at2) → c .before .field-at .result ≡ nodesOf (given (entry (sizes c)))
 unfolding nodesOf
 nodes-are c = c .before .field-at .ensures
 
-links-are : (c : tie.After-field-at2) → c .field-at2 .result ≡ linksOf (now (entry (sizes c) .args .file))
+links-are : (c : tie.After-field-at2) → c .field-at2 .result ≡ linksOf (given (entry (sizes c)))
 unfolding linksOf
 links-are c = c .field-at2 .ensures
 
 same-range : (r : Role) (n m n′ m′ : ℕ) → n ≡ n′ → m ≡ m′ → T (inRange r n′ m′) → T (inRange r n m)
 same-range r n m n′ m′ e f t = rw (e, f) t
 
+-- the file is as long as the stretches that are stored
+long : (c : tie.After-field-at2) → lengthOf (entry (sizes c) .args .edition) (nodesOf (given (entry (sizes c)))) (linksOf (given (entry (sizes c)))) ≡ lengthOf (entry (sizes c) .args .edition) (c .before .field-at .result) (c .field-at2 .result)
+long c = sym (ap₂ (lengthOf (entry (sizes c) .args .edition)) (nodes-are c) (links-are c))
+
 -- the circuit stands in the tables
-abbrev counted : tie.After-fill → tie.After-field-at2
-counted c = c .before .before .before .before
+abbrev counted : tie.After-fill-links → tie.After-field-at2
+counted c = c .before .before .before .before .before .before .before
 
-abbrev tables : tie.After-fill → Circuit
-tables c = let l = c .fill .last .1 .1 .1 in circuit (l .0) (l .1 .0) (l .1 .1 .0)
+abbrev tables : tie.After-fill-links → Circuit
+tables c =
+    let l = c .before .before .before .before .before .fill-labels .last .1 .1 .1 .1 in
+    let e = c .fill-links .last .1 .1 .1 .1 in
+    circuit (l .0) (e .0) (e .1 .0)
 
-standing : (c : tie.After-fill) → Stands (now (entry (sizes (counted c)) .args .file)) (counted c .before .field-at .result) (counted c .field-at2 .result) (tables c)
+standing : (c : tie.After-fill-links) → Stands (given (entry (sizes (counted c)))) (counted c .before .field-at .result) (counted c .field-at2 .result) (tables c)
 standing c =
-    let e = c .fill .ensures in
-    filled-stands _ _ _ _ _ _ _ _ _ (nodes-are (counted c)) (links-are (counted c)) (e .0) (e .1 .0) (e .1 .1)
+    let e = c .fill-links .ensures in
+    filled-stands _ _ _ _ _ _ _ _ _ (nodes-are (counted c)) (links-are (counted c)) (c .before .before .before .before .before .fill-labels .ensures) (e .0) (e .1)
+
+size-number-requires : tie.Need-size-number-requires
+size-number-requires c κs = search needs
 
 turned-away-requires : tie.Need-turned-away-requires
 turned-away-requires c κs = search needs
@@ -80,37 +84,43 @@ field-at-requires-2 c κs = omega (arith, sized _ _ (none (c .before)) .0)
 cast-m : tie.Need-cast-m
 cast-m c = search needs
 
-fill-requires : tie.Need-fill-requires
-fill-requires c κs =
-    let here = c .before .before .before in
+fill-labels-requires : tie.Need-fill-labels-requires
+fill-labels-requires c κs =
+    let here = c .before in
     let start = entry (sizes here) in
-    let n = nodes-are here in
-    let m = links-are here in
     let (_, range, size) = sized _ _ (none (sizes here)) in
-    let file = now (start .args .file) in
-    let (_, few, short) = range-orders (start .args .role) (nodesOf file) (linksOf file) range in
-    (size ∙ sym (ap₂ lengthOf n m), (le-trans (le-of-eq n) (le-trans few (start .pre .forKinds)), le-trans (le-of-eq m) (le-trans short (start .pre .forStarts)), le-trans (le-of-eq m) (le-trans short (start .pre .forEnds))))
+    let (_, few, _) = range-orders (start .args .role) (nodesOf (given start)) (linksOf (given start)) range in
+    (size ∙ long here, le-trans (le-of-eq (nodes-are here)) (le-trans few (start .pre .forKinds)))
+
+fill-links-requires : tie.Need-fill-links-requires
+fill-links-requires c κs =
+    let here = c .before .before .before .before .before .before in
+    let start = entry (sizes here) in
+    let (_, range, size) = sized _ _ (none (sizes here)) in
+    let (_, _, short) = range-orders (start .args .role) (nodesOf (given start)) (linksOf (given start)) range in
+    let m = le-of-eq (links-are here) in
+    (size ∙ long here, (le-trans m (le-trans short (start .pre .forStarts)), le-trans m (le-trans short (start .pre .forEnds))))
 
 slice-reshare-prefix-test-links : tie.Need-slice-reshare-prefix-test-links
-slice-reshare-prefix-test-links c = stands-room (standing (c .before .before .before .before .before .before)) .1
+slice-reshare-prefix-test-links c = stands-room (standing (c .before .before .before .before)) .1
 
 slice-aggregate-test-links : tie.Need-slice-aggregate-test-links
-slice-aggregate-test-links c = sym (stands-size (standing (c .before .before .before .before .before .before .before)) .1)
+slice-aggregate-test-links c = sym (stands-size (standing (c .before .before .before .before .before)) .1)
 
 slice-reshare-prefix-test-links-2 : tie.Need-slice-reshare-prefix-test-links-2
-slice-reshare-prefix-test-links-2 c = stands-room (standing (c .before .before .before .before .before .before .before)) .2
+slice-reshare-prefix-test-links-2 c = stands-room (standing (c .before .before .before .before .before)) .2
 
 slice-aggregate-test-links-2 : tie.Need-slice-aggregate-test-links-2
-slice-aggregate-test-links-2 c = sym (stands-size (standing (c .before .before .before .before .before .before .before .before)) .2)
+slice-aggregate-test-links-2 c = sym (stands-size (standing (c .before .before .before .before .before .before)) .2)
 
 test-links-requires : tie.Need-test-links-requires
 test-links-requires c κs =
-    let filled = c .before .before .before .before .before .before .before .before in
+    let filled = c .before .before .before .before .before .before in
     let here = counted filled in
+    let start = entry (sizes here) in
     let (_, starts, ends) = stands-size (standing filled) in
-    let file = now (entry (sizes here) .args .file) in
-    let range = same-range (entry (sizes here) .args .role) _ _ (nodesOf file) (linksOf file) (nodes-are here) (links-are here) (sized _ _ (none (sizes here)) .1) in
-    (subst (λ (k : ℕ). T (inRange (entry (sizes here) .args .role) (here .before .field-at .result) k)) (sym starts) range, starts ∙ sym ends)
+    let range = same-range (start .args .role) _ _ (nodesOf (given start)) (linksOf (given start)) (nodes-are here) (links-are here) (sized _ _ (none (sizes here)) .1) in
+    (subst (λ (k : ℕ). T (inRange (start .args .role) (here .before .field-at .result) k)) (sym starts) range, starts ∙ sym ends)
 
 turned-away-requires-2 : tie.Need-turned-away-requires-2
 turned-away-requires-2 c κs = search needs
@@ -126,7 +136,7 @@ same-length-3 c = search needs
 
 returns-2 : tie.Need-returns-2
 returns-2 c =
-    let filled = c .before .before .before .before .before .before .before .before .before .before .before .before in
+    let filled = c .before .before .before .before .before .before .before .before .before .before in
     links-turned _ _ _ _ _ (standing filled) (none (sizes (counted filled))) _ _ (c .before .before .before .test-links .ensures) _ (c .turned-away2 .ensures) (c .before .if2 .taken)
 
 same-length-4 : tie.Need-same-length-4
@@ -140,7 +150,7 @@ same-length-6 c = search needs
 
 returns-3 : tie.Need-returns-3
 returns-3 c =
-    let filled = c .before .before .before .before .before .before .before .before .before .before .before in
+    let filled = c .before .before .before .before .before .before .before .before .before in
     links-sound _ _ _ _ _ (standing filled) (none (sizes (counted filled))) _ _ (c .before .before .test-links .ensures) (c .if2 .left)
 
 pub load-spec : {M : Type 1} → statement M
@@ -154,7 +164,8 @@ load-spec =
     cast-n
     field-at-requires-2
     cast-m
-    fill-requires
+    fill-labels-requires
+    fill-links-requires
     slice-reshare-prefix-test-links
     slice-aggregate-test-links
     slice-reshare-prefix-test-links-2

@@ -6,10 +6,6 @@ use Rattle.file_format.proofs.Refusals.{accepted}
 use borrow.Author.Needs.{needs}
 use Rattle.file_read.proofs.read.Statement.{statement}
 use Rattle.file_read.proofs.read.Tie as tie
-use Rattle.file_read.proofs.read.Reads as reads
-use Rattle.file_read.proofs.read.Lts as lts
-use Rattle.file_read.proofs.fill_fitting.Reads as fill-fitting-reads
-use Rattle.file_read.proofs.load.Reads as load-reads
 
 slice-aggregate-load : tie.Need-slice-aggregate-load
 slice-aggregate-load c = search needs
@@ -21,7 +17,7 @@ slice-aggregate-load-3 : tie.Need-slice-aggregate-load-3
 slice-aggregate-load-3 c = search needs
 
 load-requires : tie.Need-load-requires
-load-requires c κs = let (n, m) = role-bounds (c .before .before .before .before .before .before .before .args .role) in record { forKinds = n; forStarts = m; forEnds = m }
+load-requires c κs = let (n, m) = role-bounds (c .before .before .before .before .before .before .before .before .args .role) in record { forKinds = n; forStarts = m; forEnds = m }
 
 enum-known-verdict : tie.Need-enum-known-verdict
 enum-known-verdict c = search needs
@@ -31,10 +27,11 @@ enum-told c = search needs
 
 fill-fitting-requires : tie.Need-fill-fitting-requires
 fill-fitting-requires c κs =
-    let load = c .before .before .before .before .before .before .before .before .load .ensures in
-    let sound = loaded-accepted load (c .before .before .before .enum-told .given .1) in
+    let told = c .before .before .before .before in
+    let load = told .before .before .before .before .before .load .ensures in
+    let sound = loaded-accepted load (told .enum-told .given .1) in
     let s = load .held sound .stands in
-    (s .nodes, s .links, accepted _ _ sound .size ∙ sym (ap₂ lengthOf (s .nodes) (s .links)))
+    (s .nodes, s .links, accepted _ _ sound .size ∙ sym (ap₂ (lengthOf (told .before .before .before .before .before .before .before .before .before .before .before .before .before .before .args .edition)) (s .nodes) (s .links)))
 
 same-length : tie.Need-same-length
 same-length c = search needs
@@ -45,13 +42,17 @@ same-length-2 c = search needs
 same-length-3 : tie.Need-same-length-3
 same-length-3 c = search needs
 
+same-length-4 : tie.Need-same-length-4
+same-length-4 c = search needs
+
 returns : tie.Need-returns
 returns c =
-    let here = c .before .before .before .before .before .before in
-    here .fill-fitting .ensures _ (loaded-accepted (here .before .before .before .before .before .before .before .before .before .load .ensures) (here .before .before .before .before .enum-told .given .1))
+    let here = c .before .before .before .before .before .before .before .before in
+    let told = here .before .before .before .before .before in
+    here .fill-fitting .ensures _ (loaded-accepted (told .before .before .before .before .before .load .ensures) (told .enum-told .given .1))
 
 returns-2 : tie.Need-returns-2
-returns-2 c = sym (reading-refused _ _ _ _ _ _ (loaded-refused (c .before .before .before .before .before .before .load .ensures) (c .before .verdict .given .1)))
+returns-2 c = sym (reading-refused _ _ _ _ _ _ _ (loaded-refused (c .before .before .before .before .before .before .load .ensures) (c .before .verdict .given .1)))
 
 pub read-spec : {M : Type 1} → statement M
 read-spec =
@@ -67,5 +68,6 @@ read-spec =
     same-length
     same-length-2
     same-length-3
+    same-length-4
     returns
     returns-2)

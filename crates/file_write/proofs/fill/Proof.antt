@@ -29,28 +29,39 @@ add-store c = search needs
 store-requires-2 : tie.Need-store-requires-2
 store-requires-2 c κs = search needs
 
+mul-at : tie.Need-mul-at
+mul-at c = search needs
+
+add-at : tie.Need-add-at
+add-at c = search needs
+
+mul-at-2 : tie.Need-mul-at-2
+mul-at-2 c = search needs
+
+add-at-2 : tie.Need-add-at-2
+add-at-2 c = search needs
+
+store-requires-3 : tie.Need-store-requires-3
+store-requires-3 c κs = search needs
+
 mul-store-2 : tie.Need-mul-store-2
 mul-store-2 c = search needs
 
 add-store-2 : tie.Need-add-store-2
 add-store-2 c = search needs
 
-mul-store-3 : tie.Need-mul-store-3
-mul-store-3 c = search needs
-
-add-store-3 : tie.Need-add-store-3
-add-store-3 c = search needs
-
-store-requires-3 : tie.Need-store-requires-3
-store-requires-3 c κs = search needs
+store-requires-4 : tie.Need-store-requires-4
+store-requires-4 c κs = search needs
 
 same-length : tie.Need-same-length
 same-length c = search needs
 
 returns : tie.Need-returns
 returns c =
-    rw (c .before .before .store3 .ensures, c .before .before .before .before .before .before .store2 .ensures, c .before .before .before .before .before .before .before .before .before .before .store .ensures, c .before .before .before .before .before .before .before .before .before .before .before .before .before .before .store-field2 .ensures, c .before .before .before .before .before .before .before .before .before .before .before .before .before .before .before .before .before .before .store-field .ensures)
-    (file-stored _ _ _ _ (omega arith) (omega arith))
+    let links = c .before .before .before .before .before .before .before .before .before .before in
+    let nodes = links .before .before .before .before .before .before .before .before in
+    rw (c .before .before .store4 .ensures, c .before .before .before .before .before .before .store3 .ensures, links .store2 .ensures, links .before .before .before .before .store .ensures, nodes .store-field2 .ensures, nodes .before .before .before .before .store-field .ensures)
+    (file-stored _ _ _ _ _ (c .before .before .before .before .before .before .before .before .before .before .before .before .before .before .before .before .before .before .before .before .before .before .before .before .before .before .before .before .before .pre .0 .3) (c .before .before .before .before .before .before .before .before .before .before .before .before .before .before .before .before .before .before .before .before .before .before .before .before .before .before .before .before .before .pre .1))
 
 pub fill-spec : {M : Type 1} → statement M
 fill-spec =
@@ -64,10 +75,13 @@ fill-spec =
     mul-store
     add-store
     store-requires-2
+    mul-at
+    add-at
+    mul-at-2
+    add-at-2
+    store-requires-3
     mul-store-2
     add-store-2
-    mul-store-3
-    add-store-3
-    store-requires-3
+    store-requires-4
     same-length
     returns)

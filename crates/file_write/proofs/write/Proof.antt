@@ -1,16 +1,37 @@
 -- `file_write::write` meets its contract: the call is refused, is short of room, or fills the file in. Assumes nothing.
 use denote.Ref.{now}
 use mathlib.Core.Path.{_≡_, sym, _∙_}
+use Prim.Native.Nat.{_≤_}
 use native.Mathlib.Omega.{arith}
 use lib.ListN.{length}
+use lib.Seq.{length-take-le}
 use Rattle.file_format.specs.Layout.{lengthOf}
 use Rattle.file_format.specs.Refusals.{first, accept}
+use Rattle.file_format.proofs.Fields.{package-count-le}
 use Rattle.file_format.proofs.Refusals.{range-bounds}
 use Rattle.file_write.specs.Writing.{circuitConditions}
 use Rattle.file_write.proofs.Writing.{answer-refused, answer-written, sound, writing-refused, writing-short, writing-filled}
 use borrow.Author.Needs.{needs}
 use Rattle.file_write.proofs.write.Statement.{statement}
 use Rattle.file_write.proofs.write.Tie as tie
+
+abbrev entry : tie.After-answer → tie.Start
+entry c = c .before .before .before .before .before .before .before .before
+
+-- what a sound check says: no condition on the circuit holds, and its size is the file's length
+accepted :
+    (c : tie.After-answer) →
+    let a = entry c .args in
+    (first (circuitConditions (a .role) (a .edition) (now (a .kinds)) (now (a .packages)) (now (a .starts)) (now (a .ends))) ≡ accept)
+    × (c .answer .given .0 .0 ≡ lengthOf (a .edition) (length (now (a .kinds))) (length (now (a .starts))))
+accepted c = answer-written _ _ _ (sym (c .before .before .check .ensures) ∙ c .answer .given .1)
+
+-- there are as many packages as are written
+enough : (c : tie.After-package-count) → c .package-count .result ≤ length (now (entry (c .before .before .before) .args .packages))
+enough c =
+    let a = entry (c .before .before .before) .args in
+    let s = sound _ _ _ _ _ _ (accepted (c .before .before .before) .0) in
+    omega (arith, c .package-count .ensures .0, s .given, package-count-le (a .edition) (length (now (a .packages))))
 
 check-requires : tie.Need-check-requires
 check-requires c κs = search needs
@@ -21,37 +42,41 @@ enum-known-answer c = search needs
 enum-told : tie.Need-enum-told
 enum-told c = search needs
 
--- what a sound check says: no condition on the circuit holds, and its size is the file's length
-accepted : (c : tie.After-answer)
-    → (first (circuitConditions (c .before .before .before .before .before .before .before .args .role) (now (c .before .before .before .before .before .before .before .args .kinds)) (now (c .before .before .before .before .before .before .before .args .starts)) (now (c .before .before .before .before .before .before .before .args .ends))) ≡ accept)
-    × (c .answer .given .0 .0 ≡ lengthOf (length (now (c .before .before .before .before .before .before .before .args .kinds))) (length (now (c .before .before .before .before .before .before .before .args .starts))))
-accepted c = answer-written _ _ _ (sym (c .before .before .check .ensures) ∙ c .answer .given .1)
-
 returns : tie.Need-returns
 returns c =
     rw (c .enum-told .given .1)
-    (sym (writing-refused _ _ _ _ _ _ (answer-refused _ _ _ (sym (c .before .before .check .ensures) ∙ c .enum-told .given .1))))
+    (sym (writing-refused _ _ _ _ _ _ _ _ (answer-refused _ _ _ (sym (c .before .before .check .ensures) ∙ c .enum-told .given .1))))
 
 returns-2 : tie.Need-returns-2
 returns-2 c =
     let s = accepted (c .before .before) in
-    sym (writing-short _ _ _ _ _ (s .0) (omega arith))
+    sym (writing-short _ _ _ _ _ _ _ (s .0) (omega arith))
+
+package-count-requires : tie.Need-package-count-requires
+package-count-requires c κs = search needs
+
+slice-aggregate-fill : tie.Need-slice-aggregate-fill
+slice-aggregate-fill c = sym (length-take-le _ _ (enough (c .before)))
 
 fill-requires : tie.Need-fill-requires
 fill-requires c κs =
-    let a = c .before .before .before .before .before .before .before .before .before .before .args in
-    let s = accepted (c .before .before .before) in
-    let h = sound _ _ _ _ (s .0) in
+    let here = c .before .before in
+    let a = entry (here .before .before .before) .args in
+    let s = accepted (here .before .before .before) in
+    let h = sound _ _ _ _ _ _ (s .0) in
     let b = range-bounds (a .role) (length (now (a .kinds))) (length (now (a .starts))) (h .range) in
-    ((omega arith, omega arith, omega arith), omega arith)
+    let l = length-take-le _ (now (a .packages)) (enough here) in
+    let p = here .package-count .ensures in
+    ((omega arith, omega arith, omega arith, omega arith), omega arith)
 
 same-length : tie.Need-same-length
 same-length c = search needs
 
 returns-3 : tie.Need-returns-3
 returns-3 c =
-    let s = accepted (c .before .before .before .before .before .before) in
-    rw (c .before .before .fill .ensures, s .1) (sym (writing-filled _ _ _ _ _ (s .0) (omega arith)))
+    let here = c .before .before .before .before .before in
+    let s = accepted (here .before .before .before) in
+    rw (c .before .before .fill .ensures, here .package-count .ensures .0, s .1) (sym (writing-filled _ _ _ _ _ _ _ (s .0) (omega arith)))
 
 pub write-spec : {M : Type 1} → statement M
 write-spec =
@@ -62,6 +87,8 @@ write-spec =
     enum-told
     returns
     returns-2
+    package-count-requires
+    slice-aggregate-fill
     fill-requires
     same-length
     returns-3)

@@ -5,8 +5,8 @@ use borrow.Author.Needs.{needs}
 use Rattle.heronditch.proofs.heronditch_read_board.Statement.{statement}
 use Rattle.heronditch.proofs.heronditch_read_board.Tie as tie
 
-read-requires : tie.Need-read-requires
-read-requires c κs = search needs
+read-first-requires : tie.Need-read-first-requires
+read-first-requires c κs = search needs
 
 of-read-requires : tie.Need-of-read-requires
 of-read-requires c κs = search needs
@@ -22,9 +22,9 @@ same-length-3 c = search needs
 
 returns : tie.Need-returns
 unfolding hostRead
-returns c = rw (c .of-read .ensures) (ap hostRead (c .before .before .before .before .before .before .before .read .ensures))
+returns c = rw (c .of-read .ensures) (ap hostRead (c .before .before .before .before .before .before .before .read-first .ensures))
 
 pub heronditch-read-board-spec : {M : Type 1} → statement M
 heronditch-read-board-spec =
     tie.close
-    (tie.spec read-requires of-read-requires same-length same-length-2 same-length-3 returns)
+    (tie.spec read-first-requires of-read-requires same-length same-length-2 same-length-3 returns)

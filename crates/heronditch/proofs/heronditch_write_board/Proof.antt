@@ -5,8 +5,8 @@ use borrow.Author.Needs.{needs}
 use Rattle.heronditch.proofs.heronditch_write_board.Statement.{statement}
 use Rattle.heronditch.proofs.heronditch_write_board.Tie as tie
 
-write-requires : tie.Need-write-requires
-write-requires c κs = search needs
+write-first-requires : tie.Need-write-first-requires
+write-first-requires c κs = search needs
 
 of-write-requires : tie.Need-of-write-requires
 of-write-requires c κs = search needs
@@ -16,8 +16,8 @@ same-length c = search needs
 
 returns : tie.Need-returns
 unfolding hostWrite
-returns c = rw (c .of-write .ensures) (ap hostWrite (c .before .before .before .write .ensures))
+returns c = rw (c .of-write .ensures) (ap hostWrite (c .before .before .before .write-first .ensures))
 
 pub heronditch-write-board-spec : {M : Type 1} → statement M
 heronditch-write-board-spec =
-    tie.close (tie.spec write-requires of-write-requires same-length returns)
+    tie.close (tie.spec write-first-requires of-write-requires same-length returns)

@@ -3,7 +3,7 @@
 use std::ptr::{null, null_mut};
 
 use second::calls::PlaceTables;
-use second::circuit::Role;
+use second::circuit::{Edition, Role};
 use second::compare::finder::{Finder, Words};
 use second::load::Numbers;
 
@@ -145,6 +145,119 @@ extern "C" {
         pattern_length: usize,
         classes: *mut u8,
         classes_length: usize,
+        out: *mut u8,
+        out_length: usize,
+    ) -> Reply;
+    fn heronditch_read_pattern_2(
+        file: *const u8,
+        file_length: usize,
+        kinds: *mut u16,
+        kinds_length: usize,
+        packages: *mut u16,
+        packages_length: usize,
+        starts: *mut u16,
+        starts_length: usize,
+        ends: *mut u16,
+        ends_length: usize,
+    ) -> Reply;
+    fn heronditch_read_board_2(
+        file: *const u8,
+        file_length: usize,
+        kinds: *mut u16,
+        kinds_length: usize,
+        packages: *mut u16,
+        packages_length: usize,
+        starts: *mut u16,
+        starts_length: usize,
+        ends: *mut u16,
+        ends_length: usize,
+    ) -> Reply;
+    fn heronditch_write_pattern_2(
+        kinds: *const u16,
+        kinds_length: usize,
+        packages: *const u16,
+        packages_length: usize,
+        starts: *const u16,
+        starts_length: usize,
+        ends: *const u16,
+        ends_length: usize,
+        out: *mut u8,
+        out_length: usize,
+    ) -> Reply;
+    fn heronditch_write_board_2(
+        kinds: *const u16,
+        kinds_length: usize,
+        packages: *const u16,
+        packages_length: usize,
+        starts: *const u16,
+        starts_length: usize,
+        ends: *const u16,
+        ends_length: usize,
+        out: *mut u8,
+        out_length: usize,
+    ) -> Reply;
+    fn heronditch_radius_2(pattern: *const u8, pattern_length: usize) -> Reply;
+    fn heronditch_ball_2(
+        board: *const u8,
+        board_length: usize,
+        centre: usize,
+        radius: u16,
+        out: *mut u16,
+        out_length: usize,
+    ) -> Reply;
+    fn heronditch_match_12(
+        pattern: *const u8,
+        pattern_length: usize,
+        board: *const u8,
+        board_length: usize,
+        table: *mut u32,
+        table_length: usize,
+    ) -> Counts;
+    fn heronditch_match_21(
+        pattern: *const u8,
+        pattern_length: usize,
+        board: *const u8,
+        board_length: usize,
+        table: *mut u32,
+        table_length: usize,
+    ) -> Counts;
+    fn heronditch_match_22(
+        pattern: *const u8,
+        pattern_length: usize,
+        board: *const u8,
+        board_length: usize,
+        table: *mut u32,
+        table_length: usize,
+    ) -> Counts;
+    fn heronditch_merge_2(
+        pattern: *const u8,
+        pattern_length: usize,
+        classes: *mut u8,
+        classes_length: usize,
+        out: *mut u8,
+        out_length: usize,
+    ) -> Reply;
+    fn heronditch_convert_pattern_12(
+        file: *const u8,
+        file_length: usize,
+        out: *mut u8,
+        out_length: usize,
+    ) -> Reply;
+    fn heronditch_convert_pattern_21(
+        file: *const u8,
+        file_length: usize,
+        out: *mut u8,
+        out_length: usize,
+    ) -> Reply;
+    fn heronditch_convert_board_12(
+        file: *const u8,
+        file_length: usize,
+        out: *mut u8,
+        out_length: usize,
+    ) -> Reply;
+    fn heronditch_convert_board_21(
+        file: *const u8,
+        file_length: usize,
         out: *mut u8,
         out_length: usize,
     ) -> Reply;
@@ -367,5 +480,133 @@ impl Finder for Host {
             kinds,
         } = numbers;
         unsafe { heronditch_load(seed, nodes, pairs, kinds, lent(out), out.len()) }.words()
+    }
+
+    fn read_second(
+        &self,
+        role: Role,
+        file: &[u8],
+        kinds: &mut [u16],
+        packages: &mut [u16],
+        starts: &mut [u16],
+        ends: &mut [u16],
+    ) -> Words {
+        let read = match role {
+            Role::Pattern => heronditch_read_pattern_2,
+            Role::Board => heronditch_read_board_2,
+        };
+        unsafe {
+            read(
+                given(file),
+                file.len(),
+                lent(kinds),
+                kinds.len(),
+                lent(packages),
+                packages.len(),
+                lent(starts),
+                starts.len(),
+                lent(ends),
+                ends.len(),
+            )
+        }
+        .words()
+    }
+
+    fn write_second(
+        &self,
+        role: Role,
+        kinds: &[u16],
+        packages: &[u16],
+        starts: &[u16],
+        ends: &[u16],
+        out: &mut [u8],
+    ) -> Words {
+        let write = match role {
+            Role::Pattern => heronditch_write_pattern_2,
+            Role::Board => heronditch_write_board_2,
+        };
+        unsafe {
+            write(
+                given(kinds),
+                kinds.len(),
+                given(packages),
+                packages.len(),
+                given(starts),
+                starts.len(),
+                given(ends),
+                ends.len(),
+                lent(out),
+                out.len(),
+            )
+        }
+        .words()
+    }
+
+    fn radius_second(&self, pattern: &[u8]) -> Words {
+        unsafe { heronditch_radius_2(given(pattern), pattern.len()) }.words()
+    }
+
+    fn ball_second(&self, board: &[u8], centre: usize, radius: u16, out: &mut [u16]) -> Words {
+        unsafe {
+            heronditch_ball_2(
+                given(board),
+                board.len(),
+                centre,
+                radius,
+                lent(out),
+                out.len(),
+            )
+        }
+        .words()
+    }
+
+    fn match_in(
+        &self,
+        editions: [Edition; 2],
+        pattern: &[u8],
+        board: &[u8],
+        table: &mut [u32],
+    ) -> Words {
+        let call = match editions {
+            [Edition::First, Edition::First] => heronditch_match,
+            [Edition::First, Edition::Second] => heronditch_match_12,
+            [Edition::Second, Edition::First] => heronditch_match_21,
+            [Edition::Second, Edition::Second] => heronditch_match_22,
+        };
+        unsafe {
+            call(
+                given(pattern),
+                pattern.len(),
+                given(board),
+                board.len(),
+                lent(table),
+                table.len(),
+            )
+        }
+        .words()
+    }
+
+    fn merge_second(&self, pattern: &[u8], classes: &mut [u8], out: &mut [u8]) -> Words {
+        unsafe {
+            heronditch_merge_2(
+                given(pattern),
+                pattern.len(),
+                lent(classes),
+                classes.len(),
+                lent(out),
+                out.len(),
+            )
+        }
+        .words()
+    }
+
+    fn convert(&self, role: Role, from: Edition, file: &[u8], out: &mut [u8]) -> Words {
+        let convert = match (role, from) {
+            (Role::Pattern, Edition::First) => heronditch_convert_pattern_12,
+            (Role::Pattern, Edition::Second) => heronditch_convert_pattern_21,
+            (Role::Board, Edition::First) => heronditch_convert_board_12,
+            (Role::Board, Edition::Second) => heronditch_convert_board_21,
+        };
+        unsafe { convert(given(file), file.len(), lent(out), out.len()) }.words()
     }
 }

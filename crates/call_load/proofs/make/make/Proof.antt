@@ -93,39 +93,39 @@ sizes c =
 array-share-prefix-kinds : tie.Need-array-share-prefix-kinds
 array-share-prefix-kinds c = search needs
 
-slice-aggregate-write : tie.Need-slice-aggregate-write
-slice-aggregate-write c = sym (sizes (c .before .before .before) .0)
+slice-aggregate-write-first : tie.Need-slice-aggregate-write-first
+slice-aggregate-write-first c = sym (sizes (c .before .before .before) .0)
 
 array-share-prefix-starts : tie.Need-array-share-prefix-starts
 array-share-prefix-starts c = front-room _ _ (sizes (c .before .before .before) .1)
 
-slice-aggregate-write-2 : tie.Need-slice-aggregate-write-2
-slice-aggregate-write-2 c = sym (sizes (c .before .before .before .before) .1)
+slice-aggregate-write-first-2 : tie.Need-slice-aggregate-write-first-2
+slice-aggregate-write-first-2 c = sym (sizes (c .before .before .before .before) .1)
 
 array-share-prefix-ends : tie.Need-array-share-prefix-ends
 array-share-prefix-ends c = front-room _ _ (sizes (c .before .before .before .before) .2)
 
-slice-aggregate-write-3 : tie.Need-slice-aggregate-write-3
-slice-aggregate-write-3 c = sym (sizes (c .before .before .before .before .before) .2)
+slice-aggregate-write-first-3 : tie.Need-slice-aggregate-write-first-3
+slice-aggregate-write-first-3 c = sym (sizes (c .before .before .before .before .before) .2)
 
-write-requires : tie.Need-write-requires
-write-requires c κs = search needs
+write-first-requires : tie.Need-write-first-requires
+write-first-requires c κs = search needs
 
-abbrev collected : tie.After-write → tie.After-collect-links
+abbrev collected : tie.After-write-first → tie.After-collect-links
 collected c = c .before .before .before .before .before .before .before
 
-abbrev outcome : tie.After-write → WriteOutcome
-outcome c = record { answer = c .write .result; reply = writeReply (c .write .result); out = c .write .last .1 .1 .1 .1 .0 }
+abbrev outcome : tie.After-write-first → WriteOutcome
+outcome c = record { answer = c .write-first .result; reply = writeReply (c .write-first .result); out = c .write-first .last .1 .1 .1 .1 .0 }
 
 -- the load's file stands at the front
 file :
-    (c : tie.After-write) →
+    (c : tie.After-write-first) →
     let s = start (collected c) in
     let bytes = loadBytes (s .args .seed) (s .args .n) (s .args .m) (s .args .k) in
     outcome c ≡ record { answer = Written (length bytes); reply = writeReply (Written (length bytes)); out = filled accept bytes (now (s .args .out)) }
 file c =
     let s = start (collected c) in
-    c .write .ensures ∙ written (s .args .seed) (s .args .n) (s .args .m) (s .args .k) (s .pre .0) _ _ _ _ (content (collected c)) (s .pre .1)
+    c .write-first .ensures ∙ written (s .args .seed) (s .args .n) (s .args .m) (s .args .k) (s .pre .0) _ _ _ _ (content (collected c)) (s .pre .1)
 
 enum-known-written : tie.Need-enum-known-written
 enum-known-written c = search needs
@@ -165,12 +165,12 @@ make-spec =
     slice-aggregate-collect-links-2
     collect-links-requires
     array-share-prefix-kinds
-    slice-aggregate-write
+    slice-aggregate-write-first
     array-share-prefix-starts
-    slice-aggregate-write-2
+    slice-aggregate-write-first-2
     array-share-prefix-ends
-    slice-aggregate-write-3
-    write-requires
+    slice-aggregate-write-first-3
+    write-first-requires
     enum-known-written
     enum-known-written-2
     same-length

@@ -2,6 +2,7 @@
 -- written, and writing it is not refused. Assumes nothing.
 use denote.Ref.{now}
 use mathlib.Core.Path.{_≡_, refl, sym, ap, ap₂, _∙_}
+use native.Mathlib.Nat.{le-trans, le-of-eq}
 use borrow.Author.Needs.{needs}
 use lib.Dec.{lit≤}
 use lib.ListN.{length, take}
@@ -15,7 +16,7 @@ use Rattle.file_write.specs.Writing.{WriteOutcome, writeReply}
 use Rattle.merge.proofs.Content.{PatternContent, most-parts}
 use Rattle.call_merge.specs.declared.MergeAnswer.the-variants.{Merged}
 use Rattle.call_merge.specs.Call.{mergedBytes}
-use Rattle.call_merge.proofs.Quotient.{sound-content, quotient-size, written, written-size, written-not-refused}
+use Rattle.call_merge.proofs.Quotient.{sound-content, classes-few, quotient-size, written, merged-fits, written-size, written-not-refused}
 use Rattle.call_merge.proofs.circuits.merge_circuit.Statement.{statement}
 use Rattle.call_merge.proofs.circuits.merge_circuit.Tie as tie
 
@@ -54,7 +55,7 @@ start c = entry (c .before .before .before .before .before)
 quotient-requires : tie.Need-quotient-requires
 quotient-requires c κs =
     let p = start c .pre in
-    (p .0, ((p .1 .0, length-take-le _ _ (most-parts (content (start c))), refl), (lit≤ tt, lit≤ tt, lit≤ tt)))
+    (p .0, ((p .1 .0 .0, length-take-le _ _ (most-parts (content (start c))), refl), (lit≤ tt, lit≤ tt, lit≤ tt)))
 
 -- ---- the merged pattern
 
@@ -72,43 +73,48 @@ size c = quotient-size (content (start (made c .before))) (made c .quotient .ens
 array-share-prefix-mk : tie.Need-array-share-prefix-mk
 array-share-prefix-mk c = front-room _ _ (size c .0)
 
-slice-aggregate-write : tie.Need-slice-aggregate-write
-slice-aggregate-write c = sym (size (c .before) .0)
+slice-aggregate-write-circuit : tie.Need-slice-aggregate-write-circuit
+slice-aggregate-write-circuit c = sym (size (c .before) .0)
 
 array-share-prefix-ms : tie.Need-array-share-prefix-ms
 array-share-prefix-ms c = front-room _ _ (size (c .before) .1)
 
-slice-aggregate-write-2 : tie.Need-slice-aggregate-write-2
-slice-aggregate-write-2 c = sym (size (c .before .before) .1)
+slice-aggregate-write-circuit-2 : tie.Need-slice-aggregate-write-circuit-2
+slice-aggregate-write-circuit-2 c = sym (size (c .before .before) .1)
 
 array-share-prefix-me : tie.Need-array-share-prefix-me
 array-share-prefix-me c = front-room _ _ (size (c .before .before) .2)
 
-slice-aggregate-write-3 : tie.Need-slice-aggregate-write-3
-slice-aggregate-write-3 c = sym (size (c .before .before .before) .2)
+slice-aggregate-write-circuit-3 : tie.Need-slice-aggregate-write-circuit-3
+slice-aggregate-write-circuit-3 c = sym (size (c .before .before .before) .2)
 
-write-requires : tie.Need-write-requires
-write-requires c κs = search needs
+write-circuit-requires : tie.Need-write-circuit-requires
+write-circuit-requires c κs =
+    let here = c .before .before .before in
+    let first = start (made here .before) in
+    let is = ap (λ (q : Circuit). q .kinds) (made here .quotient .ensures .content) in
+    let few = le-trans (le-of-eq (size here .0 ∙ made here .quotient .ensures .counted)) (classes-few (content first)) in
+    (le-trans few (lit≤ tt), rw is (merged-fits (content first) (first .args .edition) (first .pre .1 .1)))
 
 -- ---- written
 
-abbrev wrote : tie.After-slice-known4 → tie.After-write
+abbrev wrote : tie.After-slice-known4 → tie.After-write-circuit
 wrote c = c .before .before
 
-abbrev madeBefore : tie.After-write → tie.After-quotient
+abbrev madeBefore : tie.After-write-circuit → tie.After-quotient
 madeBefore c = made (c .before .before .before .before .before)
 
-abbrev outcome : tie.After-write → WriteOutcome
-outcome c = record { answer = c .write .result; reply = writeReply (c .write .result); out = c .write .last .1 .1 .1 .1 .0 }
+abbrev outcome : tie.After-write-circuit → WriteOutcome
+outcome c = record { answer = c .write-circuit .result; reply = writeReply (c .write-circuit .result); out = c .write-circuit .last .1 .1 .1 .1 .1 .0 }
 
 -- the merged file stands at the front
 file :
-    (c : tie.After-write) →
+    (c : tie.After-write-circuit) →
     let s = start (madeBefore c .before) in
-    outcome c ≡ record { answer = Written (length (mergedBytes (pattern s))); reply = writeReply (Written (length (mergedBytes (pattern s)))); out = filled accept (mergedBytes (pattern s)) (now (s .args .out)) }
+    outcome c ≡ record { answer = Written (length (mergedBytes (s .args .edition) (pattern s))); reply = writeReply (Written (length (mergedBytes (s .args .edition) (pattern s)))); out = filled accept (mergedBytes (s .args .edition) (pattern s)) (now (s .args .out)) }
 file c =
     let s = start (madeBefore c .before) in
-    c .write .ensures ∙ written (content s) _ _ _ _ (madeBefore c .quotient .ensures .content) (s .pre .1 .1)
+    c .write-circuit .ensures ∙ written (content s) (s .args .edition) _ _ _ _ (madeBefore c .quotient .ensures .content) (s .pre .1 .0 .1)
 
 enum-known-written : tie.Need-enum-known-written
 enum-known-written c = search needs
@@ -128,7 +134,7 @@ returns c =
     let write = wrote (told .before .before) in
     let call = madeBefore write in
     record {
-      answered = ap₂ Merged (call .quotient .ensures .counted) (written-size _ (outcome write) _ _ (file write) (told .written .given .1));
+      answered = ap₂ Merged (call .quotient .ensures .counted) (written-size _ _ (outcome write) _ _ (file write) (told .written .given .1));
       numbered = call .quotient .ensures .numbered;
       written = ap (λ (o : WriteOutcome). o .out) (file write);
     }
@@ -143,7 +149,7 @@ returns-2 : tie.Need-returns-2
 returns-2 c =
     let told = c .before in
     let write = wrote (told .before .before) in
-    absurd (written-not-refused _ (outcome write) _ _ (file write) (told .written2 .given .1))
+    absurd (written-not-refused _ _ (outcome write) _ _ (file write) (told .written2 .given .1))
 
 pub merge-circuit-spec : {M : Type 1} → statement M
 merge-circuit-spec =
@@ -157,12 +163,12 @@ merge-circuit-spec =
     slice-aggregate-quotient-5
     quotient-requires
     array-share-prefix-mk
-    slice-aggregate-write
+    slice-aggregate-write-circuit
     array-share-prefix-ms
-    slice-aggregate-write-2
+    slice-aggregate-write-circuit-2
     array-share-prefix-me
-    slice-aggregate-write-3
-    write-requires
+    slice-aggregate-write-circuit-3
+    write-circuit-requires
     enum-known-written
     enum-known-written-2
     same-length

@@ -9,10 +9,24 @@ use Rattle.file_format.specs.Refusals.{first}
 use Rattle.file_format.proofs.Refusals.{verdict-number, byNumber, number-turned, number-accept, range-bounds}
 use Rattle.file_write.specs.declared.WriteAnswer.the-variants.{Refused}
 use Rattle.file_write.specs.Writing.{circuitConditions}
-use Rattle.file_write.proofs.Writing.{answer-turned, answer-accept, verdict-2, verdict-3, verdict-links}
+use Rattle.file_write.proofs.Writing.{answer-turned, answer-accept, verdict-2, verdict-3, verdict-3-packages, verdict-links}
 use borrow.Author.Needs.{needs}
 use Rattle.file_write.proofs.check.check.Statement.{statement}
 use Rattle.file_write.proofs.check.check.Tie as tie
+
+-- where there are as many starts as ends, and as many packages as there should be, the verdict is that of the links
+abbrev entry : tie.After-test-links → tie.Start
+entry c = c .before .before .before .before .before .before .before .before .before .before .before
+
+by-links :
+    (c : tie.After-test-links) →
+    let a = entry c .args in
+    first (circuitConditions (a .role) (a .edition) (now (a .kinds)) (now (a .packages)) (now (a .starts)) (now (a .ends))) ≡ byNumber (a .role) (c .test-links .result .number)
+by-links c =
+    verdict-links _ _ _ _ _ _ (sym (c .before .before .before .before .before .before .in-range .ensures) ∙ not-false _ (c .before .before .before .before .before .if1 .left)) (c .before .before .before .before .if2 .left)
+    (sym (c .before .before .package-count2 .ensures .0) ∙ c .before .if3 .left ∙ c .before .before .before .package-count .ensures .0)
+    ∙ verdict-number _ _ _ _
+    ∙ ap (byNumber (entry c .args .role)) (sym (c .test-links .ensures .number))
 
 in-range-requires : tie.Need-in-range-requires
 in-range-requires c κs = search needs
@@ -23,7 +37,7 @@ refusal-requires c κs = search needs
 returns : tie.Need-returns
 returns c =
     ap Refused (c .refusal .ensures)
-    ∙ sym (answer-turned _ _ _ _ (verdict-2 _ _ _ _ (sym (c .before .before .in-range .ensures) ∙ not-true _ (c .before .if1 .taken))))
+    ∙ sym (answer-turned _ _ _ _ (verdict-2 _ _ _ _ _ _ (sym (c .before .before .in-range .ensures) ∙ not-true _ (c .before .if1 .taken))))
 
 refusal-requires-2 : tie.Need-refusal-requires-2
 refusal-requires-2 c κs = search needs
@@ -31,41 +45,61 @@ refusal-requires-2 c κs = search needs
 returns-2 : tie.Need-returns-2
 returns-2 c =
     ap Refused (c .refusal2 .ensures)
-    ∙ sym (answer-turned _ _ _ _ (verdict-3 _ _ _ _ (sym (c .before .before .before .in-range .ensures) ∙ not-false _ (c .before .before .if1 .left)) (c .before .if2 .taken)))
+    ∙ sym (answer-turned _ _ _ _ (verdict-3 _ _ _ _ _ _ (sym (c .before .before .before .in-range .ensures) ∙ not-false _ (c .before .before .if1 .left)) (c .before .if2 .taken)))
 
-test-links-requires : tie.Need-test-links-requires
-test-links-requires c κs = (true-T (sym (c .before .before .in-range .ensures) ∙ not-false _ (c .before .if1 .left)), c .if2 .left)
+package-count-requires : tie.Need-package-count-requires
+package-count-requires c κs = search needs
+
+package-count-requires-2 : tie.Need-package-count-requires-2
+package-count-requires-2 c κs = search needs
 
 refusal-requires-3 : tie.Need-refusal-requires-3
 refusal-requires-3 c κs = search needs
 
--- where there are as many starts as ends, the verdict is that of the links
-by-links : (c : tie.After-test-links) → first (circuitConditions (c .before .before .before .before .before .before .before .args .role) (now (c .before .before .before .before .before .before .before .args .kinds)) (now (c .before .before .before .before .before .before .before .args .starts)) (now (c .before .before .before .before .before .before .before .args .ends))) ≡ byNumber (c .before .before .before .before .before .before .before .args .role) (c .test-links .result .number)
-by-links c =
-    verdict-links _ _ _ _ (sym (c .before .before .before .in-range .ensures) ∙ not-false _ (c .before .before .if1 .left)) (c .before .if2 .left)
-    ∙ verdict-number _ _ _ _
-    ∙ ap (byNumber (c .before .before .before .before .before .before .before .args .role)) (sym (c .test-links .ensures .number))
-
 returns-3 : tie.Need-returns-3
 returns-3 c =
     ap Refused (c .refusal3 .ensures)
-    ∙ sym (answer-turned _ _ _ _ (by-links (c .before .before .before) ∙ number-turned _ _ (c .before .if3 .taken)))
+    ∙ sym
+    (answer-turned _ _ _ _
+    (verdict-3-packages _ _ _ _ _ _ (sym (c .before .before .before .before .before .before .in-range .ensures) ∙ not-false _ (c .before .before .before .before .before .if1 .left)) (c .before .before .before .before .if2 .left)
+    (λ q. c .before .if3 .taken (c .before .before .package-count2 .ensures .0 ∙ q ∙ sym (c .before .before .before .package-count .ensures .0)))))
 
-mul-t11 : tie.Need-mul-t11
-mul-t11 c = search needs
+test-links-requires : tie.Need-test-links-requires
+test-links-requires c κs = (true-T (sym (c .before .before .before .before .before .in-range .ensures) ∙ not-false _ (c .before .before .before .before .if1 .left)), c .before .before .before .if2 .left)
 
-add-t14 : tie.Need-add-t14
-add-t14 c = search needs
-
-mul-t15 : tie.Need-mul-t15
-mul-t15 c = search needs
-
-add-t16 : tie.Need-add-t16
-add-t16 c =
-    omega (arith, range-bounds (c .before .before .before .before .before .before .before .before .before .args .role) (length (now (c .before .before .before .before .before .before .before .before .before .args .kinds))) (length (now (c .before .before .before .before .before .before .before .before .before .args .starts))) (true-T (sym (c .before .before .before .before .before .in-range .ensures) ∙ not-false _ (c .before .before .before .before .if1 .left))))
+refusal-requires-4 : tie.Need-refusal-requires-4
+refusal-requires-4 c κs = search needs
 
 returns-4 : tie.Need-returns-4
-returns-4 c = sym (answer-accept _ _ (by-links (c .before .before) ∙ number-accept _ _ (c .if3 .left)))
+returns-4 c =
+    ap Refused (c .refusal4 .ensures)
+    ∙ sym (answer-turned _ _ _ _ (by-links (c .before .before .before) ∙ number-turned _ _ (c .before .if4 .taken)))
+
+mul-t14 : tie.Need-mul-t14
+mul-t14 c = search needs
+
+add-t16 : tie.Need-add-t16
+add-t16 c = search needs
+
+mul-t19 : tie.Need-mul-t19
+mul-t19 c = search needs
+
+add-t20 : tie.Need-add-t20
+add-t20 c =
+    let a = c .before .before .before .before .before .before .before .before .before .before .before .before .before .args in
+    omega (arith, c .before .before .before .before .before .package-count .ensures .1, range-bounds (a .role) (length (now (a .kinds))) (length (now (a .starts))) (true-T (sym (c .before .before .before .before .before .before .before .before .in-range .ensures) ∙ not-false _ (c .before .before .before .before .before .before .before .if1 .left))))
+
+mul-t21 : tie.Need-mul-t21
+mul-t21 c = search needs
+
+add-t22 : tie.Need-add-t22
+add-t22 c =
+    let a = c .before .before .before .before .before .before .before .before .before .before .before .before .before .args in
+    omega (arith, c .before .before .before .before .before .package-count .ensures .1, range-bounds (a .role) (length (now (a .kinds))) (length (now (a .starts))) (true-T (sym (c .before .before .before .before .before .before .before .before .in-range .ensures) ∙ not-false _ (c .before .before .before .before .before .before .before .if1 .left))))
+
+returns-5 : tie.Need-returns-5
+returns-5 c =
+    rw (c .before .before .before .before .before .package-count .ensures .0) (sym (answer-accept _ _ (by-links (c .before .before) ∙ number-accept _ _ (c .if4 .left))))
 
 pub check-spec : {M : Type 1} → statement M
 check-spec =
@@ -76,11 +110,17 @@ check-spec =
     returns
     refusal-requires-2
     returns-2
-    test-links-requires
+    package-count-requires
+    package-count-requires-2
     refusal-requires-3
     returns-3
-    mul-t11
-    add-t14
-    mul-t15
+    test-links-requires
+    refusal-requires-4
+    returns-4
+    mul-t14
     add-t16
-    returns-4)
+    mul-t19
+    add-t20
+    mul-t21
+    add-t22
+    returns-5)

@@ -1,0 +1,3 @@
+pub mod Packages
+pub mod Converting
+pub mod Promise

@@ -1,0 +1,47 @@
+-- Packages other than 0, and whether an edition loses them. Assumes nothing.
+use mathlib.Core.Bool.{Bool, true, false, not}
+use mathlib.Core.List.{List}
+use mathlib.Core.Logic.{⊎-elim}
+use mathlib.Core.Path.{_≡_, refl, subst}
+use Prim.Native.Nat.{ℕ, _<_}
+use native.Mathlib.Decide.{decLt}
+use native.Mathlib.Omega.{arith}
+use lib.Dec.{T, eqb, eqb→eq}
+use lib.ListN.{length, getD, List·getD-eq-default}
+use Rattle.base_lists.specs.List.{any}
+use Rattle.base_lists.proofs.Tests.{T-true, T-false, false-T, decide, any-at, at-any}
+use Rattle.file_format.specs.declared.Edition.{Edition}
+use Rattle.file_format.specs.declared.Edition.the-variants.{First, Second}
+use Rattle.file_format.specs.Refusals.{lostPackage}
+
+not-T : (b : Bool) → (T b → ⊥) → T (not b)
+not-T true f = absurd (f tt)
+not-T false f = tt
+
+-- the first edition loses one that is other than 0
+pub lost-some : (ps : List ℕ) (v : ℕ) → v < length ps → (getD ps v 0 ≡ 0 → ⊥) → lostPackage First ps ≡ true
+unfolding lostPackage
+lost-some ps v h other = T-true (at-any (λ p. not (eqb p 0)) ps v h (not-T (eqb (getD ps v 0) 0) (λ t. other (eqb→eq (getD ps v 0) 0 t))))
+
+-- where it loses none, they are all 0
+pub lost-none : (ps : List ℕ) → lostPackage First ps ≡ false → (v : ℕ) → getD ps v 0 ≡ 0
+unfolding lostPackage
+lost-none ps e v = go (decLt v (length ps))
+  where
+    go : Dec (v < length ps) → getD ps v 0 ≡ 0
+    go (no h) = List·getD-eq-default ps 0 {n = v} (omega arith)
+    go (yes h) =
+        ⊎-elim (λ t. eqb→eq (getD ps v 0) 0 t)
+        (λ f. absurd (false-T e (at-any (λ p. not (eqb p 0)) ps v h (not-T (eqb (getD ps v 0) 0) f))))
+        (decide (eqb (getD ps v 0) 0))
+
+-- the other way round
+pub none-lost : (to : Edition) (ps : List ℕ) → ((v : ℕ) → v < length ps → getD ps v 0 ≡ 0) → lostPackage to ps ≡ false
+unfolding lostPackage
+none-lost Second ps zero = refl
+none-lost First ps zero = T-false (λ t. let (v, h, n) = any-at (λ p. not (eqb p 0)) ps t in subst (λ (x : ℕ). T (not (eqb x 0))) (zero v h) n)
+
+-- the second edition loses none
+pub second-kept : (ps : List ℕ) → lostPackage Second ps ≡ false
+unfolding lostPackage
+second-kept ps = refl

@@ -1,0 +1,25 @@
+-- `heronditch::second::heronditch_merge_2` meets its contract: the call of the crate below, its reply as numbers. Assumes nothing.
+use mathlib.Core.Path.{ap}
+use Rattle.heronditch.specs.Host.{hostMerge}
+use borrow.Author.Needs.{needs}
+use Rattle.heronditch.proofs.second.heronditch_merge_2.Statement.{statement}
+use Rattle.heronditch.proofs.second.heronditch_merge_2.Tie as tie
+
+merge-requires : tie.Need-merge-requires
+merge-requires c κs = search needs
+
+of-merge-requires : tie.Need-of-merge-requires
+of-merge-requires c κs = search needs
+
+same-length : tie.Need-same-length
+same-length c = search needs
+
+same-length-2 : tie.Need-same-length-2
+same-length-2 c = search needs
+
+returns : tie.Need-returns
+unfolding hostMerge
+returns c = rw (c .of-merge .ensures) (ap hostMerge (c .before .before .before .before .before .merge .ensures))
+
+pub heronditch-merge-2-spec : {M : Type 1} → statement M
+heronditch-merge-2-spec = tie.close (tie.spec merge-requires of-merge-requires same-length same-length-2 returns)
