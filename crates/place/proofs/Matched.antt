@@ -28,8 +28,8 @@ use Rattle.graph.proofs.Reached.{bfs-listed}
 use Rattle.table.specs.Fill.{listed, marksOf, Distinct, NodeList}
 use Rattle.table.specs.Prepared.{succOf, predOf, Tables, masksOf, Prepared}
 use Rattle.place.specs.Match.{ballOf, distancesOf, matches, matchStarts, matchEnds, component}
-use Rattle.table.specs.Follow.{meeting}
-use Rattle.table.proofs.Following.{meeting-occurs}
+use Rattle.graph_follow.specs.Follow.{meeting}
+use Rattle.graph_follow.proofs.Following.{meeting-occurs}
 use Rattle.place.specs.Spread.{matched, Spread}
 use Rattle.place.proofs.Links.{match-kept, match-within}
 use Rattle.place.proofs.Masks.{MaskTable, mask-table, matches-forward, matches-backward}

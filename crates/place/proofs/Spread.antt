@@ -26,8 +26,8 @@ use Rattle.graph.proofs.BfsScan.{lt-or-le, elem, elem-occurs, occurs-elem, afte
 use Rattle.graph.proofs.Reached.{Near, Listed, listed-scan, listed-start}
 use Rattle.table.specs.Fill.{Distinct}
 use Rattle.table.specs.Prepared.{succOf, predOf, Tables}
-use Rattle.table.specs.Follow.{meeting}
-use Rattle.table.proofs.Following.{meeting-below}
+use Rattle.graph_follow.specs.Follow.{meeting}
+use Rattle.graph_follow.proofs.Following.{meeting-below}
 use Rattle.place.specs.Spread.{matched, Reached, ClosedSet, Spread, Lists}
 
 -- the looks along a node's two stretches are visits of the nodes that matching links join to it

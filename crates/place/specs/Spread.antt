@@ -11,7 +11,7 @@ use Rattle.base_bits.specs.Bits.{unionOver}
 use Rattle.graph.specs.Net.{driven, driving}
 use Rattle.graph.specs.Search.{far}
 use Rattle.table.specs.Fill.{NodeList}
-use Rattle.table.specs.Follow.{meeting}
+use Rattle.graph_follow.specs.Follow.{meeting}
 use Rattle.table.specs.Prepared.{succOf, predOf, Tables}
 
 -- The nodes that a matching link joins to node v, directions ignored. What the parts of v's set drive is one union, what drives them another.

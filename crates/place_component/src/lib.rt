@@ -12,7 +12,7 @@ use graph_neighbours::neighbours::neighbours_in;
 use graph_search::fill;
 use place::parts::driven_parts;
 use place::parts::driving_parts;
-use table::follow::follow;
+use graph_follow::follow;
 
 // Looks at the neighbours of node v: what it drives, then what drives it.
 fn expand(

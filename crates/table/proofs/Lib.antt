@@ -9,7 +9,6 @@ pub mod Host
 pub mod Answer
 pub mod PreparedMasks
 pub mod StrikeFill
-pub mod Following
 mod Pending
 mod Waking
 mod StrikeDue

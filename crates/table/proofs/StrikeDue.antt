@@ -17,11 +17,11 @@ use Rattle.base_bits.specs.Bits.{unionAt}
 use Rattle.graph.specs.Net.{driven, driving, NetOf, Net}
 use Rattle.graph.proofs.Net.{driven-below, driving-below, driven-link, driving-link}
 use Rattle.table.specs.Fill.{listed, fillAt}
-use Rattle.table.specs.Follow.{beside}
+use Rattle.graph_follow.specs.Follow.{beside}
 use Rattle.table.specs.Pending.{changing}
 use Rattle.table.specs.Prepared.{succOf, predOf, Tables, Ready}
 use Rattle.table.specs.Strike.{survivors, strikeNode, strikeTable, Mutual, Covers}
-use Rattle.table.proofs.Following.{beside-occurs}
+use Rattle.graph_follow.proofs.Following.{beside-occurs}
 use Rattle.table.proofs.Pending.{listed-changing, listed-occurs, occurs-listed}
 use Rattle.table.proofs.StrikeFill.{length-fill, getD-fill}
 use Rattle.table.proofs.StrikeSets.{survivors-again, strike-none}

@@ -32,12 +32,12 @@ use Rattle.table_row.proofs.Begin.{begins-fits, begins-times, begins-rest}
 use Rattle.table.specs.Row.{inTable, pairs, problemOf, startTable, lastTable, rounds}
 use Rattle.table.specs.Fill.{listed, marksOf, NodeList, Cleared, fillAt}
 use Rattle.table.specs.First.{Begins}
-use Rattle.table.specs.Follow.{beside}
+use Rattle.graph_follow.specs.Follow.{beside}
 use Rattle.table.specs.Pending.{changing, Pending, putAt, Put}
 use Rattle.table.specs.Prepared.{Tables, Ready, Prepared}
 use Rattle.table.specs.Refine.{Rested}
 use Rattle.table.specs.Strike.{strikeNode, strikeTable, strikeTimes, Mutual, Covers, Due, Round, Settled}
-use Rattle.table.proofs.Following.{beside-below}
+use Rattle.graph_follow.proofs.Following.{beside-below}
 use Rattle.table.proofs.NodeLists.{list-few}
 use Rattle.table.proofs.Pending.{occurs-listed, changing-below, put-fill}
 use Rattle.table.proofs.StrikeDue.{length-strike, strike-at, covers-changing, fill-strike, changing-differs, covers-next, net-mutual}

@@ -8,5 +8,4 @@ pub mod Answer
 pub mod Reply
 pub mod Examples
 pub mod Strike
-pub mod Follow
 pub mod Pending

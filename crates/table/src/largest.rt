@@ -2,11 +2,11 @@
 use crate::Counts;
 use crate::Rest;
 use crate::strike::changes;
+use crate::strike::unmark;
 use crate::strike::write;
-use crate::wake::unmark;
-use crate::wake::wake;
 use file_format::Board;
 use graph::UNREACHED;
+use graph_follow::wake;
 ghost use mathlib.Core.Path.{_≡_};
 ghost use Prim.Native.Nat.{_≤_};
 ghost use lib.ListN.{length, replicate};

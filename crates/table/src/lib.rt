@@ -6,10 +6,8 @@ pub const MASKS: usize = 64;
 pub const FORWARD_MASKS: usize = 32;
 
 pub mod first;
-pub mod follow;
 pub mod largest;
 mod strike;
-mod wake;
 
 // The pairs at first, those left and those struck, and how many rounds struck a pair.
 pub struct Counts {

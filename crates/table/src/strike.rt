@@ -3,6 +3,7 @@
 // and its pairs once. The next sets are listed first, each from the table whole, and then written.
 use crate::FORWARD_MASKS;
 use crate::MASKS;
+use graph::UNREACHED;
 use graph_neighbours::neighbours::Direction;
 use graph_neighbours::neighbours::neighbours_in;
 ghost use mathlib.Core.Path.{_≡_};
@@ -10,6 +11,8 @@ ghost use Prim.Native.Nat.{_^_, _≤_, _<_};
 ghost use lib.ListN.{length};
 ghost use Rattle.base_bits.specs.Bits.{unionAt};
 ghost use Rattle.base_lists.specs.List.{Below};
+ghost use Rattle.graph.specs.Search.{far};
+ghost use Rattle.table.specs.Fill.{fillAt};
 ghost use Rattle.table.specs.Pending.{Noted, Pending, Put};
 ghost use Rattle.table.specs.Prepared.{tables, Ready};
 ghost use Rattle.table.specs.Row.{pairs};
@@ -127,4 +130,17 @@ pub fn write(nodes: &[u16], sets: &[u32], table: &mut [u32], started: u32) -> u3
         i += 1;
     }
     kept
+}
+
+// Takes the marks of a list of nodes away.
+pub fn unmark(todo: &[u16], marks: &mut [u16])
+    requires { ⌜ Below (length (now marks)) (now todo) ⌝ }
+    ensures { λ _. ⌜ now (marks .exit) ≡ fillAt (λ v. far) (now (todo .entry)) (now (marks .entry)) ⌝ }
+{
+    let mut i = 0;
+    while i < todo.len() {
+        let v = todo[i] as usize;
+        marks[v] = UNREACHED;
+        i += 1;
+    }
 }

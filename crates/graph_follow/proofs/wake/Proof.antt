@@ -1,4 +1,4 @@
--- `table::wake::wake` meets its contract. The loop's invariant: from the state that the tables stand for, the nodes that are left lead to the
+-- `graph_follow::wake` meets its contract. The loop's invariant: from the state that the tables stand for, the nodes that are left lead to the
 -- state that all of them lead to. The measure is how many are left. Assumes nothing.
 use mathlib.Core.Path.{_≡_, refl, sym, ap, _∙_}
 use Prim.Native.Nat.{_-_, _≤_, _<_}
@@ -8,10 +8,10 @@ use denote.Ref.{now}
 use lib.ListN.{length, getD, drop}
 use Rattle.base_lists.specs.List.{Below}
 use Rattle.graph.specs.Bfs.{level, stateOf, Searching}
-use Rattle.table.specs.Follow.{beside}
+use Rattle.graph_follow.specs.Follow.{beside}
 use Rattle.graph.proofs.BfsSteps.{level-next, level-end}
-use Rattle.table.proofs.wake.wake.Statement.{statement}
-use Rattle.table.proofs.wake.wake.Tie as tie
+use Rattle.graph_follow.proofs.wake.Statement.{statement}
+use Rattle.graph_follow.proofs.wake.Tie as tie
 
 abbrev Inv-loop : tie.InvT-loop
 Inv-loop changed offsets links sets marks₀ todo₀ tail₀ i₀ marks todo tail i =

@@ -20,7 +20,7 @@ use Rattle.graph.proofs.Below.{below-append}
 use Rattle.graph.proofs.Net.{driven-below, driving-below}
 use Rattle.graph.proofs.BfsSteps.{scan-append}
 use Rattle.graph.proofs.BfsScan.{occurs-append}
-use Rattle.table.specs.Follow.{meeting, look, anyPart, beside}
+use Rattle.graph_follow.specs.Follow.{meeting, look, anyPart, beside}
 
 -- ---- the nodes of a list that the search looks at
 

@@ -1,13 +1,13 @@
--- `table::wake::wake_beside` meets its contract: the looks along the two stretches are visits of what lies beside the node. Assumes nothing.
+-- `graph_follow::wake_beside` meets its contract: the looks along the two stretches are visits of what lies beside the node. Assumes nothing.
 use mathlib.Core.Path.{sym, _∙_}
 use borrow.Author.Needs.{needs}
 use denote.Ref.{now}
 use Rattle.graph_neighbours.specs.Lookup.{neighboursIn}
 use Rattle.graph_neighbours.proofs.Lookup.{neighbours-below}
-use Rattle.table.proofs.Following.{beside-scan}
+use Rattle.graph_follow.proofs.Following.{beside-scan}
 use borrow.Author.Needs.{needs}
-use Rattle.table.proofs.wake.wake_beside.Statement.{statement}
-use Rattle.table.proofs.wake.wake_beside.Tie as tie
+use Rattle.graph_follow.proofs.wake_beside.Statement.{statement}
+use Rattle.graph_follow.proofs.wake_beside.Tie as tie
 
 neighbours-in-requires : tie.Need-neighbours-in-requires
 neighbours-in-requires c κs = let s = c .before .before .before .before .before in record { nodes = _; net = s .pre .1 .0; node = s .pre .1 .1 .1 }

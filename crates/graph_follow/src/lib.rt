@@ -1,21 +1,54 @@
-// Which nodes are to be looked at in the next round: those beside a node that changed in the last one. A table of marks has `UNREACHED` for a
-// node that is not listed, so that each is listed once; it is left as it was found, so that no round touches more than its own nodes.
-use crate::follow::follow;
-use graph::UNREACHED;
+// Following links to nodes by their sets, a number of at most 32 bits each. Nodes that are reached are marked and listed once, as in a search.
 use graph_neighbours::neighbours::Direction;
 use graph_neighbours::neighbours::neighbours_in;
+use graph_search::visit;
 ghost use mathlib.Core.Path.{_≡_};
 ghost use Prim.Native.Nat.{_<_};
 ghost use lib.ListN.{length};
 ghost use Rattle.base_lists.specs.List.{Below};
 ghost use Rattle.graph.specs.Bfs.{scan, level, stateOf, Searching, Searched};
 ghost use Rattle.graph.specs.Net.{Net};
-ghost use Rattle.graph.specs.Search.{far};
-ghost use Rattle.table.specs.Fill.{fillAt};
-ghost use Rattle.table.specs.Follow.{beside};
+ghost use Rattle.graph_follow.specs.Follow.{meeting, look, beside};
 
-// Every part: a set meets it unless it is empty.
+// Every number: a set meets it unless it is empty.
 const ANY: u32 = 4294967295;
+
+// Looks at node v along a link: it is reached now where its set has a part of `set`.
+fn look(v: u16, set: u32, sets: &[u32], dist: &mut [u16], queue: &mut [u16], tail: usize) -> usize
+    requires { ⌜ Searching (now dist) (now queue) tail ⌝ }
+    requires { ⌜ v < length (now dist) ⌝ }
+    requires { ⌜ length (now sets) ≡ length (now dist) ⌝ }
+    ensures { λ r. ⌜ Searched (now (dist .exit)) (now (queue .exit)) r (look set (now (sets .entry)) (stateOf (now (dist .entry)) (now (queue .entry)) tail) v) ⌝ }
+{
+    let i = v as usize;
+    if base_bits::meets(set, sets[i]) {
+        return visit(v, 0, dist, queue, tail);
+    }
+    tail
+}
+
+// Looks at each node of a list of neighbours.
+pub fn follow(
+    part: &[u16],
+    set: u32,
+    sets: &[u32],
+    dist: &mut [u16],
+    queue: &mut [u16],
+    from: usize,
+) -> usize
+    requires { ⌜ Searching (now dist) (now queue) from ⌝ }
+    requires { ⌜ Below (length (now dist)) (now part) ⌝ }
+    requires { ⌜ length (now sets) ≡ length (now dist) ⌝ }
+    ensures { λ r. ⌜ Searched (now (dist .exit)) (now (queue .exit)) r (scan 0 (stateOf (now (dist .entry)) (now (queue .entry)) from) (meeting set (now (sets .entry)) (now (part .entry)))) ⌝ }
+{
+    let mut tail = from;
+    let mut i = 0;
+    while i < part.len() {
+        tail = look(part[i], set, sets, dist, queue, tail);
+        i += 1;
+    }
+    tail
+}
 
 // Lists the nodes beside v, either way, whose sets are not empty.
 fn wake_beside(
@@ -74,17 +107,4 @@ pub fn wake(
         i += 1;
     }
     tail
-}
-
-// Takes the marks of a list of nodes away.
-pub fn unmark(todo: &[u16], marks: &mut [u16])
-    requires { ⌜ Below (length (now marks)) (now todo) ⌝ }
-    ensures { λ _. ⌜ now (marks .exit) ≡ fillAt (λ v. far) (now (todo .entry)) (now (marks .entry)) ⌝ }
-{
-    let mut i = 0;
-    while i < todo.len() {
-        let v = todo[i] as usize;
-        marks[v] = UNREACHED;
-        i += 1;
-    }
 }

@@ -1,4 +1,4 @@
--- `table::wake::unmark` meets its contract. The loop's invariant: the marks that are left to take away lead to the whole. The measure is how
+-- `table::strike::unmark` meets its contract. The loop's invariant: the marks that are left to take away lead to the whole. The measure is how
 -- many are left. Assumes nothing.
 use native.Mathlib.Numerals.{add-one}
 use lib.ListN.{set, length-set, drop-of-length-le}
@@ -13,8 +13,8 @@ use lib.ListN.{length, getD, drop}
 use Rattle.base_lists.specs.List.{Below}
 use Rattle.graph.specs.Search.{far}
 use Rattle.table.specs.Fill.{fillAt}
-use Rattle.table.proofs.wake.unmark.Statement.{statement}
-use Rattle.table.proofs.wake.unmark.Tie as tie
+use Rattle.table.proofs.strike.unmark.Statement.{statement}
+use Rattle.table.proofs.strike.unmark.Tie as tie
 
 abbrev Inv-loop : tie.InvT-loop
 Inv-loop todo marks₀ i₀ marks i = (i ≤ length todo) × (length marks ≡ length marks₀) × (fillAt (λ v. far) (drop i todo) marks ≡ fillAt (λ v. far) todo marks₀)
