@@ -7,12 +7,12 @@ ghost use Rattle.graph.specs.Bfs.{scan, stateOf, Searching, Searched};
 ghost use Rattle.table.specs.Prepared.{tables, Ready};
 ghost use Rattle.place.specs.Spread.{matched, Spread, Lists};
 use graph::UNREACHED;
+use graph_follow::follow;
 use graph_neighbours::neighbours::Direction;
 use graph_neighbours::neighbours::neighbours_in;
 use graph_search::fill;
 use place::parts::driven_parts;
 use place::parts::driving_parts;
-use graph_follow::follow;
 
 // Looks at the neighbours of node v: what it drives, then what drives it.
 fn expand(
