@@ -64,16 +64,16 @@ clean : (loop : tie.At-loop Inv-loop μ-loop) → loop .loop .marks ≡ replicat
 clean loop = rw (loop .loop .inv .3) (loop .loop .inv .2)
 
 slice-reshare-prefix-write : tie.Need-slice-reshare-prefix-write Inv-loop μ-loop
-slice-reshare-prefix-write c = omega (arith, room (c .before) .0, c .loop-test .taken)
+slice-reshare-prefix-write c = room (c .before) .0
 
 slice-aggregate-write : tie.Need-slice-aggregate-write Inv-loop μ-loop
-slice-aggregate-write c = sym (length-take-le _ _ (omega (arith, room (c .before .before) .0, c .before .loop-test .taken)))
+slice-aggregate-write c = sym (length-take-le _ _ (room (c .before .before) .0))
 
 slice-reshare-prefix-write-2 : tie.Need-slice-reshare-prefix-write-2 Inv-loop μ-loop
-slice-reshare-prefix-write-2 c = omega (arith, room (c .before .before) .1, c .before .loop-test .taken)
+slice-reshare-prefix-write-2 c = room (c .before .before) .1
 
 slice-aggregate-write-2 : tie.Need-slice-aggregate-write-2 Inv-loop μ-loop
-slice-aggregate-write-2 c = sym (length-take-le _ _ (omega (arith, room (c .before .before .before) .1, c .before .before .loop-test .taken)))
+slice-aggregate-write-2 c = sym (length-take-le _ _ (room (c .before .before .before) .1))
 
 write-requires : tie.Need-write-requires Inv-loop μ-loop
 write-requires c κs =
@@ -119,10 +119,10 @@ wake-requires c κs =
     )
 
 slice-reshare-prefix-listed : tie.Need-slice-reshare-prefix-listed Inv-loop μ-loop
-slice-reshare-prefix-listed c = omega (arith, c .before .before .before .before .wake .ensures .kept .within)
+slice-reshare-prefix-listed c = c .before .before .before .before .wake .ensures .kept .within
 
 slice-aggregate-listed : tie.Need-slice-aggregate-listed Inv-loop μ-loop
-slice-aggregate-listed c = sym (length-take-le _ _ (omega (arith, c .before .before .before .before .before .wake .ensures .kept .within)))
+slice-aggregate-listed c = sym (length-take-le _ _ (c .before .before .before .before .before .wake .ensures .kept .within))
 
 -- what lies beside the nodes that changed is to be looked at
 due : (c : tie.After-wake Inv-loop μ-loop) →
