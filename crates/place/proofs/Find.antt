@@ -1,14 +1,17 @@
 -- Finding the place from a first table: from what it starts from to what it comes to, and what is then marked. Assumes nothing.
-use mathlib.Core.Bool.{true, false, not}
+use mathlib.Core.Bool.{Bool, true, false, not, cond}
 use mathlib.Core.List.{List}
-use mathlib.Core.Path.{_≡_, refl, sym, ap, _∙_}
+use mathlib.Core.Path.{_≡_, refl, sym, ap, _∙_, subst}
 use Prim.Native.Nat.{ℕ, _^_, _≤_, _<_, zero-le}
-use lib.Dec.{eqb}
+use borrow.Author.Tests.{eqb-false}
+use lib.Dec.{T, eqb}
 use lib.ListN.{length, getD, take}
 use Rattle.base_lists.specs.List.{Below}
 use Rattle.base_lists.proofs.Tests.{true-T, false-T}
+use Rattle.base_lists.proofs.Tables.{tabulate-same}
+use Rattle.base_bits.specs.Bits.{intersects, unionOver}
 use Rattle.graph.specs.Bfs.{bfs, adjacent, Found as Searched}
-use Rattle.graph.specs.Circuit.{Circuit}
+use Rattle.graph.specs.Circuit.{Circuit, HasLink}
 use Rattle.graph.specs.Net.{Net}
 use Rattle.graph.specs.Rising.{LinksRise}
 use Rattle.graph.specs.Search.{far, inside}
@@ -23,17 +26,20 @@ use Rattle.table.specs.Fill.{marksOf, NodeList, tableAt}
 use Rattle.table.specs.First.{Begins}
 use Rattle.table.specs.Prepared.{succOf, Tables, Prepared, Ready}
 use Rattle.table.specs.Refine.{Known, Rested}
-use Rattle.table.specs.Row.{problemOf}
+use Rattle.table.specs.Host.{everything}
+use Rattle.table.specs.Row.{problemOf, lastTable}
+use Rattle.table.proofs.Meaning.{last-fits}
 use Rattle.table.proofs.Sets.{fits-word}
-use Rattle.place.specs.Match.{ballOf, distancesOf, ballTable, found, placeNodes, placeLinks, placeTable}
-use Rattle.place.specs.Spread.{matched, Spread, Lists}
-use Rattle.place.specs.Bytes.{linkBytes, nodeSets, linkMarks}
+use Rattle.place.specs.Match.{ballOf, distancesOf, ballTable, matches, found, placeNodes, placeLinks, placeTable}
+use Rattle.place.specs.Spread.{matched, Reached, Spread, Lists}
+use Rattle.place.specs.Bytes.{drivenBy, linkByte, linkBytes, nodeSets, linkMarks}
 use Rattle.place.specs.Find.{Tabled, Sought, Located, FoundIn}
 use Rattle.place.proofs.Ball.{ball-fits}
 use Rattle.place.proofs.Bytes.{bytes-nodes, bytes-links, sets-table}
 use Rattle.place.proofs.Listed.{marks-bytes, table-sets, links-bytes}
-use Rattle.place.proofs.Matched.{found-short, found-list, found-distances, found-marks, forward-test, spread-component}
+use Rattle.place.proofs.Matched.{found-short, found-list, found-distances, found-marks, found-inside, forward-test, spread-component}
 use Rattle.place.proofs.Outcome.{found-none, found-some}
+use Rattle.place.proofs.Whole.{part-same, part-spread, matches-same}
 
 -- ---- the ball
 
@@ -51,7 +57,7 @@ module _ {pattern board : Circuit} {t : Tables} (d : Tabled pattern board t) whe
   abbrev size : ℕ
   size = length (board .kinds)
 
-  tabled-joins : Within size (board .starts) (board .ends)
+  pub tabled-joins : Within size (board .starts) (board .ends)
   unfolding Below
   tabled-joins = within size (board .starts) (board .ends) (d .starts) (d .ends)
 
@@ -73,6 +79,10 @@ module _ {pattern board : Circuit} {t : Tables} (d : Tabled pattern board t) whe
     pub ball-measured : dist ≡ distancesOf board w r
     ball-measured = found-distances (d .prepared) tabled-joins w r h k dist queue f
 
+    -- each node that it reached is in the ball
+    pub ball-reached : (v : ℕ) → v < size → Reached dist v → T (inside (ballOf board w r) v)
+    ball-reached = found-inside (d .prepared) tabled-joins w r h k dist queue f
+
     pub ball-sought : {first : List ℕ} → Begins pattern board (marksOf size (take k queue)) first → Sought pattern board t w r (take k queue) first
     ball-sought b =
         record {
@@ -82,6 +92,102 @@ module _ {pattern board : Circuit} {t : Tables} (d : Tabled pattern board t) whe
           ball = found-marks (d .prepared) tabled-joins w r h k dist queue f;
           begins = b;
         }
+
+-- ---- the place, from the ball's table and what the search for the component reaches
+
+module _ {pattern board : Circuit} {t : Tables} (d : Tabled pattern board t) {w : ℕ} (r : ℕ) (centre : w < length (board .kinds)) {sets : List ℕ}
+    (ball : sets ≡ ballTable pattern board w r) {dist : List ℕ} (g : Spread (length (board .kinds)) w (matched t sets) dist) where
+  tabled-small : (v : ℕ) → getD (ballTable pattern board w r) v 0 < 2 ^ 32
+  tabled-small = fits-word (d .prepared .parts) (ball-fits pattern board w r)
+
+  tabled-long : length sets ≡ length (board .kinds)
+  tabled-long = ap length ball ∙ ball-fits pattern board w r .size
+
+  tabled-reached : (v : ℕ) → v < length (board .kinds) → inside (placeNodes pattern board w r) v ≡ not (eqb (getD dist v 0) far)
+  unfolding placeNodes
+  tabled-reached = spread-component (d .prepared) (tabled-joins d) (d .parallel) (ballTable pattern board w r) tabled-small w centre dist (rw ball at g)
+
+  tabled-located : (place : List ℕ) → Lists place dist → Located pattern board t w r dist sets place
+  tabled-located place l =
+      record {
+        bytes = bytes-nodes pattern board w r dist (g .size) tabled-reached;
+        links =
+            ap (linkBytes (board .starts) (board .ends) (succOf (t .masks)) dist) ball
+            ∙ bytes-links pattern board w r dist (g .size) tabled-reached (succOf (t .masks)) (d .starts)
+            (forward-test (d .prepared) (tabled-joins d) (d .parallel) (ballTable pattern board w r) tabled-small);
+        table = ap (nodeSets dist) ball ∙ sets-table pattern board w r dist (g .size) tabled-reached;
+        lists = l;
+        size = g .size;
+        long = tabled-long;
+        ready =
+            record {
+              masks = d .prepared .masked .room;
+              net = rw tabled-long (net-of (d .prepared .net));
+              small = λ v. rw ball (tabled-small v);
+            };
+      }
+
+-- Where the ball holds the whole component of the centre in the whole board's match graph, the place is that component with its matching links.
+module _ {pattern board : Circuit} {t : Tables} (d : Tabled pattern board t) (even : length (board .starts) ≡ length (board .ends)) (w r : ℕ)
+    (centre : w < length (board .kinds)) {whole dist : List ℕ} (e : whole ≡ lastTable pattern board (everything board))
+    (g : Spread (length (board .kinds)) w (matched t whole) dist)
+    (held : (v : ℕ) → v < length (board .kinds) → Reached dist v → T (inside (ballOf board w r) v)) where
+  abbrev ballSets : List ℕ
+  ballSets = ballTable pattern board w r
+
+  board-small : (v : ℕ) → getD whole v 0 < 2 ^ 32
+  board-small v = rw e (fits-word (d .prepared .parts) (last-fits pattern board (everything board)) v)
+
+  same-set : (v : ℕ) → v < length (board .kinds) → Reached dist v → getD ballSets v 0 ≡ getD whole v 0
+  same-set = part-same (d .prepared) (tabled-joins d) (d .parallel) w r e g held
+
+  same-sets : nodeSets dist whole ≡ nodeSets dist ballSets
+  unfolding nodeSets
+  same-sets = tabulate-same (length dist) _ _ (λ v h. go v (subst (λ (m : ℕ). v < m) (g .size) h) (eqb (getD dist v 0) far) refl)
+    where
+      go : (v : ℕ) → v < length (board .kinds) → (b : Bool) → eqb (getD dist v 0) far ≡ b → cond b 0 (getD whole v 0) ≡ cond b 0 (getD ballSets v 0)
+      go v h true q = refl
+      go v h false q = sym (same-set v h (eqb-false (getD dist v 0) far q))
+
+  same-links : linkBytes (board .starts) (board .ends) (succOf (t .masks)) dist whole ≡ linkBytes (board .starts) (board .ends) (succOf (t .masks)) dist ballSets
+  unfolding linkBytes linkByte drivenBy HasLink Below
+  same-links = tabulate-same (length (board .starts)) _ _ (λ i h. go i h (eqb (getD dist (getD (board .starts) i 0) 0) far) refl)
+    where
+      forward : (sets : List ℕ) → ((v : ℕ) → getD sets v 0 < 2 ^ 32) → (v v′ : ℕ) →
+          intersects (unionOver (succOf (t .masks)) (getD sets v 0)) (getD sets v′ 0) ≡ matches pattern sets v v′
+      forward sets small = forward-test (d .prepared) (tabled-joins d) (d .parallel) sets small
+
+      go : (i : ℕ) → i < length (board .starts) → (b : Bool) → eqb (getD dist (getD (board .starts) i 0) 0) far ≡ b →
+          _≡_ {A = ℕ} (cond b 0 (cond (intersects (unionOver (succOf (t .masks)) (getD whole (getD (board .starts) i 0) 0)) (getD whole (getD (board .ends) i 0) 0)) 1 0))
+          (cond b 0 (cond (intersects (unionOver (succOf (t .masks)) (getD ballSets (getD (board .starts) i 0) 0)) (getD ballSets (getD (board .ends) i 0) 0)) 1 0))
+      go i h true q = refl
+      go i h false q =
+          let v = getD (board .starts) i 0 in
+          let v′ = getD (board .ends) i 0 in
+          ap (λ (b : Bool). cond b 1 0)
+          (forward whole board-small v v′
+          ∙ matches-same (d .prepared) (tabled-joins d) (d .parallel) w r e g held v v′
+          (i, record { inStarts = h; inEnds = subst (λ (m : ℕ). i < m) even h; start = refl; end = refl }) (d .starts i h) (eqb-false (getD dist v 0) far q)
+          ∙ sym (forward ballSets (tabled-small d r centre refl (part-spread (d .prepared) (tabled-joins d) (d .parallel) w r e g held)) v v′))
+
+  pub whole-located : (place : List ℕ) → Lists place dist → Located pattern board t w r dist whole place
+  whole-located place l =
+      let spread = part-spread (d .prepared) (tabled-joins d) (d .parallel) w r e g held in
+      let q : Located pattern board t w r dist ballSets place = tabled-located d r centre refl spread place l in
+      let long : length whole ≡ length (board .kinds) = ap length e ∙ last-fits pattern board (everything board) .size in
+      record {
+        bytes = q .bytes;
+        links = same-links ∙ q .links;
+        table = same-sets ∙ q .table;
+        lists = l;
+        size = g .size;
+        long = long;
+        ready = record { masks = d .prepared .masked .room; net = rw long (net-of (d .prepared .net)); small = board-small };
+      }
+
+  -- and there is a place, where the centre has a part left
+  pub whole-found : (getD whole w 0 ≡ 0 → ⊥) → found pattern board w r ≡ true
+  whole-found f = found-some pattern board w r ballSets refl (λ q. f (sym (same-set w centre (g .centre)) ∙ q))
 
 -- ---- from a first table
 
@@ -98,28 +204,20 @@ module _ {pattern board : Circuit} {t : Tables} {w r : ℕ} {nodes first : List 
   unfolding problemOf
   sought-long = s .begins .long
 
-  joins : Within n (board .starts) (board .ends)
-  joins = tabled-joins (s .tabled)
-
-  small : (v : ℕ) → getD (ballTable pattern board w r) v 0 < 2 ^ 32
-  small = fits-word (s .tabled .prepared .parts) (ball-fits pattern board w r)
-
   module _ {sets : List ℕ} {rest : Rest} (e : Rested pattern board (marksOf n nodes) first sets rest) where
     -- they end with the ball's table
     pub sets-ball : sets ≡ ballTable pattern board w r
     unfolding ballTable
     sets-ball = rw (← s .ball) (e .last)
 
-    sets-long : length sets ≡ n
-    sets-long = ap length sets-ball ∙ ball-fits pattern board w r .size
-
     -- for which the tables serve
     pub sets-ready : Ready t sets
     sets-ready =
+        let long : length sets ≡ n = ap length sets-ball ∙ ball-fits pattern board w r .size in
         record {
           masks = s .tabled .prepared .masked .room;
-          net = rw sets-long (net-of (s .tabled .prepared .net));
-          small = λ v. rw sets-ball (small v);
+          net = rw long (net-of (s .tabled .prepared .net));
+          small = λ v. rw sets-ball (fits-word (s .tabled .prepared .parts) (ball-fits pattern board w r) v);
         }
 
     -- the centre is struck: there is no place
@@ -135,25 +233,6 @@ module _ {pattern board : Circuit} {t : Tables} {w r : ℕ} {nodes first : List 
 
     -- it is left: what the search for the component reaches is the place
     module _ (dist : List ℕ) (g : Spread n w (matched t sets) dist) where
-      reached : (v : ℕ) → v < n → inside (placeNodes pattern board w r) v ≡ not (eqb (getD dist v 0) far)
-      unfolding placeNodes
-      reached = spread-component (s .tabled .prepared) joins (s .tabled .parallel) (ballTable pattern board w r) small w (s .centre) dist (rw sets-ball at g)
-
-      located : (place : List ℕ) → Lists place dist → Located pattern board t w r dist sets place
-      located place l =
-          record {
-            bytes = bytes-nodes pattern board w r dist (g .size) reached;
-            links =
-                ap (linkBytes (board .starts) (board .ends) (succOf (t .masks)) dist) sets-ball
-                ∙ bytes-links pattern board w r dist (g .size) reached (succOf (t .masks)) (s .tabled .starts)
-                (forward-test (s .tabled .prepared) joins (s .tabled .parallel) (ballTable pattern board w r) small);
-            table = ap (nodeSets dist) sets-ball ∙ sets-table pattern board w r dist (g .size) reached;
-            lists = l;
-            size = g .size;
-            long = sets-long;
-            ready = sets-ready;
-          }
-
       pub found-place : (queue : List ℕ) (k : ℕ) → (getD sets w 0 ≡ 0 → ⊥) → k ≤ length queue → Lists (take k queue) dist
           → FoundIn pattern board t w r nodes first dist queue sets (record { found = true; size = k; rest = rest })
       found-place queue k f h l =
@@ -161,7 +240,7 @@ module _ {pattern board : Circuit} {t : Tables} {w r : ℕ} {nodes first : List 
             rested = e;
             answer = sym (found-some pattern board w r sets sets-ball f);
             short = h;
-            there = λ _. located (take k queue) l;
+            there = λ _. tabled-located (s .tabled) r (s .centre) sets-ball g (take k queue) l;
           }
 
 -- ---- what is marked

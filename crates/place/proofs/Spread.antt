@@ -1,8 +1,8 @@
 -- The search for the component: its steps on tables, the loop's invariant, and that what it reaches is what walks join to the centre.
 -- Assumes nothing.
-use mathlib.Core.Bool.{Bool}
+use mathlib.Core.Bool.{Bool, true, false, not}
 use mathlib.Core.List.{List, [], _∷_}
-use mathlib.Core.Logic.{_↔_, ⊎-elim}
+use mathlib.Core.Logic.{_↔_, inl, inr, ⊎-elim}
 use mathlib.Core.Path.{_≡_, refl, sym, ap, _∙_, subst}
 use Prim.Native.Nat.{ℕ, zero, suc, _+_, _≤_, _<_}
 use native.Mathlib.Nat.{le-refl, le-step, zero-lt-suc, not-suc-le-zero, le-of-suc-le-suc}
@@ -158,6 +158,41 @@ module _ (n c : ℕ) (adj : ℕ → List ℕ) where
         near = g .listed .near;
         complete = λ v h. g .listed .complete v (subst (λ m. v < m) (g .ready .size) h);
       }
+
+-- what is reached from a node is reached from each node that is, where links are followed either way
+pub spread-from :
+    {n c : ℕ} {adj : ℕ → List ℕ} {Link : ℕ → ℕ → Type 0} {dist : List ℕ} → Adjacency n adj Link → Spread n c adj dist → (x : ℕ) → x < n → Reached dist x →
+    Spread n x adj dist
+unfolding Below
+spread-from {n} {c} {adj} {Link} {dist} a g x h f =
+    record {
+      size = g .size;
+      centre = f;
+      closed = g .closed;
+      least = λ p t closed v m r. go p t closed (p c) refl v m r;
+    }
+  where
+    back : (v w : ℕ) → v < n → Occurs (adj v) w → (w < n) × Occurs (adj w) v
+    back v w m o =
+        let l : w < n = subst (λ (y : ℕ). y < n) (o .2) (a .inside v m (o .0) (o .1)) in
+        (l, a .joined w v l .1 (⊎-elim inr inl (a .joined v w m .0 o)))
+
+    clash : (b : Bool) → T (not b) → T b → ⊥
+    clash true t u = t
+    clash false t u = u
+
+    others : (p : ℕ → Bool) → ClosedSet n adj p → ClosedSet n adj (λ v. not (p v))
+    others p closed v w m t o = at (p w) refl
+      where
+        at : (b : Bool) → p w ≡ b → T (not b)
+        at false e = tt
+        at true e = let (l, o′) = back v w m o in absurd (clash (p v) t (closed w v l (true-T e) o′))
+
+    go : (p : ℕ → Bool) → T (p x) → ClosedSet n adj p → (b : Bool) → p c ≡ b → (v : ℕ) → v < n → Reached dist v → T (p v)
+    go p t closed true e v m r = g .least p (true-T e) closed v m r
+    go p t closed false e v m r =
+        let other : T (not (p x)) = g .least (λ y. not (p y)) (true-T (ap not e)) (others p closed) x h f in
+        absurd (clash (p x) other t)
 
 -- ---- what it reaches
 
