@@ -26,7 +26,7 @@ use Rattle.table.specs.Fill.{marksOf, NodeList, tableAt}
 use Rattle.table.specs.First.{Begins}
 use Rattle.table.specs.Prepared.{succOf, Tables, Prepared, Ready}
 use Rattle.table.specs.Refine.{Known, Rested}
-use Rattle.table.specs.Host.{everything}
+use Rattle.table.specs.Host.{Taken, everything}
 use Rattle.table.specs.Row.{problemOf, lastTable}
 use Rattle.table.proofs.Meaning.{last-fits}
 use Rattle.table.proofs.Sets.{fits-word}
@@ -39,7 +39,7 @@ use Rattle.place.proofs.Bytes.{bytes-nodes, bytes-links, sets-table}
 use Rattle.place.proofs.Listed.{marks-bytes, table-sets, links-bytes}
 use Rattle.place.proofs.Matched.{found-short, found-list, found-distances, found-marks, found-inside, forward-test, spread-component}
 use Rattle.place.proofs.Outcome.{found-none, found-some}
-use Rattle.place.proofs.Whole.{part-same, part-spread, matches-same}
+use Rattle.place.proofs.Whole.{Agreeing, agree-set, agree-matches, spread-narrower, spread-wider, spread-within, Component, whole-small, whole-agrees, part-agrees}
 
 -- ---- the ball
 
@@ -127,54 +127,48 @@ module _ {pattern board : Circuit} {t : Tables} (d : Tabled pattern board t) {w 
             };
       }
 
--- Where the ball holds the whole component of the centre in the whole board's match graph, the place is that component with its matching links.
-module _ {pattern board : Circuit} {t : Tables} (d : Tabled pattern board t) (even : length (board .starts) ≡ length (board .ends)) (w r : ℕ)
-    (centre : w < length (board .kinds)) {whole dist : List ℕ} (e : whole ≡ lastTable pattern board (everything board))
-    (g : Spread (length (board .kinds)) w (matched t whole) dist)
-    (held : (v : ℕ) → v < length (board .kinds) → Reached dist v → T (inside (ballOf board w r) v)) where
+-- The place from another table than the ball's, which agrees with that at the nodes that the search for the component reaches.
+module _ {pattern board : Circuit} {t : Tables} (d : Tabled pattern board t) (even : length (board .starts) ≡ length (board .ends)) {w : ℕ} (r : ℕ)
+    (centre : w < length (board .kinds)) (sets : List ℕ) {dist : List ℕ} (long : length sets ≡ length (board .kinds)) (small : (v : ℕ) → getD sets v 0 < 2 ^ 32)
+    (g : Spread (length (board .kinds)) w (matched t (ballTable pattern board w r)) dist)
+    (same : (v : ℕ) → v < length (board .kinds) → Reached dist v → getD sets v 0 ≡ getD (ballTable pattern board w r) v 0)
+    (match :
+    (v v′ : ℕ) → HasLink (board .starts) (board .ends) v v′ → v < length (board .kinds) → Reached dist v →
+    matches pattern sets v v′ ≡ matches pattern (ballTable pattern board w r) v v′) where
   abbrev ballSets : List ℕ
   ballSets = ballTable pattern board w r
 
-  board-small : (v : ℕ) → getD whole v 0 < 2 ^ 32
-  board-small v = rw e (fits-word (d .prepared .parts) (last-fits pattern board (everything board)) v)
-
-  same-set : (v : ℕ) → v < length (board .kinds) → Reached dist v → getD ballSets v 0 ≡ getD whole v 0
-  same-set = part-same (d .prepared) (tabled-joins d) (d .parallel) w r e g held
-
-  same-sets : nodeSets dist whole ≡ nodeSets dist ballSets
+  same-sets : nodeSets dist sets ≡ nodeSets dist ballSets
   unfolding nodeSets
   same-sets = tabulate-same (length dist) _ _ (λ v h. go v (subst (λ (m : ℕ). v < m) (g .size) h) (eqb (getD dist v 0) far) refl)
     where
-      go : (v : ℕ) → v < length (board .kinds) → (b : Bool) → eqb (getD dist v 0) far ≡ b → cond b 0 (getD whole v 0) ≡ cond b 0 (getD ballSets v 0)
+      go : (v : ℕ) → v < length (board .kinds) → (b : Bool) → eqb (getD dist v 0) far ≡ b → cond b 0 (getD sets v 0) ≡ cond b 0 (getD ballSets v 0)
       go v h true q = refl
-      go v h false q = sym (same-set v h (eqb-false (getD dist v 0) far q))
+      go v h false q = same v h (eqb-false (getD dist v 0) far q)
 
-  same-links : linkBytes (board .starts) (board .ends) (succOf (t .masks)) dist whole ≡ linkBytes (board .starts) (board .ends) (succOf (t .masks)) dist ballSets
+  same-links : linkBytes (board .starts) (board .ends) (succOf (t .masks)) dist sets ≡ linkBytes (board .starts) (board .ends) (succOf (t .masks)) dist ballSets
   unfolding linkBytes linkByte drivenBy HasLink Below
   same-links = tabulate-same (length (board .starts)) _ _ (λ i h. go i h (eqb (getD dist (getD (board .starts) i 0) 0) far) refl)
     where
-      forward : (sets : List ℕ) → ((v : ℕ) → getD sets v 0 < 2 ^ 32) → (v v′ : ℕ) →
-          intersects (unionOver (succOf (t .masks)) (getD sets v 0)) (getD sets v′ 0) ≡ matches pattern sets v v′
-      forward sets small = forward-test (d .prepared) (tabled-joins d) (d .parallel) sets small
+      forward : (xs : List ℕ) → ((v : ℕ) → getD xs v 0 < 2 ^ 32) → (v v′ : ℕ) →
+          intersects (unionOver (succOf (t .masks)) (getD xs v 0)) (getD xs v′ 0) ≡ matches pattern xs v v′
+      forward xs few = forward-test (d .prepared) (tabled-joins d) (d .parallel) xs few
 
       go : (i : ℕ) → i < length (board .starts) → (b : Bool) → eqb (getD dist (getD (board .starts) i 0) 0) far ≡ b →
-          _≡_ {A = ℕ} (cond b 0 (cond (intersects (unionOver (succOf (t .masks)) (getD whole (getD (board .starts) i 0) 0)) (getD whole (getD (board .ends) i 0) 0)) 1 0))
+          _≡_ {A = ℕ} (cond b 0 (cond (intersects (unionOver (succOf (t .masks)) (getD sets (getD (board .starts) i 0) 0)) (getD sets (getD (board .ends) i 0) 0)) 1 0))
           (cond b 0 (cond (intersects (unionOver (succOf (t .masks)) (getD ballSets (getD (board .starts) i 0) 0)) (getD ballSets (getD (board .ends) i 0) 0)) 1 0))
       go i h true q = refl
       go i h false q =
           let v = getD (board .starts) i 0 in
           let v′ = getD (board .ends) i 0 in
           ap (λ (b : Bool). cond b 1 0)
-          (forward whole board-small v v′
-          ∙ matches-same (d .prepared) (tabled-joins d) (d .parallel) w r e g held v v′
-          (i, record { inStarts = h; inEnds = subst (λ (m : ℕ). i < m) even h; start = refl; end = refl }) (d .starts i h) (eqb-false (getD dist v 0) far q)
-          ∙ sym (forward ballSets (tabled-small d r centre refl (part-spread (d .prepared) (tabled-joins d) (d .parallel) w r e g held)) v v′))
+          (forward sets small v v′
+          ∙ match v v′ (i, record { inStarts = h; inEnds = subst (λ (m : ℕ). i < m) even h; start = refl; end = refl }) (d .starts i h) (eqb-false (getD dist v 0) far q)
+          ∙ sym (forward ballSets (tabled-small d r centre refl g) v v′))
 
-  pub whole-located : (place : List ℕ) → Lists place dist → Located pattern board t w r dist whole place
-  whole-located place l =
-      let spread = part-spread (d .prepared) (tabled-joins d) (d .parallel) w r e g held in
-      let q : Located pattern board t w r dist ballSets place = tabled-located d r centre refl spread place l in
-      let long : length whole ≡ length (board .kinds) = ap length e ∙ last-fits pattern board (everything board) .size in
+  agreed-located : (place : List ℕ) → Lists place dist → Located pattern board t w r dist sets place
+  agreed-located place l =
+      let q : Located pattern board t w r dist ballSets place = tabled-located d r centre refl g place l in
       record {
         bytes = q .bytes;
         links = same-links ∙ q .links;
@@ -182,12 +176,61 @@ module _ {pattern board : Circuit} {t : Tables} (d : Tabled pattern board t) (ev
         lists = l;
         size = g .size;
         long = long;
-        ready = record { masks = d .prepared .masked .room; net = rw long (net-of (d .prepared .net)); small = board-small };
+        ready = record { masks = d .prepared .masked .room; net = rw long (net-of (d .prepared .net)); small = small };
       }
 
-  -- and there is a place, where the centre has a part left
-  pub whole-found : (getD whole w 0 ≡ 0 → ⊥) → found pattern board w r ≡ true
-  whole-found f = found-some pattern board w r ballSets refl (λ q. f (sym (same-set w centre (g .centre)) ∙ q))
+-- ---- from the centre's component in the whole board's match graph
+
+module _ {pattern board : Circuit} {t : Tables} (d : Tabled pattern board t) (even : length (board .starts) ≡ length (board .ends)) {w : ℕ} (r : ℕ)
+    (centre : w < length (board .kinds)) {whole comp : List ℕ} (e : whole ≡ lastTable pattern board (everything board))
+    (g : Spread (length (board .kinds)) w (matched t whole) comp) where
+  abbrev nodes : ℕ
+  nodes = length (board .kinds)
+
+  component : Component pattern board t w whole comp
+  component = record { joined = record { prepared = d .prepared; joins = tabled-joins d; parallel = d .parallel }; table = e; spread = g }
+
+  -- Where the ball holds the whole component, the place is that component with its matching links.
+  module _ (held : (v : ℕ) → v < length (board .kinds) → Reached comp v → T (inside (ballOf board w r) v)) where
+    held-agrees : Agreeing pattern board t (ballTable pattern board w r) whole comp
+    unfolding ballTable
+    held-agrees = whole-agrees component (ballOf board w r) held
+
+    pub whole-located : (place : List ℕ) → Lists place comp → Located pattern board t w r comp whole place
+    whole-located =
+        agreed-located d even r centre whole (ap length e ∙ last-fits pattern board (everything board) .size) (whole-small component)
+        (spread-narrower held-agrees centre (g .centre) g)
+        (λ v h f. sym (agree-set held-agrees v h f))
+        (agree-matches held-agrees)
+
+    -- and there is a place, where the centre has a part left
+    pub whole-found : (getD whole w 0 ≡ 0 → ⊥) → found pattern board w r ≡ true
+    whole-found f = found-some pattern board w r (ballTable pattern board w r) refl (λ q. f (sym (agree-set held-agrees w centre (g .centre)) ∙ q))
+
+  -- What lies outside the component supports nothing inside it: from a graph that has the ball's nodes in the component, and no other nodes but the
+  -- ball's, the place comes as from the ball.
+  module _ (taken : List ℕ) (within : (v : ℕ) → Taken board taken v → Taken board (ballOf board w r) v)
+      (keeps : (v : ℕ) → Taken board (ballOf board w r) v → Reached comp v → Taken board taken v) where
+    abbrev cut : List ℕ
+    cut = lastTable pattern board taken
+
+    cut-agrees : Agreeing pattern board t cut (ballTable pattern board w r) comp
+    unfolding ballTable
+    cut-agrees = part-agrees component (ballOf board w r) taken within keeps
+
+    pub cut-located : (dist : List ℕ) → Spread nodes w (matched t cut) dist → (place : List ℕ) → Lists place dist → Located pattern board t w r dist cut place
+    cut-located dist s =
+        let reached = spread-within cut-agrees (g .centre) s in
+        agreed-located d even r centre cut (last-fits pattern board taken .size) (fits-word (d .prepared .parts) (last-fits pattern board taken))
+        (spread-wider cut-agrees centre (g .centre) s)
+        (λ v h f. agree-set cut-agrees v h (reached v h f))
+        (λ v v′ k h f. sym (agree-matches cut-agrees v v′ k h (reached v h f)))
+
+    pub cut-found : (getD cut w 0 ≡ 0 → ⊥) → found pattern board w r ≡ true
+    cut-found f = found-some pattern board w r (ballTable pattern board w r) refl (λ q. f (agree-set cut-agrees w centre (g .centre) ∙ q))
+
+    pub cut-none : getD cut w 0 ≡ 0 → found pattern board w r ≡ false
+    cut-none z = found-none pattern board w r (ballTable pattern board w r) refl (sym (agree-set cut-agrees w centre (g .centre)) ∙ z)
 
 -- ---- from a first table
 

@@ -1,6 +1,6 @@
 -- The search for the component: its steps on tables, the loop's invariant, and that what it reaches is what walks join to the centre.
 -- Assumes nothing.
-use mathlib.Core.Bool.{Bool, true, false, not}
+use mathlib.Core.Bool.{Bool, true, false, _&&_, not}
 use mathlib.Core.List.{List, [], _∷_}
 use mathlib.Core.Logic.{_↔_, inl, inr, ⊎-elim}
 use mathlib.Core.Path.{_≡_, refl, sym, ap, _∙_, subst}
@@ -11,7 +11,7 @@ use lib.Dec.{T}
 use lib.ListN.{length, getD}
 use lib.Seq.{getD-take}
 use Rattle.base_lists.specs.List.{Occurs, Below}
-use Rattle.base_lists.proofs.Tests.{T-true, true-T}
+use Rattle.base_lists.proofs.Tests.{both, both-left, both-right, T-true, true-T}
 use Rattle.base_bits.specs.Bits.{unionOver}
 use Rattle.graph.specs.Bfs.{State, scan, start, Ready, Adjacency, stateOf}
 use Rattle.graph.specs.Circuit.{HasLink}
@@ -193,6 +193,26 @@ spread-from {n} {c} {adj} {Link} {dist} a g x h f =
     go p t closed false e v m r =
         let other : T (not (p x)) = g .least (λ y. not (p y)) (true-T (ap not e)) (others p closed) x h f in
         absurd (clash (p x) other t)
+
+-- What is reached along one adjacency is reached along another, where the two list the same for the nodes of a set that has the centre and, with a
+-- node, what is listed for it.
+pub spread-agree :
+    {n c : ℕ} {adj adj′ : ℕ → List ℕ} {dist : List ℕ} (p : ℕ → Bool) → T (p c) → ClosedSet n adj p →
+    ((v w : ℕ) → v < n → T (p v) → Occurs (adj v) w ↔ Occurs (adj′ v) w) → c < n → Spread n c adj dist → Spread n c adj′ dist
+spread-agree {n} {c} {adj} {adj′} {dist} p t closed same h g =
+    record {
+      size = g .size;
+      centre = g .centre;
+      closed = λ v w m r o. g .closed v w m r (same v w m (g .least p t closed v m r) .1 o);
+      least =
+          λ q s closed′ v m r.
+          both-left (q v) (p v)
+          (g .least (λ x. q x && p x) (both (q c) (p c) s t)
+          (λ x y l a o.
+          let b = both-right (q x) (p x) a in
+          both (q y) (p y) (closed′ x y l (both-left (q x) (p x) a) (same x y l b .0 o)) (closed x y l b o))
+          v m r);
+    }
 
 -- ---- what it reaches
 
