@@ -33,7 +33,7 @@ use Rattle.table.proofs.Sets.{fits-word}
 use Rattle.place.specs.Match.{ballOf, distancesOf, ballTable, matches, found, placeNodes, placeLinks, placeTable}
 use Rattle.place.specs.Spread.{matched, Reached, Spread, Lists}
 use Rattle.place.specs.Bytes.{drivenBy, linkByte, linkBytes, nodeSets, linkMarks}
-use Rattle.place.specs.Find.{Tabled, Sought, Located, FoundIn}
+use Rattle.place.specs.Find.{Tabled, Located, Seen, Sought, FoundIn}
 use Rattle.place.proofs.Ball.{ball-fits}
 use Rattle.place.proofs.Bytes.{bytes-nodes, bytes-links, sets-table}
 use Rattle.place.proofs.Listed.{marks-bytes, table-sets, links-bytes}
@@ -83,15 +83,9 @@ module _ {pattern board : Circuit} {t : Tables} (d : Tabled pattern board t) whe
     pub ball-reached : (v : ℕ) → v < size → Reached dist v → T (inside (ballOf board w r) v)
     ball-reached = found-inside (d .prepared) tabled-joins w r h k dist queue f
 
-    pub ball-sought : {first : List ℕ} → Begins pattern board (marksOf size (take k queue)) first → Sought pattern board t w r (take k queue) first
-    ball-sought b =
-        record {
-          tabled = d;
-          centre = h;
-          list = ball-list;
-          ball = found-marks (d .prepared) tabled-joins w r h k dist queue f;
-          begins = b;
-        }
+    -- and lists
+    pub ball-marks : marksOf size (take k queue) ≡ ballOf board w r
+    ball-marks = found-marks (d .prepared) tabled-joins w r h k dist queue f
 
 -- ---- the place, from the ball's table and what the search for the component reaches
 
@@ -232,6 +226,46 @@ module _ {pattern board : Circuit} {t : Tables} (d : Tabled pattern board t) (ev
     pub cut-none : getD cut w 0 ≡ 0 → found pattern board w r ≡ false
     cut-none z = found-none pattern board w r (ballTable pattern board w r) refl (sym (agree-set cut-agrees w centre (g .centre)) ∙ z)
 
+-- ---- the graphs that a place comes from
+
+module _ {pattern board : Circuit} {t : Tables} (d : Tabled pattern board t) (w r : ℕ) (centre : w < length (board .kinds)) where
+  -- the ball,
+  pub ball-seen : (taken : List ℕ) → taken ≡ ballOf board w r → Seen pattern board t w r taken
+  unfolding ballTable
+  ball-seen taken e =
+      rw e
+      (record {
+        none = found-none pattern board w r (ballTable pattern board w r) refl;
+        some = found-some pattern board w r (ballTable pattern board w r) refl;
+        there = λ dist place g l. tabled-located d r centre refl g place l;
+      })
+
+  -- as a search lists it,
+  pub ball-sought :
+      {k : ℕ} {dist queue first : List ℕ} → Searched k dist queue (bfs (adjacent (t .offsets) (t .links)) (length (board .kinds)) w r) →
+      Begins pattern board (marksOf (length (board .kinds)) (take k queue)) first → Sought pattern board t w r (take k queue) first
+  ball-sought f b =
+      record {
+        tabled = d;
+        centre = centre;
+        list = ball-list d w r centre f;
+        seen = ball-seen _ (ball-marks d w r centre f);
+        begins = b;
+      }
+
+  -- and its nodes in the centre's component on the whole board
+  pub cut-seen :
+      {whole comp : List ℕ} → length (board .starts) ≡ length (board .ends) → whole ≡ lastTable pattern board (everything board) →
+      Spread (length (board .kinds)) w (matched t whole) comp → (taken : List ℕ) →
+      ((v : ℕ) → Taken board taken v → Taken board (ballOf board w r) v) →
+      ((v : ℕ) → Taken board (ballOf board w r) v → Reached comp v → Taken board taken v) → Seen pattern board t w r taken
+  cut-seen even e g taken within keeps =
+      record {
+        none = cut-none d even r centre e g taken within keeps;
+        some = cut-found d even r centre e g taken within keeps;
+        there = λ dist place s l. cut-located d even r centre e g taken within keeps dist s place l;
+      }
+
 -- ---- from a first table
 
 module _ {pattern board : Circuit} {t : Tables} {w r : ℕ} {nodes first : List ℕ} (s : Sought pattern board t w r nodes first) where
@@ -248,19 +282,14 @@ module _ {pattern board : Circuit} {t : Tables} {w r : ℕ} {nodes first : List 
   sought-long = s .begins .long
 
   module _ {sets : List ℕ} {rest : Rest} (e : Rested pattern board (marksOf n nodes) first sets rest) where
-    -- they end with the ball's table
-    pub sets-ball : sets ≡ ballTable pattern board w r
-    unfolding ballTable
-    sets-ball = rw (← s .ball) (e .last)
-
-    -- for which the tables serve
+    -- for the table that they end with the tables serve
     pub sets-ready : Ready t sets
     sets-ready =
-        let long : length sets ≡ n = ap length sets-ball ∙ ball-fits pattern board w r .size in
+        let long : length sets ≡ n = ap length (e .last) ∙ last-fits pattern board (marksOf n nodes) .size in
         record {
           masks = s .tabled .prepared .masked .room;
           net = rw long (net-of (s .tabled .prepared .net));
-          small = λ v. rw sets-ball (fits-word (s .tabled .prepared .parts) (ball-fits pattern board w r) v);
+          small = λ v. rw (e .last) (fits-word (s .tabled .prepared .parts) (last-fits pattern board (marksOf n nodes)) v);
         }
 
     -- the centre is struck: there is no place
@@ -269,7 +298,7 @@ module _ {pattern board : Circuit} {t : Tables} {w r : ℕ} {nodes first : List 
     found-nothing dist queue z =
         record {
           rested = e;
-          answer = sym (found-none pattern board w r sets sets-ball z);
+          answer = sym (s .seen .none (rw (e .last) at z));
           short = zero-le;
           there = λ q. absurd (false-T refl (true-T q));
         }
@@ -281,9 +310,9 @@ module _ {pattern board : Circuit} {t : Tables} {w r : ℕ} {nodes first : List 
       found-place queue k f h l =
           record {
             rested = e;
-            answer = sym (found-some pattern board w r sets sets-ball f);
+            answer = sym (s .seen .some (rw (e .last) at f));
             short = h;
-            there = λ _. tabled-located (s .tabled) r (s .centre) sets-ball g (take k queue) l;
+            there = λ _. rw (e .last) (s .seen .there dist (take k queue) (rw (e .last) at g) l);
           }
 
 -- ---- what is marked
