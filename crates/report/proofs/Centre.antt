@@ -47,7 +47,7 @@ marked-rule n byte item g h =
     rw (length-tabulate n byte) (concatBelow-same n _ g (λ i l. rw (getD-tabulate n byte i 0 l) (h i l)))
 
 -- each node that the search reached
-nodes-text : (dist : List ℕ) → nodeItems (nodeBytes dist) ≡ nodesText dist
+pub nodes-text : (dist : List ℕ) → nodeItems (nodeBytes dist) ≡ nodesText dist
 unfolding nodeItems nodeBytes nodesText nodeText
 nodes-text dist = marked-rule (length dist) _ decimal _ (λ v l. chosen (eqb (getD dist v 0) far) (bytes " " ++ decimal v))
 
@@ -81,7 +81,7 @@ start-text t dist sets v = go (reached (getD dist v 0)) (driven (t .offsets) (t 
     go false ends = sym (concat-none (length ends) _ (λ i l. refl))
 
 -- neighbour tables of a file's links give the links in the file's order
-links-order : (starts ends : List ℕ) (t : Tables) (dist sets : List ℕ) → length starts ≡ length ends → Below (length dist) starts → LinksRise starts ends
+pub links-order : (starts ends : List ℕ) (t : Tables) (dist sets : List ℕ) → length starts ≡ length ends → Below (length dist) starts → LinksRise starts ends
     → ((v : ℕ) → v < length dist → driven (t .offsets) (t .links) v ≡ select starts ends v)
     → linkItems starts ends (linkBytes starts ends (succOf (t .masks)) dist sets) ≡ linksText t dist sets
 unfolding linksText

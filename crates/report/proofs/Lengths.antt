@@ -1,13 +1,17 @@
 -- How long the lines get: a centre's line of an accepted board has at most 34,829 bytes, the last line 17, a refusal 20. Assumes nothing.
 use mathlib.Core.Bool.{Bool, true, false, cond}
 use mathlib.Core.List.{List, [], _++_}
+use mathlib.Core.Path.{_≡_, subst}
 use Prim.Native.Nat.{ℕ, _+_, _*_, _≤_, _<_}
 use native.Mathlib.Nat.{le-trans, mul-le-mul-right}
 use native.Mathlib.Omega.{arith}
 use lib.ListN.{length, getD, length-append}
+use Rattle.base_lists.specs.List.{Below}
+use Rattle.base_lists.proofs.Tables.{length-tabulate}
 use Rattle.base_text.specs.Text.{bytes, decimal, Fits}
 use Rattle.base_text.proofs.Text.{length-decimal}
 use Rattle.graph.specs.Circuit.{Circuit}
+use Rattle.graph.specs.Rising.{LinksRise}
 use Rattle.graph.specs.Search.{inside}
 use Rattle.graph.proofs.Groups.{key-below}
 use Rattle.file_format.specs.declared.File.{File}
@@ -16,10 +20,13 @@ use Rattle.file_format.specs.declared.Refusal.{Refusal}
 use Rattle.file_format.specs.declared.Role.the-variants.{Board}
 use Rattle.file_format.specs.Circuit.{Bounded}
 use Rattle.file_format.proofs.Accepted.{starts-below, ends-below}
+use Rattle.table.specs.Prepared.{succOf, Tables, Prepared}
+use Rattle.place.specs.Bytes.{unlessFar, nodeBytes, linkByte, linkBytes}
 use Rattle.place.specs.Match.{radiusOf, placeNodes, placeLinks}
 use Rattle.place.proofs.Marks.{nodes-marks, links-marks}
-use Rattle.report.specs.Lines.{longestLine}
+use Rattle.report.specs.Lines.{nodesText, linksText, bodyText, longestLine}
 use Rattle.report.specs.Report.{marked, linkItem, nodeItems, linkItems, placeLine, hasPlace, centreLine, endLine, fileWord, refusalLine}
+use Rattle.report.proofs.Centre.{nodes-text, links-order}
 use Rattle.report.proofs.Concat.{concat-bound}
 
 -- a space before an item
@@ -99,3 +106,21 @@ refusal-length x h = simp length-append (omega (arith, length-decimal 2 (x .numb
 pub centre-fits : {out : List ℕ} {at : ℕ} (pattern board : Circuit) (c : ℕ) → Bounded Board board → c < length (board .kinds) → at + longestLine ≤ length out
     → Fits out at (centreLine pattern board c)
 centre-fits pattern board c b h room = record { room = omega (arith, centre-length pattern board c b h) }
+
+-- and for the body of a line, whatever the entries and the sets are
+pub body-fits :
+    {pattern board : Circuit} {t : Tables} {dist sets out : List ℕ} → Prepared pattern board t → Bounded Board board → Below (length (board .kinds)) (board .starts) →
+    LinksRise (board .starts) (board .ends) → length dist ≡ length (board .kinds) → longestLine ≤ length out → Fits out 0 (bodyText t dist sets)
+unfolding bodyText bytes nodeBytes linkBytes
+body-fits {pattern} {board} {t} {dist} {sets} {out} p b starts rise long room =
+    let nodes : length (nodesText dist) ≤ 2048 =
+    subst (λ (l : List ℕ). length l ≤ 2048) (nodes-text dist) (nodes-length (nodeBytes dist) (omega (arith, length-tabulate (length dist) (λ v. unlessFar (getD dist v 0) 1), b .nodes))) in
+    let bytes = linkBytes (board .starts) (board .ends) (succOf (t .masks)) dist sets in
+    let m : length bytes ≡ length (board .starts) = length-tabulate (length (board .starts)) (linkByte (board .starts) (board .ends) (succOf (t .masks)) dist sets) in
+    let links : length (linksText t dist sets) ≤ 32768 =
+    subst (λ (l : List ℕ). length l ≤ 32768)
+    (links-order (board .starts) (board .ends) t dist sets (b .parallel) (rw long starts) rise (λ v h. p .net .drives v (subst (λ (k : ℕ). v < k) long h)))
+    (links-length (board .starts) (board .ends) bytes (omega (arith, b .links))
+    (λ i l. omega (arith, b .nodes, key-below (length (board .kinds)) (board .starts) i (starts-below _ _ _ (b .below)) (omega arith)))
+    (λ i l. omega (arith, b .nodes, key-below (length (board .kinds)) (board .ends) i (ends-below _ _ _ (b .below)) (omega (arith, b .parallel))))) in
+    record { room = simp length-append (omega arith) }

@@ -1,7 +1,7 @@
 -- The lines and their items piece by piece, as the program puts them. Assumes nothing.
 use mathlib.Core.Bool.{true, false}
 use mathlib.Core.List.{List, [], _∷_, _++_, append-assoc}
-use mathlib.Core.Path.{_≡_}
+use mathlib.Core.Path.{_≡_, _∙_}
 use Prim.Native.Nat.{ℕ, _+_, _≤_}
 use native.Mathlib.Omega.{arith}
 use lib.ListN.{length, getD, length-append}
@@ -13,7 +13,7 @@ use Rattle.file_format.specs.declared.Refusal.{Refusal}
 use Rattle.table.specs.Prepared.{succOf, Tables}
 use Rattle.place.specs.Bytes.{drivenBy}
 use Rattle.report.specs.Report.{linkItem, placeLine, endLine, fileWord, refusalLine}
-use Rattle.report.specs.Lines.{nodeText, linkText, drivenText, startText}
+use Rattle.report.specs.Lines.{nodeText, nodesText, linkText, drivenText, startText, linksText, headText, bodyText, lineText}
 
 -- ---- items
 
@@ -66,3 +66,8 @@ end-pieces k n = simp append-assoc
 pub refusal-pieces : (x : Refusal) → refusalLine x ≡ bytes "refused " ++ (decimal (x .number) ++ (fileWord (x .file) ++ bytes "\n"))
 unfolding refusalLine
 refusal-pieces x = simp append-assoc
+
+-- the line in its two halves
+pub line-halves : (t : Tables) (dist sets : List ℕ) (c : ℕ) → lineText t dist sets c ≡ headText c ++ bodyText t dist sets
+unfolding lineText headText bodyText
+line-halves t dist sets c = line-pieces c (nodesText dist) (linksText t dist sets) ∙ simp append-assoc

@@ -38,6 +38,13 @@ startText t dist sets v =
 unfoldable pub linksText : Tables → List ℕ → List ℕ → List ℕ
 linksText t dist sets = concatBelow (length dist) (startText t dist sets)
 
+-- the line up to its colon, and from there on
+unfoldable pub headText : ℕ → List ℕ
+headText c = bytes "place " ++ (decimal c ++ bytes ":")
+
+unfoldable pub bodyText : Tables → List ℕ → List ℕ → List ℕ
+bodyText t dist sets = nodesText dist ++ (bytes " /" ++ (linksText t dist sets ++ bytes "\n"))
+
 -- the line
 unfoldable pub lineText : Tables → List ℕ → List ℕ → ℕ → List ℕ
 lineText t dist sets c = placeLine c (nodesText dist) (linksText t dist sets)

@@ -1,5 +1,6 @@
 // The report's lines, each put into a table of bytes from an offset on; the offset after the line is returned. `names` has a name for each
 // node.
+ghost use mathlib.Core.List.{_++_};
 ghost use mathlib.Core.Path.{_≡_};
 ghost use Prim.Native.Nat.{_+_, _≤_, _<_};
 ghost use lib.ListN.{length, getD};
@@ -7,7 +8,7 @@ ghost use Rattle.base_text.specs.Text.{Put, Fits, Names};
 ghost use Rattle.base_lists.specs.List.{Below};
 ghost use Rattle.table.specs.Prepared.{tables, Ready};
 ghost use Rattle.report.specs.Report.{endLine, refusalLine, fileWord};
-ghost use Rattle.report.specs.Lines.{nodeText, nodesText, linkText, drivenText, startText, linksText, lineText, longestLine, longestRefusal};
+ghost use Rattle.report.specs.Lines.{nodeText, nodesText, linkText, drivenText, startText, linksText, headText, bodyText, lineText, longestLine, longestRefusal};
 use base_text::put_byte;
 use base_text::put_bytes;
 use base_text::put_name;
@@ -155,6 +156,39 @@ fn put_links(
     end
 }
 
+// A line up to its colon.
+fn put_head(c: usize, out: &mut [u8], at: usize) -> usize
+    requires { ⌜ Fits (now out) at (headText c) ⌝ }
+    ensures { λ r. ⌜ Put (now (out .entry)) at (headText c) (now (out .exit)) r ⌝ }
+{
+    let centre = put_bytes(b"place ", out, at);
+    let colon = put_number(c, out, centre);
+    put_byte(b':', out, colon)
+}
+
+// A line from its colon on: each node, a slash, each link. It is the same for all centres with the same place.
+pub fn put_body(
+    names: &[u32],
+    masks: &[u32],
+    offsets: &[u16],
+    links: &[u16],
+    dist: &[u16],
+    sets: &[u32],
+    out: &mut [u8],
+    at: usize,
+) -> usize
+    requires { ⌜ Names (now names) × (length (now dist) ≤ length (now names)) ⌝ }
+    requires { ⌜ length (now sets) ≡ length (now dist) ⌝ }
+    requires { ⌜ Ready (tables (now masks) (now offsets) (now links)) (now sets) ⌝ }
+    requires { ⌜ Fits (now out) at (bodyText (tables (now masks) (now offsets) (now links)) (now dist) (now sets)) ⌝ }
+    ensures { λ r. ⌜ Put (now (out .entry)) at (bodyText (tables (now (masks .entry)) (now (offsets .entry)) (now (links .entry))) (now (dist .entry)) (now (sets .entry))) (now (out .exit)) r ⌝ }
+{
+    let slash = put_nodes(names, dist, out, at);
+    let after = put_bytes(b" /", out, slash);
+    let end = put_links(names, masks, offsets, links, dist, sets, out, after);
+    put_byte(b'\n', out, end)
+}
+
 // The line of the centre c, around which there is a place.
 pub fn put_line(
     names: &[u32],
@@ -173,13 +207,17 @@ pub fn put_line(
     requires { ⌜ Fits (now out) at (lineText (tables (now masks) (now offsets) (now links)) (now dist) (now sets) c) ⌝ }
     ensures { λ r. ⌜ Put (now (out .entry)) at (lineText (tables (now (masks .entry)) (now (offsets .entry)) (now (links .entry))) (now (dist .entry)) (now (sets .entry)) c) (now (out .exit)) r ⌝ }
 {
-    let centre = put_bytes(b"place ", out, at);
-    let colon = put_number(c, out, centre);
-    let nodes = put_byte(b':', out, colon);
-    let slash = put_nodes(names, dist, out, nodes);
-    let after = put_bytes(b" /", out, slash);
-    let end = put_links(names, masks, offsets, links, dist, sets, out, after);
-    put_byte(b'\n', out, end)
+    let body = put_head(c, out, at);
+    put_body(names, masks, offsets, links, dist, sets, out, body)
+}
+
+// The line of the centre c from the text of its body.
+pub fn put_copy(c: usize, body: &[u8], out: &mut [u8], at: usize) -> usize
+    requires { ⌜ Fits (now out) at (headText c ++ now body) ⌝ }
+    ensures { λ r. ⌜ Put (now (out .entry)) at (headText c ++ now (body .entry)) (now (out .exit)) r ⌝ }
+{
+    let next = put_head(c, out, at);
+    put_bytes(body, out, next)
 }
 
 // The last line: k of n centres have a place.
