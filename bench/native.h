@@ -53,8 +53,16 @@ unsigned native_radius(const native_finder *f);
 /* The match table on the whole board. */
 void native_whole(const native_finder *f, uint32_t *table);
 
-/* Whether there is a place around a centre at a radius, given the whole board's table. Where there is one, `nodes` has a byte for each node,
-   and `links` one for each link that starts in the place. */
-bool native_locate(const native_finder *f, const uint32_t *whole, unsigned centre, unsigned radius, uint8_t *nodes, uint8_t *links);
+/* The components of the match graph of the whole board's table: the label of each node's, from 1 on, 0 where it has no part, and how many nodes each label has. */
+void native_components(const native_finder *f, const uint32_t *whole, uint16_t *labels, uint16_t *sizes);
+
+/* Whether there is a place around a centre at a radius: none, or the centre's whole component, or a part of that, which is left in `nodes`, a byte for
+   each node, and `links`, one for each link that starts in the place. */
+typedef enum { NATIVE_NONE, NATIVE_WHOLE, NATIVE_CUT } native_found;
+native_found native_locate(const native_finder *f, const uint32_t *whole, const uint16_t *labels, const uint16_t *sizes, unsigned centre, unsigned radius,
+                           uint8_t *nodes, uint8_t *links);
+
+/* The centre's whole component, in the same form. */
+void native_component(const native_finder *f, const uint32_t *whole, unsigned centre, uint8_t *nodes, uint8_t *links);
 
 #endif

@@ -1,6 +1,6 @@
 /* The report in plain C, tuned, for the comparison of cost: `native_report [FOLDER]` reads pattern.cir and board.cir once, makes the whole
- * board's match table once, passes over the centres and pairs that are not in it, and prints through a large buffer. It is no part of the
- * product. */
+ * board's match table, the components of its match graph and the text of each once, passes over the centres and pairs that are not in it, stops a
+ * search where it has the centre's component, strikes in ball and component alone, and prints through a large buffer. It is no part of the product. */
 #include <errno.h>
 #include <stdio.h>
 #include <stdlib.h>
@@ -80,15 +80,9 @@ static inline char *put_node(char mark, unsigned v, char *at)
     return at + names[v].length;
 }
 
-/* The line of a centre with a place. */
-static void put_line(const native_finder *f, unsigned centre, const uint8_t *nodes, const uint8_t *links)
+/* What a line has after its colon; returns its end. */
+static char *put_body(const native_finder *f, const uint8_t *nodes, const uint8_t *links, char *at)
 {
-    if (sizeof buffer - used < LINE_BYTES)
-        flush();
-    char *at = buffer + used;
-    memcpy(at, "place", 5);
-    at = put_node(' ', centre, at + 5);
-    *at++ = ':';
     for (unsigned v = 0; v < f->board.n; v++)
         if (nodes[v])
             at = put_node(' ', v, at);
@@ -99,23 +93,59 @@ static void put_line(const native_finder *f, unsigned centre, const uint8_t *nod
             if (links[i])
                 at = put_node('-', f->board.ends[i], put_node(' ', v, at));
     *at++ = '\n';
-    used = (size_t)(at - buffer);
+    return at;
 }
 
-/* The lines of all centres, and the last line. */
+/* A line up to its colon; returns its end. */
+static char *put_head(unsigned centre)
+{
+    if (sizeof buffer - used < LINE_BYTES)
+        flush();
+    char *at = buffer + used;
+    memcpy(at, "place", 5);
+    at = put_node(' ', centre, at + 5);
+    *at++ = ':';
+    return at;
+}
+
+/* The lines of all centres, and the last line. The text of each component is made once: all together have no more nodes and links than the board. */
 static void put_report(native_finder *f)
 {
+    static char texts[16 * NATIVE_NODES + LINE_BYTES];
+    static struct {
+        const char *text;
+        size_t length;
+    } known[NATIVE_NODES + 1];
     uint32_t whole[NATIVE_NODES];
+    uint16_t labels[NATIVE_NODES], sizes[NATIVE_NODES + 1];
     uint8_t nodes[NATIVE_NODES], links[NATIVE_LINKS];
+    char *room = texts;
     unsigned found = 0, radius = native_radius(f);
     native_neighbours(f);
     native_whole(f, whole);
+    native_components(f, whole, labels, sizes);
     make_names(f->board.n);
-    for (unsigned centre = 0; centre < f->board.n; centre++)
-        if (native_locate(f, whole, centre, radius, nodes, links)) {
-            put_line(f, centre, nodes, links);
-            found++;
+    for (unsigned centre = 0; centre < f->board.n; centre++) {
+        native_found place = native_locate(f, whole, labels, sizes, centre, radius, nodes, links);
+        if (place == NATIVE_NONE)
+            continue;
+        char *at = put_head(centre);
+        if (place == NATIVE_CUT) {
+            at = put_body(f, nodes, links, at);
+        } else {
+            unsigned name = labels[centre];
+            if (!known[name].text) {
+                native_component(f, whole, centre, nodes, links);
+                known[name].text = room;
+                room = put_body(f, nodes, links, room);
+                known[name].length = (size_t)(room - known[name].text);
+            }
+            memcpy(at, known[name].text, known[name].length);
+            at += known[name].length;
         }
+        used = (size_t)(at - buffer);
+        found++;
+    }
     if (sizeof buffer - used < LINE_BYTES)
         flush();
     used += (size_t)snprintf(buffer + used, LINE_BYTES, "end %u of %u\n", found, f->board.n);

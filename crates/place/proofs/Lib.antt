@@ -5,6 +5,7 @@ pub mod Place
 pub mod Masks
 pub mod Accepted
 pub mod Spread
+pub mod Whole
 pub mod Matched
 pub mod Bytes
 pub mod Listed

@@ -11,8 +11,8 @@ use borrow.Author.Tests.{eq-eqb, ne-eqb}
 use lib.Dec.{T, eqb, eqb→eq}
 use lib.ListN.{length, getD, take}
 use Rattle.base_lists.specs.List.{Occurs, any, Below}
-use Rattle.base_lists.proofs.Tests.{same-test, true-T, any-at, at-any}
-use Rattle.base_lists.proofs.Tables.{tabulate-same}
+use Rattle.base_lists.proofs.Tests.{same-test, T-true, true-T, any-at, at-any}
+use Rattle.base_lists.proofs.Tables.{getD-tabulate, tabulate-same}
 use Rattle.base_bits.specs.Bits.{intersects, unionOver}
 use Rattle.graph.specs.Bfs.{bfs, adjacent, Adjacency, Found}
 use Rattle.graph.specs.Circuit.{Circuit, HasLink}
@@ -28,10 +28,12 @@ use Rattle.graph.proofs.Reached.{bfs-listed}
 use Rattle.table.specs.Fill.{listed, marksOf, Distinct, NodeList}
 use Rattle.table.specs.Prepared.{succOf, predOf, Tables, masksOf, Prepared}
 use Rattle.place.specs.Match.{ballOf, distancesOf, matches, matchStarts, matchEnds, component}
-use Rattle.place.specs.Spread.{meeting, matched, Spread}
+use Rattle.graph_follow.specs.Follow.{meeting}
+use Rattle.graph_follow.proofs.Following.{meeting-occurs}
+use Rattle.place.specs.Spread.{matched, Spread}
 use Rattle.place.proofs.Links.{match-kept, match-within}
 use Rattle.place.proofs.Masks.{MaskTable, mask-table, matches-forward, matches-backward}
-use Rattle.place.proofs.Spread.{meeting-occurs, matched-below, spread-ball}
+use Rattle.place.proofs.Spread.{matched-below, spread-ball}
 
 -- the masks that the table layer prepares are such tables
 masks-hold : (n : ℕ) (keys values masks : List ℕ) → n ≤ 32 → masks ≡ masksOf 32 keys values → Below n keys → MaskTable keys values masks
@@ -107,6 +109,16 @@ module _ (board : Circuit) {offsets stretches : List ℕ} (net : NetOf (length (
 
       pub found-marks : marksOf n (take k queue) ≡ ballOf board c r
       found-marks = ap (marksOf n) (f .nodes) ∙ ball-marks
+
+      -- and each node that it reached is in the ball
+      pub found-inside : (v : ℕ) → v < n → (getD dist v 0 ≡ far → ⊥) → T (inside (ballOf board c r) v)
+      unfolding inside marksOf listed
+      found-inside v m q =
+          let l = bfs-listed n around c r h few (board-adjacency .inside) in
+          let (i, b, e) = l .complete v m (λ z. q (ap (λ (x : List ℕ). getD x v 0) (f .distances) ∙ z)) in
+          let here : T (any (λ w. eqb w v) (take k queue)) = rw (f .nodes) (at-any (λ w. eqb w v) ballList i b (true-T (eq-eqb _ _ e))) in
+          subst (λ (row : List ℕ). T (eqb (getD row v 0) 1)) found-marks
+          (rw (getD-tabulate n (λ x. cond (any (λ w. eqb w x) (take k queue)) 1 0) v 0 m, T-true {b = any (λ w. eqb w v) (take k queue)} here) tt)
 
 -- ---- the component
 

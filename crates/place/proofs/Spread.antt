@@ -1,20 +1,19 @@
 -- The search for the component: its steps on tables, the loop's invariant, and that what it reaches is what walks join to the centre.
 -- Assumes nothing.
-use mathlib.Core.Bool.{Bool, true, false, cond}
+use mathlib.Core.Bool.{Bool, true, false, _&&_, not}
 use mathlib.Core.List.{List, [], _∷_}
-use mathlib.Core.Logic.{_⊎_, _↔_, inl, inr, ⊎-elim}
+use mathlib.Core.Logic.{_↔_, inl, inr, ⊎-elim}
 use mathlib.Core.Path.{_≡_, refl, sym, ap, _∙_, subst}
-use Prim.Native.Nat.{ℕ, zero, suc, _+_, _≤_, _<_, suc-le-suc}
+use Prim.Native.Nat.{ℕ, zero, suc, _+_, _≤_, _<_}
 use native.Mathlib.Nat.{le-refl, le-step, zero-lt-suc, not-suc-le-zero, le-of-suc-le-suc}
-use native.Mathlib.Numerals.{add-one}
 use native.Mathlib.Omega.{arith}
 use lib.Dec.{T}
-use lib.ListN.{length, getD, drop, drop-of-length-le}
-use lib.Seq.{drop-cons, getD-take}
+use lib.ListN.{length, getD}
+use lib.Seq.{getD-take}
 use Rattle.base_lists.specs.List.{Occurs, Below}
-use Rattle.base_lists.proofs.Tests.{T-true, true-T}
-use Rattle.base_bits.specs.Bits.{intersects, unionOver}
-use Rattle.graph.specs.Bfs.{State, visit, scan, start, Ready, Adjacency, stateOf}
+use Rattle.base_lists.proofs.Tests.{both, both-left, both-right, T-true, true-T}
+use Rattle.base_bits.specs.Bits.{unionOver}
+use Rattle.graph.specs.Bfs.{State, scan, start, Ready, Adjacency, stateOf}
 use Rattle.graph.specs.Circuit.{HasLink}
 use Rattle.graph.specs.Graph.{Walk, stay, step}
 use Rattle.graph.specs.Net.{driven, driving, Net}
@@ -27,75 +26,9 @@ use Rattle.graph.proofs.BfsScan.{lt-or-le, elem, elem-occurs, occurs-elem, afte
 use Rattle.graph.proofs.Reached.{Near, Listed, listed-scan, listed-start}
 use Rattle.table.specs.Fill.{Distinct}
 use Rattle.table.specs.Prepared.{succOf, predOf, Tables}
-use Rattle.place.specs.Spread.{meeting, look, matched, Reached, ClosedSet, Spread, Lists}
-
--- ---- the nodes of a list that the search looks at
-
-module _ (set : ℕ) (sets : List ℕ) where
-  -- they are those entries of the list whose sets have a part of `set`
-  pub meeting-occurs : (vs : List ℕ) (w : ℕ) → Occurs (meeting set sets vs) w ↔ (Occurs vs w × T (intersects set (getD sets w 0)))
-  unfolding meeting
-  meeting-occurs [] w = (λ (i, h, e). absurd (not-suc-le-zero h), λ ((i, h, e), t). absurd (not-suc-le-zero h))
-  meeting-occurs (v ∷ vs) w = go (intersects set (getD sets v 0)) refl (meeting-occurs vs w)
-    where
-      later : (xs : List ℕ) (x : ℕ) → Occurs xs w → Occurs (x ∷ xs) w
-      later xs x (i, h, e) = (suc i, suc-le-suc h, e)
-
-      first : (xs : List ℕ) (x : ℕ) → Occurs (x ∷ xs) w → (x ≡ w) ⊎ Occurs xs w
-      first xs x (zero, h, e) = inl e
-      first xs x (suc i, h, e) = inr (i, le-of-suc-le-suc h, e)
-
-      go :
-          (b : Bool) → intersects set (getD sets v 0) ≡ b → (Occurs (meeting set sets vs) w ↔ (Occurs vs w × T (intersects set (getD sets w 0)))) →
-          Occurs (cond b (v ∷ meeting set sets vs) (meeting set sets vs)) w ↔ (Occurs (v ∷ vs) w × T (intersects set (getD sets w 0)))
-      go true q r = (
-        λ o.
-            ⊎-elim
-            (λ e. ((zero, zero-lt-suc _, e), subst (λ x. T (intersects set (getD sets x 0))) e (subst T (sym q) tt)))
-            (λ p. let (m, t) = r .0 p in (later vs v m, t))
-            (first (meeting set sets vs) v o),
-        λ (o, t). ⊎-elim (λ e. (zero, zero-lt-suc _, e)) (λ p. later (meeting set sets vs) v (r .1 (p, t))) (first vs v o),
-      )
-      go false q r = (
-        λ o. let (m, t) = r .0 o in (later vs v m, t),
-        λ (o, t).
-            ⊎-elim
-            (λ e. absurd (subst T (ap (λ x. intersects set (getD sets x 0)) (sym e) ∙ q) t))
-            (λ p. r .1 (p, t))
-            (first vs v o),
-      )
-
-  pub meeting-below : (n : ℕ) (vs : List ℕ) → Below n vs → Below n (meeting set sets vs)
-  unfolding Below
-  meeting-below n vs b i h = let ((j, l, e), _) = meeting-occurs vs _ .0 (i, h, refl) in subst (λ x. x < n) e (b j l)
-
-  -- ---- a list of looks is a list of visits
-
-  look-scan : (s : State) (v : ℕ) (vs : List ℕ) → scan 0 s (meeting set sets (v ∷ vs)) ≡ scan 0 (look set sets s v) (meeting set sets vs)
-  unfolding meeting look scan
-  look-scan s v vs = go (intersects set (getD sets v 0))
-    where
-      go : (b : Bool) → scan 0 s (cond b (v ∷ meeting set sets vs) (meeting set sets vs)) ≡ scan 0 (cond b (visit 0 s v) s) (meeting set sets vs)
-      go true = refl
-      go false = refl
-
-  -- what is left of the list, one look further
-  pub follow-next :
-      (s s′ : State) (vs : List ℕ) (i : ℕ) → i < length vs → s′ ≡ look set sets s (getD vs i 0) →
-      scan 0 s′ (meeting set sets (drop (i + 1) vs)) ≡ scan 0 s (meeting set sets (drop i vs))
-  follow-next s s′ vs i h e = rw (e, add-one, drop-cons vs i 0) (sym (look-scan s (getD vs i 0) (drop (suc i) vs)))
-
-  pub follow-end : (s : State) (vs : List ℕ) (i : ℕ) → length vs ≤ i → scan 0 s (meeting set sets (drop i vs)) ≡ s
-  unfolding scan meeting
-  follow-end s vs i h = rw (drop-of-length-le vs h)
-
-  pub look-taken : (s : State) (v : ℕ) → T (intersects set (getD sets v 0)) → look set sets s v ≡ visit 0 s v
-  unfolding look
-  look-taken s v t = rw (T-true {b = intersects set (getD sets v 0)} t)
-
-  pub look-left : (s : State) (v : ℕ) → intersects set (getD sets v 0) ≡ false → look set sets s v ≡ s
-  unfolding look
-  look-left s v e = rw e
+use Rattle.graph_follow.specs.Follow.{meeting}
+use Rattle.graph_follow.proofs.Following.{meeting-below}
+use Rattle.place.specs.Spread.{matched, Reached, ClosedSet, Spread, Lists}
 
 -- the looks along a node's two stretches are visits of the nodes that matching links join to it
 pub matched-scan :
@@ -225,6 +158,61 @@ module _ (n c : ℕ) (adj : ℕ → List ℕ) where
         near = g .listed .near;
         complete = λ v h. g .listed .complete v (subst (λ m. v < m) (g .ready .size) h);
       }
+
+-- what is reached from a node is reached from each node that is, where links are followed either way
+pub spread-from :
+    {n c : ℕ} {adj : ℕ → List ℕ} {Link : ℕ → ℕ → Type 0} {dist : List ℕ} → Adjacency n adj Link → Spread n c adj dist → (x : ℕ) → x < n → Reached dist x →
+    Spread n x adj dist
+unfolding Below
+spread-from {n} {c} {adj} {Link} {dist} a g x h f =
+    record {
+      size = g .size;
+      centre = f;
+      closed = g .closed;
+      least = λ p t closed v m r. go p t closed (p c) refl v m r;
+    }
+  where
+    back : (v w : ℕ) → v < n → Occurs (adj v) w → (w < n) × Occurs (adj w) v
+    back v w m o =
+        let l : w < n = subst (λ (y : ℕ). y < n) (o .2) (a .inside v m (o .0) (o .1)) in
+        (l, a .joined w v l .1 (⊎-elim inr inl (a .joined v w m .0 o)))
+
+    clash : (b : Bool) → T (not b) → T b → ⊥
+    clash true t u = t
+    clash false t u = u
+
+    others : (p : ℕ → Bool) → ClosedSet n adj p → ClosedSet n adj (λ v. not (p v))
+    others p closed v w m t o = at (p w) refl
+      where
+        at : (b : Bool) → p w ≡ b → T (not b)
+        at false e = tt
+        at true e = let (l, o′) = back v w m o in absurd (clash (p v) t (closed w v l (true-T e) o′))
+
+    go : (p : ℕ → Bool) → T (p x) → ClosedSet n adj p → (b : Bool) → p c ≡ b → (v : ℕ) → v < n → Reached dist v → T (p v)
+    go p t closed true e v m r = g .least p (true-T e) closed v m r
+    go p t closed false e v m r =
+        let other : T (not (p x)) = g .least (λ y. not (p y)) (true-T (ap not e)) (others p closed) x h f in
+        absurd (clash (p x) other t)
+
+-- What is reached along one adjacency is reached along another, where the two list the same for the nodes of a set that has the centre and, with a
+-- node, what is listed for it.
+pub spread-agree :
+    {n c : ℕ} {adj adj′ : ℕ → List ℕ} {dist : List ℕ} (p : ℕ → Bool) → T (p c) → ClosedSet n adj p →
+    ((v w : ℕ) → v < n → T (p v) → Occurs (adj v) w ↔ Occurs (adj′ v) w) → c < n → Spread n c adj dist → Spread n c adj′ dist
+spread-agree {n} {c} {adj} {adj′} {dist} p t closed same h g =
+    record {
+      size = g .size;
+      centre = g .centre;
+      closed = λ v w m r o. g .closed v w m r (same v w m (g .least p t closed v m r) .1 o);
+      least =
+          λ q s closed′ v m r.
+          both-left (q v) (p v)
+          (g .least (λ x. q x && p x) (both (q c) (p c) s t)
+          (λ x y l a o.
+          let b = both-right (q x) (p x) a in
+          both (q y) (p y) (closed′ x y l (both-left (q x) (p x) a) (same x y l b .0 o)) (closed x y l b o))
+          v m r);
+    }
 
 -- ---- what it reaches
 

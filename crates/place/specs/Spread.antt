@@ -1,27 +1,18 @@
 -- The search for the centre's component: links are followed where they match, which is tested by whole sets. It stops where nothing is
 -- new; proofs/Spread ties what it leaves to walks.
-use mathlib.Core.Bool.{Bool, cond}
-use mathlib.Core.List.{List, [], _∷_, _++_}
+use mathlib.Core.Bool.{Bool}
+use mathlib.Core.List.{List, _++_}
 use mathlib.Core.Path.{_≡_}
 use Prim.Native.Nat.{ℕ, _<_}
 use lib.Dec.{T}
 use lib.ListN.{length, getD}
 use Rattle.base_lists.specs.List.{Occurs}
-use Rattle.base_bits.specs.Bits.{intersects, unionOver}
-use Rattle.graph.specs.Bfs.{State, visit}
+use Rattle.base_bits.specs.Bits.{unionOver}
 use Rattle.graph.specs.Net.{driven, driving}
 use Rattle.graph.specs.Search.{far}
 use Rattle.table.specs.Fill.{NodeList}
+use Rattle.graph_follow.specs.Follow.{meeting}
 use Rattle.table.specs.Prepared.{succOf, predOf, Tables}
-
--- those nodes of a list whose sets have a part of `set`
-unfoldable pub meeting : ℕ → List ℕ → List ℕ → List ℕ
-meeting set sets [] = []
-meeting set sets (v ∷ vs) = cond (intersects set (getD sets v 0)) (v ∷ meeting set sets vs) (meeting set sets vs)
-
--- a look at one node of such a list: it is visited where its set has a part of `set`
-unfoldable pub look : ℕ → List ℕ → State → ℕ → State
-look set sets s v = cond (intersects set (getD sets v 0)) (visit 0 s v) s
 
 -- The nodes that a matching link joins to node v, directions ignored. What the parts of v's set drive is one union, what drives them another.
 unfoldable pub matched : Tables → List ℕ → ℕ → List ℕ

@@ -9,6 +9,9 @@ pub mod Host
 pub mod Answer
 pub mod PreparedMasks
 pub mod StrikeFill
+mod Pending
+mod Waking
+mod StrikeDue
 pub mod NodeLists
 pub mod Masks
 pub mod Prepare

@@ -1,11 +1,16 @@
 -- Laws of the list of all nodes. Assumes nothing.
 use mathlib.Core.Bool.{true, cond}
-use mathlib.Core.Path.{_≡_}
-use Prim.Native.Nat.{ℕ, _≤_, _<_}
+use mathlib.Core.List.{List}
+use mathlib.Core.Path.{_≡_, refl, subst}
+use Prim.Native.Nat.{ℕ, zero, suc, _≤_, _<_}
 use native.Mathlib.Omega.{arith}
+use borrow.Author.Tests.{ne-eqb}
 use lib.Dec.{eqb, eqb-refl}
 use lib.ListN.{length, getD}
 use Rattle.base_lists.specs.List.{any, tabulate, Below}
+use Rattle.base_lists.specs.Below.{countBelow, leastBelow}
+use Rattle.base_lists.proofs.Below.{leastBelow-is}
+use Rattle.base_lists.proofs.Ranks.{count-images}
 use Rattle.base_lists.proofs.Tests.{T-true, at-any}
 use Rattle.base_lists.proofs.Tables.{length-tabulate, getD-tabulate, tabulate-same}
 use Rattle.table.specs.Fill.{listed, marksOf, Distinct, allNodes, NodeList}
@@ -39,3 +44,21 @@ module _ (n : ℕ) where
   pub all-marks : marksOf n (allNodes n) ≡ tabulate n (λ v. 1)
   unfolding marksOf
   all-marks = tabulate-same n (λ v. cond (listed (allNodes n) v) 1 0) (λ v. 1) (λ v h. rw (all-listed v h))
+
+-- A list of nodes below n, each once, has no more than n of them.
+pub list-few : {n : ℕ} {nodes : List ℕ} → NodeList n nodes → length nodes ≤ n
+unfolding Distinct Below countBelow
+list-few {n} {nodes} list =
+    let m : ℕ = length nodes in
+    let at : ℕ → ℕ = λ v. leastBelow m (λ i. eqb (getD nodes i 0) v) in
+    subst (λ (k : ℕ). k ≤ n) (count-all m)
+    (count-images m n (λ i. true) at
+    (λ i h _. (
+      getD nodes i 0,
+      list .below i h,
+      leastBelow-is m (λ j. eqb (getD nodes j 0) (getD nodes i 0)) i h (eqb-refl (getD nodes i 0)) (λ j l. ne-eqb _ _ (list .distinct j i l h)),
+    )))
+  where
+    count-all : (m : ℕ) → countBelow m (λ i. true) ≡ m
+    count-all zero = refl
+    count-all (suc m) = omega (arith, count-all m)

@@ -1,8 +1,7 @@
 -- The loop of rounds: from one table to the next, until a round strikes nothing. Assumes nothing.
-use mathlib.Core.Bool.{Bool, true, false, cond}
-use mathlib.Core.List.{List}
+use mathlib.Core.List.{List, []}
 use mathlib.Core.Logic.{_⊎_, ⊎-elim}
-use mathlib.Core.Path.{_≡_, refl, sym, ap, subst, _∙_}
+use mathlib.Core.Path.{_≡_, refl, sym, ap, ap₂, subst, _∙_}
 use Prim.Native.Nat.{ℕ, suc, _+_, _^_, _≤_, _<_}
 use native.Mathlib.Nat.{le-refl, not-suc-le-zero, lt-of-le-of-lt}
 use native.Mathlib.Numerals.{add-one}
@@ -10,12 +9,18 @@ use native.Mathlib.Decide.{decLt}
 use native.Mathlib.Omega.{arith}
 use borrow.Author.Count.{below-more}
 use lib.Dec.{T}
-use lib.ListN.{length, getD, List·getD-eq-default}
+use lib.ListN.{length, getD, take, replicate, List·getD-eq-default}
+use lib.Seq.{length-take-le}
+use Rattle.base_lists.specs.List.{Occurs, Below}
 use Rattle.base_lists.proofs.Tests.{false-T}
 use Rattle.base_bits.specs.Bits.{bit, Subset}
 use Rattle.base_bits.proofs.Digits.{bit-of-zero}
 use Rattle.base_bits.proofs.Numbers.{subset-le}
+use Rattle.graph.specs.Bfs.{State, level, stateOf, Searched}
 use Rattle.graph.specs.Circuit.{Circuit}
+use Rattle.graph.specs.Net.{NetOf}
+use Rattle.graph.specs.Search.{far}
+use Rattle.graph.proofs.BfsSteps.{reached-length, tail-le}
 use Rattle.graph.proofs.Net.{net-of}
 use Rattle.simulation.specs.Simulation.{Direction}
 use Rattle.table_row.specs.Problem.{Problem}
@@ -25,45 +30,39 @@ use Rattle.table_row.proofs.Falling.{FirstRest, falls-count}
 use Rattle.table_row.proofs.Counting.{first-rounds}
 use Rattle.table_row.proofs.Begin.{begins-fits, begins-times, begins-rest}
 use Rattle.table.specs.Row.{inTable, pairs, problemOf, startTable, lastTable, rounds}
-use Rattle.table.specs.Fill.{listed, marksOf, NodeList, Cleared, Filled, tableAt}
+use Rattle.table.specs.Fill.{listed, marksOf, NodeList, Cleared, fillAt}
 use Rattle.table.specs.First.{Begins}
+use Rattle.graph_follow.specs.Follow.{beside}
+use Rattle.table.specs.Pending.{changing, Pending, putAt, Put}
 use Rattle.table.specs.Prepared.{Tables, Ready, Prepared}
 use Rattle.table.specs.Refine.{Rested}
-use Rattle.table.specs.Strike.{strikeNode, strikeTable, strikeTimes, Round, Settled}
-use Rattle.table.proofs.StrikeFill.{length-table, getD-table, cleared-table, fill-table, pairs-table}
-use Rattle.table.proofs.StrikeSets.{survivors-subset}
+use Rattle.table.specs.Strike.{strikeNode, strikeTable, strikeTimes, Mutual, Covers, Due, Round, Settled}
+use Rattle.graph_follow.proofs.Following.{beside-below}
+use Rattle.table.proofs.NodeLists.{list-few}
+use Rattle.table.proofs.Pending.{occurs-listed, changing-below, put-fill}
+use Rattle.table.proofs.StrikeDue.{length-strike, strike-at, covers-changing, fill-strike, changing-differs, covers-next, net-mutual}
+use Rattle.table.proofs.StrikeSets.{survivors-subset, strike-none}
 use Rattle.table.proofs.StrikeRow.{begins-cleared, times-row}
+use Rattle.table.proofs.Waking.{unmarked, woken-beside, woken-unmarked}
 
 -- ---- a round shrinks the sets
 
-module _ (t : Tables) (nodes old : List ℕ) where
-  pub length-strike : length (strikeTable t nodes old) ≡ length old
-  unfolding strikeTable
-  length-strike = length-table (length old) (strikeNode t old) nodes
-
-  cleared-strike : Cleared nodes (strikeTable t nodes old)
-  unfolding strikeTable
-  cleared-strike = cleared-table (length old) (strikeNode t old) nodes
-
-  strike-subset : (v : ℕ) → Subset (getD (strikeTable t nodes old) v 0) (getD old v 0)
-  unfolding strikeTable strikeNode
+module _ (t : Tables) (old : List ℕ) where
+  strike-subset : (v : ℕ) → Subset (getD (strikeTable t old) v 0) (getD old v 0)
+  unfolding strikeNode
   strike-subset v u s = go (decLt v (length old))
     where
-      entry : (b : Bool) → T (bit (cond b (strikeNode t old v) 0) u) → T (bit (getD old v 0) u)
-      entry true k = survivors-subset _ _ _ _ (getD old v 0) u k
-      entry false k = absurd (false-T (bit-of-zero u) k)
-
       go : Dec (v < length old) → T (bit (getD old v 0) u)
-      go (yes h) = entry (listed nodes v) (subst (λ (x : ℕ). T (bit x u)) (getD-table (length old) (strikeNode t old) nodes v h) s)
+      go (yes h) = survivors-subset _ _ _ _ (getD old v 0) u (subst (λ (x : ℕ). T (bit x u)) (strike-at t old v h) s)
       go (no h) =
           absurd
           (false-T (bit-of-zero u)
-          (subst (λ (x : ℕ). T (bit x u)) (List·getD-eq-default (strikeTable t nodes old) 0 {n = v} (rw length-strike (omega arith))) s))
+          (subst (λ (x : ℕ). T (bit x u)) (List·getD-eq-default (strikeTable t old) 0 {n = v} (rw length-strike (omega arith))) s))
 
-  strike-smaller : (n v : ℕ) → getD old v 0 < n → getD (strikeTable t nodes old) v 0 < n
-  strike-smaller n v h = lt-of-le-of-lt (subset-le (getD old v 0) (getD (strikeTable t nodes old) v 0) (strike-subset v)) h
+  strike-smaller : (n v : ℕ) → getD old v 0 < n → getD (strikeTable t old) v 0 < n
+  strike-smaller n v h = lt-of-le-of-lt (subset-le (getD old v 0) (getD (strikeTable t old) v 0) (strike-subset v)) h
 
-  strike-ready : Ready t old → Ready t (strikeTable t nodes old)
+  strike-ready : Ready t old → Ready t (strikeTable t old)
   strike-ready r =
       record {
         masks = r .masks;
@@ -72,100 +71,172 @@ module _ (t : Tables) (nodes old : List ℕ) where
       }
 
   -- it leaves fewer pairs, or the same table
-  strike-progress : Ready t old → (pairs (strikeTable t nodes old) < pairs old) ⊎ (strikeTable t nodes old ≡ old)
+  strike-progress : Ready t old → (pairs (strikeTable t old) < pairs old) ⊎ (strikeTable t old ≡ old)
   unfolding inTable
   strike-progress r =
       pairs-progress (le-refl 32)
-      (record { size = length-strike; small = λ v. strike-smaller (2 ^ 32) v (r .small v) })
+      (record { size = length-strike t old; small = λ v. strike-smaller (2 ^ 32) v (r .small v) })
       (record { size = refl; small = r .small })
       (λ u v. strike-subset v u)
 
 -- ---- from round to round
 
 -- no more rounds than there were pairs
-pub round-count : {t : Tables} {nodes start old spare : List ℕ} {kept rounds : ℕ} → Round t nodes start old spare kept rounds → kept + rounds ≤ pairs start
+pub round-count : {t : Tables} {start old : List ℕ} {kept rounds : ℕ} → Round t start old kept rounds → kept + rounds ≤ pairs start
 unfolding strikeTimes
-round-count {t} {nodes} {start} {rounds = rounds} r =
-    omega (arith, falls-count pairs (strikeTimes t nodes start) rounds (r .falls), r .count ∙ ap pairs (r .table))
+round-count {t} {start} {rounds = rounds} r =
+    omega (arith, falls-count pairs (strikeTimes t start) rounds (r .falls), r .count ∙ ap pairs (r .table))
 
--- One round more: what `strike` writes and returns.
-module _ {t : Tables} {nodes start old spare : List ℕ} {kept rounds : ℕ} (r : Round t nodes start old spare kept rounds)
-    (list : NodeList (length old) nodes) {new : List ℕ} {next : ℕ} (fill : Filled (strikeNode t old) nodes spare new next) where
-  struck : new ≡ strikeTable t nodes old
-  unfolding strikeTable
-  struck = fill .table ∙ fill-table (strikeNode t old) nodes spare (r .free) ∙ ap (λ (m : ℕ). tableAt m (strikeNode t old) nodes) (r .long)
+pub round-start : {t : Tables} {start : List ℕ} {kept : ℕ} → kept ≡ pairs start → Round t start start kept 0
+unfolding strikeTimes
+round-start e = record { table = refl; falls = λ j h. absurd (not-suc-le-zero h); count = e }
 
-  new-count : next ≡ pairs new
-  unfolding strikeTable
-  new-count = fill .size ∙ sym (ap pairs struck ∙ pairs-table (length old) (strikeNode t old) nodes (list .distinct) (list .below))
+-- The nodes that change are listed, each with its next set: `old` is the table, and some list of nodes to look at was looked at.
+pub record Noticed (t : Tables) (old changed next : List ℕ) (k : ℕ) : Type 0 where
+  pub todo : List ℕ
+  pub due : Due t old todo
+  pub pending : Pending (strikeNode t old) old todo changed next k
 
-  -- it struck a pair: on with the new table
-  pub round-less : (next ≡ kept → ⊥) → next < kept
-  round-less differs =
-      ⊎-elim (λ l. omega (arith, new-count, ap pairs struck, r .count)) (λ e. absurd (differs (new-count ∙ ap pairs (struck ∙ e) ∙ sym (r .count))))
-      (strike-progress t nodes old (r .ready))
+module _ {t : Tables} {start old : List ℕ} {kept rounds : ℕ} (r : Round t start old kept rounds) {changed next : List ℕ} {k : ℕ} (q : Noticed t old changed next k) where
+  abbrev nodes : List ℕ
+  nodes = take k changed
 
-  pub round-next : (next ≡ kept → ⊥) → Round t nodes start new old next (rounds + 1)
-  unfolding strikeTimes
-  round-next differs =
-      let after : new ≡ strikeTimes t nodes start (suc rounds) = struck ∙ ap (strikeTable t nodes) (r .table) in
+  covered : Covers t old nodes
+  covered = rw (q .pending .nodes) (covers-changing t old (q .todo) (q .due .covers))
+
+  pub noticed-below : Below (length old) nodes
+  noticed-below = rw (q .pending .nodes) (changing-below (strikeNode t old) old (length old) (q .todo) (q .due .below))
+
+  pub noticed-few : k ≤ length old
+  noticed-few = omega (arith, q .pending .within, q .due .few)
+
+  -- ---- none changes: the rounds are over
+
+  pub round-last : k ≡ 0 → Settled t start old kept rounds
+  unfolding fillAt
+  round-last e =
       record {
-        table = rw add-one after;
-        falls =
-            below-more (λ j. pairs (strikeTimes t nodes start (suc j)) < pairs (strikeTimes t nodes start j)) rounds (r .falls)
-            (omega (arith, round-less differs, new-count, r .count, ap pairs after, ap pairs (r .table)));
-        count = new-count;
-        ready = rw struck (strike-ready t nodes old (r .ready));
-        cleared = rw struck (cleared-strike t nodes old);
-        free = r .cleared;
-        long = sym (ap length struck ∙ length-strike t nodes old);
+        table = r .table;
+        stops = sym (fill-strike t old [] (subst (λ (m : ℕ). Covers t old (take m changed)) e covered));
+        falls = r .falls;
+        count = r .count;
       }
 
-  -- it struck none: the two tables are equal, and the loop has settled
-  stopped : next ≡ kept → strikeTable t nodes old ≡ old
-  stopped e = ⊎-elim (λ l. absurd (omega (arith, new-count, ap pairs struck, r .count))) (λ s. s) (strike-progress t nodes old (r .ready))
+  -- ---- some change: their sets are written
 
-  pub round-same : next ≡ kept → new ≡ old
-  round-same e = struck ∙ stopped e
+  module _ {new : List ℕ} {count : ℕ} (put : Put nodes (take k next) old new count) where
+    struck : new ≡ strikeTable t old
+    struck =
+        put .table ∙ ap₂ (λ (vs xs : List ℕ). putAt vs xs old) (q .pending .nodes) (q .pending .sets)
+        ∙ put-fill (strikeNode t old) (changing (strikeNode t old) old (q .todo)) old
+        ∙ fill-strike t old (changing (strikeNode t old) old (q .todo)) (covers-changing t old (q .todo) (q .due .covers))
 
-  pub round-last : next ≡ kept → Settled t nodes start old kept rounds
-  round-last e = record { table = r .table; stops = stopped e; falls = r .falls; count = r .count }
+    pub new-long : length new ≡ length old
+    new-long = ap length struck ∙ length-strike t old
+
+    pub new-ready : Ready t new
+    new-ready = rw struck (strike-ready t old (q .due .ready))
+
+    module _ (long : length changed ≡ length old) (some : k ≡ 0 → ⊥) where
+      -- the first of them has another set
+      differs : strikeTable t old ≡ old → ⊥
+      unfolding Below
+      differs e =
+          let size : length nodes ≡ k = length-take-le k changed (omega (arith, noticed-few, long)) in
+          let v : ℕ = getD nodes 0 0 in
+          let here : 0 < length nodes = omega arith in
+          changing-differs t old (q .todo) v
+          (subst (λ (l : List ℕ). T (listed l v)) (q .pending .nodes) (occurs-listed nodes v (0, here, refl)))
+          (sym (strike-at t old v (noticed-below 0 here)) ∙ ap (λ (l : List ℕ). getD l v 0) e)
+
+      pub round-less : count < kept
+      round-less =
+          ⊎-elim (λ l. omega (arith, put .size, ap pairs struck, r .count)) (λ e. absurd (differs e)) (strike-progress t old (q .due .ready))
+
+      pub round-next : Round t start new count (rounds + 1)
+      unfolding strikeTimes
+      round-next =
+          let after : new ≡ strikeTimes t start (suc rounds) = struck ∙ ap (strikeTable t) (r .table) in
+          record {
+            table = rw add-one after;
+            falls =
+                below-more (λ j. pairs (strikeTimes t start (suc j)) < pairs (strikeTimes t start j)) rounds (r .falls)
+                (omega (arith, round-less, put .size, r .count, ap pairs after, ap pairs (r .table)));
+            count = put .size;
+          }
+
+    -- what lies beside them is to be looked at
+
+    module _ (todo : List ℕ) {marks marks′ todo′ : List ℕ} {m : ℕ} (clean : marks ≡ replicate (length old) far)
+        (s : Searched marks′ todo′ m (level (beside (t .offsets) (t .links) new) 0 (stateOf marks todo 0) nodes)) where
+      beside-inside : (v : ℕ) → v < length old → Below (length old) (beside (t .offsets) (t .links) new v)
+      beside-inside v h = beside-below (t .offsets) (t .links) new v (q .due .ready .net) h
+
+      state : stateOf marks′ todo′ m ≡ level (beside (t .offsets) (t .links) new) 0 (unmarked (length old)) nodes
+      unfolding unmarked stateOf
+      state = s .state ∙ ap (λ (l : List ℕ). level (beside (t .offsets) (t .links) new) 0 (record { dist = l; reached = [] }) nodes) clean
+
+      list : take m todo′ ≡ level (beside (t .offsets) (t .links) new) 0 (unmarked (length old)) nodes .reached
+      unfolding stateOf
+      list = ap (λ (x : State). x .reached) state
+
+      pub woken-due : length marks′ ≡ length old → Due t new (take m todo′)
+      unfolding stateOf
+      woken-due long =
+          record {
+            ready = new-ready;
+            both = rw new-long (q .due .both);
+            covers =
+                subst (λ (l : List ℕ). Covers t new l) (sym list)
+                (subst (λ (x : List ℕ). Covers t x (level (beside (t .offsets) (t .links) new) 0 (unmarked (length old)) nodes .reached)) (sym struck)
+                (covers-next t old (q .due .ready .net) (q .due .both) (λ v. subst (λ (x : List ℕ). getD x v 0 < 2 ^ 32) struck (new-ready .small v)) nodes covered _
+                (λ w v o m.
+                woken-beside (beside (t .offsets) (t .links) new) beside-inside nodes noticed-below w v o
+                (subst (λ (x : List ℕ). Occurs (beside (t .offsets) (t .links) x w) v) (sym struck) m))));
+            below = rw (new-long, ← long) (s .kept .ready .inside);
+            few = rw new-long (omega (arith, tail-le marks′ todo′ m (s .kept), reached-length marks′ todo′ m (s .kept), long));
+          }
+
+      pub woken-clean : fillAt (λ v. far) (take m todo′) marks′ ≡ replicate (length old) far
+      unfolding stateOf
+      woken-clean =
+          ap (λ (x : State). fillAt (λ v. far) (x .reached) (x .dist)) state
+          ∙ woken-unmarked (beside (t .offsets) (t .links) new) beside-inside nodes noticed-below
 
 -- ---- the rounds begin
 
 module _ {pattern host : Circuit} {t : Tables} (p : Prepared pattern host t) (nodes : List ℕ) {first : List ℕ}
     (b : Begins pattern host (marksOf (length (host .kinds)) nodes) first) where
-  pub first-round : {spare : List ℕ} {started : ℕ} → Cleared nodes spare → length spare ≡ length first → started ≡ pairs first
-      → Round t nodes first first spare started 0
-  unfolding strikeTimes problemOf
-  first-round free long count =
+  -- the list of nodes has each node that changes
+  pub first-due : NodeList (length first) nodes → Due t first nodes
+  unfolding problemOf Covers Cleared
+  first-due list =
+      let net : NetOf (length first) (host .starts) (host .ends) (t .offsets) (t .links) = rw (b .long) (p .net) in
       record {
-        table = refl;
-        falls = λ j h. absurd (not-suc-le-zero h);
-        count = count;
         ready =
             record {
               masks = p .masked .room;
-              net = rw (b .long) (net-of (p .net));
+              net = net-of net;
               small = fits-word (p .parts) (begins-fits (problemOf pattern host (marksOf (length (host .kinds)) nodes)) b);
             };
-        cleared = begins-cleared pattern host nodes b;
-        free = free;
-        long = long;
+        both = net-mutual t net;
+        covers = λ v h e. let z = begins-cleared pattern host nodes b v h e in strike-none t first v z ∙ sym z;
+        below = list .below;
+        few = list-few list;
       }
 
   -- ---- what the loop settles at is the end of the row
 
-  module _ {last : List ℕ} {k r : ℕ} (s : Settled t nodes first last k r) where
+  module _ {last : List ℕ} {k r : ℕ} (s : Settled t first last k r) where
     abbrev marks : List ℕ
     marks = marksOf (length (host .kinds)) nodes
 
     abbrev problem : Problem Direction
     problem = problemOf pattern host marks
 
-    settled-again : strikeTimes t nodes first (suc r) ≡ strikeTimes t nodes first r
+    settled-again : strikeTimes t first (suc r) ≡ strikeTimes t first r
     unfolding strikeTimes
-    settled-again = ap (strikeTable t nodes) (sym (s .table)) ∙ s .stops ∙ s .table
+    settled-again = ap (strikeTable t) (sym (s .table)) ∙ s .stops ∙ s .table
 
     repeats : rowFrom problem first (suc r) ≡ rowFrom problem first r
     repeats = sym (times-row pattern host t p nodes b (suc r)) ∙ settled-again ∙ times-row pattern host t p nodes b r

@@ -28,7 +28,6 @@ use Rattle.table.specs.Strike.{survivors, strikeNode, strikeTable, strik
 use Rattle.table.proofs.Agreement.{start-agrees}
 use Rattle.table.proofs.Row.{Table, start-in}
 use Rattle.table.proofs.Masks.{select-within}
-use Rattle.table.proofs.StrikeSets.{strike-none}
 
 -- ---- one node, one round
 
@@ -60,18 +59,13 @@ module _ (pattern host : Circuit) (t : Tables) (p : Prepared pattern host t) (ta
   unfolding strikeNode problemOf neighbours maskOf masksOf
   node-next old v l = rw (p .masked .succ, p .masked .pred, p .net .drives v l, p .net .drivenBy v l) (survivors-next old v)
 
-  -- a round is one step of the row, on a table that is empty outside the list
-  pub strike-row : (nodes old : List ℕ) → Table pattern host old → Cleared nodes old → strikeTable t nodes old ≡ strike pattern host taken old
-  unfolding strikeTable tableAt problemOf Cleared
-  strike-row nodes old fits clear =
-      ap (λ (m : ℕ). tabulate m (λ v. cond (listed nodes v) (strikeNode t old v) 0)) (fits .size)
-      ∙ tabulate-same (length (host .kinds)) (λ v. cond (listed nodes v) (strikeNode t old v) 0) (nextSet (problemOf pattern host taken) old)
-      (λ v h. go v h (listed nodes v) refl ∙ node-next old v h)
+  -- a round is one step of the row
+  pub strike-row : (old : List ℕ) → Table pattern host old → strikeTable t old ≡ strike pattern host taken old
+  unfolding strikeTable problemOf
+  strike-row old fits =
+      ap (λ (m : ℕ). tabulate m (strikeNode t old)) (fits .size)
+      ∙ tabulate-same (length (host .kinds)) (strikeNode t old) (nextSet (problemOf pattern host taken) old) (node-next old)
       ∙ masks-strike (problemOf pattern host taken) (p .parts) steps-within fits
-    where
-      go : (v : ℕ) → v < length (host .kinds) → (b : Bool) → listed nodes v ≡ b → cond b (strikeNode t old v) 0 ≡ strikeNode t old v
-      go v h true e = refl
-      go v h false e = sym (strike-none t old v (clear v (rw (fits .size) h) e))
 
 -- ---- the first table
 
@@ -114,10 +108,10 @@ module _ (pattern host : Circuit) (t : Tables) (p : Prepared pattern host t) (no
   marks = marksOf (length (host .kinds)) nodes
 
   -- k rounds from a table to begin with are k steps of the row from it
-  pub times-row : (k : ℕ) → strikeTimes t nodes first k ≡ rowFrom (problemOf pattern host marks) first k
+  pub times-row : (k : ℕ) → strikeTimes t first k ≡ rowFrom (problemOf pattern host marks) first k
   unfolding strikeTimes rowFrom problemOf
   times-row zero = refl
   times-row (suc k) =
       let old = begins-times (problemOf pattern host marks) (p .parts) b k in
-      ap (strikeTable t nodes) (times-row k)
-      ∙ strike-row pattern host t p marks nodes (rowFrom (problemOf pattern host marks) first k) (begins-fits (problemOf pattern host marks) old) (begins-cleared pattern host nodes old)
+      ap (strikeTable t) (times-row k)
+      ∙ strike-row pattern host t p marks (rowFrom (problemOf pattern host marks) first k) (begins-fits (problemOf pattern host marks) old)

@@ -46,6 +46,15 @@ module _ (q : ℕ → Bool) where
   passing-subset : (x : ℕ) → Subset (passing x) x
   passing-subset x u t = both-left (bit x u) (q u) (rw (passing-bit x u (bit-below 32 (passing x) u (number-lt 32 (λ v. bit x v && q v)) t)) at t)
 
+  passing-again : (x : ℕ) → passing (passing x) ≡ passing x
+  passing-again x =
+      number-same 32 (λ u. bit (passing x) u && q u) (λ u. bit x u && q u) (λ u h. rw (passing-bit x u h) (go (bit x u) (q u)))
+    where
+      go : (a b : Bool) → (a && b) && b ≡ a && b
+      go true true = refl
+      go true false = refl
+      go false b = refl
+
   -- the first part alone, where it passes
   abbrev here : ℕ → ℕ
   here x = cond (q (firstOf x)) (2 ^ firstOf x) zero
@@ -93,6 +102,11 @@ module _ (succ pred : List ℕ) (f b : ℕ) where
   pub survivors-subset : (x : ℕ) → Subset (survivors succ pred f b x) x
   unfolding survivors stays
   survivors-subset x = passing-subset stays x
+
+  -- what survived once survives again
+  pub survivors-again : (x : ℕ) → survivors succ pred f b (survivors succ pred f b x) ≡ survivors succ pred f b x
+  unfolding survivors stays
+  survivors-again x = passing-again stays x
 
   -- One turn of the loop over the parts x that are left: the first of them stays or does not.
   module _ (x : ℕ) (p : zero < x) (h : x < 2 ^ 32) where

@@ -8,3 +8,4 @@ pub mod Answer
 pub mod Reply
 pub mod Examples
 pub mod Strike
+pub mod Pending

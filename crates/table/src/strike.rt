@@ -1,7 +1,9 @@
-// One round of striking. A part stays at a node when each part that it drives occurs at some node that the node drives, and the same
-// backward. Which parts occur there is one union of sets for each direction, so a round looks at each link twice and at each pair once.
+// A round of striking, over those nodes that may change in it. A part stays at a node when each part that it drives occurs at some node that
+// the node drives, and the same backward. Which parts occur there is one union of sets for each direction, so a look at a node costs its links
+// and its pairs once. The next sets are listed first, each from the table whole, and then written.
 use crate::FORWARD_MASKS;
 use crate::MASKS;
+use graph::UNREACHED;
 use graph_neighbours::neighbours::Direction;
 use graph_neighbours::neighbours::neighbours_in;
 ghost use mathlib.Core.Path.{_≡_};
@@ -9,8 +11,11 @@ ghost use Prim.Native.Nat.{_^_, _≤_, _<_};
 ghost use lib.ListN.{length};
 ghost use Rattle.base_bits.specs.Bits.{unionAt};
 ghost use Rattle.base_lists.specs.List.{Below};
-ghost use Rattle.table.specs.Fill.{Filled};
+ghost use Rattle.graph.specs.Search.{far};
+ghost use Rattle.table.specs.Fill.{fillAt};
+ghost use Rattle.table.specs.Pending.{Noted, Pending, Put};
 ghost use Rattle.table.specs.Prepared.{tables, Ready};
+ghost use Rattle.table.specs.Row.{pairs};
 ghost use Rattle.table.specs.Strike.{survivors, strikeNode};
 
 // The union of the sets of a list of nodes.
@@ -70,29 +75,72 @@ fn strike_node(masks: &[u32], offsets: &[u16], links: &[u16], old: &[u32], v: us
     )
 }
 
-// Writes the next set of each node of the list into `new`, each from the table `old` whole, and returns how many pairs these sets have.
-pub fn strike(
-    nodes: &[u16],
+// Lists node v with its next set, where that is not the set that it has.
+fn note(v: u16, set: u32, old: u32, changed: &mut [u16], next: &mut [u32], k: usize) -> usize
+    requires { ⌜ (k < length (now changed)) × (k < length (now next)) ⌝ }
+    ensures { λ r. ⌜ Noted v set old k (now (changed .entry)) (now (next .entry)) (now (changed .exit)) (now (next .exit)) r ⌝ }
+{
+    if set == old {
+        return k;
+    }
+    changed[k] = v;
+    next[k] = set;
+    k + 1
+}
+
+// Lists those nodes of a list that change, each with its next set from the table whole, and returns how many they are.
+pub fn changes(
+    todo: &[u16],
     masks: &[u32],
     offsets: &[u16],
     links: &[u16],
     old: &[u32],
-    new: &mut [u32],
-) -> u32
+    changed: &mut [u16],
+    next: &mut [u32],
+) -> usize
     requires { ⌜ Ready (tables (now masks) (now offsets) (now links)) (now old) ⌝ }
-    requires { ⌜ length (now nodes) ≤ 65536 ⌝ }
-    requires { ⌜ Below (length (now old)) (now nodes) ⌝ }
-    requires { ⌜ length (now new) ≡ length (now old) ⌝ }
-    ensures { λ r. ⌜ Filled (strikeNode (tables (now (masks .entry)) (now (offsets .entry)) (now (links .entry))) (now (old .entry))) (now (nodes .entry)) (now (new .entry)) (now (new .exit)) r ⌝ }
+    requires { ⌜ Below (length (now old)) (now todo) ⌝ }
+    requires { ⌜ (length (now todo) ≤ length (now changed)) × (length (now todo) ≤ length (now next)) ⌝ }
+    ensures { λ r. ⌜ Pending (strikeNode (tables (now (masks .entry)) (now (offsets .entry)) (now (links .entry))) (now (old .entry))) (now (old .entry)) (now (todo .entry)) (now (changed .exit)) (now (next .exit)) r ⌝ }
 {
-    let mut kept: u32 = 0;
+    let mut k = 0;
+    let mut i = 0;
+    while i < todo.len() {
+        let v = todo[i] as usize;
+        let set = strike_node(masks, offsets, links, old, v);
+        k = note(todo[i], set, old[v], changed, next, k);
+        i += 1;
+    }
+    k
+}
+
+// Writes sets at nodes, and returns how many pairs the table has then, where it has `started` before.
+pub fn write(nodes: &[u16], sets: &[u32], table: &mut [u32], started: u32) -> u32
+    requires { ⌜ (length (now sets) ≡ length (now nodes)) × Below (length (now table)) (now nodes) ⌝ }
+    requires { ⌜ started ≡ pairs (now table) ⌝ }
+    requires { ⌜ length (now table) ≤ 65536 ⌝ }
+    ensures { λ r. ⌜ Put (now (nodes .entry)) (now (sets .entry)) (now (table .entry)) (now (table .exit)) r ⌝ }
+{
+    let mut kept = started;
     let mut i = 0;
     while i < nodes.len() {
         let v = nodes[i] as usize;
-        let set = strike_node(masks, offsets, links, old, v);
-        new[v] = set;
-        kept = kept + base_bits::size(set);
+        kept = kept - base_bits::size(table[v]) + base_bits::size(sets[i]);
+        table[v] = sets[i];
         i += 1;
     }
     kept
+}
+
+// Takes the marks of a list of nodes away.
+pub fn unmark(todo: &[u16], marks: &mut [u16])
+    requires { ⌜ Below (length (now marks)) (now todo) ⌝ }
+    ensures { λ _. ⌜ now (marks .exit) ≡ fillAt (λ v. far) (now (todo .entry)) (now (marks .entry)) ⌝ }
+{
+    let mut i = 0;
+    while i < todo.len() {
+        let v = todo[i] as usize;
+        marks[v] = UNREACHED;
+        i += 1;
+    }
 }

@@ -212,6 +212,36 @@ impl Draft {
         }
     }
 
+    /// A row of copies of the pattern, each joined to the one before by links
+    /// as the pattern has them. What matches hangs together along the row, so
+    /// that a ball holds it, or cuts it at one end, at both or inside a copy.
+    fn row(&mut self, random: &mut Random, pattern: &Circuit, copies: usize, lost: usize) {
+        let mut last: Option<usize> = None;
+        for _ in 0..copies {
+            let base = self.kinds.len();
+            for &kind in &pattern.kinds {
+                if self.node(kind).is_none() {
+                    return;
+                }
+            }
+            for &(u, t) in &pattern.links {
+                if !random.once_in(lost) {
+                    self.link(base + u, base + t);
+                }
+            }
+            for _ in 0..random.between(1, 3).min(pattern.links.len()) {
+                let (u, t) = random.pick(&pattern.links);
+                let other = last.unwrap_or(base);
+                if random.once_in(2) {
+                    self.link(other + u, base + t);
+                } else {
+                    self.link(base + u, other + t);
+                }
+            }
+            last = Some(base);
+        }
+    }
+
     /// A covering of the pattern: so many nodes for each part, joined as the
     /// parts are, each link's two layers shifted by some number.
     fn cover(&mut self, random: &mut Random, pattern: &Circuit, layers: usize) {
@@ -272,13 +302,17 @@ impl Draft {
 pub fn board(random: &mut Random, size: Size, pattern: &Circuit) -> Circuit {
     let (nodes, links) = size.bounds(random);
     let mut draft = Draft::new(nodes, links);
-    let style = random.below(8);
+    let style = random.below(9);
     if style < 5 {
         let shared = random.pick(&[3, 6, 1000]);
         let lost = random.pick(&[8, 40, 1000, 1000]);
         for _ in 0..random.between(1, 1 + nodes / pattern.kinds.len()) {
             draft.copy(random, pattern, shared, lost);
         }
+    }
+    if style == 8 {
+        let lost = random.pick(&[20, 100, 1000]);
+        draft.row(random, pattern, nodes / pattern.kinds.len(), lost);
     }
     if [3, 4, 5, 6].contains(&style) {
         let most = nodes.saturating_sub(draft.kinds.len()) / pattern.kinds.len();

@@ -15,7 +15,7 @@ use Rattle.table.specs.Prepared.{tables, Tables}
 use Rattle.table.specs.Refine.{countsOf}
 use Rattle.table.proofs.Begun.{started-begins, kept-first, refined}
 use Rattle.place.specs.Find.{Tabled, Sought}
-use Rattle.place.proofs.Find.{tabled-net, ball-short, ball-list, ball-measured, ball-sought}
+use Rattle.place.proofs.Find.{tabled-net, ball-short, ball-list, ball-marks, ball-measured, ball-sought}
 use Rattle.place_circuits.proofs.find_in_ball.Statement.{statement}
 use Rattle.place_circuits.proofs.find_in_ball.Tie as tie
 
@@ -121,7 +121,7 @@ returns c =
       counted =
           c .counted .ensures
           ∙ refined _ _ _ (s .pre .1 .1 .1 .0) (begun .start .ensures) (d .prepared .parts) (f .rested) .counted
-          ∙ ap (countsOf _ _) (g .ball);
+          ∙ ap (countsOf _ _) (ball-marks d (s .args .around .centre) (s .args .around .radius) (s .pre .1 .0) (rw (s .pre .1 .1 .0 .0) at searched));
       answer = f .answer;
       short = f .short;
       measured = ball-measured d (s .args .around .centre) (s .args .around .radius) (s .pre .1 .0) (rw (s .pre .1 .1 .0 .0) at searched);

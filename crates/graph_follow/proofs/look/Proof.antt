@@ -1,12 +1,12 @@
--- `place_component::look` meets its contract, by the laws of a look. Assumes nothing.
+-- `graph_follow::look` meets its contract, by the laws of a look. Assumes nothing.
 use mathlib.Core.Path.{sym, _∙_}
 use borrow.Author.Needs.{needs}
 use denote.Ref.{now}
 use Rattle.base_lists.proofs.Tests.{true-T}
 use Rattle.graph.specs.Bfs.{stateOf}
-use Rattle.place.proofs.Spread.{look-taken, look-left}
-use Rattle.place_component.proofs.look.Statement.{statement}
-use Rattle.place_component.proofs.look.Tie as tie
+use Rattle.graph_follow.proofs.Following.{look-taken, look-left}
+use Rattle.graph_follow.proofs.look.Statement.{statement}
+use Rattle.graph_follow.proofs.look.Tie as tie
 
 mul-meets : tie.Need-mul-meets
 mul-meets c = search needs

@@ -1,4 +1,4 @@
--- `place_component::follow` meets its contract. The loop's invariant: from the state that the tables stand for, the looks that are left
+-- `graph_follow::follow` meets its contract. The loop's invariant: from the state that the tables stand for, the looks that are left
 -- lead to the state that all of them lead to. The measure is how many are left. Assumes nothing.
 use mathlib.Core.Path.{_≡_, refl, sym, _∙_}
 use Prim.Native.Nat.{_-_, _≤_}
@@ -8,10 +8,10 @@ use denote.Ref.{now}
 use lib.ListN.{length, drop}
 use Rattle.graph.specs.Bfs.{scan, stateOf, Searching}
 use Rattle.base_lists.specs.List.{Below}
-use Rattle.place.specs.Spread.{meeting}
-use Rattle.place.proofs.Spread.{follow-next, follow-end}
-use Rattle.place_component.proofs.follow.Statement.{statement}
-use Rattle.place_component.proofs.follow.Tie as tie
+use Rattle.graph_follow.specs.Follow.{meeting}
+use Rattle.graph_follow.proofs.Following.{follow-next, follow-end}
+use Rattle.graph_follow.proofs.follow.Statement.{statement}
+use Rattle.graph_follow.proofs.follow.Tie as tie
 
 abbrev Inv-loop : tie.InvT-loop
 Inv-loop part set sets dist₀ queue₀ from tail₀ i₀ dist queue tail i =
