@@ -33,6 +33,12 @@ mostBytes = most Second Pattern
 abbrev pub cutEach : List (List ℕ) → List (List ℕ)
 cutEach files = map (cut Second Pattern) files
 
+-- an open file is there, whatever its length; where it could be read, this is how many bytes were
+abbrev pub Tells : ℕ → Found → Type 0
+Tells size (found.Bytes told) = told ≡ size
+Tells size found.Absent = ⊥
+Tells size found.Unreadable = Unit {0}
+
 -- what is read has room
 abbrev pub Within : ℕ → Found → Type 0
 Within room (found.Bytes size) = size ≤ room

@@ -12,7 +12,7 @@ ghost use lib.ListN.{length, take, set};
 ghost use Rattle.call_shelf.specs.Shelf.{mostFiles};
 ghost use Rattle.shelf.specs.declared.Taken.the-variants as taken;
 ghost use Rattle.shelf.specs.Printing.{printedOf};
-ghost use Rattle.shelf.specs.Reading.{isAbsent, nameOf, mostBytes, Within, noted, nextAfter, Reached, endOf};
+ghost use Rattle.shelf.specs.Reading.{isAbsent, nameOf, mostBytes, Tells, Within, noted, nextAfter, Reached, endOf};
 
 // A byte more than the longest second-edition pattern that is accepted: so that a longer file is refused by its length.
 const FILE_BYTES: usize = 4 + 4 * Pattern::MAX_NODES + 4 * Pattern::MAX_LINKS + 1;
@@ -50,12 +50,12 @@ enum Printed {
     Failed,
 }
 
-// Reads from an open file until the buffer is full or the file ends. A read that fails is told from the end by one read more.
-fn fill(fd: i32, buf: &mut [u8]) -> Found
-    ensures { λ r. ⌜ Within (length (now (buf .exit))) r ⌝ }
+// What became of an open file of which so many bytes were read, to where there is this much room: a read that failed is told from the end by one
+// read more. It is not absent, and be it empty.
+fn outcome(fd: i32, size: usize, room: usize) -> Found
+    ensures { λ r. ⌜ Tells size r ⌝ }
 {
-    let size = io::read_full(fd, buf);
-    if size == buf.len() {
+    if size == room {
         return Found::Bytes(size);
     }
     let mut more = [0u8; 1];
@@ -63,6 +63,14 @@ fn fill(fd: i32, buf: &mut [u8]) -> Found
         return Found::Bytes(size);
     }
     Found::Unreadable
+}
+
+// Reads from an open file until the buffer is full or the file ends.
+fn fill(fd: i32, buf: &mut [u8]) -> Found
+    ensures { λ r. ⌜ Within (length (now (buf .exit))) r ⌝ }
+{
+    let size = io::read_full(fd, buf);
+    outcome(fd, size, buf.len())
 }
 
 // Whether a file that cannot be opened is absent.
@@ -188,7 +196,13 @@ fn hand(bytes: &[u8], notes: &[u32], text: &[u8]) -> Printed
 }
 
 // Puts the files in order and hands their lines on, by way of a table for their numbers and a buffer for the lines.
-fn print_shelf(bytes: &[u8], notes: &[u32], count: usize, order: &mut [u8], out: &mut [u8]) -> Printed
+fn print_shelf(
+    bytes: &[u8],
+    notes: &[u32],
+    count: usize,
+    order: &mut [u8],
+    out: &mut [u8],
+) -> Printed
     requires { ⌜ (length (now notes) ≡ mostFiles) × (endOf (now notes) ≡ taken.Files count) ⌝ }
     requires { ⌜ (mostFiles ≤ length (now order)) × (3 * mostFiles ≤ length (now out)) ⌝ }
 {

@@ -18,11 +18,10 @@ slice-aggregate-run-4 : tie.Need-slice-aggregate-run-4
 slice-aggregate-run-4 c = search needs
 
 run-requires : tie.Need-run-requires
-run-requires c κs =
-    (
-      (omega (arith, slice-aggregate-run (c .before .before .before)), sym (slice-aggregate-run-2 (c .before .before))),
-      (omega (arith, slice-aggregate-run-3 (c .before)), omega (arith, slice-aggregate-run-4 c)),
-    )
+run-requires c κs = (
+  (omega (arith, slice-aggregate-run (c .before .before .before)), sym (slice-aggregate-run-2 (c .before .before))),
+  (omega (arith, slice-aggregate-run-3 (c .before)), omega (arith, slice-aggregate-run-4 c)),
+)
 
 returns : tie.Need-returns
 returns c = search needs

@@ -88,8 +88,7 @@ loop-again c =
     let a = c .before .before .before in
     let one = call a .read-one .ensures .0 in
     let inv = turn a .loop .inv in
-    let further = onward a _ (c .before .next .given .1) in
-    (
+    let further = onward a _ (c .before .next .given .1) in (
       omega arith,
       omega (arith, inv .1, further-place (call a .read-one .result) _ _ (one .0) further),
       call a .read-one .kept .1 .1 .0 ∙ inv .2,

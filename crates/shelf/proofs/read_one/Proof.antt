@@ -47,8 +47,7 @@ same-length-2 c = search needs
 returns : tie.Need-returns
 returns c =
     let load = c .before .before .before in
-    let start = load .before .before .before .before in
-    (
+    let start = load .before .before .before .before in (
       (room load, ap (set (now (start .args .notes)) (start .args .i)) (c .note .ensures)),
       take-at (take (start .args .at) (now (start .args .bytes))) _ (start .args .at) (length-take-le (start .args .at) (now (start .args .bytes)) (omega arith)),
     )
