@@ -143,7 +143,7 @@ was-read role file ks ps ss es e =
     rw v
 
 -- bytes, as the round trips ask for them
-of-bytes : (file : CircuitFile) → Below 256 (file .bytes) → T (all (λ b. ltb b 256) (file .bytes))
+pub of-bytes : (file : CircuitFile) → Below 256 (file .bytes) → T (all (λ b. ltb b 256) (file .bytes))
 unfolding Below
 of-bytes file bytes = at-all (λ b. ltb b 256) (file .bytes) (λ i h. true-T (lt-ltb _ _ (bytes i h)))
 

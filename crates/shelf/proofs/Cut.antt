@@ -18,7 +18,8 @@ use Rattle.order.proofs.Sorting.{sort-same}
 use Rattle.order_files.specs.Files.{compareFiles}
 use Rattle.shelf_text.specs.Text.{shelfText}
 use Rattle.call_shelf.specs.Shelf.{isAccepted, fileAt, acceptedIn, shelfOf}
-use Rattle.shelf.specs.Printing.{cutEach, textOf}
+use Rattle.shelf.specs.Reading.{cutEach}
+use Rattle.shelf.specs.Printing.{textOf}
 
 -- what reading a file as a second-edition pattern finds
 abbrev verdictFor : List ℕ → Verdict

@@ -1,3 +1,4 @@
 pub mod Cut
 pub mod Printing
 pub mod Reading
+pub mod Folder

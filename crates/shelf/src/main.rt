@@ -8,15 +8,21 @@ use file_format::Pattern;
 use output::Output;
 ghost use mathlib.Core.Path.{_≡_};
 ghost use Prim.Native.Nat.{_+_, _*_, _<_, _≤_};
-ghost use lib.ListN.{length};
-ghost use Rattle.shelf_strings.specs.Strings.{cutInto};
+ghost use lib.ListN.{length, take, set};
 ghost use Rattle.call_shelf.specs.Shelf.{mostFiles};
-ghost use Rattle.shelf.specs.Printing.{isAbsent, named, nextAfter, mostBytes, Within, Onward, Few, textOf};
+ghost use Rattle.shelf.specs.declared.Taken.the-variants as taken;
+ghost use Rattle.shelf.specs.Printing.{printedOf};
+ghost use Rattle.shelf.specs.Reading.{isAbsent, nameOf, mostBytes, Tells, Within, noted, nextAfter, Reached, endOf};
 
 // A byte more than the longest second-edition pattern that is accepted: so that a longer file is refused by its length.
 const FILE_BYTES: usize = 4 + 4 * Pattern::MAX_NODES + 4 * Pattern::MAX_LINKS + 1;
 
 const SHELF_BYTES: usize = FILES * FILE_BYTES;
+
+// What is noted of a file that is absent, and of one that cannot be read; of any other it is how many bytes were read.
+const ABSENT: u32 = 65536;
+
+const UNREADABLE: u32 = 65537;
 
 // What became of reading a file: so many of its bytes stand at the front of the buffer; or there is no such name; or it cannot be read.
 enum Found {
@@ -32,10 +38,10 @@ enum Next {
     GivesUp,
 }
 
-// How many files were read, or that one could not be.
+// How many files were read, or that the one of this number could not be.
 enum Taken {
     Files(usize),
-    Unreadable,
+    Unreadable(usize),
 }
 
 // Whether the lines were handed whole to standard output.
@@ -44,12 +50,12 @@ enum Printed {
     Failed,
 }
 
-// Reads from an open file until the buffer is full or the file ends. A read that fails is told from the end by one read more.
-fn fill(fd: i32, buf: &mut [u8]) -> Found
-    ensures { λ r. ⌜ Within (length (now (buf .exit))) r ⌝ }
+// What became of an open file of which so many bytes were read, to where there is this much room: a read that failed is told from the end by one
+// read more. It is not absent, and be it empty.
+fn outcome(fd: i32, size: usize, room: usize) -> Found
+    ensures { λ r. ⌜ Tells size r ⌝ }
 {
-    let size = io::read_full(fd, buf);
-    if size == buf.len() {
+    if size == room {
         return Found::Bytes(size);
     }
     let mut more = [0u8; 1];
@@ -57,6 +63,14 @@ fn fill(fd: i32, buf: &mut [u8]) -> Found
         return Found::Bytes(size);
     }
     Found::Unreadable
+}
+
+// Reads from an open file until the buffer is full or the file ends.
+fn fill(fd: i32, buf: &mut [u8]) -> Found
+    ensures { λ r. ⌜ Within (length (now (buf .exit))) r ⌝ }
+{
+    let size = io::read_full(fd, buf);
+    outcome(fd, size, buf.len())
 }
 
 // Whether a file that cannot be opened is absent.
@@ -69,11 +83,36 @@ fn absent(error: i32) -> bool
     false
 }
 
-// The bytes of a file by its name.
-fn load(name: &[u8], buf: &mut [u8]) -> Found
+// The name of the i-th file: its two digits.
+fn name_of(i: usize) -> [u8; 7]
+    requires { ⌜ i < 100 ⌝ }
+    ensures { λ r. ⌜ r ≡ nameOf i ⌝ }
+{
+    [
+        b'p',
+        48 + (i / 10) as u8,
+        48 + (i % 10) as u8,
+        b'.',
+        b'c',
+        b'i',
+        b'r',
+    ]
+}
+
+// Opens the i-th file, by its name.
+fn open(i: usize, name: &[u8]) -> i32
+    requires { ⌜ now name ≡ nameOf i ⌝ }
+{
+    os::open_read(name)
+}
+
+// The bytes of the i-th file.
+fn load(i: usize, buf: &mut [u8]) -> Found
+    requires { ⌜ i < 100 ⌝ }
     ensures { λ r. ⌜ Within (length (now (buf .exit))) r ⌝ }
 {
-    let fd = os::open_read(name);
+    let name = name_of(i);
+    let fd = open(i, &name);
     if fd < 0 {
         if absent(os::errno()) {
             return Found::Absent;
@@ -85,19 +124,36 @@ fn load(name: &[u8], buf: &mut [u8]) -> Found
     found
 }
 
-// The name of the i-th file: its two digits.
-fn put_name(i: usize, name: &mut [u8])
-    requires { ⌜ (i < 100) × (3 ≤ length (now name)) ⌝ }
-    ensures { λ _. ⌜ now (name .exit) ≡ named i (now (name .entry)) ⌝ }
+// What is noted of a file.
+fn note(found: Found) -> u32
+    requires { ⌜ Within mostBytes found ⌝ }
+    ensures { λ r. ⌜ r ≡ noted found ⌝ }
 {
-    name[1] = 48 + (i / 10) as u8;
-    name[2] = 48 + (i % 10) as u8;
+    match found {
+        Found::Bytes(size) => size as u32,
+        Found::Absent => ABSENT,
+        Found::Unreadable => UNREADABLE,
+    }
+}
+
+// Reads the i-th file to a place of the bytes, behind those of the files before it, and notes what became of it. All of those are there, and their
+// bytes stay.
+fn read_one(i: usize, at: usize, bytes: &mut [u8], notes: &mut [u32]) -> Found
+    requires { ⌜ (i < length (now notes)) × (i < 100) × (at ≤ 65536) × (at + mostBytes ≤ length (now bytes)) ⌝ }
+    requires { ⌜ Reached (now notes) i at ⌝ }
+    ensures { λ r. ⌜ Within mostBytes r × (now (notes .exit) ≡ set (now (notes .entry)) i (noted r)) ⌝ }
+    ensures { λ _. ⌜ take at (now (bytes .exit)) ≡ take at (now (bytes .entry)) ⌝ }
+{
+    let end = at + FILE_BYTES;
+    let found = load(i, &mut bytes[at..end]);
+    notes[i] = note(found);
+    found
 }
 
 // How the reading goes on: it ends at the first file that is absent.
 fn after(found: Found, at: usize) -> Next
     requires { ⌜ (at ≤ 65536) × Within mostBytes found ⌝ }
-    ensures { λ r. ⌜ (r ≡ nextAfter found at) × Onward at r ⌝ }
+    ensures { λ r. ⌜ r ≡ nextAfter found at ⌝ }
 {
     match found {
         Found::Bytes(size) => Next::Further(at + size),
@@ -106,34 +162,22 @@ fn after(found: Found, at: usize) -> Next
     }
 }
 
-// Reads the i-th file to a place of the bytes, where there is room for a byte more than the longest.
-fn read_one(i: usize, at: usize, bytes: &mut [u8], name: &mut [u8]) -> Next
-    requires { ⌜ (i < 100) × (3 ≤ length (now name)) × (at ≤ 65536) × (at + mostBytes ≤ length (now bytes)) ⌝ }
-    ensures { λ r. ⌜ Onward at r ⌝ }
-{
-    put_name(i, name);
-    let end = at + FILE_BYTES;
-    let found = load(name, &mut bytes[at..end]);
-    after(found, at)
-}
-
-// Reads the files one after another, the bytes of each behind those of the one before, and its length into the table of lengths. The name stays
-// that of the last file that was tried.
-fn read_all(bytes: &mut [u8], lengths: &mut [u32], name: &mut [u8]) -> Taken
-    requires { ⌜ (mostFiles * mostBytes ≤ length (now bytes)) × (mostFiles ≤ length (now lengths)) × (3 ≤ length (now name)) ⌝ }
-    ensures { λ r. ⌜ Few r ⌝ }
+// Reads the files one after another, the bytes of each behind those of the one before, and notes what became of each.
+fn read_all(bytes: &mut [u8], notes: &mut [u32]) -> Taken
+    requires { ⌜ (mostFiles * mostBytes ≤ length (now bytes)) × (length (now notes) ≡ mostFiles) ⌝ }
+    ensures { λ r. ⌜ r ≡ endOf (now (notes .exit)) ⌝ }
 {
     let mut at: usize = 0;
     let mut i: usize = 0;
     while i < FILES {
-        let next = read_one(i, at, bytes, name);
+        let found = read_one(i, at, bytes, notes);
+        let next = after(found, at);
         match next {
             Next::Further(past) => {
-                lengths[i] = (past - at) as u32;
                 at = past;
             }
             Next::Ends => return Taken::Files(i),
-            Next::GivesUp => return Taken::Unreadable,
+            Next::GivesUp => return Taken::Unreadable(i),
         }
         i += 1;
     }
@@ -141,8 +185,8 @@ fn read_all(bytes: &mut [u8], lengths: &mut [u32], name: &mut [u8]) -> Taken
 }
 
 // Hands the lines to standard output: they are the text of the files that were read.
-fn hand(bytes: &[u8], lengths: &[u32], text: &[u8]) -> Printed
-    requires { ⌜ now text ≡ textOf (cutInto (now bytes) (now lengths)) ⌝ }
+fn hand(bytes: &[u8], notes: &[u32], text: &[u8]) -> Printed
+    requires { ⌜ now text ≡ printedOf (now bytes) (now notes) ⌝ }
 {
     let answer = output::write_whole(libc::STDOUT_FILENO, text);
     let Output::Written(_) = answer else {
@@ -152,44 +196,55 @@ fn hand(bytes: &[u8], lengths: &[u32], text: &[u8]) -> Printed
 }
 
 // Puts the files in order and hands their lines on, by way of a table for their numbers and a buffer for the lines.
-fn print_shelf(bytes: &[u8], lengths: &[u32], order: &mut [u8], out: &mut [u8]) -> Printed
-    requires { ⌜ (length (now lengths) ≤ mostFiles) × (mostFiles ≤ length (now order)) × (3 * mostFiles ≤ length (now out)) ⌝ }
+fn print_shelf(
+    bytes: &[u8],
+    notes: &[u32],
+    count: usize,
+    order: &mut [u8],
+    out: &mut [u8],
+) -> Printed
+    requires { ⌜ (length (now notes) ≡ mostFiles) × (endOf (now notes) ≡ taken.Files count) ⌝ }
+    requires { ⌜ (mostFiles ≤ length (now order)) × (3 * mostFiles ≤ length (now out)) ⌝ }
 {
-    let answer = call_shelf::shelf(bytes, lengths, order);
-    let ShelfAnswer::Ordered(count) = answer else {
+    let answer = call_shelf::shelf(bytes, &notes[..count], order);
+    let ShelfAnswer::Ordered(ordered) = answer else {
         return Printed::Failed;
     };
-    let size = shelf_text::put_numbers(&order[..count], out);
-    hand(bytes, lengths, &out[..size])
+    let size = shelf_text::put_numbers(&order[..ordered], out);
+    hand(bytes, notes, &out[..size])
 }
 
-fn cannot_read(name: &[u8]) {
+fn cannot_read(i: usize)
+    requires { ⌜ i < 100 ⌝ }
+{
     io::write_all(libc::STDERR_FILENO, b"cannot read ");
-    io::write_all(libc::STDERR_FILENO, name);
+    let name = name_of(i);
+    io::write_all(libc::STDERR_FILENO, &name);
     io::write_all(libc::STDERR_FILENO, b"\n");
 }
 
-fn run(bytes: &mut [u8], lengths: &mut [u32], name: &mut [u8], order: &mut [u8], out: &mut [u8])
-    requires { ⌜ (mostFiles * mostBytes ≤ length (now bytes)) × (mostFiles ≤ length (now lengths)) × (3 ≤ length (now name)) ⌝ }
+fn tell(printed: Printed) {
+    match printed {
+        Printed::Whole => {}
+        Printed::Failed => os::fail(b"the list is not whole"),
+    }
+}
+
+fn run(bytes: &mut [u8], notes: &mut [u32], order: &mut [u8], out: &mut [u8])
+    requires { ⌜ (mostFiles * mostBytes ≤ length (now bytes)) × (length (now notes) ≡ mostFiles) ⌝ }
     requires { ⌜ (mostFiles ≤ length (now order)) × (3 * mostFiles ≤ length (now out)) ⌝ }
 {
-    let taken = read_all(bytes, lengths, name);
-    let Taken::Files(count) = taken else {
-        cannot_read(name);
-        return;
-    };
-    let printed = print_shelf(bytes, &lengths[..count], order, out);
-    let Printed::Whole = printed else {
-        os::fail(b"the list is not whole");
-        return;
-    };
+    let taken = read_all(bytes, notes);
+    match taken {
+        Taken::Files(count) => tell(print_shelf(bytes, notes, count, order, out)),
+        Taken::Unreadable(i) => cannot_read(i),
+    }
 }
 
 fn main() {
     let mut bytes = [0u8; SHELF_BYTES];
-    let mut lengths = [0u32; FILES];
-    let mut name = *b"p00.cir";
+    let mut notes = [0u32; FILES];
     let mut order = [0u8; FILES];
     let mut out = [0u8; 3 * FILES];
-    run(&mut bytes, &mut lengths, &mut name, &mut order, &mut out);
+    run(&mut bytes, &mut notes, &mut order, &mut out);
 }

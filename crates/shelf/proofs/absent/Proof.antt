@@ -2,7 +2,7 @@
 use mathlib.Core.Path.{sym}
 use lib.Dec.{lit<}
 use Rattle.output.proofs.Errors.{error-is, error-not}
-use Rattle.shelf.specs.Printing.{isAbsent}
+use Rattle.shelf.specs.Reading.{isAbsent}
 use Rattle.shelf.proofs.absent.Statement.{statement}
 use Rattle.shelf.proofs.absent.Tie as tie
 

@@ -1,7 +1,7 @@
 -- `shelf::after` meets its contract. Assumes nothing.
 use Prim.Native.Nat.{_≤_}
 use native.Mathlib.Omega.{arith}
-use Rattle.shelf.specs.Printing.{mostBytes}
+use Rattle.shelf.specs.Reading.{mostBytes}
 use borrow.Author.Needs.{needs}
 use Rattle.shelf.proofs.after.Statement.{statement}
 use Rattle.shelf.proofs.after.Tie as tie
@@ -23,13 +23,13 @@ enum-told-2 : tie.Need-enum-told-2
 enum-told-2 c = search needs
 
 returns : tie.Need-returns
-returns c = (rw (c .before .found .given .1), (omega arith, omega (arith, room c)))
+returns c = rw (c .before .found .given .1)
 
 returns-2 : tie.Need-returns-2
-returns-2 c = (rw (c .enum-told .given .1), tt)
+returns-2 c = rw (c .enum-told .given .1)
 
 returns-3 : tie.Need-returns-3
-returns-3 c = (rw (c .enum-told2 .given .1), tt)
+returns-3 c = rw (c .enum-told2 .given .1)
 
 pub after-spec : {M : Type 1} → statement M
 after-spec =

@@ -1,4 +1,5 @@
 -- `shelf::main` meets its contract. Assumes nothing.
+use mathlib.Core.Path.{sym}
 use native.Mathlib.Omega.{arith}
 use borrow.Author.Needs.{needs}
 use Rattle.shelf.proofs.main.Statement.{statement}
@@ -16,11 +17,11 @@ slice-aggregate-run-3 c = search needs
 slice-aggregate-run-4 : tie.Need-slice-aggregate-run-4
 slice-aggregate-run-4 c = search needs
 
-slice-aggregate-run-5 : tie.Need-slice-aggregate-run-5
-slice-aggregate-run-5 c = search needs
-
 run-requires : tie.Need-run-requires
-run-requires c κs = ((omega (arith, slice-aggregate-run (c .before .before .before .before)), omega (arith, slice-aggregate-run-2 (c .before .before .before)), omega (arith, slice-aggregate-run-3 (c .before .before))), (omega (arith, slice-aggregate-run-4 (c .before)), omega (arith, slice-aggregate-run-5 c)))
+run-requires c κs = (
+  (omega (arith, slice-aggregate-run (c .before .before .before)), sym (slice-aggregate-run-2 (c .before .before))),
+  (omega (arith, slice-aggregate-run-3 (c .before)), omega (arith, slice-aggregate-run-4 c)),
+)
 
 returns : tie.Need-returns
 returns c = search needs
@@ -33,6 +34,5 @@ main-spec =
     slice-aggregate-run-2
     slice-aggregate-run-3
     slice-aggregate-run-4
-    slice-aggregate-run-5
     run-requires
     returns)

@@ -11,7 +11,9 @@ use Rattle.base_text.proofs.Text.{put-whole, put-length}
 use Rattle.shelf_strings.specs.Strings.{cutInto}
 use Rattle.shelf_text.specs.Text.{shelfText}
 use Rattle.call_shelf.specs.Shelf.{shelfOf}
-use Rattle.shelf.specs.Printing.{textOf}
+use Rattle.shelf.specs.declared.Taken.{Taken}
+use Rattle.shelf.specs.Printing.{textOf, printedAt, printedOf}
+use Rattle.shelf.proofs.Reading.{few-files}
 use Rattle.shelf.proofs.Printing.{ordered-numbers, ordered-few, text-room, text-front, text-size}
 use borrow.Author.Needs.{needs}
 use Rattle.shelf.proofs.print_shelf.Statement.{statement}
@@ -21,10 +23,23 @@ abbrev call : tie.After-answer → tie.After-shelf
 call c = c .before .before .before .before
 
 abbrev start : tie.After-shelf → tie.Start
-start c = c .before .before .before .before .before .before
+start c = c .before .before .before .before .before .before .before
+
+-- how many files were read
+abbrev many : tie.After-shelf → ℕ
+many c = start c .args .count
+
+abbrev lengths : tie.After-shelf → List ℕ
+lengths c = take (many c) (now (start c .args .notes))
 
 abbrev files : tie.After-shelf → List (List ℕ)
-files c = cutInto (now (start c .args .bytes)) (now (start c .args .lengths))
+files c = cutInto (now (start c .args .bytes)) (lengths c)
+
+read : (s : tie.Start) → s .args .count ≤ length (now (s .args .notes))
+read s = few-files (now (s .args .notes)) (s .args .count) (s .pre .0 .1)
+
+sixteen : (c : tie.After-shelf) → length (lengths c) ≤ 16
+sixteen c = omega (arith, read (start c), start c .pre .0 .0, length-take-le (many c) (now (start c .args .notes)) (read (start c)))
 
 abbrev count : tie.After-answer → ℕ
 count c = c .answer .given .0 .0
@@ -34,19 +49,22 @@ table c = call c .shelf .last .1 .1 .0
 
 -- the numbers at the front of the table are the shelf's
 numbers : (c : tie.After-answer) → take (count c) (table c) ≡ shelfOf (files (call c))
-numbers c = ordered-numbers _ _ _ _ _ (start (call c) .pre .0) (call c .shelf .ensures) _ (c .answer .given .1) .1
+numbers c = ordered-numbers _ _ _ _ _ (sixteen (call c)) (call c .shelf .ensures) _ (c .answer .given .1) .1
 
 few : (c : tie.After-answer) → count c ≡ length (shelfOf (files (call c)))
-few c = ordered-numbers _ _ _ _ _ (start (call c) .pre .0) (call c .shelf .ensures) _ (c .answer .given .1) .0
+few c = ordered-numbers _ _ _ _ _ (sixteen (call c)) (call c .shelf .ensures) _ (c .answer .given .1) .0
 
 size : (c : tie.After-answer) → length (take (count c) (table c)) ≡ count c
 size c = ap length (numbers c) ∙ sym (few c)
 
 room : (c : tie.After-answer) → count c ≤ length (table c)
-room c = omega (arith, few c, ordered-few (now (start (call c) .args .bytes)) (now (start (call c) .args .lengths)), start (call c) .pre .0, start (call c) .pre .1, call c .shelf .kept .1 .1 .0)
+room c = omega (arith, few c, ordered-few (now (start (call c) .args .bytes)) (lengths (call c)), sixteen (call c), start (call c) .pre .1 .0, call c .shelf .kept .1 .1 .0)
 
 fits : (c : tie.After-answer) → Fits (now (start (call c) .args .out)) 0 (shelfText (take (count c) (table c)))
-fits c = text-room _ _ (omega (arith, size c, few c, ordered-few (now (start (call c) .args .bytes)) (now (start (call c) .args .lengths)), start (call c) .pre .0, start (call c) .pre .2))
+fits c = text-room _ _ (omega (arith, size c, few c, ordered-few (now (start (call c) .args .bytes)) (lengths (call c)), sixteen (call c), start (call c) .pre .1 .1))
+
+slice-aggregate-shelf : tie.Need-slice-aggregate-shelf
+slice-aggregate-shelf c = sym (length-take-le _ _ (read (c .before .before .before .before .before)))
 
 shelf-requires : tie.Need-shelf-requires
 shelf-requires c κs = search needs
@@ -85,11 +103,12 @@ slice-aggregate-hand c =
     sym (length-take-le _ _ (text-size (put .put-numbers .ensures) (fits a)))
 
 hand-requires : tie.Need-hand-requires
-unfolding textOf
+unfolding textOf printedAt printedOf
 hand-requires c κs =
     let put = c .before .before .before in
     let a = put .before .before .before .before in
-    text-front (put .put-numbers .ensures) (fits a) ∙ ap shelfText (numbers a)
+    let s = start (call a) in
+    text-front (put .put-numbers .ensures) (fits a) ∙ ap shelfText (numbers a) ∙ ap (λ (t : Taken). printedAt t (now (s .args .bytes)) (now (s .args .notes))) (sym (s .pre .0 .1))
 
 same-length-2 : tie.Need-same-length-2
 same-length-2 c = search needs
@@ -104,6 +123,7 @@ pub print-shelf-spec : {M : Type 1} → statement M
 print-shelf-spec =
     tie.close
     (tie.spec
+    slice-aggregate-shelf
     shelf-requires
     enum-known-answer
     enum-told

@@ -1,14 +1,18 @@
 -- `shelf::read_one` meets its contract. Assumes nothing.
+use mathlib.Core.Path.{_≡_, refl, sym, ap, _∙_}
 use native.Mathlib.Omega.{arith}
-use lib.ListN.{length, length-take, length-drop}
-use Rattle.shelf.specs.Printing.{mostBytes}
+use denote.Ref.{now}
+use lib.ListN.{length, take, drop, set, length-take, length-drop}
+use lib.Seq.{take-at, length-take-le}
+use Rattle.shelf.specs.Reading.{mostBytes, Within, noted}
 use Rattle.shelf.proofs.Reading.{within-more}
 use borrow.Author.Needs.{needs}
 use Rattle.shelf.proofs.read_one.Statement.{statement}
 use Rattle.shelf.proofs.read_one.Tie as tie
 
-put-name-requires : tie.Need-put-name-requires
-put-name-requires c κs = search needs
+-- what was read has room
+room : (c : tie.After-load) → Within mostBytes (c .load .result)
+room c = within-more (c .load .result) (length (c .load .last .1 .0)) mostBytes (omega (arith, simp (length-take, length-drop) at (c .load .kept .1 .0))) (c .load .ensures)
 
 add-end : tie.Need-add-end
 add-end c = search needs
@@ -25,10 +29,14 @@ part-load-end c = search needs
 load-requires : tie.Need-load-requires
 load-requires c κs = search needs
 
-after-requires : tie.Need-after-requires
-after-requires c κs =
-    let call = c .before .before in
-    (omega arith, within-more (call .load .result) (length (call .load .last .1 .0)) mostBytes (omega (arith, simp (length-take, length-drop) at (call .load .kept .1 .0))) (call .load .ensures))
+note-requires : tie.Need-note-requires
+note-requires c κs = room (c .before .before)
+
+mul-notes : tie.Need-mul-notes
+mul-notes c = search needs
+
+slice-write-notes : tie.Need-slice-write-notes
+slice-write-notes c = search needs
 
 same-length : tie.Need-same-length
 same-length c = search needs
@@ -37,19 +45,25 @@ same-length-2 : tie.Need-same-length-2
 same-length-2 c = search needs
 
 returns : tie.Need-returns
-returns c = c .after .ensures .1
+returns c =
+    let load = c .before .before .before in
+    let start = load .before .before .before .before in (
+      (room load, ap (set (now (start .args .notes)) (start .args .i)) (c .note .ensures)),
+      take-at (take (start .args .at) (now (start .args .bytes))) _ (start .args .at) (length-take-le (start .args .at) (now (start .args .bytes)) (omega arith)),
+    )
 
 pub read-one-spec : {M : Type 1} → statement M
 read-one-spec =
     tie.close
     (tie.spec
-    put-name-requires
     add-end
     sub-load
     part-load-start
     part-load-end
     load-requires
-    after-requires
+    note-requires
+    mul-notes
+    slice-write-notes
     same-length
     same-length-2
     returns)

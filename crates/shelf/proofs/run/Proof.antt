@@ -1,27 +1,16 @@
 -- `shelf::run` meets its contract. Assumes nothing.
-use mathlib.Core.Path.{sym}
-use Prim.Native.Nat.{_≤_}
+use mathlib.Core.Path.{_≡_, sym, _∙_}
 use native.Mathlib.Omega.{arith}
-use lib.ListN.{length, length-take}
-use lib.Seq.{length-take-le}
+use lib.ListN.{length}
 use Rattle.call_shelf.specs.Shelf.{mostFiles}
-use Rattle.shelf.proofs.Reading.{few-files}
+use Rattle.shelf.proofs.Reading.{unreadable-under}
 use borrow.Author.Needs.{needs}
 use Rattle.shelf.proofs.run.Statement.{statement}
 use Rattle.shelf.proofs.run.Tie as tie
 
-abbrev call : tie.After-taken → tie.After-read-all
-call c = c .before .before .before .before .before .before .before .before
-
-abbrev start : tie.After-read-all → tie.Start
-start c = c .before .before .before .before .before .before .before .before .before
-
--- at most 16 files were read
-few : (c : tie.After-taken) → c .taken .given .0 .0 ≤ mostFiles
-few c = few-files _ _ (c .taken .given .1) (call c .read-all .ensures)
-
-room : (c : tie.After-taken) → c .taken .given .0 .0 ≤ length (call c .read-all .last .1 .0)
-room c = omega (arith, few c, call c .read-all .kept .1 .0, start (call c) .pre .0 .1)
+-- there are 16 notes
+sixteen : (c : tie.After-read-all) → length (c .read-all .last .1 .0) ≡ mostFiles
+sixteen c = omega (arith, c .read-all .kept .1 .0, c .before .before .before .before .before .before .before .pre .0 .1)
 
 read-all-requires : tie.Need-read-all-requires
 read-all-requires c κs = search needs
@@ -29,11 +18,23 @@ read-all-requires c κs = search needs
 enum-known-taken : tie.Need-enum-known-taken
 enum-known-taken c = search needs
 
-enum-told : tie.Need-enum-told
-enum-told c = search needs
+print-shelf-requires : tie.Need-print-shelf-requires
+print-shelf-requires c κs =
+    let t = c .before .before .before .before .before in
+    let all = t .before .before .before .before .before .before in
+    ((sixteen all, sym (all .read-all .ensures) ∙ t .taken .given .1), (omega arith, omega arith))
+
+tell-requires : tie.Need-tell-requires
+tell-requires c κs = search needs
+
+enum-known-taken-2 : tie.Need-enum-known-taken-2
+enum-known-taken-2 c = search needs
 
 cannot-read-requires : tie.Need-cannot-read-requires
-cannot-read-requires c κs = search needs
+cannot-read-requires c κs =
+    let t = c .before in
+    let all = t .before .before .before .before .before .before in
+    omega (arith, sixteen all, unreadable-under (all .read-all .last .1 .0) (t .taken2 .given .0 .0) (sym (all .read-all .ensures) ∙ t .taken2 .given .1))
 
 same-length : tie.Need-same-length
 same-length c = search needs
@@ -44,34 +45,11 @@ same-length-2 c = search needs
 same-length-3 : tie.Need-same-length-3
 same-length-3 c = search needs
 
-returns : tie.Need-returns
-returns c = search needs
-
-slice-reshare-prefix-print-shelf : tie.Need-slice-reshare-prefix-print-shelf
-slice-reshare-prefix-print-shelf c = room (c .before .before)
-
-slice-aggregate-print-shelf : tie.Need-slice-aggregate-print-shelf
-slice-aggregate-print-shelf c = sym (length-take-le _ _ (room (c .before .before .before)))
-
-print-shelf-requires : tie.Need-print-shelf-requires
-print-shelf-requires c κs =
-    let t = c .before .before .before .before .before in
-    (omega (arith, few t, length-take-le (t .taken .given .0 .0) (call t .read-all .last .1 .0) (room t)), omega arith, omega arith)
-
-enum-told-2 : tie.Need-enum-told-2
-enum-told-2 c = search needs
-
-enum-told-3 : tie.Need-enum-told-3
-enum-told-3 c = search needs
-
-slice-aggregate-fail : tie.Need-slice-aggregate-fail
-slice-aggregate-fail c = search needs
-
-fail-requires : tie.Need-fail-requires
-fail-requires c κs = search needs
-
 same-length-4 : tie.Need-same-length-4
 same-length-4 c = search needs
+
+returns : tie.Need-returns
+returns c = search needs
 
 same-length-5 : tie.Need-same-length-5
 same-length-5 c = search needs
@@ -79,32 +57,8 @@ same-length-5 c = search needs
 same-length-6 : tie.Need-same-length-6
 same-length-6 c = search needs
 
-same-length-7 : tie.Need-same-length-7
-same-length-7 c = search needs
-
-same-length-8 : tie.Need-same-length-8
-same-length-8 c = search needs
-
 returns-2 : tie.Need-returns-2
 returns-2 c = search needs
-
-same-length-9 : tie.Need-same-length-9
-same-length-9 c = search needs
-
-same-length-10 : tie.Need-same-length-10
-same-length-10 c = search needs
-
-same-length-11 : tie.Need-same-length-11
-same-length-11 c = search needs
-
-same-length-12 : tie.Need-same-length-12
-same-length-12 c = search needs
-
-same-length-13 : tie.Need-same-length-13
-same-length-13 c = search needs
-
-returns-3 : tie.Need-returns-3
-returns-3 c = search needs
 
 pub run-spec : {M : Type 1} → statement M
 run-spec =
@@ -112,28 +66,15 @@ run-spec =
     (tie.spec
     read-all-requires
     enum-known-taken
-    enum-told
+    print-shelf-requires
+    tell-requires
+    enum-known-taken-2
     cannot-read-requires
     same-length
     same-length-2
     same-length-3
-    returns
-    slice-reshare-prefix-print-shelf
-    slice-aggregate-print-shelf
-    print-shelf-requires
-    enum-told-2
-    enum-told-3
-    slice-aggregate-fail
-    fail-requires
     same-length-4
+    returns
     same-length-5
     same-length-6
-    same-length-7
-    same-length-8
-    returns-2
-    same-length-9
-    same-length-10
-    same-length-11
-    same-length-12
-    same-length-13
-    returns-3)
+    returns-2)

@@ -1,0 +1,20 @@
+-- `shelf::fill` meets its contract. Assumes nothing.
+use Rattle.shelf.proofs.Reading.{told-within}
+use borrow.Author.Needs.{needs}
+use Rattle.shelf.proofs.fill.Statement.{statement}
+use Rattle.shelf.proofs.fill.Tie as tie
+
+read-full-requires : tie.Need-read-full-requires
+read-full-requires c κs = search needs
+
+outcome-requires : tie.Need-outcome-requires
+outcome-requires c κs = search needs
+
+same-length : tie.Need-same-length
+same-length c = search needs
+
+returns : tie.Need-returns
+returns c = told-within (c .outcome .result) _ _ (c .outcome .ensures) (c .before .before .before .read-full .ensures .0)
+
+pub fill-spec : {M : Type 1} → statement M
+fill-spec = tie.close (tie.spec read-full-requires outcome-requires same-length returns)
