@@ -1,17 +1,20 @@
--- What is handed to standard output, and what counts as an absent file.
-use mathlib.Core.Bool.{Bool}
+-- What is held of a file, and what is handed to standard output.
+use mathlib.Core.Bool.{true, false}
 use mathlib.Core.List.{List, _++_}
 use mathlib.Core.Path.{_≡_}
 use Prim.Native.Nat.{ℕ}
-use lib.IntN.{ℤ}
 use Rattle.call_report.specs.Whole.{prefixOf}
-use Rattle.output.specs.Writing.{isError}
+use Rattle.input.specs.declared.Found.{Found}
+use Rattle.input.specs.declared.Found.the-variants as found
+use Rattle.finder.specs.declared.Held.{Held}
 use Rattle.finder.specs.declared.Printed.{Printed}
 use Rattle.finder.specs.declared.Printed.the-variants as printed
 
--- "absent counts as empty": the file could not be opened for ENOENT, which is 2, and for no other error
-unfoldable pub isAbsent : ℤ → Bool
-isAbsent error = isError 2 error
+-- "absent counts as empty": what is held of a file that was read so
+unfoldable pub heldOf : Found → Held
+heldOf (found.Bytes size) = record { there = true; size = size }
+heldOf found.Absent = record { there = true; size = 0 }
+heldOf found.Unreadable = record { there = false; size = 0 }
 
 -- bytes that go on with a report: after the text of its first items they make that of the items up to a later one
 unfoldable pub GoesOn : List ℕ → List ℕ → ℕ → ℕ → List ℕ → Type 0

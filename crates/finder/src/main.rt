@@ -5,6 +5,7 @@ use call_report::ReportAnswer;
 use call_report::report;
 use file_format::Board;
 use file_format::Pattern;
+use input::Found;
 use output::Output;
 ghost use mathlib.Core.Path.{_≡_};
 ghost use Prim.Native.Nat.{_≤_};
@@ -14,7 +15,7 @@ ghost use Rattle.file_format.specs.declared.Role.the-variants as role;
 ghost use Rattle.report.specs.Lines.{longestLine};
 ghost use Rattle.report.specs.Report.{reportOf};
 ghost use Rattle.finder.specs.Cut.{most};
-ghost use Rattle.finder.specs.Printing.{isAbsent, GoesOn, Reached, Handed};
+ghost use Rattle.finder.specs.Printing.{heldOf, GoesOn, Reached, Handed};
 
 // A byte more than the longest file that is accepted in each role: the report of what is read so is the report of the files (proofs/Cut).
 const PATTERN_BYTES: usize = 4 + 2 * Pattern::MAX_NODES + 4 * Pattern::MAX_LINKS + 1;
@@ -24,9 +25,9 @@ const BOARD_BYTES: usize = 4 + 2 * Board::MAX_NODES + 4 * Board::MAX_LINKS + 1;
 // What is put at a time; a longer report takes further pieces.
 const PIECE_BYTES: usize = 524288;
 
-// What became of reading a file: whether it could be read, and how many of its bytes stand at the front of the buffer.
+// What is held of a file: whether it could be read, or counts as empty, and how many of its bytes stand at the front of the buffer.
 struct Held {
-    is_read: bool,
+    there: bool,
     size: usize,
 }
 
@@ -37,52 +38,28 @@ enum Printed {
     Failed,
 }
 
-// Reads from an open file until the buffer is full or the file ends. A read that fails is told from the end by one read more.
-fn fill(fd: i32, buf: &mut [u8]) -> Held
-    ensures { λ r. ⌜ Counts (r .size) (now (buf .exit)) ⌝ }
+// What was read, where an absent file counts as an empty one.
+fn as_read(found: Found) -> Held
+    ensures { λ r. ⌜ r ≡ heldOf found ⌝ }
 {
-    let size = io::read_full(fd, buf);
-    if size == buf.len() {
-        return Held {
-            is_read: true,
-            size,
-        };
+    match found {
+        Found::Bytes(size) => Held { there: true, size },
+        Found::Absent => Held {
+            there: true,
+            size: 0,
+        },
+        Found::Unreadable => Held {
+            there: false,
+            size: 0,
+        },
     }
-    let mut more = [0u8; 1];
-    let is_read = libc::read(fd, &mut more) == 0;
-    Held { is_read, size }
-}
-
-// Whether a file that cannot be opened is absent, and counts as empty.
-fn absent(error: i32) -> bool
-    ensures { λ r. ⌜ r ≡ isAbsent error ⌝ }
-{
-    if error == libc::ENOENT {
-        return true;
-    }
-    false
 }
 
 // The bytes of a file by its name, none where it is absent.
 fn load(name: &[u8], buf: &mut [u8]) -> Held
     ensures { λ r. ⌜ Counts (r .size) (now (buf .exit)) ⌝ }
 {
-    let fd = os::open_read(name);
-    if fd < 0 {
-        return Held {
-            is_read: absent(os::errno()),
-            size: 0,
-        };
-    }
-    let held = fill(fd, buf);
-    libc::close(fd);
-    held
-}
-
-fn cannot_read(name: &[u8]) {
-    io::write_all(libc::STDERR_FILENO, b"cannot read ");
-    io::write_all(libc::STDERR_FILENO, name);
-    io::write_all(libc::STDERR_FILENO, b"\n");
+    as_read(input::load(name, buf))
 }
 
 // Hands the bytes that come next to standard output: those of the report's items from one on up to another.
@@ -130,13 +107,13 @@ fn run(pattern: &mut [u8], board: &mut [u8], out: &mut [u8])
     requires { ⌜ longestLine ≤ length (now out) ⌝ }
 {
     let first = load(b"pattern.cir", pattern);
-    if !first.is_read {
-        cannot_read(b"pattern.cir");
+    if !first.there {
+        input::cannot_read(b"pattern.cir");
         return;
     }
     let second = load(b"board.cir", board);
-    if !second.is_read {
-        cannot_read(b"board.cir");
+    if !second.there {
+        input::cannot_read(b"board.cir");
         return;
     }
     let parts = first.size;

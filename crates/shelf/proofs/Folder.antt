@@ -10,8 +10,8 @@ use Rattle.file_format.specs.declared.Edition.the-variants.{Second}
 use Rattle.file_format.specs.declared.Role.the-variants.{Pattern}
 use Rattle.file_cut.specs.Cut.{cut}
 use Rattle.shelf_strings.specs.Strings.{cutInto}
-use Rattle.shelf.specs.declared.Found.{Found}
-use Rattle.shelf.specs.declared.Found.the-variants as found
+use Rattle.input.specs.declared.Found.{Found}
+use Rattle.input.specs.declared.Found.the-variants as found
 use Rattle.shelf.specs.declared.Taken.{Taken}
 use Rattle.shelf.specs.declared.Taken.the-variants as taken
 use Rattle.shelf.specs.Reading.{mostBytes, noted, answered, answers, endFrom, endOf, cutEach}

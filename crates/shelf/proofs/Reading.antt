@@ -8,24 +8,14 @@ use native.Mathlib.Omega.{arith}
 use borrow.Author.Tests.{ne-eqb}
 use lib.ListN.{length, take, drop, set, length-map}
 use lib.Seq.{length-take-le, take-all, take-suc-set, set-split}
-use Rattle.shelf.specs.declared.Found.{Found}
-use Rattle.shelf.specs.declared.Found.the-variants as found
+use Rattle.input.specs.declared.Found.{Found}
+use Rattle.input.specs.declared.Found.the-variants as found
 use Rattle.shelf.specs.declared.Next.{Next}
 use Rattle.shelf.specs.declared.Next.the-variants as next
 use Rattle.shelf.specs.declared.Taken.{Taken}
 use Rattle.shelf.specs.declared.Taken.the-variants as taken
-use Rattle.shelf.specs.Reading.{mostBytes, Tells, Within, noted, answered, answers, nextAfter, goingOn, standing, Reached, endFrom, endOf}
-
-pub within-more : (x : Found) (a b : ℕ) → a ≤ b → Within a x → Within b x
-within-more (found.Bytes size) a b h w = omega arith
-within-more found.Absent a b h w = tt
-within-more found.Unreadable a b h w = tt
-
--- no more was read than there is room
-pub told-within : (x : Found) (size room : ℕ) → Tells size x → size ≤ room → Within room x
-told-within (found.Bytes told) size room e h = omega (arith, e, h)
-told-within found.Absent size room e h = absurd e
-told-within found.Unreadable size room e h = tt
+use Rattle.input.specs.Reading.{Within}
+use Rattle.shelf.specs.Reading.{mostBytes, noted, answered, answers, nextAfter, goingOn, standing, Reached, endFrom, endOf}
 
 -- ---- the notes
 

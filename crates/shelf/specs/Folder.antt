@@ -7,7 +7,7 @@ use lib.ListN.{length, take, drop}
 use Rattle.file_format.specs.declared.Edition.the-variants.{Second}
 use Rattle.file_format.specs.declared.Role.the-variants.{Pattern}
 use Rattle.file_cut.specs.Cut.{cut}
-use Rattle.shelf.specs.declared.Found.the-variants as found
+use Rattle.input.specs.declared.Found.the-variants as found
 use Rattle.shelf.specs.Reading.{noted}
 use Rattle.shelf.specs.Printing.{textOf}
 

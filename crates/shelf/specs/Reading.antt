@@ -1,17 +1,15 @@
 -- How the files of the shelf are read: one after another, from what becomes of each. (document 02, a shelf in order)
-use mathlib.Core.Bool.{Bool, cond}
+use mathlib.Core.Bool.{cond}
 use mathlib.Core.List.{List, [], _∷_, map}
 use mathlib.Core.Path.{_≡_}
-use Prim.Native.Nat.{ℕ, suc, _+_, _/_, _%_, _≤_}
+use Prim.Native.Nat.{ℕ, suc, _+_, _/_, _%_}
 use lib.Dec.{eqb}
-use lib.IntN.{ℤ}
 use lib.ListN.{take}
 use Rattle.file_format.specs.declared.Edition.the-variants.{Second}
 use Rattle.file_format.specs.declared.Role.the-variants.{Pattern}
 use Rattle.file_cut.specs.Cut.{most, cut}
-use Rattle.output.specs.Writing.{isError}
-use Rattle.shelf.specs.declared.Found.{Found}
-use Rattle.shelf.specs.declared.Found.the-variants as found
+use Rattle.input.specs.declared.Found.{Found}
+use Rattle.input.specs.declared.Found.the-variants as found
 use Rattle.shelf.specs.declared.Next.{Next}
 use Rattle.shelf.specs.declared.Next.the-variants as next
 use Rattle.shelf.specs.declared.Taken.{Taken}
@@ -21,10 +19,6 @@ use Rattle.shelf.specs.declared.Taken.the-variants as taken
 abbrev pub nameOf : ℕ → List ℕ
 nameOf i = 112 ∷ (48 + i / 10) ∷ (48 + i % 10) ∷ 46 ∷ 99 ∷ 105 ∷ 114 ∷ []
 
--- the file could not be opened for ENOENT, which is 2, and for no other error
-unfoldable pub isAbsent : ℤ → Bool
-isAbsent error = isError 2 error
-
 -- what is read of a file at most: a byte more than the longest that is accepted
 abbrev pub mostBytes : ℕ
 mostBytes = most Second Pattern
@@ -32,18 +26,6 @@ mostBytes = most Second Pattern
 -- what is read of the files of a shelf so
 abbrev pub cutEach : List (List ℕ) → List (List ℕ)
 cutEach files = map (cut Second Pattern) files
-
--- an open file is there, whatever its length; where it could be read, this is how many bytes were
-abbrev pub Tells : ℕ → Found → Type 0
-Tells size (found.Bytes told) = told ≡ size
-Tells size found.Absent = ⊥
-Tells size found.Unreadable = Unit {0}
-
--- what is read has room
-abbrev pub Within : ℕ → Found → Type 0
-Within room (found.Bytes size) = size ≤ room
-Within room found.Absent = Unit {0}
-Within room found.Unreadable = Unit {0}
 
 -- ---- the notes: what became of each file, as a number
 

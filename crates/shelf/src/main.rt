@@ -5,6 +5,7 @@
 use call_shelf::FILES;
 use call_shelf::ShelfAnswer;
 use file_format::Pattern;
+use input::Found;
 use output::Output;
 ghost use mathlib.Core.Path.{_≡_};
 ghost use Prim.Native.Nat.{_+_, _*_, _<_, _≤_};
@@ -12,7 +13,8 @@ ghost use lib.ListN.{length, take, set};
 ghost use Rattle.call_shelf.specs.Shelf.{mostFiles};
 ghost use Rattle.shelf.specs.declared.Taken.the-variants as taken;
 ghost use Rattle.shelf.specs.Printing.{printedOf};
-ghost use Rattle.shelf.specs.Reading.{isAbsent, nameOf, mostBytes, Tells, Within, noted, nextAfter, Reached, endOf};
+ghost use Rattle.input.specs.Reading.{Within};
+ghost use Rattle.shelf.specs.Reading.{nameOf, mostBytes, noted, nextAfter, Reached, endOf};
 
 // A byte more than the longest second-edition pattern that is accepted: so that a longer file is refused by its length.
 const FILE_BYTES: usize = 4 + 4 * Pattern::MAX_NODES + 4 * Pattern::MAX_LINKS + 1;
@@ -23,13 +25,6 @@ const SHELF_BYTES: usize = FILES * FILE_BYTES;
 const ABSENT: u32 = 65536;
 
 const UNREADABLE: u32 = 65537;
-
-// What became of reading a file: so many of its bytes stand at the front of the buffer; or there is no such name; or it cannot be read.
-enum Found {
-    Bytes(usize),
-    Absent,
-    Unreadable,
-}
 
 // How the reading goes on after a file: with the next one, whose bytes go to this place; or the shelf ends here; or the program gives up.
 enum Next {
@@ -50,39 +45,6 @@ enum Printed {
     Failed,
 }
 
-// What became of an open file of which so many bytes were read, to where there is this much room: a read that failed is told from the end by one
-// read more. It is not absent, and be it empty.
-fn outcome(fd: i32, size: usize, room: usize) -> Found
-    ensures { λ r. ⌜ Tells size r ⌝ }
-{
-    if size == room {
-        return Found::Bytes(size);
-    }
-    let mut more = [0u8; 1];
-    if libc::read(fd, &mut more) == 0 {
-        return Found::Bytes(size);
-    }
-    Found::Unreadable
-}
-
-// Reads from an open file until the buffer is full or the file ends.
-fn fill(fd: i32, buf: &mut [u8]) -> Found
-    ensures { λ r. ⌜ Within (length (now (buf .exit))) r ⌝ }
-{
-    let size = io::read_full(fd, buf);
-    outcome(fd, size, buf.len())
-}
-
-// Whether a file that cannot be opened is absent.
-fn absent(error: i32) -> bool
-    ensures { λ r. ⌜ r ≡ isAbsent error ⌝ }
-{
-    if error == libc::ENOENT {
-        return true;
-    }
-    false
-}
-
 // The name of the i-th file: its two digits.
 fn name_of(i: usize) -> [u8; 7]
     requires { ⌜ i < 100 ⌝ }
@@ -99,11 +61,12 @@ fn name_of(i: usize) -> [u8; 7]
     ]
 }
 
-// Opens the i-th file, by its name.
-fn open(i: usize, name: &[u8]) -> i32
+// The bytes of the i-th file, by its name.
+fn load_named(i: usize, name: &[u8], buf: &mut [u8]) -> Found
     requires { ⌜ now name ≡ nameOf i ⌝ }
+    ensures { λ r. ⌜ Within (length (now (buf .exit))) r ⌝ }
 {
-    os::open_read(name)
+    input::load(name, buf)
 }
 
 // The bytes of the i-th file.
@@ -112,16 +75,7 @@ fn load(i: usize, buf: &mut [u8]) -> Found
     ensures { λ r. ⌜ Within (length (now (buf .exit))) r ⌝ }
 {
     let name = name_of(i);
-    let fd = open(i, &name);
-    if fd < 0 {
-        if absent(os::errno()) {
-            return Found::Absent;
-        }
-        return Found::Unreadable;
-    }
-    let found = fill(fd, buf);
-    libc::close(fd);
-    found
+    load_named(i, &name, buf)
 }
 
 // What is noted of a file.
@@ -217,10 +171,8 @@ fn print_shelf(
 fn cannot_read(i: usize)
     requires { ⌜ i < 100 ⌝ }
 {
-    io::write_all(libc::STDERR_FILENO, b"cannot read ");
     let name = name_of(i);
-    io::write_all(libc::STDERR_FILENO, &name);
-    io::write_all(libc::STDERR_FILENO, b"\n");
+    input::cannot_read(&name);
 }
 
 fn tell(printed: Printed) {

@@ -4,8 +4,9 @@ use native.Mathlib.Omega.{arith}
 use denote.Ref.{now}
 use lib.ListN.{length, take, drop, set, length-take, length-drop}
 use lib.Seq.{take-at, length-take-le}
-use Rattle.shelf.specs.Reading.{mostBytes, Within, noted}
-use Rattle.shelf.proofs.Reading.{within-more}
+use Rattle.input.specs.Reading.{Within}
+use Rattle.shelf.specs.Reading.{mostBytes, noted}
+use Rattle.input.proofs.Reading.{within-more}
 use borrow.Author.Needs.{needs}
 use Rattle.shelf.proofs.read_one.Statement.{statement}
 use Rattle.shelf.proofs.read_one.Tie as tie

@@ -1,8 +1,8 @@
--- `shelf::fill` meets its contract. Assumes nothing.
-use Rattle.shelf.proofs.Reading.{told-within}
+-- `input::fill` meets its contract. Assumes nothing.
+use Rattle.input.proofs.Reading.{told-within}
 use borrow.Author.Needs.{needs}
-use Rattle.shelf.proofs.fill.Statement.{statement}
-use Rattle.shelf.proofs.fill.Tie as tie
+use Rattle.input.proofs.fill.Statement.{statement}
+use Rattle.input.proofs.fill.Tie as tie
 
 read-full-requires : tie.Need-read-full-requires
 read-full-requires c κs = search needs

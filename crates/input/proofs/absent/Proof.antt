@@ -1,10 +1,10 @@
--- `shelf::absent` meets its contract. Assumes nothing.
+-- `input::absent` meets its contract. Assumes nothing.
 use mathlib.Core.Path.{sym}
 use lib.Dec.{lit<}
 use Rattle.output.proofs.Errors.{error-is, error-not}
-use Rattle.shelf.specs.Reading.{isAbsent}
-use Rattle.shelf.proofs.absent.Statement.{statement}
-use Rattle.shelf.proofs.absent.Tie as tie
+use Rattle.input.specs.Reading.{isAbsent}
+use Rattle.input.proofs.absent.Statement.{statement}
+use Rattle.input.proofs.absent.Tie as tie
 
 returns : tie.Need-returns
 unfolding isAbsent

@@ -1,0 +1,36 @@
+-- `finder::load` meets its contract: no more bytes are held than the buffer has. Assumes nothing.
+use mathlib.Core.Path.{_≡_, sym}
+use Prim.Native.Nat.{ℕ, _≤_}
+use native.Mathlib.Omega.{arith}
+use lib.ListN.{length}
+use lib.Seq.{length-take-le}
+use Rattle.io.specs.Counts.{Counts}
+use mathlib.Core.List.{List}
+use Rattle.input.specs.declared.Found.{Found}
+use Rattle.input.specs.declared.Found.the-variants as found
+use Rattle.input.specs.Reading.{Within}
+use Rattle.finder.specs.Printing.{heldOf}
+use borrow.Author.Needs.{needs}
+use Rattle.finder.proofs.load.Statement.{statement}
+use Rattle.finder.proofs.load.Tie as tie
+
+holds : (x : Found) (bytes : List ℕ) → Within (length bytes) x → Counts (heldOf x .size) bytes
+unfolding heldOf
+holds (found.Bytes size) bytes h = (h, sym (length-take-le size bytes h))
+holds found.Absent bytes h = (omega arith, sym (length-take-le 0 bytes (omega arith)))
+holds found.Unreadable bytes h = (omega arith, sym (length-take-le 0 bytes (omega arith)))
+
+load-requires : tie.Need-load-requires
+load-requires c κs = search needs
+
+as-read-requires : tie.Need-as-read-requires
+as-read-requires c κs = search needs
+
+same-length : tie.Need-same-length
+same-length c = search needs
+
+returns : tie.Need-returns
+returns c = rw (c .as-read .ensures) (holds _ _ (c .before .before .before .load .ensures))
+
+pub load-spec : {M : Type 1} → statement M
+load-spec = tie.close (tie.spec load-requires as-read-requires same-length returns)
