@@ -1,0 +1,3 @@
+pub mod Path
+pub mod Simulation
+pub mod Problem

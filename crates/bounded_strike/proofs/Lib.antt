@@ -1,0 +1,8 @@
+pub mod Sets
+pub mod Fills
+pub mod Pairs
+pub mod Ways
+pub mod Layers
+pub mod Keys
+pub mod Row
+pub mod Shrinking

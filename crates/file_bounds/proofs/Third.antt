@@ -1,0 +1,126 @@
+-- The conditions on a file of the third edition, one after another; and what they say of the file of the second edition before the bounds.
+-- Assumes nothing.
+use mathlib.Core.Bool.{Bool, true, false, _&&_, not, cond}
+use mathlib.Core.List.{List, [], _∷_, _++_}
+use mathlib.Core.Path.{_≡_, refl, sym, ap, ap₂, _∙_}
+use Prim.Native.Nat.{ℕ, _+_, _*_, _≤_, _<_}
+use native.Mathlib.Omega.{arith}
+use lib.Dec.{T, eqb, leb, ltb}
+use lib.ListN.{length, getD, take, drop}
+use lib.Seq.{getD-take, length-take-le}
+use borrow.Author.Tests.{lt-ltb, le-ltb, eq-eqb, ne-eqb, eqb-true, ltb-false}
+use Rattle.base_lists.specs.List.{all}
+use Rattle.base_lists.proofs.Tests.{true-T, T-true}
+use Rattle.file_format.specs.declared.Edition.the-variants.{Second}
+use Rattle.graph.specs.Circuit.{Circuit}
+use Rattle.file_format.specs.declared.FileRead.{FileRead}
+use Rattle.file_format.specs.declared.FileVerdict.the-variants as verdict
+use Rattle.file_format.specs.declared.Refusal.{Refusal}
+use Rattle.file_format.specs.declared.Role.the-variants.{AnyPattern}
+use Rattle.file_format.specs.Layout.{CircuitFile, inEdition, field, fields, lengthOf, nodesOf, linksOf, startsOf, endsOf}
+use Rattle.file_format.specs.Refusals.{Condition, Verdict, accept, refuse, first, linkConditions, fileConditions, sizeNumber, Accepted}
+use Rattle.file_format.specs.Reading.{verdictOf}
+use Rattle.file_format.specs.Role.{inRange, fileOf}
+use Rattle.file_format.proofs.Refusals.{turned, turned-accept, byNumber, verdict-number, verdict-links, size-0, first-accept, first-refuse, first-parts, accepted}
+use Rattle.file_bounds.specs.Third.{boundsAt, boundedLength, frontOf, boundsOf, boundsFit, boundOutside, thirdConditions, thirdSize, BoundsLoaded}
+
+module _ (bytes : List ℕ) where
+  -- ---- the size, as the code tests it
+
+  pub third-1 : length bytes < 4 → thirdSize bytes ≡ 1
+  unfolding thirdSize
+  third-1 a = simp (lt-ltb _ _ a)
+
+  module _ (n m : ℕ) (isN : n ≡ field bytes 0) (isM : m ≡ field bytes 2) (a : 4 ≤ length bytes) where
+    pub third-2 : inRange AnyPattern n m ≡ false → thirdSize bytes ≡ 2
+    unfolding thirdSize
+    third-2 b = simp (le-ltb _ _ a, rw (isN, isM) at b)
+
+    pub third-3 : inRange AnyPattern n m ≡ true → (length bytes ≡ boundedLength n m → ⊥) → thirdSize bytes ≡ 3
+    unfolding thirdSize
+    third-3 b e = simp (le-ltb _ _ a, rw (isN, isM) at b, ne-eqb _ _ (rw (isN, isM) at e))
+
+    pub third-0 : inRange AnyPattern n m ≡ true → length bytes ≡ boundedLength n m → thirdSize bytes ≡ 0
+    unfolding thirdSize
+    third-0 b e = simp (le-ltb _ _ a, rw (isN, isM) at b, eq-eqb _ _ (rw (isN, isM) at e))
+
+  -- ---- the verdict
+
+  abbrev rest : List Condition
+  rest = linkConditions AnyPattern (field bytes 0) (startsOf (frontOf bytes)) (endsOf (frontOf bytes)) ++ (boundOutside (boundsOf bytes) ∷ [])
+
+  verdict-size : first (thirdConditions bytes) ≡ cond (eqb (thirdSize bytes) 0) (first rest) (turned AnyPattern (thirdSize bytes))
+  unfolding first thirdConditions thirdSize turned
+  verdict-size =
+      go (ltb (length bytes) 4) (inRange AnyPattern (field bytes 0) (field bytes 2)) (eqb (length bytes) (boundedLength (field bytes 0) (field bytes 2))) (first rest)
+    where
+      go : (x y z : Bool) (v : Verdict) → cond x (turned AnyPattern 1) (cond (not y) (turned AnyPattern 2) (cond (not z) (turned AnyPattern 3) v))
+          ≡ cond (eqb (cond x 1 (cond y (cond z 0 3) 2)) 0) v (turned AnyPattern (cond x 1 (cond y (cond z 0 3) 2)))
+      go true y z v = refl
+      go false true true v = refl
+      go false true false v = refl
+      go false false z v = refl
+
+  pub third-turned : (thirdSize bytes ≡ 0 → ⊥) → first (thirdConditions bytes) ≡ turned AnyPattern (thirdSize bytes)
+  third-turned h = verdict-size ∙ rw (ne-eqb _ _ h)
+
+  third-links : thirdSize bytes ≡ 0 → first (thirdConditions bytes) ≡ first rest
+  third-links h = verdict-size ∙ rw (eq-eqb _ _ h)
+
+  pub third-sized : thirdSize bytes ≡ 0 → (4 ≤ length bytes) × T (inRange AnyPattern (field bytes 0) (field bytes 2)) × (length bytes ≡ boundedLength (field bytes 0) (field bytes 2))
+  unfolding thirdSize
+  third-sized = go (ltb (length bytes) 4) (inRange AnyPattern (field bytes 0) (field bytes 2)) (eqb (length bytes) (boundedLength (field bytes 0) (field bytes 2))) refl refl refl
+    where
+      go : (x y z : Bool) → ltb (length bytes) 4 ≡ x → inRange AnyPattern (field bytes 0) (field bytes 2) ≡ y → eqb (length bytes) (boundedLength (field bytes 0) (field bytes 2)) ≡ z
+          → _≡_ {A = ℕ} (cond x 1 (cond y (cond z 0 3) 2)) 0
+          → (4 ≤ length bytes) × T (inRange AnyPattern (field bytes 0) (field bytes 2)) × (length bytes ≡ boundedLength (field bytes 0) (field bytes 2))
+      go true y z a b e h = absurd (omega arith)
+      go false true true a b e h = (ltb-false _ _ a, true-T b, eqb-true _ _ e)
+      go false true false a b e h = absurd (omega arith)
+      go false false z a b e h = absurd (omega arith)
+
+  -- ---- the file of the second edition before the bounds
+
+  pub nodes-front : nodesOf (frontOf bytes) ≡ field bytes 0
+  unfolding nodesOf frontOf field
+  nodes-front = ap₂ (λ (a b : ℕ). a + 256 * b) (getD-take (boundsAt (field bytes 0) (field bytes 2)) bytes 0 0 (omega arith)) (getD-take (boundsAt (field bytes 0) (field bytes 2)) bytes 1 0 (omega arith))
+
+  pub links-front : linksOf (frontOf bytes) ≡ field bytes 2
+  unfolding linksOf frontOf field
+  links-front = ap₂ (λ (a b : ℕ). a + 256 * b) (getD-take (boundsAt (field bytes 0) (field bytes 2)) bytes 2 0 (omega arith)) (getD-take (boundsAt (field bytes 0) (field bytes 2)) bytes 3 0 (omega arith))
+
+  module _ (h : thirdSize bytes ≡ 0) where
+    pub length-front : length (frontOf bytes .bytes) ≡ boundsAt (field bytes 0) (field bytes 2)
+    unfolding frontOf
+    length-front = length-take-le _ bytes (omega (arith, third-sized h .2))
+
+    pub front-size : sizeNumber AnyPattern (frontOf bytes) ≡ 0
+    unfolding frontOf
+    front-size =
+        size-0 AnyPattern (frontOf bytes) (field bytes 0) (field bytes 2) (sym nodes-front) (sym links-front) (omega (arith, length-front))
+        (T-true {b = inRange AnyPattern (field bytes 0) (field bytes 2)} (third-sized h .1)) length-front
+
+    -- its verdict is that of the links
+    front-verdict : first (fileConditions AnyPattern (frontOf bytes)) ≡ first (linkConditions AnyPattern (field bytes 0) (startsOf (frontOf bytes)) (endsOf (frontOf bytes)))
+    front-verdict =
+        verdict-links AnyPattern (frontOf bytes) front-size
+        ∙ sym (verdict-number AnyPattern (nodesOf (frontOf bytes)) (startsOf (frontOf bytes)) (endsOf (frontOf bytes)))
+        ∙ ap (λ (n : ℕ). first (linkConditions AnyPattern n (startsOf (frontOf bytes)) (endsOf (frontOf bytes)))) nodes-front
+
+    -- The one law that ties the third edition to the second: a file of the right size is refused as the file before the bounds is, and then by 13.
+    pub third-second : first (thirdConditions bytes) ≡ first (fileConditions AnyPattern (frontOf bytes) ++ (boundOutside (boundsOf bytes) ∷ []))
+    third-second = third-links h ∙ go (first (fileConditions AnyPattern (frontOf bytes))) refl front-verdict
+      where
+        links : List Condition
+        links = linkConditions AnyPattern (field bytes 0) (startsOf (frontOf bytes)) (endsOf (frontOf bytes))
+
+        go : (v : Verdict) → first (fileConditions AnyPattern (frontOf bytes)) ≡ v → v ≡ first links → first rest ≡ first (fileConditions AnyPattern (frontOf bytes) ++ (boundOutside (boundsOf bytes) ∷ []))
+        go accept e q = first-accept links _ (sym q) ∙ sym (first-accept (fileConditions AnyPattern (frontOf bytes)) _ e)
+        go (refuse x) e q = first-refuse links _ x (sym q) ∙ sym (first-refuse (fileConditions AnyPattern (frontOf bytes)) _ x e)
+
+-- ---- as the reader answers
+
+pub turned-loaded : (bytes : List ℕ) (read : FileRead) (tables : Circuit) (bounds : List ℕ) (k : ℕ)
+    → read .verdict ≡ verdict.Refused (record { number = k; file = fileOf AnyPattern }) → first (thirdConditions bytes) ≡ turned AnyPattern k → BoundsLoaded bytes read tables bounds
+unfolding verdictOf turned
+turned-loaded bytes read tables bounds k e v = record { verdict = rw e (sym v); held = λ a. absurd (turned-accept AnyPattern k _ v a) }
