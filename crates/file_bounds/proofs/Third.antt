@@ -2,7 +2,7 @@
 -- Assumes nothing.
 use mathlib.Core.Bool.{Bool, true, false, _&&_, not, cond}
 use mathlib.Core.List.{List, [], _∷_, _++_}
-use mathlib.Core.Path.{_≡_, refl, sym, ap, ap₂, _∙_}
+use mathlib.Core.Path.{_≡_, refl, sym, ap, ap₂, subst, _∙_}
 use Prim.Native.Nat.{ℕ, _+_, _*_, _≤_, _<_}
 use native.Mathlib.Omega.{arith}
 use lib.Dec.{T, eqb, leb, ltb}
@@ -19,9 +19,10 @@ use Rattle.file_format.specs.declared.Refusal.{Refusal}
 use Rattle.file_format.specs.declared.Role.the-variants.{AnyPattern}
 use Rattle.file_format.specs.Layout.{CircuitFile, inEdition, field, fields, lengthOf, nodesOf, linksOf, startsOf, endsOf}
 use Rattle.file_format.specs.Refusals.{Condition, Verdict, accept, refuse, first, linkConditions, fileConditions, sizeNumber, Accepted}
-use Rattle.file_format.specs.Reading.{verdictOf}
+use Rattle.file_format.specs.Reading.{verdictOf, Loaded}
 use Rattle.file_format.specs.Role.{inRange, fileOf}
-use Rattle.file_format.proofs.Refusals.{turned, turned-accept, byNumber, verdict-number, verdict-links, size-0, first-accept, first-refuse, first-parts, accepted}
+use Rattle.file_format.proofs.Reading.{loaded-accepted, loaded-refused}
+use Rattle.file_format.proofs.Refusals.{turned, turned-accept, accept-not-refuse, verdict-number, verdict-links, size-0, first-accept, first-refuse}
 use Rattle.file_bounds.specs.Third.{boundsAt, boundedLength, frontOf, boundsOf, boundsFit, boundOutside, thirdConditions, thirdSize, BoundsLoaded}
 
 module _ (bytes : List ℕ) where
@@ -118,9 +119,64 @@ module _ (bytes : List ℕ) where
         go accept e q = first-accept links _ (sym q) ∙ sym (first-accept (fileConditions AnyPattern (frontOf bytes)) _ e)
         go (refuse x) e q = first-refuse links _ x (sym q) ∙ sym (first-refuse (fileConditions AnyPattern (frontOf bytes)) _ x e)
 
+    -- what turns the front away turns the file away,
+    pub front-refused : {x : Refusal} → first (fileConditions AnyPattern (frontOf bytes)) ≡ refuse x → first (thirdConditions bytes) ≡ refuse x
+    front-refused e = third-second ∙ first-refuse _ _ _ e
+
+    -- and where nothing does, the bounds decide
+    module _ (e : first (fileConditions AnyPattern (frontOf bytes)) ≡ accept) where
+      pub bounds-refused : boundsFit (boundsOf bytes) ≡ false → first (thirdConditions bytes) ≡ turned AnyPattern 13
+      unfolding first boundOutside turned
+      bounds-refused b = third-second ∙ first-accept (fileConditions AnyPattern (frontOf bytes)) (boundOutside (boundsOf bytes) ∷ []) e ∙ rw b
+
+      pub bounds-accepted : boundsFit (boundsOf bytes) ≡ true → first (thirdConditions bytes) ≡ accept
+      unfolding first boundOutside
+      bounds-accepted b = third-second ∙ first-accept (fileConditions AnyPattern (frontOf bytes)) (boundOutside (boundsOf bytes) ∷ []) e ∙ rw b
+
 -- ---- as the reader answers
 
 pub turned-loaded : (bytes : List ℕ) (read : FileRead) (tables : Circuit) (bounds : List ℕ) (k : ℕ)
     → read .verdict ≡ verdict.Refused (record { number = k; file = fileOf AnyPattern }) → first (thirdConditions bytes) ≡ turned AnyPattern k → BoundsLoaded bytes read tables bounds
 unfolding verdictOf turned
 turned-loaded bytes read tables bounds k e v = record { verdict = rw e (sym v); held = λ a. absurd (turned-accept AnyPattern k _ v a) }
+
+-- the parts of the file, as the reader cuts them
+module _ (bytes : List ℕ) (n m : ℕ) (isN : n ≡ field bytes 0) (isM : m ≡ field bytes 2) where
+  at-is : 4 + 4 * n + 4 * m ≡ boundsAt (field bytes 0) (field bytes 2)
+  at-is = omega (arith, isN, isM)
+
+  pub front-is : inEdition Second (take (4 + 4 * n + 4 * m) bytes) ≡ frontOf bytes
+  unfolding frontOf
+  front-is = ap (λ (k : ℕ). inEdition Second (take k bytes)) at-is
+
+  pub bounds-are : fields (drop (4 + 4 * n + 4 * m) bytes) m ≡ boundsOf bytes
+  unfolding boundsOf
+  bounds-are = ap₂ (λ (k c : ℕ). fields (drop k bytes) c) at-is isM
+
+  -- the front was read, and then the bounds
+  module _ (h : thirdSize bytes ≡ 0) {read : FileRead} {tables : Circuit}
+      (l : Loaded AnyPattern (inEdition Second (take (4 + 4 * n + 4 * m) bytes)) read tables) where
+    front-loaded : Loaded AnyPattern (frontOf bytes) read tables
+    front-loaded = subst (λ (f : CircuitFile). Loaded AnyPattern f read tables) front-is l
+
+    pub loaded-front-refused : {bounds : List ℕ} {x : Refusal} → read .verdict ≡ verdict.Refused x → BoundsLoaded bytes read tables bounds
+    unfolding verdictOf
+    loaded-front-refused e =
+        let away = front-refused bytes h (loaded-refused front-loaded e) in
+        record { verdict = ap verdictOf e ∙ sym away; held = λ a. absurd (accept-not-refuse (sym a ∙ away)) }
+
+    module _ (e : read .verdict ≡ verdict.Accepted) {fits : Bool} (f : fits ≡ boundsFit (fields (drop (4 + 4 * n + 4 * m) bytes) m)) where
+      pub loaded-bounds-refused : fits ≡ false → {bounds : List ℕ} {answer : FileRead} → answer .verdict ≡ verdict.Refused (record { number = 13; file = fileOf AnyPattern })
+          → BoundsLoaded bytes answer tables bounds
+      loaded-bounds-refused b q =
+          turned-loaded bytes _ tables _ 13 q (bounds-refused bytes h (loaded-accepted front-loaded e) (ap boundsFit (sym bounds-are) ∙ sym f ∙ b))
+
+      pub loaded-bounds : fits ≡ true → {bounds : List ℕ} → take m bounds ≡ fields (drop (4 + 4 * n + 4 * m) bytes) m → BoundsLoaded bytes read tables bounds
+      unfolding verdictOf
+      loaded-bounds b {bounds} t =
+          let sound = loaded-accepted front-loaded e in
+          let stands = front-loaded .held sound .stands in
+          record {
+            verdict = ap verdictOf e ∙ sym (bounds-accepted bytes h sound (ap boundsFit (sym bounds-are) ∙ sym f ∙ b));
+            held = λ _. record { stands = stands; bounded = ap (λ (k : ℕ). take k bounds) (stands .links ∙ links-front bytes ∙ sym isM) ∙ t ∙ bounds-are };
+          }

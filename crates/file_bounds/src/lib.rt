@@ -10,9 +10,10 @@ use file_format::FileVerdict;
 use file_format::Role;
 use file_read::load;
 ghost use mathlib.Core.Path.{_≡_};
-ghost use Prim.Native.Nat.{_≤_};
-ghost use lib.ListN.{length};
+ghost use Prim.Native.Nat.{_+_, _*_, _≤_};
+ghost use lib.ListN.{length, take, drop};
 ghost use Rattle.graph.specs.Circuit.{circuit};
+ghost use Rattle.file_format.specs.Layout.{fields};
 ghost use Rattle.file_format.specs.Reading.{Room};
 ghost use Rattle.file_format.specs.Role.{fileOf};
 ghost use Rattle.file_format.specs.declared.Role.the-variants as role;
@@ -54,6 +55,16 @@ fn all_within(bounds: &[u16]) -> bool
     true
 }
 
+// The m bounds that begin at an offset, stored; and whether every one is from 1 to 4.
+fn read_bounds(file: &[u8], at: usize, m: usize, bounds: &mut [u16]) -> bool
+    requires { ⌜ (at + 2 * m ≤ length (now file)) × (m ≤ length (now bounds)) ⌝ }
+    ensures { λ r. ⌜ r ≡ boundsFit (fields (drop at (now (file .entry))) m) ⌝ }
+    ensures { λ r. ⌜ take m (now (bounds .exit)) ≡ fields (drop at (now (file .entry))) m ⌝ }
+{
+    store(stretch(file, at, m), m, bounds);
+    all_within(&bounds[..m])
+}
+
 // The answer that turns a file away.
 fn turned_away(number: u8) -> FileRead
     ensures { λ r. ⌜ r .verdict ≡ FileVerdict.Refused (record { number = number; file = fileOf role.AnyPattern }) ⌝ }
@@ -85,11 +96,11 @@ pub fn load_bounded(
     }
     let n = field_at(file, 0) as usize;
     let m = field_at(file, 1) as usize;
-    let end = 4 + 4 * n + 4 * m;
+    let at = 4 + 4 * n + 4 * m;
     let read = load(
         Role::AnyPattern,
         Edition::Second,
-        &file[0..end],
+        &file[..at],
         labels,
         starts,
         ends,
@@ -98,8 +109,7 @@ pub fn load_bounded(
     let FileVerdict::Accepted = verdict else {
         return read;
     };
-    store(stretch(file, end, m), m, bounds);
-    if !all_within(&bounds[0..m]) {
+    if !read_bounds(file, at, m, bounds) {
         return turned_away(13);
     }
     read
