@@ -1,3 +1,4 @@
 pub mod Paths
 pub mod Meaning
 pub mod Wider
+pub mod Run

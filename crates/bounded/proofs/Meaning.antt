@@ -26,6 +26,7 @@ use Rattle.table.proofs.Agreement.{agrees-kinds}
 use Rattle.bounded.specs.Path.{PathWithin}
 use Rattle.bounded.specs.Simulation.{BoundedGraph, BoundedSimulation, LargestBounded}
 use Rattle.bounded.specs.Problem.{Bounds, boundedGraph, ofBound, within, Label, labelled, everyLabel, boundedProblem, boundedTable}
+use Rattle.bounded.specs.Run.{Steps, Moves, Candidates}
 use Rattle.graph.proofs.Chosen.{kept-iff}
 use Rattle.bounded.proofs.Paths.{Near, within-wider, within-along, within-iff}
 
@@ -54,16 +55,6 @@ has-label backwards (suc (suc zero)) s m = inr (inr (inr (inr (inr (inl refl))))
 has-label backwards (suc (suc (suc zero))) s m = inr (inr (inr (inr (inr (inr (inl refl))))))
 has-label backwards (suc (suc (suc (suc zero)))) s m = inr (inr (inr (inr (inr (inr (inr (inl refl)))))))
 has-label d (suc (suc (suc (suc (suc h))))) s m = absurd (omega arith)
-
--- the pattern's links with their bounds, and the paths that meet them
-abbrev pub Steps : Circuit → List ℕ → Label → Relation
-Steps pattern bounds l = Along (λ x y. boundedGraph pattern bounds .Link x y (l .bound)) (l .way)
-
-abbrev pub Moves : Circuit → Label → Relation
-Moves board l = Along (PathWithin (circuitGraph board .Link) (l .bound)) (l .way)
-
-abbrev pub Candidates : Circuit → Circuit → Relation
-Candidates pattern board = Candidate (circuitGraph pattern) (KindsMatch pattern board) (circuitGraph board)
 
 -- the links of bound h, as the problem has them
 pub steps-iff :

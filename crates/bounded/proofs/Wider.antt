@@ -27,16 +27,13 @@ use Rattle.table.specs.Host.{everything}
 use Rattle.table.specs.Row.{agrees, neighbours, problemOf}
 use Rattle.table.proofs.Host.{everything-taken}
 use Rattle.bounded.specs.Path.{PathWithin}
+use Rattle.bounded.specs.Raised.{Raised, AllOne}
 use Rattle.bounded.specs.Problem.{Bounds, boundedGraph, Label, labelled, everyLabel, boundedProblem, boundedTable, boundedCounts}
 use Rattle.bounded.proofs.Paths.{within-wider, one-path, path-one}
-use Rattle.bounded.proofs.Meaning.{Steps, Moves, neighbours-along, steps-iff, moves-iff, step-way}
+use Rattle.bounded.specs.Run.{Steps, Moves}
+use Rattle.bounded.proofs.Meaning.{neighbours-along, steps-iff, moves-iff, step-way}
 
 -- ---- larger bounds
-
--- "two patterns that differ in bounds alone, each at least as large"
-pub record Raised (bounds bounds′ : List ℕ) : Type 0 where
-  pub long : length bounds ≡ length bounds′
-  pub atLeast : (i : ℕ) → i < length bounds → getD bounds i 0 ≤ getD bounds′ i 0
 
 module _ (pattern : Circuit) {bounds bounds′ : List ℕ} (board : Circuit) (each : Bounds pattern bounds) (r : Raised bounds bounds′) where
   -- a link of the larger bound is one of the smaller bound,
@@ -84,10 +81,6 @@ module _ {D E : Type 0} {p : Problem D} {q : Problem E} (s : Equivalent p q) whe
   struck-same = ap₂ (λ (a b : ℕ). a - b) (started-same s) kept-same
 
 -- ---- every bound 1
-
--- "With all bounds 1"
-abbrev pub AllOne : List ℕ → Type 0
-AllOne bounds = (i : ℕ) → i < length bounds → getD bounds i 0 ≡ 1
 
 module _ (pattern : Circuit) (bounds : List ℕ) (board : Circuit) (each : Bounds pattern bounds) (one : AllOne bounds) where
   -- links of any bound, and links
