@@ -8,9 +8,9 @@ use native.Mathlib.Omega.{arith}
 use lib.Dec.{T, eqb, leb, ltb}
 use lib.ListN.{length, getD, take, drop}
 use lib.Seq.{getD-take, length-take-le}
-use borrow.Author.Tests.{lt-ltb, le-ltb, eq-eqb, ne-eqb, eqb-true, ltb-false}
+use borrow.Author.Tests.{lt-ltb, le-ltb, eq-eqb, ne-eqb, eqb-true, eqb-false, ltb-false}
 use Rattle.base_lists.specs.List.{all}
-use Rattle.base_lists.proofs.Tests.{true-T, T-true}
+use Rattle.base_lists.proofs.Tests.{true-T, T-true, refuted}
 use Rattle.file_format.specs.declared.Edition.the-variants.{Second}
 use Rattle.graph.specs.Circuit.{Circuit}
 use Rattle.file_format.specs.declared.FileRead.{FileRead}
@@ -22,7 +22,8 @@ use Rattle.file_format.specs.Refusals.{Condition, Verdict, accept, refuse, firs
 use Rattle.file_format.specs.Reading.{verdictOf, Loaded}
 use Rattle.file_format.specs.Role.{inRange, fileOf}
 use Rattle.file_format.proofs.Reading.{loaded-accepted, loaded-refused}
-use Rattle.file_format.proofs.Refusals.{turned, turned-accept, accept-not-refuse, verdict-number, verdict-links, size-0, first-accept, first-refuse}
+use Rattle.file_format.proofs.Refusals.{turned, turned-accept, accept-not-refuse, verdict-number, verdict-links, verdict-turned, size-0, first-accept, first-refuse, first-parts, first-holds, accepted}
+use Rattle.file_format.proofs.Fields.{length-fields}
 use Rattle.file_bounds.specs.Third.{boundsAt, boundedLength, frontOf, boundsOf, boundsFit, boundOutside, thirdConditions, thirdSize, BoundsLoaded}
 
 module _ (bytes : List ℕ) where
@@ -133,7 +134,58 @@ module _ (bytes : List ℕ) where
       unfolding first boundOutside
       bounds-accepted b = third-second ∙ first-accept (fileConditions AnyPattern (frontOf bytes)) (boundOutside (boundsOf bytes) ∷ []) e ∙ rw b
 
+  -- as many bounds as links
+  pub bounds-count : length (boundsOf bytes) ≡ linksOf (frontOf bytes)
+  unfolding boundsOf
+  bounds-count = length-fields _ _ ∙ sym links-front
+
+  -- An accepted file: what stands before the bounds is a file of any pattern that is accepted, and every bound is from 1 to 4.
+  pub third-accepted : first (thirdConditions bytes) ≡ accept → Accepted AnyPattern (frontOf bytes) × T (boundsFit (boundsOf bytes))
+  unfolding boundOutside
+  third-accepted e = go (eqb (thirdSize bytes) 0) refl
+    where
+      go : (b : Bool) → eqb (thirdSize bytes) 0 ≡ b → Accepted AnyPattern (frontOf bytes) × T (boundsFit (boundsOf bytes))
+      go true z =
+          let (front, bounds) = first-parts (fileConditions AnyPattern (frontOf bytes)) _ (sym (third-second (eqb-true _ _ z)) ∙ e) in
+          (accepted AnyPattern (frontOf bytes) front, refuted (boundsFit (boundsOf bytes)) (first-holds _ _ bounds .0))
+      go false z = absurd (turned-accept AnyPattern _ _ (third-turned (eqb-false _ _ z)) e)
+
+  -- A file of the third edition's length, of which every bound is from 1 to 4, is refused or accepted as what stands before the bounds.
+  module _ (long : length bytes ≡ boundedLength (field bytes 0) (field bytes 2)) where
+    front-long : length (frontOf bytes .bytes) ≡ boundsAt (field bytes 0) (field bytes 2)
+    unfolding frontOf
+    front-long = length-take-le _ bytes (omega (arith, long))
+
+    size-same : sizeNumber AnyPattern (frontOf bytes) ≡ thirdSize bytes
+    unfolding sizeNumber thirdSize frontOf
+    size-same =
+        simp
+        (le-ltb (length bytes) 4 (omega (arith, long)), eq-eqb _ _ long, le-ltb (length (frontOf bytes .bytes)) 4 (omega (arith, front-long)), nodes-front, links-front, eq-eqb _ _ front-long)
+
+    pub front-verdicts : T (boundsFit (boundsOf bytes)) → first (thirdConditions bytes) ≡ first (fileConditions AnyPattern (frontOf bytes))
+    unfolding first boundOutside
+    front-verdicts fits = sized (eqb (thirdSize bytes) 0) refl
+      where
+        links : (v : Verdict) → first (fileConditions AnyPattern (frontOf bytes)) ≡ v → first (fileConditions AnyPattern (frontOf bytes) ++ (boundOutside (boundsOf bytes) ∷ [])) ≡ v
+        links accept e = first-accept (fileConditions AnyPattern (frontOf bytes)) (boundOutside (boundsOf bytes) ∷ []) e ∙ rw (T-true {b = boundsFit (boundsOf bytes)} fits)
+        links (refuse x) e = first-refuse (fileConditions AnyPattern (frontOf bytes)) (boundOutside (boundsOf bytes) ∷ []) x e
+
+        sized : (b : Bool) → eqb (thirdSize bytes) 0 ≡ b → first (thirdConditions bytes) ≡ first (fileConditions AnyPattern (frontOf bytes))
+        sized true z = third-second (eqb-true _ _ z) ∙ links _ refl
+        sized false z =
+            third-turned (eqb-false _ _ z) ∙ ap (turned AnyPattern) (sym size-same)
+            ∙ sym (verdict-turned AnyPattern (frontOf bytes) (λ e. eqb-false _ _ z (sym size-same ∙ e)))
+
 -- ---- as the reader answers
+
+module _ {bytes : List ℕ} {read : FileRead} {tables : Circuit} {bounds : List ℕ} (l : BoundsLoaded bytes read tables bounds) where
+  pub third-read : read .verdict ≡ verdict.Accepted → first (thirdConditions bytes) ≡ accept
+  unfolding verdictOf
+  third-read e = sym (l .verdict) ∙ ap verdictOf e
+
+  pub third-refused : {x : Refusal} → read .verdict ≡ verdict.Refused x → first (thirdConditions bytes) ≡ refuse x
+  unfolding verdictOf
+  third-refused e = sym (l .verdict) ∙ ap verdictOf e
 
 pub turned-loaded : (bytes : List ℕ) (read : FileRead) (tables : Circuit) (bounds : List ℕ) (k : ℕ)
     → read .verdict ≡ verdict.Refused (record { number = k; file = fileOf AnyPattern }) → first (thirdConditions bytes) ≡ turned AnyPattern k → BoundsLoaded bytes read tables bounds
