@@ -150,6 +150,13 @@ module _ (bytes : List ℕ) where
           (accepted AnyPattern (frontOf bytes) front, refuted (boundsFit (boundsOf bytes)) (first-holds _ _ bounds .0))
       go false z = absurd (turned-accept AnyPattern _ _ (third-turned (eqb-false _ _ z)) e)
 
+  pub third-long : first (thirdConditions bytes) ≡ accept → length bytes ≡ boundedLength (field bytes 0) (field bytes 2)
+  third-long e = go (eqb (thirdSize bytes) 0) refl
+    where
+      go : (b : Bool) → eqb (thirdSize bytes) 0 ≡ b → length bytes ≡ boundedLength (field bytes 0) (field bytes 2)
+      go true z = third-sized (eqb-true _ _ z) .2
+      go false z = absurd (turned-accept AnyPattern _ _ (third-turned (eqb-false _ _ z)) e)
+
   -- A file of the third edition's length, of which every bound is from 1 to 4, is refused or accepted as what stands before the bounds.
   module _ (long : length bytes ≡ boundedLength (field bytes 0) (field bytes 2)) where
     front-long : length (frontOf bytes .bytes) ≡ boundsAt (field bytes 0) (field bytes 2)
