@@ -32,7 +32,7 @@ use Rattle.table_row.proofs.Meaning.{last-fits}
 use Rattle.table_row.proofs.Answer as Of
 use Rattle.table.specs.declared.Counts.{Counts}
 use Rattle.table.specs.declared.Rest.{Rest}
-use Rattle.table.specs.Answer.{countsWhere, Ruled}
+use Rattle.table.specs.Answer.{AnsweredOn, countsWhere, Ruled}
 use Rattle.table.specs.Fill.{allNodes, marksOf, NodeList}
 use Rattle.table.specs.First.{startNode, Written}
 use Rattle.table.specs.Host.{everything}
@@ -43,6 +43,8 @@ use Rattle.table.proofs.Begun.{started-table}
 use Rattle.table.proofs.Host.{everything-taken}
 use Rattle.table.proofs.NodeLists.{length-all, all-list, all-marks}
 use Rattle.bounded.specs.Problem.{Bounds, Label, boundedProblem, boundedCounts, BoundedAnswer}
+use Rattle.bounded.specs.Raised.{AllOne}
+use Rattle.bounded.proofs.Wider.{ones-table, ones-counts}
 use Rattle.bounded_strike.specs.Prepared.{BoundMasked, Top, BoundPrepared}
 use Rattle.bounded_strike.specs.Round.{roundTable, roundTimes, Ready, Settled}
 use Rattle.bounded_strike.proofs.Row.{times-row}
@@ -204,3 +206,13 @@ module _ (pattern : Circuit) (bounds : List ℕ) (board : Circuit) where
           answer ≡ countsWhere b (rowCounts pattern bounds board) → BoundedAnswer pattern bounds board table answer
       go true e t k = let a = answer-all (true-T e) in record { counted = k ∙ a .counted; last = t ∙ a .last }
       go false e t k = let a = answer-none e in record { counted = k ∙ a .counted; last = t ∙ a .last }
+
+-- ---- every bound 1
+
+-- no bound is above 1, so that the answer is that of the pattern without bounds
+pub ones-answer :
+    {pattern : Circuit} {bounds : List ℕ} {board : Circuit} {table : List ℕ} {counts : Counts} {top : ℕ} → Bounds pattern bounds → Top bounds top → top < 2 →
+    AnsweredOn pattern board table counts → BoundedAnswer pattern bounds board table counts
+ones-answer {pattern} {bounds} {board} each upto few a =
+    let one : AllOne bounds = λ i h. omega (arith, each .some i h, upto .each i h, few) in
+    record { counted = a .counted ∙ sym (ones-counts pattern bounds board each one); last = a .last ∙ sym (ones-table pattern bounds board each one) }

@@ -12,6 +12,7 @@ use table::first::start;
 use table::largest::counted;
 use table_answer::all_or_none;
 use table_prepare::nodes::list_all;
+use table_whole::match_whole;
 ghost use mathlib.Core.Path.{_≡_};
 ghost use lib.ListN.{length};
 ghost use Rattle.file_format.specs.Circuit.{Bounded};
@@ -97,7 +98,8 @@ fn match_circuits(
     )
 }
 
-// The answer on a whole board: the same, with the table all 0 where some part is left without a node.
+// The answer on a whole board: the same, with the table all 0 where some part is left without a node. Where every bound is 1, what is asked is
+// what the pattern without bounds asks, and that is answered as it always was.
 pub fn match_bounded(
     part_kinds: &[u32],
     part_starts: &[u16],
@@ -114,6 +116,17 @@ pub fn match_bounded(
     requires { ⌜ length (now table) ≡ length (now «node_kinds») ⌝ }
     ensures { λ r. ⌜ BoundedAnswer (circuit (now («part_kinds» .entry)) (now («part_starts» .entry)) (now («part_ends» .entry))) (now (bounds .entry)) (circuit (now («node_kinds» .entry)) (now («node_starts» .entry)) (now («node_ends» .entry))) (now (table .exit)) r ⌝ }
 {
+    if largest_bound(bounds) < 2 {
+        return match_whole(
+            part_kinds,
+            part_starts,
+            part_ends,
+            node_kinds,
+            node_starts,
+            node_ends,
+            table,
+        );
+    }
     let counts = match_circuits(
         part_kinds,
         part_starts,
