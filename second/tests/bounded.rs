@@ -50,7 +50,9 @@ fn held(pattern: &Bounded, board: &Circuit) -> usize {
         let chosen = |i: &usize| bits >> i & 1 == 1;
         let set: Vec<_> = (0..pairs.len()).filter(chosen).map(|i| pairs[i]).collect();
         if holds(pattern, board, &set) {
-            (0..pairs.len()).filter(chosen).for_each(|i| largest[i] = true);
+            (0..pairs.len())
+                .filter(chosen)
+                .for_each(|i| largest[i] = true);
         }
     }
     let (table, counts) = on_board(pattern, board);
