@@ -2,3 +2,4 @@ pub mod Paths
 pub mod Meaning
 pub mod Wider
 pub mod Run
+pub mod Examples
