@@ -10,7 +10,8 @@ use Rattle.base_lists.proofs.Tables.{length-tabulate, getD-tabulate, tabulate-s
 use Rattle.base_bits.specs.Bits.{unionAt}
 use Rattle.base_bits.proofs.Tests.{bitOr-assoc}
 use Rattle.bounded.specs.Problem.{gather, within}
-use Rattle.bounded_strike.specs.Round.{nextLayer, layerOf}
+use Rattle.bounded_layer.specs.Pass.{nextLayer}
+use Rattle.bounded_strike.specs.Round.{layerOf}
 
 union-append : (t xs ys : List ℕ) → unionAt t (xs ++ ys) ≡ bitOr (unionAt t xs) (unionAt t ys)
 unfolding unionAt

@@ -1,5 +1,3 @@
-pub mod Sets
-pub mod Fills
 pub mod Pairs
 pub mod Ways
 pub mod Layers

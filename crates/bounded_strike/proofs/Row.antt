@@ -38,7 +38,8 @@ use Rattle.table.specs.Row.{neighbours}
 use Rattle.bounded.specs.Problem.{boundedGraph, ofBound, within, Label, labelled, everyLabel, boundedProblem}
 use Rattle.bounded.proofs.Meaning.{steps-iff}
 use Rattle.bounded_strike.specs.Prepared.{keyed, BoundPrepared}
-use Rattle.bounded_strike.specs.Round.{keptWithin, passTable, layerOf, passes, roundTable, roundTimes}
+use Rattle.bounded_layer.specs.Pass.{keptWithin, passTable}
+use Rattle.bounded_strike.specs.Round.{layerOf, passes, roundTable, roundTimes}
 use Rattle.bounded_strike.proofs.Layers.{layer-moves, layer-same}
 use Rattle.bounded_strike.proofs.Keys.{select-bound}
 

@@ -14,8 +14,9 @@ use Rattle.base_bits.specs.Bits.{bit, Subset, unionAt}
 use Rattle.base_bits.proofs.Digits.{bit-of-zero}
 use Rattle.base_bits.proofs.Numbers.{subset-le}
 use Rattle.table.specs.Prepared.{Tables}
-use Rattle.bounded_strike.specs.Round.{keptWithin, passTable, layerOf, passes, roundTable, Ready}
-use Rattle.bounded_strike.proofs.Sets.{kept-subset}
+use Rattle.bounded_layer.specs.Pass.{keptWithin, passTable}
+use Rattle.bounded_strike.specs.Round.{layerOf, passes, roundTable, Ready}
+use Rattle.bounded_layer.proofs.Sets.{kept-subset}
 
 module _ (near : ℕ → List ℕ) (masks layer new : List ℕ) where
   length-pass : length (passTable near masks layer new) ≡ length new

@@ -3,7 +3,8 @@ use mathlib.Core.List.{List}
 use mathlib.Core.Path.{_≡_, ap, ap₂, _∙_}
 use Prim.Native.Nat.{ℕ, suc, _*_}
 use Rattle.base_lists.specs.List.{part}
-use Rattle.bounded_strike.specs.Round.{passTable, nextLayer, layerOf, passes}
+use Rattle.bounded_layer.specs.Pass.{passTable, nextLayer}
+use Rattle.bounded_strike.specs.Round.{layerOf, passes}
 
 module _ (near : ℕ → List ℕ) (masks old new : List ℕ) (h : ℕ) where
   pub layer-step : {layer next : List ℕ} → layer ≡ layerOf near old h → next ≡ nextLayer near old layer → next ≡ layerOf near old (suc h)

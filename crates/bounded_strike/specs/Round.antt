@@ -1,34 +1,18 @@
 -- One round of striking as the program does it, over neighbour tables and masks: what the contracts of the inner functions cite. proofs/Row
 -- ties it to the row of sets.
-use mathlib.Core.Bool.{_&&_}
 use mathlib.Core.List.{List}
 use mathlib.Core.Path.{_≡_}
 use Prim.Native.Nat.{ℕ, zero, suc, _*_, _^_, _≤_, _<_}
-use lib.Bits.{bitOr}
 use lib.ListN.{length, getD}
-use Rattle.base_lists.specs.List.{tabulate, part}
-use Rattle.base_bits.specs.Bits.{bit, numberOf, subsetOf, unionAt}
+use Rattle.base_lists.specs.List.{part}
 use Rattle.graph.specs.Net.{Net}
 use Rattle.graph_neighbours.specs.Lookup.{neighboursIn}
 use Rattle.graph_neighbours.specs.declared.neighbours.Direction.the-variants.{Forward, Backward}
 use Rattle.table.specs.Prepared.{Tables}
 use Rattle.table.specs.Row.{pairs}
-
--- ---- one pass
-
--- the parts of a set whose mask lies within f
-unfoldable pub keptWithin : List ℕ → ℕ → ℕ → ℕ
-keptWithin masks f x = numberOf 32 (λ u. bit x u && subsetOf (getD masks u 0) f)
-
--- each set of a table, with f the union of a layer's sets over the node's neighbours
-unfoldable pub passTable : (ℕ → List ℕ) → List ℕ → List ℕ → List ℕ → List ℕ
-passTable near masks layer new = tabulate (length new) (λ v. keptWithin masks (unionAt layer (near v)) (getD new v 0))
+use Rattle.bounded_layer.specs.Pass.{passTable, nextLayer}
 
 -- ---- layers
-
--- what each node has, and what its neighbours have in a layer
-unfoldable pub nextLayer : (ℕ → List ℕ) → List ℕ → List ℕ → List ℕ
-nextLayer near old layer = tabulate (length old) (λ v. bitOr (getD old v 0) (unionAt layer (near v)))
 
 -- at each node the parts that occur within h links
 unfoldable pub layerOf : (ℕ → List ℕ) → List ℕ → ℕ → List ℕ

@@ -6,6 +6,4 @@ pub const WAY_MASKS: usize = 128;
 // The masks in both directions, forward first.
 pub const BOUND_MASKS: usize = 256;
 
-mod layer;
-mod pass;
 pub mod round;

@@ -1,8 +1,8 @@
 // One round: a pass for each direction and each bound in use, all of them from the table of the round before.
 use crate::BOUND_MASKS;
 use crate::WAY_MASKS;
-use crate::layer::widen;
-use crate::pass::pass;
+use bounded_layer::layer::widen;
+use bounded_layer::pass::pass;
 use graph_neighbours::neighbours::Direction;
 ghost use mathlib.Core.Path.{_≡_};
 ghost use Prim.Native.Nat.{_≤_};
@@ -11,7 +11,8 @@ ghost use Rattle.graph.specs.Net.{Net};
 ghost use Rattle.graph_neighbours.specs.Lookup.{neighboursIn};
 ghost use Rattle.table.specs.Prepared.{tables};
 ghost use Rattle.table.specs.Row.{pairs};
-ghost use Rattle.bounded_strike.specs.Round.{passTable, nextLayer, passes, roundTable, Ready};
+ghost use Rattle.bounded_layer.specs.Pass.{passTable, nextLayer};
+ghost use Rattle.bounded_strike.specs.Round.{passes, roundTable, Ready};
 
 // One bound more in one direction: the layer that reaches one link further, and the pass over it.
 fn further(

@@ -9,7 +9,7 @@ use lib.ListN.{length, getD, drop, length-set}
 use Rattle.base_lists.specs.List.{tabulate, Below}
 use Rattle.base_lists.proofs.Tables.{filled-none}
 use Rattle.bounded_strike.specs.Prepared.{keyAt, keyed}
-use Rattle.bounded_strike.proofs.Fills.{filled-next, filled-all}
+use Rattle.bounded_layer.proofs.Fills.{filled-next, filled-all}
 use Rattle.bounded_prepare.proofs.keys_of.Statement.{statement}
 use Rattle.bounded_prepare.proofs.keys_of.Tie as tie
 

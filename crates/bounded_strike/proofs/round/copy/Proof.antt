@@ -8,7 +8,7 @@ use denote.Ref.{now}
 use lib.ListN.{length, getD, drop, length-set}
 use Rattle.base_lists.specs.List.{tabulate}
 use Rattle.base_lists.proofs.Tables.{is-tabulate, filled-none, filled-more}
-use Rattle.bounded_strike.proofs.Fills.{filled-all}
+use Rattle.bounded_layer.proofs.Fills.{filled-all}
 use Rattle.bounded_strike.proofs.round.copy.Statement.{statement}
 use Rattle.bounded_strike.proofs.round.copy.Tie as tie
 

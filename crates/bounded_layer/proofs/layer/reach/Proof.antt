@@ -1,4 +1,4 @@
--- `bounded_strike::layer::reach` meets its contract. The loop's invariant: the union so far, with the sets of the nodes that are left, is the whole
+-- `bounded_layer::layer::reach` meets its contract. The loop's invariant: the union so far, with the sets of the nodes that are left, is the whole
 -- union. The measure is how many are left. Assumes nothing.
 use mathlib.Core.List.{List}
 use mathlib.Core.Path.{_≡_, sym, _∙_}
@@ -13,8 +13,8 @@ use lib.Seq.{drop-cons}
 use Rattle.base_bits.specs.Bits.{unionAt}
 use Rattle.base_bits.proofs.Tests.{bitOr-assoc}
 use Rattle.base_lists.specs.List.{Below}
-use Rattle.bounded_strike.proofs.layer.reach.Statement.{statement}
-use Rattle.bounded_strike.proofs.layer.reach.Tie as tie
+use Rattle.bounded_layer.proofs.layer.reach.Statement.{statement}
+use Rattle.bounded_layer.proofs.layer.reach.Tie as tie
 
 union-next : (sets part : List ℕ) (union i : ℕ) → i < length part
     → bitOr (bitOr union (getD sets (getD part i 0) 0)) (unionAt sets (drop (i + 1) part)) ≡ bitOr union (unionAt sets (drop i part))

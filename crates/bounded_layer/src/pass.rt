@@ -9,7 +9,7 @@ ghost use lib.ListN.{length, getD};
 ghost use Rattle.base_bits.specs.Bits.{unionAt};
 ghost use Rattle.graph.specs.Net.{Net};
 ghost use Rattle.graph_neighbours.specs.Lookup.{neighboursIn};
-ghost use Rattle.bounded_strike.specs.Round.{keptWithin, passTable};
+ghost use Rattle.bounded_layer.specs.Pass.{keptWithin, passTable};
 
 // Those parts of the set whose mask lies within f.
 fn covered(set: u32, masks: &[u32], f: u32) -> u32

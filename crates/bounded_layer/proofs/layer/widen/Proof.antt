@@ -1,4 +1,4 @@
--- `bounded_strike::layer::widen` meets its contract. The loop's invariant: the first v sets are those of the next layer, and the others as they
+-- `bounded_layer::layer::widen` meets its contract. The loop's invariant: the first v sets are those of the next layer, and the others as they
 -- were. The measure is how many are left. Assumes nothing.
 use mathlib.Core.List.{List, _++_}
 use mathlib.Core.Path.{_≡_, refl, ap, _∙_}
@@ -12,10 +12,10 @@ use Rattle.base_lists.proofs.Tables.{filled-none}
 use Rattle.base_bits.specs.Bits.{unionAt}
 use Rattle.graph_neighbours.specs.Lookup.{neighboursIn}
 use Rattle.graph_neighbours.proofs.Lookup.{neighbours-below}
-use Rattle.bounded_strike.specs.Round.{nextLayer}
-use Rattle.bounded_strike.proofs.Fills.{filled-next, filled-all}
-use Rattle.bounded_strike.proofs.layer.widen.Statement.{statement}
-use Rattle.bounded_strike.proofs.layer.widen.Tie as tie
+use Rattle.bounded_layer.specs.Pass.{nextLayer}
+use Rattle.bounded_layer.proofs.Fills.{filled-next, filled-all}
+use Rattle.bounded_layer.proofs.layer.widen.Statement.{statement}
+use Rattle.bounded_layer.proofs.layer.widen.Tie as tie
 
 -- what node v has in the next layer
 further : (ℕ → List ℕ) → List ℕ → List ℕ → ℕ → ℕ

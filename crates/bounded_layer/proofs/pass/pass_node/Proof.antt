@@ -1,4 +1,4 @@
--- `bounded_strike::pass::pass_node` meets its contract. Of an empty set nothing is kept, so that its neighbours need no look. Assumes nothing.
+-- `bounded_layer::pass::pass_node` meets its contract. Of an empty set nothing is kept, so that its neighbours need no look. Assumes nothing.
 use mathlib.Core.Path.{sym, ap, _∙_}
 use Prim.Native.Nat.{ℕ}
 use native.Mathlib.Omega.{arith}
@@ -6,10 +6,10 @@ use borrow.Author.Needs.{needs}
 use denote.Ref.{now}
 use Rattle.base_bits.specs.Bits.{unionAt}
 use Rattle.graph_neighbours.proofs.Lookup.{neighbours-below}
-use Rattle.bounded_strike.specs.Round.{keptWithin}
-use Rattle.bounded_strike.proofs.Sets.{kept-none}
-use Rattle.bounded_strike.proofs.pass.pass_node.Statement.{statement}
-use Rattle.bounded_strike.proofs.pass.pass_node.Tie as tie
+use Rattle.bounded_layer.specs.Pass.{keptWithin}
+use Rattle.bounded_layer.proofs.Sets.{kept-none}
+use Rattle.bounded_layer.proofs.pass.pass_node.Statement.{statement}
+use Rattle.bounded_layer.proofs.pass.pass_node.Tie as tie
 
 returns : tie.Need-returns
 returns c = sym (ap (keptWithin _ _) (c .if1 .taken) ∙ kept-none _ _)

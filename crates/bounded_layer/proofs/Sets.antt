@@ -14,7 +14,7 @@ use Rattle.base_bits.proofs.Digits.{bit-of-zero, bit-below, bit-or, bit-single,
 use Rattle.base_bits.proofs.Numbers.{bit-number, number-lt, number-same, number-bit}
 use Rattle.base_bits.proofs.Tests.{bitOr-assoc}
 use Rattle.base_bits.proofs.Members.{first-lt, first-bit, bit-without}
-use Rattle.bounded_strike.specs.Round.{keptWithin}
+use Rattle.bounded_layer.specs.Pass.{keptWithin}
 
 -- ---- the parts that pass a test
 

@@ -8,7 +8,7 @@ ghost use Rattle.base_bits.specs.Bits.{unionAt};
 ghost use Rattle.base_lists.specs.List.{Below};
 ghost use Rattle.graph.specs.Net.{Net};
 ghost use Rattle.graph_neighbours.specs.Lookup.{neighboursIn};
-ghost use Rattle.bounded_strike.specs.Round.{nextLayer};
+ghost use Rattle.bounded_layer.specs.Pass.{nextLayer};
 
 // The union of the sets of a list of nodes.
 pub fn reach(part: &[u16], sets: &[u32]) -> u32

@@ -1,4 +1,4 @@
--- `bounded_strike::pass::pass` meets its contract. The loop's invariant: the first v sets are what is left, and the others as they were. The
+-- `bounded_layer::pass::pass` meets its contract. The loop's invariant: the first v sets are what is left, and the others as they were. The
 -- measure is how many are left. Assumes nothing.
 use mathlib.Core.List.{List, _++_}
 use mathlib.Core.Path.{_≡_, refl, ap, _∙_}
@@ -10,10 +10,10 @@ use Rattle.base_lists.specs.List.{tabulate}
 use Rattle.base_lists.proofs.Tables.{filled-none}
 use Rattle.base_bits.specs.Bits.{unionAt}
 use Rattle.graph_neighbours.specs.Lookup.{neighboursIn}
-use Rattle.bounded_strike.specs.Round.{keptWithin, passTable}
-use Rattle.bounded_strike.proofs.Fills.{filled-rest, filled-next, filled-all}
-use Rattle.bounded_strike.proofs.pass.pass.Statement.{statement}
-use Rattle.bounded_strike.proofs.pass.pass.Tie as tie
+use Rattle.bounded_layer.specs.Pass.{keptWithin, passTable}
+use Rattle.bounded_layer.proofs.Fills.{filled-rest, filled-next, filled-all}
+use Rattle.bounded_layer.proofs.pass.pass.Statement.{statement}
+use Rattle.bounded_layer.proofs.pass.pass.Tie as tie
 
 -- what is left at node v
 left : (ℕ → List ℕ) → List ℕ → List ℕ → List ℕ → ℕ → ℕ

@@ -1,4 +1,4 @@
--- `bounded_strike::pass::covered` meets its contract. The loop's invariant: what is kept so far, with what is kept of the parts that are left,
+-- `bounded_layer::pass::covered` meets its contract. The loop's invariant: what is kept so far, with what is kept of the parts that are left,
 -- is what is kept of the set. The measure is what is left, as a number. Assumes nothing.
 use mathlib.Core.Logic.{⊎-elim}
 use mathlib.Core.Path.{_≡_, sym, ap, _∙_}
@@ -11,10 +11,10 @@ use lib.ListN.{length, getD}
 use Rattle.base_bits.specs.Bits.{firstOf, withoutFirst, subsetOf}
 use Rattle.base_bits.proofs.Digits.{bit-below}
 use Rattle.base_bits.proofs.Members.{without-lt, first-lt, first-bit}
-use Rattle.bounded_strike.specs.Round.{keptWithin}
-use Rattle.bounded_strike.proofs.Sets.{kept-none, turn-stays, turn-goes}
-use Rattle.bounded_strike.proofs.pass.covered.Statement.{statement}
-use Rattle.bounded_strike.proofs.pass.covered.Tie as tie
+use Rattle.bounded_layer.specs.Pass.{keptWithin}
+use Rattle.bounded_layer.proofs.Sets.{kept-none, turn-stays, turn-goes}
+use Rattle.bounded_layer.proofs.pass.covered.Statement.{statement}
+use Rattle.bounded_layer.proofs.pass.covered.Tie as tie
 
 abbrev Inv-loop : tie.InvT-loop
 Inv-loop set masks f kept₀ left₀ kept left = (left ≤ set) × (bitOr kept (keptWithin masks f left) ≡ keptWithin masks f set)
