@@ -21,9 +21,11 @@
  * starts, and is 4 + 4 N + 4 M bytes long. A part then matches a node only where the packages are the same number, kind 0 included; a file of
  * the first edition counts as having all packages 0. The calls read the first edition; those whose names end in _2, or in two digits, read
  * the second: of two digits the first is the pattern's edition and the second the board's, or that of the old file and that of the new.
+ * A pattern file of the third edition has a bound too for each link, 16 bits each, M of them, after the ends, and is 4 + 4 N + 6 M bytes long:
+ * heronditch_match_31 and heronditch_match_32 read it, and no other call does.
  *
- * Numbers of refusal. Where several hold, the pattern's 1 to 6 come first, then its 11, then the board's 1 to 5, then 7, the check's 3, 10, 12,
- * 8, and 9 or 15:
+ * Numbers of refusal. Where several hold, the pattern's 1 to 6 come first, then its 11, or its 13 (6 and 11 are not asked of a pattern with
+ * bounds), then the board's 1 to 5, then 7, the check's 3, 10, 12, 8, and 9 or 15:
  *   1  a file of under 4 bytes                         6  the pattern is not connected
  *   2  the number of nodes or links out of range       7  the centre is not a node of the board
  *   3  a length that is not the edition's;             8  a lent table is too short
@@ -33,6 +35,7 @@
  *   4  a link to or from a node that is not there     11  the pattern's radius is above HERONDITCH_RADIUS: two of its parts
  *   5  links that do not rise strictly,                   are farther apart, which is a mistake in its drawing
  *      by start and then by end                       12  converting to the first edition, a package other than 0
+ *                                                     13  a bound outside 1 to HERONDITCH_BOUND
  *                                                     15  the centre has a place, where it is asked why it has none
  */
 #ifndef HERONDITCH_H
@@ -68,6 +71,10 @@ extern "C" {
 /* the same of the second edition */
 #define HERONDITCH_PATTERN_BYTES_2 (4 + 4 * HERONDITCH_PARTS + 4 * HERONDITCH_PATTERN_LINKS)
 #define HERONDITCH_BOARD_BYTES_2 (4 + 4 * HERONDITCH_NODES + 4 * HERONDITCH_BOARD_LINKS)
+
+/* the same of a pattern of the third edition, and the largest bound of a link */
+#define HERONDITCH_PATTERN_BYTES_3 (4 + 4 * HERONDITCH_PARTS + 6 * HERONDITCH_PATTERN_LINKS)
+#define HERONDITCH_BOUND 4
 
 /* no line of a report is longer: what is lent for it has room for this many bytes */
 #define HERONDITCH_LINE_BYTES 34829
@@ -263,6 +270,18 @@ heronditch_comparison heronditch_compare_2(const uint8_t *first, size_t first_le
  * over. Replies with how many are accepted. Lend HERONDITCH_SHELF bytes to have room for every shelf; only 8 is replied. */
 heronditch_reply heronditch_shelf_2(const uint8_t *bytes, size_t bytes_len, const uint32_t *lengths, size_t lengths_len, uint8_t *order,
                                     size_t order_len);
+
+/* ---- patterns of the third edition */
+
+/* Matches a pattern whose links have bounds on a board of the first edition or of the second. A link of the pattern with bound h, 1 to
+ * HERONDITCH_BOUND, is met by a directed path of 1 to h links of the board, end to end; it may pass nodes of any kind, a node more than once,
+ * and may end where it began. All else is as in heronditch_match: the table of N numbers, the four counts, all 0 where some part is left without
+ * a node. With all bounds 1 this is heronditch_match_21 and heronditch_match_22 on the file without its bounds; a larger bound never takes a pair
+ * away. */
+heronditch_counts heronditch_match_31(const uint8_t *pattern, size_t pattern_len, const uint8_t *board, size_t board_len, uint32_t *table,
+                                      size_t table_len);
+heronditch_counts heronditch_match_32(const uint8_t *pattern, size_t pattern_len, const uint8_t *board, size_t board_len, uint32_t *table,
+                                      size_t table_len);
 
 #ifdef __cplusplus
 }

@@ -473,9 +473,105 @@ def write_table_cases():
     return "tables", blob, lines
 
 
+def bounded_cases():
+    """Patterns with bounds on first-edition boards."""
+    rng = random.Random(12)
+    out = []
+
+    def case(pattern, bounds, board, lent=None):
+        first = pattern if isinstance(pattern, bytes) else model.encode_bounded(pattern, bounds)
+        second = board if isinstance(board, bytes) else encode(board)
+        out.append((len(board.kinds) if lent is None else lent, first, second))
+
+    two = circuit([10, 20], [(0, 1)])
+    chain = circuit([10, 99, 99, 99, 99, 20], [(v, v + 1) for v in range(5)])
+    # a path of each length, for each bound; the other way round; one link of it turned
+    for gap in range(5):
+        board = circuit([10] + [99] * gap + [20], [(v, v + 1) for v in range(gap + 1)])
+        for bound in (1, 2, 3, 4):
+            case(two, [bound], board)
+    case(two, [4], turned(chain))
+    case(two, [3], circuit([10, 99, 99, 20], [(0, 1), (2, 1), (2, 3)]))
+    # a path that ends where it began, by way of others, by itself, and of no link
+    loop = circuit([10], [(0, 0)])
+    for bound in (1, 2, 3, 4):
+        case(loop, [bound], circuit([10, 99, 99], [(0, 1), (1, 2), (2, 0)]))
+        case(loop, [bound], circuit([10, 10], [(0, 0), (0, 1)]))
+        case(loop, [bound], circuit([10], []))
+    # a node passed more than once: in, round and out again; round twice
+    for bound in (3, 4):
+        case(two, [bound], circuit([10, 99, 99, 20], [(0, 1), (1, 2), (2, 1), (1, 3)]))
+    case(circuit([10, 20], [(0, 1), (1, 0)]), [1, 3], circuit([10, 20, 99], [(0, 1), (1, 2), (2, 1), (2, 0)]))
+    # links of one part with different bounds; the backward partner alone farther; all links 4
+    star = circuit([1, 2, 3], [(0, 1), (0, 2)])
+    for bounds in ([1, 2], [2, 1], [2, 2], [1, 1]):
+        case(star, bounds, circuit([1, 9, 2, 3, 9], [(0, 1), (0, 3), (1, 2), (3, 4)]))
+        case(star, bounds, circuit([1, 9, 3, 2, 9], [(0, 1), (0, 3), (1, 2), (3, 4)]))
+    # inner nodes that match nothing, that match another part, and of kind 0
+    case(circuit([10, 20, 30], [(0, 1), (1, 2)]), [2, 2], circuit([10, 30, 20, 10, 30], [(0, 1), (1, 2), (2, 3), (3, 4)]))
+    case(two, [2], circuit([10, 0, 20], [(0, 1), (1, 2)]))
+    case(circuit([0, 0], [(0, 1)]), [2], circuit([5, 0, 6], [(0, 1), (1, 2)]))
+    # several bits, one of which is left out; no link, and so no bound; one kind; the table's lengths
+    case(circuit([10, 20, 99], [(0, 1)]), [2], circuit([10, 9, 20], [(0, 1), (1, 2)]))
+    case(circuit([10, 20], []), [], B)
+    for lent in (5, 6, 7, 0):
+        case(T, [2, 1], B, lent)
+    case(cycle(3), [2, 3, 4], path(30))
+    case(path(5), [4, 3, 2, 1], path(9))
+    case(cycle(5), [2] * 5, cycle(7))
+    # 13, its place in the order, and all else that is refused
+    for bound in (0, 5, 256, 257, 65535):
+        case(two, [bound], chain)
+        case(T, [1, bound], b"", 0)
+    case(circuit([10, 20], [(0, 1)])._replace(ends=[2]), [0], chain)
+    case(raw(1, 2, 10, 0, 0, 0, 0, 0, 5, 5), [], chain, 6)
+    case(encode(two, 2), [], chain, 6)
+    case(encode(two), [], chain, 6)
+    case(model.encode_bounded(two, [2]) + b"\x00", [], chain, 6)
+    case(b"\x02\x00\x01", [], chain, 6)
+    case(raw(0, 0), [], chain, 6)
+    case(raw(33, 0), [], chain, 6)
+    case(two, [2], raw(1, 1, 10, 0, 1), 6)
+    case(two, [2], encode(chain)[:-1], 6)
+    case(two, [2], chain, 5)
+    case(two, [2], circuit([], []), 0)
+    # the largest pattern on a board
+    case(dense(rng, 32, 256, 2), [rng.randrange(1, 5) for _ in range(256)], dense(rng, 60, 200, 2))
+    case(dense(rng, 32, 256, 1), [4] * 256, dense(rng, 40, 60, 1))
+    # small random ones
+    for _ in range(120):
+        kinds = rng.randrange(1, 4)
+        pattern = some_circuit(rng, rng.randrange(1, 6), rng.randrange(0, 4), kinds, True)
+        board = some_circuit(rng, rng.randrange(1, 14), rng.randrange(0, 24), kinds, False)
+        case(pattern, [rng.randrange(1, 5) for _ in pattern.starts], board, len(board.kinds) + rng.randrange(3))
+    return out
+
+
+def check_bounds(pattern, board):
+    """With all bounds 1 the model's row is the one without bounds."""
+    drawn, board = model.parse_bounded(pattern), model.parse("board", board)
+    if not isinstance(drawn, int) and not isinstance(board, int):
+        last, counts = model.largest(drawn[0], board)
+        sets = model.bounded_row(drawn[0], [1] * len(drawn[1]), board)
+        assert (sets[-1], len(sets) - 1) == (last, counts[3])
+
+
+def write_bounded_cases():
+    blob, lines = b"", []
+    for lent, pattern, board in bounded_cases():
+        check_bounds(pattern, board)
+        for x in (lent, len(pattern), len(board)):
+            blob += bytes((x // 256, x % 256))
+        blob += pattern + board
+        table = [7777] * lent
+        reply = model.match_bounded(pattern, board, table)
+        lines.append(" ".join(str(x) for x in (*reply, digest(table))))
+    return "bounds", blob, lines
+
+
 def main():
     made, printed = {}, []
-    for name, blob, lines in (write_read_cases(), write_write_cases(), write_distance_cases(), write_table_cases()):
+    for name, blob, lines in (write_read_cases(), write_write_cases(), write_distance_cases(), write_table_cases(), write_bounded_cases()):
         assert len(blob) <= 131072, (name, len(blob))
         made[f"crates/cases/data/{name}"] = blob
         printed += lines

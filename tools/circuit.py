@@ -1,8 +1,8 @@
 #!/usr/bin/env python3
 """Turns circuits written as text into .cir files and back.
 
-  circuit.py make [--as ROLE] [--edition first|second] [--without-packages]
-                  TEXT OUT.cir
+  circuit.py make [--as ROLE] [--edition first|second|third]
+                  [--without-packages] [--without-bounds] TEXT OUT.cir
                                              write the file of a text
   circuit.py show FILE.cir                   print a text that makes the file
   circuit.py tell [--distance] TEXT [REPORT] print a report with a board's names
@@ -22,22 +22,28 @@ statements is free:
   NAME <- NAME         the same link written from its other end
   NAME <-> NAME        a link each way
   A -> B <-> C         several of these on one line
+  NAME -> NAME within NUMBER   a link of a pattern that a path of so many links
+                       or fewer, 1 to 4, meets on a board; after each name of a
+                       line with several: A -> B within 2 -> C within 3
 
 Nodes are numbered from 0 in the order of their 'node' lines. Links are sorted.
 Numbers are decimal, or hexadecimal after 0x. A name has no white space and
-none of '#', '<' and '>'. 'kind' and 'node' name no node, and a name for a kind
-does not begin with a digit.
+none of '#', '<' and '>'. 'kind', 'node', 'package' and 'within' name no node,
+and a name for a kind does not begin with a digit.
 
 The file is of the second edition where a node has a package, and else of the
 first; --edition says otherwise. A node without one has package 0. The first
 edition has no place for a package other than 0; --without-packages leaves all
-packages out.
+packages out. A pattern is of the third edition where 'within' stands; a link
+without it has bound 1. The other editions have no place for a bound other than
+1; --without-bounds leaves all bounds out.
 
 With --as pattern or --as board the circuit must also fit that role: a pattern
 has 1 to 32 nodes, at most 256 links, is connected and has radius 12 at most; a
 board has at most 512 nodes and 4096 links. --as bits is for a pattern in
 several bits, which need not be connected nor of radius 12 at most: only the
-whole-board match table takes one.
+whole-board match table takes one. It alone takes a pattern with bounds, too,
+and that need not be connected either.
 
 Errors in a text are told with its name and line number, all of them at once.
 
@@ -56,6 +62,8 @@ import sys
 import tempfile
 
 ARROWS = ("->", "<-", "<->")
+WITHIN = "within"
+FARTHEST = 4  # the largest bound of a link
 MOST = 65535
 LIMITS = {"pattern": (1, 32, 256), "bits": (1, 32, 256), "board": (0, 512, 4096)}
 WIDEST = 12  # the largest radius of a pattern
@@ -71,19 +79,26 @@ class Faults(Exception):
 
 
 class Circuit:
-    """The names and kinds of the nodes, their packages (None: of the first edition), and the links, sorted."""
+    """The names and kinds of the nodes, their packages (None: of the first edition), the links, sorted, and the bound of each of
+    them (None: not of the third edition)."""
 
-    def __init__(self, names, kinds, links, packages=None):
+    def __init__(self, names, kinds, links, packages=None, bounds=None):
         self.names = names
         self.kinds = kinds
         self.links = sorted(links)
         self.packages = packages
+        self.bounds = bounds
 
     def file(self):
         """The bytes of the .cir file."""
-        fields = [len(self.kinds), len(self.links), *self.kinds, *(self.packages or [])]
+        packages = self.packages or []
+        if self.bounds is not None:
+            packages = self.packages or [0] * len(self.kinds)
+        fields = [len(self.kinds), len(self.links), *self.kinds, *packages]
         fields += [start for start, _ in self.links]
         fields += [end for _, end in self.links]
+        if self.bounds is not None:
+            fields += [self.bounds[link] for link in self.links]
         return struct.pack(f"<{len(fields)}H", *fields)
 
 
@@ -100,7 +115,7 @@ def number_of(word):
 
 def good_name(name):
     """Whether a word can name a node or a kind."""
-    return not set(name) & set("#<>") and name not in ("kind", "node", "package")
+    return not set(name) & set("#<>") and name not in ("kind", "node", "package", WITHIN)
 
 
 class Reader:
@@ -114,7 +129,7 @@ class Reader:
         self.kinds = {}  # name: (number, line)
         self.packages = {}  # name: (number, line)
         self.nodes = {}  # name: (kind and package as written, line); no package is None
-        self.links = []  # (start, end, line), the nodes by name
+        self.links = []  # (start, end, bound as written or None, line), the nodes by name
 
     def fault(self, message, line=None):
         """Notes something wrong, in this line or the one told."""
@@ -184,20 +199,40 @@ class Reader:
             self.nodes[name] = ((kind, package), self.line)
 
     def link_line(self, words):
-        """NAME ARROW NAME, and further arrows and names"""
-        names, arrows = words[0::2], words[1::2]
-        sound = len(words) % 2 == 1 and all(arrow in ARROWS for arrow in arrows)
-        bad = [name for name in names if name in ARROWS or set(name) & set("<>")]
+        """NAME ARROW NAME, maybe within NUMBER, and further arrows and names"""
+        bounds, rest = {}, []  # the bound of the link before so many words
+        while words:
+            if words[0] == WITHIN and len(words) > 1 and len(rest) >= 3 and len(rest) % 2 == 1 and len(rest) not in bounds:
+                bounds[len(rest)] = words[1]
+                words = words[2:]
+            else:
+                rest.append(words[0])
+                words = words[1:]
+        names, arrows = rest[0::2], rest[1::2]
+        sound = len(rest) % 2 == 1 and all(arrow in ARROWS for arrow in arrows)
+        bad = [name for name in names if name in (*ARROWS, WITHIN) or set(name) & set("<>")]
         if not sound or bad:
-            return self.fault("expected 'NAME -> NAME', names and arrows by turns, with spaces between")
-        for left, arrow, right in zip(names, arrows, names[1:]):
+            return self.fault("expected 'NAME -> NAME' or 'NAME -> NAME within NUMBER', names and arrows by turns, with spaces between")
+        for number, (left, arrow, right) in enumerate(zip(names, arrows, names[1:])):
+            bound = bounds.get(2 * number + 3)
             if arrow == "<->" and left == right:
                 self.fault(f"a link from '{left}' to itself is written '{left} -> {left}'")
                 continue
             if arrow != "<-":
-                self.links.append((left, right, self.line))
+                self.links.append((left, right, bound, self.line))
             if arrow != "->":
-                self.links.append((right, left, self.line))
+                self.links.append((right, left, bound, self.line))
+
+    def bound_number(self, word, line):
+        """The number of a link's bound, 1 if it has none."""
+        number = 1 if word is None else number_of(word)
+        if word is not None and self.role == "board":
+            self.fault("'within' is for a pattern, and this is a board", line)
+        elif number is None or not 1 <= number <= FARTHEST:
+            self.fault(f"'{word}' is not a number from 1 to {FARTHEST}", line)
+        else:
+            return number
+        return 1
 
     def kind_number(self, name):
         """The number of a node's kind, 0 if it has none."""
@@ -233,9 +268,9 @@ class Reader:
         return 0
 
     def numbered_links(self, numbers):
-        """The links by node numbers, with the line of each."""
-        links = {}
-        for start, end, line in self.links:
+        """The links by node numbers, with the line of each, and their bounds."""
+        links, bounds = {}, {}
+        for start, end, word, line in self.links:
             unknown = [name for name in dict.fromkeys((start, end)) if name not in numbers]
             for name in unknown:
                 self.fault(f"no node is named '{name}'", line)
@@ -245,7 +280,8 @@ class Reader:
             if link in links:
                 self.fault(f"link '{start} -> {end}' stands twice, first in line {links[link]}", line)
             links.setdefault(link, line)
-        return links
+            bounds.setdefault(link, self.bound_number(word, line))
+        return links, bounds
 
     def circuit(self):
         """The circuit of all that was read."""
@@ -253,13 +289,14 @@ class Reader:
         kinds = [self.kind_number(name) for name in names]
         packages = [self.package_number(name) for name in names]
         told = any(package is not None for (_, package), _ in self.nodes.values())
-        links = self.numbered_links({name: number for number, name in enumerate(names)})
+        links, bounds = self.numbered_links({name: number for number, name in enumerate(names)})
+        bounded = any(bound is not None for _, _, bound, _ in self.links)
         for what, count in (("nodes", len(names)), ("links", len(links))):
             if count > MOST:
                 self.fault(f"{count} {what}, and a file holds at most {MOST}")
         if self.faults:
             raise Faults([f"{self.name}:{line}: {text}" for line, text in sorted(self.faults)])
-        return Circuit(names, kinds, links, packages if told else None)
+        return Circuit(names, kinds, links, packages if told else None, bounds if bounded else None)
 
 
 def read_text(text, name, role=None):
@@ -345,14 +382,14 @@ def read_file(data, name):
     if len(data) < 4:
         raise Faults([f"{name}: {len(data)} bytes, and a circuit file has at least 4"])
     nodes, links = struct.unpack_from("<HH", data)
-    first, second = 4 + 2 * nodes + 4 * links, 4 + 4 * nodes + 4 * links
-    if len(data) not in (first, second):
+    first, second, third = 4 + 2 * nodes + 4 * links, 4 + 4 * nodes + 4 * links, 4 + 4 * nodes + 6 * links
+    if len(data) not in (first, second, third):
         raise Faults([f"{name}: {len(data)} bytes, and a circuit file of {nodes} nodes and "
-                      f"{links} links has {first}, or {second} in the second edition"])
+                      f"{links} links has {first}, or {second} in the second edition, or {third} in the third"])
     packed = nodes if len(data) != first else 0
-    fields = struct.unpack(f"<{nodes + packed + 2 * links}H", data[4:])
+    fields = struct.unpack(f"<{(len(data) - 4) // 2}H", data[4:])
     kinds, packages, fields = fields[:nodes], fields[nodes:nodes + packed], fields[nodes + packed:]
-    starts, ends = fields[:links], fields[links:]
+    starts, ends, bounds = fields[:links], fields[links:2 * links], fields[2 * links:]
     pairs = list(zip(starts, ends))
     for number, (start, end) in enumerate(pairs):
         if max(start, end) >= nodes:
@@ -361,7 +398,11 @@ def read_file(data, name):
         if one >= next_one:
             raise Faults([f"{name}: link {number}, {next_one[0]}-{next_one[1]}, "
                           f"does not come after {one[0]}-{one[1]}"])
-    return Circuit([f"n{number}" for number in range(nodes)], list(kinds), pairs, list(packages) or None)
+    for number, bound in enumerate(bounds):
+        if not 1 <= bound <= FARTHEST:
+            raise Faults([f"{name}: link {number} has bound {bound}, and a bound is 1 to {FARTHEST}"])
+    return Circuit([f"n{number}" for number in range(nodes)], list(kinds), pairs, list(packages) or None,
+                   dict(zip(pairs, bounds)) or None)
 
 
 def text_of(circuit):
@@ -369,13 +410,15 @@ def text_of(circuit):
     lines = [f"# {len(circuit.kinds)} nodes, {len(circuit.links)} links"]
     packages = [""] * len(circuit.kinds) if circuit.packages is None else [f" {p}" for p in circuit.packages]
     lines += [f"node {name} {kind}{p}" for name, kind, p in zip(circuit.names, circuit.kinds, packages)]
-    links = set(circuit.links)
+    within = {link: "" for link in circuit.links}
+    if circuit.bounds is not None:
+        within = {link: f" within {bound}" for link, bound in circuit.bounds.items()}
     for start, end in circuit.links:
-        two_way = start != end and (end, start) in links
+        two_way = start != end and within.get((end, start)) == within[start, end]
         if two_way and start > end:
             continue
         arrow = "<->" if two_way else "->"
-        lines.append(f"{circuit.names[start]} {arrow} {circuit.names[end]}")
+        lines.append(f"{circuit.names[start]} {arrow} {circuit.names[end]}{within[start, end]}")
     return "\n".join(lines) + "\n"
 
 
@@ -415,6 +458,13 @@ def named(word, names):
 
 def in_edition(circuit, edition, path):
     """The circuit for a file of an edition."""
+    if edition == "third":
+        return Circuit(circuit.names, circuit.kinds, circuit.links, circuit.packages or [0] * len(circuit.kinds),
+                       circuit.bounds or dict.fromkeys(circuit.links, 1))
+    for (start, end), bound in (circuit.bounds or {}).items():
+        if bound != 1:
+            raise Faults([f"{path}: the link '{circuit.names[start]} -> {circuit.names[end]}' has bound {bound}, and the "
+                          f"{edition} edition has none"])
     if edition == "second":
         return Circuit(circuit.names, circuit.kinds, circuit.links, circuit.packages or [0] * len(circuit.kinds))
     for name, package in zip(circuit.names, circuit.packages or []):
@@ -429,7 +479,9 @@ def make(arguments):
     if arguments.role:
         check_role(circuit, arguments.role, arguments.text)
     if arguments.plain:
-        circuit = Circuit(circuit.names, circuit.kinds, circuit.links)
+        circuit = Circuit(circuit.names, circuit.kinds, circuit.links, bounds=circuit.bounds)
+    if arguments.direct:
+        circuit = Circuit(circuit.names, circuit.kinds, circuit.links, circuit.packages)
     if arguments.edition:
         circuit = in_edition(circuit, arguments.edition, arguments.text)
     with open(arguments.out, "wb") as file:
@@ -454,7 +506,7 @@ def convert(arguments):
     """The command 'convert'."""
     with open(arguments.file, "rb") as file:
         circuit = read_file(file.read(), arguments.file)
-    edition = "first" if circuit.packages is not None else "second"
+    edition = "second" if circuit.packages is None or circuit.bounds is not None else "first"
     circuit = in_edition(circuit, edition, arguments.file)
     with open(arguments.out, "wb") as file:
         file.write(circuit.file())
@@ -481,6 +533,8 @@ def bar(arguments):
         circuits.append(load_text(path, role))
         check_role(circuits[-1], role, path)
     pattern, board = circuits
+    if pattern.bounds is not None:
+        raise Faults([f"{arguments.pattern}: a pattern with bounds, which the whole-board match table alone takes"])
     if arguments.node not in board.names:
         raise Faults([f"{arguments.board}: no node is named '{arguments.node}'"])
     program = pathlib.Path(__file__).with_name("bar")
@@ -502,11 +556,12 @@ def command_line():
     one = commands.add_parser("make", help="write the .cir file of a text")
     one.add_argument("--as", dest="role", choices=sorted(LIMITS), help="demand that the circuit fits this role")
     one.add_argument("--without-packages", dest="plain", action="store_true", help="leave the packages out")
-    one.add_argument("--edition", choices=("first", "second"), help="write the file in this edition")
+    one.add_argument("--without-bounds", dest="direct", action="store_true", help="leave the bounds out")
+    one.add_argument("--edition", choices=("first", "second", "third"), help="write the file in this edition")
     one.add_argument("text", metavar="TEXT")
     one.add_argument("out", metavar="OUT.cir")
     one.set_defaults(run=make)
-    one = commands.add_parser("convert", help="write a .cir file in the other edition")
+    one = commands.add_parser("convert", help="write a .cir file in the other edition; one of the third in the second")
     one.add_argument("file", metavar="FILE.cir")
     one.add_argument("out", metavar="OUT.cir")
     one.set_defaults(run=convert)

@@ -28,6 +28,10 @@ GOOD = [
     ("the largest kind", "node x 65535", "01000000ffff"),
     ("a self-link", "node x 7\nx -> x", "01000100070000000000"),
     ("two ways", "node x 1\nnode y 2\nx <-> y", "02000200" "01000200" "00000100" "01000000"),
+    ("a bound", "node a 10\nnode b 20\na -> b within 3", "020001000a0014000000000000000100" "0300"),
+    ("bounds in a chain", "node a 10\nnode b 20\nnode c 30\nc <- b within 0x2 <- a within 4\nb -> b",
+     "030003000a0014001e00" "000000000000" "000001000100" "010001000200" "040001000200"),
+    ("a bound each way", "node x 1\nnode y 2\nx <-> y within 2", "02000200" "01000200" "00000000" "00000100" "01000000" "02000200"),
     ("packages", "package SOT 3\nnode a 10 SOT\nnode b 20\nnode c 30 0xffff\na -> b -> c",
      "030002000a0014001e00" "03000000ffff" "0000010001000200"),
     ("odd names", "node +9V 1\nnode Q1.b 2\nnode ü 3\nkind R:10k 4\nnode - R:10k\n"
@@ -48,6 +52,15 @@ BAD = [
     ("node a -1", ["1: no kind is named '-1'"]),
     ("node node 1", ["1: 'node' can't name a node"]),
     ("node a 1\n\nnode a 2", ["3: node 'a' is named twice, first in line 1"]),
+    ("node within 1", ["1: 'within' can't name a node"]),
+    ("node a 1\na -> a within 0\n", ["2: '0' is not a number from 1 to 4"]),
+    ("node a 1\na -> a within 5\n", ["2: '5' is not a number from 1 to 4"]),
+    ("node a 1\na -> a within x\n", ["2: 'x' is not a number from 1 to 4"]),
+    ("node a 1\na -> a within\n", ["2: expected 'NAME -> NAME' or 'NAME -> NAME within NUMBER'"]),
+    ("node a 1\na within 2 -> a\n", ["2: expected 'NAME -> NAME'"]),
+    ("node a 1\na -> a within 2 within 2\n", ["2: expected 'NAME -> NAME'"]),
+    ("node a 1\na -> within 2\n", ["2: expected 'NAME -> NAME'"]),
+    ("node a 1\na within 2\n", ["2: 'a' begins no statement"]),
     ("kind r", ["1: expected 'kind NAME NUMBER'"]),
     ("kind r 1 2", ["1: expected 'kind NAME NUMBER'"]),
     ("kind r x", ["1: 'x' is not a number from 0 to 65535"]),
@@ -210,6 +223,32 @@ def test_editions(folder):
     check("a package that would be lost", lost and "'n0' has package 3" in done.stderr, done)
 
 
+def test_bounds(folder):
+    """A pattern with bounds is of the third edition, and of no other unless its bounds are left out or all 1."""
+    text = GOOD[0][1].replace("a -> b", "a -> b within 2")
+    second = bytes.fromhex(T_FILE[:20] + "0000" * 3 + T_FILE[20:])
+    done, made = file_of(folder, text, "--as", "pattern")
+    check("a pattern with bounds", made == second + bytes.fromhex("02000100"), done)
+    check("it shows", shown(folder, made).stdout.endswith("n0 -> n1 within 2\nn1 -> n2 within 1\n"))
+    check("and makes itself again", file_of(folder, shown(folder, made).stdout)[1] == made)
+    ways = struct.pack("<12H", 2, 2, 1, 1, 0, 0, 0, 1, 1, 0, 2, 3)
+    check("a bound for each way", file_of(folder, shown(folder, ways).stdout)[1] == ways)
+    done, made = file_of(folder, text, "--as", "board")
+    check("a board with a bound", made is None and "'within' is for a pattern, and this is a board" in done.stderr, done)
+    for edition in ("first", "second"):
+        done, made = file_of(folder, text, "--edition", edition)
+        check(f"a bound in the {edition} edition", made is None and f"has bound 2, and the {edition} edition has none" in done.stderr, done)
+    check("without bounds", file_of(folder, text, "--without-bounds")[1] == bytes.fromhex(T_FILE))
+    check("all bounds 1", file_of(folder, GOOD[0][1], "--edition", "third")[1] == second + bytes.fromhex("01000100"))
+    one, two = folder / "one.cir", folder / "two.cir"
+    one.write_bytes(second + bytes.fromhex("01000100"))
+    done = run("convert", one, two)
+    check("from the third edition to the second", two.read_bytes() == second, done)
+    one.write_bytes(second + bytes.fromhex("01000500"))
+    done = run("show", one)
+    check("a bound of 5", done.returncode == 1 and "link 1 has bound 5" in done.stderr, done)
+
+
 def test_tell(folder):
     """A report is told by names, from a file and from standard input."""
     text, report = folder / "board.txt", folder / "report.txt"
@@ -234,6 +273,9 @@ def test_bar(folder):
     pattern.write_text("node a 10\nnode b 20\n", encoding="utf-8")
     done = run("bar", pattern, board, "p")
     check("a pattern that is not connected", done.returncode == 1 and "connected" in done.stderr, done)
+    pattern.write_text("node a 10\nnode b 20\na -> b within 2\n", encoding="utf-8")
+    done = run("bar", pattern, board, "p")
+    check("a pattern with bounds", done.returncode == 1 and "the whole-board match table alone takes" in done.stderr, done)
 
 
 def test_calls(folder):
@@ -248,7 +290,7 @@ def test_calls(folder):
 def main():
     """Runs all tests."""
     with tempfile.TemporaryDirectory() as name:
-        for test in (test_good, test_bad, test_roles, test_files, test_editions, test_tell, test_bar, test_calls):
+        for test in (test_good, test_bad, test_roles, test_files, test_editions, test_bounds, test_tell, test_bar, test_calls):
             test(pathlib.Path(name))
     if failures:
         sys.exit(f"{len(failures)} failed")

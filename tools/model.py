@@ -1,4 +1,4 @@
-"""Document 01's definitions, and document 02's test load, in plain Python, written from the paper and from nothing else: sets, lists and simple loops.
+"""Document 01's definitions, and what document 02 adds to them, in plain Python, written from the paper and from nothing else: sets, lists and simple loops.
 
 The vectors that the proved programs are run on are made from it (cases.py). It is no part of the product and shares no code with it.
 """
@@ -249,6 +249,74 @@ def match_table(pattern_data, board_data, table, editions=(1, 1)):
     for u, v in pairs:
         table[v] += 2**u
     return ("matched", *counts)
+
+
+def parse_bounded(data):
+    """The pattern of a third-edition file, connected or not, and a bound for each link; or the number of the first of the conditions 1 to 5
+    and 13 that holds."""
+    if len(data) < 4:
+        return 1
+    n, m = field(data, 0), field(data, 2)
+    if out_of_range("pattern", n, m):
+        return 2
+    if len(data) != 4 + 4 * n + 6 * m:
+        return 3
+    at = 4 + 4 * n + 4 * m  # where the bounds begin
+    pattern, bounds = parse_in_bits("pattern", data[:at], 2), fields(data, at, m)
+    if isinstance(pattern, int):
+        return pattern
+    return 13 if any(not 1 <= bound <= 4 for bound in bounds) else (pattern, bounds)
+
+
+def encode_bounded(pattern, bounds):
+    """The third-edition file of a pattern and a bound for each link."""
+    return encode(pattern, 2) + b"".join(bytes((bound % 256, bound // 256)) for bound in bounds)
+
+
+def ends(board, start, links_left):
+    """The ends of the directed paths of 1 to so many links from a node, each path followed link by link."""
+    near, found, here = directed(board)[0], set(), {start}
+    for _ in range(links_left):
+        here = {w for v in here for w in near[v]}
+        found |= here
+    return found
+
+
+def bounded_row(pattern, bounds, board):
+    """The row of sets, where a pattern link with bound h has a partner at the other end of a directed path of 1 to h board links."""
+    joined = {h: [ends(board, v, h) for v in range(len(board.kinds))] for h in set(bounds)}
+    sets = [start_set(pattern, board)]
+    while True:
+        last, new = sets[-1], set()
+        for u, v in sets[-1]:
+            forward = all(any((t, w) in last for w in joined[h][v]) for (s, t), h in zip(links(pattern), bounds) if s == u)
+            backward = all(
+                any(v in joined[h][w] for x, w in last if x == s) for (s, t), h in zip(links(pattern), bounds) if t == u)
+            if forward and backward:
+                new.add((u, v))
+        if new == last:
+            return sets
+        sets.append(new)
+
+
+def match_bounded(pattern_data, board_data, table, edition=1):
+    """The reply of the whole-board call on a third-edition pattern; the table is a list that it fills in place."""
+    drawn = parse_bounded(pattern_data)
+    if isinstance(drawn, int):
+        return ("refused", drawn, "pattern")
+    board = parse("board", board_data, edition)
+    if isinstance(board, int):
+        return ("refused", board, "board")
+    n = len(board.kinds)
+    if len(table) < n:
+        return ("refused", 8, "neither")
+    pattern, bounds = drawn
+    sets = bounded_row(pattern, bounds, board)
+    pairs = sets[-1] if len({u for u, _ in sets[-1]}) == len(pattern.kinds) else set()
+    table[:n] = [0] * n
+    for u, v in pairs:
+        table[v] += 2**u
+    return ("matched", len(sets[0]), len(pairs), len(sets[0]) - len(pairs), len(sets) - 1)
 
 
 def load(seed, n, m, k):

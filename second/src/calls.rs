@@ -5,10 +5,11 @@
 use std::cmp::Ordering;
 
 use crate::barring::least;
+use crate::bounded;
 use crate::check::{marked, perfect};
 use crate::circuit::{
-    both, both_in, both_in_bits, gather, gather_second, parse, parse_in, Circuit, Edition, File,
-    Refusal, Role,
+    both, both_in, both_in_bits, gather, gather_second, parse, parse_bounded, parse_in, Circuit,
+    Edition, File, Refusal, Role,
 };
 use crate::graph::{radius as radius_of, within};
 use crate::load::{load as load_of, Numbers};
@@ -280,6 +281,19 @@ pub fn match_in(
             Ok(Counted::accepted(counts))
         }),
     )
+}
+
+/// The same of a third-edition pattern, on a board of an edition: a pattern
+/// link with bound h is met by a directed path of 1 to h board links.
+pub fn match_bounded(edition: Edition, pattern: &[u8], board: &[u8], table: &mut [u32]) -> Counted {
+    either(parse_bounded(pattern).and_then(|pattern| {
+        let board = parse_in(edition, Role::Board, board)?;
+        let n = board.kinds.len();
+        long_enough(&[(table.len(), n)])?;
+        let (pairs, counts) = bounded::on_board(&pattern, &board);
+        fill(table, (0..n).map(|v| pairs.word(v)));
+        Ok(Counted::accepted(counts))
+    }))
 }
 
 /// What the two place calls fill: a byte per board node, a byte per board

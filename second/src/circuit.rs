@@ -1,5 +1,6 @@
 //! Circuits, their two roles, their files, and the refusals about one file.
 
+use crate::bounded::Bounded;
 use crate::graph;
 
 /// Which file a refusal means.
@@ -196,6 +197,29 @@ fn parse_in_bits(edition: Edition, role: Role, bytes: &[u8]) -> Result<Circuit, 
     let circuit = assemble(kinds, packages, starts, ends);
     circuit.judge_links(role)?;
     Ok(circuit)
+}
+
+/// The pattern in a third-edition file: a file of the second edition, and a
+/// bound for each link after its ends; or the first of refusals 1 to 5 and 13.
+pub fn parse_bounded(bytes: &[u8]) -> Result<Bounded, Refusal> {
+    let role = Role::Pattern;
+    if bytes.len() < 4 {
+        return Err(role.refuses(1));
+    }
+    let fields = fields(bytes);
+    let (n, m) = (usize::from(fields[0]), usize::from(fields[1]));
+    if !role.allows(n, m) {
+        return Err(role.refuses(2));
+    }
+    if bytes.len() != 4 + 4 * n + 6 * m {
+        return Err(role.refuses(3));
+    }
+    let circuit = parse_in_bits(Edition::Second, role, &bytes[..bytes.len() - 2 * m])?;
+    let bounds = fields[fields.len() - m..].to_vec();
+    if bounds.iter().any(|bound| !(1..=4).contains(bound)) {
+        return Err(role.refuses(13));
+    }
+    Ok(Bounded { circuit, bounds })
 }
 
 /// Both first-edition files, the pattern's refusals before the board's.

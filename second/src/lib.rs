@@ -7,6 +7,7 @@
 #![forbid(unsafe_code)]
 
 pub mod barring;
+pub mod bounded;
 pub mod calls;
 pub mod check;
 pub mod circuit;

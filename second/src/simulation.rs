@@ -56,8 +56,17 @@ impl Pairs {
 
     /// The next set of the row: the pairs whose links all have partners here.
     fn next(&self, pattern: &Circuit, links: &[(usize, usize)]) -> Pairs {
+        self.next_by(pattern.links.iter().map(|&link| (link, links)))
+    }
+
+    /// The same where each pattern link comes with the pairs of nodes that may
+    /// meet it.
+    pub fn next_by<'a>(
+        &self,
+        met: impl Iterator<Item = ((usize, usize), &'a [(usize, usize)])>,
+    ) -> Pairs {
         let mut next = self.clone();
-        for &(u, t) in &pattern.links {
+        for ((u, t), links) in met {
             let (drives, driven) = self.partners(u, t, links);
             keep(&mut next.rows[u], &drives);
             keep(&mut next.rows[t], &driven);
@@ -110,27 +119,38 @@ pub fn largest(pattern: &Circuit, board: &Circuit, graph: &Subgraph) -> (Pairs, 
         last = next;
         rounds += 1;
     }
+    let counts = counts(&first, &last, rounds);
+    (last, counts)
+}
+
+/// The counts of a row by its first and last set.
+fn counts(first: &Pairs, last: &Pairs, rounds: usize) -> Counts {
     let (started, kept) = (first.count(), last.count());
-    let counts = Counts {
+    Counts {
         started,
         kept,
         struck: started - kept,
         rounds,
-    };
-    (last, counts)
+    }
 }
 
 /// The match table on a whole board and its counts. If some part is left
 /// without a node, nothing is kept; the rounds stay those of the row.
 pub fn on_board(pattern: &Circuit, board: &Circuit) -> (Pairs, Counts) {
-    let (mut pairs, mut counts) = largest(pattern, board, &Subgraph::whole(board));
+    let graph = Subgraph::whole(board);
+    let (last, counts) = largest(pattern, board, &graph);
+    none_left_out(&Pairs::first(pattern, board, &graph), last, counts.rounds)
+}
+
+/// The last set of a row and its counts, or nothing kept where some part is
+/// left without a node.
+pub fn none_left_out(first: &Pairs, mut last: Pairs, rounds: usize) -> (Pairs, Counts) {
     let left_out = |row: &Vec<bool>| row.iter().all(|&is| !is);
-    if pairs.rows.iter().any(left_out) {
-        pairs.rows.iter_mut().for_each(|row| row.fill(false));
-        counts.kept = 0;
-        counts.struck = counts.started;
+    if last.rows.iter().any(left_out) {
+        last.rows.iter_mut().for_each(|row| row.fill(false));
     }
-    (pairs, counts)
+    let counts = counts(first, &last, rounds);
+    (last, counts)
 }
 
 /// The match graph of a set of pairs in a subgraph of a board.

@@ -3,8 +3,11 @@
 //! The faults are the specification's tempting mistakes and fakes, and slips
 //! in limits, orders and tables.
 
-use second::calls::PlaceTables;
-use second::circuit::{both, both_in, both_in_bits, parse, parse_in, Circuit, Edition, Role};
+use second::bounded::Bounded;
+use second::calls::{Counted, PlaceTables};
+use second::circuit::{
+    both, both_in, both_in_bits, parse, parse_bounded, parse_in, Circuit, Edition, File, Role,
+};
 use second::compare::finder::{Finder, Second, Words};
 use second::compare::tally::Tally;
 use second::compare::{case, edges};
@@ -12,7 +15,7 @@ use second::graph::{ball, distances, radius, within, Subgraph};
 use second::load::Numbers;
 use second::merged::merged;
 use second::shelf::{pattern, strings};
-use second::simulation::{largest, match_graph, Pairs};
+use second::simulation::{largest, match_graph, none_left_out, Counts, Pairs};
 
 /// The planted faults.
 #[derive(Clone, Copy, Debug, PartialEq, Eq)]
@@ -82,6 +85,18 @@ enum Fault {
     // Of the editions.
     PackagesIgnored,
     PackagesDropped,
+    // Of links through a few parts.
+    BoundExact,
+    BoundNone,
+    BoundUndirected,
+    BoundForward,
+    BoundNoReturn,
+    BoundInnerMatched,
+    BoundLargest,
+    BoundFive,
+    ThirteenLate,
+    ThirteenEarly,
+    BoundsLeftOut,
     // Of the least that still says none.
     BarFalling,
     BarAgainstAll,
@@ -101,7 +116,7 @@ enum Fault {
     RefusedStops,
 }
 
-const FAULTS: [Fault; 74] = [
+const FAULTS: [Fault; 85] = [
     Fault::OneRound,
     Fault::EveryLink,
     Fault::MergedRadius,
@@ -161,6 +176,17 @@ const FAULTS: [Fault; 74] = [
     Fault::LoadNamesBoard,
     Fault::PackagesIgnored,
     Fault::PackagesDropped,
+    Fault::BoundExact,
+    Fault::BoundNone,
+    Fault::BoundUndirected,
+    Fault::BoundForward,
+    Fault::BoundNoReturn,
+    Fault::BoundInnerMatched,
+    Fault::BoundLargest,
+    Fault::BoundFive,
+    Fault::ThirteenLate,
+    Fault::ThirteenEarly,
+    Fault::BoundsLeftOut,
     Fault::BarFalling,
     Fault::BarAgainstAll,
     Fault::BarReducedRadius,
@@ -717,6 +743,16 @@ impl Finder for Faulty {
         Second.match_in(editions, pattern, board, table)
     }
 
+    fn match_bounded(
+        &self,
+        edition: Edition,
+        pattern: &[u8],
+        board: &[u8],
+        table: &mut [u32],
+    ) -> Words {
+        self.bounded_call(edition, pattern, board, table)
+    }
+
     fn merge_second(&self, pattern: &[u8], classes: &mut [u8], out: &mut [u8]) -> Words {
         Second.merge_second(pattern, classes, out)
     }
@@ -787,6 +823,153 @@ fn swapped(file: &[u8]) -> Vec<u16> {
     let mut numbers: Vec<u16> = two.collect();
     numbers.swap(0, 1);
     numbers
+}
+
+/// Follows the paths that a faulty finder takes for a pattern link of a bound,
+/// from a node after so many links, and marks where they may end.
+fn follow(
+    fault: Fault,
+    board: &Circuit,
+    inner: &[bool],
+    (from, at): (usize, usize),
+    left: u16,
+    ends: &mut [bool],
+) {
+    for &(v, w) in &board.links {
+        let mut next = vec![];
+        next.extend((v == at).then_some(w));
+        next.extend((fault == Fault::BoundUndirected && w == at).then_some(v));
+        for w in next {
+            let last = left == 1;
+            let counts = fault != Fault::BoundExact || last;
+            ends[w] |= counts && (fault != Fault::BoundNoReturn || w != from);
+            if !last && (fault != Fault::BoundInnerMatched || inner[w]) {
+                follow(fault, board, inner, (from, w), left - 1, ends);
+            }
+        }
+    }
+}
+
+/// The pairs of nodes that a faulty finder takes for joined within a bound.
+fn faulty_joined(
+    fault: Fault,
+    board: &Circuit,
+    inner: &[bool],
+    bound: u16,
+) -> Vec<(usize, usize)> {
+    let mut pairs = vec![];
+    for v in 0..board.kinds.len() {
+        let mut ends = vec![false; board.kinds.len()];
+        ends[v] = fault == Fault::BoundNone;
+        follow(fault, board, inner, (v, v), bound, &mut ends);
+        pairs.extend((0..ends.len()).filter(|&w| ends[w]).map(|w| (v, w)));
+    }
+    pairs
+}
+
+/// The table and the counts of a faulty finder. Only small boards are tried:
+/// every path is followed.
+fn faulty_bounded(fault: Fault, pattern: &Bounded, board: &Circuit) -> (Pairs, Counts) {
+    let first = Pairs::first(&pattern.circuit, board, &Subgraph::whole(board));
+    let bound = |at: usize| {
+        let (u, _) = pattern.circuit.links[at];
+        let links = pattern.circuit.links.iter().zip(&pattern.bounds);
+        match fault {
+            Fault::BoundLargest => links
+                .filter(|(link, _)| link.0 == u)
+                .map(|(_, &bound)| bound)
+                .max()
+                .expect("a link"),
+            _ => pattern.bounds[at],
+        }
+    };
+    let mut last = first.clone();
+    let mut rounds = 0;
+    loop {
+        let inner: Vec<bool> = (0..board.kinds.len()).map(|v| last.occurs(v)).collect();
+        let met: Vec<_> = (0..pattern.bounds.len())
+            .map(|at| faulty_joined(fault, board, &inner, bound(at)))
+            .collect();
+        let links = || pattern.circuit.links.iter().copied();
+        let mut next = last.next_by(links().zip(met.iter().map(|pairs| &pairs[..])));
+        if fault == Fault::BoundForward {
+            for (at, (u, t)) in links().enumerate() {
+                for w in 0..board.kinds.len() {
+                    let mut drives = met[at].iter().filter(|pair| pair.1 == w);
+                    let one = board.links.iter().any(|&(v, x)| x == w && last.rows[u][v]);
+                    next.rows[t][w] &= !drives.any(|&(v, _)| last.rows[u][v]) || one;
+                }
+            }
+        }
+        if next == last {
+            return none_left_out(&first, last, rounds);
+        }
+        last = next;
+        rounds += 1;
+    }
+}
+
+impl Faulty {
+    fn bounded_call(
+        &self,
+        edition: Edition,
+        pattern: &[u8],
+        board: &[u8],
+        table: &mut [u32],
+    ) -> Words {
+        let right = Second.match_bounded(edition, pattern, board, table);
+        let given = parse_in(edition, Role::Board, board);
+        match (self.0, right[0], parse_bounded(pattern), given) {
+            (Fault::BoundFive, 13, ..) => {
+                let mut cut = pattern.to_vec();
+                let (_, m) = sizes(pattern);
+                let bounds = cut.len() - 2 * m..;
+                let five = |two: &mut [u8]| two[0] = if two[0] == 5 { 4 } else { two[0] };
+                cut[bounds].chunks_exact_mut(2).for_each(five);
+                Second.match_bounded(edition, &cut, board, table)
+            }
+            (Fault::ThirteenLate, 13, _, Err(refusal)) => [refusal.number, 2, 0, 0, 0, 0],
+            (Fault::ThirteenEarly, 5, ..) => {
+                let (_, m) = sizes(pattern);
+                let mut bounds = pattern[pattern.len() - 2 * m..].chunks_exact(2);
+                let sound = bounds.all(|two| (1..=4).contains(&two[0]) && two[1] == 0);
+                [if sound { 5 } else { 13 }, 1, 0, 0, 0, 0]
+            }
+            (Fault::BoundsLeftOut, 3, ..) => {
+                let (_, m) = sizes(pattern);
+                let mut whole = pattern.to_vec();
+                whole.extend([1, 0].repeat(m));
+                Second.match_bounded(edition, &whole, board, table)
+            }
+            (fault, 0, Ok(drawn), Ok(board)) if bounds_fault(fault) && board.links.len() < 40 => {
+                let (pairs, counts) = faulty_bounded(fault, &drawn, &board);
+                for (v, entry) in table.iter_mut().enumerate().take(board.kinds.len()) {
+                    *entry = pairs.word(v);
+                }
+                Counted {
+                    number: 0,
+                    file: File::Neither,
+                    counts,
+                }
+                .into()
+            }
+            _ => right,
+        }
+    }
+}
+
+/// Whether the fault is one of following paths.
+fn bounds_fault(fault: Fault) -> bool {
+    matches!(
+        fault,
+        Fault::BoundExact
+            | Fault::BoundNone
+            | Fault::BoundUndirected
+            | Fault::BoundForward
+            | Fault::BoundNoReturn
+            | Fault::BoundInnerMatched
+            | Fault::BoundLargest
+    )
 }
 
 /// Whether a faulty finder says that some of a pattern's links bar.

@@ -520,6 +520,55 @@ static void widths(void)
           "the line of a pattern that is too wide");
 }
 
+/* a pattern of the third edition: kinds 10 and 20, packages 0, a link from the first to the second, and its bound, which is the last field */
+static uint8_t P3[] = {2, 0, 1, 0, 10, 0, 20, 0, 0, 0, 0, 0, 0, 0, 1, 0, 2, 0};
+#define BOUND_AT (sizeof P3 - 2)
+
+static heronditch_counts bounded(uint8_t bound, const uint8_t *board, size_t board_len, uint32_t *table, size_t table_len)
+{
+    P3[BOUND_AT] = bound;
+    return heronditch_match_31(P3, sizeof P3, board, board_len, table, table_len);
+}
+
+static void bounds(void)
+{
+    /* 10, 99, 20, one driving the next; the same the other way round; the first again with the second edition's packages */
+    static const uint8_t chain[] = {3, 0, 2, 0, 10, 0, 99, 0, 20, 0, 0, 0, 1, 0, 1, 0, 2, 0};
+    static const uint8_t back[] = {3, 0, 2, 0, 10, 0, 99, 0, 20, 0, 1, 0, 2, 0, 0, 0, 1, 0};
+    static const uint8_t chain2[] = {3, 0, 2, 0, 10, 0, 99, 0, 20, 0, 0, 0, 7, 0, 0, 0, 0, 0, 1, 0, 1, 0, 2, 0};
+    uint32_t table[4];
+    memset(table, 0xA5, sizeof table);
+    check(is_counts(bounded(2, chain, sizeof chain, table, 2), 8, HERONDITCH_NEITHER, 0, 0, 0, 0) && untouched(table, 0, sizeof table), "match_31 with a short table");
+    check(is_counts(bounded(2, chain, sizeof chain, table, 3), 0, HERONDITCH_NEITHER, 2, 2, 0, 0), "a link through one part");
+    check(table[0] == 1 && table[1] == 0 && table[2] == 2 && untouched(table, 12, sizeof table), "its table, and no entry past it");
+    check(is_counts(bounded(2, chain, sizeof chain, table, 4), 0, HERONDITCH_NEITHER, 2, 2, 0, 0) && untouched(table, 12, sizeof table), "one entry more");
+    check(is_counts(bounded(4, chain, sizeof chain, table, 3), 0, HERONDITCH_NEITHER, 2, 2, 0, 0), "bound 4");
+    check(is_counts(bounded(1, chain, sizeof chain, table, 3), 0, HERONDITCH_NEITHER, 2, 0, 2, 1) && !table[0] && !table[2], "bound 1: no path");
+    check(is_counts(bounded(4, back, sizeof back, table, 3), 0, HERONDITCH_NEITHER, 2, 0, 2, 1), "a path follows its links' directions");
+    P3[BOUND_AT] = 2;
+    check(is_counts(heronditch_match_32(P3, sizeof P3, chain2, sizeof chain2, table, 3), 0, HERONDITCH_NEITHER, 2, 2, 0, 0) && table[0] == 1 && table[2] == 2,
+          "a link through a part of another package");
+    check(is_counts(heronditch_match_32(P3, sizeof P3, chain2, sizeof chain2, table, 2), 8, HERONDITCH_NEITHER, 0, 0, 0, 0), "match_32 with a short table");
+    check(is_counts(heronditch_match_32(P3, sizeof P3, chain, sizeof chain, table, 3), 3, HERONDITCH_BOARD, 0, 0, 0, 0), "match_32 on a first-edition board");
+    check(is_counts(heronditch_match_31(P3, sizeof P3, chain2, sizeof chain2, table, 3), 3, HERONDITCH_BOARD, 0, 0, 0, 0), "match_31 on a second-edition board");
+    check(is_counts(bounded(0, chain, sizeof chain, table, 3), 13, HERONDITCH_PATTERN, 0, 0, 0, 0), "bound 0");
+    check(is_counts(bounded(5, chain, sizeof chain, table, 3), 13, HERONDITCH_PATTERN, 0, 0, 0, 0), "bound 5");
+    check(is_counts(bounded(5, NULL, 0, NULL, 0), 13, HERONDITCH_PATTERN, 0, 0, 0, 0), "13 comes before the board's 1");
+    check(is_counts(bounded(2, NULL, 0, NULL, 0), 1, HERONDITCH_BOARD, 0, 0, 0, 0), "match_31 on nothing");
+    check(is_counts(heronditch_match_31(NULL, 0, NULL, 0, NULL, 0), 1, HERONDITCH_PATTERN, 0, 0, 0, 0), "match_31 of nothing");
+    check(is_counts(heronditch_match_32(NULL, 0, NULL, 0, NULL, 0), 1, HERONDITCH_PATTERN, 0, 0, 0, 0), "match_32 of nothing");
+    check(is_counts(heronditch_match_31(P3, BOUND_AT, chain, sizeof chain, table, 3), 3, HERONDITCH_PATTERN, 0, 0, 0, 0), "the second edition's length");
+    static const uint8_t falling[] = {1, 0, 2, 0, 10, 0, 0, 0, 0, 0, 0, 0, 0, 0, 0, 0, 5, 0, 5, 0};
+    check(is_counts(heronditch_match_31(falling, sizeof falling, chain, sizeof chain, table, 3), 5, HERONDITCH_PATTERN, 0, 0, 0, 0), "5 comes before 13");
+    static const uint8_t apart[] = {2, 0, 0, 0, 10, 0, 20, 0, 0, 0, 0, 0};
+    check(is_counts(heronditch_match_31(apart, sizeof apart, chain, sizeof chain, table, 3), 0, HERONDITCH_NEITHER, 2, 2, 0, 0), "no link, and so no bound: 6 is not given");
+    /* a part that has itself within two links, on a node that has itself by way of another */
+    static const uint8_t itself[] = {1, 0, 1, 0, 10, 0, 0, 0, 0, 0, 0, 0, 2, 0};
+    static const uint8_t ring[] = {2, 0, 2, 0, 10, 0, 99, 0, 0, 0, 1, 0, 1, 0, 0, 0};
+    check(is_counts(heronditch_match_31(itself, sizeof itself, ring, sizeof ring, table, 2), 0, HERONDITCH_NEITHER, 1, 1, 0, 0) && table[0] == 1,
+          "a path that ends where it began");
+}
+
 int main(void)
 {
     no_arrays();
@@ -529,6 +578,7 @@ int main(void)
     loads();
     widths();
     second_edition();
+    bounds();
     comparisons();
     shelves();
     lookups();

@@ -61,6 +61,19 @@ static void *match(void *x)
     refused |= heronditch_match(PATTERN, BOARD, table, HERONDITCH_NODES).number;
     return x;
 }
+/* the largest pattern with every bound 4 */
+static uint8_t bounded[HERONDITCH_PATTERN_BYTES_3];
+static void bound(void)
+{
+    refused |= heronditch_convert_pattern_12(PATTERN, bounded, sizeof bounded).number;
+    for (size_t i = HERONDITCH_PATTERN_BYTES_2; i < sizeof bounded; i += 2)
+        bounded[i] = HERONDITCH_BOUND;
+}
+static void *match_bounded(void *x)
+{
+    refused |= heronditch_match_31(bounded, sizeof bounded, BOARD, table, HERONDITCH_NODES).number;
+    return x;
+}
 static void *place(void *x)
 {
     refused |= heronditch_place(PATTERN, BOARD, 0, bytes, HERONDITCH_NODES, links, HERONDITCH_BOARD_LINKS, table, HERONDITCH_NODES, kinds, HERONDITCH_NODES).number;
@@ -142,13 +155,14 @@ int main(void)
     static const struct {
         const char *name;
         void *(*call)(void *);
-    } calls[] = {{"read", read_board}, {"write", write_board}, {"radius", radius}, {"ball", ball}, {"match", match}, {"place", place}, {"check", check}, {"bar", bar}, {"merge", merge}, {"report", report}, {"load", load}, {"compare", compare}, {"shelf", shelf}};
+    } calls[] = {{"read", read_board}, {"write", write_board}, {"radius", radius}, {"ball", ball}, {"match", match}, {"match with bounds", match_bounded}, {"place", place}, {"check", check}, {"bar", bar}, {"merge", merge}, {"report", report}, {"load", load}, {"compare", compare}, {"shelf", shelf}};
     size_t most = 0;
     if (circuit(HERONDITCH_PARTS, HERONDITCH_PATTERN_LINKS, pattern) != sizeof pattern || circuit(HERONDITCH_NODES, HERONDITCH_BOARD_LINKS, board) != sizeof board)
         return 2;
     memcpy(other, board, sizeof board);
     memset(other + 4, 9, 2 * HERONDITCH_NODES);
     fill_shelf();
+    bound();
     size_t idle = touched(nothing); /* what a thread needs by itself */
     for (size_t i = 0; i < sizeof calls / sizeof *calls; i++) {
         size_t used = touched(calls[i].call) - idle;

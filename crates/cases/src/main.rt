@@ -17,4 +17,5 @@ fn main() {
     writes::run(&mut buf, &mut kinds, &mut starts, &mut ends, &mut out);
     distances::run(&mut buf, &mut kinds);
     tables::run(&mut buf, &mut table);
+    tables::run_bounded(&mut buf, &mut table);
 }

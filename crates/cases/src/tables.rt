@@ -1,5 +1,6 @@
 // Matches each case of its file, a pattern and a board, with a table lent at the length that the case
-// names, and writes a line for each: what the call answered, and a digest of the table, so that a table that was touched shows.
+// names, and writes a line for each: what the call answered, and a digest of the table, so that a table that was touched shows. The patterns of a
+// second file have bounds.
 use crate::show::digest_sets;
 use crate::show::end_line;
 use crate::show::least;
@@ -8,6 +9,7 @@ use crate::show::number;
 use crate::show::refill_sets;
 use crate::show::show_number;
 use crate::show::show_refusal;
+use call_bounded::match_bounds;
 use call_match::TableAnswer;
 use call_match::match_table;
 use file_format::Edition;
@@ -31,10 +33,12 @@ fn show_answer(answer: TableAnswer) {
     }
 }
 
-// One case: the answer and the table afterwards.
-fn run_case(pattern: &[u8], board: &[u8], table: &mut [u32]) {
-    refill_sets(table);
-    show_answer(match_table(
+// The pattern on the board: a file of the first edition, or of the third where it has bounds.
+fn answer(bounded: bool, pattern: &[u8], board: &[u8], table: &mut [u32]) -> TableAnswer {
+    if bounded {
+        return match_bounds(Edition::First, pattern, board, table);
+    }
+    match_table(
         Editions {
             pattern: Edition::First,
             board: Edition::First,
@@ -42,13 +46,19 @@ fn run_case(pattern: &[u8], board: &[u8], table: &mut [u32]) {
         pattern,
         board,
         table,
-    ));
+    )
+}
+
+// One case: the answer and the table afterwards.
+fn run_case(bounded: bool, pattern: &[u8], board: &[u8], table: &mut [u32]) {
+    refill_sets(table);
+    show_answer(answer(bounded, pattern, board, table));
     show_number(digest_sets(table));
     end_line();
 }
 
 // The case at an offset, the table's length, the lengths of the two files and the files; answers where the next one begins.
-fn step(b: &[u8], at: usize, table: &mut [u32]) -> usize
+fn step(bounded: bool, b: &[u8], at: usize, table: &mut [u32]) -> usize
     requires { ⌜ at + 6 ≤ length (now b) ⌝ }
     ensures { λ r. ⌜ (at + 6 ≤ r) × (r ≤ length (now (b .entry))) ⌝ }
 {
@@ -56,19 +66,30 @@ fn step(b: &[u8], at: usize, table: &mut [u32]) -> usize
     let from = at + 6;
     let middle = from + least(number(b, at + 2), b.len() - from);
     let to = middle + least(number(b, at + 4), b.len() - middle);
-    run_case(&b[from..middle], &b[middle..to], &mut table[..lent]);
+    run_case(
+        bounded,
+        &b[from..middle],
+        &b[middle..to],
+        &mut table[..lent],
+    );
     to
 }
 
-fn run_all(b: &[u8], table: &mut [u32]) {
+fn run_all(bounded: bool, b: &[u8], table: &mut [u32]) {
     let mut at = 0;
     while at + 6 <= b.len() {
-        at = step(b, at, table);
+        at = step(bounded, b, at, table);
     }
 }
 
 // All cases of the file. The tables are lent whole, so that their entries are not looked at one by one in the proof.
 pub fn run(buf: &mut [u8], table: &mut [u32]) {
     let n = load(b"tables", buf);
-    run_all(&buf[..n], table);
+    run_all(false, &buf[..n], table);
+}
+
+// The same of patterns with bounds.
+pub fn run_bounded(buf: &mut [u8], table: &mut [u32]) {
+    let n = load(b"bounds", buf);
+    run_all(true, &buf[..n], table);
 }

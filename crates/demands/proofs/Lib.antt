@@ -13,3 +13,4 @@ pub mod Files
 pub mod Distances
 pub mod Barring
 pub mod Shelf
+pub mod Bounds

@@ -8,3 +8,4 @@ pub mod Files
 pub mod Distances
 pub mod Barring
 pub mod Shelf
+pub mod Bounds

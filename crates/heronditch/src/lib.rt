@@ -44,6 +44,7 @@ mod copied;
 pub mod reply;
 pub mod second;
 pub mod shelf;
+pub mod third;
 
 #[no_mangle]
 pub extern "C" fn heronditch_read_pattern(

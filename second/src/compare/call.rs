@@ -90,6 +90,11 @@ pub enum Call<'a> {
         pattern: &'a [u8],
         board: &'a [u8],
     },
+    MatchBounded {
+        edition: Edition,
+        pattern: &'a [u8],
+        board: &'a [u8],
+    },
     MergeSecond {
         pattern: &'a [u8],
     },
@@ -158,6 +163,10 @@ impl Call<'_> {
                 [Edition::Second, Edition::First] => "match_21",
                 [Edition::Second, Edition::Second] => "match_22",
             },
+            Call::MatchBounded { edition, .. } => match edition {
+                Edition::First => "match_31",
+                Edition::Second => "match_32",
+            },
             Call::MergeSecond { .. } => "merge_2",
             Call::Convert { role, from, .. } => match (role, from) {
                 (Role::Pattern, Edition::First) => "convert_pattern_12",
@@ -208,6 +217,7 @@ impl Call<'_> {
             }
             Call::RadiusSecond { .. } => vec![],
             Call::BallSecond { board, .. } | Call::MatchIn { board, .. } => vec![sizes(board).0],
+            Call::MatchBounded { board, .. } => vec![sizes(board).0],
             Call::MergeSecond { pattern } => {
                 let (n, m) = sizes(pattern);
                 vec![n, Circuit::length_in(Edition::Second, n, m)]
@@ -279,6 +289,7 @@ impl fmt::Display for Call<'_> {
                 write!(f, "\nbytes {}\nlengths {lengths:?}", Hex(bytes))
             }
             Call::MatchIn { pattern, board, .. } => both(f, pattern, board),
+            Call::MatchBounded { pattern, board, .. } => both(f, pattern, board),
             Call::Match { pattern, board } => both(f, pattern, board),
             Call::Place {
                 pattern,
@@ -498,6 +509,15 @@ fn run_second(finder: &dyn Finder, call: &Call, lent: &Lent) -> (Words, Vec<Vec<
         } => {
             let mut table = lent.words(0);
             let reply = finder.match_in(editions, pattern, board, &mut table);
+            (reply, vec![table])
+        }
+        Call::MatchBounded {
+            edition,
+            pattern,
+            board,
+        } => {
+            let mut table = lent.words(0);
+            let reply = finder.match_bounded(edition, pattern, board, &mut table);
             (reply, vec![table])
         }
         Call::MergeSecond { pattern } => {

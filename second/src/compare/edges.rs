@@ -8,7 +8,8 @@ use super::finder::Finder;
 use super::proposals::{proposals, Proposal};
 use super::tally::Tally;
 use super::{agree, laws, Difference};
-use crate::circuit::{both, Circuit, Role};
+use crate::bounded::Bounded;
+use crate::circuit::{both, Circuit, Edition, Role};
 use crate::graph;
 use crate::load::Numbers;
 use crate::random::Random;
@@ -367,6 +368,7 @@ pub fn check(finder: &dyn Finder, tally: &mut Tally) -> Result<(), Difference> {
         }
     }
     loads(finder, tally)?;
+    bounds(finder, tally)?;
     longest(finder, tally)
 }
 
@@ -409,6 +411,60 @@ fn loads(finder: &dyn Finder, tally: &mut Tally) -> Result<(), Difference> {
         let call = Call::Load { numbers };
         for lent in lendings(&call) {
             agree(finder, &call, &lent, tally)?;
+        }
+    }
+    Ok(())
+}
+
+/// Patterns with bounds: every bound and those one too small and too large, on
+/// paths of every length about it; the largest patterns and boards; what is
+/// cut off or added, byte by byte.
+fn bounds(finder: &dyn Finder, tally: &mut Tally) -> Result<(), Difference> {
+    let bounded = |circuit: &Circuit, bound: u16| {
+        Bounded {
+            circuit: circuit.clone(),
+            bounds: vec![bound; circuit.links.len()],
+        }
+        .bytes()
+    };
+    let two = circuit(&[10, 20], &[(0, 1)]);
+    let loop_back = circuit(&[10], &[(0, 0)]);
+    let mut pairs = vec![];
+    for bound in 0..=5 {
+        for nodes in 1..=7 {
+            let mut board = path(nodes, 1);
+            board.kinds.fill(99);
+            board.kinds[nodes - 1] = 20;
+            board.kinds[0] = 10;
+            pairs.push((bounded(&two, bound), board.clone()));
+            board.links.push((nodes - 1, 0));
+            board.links.sort_unstable();
+            pairs.push((bounded(&loop_back, bound), board));
+        }
+        pairs.push((bounded(&path(32, 3), bound), path(512, 3)));
+        pairs.push((bounded(&dense(32, 256), bound), dense(64, 256)));
+    }
+    pairs.push((bounded(&dense(32, 256), 4), path(512, 1)));
+    pairs.push((bounded(&dense(33, 256), 4), dense(64, 256)));
+    pairs.push((bounded(&dense(32, 257), 4), dense(64, 256)));
+    pairs.push((bounded(&two, 4), dense(512, 4096)));
+    let whole = bounded(&two, 2);
+    for length in 0..whole.len() + 3 {
+        let mut file = whole.clone();
+        file.resize(length, 0);
+        pairs.push((file, path(6, 3)));
+    }
+    for (pattern, board) in &pairs {
+        for edition in [Edition::First, Edition::Second] {
+            let board = &board.bytes_in(edition)[..];
+            let call = Call::MatchBounded {
+                edition,
+                pattern,
+                board,
+            };
+            for lent in lendings(&call) {
+                agree(finder, &call, &lent, tally)?;
+            }
         }
     }
     Ok(())

@@ -84,6 +84,13 @@ pub trait Finder {
         board: &[u8],
         table: &mut [u32],
     ) -> Words;
+    fn match_bounded(
+        &self,
+        edition: Edition,
+        pattern: &[u8],
+        board: &[u8],
+        table: &mut [u32],
+    ) -> Words;
     fn merge_second(&self, pattern: &[u8], classes: &mut [u8], out: &mut [u8]) -> Words;
     fn convert(&self, role: Role, from: Edition, file: &[u8], out: &mut [u8]) -> Words;
     fn compare(&self, first: &[u8], second: &[u8]) -> Words;
@@ -255,6 +262,16 @@ impl Finder for Second {
         table: &mut [u32],
     ) -> Words {
         calls::match_in(editions, pattern, board, table).into()
+    }
+
+    fn match_bounded(
+        &self,
+        edition: Edition,
+        pattern: &[u8],
+        board: &[u8],
+        table: &mut [u32],
+    ) -> Words {
+        calls::match_bounded(edition, pattern, board, table).into()
     }
 
     fn merge_second(&self, pattern: &[u8], classes: &mut [u8], out: &mut [u8]) -> Words {

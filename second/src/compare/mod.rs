@@ -2,6 +2,7 @@
 //! numbered random cases, each with every call.
 
 pub mod boards;
+pub mod bounds;
 pub mod call;
 pub mod case;
 pub mod damage;

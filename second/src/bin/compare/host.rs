@@ -272,6 +272,22 @@ extern "C" {
         table: *mut u32,
         table_length: usize,
     ) -> Counts;
+    fn heronditch_match_31(
+        pattern: *const u8,
+        pattern_length: usize,
+        board: *const u8,
+        board_length: usize,
+        table: *mut u32,
+        table_length: usize,
+    ) -> Counts;
+    fn heronditch_match_32(
+        pattern: *const u8,
+        pattern_length: usize,
+        board: *const u8,
+        board_length: usize,
+        table: *mut u32,
+        table_length: usize,
+    ) -> Counts;
     fn heronditch_check_12(
         pattern: *const u8,
         pattern_length: usize,
@@ -734,6 +750,30 @@ impl Finder for Host {
             [Edition::First, Edition::Second] => heronditch_match_12,
             [Edition::Second, Edition::First] => heronditch_match_21,
             [Edition::Second, Edition::Second] => heronditch_match_22,
+        };
+        unsafe {
+            call(
+                given(pattern),
+                pattern.len(),
+                given(board),
+                board.len(),
+                lent(table),
+                table.len(),
+            )
+        }
+        .words()
+    }
+
+    fn match_bounded(
+        &self,
+        edition: Edition,
+        pattern: &[u8],
+        board: &[u8],
+        table: &mut [u32],
+    ) -> Words {
+        let call = match edition {
+            Edition::First => heronditch_match_31,
+            Edition::Second => heronditch_match_32,
         };
         unsafe {
             call(

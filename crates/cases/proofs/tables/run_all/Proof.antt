@@ -8,10 +8,10 @@ use Rattle.cases.proofs.tables.run_all.Statement.{statement}
 use Rattle.cases.proofs.tables.run_all.Tie as tie
 
 abbrev Inv-loop : tie.InvT-loop
-Inv-loop b table₀ at₀ table at = (at ≤ length b) × (length table ≡ length table₀)
+Inv-loop bounded b table₀ at₀ table at = (at ≤ length b) × (length table ≡ length table₀)
 
 abbrev μ-loop : tie.MeasureT-loop
-μ-loop b table₀ at₀ table at = length b - at
+μ-loop bounded b table₀ at₀ table at = length b - at
 
 loop-holds : tie.Need-loop-holds Inv-loop μ-loop
 loop-holds c = (omega arith, refl)

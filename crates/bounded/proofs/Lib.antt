@@ -1,0 +1,5 @@
+pub mod Paths
+pub mod Meaning
+pub mod Wider
+pub mod Run
+pub mod Examples

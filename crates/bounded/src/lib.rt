@@ -1,0 +1,1 @@
+// Links that a path of a few board links may meet: definitions and laws alone.

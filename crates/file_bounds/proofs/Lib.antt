@@ -1,0 +1,2 @@
+pub mod Third
+pub mod Fit

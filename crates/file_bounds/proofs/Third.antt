@@ -1,0 +1,241 @@
+-- The conditions on a file of the third edition, one after another; and what they say of the file of the second edition before the bounds.
+-- Assumes nothing.
+use mathlib.Core.Bool.{Bool, true, false, _&&_, not, cond}
+use mathlib.Core.List.{List, [], _∷_, _++_}
+use mathlib.Core.Path.{_≡_, refl, sym, ap, ap₂, subst, _∙_}
+use Prim.Native.Nat.{ℕ, _+_, _*_, _≤_, _<_}
+use native.Mathlib.Omega.{arith}
+use lib.Dec.{T, eqb, leb, ltb}
+use lib.ListN.{length, getD, take, drop}
+use lib.Seq.{getD-take, length-take-le}
+use borrow.Author.Tests.{lt-ltb, le-ltb, eq-eqb, ne-eqb, eqb-true, eqb-false, ltb-false}
+use Rattle.base_lists.specs.List.{all}
+use Rattle.base_lists.proofs.Tests.{true-T, T-true, refuted}
+use Rattle.file_format.specs.declared.Edition.the-variants.{Second}
+use Rattle.graph.specs.Circuit.{Circuit}
+use Rattle.file_format.specs.declared.FileRead.{FileRead}
+use Rattle.file_format.specs.declared.FileVerdict.the-variants as verdict
+use Rattle.file_format.specs.declared.Refusal.{Refusal}
+use Rattle.file_format.specs.declared.Role.the-variants.{AnyPattern}
+use Rattle.file_format.specs.Layout.{CircuitFile, inEdition, field, fields, lengthOf, nodesOf, linksOf, startsOf, endsOf}
+use Rattle.file_format.specs.Refusals.{Condition, Verdict, accept, refuse, first, linkConditions, fileConditions, sizeNumber, Accepted}
+use Rattle.file_format.specs.Reading.{verdictOf, Loaded}
+use Rattle.file_format.specs.Role.{inRange, fileOf}
+use Rattle.file_format.proofs.Reading.{loaded-accepted, loaded-refused}
+use Rattle.file_format.proofs.Refusals.{turned, turned-accept, accept-not-refuse, verdict-number, verdict-links, verdict-turned, size-0, first-accept, first-refuse, first-parts, first-holds, accepted}
+use Rattle.file_format.proofs.Fields.{length-fields}
+use Rattle.file_bounds.specs.Third.{boundsAt, boundedLength, frontOf, boundsOf, boundsFit, boundOutside, thirdConditions, thirdSize, BoundsLoaded}
+
+module _ (bytes : List ℕ) where
+  -- ---- the size, as the code tests it
+
+  pub third-1 : length bytes < 4 → thirdSize bytes ≡ 1
+  unfolding thirdSize
+  third-1 a = simp (lt-ltb _ _ a)
+
+  module _ (n m : ℕ) (isN : n ≡ field bytes 0) (isM : m ≡ field bytes 2) (a : 4 ≤ length bytes) where
+    pub third-2 : inRange AnyPattern n m ≡ false → thirdSize bytes ≡ 2
+    unfolding thirdSize
+    third-2 b = simp (le-ltb _ _ a, rw (isN, isM) at b)
+
+    pub third-3 : inRange AnyPattern n m ≡ true → (length bytes ≡ boundedLength n m → ⊥) → thirdSize bytes ≡ 3
+    unfolding thirdSize
+    third-3 b e = simp (le-ltb _ _ a, rw (isN, isM) at b, ne-eqb _ _ (rw (isN, isM) at e))
+
+    pub third-0 : inRange AnyPattern n m ≡ true → length bytes ≡ boundedLength n m → thirdSize bytes ≡ 0
+    unfolding thirdSize
+    third-0 b e = simp (le-ltb _ _ a, rw (isN, isM) at b, eq-eqb _ _ (rw (isN, isM) at e))
+
+  -- ---- the verdict
+
+  abbrev rest : List Condition
+  rest = linkConditions AnyPattern (field bytes 0) (startsOf (frontOf bytes)) (endsOf (frontOf bytes)) ++ (boundOutside (boundsOf bytes) ∷ [])
+
+  verdict-size : first (thirdConditions bytes) ≡ cond (eqb (thirdSize bytes) 0) (first rest) (turned AnyPattern (thirdSize bytes))
+  unfolding first thirdConditions thirdSize turned
+  verdict-size =
+      go (ltb (length bytes) 4) (inRange AnyPattern (field bytes 0) (field bytes 2)) (eqb (length bytes) (boundedLength (field bytes 0) (field bytes 2))) (first rest)
+    where
+      go : (x y z : Bool) (v : Verdict) → cond x (turned AnyPattern 1) (cond (not y) (turned AnyPattern 2) (cond (not z) (turned AnyPattern 3) v))
+          ≡ cond (eqb (cond x 1 (cond y (cond z 0 3) 2)) 0) v (turned AnyPattern (cond x 1 (cond y (cond z 0 3) 2)))
+      go true y z v = refl
+      go false true true v = refl
+      go false true false v = refl
+      go false false z v = refl
+
+  pub third-turned : (thirdSize bytes ≡ 0 → ⊥) → first (thirdConditions bytes) ≡ turned AnyPattern (thirdSize bytes)
+  third-turned h = verdict-size ∙ rw (ne-eqb _ _ h)
+
+  third-links : thirdSize bytes ≡ 0 → first (thirdConditions bytes) ≡ first rest
+  third-links h = verdict-size ∙ rw (eq-eqb _ _ h)
+
+  pub third-sized : thirdSize bytes ≡ 0 → (4 ≤ length bytes) × T (inRange AnyPattern (field bytes 0) (field bytes 2)) × (length bytes ≡ boundedLength (field bytes 0) (field bytes 2))
+  unfolding thirdSize
+  third-sized = go (ltb (length bytes) 4) (inRange AnyPattern (field bytes 0) (field bytes 2)) (eqb (length bytes) (boundedLength (field bytes 0) (field bytes 2))) refl refl refl
+    where
+      go : (x y z : Bool) → ltb (length bytes) 4 ≡ x → inRange AnyPattern (field bytes 0) (field bytes 2) ≡ y → eqb (length bytes) (boundedLength (field bytes 0) (field bytes 2)) ≡ z
+          → _≡_ {A = ℕ} (cond x 1 (cond y (cond z 0 3) 2)) 0
+          → (4 ≤ length bytes) × T (inRange AnyPattern (field bytes 0) (field bytes 2)) × (length bytes ≡ boundedLength (field bytes 0) (field bytes 2))
+      go true y z a b e h = absurd (omega arith)
+      go false true true a b e h = (ltb-false _ _ a, true-T b, eqb-true _ _ e)
+      go false true false a b e h = absurd (omega arith)
+      go false false z a b e h = absurd (omega arith)
+
+  -- ---- the file of the second edition before the bounds
+
+  pub nodes-front : nodesOf (frontOf bytes) ≡ field bytes 0
+  unfolding nodesOf frontOf field
+  nodes-front = ap₂ (λ (a b : ℕ). a + 256 * b) (getD-take (boundsAt (field bytes 0) (field bytes 2)) bytes 0 0 (omega arith)) (getD-take (boundsAt (field bytes 0) (field bytes 2)) bytes 1 0 (omega arith))
+
+  pub links-front : linksOf (frontOf bytes) ≡ field bytes 2
+  unfolding linksOf frontOf field
+  links-front = ap₂ (λ (a b : ℕ). a + 256 * b) (getD-take (boundsAt (field bytes 0) (field bytes 2)) bytes 2 0 (omega arith)) (getD-take (boundsAt (field bytes 0) (field bytes 2)) bytes 3 0 (omega arith))
+
+  module _ (h : thirdSize bytes ≡ 0) where
+    pub length-front : length (frontOf bytes .bytes) ≡ boundsAt (field bytes 0) (field bytes 2)
+    unfolding frontOf
+    length-front = length-take-le _ bytes (omega (arith, third-sized h .2))
+
+    pub front-size : sizeNumber AnyPattern (frontOf bytes) ≡ 0
+    unfolding frontOf
+    front-size =
+        size-0 AnyPattern (frontOf bytes) (field bytes 0) (field bytes 2) (sym nodes-front) (sym links-front) (omega (arith, length-front))
+        (T-true {b = inRange AnyPattern (field bytes 0) (field bytes 2)} (third-sized h .1)) length-front
+
+    -- its verdict is that of the links
+    front-verdict : first (fileConditions AnyPattern (frontOf bytes)) ≡ first (linkConditions AnyPattern (field bytes 0) (startsOf (frontOf bytes)) (endsOf (frontOf bytes)))
+    front-verdict =
+        verdict-links AnyPattern (frontOf bytes) front-size
+        ∙ sym (verdict-number AnyPattern (nodesOf (frontOf bytes)) (startsOf (frontOf bytes)) (endsOf (frontOf bytes)))
+        ∙ ap (λ (n : ℕ). first (linkConditions AnyPattern n (startsOf (frontOf bytes)) (endsOf (frontOf bytes)))) nodes-front
+
+    -- The one law that ties the third edition to the second: a file of the right size is refused as the file before the bounds is, and then by 13.
+    pub third-second : first (thirdConditions bytes) ≡ first (fileConditions AnyPattern (frontOf bytes) ++ (boundOutside (boundsOf bytes) ∷ []))
+    third-second = third-links h ∙ go (first (fileConditions AnyPattern (frontOf bytes))) refl front-verdict
+      where
+        links : List Condition
+        links = linkConditions AnyPattern (field bytes 0) (startsOf (frontOf bytes)) (endsOf (frontOf bytes))
+
+        go : (v : Verdict) → first (fileConditions AnyPattern (frontOf bytes)) ≡ v → v ≡ first links → first rest ≡ first (fileConditions AnyPattern (frontOf bytes) ++ (boundOutside (boundsOf bytes) ∷ []))
+        go accept e q = first-accept links _ (sym q) ∙ sym (first-accept (fileConditions AnyPattern (frontOf bytes)) _ e)
+        go (refuse x) e q = first-refuse links _ x (sym q) ∙ sym (first-refuse (fileConditions AnyPattern (frontOf bytes)) _ x e)
+
+    -- what turns the front away turns the file away,
+    pub front-refused : {x : Refusal} → first (fileConditions AnyPattern (frontOf bytes)) ≡ refuse x → first (thirdConditions bytes) ≡ refuse x
+    front-refused e = third-second ∙ first-refuse _ _ _ e
+
+    -- and where nothing does, the bounds decide
+    module _ (e : first (fileConditions AnyPattern (frontOf bytes)) ≡ accept) where
+      pub bounds-refused : boundsFit (boundsOf bytes) ≡ false → first (thirdConditions bytes) ≡ turned AnyPattern 13
+      unfolding first boundOutside turned
+      bounds-refused b = third-second ∙ first-accept (fileConditions AnyPattern (frontOf bytes)) (boundOutside (boundsOf bytes) ∷ []) e ∙ rw b
+
+      pub bounds-accepted : boundsFit (boundsOf bytes) ≡ true → first (thirdConditions bytes) ≡ accept
+      unfolding first boundOutside
+      bounds-accepted b = third-second ∙ first-accept (fileConditions AnyPattern (frontOf bytes)) (boundOutside (boundsOf bytes) ∷ []) e ∙ rw b
+
+  -- as many bounds as links
+  pub bounds-count : length (boundsOf bytes) ≡ linksOf (frontOf bytes)
+  unfolding boundsOf
+  bounds-count = length-fields _ _ ∙ sym links-front
+
+  -- An accepted file: what stands before the bounds is a file of any pattern that is accepted, and every bound is from 1 to 4.
+  pub third-accepted : first (thirdConditions bytes) ≡ accept → Accepted AnyPattern (frontOf bytes) × T (boundsFit (boundsOf bytes))
+  unfolding boundOutside
+  third-accepted e = go (eqb (thirdSize bytes) 0) refl
+    where
+      go : (b : Bool) → eqb (thirdSize bytes) 0 ≡ b → Accepted AnyPattern (frontOf bytes) × T (boundsFit (boundsOf bytes))
+      go true z =
+          let (front, bounds) = first-parts (fileConditions AnyPattern (frontOf bytes)) _ (sym (third-second (eqb-true _ _ z)) ∙ e) in
+          (accepted AnyPattern (frontOf bytes) front, refuted (boundsFit (boundsOf bytes)) (first-holds _ _ bounds .0))
+      go false z = absurd (turned-accept AnyPattern _ _ (third-turned (eqb-false _ _ z)) e)
+
+  pub third-long : first (thirdConditions bytes) ≡ accept → length bytes ≡ boundedLength (field bytes 0) (field bytes 2)
+  third-long e = go (eqb (thirdSize bytes) 0) refl
+    where
+      go : (b : Bool) → eqb (thirdSize bytes) 0 ≡ b → length bytes ≡ boundedLength (field bytes 0) (field bytes 2)
+      go true z = third-sized (eqb-true _ _ z) .2
+      go false z = absurd (turned-accept AnyPattern _ _ (third-turned (eqb-false _ _ z)) e)
+
+  -- A file of the third edition's length, of which every bound is from 1 to 4, is refused or accepted as what stands before the bounds.
+  module _ (long : length bytes ≡ boundedLength (field bytes 0) (field bytes 2)) where
+    front-long : length (frontOf bytes .bytes) ≡ boundsAt (field bytes 0) (field bytes 2)
+    unfolding frontOf
+    front-long = length-take-le _ bytes (omega (arith, long))
+
+    size-same : sizeNumber AnyPattern (frontOf bytes) ≡ thirdSize bytes
+    unfolding sizeNumber thirdSize frontOf
+    size-same =
+        simp
+        (le-ltb (length bytes) 4 (omega (arith, long)), eq-eqb _ _ long, le-ltb (length (frontOf bytes .bytes)) 4 (omega (arith, front-long)), nodes-front, links-front, eq-eqb _ _ front-long)
+
+    pub front-verdicts : T (boundsFit (boundsOf bytes)) → first (thirdConditions bytes) ≡ first (fileConditions AnyPattern (frontOf bytes))
+    unfolding first boundOutside
+    front-verdicts fits = sized (eqb (thirdSize bytes) 0) refl
+      where
+        links : (v : Verdict) → first (fileConditions AnyPattern (frontOf bytes)) ≡ v → first (fileConditions AnyPattern (frontOf bytes) ++ (boundOutside (boundsOf bytes) ∷ [])) ≡ v
+        links accept e = first-accept (fileConditions AnyPattern (frontOf bytes)) (boundOutside (boundsOf bytes) ∷ []) e ∙ rw (T-true {b = boundsFit (boundsOf bytes)} fits)
+        links (refuse x) e = first-refuse (fileConditions AnyPattern (frontOf bytes)) (boundOutside (boundsOf bytes) ∷ []) x e
+
+        sized : (b : Bool) → eqb (thirdSize bytes) 0 ≡ b → first (thirdConditions bytes) ≡ first (fileConditions AnyPattern (frontOf bytes))
+        sized true z = third-second (eqb-true _ _ z) ∙ links _ refl
+        sized false z =
+            third-turned (eqb-false _ _ z) ∙ ap (turned AnyPattern) (sym size-same)
+            ∙ sym (verdict-turned AnyPattern (frontOf bytes) (λ e. eqb-false _ _ z (sym size-same ∙ e)))
+
+-- ---- as the reader answers
+
+module _ {bytes : List ℕ} {read : FileRead} {tables : Circuit} {bounds : List ℕ} (l : BoundsLoaded bytes read tables bounds) where
+  pub third-read : read .verdict ≡ verdict.Accepted → first (thirdConditions bytes) ≡ accept
+  unfolding verdictOf
+  third-read e = sym (l .verdict) ∙ ap verdictOf e
+
+  pub third-refused : {x : Refusal} → read .verdict ≡ verdict.Refused x → first (thirdConditions bytes) ≡ refuse x
+  unfolding verdictOf
+  third-refused e = sym (l .verdict) ∙ ap verdictOf e
+
+pub turned-loaded : (bytes : List ℕ) (read : FileRead) (tables : Circuit) (bounds : List ℕ) (k : ℕ)
+    → read .verdict ≡ verdict.Refused (record { number = k; file = fileOf AnyPattern }) → first (thirdConditions bytes) ≡ turned AnyPattern k → BoundsLoaded bytes read tables bounds
+unfolding verdictOf turned
+turned-loaded bytes read tables bounds k e v = record { verdict = rw e (sym v); held = λ a. absurd (turned-accept AnyPattern k _ v a) }
+
+-- the parts of the file, as the reader cuts them
+module _ (bytes : List ℕ) (n m : ℕ) (isN : n ≡ field bytes 0) (isM : m ≡ field bytes 2) where
+  at-is : 4 + 4 * n + 4 * m ≡ boundsAt (field bytes 0) (field bytes 2)
+  at-is = omega (arith, isN, isM)
+
+  pub front-is : inEdition Second (take (4 + 4 * n + 4 * m) bytes) ≡ frontOf bytes
+  unfolding frontOf
+  front-is = ap (λ (k : ℕ). inEdition Second (take k bytes)) at-is
+
+  pub bounds-are : fields (drop (4 + 4 * n + 4 * m) bytes) m ≡ boundsOf bytes
+  unfolding boundsOf
+  bounds-are = ap₂ (λ (k c : ℕ). fields (drop k bytes) c) at-is isM
+
+  -- the front was read, and then the bounds
+  module _ (h : thirdSize bytes ≡ 0) {read : FileRead} {tables : Circuit}
+      (l : Loaded AnyPattern (inEdition Second (take (4 + 4 * n + 4 * m) bytes)) read tables) where
+    front-loaded : Loaded AnyPattern (frontOf bytes) read tables
+    front-loaded = subst (λ (f : CircuitFile). Loaded AnyPattern f read tables) front-is l
+
+    pub loaded-front-refused : {bounds : List ℕ} {x : Refusal} → read .verdict ≡ verdict.Refused x → BoundsLoaded bytes read tables bounds
+    unfolding verdictOf
+    loaded-front-refused e =
+        let away = front-refused bytes h (loaded-refused front-loaded e) in
+        record { verdict = ap verdictOf e ∙ sym away; held = λ a. absurd (accept-not-refuse (sym a ∙ away)) }
+
+    module _ (e : read .verdict ≡ verdict.Accepted) {fits : Bool} (f : fits ≡ boundsFit (fields (drop (4 + 4 * n + 4 * m) bytes) m)) where
+      pub loaded-bounds-refused : fits ≡ false → {bounds : List ℕ} {answer : FileRead} → answer .verdict ≡ verdict.Refused (record { number = 13; file = fileOf AnyPattern })
+          → BoundsLoaded bytes answer tables bounds
+      loaded-bounds-refused b q =
+          turned-loaded bytes _ tables _ 13 q (bounds-refused bytes h (loaded-accepted front-loaded e) (ap boundsFit (sym bounds-are) ∙ sym f ∙ b))
+
+      pub loaded-bounds : fits ≡ true → {bounds : List ℕ} → take m bounds ≡ fields (drop (4 + 4 * n + 4 * m) bytes) m → BoundsLoaded bytes read tables bounds
+      unfolding verdictOf
+      loaded-bounds b {bounds} t =
+          let sound = loaded-accepted front-loaded e in
+          let stands = front-loaded .held sound .stands in
+          record {
+            verdict = ap verdictOf e ∙ sym (bounds-accepted bytes h sound (ap boundsFit (sym bounds-are) ∙ sym f ∙ b));
+            held = λ _. record { stands = stands; bounded = ap (λ (k : ℕ). take k bounds) (stands .links ∙ links-front bytes ∙ sym isM) ∙ t ∙ bounds-are };
+          }

@@ -1,0 +1,186 @@
+-- `file_bounds::load_bounded` meets its contract: 1 to 3 by the size, then the file before the bounds, then the bounds. Assumes nothing.
+use mathlib.Core.Path.{_≡_, sym, ap, _∙_}
+use native.Mathlib.Omega.{arith}
+use denote.Ref.{now}
+use borrow.Author.Tests.{not-true, not-false}
+use lib.Seq.{length-take-le}
+use Rattle.file_format.specs.declared.Role.the-variants.{AnyPattern}
+use Rattle.file_format.specs.Layout.{field}
+use Rattle.file_format.proofs.Refusals.{turned, range-orders}
+use Rattle.file_bounds.specs.Third.{thirdSize}
+use Rattle.file_bounds.proofs.Third.{third-sized, third-turned, turned-loaded, loaded-front-refused, loaded-bounds-refused, loaded-bounds}
+use borrow.Author.Needs.{needs}
+use Rattle.file_bounds.proofs.load_bounded.Statement.{statement}
+use Rattle.file_bounds.proofs.load_bounded.Tie as tie
+
+-- the size is sound
+abbrev start : tie.Else1 → tie.Start
+start c = c .before .before .before .before .before .before .before
+
+none : (c : tie.Else1) → thirdSize (now (start c .args .file)) ≡ 0
+none c = sym (c .before .size-number .ensures) ∙ c .if1 .left
+
+abbrev sizes : tie.After-field-at2 → tie.Else1
+sizes c = c .before .before
+
+nodes-are : (c : tie.After-field-at2) → c .before .field-at .result ≡ field (now (start (sizes c) .args .file)) 0
+nodes-are c = c .before .field-at .ensures
+
+links-are : (c : tie.After-field-at2) → c .field-at2 .result ≡ field (now (start (sizes c) .args .file)) 2
+links-are c = c .field-at2 .ensures
+
+-- the file before the bounds was read
+abbrev counted : tie.After-load → tie.After-field-at2
+counted c = c .before .before .before .before .before
+
+-- and the bounds
+abbrev front : tie.After-read-bounds → tie.After-load
+front c = c .before .before .before .before .before .before .before .before .before .before
+
+size-number-requires : tie.Need-size-number-requires
+size-number-requires c κs = search needs
+
+turned-away-requires : tie.Need-turned-away-requires
+turned-away-requires c κs = search needs
+
+returns : tie.Need-returns
+returns c =
+    let number = c .before .before .size-number .ensures in
+    turned-loaded _ _ _ _ _ (c .turned-away .ensures) (third-turned _ (λ e. c .before .if1 .taken (number ∙ e)) ∙ ap (turned AnyPattern) (sym number))
+
+field-at-requires : tie.Need-field-at-requires
+field-at-requires c κs = omega (arith, third-sized _ (none c) .0)
+
+cast-n : tie.Need-cast-n
+cast-n c = search needs
+
+field-at-requires-2 : tie.Need-field-at-requires-2
+field-at-requires-2 c κs = omega (arith, third-sized _ (none (c .before)) .0)
+
+cast-m : tie.Need-cast-m
+cast-m c = search needs
+
+mul-at : tie.Need-mul-at
+mul-at c = search needs
+
+add-at : tie.Need-add-at
+add-at c = search needs
+
+mul-at-2 : tie.Need-mul-at-2
+mul-at-2 c = search needs
+
+add-at-2 : tie.Need-add-at-2
+add-at-2 c = search needs
+
+slice-aggregate-load : tie.Need-slice-aggregate-load
+slice-aggregate-load c =
+    let here = c .before in
+    sym (length-take-le _ _ (omega (arith, nodes-are here, links-are here, third-sized _ (none (sizes here)) .2)))
+
+load-requires : tie.Need-load-requires
+load-requires c κs = search needs
+
+enum-told : tie.Need-enum-told
+enum-told c = search needs
+
+enum-told-2 : tie.Need-enum-told-2
+enum-told-2 c = search needs
+
+same-length : tie.Need-same-length
+same-length c = search needs
+
+same-length-2 : tie.Need-same-length-2
+same-length-2 c = search needs
+
+same-length-3 : tie.Need-same-length-3
+same-length-3 c = search needs
+
+returns-2 : tie.Need-returns-2
+returns-2 c =
+    let read = c .before .before .before .before .before .before .before .before in
+    loaded-front-refused _ _ _ (nodes-are (counted read)) (links-are (counted read)) (none (sizes (counted read))) (read .load .ensures) (c .enum-told2 .given .1)
+
+read-bounds-requires : tie.Need-read-bounds-requires
+read-bounds-requires c κs =
+    let here = counted (c .before .before .before .before .before .before .before .before .before) in
+    let file = now (start (sizes here) .args .file) in
+    let (_, range, size) = third-sized file (none (sizes here)) in
+    let (_, _, few) = range-orders AnyPattern (field file 0) (field file 2) range in
+    (omega (arith, nodes-are here, links-are here, size), omega (arith, links-are here, few, start (sizes here) .pre .1))
+
+turned-away-requires-2 : tie.Need-turned-away-requires-2
+turned-away-requires-2 c κs = search needs
+
+same-length-4 : tie.Need-same-length-4
+same-length-4 c = search needs
+
+same-length-5 : tie.Need-same-length-5
+same-length-5 c = search needs
+
+same-length-6 : tie.Need-same-length-6
+same-length-6 c = search needs
+
+same-length-7 : tie.Need-same-length-7
+same-length-7 c = search needs
+
+returns-3 : tie.Need-returns-3
+returns-3 c =
+    let bounds = c .before .before .before .before in
+    let here = counted (front bounds) in
+    loaded-bounds-refused _ _ _ (nodes-are here) (links-are here) (none (sizes here)) (front bounds .load .ensures) (bounds .before .before .enum-told .given .1)
+    (bounds .read-bounds .ensures .0) (not-true _ (c .before .if2 .taken)) (c .turned-away2 .ensures)
+
+same-length-8 : tie.Need-same-length-8
+same-length-8 c = search needs
+
+same-length-9 : tie.Need-same-length-9
+same-length-9 c = search needs
+
+same-length-10 : tie.Need-same-length-10
+same-length-10 c = search needs
+
+same-length-11 : tie.Need-same-length-11
+same-length-11 c = search needs
+
+returns-4 : tie.Need-returns-4
+returns-4 c =
+    let bounds = c .before .before .before in
+    let here = counted (front bounds) in
+    loaded-bounds _ _ _ (nodes-are here) (links-are here) (none (sizes here)) (front bounds .load .ensures) (bounds .before .before .enum-told .given .1)
+    (bounds .read-bounds .ensures .0) (not-false _ (c .if2 .left)) (bounds .read-bounds .ensures .1)
+
+pub load-bounded-spec : {M : Type 1} → statement M
+load-bounded-spec =
+    tie.close
+    (tie.spec
+    size-number-requires
+    turned-away-requires
+    returns
+    field-at-requires
+    cast-n
+    field-at-requires-2
+    cast-m
+    mul-at
+    add-at
+    mul-at-2
+    add-at-2
+    slice-aggregate-load
+    load-requires
+    enum-told
+    enum-told-2
+    same-length
+    same-length-2
+    same-length-3
+    returns-2
+    read-bounds-requires
+    turned-away-requires-2
+    same-length-4
+    same-length-5
+    same-length-6
+    same-length-7
+    returns-3
+    same-length-8
+    same-length-9
+    same-length-10
+    same-length-11
+    returns-4)

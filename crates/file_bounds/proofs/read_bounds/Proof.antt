@@ -1,0 +1,45 @@
+-- `file_bounds::read_bounds` meets its contract: what is stored is what is tested. Assumes nothing.
+use mathlib.Core.Path.{_≡_, sym, ap, _∙_}
+use native.Mathlib.Omega.{arith}
+use lib.Seq.{length-take-le}
+use Rattle.file_format.proofs.Fields.{stored-front}
+use Rattle.file_bounds.specs.Third.{boundsFit}
+use borrow.Author.Needs.{needs}
+use Rattle.file_bounds.proofs.read_bounds.Statement.{statement}
+use Rattle.file_bounds.proofs.read_bounds.Tie as tie
+
+stretch-requires : tie.Need-stretch-requires
+stretch-requires c κs = search needs
+
+store-requires : tie.Need-store-requires
+store-requires c κs = search needs
+
+slice-reshare-prefix-all-within : tie.Need-slice-reshare-prefix-all-within
+slice-reshare-prefix-all-within c = search needs
+
+slice-aggregate-all-within : tie.Need-slice-aggregate-all-within
+slice-aggregate-all-within c = sym (length-take-le _ _ (omega arith))
+
+all-within-requires : tie.Need-all-within-requires
+all-within-requires c κs = search needs
+
+same-length : tie.Need-same-length
+same-length c = search needs
+
+returns : tie.Need-returns
+returns c =
+    let stored = c .before .before .before .before in
+    let same = stored-front _ _ _ _ (stored .store .ensures) ∙ stored .before .before .stretch .ensures .1 in
+    (c .all-within .ensures ∙ ap boundsFit same, same)
+
+pub read-bounds-spec : {M : Type 1} → statement M
+read-bounds-spec =
+    tie.close
+    (tie.spec
+    stretch-requires
+    store-requires
+    slice-reshare-prefix-all-within
+    slice-aggregate-all-within
+    all-within-requires
+    same-length
+    returns)

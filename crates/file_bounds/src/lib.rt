@@ -1,0 +1,116 @@
+// Reading a pattern file of the third edition: a file of the second edition, and a bound for each link after it.
+use file_check::in_range;
+use file_check::refusal;
+use file_fields::field_at;
+use file_fields::store;
+use file_fields::stretch;
+use file_format::Edition;
+use file_format::FileRead;
+use file_format::FileVerdict;
+use file_format::Role;
+use file_read::load;
+ghost use mathlib.Core.Path.{_≡_};
+ghost use Prim.Native.Nat.{_+_, _*_, _≤_};
+ghost use lib.ListN.{length, take, drop};
+ghost use Rattle.graph.specs.Circuit.{circuit};
+ghost use Rattle.file_format.specs.Layout.{fields};
+ghost use Rattle.file_format.specs.Reading.{Room};
+ghost use Rattle.file_format.specs.Role.{fileOf};
+ghost use Rattle.file_format.specs.declared.Role.the-variants as role;
+ghost use Rattle.file_bounds.specs.Third.{boundsFit, thirdSize, BoundsLoaded};
+
+// 1, 2 or 3, the first that the file's size gives, or 0.
+fn size_number(file: &[u8]) -> u8
+    ensures { λ r. ⌜ r ≡ thirdSize (now (file .entry)) ⌝ }
+{
+    if file.len() < 4 {
+        return 1;
+    }
+    let n = field_at(file, 0) as usize;
+    let m = field_at(file, 1) as usize;
+    if !in_range(Role::AnyPattern, n, m) {
+        return 2;
+    }
+    if file.len() != 4 + 4 * n + 6 * m {
+        return 3;
+    }
+    0
+}
+
+// Every bound is from 1 to 4.
+fn all_within(bounds: &[u16]) -> bool
+    ensures { λ r. ⌜ r ≡ boundsFit (now (bounds .entry)) ⌝ }
+{
+    let mut i = 0;
+    while i < bounds.len() {
+        let bound = bounds[i];
+        if bound < 1 {
+            return false;
+        }
+        if 4 < bound {
+            return false;
+        }
+        i += 1;
+    }
+    true
+}
+
+// The m bounds that begin at an offset, stored; and whether every one is from 1 to 4.
+fn read_bounds(file: &[u8], at: usize, m: usize, bounds: &mut [u16]) -> bool
+    requires { ⌜ (at + 2 * m ≤ length (now file)) × (m ≤ length (now bounds)) ⌝ }
+    ensures { λ r. ⌜ r ≡ boundsFit (fields (drop at (now (file .entry))) m) ⌝ }
+    ensures { λ r. ⌜ take m (now (bounds .exit)) ≡ fields (drop at (now (file .entry))) m ⌝ }
+{
+    store(stretch(file, at, m), m, bounds);
+    all_within(&bounds[..m])
+}
+
+// The answer that turns a file away.
+fn turned_away(number: u8) -> FileRead
+    ensures { λ r. ⌜ r .verdict ≡ FileVerdict.Refused (record { number = number; file = fileOf role.AnyPattern }) ⌝ }
+{
+    FileRead {
+        verdict: FileVerdict::Refused(refusal(Role::AnyPattern, number)),
+        nodes: 0,
+        links: 0,
+        radius: 0,
+    }
+}
+
+// Reads a pattern file of the third edition, connected or not, into tables that have room for every one: the verdict; and of an accepted file
+// N and M, with the labels, the starts, the ends and the bounds at the front of the tables.
+pub fn load_bounded(
+    file: &[u8],
+    labels: &mut [u32],
+    starts: &mut [u16],
+    ends: &mut [u16],
+    bounds: &mut [u16],
+) -> FileRead
+    requires { ⌜ Room role.AnyPattern (circuit (now labels) (now starts) (now ends)) ⌝ }
+    requires { ⌜ 256 ≤ length (now bounds) ⌝ }
+    ensures { λ r. ⌜ BoundsLoaded (now (file .entry)) r (circuit (now (labels .exit)) (now (starts .exit)) (now (ends .exit))) (now (bounds .exit)) ⌝ }
+{
+    let number = size_number(file);
+    if number != 0 {
+        return turned_away(number);
+    }
+    let n = field_at(file, 0) as usize;
+    let m = field_at(file, 1) as usize;
+    let at = 4 + 4 * n + 4 * m;
+    let read = load(
+        Role::AnyPattern,
+        Edition::Second,
+        &file[..at],
+        labels,
+        starts,
+        ends,
+    );
+    let verdict = read.verdict;
+    let FileVerdict::Accepted = verdict else {
+        return read;
+    };
+    if !read_bounds(file, at, m, bounds) {
+        return turned_away(13);
+    }
+    read
+}
