@@ -63,6 +63,7 @@ enum Fault {
     SixOnTheBoard,
     PartsLeftOut,
     ClearedRound,
+    BothWays,
     SelfLinksIgnored,
     WritingCut,
     WritingUneven,
@@ -101,7 +102,7 @@ enum Fault {
     RefusedStops,
 }
 
-const FAULTS: [Fault; 74] = [
+const FAULTS: [Fault; 75] = [
     Fault::OneRound,
     Fault::EveryLink,
     Fault::MergedRadius,
@@ -144,6 +145,7 @@ const FAULTS: [Fault; 74] = [
     Fault::SixOnTheBoard,
     Fault::PartsLeftOut,
     Fault::ClearedRound,
+    Fault::BothWays,
     Fault::SelfLinksIgnored,
     Fault::WritingCut,
     Fault::WritingUneven,
@@ -586,6 +588,19 @@ impl Finder for Faulty {
                 [0, 0, started, 0, struck, rounds + 1]
             }
             _ => self.counts(words),
+        }
+    }
+
+    fn match_one_way(
+        &self,
+        editions: [Edition; 2],
+        pattern: &[u8],
+        board: &[u8],
+        table: &mut [u32],
+    ) -> Words {
+        match self.0 {
+            Fault::BothWays => Second.match_in(editions, pattern, board, table),
+            _ => Second.match_one_way(editions, pattern, board, table),
         }
     }
 

@@ -1,5 +1,6 @@
 // Matches each case of its file, a pattern and a board, with a table lent at the length that the case
-// names, and writes a line for each: what the call answered, and a digest of the table, so that a table that was touched shows.
+// names, and writes two lines for each, two ways and one way: what the call answered, and a digest of the table, so that a table that was
+// touched shows.
 use crate::show::digest_sets;
 use crate::show::end_line;
 use crate::show::least;
@@ -9,6 +10,7 @@ use crate::show::refill_sets;
 use crate::show::show_number;
 use crate::show::show_refusal;
 use call_match::TableAnswer;
+use call_match::match_one_way;
 use call_match::match_table;
 use file_format::Edition;
 use file_format::Editions;
@@ -31,20 +33,25 @@ fn show_answer(answer: TableAnswer) {
     }
 }
 
-// One case: the answer and the table afterwards.
-fn run_case(pattern: &[u8], board: &[u8], table: &mut [u32]) {
-    refill_sets(table);
-    show_answer(match_table(
-        Editions {
-            pattern: Edition::First,
-            board: Edition::First,
-        },
-        pattern,
-        board,
-        table,
-    ));
+const FIRST: Editions = Editions {
+    pattern: Edition::First,
+    board: Edition::First,
+};
+
+fn show_table(answer: TableAnswer, table: &[u32]) {
+    show_answer(answer);
     show_number(digest_sets(table));
     end_line();
+}
+
+// One case, two ways and one way: the answer and the table afterwards.
+fn run_case(pattern: &[u8], board: &[u8], table: &mut [u32]) {
+    refill_sets(table);
+    let two = match_table(FIRST, pattern, board, table);
+    show_table(two, table);
+    refill_sets(table);
+    let one = match_one_way(FIRST, pattern, board, table);
+    show_table(one, table);
 }
 
 // The case at an offset, the table's length, the lengths of the two files and the files; answers where the next one begins.

@@ -1,13 +1,18 @@
 // What a round looks up: the pattern's masks, and the board's neighbour tables.
 use crate::masks::pattern_masks;
+use base_bits::clear;
 use graph_neighbours::tables::neighbour_tables;
+use table::FORWARD_MASKS;
+use table::MASKS;
+use table::Ways;
 ghost use mathlib.Core.Path.{_≡_};
 ghost use Prim.Native.Nat.{_≤_};
 ghost use lib.Dec.{T, ltb};
 ghost use lib.ListN.{length};
 ghost use Rattle.base_lists.specs.List.{all, Below};
 ghost use Rattle.graph.specs.Net.{NetRoom, NetOf};
-ghost use Rattle.table.specs.Prepared.{Masked};
+ghost use Rattle.table.specs.Prepared.{Masked, EveryMasked};
+ghost use Rattle.table.specs.Row.{waysOf};
 
 // Fills what the rounds look up: the pattern's masks, and the neighbour tables of a board of n nodes.
 pub fn prepare(
@@ -29,4 +34,15 @@ pub fn prepare(
 {
     neighbour_tables(n, node_starts, node_ends, offsets, links);
     pattern_masks(part_starts, part_ends, masks);
+}
+
+// Leaves of a pattern's masks those of the directions that count: with forward links alone nothing is asked of what drives a part.
+pub fn choose(ways: Ways, masks: &mut [u32])
+    requires { ⌜ length (now masks) ≡ 64 ⌝ }
+    ensures { λ _. ⌜ EveryMasked (waysOf ways) (now (masks .entry)) (now (masks .exit)) ⌝ }
+{
+    match ways {
+        Ways::Both => {}
+        Ways::Forward => clear(&mut masks[FORWARD_MASKS..MASKS]),
+    }
 }
