@@ -9,8 +9,7 @@ use table::first::start;
 use table::largest::counted;
 use table::largest::refine;
 use table_answer::all_or_none;
-use table_prepare::lookups::choose;
-use table_prepare::lookups::prepare;
+use table_prepare::lookups::prepare_along;
 use table_prepare::nodes::list_all;
 ghost use mathlib.Core.Path.{_≡_};
 ghost use lib.ListN.{length};
@@ -96,7 +95,8 @@ pub fn prepare_and_match(
     ensures { λ α r. ⌜ MatchedOn (α .0) (α .1) (now (table .exit)) r ⌝ }
     ensures { λ α r. ⌜ Prepared (α .0) (α .1) (tables (now (masks .exit)) (now (offsets .exit)) (now (links .exit))) ⌝ }
 {
-    prepare(
+    prepare_along(
+        Ways::Both,
         node_kinds.len(),
         part_starts,
         part_ends,
@@ -130,7 +130,8 @@ pub fn match_circuits(
     let mut masks = [0u32; MASKS];
     let mut offsets = [0u16; OFFSETS];
     let mut links = [0u16; LINKS];
-    prepare(
+    prepare_along(
+        ways,
         node_kinds.len(),
         part_starts,
         part_ends,
@@ -140,7 +141,6 @@ pub fn match_circuits(
         &mut offsets,
         &mut links,
     );
-    choose(ways, &mut masks);
     match_tables(part_kinds, node_kinds, &masks, &offsets, &links, table)
 }
 

@@ -13,11 +13,11 @@ use Rattle.table.proofs.Prepare.{prepared}
 use Rattle.table_whole.proofs.prepare_and_match.Statement.{statement}
 use Rattle.table_whole.proofs.prepare_and_match.Tie as tie
 
-abbrev entry : tie.After-prepare-arg3 → tie.Start
+abbrev entry : tie.After-prepare-along-arg3 → tie.Start
 entry c = c .before .before .before .before .before .before .before .before .before .before .before .before .before
 
-prepare-requires : tie.Need-prepare-requires
-prepare-requires c κs =
+prepare-along-requires : tie.Need-prepare-along-requires
+prepare-along-requires c κs =
     let p = entry c .pre in
     let pattern = p .0 in
     let starts = below-wider _ 32 _ (pattern .nodes) (all-below _ _ (bounded-starts pattern)) in
@@ -27,15 +27,15 @@ prepare-requires c κs =
       ((board .nodes, board .parallel, board .links), ((bounded-starts board, bounded-ends board), p .1 .1 .1)),
     )
 
-abbrev ready : tie.After-match-tables-arg4 → tie.After-prepare
+abbrev ready : tie.After-match-tables-arg4 → tie.After-prepare-along
 ready c = c .before .before .before .before .before .before .before .before .before .before
 
 -- what is prepared is of the pattern and of the board
-made : (c : tie.After-prepare) →
+made : (c : tie.After-prepare-along) →
     let a = entry (c .before) .args in
     Prepared (circuit (now (a .part-kinds)) (now (a .part-starts)) (now (a .part-ends))) (circuit (now (a .node-kinds)) (now (a .node-starts)) (now (a .node-ends)))
-    (tables (c .prepare .last .1 .1 .1 .1 .1 .0) (c .prepare .last .1 .1 .1 .1 .1 .1 .0) (c .prepare .last .1 .1 .1 .1 .1 .1 .1 .0))
-made c = prepared (entry (c .before) .pre .0) (c .prepare .ensures .0) (c .prepare .ensures .1)
+    (tables (c .prepare-along .last .1 .1 .1 .1 .1 .1 .0) (c .prepare-along .last .1 .1 .1 .1 .1 .1 .1 .0) (c .prepare-along .last .1 .1 .1 .1 .1 .1 .1 .1 .0))
+made c = prepared (entry (c .before) .pre .0) (c .prepare-along .ensures .0) (c .prepare-along .ensures .1)
 
 match-tables-requires : tie.Need-match-tables-requires
 match-tables-requires c κs =
@@ -64,7 +64,7 @@ pub prepare-and-match-spec : {M : Type 1} → statement M
 prepare-and-match-spec =
     tie.close
     (tie.spec
-    prepare-requires
+    prepare-along-requires
     match-tables-requires
     same-length
     same-length-2
