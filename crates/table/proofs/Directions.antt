@@ -15,7 +15,9 @@ use Rattle.simulation.specs.Simulation.{Direction, forwards, backwards}
 use Rattle.table_row.specs.Row.{every}
 use Rattle.table.specs.Fill.{listed}
 use Rattle.table.specs.Prepared.{masksOf, counting}
-use Rattle.table.specs.Row.{bothWays, oneWay, among}
+use Rattle.table.specs.Row.{bothWays, waysOf, among}
+use Rattle.table.specs.declared.Ways.{Ways}
+use Rattle.table.specs.declared.Ways.the-variants.{Both, Forward}
 
 -- ---- no links
 
@@ -74,16 +76,13 @@ every-among (backwards ∷ ways) f =
 
 -- ---- the two choices
 
--- along both ways, and forwards one way, all links count; backwards one way none does
+-- along both ways, and forwards whichever is chosen, all links count
 pub counting-both : (d : Direction) (xs : List ℕ) → counting bothWays d xs ≡ xs
 unfolding counting among
 counting-both forwards xs = refl
 counting-both backwards xs = refl
 
-pub counting-forwards : (xs : List ℕ) → counting oneWay forwards xs ≡ xs
+pub counting-forwards : (ways : Ways) (xs : List ℕ) → counting (waysOf ways) forwards xs ≡ xs
 unfolding counting among
-counting-forwards xs = refl
-
-pub counting-none : (xs : List ℕ) → counting oneWay backwards xs ≡ []
-unfolding counting among
-counting-none xs = refl
+counting-forwards Both xs = refl
+counting-forwards Forward xs = refl

@@ -1,4 +1,5 @@
 -- What preparing and listing every node come to. Assumes nothing.
+use mathlib.Core.Bool.{Bool, cond}
 use mathlib.Core.List.{List, []}
 use mathlib.Core.Path.{_≡_, refl, sym, ap, ap₂, subst, _∙_}
 use Prim.Native.Nat.{ℕ}
@@ -19,32 +20,27 @@ use Rattle.simulation.specs.Simulation.{Direction, forwards, backwards}
 use Rattle.table.specs.Fill.{listed, marksOf, allNodes}
 use Rattle.table.specs.Host.{everything}
 use Rattle.table.specs.Refine.{RefinedBy, MatchedBy}
-use Rattle.table.specs.Prepared.{masksOf, succOf, predOf, counting, MaskedBy, EveryMasked, Masked, Tables, PreparedBy}
-use Rattle.table.specs.Row.{bothWays, oneWay}
+use Rattle.table.specs.Prepared.{masksOf, succOf, predOf, counting, MaskedBy, Masked, Tables, PreparedBy}
+use Rattle.table.specs.Row.{waysOf, among}
+use Rattle.table.specs.declared.Ways.{Ways}
 use Rattle.table.proofs.NodeLists.{all-marks}
 use Rattle.table.proofs.PreparedMasks.{length-masks}
-use Rattle.table.proofs.Directions.{counting-both, counting-forwards, counting-none}
+use Rattle.table.proofs.Directions.{counting-both, counting-forwards}
 
--- A list of masks that is filled in two halves, each by the masks of the links followed in one direction.
-halves : (ways : List Direction) (starts ends old : List ℕ) {xs ys : List ℕ} → length old ≡ 64
-    → xs ≡ masksOf 32 (counting ways forwards starts) (counting ways forwards ends)
-    → ys ≡ masksOf 32 (counting ways backwards ends) (counting ways backwards starts) → MaskedBy ways starts ends (halved 32 xs ys old)
-halves ways starts ends old {xs} {ys} room isSucc isPred =
-    let first : length xs ≡ 32 = ap length isSucc ∙ length-masks 32 (counting ways forwards starts) (counting ways forwards ends) in
-    let second : length ys ≡ 32 = ap length isPred ∙ length-masks 32 (counting ways backwards ends) (counting ways backwards starts) in
+-- A list of masks that is filled in two halves: the first by the masks of the links followed forwards, the second by those of the links
+-- followed backwards, where that direction counts, and of none where it does not.
+pub masked : (ways : Ways) (starts ends old : List ℕ) {back : Bool} {xs ys : List ℕ} → length old ≡ 64
+    → back ≡ among (waysOf ways) backwards → xs ≡ masksOf 32 starts ends → ys ≡ masksOf 32 (cond back ends []) (cond back starts [])
+    → MaskedBy (waysOf ways) starts ends (halved 32 xs ys old)
+unfolding counting
+masked ways starts ends old {back} {xs} {ys} room counts isSucc isPred =
+    let first : length xs ≡ 32 = ap length isSucc ∙ length-masks 32 starts ends in
+    let second : length ys ≡ 32 = ap length isPred ∙ length-masks 32 (cond back ends []) (cond back starts []) in
     record {
       room = length-halved 32 xs ys old first second (omega arith) ∙ room;
-      succ = part-first 32 xs ys old first ∙ isSucc;
-      pred = part-second 32 xs ys old first second ∙ isPred;
+      succ = part-first 32 xs ys old first ∙ isSucc ∙ ap₂ (masksOf 32) (sym (counting-forwards ways starts)) (sym (counting-forwards ways ends));
+      pred = part-second 32 xs ys old first second ∙ isPred ∙ ap (λ (b : Bool). masksOf 32 (cond b ends []) (cond b starts [])) counts;
     }
-
--- both halves
-pub masked : (starts ends old : List ℕ) {xs ys : List ℕ} → length old ≡ 64 → xs ≡ masksOf 32 starts ends → ys ≡ masksOf 32 ends starts
-    → Masked starts ends (halved 32 xs ys old)
-masked starts ends old room isSucc isPred =
-    halves bothWays starts ends old room
-    (isSucc ∙ ap₂ (masksOf 32) (sym (counting-both forwards starts)) (sym (counting-both forwards ends)))
-    (isPred ∙ ap₂ (masksOf 32) (sym (counting-both backwards ends)) (sym (counting-both backwards starts)))
 
 pub masked-succ : {starts ends masks : List ℕ} → Masked starts ends masks → succOf masks ≡ masksOf 32 starts ends
 masked-succ {starts} {ends} m = m .succ ∙ ap₂ (masksOf 32) (counting-both forwards starts) (counting-both forwards ends)
@@ -53,18 +49,9 @@ pub masked-pred : {starts ends masks : List ℕ} → Masked starts ends masks �
 masked-pred {starts} {ends} m = m .pred ∙ ap₂ (masksOf 32) (counting-both backwards ends) (counting-both backwards starts)
 
 -- the masks of no links are empty
-none-masks : replicate 32 0 ≡ masksOf 32 [] []
+pub none-masks : replicate 32 0 ≡ masksOf 32 [] []
 unfolding masksOf tabulate select listed any numberOf
 none-masks = refl
-
--- Masks whose second half is cleared ask for nothing backwards.
-pub masked-one-way : (before : List ℕ) {ys after : List ℕ} → length before ≡ 64 → ys ≡ replicate 32 0 → after ≡ halved 32 (succOf before) ys before
-    → EveryMasked oneWay before after
-masked-one-way before long none e starts ends m =
-    rw e
-    (halves oneWay starts ends before long
-    (masked-succ m ∙ ap₂ (masksOf 32) (sym (counting-forwards starts)) (sym (counting-forwards ends)))
-    (none ∙ none-masks ∙ ap₂ (masksOf 32) (sym (counting-none ends)) (sym (counting-none starts))))
 
 -- Masks and neighbour tables as `prepare` leaves them are those of the pattern and the circuit.
 pub prepared :

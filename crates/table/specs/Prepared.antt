@@ -38,10 +38,6 @@ pub record MaskedBy (ways : List Direction) (starts ends masks : List ℕ) : Typ
   pub succ : succOf masks ≡ masksOf 32 (counting ways forwards starts) (counting ways forwards ends)
   pub pred : predOf masks ≡ masksOf 32 (counting ways backwards ends) (counting ways backwards starts)
 
--- whatever links the masks were made of, they are made of those in the directions chosen now
-abbrev pub EveryMasked : List Direction → List ℕ → List ℕ → Type 0
-EveryMasked ways before after = (starts ends : List ℕ) → MaskedBy bothWays starts ends before → MaskedBy ways starts ends after
-
 abbrev pub Masked : List ℕ → List ℕ → List ℕ → Type 0
 Masked starts ends masks = MaskedBy bothWays starts ends masks
 
