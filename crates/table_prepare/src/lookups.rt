@@ -1,9 +1,6 @@
 // What a round looks up: the pattern's masks, and the board's neighbour tables.
-use crate::masks::pattern_masks;
-use base_bits::clear;
+use crate::masks::masks_along;
 use graph_neighbours::tables::neighbour_tables;
-use table::FORWARD_MASKS;
-use table::MASKS;
 use table::Ways;
 ghost use mathlib.Core.Path.{_≡_};
 ghost use Prim.Native.Nat.{_≤_};
@@ -11,43 +8,10 @@ ghost use lib.Dec.{T, ltb};
 ghost use lib.ListN.{length};
 ghost use Rattle.base_lists.specs.List.{all, Below};
 ghost use Rattle.graph.specs.Net.{NetRoom, NetOf};
-ghost use Rattle.table.specs.Prepared.{MaskedBy, Masked, EveryMasked};
+ghost use Rattle.table.specs.Prepared.{MaskedBy, Masked};
 ghost use Rattle.table.specs.Row.{waysOf};
 
-// Fills what the rounds look up: the pattern's masks, and the neighbour tables of a board of n nodes.
-pub fn prepare(
-    n: usize,
-    part_starts: &[u16],
-    part_ends: &[u16],
-    node_starts: &[u16],
-    node_ends: &[u16],
-    masks: &mut [u32],
-    offsets: &mut [u16],
-    links: &mut [u16],
-)
-    requires { ⌜ (length (now «part_starts») ≡ length (now «part_ends»)) × Below 32 (now «part_starts») × Below 32 (now «part_ends») ⌝ }
-    requires { ⌜ (n ≤ 512) × (length (now «node_starts») ≡ length (now «node_ends»)) × (length (now «node_starts») ≤ 4096) ⌝ }
-    requires { ⌜ T (all (λ v. ltb v n) (now «node_starts»)) × T (all (λ v. ltb v n) (now «node_ends»)) ⌝ }
-    requires { ⌜ (length (now masks) ≡ 64) × NetRoom (now offsets) (now links) ⌝ }
-    ensures { λ _. ⌜ Masked (now («part_starts» .entry)) (now («part_ends» .entry)) (now (masks .exit)) ⌝ }
-    ensures { λ _. ⌜ NetOf n (now («node_starts» .entry)) (now («node_ends» .entry)) (now (offsets .exit)) (now (links .exit)) ⌝ }
-{
-    neighbour_tables(n, node_starts, node_ends, offsets, links);
-    pattern_masks(part_starts, part_ends, masks);
-}
-
-// Leaves of a pattern's masks those of the directions that count: with forward links alone nothing is asked of what drives a part.
-fn choose(ways: Ways, masks: &mut [u32])
-    requires { ⌜ length (now masks) ≡ 64 ⌝ }
-    ensures { λ _. ⌜ EveryMasked (waysOf ways) (now (masks .entry)) (now (masks .exit)) ⌝ }
-{
-    match ways {
-        Ways::Both => {}
-        Ways::Forward => clear(&mut masks[FORWARD_MASKS..MASKS]),
-    }
-}
-
-// The same tables, with the masks of the directions that count.
+// Fills what the rounds look up: the pattern's masks in the directions that count, and the neighbour tables of a board of n nodes.
 pub fn prepare_along(
     ways: Ways,
     n: usize,
@@ -66,7 +30,30 @@ pub fn prepare_along(
     ensures { λ _. ⌜ MaskedBy (waysOf ways) (now («part_starts» .entry)) (now («part_ends» .entry)) (now (masks .exit)) ⌝ }
     ensures { λ _. ⌜ NetOf n (now («node_starts» .entry)) (now («node_ends» .entry)) (now (offsets .exit)) (now (links .exit)) ⌝ }
 {
-    prepare(
+    neighbour_tables(n, node_starts, node_ends, offsets, links);
+    masks_along(ways, part_starts, part_ends, masks);
+}
+
+// The same, with the masks of both directions.
+pub fn prepare(
+    n: usize,
+    part_starts: &[u16],
+    part_ends: &[u16],
+    node_starts: &[u16],
+    node_ends: &[u16],
+    masks: &mut [u32],
+    offsets: &mut [u16],
+    links: &mut [u16],
+)
+    requires { ⌜ (length (now «part_starts») ≡ length (now «part_ends»)) × Below 32 (now «part_starts») × Below 32 (now «part_ends») ⌝ }
+    requires { ⌜ (n ≤ 512) × (length (now «node_starts») ≡ length (now «node_ends»)) × (length (now «node_starts») ≤ 4096) ⌝ }
+    requires { ⌜ T (all (λ v. ltb v n) (now «node_starts»)) × T (all (λ v. ltb v n) (now «node_ends»)) ⌝ }
+    requires { ⌜ (length (now masks) ≡ 64) × NetRoom (now offsets) (now links) ⌝ }
+    ensures { λ _. ⌜ Masked (now («part_starts» .entry)) (now («part_ends» .entry)) (now (masks .exit)) ⌝ }
+    ensures { λ _. ⌜ NetOf n (now («node_starts» .entry)) (now («node_ends» .entry)) (now (offsets .exit)) (now (links .exit)) ⌝ }
+{
+    prepare_along(
+        Ways::Both,
         n,
         part_starts,
         part_ends,
@@ -76,5 +63,4 @@ pub fn prepare_along(
         offsets,
         links,
     );
-    choose(ways, masks);
 }
