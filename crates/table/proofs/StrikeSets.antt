@@ -1,14 +1,16 @@
 -- Laws of the parts of a set that pass a test: what `surviving` keeps. Assumes nothing.
 use mathlib.Core.Bool.{Bool, true, false, _&&_, _||_, not, cond, and-true, and-false, or-false}
 use mathlib.Core.Path.{_≡_, refl, sym, ap, ap₂, _∙_}
-use mathlib.Core.List.{List}
-use Prim.Native.Nat.{ℕ, zero, _^_, _<_}
+use mathlib.Core.List.{List, [], _∷_}
+use Prim.Native.Nat.{ℕ, zero, suc, _^_, _≤_, _<_}
+use native.Mathlib.Omega.{arith}
 use lib.Bits.{bitOr, or-lt, or-zero-r}
 use lib.Dec.{T, eqb}
-use lib.ListN.{getD}
+use lib.ListN.{length, getD}
 use lib.Pow.{pow-pos, pow-lt}
-use borrow.Author.Tests.{eqb-true}
-use Rattle.base_lists.proofs.Tests.{both-left, T-true}
+use borrow.Author.Tests.{eqb-true, eq-eqb}
+use Rattle.base_lists.specs.List.{all}
+use Rattle.base_lists.proofs.Tests.{both-left, both-right, T-true, T-false, true-T, at-all, all-at, at-allBelow}
 use Rattle.base_bits.specs.Bits.{bit, numberOf, Subset, subsetOf, firstOf, withoutFirst, unionAt}
 use Rattle.base_bits.proofs.Digits.{bit-of-zero, bit-below, bit-or, bit-single, same-bits-below}
 use Rattle.base_bits.proofs.Numbers.{bit-number, number-lt, number-same, number-bit}
@@ -16,7 +18,7 @@ use Rattle.base_bits.proofs.Tests.{bitOr-assoc}
 use Rattle.base_bits.proofs.Members.{first-trailing, bit-without, trailing-lt, trailing-bit}
 use Rattle.graph.specs.Net.{driven, driving}
 use Rattle.table.specs.Prepared.{succOf, predOf, Tables}
-use Rattle.table.specs.Strike.{survivors, strikeNode}
+use Rattle.table.specs.Strike.{survivors, allEmpty, strikeNode}
 
 -- ---- the first part of a set that is not empty
 
@@ -146,8 +148,50 @@ strike-none t old v e =
     let b = unionAt old (driving (t .offsets) (t .links) v) in
     ap (survivors (succOf (t .masks)) (predOf (t .masks)) f b) e ∙ survivors-none (succOf (t .masks)) (predOf (t .masks)) f b
 
--- the next set of a node, from the two unions over its neighbours
-pub strike-unions : (t : Tables) (old : List ℕ) (v : ℕ) {f b r : ℕ} → f ≡ unionAt old (driven (t .offsets) (t .links) v)
-    → b ≡ unionAt old (driving (t .offsets) (t .links) v) → r ≡ survivors (succOf (t .masks)) (predOf (t .masks)) f b (getD old v 0) → r ≡ strikeNode t old v
+-- ---- masks that ask for nothing
+
+pub empty-true : (masks : List ℕ) → ((k : ℕ) → k < length masks → getD masks k 0 ≤ 0) → true ≡ allEmpty masks
+unfolding allEmpty
+empty-true masks f = sym (T-true (at-all (λ m. eqb m 0) masks (λ k h. true-T (eq-eqb (getD masks k 0) 0 (omega (arith, f k h))))))
+
+pub empty-false : (masks : List ℕ) (i : ℕ) → i < length masks → 0 < getD masks i 0 → false ≡ allEmpty masks
+unfolding allEmpty
+empty-false masks i h l = sym (T-false (λ t. let e : getD masks i 0 ≡ 0 = eqb-true _ _ (T-true (all-at (λ m. eqb m 0) masks t i h)) in omega arith))
+
+-- each of them is empty
+empty-at : (masks : List ℕ) → T (allEmpty masks) → (u : ℕ) → getD masks u 0 ≡ 0
+unfolding allEmpty all
+empty-at [] t u = refl
+empty-at (m ∷ masks) t zero = eqb-true m 0 (T-true (both-left (eqb m 0) (all (λ m. eqb m 0) masks) t))
+empty-at (m ∷ masks) t (suc u) = empty-at masks (both-right (eqb m 0) (all (λ m. eqb m 0) masks) t) u
+
+-- an empty set lies in every set
+empty-inside : (b : ℕ) → subsetOf 0 b ≡ true
+unfolding subsetOf
+empty-inside b = T-true (at-allBelow 32 (λ v. not (bit 0 v) || bit b v) (λ v k. rw (bit-of-zero v) tt))
+
+-- so it does not matter what drives a node, where no part asks for it
+survivors-alone : (succ pred : List ℕ) → true ≡ allEmpty pred → (f b b′ x : ℕ) → survivors succ pred f b x ≡ survivors succ pred f b′ x
+unfolding survivors
+survivors-alone succ pred e f b b′ x =
+    number-same 32 (λ u. bit x u && (subsetOf (getD succ u 0) f && subsetOf (getD pred u 0) b)) (λ u. bit x u && (subsetOf (getD succ u 0) f && subsetOf (getD pred u 0) b′))
+    (λ u h. ap (λ (c : Bool). bit x u && (subsetOf (getD succ u 0) f && c)) (inside u b ∙ sym (inside u b′)))
+  where
+    inside : (u b : ℕ) → subsetOf (getD pred u 0) b ≡ true
+    inside u b = ap (λ (m : ℕ). subsetOf m b) (empty-at pred (true-T (sym e)) u) ∙ empty-inside b
+
+-- the next set of a node, from the two unions over its neighbours, of which the second is left out where nothing is asked for of what drives it
+pub strike-unions : (t : Tables) (old : List ℕ) (v : ℕ) {alone : Bool} {f b r : ℕ} → alone ≡ allEmpty (predOf (t .masks))
+    → f ≡ unionAt old (driven (t .offsets) (t .links) v) → b ≡ cond alone 0 (unionAt old (driving (t .offsets) (t .links) v))
+    → r ≡ survivors (succOf (t .masks)) (predOf (t .masks)) f b (getD old v 0) → r ≡ strikeNode t old v
 unfolding strikeNode
-strike-unions t old v d e q = q ∙ ap₂ (λ (f b : ℕ). survivors (succOf (t .masks)) (predOf (t .masks)) f b (getD old v 0)) d e
+strike-unions t old v {alone} a d e q = q ∙ ap₂ next d e ∙ go alone a
+  where
+    next : ℕ → ℕ → ℕ
+    next f b = survivors (succOf (t .masks)) (predOf (t .masks)) f b (getD old v 0)
+
+    go : (alone : Bool) → alone ≡ allEmpty (predOf (t .masks)) →
+        next (unionAt old (driven (t .offsets) (t .links) v)) (cond alone 0 (unionAt old (driving (t .offsets) (t .links) v)))
+        ≡ next (unionAt old (driven (t .offsets) (t .links) v)) (unionAt old (driving (t .offsets) (t .links) v))
+    go true h = survivors-alone (succOf (t .masks)) (predOf (t .masks)) h (unionAt old (driven (t .offsets) (t .links) v)) 0 (unionAt old (driving (t .offsets) (t .links) v)) (getD old v 0)
+    go false h = refl
