@@ -36,7 +36,7 @@ fn reach(part: &[u16], sets: &[u32]) -> u32
 }
 
 // Whether every mask is empty: then nothing is asked for in their direction.
-fn all_empty(masks: &[u32]) -> bool
+pub fn all_empty(masks: &[u32]) -> bool
     ensures { λ r. ⌜ r ≡ allEmpty (now (masks .entry)) ⌝ }
 {
     let mut i = 0;
@@ -126,6 +126,7 @@ fn note(v: u16, set: u32, old: u32, changed: &mut [u16], next: &mut [u32], k: us
 
 // Lists those nodes of a list that change, each with its next set from the table whole, and returns how many they are.
 pub fn changes(
+    alone: bool,
     todo: &[u16],
     masks: &[u32],
     offsets: &[u16],
@@ -134,12 +135,12 @@ pub fn changes(
     changed: &mut [u16],
     next: &mut [u32],
 ) -> usize
+    requires { ⌜ alone ≡ allEmpty (predOf (now masks)) ⌝ }
     requires { ⌜ Ready (tables (now masks) (now offsets) (now links)) (now old) ⌝ }
     requires { ⌜ Below (length (now old)) (now todo) ⌝ }
     requires { ⌜ (length (now todo) ≤ length (now changed)) × (length (now todo) ≤ length (now next)) ⌝ }
     ensures { λ r. ⌜ Pending (strikeNode (tables (now (masks .entry)) (now (offsets .entry)) (now (links .entry))) (now (old .entry))) (now (old .entry)) (now (todo .entry)) (now (changed .exit)) (now (next .exit)) r ⌝ }
 {
-    let alone = all_empty(&masks[FORWARD_MASKS..MASKS]);
     let mut k = 0;
     let mut i = 0;
     while i < todo.len() {

@@ -6,7 +6,7 @@ use native.Mathlib.Omega.{arith}
 use borrow.Author.Needs.{needs}
 use denote.Ref.{now}
 use lib.ListN.{length, getD, drop}
-use Rattle.base_lists.specs.List.{part, Below}
+use Rattle.base_lists.specs.List.{Below}
 use Rattle.table.specs.Prepared.{tables}
 use Rattle.table.specs.Strike.{strikeNode}
 use Rattle.table.proofs.Pending.{Listing, listing-start, listing-next, listing-end}
@@ -14,25 +14,13 @@ use Rattle.table.proofs.strike.changes.Statement.{statement}
 use Rattle.table.proofs.strike.changes.Tie as tie
 
 abbrev Inv-loop : tie.InvT-loop
-Inv-loop todo masks offsets links old changed₀ next₀ alone k₀ i₀ changed next k i = (length changed ≡ length changed₀) × (length next ≡ length next₀) × Listing (strikeNode (tables masks offsets links) old) old todo changed next k i
+Inv-loop alone todo masks offsets links old changed₀ next₀ k₀ i₀ changed next k i = (length changed ≡ length changed₀) × (length next ≡ length next₀) × Listing (strikeNode (tables masks offsets links) old) old todo changed next k i
 
 abbrev μ-loop : tie.MeasureT-loop
-μ-loop todo masks offsets links old changed₀ next₀ alone k₀ i₀ changed next k i = length todo - i
+μ-loop alone todo masks offsets links old changed₀ next₀ k₀ i₀ changed next k i = length todo - i
 
 abbrev entry : tie.At-loop Inv-loop μ-loop → tie.Start Inv-loop μ-loop
-entry loop = loop .before .before .before .before .before .before .before .before .before .before
-
-sub-all-empty : tie.Need-sub-all-empty Inv-loop μ-loop
-sub-all-empty c = search needs
-
-part-all-empty-start : tie.Need-part-all-empty-start Inv-loop μ-loop
-part-all-empty-start c = search needs
-
-part-all-empty-end : tie.Need-part-all-empty-end Inv-loop μ-loop
-part-all-empty-end c = search needs
-
-all-empty-requires : tie.Need-all-empty-requires Inv-loop μ-loop
-all-empty-requires c κs = search needs
+entry loop = loop .before .before .before .before .before .before .before .before
 
 loop-holds : tie.Need-loop-holds Inv-loop μ-loop
 loop-holds c = (refl, refl, listing-start _ _ _ _ _)
@@ -49,11 +37,10 @@ cast-v c = omega (arith, c .shared-slice-known6 .given (c .before .before .loop 
 -- the next node
 node : (c : tie.In-loop Inv-loop μ-loop) → getD (now (entry (c .before) .args .todo)) (c .before .loop .i) 0 < length (now (entry (c .before) .args .old))
 unfolding Below
-node c = entry (c .before) .pre .1 .0 (c .before .loop .i) (omega arith)
+node c = entry (c .before) .pre .1 .1 .0 (c .before .loop .i) (omega arith)
 
 strike-node-requires : tie.Need-strike-node-requires Inv-loop μ-loop
-unfolding part
-strike-node-requires c κs = (c .before .before .before .all-empty .ensures, (entry (c .before .before) .pre .0, node (c .before)))
+strike-node-requires c κs = (entry (c .before .before) .pre .0, (entry (c .before .before) .pre .1 .0, node (c .before)))
 
 mul-note : tie.Need-mul-note Inv-loop μ-loop
 mul-note c = search needs
@@ -73,7 +60,7 @@ note-requires c κs =
     let start = entry loop in
     let g = loop .loop .inv .2 in
     let more = c .before .before .before .before .before .before .loop-test .taken in
-    (omega (arith, loop .loop .inv .0, start .pre .1 .1 .0, g .few), omega (arith, loop .loop .inv .1, start .pre .1 .1 .1, g .few))
+    (omega (arith, loop .loop .inv .0, start .pre .1 .1 .1 .0, g .few), omega (arith, loop .loop .inv .1, start .pre .1 .1 .1 .1, g .few))
 
 add-i : tie.Need-add-i Inv-loop μ-loop
 add-i c = omega arith
@@ -90,8 +77,8 @@ loop-again c =
     let call = c .before .before .before .before .note in (
       call .kept .1 .1 .1 .0 ∙ loop .loop .inv .0,
       call .kept .1 .1 .1 .1 .0 ∙ loop .loop .inv .1,
-      listing-next _ _ g (omega arith) (omega (arith, loop .loop .inv .0, start .pre .1 .1 .0, g .few))
-          (omega (arith, loop .loop .inv .1, start .pre .1 .1 .1, g .few)) refl (c .before .before .before .before .before .before .before .before .before .strike-node .ensures) refl (call .ensures),
+      listing-next _ _ g (omega arith) (omega (arith, loop .loop .inv .0, start .pre .1 .1 .1 .0, g .few))
+          (omega (arith, loop .loop .inv .1, start .pre .1 .1 .1 .1, g .few)) refl (c .before .before .before .before .before .before .before .before .before .strike-node .ensures) refl (call .ensures),
     )
 
 same-length : tie.Need-same-length Inv-loop μ-loop
@@ -109,10 +96,6 @@ changes-spec =
     (tie.spec
     Inv-loop
     μ-loop
-    sub-all-empty
-    part-all-empty-start
-    part-all-empty-end
-    all-empty-requires
     loop-holds
     mul-v
     shared-slice-read-v
