@@ -2,15 +2,17 @@
 use mathlib.Core.Bool.{Bool, true, false, _&&_, _||_, not, cond, and-true, and-false, or-false}
 use mathlib.Core.Path.{_≡_, refl, sym, ap, ap₂, _∙_}
 use mathlib.Core.List.{List, [], _∷_}
-use Prim.Native.Nat.{ℕ, zero, suc, _^_, _≤_, _<_}
+use Prim.Native.Nat.{ℕ, zero, suc, _+_, _^_, _≤_, _<_}
+use native.Mathlib.Nat.{not-suc-le-zero}
 use native.Mathlib.Omega.{arith}
-use lib.Bits.{bitOr, or-lt, or-zero-r}
+use lib.Bits.{bitOr, or-lt, or-zero-r, or-add-and, and-le-l, and-le-r}
 use lib.Dec.{T, eqb}
 use lib.ListN.{length, getD}
 use lib.Pow.{pow-pos, pow-lt}
+use borrow.Author.Count.{below-more}
 use borrow.Author.Tests.{eqb-true, eq-eqb}
 use Rattle.base_lists.specs.List.{all}
-use Rattle.base_lists.proofs.Tests.{both-left, both-right, T-true, T-false, true-T, at-all, all-at, at-allBelow}
+use Rattle.base_lists.proofs.Tests.{both-left, both-right, T-true, true-T, same-test, at-all, all-at, at-allBelow}
 use Rattle.base_bits.specs.Bits.{bit, numberOf, Subset, subsetOf, firstOf, withoutFirst, unionAt}
 use Rattle.base_bits.proofs.Digits.{bit-of-zero, bit-below, bit-or, bit-single, same-bits-below}
 use Rattle.base_bits.proofs.Numbers.{bit-number, number-lt, number-same, number-bit}
@@ -150,13 +152,37 @@ strike-none t old v e =
 
 -- ---- masks that ask for nothing
 
-pub empty-true : (masks : List ℕ) → ((k : ℕ) → k < length masks → getD masks k 0 ≤ 0) → true ≡ allEmpty masks
-unfolding allEmpty
-empty-true masks f = sym (T-true (at-all (λ m. eqb m 0) masks (λ k h. true-T (eq-eqb (getD masks k 0) 0 (omega (arith, f k h))))))
+-- a union has each of its sets
+or-left : (a b : ℕ) → a ≤ bitOr a b
+or-left a b = omega (arith, or-add-and a b, and-le-r a b)
 
-pub empty-false : (masks : List ℕ) (i : ℕ) → i < length masks → 0 < getD masks i 0 → false ≡ allEmpty masks
+or-right : (a b : ℕ) → b ≤ bitOr a b
+or-right a b = omega (arith, or-add-and a b, and-le-l a b)
+
+-- the union of the first i masks: it has each of them, and is empty where all of them are
+pub record UnionTo (masks : List ℕ) (i union : ℕ) : Type 0 where
+  pub within : i ≤ length masks
+  pub has : (k : ℕ) → k < i → getD masks k 0 ≤ union
+  pub least : ((k : ℕ) → k < i → getD masks k 0 ≡ 0) → union ≡ 0
+
+pub union-start : (masks : List ℕ) → UnionTo masks 0 0
+union-start masks = record { within = omega arith; has = λ k h. absurd (not-suc-le-zero h); least = λ f. refl }
+
+pub union-next : {masks : List ℕ} {i union : ℕ} → UnionTo masks i union → i < length masks → UnionTo masks (i + 1) (bitOr union (getD masks i 0))
+union-next {masks} {i} {union} u h =
+    record {
+      within = omega arith;
+      has = below-more (λ (k : ℕ). getD masks k 0 ≤ bitOr union (getD masks i 0)) i (λ k l. omega (arith, u .has k l, or-left union (getD masks i 0))) (or-right union (getD masks i 0));
+      least = λ f. ap₂ bitOr (u .least (λ k l. f k (omega arith))) (f i (omega arith)) ∙ or-zero-r 0;
+    }
+
+-- so the masks are all empty where the whole union is
+pub union-end : {masks : List ℕ} {i union : ℕ} → UnionTo masks i union → length masks ≤ i → eqb union 0 ≡ allEmpty masks
 unfolding allEmpty
-empty-false masks i h l = sym (T-false (λ t. let e : getD masks i 0 ≡ 0 = eqb-true _ _ (T-true (all-at (λ m. eqb m 0) masks t i h)) in omega arith))
+union-end {masks} {i} {union} u h =
+    same-test
+    (λ t. at-all (λ m. eqb m 0) masks (λ k l. true-T (eq-eqb (getD masks k 0) 0 (omega (arith, u .has k (omega arith), eqb-true union 0 (T-true t))))))
+    (λ t. true-T (eq-eqb union 0 (u .least (λ k l. eqb-true _ _ (T-true (all-at (λ m. eqb m 0) masks t k (omega (arith, u .within))))))))
 
 -- each of them is empty
 empty-at : (masks : List ℕ) → T (allEmpty masks) → (u : ℕ) → getD masks u 0 ≡ 0

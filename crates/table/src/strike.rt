@@ -39,14 +39,13 @@ fn reach(part: &[u16], sets: &[u32]) -> u32
 pub fn all_empty(masks: &[u32]) -> bool
     ensures { λ r. ⌜ r ≡ allEmpty (now (masks .entry)) ⌝ }
 {
+    let mut union: u32 = 0;
     let mut i = 0;
     while i < masks.len() {
-        if 0 < masks[i] {
-            return false;
-        }
+        union = union | masks[i];
         i += 1;
     }
-    true
+    union == 0
 }
 
 // The union of the sets of what drives node v, or nothing where nothing is asked for of it.

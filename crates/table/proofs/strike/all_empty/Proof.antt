@@ -1,54 +1,39 @@
--- `table::strike::all_empty` meets its contract: the masks passed are empty. Assumes nothing.
-use Prim.Native.Nat.{ℕ, _≤_, _<_, _-_}
+-- `table::strike::all_empty` meets its contract. The loop's invariant: `union` is the union of the masks passed. The measure is how many are left.
+-- Assumes nothing.
+use Prim.Native.Nat.{_-_}
 use native.Mathlib.Omega.{arith}
-use borrow.Author.Count.{below-more}
 use borrow.Author.Needs.{needs}
-use lib.ListN.{length, getD}
-use Rattle.table.proofs.StrikeSets.{empty-true, empty-false}
+use lib.ListN.{length}
+use Rattle.table.proofs.StrikeSets.{UnionTo, union-start, union-next, union-end}
 use Rattle.table.proofs.strike.all_empty.Statement.{statement}
 use Rattle.table.proofs.strike.all_empty.Tie as tie
 
 abbrev Inv-loop : tie.InvT-loop
-Inv-loop masks i₀ i = (i ≤ length masks) × ((k : ℕ) → k < i → getD masks k 0 ≤ 0)
+Inv-loop masks union₀ i₀ union i = UnionTo masks i union
 
 abbrev μ-loop : tie.MeasureT-loop
-μ-loop masks i₀ i = length masks - i
+μ-loop masks union₀ i₀ union i = length masks - i
 
 loop-holds : tie.Need-loop-holds Inv-loop μ-loop
-loop-holds c = search needs
+loop-holds c = union-start _
 
-mul-if1 : tie.Need-mul-if1 Inv-loop μ-loop
-mul-if1 c = search needs
+mul-union : tie.Need-mul-union Inv-loop μ-loop
+mul-union c = search needs
 
-shared-slice-read-if1 : tie.Need-shared-slice-read-if1 Inv-loop μ-loop
-shared-slice-read-if1 c = search needs
-
-returns : tie.Need-returns Inv-loop μ-loop
-returns c = empty-false _ (c .before .before .before .loop .i) (search needs) (omega (arith, c .if1 .taken))
+shared-slice-read-union : tie.Need-shared-slice-read-union Inv-loop μ-loop
+shared-slice-read-union c = search needs
 
 add-i : tie.Need-add-i Inv-loop μ-loop
-add-i c = search needs
+add-i c = omega arith
 
 loop-less : tie.Need-loop-less Inv-loop μ-loop
-loop-less c = search needs
+loop-less c = omega arith
 
 loop-again : tie.Need-loop-again Inv-loop μ-loop
-loop-again c = (search needs, below-more _ _ (c .before .before .before .loop .inv .1) (omega (arith, c .if1 .left)))
+loop-again c = union-next (c .before .before .loop .inv) (omega arith)
 
-returns-2 : tie.Need-returns-2 Inv-loop μ-loop
-returns-2 c = empty-true _ (λ k h. c .before .loop .inv .1 k (omega arith))
+returns : tie.Need-returns Inv-loop μ-loop
+returns c = union-end (c .before .loop .inv) (c .loop-test .left)
 
 pub all-empty-spec : {M : Type 1} → statement M
-all-empty-spec =
-    tie.close
-    (tie.spec
-    Inv-loop
-    μ-loop
-    loop-holds
-    mul-if1
-    shared-slice-read-if1
-    returns
-    add-i
-    loop-less
-    loop-again
-    returns-2)
+all-empty-spec = tie.close (tie.spec Inv-loop μ-loop loop-holds mul-union shared-slice-read-union add-i loop-less loop-again returns)
