@@ -1,5 +1,5 @@
 /* Makes one call on the two files of a folder, by the proved library or in plain C: the match table, or the place around each of some
- * centres; and by the library alone the ball or the radius. bench/run counts the instructions inside the calls. With `compare` both are called, and must reply and leave the same. */
+ * centres; and by the library alone the ball, the radius or the match table one way. bench/run counts the instructions inside the calls. With `compare` both are called, and must reply and leave the same. */
 #include <stdio.h>
 #include <stdlib.h>
 #include <string.h>
@@ -50,6 +50,13 @@ static void proved_match(size_t centre, struct result *r)
     r->counts = counts_of(heronditch_match(FILES, TABLE));
 }
 
+/* One way. There is no plain C of it. */
+static void proved_one_way(size_t centre, struct result *r)
+{
+    (void)centre;
+    r->counts = counts_of(heronditch_match_one_way(FILES, TABLE));
+}
+
 static void plain_match(size_t centre, struct result *r)
 {
     (void)centre;
@@ -88,7 +95,7 @@ static void make(void (*call)(size_t, struct result *), size_t centre, struct re
 static struct {
     const char *name;
     void (*proved)(size_t, struct result *), (*plain)(size_t, struct result *);
-} jobs[] = {{"match", proved_match, plain_match}, {"place", proved_place, plain_place}, {"ball", proved_ball, proved_ball}, {"radius", proved_radius, proved_radius}};
+} jobs[] = {{"match", proved_match, plain_match}, {"place", proved_place, plain_place}, {"ball", proved_ball, proved_ball}, {"radius", proved_radius, proved_radius}, {"one-way", proved_one_way, proved_one_way}};
 
 /* Makes the calls for some centres, and prints how many were accepted, and the counts of the last. */
 static int run(unsigned job, const char *how, size_t first, size_t last)
@@ -120,6 +127,6 @@ int main(int argc, char **argv)
             if (!strcmp(argv[1], jobs[job].name))
                 return run(job, argv[2], strtoul(argv[4], NULL, 10), strtoul(argv[5], NULL, 10));
     }
-    fprintf(stderr, "usage: %s match|place|ball|radius proved|plain|compare FOLDER FIRST-CENTRE LAST-CENTRE\n", argv[0]);
+    fprintf(stderr, "usage: %s match|place|ball|radius|one-way proved|plain|compare FOLDER FIRST-CENTRE LAST-CENTRE\n", argv[0]);
     return 2;
 }

@@ -1,7 +1,7 @@
 /* Prints the match table of a pattern on a whole board: a line for each node that some part matches, with those parts, and the four counts.
- * The pattern may be in several bits that no link joins.
+ * The pattern may be in several bits that no link joins. With -1 pairs need partners for what their part drives alone (one way).
  *
- *     table PATTERN.cir BOARD.cir
+ *     table [-1] PATTERN.cir BOARD.cir
  *
  * Status: 0 the table is printed; 1 a file is refused; 2 a file cannot be read, or the output cannot be written.
  * Build: cc -Iinclude examples/table.c target/staticlib/libheronditch.a -o table
@@ -9,6 +9,7 @@
 #include <inttypes.h>
 #include <stdio.h>
 #include <stdlib.h>
+#include <string.h>
 
 #include "heronditch.h"
 
@@ -30,13 +31,15 @@ int main(int argc, char **argv)
     static uint8_t pattern[HERONDITCH_PATTERN_BYTES + 1], board[HERONDITCH_BOARD_BYTES + 1];
     static uint32_t table[HERONDITCH_NODES];
 
-    if (argc != 3) {
-        fprintf(stderr, "usage: %s PATTERN.cir BOARD.cir\n", argv[0]);
+    int one_way = argc == 4 && strcmp(argv[1], "-1") == 0;
+    if (argc != 3 && !one_way) {
+        fprintf(stderr, "usage: %s [-1] PATTERN.cir BOARD.cir\n", argv[0]);
         return 2;
     }
-    size_t pattern_len = load(argv[1], pattern, sizeof pattern);
-    size_t board_len = load(argv[2], board, sizeof board);
-    heronditch_counts c = heronditch_match(pattern, pattern_len, board, board_len, table, HERONDITCH_NODES);
+    size_t pattern_len = load(argv[argc - 2], pattern, sizeof pattern);
+    size_t board_len = load(argv[argc - 1], board, sizeof board);
+    heronditch_counts c = one_way ? heronditch_match_one_way(pattern, pattern_len, board, board_len, table, HERONDITCH_NODES)
+                                  : heronditch_match(pattern, pattern_len, board, board_len, table, HERONDITCH_NODES);
     if (c.number != 0) {
         const char *file = c.file == HERONDITCH_PATTERN ? " pattern" : c.file == HERONDITCH_BOARD ? " board" : "";
         printf("refused %" PRIu32 "%s\n", c.number, file);

@@ -160,6 +160,11 @@ heronditch_reply heronditch_ball(const uint8_t *board, size_t board_len, size_t 
 heronditch_counts heronditch_match(const uint8_t *pattern, size_t pattern_len, const uint8_t *board, size_t board_len, uint32_t *table,
                                    size_t table_len);
 
+/* The same one way: a pair needs partners for what its part drives, and none for what drives it. Each pair of the table above is in this
+ * one. One way some parts of a connected pattern too may be left without a node while others have some: then the table is all 0. */
+heronditch_counts heronditch_match_one_way(const uint8_t *pattern, size_t pattern_len, const uint8_t *board, size_t board_len,
+                                           uint32_t *table, size_t table_len);
+
 /* Finds the pattern around a node of the board, at the pattern's radius: N node bytes and M link bytes, 1 in the place, else 0, and N
  * numbers as above over the place's nodes, 0 elsewhere; and N distances as of heronditch_ball, whether a node is in the place or not. The
  * counts are those of the whole ball. */
@@ -231,6 +236,14 @@ heronditch_counts heronditch_match_21(const uint8_t *pattern, size_t pattern_len
                                       size_t table_len);
 heronditch_counts heronditch_match_22(const uint8_t *pattern, size_t pattern_len, const uint8_t *board, size_t board_len, uint32_t *table,
                                       size_t table_len);
+
+/* The same one way, as heronditch_match_one_way. */
+heronditch_counts heronditch_match_one_way_12(const uint8_t *pattern, size_t pattern_len, const uint8_t *board, size_t board_len,
+                                              uint32_t *table, size_t table_len);
+heronditch_counts heronditch_match_one_way_21(const uint8_t *pattern, size_t pattern_len, const uint8_t *board, size_t board_len,
+                                              uint32_t *table, size_t table_len);
+heronditch_counts heronditch_match_one_way_22(const uint8_t *pattern, size_t pattern_len, const uint8_t *board, size_t board_len,
+                                              uint32_t *table, size_t table_len);
 
 /* Checks a place from elsewhere, on files of these editions. */
 heronditch_reply heronditch_check_12(const uint8_t *pattern, size_t pattern_len, const uint8_t *board, size_t board_len, size_t centre,

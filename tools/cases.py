@@ -453,11 +453,13 @@ def check_row(pattern, board):
     pattern, board = model.parse_in_bits("pattern", pattern), model.parse("board", board)
     if isinstance(pattern, int) or isinstance(board, int):
         return 0
-    last, counts = model.largest(pattern, board)
-    if counts[0] * counts[3] < 100000:
-        sets = model.row(pattern, board)
-        assert (sets[-1], counts[3]) == (last, len(sets) - 1)
-    return counts[3]
+    rounds = 0
+    for one_way in (True, False):
+        last, (started, *_, rounds) = model.largest(pattern, board, one_way)
+        if started * rounds < 100000:
+            sets = model.row(pattern, board, one_way)
+            assert (sets[-1], rounds) == (last, len(sets) - 1)
+    return rounds
 
 
 def write_table_cases():
@@ -467,9 +469,10 @@ def write_table_cases():
         for x in (lent, len(pattern), len(board)):
             blob += bytes((x // 256, x % 256))
         blob += pattern + board
-        table = [7777] * lent
-        reply = model.match_table(pattern, board, table)
-        lines.append(" ".join(str(x) for x in (*reply, digest(table))))
+        for one_way in (False, True):
+            table = [7777] * lent
+            reply = model.match_table(pattern, board, table, one_way=one_way)
+            lines.append(" ".join(str(x) for x in (*reply, digest(table))))
     return "tables", blob, lines
 
 

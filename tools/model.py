@@ -202,9 +202,9 @@ def stays(ways, pairs, u, v):
     return all(any((x, w) in pairs for w in nodes[v]) for parts, nodes in ways for x in parts[u])
 
 
-def row(pattern, board):
-    """The row of sets as defined: each keeps those pairs of the last whose links have partners in the last whole."""
-    ways = list(zip(directed(pattern), directed(board)))
+def row(pattern, board, one_way=False):
+    """The row of sets as defined: each keeps those pairs of the last whose links, one way those from the part, have partners in the last whole."""
+    ways = list(zip(directed(pattern), directed(board)))[: 1 if one_way else 2]
     sets = [start_set(pattern, board)]
     while True:
         new = {(u, v) for u, v in sets[-1] if stays(ways, sets[-1], u, v)}
@@ -213,13 +213,15 @@ def row(pattern, board):
         sets.append(new)
 
 
-def largest(pattern, board):
-    """The last set of the row, and the counts started, kept, struck and rounds.
+def largest(pattern, board, one_way=False):
+    """The last set of the row, and the counts started, kept, struck and rounds; one way, only what a part drives needs partners.
 
     The same row without looking at every pair in each round: after the first, only a pair with a link to or from a pair struck in the
     round before can have lost a partner. All pairs of a round are tested before any is struck.
     """
     ways = list(zip(directed(pattern), directed(board)))
+    back = ways[1:] if one_way else ways[::-1]  # a pair struck takes a partner from what drives it, and two ways also from what it drives
+    ways = ways[:1] if one_way else ways
     pairs = start_set(pattern, board)
     started, rounds, doubtful = len(pairs), 0, set(pairs)
     while True:
@@ -228,11 +230,11 @@ def largest(pattern, board):
             return pairs, (started, len(pairs), started - len(pairs), rounds)
         pairs.difference_update(struck)
         rounds += 1
-        doubtful = {(x, w) for u, v in struck for parts, nodes in ways for x in parts[u] for w in nodes[v]}
+        doubtful = {(x, w) for u, v in struck for parts, nodes in back for x in parts[u] for w in nodes[v]}
 
 
-def match_table(pattern_data, board_data, table, editions=(1, 1)):
-    """The reply of the whole-board call; the table is a list that it fills in place. The pattern may be in several bits."""
+def match_table(pattern_data, board_data, table, editions=(1, 1), one_way=False):
+    """The reply of the whole-board call, two ways or one way; the table is a list that it fills in place. The pattern may be in several bits."""
     pattern = parse_in_bits("pattern", pattern_data, editions[0])
     if isinstance(pattern, int):
         return ("refused", pattern, "pattern")
@@ -242,7 +244,7 @@ def match_table(pattern_data, board_data, table, editions=(1, 1)):
     n = len(board.kinds)
     if len(table) < n:
         return ("refused", 8, "neither")
-    pairs, counts = largest(pattern, board)
+    pairs, counts = largest(pattern, board, one_way)
     if len({u for u, _ in pairs}) < len(pattern.kinds):
         pairs, counts = set(), (counts[0], 0, counts[0], counts[3])
     table[:n] = [0] * n

@@ -16,7 +16,7 @@ use crate::load::{load as load_of, Numbers};
 use crate::merged::merged;
 use crate::place::{place as place_of, Place};
 use crate::shelf;
-use crate::simulation::{on_board, Counts};
+use crate::simulation::{on_board, Counts, Ways};
 
 /// The reply of a call without counts: number 0 when accepted, and up to two
 /// values, 0 where there is none.
@@ -272,11 +272,32 @@ pub fn match_in(
     board: &[u8],
     table: &mut [u32],
 ) -> Counted {
+    match_by(Ways::Both, editions, pattern, board, table)
+}
+
+/// The same one way: a pair needs partners for what its part drives alone.
+pub fn match_one_way(
+    editions: [Edition; 2],
+    pattern: &[u8],
+    board: &[u8],
+    table: &mut [u32],
+) -> Counted {
+    match_by(Ways::Forward, editions, pattern, board, table)
+}
+
+/// The whole-board table by some ways.
+fn match_by(
+    ways: Ways,
+    editions: [Edition; 2],
+    pattern: &[u8],
+    board: &[u8],
+    table: &mut [u32],
+) -> Counted {
     either(
         both_in_bits(editions, pattern, board).and_then(|(pattern, board)| {
             let n = board.kinds.len();
             long_enough(&[(table.len(), n)])?;
-            let (pairs, counts) = on_board(&pattern, &board);
+            let (pairs, counts) = on_board(ways, &pattern, &board);
             fill(table, (0..n).map(|v| pairs.word(v)));
             Ok(Counted::accepted(counts))
         }),

@@ -74,6 +74,22 @@ impl Pairs {
         next
     }
 
+    /// The same one way: only what a part drives has to have partners.
+    fn next_one_way(&self, pattern: &Circuit, links: &[(usize, usize)]) -> Pairs {
+        let stays = |u: usize, v: usize| {
+            let driven = pattern.links.iter().filter(|link| link.0 == u);
+            let answered = |t: usize| links.iter().any(|&(x, w)| x == v && self.rows[t][w]);
+            driven.into_iter().all(|&(_, t)| answered(t))
+        };
+        let row = |(u, row): (usize, &Vec<bool>)| {
+            let nodes = row.iter().enumerate();
+            nodes.map(|(v, &is)| is && stays(u, v)).collect()
+        };
+        Pairs {
+            rows: self.rows.iter().enumerate().map(row).collect(),
+        }
+    }
+
     /// For a pattern link from u to t: the nodes with a link to a node paired
     /// with t, and the nodes with a link from a node paired with u.
     fn partners(&self, u: usize, t: usize, links: &[(usize, usize)]) -> (Vec<bool>, Vec<bool>) {
@@ -104,15 +120,36 @@ pub struct Counts {
     pub rounds: usize,
 }
 
+/// Which partners a pair needs: for what the part drives and for what drives
+/// it (dual simulation), or for what it drives alone (graph simulation).
+#[derive(Clone, Copy, Debug, PartialEq, Eq)]
+pub enum Ways {
+    Both,
+    Forward,
+}
+
 /// The last set of the row for a pattern in a subgraph of a board, which is
 /// the largest dual simulation, and the counts of the row.
 pub fn largest(pattern: &Circuit, board: &Circuit, graph: &Subgraph) -> (Pairs, Counts) {
+    last_of_row(Ways::Both, pattern, board, graph)
+}
+
+/// The last set of the row by some ways, and the counts of the row.
+fn last_of_row(
+    ways: Ways,
+    pattern: &Circuit,
+    board: &Circuit,
+    graph: &Subgraph,
+) -> (Pairs, Counts) {
     let links = graph.pairs(board);
     let first = Pairs::first(pattern, board, graph);
     let mut last = first.clone();
     let mut rounds = 0;
     loop {
-        let next = last.next(pattern, &links);
+        let next = match ways {
+            Ways::Both => last.next(pattern, &links),
+            Ways::Forward => last.next_one_way(pattern, &links),
+        };
         if next == last {
             break;
         }
@@ -136,9 +173,9 @@ fn counts(first: &Pairs, last: &Pairs, rounds: usize) -> Counts {
 
 /// The match table on a whole board and its counts. If some part is left
 /// without a node, nothing is kept; the rounds stay those of the row.
-pub fn on_board(pattern: &Circuit, board: &Circuit) -> (Pairs, Counts) {
+pub fn on_board(ways: Ways, pattern: &Circuit, board: &Circuit) -> (Pairs, Counts) {
     let graph = Subgraph::whole(board);
-    let (last, counts) = largest(pattern, board, &graph);
+    let (last, counts) = last_of_row(ways, pattern, board, &graph);
     none_left_out(&Pairs::first(pattern, board, &graph), last, counts.rounds)
 }
 

@@ -125,7 +125,7 @@ fn every_set_of_pairs() {
         some += usize::from(kept > 0);
         none += usize::from(kept == 0);
         pattern.bounds.fill(1);
-        let plain = simulation::on_board(&pattern.circuit, &board);
+        let plain = simulation::on_board(simulation::Ways::Both, &pattern.circuit, &board);
         assert_eq!(on_board(&pattern, &board), plain);
     }
     assert!(some > 300 && none > 300);

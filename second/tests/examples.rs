@@ -5,7 +5,7 @@ mod common;
 
 use common::circuit;
 use second::calls::{self, Counted, PlaceTables, Reply};
-use second::circuit::{Circuit, File, Role};
+use second::circuit::{Circuit, Edition, File, Role};
 use second::report::report;
 use second::simulation::Counts;
 
@@ -256,4 +256,19 @@ fn patterns_in_several_bits() {
     assert_eq!(calls::radius(&stereo).number, 6);
     assert_eq!(place(&stereo, &both, 0, None).0.number, 6);
     assert_eq!(report(&stereo, &both), "refused 6 pattern\n");
+}
+
+#[test]
+fn one_way() {
+    // On B part 1 of T is matched one way by node 3 as well, which nothing drives.
+    let mut table = [9; 7];
+    let reply = calls::match_one_way([Edition::First; 2], &t(), &b(), &mut table);
+    assert_eq!((reply.number, reply.counts), (0, counts(6, 5, 1, 1)));
+    assert_eq!(table, [1, 2, 4, 2, 4, 0, 9]);
+    // A connected pattern of which some parts have nodes and one has none.
+    let pattern = circuit(&[10, 20], &[(0, 1)]).bytes();
+    let board = circuit(&[20, 10], &[(0, 1)]).bytes();
+    let reply = calls::match_one_way([Edition::First; 2], &pattern, &board, &mut table);
+    assert_eq!((reply.number, reply.counts), (0, counts(2, 0, 2, 1)));
+    assert_eq!(table[..3], [0, 0, 4]);
 }

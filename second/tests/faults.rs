@@ -66,6 +66,7 @@ enum Fault {
     SixOnTheBoard,
     PartsLeftOut,
     ClearedRound,
+    BothWays,
     SelfLinksIgnored,
     WritingCut,
     WritingUneven,
@@ -116,7 +117,7 @@ enum Fault {
     RefusedStops,
 }
 
-const FAULTS: [Fault; 85] = [
+const FAULTS: [Fault; 86] = [
     Fault::OneRound,
     Fault::EveryLink,
     Fault::MergedRadius,
@@ -159,6 +160,7 @@ const FAULTS: [Fault; 85] = [
     Fault::SixOnTheBoard,
     Fault::PartsLeftOut,
     Fault::ClearedRound,
+    Fault::BothWays,
     Fault::SelfLinksIgnored,
     Fault::WritingCut,
     Fault::WritingUneven,
@@ -612,6 +614,19 @@ impl Finder for Faulty {
                 [0, 0, started, 0, struck, rounds + 1]
             }
             _ => self.counts(words),
+        }
+    }
+
+    fn match_one_way(
+        &self,
+        editions: [Edition; 2],
+        pattern: &[u8],
+        board: &[u8],
+        table: &mut [u32],
+    ) -> Words {
+        match self.0 {
+            Fault::BothWays => Second.match_in(editions, pattern, board, table),
+            _ => Second.match_one_way(editions, pattern, board, table),
         }
     }
 

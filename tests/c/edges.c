@@ -60,6 +60,9 @@ static void no_arrays(void)
     check(is_counts(heronditch_match(NULL, 0, NULL, 0, NULL, 0), 1, HERONDITCH_PATTERN, 0, 0, 0, 0), "match of nothing");
     check(is_counts(heronditch_match(TWO_BITS, sizeof TWO_BITS, NULL, 0, NULL, 0), 1, HERONDITCH_BOARD, 0, 0, 0, 0),
           "match of a pattern in two bits on nothing");
+    check(is_counts(heronditch_match_one_way(NULL, 0, NULL, 0, NULL, 0), 1, HERONDITCH_PATTERN, 0, 0, 0, 0), "match_one_way of nothing");
+    check(is_counts(heronditch_match_one_way(TWO_BITS, sizeof TWO_BITS, NULL, 0, NULL, 0), 1, HERONDITCH_BOARD, 0, 0, 0, 0),
+          "match_one_way of a pattern in two bits on nothing");
     check(is_counts(heronditch_match(T, sizeof T, NULL, 0, NULL, 0), 1, HERONDITCH_BOARD, 0, 0, 0, 0), "match on nothing");
     check(is_counts(heronditch_place(NULL, 0, NULL, 0, 0, NULL, 0, NULL, 0, NULL, 0, NULL, 0), 1, HERONDITCH_PATTERN, 0, 0, 0, 0),
           "place of nothing");
@@ -74,6 +77,7 @@ static void no_arrays(void)
     static const uint8_t none[] = {0, 0, 0, 0};
     check(is_reply(heronditch_read_board(none, 4, NULL, 0, NULL, 0, NULL, 0), 0, HERONDITCH_NEITHER, 0, 0), "a board of no node");
     check(is_counts(heronditch_match(T, sizeof T, none, 4, NULL, 0), 0, HERONDITCH_NEITHER, 0, 0, 0, 0), "match on no node");
+    check(is_counts(heronditch_match_one_way(T, sizeof T, none, 4, NULL, 0), 0, HERONDITCH_NEITHER, 0, 0, 0, 0), "match_one_way on no node");
     check(is_counts(heronditch_place(T, sizeof T, none, 4, 0, NULL, 0, NULL, 0, NULL, 0, NULL, 0), 7, HERONDITCH_NEITHER, 0, 0, 0, 0),
           "place on no node");
     check(is_reply(heronditch_bar(T, sizeof T, none, 4, 0, NULL, 0), 7, HERONDITCH_NEITHER, 0, 0), "bar on no node");
@@ -103,6 +107,24 @@ static void place_with(size_t nodes_len, size_t links_len, size_t table_len, siz
         for (size_t v = 0; v < 6; v++) /* nodes 0, 1, 2 are a path, and no path leads to the others */
             check(distances[v] == (v > 2 ? HERONDITCH_OUTSIDE : v > centre ? v - centre : centre - v), what);
     }
+}
+
+/* one way: the table of T on B, one entry short, as long as needed and longer; and T, which is connected, where its first part has no node */
+static void one_way(void)
+{
+    uint32_t table[7];
+    memset(table, 0xA5, sizeof table);
+    check(is_counts(heronditch_match_one_way(T, sizeof T, B, sizeof B, table, 5), 8, HERONDITCH_NEITHER, 0, 0, 0, 0), "one way, one set less");
+    check(untouched(table, 0, sizeof table), "nothing filled one way");
+    for (size_t len = 6; len <= 7; len++) {
+        static const uint32_t sets[] = {1, 2, 4, 2, 4, 0};
+        memset(table, 0xA5, sizeof table);
+        check(is_counts(heronditch_match_one_way(T, sizeof T, B, sizeof B, table, len), 0, HERONDITCH_NEITHER, 6, 5, 1, 1), "T on B one way");
+        check(!memcmp(table, sets, sizeof sets) && untouched(table, sizeof sets, sizeof table), "T's table on B one way");
+    }
+    static const uint8_t tail[] = {2, 0, 1, 0, 20, 0, 30, 0, 0, 0, 1, 0};
+    check(is_counts(heronditch_match_one_way(T, sizeof T, tail, sizeof tail, table, 2), 0, HERONDITCH_NEITHER, 2, 0, 2, 0), "T's tail one way");
+    check(table[0] == 0 && table[1] == 0 && table[2] == 4, "all 0 where T's first part has no node");
 }
 
 static void lengths(void)
@@ -207,6 +229,12 @@ static void second_edition(void)
     check(is_counts(heronditch_match_21(T2, sizeof T2, T, sizeof T, table, 3), 0, HERONDITCH_NEITHER, 1, 0, 1, 1), "T with packages on T without");
     check(is_counts(heronditch_match_21(T0, sizeof T0, B, sizeof B, table, 4), 8, HERONDITCH_NEITHER, 0, 0, 0, 0), "match_21 with a short table");
     check(is_counts(heronditch_match_12(NULL, 0, NULL, 0, NULL, 0), 1, HERONDITCH_PATTERN, 0, 0, 0, 0), "match_12 of nothing");
+    check(is_counts(heronditch_match_one_way_22(T2, sizeof T2, T2, sizeof T2, table, 4), 0, HERONDITCH_NEITHER, 3, 3, 0, 0), "T with packages on itself one way");
+    check(is_counts(heronditch_match_one_way_22(T2, sizeof T2, T2, sizeof T2, table, 2), 8, HERONDITCH_NEITHER, 0, 0, 0, 0), "match_one_way_22 with a short table");
+    check(is_counts(heronditch_match_one_way_12(NULL, 0, NULL, 0, NULL, 0), 1, HERONDITCH_PATTERN, 0, 0, 0, 0), "match_one_way_12 of nothing");
+    check(is_counts(heronditch_match_one_way_21(T0, sizeof T0, B, sizeof B, table, 4), 8, HERONDITCH_NEITHER, 0, 0, 0, 0), "match_one_way_21 with a short table");
+    uint32_t six[6];
+    check(is_counts(heronditch_match_one_way_21(T0, sizeof T0, B, sizeof B, six, 6), 0, HERONDITCH_NEITHER, 6, 5, 1, 1), "T in the second edition on B one way");
     static const uint8_t all[] = {1, 1, 1, 1};
     check(is_reply(heronditch_check_22(T2, sizeof T2, T2, sizeof T2, 0, all, 3, all, 2), 0, HERONDITCH_NEITHER, 1, 0), "T with packages is its own place");
     check(is_reply(heronditch_check_12(T, sizeof T, T2, sizeof T2, 0, all, 3, all, 2), 0, HERONDITCH_NEITHER, 0, 0), "and none of T without");
@@ -572,6 +600,7 @@ static void bounds(void)
 int main(void)
 {
     no_arrays();
+    one_way();
     lengths();
     barred();
     reports();

@@ -74,6 +74,11 @@ static void *match_bounded(void *x)
     refused |= heronditch_match_31(bounded, sizeof bounded, BOARD, table, HERONDITCH_NODES).number;
     return x;
 }
+static void *one_way(void *x)
+{
+    refused |= heronditch_match_one_way(PATTERN, BOARD, table, HERONDITCH_NODES).number;
+    return x;
+}
 static void *place(void *x)
 {
     refused |= heronditch_place(PATTERN, BOARD, 0, bytes, HERONDITCH_NODES, links, HERONDITCH_BOARD_LINKS, table, HERONDITCH_NODES, kinds, HERONDITCH_NODES).number;
@@ -155,7 +160,7 @@ int main(void)
     static const struct {
         const char *name;
         void *(*call)(void *);
-    } calls[] = {{"read", read_board}, {"write", write_board}, {"radius", radius}, {"ball", ball}, {"match", match}, {"match with bounds", match_bounded}, {"place", place}, {"check", check}, {"bar", bar}, {"merge", merge}, {"report", report}, {"load", load}, {"compare", compare}, {"shelf", shelf}};
+    } calls[] = {{"read", read_board}, {"write", write_board}, {"radius", radius}, {"ball", ball}, {"match", match}, {"match one way", one_way}, {"match with bounds", match_bounded}, {"place", place}, {"check", check}, {"bar", bar}, {"merge", merge}, {"report", report}, {"load", load}, {"compare", compare}, {"shelf", shelf}};
     size_t most = 0;
     if (circuit(HERONDITCH_PARTS, HERONDITCH_PATTERN_LINKS, pattern) != sizeof pattern || circuit(HERONDITCH_NODES, HERONDITCH_BOARD_LINKS, board) != sizeof board)
         return 2;

@@ -19,7 +19,7 @@ use Rattle.table.specs.Fill.{listed, marksOf, tableAt}
 use Rattle.table.specs.First.{startNode, Written, Begins}
 use Rattle.table.specs.Prepared.{Masked, Tables, tables}
 use Rattle.table.specs.Refine.{Known}
-use Rattle.table.specs.Row.{lastTable}
+use Rattle.table.specs.Row.{bothWays, lastTable}
 use Rattle.table.proofs.Begun.{started-begins}
 use Rattle.place.specs.Match.{ballTable, found}
 use Rattle.barring.specs.Least.{bars}
@@ -65,10 +65,10 @@ module _ {pattern board : Circuit} {t : Tables} {nodes first : List ℕ} (b : Be
 
     -- with which striking may begin
     pub copied-begins : Begins pattern board (marksOf (length (board .kinds)) nodes) table
-    copied-begins = started-begins pattern board nodes (long ∙ begun-long) copied
+    copied-begins = started-begins bothWays pattern board nodes (long ∙ begun-long) copied
 
     pub copied-known : Known t nodes table
-    copied-known = record { pattern = pattern; host = board; prepared = b .prepared; begins = copied-begins }
+    copied-known = record { ways = bothWays; pattern = pattern; host = board; prepared = b .prepared; begins = copied-begins }
 
     pub copied-long : length table ≡ length (board .kinds)
     copied-long = ap length (w .made) ∙ length-at n _ nodes ∙ long ∙ begun-long

@@ -22,9 +22,9 @@ use Rattle.table_row.proofs.Wider.{started-same, rounds-same}
 use Rattle.table_row.specs.Row.{pairs, startedOf}
 use Rattle.table_row.specs.Answer.{answerKept, answerStruck}
 use Rattle.table_row.proofs.Answer.{answer-wider, answer-same}
-use Rattle.table.specs.Answer.{answerTable, answerCounts}
+use Rattle.table.specs.Answer.{answerTable, answerCounts, answerCountsBy}
 use Rattle.table.specs.Host.{everything}
-use Rattle.table.specs.Row.{agrees, neighbours, problemOf}
+use Rattle.table.specs.Row.{agrees, neighbours, problemBy, problemOf}
 use Rattle.table.proofs.Host.{everything-taken}
 use Rattle.bounded.specs.Path.{PathWithin}
 use Rattle.bounded.specs.Raised.{Raised, AllOne}
@@ -104,12 +104,12 @@ module _ (pattern : Circuit) (bounds : List ℕ) (board : Circuit) (each : Bound
   direct d v v′ m = neighbours-along board d v v′ .1 (along-wider (λ x y p. path-one p) d v v′ m)
 
   two-ways : (d : Direction) → Way (problemOf pattern board (everything board) .ways) d
-  unfolding problemOf Way
+  unfolding problemBy Way
   two-ways forwards = inl refl
   two-ways backwards = inr (inl refl)
 
   pub ones-same : Equivalent (boundedProblem pattern bounds board) (problemOf pattern board (everything board))
-  unfolding boundedProblem problemOf
+  unfolding boundedProblem problemBy
   ones-same =
       record {
         nodes = refl;
@@ -161,5 +161,5 @@ module _ (pattern : Circuit) (bounds : List ℕ) (board : Circuit) (each : Bound
 
   -- and the four counts.
   pub ones-counts : boundedCounts pattern bounds board ≡ answerCounts pattern board (everything board)
-  unfolding boundedCounts answerCounts
+  unfolding boundedCounts answerCountsBy
   ones-counts = rw (started-same ones-same, kept-same ones-same, struck-same ones-same, rounds-same ones-same)

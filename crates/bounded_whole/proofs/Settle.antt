@@ -38,7 +38,7 @@ use Rattle.table.specs.First.{startNode, Written}
 use Rattle.table.specs.Host.{everything}
 use Rattle.table.specs.Prepared.{Tables}
 use Rattle.table.specs.Refine.{countsFrom}
-use Rattle.table.specs.Row.{agrees, problemOf, startTable}
+use Rattle.table.specs.Row.{agrees, bothWays, problemBy, startTable}
 use Rattle.table.proofs.Begun.{started-table}
 use Rattle.table.proofs.Host.{everything-taken}
 use Rattle.table.proofs.NodeLists.{length-all, all-list, all-marks}
@@ -85,7 +85,7 @@ front-room n xs ys e = rw length-append (omega (arith, ap length e ∙ length-al
 -- ---- the first table
 
 start-same : (pattern : Circuit) (bounds : List ℕ) (board : Circuit) → startOf (boundedProblem pattern bounds board) ≡ startTable pattern board (everything board)
-unfolding startOf tableOf boundedProblem problemOf
+unfolding startOf tableOf boundedProblem problemBy
 start-same pattern bounds board =
     tabulate-same (length (board .kinds)) _ _
     (λ v h.
@@ -102,7 +102,7 @@ module _ (pattern : Circuit) (bounds : List ℕ) (board : Circuit) where
       Written n (startNode (pattern .kinds) (board .kinds)) nodes first count → first ≡ startOf problem
   unfolding everything
   first-table {nodes = nodes} long listed w =
-      started-table pattern board nodes long w
+      started-table bothWays pattern board nodes long w
       ∙ ap (startTable pattern board) (ap (marksOf (length (board .kinds))) listed ∙ all-marks (length (board .kinds)))
       ∙ sym (start-same pattern bounds board)
 
@@ -212,7 +212,7 @@ module _ (pattern : Circuit) (bounds : List ℕ) (board : Circuit) where
 -- no bound is above 1, so that the answer is that of the pattern without bounds
 pub ones-answer :
     {pattern : Circuit} {bounds : List ℕ} {board : Circuit} {table : List ℕ} {counts : Counts} {top : ℕ} → Bounds pattern bounds → Top bounds top → top < 2 →
-    AnsweredOn pattern board table counts → BoundedAnswer pattern bounds board table counts
+    AnsweredOn bothWays pattern board table counts → BoundedAnswer pattern bounds board table counts
 ones-answer {pattern} {bounds} {board} each upto few a =
     let one : AllOne bounds = λ i h. omega (arith, each .some i h, upto .each i h, few) in
     record { counted = a .counted ∙ sym (ones-counts pattern bounds board each one); last = a .last ∙ sym (ones-table pattern bounds board each one) }

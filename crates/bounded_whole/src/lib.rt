@@ -8,6 +8,7 @@ use graph_neighbours::tables::LINKS;
 use graph_neighbours::tables::OFFSETS;
 use graph_neighbours::tables::neighbour_tables;
 use table::Counts;
+use table::Ways;
 use table::first::start;
 use table::largest::counted;
 use table_answer::all_or_none;
@@ -118,6 +119,7 @@ pub fn match_bounded(
 {
     if largest_bound(bounds) < 2 {
         return match_whole(
+            Ways::Both,
             part_kinds,
             part_starts,
             part_ends,

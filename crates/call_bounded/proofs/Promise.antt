@@ -34,12 +34,12 @@ use Rattle.bounded.specs.Raised.{Raised, AllOne}
 use Rattle.bounded.proofs.Meaning.{bounded-largest}
 use Rattle.bounded.proofs.Run.{bounded-length, bounded-sum, bounded-rounds, bounded-ones}
 use Rattle.bounded.proofs.Wider.{raised-more, ones-table, ones-counts}
-use Rattle.call_match.specs.Call.{TableOutcome, matchConditions, matchedBy, matching}
+use Rattle.call_match.specs.Call.{TableOutcome, matchConditions, matchedBy, matchingBy, matching}
 use Rattle.table.specs.declared.Counts.{Counts}
 use Rattle.table.specs.Answer.{answerTable, answerCounts}
 use Rattle.table.specs.Host.{everything, KindsMatch}
 use Rattle.table.specs.Reply.{noCounts, replied}
-use Rattle.table.specs.Row.{InTable}
+use Rattle.table.specs.Row.{bothWays, InTable}
 use Rattle.call_bounded.specs.Call.{boundedConditions, boundedBy, boundedMatching}
 use Rattle.call_bounded.proofs.Matching.{third-bounds}
 
@@ -151,7 +151,7 @@ raised-keeps pattern pattern′ board table table′ same r ok ok′ u v m =
 same-outcome :
     (v : Verdict) (p : Circuit) (bounds : List ℕ) (b : Circuit) (table : List ℕ) →
     (v ≡ accept → (boundedTable p bounds b ≡ answerTable p b (everything b)) × (boundedCounts p bounds b ≡ answerCounts p b (everything b))) →
-    boundedBy v p bounds b table ≡ matchedBy v p b table
+    boundedBy v p bounds b table ≡ matchedBy bothWays v p b table
 unfolding replied filled
 same-outcome accept p bounds b table plain = let (t, c) = plain refl in rw (t, c)
 same-outcome (refuse x) p bounds b table plain = refl
@@ -182,7 +182,7 @@ module _ (pattern : List ℕ) (board : CircuitFile) (table : List ℕ) (long : l
   -- "With all bounds 1 the table and counts are those of the second edition": the whole reply and the table, refusals too, for every byte string of
   -- the third edition's length
   pub ones-second : boundedMatching pattern board table ≡ matching (frontOf pattern) board table
-  unfolding boundedMatching matching
+  unfolding boundedMatching matchingBy
   ones-second =
       rw (sym conditions-same)
       (same-outcome (first (boundedConditions pattern board (length table))) (circuitOf (frontOf pattern)) (boundsOf pattern) (circuitOf board) table

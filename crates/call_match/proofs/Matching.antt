@@ -18,22 +18,23 @@ use Rattle.file_pair.specs.Pair.{pairConditions, BothRead}
 use Rattle.file_pair.specs.declared.Pair.{Pair}
 use Rattle.call_match.specs.declared.TableAnswer.the-variants.{Matched, Refused}
 use Rattle.table.specs.declared.Counts.{Counts}
-use Rattle.call_match.specs.Call.{TableOutcome, matchConditions, replyOf, matchOn, matching}
+use Rattle.call_match.specs.Call.{TableOutcome, matchConditions, replyOf, matchOn, matchingBy}
+use Rattle.simulation.specs.Simulation.{Direction}
 use Rattle.table.specs.Host.{everything}
-use Rattle.table.specs.Answer.{answerTable, answerCounts, AnsweredOn}
+use Rattle.table.specs.Answer.{answerBy, answerCountsBy, AnsweredOn}
 use Rattle.table.specs.Reply.{Reply, replied}
 use Rattle.table.proofs.Answer.{answer-fits}
 
 -- the table has an entry for each node
-pub length-answer : (pattern board : CircuitFile)
-    → length (answerTable (circuitOf pattern) (circuitOf board) (everything (circuitOf board))) ≡ nodesOf board
-length-answer pattern board = answer-fits (circuitOf pattern) (circuitOf board) (everything (circuitOf board)) .size ∙ length-labels board
+pub length-answer : (ways : List Direction) (pattern board : CircuitFile)
+    → length (answerBy ways (circuitOf pattern) (circuitOf board) (everything (circuitOf board))) ≡ nodesOf board
+length-answer ways pattern board = answer-fits ways (circuitOf pattern) (circuitOf board) (everything (circuitOf board)) .size ∙ length-labels board
 
 -- ---- two circuits
 
-module _ (p b : Circuit) (table : List ℕ) where
+module _ (ways : List Direction) (p b : Circuit) (table : List ℕ) where
   pub on-short : length table < length (b .kinds)
-      → record { reply = replyOf (Refused (record { number = 8; file = Neither })); table = table } ≡ matchOn p b table
+      → record { reply = replyOf (Refused (record { number = 8; file = Neither })); table = table } ≡ matchOn ways p b table
   unfolding matchOn first shortTable replied replyOf filled
   on-short h = rw (lt-ltb _ _ h)
 
@@ -43,26 +44,26 @@ module _ (p b : Circuit) (table : List ℕ) where
   fits-verdict h = rw (le-ltb _ _ h)
 
   -- the counts are replied with,
-  fits-reply : length (b .kinds) ≤ length table → {counts : Counts} → counts ≡ answerCounts p b (everything b)
-      → replyOf (Matched counts) ≡ matchOn p b table .reply
+  fits-reply : length (b .kinds) ≤ length table → {counts : Counts} → counts ≡ answerCountsBy ways p b (everything b)
+      → replyOf (Matched counts) ≡ matchOn ways p b table .reply
   unfolding matchOn replied replyOf
-  fits-reply h e = rw e (ap (λ (v : Verdict). replied v (answerCounts p b (everything b))) (sym (fits-verdict h)))
+  fits-reply h e = rw e (ap (λ (v : Verdict). replied v (answerCountsBy ways p b (everything b))) (sym (fits-verdict h)))
 
   -- and the answer stands at the table's front, before the entries that stay
-  fits-table : length (b .kinds) ≤ length table → {last : List ℕ} → last ≡ answerTable p b (everything b)
-      → last ++ drop (length (b .kinds)) table ≡ matchOn p b table .table
+  fits-table : length (b .kinds) ≤ length table → {last : List ℕ} → last ≡ answerBy ways p b (everything b)
+      → last ++ drop (length (b .kinds)) table ≡ matchOn ways p b table .table
   unfolding matchOn filled
   fits-table h {last} e =
-      let front : last ++ drop (length (b .kinds)) table ≡ filled accept (answerTable p b (everything b)) table = rw (e, answer-fits p b (everything b) .size) in
-      front ∙ ap (λ (v : Verdict). filled v (answerTable p b (everything b)) table) (sym (fits-verdict h))
+      let front : last ++ drop (length (b .kinds)) table ≡ filled accept (answerBy ways p b (everything b)) table = rw (e, answer-fits ways p b (everything b) .size) in
+      front ∙ ap (λ (v : Verdict). filled v (answerBy ways p b (everything b)) table) (sym (fits-verdict h))
 
-  pub on-matched : length (b .kinds) ≤ length table → {counts : Counts} {last : List ℕ} → AnsweredOn p b last counts
-      → record { reply = replyOf (Matched counts); table = last ++ drop (length (b .kinds)) table } ≡ matchOn p b table
+  pub on-matched : length (b .kinds) ≤ length table → {counts : Counts} {last : List ℕ} → AnsweredOn ways p b last counts
+      → record { reply = replyOf (Matched counts); table = last ++ drop (length (b .kinds)) table } ≡ matchOn ways p b table
   on-matched h m = ap₂ (λ (r : Reply) (t : List ℕ). record { reply = r; table = t }) (fits-reply h (m .counted)) (fits-table h (m .last))
 
 -- ---- two files
 
-module _ (pattern board : CircuitFile) (table : List ℕ) where
+module _ (ways : List Direction) (pattern board : CircuitFile) (table : List ℕ) where
   -- what the table is too short for comes after what is wrong with the files
   files-first : {x : Refusal} → first (pairConditions AnyPattern pattern board) ≡ refuse x → first (matchConditions pattern board (length table)) ≡ refuse x
   unfolding matchConditions
@@ -74,15 +75,15 @@ module _ (pattern board : CircuitFile) (table : List ℕ) where
   then-table e = first-accept (pairConditions AnyPattern pattern board) _ e
 
   pub matching-refused : {x : Refusal} → first (pairConditions AnyPattern pattern board) ≡ refuse x
-      → record { reply = replyOf (Refused x); table = table } ≡ matching pattern board table
-  unfolding matching replied replyOf filled
+      → record { reply = replyOf (Refused x); table = table } ≡ matchingBy ways pattern board table
+  unfolding matchingBy replied replyOf filled
   matching-refused e = rw (files-first e)
 
   matching-accepted : first (pairConditions AnyPattern pattern board) ≡ accept
-      → matchOn (circuitOf pattern) (circuitOf board) table ≡ matching pattern board table
-  unfolding matchOn matching
+      → matchOn ways (circuitOf pattern) (circuitOf board) table ≡ matchingBy ways pattern board table
+  unfolding matchOn matchingBy
   matching-accepted e = rw (then-table e, length-labels board)
 
   pub matching-read : {p : Pair} {parts nodes : Circuit} → BothRead AnyPattern pattern board p parts nodes → {o : TableOutcome}
-      → o ≡ matchOn (front (p .parts) (p .joins) parts) (front (p .nodes) (p .links) nodes) table → o ≡ matching pattern board table
+      → o ≡ matchOn ways (front (p .parts) (p .joins) parts) (front (p .nodes) (p .links) nodes) table → o ≡ matchingBy ways pattern board table
   matching-read read e = (rw (read .drawn .content, read .given .content) at e) ∙ matching-accepted (read .verdict)

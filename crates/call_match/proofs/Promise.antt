@@ -2,24 +2,25 @@
 -- pattern in the board, and the counts are those of the row. Assumes nothing.
 use mathlib.Core.Bool.{Bool, true, false, not, cond}
 use mathlib.Core.List.{List, _++_, map, List·Memᴰ}
-use mathlib.Core.Logic.{_↔_}
+use mathlib.Core.Logic.{_↔_, ⊎-elim}
 use mathlib.Core.Path.{_≡_, refl, sym, ap, subst, _∙_}
 use Prim.Native.Nat.{ℕ, _+_, _-_, _≤_, _<_}
 use native.Mathlib.Omega.{arith}
 use borrow.Author.Tests.{le-ltb}
 use lib.Count.{ones}
 use lib.Dec.{T, eqb, ltb}
-use lib.ListN.{length, take, drop}
-use lib.Seq.{take-at, drop-at, getD-take}
+use lib.ListN.{length, getD, take, drop, List·getD-append}
+use lib.Seq.{take-at, drop-at, getD-take, getD-append-add}
 use Rattle.base_lists.specs.List.{sum}
 use Rattle.base_lists.proofs.Tests.{refuted}
 use Rattle.base_bits.specs.Bits.{bit}
 use Rattle.graph.specs.Circuit.{Circuit, circuitGraph}
 use Rattle.graph.specs.Graph.{Connected}
 use Rattle.graph.specs.Search.{connected}
+use Rattle.graph.proofs.BfsScan.{lt-or-le}
 use Rattle.graph.proofs.Distance.{connected-iff}
-use Rattle.simulation.specs.Closed.{Relation}
-use Rattle.simulation.specs.Simulation.{Largest}
+use Rattle.simulation.specs.Closed.{Relation, _⊆_}
+use Rattle.simulation.specs.Simulation.{Direction, Candidate, Along, Largest, LargestGraphSimulation}
 use Rattle.simulation.proofs.Simulation.{largest-unique}
 use Rattle.file_format.specs.declared.Refusal.{Refusal}
 use Rattle.file_format.specs.declared.Role.the-variants.{Pattern, Board, AnyPattern}
@@ -37,14 +38,13 @@ use Rattle.file_pair.proofs.Both.{pair-accept, pair-parts}
 use Rattle.call_match.specs.declared.TableAnswer.{TableAnswer}
 use Rattle.call_match.specs.declared.TableAnswer.the-variants.{Matched, Refused}
 use Rattle.table.specs.declared.Counts.{Counts}
-use Rattle.call_match.specs.Call.{matchConditions, replyOf, matchedBy, matching, connectedConditions, rowBy, connectedMatching}
-use Rattle.table.specs.Answer.{answerTable, answerCounts, Answered}
+use Rattle.call_match.specs.Call.{matchConditions, replyOf, matchedBy, matchingBy, matching, oneWayMatching, connectedConditions, rowBy, connectedMatching}
+use Rattle.table.specs.Answer.{answerBy, answerCountsBy, AnsweredBy}
 use Rattle.table.specs.Host.{everything, KindsMatch}
 use Rattle.table.specs.Reply.{Reply, noCounts, replied}
 use Rattle.table.specs.Refine.{countsOf}
-use Rattle.table.specs.Row.{inTable, startTable, lastTable, InTable}
-use Rattle.table.proofs.Answer.{answer-connected, answer-sum, answer-rounds, answer-ones, board-answer}
-use Rattle.table.proofs.Counting.{started-ones}
+use Rattle.table.specs.Row.{inTable, bothWays, oneWay, startBy, lastTable, InTable, Chosen, LargestOccurring}
+use Rattle.table.proofs.Answer.{answer-sum, answer-rounds, answer-ones, answer-started, answer-fewer, answer-connected, board-along, along-dual, along-graph}
 use Rattle.table.proofs.Host.{within-joins}
 use Rattle.call_match.proofs.Matching.{length-answer}
 
@@ -70,24 +70,24 @@ in-front : (n : ℕ) (t : List ℕ) (u v : ℕ) → v < n → inTable (take n t)
 unfolding inTable
 in-front n t u v h = ap (λ (x : ℕ). bit x u) (getD-take n t v 0 h)
 
-module _ (pattern board : CircuitFile) (table : List ℕ) where
-  verdict-is : matching pattern board table .reply .verdict ≡ first (matchConditions pattern board (length table))
-  unfolding matching
+module _ (ways : List Direction) (pattern board : CircuitFile) (table : List ℕ) where
+  pub verdict-is : matchingBy ways pattern board table .reply .verdict ≡ first (matchConditions pattern board (length table))
+  unfolding matchingBy
   verdict-is = replied-verdict _ _
 
   -- ---- refusals
 
   -- the call is refused exactly when one of the conditions holds,
   pub refused-iff :
-      ((x : Refusal) × (matching pattern board table .reply .verdict ≡ refuse x)) ↔
+      ((x : Refusal) × (matchingBy ways pattern board table .reply .verdict ≡ refuse x)) ↔
       ((c : Condition) × List·Memᴰ c (matchConditions pattern board (length table)) × T (c .holds))
   refused-iff = rw verdict-is (refuses-iff (matchConditions pattern board (length table)))
 
   -- and then "All lent tables keep their content; counts are 0".
   pub refused-keeps :
-      (x : Refusal) → matching pattern board table .reply .verdict ≡ refuse x →
-      (matching pattern board table .reply .counts ≡ noCounts) × (matching pattern board table .table ≡ table)
-  unfolding matching replied filled
+      (x : Refusal) → matchingBy ways pattern board table .reply .verdict ≡ refuse x →
+      (matchingBy ways pattern board table .reply .counts ≡ noCounts) × (matchingBy ways pattern board table .table ≡ table)
+  unfolding matchingBy replied filled
   refused-keeps x e =
       let v : first (matchConditions pattern board (length table)) ≡ refuse x = sym verdict-is ∙ e in
       (rw v, rw v)
@@ -96,12 +96,12 @@ module _ (pattern board : CircuitFile) (table : List ℕ) where
 
   -- Two accepted files and a table that is long enough are not refused.
   pub accepts :
-      Accepted AnyPattern pattern → Accepted Board board → nodesOf board ≤ length table → matching pattern board table .reply .verdict ≡ accept
+      Accepted AnyPattern pattern → Accepted Board board → nodesOf board ≤ length table → matchingBy ways pattern board table .reply .verdict ≡ accept
   unfolding matchConditions first shortTable
   accepts a b room =
       verdict-is ∙ rw (first-accept _ _ (pair-accept AnyPattern pattern board a b)) (simp (le-ltb _ _ room))
 
-  module _ (accepts : matching pattern board table .reply .verdict ≡ accept) where
+  module _ (accepts : matchingBy ways pattern board table .reply .verdict ≡ accept) where
     sound : first (matchConditions pattern board (length table)) ≡ accept
     sound = sym verdict-is ∙ accepts
 
@@ -115,73 +115,131 @@ module _ (pattern board : CircuitFile) (table : List ℕ) where
     pub board-accepted : Accepted Board board
     board-accepted = accepted Board board (files-sound .1)
 
-    table-is : matching pattern board table .table
-        ≡ answerTable (circuitOf pattern) (circuitOf board) (everything (circuitOf board)) ++ drop (nodesOf board) table
-    unfolding matching filled
+    table-is : matchingBy ways pattern board table .table
+        ≡ answerBy ways (circuitOf pattern) (circuitOf board) (everything (circuitOf board)) ++ drop (nodesOf board) table
+    unfolding matchingBy filled
     table-is = rw (sound, length-answer)
 
-    pub counts-are : matching pattern board table .reply .counts ≡ answerCounts (circuitOf pattern) (circuitOf board) (everything (circuitOf board))
-    unfolding matching replied
+    pub counts-are : matchingBy ways pattern board table .reply .counts ≡ answerCountsBy ways (circuitOf pattern) (circuitOf board) (everything (circuitOf board))
+    unfolding matchingBy replied
     counts-are = rw sound
 
     -- the first N entries are the answer, and the others stay
-    pub front-is : take (nodesOf board) (matching pattern board table .table) ≡ answerTable (circuitOf pattern) (circuitOf board) (everything (circuitOf board))
-    front-is = rw table-is (take-at _ _ (nodesOf board) (length-answer pattern board))
+    pub front-is : take (nodesOf board) (matchingBy ways pattern board table .table) ≡ answerBy ways (circuitOf pattern) (circuitOf board) (everything (circuitOf board))
+    front-is = rw table-is (take-at _ _ (nodesOf board) (length-answer ways pattern board))
 
-    pub rest-is : drop (nodesOf board) (matching pattern board table .table) ≡ drop (nodesOf board) table
+    pub rest-is : drop (nodesOf board) (matchingBy ways pattern board table .table) ≡ drop (nodesOf board) table
     rest-is =
         rw table-is
-        (drop-at (answerTable (circuitOf pattern) (circuitOf board) (everything (circuitOf board))) _ (nodesOf board) (length-answer pattern board))
+        (drop-at (answerBy ways (circuitOf pattern) (circuitOf board) (everything (circuitOf board))) _ (nodesOf board) (length-answer ways pattern board))
 
     most : length (circuitOf pattern .kinds) ≤ 32
     most = accepted-bounded pattern-accepted .nodes
 
-    -- they are the largest dual simulation of the pattern in the board, whether the pattern is connected or not:
-    pub front-largest :
-        Largest (circuitGraph (circuitOf pattern)) (KindsMatch (circuitOf pattern) (circuitOf board)) (circuitGraph (circuitOf board))
-        (InTable (take (nodesOf board) (matching pattern board table .table)))
-    front-largest =
-        rw front-is
-        (board-answer (circuitOf pattern) (circuitOf board) most
-        (within-joins (circuitOf board) (accepted-within board-accepted)))
-
-    -- bit u of entry v is set exactly when (u, v) is in it.
-    pub entry-bit :
-        {S : Relation} → Largest (circuitGraph (circuitOf pattern)) (KindsMatch (circuitOf pattern) (circuitOf board)) (circuitGraph (circuitOf board)) S →
-        (u v : ℕ) → v < nodesOf board → InTable (matching pattern board table .table) u v ↔ S u v
-    entry-bit l u v h =
-        let same = in-front (nodesOf board) (matching pattern board table .table) u v h in (
-          λ m. largest-unique front-largest l u v (subst T (sym same) m),
-          λ s. subst T same (largest-unique l front-largest u v s),
-        )
-
     -- "So started = kept + struck, and rounds are at most struck."
     pub counts-sum :
-        matching pattern board table .reply .counts .started
-        ≡ matching pattern board table .reply .counts .kept + matching pattern board table .reply .counts .struck
-    unfolding answerCounts
-    counts-sum = rw counts-are (answer-sum (circuitOf pattern) (circuitOf board) (everything (circuitOf board)) most)
+        matchingBy ways pattern board table .reply .counts .started
+        ≡ matchingBy ways pattern board table .reply .counts .kept + matchingBy ways pattern board table .reply .counts .struck
+    unfolding answerCountsBy
+    counts-sum = rw counts-are (answer-sum ways (circuitOf pattern) (circuitOf board) (everything (circuitOf board)) most)
 
     pub counts-struck :
-        matching pattern board table .reply .counts .struck
-        ≡ matching pattern board table .reply .counts .started - matching pattern board table .reply .counts .kept
+        matchingBy ways pattern board table .reply .counts .struck
+        ≡ matchingBy ways pattern board table .reply .counts .started - matchingBy ways pattern board table .reply .counts .kept
     counts-struck = omega (arith, counts-sum)
 
-    pub counts-rounds : matching pattern board table .reply .counts .rounds ≤ matching pattern board table .reply .counts .struck
-    unfolding answerCounts
-    counts-rounds = rw counts-are (answer-rounds (circuitOf pattern) (circuitOf board) (everything (circuitOf board)) most)
+    pub counts-rounds : matchingBy ways pattern board table .reply .counts .rounds ≤ matchingBy ways pattern board table .reply .counts .struck
+    unfolding answerCountsBy
+    counts-rounds = rw counts-are (answer-rounds ways (circuitOf pattern) (circuitOf board) (everything (circuitOf board)) most)
 
     -- "started, the pairs of R0", by one bits
     pub counts-started :
-        matching pattern board table .reply .counts .started
-        ≡ sum (map ones (startTable (circuitOf pattern) (circuitOf board) (everything (circuitOf board))))
-    unfolding answerCounts
-    counts-started = rw counts-are (started-ones (circuitOf pattern) (circuitOf board) (everything (circuitOf board)) most)
+        matchingBy ways pattern board table .reply .counts .started
+        ≡ sum (map ones (startBy ways (circuitOf pattern) (circuitOf board) (everything (circuitOf board))))
+    unfolding answerCountsBy
+    counts-started = rw counts-are (answer-started ways (circuitOf pattern) (circuitOf board) (everything (circuitOf board)) most)
 
     -- "kept is the number of one bits in the whole table"
-    pub counts-ones : matching pattern board table .reply .counts .kept ≡ sum (map ones (take (nodesOf board) (matching pattern board table .table)))
-    unfolding answerCounts
-    counts-ones = rw (counts-are, front-is) (answer-ones (circuitOf pattern) (circuitOf board) (everything (circuitOf board)) most)
+    pub counts-ones : matchingBy ways pattern board table .reply .counts .kept ≡ sum (map ones (take (nodesOf board) (matchingBy ways pattern board table .table)))
+    unfolding answerCountsBy
+    counts-ones = rw (counts-are, front-is) (answer-ones ways (circuitOf pattern) (circuitOf board) (everything (circuitOf board)) most)
+
+    -- The first N entries are the largest set that is closed along the directions chosen and in which each part occurs, unless it is empty.
+    pub front-along :
+        LargestOccurring (circuitGraph (circuitOf pattern) .Node)
+        (Candidate (circuitGraph (circuitOf pattern)) (KindsMatch (circuitOf pattern) (circuitOf board)) (circuitGraph (circuitOf board)))
+        (Chosen ways (Along (circuitGraph (circuitOf pattern) .Link))) (Along (circuitGraph (circuitOf board) .Link))
+        (InTable (take (nodesOf board) (matchingBy ways pattern board table .table)))
+    front-along =
+        rw front-is (board-along ways (circuitOf pattern) (circuitOf board) most (within-joins (circuitOf board) (accepted-within board-accepted)))
+
+-- ---- both directions
+
+module _ (pattern board : CircuitFile) (table : List ℕ) (ok : matching pattern board table .reply .verdict ≡ accept) where
+  -- along both directions that is the largest dual simulation of the pattern in the board, whether the pattern is connected or not:
+  pub front-largest :
+      Largest (circuitGraph (circuitOf pattern)) (KindsMatch (circuitOf pattern) (circuitOf board)) (circuitGraph (circuitOf board))
+      (InTable (take (nodesOf board) (matching pattern board table .table)))
+  front-largest = along-dual (front-along bothWays pattern board table ok)
+
+  -- bit u of entry v is set exactly when (u, v) is in it.
+  pub entry-bit :
+      {S : Relation} → Largest (circuitGraph (circuitOf pattern)) (KindsMatch (circuitOf pattern) (circuitOf board)) (circuitGraph (circuitOf board)) S →
+      (u v : ℕ) → v < nodesOf board → InTable (matching pattern board table .table) u v ↔ S u v
+  entry-bit l u v h =
+      let same = in-front (nodesOf board) (matching pattern board table .table) u v h in (
+        λ m. largest-unique front-largest l u v (subst T (sym same) m),
+        λ s. subst T same (largest-unique l front-largest u v s),
+      )
+
+-- ---- one way
+
+-- along forward links alone it is the largest graph simulation
+pub front-graph :
+    (pattern board : CircuitFile) (table : List ℕ) → oneWayMatching pattern board table .reply .verdict ≡ accept →
+    LargestGraphSimulation (circuitGraph (circuitOf pattern)) (KindsMatch (circuitOf pattern) (circuitOf board)) (circuitGraph (circuitOf board))
+    (InTable (take (nodesOf board) (oneWayMatching pattern board table .table)))
+front-graph pattern board table ok = along-graph (front-along oneWay pattern board table ok)
+
+-- tables of the same length, one in the other, and the same entries after them
+within-more :
+    (xs ys zs : List ℕ) → length xs ≡ length ys → InTable xs ⊆ InTable ys → InTable (xs ++ zs) ⊆ InTable (ys ++ zs)
+unfolding inTable
+within-more xs ys zs same inside u v m = ⊎-elim front past (lt-or-le v (length xs))
+  where
+    front : v < length xs → T (bit (getD (ys ++ zs) v 0) u)
+    front h =
+        rw (List·getD-append ys zs 0 v (rw (← same) h)) (inside u v (rw (List·getD-append xs zs 0 v h) at m))
+
+    past : length xs ≤ v → T (bit (getD (ys ++ zs) v 0) u)
+    past h =
+        let here : getD (xs ++ zs) v 0 ≡ getD zs (v - length xs) 0 =
+        ap (λ (k : ℕ). getD (xs ++ zs) k 0) (omega arith) ∙ getD-append-add xs zs (v - length xs) 0 in
+        let there : getD (ys ++ zs) v 0 ≡ getD zs (v - length xs) 0 =
+        ap (λ (k : ℕ). getD (ys ++ zs) k 0) (omega (arith, same)) ∙ getD-append-add ys zs (v - length xs) 0 in
+        subst (λ (k : ℕ). T (bit k u)) (here ∙ sym there) m
+
+-- "Its table contains the two-way table for each pattern and board": all of it, for the same files and the same table lent. Where the calls are
+-- refused, and past the entries that they fill, the two tables are the same.
+pub contains-two-way :
+    (ways : List Direction) (pattern board : CircuitFile) (table : List ℕ) →
+    InTable (matching pattern board table .table) ⊆ InTable (matchingBy ways pattern board table .table)
+unfolding matchingBy filled
+contains-two-way ways pattern board table = go (first (matchConditions pattern board (length table))) refl
+  where
+    go :
+        (w : Verdict) → first (matchConditions pattern board (length table)) ≡ w →
+        InTable (filled w (answerBy bothWays (circuitOf pattern) (circuitOf board) (everything (circuitOf board))) table) ⊆
+        InTable (filled w (answerBy ways (circuitOf pattern) (circuitOf board) (everything (circuitOf board))) table)
+    go accept e u v m =
+        let bounded = accepted-bounded (pattern-accepted ways pattern board table (verdict-is ways pattern board table ∙ e)) in
+        rw (length-answer ways pattern board)
+        (within-more (answerBy bothWays (circuitOf pattern) (circuitOf board) (everything (circuitOf board)))
+        (answerBy ways (circuitOf pattern) (circuitOf board) (everything (circuitOf board))) (drop (nodesOf board) table)
+        (length-answer bothWays pattern board ∙ sym (length-answer ways pattern board))
+        (answer-fewer (circuitOf pattern) (circuitOf board) (everything (circuitOf board)) (bounded .nodes) ways) u v
+        (rw (length-answer bothWays pattern board) at m))
+    go (refuse x) e u v m = m
 
 -- ---- connected patterns
 
@@ -248,7 +306,7 @@ same-verdict pattern board lent other =
 
 -- where the answer is the row's, the outcome is
 same-outcome : (v : Verdict) (p b : Circuit) (table : List ℕ)
-    → (v ≡ accept → Answered p b (everything b) (lastTable p b (everything b)) (countsOf p b (everything b))) → matchedBy v p b table ≡ rowBy v p b table
+    → (v ≡ accept → AnsweredBy bothWays p b (everything b) (lastTable p b (everything b)) (countsOf p b (everything b))) → matchedBy bothWays v p b table ≡ rowBy v p b table
 unfolding replied filled
 same-outcome accept p b table plain = let a = plain refl in rw (sym (a .counted), sym (a .last))
 same-outcome (refuse x) p b table plain = refl
@@ -258,7 +316,7 @@ same-outcome (refuse x) p b table plain = refl
 pub as-before :
     (pattern board : CircuitFile) (table : List ℕ) → (connectedMatching pattern board table .reply .verdict ≡ turned Pattern 6 → ⊥) →
     matching pattern board table ≡ connectedMatching pattern board table
-unfolding matching connectedMatching connectedConditions
+unfolding matchingBy connectedMatching connectedConditions
 as-before pattern board table other =
     let same = same-verdict pattern board (length table) (λ e. other (replied-verdict _ _ ∙ e)) in
     rw same
@@ -273,6 +331,6 @@ pub front-connected :
     (pattern board : CircuitFile) (table : List ℕ) → Accepted Pattern pattern → matching pattern board table .reply .verdict ≡ accept →
     take (nodesOf board) (matching pattern board table .table) ≡ lastTable (circuitOf pattern) (circuitOf board) (everything (circuitOf board))
 front-connected pattern board table drawn ok =
-    front-is pattern board table ok
+    front-is bothWays pattern board table ok
     ∙ sym
     (answer-connected (circuitOf pattern) (circuitOf board) (everything (circuitOf board)) (accepted-bounded drawn .nodes) (accepted-connected drawn) .last)

@@ -3,6 +3,7 @@ use mathlib.Core.List.{List, [], _∷_, _++_}
 use Prim.Native.Nat.{ℕ}
 use lib.ListN.{length}
 use Rattle.graph.specs.Circuit.{Circuit}
+use Rattle.simulation.specs.Simulation.{Direction}
 use Rattle.file_format.specs.declared.Role.the-variants.{Pattern, Board, AnyPattern}
 use Rattle.file_format.specs.Circuit.{circuitOf}
 use Rattle.file_format.specs.Layout.{CircuitFile, nodesOf}
@@ -11,11 +12,11 @@ use Rattle.file_format.specs.Refusals.{Condition, Verdict, accept, refuse, firs
 use Rattle.file_pair.specs.Pair.{pairConditions}
 use Rattle.call_match.specs.declared.TableAnswer.{TableAnswer}
 use Rattle.call_match.specs.declared.TableAnswer.the-variants.{Matched, Refused}
-use Rattle.table.specs.Answer.{answerTable, answerCounts}
+use Rattle.table.specs.Answer.{answerBy, answerCountsBy}
 use Rattle.table.specs.Host.{everything}
 use Rattle.table.specs.Refine.{countsOf}
 use Rattle.table.specs.Reply.{Reply, noCounts, replied}
-use Rattle.table.specs.Row.{lastTable}
+use Rattle.table.specs.Row.{bothWays, oneWay, lastTable}
 
 -- "Rising numbers are the order, the pattern's .. before the board's. Needed: .. match table N". "the whole-board call applies neither 6 nor
 -- 11": the pattern may be any, connected or not.
@@ -34,17 +35,24 @@ pub record TableOutcome : Type 0 where
 
 -- The pattern on the whole board: the four counts, and at the front of the table, whose entries past N stay, the last set of the row, or all
 -- 0 where some part is left without a node. On a refusal the whole table stays.
-abbrev pub matchedBy : Verdict → Circuit → Circuit → List ℕ → TableOutcome
-matchedBy verdict p b table =
-    record { reply = replied verdict (answerCounts p b (everything b)); table = filled verdict (answerTable p b (everything b)) table }
+abbrev pub matchedBy : List Direction → Verdict → Circuit → Circuit → List ℕ → TableOutcome
+matchedBy ways verdict p b table =
+    record { reply = replied verdict (answerCountsBy ways p b (everything b)); table = filled verdict (answerBy ways p b (everything b)) table }
 
 -- the call on two circuits that were read: the table may be short
-unfoldable pub matchOn : Circuit → Circuit → List ℕ → TableOutcome
-matchOn p b table = matchedBy (first (shortTable (length (b .kinds)) (length table) ∷ [])) p b table
+unfoldable pub matchOn : List Direction → Circuit → Circuit → List ℕ → TableOutcome
+matchOn ways p b table = matchedBy ways (first (shortTable (length (b .kinds)) (length table) ∷ [])) p b table
 
--- the call on two files
-unfoldable pub matching : CircuitFile → CircuitFile → List ℕ → TableOutcome
-matching pattern board table = matchedBy (first (matchConditions pattern board (length table))) (circuitOf pattern) (circuitOf board) table
+-- the call on two files, in the directions chosen
+unfoldable pub matchingBy : List Direction → CircuitFile → CircuitFile → List ℕ → TableOutcome
+matchingBy ways pattern board table = matchedBy ways (first (matchConditions pattern board (length table))) (circuitOf pattern) (circuitOf board) table
+
+-- the match-table call, and "a variant whose pairs need partners along forward links only"
+abbrev pub matching : CircuitFile → CircuitFile → List ℕ → TableOutcome
+matching pattern board table = matchingBy bothWays pattern board table
+
+abbrev pub oneWayMatching : CircuitFile → CircuitFile → List ℕ → TableOutcome
+oneWayMatching pattern board table = matchingBy oneWay pattern board table
 
 -- ---- connected patterns alone, as document 01 has the call
 

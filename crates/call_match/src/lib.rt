@@ -8,13 +8,15 @@ use file_format::Refusal;
 use file_format::Role;
 use file_pair::read_pair;
 use table::Counts;
+use table::Ways;
 use table_whole::match_whole;
 ghost use mathlib.Core.Path.{_≡_};
 ghost use Rattle.file_format.specs.Circuit.{Bounded};
 ghost use Rattle.file_format.specs.Layout.{inEdition};
 ghost use Rattle.file_format.specs.declared.Role.the-variants as role;
 ghost use Rattle.graph.specs.Circuit.{circuit};
-ghost use Rattle.call_match.specs.Call.{replyOf, matchOn, matching};
+ghost use Rattle.table.specs.Row.{waysOf};
+ghost use Rattle.call_match.specs.Call.{replyOf, matchOn, matchingBy, matching, oneWayMatching};
 
 // What the call comes to: the four counts, or why it was turned away.
 pub enum TableAnswer {
@@ -24,6 +26,7 @@ pub enum TableAnswer {
 
 // The call on two circuits that were read. The table's length is tested before anything is written to it.
 fn match_on(
+    ways: Ways,
     part_kinds: &[u32],
     part_starts: &[u16],
     part_ends: &[u16],
@@ -35,7 +38,7 @@ fn match_on(
     requires { ⌜ Bounded role.Pattern (circuit (now «part_kinds») (now «part_starts») (now «part_ends»)) ⌝ }
     requires { ⌜ Bounded role.Board (circuit (now «node_kinds») (now «node_starts») (now «node_ends»)) ⌝ }
     ensures { λ r. ⌜ record { reply = replyOf r; table = now (table .exit) }
-        ≡ matchOn (circuit (now («part_kinds» .entry)) (now («part_starts» .entry)) (now («part_ends» .entry))) (circuit (now («node_kinds» .entry)) (now («node_starts» .entry)) (now («node_ends» .entry))) (now (table .entry)) ⌝ }
+        ≡ matchOn (waysOf ways) (circuit (now («part_kinds» .entry)) (now («part_starts» .entry)) (now («part_ends» .entry))) (circuit (now («node_kinds» .entry)) (now («node_starts» .entry)) (now («node_ends» .entry))) (now (table .entry)) ⌝ }
 {
     let n = node_kinds.len();
     if table.len() < n {
@@ -45,6 +48,7 @@ fn match_on(
         });
     }
     TableAnswer::Matched(match_whole(
+        ways,
         part_kinds,
         part_starts,
         part_ends,
@@ -55,17 +59,16 @@ fn match_on(
     ))
 }
 
-// Matches the pattern of one file, connected or not, on the whole board of another: the four counts, with the largest dual simulation at the
-// front of the table, a 32-bit number per node, which is all 0 where some part is left without a node; or the refusal, which leaves the table
-// as it was.
-pub fn match_table(
+// The call on two files, in the directions that count.
+fn match_files(
+    ways: Ways,
     editions: Editions,
     pattern: &[u8],
     board: &[u8],
     table: &mut [u32],
 ) -> TableAnswer
     ensures { λ r. ⌜ record { reply = replyOf r; table = now (table .exit) }
-        ≡ matching (inEdition (editions .pattern) (now (pattern .entry))) (inEdition (editions .board) (now (board .entry))) (now (table .entry)) ⌝ }
+        ≡ matchingBy (waysOf ways) (inEdition (editions .pattern) (now (pattern .entry))) (inEdition (editions .board) (now (board .entry))) (now (table .entry)) ⌝ }
 {
     let mut pk = [0u32; Pattern::MAX_NODES];
     let mut ps = [0u16; Pattern::MAX_LINKS];
@@ -94,6 +97,7 @@ pub fn match_table(
     let n = read.nodes;
     let m = read.links;
     match_on(
+        ways,
         &pk[..parts],
         &ps[..joins],
         &pe[..joins],
@@ -102,4 +106,32 @@ pub fn match_table(
         &ne[..m],
         table,
     )
+}
+
+// Matches the pattern of one file, connected or not, on the whole board of another: the four counts, with the largest dual simulation at the
+// front of the table, a 32-bit number per node, which is all 0 where some part is left without a node; or the refusal, which leaves the table
+// as it was.
+pub fn match_table(
+    editions: Editions,
+    pattern: &[u8],
+    board: &[u8],
+    table: &mut [u32],
+) -> TableAnswer
+    ensures { λ r. ⌜ record { reply = replyOf r; table = now (table .exit) }
+        ≡ matching (inEdition (editions .pattern) (now (pattern .entry))) (inEdition (editions .board) (now (board .entry))) (now (table .entry)) ⌝ }
+{
+    match_files(Ways::Both, editions, pattern, board, table)
+}
+
+// The same one way: a pair needs partners for what its part drives, and none for what drives it.
+pub fn match_one_way(
+    editions: Editions,
+    pattern: &[u8],
+    board: &[u8],
+    table: &mut [u32],
+) -> TableAnswer
+    ensures { λ r. ⌜ record { reply = replyOf r; table = now (table .exit) }
+        ≡ oneWayMatching (inEdition (editions .pattern) (now (pattern .entry))) (inEdition (editions .board) (now (board .entry))) (now (table .entry)) ⌝ }
+{
+    match_files(Ways::Forward, editions, pattern, board, table)
 }

@@ -31,7 +31,7 @@ use Rattle.file_format.specs.Role.{inRange}
 use Rattle.file_format.proofs.Fields.{length-labels, length-starts}
 use Rattle.file_format.proofs.Refusals.{accepted, accepted-any, first-parts, refuses-iff, range-orders}
 use Rattle.table.specs.Host.{KindsMatch}
-use Rattle.table.specs.Row.{InTable}
+use Rattle.table.specs.Row.{bothWays, InTable}
 use Rattle.call_match.specs.Call.{matching}
 use Rattle.call_match.proofs.Promise as matched
 use Rattle.file_write.specs.Bytes.{circuitBytes}
@@ -131,7 +131,7 @@ matches-itself :
     matching file file table .reply .verdict ≡ accept
 matches-itself file sound table room =
     let a = accepted Pattern file sound in
-    matched.accepts file file table (accepted-any a) (pattern-board a) room
+    matched.accepts bothWays file file table (accepted-any a) (pattern-board a) room
 
 module _ (file : CircuitFile) (lent out : List ℕ) where
   verdict-is : merging file lent out .reply .verdict ≡ first (mergeConditions file (length lent) (length out))

@@ -8,6 +8,7 @@ use merge_classes::leader_kinds;
 use merge_classes::links::mark_rows;
 use merge_classes::links::scan;
 use merge_classes::number_classes;
+use table::Ways;
 use table_whole::match_circuits;
 ghost use mathlib.Core.List.{[]};
 ghost use mathlib.Core.Path.{_≡_};
@@ -41,7 +42,7 @@ fn quotient(
     requires { ⌜ (32 ≤ length (now mk)) × (256 ≤ length (now ms)) × (256 ≤ length (now me)) ⌝ }
     ensures { λ r. ⌜ Quotient (circuit (now (kinds .entry)) (now (starts .entry)) (now (ends .entry))) (now (classes .exit)) (now (mk .exit)) (now (ms .exit)) (now (me .exit)) r ⌝ }
 {
-    match_circuits(kinds, starts, ends, kinds, starts, ends, table);
+    match_circuits(Ways::Both, kinds, starts, ends, kinds, starts, ends, table);
     let count = number_classes(table, classes);
     leader_kinds(table, kinds, mk);
     mark_rows(classes, starts, ends, rows);

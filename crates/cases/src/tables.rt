@@ -1,6 +1,6 @@
 // Matches each case of its file, a pattern and a board, with a table lent at the length that the case
-// names, and writes a line for each: what the call answered, and a digest of the table, so that a table that was touched shows. The patterns of a
-// second file have bounds.
+// names, and writes two lines for each, two ways and one way: what the call answered, and a digest of the table, so that a table that was
+// touched shows. The patterns of a second file have bounds, and one line each.
 use crate::show::digest_sets;
 use crate::show::end_line;
 use crate::show::least;
@@ -11,6 +11,7 @@ use crate::show::show_number;
 use crate::show::show_refusal;
 use call_bounded::match_bounds;
 use call_match::TableAnswer;
+use call_match::match_one_way;
 use call_match::match_table;
 use file_format::Edition;
 use file_format::Editions;
@@ -33,28 +34,30 @@ fn show_answer(answer: TableAnswer) {
     }
 }
 
-// The pattern on the board: a file of the first edition, or of the third where it has bounds.
-fn answer(bounded: bool, pattern: &[u8], board: &[u8], table: &mut [u32]) -> TableAnswer {
-    if bounded {
-        return match_bounds(Edition::First, pattern, board, table);
-    }
-    match_table(
-        Editions {
-            pattern: Edition::First,
-            board: Edition::First,
-        },
-        pattern,
-        board,
-        table,
-    )
-}
+const FIRST: Editions = Editions {
+    pattern: Edition::First,
+    board: Edition::First,
+};
 
-// One case: the answer and the table afterwards.
-fn run_case(bounded: bool, pattern: &[u8], board: &[u8], table: &mut [u32]) {
-    refill_sets(table);
-    show_answer(answer(bounded, pattern, board, table));
+fn show_table(answer: TableAnswer, table: &[u32]) {
+    show_answer(answer);
     show_number(digest_sets(table));
     end_line();
+}
+
+// One case, the answer and the table afterwards: two ways and one way, or with a pattern that has bounds.
+fn run_case(bounded: bool, pattern: &[u8], board: &[u8], table: &mut [u32]) {
+    refill_sets(table);
+    if bounded {
+        let answer = match_bounds(Edition::First, pattern, board, table);
+        show_table(answer, table);
+        return;
+    }
+    let two = match_table(FIRST, pattern, board, table);
+    show_table(two, table);
+    refill_sets(table);
+    let one = match_one_way(FIRST, pattern, board, table);
+    show_table(one, table);
 }
 
 // The case at an offset, the table's length, the lengths of the two files and the files; answers where the next one begins.

@@ -33,7 +33,8 @@ use Rattle.place.specs.Outcome.{placeVerdict}
 use Rattle.file_write.specs.Writing.{writeConditions, writing}
 use Rattle.call_convert.specs.Call.{convertConditions, converting}
 use Rattle.call_distance.specs.Calls.{radiusCall, ballConditions, ballCall}
-use Rattle.call_match.specs.Call.{matchConditions, matching}
+use Rattle.simulation.specs.Simulation.{Direction}
+use Rattle.call_match.specs.Call.{matchConditions, matchingBy}
 use Rattle.call_place.specs.Call.{inputConditions}
 use Rattle.call_place.proofs.Promise.{input-refused, verdict-is, accept-or-nine, nine-keeps}
 use Rattle.call_merge.specs.Call.{mergeConditions, merging}
@@ -104,11 +105,11 @@ unfolding ballCall
 balls file w r out = by-first (ballConditions file w (length out)) (reply-verdict _ _) (λ x e. keeps _ out e)
 
 matches :
-    (pattern board : CircuitFile) (table : List ℕ) →
-    Decided (matchConditions pattern board (length table)) (matching pattern board table .reply .verdict)
-    (matching pattern board table .table ≡ table)
-unfolding matching
-matches pattern board table =
+    (ways : List Direction) (pattern board : CircuitFile) (table : List ℕ) →
+    Decided (matchConditions pattern board (length table)) (matchingBy ways pattern board table .reply .verdict)
+    (matchingBy ways pattern board table .table ≡ table)
+unfolding matchingBy
+matches ways pattern board table =
     by-first (matchConditions pattern board (length table)) (replied-verdict _ _) (λ x e. keeps _ table e)
 
 merges :

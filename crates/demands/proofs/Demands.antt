@@ -12,6 +12,7 @@ use Rattle.base_lists.specs.List.{all, Below}
 use Rattle.base_lists.proofs.Tests.{true-T, at-all}
 use Rattle.graph.specs.Graph.{Ball, Radius}
 use Rattle.graph.proofs.Walks.{radius-unique}
+use Rattle.simulation.specs.Simulation.{Direction}
 use Rattle.file_format.specs.declared.Edition.{Edition}
 use Rattle.file_format.specs.declared.ReadAnswer.the-variants as read
 use Rattle.file_format.specs.declared.Role.{Role}
@@ -26,9 +27,10 @@ use Rattle.file_format.proofs.Fields.{length-labels}
 use Rattle.file_format.proofs.Refusals.{accepted-verdict}
 use Rattle.table.proofs.Host.{everything-same, within-joins}
 use Rattle.table.specs.declared.Counts.{Counts}
-use Rattle.table.specs.Answer.{answerCounts}
+use Rattle.table.specs.Row.{bothWays}
+use Rattle.table.specs.Answer.{answerCountsBy}
 use Rattle.table.specs.Host.{everything}
-use Rattle.table.proofs.Answer.{answer-found, answer-missing, answer-connected}
+use Rattle.table.proofs.Answer.{along-dual, answer-found, answer-missing, answer-connected}
 use Rattle.table_answer.proofs.AllParts.{none-tabulated}
 use Rattle.place.specs.Match.{radiusOf, ballOf}
 use Rattle.place.proofs.Accepted.{accepted-admissible, accepted-radius}
@@ -41,12 +43,12 @@ use Rattle.file_write.proofs.Writing.{sound, writing-accepted}
 use Rattle.file_write.proofs.RoundTrip.{written-reads, read-writes}
 use Rattle.call_convert.specs.Call.{convertedBytes, ConvertOutcome, converting}
 use Rattle.call_convert.proofs.Promise.{converted-length, converted-circuit, convert-sound, convert-accepts, there-and-back}
-use Rattle.call_match.specs.Call.{matching}
+use Rattle.call_match.specs.Call.{matchingBy, matching}
 use Rattle.call_match.proofs.Promise as match-call
 use Rattle.call_place.proofs.Promise.{counts-are, accept-or-nine, nine-iff, marked-place, nodes-front, links-front}
 use Rattle.call_merge.specs.Call.{merging}
 use Rattle.call_merge.proofs.Promise as merge-call
-use Rattle.demands.specs.Demands.{Lent, Room, Ready, placed, placedOwn, mergedFile, SameFound, graph, equal, Demand1, RowCounts, Matched, ReadBack, Demand2, nine, FoundAt, Demand3}
+use Rattle.demands.specs.Demands.{Lent, Room, Ready, placed, placedOwn, mergedFile, SameFound, graph, equal, Demand1, RowCounts, MatchedAlong, Matched, ReadBack, Demand2, nine, FoundAt, Demand3}
 use Rattle.demands.proofs.Counts.{row-run, row-counts}
 use Rattle.demands.proofs.Decided.{reply-verdict, decided-1}
 use Rattle.demands.proofs.Merged.{ready-sound, merged-same, radius-fits}
@@ -60,33 +62,51 @@ demand-1 = decided-1
 
 -- ---- Demand 2
 
+-- the whole-board call, along any directions
+unfoldable pub along-matched :
+    (ways : List Direction) (pattern board : CircuitFile) (table : List ℕ) → Accepted AnyPattern pattern → Accepted Board board → nodesOf board ≤ length table →
+    MatchedAlong ways pattern board (matchingBy ways pattern board table)
+unfolding answerCountsBy
+along-matched ways pattern board table a b room =
+    let P = circuitOf pattern in
+    let B = circuitOf board in
+    let ok = match-call.accepts ways pattern board table a b room in
+    let most = accepted-bounded a .nodes in
+    let host = everything-same B (within-joins B (accepted-within b)) in
+    let counted = match-call.counts-are ways pattern board table ok in
+    let begun = ap (λ (c : Counts). c .started) counted in
+    let rounds = ap (λ (c : Counts). c .rounds) counted in
+    let front = match-call.front-is ways pattern board table ok in
+    let (run, ends) = row-run ways P B (everything B) most host begun rounds in
+    record {
+      accepted = ok;
+      largest = match-call.front-along ways pattern board table ok;
+      run = run;
+      kept = match-call.counts-ones ways pattern board table ok;
+      struck = match-call.counts-struck ways pattern board table ok;
+      found = λ all. front ∙ sym (answer-found ways P B (everything B) (λ u h. rw ends at (all u (rw (length-labels pattern) at h))) .last) ∙ sym ends;
+      missing = λ u h none. front ∙ sym (answer-missing ways P B (everything B) u (rw (length-labels pattern) h) (λ v m. none v (rw ends m)) .last) ∙ rw (length-labels board) (sym (none-tabulated (nodesOf board)));
+    }
+
 -- the table call
 table-matched :
     (pattern board : CircuitFile) (table : List ℕ) → Accepted AnyPattern pattern → Accepted Board board → nodesOf board ≤ length table →
     Matched pattern board (matching pattern board table)
-unfolding answerCounts
+unfolding answerCountsBy along-matched
 table-matched pattern board table a b room =
     let P = circuitOf pattern in
     let B = circuitOf board in
-    let ok = match-call.accepts pattern board table a b room in
     let most = accepted-bounded a .nodes in
     let host = everything-same B (within-joins B (accepted-within b)) in
-    let counted = match-call.counts-are pattern board table ok in
-    let begun = ap (λ (c : Counts). c .started) counted in
-    let rounds = ap (λ (c : Counts). c .rounds) counted in
-    let front = match-call.front-is pattern board table ok in
-    let (run, ends) = row-run P B (everything B) most host begun rounds in
+    let along = along-matched bothWays pattern board table a b room in
+    let counted = match-call.counts-are bothWays pattern board table (along .accepted) in
     record {
-      accepted = ok;
-      largest = match-call.front-largest pattern board table ok;
-      run = run;
-      kept = match-call.counts-ones pattern board table ok;
-      struck = match-call.counts-struck pattern board table ok;
-      found = λ all. front ∙ sym (answer-found P B (everything B) (λ u h. rw ends at (all u (rw (length-labels pattern) at h))) .last) ∙ sym ends;
-      missing = λ u h none. front ∙ sym (answer-missing P B (everything B) u (rw (length-labels pattern) h) (λ v m. none v (rw ends m)) .last) ∙ rw (length-labels board) (sym (none-tabulated (nodesOf board)));
+      along = along;
+      largest = along-dual (along .largest);
       connected = λ c.
           let plain = answer-connected P B (everything B) most (accepted-connected c) in
-          (row-counts P B (everything B) most host (counted ∙ sym (plain .counted)), front ∙ sym (plain .last) ∙ sym ends);
+          let (run, ends) = row-run bothWays P B (everything B) most host (ap (λ (c : Counts). c .started) counted) (ap (λ (c : Counts). c .rounds) counted) in
+          (row-counts P B (everything B) most host (counted ∙ sym (plain .counted)), match-call.front-connected pattern board table c (along .accepted) ∙ sym ends);
     }
 
 -- the place calls' counts

@@ -6,7 +6,7 @@ use Rattle.base_lists.specs.List.{tabulate, maximum}
 use Rattle.base_lists.proofs.Tests.{T-false}
 use Rattle.graph.specs.Search.{distances, misses, ball, beside, inside, radius}
 use Rattle.table.specs.Examples.{circuitT, circuitB, twoWay, ring, anyTo20}
-use Rattle.table.specs.Refine.{countsOf}
+use Rattle.table.specs.Refine.{countsBy, countsOf}
 use Rattle.table.proofs.Counting.{struck-minus}
 use Rattle.table.proofs.Examples as table
 use Rattle.place.specs.Match.{radiusOf, found}
@@ -21,7 +21,7 @@ unfolding E1 onePart onePartLooped radiusOf radius maximum distances misses ball
 e1 = (place.radius-T, λ kind. refl, λ kind. refl)
 
 e2 : E2
-unfolding E2 countsOf
+unfolding E2 countsBy
 e2 = (table.E2-table, rw (table.E2-started, table.E2-kept, table.E2-struck, table.E2-rounds))
 
 e3 : E3
@@ -29,7 +29,7 @@ unfolding E3 PlaceIs
 e3 = (rw place.radius-T place.E3-0, rw place.radius-T place.E3-1, rw place.radius-T place.E3-2)
 
 e4 : E4
-unfolding E4 placeAround placeVerdict countsOf
+unfolding E4 placeAround placeVerdict countsBy
 e4 nodes links table distances = rw (place.radius-T, T-false {b = found circuitT circuitB 3 2} place.E4-none, struck-minus, place.E4-started, place.E4-kept, place.E4-rounds)
 
 -- a centre of the ring that is not found has number 9
@@ -58,7 +58,7 @@ unfolding E9 PlaceIs
 e9 = (rw place.radius-oneLink place.E9-0, rw place.radius-oneLink place.E9-1)
 
 anyOnB : AnyOnB
-unfolding AnyOnB countsOf
+unfolding AnyOnB countsBy
 anyOnB = (table.any-table, rw (struck-minus, table.any-started, table.any-kept, table.any-rounds))
 
 -- a centre of the board of kinds 0 and 20 that is not found has number 9

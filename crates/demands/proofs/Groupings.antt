@@ -27,6 +27,7 @@ use Rattle.merge.proofs.Content.{PatternContent, accepted-content}
 use Rattle.merge.proofs.Classes.{SelfPairs, kinds-laws, content-joins, self-largest, shares-class}
 use Rattle.merge.proofs.Grouped.{grouped-graph, grouped-kind, grouped-content, grouped-same}
 use Rattle.merge.proofs.Merging.{classes-grouping, merged-graph, merging}
+use Rattle.table.specs.Row.{bothWays}
 use Rattle.call_match.specs.Call.{matching}
 use Rattle.call_match.proofs.Promise as match-call
 use Rattle.call_merge.specs.Call as call
@@ -47,7 +48,7 @@ module _ {pattern board : CircuitFile} (a : Accepted Pattern pattern) (b : Accep
   matches-iff {S} largest u v h =
       let node : v < nodesOf board = rw (← length-labels board) h in
       let entry : (lent : List ℕ) → nodesOf board ≤ length lent → InTable (matching pattern board lent .table) u v ↔ S u v =
-      λ lent room. match-call.entry-bit pattern board lent (match-call.accepts pattern board lent (accepted-any a) b room) largest u v node in
+      λ lent room. match-call.entry-bit pattern board lent (match-call.accepts bothWays pattern board lent (accepted-any a) b room) largest u v node in
       let some : nodesOf board ≤ length {A = ℕ} (replicate (nodesOf board) 0) = le-of-eq (sym (length-replicate (nodesOf board) 0)) in
       (λ m. entry (replicate (nodesOf board) 0) some .0 (m (replicate (nodesOf board) 0) some), λ s lent room. entry lent room .1 s)
 

@@ -14,3 +14,4 @@ pub mod Distances
 pub mod Barring
 pub mod Shelf
 pub mod Bounds
+pub mod OneWay

@@ -18,7 +18,7 @@ use Rattle.graph.specs.Graph.{Graph, Ball, Connected, Radius}
 use Rattle.graph.specs.Rising.{LinksRise}
 use Rattle.graph.specs.Search.{connected, radius}
 use Rattle.simulation.specs.Closed.{Relation, _⊆_, Row}
-use Rattle.simulation.specs.Simulation.{Candidate, Along, Largest}
+use Rattle.simulation.specs.Simulation.{Candidate, Direction, Along, Largest}
 use Rattle.simulation.specs.Perfect.{Perfect, Place}
 use Rattle.simulation.specs.Quotient.{Mutual}
 use Rattle.file_format.specs.declared.Edition.{Edition}
@@ -33,13 +33,13 @@ use Rattle.file_format.specs.Reading.{ReadOutcome, readConditions, reading}
 use Rattle.file_format.specs.Refusals.{Condition, Verdict, accept, refuse, NoneHolds, FirstHolding, fileConditions, Accepted, shortTable}
 use Rattle.table.specs.declared.Counts.{Counts}
 use Rattle.table.specs.Host.{KindsMatch}
-use Rattle.table.specs.Row.{InTable}
+use Rattle.table.specs.Row.{bothWays, InTable, Chosen, LargestOccurring}
 use Rattle.place.specs.Match.{radiusOf, found, markedGraph}
 use Rattle.place.specs.Outcome.{PlaceOutcome}
 use Rattle.file_write.specs.Writing.{writeConditions, writing}
 use Rattle.call_convert.specs.Call.{convertConditions, converting}
 use Rattle.call_distance.specs.Calls.{radiusCall, ballConditions, ballCall}
-use Rattle.call_match.specs.Call.{TableOutcome, matchConditions, matching}
+use Rattle.call_match.specs.Call.{TableOutcome, matchConditions, matchingBy, matching}
 use Rattle.call_place.specs.Call.{inputConditions, placeAt}
 use Rattle.call_merge.specs.Call.{MergeOutcome, mergeConditions, merging}
 use Rattle.call_merge.specs.Classes.{classByte}
@@ -129,9 +129,10 @@ pub record Demand1 : Type 0 where
   pub measures : (file : CircuitFile) → Decided (fileConditions Pattern file) (radiusCall file .verdict) (Unit {0})
   pub balls : (file : CircuitFile) (w r : ℕ) (out : List ℕ) →
       Decided (ballConditions file w (length out)) (ballCall file w r out .reply .verdict) (ballCall file w r out .out ≡ out)
-  pub matches : (pattern board : CircuitFile) (table : List ℕ) →
-      Decided (matchConditions pattern board (length table)) (matching pattern board table .reply .verdict)
-      (matching pattern board table .table ≡ table)
+  -- both whole-board calls, which are told apart by the directions that count
+  pub matches : (ways : List Direction) (pattern board : CircuitFile) (table : List ℕ) →
+      Decided (matchConditions pattern board (length table)) (matchingBy ways pattern board table .reply .verdict)
+      (matchingBy ways pattern board table .table ≡ table)
   pub places : (pattern board : CircuitFile) (w r : ℕ) (lent : Lent) →
       Decided (placedConditions pattern board w r lent) (placed pattern board w r lent .reply .verdict)
       (Untouched lent (placed pattern board w r lent))
@@ -157,30 +158,34 @@ pub record Demand1 : Type 0 where
 -- it. Counts and rounds are those of 01's row of sets. A circuit written reads back as itself; an accepted file writes back to its own bytes."
 
 -- The row: "R0 is the set of pairs with equal kinds. Each further set keeps those pairs of the last whose links have partners in the last."
-abbrev pub Sets : Graph → Relation → Graph → ℕ → Relation
-Sets P Agree H = Row (Along (P .Link)) (Along (H .Link)) (Candidate P Agree H)
+-- Links are followed in the directions chosen.
+abbrev pub Sets : List Direction → Graph → Relation → Graph → ℕ → Relation
+Sets ways P Agree H = Row (Chosen ways (Along (P .Link))) (Along (H .Link)) (Candidate P Agree H)
 
 -- "started, the pairs of R0; .. rounds, how many sets differ from the one before": each set before `rounds` has a pair that the next one has
 -- not, and no later one has. Pairs are counted as one bits of tables that hold the sets.
-pub record RowRun (P : Graph) (Agree : Relation) (H : Graph) (begun rounds : ℕ) : Type 0 where
+pub record RowRun (ways : List Direction) (P : Graph) (Agree : Relation) (H : Graph) (begun rounds : ℕ) : Type 0 where
   pub table : ℕ → List ℕ
-  pub holds : (k u v : ℕ) → InTable (table k) u v ↔ Sets P Agree H k u v
+  pub holds : (k u v : ℕ) → InTable (table k) u v ↔ Sets ways P Agree H k u v
   pub started : begun ≡ sum (map ones (table 0))
-  pub differ : (k : ℕ) → k < rounds → Sets P Agree H k ⊆ Sets P Agree H (suc k) → ⊥
-  pub rest : (k : ℕ) → rounds ≤ k → Sets P Agree H k ⊆ Sets P Agree H (suc k)
+  pub differ : (k : ℕ) → k < rounds → Sets ways P Agree H k ⊆ Sets ways P Agree H (suc k) → ⊥
+  pub rest : (k : ℕ) → rounds ≤ k → Sets ways P Agree H k ⊆ Sets ways P Agree H (suc k)
 
--- "four counts: started ..; kept, the pairs left; struck, started minus kept; rounds .."
+-- "four counts: started ..; kept, the pairs left; struck, started minus kept; rounds ..", along both directions
 pub record RowCounts (P : Graph) (Agree : Relation) (H : Graph) (counts : Counts) : Type 0 where
-  pub run : RowRun P Agree H (counts .started) (counts .rounds)
+  pub run : RowRun bothWays P Agree H (counts .started) (counts .rounds)
   pub kept : counts .kept ≡ sum (map ones (run .table (counts .rounds)))
   pub struck : counts .struck ≡ counts .started - counts .kept
 
--- What the table call comes to: the largest dual simulation, with the pattern connected or not. The row is run to its end; its last set is the
--- table, and "If some part is left without a node, the table is all 0, kept is 0, struck equals started, and rounds count as before."
-pub record Matched (pattern board : CircuitFile) (result : TableOutcome) : Type 1 where
+-- What the whole-board call comes to, along the directions chosen and with the pattern connected or not: the largest set of pairs that is closed
+-- along them and in which each part occurs, unless it is empty. The row is run to its end; its last set is the table, and "If some part is left
+-- without a node, the table is all 0, kept is 0, struck equals started, and rounds count as before."
+pub record MatchedAlong (ways : List Direction) (pattern board : CircuitFile) (result : TableOutcome) : Type 1 where
   pub accepted : result .reply .verdict ≡ accept
-  pub largest : Largest (graph pattern) (equal pattern board) (graph board) (InTable (take (nodesOf board) (result .table)))
-  pub run : RowRun (graph pattern) (equal pattern board) (graph board) (result .reply .counts .started) (result .reply .counts .rounds)
+  pub largest :
+      LargestOccurring (graph pattern .Node) (Candidate (graph pattern) (equal pattern board) (graph board))
+      (Chosen ways (Along (graph pattern .Link))) (Along (graph board .Link)) (InTable (take (nodesOf board) (result .table)))
+  pub run : RowRun ways (graph pattern) (equal pattern board) (graph board) (result .reply .counts .started) (result .reply .counts .rounds)
   -- "kept is the number of one bits in the whole table"
   pub kept : result .reply .counts .kept ≡ sum (map ones (take (nodesOf board) (result .table)))
   pub struck : result .reply .counts .struck ≡ result .reply .counts .started - result .reply .counts .kept
@@ -190,10 +195,16 @@ pub record Matched (pattern board : CircuitFile) (result : TableOutcome) : Type 
   pub missing :
       (u : ℕ) → u < nodesOf pattern → ((v : ℕ) → InTable (run .table (result .reply .counts .rounds)) u v → ⊥) →
       take (nodesOf board) (result .table) ≡ replicate (nodesOf board) 0
+
+-- The match-table call: along both directions, so that the table is the largest dual simulation.
+pub record Matched (pattern board : CircuitFile) (result : TableOutcome) : Type 1 where
+  pub along : MatchedAlong bothWays pattern board result
+  pub largest : Largest (graph pattern) (equal pattern board) (graph board) (InTable (take (nodesOf board) (result .table)))
   -- "Connected patterns get the table and counts they always got."
   pub connected :
       Accepted Pattern pattern →
-      RowCounts (graph pattern) (equal pattern board) (graph board) (result .reply .counts) × (take (nodesOf board) (result .table) ≡ run .table (result .reply .counts .rounds))
+      RowCounts (graph pattern) (equal pattern board) (graph board) (result .reply .counts)
+      × (take (nodesOf board) (result .table) ≡ along .run .table (result .reply .counts .rounds))
 
 -- a circuit stands at the front of the tables that a reading call was lent, with the packages that the edition has
 pub record ReadBack (e : Edition) (kinds packages starts ends : List ℕ) (result : ReadOutcome) : Type 0 where

@@ -9,3 +9,4 @@ pub mod Distances
 pub mod Barring
 pub mod Shelf
 pub mod Bounds
+pub mod OneWay

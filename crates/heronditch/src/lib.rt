@@ -9,7 +9,7 @@ ghost use Rattle.file_format.specs.Layout.{firstEdition};
 ghost use Rattle.file_format.specs.Reading.{reading};
 ghost use Rattle.call_distance.specs.Calls.{radiusCall, ballCall};
 ghost use Rattle.file_write.specs.Writing.{writing};
-ghost use Rattle.call_match.specs.Call.{matching};
+ghost use Rattle.call_match.specs.Call.{matching, oneWayMatching};
 ghost use Rattle.file_format.specs.Circuit.{circuitOf};
 ghost use Rattle.place.specs.Match.{radiusOf};
 ghost use Rattle.call_place.specs.Call.{placeAt};
@@ -122,6 +122,25 @@ pub extern "C" fn heronditch_match(pattern: &[u8], board: &[u8], table: &mut [u3
     ensures { λ r. ⌜ record { reply = r; table = now (table .exit) } ≡ hostMatch (matching (firstEdition (now (pattern .entry))) (firstEdition (now (board .entry))) (now (table .entry))) ⌝ }
 {
     of_match(call_match::match_table(
+        Editions {
+            pattern: Edition::First,
+            board: Edition::First,
+        },
+        pattern,
+        board,
+        table,
+    ))
+}
+
+#[no_mangle]
+pub extern "C" fn heronditch_match_one_way(
+    pattern: &[u8],
+    board: &[u8],
+    table: &mut [u32],
+) -> Counted
+    ensures { λ r. ⌜ record { reply = r; table = now (table .exit) } ≡ hostMatch (oneWayMatching (firstEdition (now (pattern .entry))) (firstEdition (now (board .entry))) (now (table .entry))) ⌝ }
+{
+    of_match(call_match::match_one_way(
         Editions {
             pattern: Edition::First,
             board: Edition::First,

@@ -9,7 +9,7 @@ ghost use Rattle.call_check.specs.Call.{checkCall};
 ghost use Rattle.call_convert.specs.Call.{converting};
 ghost use Rattle.call_distance.specs.Calls.{radiusCall, ballCall};
 ghost use Rattle.file_write.specs.Writing.{writing};
-ghost use Rattle.call_match.specs.Call.{matching};
+ghost use Rattle.call_match.specs.Call.{matching, oneWayMatching};
 ghost use Rattle.call_barring.specs.Call.{barCall};
 ghost use Rattle.call_merge.specs.Call.{merging};
 ghost use Rattle.heronditch.specs.Host.{slots, hostReadPackages, hostWrite, hostBall, hostMatch, hostBar, hostMerge, hostConvert};
@@ -173,6 +173,66 @@ pub extern "C" fn heronditch_match_22(pattern: &[u8], board: &[u8], table: &mut 
         ≡ hostMatch (matching (inEdition editions.Second (now (pattern .entry))) (inEdition editions.Second (now (board .entry))) (now (table .entry))) ⌝ }
 {
     of_match(call_match::match_table(
+        Editions {
+            pattern: Edition::Second,
+            board: Edition::Second,
+        },
+        pattern,
+        board,
+        table,
+    ))
+}
+
+#[no_mangle]
+pub extern "C" fn heronditch_match_one_way_12(
+    pattern: &[u8],
+    board: &[u8],
+    table: &mut [u32],
+) -> Counted
+    ensures { λ r. ⌜ record { reply = r; table = now (table .exit) }
+        ≡ hostMatch (oneWayMatching (firstEdition (now (pattern .entry))) (inEdition editions.Second (now (board .entry))) (now (table .entry))) ⌝ }
+{
+    of_match(call_match::match_one_way(
+        Editions {
+            pattern: Edition::First,
+            board: Edition::Second,
+        },
+        pattern,
+        board,
+        table,
+    ))
+}
+
+#[no_mangle]
+pub extern "C" fn heronditch_match_one_way_21(
+    pattern: &[u8],
+    board: &[u8],
+    table: &mut [u32],
+) -> Counted
+    ensures { λ r. ⌜ record { reply = r; table = now (table .exit) }
+        ≡ hostMatch (oneWayMatching (inEdition editions.Second (now (pattern .entry))) (firstEdition (now (board .entry))) (now (table .entry))) ⌝ }
+{
+    of_match(call_match::match_one_way(
+        Editions {
+            pattern: Edition::Second,
+            board: Edition::First,
+        },
+        pattern,
+        board,
+        table,
+    ))
+}
+
+#[no_mangle]
+pub extern "C" fn heronditch_match_one_way_22(
+    pattern: &[u8],
+    board: &[u8],
+    table: &mut [u32],
+) -> Counted
+    ensures { λ r. ⌜ record { reply = r; table = now (table .exit) }
+        ≡ hostMatch (oneWayMatching (inEdition editions.Second (now (pattern .entry))) (inEdition editions.Second (now (board .entry))) (now (table .entry))) ⌝ }
+{
+    of_match(call_match::match_one_way(
         Editions {
             pattern: Edition::Second,
             board: Edition::Second,

@@ -25,9 +25,9 @@ use Rattle.table.specs.declared.Rest.{Rest}
 use Rattle.table.specs.Fill.{marksOf, NodeList, tableAt}
 use Rattle.table.specs.First.{Begins}
 use Rattle.table.specs.Prepared.{succOf, Tables, Prepared, Ready}
-use Rattle.table.specs.Refine.{Known, Rested}
+use Rattle.table.specs.Refine.{Known, RestedBy}
 use Rattle.table.specs.Host.{Taken, everything}
-use Rattle.table.specs.Row.{problemOf, lastTable}
+use Rattle.table.specs.Row.{bothWays, problemBy, lastTable}
 use Rattle.table.proofs.Meaning.{last-fits}
 use Rattle.table.proofs.Sets.{fits-word}
 use Rattle.place.specs.Match.{ballOf, distancesOf, ballTable, matches, found, placeNodes, placeLinks, placeTable}
@@ -274,14 +274,14 @@ module _ {pattern board : Circuit} {t : Tables} {w r : ℕ} {nodes first : List 
 
   -- the rounds may begin with the first table
   pub sought-known : Known t nodes first
-  sought-known = record { pattern = pattern; host = board; prepared = s .tabled .prepared; begins = s .begins }
+  sought-known = record { ways = bothWays; pattern = pattern; host = board; prepared = s .tabled .prepared; begins = s .begins }
 
   -- which has a set for each node
   pub sought-long : length first ≡ length (board .kinds)
-  unfolding problemOf
+  unfolding problemBy
   sought-long = s .begins .long
 
-  module _ {sets : List ℕ} {rest : Rest} (e : Rested pattern board (marksOf n nodes) first sets rest) where
+  module _ {sets : List ℕ} {rest : Rest} (e : RestedBy bothWays pattern board (marksOf n nodes) first sets rest) where
     -- for the table that they end with the tables serve
     pub sets-ready : Ready t sets
     sets-ready =

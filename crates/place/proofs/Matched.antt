@@ -27,6 +27,7 @@ use Rattle.graph.proofs.Net.{net-of, net-few, driven-link, driving-link, net-ad
 use Rattle.graph.proofs.Reached.{bfs-listed}
 use Rattle.table.specs.Fill.{listed, marksOf, Distinct, NodeList}
 use Rattle.table.specs.Prepared.{succOf, predOf, Tables, masksOf, Prepared}
+use Rattle.table.proofs.Prepare.{masked-succ, masked-pred}
 use Rattle.place.specs.Match.{ballOf, distancesOf, matches, matchStarts, matchEnds, component}
 use Rattle.graph_follow.specs.Follow.{meeting}
 use Rattle.graph_follow.proofs.Following.{meeting-occurs}
@@ -130,11 +131,11 @@ module _ {pattern board : Circuit} {t : Tables} (p : Prepared pattern board t) (
     -- a node is looked at along a link exactly where the link matches
     pub forward-test : (v w : ℕ) → intersects (unionOver (succOf (t .masks)) (getD sets v 0)) (getD sets w 0) ≡ matches pattern sets v w
     forward-test v w =
-        sym (matches-forward pattern parallel sets small (masks-hold _ (pattern .starts) (pattern .ends) (succOf (t .masks)) (p .parts) (p .masked .succ) (p .starts)) v w)
+        sym (matches-forward pattern parallel sets small (masks-hold _ (pattern .starts) (pattern .ends) (succOf (t .masks)) (p .parts) (masked-succ (p .masked)) (p .starts)) v w)
 
     backward-test : (v w : ℕ) → intersects (unionOver (predOf (t .masks)) (getD sets v 0)) (getD sets w 0) ≡ matches pattern sets w v
     backward-test v w =
-        sym (matches-backward pattern parallel sets small (masks-hold _ (pattern .ends) (pattern .starts) (predOf (t .masks)) (p .parts) (p .masked .pred) (p .ends)) w v)
+        sym (matches-backward pattern parallel sets small (masks-hold _ (pattern .ends) (pattern .starts) (predOf (t .masks)) (p .parts) (masked-pred (p .masked)) (p .ends)) w v)
 
     abbrev Linked : ℕ → ℕ → Type 0
     Linked = HasLink (matchStarts pattern board sets) (matchEnds pattern board sets)

@@ -20,7 +20,7 @@ use Rattle.graph.specs.Search.{inside}
 use Rattle.table_row.specs.Row.{startedOf, lastOf, keptOf, struckOf, roundsOf}
 use Rattle.table_row.specs.Reading.{Equivalent}
 use Rattle.table_row.proofs.Wider.{last-same, started-same, kept-same, struck-same, rounds-same}
-use Rattle.table.specs.Row.{kindsAgree, agrees, problemOf, byEqualKinds, byKinds, lastTable, started, kept, struck, rounds}
+use Rattle.table.specs.Row.{kindsAgree, agrees, problemBy, problemOf, byEqualKinds, byKinds, lastTable, started, kept, struck, rounds}
 
 -- ---- the test
 
@@ -147,7 +147,7 @@ module _ (pattern host : Circuit) (taken : List ℕ) (plain : Plain pattern) whe
   plain-agree u v h = labels-agree (getD (pattern .kinds) u 0) (getD (host .kinds) v 0) (plain u h)
 
   pub plain-same : Equivalent (problemOf pattern host taken) (byEqualKinds pattern host taken)
-  unfolding problemOf byEqualKinds
+  unfolding problemBy byEqualKinds
   plain-same =
       record {
         nodes = refl;
@@ -185,7 +185,7 @@ module _ (pattern host : Circuit) (taken : List ℕ) (parts : Below 65536 (patte
   unpacked-agree u v h l = agree-plain (getD (pattern .kinds) u 0) (getD (host .kinds) v 0) (parts u h) (nodes v l)
 
   pub unpacked-same : Equivalent (problemOf pattern host taken) (byKinds pattern host taken)
-  unfolding problemOf byKinds
+  unfolding problemBy byKinds
   unpacked-same =
       record {
         nodes = refl;

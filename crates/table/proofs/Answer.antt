@@ -1,136 +1,173 @@
--- The whole-board call's answer is the largest dual simulation, for every pattern, connected or not; for a connected one it is the row's last
--- set with the row's counts. Assumes nothing.
+-- The whole-board call's answer, for any directions and for every pattern, connected or not: the largest set that is closed along them and in
+-- which every part occurs. For both directions and a connected pattern it is the row's last set with the row's counts. Assumes nothing.
 use mathlib.Core.Bool.{Bool, true, false, cond}
 use mathlib.Core.List.{List, map}
-use mathlib.Core.Logic.{Iff·rfl}
-use mathlib.Core.Path.{_≡_, refl, sym, ap, subst, _∙_}
+use mathlib.Core.Logic.{_↔_, Iff·rfl}
+use mathlib.Core.Path.{_≡_, refl, sym, _∙_}
 use Prim.Native.Nat.{ℕ, _+_, _≤_, _<_}
+use native.Mathlib.Nat.{le-refl}
 use lib.Count.{ones}
 use lib.Dec.{T}
 use lib.ListN.{length}
 use Rattle.base_lists.specs.List.{tabulate, sum}
 use Rattle.base_lists.proofs.Tests.{T-false, true-T}
 use Rattle.graph.specs.Circuit.{Circuit, graphOf, circuitGraph}
-use Rattle.graph.specs.Graph.{Connected}
-use Rattle.simulation.specs.Closed.{Occurring}
-use Rattle.simulation.specs.Simulation.{Largest}
-use Rattle.simulation.specs.Perfect.{SameAgree}
+use Rattle.graph.specs.Graph.{Graph, Connected}
+use Rattle.simulation.specs.Closed.{Relation, _⊆_}
+use Rattle.simulation.specs.Simulation.{Direction, Candidate, Along, Largest, LargestGraphSimulation}
 use Rattle.simulation.specs.Quotient.{LinksJoin}
-use Rattle.simulation.proofs.Same.{same-refl, largest-same}
 use Rattle.simulation.proofs.Simulation.{connected-occurring}
-use Rattle.table_row.specs.Reading.{InTable}
+use Rattle.table_row.specs.Problem.{Problem}
+use Rattle.table_row.specs.Reading.{InTable, Chosen, LargestOccurring}
+use Rattle.table_row.specs.Row.{startOf, startedOf, lastOf, roundsOf}
 use Rattle.table_row.proofs.Answer as Of
+use Rattle.table_row.proofs.Counting.{started-ones}
+use Rattle.table_row.proofs.Meaning.{last-fits}
 use Rattle.table.specs.declared.Counts.{Counts}
-use Rattle.table.specs.Answer.{Fits, allOccur, allOrNone, answerTable, answerCounts, Answered, countsWhere, Ruled}
+use Rattle.table.specs.Answer.{Fits, allOccur, allOrNone, answerBy, answerTable, answerCountsBy, AnsweredBy, countsWhere, Ruled}
 use Rattle.table.specs.Host.{hostGraph, everything, KindsMatch}
-use Rattle.table.specs.Refine.{countsOf, Refined}
-use Rattle.table.specs.Row.{problemOf, started, rounds, lastTable}
+use Rattle.table.specs.Refine.{countsBy, countsOf, RefinedBy}
+use Rattle.table.specs.Row.{bothWays, oneWay, problemBy, problemOf, lastTable}
 use Rattle.table.proofs.Host.{everything-same}
-use Rattle.table.proofs.Meaning.{last-fits, last-closed}
-use Rattle.table.proofs.Row.{Table, reading}
+use Rattle.table.proofs.Meaning.{last-closed}
+use Rattle.table.proofs.Row.{Table, Candidates, Moves, Steps, reading-for, fewer-ways}
 
-module _ (pattern host : Circuit) (taken : List ℕ) where
+module _ (ways : List Direction) (pattern host : Circuit) (taken : List ℕ) where
+  abbrev problem : Problem Direction
+  problem = problemBy ways pattern host taken
+
   -- every part has a node in the row's last set
   abbrev occur : Bool
-  occur = allOccur (length (host .kinds)) (length (pattern .kinds)) (lastTable pattern host taken)
+  occur = allOccur (length (host .kinds)) (length (pattern .kinds)) (lastOf problem)
 
-  pub answer-fits : Table pattern host (answerTable pattern host taken)
-  unfolding problemOf
-  answer-fits = Of.answer-fits (problemOf pattern host taken)
+  pub answer-fits : Table pattern host (answerBy ways pattern host taken)
+  unfolding problemBy
+  answer-fits = Of.answer-fits problem
+
+  row-fits : Table pattern host (lastOf problem)
+  unfolding problemBy
+  row-fits = last-fits problem
 
   -- ---- the two cases
 
   -- the answer is the row's last set: then the counts are the row's
-  answer-plain : answerTable pattern host taken ≡ lastTable pattern host taken → Answered pattern host taken (lastTable pattern host taken) (countsOf pattern host taken)
-  unfolding countsOf answerCounts
-  answer-plain e =
-      let p = problemOf pattern host taken in
-      record { counted = rw (Of.plain-kept p e, Of.plain-struck p e); last = sym e }
+  answer-plain : answerBy ways pattern host taken ≡ lastOf problem → AnsweredBy ways pattern host taken (lastOf problem) (countsBy ways pattern host taken)
+  unfolding countsBy answerCountsBy
+  answer-plain e = record { counted = rw (Of.plain-kept problem e, Of.plain-struck problem e); last = sym e }
 
-  answer-all : T occur → Answered pattern host taken (lastTable pattern host taken) (countsOf pattern host taken)
-  unfolding problemOf
-  answer-all s = answer-plain (Of.answer-all (problemOf pattern host taken) s)
+  answer-all : T occur → AnsweredBy ways pattern host taken (lastOf problem) (countsBy ways pattern host taken)
+  unfolding problemBy
+  answer-all s = answer-plain (Of.answer-all problem s)
 
   -- the row's counts with none of its pairs kept
   abbrev cleared : Counts
-  cleared = record { started = started pattern host taken; kept = 0; struck = started pattern host taken; rounds = rounds pattern host taken }
+  cleared = record { started = startedOf problem; kept = 0; struck = startedOf problem; rounds = roundsOf problem }
 
-  answer-none : occur ≡ false → Answered pattern host taken (tabulate (length (host .kinds)) (λ v. 0)) cleared
-  unfolding problemOf answerCounts
-  answer-none e =
-      let p = problemOf pattern host taken in
-      record { counted = rw (Of.none-kept p e, Of.none-struck p e); last = sym (Of.answer-none p e) }
+  answer-none : occur ≡ false → AnsweredBy ways pattern host taken (tabulate (length (host .kinds)) (λ v. 0)) cleared
+  unfolding problemBy answerCountsBy
+  answer-none e = record { counted = rw (Of.none-kept problem e, Of.none-struck problem e); last = sym (Of.answer-none problem e) }
 
   -- "If some part is left without a node, the table is all 0, kept is 0, struck equals started, and rounds count as before."
   pub answer-missing :
-      (u : ℕ) → u < length (pattern .kinds) → ((v : ℕ) → InTable (lastTable pattern host taken) u v → ⊥) →
-      Answered pattern host taken (tabulate (length (host .kinds)) (λ v. 0)) cleared
-  unfolding problemOf
-  answer-missing u h none =
-      answer-none
-      (T-false (λ s. let (v, m) = Of.occur-iff (problemOf pattern host taken) (last-fits pattern host taken) .0 s u h in none v m))
+      (u : ℕ) → u < length (pattern .kinds) → ((v : ℕ) → InTable (lastOf problem) u v → ⊥) →
+      AnsweredBy ways pattern host taken (tabulate (length (host .kinds)) (λ v. 0)) cleared
+  unfolding problemBy
+  answer-missing u h none = answer-none (T-false (λ s. let (v, m) = Of.occur-iff problem row-fits .0 s u h in none v m))
 
   -- Else it is the row's last set, with the row's counts.
   pub answer-found :
-      ((u : ℕ) → u < length (pattern .kinds) → (v : ℕ) × InTable (lastTable pattern host taken) u v) →
-      Answered pattern host taken (lastTable pattern host taken) (countsOf pattern host taken)
-  unfolding problemOf
-  answer-found found = answer-all (Of.occur-iff (problemOf pattern host taken) (last-fits pattern host taken) .1 found)
+      ((u : ℕ) → u < length (pattern .kinds) → (v : ℕ) × InTable (lastOf problem) u v) →
+      AnsweredBy ways pattern host taken (lastOf problem) (countsBy ways pattern host taken)
+  unfolding problemBy
+  answer-found found = answer-all (Of.occur-iff problem row-fits .1 found)
 
   -- ---- as the rule is applied
 
   pub refined-fits :
-      {last : List ℕ} {counts : Counts} → Refined pattern host taken last counts → Fits (length last) (length (pattern .kinds)) last
-  refined-fits r = rw (r .last) (record { size = refl; small = last-fits pattern host taken .small })
+      {last : List ℕ} {counts : Counts} → RefinedBy ways pattern host taken last counts → Fits (length last) (length (pattern .kinds)) last
+  refined-fits r = rw (r .last) (record { size = refl; small = row-fits .small })
 
   pub answered :
-      {last table : List ℕ} {counts answer : Counts} → Refined pattern host taken last counts →
-      Ruled (length (pattern .kinds)) (length last) last counts table answer → Answered pattern host taken table answer
-  unfolding allOrNone countsWhere countsOf
+      {last table : List ℕ} {counts answer : Counts} → RefinedBy ways pattern host taken last counts →
+      Ruled (length (pattern .kinds)) (length last) last counts table answer → AnsweredBy ways pattern host taken table answer
+  unfolding allOrNone countsWhere countsBy
   answered {table = table} {answer = answer} r w =
-      let size = last-fits pattern host taken .size in
+      let size = row-fits .size in
       go occur refl (rw (r .last, size) at (w .made)) (rw (r .last, size, r .counted) at (w .counted))
     where
       go :
-          (b : Bool) → occur ≡ b → table ≡ cond b (lastTable pattern host taken) (tabulate (length (host .kinds)) (λ v. 0)) →
-          answer ≡ countsWhere b (countsOf pattern host taken) → Answered pattern host taken table answer
+          (b : Bool) → occur ≡ b → table ≡ cond b (lastOf problem) (tabulate (length (host .kinds)) (λ v. 0)) →
+          answer ≡ countsWhere b (countsBy ways pattern host taken) → AnsweredBy ways pattern host taken table answer
       go true e t k = let a = answer-all (true-T e) in record { counted = k ∙ a .counted; last = t ∙ a .last }
       go false e t k = let a = answer-none e in record { counted = k ∙ a .counted; last = t ∙ a .last }
 
 -- ---- what it means
 
-module _ (pattern host : Circuit) (taken : List ℕ) (most : length (pattern .kinds) ≤ 32) where
-  -- The table is the largest dual simulation, whether the pattern is connected or not.
-  pub answer-largest :
-      Largest (circuitGraph pattern) (KindsMatch pattern host) (hostGraph host taken) (InTable (answerTable pattern host taken))
-  unfolding problemOf circuitGraph graphOf
-  answer-largest = Of.occurring-dual (Of.answer-largest (problemOf pattern host taken) most (reading pattern host taken) (λ u. Iff·rfl))
+-- the parts of a pattern's graph
+parts-iff : (pattern : Circuit) (u : ℕ) → circuitGraph pattern .Node u ↔ (u < length (pattern .kinds))
+unfolding circuitGraph graphOf
+parts-iff pattern u = Iff·rfl
 
-  -- "Connected patterns get the table and counts they always got."
-  pub answer-connected :
-      Connected (circuitGraph pattern) → Answered pattern host taken (lastTable pattern host taken) (countsOf pattern host taken)
-  unfolding problemOf circuitGraph graphOf
-  answer-connected connected =
-      answer-plain pattern host taken
-      (Of.answer-occurring (problemOf pattern host taken) (connected-occurring {P = circuitGraph pattern} connected (last-closed pattern host taken most .closed)))
+module _ (ways : List Direction) (pattern host : Circuit) (taken : List ℕ) (most : length (pattern .kinds) ≤ 32) where
+  abbrev problem′ : Problem Direction
+  problem′ = problemBy ways pattern host taken
+
+  -- The table is the largest set that is closed along the directions chosen and in which every part occurs, unless it is empty.
+  pub answer-along :
+      LargestOccurring (circuitGraph pattern .Node) (Candidates pattern host taken) (Chosen ways (Steps pattern)) (Moves host taken)
+      (InTable (answerBy ways pattern host taken))
+  unfolding problemBy
+  answer-along = Of.answer-largest problem′ most (reading-for ways pattern host taken) (parts-iff pattern)
 
   -- "started = kept + struck, and rounds are at most struck"; "kept is the number of one bits in the whole table"
-  pub answer-sum : started pattern host taken ≡ answerCounts pattern host taken .kept + answerCounts pattern host taken .struck
-  unfolding problemOf answerCounts
-  answer-sum = Of.answer-sum (problemOf pattern host taken) most
+  pub answer-sum : startedOf problem′ ≡ answerCountsBy ways pattern host taken .kept + answerCountsBy ways pattern host taken .struck
+  unfolding problemBy answerCountsBy
+  answer-sum = Of.answer-sum problem′ most
 
-  pub answer-rounds : rounds pattern host taken ≤ answerCounts pattern host taken .struck
-  unfolding problemOf answerCounts
-  answer-rounds = Of.answer-rounds (problemOf pattern host taken) most
+  pub answer-rounds : roundsOf problem′ ≤ answerCountsBy ways pattern host taken .struck
+  unfolding problemBy answerCountsBy
+  answer-rounds = Of.answer-rounds problem′ most
 
-  pub answer-ones : answerCounts pattern host taken .kept ≡ sum (map ones (answerTable pattern host taken))
-  unfolding problemOf answerCounts
-  answer-ones = Of.answer-ones (problemOf pattern host taken) most
+  pub answer-ones : answerCountsBy ways pattern host taken .kept ≡ sum (map ones (answerBy ways pattern host taken))
+  unfolding problemBy answerCountsBy
+  answer-ones = Of.answer-ones problem′ most
+
+  -- "started, the pairs of R0", by one bits
+  pub answer-started : startedOf problem′ ≡ sum (map ones (startOf problem′))
+  unfolding problemBy
+  answer-started = started-ones problem′ most
 
 -- on the whole board
-pub board-answer :
-    (pattern board : Circuit) → length (pattern .kinds) ≤ 32 → LinksJoin (circuitGraph board) →
-    Largest (circuitGraph pattern) (KindsMatch pattern board) (circuitGraph board) (InTable (answerTable pattern board (everything board)))
-board-answer pattern board most j =
-    largest-same (same-refl (circuitGraph pattern)) (everything-same board j) (record { agree = λ u v p n. Iff·rfl })
-    (answer-largest pattern board (everything board) most)
+pub board-along :
+    (ways : List Direction) (pattern board : Circuit) → length (pattern .kinds) ≤ 32 → LinksJoin (circuitGraph board) →
+    LargestOccurring (circuitGraph pattern .Node) (Candidate (circuitGraph pattern) (KindsMatch pattern board) (circuitGraph board))
+    (Chosen ways (Steps pattern)) (Along (circuitGraph board .Link)) (InTable (answerBy ways pattern board (everything board)))
+board-along ways pattern board most j = Of.occurring-same (everything-same board j) (answer-along ways pattern board (everything board) most)
+
+-- ---- what both ways and one way have for largest
+
+-- Along both ways that is the largest dual simulation, whether the pattern is connected or not;
+pub along-dual :
+    {P : Graph} {Agree : Relation} {H : Graph} {S : Relation} →
+    LargestOccurring (P .Node) (Candidate P Agree H) (Chosen bothWays (Along (P .Link))) (Along (H .Link)) S → Largest P Agree H S
+along-dual = Of.occurring-dual
+
+-- along forward links alone it is the largest graph simulation.
+pub along-graph :
+    {P : Graph} {Agree : Relation} {H : Graph} {S : Relation} →
+    LargestOccurring (P .Node) (Candidate P Agree H) (Chosen oneWay (Along (P .Link))) (Along (H .Link)) S → LargestGraphSimulation P Agree H S
+along-graph = Of.occurring-graph
+
+module _ (pattern host : Circuit) (taken : List ℕ) (most : length (pattern .kinds) ≤ 32) where
+  -- "Connected patterns get the table and counts they always got."
+  pub answer-connected :
+      Connected (circuitGraph pattern) → AnsweredBy bothWays pattern host taken (lastTable pattern host taken) (countsOf pattern host taken)
+  unfolding problemBy circuitGraph graphOf
+  answer-connected connected =
+      answer-plain bothWays pattern host taken
+      (Of.answer-occurring (problemOf pattern host taken) (connected-occurring {P = circuitGraph pattern} connected (last-closed pattern host taken most .closed)))
+
+  -- "Its table contains the two-way table for each pattern and board": along fewer ways the answer has no fewer pairs.
+  pub answer-fewer : (ways : List Direction) → InTable (answerTable pattern host taken) ⊆ InTable (answerBy ways pattern host taken)
+  unfolding problemBy
+  answer-fewer ways = Of.answer-wider (fewer-ways pattern host taken ways) most (le-refl _)

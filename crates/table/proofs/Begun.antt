@@ -10,50 +10,57 @@ use Rattle.base_lists.proofs.Tests.{T-true, false-T}
 use Rattle.base_bits.specs.Bits.{bit}
 use Rattle.base_bits.proofs.Digits.{bit-of-zero}
 use Rattle.graph.specs.Circuit.{Circuit}
-use Rattle.table_row.specs.Row.{startedOf, struckOf}
+use Rattle.table_row.specs.Problem.{Problem}
+use Rattle.table_row.specs.Row.{startOf, startedOf, struckOf}
+use Rattle.table_row.proofs.Counting.{kept-started}
 use Rattle.table_row.specs.Reading.{InTable}
 use Rattle.table_row.proofs.Sets.{in-node, fits-node}
 use Rattle.table_row.proofs.Begin.{start-begins}
 use Rattle.table.specs.declared.Rest.{Rest}
 use Rattle.table.specs.Fill.{listed, marksOf, tableAt}
-use Rattle.table.specs.First.{Begins, startNode, Written}
+use Rattle.table.specs.First.{BeginsBy, Begins, startNode, Written}
 use Rattle.table.specs.Host.{Taken, hostGraph}
-use Rattle.table.specs.Row.{inTable, pairs, problemOf, startTable, started, lastTable}
-use Rattle.table.specs.Refine.{Rested, countsOf, countsFrom, Refined}
-use Rattle.table.proofs.Counting.{kept-started}
+use Rattle.table.specs.Row.{inTable, pairs, problemBy, lastTable}
+use Rattle.simulation.specs.Simulation.{Direction}
+use Rattle.table.specs.Refine.{RestedBy, countsBy, countsFrom, RefinedBy}
 use Rattle.table.proofs.Meaning.{last-fits, last-candidate}
 use Rattle.table.proofs.Narrow.{last-wider}
 use Rattle.table.proofs.Row.{start-in}
 use Rattle.table.proofs.StrikeFill.{length-table, getD-table}
 use Rattle.table.proofs.StrikeRow.{inside-marks, start-row}
 
-module _ (pattern host : Circuit) (nodes : List ℕ) {n : ℕ} (long : n ≡ length (host .kinds)) where
-  abbrev marks : List ℕ
-  marks = marksOf (length (host .kinds)) nodes
+module _ (ways : List Direction) (pattern host : Circuit) (nodes : List ℕ) {n : ℕ} (long : n ≡ length (host .kinds)) where
+  abbrev problem : Problem Direction
+  problem = problemBy ways pattern host (marksOf (length (host .kinds)) nodes)
 
   -- ---- each node's parts of the same kind
 
   module _ {first : List ℕ} {count : ℕ} (w : Written n (startNode (pattern .kinds) (host .kinds)) nodes first count) where
     -- they are the first table of the row,
-    pub started-table : first ≡ startTable pattern host marks
-    started-table = w .made ∙ ap (λ (m : ℕ). tableAt m (startNode (pattern .kinds) (host .kinds)) nodes) long ∙ start-row pattern host nodes
+    pub started-table : first ≡ startOf problem
+    started-table = w .made ∙ ap (λ (m : ℕ). tableAt m (startNode (pattern .kinds) (host .kinds)) nodes) long ∙ start-row ways pattern host nodes
 
-    pub started-begins : Begins pattern host marks first
-    started-begins = rw started-table (start-begins (problemOf pattern host marks))
+    pub started-begins : BeginsBy ways pattern host (marksOf (length (host .kinds)) nodes) first
+    started-begins = rw started-table (start-begins problem)
 
     -- and its pairs are those at first
-    pub started-count : count ≡ started pattern host marks
+    pub started-count : count ≡ startedOf problem
     unfolding startedOf
     started-count = w .size ∙ ap pairs started-table
 
     -- With what the rounds come to this gives the four counts.
-    module _ (most : length (pattern .kinds) ≤ 32) {last : List ℕ} {rest : Rest} (r : Rested pattern host marks first last rest) where
+    module _ (most : length (pattern .kinds) ≤ 32) {last : List ℕ} {rest : Rest} (r : RestedBy ways pattern host (marksOf (length (host .kinds)) nodes) first last rest) where
       pub kept-first : rest .kept ≤ count
-      kept-first = rw (r .kept, started-count) (kept-started pattern host marks most)
+      unfolding problemBy
+      kept-first = rw (r .kept, started-count) (kept-started problem most)
 
-      pub refined : Refined pattern host marks last (countsFrom count rest)
-      unfolding countsOf struckOf
+      pub refined : RefinedBy ways pattern host (marksOf (length (host .kinds)) nodes) last (countsFrom count rest)
+      unfolding countsBy struckOf
       refined = record { counted = rw (r .kept, r .rounds started-table, started-count); last = r .last }
+
+module _ (pattern host : Circuit) (nodes : List ℕ) {n : ℕ} (long : n ≡ length (host .kinds)) where
+  abbrev marks : List ℕ
+  marks = marksOf (length (host .kinds)) nodes
 
   -- ---- a larger graph's last table, at the nodes of the list
 
@@ -84,7 +91,7 @@ module _ (pattern host : Circuit) (nodes : List ℕ) {n : ℕ} (long : n ≡ len
 
     -- so it is one to begin with
     pub copied-begins : Begins pattern host marks first
-    unfolding hostGraph problemOf
+    unfolding hostGraph problemBy
     copied-begins =
         record {
           long = ap length made ∙ length-table (length (host .kinds)) rule nodes;

@@ -1,4 +1,5 @@
--- The row of a pattern on a circuit comes to rest at its last set, and the four counts say how: table_row's laws, for at most 32 parts.
+-- The row of a pattern on a circuit comes to rest at its last set, and the four counts say how: table_row's laws, for any directions and at most 32
+-- parts.
 -- Assumes nothing.
 use mathlib.Core.List.{List, map}
 use mathlib.Core.Logic.{_≢_}
@@ -10,46 +11,47 @@ use Rattle.base_lists.specs.List.{sum}
 use Rattle.graph.specs.Circuit.{Circuit}
 use Rattle.table_row.specs.Row.{struckOf}
 use Rattle.table_row.proofs.Counting as Of
-use Rattle.table.specs.Row.{problemOf, startTable, row, lastTable, started, kept, struck, rounds}
+use Rattle.simulation.specs.Simulation.{Direction}
+use Rattle.table.specs.Row.{problemBy, startBy, rowBy, lastBy, startedBy, keptBy, struckBy, roundsBy}
 
 -- "struck, started minus kept"
-pub struck-minus : (pattern host : Circuit) (taken : List ℕ) → struck pattern host taken ≡ started pattern host taken - kept pattern host taken
+pub struck-minus : (ways : List Direction) (pattern host : Circuit) (taken : List ℕ) → struckBy ways pattern host taken ≡ startedBy ways pattern host taken - keptBy ways pattern host taken
 unfolding struckOf
-struck-minus pattern host taken = refl
+struck-minus ways pattern host taken = refl
 
-module _ (pattern host : Circuit) (taken : List ℕ) (most : length (pattern .kinds) ≤ 32) where
+module _ (ways : List Direction) (pattern host : Circuit) (taken : List ℕ) (most : length (pattern .kinds) ≤ 32) where
   -- "The last set of this row": the row rests from `started` on.
-  pub row-last : (k : ℕ) → started pattern host taken ≤ k → row pattern host taken k ≡ lastTable pattern host taken
-  unfolding problemOf
-  row-last = Of.row-last (problemOf pattern host taken) most
+  pub row-last : (k : ℕ) → startedBy ways pattern host taken ≤ k → rowBy ways pattern host taken k ≡ lastBy ways pattern host taken
+  unfolding problemBy
+  row-last = Of.row-last (problemBy ways pattern host taken) most
 
   -- "So started = kept + struck, and rounds are at most struck."
-  pub kept-started : kept pattern host taken ≤ started pattern host taken
-  unfolding problemOf
-  kept-started = Of.kept-started (problemOf pattern host taken) most
+  pub kept-started : keptBy ways pattern host taken ≤ startedBy ways pattern host taken
+  unfolding problemBy
+  kept-started = Of.kept-started (problemBy ways pattern host taken) most
 
-  pub started-sum : started pattern host taken ≡ kept pattern host taken + struck pattern host taken
-  unfolding problemOf
-  started-sum = Of.started-sum (problemOf pattern host taken) most
+  pub started-sum : startedBy ways pattern host taken ≡ keptBy ways pattern host taken + struckBy ways pattern host taken
+  unfolding problemBy
+  started-sum = Of.started-sum (problemBy ways pattern host taken) most
 
-  pub rounds-struck : rounds pattern host taken ≤ struck pattern host taken
-  unfolding problemOf
-  rounds-struck = Of.rounds-struck (problemOf pattern host taken) most
+  pub rounds-struck : roundsBy ways pattern host taken ≤ struckBy ways pattern host taken
+  unfolding problemBy
+  rounds-struck = Of.rounds-struck (problemBy ways pattern host taken) most
 
   -- "rounds, how many sets differ from the one before": each set up to there does, and there the row has come to its last
-  pub rounds-differ : (j : ℕ) → j < rounds pattern host taken → row pattern host taken (suc j) ≢ row pattern host taken j
-  unfolding problemOf
-  rounds-differ = Of.rounds-differ (problemOf pattern host taken) most
+  pub rounds-differ : (j : ℕ) → j < roundsBy ways pattern host taken → rowBy ways pattern host taken (suc j) ≢ rowBy ways pattern host taken j
+  unfolding problemBy
+  rounds-differ = Of.rounds-differ (problemBy ways pattern host taken) most
 
-  pub rounds-last : (k : ℕ) → rounds pattern host taken ≤ k → row pattern host taken k ≡ lastTable pattern host taken
-  unfolding problemOf
-  rounds-last = Of.rounds-last (problemOf pattern host taken) most
+  pub rounds-last : (k : ℕ) → roundsBy ways pattern host taken ≤ k → rowBy ways pattern host taken k ≡ lastBy ways pattern host taken
+  unfolding problemBy
+  rounds-last = Of.rounds-last (problemBy ways pattern host taken) most
 
   -- "kept is the number of one bits in the whole table"; started likewise, of the first
-  pub kept-ones : kept pattern host taken ≡ sum (map ones (lastTable pattern host taken))
-  unfolding problemOf
-  kept-ones = Of.kept-ones (problemOf pattern host taken) most
+  pub kept-ones : keptBy ways pattern host taken ≡ sum (map ones (lastBy ways pattern host taken))
+  unfolding problemBy
+  kept-ones = Of.kept-ones (problemBy ways pattern host taken) most
 
-  pub started-ones : started pattern host taken ≡ sum (map ones (startTable pattern host taken))
-  unfolding problemOf
-  started-ones = Of.started-ones (problemOf pattern host taken) most
+  pub started-ones : startedBy ways pattern host taken ≡ sum (map ones (startBy ways pattern host taken))
+  unfolding problemBy
+  started-ones = Of.started-ones (problemBy ways pattern host taken) most

@@ -1,10 +1,10 @@
 -- Document 01's examples of the match table, by computation. Assumes nothing.
 use mathlib.Core.List.{[], _∷_}
 use mathlib.Core.Path.{_≡_, refl}
-use Rattle.table.specs.Answer.{answerTable, answerCounts}
+use Rattle.table.specs.Answer.{answerBy, answerCountsBy, answerTable, answerCounts}
 use Rattle.table.specs.Host.{everything}
-use Rattle.table.specs.Row.{started, lastTable, kept, struck, rounds}
-use Rattle.table.specs.Examples.{rowComputed, answerComputed, circuitT, circuitB, twoWay, ring, anyTo20, twoT, bothBits, oneBit, loneT}
+use Rattle.table.specs.Row.{oneWay, lastBy, started, lastTable, kept, struck, rounds}
+use Rattle.table.specs.Examples.{rowComputed, answerComputed, circuitT, circuitB, twoWay, ring, anyTo20, twoT, bothBits, oneBit, loneT, tailT}
 
 -- "E2 T on all of B: table 1, 2, 4, 0, 0, 0; started 6, kept 3, struck 3, rounds 2."
 pub E2-table : lastTable circuitT circuitB (everything circuitB) ≡ 1 ∷ 2 ∷ 4 ∷ 0 ∷ 0 ∷ 0 ∷ []
@@ -94,3 +94,27 @@ lone-table = refl
 pub lone-counts : answerCounts loneT circuitB (everything circuitB) ≡ record { started = 6; kept = 0; struck = 6; rounds = 2 }
 unfolding rowComputed answerComputed loneT circuitB
 lone-counts = refl
+
+-- ---- one way
+
+-- T on B: nodes 3 and 4 stay, where nothing drives node 3; node 5 goes, which drives nothing. The two-way table is E2's.
+pub one-way-table : answerBy oneWay circuitT circuitB (everything circuitB) ≡ 1 ∷ 2 ∷ 4 ∷ 2 ∷ 4 ∷ 0 ∷ []
+unfolding rowComputed answerComputed circuitT circuitB
+one-way-table = refl
+
+pub one-way-counts : answerCountsBy oneWay circuitT circuitB (everything circuitB) ≡ record { started = 6; kept = 5; struck = 1; rounds = 1 }
+unfolding rowComputed answerComputed circuitT circuitB
+one-way-counts = refl
+
+-- T, which is connected, where its first part has no node: one way the row leaves the others their nodes, and the table is all 0
+pub tail-row : lastBy oneWay circuitT tailT (everything tailT) ≡ 2 ∷ 4 ∷ []
+unfolding rowComputed circuitT tailT
+tail-row = refl
+
+pub tail-table : answerBy oneWay circuitT tailT (everything tailT) ≡ 0 ∷ 0 ∷ []
+unfolding rowComputed answerComputed circuitT tailT
+tail-table = refl
+
+pub tail-counts : answerCountsBy oneWay circuitT tailT (everything tailT) ≡ record { started = 2; kept = 0; struck = 2; rounds = 0 }
+unfolding rowComputed answerComputed circuitT tailT
+tail-counts = refl

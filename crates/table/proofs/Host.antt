@@ -17,7 +17,7 @@ use Rattle.simulation.proofs.Same.{same-refl, same-symm, agree-symm, largest-sa
 use Rattle.simulation.proofs.Simulation.{along-wider}
 use Rattle.table_row.specs.Reading.{InTable, Reading, Wider, Equivalent}
 use Rattle.table.specs.Host.{Taken, hostGraph, everything, KindsMatch}
-use Rattle.table.specs.Row.{problemOf, lastTable}
+use Rattle.table.specs.Row.{problemBy, problemOf, lastTable}
 use Rattle.table.proofs.Row.{Candidates, Steps, Moves, reading}
 use Rattle.table.proofs.Meaning.{last-largest}
 
@@ -99,6 +99,6 @@ same-host-wider {pattern} {host} {host′} {taken} {taken′} s =
 pub same-host :
     {pattern host host′ : Circuit} {taken taken′ : List ℕ} → length (host .kinds) ≡ length (host′ .kinds) →
     SameHost pattern host host′ taken taken′ → Equivalent (problemOf pattern host taken) (problemOf pattern host′ taken′)
-unfolding problemOf
+unfolding problemBy
 same-host nodes s =
     record { nodes = nodes; parts = refl; wider = same-host-wider s; narrower = same-host-wider (same-host-symm s) }

@@ -8,6 +8,7 @@ pub mod Narrow
 pub mod Host
 pub mod Answer
 pub mod PreparedMasks
+mod Directions
 pub mod StrikeFill
 mod Pending
 mod Waking

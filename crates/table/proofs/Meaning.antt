@@ -10,13 +10,13 @@ use Rattle.simulation.proofs.Simulation.{largest-iff-closed}
 use Rattle.table_row.specs.Reading.{InTable}
 use Rattle.table_row.proofs.Meaning as Of
 use Rattle.table.specs.Host.{hostGraph, KindsMatch}
-use Rattle.table.specs.Row.{problemOf, lastTable}
+use Rattle.table.specs.Row.{problemBy, problemOf, lastTable}
 use Rattle.table.proofs.Row.{Table, Candidates, Steps, Moves, agreeing-iff, reading}
 
 module _ (pattern host : Circuit) (taken : List ℕ) where
   -- the table has a number per node, of as many bits as the pattern has parts
   pub last-fits : Table pattern host (lastTable pattern host taken)
-  unfolding problemOf
+  unfolding problemBy
   last-fits = Of.last-fits (problemOf pattern host taken)
 
   -- its pairs are of a part and a node of H with equal kinds
@@ -25,7 +25,7 @@ module _ (pattern host : Circuit) (taken : List ℕ) where
 
 module _ (pattern host : Circuit) (taken : List ℕ) (most : length (pattern .kinds) ≤ 32) where
   pub last-closed : LargestClosed (Candidates pattern host taken) (Steps pattern) (Moves host taken) (InTable (lastTable pattern host taken))
-  unfolding problemOf
+  unfolding problemBy
   last-closed = Of.last-closed (problemOf pattern host taken) most (reading pattern host taken)
 
   -- "The last set of this row is the largest dual simulation."

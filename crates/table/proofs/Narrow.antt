@@ -7,14 +7,14 @@ use Rattle.simulation.specs.Closed.{_⊆_}
 use Rattle.table_row.specs.Reading.{InTable, Wider}
 use Rattle.table_row.proofs.Wider as Of
 use Rattle.table.specs.Host.{Taken, hostGraph}
-use Rattle.table.specs.Row.{problemOf, lastTable}
+use Rattle.table.specs.Row.{problemBy, problemOf, lastTable}
 use Rattle.table.proofs.Row.{agreeing-iff}
 
 -- on more nodes of the same circuit the problem asks no more
 pub more-nodes :
     (pattern host : Circuit) (taken taken′ : List ℕ) → ((v : ℕ) → Taken host taken v → Taken host taken′ v) →
     Wider (problemOf pattern host taken) (problemOf pattern host taken′)
-unfolding problemOf hostGraph
+unfolding problemBy hostGraph
 more-nodes pattern host taken taken′ more =
     record {
       agree =
@@ -29,5 +29,5 @@ pub last-wider :
     (pattern host : Circuit) (taken taken′ : List ℕ) → length (pattern .kinds) ≤ 32 →
     ((v : ℕ) → Taken host taken v → Taken host taken′ v) →
     InTable (lastTable pattern host taken) ⊆ InTable (lastTable pattern host taken′)
-unfolding problemOf
+unfolding problemBy
 last-wider pattern host taken taken′ most more = Of.last-wider (more-nodes pattern host taken taken′ more) most most

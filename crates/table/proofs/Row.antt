@@ -1,5 +1,5 @@
--- The row of a pattern on a circuit is the row of sets that begins with the pairs of equal kinds, and follows links in both directions. So
--- it contains every dual simulation. Assumes nothing.
+-- The row of a pattern on a circuit is the row of sets that begins with the pairs of equal kinds, and follows links in the ways chosen. Along
+-- both ways it contains every dual simulation. Assumes nothing.
 use mathlib.Core.List.{List}
 use mathlib.Core.Logic.{_↔_, inl, inr, Iff·trans}
 use mathlib.Core.Path.{_≡_, refl}
@@ -14,11 +14,11 @@ use Rattle.simulation.specs.Closed.{Relation, _⊆_, Closed, Row}
 use Rattle.simulation.specs.Simulation.{DualSimulation, Candidate, Direction, forwards, backwards, Along}
 use Rattle.simulation.proofs.Simulation.{along-wider, dual-closed}
 use Rattle.table_row.specs.Problem.{Way, Agreeing}
-use Rattle.table_row.specs.Row.{rowFrom, rowOf}
-use Rattle.table_row.specs.Reading.{InTable, Fits, Reading}
+use Rattle.table_row.specs.Row.{startOf, rowFrom, rowOf}
+use Rattle.table_row.specs.Reading.{InTable, Fits, Reading, Chosen, Wider}
 use Rattle.table_row.proofs.Row as Of
 use Rattle.table.specs.Host.{hostGraph, KindsMatch}
-use Rattle.table.specs.Row.{agrees, neighbours, problemOf, startTable, row}
+use Rattle.table.specs.Row.{agrees, neighbours, bothWays, problemBy, problemOf, startBy, rowBy, startTable, row}
 use Rattle.table.proofs.Agreement.{agrees-kinds}
 
 -- A table of a pattern on a circuit has a number per node, of as many digits as there are parts.
@@ -44,11 +44,11 @@ unfolding neighbours Along
 neighbours-along c forwards v w = select-mem (c .starts) (c .ends) v w
 neighbours-along c backwards v w = select-mem-back (c .starts) (c .ends) v w
 
--- both directions count
-both-ways : (pattern host : Circuit) (taken : List ℕ) (d : Direction) → Way (problemOf pattern host taken .ways) d
-unfolding problemOf Way
-both-ways pattern host taken forwards = inl refl
-both-ways pattern host taken backwards = inr (inl refl)
+-- both ways count
+both-ways : (d : Direction) → Way bothWays d
+unfolding Way
+both-ways forwards = inl refl
+both-ways backwards = inr (inl refl)
 
 -- a link of the circuit between nodes of H is one of H, whichever way it is followed
 host-along :
@@ -58,10 +58,10 @@ unfolding hostGraph Along
 host-along host taken forwards v w l n m = (l, n, m)
 host-along host taken backwards v w l n m = (l, m, n)
 
-module _ (pattern host : Circuit) (taken : List ℕ) where
-  pub agreeing-iff : (u v : ℕ) → Agreeing (problemOf pattern host taken) u v ↔ Candidates pattern host taken u v
-  unfolding problemOf circuitGraph graphOf hostGraph
-  agreeing-iff u v = (
+module _ (ways : List Direction) (pattern host : Circuit) (taken : List ℕ) where
+  pub agreeing-for : (u v : ℕ) → Agreeing (problemBy ways pattern host taken) u v ↔ Candidates pattern host taken u v
+  unfolding problemBy circuitGraph graphOf hostGraph
+  agreeing-for u v = (
     λ a.
         record {
           part = a .part;
@@ -76,15 +76,15 @@ module _ (pattern host : Circuit) (taken : List ℕ) where
         },
   )
 
-  -- The problem asks for equal kinds, and for the links of the pattern to be met by links of H in both directions.
-  pub reading : Reading (problemOf pattern host taken) (Candidates pattern host taken) (Steps pattern) (Moves host taken)
-  unfolding problemOf circuitGraph graphOf hostGraph
-  reading =
+  -- The problem asks for equal kinds, and for the links of the pattern to be met by links of H in the ways chosen.
+  pub reading-for : Reading (problemBy ways pattern host taken) (Candidates pattern host taken) (Chosen ways (Steps pattern)) (Moves host taken)
+  unfolding problemBy circuitGraph graphOf hostGraph
+  reading-for =
       record {
-        agree = agreeing-iff;
+        agree = agreeing-for;
         step = λ d u u′. (
-          λ l. neighbours-along pattern d u u′ .0 (l .step),
-          λ l. record { way = both-ways pattern host taken d; step = neighbours-along pattern d u u′ .1 l },
+          λ l. (l .way, neighbours-along pattern d u u′ .0 (l .step)),
+          λ (w, l). record { way = w; step = neighbours-along pattern d u u′ .1 l },
         );
         move = λ d u v u′ v′ a b l. (
           λ m. host-along host taken d v v′ (neighbours-along host d v v′ .0 (m .move)) (a .node) (b .node),
@@ -92,30 +92,59 @@ module _ (pattern host : Circuit) (taken : List ℕ) where
         );
       }
 
+  -- the first table holds the pairs with equal kinds
+  pub start-for : (u v : ℕ) → InTable (startBy ways pattern host taken) u v ↔ Candidates pattern host taken u v
+  start-for u v = Iff·trans (Of.start-in (problemBy ways pattern host taken) u v) (agreeing-for u v)
+
+  -- The tables are the row of sets that begins with the pairs with equal kinds, for the ways chosen.
+  pub row-for :
+      (k u v : ℕ) →
+      InTable (rowBy ways pattern host taken k) u v ↔
+      Row (Chosen ways (Steps pattern)) (Moves host taken) (Candidates pattern host taken) k u v
+  row-for = Of.row-in (problemBy ways pattern host taken) reading-for
+
+  pub row-first : rowBy ways pattern host taken 0 ≡ startBy ways pattern host taken
+  unfolding rowOf rowFrom
+  row-first = refl
+
+  pub row-fits : (k : ℕ) → Table pattern host (rowBy ways pattern host taken k)
+  unfolding problemBy
+  row-fits = Of.row-fits (problemBy ways pattern host taken)
+
+  -- the sets fall
+  pub row-inside : (k : ℕ) → InTable (rowBy ways pattern host taken (suc k)) ⊆ InTable (rowBy ways pattern host taken k)
+  row-inside = Of.row-inside (problemBy ways pattern host taken)
+
+-- ---- both ways
+
+module _ (pattern host : Circuit) (taken : List ℕ) where
+  pub agreeing-iff : (u v : ℕ) → Agreeing (problemOf pattern host taken) u v ↔ Candidates pattern host taken u v
+  agreeing-iff = agreeing-for bothWays pattern host taken
+
+  -- The problem asks for equal kinds, and for the links of the pattern to be met by links of H in both ways.
+  pub reading : Reading (problemOf pattern host taken) (Candidates pattern host taken) (Steps pattern) (Moves host taken)
+  reading =
+      let r = reading-for bothWays pattern host taken in
+      record {
+        agree = r .agree;
+        step = λ d u u′. (λ l. r .step d u u′ .0 l .1, λ l. r .step d u u′ .1 (both-ways d, l));
+        move = λ d u v u′ v′ a b l. r .move d u v u′ v′ a b (both-ways d, l);
+      }
+
+  -- along fewer ways the problem asks no more
+  pub fewer-ways : (ways : List Direction) → Wider (problemOf pattern host taken) (problemBy ways pattern host taken)
+  unfolding problemBy
+  fewer-ways ways =
+      record {
+        agree = λ u v a. record { part = a .part; node = a .node; agree = a .agree };
+        step = λ d u u′ l. (d, record { way = both-ways d; step = l .step }, λ v v′ a b m. record { move = m .move });
+      }
+
   -- ---- the row
 
   -- the first table holds the pairs with equal kinds
   pub start-in : (u v : ℕ) → InTable (startTable pattern host taken) u v ↔ Candidates pattern host taken u v
-  start-in u v = Iff·trans (Of.start-in (problemOf pattern host taken) u v) (agreeing-iff u v)
-
-  pub row-first : row pattern host taken 0 ≡ startTable pattern host taken
-  unfolding rowOf rowFrom
-  row-first = refl
-
-  pub row-fits : (k : ℕ) → Table pattern host (row pattern host taken k)
-  unfolding problemOf
-  row-fits = Of.row-fits (problemOf pattern host taken)
-
-  -- the sets fall
-  pub row-inside : (k : ℕ) → InTable (row pattern host taken (suc k)) ⊆ InTable (row pattern host taken k)
-  row-inside = Of.row-inside (problemOf pattern host taken)
-
-  -- The tables are the row of sets that begins with the pairs with equal kinds.
-  pub row-in :
-      (k u v : ℕ) →
-      InTable (row pattern host taken k) u v ↔
-      Row (Steps pattern) (Moves host taken) (Candidates pattern host taken) k u v
-  row-in = Of.row-in (problemOf pattern host taken) reading
+  start-in = start-for bothWays pattern host taken
 
   -- Every set of the row contains each closed set, and so each dual simulation.
   pub every-row-closed :

@@ -24,18 +24,18 @@ use Rattle.graph.proofs.BfsSteps.{reached-length, tail-le}
 use Rattle.graph.proofs.Net.{net-of}
 use Rattle.simulation.specs.Simulation.{Direction}
 use Rattle.table_row.specs.Problem.{Problem}
-use Rattle.table_row.specs.Row.{rowFrom, rowOf, keptOf}
+use Rattle.table_row.specs.Row.{startOf, rowFrom, rowOf, lastOf, keptOf, roundsOf}
 use Rattle.table_row.proofs.Sets.{fits-word, pairs-progress}
 use Rattle.table_row.proofs.Falling.{FirstRest, falls-count}
 use Rattle.table_row.proofs.Counting.{first-rounds}
 use Rattle.table_row.proofs.Begin.{begins-fits, begins-times, begins-rest}
-use Rattle.table.specs.Row.{inTable, pairs, problemOf, startTable, lastTable, rounds}
+use Rattle.table.specs.Row.{inTable, pairs, problemBy}
 use Rattle.table.specs.Fill.{listed, marksOf, NodeList, Cleared, fillAt}
-use Rattle.table.specs.First.{Begins}
+use Rattle.table.specs.First.{BeginsBy}
 use Rattle.graph_follow.specs.Follow.{beside}
 use Rattle.table.specs.Pending.{changing, Pending, putAt, Put}
-use Rattle.table.specs.Prepared.{Tables, Ready, Prepared}
-use Rattle.table.specs.Refine.{Rested}
+use Rattle.table.specs.Prepared.{Tables, Ready, PreparedBy}
+use Rattle.table.specs.Refine.{RestedBy}
 use Rattle.table.specs.Strike.{strikeNode, strikeTable, strikeTimes, Mutual, Covers, Due, Round, Settled}
 use Rattle.graph_follow.proofs.Following.{beside-below}
 use Rattle.table.proofs.NodeLists.{list-few}
@@ -205,11 +205,11 @@ module _ {t : Tables} {start old : List ℕ} {kept rounds : ℕ} (r : Round t st
 
 -- ---- the rounds begin
 
-module _ {pattern host : Circuit} {t : Tables} (p : Prepared pattern host t) (nodes : List ℕ) {first : List ℕ}
-    (b : Begins pattern host (marksOf (length (host .kinds)) nodes) first) where
+module _ {ways : List Direction} {pattern host : Circuit} {t : Tables} (p : PreparedBy ways pattern host t) (nodes : List ℕ) {first : List ℕ}
+    (b : BeginsBy ways pattern host (marksOf (length (host .kinds)) nodes) first) where
   -- the list of nodes has each node that changes
   pub first-due : NodeList (length first) nodes → Due t first nodes
-  unfolding problemOf Covers Cleared
+  unfolding problemBy Covers Cleared
   first-due list =
       let net : NetOf (length first) (host .starts) (host .ends) (t .offsets) (t .links) = rw (b .long) (p .net) in
       record {
@@ -217,10 +217,10 @@ module _ {pattern host : Circuit} {t : Tables} (p : Prepared pattern host t) (no
             record {
               masks = p .masked .room;
               net = net-of net;
-              small = fits-word (p .parts) (begins-fits (problemOf pattern host (marksOf (length (host .kinds)) nodes)) b);
+              small = fits-word (p .parts) (begins-fits (problemBy ways pattern host (marksOf (length (host .kinds)) nodes)) b);
             };
         both = net-mutual t net;
-        covers = λ v h e. let z = begins-cleared pattern host nodes b v h e in strike-none t first v z ∙ sym z;
+        covers = λ v h e. let z = begins-cleared ways pattern host nodes b v h e in strike-none t first v z ∙ sym z;
         below = list .below;
         few = list-few list;
       }
@@ -232,29 +232,29 @@ module _ {pattern host : Circuit} {t : Tables} (p : Prepared pattern host t) (no
     marks = marksOf (length (host .kinds)) nodes
 
     abbrev problem : Problem Direction
-    problem = problemOf pattern host marks
+    problem = problemBy ways pattern host marks
 
     settled-again : strikeTimes t first (suc r) ≡ strikeTimes t first r
     unfolding strikeTimes
     settled-again = ap (strikeTable t) (sym (s .table)) ∙ s .stops ∙ s .table
 
     repeats : rowFrom problem first (suc r) ≡ rowFrom problem first r
-    repeats = sym (times-row pattern host t p nodes b (suc r)) ∙ settled-again ∙ times-row pattern host t p nodes b r
+    repeats = sym (times-row ways pattern host t p nodes b (suc r)) ∙ settled-again ∙ times-row ways pattern host t p nodes b r
 
-    settled-last : last ≡ lastTable pattern host marks
-    unfolding rowFrom problemOf
-    settled-last = s .table ∙ times-row pattern host t p nodes b r ∙ begins-rest problem (p .parts) (begins-times problem (p .parts) b r) repeats
+    settled-last : last ≡ lastOf problem
+    unfolding rowFrom problemBy
+    settled-last = s .table ∙ times-row ways pattern host t p nodes b r ∙ begins-rest problem (p .parts) (begins-times problem (p .parts) b r) repeats
 
     -- from the first table of the row, the rounds are those of the row
-    settled-rounds : first ≡ startTable pattern host marks → r ≡ rounds pattern host marks
+    settled-rounds : first ≡ startOf problem → r ≡ roundsOf problem
     unfolding rowOf
     settled-rounds e =
         let rest : FirstRest pairs (rowFrom problem first) r = record { falls = falls; repeats = repeats } in
         sym (first-rounds problem (rw e at rest))
       where
         falls : (j : ℕ) → j < r → pairs (rowFrom problem first (suc j)) < pairs (rowFrom problem first j)
-        falls j h = rw (← times-row pattern host t p nodes b j, ← times-row pattern host t p nodes b (suc j)) (s .falls j h)
+        falls j h = rw (← times-row ways pattern host t p nodes b j, ← times-row ways pattern host t p nodes b (suc j)) (s .falls j h)
 
-    pub settled-rested : Rested pattern host marks first last (record { kept = k; rounds = r })
+    pub settled-rested : RestedBy ways pattern host marks first last (record { kept = k; rounds = r })
     unfolding keptOf
     settled-rested = record { last = settled-last; kept = s .count ∙ ap pairs settled-last; rounds = settled-rounds }

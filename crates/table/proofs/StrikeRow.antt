@@ -1,5 +1,5 @@
 -- Striking over masks, neighbour tables and a list of nodes is the striking of the row. Assumes nothing.
-use mathlib.Core.Bool.{Bool, true, false, _&&_, cond, and-true}
+use mathlib.Core.Bool.{Bool, true, false, _&&_, cond}
 use mathlib.Core.List.{List}
 use mathlib.Core.Path.{_≡_, refl, sym, ap, ap₂, _∙_}
 use Prim.Native.Nat.{ℕ, zero, suc, _<_}
@@ -14,20 +14,22 @@ use Rattle.base_bits.proofs.Numbers.{number-same}
 use Rattle.graph.specs.Circuit.{Circuit}
 use Rattle.graph.specs.Search.{inside}
 use Rattle.simulation.specs.Simulation.{Direction, forwards, backwards}
-use Rattle.table_row.specs.Row.{tableOf, startOf, every, rowFrom}
+use Rattle.table_row.specs.Problem.{Problem}
+use Rattle.table_row.specs.Row.{tableOf, startOf, strikeOf, every, rowFrom}
 use Rattle.table_row.specs.Masks.{maskOf, covered, nextSet, StepsWithin}
 use Rattle.table_row.proofs.Sets.{number-if}
 use Rattle.table_row.proofs.Masks.{masks-strike}
 use Rattle.table_row.proofs.Begin.{begins-fits, begins-times}
 use Rattle.table.specs.Host.{hostGraph}
-use Rattle.table.specs.Row.{inTable, agrees, neighbours, problemOf, startTable, strike}
+use Rattle.table.specs.Row.{inTable, agrees, neighbours, problemBy}
 use Rattle.table.specs.Fill.{listed, marksOf, Cleared, tableAt}
-use Rattle.table.specs.Prepared.{masksOf, Tables, Prepared}
-use Rattle.table.specs.First.{Begins, startNode}
+use Rattle.table.specs.Prepared.{masksOf, counting, Tables, PreparedBy}
+use Rattle.table.specs.First.{BeginsBy, startNode}
 use Rattle.table.specs.Strike.{survivors, strikeNode, strikeTable, strikeTimes}
 use Rattle.table.proofs.Agreement.{start-agrees}
-use Rattle.table.proofs.Row.{Table, start-in}
+use Rattle.table.proofs.Row.{Table, start-for}
 use Rattle.table.proofs.Masks.{select-within}
+use Rattle.table.proofs.Directions.{counting-covered, every-among}
 
 -- ---- one node, one round
 
@@ -37,35 +39,45 @@ unfolding neighbours
 neighbours-below n c starts ends forwards u = select-within n (c .starts) (c .ends) u ends
 neighbours-below n c starts ends backwards u = select-within n (c .ends) (c .starts) u starts
 
-module _ (pattern host : Circuit) (t : Tables) (p : Prepared pattern host t) (taken : List ℕ) where
-  steps-within : StepsWithin (problemOf pattern host taken)
-  unfolding problemOf
+-- the test of two masks, of the directions that count, is that of every way
+survivors-next :
+    (ways : List Direction) (pattern host : Circuit) (taken old : List ℕ) (v : ℕ) →
+    survivors (masksOf 32 (counting ways forwards (pattern .starts)) (counting ways forwards (pattern .ends)))
+    (masksOf 32 (counting ways backwards (pattern .ends)) (counting ways backwards (pattern .starts)))
+    (unionAt old (neighbours host forwards v)) (unionAt old (neighbours host backwards v)) (getD old v 0)
+    ≡ nextSet (problemBy ways pattern host taken) old v
+unfolding survivors nextSet covered problemBy neighbours maskOf masksOf
+survivors-next ways pattern host taken old v =
+    let f : ℕ = unionAt old (neighbours host forwards v) in
+    let b : ℕ = unionAt old (neighbours host backwards v) in
+    let there : ℕ → Bool = λ u. subsetOf (getD (masksOf 32 (counting ways forwards (pattern .starts)) (counting ways forwards (pattern .ends))) u 0) f in
+    let back : ℕ → Bool = λ u. subsetOf (getD (masksOf 32 (counting ways backwards (pattern .ends)) (counting ways backwards (pattern .starts))) u 0) b in
+    let each : ℕ → Direction → Bool = λ u. covered (problemBy ways pattern host taken) old u v in
+    number-same 32 (λ u. bit (getD old v 0) u && (there u && back u)) (λ u. bit (getD old v 0) u && every (each u) ways)
+    (λ u h.
+    ap (λ (c : Bool). bit (getD old v 0) u && c)
+    (ap₂ _&&_ (counting-covered ways forwards (pattern .starts) (pattern .ends) u f h) (counting-covered ways backwards (pattern .ends) (pattern .starts) u b h)
+    ∙ sym (every-among ways (each u))))
+
+module _ (ways : List Direction) (pattern host : Circuit) (t : Tables) (p : PreparedBy ways pattern host t) (taken : List ℕ) where
+  abbrev problem : Problem Direction
+  problem = problemBy ways pattern host taken
+
+  steps-within : StepsWithin problem
+  unfolding problemBy
   steps-within = record { below = λ d u h. neighbours-below (length (pattern .kinds)) pattern (p .starts) (p .ends) d u }
 
-  -- the test of two masks is that of every way
-  survivors-next :
-      (old : List ℕ) (v : ℕ) →
-      survivors (maskOf (problemOf pattern host taken) forwards) (maskOf (problemOf pattern host taken) backwards)
-      (unionAt old (neighbours host forwards v)) (unionAt old (neighbours host backwards v)) (getD old v 0)
-      ≡ nextSet (problemOf pattern host taken) old v
-  unfolding survivors nextSet covered every problemOf
-  survivors-next old v =
-      let there : ℕ → Bool = λ u. subsetOf (getD (maskOf (problemOf pattern host taken) forwards) u 0) (unionAt old (neighbours host forwards v)) in
-      let back : ℕ → Bool = λ u. subsetOf (getD (maskOf (problemOf pattern host taken) backwards) u 0) (unionAt old (neighbours host backwards v)) in
-      number-same 32 (λ u. bit (getD old v 0) u && (there u && back u)) (λ u. bit (getD old v 0) u && (there u && (back u && true)))
-      (λ u h. ap (λ (b : Bool). bit (getD old v 0) u && (there u && b)) (sym (and-true (back u))))
-
-  node-next : (old : List ℕ) (v : ℕ) → v < length (host .kinds) → strikeNode t old v ≡ nextSet (problemOf pattern host taken) old v
-  unfolding strikeNode problemOf neighbours maskOf masksOf
-  node-next old v l = rw (p .masked .succ, p .masked .pred, p .net .drives v l, p .net .drivenBy v l) (survivors-next old v)
+  node-next : (old : List ℕ) (v : ℕ) → v < length (host .kinds) → strikeNode t old v ≡ nextSet problem old v
+  unfolding strikeNode problemBy neighbours maskOf masksOf
+  node-next old v l = rw (p .masked .succ, p .masked .pred, p .net .drives v l, p .net .drivenBy v l) (survivors-next ways pattern host taken old v)
 
   -- a round is one step of the row
-  pub strike-row : (old : List ℕ) → Table pattern host old → strikeTable t old ≡ strike pattern host taken old
-  unfolding strikeTable problemOf
+  pub strike-row : (old : List ℕ) → Table pattern host old → strikeTable t old ≡ strikeOf problem old
+  unfolding strikeTable problemBy
   strike-row old fits =
       ap (λ (m : ℕ). tabulate m (strikeNode t old)) (fits .size)
-      ∙ tabulate-same (length (host .kinds)) (strikeNode t old) (nextSet (problemOf pattern host taken) old) (node-next old)
-      ∙ masks-strike (problemOf pattern host taken) (p .parts) steps-within fits
+      ∙ tabulate-same (length (host .kinds)) (strikeNode t old) (nextSet problem old) (node-next old)
+      ∙ masks-strike problem (p .parts) steps-within fits
 
 -- ---- the first table
 
@@ -77,10 +89,10 @@ inside-marks n nodes v h = ap (λ (x : ℕ). eqb x 1) (getD-tabulate n (λ v. co
     go true = refl
     go false = refl
 
-pub start-row : (pattern host : Circuit) (nodes : List ℕ)
-    → tableAt (length (host .kinds)) (startNode (pattern .kinds) (host .kinds)) nodes ≡ startTable pattern host (marksOf (length (host .kinds)) nodes)
-unfolding tableAt startOf tableOf problemOf
-start-row pattern host nodes =
+pub start-row : (ways : List Direction) (pattern host : Circuit) (nodes : List ℕ)
+    → tableAt (length (host .kinds)) (startNode (pattern .kinds) (host .kinds)) nodes ≡ startOf (problemBy ways pattern host (marksOf (length (host .kinds)) nodes))
+unfolding tableAt startOf tableOf problemBy
+start-row ways pattern host nodes =
     tabulate-same (length (host .kinds)) (λ v. cond (listed nodes v) (startNode (pattern .kinds) (host .kinds) v) 0)
     (λ v. numberOf (length (pattern .kinds)) (λ u. inside (marksOf (length (host .kinds)) nodes) v && agrees pattern host u v))
     (λ v h.
@@ -89,29 +101,29 @@ start-row pattern host nodes =
 
 -- a table to begin with is empty outside the list
 pub begins-cleared :
-    (pattern host : Circuit) (nodes : List ℕ) {first : List ℕ} → Begins pattern host (marksOf (length (host .kinds)) nodes) first → Cleared nodes first
-unfolding Cleared inTable hostGraph problemOf
-begins-cleared pattern host nodes {first} b v h e =
+    (ways : List Direction) (pattern host : Circuit) (nodes : List ℕ) {first : List ℕ} → BeginsBy ways pattern host (marksOf (length (host .kinds)) nodes) first → Cleared nodes first
+unfolding Cleared inTable hostGraph problemBy
+begins-cleared ways pattern host nodes {first} b v h e =
     let marks : List ℕ = marksOf (length (host .kinds)) nodes in
     same-bits (getD first v 0) 0
     (λ u.
     T-false
     (λ m.
-    false-T (inside-marks (length (host .kinds)) nodes v (rw (b .long) at h) ∙ e) (start-in pattern host marks u v .0 (b .within u v m) .node .marked))
+    false-T (inside-marks (length (host .kinds)) nodes v (rw (b .long) at h) ∙ e) (start-for ways pattern host marks u v .0 (b .within u v m) .node .marked))
     ∙ sym (bit-of-zero u))
 
 -- ---- the row
 
-module _ (pattern host : Circuit) (t : Tables) (p : Prepared pattern host t) (nodes : List ℕ) {first : List ℕ}
-    (b : Begins pattern host (marksOf (length (host .kinds)) nodes) first) where
+module _ (ways : List Direction) (pattern host : Circuit) (t : Tables) (p : PreparedBy ways pattern host t) (nodes : List ℕ) {first : List ℕ}
+    (b : BeginsBy ways pattern host (marksOf (length (host .kinds)) nodes) first) where
   abbrev marks : List ℕ
   marks = marksOf (length (host .kinds)) nodes
 
   -- k rounds from a table to begin with are k steps of the row from it
-  pub times-row : (k : ℕ) → strikeTimes t first k ≡ rowFrom (problemOf pattern host marks) first k
-  unfolding strikeTimes rowFrom problemOf
+  pub times-row : (k : ℕ) → strikeTimes t first k ≡ rowFrom (problemBy ways pattern host marks) first k
+  unfolding strikeTimes rowFrom problemBy
   times-row zero = refl
   times-row (suc k) =
-      let old = begins-times (problemOf pattern host marks) (p .parts) b k in
+      let old = begins-times (problemBy ways pattern host marks) (p .parts) b k in
       ap (strikeTable t) (times-row k)
-      ∙ strike-row pattern host t p marks (rowFrom (problemOf pattern host marks) first k) (begins-fits (problemOf pattern host marks) old)
+      ∙ strike-row ways pattern host t p marks (rowFrom (problemBy ways pattern host marks) first k) (begins-fits (problemBy ways pattern host marks) old)

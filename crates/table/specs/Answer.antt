@@ -9,31 +9,38 @@ use Rattle.table_row.specs.Answer.{answerOf, answerKept, answerStruck}
 unfoldable pub use Rattle.table_row.specs.Answer.{allOccur, allOrNone}
 pub use Rattle.table_row.specs.Reading.{Fits}
 use Rattle.table.specs.Host.{everything}
-use Rattle.table.specs.Row.{problemOf, started, rounds}
+use Rattle.simulation.specs.Simulation.{Direction}
+use Rattle.table.specs.Row.{bothWays, problemBy, startedBy, roundsBy}
 use Rattle.table.specs.declared.Counts.{Counts}
 
 -- the table: the last set of the row, or all 0
+abbrev pub answerBy : List Direction → Circuit → Circuit → List ℕ → List ℕ
+answerBy ways pattern host taken = answerOf (problemBy ways pattern host taken)
+
 abbrev pub answerTable : Circuit → Circuit → List ℕ → List ℕ
-answerTable pattern host taken = answerOf (problemOf pattern host taken)
+answerTable pattern host taken = answerBy bothWays pattern host taken
 
 -- the four counts: kept are the pairs of that table
-unfoldable pub answerCounts : Circuit → Circuit → List ℕ → Counts
-answerCounts pattern host taken =
+unfoldable pub answerCountsBy : List Direction → Circuit → Circuit → List ℕ → Counts
+answerCountsBy ways pattern host taken =
     record {
-      started = started pattern host taken;
-      kept = answerKept (problemOf pattern host taken);
-      struck = answerStruck (problemOf pattern host taken);
-      rounds = rounds pattern host taken;
+      started = startedBy ways pattern host taken;
+      kept = answerKept (problemBy ways pattern host taken);
+      struck = answerStruck (problemBy ways pattern host taken);
+      rounds = roundsBy ways pattern host taken;
     }
 
+abbrev pub answerCounts : Circuit → Circuit → List ℕ → Counts
+answerCounts pattern host taken = answerCountsBy bothWays pattern host taken
+
 -- the answer on a circuit's part that has the nodes taken
-pub record Answered (pattern host : Circuit) (taken table : List ℕ) (counts : Counts) : Type 0 where
-  pub counted : counts ≡ answerCounts pattern host taken
-  pub last : table ≡ answerTable pattern host taken
+pub record AnsweredBy (ways : List Direction) (pattern host : Circuit) (taken table : List ℕ) (counts : Counts) : Type 0 where
+  pub counted : counts ≡ answerCountsBy ways pattern host taken
+  pub last : table ≡ answerBy ways pattern host taken
 
 -- the answer on the whole board
-abbrev pub AnsweredOn : Circuit → Circuit → List ℕ → Counts → Type 0
-AnsweredOn pattern board table counts = Answered pattern board (everything board) table counts
+abbrev pub AnsweredOn : List Direction → Circuit → Circuit → List ℕ → Counts → Type 0
+AnsweredOn ways pattern board table counts = AnsweredBy ways pattern board (everything board) table counts
 
 -- ---- how the rule is applied
 

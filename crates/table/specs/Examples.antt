@@ -9,18 +9,18 @@ use Rattle.graph.specs.Neighbours.{select}
 use Rattle.graph.specs.Search.{inside}
 use Rattle.table_row.specs.Row.{inTable, tableOf, pairs, same, startOf, answered, every, supported, strikeOf, rowFrom, rowOf, startedOf, lastOf, keptOf, struckOf, roundsOf}
 use Rattle.table_row.specs.Answer.{allOccur, allOrNone, answerOf, answerKept, answerStruck}
-use Rattle.table.specs.Answer.{answerCounts}
+use Rattle.table.specs.Answer.{answerCountsBy}
 use Rattle.table.specs.Host.{everything}
-use Rattle.table.specs.Row.{kindsAgree, agrees, neighbours, problemOf}
+use Rattle.table.specs.Row.{kindsAgree, agrees, neighbours, problemBy}
 
 -- `unfolding rowComputed` opens the row, the last table and the counts
 unfoldable pub rowComputed : Unit {0}
-unfolding all any tabulate sum countBelow bit numberOf sizeOf select inside everything inTable tableOf pairs same startOf answered every supported strikeOf rowFrom rowOf startedOf lastOf keptOf struckOf roundsOf kindIn packageIn kindsAgree agrees neighbours problemOf
+unfolding all any tabulate sum countBelow bit numberOf sizeOf select inside everything inTable tableOf pairs same startOf answered every supported strikeOf rowFrom rowOf startedOf lastOf keptOf struckOf roundsOf kindIn packageIn kindsAgree agrees neighbours problemBy
 rowComputed = tt
 
 -- `unfolding answerComputed` opens the whole-board call's answer beside them
 unfoldable pub answerComputed : Unit {0}
-unfolding allBelow anyBelow allOccur allOrNone answerOf answerKept answerStruck answerCounts
+unfolding allBelow anyBelow allOccur allOrNone answerOf answerKept answerStruck answerCountsBy
 answerComputed = tt
 
 -- "T: 0:10, 1:20, 2:30, links 0-1, 1-2."
@@ -64,3 +64,7 @@ oneBit =
 -- T and a part of another kind, without links
 unfoldable pub loneT : Circuit
 loneT = record { kinds = 10 ∷ 20 ∷ 30 ∷ 70 ∷ []; starts = 0 ∷ 1 ∷ []; ends = 1 ∷ 2 ∷ [] }
+
+-- the last two of T's parts, with the link between them: a board on which nothing drives the first
+unfoldable pub tailT : Circuit
+tailT = record { kinds = 20 ∷ 30 ∷ []; starts = 0 ∷ []; ends = 1 ∷ [] }

@@ -7,11 +7,15 @@ use Rattle.base_bits.specs.Bits.{numberOf}
 use Rattle.graph.specs.Circuit.{Circuit}
 use Rattle.table_row.specs.Reading.{Begins as BeginsOf}
 use Rattle.table.specs.Fill.{tableAt}
-use Rattle.table.specs.Row.{kindsAgree, problemOf, pairs}
+use Rattle.simulation.specs.Simulation.{Direction}
+use Rattle.table.specs.Row.{kindsAgree, bothWays, problemBy, pairs}
 
 -- The table has the pairs of the row's last set, and only pairs of its first set: it lies between the two.
+abbrev pub BeginsBy : List Direction → Circuit → Circuit → List ℕ → List ℕ → Type 0
+BeginsBy ways pattern host taken first = BeginsOf (problemBy ways pattern host taken) first
+
 abbrev pub Begins : Circuit → Circuit → List ℕ → List ℕ → Type 0
-Begins pattern host taken first = BeginsOf (problemOf pattern host taken) first
+Begins pattern host taken first = BeginsBy bothWays pattern host taken first
 
 -- the set of the parts that agree with a node, by their kinds
 unfoldable pub startNode : List ℕ → List ℕ → ℕ → ℕ

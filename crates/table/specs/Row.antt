@@ -1,7 +1,7 @@
 -- The row of sets of a pattern on a circuit, and the four counts: what the contracts cite. They are those of a problem as table_row has it:
--- which part agrees with which node, and links to be followed forwards and backwards. proofs/ shows that the last set is the largest dual
--- simulation.
-use mathlib.Core.Bool.{Bool, _&&_, _||_}
+-- which part agrees with which node, and links to be followed in the directions chosen. proofs/ shows that the last set is the largest closed
+-- one, and so what dual simulation and graph simulation have as their largest.
+use mathlib.Core.Bool.{Bool, true, false, _&&_, _||_}
 use mathlib.Core.List.{List, [], _∷_}
 use Prim.Native.Nat.{ℕ}
 use lib.Dec.{eqb}
@@ -11,10 +11,13 @@ use Rattle.graph.specs.Circuit.{Circuit}
 use Rattle.graph.specs.Neighbours.{select}
 use Rattle.graph.specs.Search.{inside}
 use Rattle.simulation.specs.Simulation.{Direction, forwards, backwards}
+use Rattle.table.specs.declared.Ways.{Ways}
+use Rattle.table.specs.declared.Ways.the-variants.{Both, Forward}
 use Rattle.table_row.specs.Problem.{Problem}
-use Rattle.table_row.specs.Row.{startOf, strikeOf, rowOf, startedOf, lastOf, keptOf, struckOf, roundsOf}
+use Rattle.table_row.specs.Row.{startOf, rowOf, startedOf, lastOf, keptOf, struckOf, roundsOf}
 unfoldable pub use Rattle.table_row.specs.Row.{inTable, pairs}
-pub use Rattle.table_row.specs.Reading.{InTable}
+pub use Rattle.table_row.specs.Reading.{InTable, Chosen, LargestOccurring}
+unfoldable pub use Rattle.table_row.specs.Problem.{Way}
 
 -- ---- the problem
 
@@ -32,17 +35,42 @@ unfoldable pub neighbours : Circuit → Direction → ℕ → List ℕ
 neighbours c forwards v = select (c .starts) (c .ends) v
 neighbours c backwards v = select (c .ends) (c .starts) v
 
--- to match a pattern on those nodes of a circuit that are taken
-unfoldable pub problemOf : Circuit → Circuit → List ℕ → Problem Direction
-problemOf pattern host taken =
+-- to match a pattern on those nodes of a circuit that are taken, along the directions chosen
+unfoldable pub problemBy : List Direction → Circuit → Circuit → List ℕ → Problem Direction
+problemBy ways pattern host taken =
     record {
       parts = length (pattern .kinds);
       nodes = length (host .kinds);
       agree = λ u v. inside taken v && agrees pattern host u v;
-      ways = forwards ∷ backwards ∷ [];
+      ways = ways;
       steps = neighbours pattern;
       moves = neighbours host;
     }
+
+-- The two choices that calls make: partners along links of both directions, or, for a "variant whose pairs need partners along forward links
+-- only", along what a part drives alone.
+abbrev pub bothWays : List Direction
+bothWays = forwards ∷ backwards ∷ []
+
+abbrev pub oneWay : List Direction
+oneWay = forwards ∷ []
+
+-- a call is told which by a name
+abbrev pub waysOf : Ways → List Direction
+waysOf Both = bothWays
+waysOf Forward = oneWay
+
+-- a direction is among those chosen
+unfoldable pub among : List Direction → Direction → Bool
+among [] d = false
+among (forwards ∷ ways) forwards = true
+among (forwards ∷ ways) backwards = among ways backwards
+among (backwards ∷ ways) forwards = among ways forwards
+among (backwards ∷ ways) backwards = true
+
+-- both directions, which is what is meant where nothing is said of them
+abbrev pub problemOf : Circuit → Circuit → List ℕ → Problem Direction
+problemOf pattern host taken = problemBy bothWays pattern host taken
 
 -- the same by equal labels alone, as it was when kind 0 was a kind like any other
 unfoldable pub byEqualKinds : Circuit → Circuit → List ℕ → Problem Direction
@@ -71,31 +99,51 @@ byKinds pattern host taken =
 -- ---- its row
 
 -- "R0 is the set of pairs with equal kinds."
-abbrev pub startTable : Circuit → Circuit → List ℕ → List ℕ
-startTable pattern host taken = startOf (problemOf pattern host taken)
+abbrev pub startBy : List Direction → Circuit → Circuit → List ℕ → List ℕ
+startBy ways pattern host taken = startOf (problemBy ways pattern host taken)
 
 -- "Each further set keeps those pairs of the last whose links have partners in the last."
-abbrev pub strike : Circuit → Circuit → List ℕ → List ℕ → List ℕ
-strike pattern host taken t = strikeOf (problemOf pattern host taken) t
-
-abbrev pub row : Circuit → Circuit → List ℕ → ℕ → List ℕ
-row pattern host taken = rowOf (problemOf pattern host taken)
+abbrev pub rowBy : List Direction → Circuit → Circuit → List ℕ → ℕ → List ℕ
+rowBy ways pattern host taken = rowOf (problemBy ways pattern host taken)
 
 -- "The last set of this row is the largest dual simulation."
-abbrev pub lastTable : Circuit → Circuit → List ℕ → List ℕ
-lastTable pattern host taken = lastOf (problemOf pattern host taken)
+abbrev pub lastBy : List Direction → Circuit → Circuit → List ℕ → List ℕ
+lastBy ways pattern host taken = lastOf (problemBy ways pattern host taken)
 
 -- ---- its counts
 
 -- "started, the pairs of R0; kept, the pairs left; struck, started minus kept; rounds, how many sets differ from the one before"
+abbrev pub startedBy : List Direction → Circuit → Circuit → List ℕ → ℕ
+startedBy ways pattern host taken = startedOf (problemBy ways pattern host taken)
+
+abbrev pub keptBy : List Direction → Circuit → Circuit → List ℕ → ℕ
+keptBy ways pattern host taken = keptOf (problemBy ways pattern host taken)
+
+abbrev pub struckBy : List Direction → Circuit → Circuit → List ℕ → ℕ
+struckBy ways pattern host taken = struckOf (problemBy ways pattern host taken)
+
+abbrev pub roundsBy : List Direction → Circuit → Circuit → List ℕ → ℕ
+roundsBy ways pattern host taken = roundsOf (problemBy ways pattern host taken)
+
+-- ---- along both ways, which is meant where nothing is said of directions
+
+abbrev pub startTable : Circuit → Circuit → List ℕ → List ℕ
+startTable pattern host taken = startBy bothWays pattern host taken
+
+abbrev pub row : Circuit → Circuit → List ℕ → ℕ → List ℕ
+row pattern host taken = rowBy bothWays pattern host taken
+
+abbrev pub lastTable : Circuit → Circuit → List ℕ → List ℕ
+lastTable pattern host taken = lastBy bothWays pattern host taken
+
 abbrev pub started : Circuit → Circuit → List ℕ → ℕ
-started pattern host taken = startedOf (problemOf pattern host taken)
+started pattern host taken = startedBy bothWays pattern host taken
 
 abbrev pub kept : Circuit → Circuit → List ℕ → ℕ
-kept pattern host taken = keptOf (problemOf pattern host taken)
+kept pattern host taken = keptBy bothWays pattern host taken
 
 abbrev pub struck : Circuit → Circuit → List ℕ → ℕ
-struck pattern host taken = struckOf (problemOf pattern host taken)
+struck pattern host taken = struckBy bothWays pattern host taken
 
 abbrev pub rounds : Circuit → Circuit → List ℕ → ℕ
-rounds pattern host taken = roundsOf (problemOf pattern host taken)
+rounds pattern host taken = roundsBy bothWays pattern host taken

@@ -1,12 +1,13 @@
 -- Rounds of striking over neighbour tables and masks, and when a list has all nodes that change in a round: what the contracts of the inner
 -- functions cite. proofs/StrikeRow ties the rounds to the row of sets.
-use mathlib.Core.Bool.{false, _&&_}
+use mathlib.Core.Bool.{Bool, false, _&&_}
 use mathlib.Core.List.{List}
 use mathlib.Core.Logic.{_↔_}
 use mathlib.Core.Path.{_≡_}
 use Prim.Native.Nat.{ℕ, zero, suc, _≤_, _<_}
+use lib.Dec.{eqb}
 use lib.ListN.{length, getD}
-use Rattle.base_lists.specs.List.{tabulate, Occurs, Below}
+use Rattle.base_lists.specs.List.{all, tabulate, Occurs, Below}
 use Rattle.base_bits.specs.Bits.{bit, numberOf, subsetOf, unionAt}
 use Rattle.graph.specs.Net.{driven, driving}
 use Rattle.table.specs.Fill.{listed}
@@ -16,6 +17,10 @@ use Rattle.table.specs.Prepared.{succOf, predOf, Tables, Ready}
 -- those parts of a set that drive only parts of the set f, and that only parts of the set b drive
 unfoldable pub survivors : List ℕ → List ℕ → ℕ → ℕ → ℕ → ℕ
 survivors succ pred f b x = numberOf 32 (λ u. bit x u && (subsetOf (getD succ u 0) f && subsetOf (getD pred u 0) b))
+
+-- every mask is empty, so that nothing is asked for in their direction
+unfoldable pub allEmpty : List ℕ → Bool
+allEmpty masks = all (λ m. eqb m 0) masks
 
 -- The next set of node v: those of its parts whose links all have partners. The parts that occur at some node that v drives are one
 -- union, those at some node that drives v another.

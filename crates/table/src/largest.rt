@@ -1,6 +1,9 @@
 // Striking round after round until a round strikes nothing: the largest dual simulation, and the four counts.
 use crate::Counts;
+use crate::FORWARD_MASKS;
+use crate::MASKS;
 use crate::Rest;
+use crate::strike::all_empty;
 use crate::strike::changes;
 use crate::strike::unmark;
 use crate::strike::write;
@@ -41,13 +44,14 @@ pub fn settle(
 {
     let mut kept = started;
     let mut rounds: u32 = 0;
-    let mut n = changes(first, masks, offsets, links, table, changed, next);
+    let alone = all_empty(&masks[FORWARD_MASKS..MASKS]);
+    let mut n = changes(alone, first, masks, offsets, links, table, changed, next);
     while n != 0 {
         kept = write(&changed[..n], &next[..n], table, kept);
         rounds += 1;
         let k = wake(&changed[..n], offsets, links, table, marks, todo);
         let listed = &todo[..k];
-        n = changes(listed, masks, offsets, links, table, changed, next);
+        n = changes(alone, listed, masks, offsets, links, table, changed, next);
         unmark(listed, marks);
     }
     Rest { kept, rounds }

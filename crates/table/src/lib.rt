@@ -9,6 +9,12 @@ pub mod first;
 pub mod largest;
 mod strike;
 
+// The links along which a pair needs partners: what a part drives and what drives it, or what it drives alone.
+pub enum Ways {
+    Both,
+    Forward,
+}
+
 // The pairs at first, those left and those struck, and how many rounds struck a pair.
 pub struct Counts {
     pub started: u32,

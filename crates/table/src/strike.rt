@@ -6,17 +6,19 @@ use crate::MASKS;
 use graph::UNREACHED;
 use graph_neighbours::neighbours::Direction;
 use graph_neighbours::neighbours::neighbours_in;
+ghost use mathlib.Core.Bool.{cond};
 ghost use mathlib.Core.Path.{_≡_};
 ghost use Prim.Native.Nat.{_^_, _≤_, _<_};
 ghost use lib.ListN.{length};
 ghost use Rattle.base_bits.specs.Bits.{unionAt};
 ghost use Rattle.base_lists.specs.List.{Below};
+ghost use Rattle.graph.specs.Net.{Net, driving};
 ghost use Rattle.graph.specs.Search.{far};
 ghost use Rattle.table.specs.Fill.{fillAt};
 ghost use Rattle.table.specs.Pending.{Noted, Pending, Put};
-ghost use Rattle.table.specs.Prepared.{tables, Ready};
+ghost use Rattle.table.specs.Prepared.{predOf, tables, Ready};
 ghost use Rattle.table.specs.Row.{pairs};
-ghost use Rattle.table.specs.Strike.{survivors, strikeNode};
+ghost use Rattle.table.specs.Strike.{survivors, allEmpty, strikeNode};
 
 // The union of the sets of a list of nodes.
 fn reach(part: &[u16], sets: &[u32]) -> u32
@@ -31,6 +33,31 @@ fn reach(part: &[u16], sets: &[u32]) -> u32
         i += 1;
     }
     union
+}
+
+// Whether every mask is empty: then nothing is asked for in their direction.
+pub fn all_empty(masks: &[u32]) -> bool
+    ensures { λ r. ⌜ r ≡ allEmpty (now (masks .entry)) ⌝ }
+{
+    let mut union: u32 = 0;
+    let mut i = 0;
+    while i < masks.len() {
+        union = union | masks[i];
+        i += 1;
+    }
+    union == 0
+}
+
+// The union of the sets of what drives node v, or nothing where nothing is asked for of it.
+fn reach_back(alone: bool, offsets: &[u16], links: &[u16], sets: &[u32], v: usize) -> u32
+    requires { ⌜ Net (length (now sets)) (now offsets) (now links) ⌝ }
+    requires { ⌜ v < length (now sets) ⌝ }
+    ensures { λ r. ⌜ r ≡ cond alone 0 (unionAt (now (sets .entry)) (driving (now (offsets .entry)) (now (links .entry)) v)) ⌝ }
+{
+    if alone {
+        return 0;
+    }
+    reach(neighbours_in(Direction::Backward, offsets, links, v), sets)
 }
 
 // Those parts of the set that drive only parts of f, and that only parts of b drive.
@@ -54,8 +81,16 @@ fn surviving(set: u32, succ: &[u32], pred: &[u32], f: u32, b: u32) -> u32
     kept
 }
 
-// The next set of node v.
-fn strike_node(masks: &[u32], offsets: &[u16], links: &[u16], old: &[u32], v: usize) -> u32
+// The next set of node v. Where forward links alone count, what drives the node is not looked at.
+fn strike_node(
+    alone: bool,
+    masks: &[u32],
+    offsets: &[u16],
+    links: &[u16],
+    old: &[u32],
+    v: usize,
+) -> u32
+    requires { ⌜ alone ≡ allEmpty (predOf (now masks)) ⌝ }
     requires { ⌜ Ready (tables (now masks) (now offsets) (now links)) (now old) ⌝ }
     requires { ⌜ v < length (now old) ⌝ }
     ensures { λ r. ⌜ r ≡ strikeNode (tables (now (masks .entry)) (now (offsets .entry)) (now (links .entry))) (now (old .entry)) v ⌝ }
@@ -65,7 +100,7 @@ fn strike_node(masks: &[u32], offsets: &[u16], links: &[u16], old: &[u32], v: us
         return 0;
     }
     let f = reach(neighbours_in(Direction::Forward, offsets, links, v), old);
-    let b = reach(neighbours_in(Direction::Backward, offsets, links, v), old);
+    let b = reach_back(alone, offsets, links, old, v);
     surviving(
         set,
         &masks[..FORWARD_MASKS],
@@ -90,6 +125,7 @@ fn note(v: u16, set: u32, old: u32, changed: &mut [u16], next: &mut [u32], k: us
 
 // Lists those nodes of a list that change, each with its next set from the table whole, and returns how many they are.
 pub fn changes(
+    alone: bool,
     todo: &[u16],
     masks: &[u32],
     offsets: &[u16],
@@ -98,6 +134,7 @@ pub fn changes(
     changed: &mut [u16],
     next: &mut [u32],
 ) -> usize
+    requires { ⌜ alone ≡ allEmpty (predOf (now masks)) ⌝ }
     requires { ⌜ Ready (tables (now masks) (now offsets) (now links)) (now old) ⌝ }
     requires { ⌜ Below (length (now old)) (now todo) ⌝ }
     requires { ⌜ (length (now todo) ≤ length (now changed)) × (length (now todo) ≤ length (now next)) ⌝ }
@@ -107,7 +144,7 @@ pub fn changes(
     let mut i = 0;
     while i < todo.len() {
         let v = todo[i] as usize;
-        let set = strike_node(masks, offsets, links, old, v);
+        let set = strike_node(alone, masks, offsets, links, old, v);
         k = note(todo[i], set, old[v], changed, next, k);
         i += 1;
     }

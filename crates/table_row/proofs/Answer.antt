@@ -1,9 +1,9 @@
 -- The answer where every part has to occur: the largest set that is closed and in which every part occurs, unless it is empty; and its
 -- counts. Assumes nothing.
 use mathlib.Core.Bool.{Bool, true, false, cond}
-use mathlib.Core.List.{List, map}
-use mathlib.Core.Logic.{_↔_}
-use mathlib.Core.Path.{_≡_, sym, ap, _∙_}
+use mathlib.Core.List.{List, [], _∷_, map}
+use mathlib.Core.Logic.{_↔_, inl, inr}
+use mathlib.Core.Path.{_≡_, refl, sym, ap, _∙_}
 use Prim.Native.Nat.{ℕ, _+_, _-_, _≤_, _<_}
 use native.Mathlib.Nat.{le-refl, lt-of-lt-of-le}
 use native.Mathlib.Omega.{arith}
@@ -12,13 +12,16 @@ use lib.Dec.{T}
 use Rattle.base_lists.specs.List.{anyBelow, tabulate, sum}
 use Rattle.base_lists.proofs.Tests.{T-true, allBelow-at, at-allBelow, anyBelow-at, at-anyBelow}
 use Rattle.graph.specs.Graph.{Graph}
-use Rattle.simulation.specs.Closed.{Relation, _⊆_, Occurring}
-use Rattle.simulation.specs.Simulation.{Candidate, Along, Largest}
-use Rattle.simulation.proofs.Simulation.{dual-closed, dual-occurring, closed-dual}
-use Rattle.table_row.specs.Problem.{Problem}
+use Rattle.simulation.specs.Closed.{Relation, _⊆_, Closed, Occurring}
+use Rattle.simulation.specs.Perfect.{SameGraph}
+use Rattle.simulation.specs.Simulation.{Candidate, Direction, forwards, backwards, Along, Largest, LargestGraphSimulation}
+use Rattle.simulation.proofs.Closed.{weaken}
+use Rattle.simulation.proofs.Same.{same-symm}
+use Rattle.simulation.proofs.Simulation.{along-wider, dual-closed, dual-occurring, closed-dual}
+use Rattle.table_row.specs.Problem.{Problem, Way}
 use Rattle.table_row.specs.Row.{inTable, pairs, startedOf, lastOf, keptOf, struckOf, roundsOf}
 use Rattle.table_row.specs.Answer.{allOccur, allOrNone, answerOf, answerKept, answerStruck}
-use Rattle.table_row.specs.Reading.{InTable, TableOf, Reading, LargestOccurring, Wider, Equivalent}
+use Rattle.table_row.specs.Reading.{InTable, TableOf, Reading, Chosen, LargestOccurring, Wider, Equivalent}
 use Rattle.table_row.proofs.Sets.{fits-node, fits-word, same-pairs, none-fits, none-in, pairs-none, pairs-ones}
 use Rattle.table_row.proofs.Counting.{kept-rounds}
 use Rattle.table_row.proofs.Meaning.{last-fits, last-closed}
@@ -103,15 +106,77 @@ module _ {D : Type 0} (p : Problem D) (most : p .parts ≤ 32) {Agree : Relation
             rw (answer-all p all) (last .contains R c u v s);
       }
 
--- For both directions of links that is the largest dual simulation, whether the pattern is connected or not.
-pub occurring-dual :
-    {P : Graph} {Agree : Relation} {H : Graph} {S : Relation} →
-    LargestOccurring (P .Node) (Candidate P Agree H) (Along (P .Link)) (Along (H .Link)) S → Largest P Agree H S
-occurring-dual l =
-    record {
-      holds = closed-dual (l .closed) (l .occurring);
-      contains = λ R r. l .contains R (dual-closed r) (dual-occurring r);
-    }
+-- ---- for directions of links
+
+-- both directions count
+two-ways : (d : Direction) → Way (forwards ∷ backwards ∷ []) d
+unfolding Way
+two-ways forwards = inl refl
+two-ways backwards = inr (inl refl)
+
+-- the direction that does not count
+no-way : Way (forwards ∷ []) backwards → ⊥
+unfolding Way
+no-way (inl e) = let z : _≡_ {A = ℕ} 0 1 = cc in omega arith
+no-way (inr w) = w
+
+module _ {P : Graph} {Agree : Relation} {H : Graph} {S : Relation} where
+  -- For both directions of links that is the largest dual simulation, whether the pattern is connected or not.
+  pub occurring-dual :
+      LargestOccurring (P .Node) (Candidate P Agree H) (Chosen (forwards ∷ backwards ∷ []) (Along (P .Link))) (Along (H .Link)) S → Largest P Agree H S
+  occurring-dual l =
+      let c = l .closed in
+      record {
+        holds = closed-dual (record { agree = c .agree; partner = λ d u v u′ m k. c .partner d u v u′ m (two-ways d, k) }) (l .occurring);
+        contains =
+            λ R r.
+            let s = dual-closed r in
+            l .contains R (record { agree = s .agree; partner = λ d u v u′ m k. s .partner d u v u′ m (k .1) }) (dual-occurring r);
+      }
+
+  -- For forward links alone it is the largest graph simulation.
+  pub occurring-graph :
+      LargestOccurring (P .Node) (Candidate P Agree H) (Chosen (forwards ∷ []) (Along (P .Link))) (Along (H .Link)) S → LargestGraphSimulation P Agree H S
+  unfolding Way Along
+  occurring-graph l =
+      let c = l .closed in
+      record {
+        holds =
+            record {
+              part = λ u v m. c .agree u v m .part;
+              node = λ u v m. c .agree u v m .node;
+              kinds = λ u v m. c .agree u v m .kinds;
+              forward = λ u v u′ m k. c .partner forwards u v u′ m (inl refl, k);
+              occurs = l .occurring .occurs;
+            };
+        contains =
+            λ R r.
+            l .contains R
+            (record {
+              agree = λ u v m. record { part = r .part u v m; node = r .node u v m; kinds = r .kinds u v m };
+              partner = elim [ forwards ↦ λ u v u′ m k. r .forward u v u′ m (k .1) | backwards ↦ λ u v u′ m k. absurd (no-way (k .0)) ];
+            })
+            (record { occurs = r .occurs });
+      }
+
+-- it depends on the graph alone
+module _ {P : Graph} {Agree : Relation} {Step : Direction → Relation} where
+  closed-on :
+      {H H′ : Graph} {R : Relation} → SameGraph H H′ → Closed (Candidate P Agree H) Step (Along (H .Link)) R →
+      Closed (Candidate P Agree H′) Step (Along (H′ .Link)) R
+  closed-on same =
+      weaken (λ u v c. record { part = c .part; node = same .nodes v .0 (c .node); kinds = c .kinds })
+      (λ d u u′ p. (d, p, along-wider (λ x y. same .links x y .0) d))
+
+  pub occurring-same :
+      {H H′ : Graph} {S : Relation} → SameGraph H H′ → LargestOccurring (P .Node) (Candidate P Agree H) Step (Along (H .Link)) S →
+      LargestOccurring (P .Node) (Candidate P Agree H′) Step (Along (H′ .Link)) S
+  occurring-same same l =
+      record {
+        closed = closed-on same (l .closed);
+        occurring = l .occurring;
+        contains = λ R c o. l .contains R (closed-on (same-symm same) c) o;
+      }
 
 -- ---- its counts
 

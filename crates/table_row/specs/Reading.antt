@@ -8,7 +8,7 @@ use Prim.Native.Nat.{ℕ, _^_, _<_}
 use lib.Dec.{T}
 use lib.ListN.{length, getD}
 use Rattle.simulation.specs.Closed.{Relation, _⊆_, Closed, Occurring}
-use Rattle.table_row.specs.Problem.{Problem, Agreeing, StepOf, MoveOf}
+use Rattle.table_row.specs.Problem.{Problem, Way, Agreeing, StepOf, MoveOf}
 use Rattle.table_row.specs.Row.{inTable, tableOf, startOf, lastOf}
 
 -- ---- tables
@@ -34,6 +34,10 @@ pub record Reading {D : Type 0} (p : Problem D) (Agree : Relation) (Step Move : 
   pub agree : (u v : ℕ) → Agreeing p u v ↔ Agree u v
   pub step : (d : D) (u u′ : ℕ) → StepOf p d u u′ ↔ Step d u u′
   pub move : (d : D) (u v u′ v′ : ℕ) → Agree u v → Agree u′ v′ → Step d u u′ → MoveOf p d v v′ ↔ Move d v v′
+
+-- those steps whose label is among the ways
+abbrev pub Chosen : {D : Type 0} → List D → (D → Relation) → D → Relation
+Chosen ways Step d u u′ = Way ways d × Step d u u′
 
 -- The largest set that is closed and in which every part occurs, unless it is empty.
 pub record LargestOccurring {D : Type 0} (Part : ℕ → Type 0) (Agree : Relation) (Step Move : D → Relation) (S : Relation) : Type 1 where

@@ -2,21 +2,23 @@
 use mathlib.Core.List.{List}
 use Rattle.graph.specs.Circuit.{circuit}
 use Rattle.table.specs.declared.Counts.{Counts}
-use Rattle.table.specs.Prepared.{Tables, Prepared}
-use Rattle.table.specs.Refine.{MatchedOn}
+use Rattle.simulation.specs.Simulation.{Direction}
+use Rattle.table.specs.Prepared.{Tables, PreparedBy}
+use Rattle.table.specs.Refine.{MatchedBy}
 use Prim.Native.Nat.{ℕ}
 
--- the tables are those of a pattern and a board that have these kinds, and some links
+-- the tables are those of a pattern and a board that have these kinds, and some links, for some directions
 pub record SomeLinks (partKinds nodeKinds : List ℕ) (t : Tables) : Type 0 where
+  pub ways : List Direction
   pub partStarts : List ℕ
   pub partEnds : List ℕ
   pub nodeStarts : List ℕ
   pub nodeEnds : List ℕ
-  pub prepared : Prepared (circuit partKinds partStarts partEnds) (circuit nodeKinds nodeStarts nodeEnds) t
+  pub prepared : PreparedBy ways (circuit partKinds partStarts partEnds) (circuit nodeKinds nodeStarts nodeEnds) t
 
--- the match table and the counts, for every pattern and board with these kinds that the tables are of
+-- the match table and the counts, for every pattern and board with these kinds and every choice of directions that the tables are of
 abbrev pub EveryMatched : List ℕ → List ℕ → Tables → List ℕ → Counts → Type 0
 EveryMatched partKinds nodeKinds t table counts =
-    (partStarts partEnds nodeStarts nodeEnds : List ℕ) →
-    Prepared (circuit partKinds partStarts partEnds) (circuit nodeKinds nodeStarts nodeEnds) t →
-    MatchedOn (circuit partKinds partStarts partEnds) (circuit nodeKinds nodeStarts nodeEnds) table counts
+    (ways : List Direction) (partStarts partEnds nodeStarts nodeEnds : List ℕ) →
+    PreparedBy ways (circuit partKinds partStarts partEnds) (circuit nodeKinds nodeStarts nodeEnds) t →
+    MatchedBy ways (circuit partKinds partStarts partEnds) (circuit nodeKinds nodeStarts nodeEnds) table counts

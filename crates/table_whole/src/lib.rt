@@ -4,11 +4,12 @@ use graph_neighbours::tables::LINKS;
 use graph_neighbours::tables::OFFSETS;
 use table::Counts;
 use table::MASKS;
+use table::Ways;
 use table::first::start;
 use table::largest::counted;
 use table::largest::refine;
 use table_answer::all_or_none;
-use table_prepare::lookups::prepare;
+use table_prepare::lookups::prepare_along;
 use table_prepare::nodes::list_all;
 ghost use mathlib.Core.Path.{_≡_};
 ghost use lib.ListN.{length};
@@ -16,7 +17,8 @@ ghost use Rattle.file_format.specs.Circuit.{Bounded};
 ghost use Rattle.file_format.specs.declared.Role.the-variants as role;
 ghost use Rattle.graph.specs.Circuit.{Circuit, circuit};
 ghost use Rattle.graph.specs.Net.{NetRoom};
-ghost use Rattle.table.specs.Refine.{MatchedOn};
+ghost use Rattle.table.specs.Refine.{MatchedBy, MatchedOn};
+ghost use Rattle.table.specs.Row.{waysOf};
 ghost use Rattle.table.specs.Answer.{AnsweredOn};
 ghost use Rattle.table_whole.specs.Kinds.{SomeLinks, EveryMatched};
 ghost use Rattle.table.specs.Prepared.{tables, Prepared};
@@ -43,6 +45,34 @@ fn match_prepared(
     counted(started, end)
 }
 
+// The same with a list and a second table of its own.
+fn match_tables(
+    part_kinds: &[u32],
+    node_kinds: &[u32],
+    masks: &[u32],
+    offsets: &[u16],
+    links: &[u16],
+    table: &mut [u32],
+) -> Counts
+    requires { ⌜ SomeLinks (now «part_kinds») (now «node_kinds») (tables (now masks) (now offsets) (now links)) ⌝ }
+    requires { ⌜ length (now table) ≡ length (now «node_kinds») ⌝ }
+    ensures { λ r. ⌜ EveryMatched (now («part_kinds» .entry)) (now («node_kinds» .entry)) (tables (now (masks .entry)) (now (offsets .entry)) (now (links .entry))) (now (table .exit)) r ⌝ }
+{
+    let mut nodes = [0u16; Board::MAX_NODES];
+    let mut spare = [0u32; Board::MAX_NODES];
+    let n = node_kinds.len();
+    match_prepared(
+        part_kinds,
+        node_kinds,
+        masks,
+        offsets,
+        links,
+        table,
+        &mut nodes[..n],
+        &mut spare[..n],
+    )
+}
+
 // The largest dual simulation of a pattern in a board. The masks and the neighbour tables are left prepared.
 pub fn prepare_and_match(
     part_kinds: &[u32],
@@ -65,11 +95,9 @@ pub fn prepare_and_match(
     ensures { λ α r. ⌜ MatchedOn (α .0) (α .1) (now (table .exit)) r ⌝ }
     ensures { λ α r. ⌜ Prepared (α .0) (α .1) (tables (now (masks .exit)) (now (offsets .exit)) (now (links .exit))) ⌝ }
 {
-    let mut nodes = [0u16; Board::MAX_NODES];
-    let mut spare = [0u32; Board::MAX_NODES];
-    let n = node_kinds.len();
-    prepare(
-        n,
+    prepare_along(
+        Ways::Both,
+        node_kinds.len(),
         part_starts,
         part_ends,
         node_starts,
@@ -78,20 +106,12 @@ pub fn prepare_and_match(
         offsets,
         links,
     );
-    match_prepared(
-        part_kinds,
-        node_kinds,
-        masks,
-        offsets,
-        links,
-        table,
-        &mut nodes[..n],
-        &mut spare[..n],
-    )
+    match_tables(part_kinds, node_kinds, masks, offsets, links, table)
 }
 
-// The same with masks and neighbour tables of its own.
+// The last set of the row in the directions that count, with masks and neighbour tables of its own.
 pub fn match_circuits(
+    ways: Ways,
     part_kinds: &[u32],
     part_starts: &[u16],
     part_ends: &[u16],
@@ -105,27 +125,28 @@ pub fn match_circuits(
     requires { λ α. ⌜ Bounded role.Pattern (α .0) ⌝ }
     requires { λ α. ⌜ Bounded role.Board (α .1) ⌝ }
     requires { λ α. ⌜ length (now table) ≡ length (now «node_kinds») ⌝ }
-    ensures { λ α r. ⌜ MatchedOn (α .0) (α .1) (now (table .exit)) r ⌝ }
+    ensures { λ α r. ⌜ MatchedBy (waysOf ways) (α .0) (α .1) (now (table .exit)) r ⌝ }
 {
     let mut masks = [0u32; MASKS];
     let mut offsets = [0u16; OFFSETS];
     let mut links = [0u16; LINKS];
-    prepare_and_match(
-        part_kinds,
+    prepare_along(
+        ways,
+        node_kinds.len(),
         part_starts,
         part_ends,
-        node_kinds,
         node_starts,
         node_ends,
-        table,
         &mut masks,
         &mut offsets,
         &mut links,
-    )
+    );
+    match_tables(part_kinds, node_kinds, &masks, &offsets, &links, table)
 }
 
 // The answer of a call on a whole board: the same, with the table all 0 where some part is left without a node.
 pub fn match_whole(
+    ways: Ways,
     part_kinds: &[u32],
     part_starts: &[u16],
     part_ends: &[u16],
@@ -139,9 +160,10 @@ pub fn match_whole(
     requires { λ α. ⌜ Bounded role.Pattern (α .0) ⌝ }
     requires { λ α. ⌜ Bounded role.Board (α .1) ⌝ }
     requires { λ α. ⌜ length (now table) ≡ length (now «node_kinds») ⌝ }
-    ensures { λ α r. ⌜ AnsweredOn (α .0) (α .1) (now (table .exit)) r ⌝ }
+    ensures { λ α r. ⌜ AnsweredOn (waysOf ways) (α .0) (α .1) (now (table .exit)) r ⌝ }
 {
     let counts = match_circuits(
+        ways,
         part_kinds,
         part_starts,
         part_ends,

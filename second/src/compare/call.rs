@@ -35,6 +35,11 @@ pub enum Call<'a> {
         pattern: &'a [u8],
         board: &'a [u8],
     },
+    MatchOneWay {
+        editions: [Edition; 2],
+        pattern: &'a [u8],
+        board: &'a [u8],
+    },
     Place {
         pattern: &'a [u8],
         board: &'a [u8],
@@ -135,6 +140,12 @@ impl Call<'_> {
             Call::Radius { .. } => "radius",
             Call::Ball { .. } => "ball",
             Call::Match { .. } => "match",
+            Call::MatchOneWay { editions, .. } => match editions {
+                [Edition::First, Edition::First] => "match_one_way",
+                [Edition::First, Edition::Second] => "match_one_way_12",
+                [Edition::Second, Edition::First] => "match_one_way_21",
+                [Edition::Second, Edition::Second] => "match_one_way_22",
+            },
             Call::Place { .. } => "place",
             Call::PlaceWithin { .. } => "place_within",
             Call::Check { editions, .. } => match editions {
@@ -193,7 +204,9 @@ impl Call<'_> {
                 )]
             }
             Call::Radius { .. } | Call::Check { .. } => vec![],
-            Call::Ball { board, .. } | Call::Match { board, .. } => vec![sizes(board).0],
+            Call::Ball { board, .. }
+            | Call::Match { board, .. }
+            | Call::MatchOneWay { board, .. } => vec![sizes(board).0],
             Call::Place { board, .. } | Call::PlaceWithin { board, .. } => {
                 let (n, m) = sizes(board);
                 vec![n, m, n, n]
@@ -288,9 +301,10 @@ impl fmt::Display for Call<'_> {
             Call::Shelf { bytes, lengths } => {
                 write!(f, "\nbytes {}\nlengths {lengths:?}", Hex(bytes))
             }
-            Call::MatchIn { pattern, board, .. } => both(f, pattern, board),
+            Call::Match { pattern, board }
+            | Call::MatchIn { pattern, board, .. }
+            | Call::MatchOneWay { pattern, board, .. } => both(f, pattern, board),
             Call::MatchBounded { pattern, board, .. } => both(f, pattern, board),
-            Call::Match { pattern, board } => both(f, pattern, board),
             Call::Place {
                 pattern,
                 board,
@@ -434,6 +448,15 @@ pub fn run(finder: &dyn Finder, call: &Call, lent: &Lent) -> Outcome {
         Call::Match { pattern, board } => {
             let mut table = lent.words(0);
             let reply = finder.match_table(pattern, board, &mut table);
+            (reply, vec![table])
+        }
+        Call::MatchOneWay {
+            editions,
+            pattern,
+            board,
+        } => {
+            let mut table = lent.words(0);
+            let reply = finder.match_one_way(editions, pattern, board, &mut table);
             (reply, vec![table])
         }
         Call::Check {

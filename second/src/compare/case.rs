@@ -215,6 +215,11 @@ impl Case {
                 pattern,
                 board: pattern,
             },
+            Call::MatchOneWay {
+                editions: [Edition::First; 2],
+                pattern,
+                board,
+            },
             Call::Merge { pattern },
             Call::Load {
                 numbers: self.numbers,

@@ -92,6 +92,11 @@ pub fn check(
         pattern,
         board,
     };
+    let one_way = |editions, pattern, board| Call::MatchOneWay {
+        editions,
+        pattern,
+        board,
+    };
     let bar = |editions, pattern, board| Call::Bar {
         editions,
         pattern,
@@ -124,6 +129,9 @@ pub fn check(
         mix([Second, Second], &p2, &b2),
         mix([Second, Second], &p2, &p2),
         mix([Second, First], &p0, &b1),
+        one_way([First, Second], &p1, &b2),
+        one_way([Second, First], &p2, &b1),
+        one_way([Second, Second], &p2, &b2),
         bar([First, Second], &p1, &b2),
         bar([Second, First], &p2, &b1),
         bar([Second, Second], &p2, &b2),

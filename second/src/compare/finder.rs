@@ -29,6 +29,13 @@ pub trait Finder {
     fn radius(&self, pattern: &[u8]) -> Words;
     fn ball(&self, board: &[u8], centre: usize, radius: u16, out: &mut [u16]) -> Words;
     fn match_table(&self, pattern: &[u8], board: &[u8], table: &mut [u32]) -> Words;
+    fn match_one_way(
+        &self,
+        editions: [Edition; 2],
+        pattern: &[u8],
+        board: &[u8],
+        table: &mut [u32],
+    ) -> Words;
     fn place(&self, pattern: &[u8], board: &[u8], centre: usize, out: PlaceTables) -> Words;
     fn place_within(
         &self,
@@ -174,6 +181,16 @@ impl Finder for Second {
 
     fn match_table(&self, pattern: &[u8], board: &[u8], table: &mut [u32]) -> Words {
         calls::match_table(pattern, board, table).into()
+    }
+
+    fn match_one_way(
+        &self,
+        editions: [Edition; 2],
+        pattern: &[u8],
+        board: &[u8],
+        table: &mut [u32],
+    ) -> Words {
+        calls::match_one_way(editions, pattern, board, table).into()
     }
 
     fn place(&self, pattern: &[u8], board: &[u8], centre: usize, out: PlaceTables) -> Words {

@@ -33,11 +33,40 @@ pub fn check(finder: &dyn Finder, case: &Case, tally: &mut Tally) -> Result<(), 
     write_back(finder, Role::Pattern, &case.pattern, tally)?;
     write_back(finder, Role::Board, &case.board, tally)?;
     read_back(finder, &case.tables, tally)?;
+    one_way_contains(finder, &case.pattern, &case.board, tally)?;
     for &centre in &case.centres {
         merged(finder, &case.pattern, &case.board, centre, tally)?;
         place_checked(finder, &case.pattern, &case.board, centre, tally)?;
     }
     Ok(())
+}
+
+/// The one-way table contains the two-way table.
+fn one_way_contains(
+    finder: &dyn Finder,
+    pattern: &[u8],
+    board: &[u8],
+    tally: &mut Tally,
+) -> Result<(), Difference> {
+    let call = Call::MatchOneWay {
+        editions: [Edition::First; 2],
+        pattern,
+        board,
+    };
+    let (one, two) = (
+        outcome(finder, &call),
+        outcome(finder, &Call::Match { pattern, board }),
+    );
+    if two.reply[0] != 0 {
+        return Ok(());
+    }
+    tally.law("one-way tables that contain the two-way table");
+    let mut entries = one.tables[0].iter().zip(&two.tables[0]);
+    if one.reply[0] == 0 && entries.all(|(one, two)| one & two == *two) {
+        return Ok(());
+    }
+    let text = format!("the one-way table lacks a pair\n{call}\n{}", one.told());
+    Err(Difference { text })
 }
 
 /// An accepted file, read and then written, is the same file.

@@ -7,7 +7,7 @@ use Rattle.call_match.proofs.match_on.Statement.{statement}
 use Rattle.call_match.proofs.match_on.Tie as tie
 
 returns : tie.Need-returns
-returns c = on-short _ _ _ (c .if1 .taken)
+returns c = on-short _ _ _ _ (c .if1 .taken)
 
 slice-relend-prefix-match-whole : tie.Need-slice-relend-prefix-match-whole
 slice-relend-prefix-match-whole c = search needs
@@ -27,7 +27,7 @@ same-length c = search needs
 returns-2 : tie.Need-returns-2
 returns-2 c =
     let matched = c .before .before in
-    on-matched _ _ _ (matched .before .before .if1 .left) (matched .match-whole .ensures)
+    on-matched _ _ _ _ (matched .before .before .if1 .left) (matched .match-whole .ensures)
 
 pub match-on-spec : {M : Type 1} → statement M
 match-on-spec =

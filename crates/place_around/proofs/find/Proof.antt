@@ -7,6 +7,7 @@ use borrow.Author.Needs.{needs}
 use denote.Ref.{now}
 use lib.ListN.{length}
 use lib.Seq.{length-take-le}
+use Rattle.table.specs.Row.{bothWays}
 use Rattle.place.proofs.Find.{sought-known, sought-long, sets-ready, found-nothing, found-place}
 use Rattle.place_around.proofs.find.Statement.{statement}
 use Rattle.place_around.proofs.find.Tie as tie
@@ -51,7 +52,7 @@ same-length-3 c = search needs
 returns : tie.Need-returns
 returns c =
     let end = c .before .before .before .before .before .before in
-    λ pattern board r g. found-nothing g (end .refine .ensures pattern board (g .tabled .prepared) (g .begins)) _ _ (c .if1 .taken)
+    λ pattern board r g. found-nothing g (end .refine .ensures bothWays pattern board (g .tabled .prepared) (g .begins)) _ _ (c .if1 .taken)
 
 component-requires : tie.Need-component-requires
 component-requires c κs =
@@ -60,7 +61,7 @@ component-requires c κs =
     let g = s .pre .0 .1 .sought in
     let lengths = s .pre .1 .1 in
     let kept = end .refine .kept .1 .1 .1 .1 .0 in (
-      sets-ready g (end .refine .ensures _ _ (g .tabled .prepared) (g .begins)),
+      sets-ready g (end .refine .ensures bothWays _ _ (g .tabled .prepared) (g .begins)),
       (rw (lengths .0, sought-long g) (g .centre), (kept ∙ sym (lengths .0), lengths .0 ∙ sym (lengths .1))),
     )
 
@@ -81,7 +82,7 @@ returns-2 c =
     let end = c .before .before .before .before .before .before .before .before .before .before .before .before .before .before in
     let call = c .before .before .before .before .component in
     λ pattern board r g.
-    found-place g (end .refine .ensures pattern board (g .tabled .prepared) (g .begins)) _
+    found-place g (end .refine .ensures bothWays pattern board (g .tabled .prepared) (g .begins)) _
     (rw (entry end .pre .1 .1 .0, sought-long g) at (call .ensures .0)) _ _ (c .before .before .before .before .before .before .before .before .if1 .left) (call .ensures .1 .0) (call .ensures .1 .1)
 
 pub find-spec : {M : Type 1} → statement M

@@ -13,6 +13,7 @@ use Rattle.graph.specs.Circuit.{circuit}
 use Rattle.graph.proofs.Net.{net-few}
 use Rattle.table.specs.Prepared.{tables, Tables}
 use Rattle.table.specs.Refine.{countsOf}
+use Rattle.table.specs.Row.{bothWays}
 use Rattle.table.proofs.Begun.{started-begins, kept-first, refined}
 use Rattle.place.specs.Find.{Tabled, Sought}
 use Rattle.place.proofs.Find.{tabled-net, ball-short, ball-list, ball-marks, ball-measured, ball-sought}
@@ -69,7 +70,7 @@ seek : (c : tie.After-start) → let s = c .before .before .before .before .befo
 seek c ps pe ns ne r f d =
     let s = c .before .before .before .before .before .before .before .before .before .before .before .before .before .before .before .before .before .before .before .before in
     let p = s .pre in
-    ball-sought d (s .args .around .centre) r (p .1 .0) (rw (p .1 .1 .0 .0) at f) (started-begins _ _ _ (p .1 .1 .1 .0) (c .start .ensures))
+    ball-sought d (s .args .around .centre) r (p .1 .0) (rw (p .1 .1 .0 .0) at f) (started-begins bothWays _ _ _ (p .1 .1 .1 .0) (c .start .ensures))
 
 find-requires : tie.Need-find-requires
 find-requires c κs =
@@ -95,7 +96,7 @@ counted-requires c κs =
     let s = c .before .before .before .before .before .before .before .before .before .before .before .before .before .before .before .before .before .before .before .before .before .before .before .before .before .before .before .before .before .before .before .before .before .before in
     let some = s .pre .0 in
     let g = seek begun (some .partStarts) (some .partEnds) (some .nodeStarts) (some .nodeEnds) _ (c .before .before .before .before .before .before .before .before .before .before .before .before .before .before .before .before .before .before .before .before .before .search .ensures) (some .tabled) in
-    omega (arith, kept-first _ _ _ (s .pre .1 .1 .1 .0) (begun .start .ensures) (some .tabled .prepared .parts) (c .before .before .before .before .before .before .before .before .find .ensures _ _ _ g .rested))
+    omega (arith, kept-first bothWays _ _ _ (s .pre .1 .1 .1 .0) (begun .start .ensures) (some .tabled .prepared .parts) (c .before .before .before .before .before .before .before .before .find .ensures _ _ _ g .rested))
 
 same-length : tie.Need-same-length
 same-length c = search needs
@@ -120,7 +121,7 @@ returns c =
     record {
       counted =
           c .counted .ensures
-          ∙ refined _ _ _ (s .pre .1 .1 .1 .0) (begun .start .ensures) (d .prepared .parts) (f .rested) .counted
+          ∙ refined bothWays _ _ _ (s .pre .1 .1 .1 .0) (begun .start .ensures) (d .prepared .parts) (f .rested) .counted
           ∙ ap (countsOf _ _) (ball-marks d (s .args .around .centre) (s .args .around .radius) (s .pre .1 .0) (rw (s .pre .1 .1 .0 .0) at searched));
       answer = f .answer;
       short = f .short;

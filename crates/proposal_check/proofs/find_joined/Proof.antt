@@ -10,6 +10,7 @@ use lib.Seq.{length-take-le}
 use Rattle.graph.specs.Bfs.{bfs, adjacent, Found}
 use Rattle.graph.specs.Circuit.{circuit}
 use Rattle.table.specs.Prepared.{tables, Tables}
+use Rattle.table.specs.Row.{bothWays}
 use Rattle.table.proofs.Begun.{started-begins}
 use Rattle.place.specs.Find.{Tabled, Sought}
 use Rattle.place.proofs.Find.{tabled-net, ball-short, ball-list, ball-sought}
@@ -59,7 +60,7 @@ seek : (c : tie.After-start) → let s = c .before .before .before .before .befo
 seek c ps pe ns ne r f d =
     let s = c .before .before .before .before .before .before .before .before .before .before .before .before .before .before .before .before .before .before .before in
     let p = s .pre in
-    ball-sought d (s .args .c) r (p .1 .0 .1) (rw (p .1 .1 .0 .0) at f) (started-begins _ _ _ (p .1 .1 .1 .0) (c .start .ensures))
+    ball-sought d (s .args .c) r (p .1 .0 .1) (rw (p .1 .1 .0 .0) at f) (started-begins bothWays _ _ _ (p .1 .1 .1 .0) (c .start .ensures))
 
 find-requires : tie.Need-find-requires
 find-requires c κs =

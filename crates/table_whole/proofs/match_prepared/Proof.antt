@@ -51,7 +51,7 @@ refine-requires c κs =
     let start = entry (all .before) in
     let long = start .pre .1 .0 in
     let table = first .start .kept .1 .1 .1 .0 in (
-      record { pattern = _; host = _; prepared = start .pre .0 .prepared; begins = started-begins _ _ _ long (first .start .ensures) },
+      record { ways = _; pattern = _; host = _; prepared = start .pre .0 .prepared; begins = started-begins _ _ _ _ long (first .start .ensures) },
       (rw (table ∙ long) (list all), (start .pre .1 .2 ∙ sym (table ∙ long), first .start .ensures .size)),
     )
 
@@ -67,7 +67,7 @@ counted-requires c κs =
     let p = start .pre .0 .prepared in
     let long = start .pre .1 .0 in
     let w = first .start .ensures in
-    omega (arith, kept-first _ _ _ long w (p .parts) (end .refine .ensures _ _ p (started-begins _ _ _ long w)))
+    omega (arith, kept-first _ _ _ _ long w (p .parts) (end .refine .ensures _ _ _ p (started-begins _ _ _ _ long w)))
 
 same-length : tie.Need-same-length
 same-length c = search needs
@@ -86,9 +86,9 @@ returns c =
     let start = entry (all .before) in
     let long = start .pre .1 .0 in
     let w = first .start .ensures in
-    λ partStarts partEnds nodeStarts nodeEnds p.
+    λ ways partStarts partEnds nodeStarts nodeEnds p.
     refined-everything (listed-all (start .pre .1 .1) (all .list-all .ensures))
-    (rw (c .counted .ensures) (refined _ _ _ long w (p .parts) (end .refine .ensures _ _ p (started-begins _ _ _ long w))))
+    (rw (c .counted .ensures) (refined _ _ _ _ long w (p .parts) (end .refine .ensures _ _ _ p (started-begins _ _ _ _ long w))))
 
 pub match-prepared-spec : {M : Type 1} → statement M
 match-prepared-spec =

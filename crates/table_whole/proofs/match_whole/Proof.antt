@@ -11,7 +11,7 @@ all-or-none-requires : tie.Need-all-or-none-requires
 all-or-none-requires c κs =
     let matched = c .before .before .before in
     let start = matched .before .before .before .before .before .before .before .before .before in
-    (start .pre .0 .nodes, refined-fits _ _ _ (matched .match-circuits .ensures))
+    (start .pre .0 .nodes, refined-fits _ _ _ _ (matched .match-circuits .ensures))
 
 same-length : tie.Need-same-length
 same-length c = search needs
@@ -19,7 +19,7 @@ same-length c = search needs
 returns : tie.Need-returns
 returns c =
     let ruled = c .before .before in
-    answered _ _ _ (ruled .before .before .before .before .match-circuits .ensures) (ruled .all-or-none .ensures)
+    answered _ _ _ _ (ruled .before .before .before .before .match-circuits .ensures) (ruled .all-or-none .ensures)
 
 pub match-whole-spec : {M : Type 1} → statement M
 match-whole-spec = tie.close (tie.spec match-circuits-requires all-or-none-requires same-length returns)

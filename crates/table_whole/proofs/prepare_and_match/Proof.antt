@@ -1,24 +1,23 @@
 -- `table_whole::prepare_and_match` meets its contract: the masks and the neighbour tables are prepared, and the pairs are struck from there.
 -- Assumes nothing.
-use mathlib.Core.Path.{sym}
 use native.Mathlib.Omega.{arith}
 use borrow.Author.Needs.{needs}
 use denote.Ref.{now}
-use lib.Seq.{length-take-le}
 use Rattle.graph.specs.Circuit.{circuit}
 use Rattle.graph.proofs.Below.{below-wider}
 use Rattle.graph.proofs.Groups.{all-below}
 use Rattle.file_format.proofs.Accepted.{bounded-starts, bounded-ends}
 use Rattle.table.specs.Prepared.{tables, Prepared}
+use Rattle.table.specs.Row.{bothWays}
 use Rattle.table.proofs.Prepare.{prepared}
 use Rattle.table_whole.proofs.prepare_and_match.Statement.{statement}
 use Rattle.table_whole.proofs.prepare_and_match.Tie as tie
 
-abbrev entry : tie.After-prepare-arg3 → tie.Start
+abbrev entry : tie.After-prepare-along-arg3 → tie.Start
 entry c = c .before .before .before .before .before .before .before .before .before .before .before .before .before
 
-prepare-requires : tie.Need-prepare-requires
-prepare-requires c κs =
+prepare-along-requires : tie.Need-prepare-along-requires
+prepare-along-requires c κs =
     let p = entry c .pre in
     let pattern = p .0 in
     let starts = below-wider _ 32 _ (pattern .nodes) (all-below _ _ (bounded-starts pattern)) in
@@ -28,35 +27,20 @@ prepare-requires c κs =
       ((board .nodes, board .parallel, board .links), ((bounded-starts board, bounded-ends board), p .1 .1 .1)),
     )
 
-abbrev ready : tie.After-match-prepared-arg4 → tie.After-prepare
+abbrev ready : tie.After-match-tables-arg4 → tie.After-prepare-along
 ready c = c .before .before .before .before .before .before .before .before .before .before
 
-array-borrow-prefix-nodes : tie.Need-array-borrow-prefix-nodes
-array-borrow-prefix-nodes c = search needs
-
-slice-aggregate-match-prepared : tie.Need-slice-aggregate-match-prepared
-slice-aggregate-match-prepared c = sym (length-take-le _ _ (entry (ready (c .before) .before) .pre .1 .0 .nodes))
-
-array-borrow-prefix-spare : tie.Need-array-borrow-prefix-spare
-array-borrow-prefix-spare c = search needs
-
-slice-aggregate-match-prepared-2 : tie.Need-slice-aggregate-match-prepared-2
-slice-aggregate-match-prepared-2 c = sym (length-take-le _ _ (entry (ready (c .before .before) .before) .pre .1 .0 .nodes))
-
 -- what is prepared is of the pattern and of the board
-made : (c : tie.After-prepare) →
+made : (c : tie.After-prepare-along) →
     let a = entry (c .before) .args in
     Prepared (circuit (now (a .part-kinds)) (now (a .part-starts)) (now (a .part-ends))) (circuit (now (a .node-kinds)) (now (a .node-starts)) (now (a .node-ends)))
-    (tables (c .prepare .last .1 .1 .1 .1 .1 .0) (c .prepare .last .1 .1 .1 .1 .1 .1 .0) (c .prepare .last .1 .1 .1 .1 .1 .1 .1 .0))
-made c = prepared (entry (c .before) .pre .0) (c .prepare .ensures .0) (c .prepare .ensures .1)
+    (tables (c .prepare-along .last .1 .1 .1 .1 .1 .1 .0) (c .prepare-along .last .1 .1 .1 .1 .1 .1 .1 .0) (c .prepare-along .last .1 .1 .1 .1 .1 .1 .1 .1 .0))
+made c = prepared (entry (c .before) .pre .0) (c .prepare-along .ensures .0) (c .prepare-along .ensures .1)
 
-match-prepared-requires : tie.Need-match-prepared-requires
-match-prepared-requires c κs =
-    let tabled = ready (c .before .before) in
-    let p = entry (tabled .before) .pre in (
-      record { partStarts = _; partEnds = _; nodeStarts = _; nodeEnds = _; prepared = made tabled },
-      (p .1 .1 .0, length-take-le _ _ (p .1 .0 .nodes), length-take-le _ _ (p .1 .0 .nodes)),
-    )
+match-tables-requires : tie.Need-match-tables-requires
+match-tables-requires c κs =
+    let tabled = ready c in
+    (record { ways = bothWays; partStarts = _; partEnds = _; nodeStarts = _; nodeEnds = _; prepared = made tabled }, entry (tabled .before) .pre .1 .1 .0)
 
 same-length : tie.Need-same-length
 same-length c = search needs
@@ -72,20 +56,16 @@ same-length-4 c = search needs
 
 returns : tie.Need-returns
 returns c =
-    let matched = c .before .before .before .before in
-    let tabled = ready (matched .before .before .before) in
-    (matched .match-prepared .ensures _ _ _ _ (made tabled), made tabled)
+    let matched = c .before .before in
+    let tabled = ready (matched .before) in
+    (matched .match-tables .ensures bothWays _ _ _ _ (made tabled), made tabled)
 
 pub prepare-and-match-spec : {M : Type 1} → statement M
 prepare-and-match-spec =
     tie.close
     (tie.spec
-    prepare-requires
-    array-borrow-prefix-nodes
-    slice-aggregate-match-prepared
-    array-borrow-prefix-spare
-    slice-aggregate-match-prepared-2
-    match-prepared-requires
+    prepare-along-requires
+    match-tables-requires
     same-length
     same-length-2
     same-length-3

@@ -132,6 +132,14 @@ extern "C" {
         table: *mut u32,
         table_length: usize,
     ) -> Counts;
+    fn heronditch_match_one_way(
+        pattern: *const u8,
+        pattern_length: usize,
+        board: *const u8,
+        board_length: usize,
+        table: *mut u32,
+        table_length: usize,
+    ) -> Counts;
     fn heronditch_place(
         pattern: *const u8,
         pattern_length: usize,
@@ -280,7 +288,31 @@ extern "C" {
         table: *mut u32,
         table_length: usize,
     ) -> Counts;
+    fn heronditch_match_one_way_12(
+        pattern: *const u8,
+        pattern_length: usize,
+        board: *const u8,
+        board_length: usize,
+        table: *mut u32,
+        table_length: usize,
+    ) -> Counts;
     fn heronditch_match_32(
+        pattern: *const u8,
+        pattern_length: usize,
+        board: *const u8,
+        board_length: usize,
+        table: *mut u32,
+        table_length: usize,
+    ) -> Counts;
+    fn heronditch_match_one_way_21(
+        pattern: *const u8,
+        pattern_length: usize,
+        board: *const u8,
+        board_length: usize,
+        table: *mut u32,
+        table_length: usize,
+    ) -> Counts;
+    fn heronditch_match_one_way_22(
         pattern: *const u8,
         pattern_length: usize,
         board: *const u8,
@@ -516,6 +548,32 @@ impl Finder for Host {
     fn match_table(&self, pattern: &[u8], board: &[u8], table: &mut [u32]) -> Words {
         unsafe {
             heronditch_match(
+                given(pattern),
+                pattern.len(),
+                given(board),
+                board.len(),
+                lent(table),
+                table.len(),
+            )
+        }
+        .words()
+    }
+
+    fn match_one_way(
+        &self,
+        editions: [Edition; 2],
+        pattern: &[u8],
+        board: &[u8],
+        table: &mut [u32],
+    ) -> Words {
+        let call = match editions {
+            [Edition::First, Edition::First] => heronditch_match_one_way,
+            [Edition::First, Edition::Second] => heronditch_match_one_way_12,
+            [Edition::Second, Edition::First] => heronditch_match_one_way_21,
+            [Edition::Second, Edition::Second] => heronditch_match_one_way_22,
+        };
+        unsafe {
+            call(
                 given(pattern),
                 pattern.len(),
                 given(board),

@@ -8,6 +8,7 @@ use lib.Dec.{eqb}
 use lib.ListN.{length, getD}
 use Rattle.base_lists.specs.List.{Below}
 use Rattle.table.specs.Fill.{NodeList}
+use Rattle.table.specs.Row.{bothWays}
 use Rattle.barring_find.proofs.Tried.{begun-long, copied-begins, copied-known, copied-long}
 use Rattle.barring_find.proofs.trial.empty_at.Statement.{statement}
 use Rattle.barring_find.proofs.trial.empty_at.Tie as tie
@@ -47,7 +48,7 @@ returns c =
     let s = c .before .before .before .before .before .before .before .before .before .before .before .before .before .before .before .before .before .before .before in
     λ pattern board b.
     ap (λ (xs : List ℕ). eqb (getD xs (s .args .w) 0) 0)
-    (c .before .before .before .before .before .refine .ensures pattern board (b .prepared) (copied-begins b (s .pre .1 .1 .0) (c .before .before .before .before .before .before .before .before .before .before .copy .ensures)) .last)
+    (c .before .before .before .before .before .refine .ensures bothWays pattern board (b .prepared) (copied-begins b (s .pre .1 .1 .0) (c .before .before .before .before .before .before .before .before .before .before .copy .ensures)) .last)
 
 pub empty-at-spec : {M : Type 1} → statement M
 empty-at-spec =

@@ -37,7 +37,7 @@ abbrev matched : tie.After-number-classes-arg2 → tie.After-match-circuits
 matched c = c .before .before .before .before
 
 abbrev table : tie.After-match-circuits → List ℕ
-table c = c .match-circuits .last .1 .1 .1 .1 .1 .1 .0
+table c = c .match-circuits .last .1 .1 .1 .1 .1 .1 .1 .0
 
 self : (c : tie.After-match-circuits) → table c ≡ selfTable (pattern (entry (c .before)))
 self c = matched-self (content (entry (c .before))) _ _ (c .match-circuits .ensures)

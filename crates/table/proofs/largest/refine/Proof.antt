@@ -9,7 +9,7 @@ use lib.ListN.{length, take, replicate}
 use lib.Seq.{length-take-le}
 use Rattle.graph.specs.Search.{far}
 use Rattle.graph.proofs.Net.{net-of, net-few}
-use Rattle.table.specs.Row.{problemOf}
+use Rattle.table.specs.Row.{problemBy}
 use Rattle.table.proofs.StrikeRounds.{first-due, settled-rested}
 use borrow.Author.Needs.{needs}
 use Rattle.table.proofs.largest.refine.Statement.{statement}
@@ -22,7 +22,7 @@ take-replicate (suc k) (suc n) x h = ap (λ (l : List ℕ). x ∷ l) (take-repli
 
 -- there are no more nodes than the scratch has entries
 few : (s : tie.Start) → length (now (s .args .table)) ≤ 512
-unfolding problemOf
+unfolding problemBy
 few s = let known = s .pre .0 in rw (known .begins .long) (net-few (net-of (known .prepared .net)))
 
 array-borrow-prefix-marks : tie.Need-array-borrow-prefix-marks
@@ -61,7 +61,7 @@ same-length-2 c = search needs
 returns : tie.Need-returns
 returns c =
     let start = c .before .before .before .before .before .before .before .before .before .before .before .before .before .before .before .before .before .before .before in
-    λ pattern host p b. settled-rested p (now (start .args .nodes)) b (c .before .before .before .before .before .before .before .settle .ensures .0)
+    λ ways pattern host p b. settled-rested p (now (start .args .nodes)) b (c .before .before .before .before .before .before .before .settle .ensures .0)
 
 pub refine-spec : {M : Type 1} → statement M
 refine-spec =

@@ -4,9 +4,11 @@
 use mathlib.Core.Path.{_≡_, refl, sym, ap, _∙_}
 use Prim.Native.Nat.{ℕ, _≤_, _<_}
 use native.Mathlib.Omega.{arith}
+use borrow.Author.Needs.{needs}
 use denote.Ref.{now}
 use lib.ListN.{length, take, replicate, length-replicate}
 use lib.Seq.{length-take-le}
+use Rattle.base_lists.specs.List.{part}
 use Rattle.graph.specs.Bfs.{stateOf}
 use Rattle.graph.specs.Search.{far}
 use Rattle.graph.proofs.Net.{net-few}
@@ -18,7 +20,7 @@ use Rattle.table.proofs.largest.settle.Statement.{statement}
 use Rattle.table.proofs.largest.settle.Tie as tie
 
 abbrev Inv-loop : tie.InvT-loop
-Inv-loop first masks offsets links table₀ started marks₀ todo₀ changed₀ next₀ kept₀ rounds₀ n₀ table marks todo changed next kept rounds n =
+Inv-loop first masks offsets links table₀ started marks₀ todo₀ changed₀ next₀ kept₀ rounds₀ alone n₀ table marks todo changed next kept rounds n =
     Round (tables masks offsets links) table₀ table kept rounds
     × Noticed (tables masks offsets links) table changed next n
     × (marks ≡ replicate (length table₀) far)
@@ -28,29 +30,51 @@ Inv-loop first masks offsets links table₀ started marks₀ todo₀ changed₀ 
     × (length next ≡ length table₀)
 
 abbrev μ-loop : tie.MeasureT-loop
-μ-loop first masks offsets links table₀ started marks₀ todo₀ changed₀ next₀ kept₀ rounds₀ n₀ table marks todo changed next kept rounds n =
+μ-loop first masks offsets links table₀ started marks₀ todo₀ changed₀ next₀ kept₀ rounds₀ alone n₀ table marks todo changed next kept rounds n =
     kept
 
+abbrev begun : tie.After-all-empty Inv-loop μ-loop → tie.Start Inv-loop μ-loop
+begun c = c .before .before .before .before .before .before .before .before .before .before .before
+
+abbrev asked : tie.At-loop Inv-loop μ-loop → tie.After-all-empty Inv-loop μ-loop
+asked loop = loop .before .before .before .before .before .before .before .before .before
+
 abbrev entry : tie.At-loop Inv-loop μ-loop → tie.Start Inv-loop μ-loop
-entry loop = loop .before .before .before .before .before .before .before .before .before .before .before .before .before .before .before .before .before .before
+entry loop = begun (asked loop)
+
+sub-all-empty : tie.Need-sub-all-empty Inv-loop μ-loop
+sub-all-empty c = search needs
+
+part-all-empty-start : tie.Need-part-all-empty-start Inv-loop μ-loop
+part-all-empty-start c = search needs
+
+part-all-empty-end : tie.Need-part-all-empty-end Inv-loop μ-loop
+part-all-empty-end c = search needs
+
+all-empty-requires : tie.Need-all-empty-requires Inv-loop μ-loop
+all-empty-requires c κs = search needs
 
 changes-requires : tie.Need-changes-requires Inv-loop μ-loop
+unfolding part
 changes-requires c κs =
-    let start = c .before .before .before .before .before .before .before .before .before .before .before .before in
-    let due = start .pre .0 in
-    (due .ready, (due .below, (omega (arith, due .few, start .pre .1 .1 .1 .0), omega (arith, due .few, start .pre .1 .1 .1 .1))))
+    let none = c .before .before .before in
+    let start = begun none in
+    let due = start .pre .0 in (
+      none .all-empty .ensures,
+      (due .ready, (due .below, (omega (arith, due .few, start .pre .1 .1 .1 .0), omega (arith, due .few, start .pre .1 .1 .1 .1)))),
+    )
 
 loop-holds : tie.Need-loop-holds Inv-loop μ-loop
 loop-holds c =
-    let start = c .before .before .before .before .before .before .before .before .before .before .before .before .before .before .before .before .before in
+    let start = begun (c .before .before .before .before .before .before .before .before) in
     let call = c .before .before .before .before .changes in (
       round-start (start .pre .1 .0),
       record { todo = _; due = start .pre .0; pending = call .ensures },
       start .pre .1 .1 .0 .0,
       refl,
       start .pre .1 .1 .0 .1,
-      call .kept .1 .1 .1 .1 .1 .0 ∙ start .pre .1 .1 .1 .0,
-      call .kept .1 .1 .1 .1 .1 .1 .0 ∙ start .pre .1 .1 .1 .1,
+      call .kept .1 .1 .1 .1 .1 .1 .0 ∙ start .pre .1 .1 .1 .0,
+      call .kept .1 .1 .1 .1 .1 .1 .1 .0 ∙ start .pre .1 .1 .1 .1,
     )
 
 -- the nodes that change fit their lists
@@ -136,12 +160,16 @@ due c =
     (c .wake .kept .1 .1 .1 .1 .0 ∙ ap length (clean loop) ∙ length-replicate _ far)
 
 changes-requires-2 : tie.Need-changes-requires-2 Inv-loop μ-loop
+unfolding part
 changes-requires-2 c κs =
     let wake = c .before .before .before .before .before .before .before .before in
-    let inv = looped (wake .before .before .before .before .before .before .before) .loop .inv in
+    let loop = looped (wake .before .before .before .before .before .before .before) in
+    let inv = loop .loop .inv in
     let long = new-long (inv .0) (inv .1) (wake .before .before .before .before .before .before .before .write .ensures) in
-    let d = due wake in
-    (d .ready, (d .below, (omega (arith, d .few, long, inv .3, inv .5), omega (arith, d .few, long, inv .3, inv .6))))
+    let d = due wake in (
+      asked loop .all-empty .ensures,
+      (d .ready, (d .below, (omega (arith, d .few, long, inv .3, inv .5), omega (arith, d .few, long, inv .3, inv .6)))),
+    )
 
 unmark-requires : tie.Need-unmark-requires Inv-loop μ-loop
 unfolding stateOf
@@ -163,8 +191,8 @@ loop-again c =
           ∙ ap (λ (n : ℕ). replicate n far) (inv .3),
       new-long (inv .0) (inv .1) (write .write .ensures) ∙ inv .3,
       wake .wake .kept .1 .1 .1 .1 .1 .0 ∙ inv .4,
-      call .kept .1 .1 .1 .1 .1 .0 ∙ inv .5,
-      call .kept .1 .1 .1 .1 .1 .1 .0 ∙ inv .6,
+      call .kept .1 .1 .1 .1 .1 .1 .0 ∙ inv .5,
+      call .kept .1 .1 .1 .1 .1 .1 .1 .0 ∙ inv .6,
     )
 
 same-length : tie.Need-same-length Inv-loop μ-loop
@@ -196,6 +224,10 @@ settle-spec =
     (tie.spec
     Inv-loop
     μ-loop
+    sub-all-empty
+    part-all-empty-start
+    part-all-empty-end
+    all-empty-requires
     changes-requires
     loop-holds
     slice-reshare-prefix-write

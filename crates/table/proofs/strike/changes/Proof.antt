@@ -14,10 +14,10 @@ use Rattle.table.proofs.strike.changes.Statement.{statement}
 use Rattle.table.proofs.strike.changes.Tie as tie
 
 abbrev Inv-loop : tie.InvT-loop
-Inv-loop todo masks offsets links old changed₀ next₀ k₀ i₀ changed next k i = (length changed ≡ length changed₀) × (length next ≡ length next₀) × Listing (strikeNode (tables masks offsets links) old) old todo changed next k i
+Inv-loop alone todo masks offsets links old changed₀ next₀ k₀ i₀ changed next k i = (length changed ≡ length changed₀) × (length next ≡ length next₀) × Listing (strikeNode (tables masks offsets links) old) old todo changed next k i
 
 abbrev μ-loop : tie.MeasureT-loop
-μ-loop todo masks offsets links old changed₀ next₀ k₀ i₀ changed next k i = length todo - i
+μ-loop alone todo masks offsets links old changed₀ next₀ k₀ i₀ changed next k i = length todo - i
 
 abbrev entry : tie.At-loop Inv-loop μ-loop → tie.Start Inv-loop μ-loop
 entry loop = loop .before .before .before .before .before .before .before .before
@@ -37,10 +37,10 @@ cast-v c = omega (arith, c .shared-slice-known6 .given (c .before .before .loop 
 -- the next node
 node : (c : tie.In-loop Inv-loop μ-loop) → getD (now (entry (c .before) .args .todo)) (c .before .loop .i) 0 < length (now (entry (c .before) .args .old))
 unfolding Below
-node c = entry (c .before) .pre .1 .0 (c .before .loop .i) (omega arith)
+node c = entry (c .before) .pre .1 .1 .0 (c .before .loop .i) (omega arith)
 
 strike-node-requires : tie.Need-strike-node-requires Inv-loop μ-loop
-strike-node-requires c κs = (entry (c .before .before) .pre .0, node (c .before))
+strike-node-requires c κs = (entry (c .before .before) .pre .0, (entry (c .before .before) .pre .1 .0, node (c .before)))
 
 mul-note : tie.Need-mul-note Inv-loop μ-loop
 mul-note c = search needs
@@ -60,7 +60,7 @@ note-requires c κs =
     let start = entry loop in
     let g = loop .loop .inv .2 in
     let more = c .before .before .before .before .before .before .loop-test .taken in
-    (omega (arith, loop .loop .inv .0, start .pre .1 .1 .0, g .few), omega (arith, loop .loop .inv .1, start .pre .1 .1 .1, g .few))
+    (omega (arith, loop .loop .inv .0, start .pre .1 .1 .1 .0, g .few), omega (arith, loop .loop .inv .1, start .pre .1 .1 .1 .1, g .few))
 
 add-i : tie.Need-add-i Inv-loop μ-loop
 add-i c = omega arith
@@ -77,8 +77,8 @@ loop-again c =
     let call = c .before .before .before .before .note in (
       call .kept .1 .1 .1 .0 ∙ loop .loop .inv .0,
       call .kept .1 .1 .1 .1 .0 ∙ loop .loop .inv .1,
-      listing-next _ _ g (omega arith) (omega (arith, loop .loop .inv .0, start .pre .1 .1 .0, g .few))
-          (omega (arith, loop .loop .inv .1, start .pre .1 .1 .1, g .few)) refl (c .before .before .before .before .before .before .before .before .before .strike-node .ensures) refl (call .ensures),
+      listing-next _ _ g (omega arith) (omega (arith, loop .loop .inv .0, start .pre .1 .1 .1 .0, g .few))
+          (omega (arith, loop .loop .inv .1, start .pre .1 .1 .1 .1, g .few)) refl (c .before .before .before .before .before .before .before .before .before .strike-node .ensures) refl (call .ensures),
     )
 
 same-length : tie.Need-same-length Inv-loop μ-loop

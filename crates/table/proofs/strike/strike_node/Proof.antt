@@ -7,7 +7,7 @@ use lib.ListN.{drop, length-drop}
 use lib.Seq.{length-take-le}
 use Rattle.base_lists.specs.List.{part}
 use Rattle.base_bits.specs.Bits.{unionAt}
-use Rattle.graph_neighbours.specs.declared.neighbours.Direction.the-variants.{Forward, Backward}
+use Rattle.graph_neighbours.specs.declared.neighbours.Direction.the-variants.{Forward}
 use Rattle.graph_neighbours.specs.Lookup.{neighboursIn}
 use Rattle.graph_neighbours.proofs.Lookup.{neighbours-below}
 use Rattle.table.specs.Prepared.{Tables, tables}
@@ -35,29 +35,24 @@ entry c = c .before .before .before .before .before .before
 -- ---- the unions over what the node drives and what drives it
 
 neighbours-in-requires : tie.Need-neighbours-in-requires
-neighbours-in-requires c κs = record { nodes = _; net = entry c .pre .0 .net; node = entry c .pre .1 }
+neighbours-in-requires c κs = record { nodes = _; net = entry c .pre .1 .0 .net; node = entry c .pre .1 .1 }
 
 reach-requires : tie.Need-reach-requires
 reach-requires c κs =
     let start = entry (c .before) in
-    rw (c .neighbours-in .ensures) (neighbours-below Forward (start .pre .0 .net) _ (start .pre .1))
+    rw (c .neighbours-in .ensures) (neighbours-below Forward (start .pre .1 .0 .net) _ (start .pre .1 .1))
 
-neighbours-in-requires-2 : tie.Need-neighbours-in-requires-2
-neighbours-in-requires-2 c κs =
+reach-back-requires : tie.Need-reach-back-requires
+reach-back-requires c κs =
     let start = entry (c .before .before) in
-    record { nodes = _; net = start .pre .0 .net; node = start .pre .1 }
-
-reach-requires-2 : tie.Need-reach-requires-2
-reach-requires-2 c κs =
-    let start = entry (c .before .before .before) in
-    rw (c .neighbours-in2 .ensures) (neighbours-below Backward (start .pre .0 .net) _ (start .pre .1))
+    (start .pre .1 .0 .net, start .pre .1 .1)
 
 -- ---- the two halves of the masks
 
 slice-aggregate-surviving : tie.Need-slice-aggregate-surviving
 slice-aggregate-surviving c =
-    let start = entry (c .before .before .before .before .before) in
-    let long = start .pre .0 .masks in
+    let start = entry (c .before .before .before .before) in
+    let long = start .pre .1 .0 .masks in
     sym (length-take-le 32 (now (start .args .masks)) (omega arith))
 
 sub-surviving : tie.Need-sub-surviving
@@ -71,10 +66,10 @@ part-surviving-end c = search needs
 
 surviving-requires : tie.Need-surviving-requires
 surviving-requires c κs =
-    let start = entry (c .before .before .before .before .before .before) in
+    let start = entry (c .before .before .before .before .before) in
     let masks = now (start .args .masks) in
-    let long = start .pre .0 .masks in
-    let small = start .pre .0 .small (start .args .v) in (
+    let long = start .pre .1 .0 .masks in
+    let small = start .pre .1 .0 .small (start .args .v) in (
       rw (length-take-le 32 masks (omega arith)) small,
       rw (length-take-le 32 (drop 32 masks) (omega (arith, length-drop 32 masks))) small,
     )
@@ -83,11 +78,11 @@ returns-2 : tie.Need-returns-2
 unfolding part neighboursIn
 returns-2 c =
     let back = c .before .before .before in
-    let out = back .before .before in
+    let out = back .before in
     let start = entry (out .before .before) in
     let old = now (start .args .old) in
-    strike-unions (tablesOf start) old (start .args .v) (out .reach .ensures ∙ ap (unionAt old) (out .before .neighbours-in .ensures))
-    (back .reach2 .ensures ∙ ap (unionAt old) (back .before .neighbours-in2 .ensures)) (c .surviving .ensures)
+    strike-unions (tablesOf start) old (start .args .v) (start .pre .0) (out .reach .ensures ∙ ap (unionAt old) (out .before .neighbours-in .ensures))
+    (back .reach-back .ensures) (c .surviving .ensures)
 
 pub strike-node-spec : {M : Type 1} → statement M
 strike-node-spec =
@@ -98,8 +93,7 @@ strike-node-spec =
     returns
     neighbours-in-requires
     reach-requires
-    neighbours-in-requires-2
-    reach-requires-2
+    reach-back-requires
     slice-aggregate-surviving
     sub-surviving
     part-surviving-start

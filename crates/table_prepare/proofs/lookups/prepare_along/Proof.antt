@@ -1,15 +1,15 @@
--- `table_prepare::lookups::prepare` meets its contract: the neighbour tables and the masks, as their own contracts give them. Assumes nothing.
+-- `table_prepare::lookups::prepare_along` meets its contract: the neighbour tables and the masks, as their own contracts give them. Assumes nothing.
 use borrow.Author.Needs.{needs}
-use Rattle.table_prepare.proofs.lookups.prepare.Statement.{statement}
-use Rattle.table_prepare.proofs.lookups.prepare.Tie as tie
+use Rattle.table_prepare.proofs.lookups.prepare_along.Statement.{statement}
+use Rattle.table_prepare.proofs.lookups.prepare_along.Tie as tie
 
 neighbour-tables-requires : tie.Need-neighbour-tables-requires
 neighbour-tables-requires c κs =
     let p = c .before .before .before .before .before .before .before .before .before .pre in
     (p .1 .1 .1 .1, (p .1 .0 .0, ((p .1 .0 .1, p .1 .0 .2), p .1 .1 .0)))
 
-pattern-masks-requires : tie.Need-pattern-masks-requires
-pattern-masks-requires c κs = search needs
+masks-along-requires : tie.Need-masks-along-requires
+masks-along-requires c κs = search needs
 
 same-length : tie.Need-same-length
 same-length c = search needs
@@ -23,12 +23,12 @@ same-length-3 c = search needs
 returns : tie.Need-returns
 returns c = search needs
 
-pub prepare-spec : {M : Type 1} → statement M
-prepare-spec =
+pub prepare-along-spec : {M : Type 1} → statement M
+prepare-along-spec =
     tie.close
     (tie.spec
     neighbour-tables-requires
-    pattern-masks-requires
+    masks-along-requires
     same-length
     same-length-2
     same-length-3

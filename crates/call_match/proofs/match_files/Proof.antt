@@ -1,4 +1,4 @@
--- `call_match::match_table` meets its contract: a file is refused, or the two circuits that were read are matched. Assumes nothing.
+-- `call_match::match_files` meets its contract: a file is refused, or the two circuits that were read are matched. Assumes nothing.
 use denote.Ref.{now}
 use mathlib.Core.Path.{sym}
 use borrow.Author.Needs.{needs}
@@ -10,8 +10,8 @@ use Rattle.file_pair.proofs.Both.{both-read, refused-pair, pattern-bounded, boa
 use Rattle.file_format.specs.declared.Role.the-variants.{AnyPattern}
 use Rattle.file_format.proofs.Reading.{stands-size, stands-room}
 use Rattle.call_match.proofs.Matching.{matching-refused, matching-read}
-use Rattle.call_match.proofs.match_table.Statement.{statement}
-use Rattle.call_match.proofs.match_table.Tie as tie
+use Rattle.call_match.proofs.match_files.Statement.{statement}
+use Rattle.call_match.proofs.match_files.Tie as tie
 
 -- ---- the two files
 
@@ -102,7 +102,7 @@ enum-known-verdict : tie.Need-enum-known-verdict
 enum-known-verdict c = search needs
 
 returns : tie.Need-returns
-returns c = matching-refused _ _ _ (refused-pair (c .before .before .before .before .before .before .before .before .before .read-pair .ensures) (c .before .verdict .given .1))
+returns c = matching-refused _ _ _ _ (refused-pair (c .before .before .before .before .before .before .before .before .before .read-pair .ensures) (c .before .verdict .given .1))
 
 enum-told : tie.Need-enum-told
 enum-told c = search needs
@@ -114,10 +114,10 @@ returns-2 : tie.Need-returns-2
 returns-2 c =
     let matched = c .before .before in
     let read = matched .before .before .before .before .before .before .before .before in
-    matching-read _ _ _ (both read) (matched .match-on .ensures)
+    matching-read _ _ _ _ (both read) (matched .match-on .ensures)
 
-pub match-table-spec : {M : Type 1} → statement M
-match-table-spec =
+pub match-files-spec : {M : Type 1} → statement M
+match-files-spec =
     tie.close
     (tie.spec
     slice-aggregate-read-pair

@@ -1,0 +1,17 @@
+-- Ask 8 holds. Assumes nothing.
+use mathlib.Core.Path.{sym, _∙_}
+use Rattle.table.specs.Row.{bothWays, oneWay}
+use Rattle.table.proofs.Answer.{along-dual, along-graph}
+use Rattle.call_match.proofs.Promise as match-call
+use Rattle.demands.specs.OneWay.{Ask8}
+use Rattle.demands.proofs.Demands.{along-matched}
+
+pub ask-8 : Ask8
+ask-8 =
+    record {
+      along = along-matched;
+      twoWays = λ pattern board result m. along-dual (m .largest);
+      oneWays = λ pattern board result m. along-graph (m .largest);
+      refusals = λ pattern board table. match-call.verdict-is oneWay pattern board table ∙ sym (match-call.verdict-is bothWays pattern board table);
+      contains = match-call.contains-two-way oneWay;
+    }
