@@ -1,3 +1,4 @@
 pub mod Centre
+pub mod Component
 pub mod Pieces
 pub mod Progress

@@ -3,9 +3,9 @@
 use mathlib.Core.Bool.{Bool, true, _&&_, not, cond}
 use mathlib.Core.List.{List, [], _++_}
 use mathlib.Core.Path.{_≡_}
-use Prim.Native.Nat.{ℕ, suc, _+_, _-_}
+use Prim.Native.Nat.{ℕ, suc, _+_, _-_, _<_}
 use lib.Dec.{eqb, leb}
-use lib.ListN.{length, take}
+use lib.ListN.{length, getD, take}
 use Rattle.base_lists.specs.Below.{countBelow, leastBelow, concatBelow}
 use Rattle.base_text.specs.Text.{Put, Fits}
 use Rattle.graph.specs.Circuit.{Circuit}
@@ -17,6 +17,7 @@ use Rattle.place.specs.declared.Around.{Around}
 use Rattle.place.specs.declared.Found.{Found}
 use Rattle.place.specs.Find.{Located}
 use Rattle.place.specs.Match.{radiusOf, found}
+use Rattle.place.specs.Spread.{matched, Reached, Spread}
 use Rattle.report.specs.Lines.{longestLine}
 use Rattle.report.specs.Report.{hasPlace, centreLine, endLine}
 use Rattle.report_centres.specs.declared.Part.{Part}
@@ -82,6 +83,14 @@ pub record SourceOfSome (t : Tables) (table : List ℕ) (r : ℕ) : Type 0 where
   pub pattern : Circuit
   pub board : Circuit
   pub source : Source pattern board t table r
+
+-- The centre's component in the whole board's match graph, and a label that all its nodes have.
+pub record CentreLabelled (t : Tables) (table labels : List ℕ) (c : ℕ) : Type 0 where
+  pub low : c < length table
+  pub long : length labels ≡ length table
+  pub comp : List ℕ
+  pub spread : Spread (length table) c (matched t table) comp
+  pub same : (v : ℕ) → v < length table → Reached comp v → getD labels v 0 ≡ getD labels c 0
 
 -- what is known of a centre: whether there is a place around it, and then the place in the tables
 pub record Known (pattern board : Circuit) (t : Tables) (around : Around) (dist queue sets : List ℕ) (a : Found) : Type 0 where

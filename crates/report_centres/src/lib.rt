@@ -5,6 +5,9 @@ use graph_search::search;
 use place::Around;
 use place::Found;
 use place_around::find;
+use place_components::components;
+use place_components::covers;
+use place_components::keep;
 use report::lines::put_end;
 use report::lines::put_line;
 use table::first::copy;
@@ -15,8 +18,10 @@ ghost use lib.Dec.{eqb, ltb};
 ghost use lib.ListN.{length};
 ghost use Rattle.base_text.specs.Text.{Names};
 ghost use Rattle.table.specs.Prepared.{tables};
+ghost use Rattle.place.specs.Spread.{matched};
+ghost use Rattle.place_components.specs.Components.{Components};
 ghost use Rattle.report.specs.Lines.{longestLine};
-ghost use Rattle.report_centres.specs.Pieces.{roomy, centresPiece, SourceOfSome, EveryKnown, EveryLine, EveryWrote, Closed};
+ghost use Rattle.report_centres.specs.Pieces.{roomy, centresPiece, SourceOfSome, CentreLabelled, EveryKnown, EveryLine, EveryWrote, Closed};
 
 // No line of a report is longer: a buffer has to be as long, and a line is put where so many bytes are left.
 pub const LONGEST: usize = 34829;
@@ -58,13 +63,15 @@ fn counted(count: usize, at: usize, next: usize) -> usize
     count + 1
 }
 
-// Whether there is a place around a centre, from the whole board's table, cut to the ball. Where there is one, `dist` is left with `UNREACHED`
-// outside it, and `sets` with the ball's table. `queue` and `spare` are scratch.
+// Whether there is a place around a centre, from the whole board's table, cut to those nodes of the ball that are in the centre's component on the whole
+// board: what lies outside it supports nothing inside it. Where there is one, `dist` is left with `UNREACHED` outside it, and `sets` with the table of the
+// graph of those nodes. `queue` and `spare` are scratch.
 fn locate(
     masks: &[u32],
     offsets: &[u16],
     links: &[u16],
     whole: &[u32],
+    labels: &[u16],
     around: Around,
     dist: &mut [u16],
     queue: &mut [u16],
@@ -72,20 +79,22 @@ fn locate(
     spare: &mut [u32],
 ) -> Found
     requires { ⌜ SourceOfSome (tables (now masks) (now offsets) (now links)) (now whole) (around .radius) ⌝ }
-    requires { ⌜ around .centre < length (now whole) ⌝ }
+    requires { ⌜ CentreLabelled (tables (now masks) (now offsets) (now links)) (now whole) (now labels) (around .centre) ⌝ }
     requires { ⌜ (length (now dist) ≡ length (now whole)) × (length (now queue) ≡ length (now whole)) ⌝ }
     requires { ⌜ (length (now sets) ≡ length (now whole)) × (length (now spare) ≡ length (now whole)) ⌝ }
     ensures { λ a. ⌜ EveryKnown (tables (now (masks .entry)) (now (offsets .entry)) (now (links .entry))) (now (whole .entry)) around (now (dist .exit)) (now (queue .exit)) (now (sets .exit)) a ⌝ }
 {
     let c = around.centre;
+    let at = c as usize;
     let k = search(offsets, links, c, around.radius, dist, queue);
-    let started = copy(&queue[..k], whole, sets);
+    let kept = keep(labels, labels[at], k, queue);
+    let started = copy(&queue[..kept], whole, sets);
     find(
         masks,
         offsets,
         links,
         c,
-        k,
+        kept,
         started,
         dist,
         queue,
@@ -94,41 +103,40 @@ fn locate(
     )
 }
 
-// A centre's line, nothing where there is no place around it. A centre that the whole board's table leaves empty has none.
-fn put_centre(
+// A centre's line, nothing where there is no place around it, where the ball may cut the centre's component.
+fn put_cut(
     names: &[u32],
     masks: &[u32],
     offsets: &[u16],
     links: &[u16],
     whole: &[u32],
+    labels: &[u16],
     around: Around,
     out: &mut [u8],
     at: usize,
 ) -> usize
     requires { ⌜ SourceOfSome (tables (now masks) (now offsets) (now links)) (now whole) (around .radius) ⌝ }
-    requires { ⌜ around .centre < length (now whole) ⌝ }
+    requires { ⌜ CentreLabelled (tables (now masks) (now offsets) (now links)) (now whole) (now labels) (around .centre) ⌝ }
     requires { ⌜ Names (now names) × (length (now whole) ≤ length (now names)) ⌝ }
     requires { ⌜ at + longestLine ≤ length (now out) ⌝ }
     ensures { λ r. ⌜ EveryLine (tables (now (masks .entry)) (now (offsets .entry)) (now (links .entry))) (now (whole .entry)) around (now (out .entry)) at (now (out .exit)) r ⌝ }
 {
     let c = around.centre as usize;
-    if whole[c] == 0 {
-        return at;
-    }
     let mut distances = [0u16; Board::MAX_NODES];
     let mut nodes = [0u16; Board::MAX_NODES];
-    let mut ball = [0u32; Board::MAX_NODES];
+    let mut first = [0u32; Board::MAX_NODES];
     let mut other = [0u32; Board::MAX_NODES];
     let n = whole.len();
     let dist = &mut distances[..n];
     let queue = &mut nodes[..n];
-    let sets = &mut ball[..n];
+    let sets = &mut first[..n];
     let spare = &mut other[..n];
     let place = locate(
         masks,
         offsets,
         links,
         whole,
+        labels,
         around,
         dist,
         queue,
@@ -140,6 +148,55 @@ fn put_centre(
         return at;
     }
     put_line(names, masks, offsets, links, dist, sets, c, out, at)
+}
+
+// A centre's line, nothing where there is no place around it. A centre that the whole board's table leaves empty has none. Where matching links lead to the
+// whole of its component in r steps, the ball holds that, and the place is the component with its matching links.
+fn put_centre(
+    names: &[u32],
+    masks: &[u32],
+    offsets: &[u16],
+    links: &[u16],
+    whole: &[u32],
+    labels: &[u16],
+    sizes: &[u16],
+    around: Around,
+    out: &mut [u8],
+    at: usize,
+) -> usize
+    requires { ⌜ SourceOfSome (tables (now masks) (now offsets) (now links)) (now whole) (around .radius) ⌝ }
+    requires { ⌜ Components (length (now whole)) (matched (tables (now masks) (now offsets) (now links)) (now whole)) (now whole) (now labels) (now sizes) ⌝ }
+    requires { ⌜ around .centre < length (now whole) ⌝ }
+    requires { ⌜ Names (now names) × (length (now whole) ≤ length (now names)) ⌝ }
+    requires { ⌜ at + longestLine ≤ length (now out) ⌝ }
+    ensures { λ r. ⌜ EveryLine (tables (now (masks .entry)) (now (offsets .entry)) (now (links .entry))) (now (whole .entry)) around (now (out .entry)) at (now (out .exit)) r ⌝ }
+{
+    let c = around.centre as usize;
+    if whole[c] == 0 {
+        return at;
+    }
+    let label = labels[c] as usize;
+    let size = sizes[label] as usize;
+    let mut distances = [0u16; Board::MAX_NODES];
+    let mut nodes = [0u16; Board::MAX_NODES];
+    let n = whole.len();
+    let dist = &mut distances[..n];
+    let queue = &mut nodes[..n];
+    let held = covers(
+        masks,
+        offsets,
+        links,
+        whole,
+        around.centre,
+        around.radius,
+        size,
+        dist,
+        queue,
+    );
+    if held {
+        return put_line(names, masks, offsets, links, dist, whole, c, out, at);
+    }
+    put_cut(names, masks, offsets, links, whole, labels, around, out, at)
 }
 
 // The lines of the centres from `from` on, before which `found` centres had a place, as long as there is room for the longest line.
@@ -159,6 +216,11 @@ pub fn put_centres(
     let mut names = [0u32; Board::MAX_NODES];
     make_names(&mut names);
     let n = whole.len();
+    let mut names_of = [0u16; Board::MAX_NODES];
+    let mut counts = [0u16; Board::MAX_NODES];
+    let labels = &mut names_of[..n];
+    let sizes = &mut counts[..n];
+    components(masks, offsets, links, whole, labels, sizes);
     let mut c = from;
     let mut count = found as usize;
     let mut at = 0;
@@ -167,7 +229,18 @@ pub fn put_centres(
             centre: c as u16,
             radius: r,
         };
-        let next = put_centre(&names, masks, offsets, links, whole, around, out, at);
+        let next = put_centre(
+            &names,
+            masks,
+            offsets,
+            links,
+            whole,
+            labels,
+            sizes,
+            around,
+            out,
+            at,
+        );
         count = counted(count, at, next);
         at = next;
         c += 1;

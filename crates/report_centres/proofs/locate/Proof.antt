@@ -1,78 +1,114 @@
--- `report_centres::locate` meets its contract: the search lists the ball, and the whole board's sets there are a table to begin with.
--- Assumes nothing.
+-- `report_centres::locate` meets its contract: the search lists the ball, those of its nodes that are in the centre's component are kept, and the whole
+-- board's sets there are a table to begin with. Assumes nothing.
 use denote.Ref.{now}
 use mathlib.Core.Path.{refl, sym, _∙_}
 use Prim.Native.Nat.{_≤_}
 use native.Mathlib.Omega.{arith}
 use borrow.Author.Needs.{needs}
-use lib.ListN.{length, take, length-take}
+use lib.ListN.{length, take}
+use lib.Seq.{length-take-le}
 use Rattle.graph.specs.Circuit.{Circuit}
+use Rattle.table.specs.Fill.{NodeList}
 use Rattle.table.specs.Prepared.{tables}
 use Rattle.place.specs.Find.{Sought}
+use Rattle.place_components.proofs.Lists.{having-list}
 use Rattle.report_centres.specs.Pieces.{Source}
-use Rattle.report_centres.proofs.Centre.{source-net, source-short, source-list, source-sought}
+use Rattle.report_centres.proofs.Centre.{source-net, source-few, source-searched, source-short, source-list}
+use Rattle.report_centres.proofs.Component.{cut-sought}
 use Rattle.report_centres.proofs.locate.Statement.{statement}
 use Rattle.report_centres.proofs.locate.Tie as tie
 
+cast-at : tie.Need-cast-at
+cast-at c = search needs
+
 abbrev entry : tie.After-search-arg2 → tie.Start
-entry c = c .before .before .before .before .before .before .before .before .before .before
+entry c = c .before .before .before .before .before .before .before .before .before .before .before
 
 search-requires : tie.Need-search-requires
 search-requires c κs =
     let p = entry c .pre in
     let (d, q) = p .1 .1 .0 in
-    (source-net (p .0 .source) d, (rw d (p .1 .0), d ∙ sym q))
+    (source-net (p .0 .source) d, (rw d (p .1 .0 .low), d ∙ sym q))
+
+-- ---- the ball is listed
+
+abbrev start : tie.After-search → tie.Start
+start c = entry (c .before)
 
 -- no more nodes are listed than the queue has room for
-short : (c : tie.After-search) → c .search .result ≤ length (c .search .last .1 .1 .1 .1 .1 .0)
+short : (c : tie.After-search) → (c .search .result ≤ length (c .search .last .1 .1 .1 .1 .1 .0)) × (length (c .search .last .1 .1 .1 .1 .1 .0) ≤ 512)
 short c =
-    let p = entry (c .before) .pre in
-    omega (arith, source-short (p .0 .source) _ (p .1 .0) (p .1 .1 .0 .0) (c .search .ensures), p .1 .1 .0, c .search .kept)
+    let p = start c .pre in
+    let few = source-few (p .0 .source) in (
+      omega (arith, source-short (p .0 .source) _ (p .1 .0 .low) (p .1 .1 .0 .0) (c .search .ensures), p .1 .1 .0, c .search .kept),
+      omega (arith, p .1 .1 .0, c .search .kept, few),
+    )
 
--- the ball is listed
-abbrev listed : tie.After-slice-known6 → tie.After-search
-listed c = c .before .before .before .before
+mul-keep : tie.Need-mul-keep
+mul-keep c = let l = start (c .before .before .before .before) .pre .1 .0 in omega (arith, l .low, l .long)
+
+shared-slice-read-keep : tie.Need-shared-slice-read-keep
+shared-slice-read-keep c = let l = start (c .before .before .before .before .before) .pre .1 .0 in omega (arith, l .low, l .long)
+
+keep-requires : tie.Need-keep-requires
+keep-requires c κs =
+    let ball = c .before .before .before .before .before .before in
+    let p = start ball .pre in
+    let h = short ball in
+    (h .0, omega (arith, h .1), source-list (p .0 .source) _ (p .1 .0 .low) (p .1 .1 .0 .0) (ball .search .ensures) (p .1 .0 .long) .below)
+
+-- ---- its nodes in the component are kept
+
+abbrev listed : tie.After-keep → tie.After-search
+listed c = c .before .before .before .before .before .before .before
+
+list : (c : tie.After-keep) → NodeList (length (now (start (listed c) .args .whole))) (take (c .keep .result) (c .keep .last .1 .1 .1 .0))
+list c =
+    let p = start (listed c) .pre in
+    rw (c .keep .ensures .1) (having-list _ (source-list (p .0 .source) _ (p .1 .0 .low) (p .1 .1 .0 .0) (listed c .search .ensures) refl))
 
 slice-reshare-prefix-copy : tie.Need-slice-reshare-prefix-copy
-slice-reshare-prefix-copy c = short (listed c)
+slice-reshare-prefix-copy c = c .before .before .keep .ensures .0
 
 slice-aggregate-copy : tie.Need-slice-aggregate-copy
-slice-aggregate-copy c = let h = short (listed (c .before)) in simp length-take (omega arith)
+slice-aggregate-copy c = sym (length-take-le _ _ (c .before .before .before .keep .ensures .0))
 
 copy-requires : tie.Need-copy-requires
 copy-requires c κs =
-    let ball = listed (c .before .before) in
-    let p = entry (ball .before) .pre in
-    let found = ball .search .ensures in
-    (source-list (p .0 .source) _ (p .1 .0) (p .1 .1 .0 .0) found (p .1 .1 .1 .0), source-list (p .0 .source) _ (p .1 .0) (p .1 .1 .0 .0) found refl .below)
+    let l = c .before .before .before .before in
+    (rw (start (listed l) .pre .1 .1 .1 .0) (list l), list l .below)
 
--- its first table is written
+-- ---- their first table is written
+
 abbrev copied : tie.After-find-arg4 → tie.After-copy
 copied c = c .before .before .before .before .before .before
 
+abbrev kept : tie.After-find-arg4 → tie.After-keep
+kept c = copied c .before .before .before .before .before
+
 abbrev ball : tie.After-find-arg4 → tie.After-search
-ball c = listed (copied c .before .before .before)
+ball c = listed (kept c)
 
 -- it is one to begin with, of every pattern and board
-sought : (c : tie.After-find-arg4) → let a = entry (ball c .before) .args in
+sought : (c : tie.After-find-arg4) → let a = start (ball c) .args in
     (pattern board : Circuit) → Source pattern board (tables (now (a .masks)) (now (a .offsets)) (now (a .links))) (now (a .whole)) (a .around .radius)
     → Sought pattern board (tables (now (a .masks)) (now (a .offsets)) (now (a .links))) (a .around .centre) (a .around .radius)
-    (take (ball c .search .result) (ball c .search .last .1 .1 .1 .1 .1 .0)) (copied c .copy .last .1 .1 .0)
+    (take (kept c .keep .result) (kept c .keep .last .1 .1 .1 .0)) (copied c .copy .last .1 .1 .0)
 sought c pattern board s =
-    let p = entry (ball c .before) .pre in
-    source-sought s _ (p .1 .0) (p .1 .1 .0 .0) (ball c .search .ensures) (p .1 .1 .1 .0) (copied c .copy .ensures)
+    let p = start (ball c) .pre in
+    cut-sought s _ (p .1 .0 .low) (p .1 .0) (source-searched s _ (p .1 .0 .low) (p .1 .1 .0 .0) (ball c .search .ensures)) (kept c .keep .ensures .1) (p .1 .1 .1 .0) (copied c .copy .ensures)
 
 find-requires : tie.Need-find-requires
 find-requires c κs =
-    let p = entry (ball c .before) .pre in
+    let p = start (ball c) .pre in
     let (d, q) = p .1 .1 .0 in
     let (s, o) = p .1 .1 .1 in
     let long = copied c .copy .kept .1 .1 .0 ∙ s in
-    let kept = ball c .search .kept in (
-      (short (ball c), record { pattern = _; board = _; radius = _; sought = sought c _ _ (p .0 .source) }),
+    let searched = ball c .search .kept in (
+      (kept c .keep .ensures .0, record { pattern = _; board = _; radius = _; sought = sought c _ _ (p .0 .source) }),
       (
         copied c .copy .ensures .size,
-        (kept .1 .1 .1 .1 .0 ∙ d ∙ sym long, kept .1 .1 .1 .1 .1 .0 ∙ q ∙ sym long, o ∙ sym long),
+        (searched .1 .1 .1 .1 .0 ∙ d ∙ sym long, kept c .keep .kept .1 .1 .1 .0 ∙ searched .1 .1 .1 .1 .1 .0 ∙ q ∙ sym long, o ∙ sym long),
       ),
     )
 
@@ -98,7 +134,11 @@ pub locate-spec : {M : Type 1} → statement M
 locate-spec =
     tie.close
     (tie.spec
+    cast-at
     search-requires
+    mul-keep
+    shared-slice-read-keep
+    keep-requires
     slice-reshare-prefix-copy
     slice-aggregate-copy
     copy-requires

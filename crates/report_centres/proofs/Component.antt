@@ -1,0 +1,145 @@
+-- The centre's component in the whole board's match graph. Where matching links lead to all of it in r steps the ball holds it, and the place is the
+-- component with its matching links; else the place comes from those nodes of the ball that have the component's label. Assumes nothing.
+use mathlib.Core.Bool.{Bool, true, false, cond}
+use mathlib.Core.List.{List}
+use mathlib.Core.Logic.{inl, inr, ⊎-elim}
+use mathlib.Core.Path.{_≡_, refl, sym, ap, subst, _∙_}
+use Prim.Native.Nat.{ℕ, _^_, _≤_, _<_}
+use borrow.Author.Tests.{eq-eqb}
+use lib.Dec.{T, eqb, eqb→eq}
+use lib.ListN.{length, getD, take}
+use Rattle.base_lists.specs.List.{Occurs, Below}
+use Rattle.base_lists.proofs.Tests.{true-T, any-at, at-any}
+use Rattle.base_lists.proofs.Tables.{getD-tabulate}
+use Rattle.graph.specs.Bfs.{bfs, adjacent, Found as Searched}
+use Rattle.graph.specs.Circuit.{Circuit}
+use Rattle.graph.specs.Search.{inside}
+use Rattle.graph.proofs.Ball.{inside-zero, inside-suc, inside-grows}
+use Rattle.table.specs.Fill.{listed, marksOf}
+use Rattle.table.specs.First.{Written}
+use Rattle.table.specs.Host.{Taken, everything}
+use Rattle.table.specs.Prepared.{Tables}
+use Rattle.table.proofs.Begun.{copied-begins}
+use Rattle.table.proofs.Host.{everything-taken}
+use Rattle.table.proofs.Meaning.{last-fits}
+use Rattle.table.proofs.Sets.{fits-word}
+use Rattle.place.specs.Match.{ballOf, found}
+use Rattle.place.specs.Find.{Sought, Located}
+use Rattle.place.specs.Spread.{matched, Reached, Spread, Lists}
+use Rattle.place.proofs.Find.{ball-list, ball-marks, whole-located, whole-found, cut-seen}
+use Rattle.place.proofs.Links.{match-kept}
+use Rattle.place_components.specs.Components.{having, MatchTable, Labelled, Components, Growing, Covered}
+use Rattle.place_components.proofs.Lists.{having-from, having-to, having-list}
+use Rattle.place_components.proofs.Labels.{match-adjacency}
+use Rattle.place_components.proofs.Covering.{covered-spread}
+use Rattle.report_centres.specs.Pieces.{Source, CentreLabelled}
+use Rattle.report_centres.proofs.Centre.{source-tabled, source-long}
+
+-- a node is marked where it is listed
+inside-marks : (n : ℕ) (nodes : List ℕ) (v : ℕ) → v < n → inside (marksOf n nodes) v ≡ listed nodes v
+unfolding inside marksOf
+inside-marks n nodes v h = ap (λ (x : ℕ). eqb x 1) (getD-tabulate n (λ v. cond (listed nodes v) 1 0) v 0 h) ∙ go (listed nodes v)
+  where
+    go : (b : Bool) → eqb (cond b 1 0) 1 ≡ b
+    go true = refl
+    go false = refl
+
+module _ {pattern board : Circuit} {t : Tables} {table : List ℕ} {r : ℕ} (s : Source pattern board t table r) where
+  abbrev n : ℕ
+  n = length (board .kinds)
+
+  -- the whole board's table is one of sets
+  pub source-match : MatchTable t table
+  source-match =
+      record {
+        pattern = pattern;
+        board = board;
+        tabled = source-tabled s;
+        long = source-long s;
+        small = λ v. rw (s .whole) (fits-word (s .ready .parts) (last-fits pattern board (everything board)) v);
+      }
+
+  even : length (board .starts) ≡ length (board .ends)
+  even = s .drawn .nodes .parallel
+
+  module _ (c : ℕ) (h : c < length table) where
+    node : c < n
+    node = rw (source-long s) at h
+
+    -- ---- the whole component
+
+    -- matching links are links: so many of them lead no farther than the ball of that radius
+    growing : Growing (length table) c (matched t table) (λ d. inside (ballOf board c d))
+    unfolding source-match ballOf Below
+    growing =
+        record {
+          first = inside-zero n (board .starts) (board .ends) c c .1 (node, refl);
+          grows = λ d v t. inside-grows n (board .starts) (board .ends) c d v t;
+          next =
+              λ d v w m t o.
+              let a = match-adjacency source-match in
+              let low : w < n = rw (source-long s) at (subst (λ (x : ℕ). x < length table) (o .2) (a .inside v m (o .0) (o .1))) in
+              let link = a .joined v w m .0 o in
+              inside-suc n (board .starts) (board .ends) c d w .1
+              (low, inr (v, ⊎-elim (λ l. inr (match-kept pattern board table v w .0 l .0)) (λ l. inl (match-kept pattern board table w v .0 l .0)) link, t));
+        }
+
+    module _ {labels sizes dist : List ℕ} (k : Components (length table) (matched t table) table labels sizes) (f : getD table c 0 ≡ 0 → ⊥)
+        (g : Covered (length table) c (matched t table) r (getD sizes (getD labels c 0) 0) dist) where
+      spread : Spread n c (matched t table) dist
+      spread = rw (← source-long s) (covered-spread h (match-adjacency source-match .inside) (k .labelled c h f .component) g)
+
+      held : (v : ℕ) → v < n → Reached dist v → T (inside (ballOf board c r) v)
+      held v m q = g .steps v (rw (source-long s) m) q (λ d. inside (ballOf board c d)) growing
+
+      pub held-found : found pattern board c r ≡ true
+      held-found = whole-found (source-tabled s) even r node (s .whole) spread held f
+
+      pub held-located : Located pattern board t c r dist table (g .nodes)
+      held-located = whole-located (source-tabled s) even r node (s .whole) spread held (g .nodes) (g .lists)
+
+    -- ---- the ball's nodes in the component
+
+    module _ {labels : List ℕ} (l : CentreLabelled t table labels c) {k : ℕ} {dist queue : List ℕ}
+        (searched : Searched k dist queue (bfs (adjacent (t .offsets) (t .links)) n c r)) where
+      abbrev test : ℕ → Bool
+      test v = eqb (getD labels v 0) (getD labels c 0)
+
+      abbrev kept : List ℕ
+      kept = having test (take k queue)
+
+      occurs-taken : (nodes : List ℕ) (v : ℕ) → v < n → Occurs nodes v → Taken board (marksOf n nodes) v
+      unfolding listed
+      occurs-taken nodes v m (i, b, e) =
+          record { below = m; marked = rw (inside-marks n nodes v m) (at-any (λ w. eqb w v) nodes i b (true-T (eq-eqb _ _ e))) }
+
+      taken-occurs : (nodes : List ℕ) (v : ℕ) → Taken board (marksOf n nodes) v → Occurs nodes v
+      unfolding listed
+      taken-occurs nodes v m =
+          let (i, b, e) = any-at (λ w. eqb w v) nodes (subst T (inside-marks n nodes v (m .below)) (m .marked)) in
+          (i, b, eqb→eq _ _ e)
+
+      ball : marksOf n (take k queue) ≡ ballOf board c r
+      ball = ball-marks (source-tabled s) c r node searched
+
+      within : (v : ℕ) → Taken board (marksOf n kept) v → Taken board (ballOf board c r) v
+      within v m =
+          subst (λ (row : List ℕ). Taken board row v) ball
+          (occurs-taken (take k queue) v (m .below) (having-from test (take k queue) v (taken-occurs kept v m) .0))
+
+      keeps : (v : ℕ) → Taken board (ballOf board c r) v → Reached (l .comp) v → Taken board (marksOf n kept) v
+      keeps v m q =
+          occurs-taken kept v (m .below)
+          (having-to test (take k queue) v (taken-occurs (take k queue) v (subst (λ (row : List ℕ). Taken board row v) (sym ball) m))
+          (true-T (eq-eqb _ _ (l .same v (rw (source-long s) (m .below)) q))))
+
+      pub cut-sought : {nodes first : List ℕ} {m count : ℕ} → nodes ≡ kept → m ≡ length table → Written m (λ v. getD table v 0) nodes first count
+          → Sought pattern board t c r nodes first
+      cut-sought {nodes} {first} e q w =
+          record {
+            tabled = source-tabled s;
+            centre = node;
+            list = rw e (having-list test (ball-list (source-tabled s) c r node searched));
+            seen = rw e (cut-seen (source-tabled s) c r node {comp = l .comp} even (s .whole) (rw (← source-long s) (l .spread)) (marksOf n kept) within keeps);
+            begins = copied-begins pattern board nodes (q ∙ source-long s) (s .drawn .parts .nodes) (everything board) (λ v m _. everything-taken board v m) (s .whole) w;
+          }
