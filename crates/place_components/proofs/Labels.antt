@@ -143,6 +143,14 @@ module _ {n : ℕ} {adj : ℕ → List ℕ} where
           let old = g .labelled v m r in
           r (sym (old .same f h (spread-same (spread-from a s v m q) (old .component .spread) f h (s .centre))) ∙ fresh)
 
+      -- no other node has its number for a label
+      strange : (v : ℕ) → v < n → getD dist v 0 ≡ far → getD labels′ v 0 ≡ f → ⊥
+      strange v m z e =
+          ⊎-elim
+          (λ q. let b = g .named v m q in let o = outside v m (λ a. a z) in omega arith)
+          (λ q. let o = outside v m (λ a. a z) in omega arith)
+          (reached-or-not labels v)
+
       named-here : (v : ℕ) → v < n → Reached dist v → Labelled n adj labels′ sizes′ v
       named-here v m r =
           record {
@@ -155,6 +163,7 @@ module _ {n : ℕ} {adj : ℕ → List ℕ} where
                   count = sym (ap (λ (x : ℕ). getD sizes′ x 0) (inside v m r) ∙ getD-set-same sizes f (length nodes) 0 (rw (g .sized) h));
                 };
             same = λ w k q. inside w k q ∙ sym (inside v m r);
+            only = λ w k q. ⊎-elim (λ a. a) (λ z. absurd (strange w k z (q ∙ inside v m r))) (reached-or-not dist w);
           }
 
       named-before : (v : ℕ) → v < n → Reached labels v → Labelled n adj labels′ sizes′ v
@@ -177,6 +186,12 @@ module _ {n : ℕ} {adj : ℕ → List ℕ} where
                 λ w k q.
                 let e : getD labels w 0 ≡ getD labels v 0 = old .same w k q in
                 outside w k (apart w k (λ z. r (sym e ∙ z))) ∙ e ∙ sym kept;
+            only =
+                λ w k q.
+                ⊎-elim
+                (λ a. absurd (let e = inside w k a in omega arith))
+                (λ z. old .only w k (sym (outside w k (λ a. a z)) ∙ q ∙ kept))
+                (reached-or-not dist w);
           }
 
       pub labelling-next : Labelling n adj sets (f + 1) labels′ sizes′

@@ -33,12 +33,13 @@ pub record Component (n c : ℕ) (adj : ℕ → List ℕ) (size : ℕ) (comp nod
   pub lists : Lists nodes comp
   pub count : length nodes ≡ size
 
--- Node v has the label of its component: all of that have it, and under it stands how many they are.
+-- Node v has the label of its component: that has all nodes with the label and no others, and under the label stands how many they are.
 pub record Labelled (n : ℕ) (adj : ℕ → List ℕ) (labels sizes : List ℕ) (v : ℕ) : Type 0 where
   pub comp : List ℕ
   pub nodes : List ℕ
   pub component : Component n v adj (getD sizes (getD labels v 0) 0) comp nodes
   pub same : (w : ℕ) → w < n → Reached comp w → getD labels w 0 ≡ getD labels v 0
+  pub only : (w : ℕ) → w < n → getD labels w 0 ≡ getD labels v 0 → Reached comp w
 
 -- The nodes before f whose sets are not empty have labels, and each node that has one has that of its component, which is a node before f.
 pub record Labelling (n : ℕ) (adj : ℕ → List ℕ) (sets : List ℕ) (f : ℕ) (labels sizes : List ℕ) : Type 0 where

@@ -17,6 +17,9 @@ ghost use Rattle.table.specs.Prepared.{tables, Ready};
 ghost use Rattle.place.specs.Spread.{matched};
 ghost use Rattle.place_components.specs.Components.{having, MatchTable, Labelling, Components, Covered};
 
+// Components of at most so many nodes are searched along their matching links, and not along all links of the board.
+const FEW: usize = 64;
+
 // Sets the entry of each node of a list to x.
 fn label(nodes: &[u16], x: u16, labels: &mut [u16])
     requires { ⌜ Below (length (now labels)) (now nodes) ⌝ }
@@ -107,7 +110,7 @@ fn goes_on(tail: usize, size: usize, d: u16, r: u16) -> bool
 // Whether at most r matching links lead from c to each of the `size` nodes of its component. Then `dist` has an entry for each node, `UNREACHED` where
 // it is not in the component. The search stops as soon as it has them all. `queue` is scratch: `hi` of its nodes are at most d links away, and i have been
 // looked from.
-pub fn covers(
+fn covers(
     masks: &[u32],
     offsets: &[u16],
     links: &[u16],
@@ -142,6 +145,29 @@ pub fn covers(
         }
     }
     tail == size
+}
+
+// The same, for a component of few nodes; for a larger one the board's links are searched as soon.
+pub fn covers_few(
+    masks: &[u32],
+    offsets: &[u16],
+    links: &[u16],
+    sets: &[u32],
+    c: u16,
+    r: u16,
+    size: usize,
+    dist: &mut [u16],
+    queue: &mut [u16],
+) -> bool
+    requires { ⌜ Ready (tables (now masks) (now offsets) (now links)) (now sets) ⌝ }
+    requires { ⌜ c < length (now dist) ⌝ }
+    requires { ⌜ (length (now sets) ≡ length (now dist)) × (length (now dist) ≡ length (now queue)) ⌝ }
+    ensures { λ b. ⌜ ((b ≡ true) → Covered (length (now (dist .entry))) c (matched (tables (now (masks .entry)) (now (offsets .entry)) (now (links .entry))) (now (sets .entry))) r size (now (dist .exit))) ⌝ }
+{
+    if FEW < size {
+        return false;
+    }
+    covers(masks, offsets, links, sets, c, r, size, dist, queue)
 }
 
 // One more, where the label is x.

@@ -5,6 +5,7 @@ use mathlib.Core.List.{List}
 use mathlib.Core.Logic.{inl, inr, ⊎-elim}
 use mathlib.Core.Path.{_≡_, refl, sym, ap, subst, _∙_}
 use Prim.Native.Nat.{ℕ, _^_, _≤_, _<_}
+use native.Mathlib.Omega.{arith}
 use borrow.Author.Tests.{eq-eqb}
 use lib.Dec.{T, eqb, eqb→eq}
 use lib.ListN.{length, getD, take}
@@ -15,7 +16,7 @@ use Rattle.graph.specs.Bfs.{bfs, adjacent, Found as Searched}
 use Rattle.graph.specs.Circuit.{Circuit}
 use Rattle.graph.specs.Search.{inside}
 use Rattle.graph.proofs.Ball.{inside-zero, inside-suc, inside-grows}
-use Rattle.table.specs.Fill.{listed, marksOf}
+use Rattle.table.specs.Fill.{listed, marksOf, NodeList}
 use Rattle.table.specs.First.{Written}
 use Rattle.table.specs.Host.{Taken, everything}
 use Rattle.table.specs.Prepared.{Tables}
@@ -23,16 +24,17 @@ use Rattle.table.proofs.Begun.{copied-begins}
 use Rattle.table.proofs.Host.{everything-taken}
 use Rattle.table.proofs.Meaning.{last-fits}
 use Rattle.table.proofs.Sets.{fits-word}
+use Rattle.place.specs.declared.Around.{Around}
 use Rattle.place.specs.Match.{ballOf, found}
 use Rattle.place.specs.Find.{Sought, Located}
 use Rattle.place.specs.Spread.{matched, Reached, Spread, Lists}
 use Rattle.place.proofs.Find.{ball-list, ball-marks, whole-located, whole-found, cut-seen}
 use Rattle.place.proofs.Links.{match-kept}
-use Rattle.place_components.specs.Components.{having, MatchTable, Labelled, Components, Growing, Covered}
-use Rattle.place_components.proofs.Lists.{having-from, having-to, having-list}
-use Rattle.place_components.proofs.Labels.{match-adjacency}
+use Rattle.place_components.specs.Components.{having, MatchTable, Growing, Covered}
+use Rattle.place_components.proofs.Lists.{all-within, having-from, having-to, having-list}
+use Rattle.place_components.proofs.Labels.{match-adjacency, spread-same}
 use Rattle.place_components.proofs.Covering.{covered-spread}
-use Rattle.report_centres.specs.Pieces.{Source, CentreLabelled}
+use Rattle.report_centres.specs.Pieces.{Source, CentreLabelled, Cut}
 use Rattle.report_centres.proofs.Centre.{source-tabled, source-long}
 
 -- a node is marked where it is listed
@@ -84,23 +86,29 @@ module _ {pattern board : Circuit} {t : Tables} {table : List ℕ} {r : ℕ} (s 
               (low, inr (v, ⊎-elim (λ l. inr (match-kept pattern board table v w .0 l .0)) (λ l. inl (match-kept pattern board table w v .0 l .0)) link, t));
         }
 
-    module _ {labels sizes dist : List ℕ} (k : Components (length table) (matched t table) table labels sizes) (f : getD table c 0 ≡ 0 → ⊥)
-        (g : Covered (length table) c (matched t table) r (getD sizes (getD labels c 0) 0) dist) where
-      spread : Spread n c (matched t table) dist
-      spread = rw (← source-long s) (covered-spread h (match-adjacency source-match .inside) (k .labelled c h f .component) g)
+    -- the component is reached in r steps: the ball holds it
+    pub covered-held : {labels dist : List ℕ} {size : ℕ} → CentreLabelled t table labels size c → Covered (length table) c (matched t table) r size dist
+        → (comp : List ℕ) → Spread (length table) c (matched t table) comp → (v : ℕ) → v < n → Reached comp v → T (inside (ballOf board c r) v)
+    covered-held l g comp k v m q =
+        let h′ : v < length table = rw (source-long s) m in
+        g .steps v h′ (spread-same k (covered-spread h (match-adjacency source-match .inside) (l .component) g) v h′ q) (λ d. inside (ballOf board c d)) growing
 
-      held : (v : ℕ) → v < n → Reached dist v → T (inside (ballOf board c r) v)
-      held v m q = g .steps v (rw (source-long s) m) q (λ d. inside (ballOf board c d)) growing
+    -- ---- where the ball holds it
+
+    module _ {dist : List ℕ} (k : Spread (length table) c (matched t table) dist) (f : getD table c 0 ≡ 0 → ⊥)
+        (held : (v : ℕ) → v < n → Reached dist v → T (inside (ballOf board c r) v)) where
+      spread : Spread n c (matched t table) dist
+      spread = rw (← source-long s) k
 
       pub held-found : found pattern board c r ≡ true
       held-found = whole-found (source-tabled s) even r node (s .whole) spread held f
 
-      pub held-located : Located pattern board t c r dist table (g .nodes)
-      held-located = whole-located (source-tabled s) even r node (s .whole) spread held (g .nodes) (g .lists)
+      pub held-located : (nodes : List ℕ) → Lists nodes dist → Located pattern board t c r dist table nodes
+      held-located = whole-located (source-tabled s) even r node (s .whole) spread held
 
     -- ---- the ball's nodes in the component
 
-    module _ {labels : List ℕ} (l : CentreLabelled t table labels c) {k : ℕ} {dist queue : List ℕ}
+    module _ {labels : List ℕ} {size : ℕ} (l : CentreLabelled t table labels size c) {k : ℕ} {dist queue : List ℕ}
         (searched : Searched k dist queue (bfs (adjacent (t .offsets) (t .links)) n c r)) where
       abbrev test : ℕ → Bool
       test v = eqb (getD labels v 0) (getD labels c 0)
@@ -122,6 +130,9 @@ module _ {pattern board : Circuit} {t : Tables} {table : List ℕ} {r : ℕ} (s 
       ball : marksOf n (take k queue) ≡ ballOf board c r
       ball = ball-marks (source-tabled s) c r node searched
 
+      list : NodeList n kept
+      list = having-list test (ball-list (source-tabled s) c r node searched)
+
       within : (v : ℕ) → Taken board (marksOf n kept) v → Taken board (ballOf board c r) v
       within v m =
           subst (λ (row : List ℕ). Taken board row v) ball
@@ -133,13 +144,35 @@ module _ {pattern board : Circuit} {t : Tables} {table : List ℕ} {r : ℕ} (s 
           (having-to test (take k queue) v (taken-occurs (take k queue) v (subst (λ (row : List ℕ). Taken board row v) (sym ball) m))
           (true-T (eq-eqb _ _ (l .same v (rw (source-long s) (m .below)) q))))
 
-      pub cut-sought : {nodes first : List ℕ} {m count : ℕ} → nodes ≡ kept → m ≡ length table → Written m (λ v. getD table v 0) nodes first count
-          → Sought pattern board t c r nodes first
-      cut-sought {nodes} {first} e q w =
+      pub kept-cut : {nodes : List ℕ} → nodes ≡ kept → Cut pattern board t (record { centre = c; radius = r }) nodes
+      kept-cut e =
           record {
-            tabled = source-tabled s;
-            centre = node;
-            list = rw e (having-list test (ball-list (source-tabled s) c r node searched));
-            seen = rw e (cut-seen (source-tabled s) c r node {comp = l .comp} even (s .whole) (rw (← source-long s) (l .spread)) (marksOf n kept) within keeps);
-            begins = copied-begins pattern board nodes (q ∙ source-long s) (s .drawn .parts .nodes) (everything board) (λ v m _. everything-taken board v m) (s .whole) w;
+            list = rw e list;
+            seen = rw e (cut-seen (source-tabled s) c r node {comp = l .comp} even (s .whole) (rw (← source-long s) (l .component .spread)) (marksOf n kept) within keeps);
           }
+
+      -- they are as many as the component has: the ball holds it
+      pub kept-held : length kept ≡ size → (comp : List ℕ) → Spread (length table) c (matched t table) comp
+          → (v : ℕ) → v < n → Reached comp v → T (inside (ballOf board c r) v)
+      unfolding Below
+      kept-held e comp g v m q =
+          let h′ : v < length table = rw (source-long s) m in
+          let here : Occurs (l .nodes) v = l .component .lists .complete v (rw (l .component .spread .size) h′) (spread-same g (l .component .spread) v h′ q) in
+          within v (occurs-taken kept v m (all-within kept (l .nodes) (list .distinct) inner (omega (arith, e, l .component .count)) v here)) .marked
+        where
+          inner : (w : ℕ) → Occurs kept w → Occurs (l .nodes) w
+          inner w o =
+              let low : w < length table = rw (source-long s) (subst (λ (x : ℕ). x < n) (o .2) (list .below (o .0) (o .1))) in
+              l .component .lists .complete w (rw (l .component .spread .size) low) (l .only w low (eqb→eq _ _ (having-from test (take k queue) w o .1)))
+
+  -- the whole board's sets at nodes that the place comes from are a table to begin with
+  pub cut-sought : {around : Around} {nodes first : List ℕ} {m count : ℕ} → Cut pattern board t around nodes → around .centre < length table → m ≡ length table
+      → Written m (λ v. getD table v 0) nodes first count → Sought pattern board t (around .centre) (around .radius) nodes first
+  cut-sought {nodes = nodes} k low q w =
+      record {
+        tabled = source-tabled s;
+        centre = rw (source-long s) at low;
+        list = k .list;
+        seen = k .seen;
+        begins = copied-begins pattern board nodes (q ∙ source-long s) (s .drawn .parts .nodes) (everything board) (λ v m _. everything-taken board v m) (s .whole) w;
+      }

@@ -3,10 +3,10 @@ use base_text::make_names;
 use file_format::Board;
 use graph_search::search;
 use place::Around;
-use place::Found;
 use place_around::find;
+use place_component::component;
 use place_components::components;
-use place_components::covers;
+use place_components::covers_few;
 use place_components::keep;
 use report::lines::put_end;
 use report::lines::put_line;
@@ -15,13 +15,13 @@ ghost use mathlib.Core.Bool.{_&&_, cond};
 ghost use mathlib.Core.Path.{_≡_};
 ghost use Prim.Native.Nat.{_+_, _≤_, _<_};
 ghost use lib.Dec.{eqb, ltb};
-ghost use lib.ListN.{length};
+ghost use lib.ListN.{length, getD, take};
 ghost use Rattle.base_text.specs.Text.{Names};
 ghost use Rattle.table.specs.Prepared.{tables};
 ghost use Rattle.place.specs.Spread.{matched};
 ghost use Rattle.place_components.specs.Components.{Components};
 ghost use Rattle.report.specs.Lines.{longestLine};
-ghost use Rattle.report_centres.specs.Pieces.{roomy, centresPiece, SourceOfSome, CentreLabelled, EveryKnown, EveryLine, EveryWrote, Closed};
+ghost use Rattle.report_centres.specs.Pieces.{roomy, centresPiece, SourceOfSome, CentreLabelled, EveryHeld, EveryCut, Holds, EveryLine, EveryWrote, Closed};
 
 // No line of a report is longer: a buffer has to be as long, and a line is put where so many bytes are left.
 pub const LONGEST: usize = 34829;
@@ -63,33 +63,110 @@ fn counted(count: usize, at: usize, next: usize) -> usize
     count + 1
 }
 
-// Whether there is a place around a centre, from the whole board's table, cut to those nodes of the ball that are in the centre's component on the whole
-// board: what lies outside it supports nothing inside it. Where there is one, `dist` is left with `UNREACHED` outside it, and `sets` with the table of the
-// graph of those nodes. `queue` and `spare` are scratch.
-fn locate(
+// How much of the centre's component on the whole board its ball has: all of it, or else so many nodes, which stand first in a queue.
+struct Held {
+    all: bool,
+    kept: usize,
+}
+
+// Whether the ball around a centre holds the whole of the centre's component, which has `size` nodes. Where it does not, those of its nodes that the ball
+// has stand first in the queue. `dist` is scratch.
+fn holds(
     masks: &[u32],
     offsets: &[u16],
     links: &[u16],
     whole: &[u32],
     labels: &[u16],
+    size: usize,
     around: Around,
     dist: &mut [u16],
     queue: &mut [u16],
-    sets: &mut [u32],
-    spare: &mut [u32],
-) -> Found
+) -> Held
     requires { ⌜ SourceOfSome (tables (now masks) (now offsets) (now links)) (now whole) (around .radius) ⌝ }
-    requires { ⌜ CentreLabelled (tables (now masks) (now offsets) (now links)) (now whole) (now labels) (around .centre) ⌝ }
+    requires { ⌜ CentreLabelled (tables (now masks) (now offsets) (now links)) (now whole) (now labels) size (around .centre) ⌝ }
     requires { ⌜ (length (now dist) ≡ length (now whole)) × (length (now queue) ≡ length (now whole)) ⌝ }
-    requires { ⌜ (length (now sets) ≡ length (now whole)) × (length (now spare) ≡ length (now whole)) ⌝ }
-    ensures { λ a. ⌜ EveryKnown (tables (now (masks .entry)) (now (offsets .entry)) (now (links .entry))) (now (whole .entry)) around (now (dist .exit)) (now (queue .exit)) (now (sets .exit)) a ⌝ }
+    ensures { λ h. ⌜ Holds (tables (now (masks .entry)) (now (offsets .entry)) (now (links .entry))) (now (whole .entry)) around (now (queue .exit)) h ⌝ }
 {
     let c = around.centre;
+    let r = around.radius;
+    if covers_few(masks, offsets, links, whole, c, r, size, dist, queue) {
+        return Held { all: true, kept: 0 };
+    }
     let at = c as usize;
-    let k = search(offsets, links, c, around.radius, dist, queue);
+    let k = search(offsets, links, c, r, dist, queue);
     let kept = keep(labels, labels[at], k, queue);
+    Held {
+        all: kept == size,
+        kept,
+    }
+}
+
+// The line of a centre whose ball holds its component: the place is the component with its matching links. `dist` and `queue` are scratch.
+fn put_whole(
+    names: &[u32],
+    masks: &[u32],
+    offsets: &[u16],
+    links: &[u16],
+    whole: &[u32],
+    around: Around,
+    dist: &mut [u16],
+    queue: &mut [u16],
+    out: &mut [u8],
+    at: usize,
+) -> usize
+    requires { ⌜ SourceOfSome (tables (now masks) (now offsets) (now links)) (now whole) (around .radius) ⌝ }
+    requires { ⌜ (around .centre < length (now whole)) × (getD (now whole) (around .centre) 0 ≡ 0 → ⊥) × EveryHeld (tables (now masks) (now offsets) (now links)) (now whole) around ⌝ }
+    requires { ⌜ (length (now dist) ≡ length (now whole)) × (length (now queue) ≡ length (now whole)) ⌝ }
+    requires { ⌜ Names (now names) × (length (now whole) ≤ length (now names)) ⌝ }
+    requires { ⌜ at + longestLine ≤ length (now out) ⌝ }
+    ensures { λ r. ⌜ EveryLine (tables (now (masks .entry)) (now (offsets .entry)) (now (links .entry))) (now (whole .entry)) around (now (out .entry)) at (now (out .exit)) r ⌝ }
+{
+    let c = around.centre;
+    component(masks, offsets, links, whole, c, dist, queue);
+    put_line(
+        names,
+        masks,
+        offsets,
+        links,
+        dist,
+        whole,
+        c as usize,
+        out,
+        at,
+    )
+}
+
+// The line of a centre whose ball cuts its component, nothing where there is no place around it: what lies outside the component supports nothing inside it,
+// so that striking goes on at the first `kept` nodes of the queue alone, those of the component that the ball has, from the whole board's sets.
+fn put_cut(
+    names: &[u32],
+    masks: &[u32],
+    offsets: &[u16],
+    links: &[u16],
+    whole: &[u32],
+    around: Around,
+    kept: usize,
+    queue: &mut [u16],
+    out: &mut [u8],
+    at: usize,
+) -> usize
+    requires { ⌜ SourceOfSome (tables (now masks) (now offsets) (now links)) (now whole) (around .radius) ⌝ }
+    requires { ⌜ (around .centre < length (now whole)) × (kept ≤ length (now queue)) × EveryCut (tables (now masks) (now offsets) (now links)) (now whole) around (take kept (now queue)) ⌝ }
+    requires { ⌜ length (now queue) ≡ length (now whole) ⌝ }
+    requires { ⌜ Names (now names) × (length (now whole) ≤ length (now names)) ⌝ }
+    requires { ⌜ at + longestLine ≤ length (now out) ⌝ }
+    ensures { λ r. ⌜ EveryLine (tables (now (masks .entry)) (now (offsets .entry)) (now (links .entry))) (now (whole .entry)) around (now (out .entry)) at (now (out .exit)) r ⌝ }
+{
+    let mut distances = [0u16; Board::MAX_NODES];
+    let mut first = [0u32; Board::MAX_NODES];
+    let mut other = [0u32; Board::MAX_NODES];
+    let n = whole.len();
+    let dist = &mut distances[..n];
+    let sets = &mut first[..n];
+    let spare = &mut other[..n];
+    let c = around.centre;
     let started = copy(&queue[..kept], whole, sets);
-    find(
+    let place = find(
         masks,
         offsets,
         links,
@@ -100,58 +177,25 @@ fn locate(
         queue,
         sets,
         spare,
-    )
-}
-
-// A centre's line, nothing where there is no place around it, where the ball may cut the centre's component.
-fn put_cut(
-    names: &[u32],
-    masks: &[u32],
-    offsets: &[u16],
-    links: &[u16],
-    whole: &[u32],
-    labels: &[u16],
-    around: Around,
-    out: &mut [u8],
-    at: usize,
-) -> usize
-    requires { ⌜ SourceOfSome (tables (now masks) (now offsets) (now links)) (now whole) (around .radius) ⌝ }
-    requires { ⌜ CentreLabelled (tables (now masks) (now offsets) (now links)) (now whole) (now labels) (around .centre) ⌝ }
-    requires { ⌜ Names (now names) × (length (now whole) ≤ length (now names)) ⌝ }
-    requires { ⌜ at + longestLine ≤ length (now out) ⌝ }
-    ensures { λ r. ⌜ EveryLine (tables (now (masks .entry)) (now (offsets .entry)) (now (links .entry))) (now (whole .entry)) around (now (out .entry)) at (now (out .exit)) r ⌝ }
-{
-    let c = around.centre as usize;
-    let mut distances = [0u16; Board::MAX_NODES];
-    let mut nodes = [0u16; Board::MAX_NODES];
-    let mut first = [0u32; Board::MAX_NODES];
-    let mut other = [0u32; Board::MAX_NODES];
-    let n = whole.len();
-    let dist = &mut distances[..n];
-    let queue = &mut nodes[..n];
-    let sets = &mut first[..n];
-    let spare = &mut other[..n];
-    let place = locate(
-        masks,
-        offsets,
-        links,
-        whole,
-        labels,
-        around,
-        dist,
-        queue,
-        sets,
-        spare,
     );
     let there = place.found;
     if !there {
         return at;
     }
-    put_line(names, masks, offsets, links, dist, sets, c, out, at)
+    put_line(
+        names,
+        masks,
+        offsets,
+        links,
+        dist,
+        sets,
+        c as usize,
+        out,
+        at,
+    )
 }
 
-// A centre's line, nothing where there is no place around it. A centre that the whole board's table leaves empty has none. Where matching links lead to the
-// whole of its component in r steps, the ball holds that, and the place is the component with its matching links.
+// A centre's line, nothing where there is no place around it. A centre that the whole board's table leaves empty has none.
 fn put_centre(
     names: &[u32],
     masks: &[u32],
@@ -182,21 +226,43 @@ fn put_centre(
     let n = whole.len();
     let dist = &mut distances[..n];
     let queue = &mut nodes[..n];
-    let held = covers(
+    let ball = holds(
         masks,
         offsets,
         links,
         whole,
-        around.centre,
-        around.radius,
+        labels,
         size,
+        around,
         dist,
         queue,
     );
-    if held {
-        return put_line(names, masks, offsets, links, dist, whole, c, out, at);
+    if ball.all {
+        return put_whole(
+            names,
+            masks,
+            offsets,
+            links,
+            whole,
+            around,
+            dist,
+            queue,
+            out,
+            at,
+        );
     }
-    put_cut(names, masks, offsets, links, whole, labels, around, out, at)
+    put_cut(
+        names,
+        masks,
+        offsets,
+        links,
+        whole,
+        around,
+        ball.kept,
+        queue,
+        out,
+        at,
+    )
 }
 
 // The lines of the centres from `from` on, before which `found` centres had a place, as long as there is room for the longest line.

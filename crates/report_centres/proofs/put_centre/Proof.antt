@@ -1,5 +1,5 @@
--- `report_centres::put_centre` meets its contract: nothing where the whole board's table leaves the centre empty; the line of the whole component where
--- matching links lead to all of it in r steps; else what the ball leaves of it. Assumes nothing.
+-- `report_centres::put_centre` meets its contract: nothing where the whole board's table leaves the centre empty; the line of the component where the ball
+-- holds it; else what the ball leaves of it. Assumes nothing.
 use denote.Ref.{now}
 use mathlib.Core.Bool.{true}
 use mathlib.Core.Path.{_≡_, refl, sym, _∙_}
@@ -81,62 +81,49 @@ array-borrow-prefix-nodes c = few (c .before .before .before)
 slice-aggregate-queue : tie.Need-slice-aggregate-queue
 slice-aggregate-queue c = sym (length-take-le _ _ (few (c .before .before .before .before)))
 
-covers-requires : tie.Need-covers-requires
-covers-requires c κs =
-    let here = c .before .before .before .before .before in
+holds-requires : tie.Need-holds-requires
+holds-requires c κs =
+    let here = c .before .before .before .before .before .before in
     let p = start here .pre in
-    let h = few here in
-    (match-ready (source-match (p .0 .source)), (rw (length-take-le _ _ h) (p .1 .1 .0), (sym (length-take-le _ _ h), refl)))
+    let k = labelled here in
+    let h = few here in (
+      p .0,
+      (
+        record { low = p .1 .1 .0; long = p .1 .0 .long; comp = k .comp; nodes = k .nodes; component = k .component; same = k .same; only = k .only },
+        (length-take-le _ _ h, length-take-le _ _ h),
+      ),
+    )
 
--- ---- whether its component is within r matching links is known
+-- ---- whether the ball holds the component is known
 
-abbrev there : tie.After-covers → tie.Else1
-there c = c .before .before .before .before .before .before
+abbrev there : tie.After-holds → tie.Else1
+there c = c .before .before .before .before .before .before .before
 
-covered : (c : tie.After-covers) → c .covers .result ≡ true → let a = start (there c) .args in
-    Covered (length (now (a .whole))) (a .around .centre) (matched (tables (now (a .masks)) (now (a .offsets)) (now (a .links))) (now (a .whole))) (a .around .radius)
-    (getD (now (a .sizes)) (label (there c)) 0) (c .covers .last .1 .1 .1 .1 .1 .1 .1 .0)
-covered c e = rw (length-take-le _ _ (few (there c))) at (c .covers .ensures e)
+long : (c : tie.After-holds) → let w = length (now (start (there c) .args .whole)) in
+    (length (c .holds .last .1 .1 .1 .1 .1 .1 .1 .0) ≡ w) × (length (c .holds .last .1 .1 .1 .1 .1 .1 .1 .1 .0) ≡ w)
+long c =
+    let h = few (there c) in
+    (c .holds .kept .1 .1 .1 .1 .1 .1 .1 .0 ∙ length-take-le _ _ h, c .holds .kept .1 .1 .1 .1 .1 .1 .1 .1 .0 ∙ length-take-le _ _ h)
 
-put-line-requires : tie.Need-put-line-requires
-put-line-requires c κs =
+put-whole-requires : tie.Need-put-whole-requires
+put-whole-requires c κs =
     let known = c .before .before .before .before .before .before in
     let here = there known in
     let p = start here .pre in
-    let source = p .0 .source in
-    let g = covered known (c .before .before .if2 .taken) in
-    let l = held-located source _ (p .1 .1 .0) (p .1 .0) (here .if1 .left) g in
-    let e = held-found source _ (p .1 .1 .0) (p .1 .0) (here .if1 .left) g in
-    let names = p .1 .1 .1 .0 in (
-      (names .0, omega (arith, names .1, l .size, source-long source)),
-      (
-        l .long ∙ sym (l .size),
-        (
-          l .ready,
-          fits-same (sym (source-line source _ true (sym e) refl l)) (centre-fits _ _ _ (source .drawn .nodes) (rw (source-long source) at (p .1 .1 .0)) (p .1 .1 .1 .1)),
-        ),
-      ),
-    )
+    (p .0, ((p .1 .1 .0, here .if1 .left, known .holds .ensures .whole (c .before .if2 .taken)), (long known, p .1 .1 .1)))
 
 same-length : tie.Need-same-length
 same-length c = search needs
 
 returns-2 : tie.Need-returns-2
-returns-2 c pattern board s =
-    let known = c .before .before .before .before .before .before .before .before .before .before in
-    let here = there known in
-    let p = start here .pre in
-    let g = covered known (c .before .before .before .before .before .before .if2 .taken) in
-    put-same
-    (source-line s _ true (sym (held-found s _ (p .1 .1 .0) (p .1 .0) (here .if1 .left) g)) refl (held-located s _ (p .1 .1 .0) (p .1 .0) (here .if1 .left) g))
-    (c .before .before .before .put-line .ensures)
+returns-2 c = search needs
 
 put-cut-requires : tie.Need-put-cut-requires
 put-cut-requires c κs =
-    let here = there (c .before .before .before .before .before .before) in
-    let p = start here .pre in
-    let k = labelled here in
-    (p .0, (record { low = p .1 .1 .0; long = p .1 .0 .long; comp = k .comp; spread = k .component .spread; same = k .same }, p .1 .1 .1))
+    let known = c .before .before .before .before .before .before .before in
+    let p = start (there known) .pre in
+    let e = c .before .before .if2 .left in
+    (p .0, ((p .1 .1 .0, known .holds .ensures .short e, known .holds .ensures .cut e), (long known .1, p .1 .1 .1)))
 
 same-length-2 : tie.Need-same-length-2
 same-length-2 c = search needs
@@ -162,8 +149,8 @@ put-centre-spec =
     slice-aggregate-dist
     array-borrow-prefix-nodes
     slice-aggregate-queue
-    covers-requires
-    put-line-requires
+    holds-requires
+    put-whole-requires
     same-length
     returns-2
     put-cut-requires
