@@ -11,13 +11,13 @@ use borrow.Author.Tests.{eq-eqb, ne-eqb, eqb-true, eqb-false}
 use lib.Dec.{T, eqb, eqb→eq}
 use lib.ListN.{length, getD, set, replicate, length-set, length-replicate, getD-replicate}
 use lib.Seq.{getD-set-same, getD-set-other}
-use Rattle.base_lists.specs.List.{Occurs}
+use Rattle.base_lists.specs.List.{Occurs, Below}
 use Rattle.base_lists.proofs.Tests.{true-T, any-at, at-any}
 use Rattle.graph.specs.Bfs.{Adjacency}
 use Rattle.graph.specs.Circuit.{HasLink}
 use Rattle.graph.specs.Search.{far}
 use Rattle.graph.proofs.Net.{net-of}
-use Rattle.table.specs.Fill.{listed, fillAt}
+use Rattle.table.specs.Fill.{listed, fillAt, NodeList}
 use Rattle.table.specs.Prepared.{Tables, Ready}
 use Rattle.table.proofs.StrikeFill.{length-fill, getD-fill}
 use Rattle.place.specs.Match.{matchStarts, matchEnds}
@@ -56,6 +56,48 @@ pub spread-same : {n c : ℕ} {adj : ℕ → List ℕ} {dist other : List ℕ} �
 spread-same {c = c} {other = other} g h v l r =
     near-is other v
     (g .least (near other) (is-near other c (h .centre)) (λ x y m t o. is-near other y (h .closed x y m (near-is other x t) o)) v l r)
+
+-- what reaches the same nodes as a search is one
+pub spread-respect : {n c : ℕ} {adj : ℕ → List ℕ} {dist other : List ℕ} → c < n → ((v : ℕ) → v < n → Below n (adj v)) → Spread n c adj dist → length other ≡ n
+    → ((v : ℕ) → v < n → Reached dist v → Reached other v) → ((v : ℕ) → v < n → Reached other v → Reached dist v) → Spread n c adj other
+unfolding Below
+spread-respect {n} {c} {adj} h below g e into back =
+    record {
+      size = e;
+      centre = into c h (g .centre);
+      closed = λ v w m r o. into w (subst (λ (x : ℕ). x < n) (o .2) (below v m (o .0) (o .1))) (g .closed v w m (back v m r) o);
+      least = λ p t k v m r. g .least p t k v m (back v m r);
+    }
+
+-- a table with an entry at each node of a list, and `far` elsewhere, is what a search leaves that has reached those nodes
+pub marked-lists : {n : ℕ} {nodes : List ℕ} → NodeList n nodes → (length (fillAt (λ v. 0) nodes (replicate n far)) ≡ n) × Lists nodes (fillAt (λ v. 0) nodes (replicate n far))
+unfolding listed Below
+marked-lists {n} {nodes} l = (long, record { list = rw long l; near = near-at; complete = at-near })
+  where
+    long : length (fillAt (λ v. 0) nodes (replicate n far)) ≡ n
+    long = length-fill (λ v. 0) nodes (replicate n far) ∙ length-replicate n far
+
+    entry : (v : ℕ) → v < n → getD (fillAt (λ v. 0) nodes (replicate n far)) v 0 ≡ cond (listed nodes v) 0 far
+    entry v m = getD-fill (λ v. 0) nodes (replicate n far) v (rw (length-replicate n far) m) ∙ ap (λ (x : ℕ). cond (listed nodes v) 0 x) (getD-replicate n v far 0 m)
+
+    chosen : (b : Bool) → T b → cond b 0 far ≡ far → ⊥
+    chosen true t q = omega arith
+    chosen false t q = t
+
+    left : (b : Bool) → (cond b 0 far ≡ far → ⊥) → T b
+    left true f = tt
+    left false f = absurd (f refl)
+
+    near-at : (v : ℕ) → Occurs nodes v → Reached (fillAt (λ v. 0) nodes (replicate n far)) v
+    near-at v (i, b, e) q =
+        let m : v < n = subst (λ (x : ℕ). x < n) e (l .below i b) in
+        chosen (listed nodes v) (at-any (λ w. eqb w v) nodes i b (true-T (eq-eqb _ _ e))) (sym (entry v m) ∙ q)
+
+    at-near : (v : ℕ) → v < length (fillAt (λ v. 0) nodes (replicate n far)) → Reached (fillAt (λ v. 0) nodes (replicate n far)) v → Occurs nodes v
+    at-near v m r =
+        let low : v < n = rw long at m in
+        let (i, b, e) = any-at (λ w. eqb w v) nodes (left (listed nodes v) (λ q. r (entry v low ∙ q))) in
+        (i, b, eqb→eq _ _ e)
 
 pub reached-or-not : (dist : List ℕ) (v : ℕ) → Reached dist v ⊎ (getD dist v 0 ≡ far)
 reached-or-not dist v = go (eqb (getD dist v 0) far) refl

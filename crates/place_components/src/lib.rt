@@ -21,7 +21,7 @@ ghost use Rattle.place_components.specs.Components.{having, MatchTable, 
 const FEW: usize = 64;
 
 // Sets the entry of each node of a list to x.
-fn label(nodes: &[u16], x: u16, labels: &mut [u16])
+pub fn label(nodes: &[u16], x: u16, labels: &mut [u16])
     requires { ⌜ Below (length (now labels)) (now nodes) ⌝ }
     ensures { λ _. ⌜ now (labels .exit) ≡ fillAt (λ v. x) (now (nodes .entry)) (now (labels .entry)) ⌝ }
 {

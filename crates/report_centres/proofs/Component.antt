@@ -8,15 +8,15 @@ use Prim.Native.Nat.{ℕ, _^_, _≤_, _<_}
 use native.Mathlib.Omega.{arith}
 use borrow.Author.Tests.{eq-eqb}
 use lib.Dec.{T, eqb, eqb→eq}
-use lib.ListN.{length, getD, take}
+use lib.ListN.{length, getD, take, replicate}
 use Rattle.base_lists.specs.List.{Occurs, Below}
 use Rattle.base_lists.proofs.Tests.{true-T, any-at, at-any}
 use Rattle.base_lists.proofs.Tables.{getD-tabulate}
 use Rattle.graph.specs.Bfs.{bfs, adjacent, Found as Searched}
 use Rattle.graph.specs.Circuit.{Circuit}
-use Rattle.graph.specs.Search.{inside}
+use Rattle.graph.specs.Search.{far, inside}
 use Rattle.graph.proofs.Ball.{inside-zero, inside-suc, inside-grows}
-use Rattle.table.specs.Fill.{listed, marksOf, NodeList}
+use Rattle.table.specs.Fill.{listed, marksOf, NodeList, fillAt}
 use Rattle.table.specs.First.{Written}
 use Rattle.table.specs.Host.{Taken, everything}
 use Rattle.table.specs.Prepared.{Tables}
@@ -32,7 +32,7 @@ use Rattle.place.proofs.Find.{ball-list, ball-marks, whole-located, whole-found
 use Rattle.place.proofs.Links.{match-kept}
 use Rattle.place_components.specs.Components.{having, MatchTable, Growing, Covered}
 use Rattle.place_components.proofs.Lists.{all-within, having-from, having-to, having-list}
-use Rattle.place_components.proofs.Labels.{match-adjacency, spread-same}
+use Rattle.place_components.proofs.Labels.{match-adjacency, spread-same, spread-respect, marked-lists}
 use Rattle.place_components.proofs.Covering.{covered-spread}
 use Rattle.report_centres.specs.Pieces.{Source, CentreLabelled, Cut}
 use Rattle.report_centres.proofs.Centre.{source-tabled, source-long}
@@ -151,19 +151,39 @@ module _ {pattern board : Circuit} {t : Tables} {table : List ℕ} {r : ℕ} (s 
             seen = rw e (cut-seen (source-tabled s) c r node {comp = l .comp} even (s .whole) (rw (← source-long s) (l .component .spread)) (marksOf n kept) within keeps);
           }
 
-      -- they are as many as the component has: the ball holds it
-      pub kept-held : length kept ≡ size → (comp : List ℕ) → Spread (length table) c (matched t table) comp
-          → (v : ℕ) → v < n → Reached comp v → T (inside (ballOf board c r) v)
-      unfolding Below
-      kept-held e comp g v m q =
-          let h′ : v < length table = rw (source-long s) m in
-          let here : Occurs (l .nodes) v = l .component .lists .complete v (rw (l .component .spread .size) h′) (spread-same g (l .component .spread) v h′ q) in
-          within v (occurs-taken kept v m (all-within kept (l .nodes) (list .distinct) inner (omega (arith, e, l .component .count)) v here)) .marked
-        where
-          inner : (w : ℕ) → Occurs kept w → Occurs (l .nodes) w
-          inner w o =
-              let low : w < length table = rw (source-long s) (subst (λ (x : ℕ). x < n) (o .2) (list .below (o .0) (o .1))) in
-              l .component .lists .complete w (rw (l .component .spread .size) low) (l .only w low (eqb→eq _ _ (having-from test (take k queue) w o .1)))
+      -- they are as many as the component has:
+      module _ (all : length kept ≡ size) where
+        table-list : NodeList (length table) kept
+        table-list = rw (source-long s) list
+
+        only : (w : ℕ) → w < length table → Occurs kept w → Reached (l .comp) w
+        only w m o = l .only w m (eqb→eq _ _ (having-from test (take k queue) w o .1))
+
+        member : (v : ℕ) → v < length table → Reached (l .comp) v → Occurs kept v
+        unfolding Below
+        member v m q =
+            all-within kept (l .nodes) (list .distinct)
+            (λ w o.
+            let low : w < length table = subst (λ (x : ℕ). x < length table) (o .2) (table-list .below (o .0) (o .1)) in
+            l .component .lists .complete w (rw (l .component .spread .size) low) (only w low o))
+            (omega (arith, all, l .component .count)) v (l .component .lists .complete v (rw (l .component .spread .size) m) q)
+
+        -- the ball holds it,
+        pub kept-held : (comp : List ℕ) → Spread (length table) c (matched t table) comp → (v : ℕ) → v < n → Reached comp v → T (inside (ballOf board c r) v)
+        kept-held comp g v m q =
+            let h′ : v < length table = rw (source-long s) m in
+            within v (occurs-taken kept v m (member v h′ (spread-same g (l .component .spread) v h′ q))) .marked
+
+        -- and their marks are its entries
+        pub kept-lists : Lists kept (fillAt (λ v. 0) kept (replicate (length table) far))
+        kept-lists = marked-lists table-list .1
+
+        pub kept-spread : Spread (length table) c (matched t table) (fillAt (λ v. 0) kept (replicate (length table) far))
+        kept-spread =
+            let (long, marks) = marked-lists table-list in
+            spread-respect h (match-adjacency source-match .inside) (l .component .spread) long
+            (λ v m q. marks .near v (member v m q))
+            (λ v m q. only v m (marks .complete v (rw long m) q))
 
   -- the whole board's sets at nodes that the place comes from are a table to begin with
   pub cut-sought : {around : Around} {nodes first : List ℕ} {m count : ℕ} → Cut pattern board t around nodes → around .centre < length table → m ≡ length table

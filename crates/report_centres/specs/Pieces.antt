@@ -16,9 +16,9 @@ use Rattle.table.specs.Host.{everything}
 use Rattle.table.specs.Row.{lastTable}
 use Rattle.table.specs.Prepared.{Tables, Prepared}
 use Rattle.place.specs.declared.Around.{Around}
-use Rattle.place.specs.Find.{Seen}
-use Rattle.place.specs.Match.{radiusOf, ballOf}
-use Rattle.place.specs.Spread.{matched, Reached, Spread}
+use Rattle.place.specs.Find.{Located, Seen}
+use Rattle.place.specs.Match.{radiusOf, ballOf, found}
+use Rattle.place.specs.Spread.{matched, Reached, Spread, Lists}
 use Rattle.report.specs.Lines.{longestLine}
 use Rattle.report.specs.Report.{hasPlace, centreLine, endLine}
 use Rattle.place_components.specs.Components.{Component}
@@ -112,11 +112,29 @@ pub record Cut (pattern board : Circuit) (t : Tables) (around : Around) (nodes :
 abbrev pub EveryCut : Tables → List ℕ → Around → List ℕ → Type 0
 EveryCut t table around nodes = (pattern board : Circuit) → Source pattern board t table (around .radius) → Cut pattern board t around nodes
 
+-- the centre's component in the entries of a search, where the ball holds it
+pub record Entire (t : Tables) (table : List ℕ) (around : Around) (dist : List ℕ) : Type 0 where
+  pub spread : Spread (length table) (around .centre) (matched t table) dist
+  pub nodes : List ℕ
+  pub lists : Lists nodes dist
+  pub held : EveryHeld t table around
+
 -- what is known of a ball: it holds the centre's component, or the place comes from the first nodes of the queue
-pub record Holds (t : Tables) (table : List ℕ) (around : Around) (queue : List ℕ) (h : Held) : Type 0 where
-  pub whole : h .all ≡ true → EveryHeld t table around
+pub record Holds (t : Tables) (table : List ℕ) (around : Around) (dist queue : List ℕ) (h : Held) : Type 0 where
+  pub whole : h .all ≡ true → Entire t table around dist
   pub short : h .all ≡ false → h .kept ≤ length queue
   pub cut : h .all ≡ false → EveryCut t table around (take (h .kept) queue)
+
+-- what is known of a centre: whether there is a place around it, and then the place in the tables
+pub record Known (pattern board : Circuit) (t : Tables) (around : Around) (dist sets : List ℕ) (b : Bool) : Type 0 where
+  pub answer : b ≡ found pattern board (around .centre) (around .radius)
+  pub nodes : List ℕ
+  pub there : b ≡ true → Located pattern board t (around .centre) (around .radius) dist sets nodes
+
+-- this of every pattern and board that a line is put from
+abbrev pub EveryKnown : Tables → List ℕ → Around → List ℕ → List ℕ → Bool → Type 0
+EveryKnown t table around dist sets b =
+    (pattern board : Circuit) → Source pattern board t table (around .radius) → Known pattern board t around dist sets b
 
 -- the centre's line is put, of every such pattern and board
 abbrev pub EveryLine : Tables → List ℕ → Around → List ℕ → ℕ → List ℕ → ℕ → Type 0

@@ -1,13 +1,15 @@
 // The lines of one centre after another, and the last line, put at the front of a buffer.
 use base_text::make_names;
 use file_format::Board;
+use graph::UNREACHED;
+use graph_search::fill;
 use graph_search::search;
 use place::Around;
 use place_around::find;
-use place_component::component;
 use place_components::components;
 use place_components::covers_few;
 use place_components::keep;
+use place_components::label;
 use report::lines::put_end;
 use report::lines::put_line;
 use table::first::copy;
@@ -15,13 +17,13 @@ ghost use mathlib.Core.Bool.{_&&_, cond};
 ghost use mathlib.Core.Path.{_≡_};
 ghost use Prim.Native.Nat.{_+_, _≤_, _<_};
 ghost use lib.Dec.{eqb, ltb};
-ghost use lib.ListN.{length, getD, take};
+ghost use lib.ListN.{length, getD};
 ghost use Rattle.base_text.specs.Text.{Names};
 ghost use Rattle.table.specs.Prepared.{tables};
 ghost use Rattle.place.specs.Spread.{matched};
 ghost use Rattle.place_components.specs.Components.{Components};
 ghost use Rattle.report.specs.Lines.{longestLine};
-ghost use Rattle.report_centres.specs.Pieces.{roomy, centresPiece, SourceOfSome, CentreLabelled, EveryHeld, EveryCut, Holds, EveryLine, EveryWrote, Closed};
+ghost use Rattle.report_centres.specs.Pieces.{roomy, centresPiece, SourceOfSome, CentreLabelled, Holds, EveryKnown, EveryLine, EveryWrote, Closed};
 
 // No line of a report is longer: a buffer has to be as long, and a line is put where so many bytes are left.
 pub const LONGEST: usize = 34829;
@@ -69,8 +71,8 @@ struct Held {
     kept: usize,
 }
 
-// Whether the ball around a centre holds the whole of the centre's component, which has `size` nodes. Where it does not, those of its nodes that the ball
-// has stand first in the queue. `dist` is scratch.
+// Whether the ball around a centre holds the whole of the centre's component, which has `size` nodes. Where it does, `dist` is left with `UNREACHED` outside
+// the component. Where it does not, those of its nodes that the ball has stand first in the queue.
 fn holds(
     masks: &[u32],
     offsets: &[u16],
@@ -85,7 +87,7 @@ fn holds(
     requires { ⌜ SourceOfSome (tables (now masks) (now offsets) (now links)) (now whole) (around .radius) ⌝ }
     requires { ⌜ CentreLabelled (tables (now masks) (now offsets) (now links)) (now whole) (now labels) size (around .centre) ⌝ }
     requires { ⌜ (length (now dist) ≡ length (now whole)) × (length (now queue) ≡ length (now whole)) ⌝ }
-    ensures { λ h. ⌜ Holds (tables (now (masks .entry)) (now (offsets .entry)) (now (links .entry))) (now (whole .entry)) around (now (queue .exit)) h ⌝ }
+    ensures { λ h. ⌜ Holds (tables (now (masks .entry)) (now (offsets .entry)) (now (links .entry))) (now (whole .entry)) around (now (dist .exit)) (now (queue .exit)) h ⌝ }
 {
     let c = around.centre;
     let r = around.radius;
@@ -95,82 +97,70 @@ fn holds(
     let at = c as usize;
     let k = search(offsets, links, c, r, dist, queue);
     let kept = keep(labels, labels[at], k, queue);
-    Held {
-        all: kept == size,
-        kept,
+    if kept != size {
+        return Held { all: false, kept };
+    }
+    fill(dist, UNREACHED);
+    label(&queue[..kept], 0, dist);
+    Held { all: true, kept }
+}
+
+// All sets of a table.
+fn copy_sets(from: &[u32], sets: &mut [u32])
+    requires { ⌜ length (now sets) ≡ length (now from) ⌝ }
+    ensures { λ _. ⌜ now (sets .exit) ≡ now (from .entry) ⌝ }
+{
+    let mut i = 0;
+    while i < from.len() {
+        sets[i] = from[i];
+        i += 1;
     }
 }
 
-// The line of a centre whose ball holds its component: the place is the component with its matching links. `dist` and `queue` are scratch.
-fn put_whole(
-    names: &[u32],
+// Whether there is a place around a centre. Where its ball holds its component on the whole board, the place is that with its matching links; else striking goes
+// on in ball and component alone, from the whole board's sets: what lies outside the component supports nothing inside it. Where there is a place, `dist` is left
+// with `UNREACHED` outside it, and `sets` with its sets. `queue` is scratch.
+fn locate(
     masks: &[u32],
     offsets: &[u16],
     links: &[u16],
     whole: &[u32],
+    labels: &[u16],
+    size: usize,
     around: Around,
     dist: &mut [u16],
     queue: &mut [u16],
-    out: &mut [u8],
-    at: usize,
-) -> usize
+    sets: &mut [u32],
+) -> bool
     requires { ⌜ SourceOfSome (tables (now masks) (now offsets) (now links)) (now whole) (around .radius) ⌝ }
-    requires { ⌜ (around .centre < length (now whole)) × (getD (now whole) (around .centre) 0 ≡ 0 → ⊥) × EveryHeld (tables (now masks) (now offsets) (now links)) (now whole) around ⌝ }
-    requires { ⌜ (length (now dist) ≡ length (now whole)) × (length (now queue) ≡ length (now whole)) ⌝ }
-    requires { ⌜ Names (now names) × (length (now whole) ≤ length (now names)) ⌝ }
-    requires { ⌜ at + longestLine ≤ length (now out) ⌝ }
-    ensures { λ r. ⌜ EveryLine (tables (now (masks .entry)) (now (offsets .entry)) (now (links .entry))) (now (whole .entry)) around (now (out .entry)) at (now (out .exit)) r ⌝ }
+    requires { ⌜ CentreLabelled (tables (now masks) (now offsets) (now links)) (now whole) (now labels) size (around .centre) × (getD (now whole) (around .centre) 0 ≡ 0 → ⊥) ⌝ }
+    requires { ⌜ (length (now dist) ≡ length (now whole)) × (length (now queue) ≡ length (now whole)) × (length (now sets) ≡ length (now whole)) ⌝ }
+    ensures { λ b. ⌜ EveryKnown (tables (now (masks .entry)) (now (offsets .entry)) (now (links .entry))) (now (whole .entry)) around (now (dist .exit)) (now (sets .exit)) b ⌝ }
 {
-    let c = around.centre;
-    component(masks, offsets, links, whole, c, dist, queue);
-    put_line(
-        names,
+    let ball = holds(
         masks,
         offsets,
         links,
-        dist,
         whole,
-        c as usize,
-        out,
-        at,
-    )
-}
-
-// The line of a centre whose ball cuts its component, nothing where there is no place around it: what lies outside the component supports nothing inside it,
-// so that striking goes on at the first `kept` nodes of the queue alone, those of the component that the ball has, from the whole board's sets.
-fn put_cut(
-    names: &[u32],
-    masks: &[u32],
-    offsets: &[u16],
-    links: &[u16],
-    whole: &[u32],
-    around: Around,
-    kept: usize,
-    queue: &mut [u16],
-    out: &mut [u8],
-    at: usize,
-) -> usize
-    requires { ⌜ SourceOfSome (tables (now masks) (now offsets) (now links)) (now whole) (around .radius) ⌝ }
-    requires { ⌜ (around .centre < length (now whole)) × (kept ≤ length (now queue)) × EveryCut (tables (now masks) (now offsets) (now links)) (now whole) around (take kept (now queue)) ⌝ }
-    requires { ⌜ length (now queue) ≡ length (now whole) ⌝ }
-    requires { ⌜ Names (now names) × (length (now whole) ≤ length (now names)) ⌝ }
-    requires { ⌜ at + longestLine ≤ length (now out) ⌝ }
-    ensures { λ r. ⌜ EveryLine (tables (now (masks .entry)) (now (offsets .entry)) (now (links .entry))) (now (whole .entry)) around (now (out .entry)) at (now (out .exit)) r ⌝ }
-{
-    let mut distances = [0u16; Board::MAX_NODES];
-    let mut first = [0u32; Board::MAX_NODES];
+        labels,
+        size,
+        around,
+        dist,
+        queue,
+    );
+    if ball.all {
+        copy_sets(whole, sets);
+        return true;
+    }
     let mut other = [0u32; Board::MAX_NODES];
-    let n = whole.len();
-    let dist = &mut distances[..n];
-    let sets = &mut first[..n];
-    let spare = &mut other[..n];
-    let c = around.centre;
+    let spare = &mut other[..whole.len()];
+    let kept = ball.kept;
     let started = copy(&queue[..kept], whole, sets);
     let place = find(
         masks,
         offsets,
         links,
-        c,
+        around.centre,
         kept,
         started,
         dist,
@@ -178,21 +168,7 @@ fn put_cut(
         sets,
         spare,
     );
-    let there = place.found;
-    if !there {
-        return at;
-    }
-    put_line(
-        names,
-        masks,
-        offsets,
-        links,
-        dist,
-        sets,
-        c as usize,
-        out,
-        at,
-    )
+    place.found
 }
 
 // A centre's line, nothing where there is no place around it. A centre that the whole board's table leaves empty has none.
@@ -223,10 +199,12 @@ fn put_centre(
     let size = sizes[label] as usize;
     let mut distances = [0u16; Board::MAX_NODES];
     let mut nodes = [0u16; Board::MAX_NODES];
+    let mut table = [0u32; Board::MAX_NODES];
     let n = whole.len();
     let dist = &mut distances[..n];
     let queue = &mut nodes[..n];
-    let ball = holds(
+    let sets = &mut table[..n];
+    let there = locate(
         masks,
         offsets,
         links,
@@ -236,33 +214,12 @@ fn put_centre(
         around,
         dist,
         queue,
+        sets,
     );
-    if ball.all {
-        return put_whole(
-            names,
-            masks,
-            offsets,
-            links,
-            whole,
-            around,
-            dist,
-            queue,
-            out,
-            at,
-        );
+    if !there {
+        return at;
     }
-    put_cut(
-        names,
-        masks,
-        offsets,
-        links,
-        whole,
-        around,
-        ball.kept,
-        queue,
-        out,
-        at,
-    )
+    put_line(names, masks, offsets, links, dist, sets, c, out, at)
 }
 
 // The lines of the centres from `from` on, before which `found` centres had a place, as long as there is room for the longest line.

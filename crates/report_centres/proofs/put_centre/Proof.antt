@@ -1,21 +1,19 @@
--- `report_centres::put_centre` meets its contract: nothing where the whole board's table leaves the centre empty; the line of the component where the ball
--- holds it; else what the ball leaves of it. Assumes nothing.
+-- `report_centres::put_centre` meets its contract: nothing where the whole board's table leaves the centre empty or there is no place around it, else the line
+-- of the place. Assumes nothing.
 use denote.Ref.{now}
-use mathlib.Core.Bool.{true}
-use mathlib.Core.Path.{_≡_, refl, sym, _∙_}
+use mathlib.Core.Path.{sym, _∙_}
 use Prim.Native.Nat.{ℕ, _≤_, _<_}
 use native.Mathlib.Omega.{arith}
 use borrow.Author.Needs.{needs}
+use borrow.Author.Tests.{not-true, not-false}
 use lib.ListN.{length, getD}
 use lib.Seq.{length-take-le}
 use Rattle.base_text.proofs.Text.{put-nothing, put-same, fits-same}
 use Rattle.table.specs.Prepared.{tables}
 use Rattle.place.specs.Spread.{matched}
-use Rattle.place_components.specs.Components.{Labelled, Covered}
-use Rattle.place_components.proofs.Labels.{match-ready}
+use Rattle.place_components.specs.Components.{Labelled}
 use Rattle.report.proofs.Lengths.{centre-fits}
-use Rattle.report_centres.proofs.Centre.{source-long, source-few, whole-missed, source-line}
-use Rattle.report_centres.proofs.Component.{source-match, held-found, held-located}
+use Rattle.report_centres.proofs.Centre.{source-long, source-few, whole-missed, source-missed, source-line}
 use Rattle.report_centres.proofs.put_centre.Statement.{statement}
 use Rattle.report_centres.proofs.put_centre.Tie as tie
 
@@ -81,55 +79,62 @@ array-borrow-prefix-nodes c = few (c .before .before .before)
 slice-aggregate-queue : tie.Need-slice-aggregate-queue
 slice-aggregate-queue c = sym (length-take-le _ _ (few (c .before .before .before .before)))
 
-holds-requires : tie.Need-holds-requires
-holds-requires c κs =
-    let here = c .before .before .before .before .before .before in
+array-borrow-prefix-table : tie.Need-array-borrow-prefix-table
+array-borrow-prefix-table c = few (c .before .before .before .before)
+
+slice-aggregate-sets : tie.Need-slice-aggregate-sets
+slice-aggregate-sets c = sym (length-take-le _ _ (few (c .before .before .before .before .before)))
+
+locate-requires : tie.Need-locate-requires
+locate-requires c κs =
+    let here = c .before .before .before .before .before .before .before in
     let p = start here .pre in
     let k = labelled here in
     let h = few here in (
       p .0,
       (
-        record { low = p .1 .1 .0; long = p .1 .0 .long; comp = k .comp; nodes = k .nodes; component = k .component; same = k .same; only = k .only },
-        (length-take-le _ _ h, length-take-le _ _ h),
+        (record { low = p .1 .1 .0; long = p .1 .0 .long; comp = k .comp; nodes = k .nodes; component = k .component; same = k .same; only = k .only }, here .if1 .left),
+        (length-take-le _ _ h, length-take-le _ _ h, length-take-le _ _ h),
       ),
     )
 
--- ---- whether the ball holds the component is known
+-- ---- whether there is a place is known
 
-abbrev there : tie.After-holds → tie.Else1
-there c = c .before .before .before .before .before .before .before
+abbrev begun : tie.After-locate → tie.Start
+begun c = start (c .before .before .before .before .before .before .before .before)
 
-long : (c : tie.After-holds) → let w = length (now (start (there c) .args .whole)) in
-    (length (c .holds .last .1 .1 .1 .1 .1 .1 .1 .0) ≡ w) × (length (c .holds .last .1 .1 .1 .1 .1 .1 .1 .1 .0) ≡ w)
-long c =
-    let h = few (there c) in
-    (c .holds .kept .1 .1 .1 .1 .1 .1 .1 .0 ∙ length-take-le _ _ h, c .holds .kept .1 .1 .1 .1 .1 .1 .1 .1 .0 ∙ length-take-le _ _ h)
+returns-2 : tie.Need-returns-2
+returns-2 c pattern board s =
+    let known = c .before .before .before .before .before .before .before .before in
+    put-same (sym (source-missed s _ _ (known .locate .ensures pattern board s .answer) (not-true _ (c .before .before .if2 .taken)))) put-nothing
 
-put-whole-requires : tie.Need-put-whole-requires
-put-whole-requires c κs =
-    let known = c .before .before .before .before .before .before in
-    let here = there known in
-    let p = start here .pre in
-    (p .0, ((p .1 .1 .0, here .if1 .left, known .holds .ensures .whole (c .before .if2 .taken)), (long known, p .1 .1 .1)))
+put-line-requires : tie.Need-put-line-requires
+put-line-requires c κs =
+    let known = c .before .before .before .before .before .before .before .before .before in
+    let p = begun known .pre in
+    let source = p .0 .source in
+    let place = known .locate .ensures _ _ source in
+    let there = not-false _ (c .before .before .before .if2 .left) in
+    let l = place .there there in
+    let names = p .1 .1 .1 .0 in (
+      (names .0, omega (arith, names .1, l .size, source-long source)),
+      (
+        l .long ∙ sym (l .size),
+        (
+          l .ready,
+          fits-same (sym (source-line source _ _ (place .answer) there l)) (centre-fits _ _ _ (source .drawn .nodes) (rw (source-long source) at (p .1 .1 .0)) (p .1 .1 .1 .1)),
+        ),
+      ),
+    )
 
 same-length : tie.Need-same-length
 same-length c = search needs
 
-returns-2 : tie.Need-returns-2
-returns-2 c = search needs
-
-put-cut-requires : tie.Need-put-cut-requires
-put-cut-requires c κs =
-    let known = c .before .before .before .before .before .before .before in
-    let p = start (there known) .pre in
-    let e = c .before .before .if2 .left in
-    (p .0, ((p .1 .1 .0, known .holds .ensures .short e, known .holds .ensures .cut e), (long known .1, p .1 .1 .1)))
-
-same-length-2 : tie.Need-same-length-2
-same-length-2 c = search needs
-
 returns-3 : tie.Need-returns-3
-returns-3 c = search needs
+returns-3 c pattern board s =
+    let place = c .before .before .before .before .before .before .before .before .before .before .before .before .before .before .locate .ensures pattern board s in
+    let there = not-false _ (c .before .before .before .before .before .before .before .before .if2 .left) in
+    put-same (source-line s _ _ (place .answer) there (place .there there)) (c .before .before .before .before .put-line .ensures)
 
 pub put-centre-spec : {M : Type 1} → statement M
 put-centre-spec =
@@ -149,10 +154,10 @@ put-centre-spec =
     slice-aggregate-dist
     array-borrow-prefix-nodes
     slice-aggregate-queue
-    holds-requires
-    put-whole-requires
-    same-length
+    array-borrow-prefix-table
+    slice-aggregate-sets
+    locate-requires
     returns-2
-    put-cut-requires
-    same-length-2
+    put-line-requires
+    same-length
     returns-3)
