@@ -6,6 +6,7 @@ use mathlib.Core.Path.{_≡_}
 use Prim.Native.Nat.{ℕ, suc, _+_, _-_, _≤_, _<_}
 use lib.Dec.{T, eqb, leb}
 use lib.ListN.{length, getD, take}
+use Rattle.base_lists.specs.List.{part}
 use Rattle.base_lists.specs.Below.{countBelow, leastBelow, concatBelow}
 use Rattle.base_text.specs.Text.{Put, Fits}
 use Rattle.graph.specs.Circuit.{Circuit}
@@ -23,6 +24,8 @@ use Rattle.report.specs.Lines.{longestLine}
 use Rattle.report.specs.Report.{hasPlace, centreLine, endLine}
 use Rattle.place_components.specs.Components.{Component}
 use Rattle.report_centres.specs.declared.Held.{Held}
+use Rattle.report_texts.specs.Texts.{bodyText}
+use Rattle.report_centres.specs.declared.Last.{Last}
 use Rattle.report_centres.specs.declared.Part.{Part}
 
 -- ---- the lines of some centres
@@ -135,6 +138,18 @@ pub record Known (pattern board : Circuit) (t : Tables) (around : Around) (dist 
 abbrev pub EveryKnown : Tables → List ℕ → Around → List ℕ → List ℕ → Bool → Type 0
 EveryKnown t table around dist sets b =
     (pattern board : Circuit) → Source pattern board t table (around .radius) → Known pattern board t around dist sets b
+
+-- The text of the component that was put last stands in the buffer: for each centre with its label it is what follows the colon in the line of the component.
+pub record Noted (t : Tables) (table labels out : List ℕ) (l : Last) : Type 0 where
+  pub order : l .from ≤ l .to
+  pub short : l .to ≤ l .at
+  pub text :
+      (c : ℕ) → c < length table → (getD table c 0 ≡ 0 → ⊥) → getD labels c 0 ≡ l .label → (dist : List ℕ) → Spread (length table) c (matched t table) dist →
+      part (l .from) (l .to - l .from) out ≡ bodyText t dist table
+
+-- this, where there is one
+abbrev pub Kept : Tables → List ℕ → List ℕ → List ℕ → Last → Type 0
+Kept t table labels out l = (l .to ≡ 0 → ⊥) → Noted t table labels out l
 
 -- the centre's line is put, of every such pattern and board
 abbrev pub EveryLine : Tables → List ℕ → Around → List ℕ → ℕ → List ℕ → ℕ → Type 0

@@ -1,12 +1,13 @@
 -- `report_centres::locate` meets its contract: the place is the component where the ball holds it; else the whole board's sets at those of its nodes that the
 -- ball has are a table to begin with. Assumes nothing.
 use denote.Ref.{now}
-use mathlib.Core.Path.{_≡_, sym, _∙_}
+use mathlib.Core.Path.{_≡_, refl, sym, _∙_}
 use Prim.Native.Nat.{_≤_}
 use native.Mathlib.Omega.{arith}
 use borrow.Author.Needs.{needs}
 use lib.ListN.{length, take}
 use lib.Seq.{length-take-le}
+use Rattle.base_lists.proofs.Tests.{true-T, false-T}
 use Rattle.graph.specs.Circuit.{Circuit}
 use Rattle.table.specs.Fill.{NodeList}
 use Rattle.table.specs.Prepared.{tables}
@@ -16,9 +17,6 @@ use Rattle.report_centres.proofs.Centre.{source-long, source-few}
 use Rattle.report_centres.proofs.Component.{held-found, held-located, cut-sought}
 use Rattle.report_centres.proofs.locate.Statement.{statement}
 use Rattle.report_centres.proofs.locate.Tie as tie
-
-holds-requires : tie.Need-holds-requires
-holds-requires c κs = let p = c .before .before .before .before .before .before .before .before .before .before .pre in (p .0, (p .1 .0 .0, (p .1 .1 .0, p .1 .1 .1)))
 
 copy-sets-requires : tie.Need-copy-sets-requires
 copy-sets-requires c κs = search needs
@@ -32,31 +30,28 @@ same-length-2 c = search needs
 same-length-3 : tie.Need-same-length-3
 same-length-3 c = search needs
 
-abbrev start : tie.After-holds → tie.Start
-start c = c .before .before .before .before .before .before .before .before .before .before .before
-
 -- ---- the ball holds the component
 
 returns : tie.Need-returns
-returns c pattern board s =
-    let ball = c .before .before .before .before .before .before .before .before .before in
-    let p = start ball .pre in
-    let low = p .1 .0 .0 .low in
-    let e = ball .holds .ensures .whole (c .before .before .before .before .if1 .taken) in
-    let held = e .held pattern board s _ (e .spread) in
-    record {
-      answer = sym (held-found s _ low (e .spread) (p .1 .0 .1) held);
-      nodes = e .nodes;
-      there = λ _. rw (c .before .before .copy-sets .ensures) (held-located s _ low (e .spread) (p .1 .0 .1) held (e .nodes) (e .lists));
-    }
+returns c = (
+  λ pattern board s.
+      let p = c .before .before .before .before .before .before .before .before .before .before .before .before .pre in
+      let low = p .1 .0 .0 in
+      let f = p .1 .0 .1 in
+      let e = p .1 .1 .0 .whole (c .before .before .before .before .if1 .taken) in
+      let held = e .held pattern board s _ (e .spread) in
+      record {
+        answer = sym (held-found s _ low (e .spread) f held);
+        nodes = e .nodes;
+        there = λ _. rw (c .before .before .copy-sets .ensures) (held-located s _ low (e .spread) f held (e .nodes) (e .lists));
+      },
+  λ _. (refl, c .before .before .copy-sets .ensures),
+)
 
 -- ---- it does not
 
-abbrev begun : tie.Else1 → tie.After-holds
-begun c = c .before .before .before .before .before
-
 abbrev entry : tie.Else1 → tie.Start
-entry c = start (begun c)
+entry c = c .before .before .before .before .before .before .before .before
 
 -- the scratch table has room for the board
 few : (c : tie.Else1) → length (now (entry c .args .whole)) ≤ 512
@@ -68,8 +63,8 @@ array-borrow-prefix-other c = few c
 slice-aggregate-spare : tie.Need-slice-aggregate-spare
 slice-aggregate-spare c = sym (length-take-le _ _ (few (c .before)))
 
-short : (c : tie.Else1) → begun c .holds .result .kept ≤ length (begun c .holds .last .1 .1 .1 .1 .1 .1 .1 .1 .0)
-short c = begun c .holds .ensures .short (c .if1 .left)
+short : (c : tie.Else1) → entry c .args .ball .kept ≤ length (now (entry c .args .queue))
+short c = entry c .pre .1 .1 .0 .short (c .if1 .left)
 
 slice-reshare-prefix-copy : tie.Need-slice-reshare-prefix-copy
 slice-reshare-prefix-copy c = short (c .before)
@@ -77,13 +72,13 @@ slice-reshare-prefix-copy c = short (c .before)
 slice-aggregate-copy : tie.Need-slice-aggregate-copy
 slice-aggregate-copy c = sym (length-take-le _ _ (short (c .before .before)))
 
-list : (c : tie.Else1) → NodeList (length (now (entry c .args .whole))) (take (begun c .holds .result .kept) (begun c .holds .last .1 .1 .1 .1 .1 .1 .1 .1 .0))
-list c = let source = entry c .pre .0 .source in rw (source-long source) (begun c .holds .ensures .cut (c .if1 .left) _ _ source .list)
+list : (c : tie.Else1) → let a = entry c .args in NodeList (length (now (a .whole))) (take (a .ball .kept) (now (a .queue)))
+list c = let p = entry c .pre in rw (source-long (p .0 .source)) (p .1 .1 .0 .cut (c .if1 .left) _ _ (p .0 .source) .list)
 
 copy-requires : tie.Need-copy-requires
 copy-requires c κs =
     let here = c .before .before .before in
-    (rw (entry here .pre .1 .1 .2) (list here), list here .below)
+    (rw (entry here .pre .1 .1 .1 .2) (list here), list here .below)
 
 -- ---- a first table is written
 
@@ -94,50 +89,44 @@ there c = c .before .before .before .before
 sought : (c : tie.After-copy) → let a = entry (there c) .args in
     (pattern board : Circuit) → Source pattern board (tables (now (a .masks)) (now (a .offsets)) (now (a .links))) (now (a .whole)) (a .around .radius)
     → Sought pattern board (tables (now (a .masks)) (now (a .offsets)) (now (a .links))) (a .around .centre) (a .around .radius)
-    (take (begun (there c) .holds .result .kept) (begun (there c) .holds .last .1 .1 .1 .1 .1 .1 .1 .1 .0)) (c .copy .last .1 .1 .0)
+    (take (a .ball .kept) (now (a .queue))) (c .copy .last .1 .1 .0)
 sought c pattern board s =
     let here = there c in
     let p = entry here .pre in
-    cut-sought s (begun here .holds .ensures .cut (here .if1 .left) pattern board s) (p .1 .0 .0 .low) (p .1 .1 .2) (c .copy .ensures)
+    cut-sought s (p .1 .1 .0 .cut (here .if1 .left) pattern board s) (p .1 .0 .0) (p .1 .1 .1 .2) (c .copy .ensures)
 
 find-requires : tie.Need-find-requires
 find-requires c κs =
     let copied = c .before .before .before .before .before in
     let here = there copied in
     let p = entry here .pre in
-    let long = copied .copy .kept .1 .1 .0 ∙ p .1 .1 .2 in
-    let held = begun here .holds .kept in (
+    let (d, q, s) = p .1 .1 .1 in
+    let long = copied .copy .kept .1 .1 .0 ∙ s in (
       (short here, record { pattern = _; board = _; radius = _; sought = sought copied _ _ (p .0 .source) }),
       (
         copied .copy .ensures .size,
-        (held .1 .1 .1 .1 .1 .1 .1 .0 ∙ p .1 .1 .0 ∙ sym long, held .1 .1 .1 .1 .1 .1 .1 .1 .0 ∙ p .1 .1 .1 ∙ sym long, length-take-le _ _ (few here) ∙ sym long),
+        (d ∙ sym long, q ∙ sym long, length-take-le _ _ (few here) ∙ sym long),
       ),
     )
 
 same-length-4 : tie.Need-same-length-4
 same-length-4 c = search needs
 
-same-length-5 : tie.Need-same-length-5
-same-length-5 c = search needs
-
-same-length-6 : tie.Need-same-length-6
-same-length-6 c = search needs
-
 returns-2 : tie.Need-returns-2
-returns-2 c pattern board s =
-    let done = c .before .before .before .before .before .before .before in
-    let place = done .find .ensures pattern board _ (sought (done .before .before .before .before .before .before) pattern board s) in
-    record { answer = place .answer; nodes = _; there = place .there }
+returns-2 c = (
+  λ pattern board s.
+      let done = c .before .before .before .before .before .before .before in
+      let place = done .find .ensures pattern board _ (sought (done .before .before .before .before .before .before) pattern board s) in
+      record { answer = place .answer; nodes = _; there = place .there },
+  λ e. absurd (false-T (c .before .before .before .before .before .before .before .before .before .before .before .before .before .before .before .before .before .if1 .left) (true-T e)),
+)
 
 pub locate-spec : {M : Type 1} → statement M
 locate-spec =
     tie.close
     (tie.spec
-    holds-requires
     copy-sets-requires
     same-length
-    same-length-2
-    same-length-3
     returns
     array-borrow-prefix-other
     slice-aggregate-spare
@@ -145,7 +134,7 @@ locate-spec =
     slice-aggregate-copy
     copy-requires
     find-requires
+    same-length-2
+    same-length-3
     same-length-4
-    same-length-5
-    same-length-6
     returns-2)
