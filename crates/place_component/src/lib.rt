@@ -15,7 +15,7 @@ use place::parts::driven_parts;
 use place::parts::driving_parts;
 
 // Looks at the neighbours of node v: what it drives, then what drives it.
-fn expand(
+pub fn expand(
     masks: &[u32],
     offsets: &[u16],
     links: &[u16],

@@ -1,5 +1,5 @@
--- The line of one centre: none where the whole board's table leaves the centre empty, else from what finding leaves, which begins with that
--- table, cut to the ball; and what the line adds to the count. Assumes nothing.
+-- The line of one centre: none where the whole board's table leaves the centre empty, else from the place that was
+-- found; and what the line adds to the count. Assumes nothing.
 use mathlib.Core.Bool.{Bool, true, false, cond}
 use mathlib.Core.List.{List, []}
 use mathlib.Core.Path.{_≡_, refl, sym, ap, _∙_}
@@ -16,18 +16,16 @@ use Rattle.graph.specs.Bfs.{bfs, adjacent, Found as Searched}
 use Rattle.graph.specs.Circuit.{Circuit}
 use Rattle.graph.specs.Net.{Net}
 use Rattle.table.specs.Fill.{NodeList}
-use Rattle.table.specs.First.{Written}
 use Rattle.table.specs.Host.{everything}
 use Rattle.table.specs.Row.{inTable, InTable}
 use Rattle.table.specs.Prepared.{Tables}
-use Rattle.table.proofs.Begun.{copied-begins}
 use Rattle.table.proofs.Host.{everything-taken}
 use Rattle.table.proofs.Meaning.{last-fits}
 use Rattle.table.proofs.Narrow.{last-wider}
 use Rattle.place.specs.Match.{radiusOf, ballOf, ballTable, found}
-use Rattle.place.specs.Find.{Tabled, Sought, Located}
+use Rattle.place.specs.Find.{Tabled, Located}
 use Rattle.place.proofs.Ball.{ball-fits}
-use Rattle.place.proofs.Find.{drawn-tabled, tabled-net, ball-short, ball-list, ball-sought}
+use Rattle.place.proofs.Find.{drawn-tabled, tabled-net, ball-short, ball-list}
 use Rattle.place.proofs.Outcome.{found-none}
 use Rattle.report.specs.Lines.{lineText}
 use Rattle.report.specs.Report.{hasPlace, centreLine}
@@ -57,21 +55,14 @@ module _ {pattern board : Circuit} {t : Tables} {table : List ℕ} {r : ℕ} (s 
     node : c < length (board .kinds)
     node = rw source-long at h
 
-    searched : Searched k dist queue (bfs (adjacent (t .offsets) (t .links)) (length (board .kinds)) c r)
-    searched = rw (e ∙ source-long) at f
+    pub source-searched : Searched k dist queue (bfs (adjacent (t .offsets) (t .links)) (length (board .kinds)) c r)
+    source-searched = rw (e ∙ source-long) at f
 
     pub source-short : k ≤ n
-    source-short = rw (e ∙ source-long) (ball-short source-tabled c r node searched)
+    source-short = rw (e ∙ source-long) (ball-short source-tabled c r node source-searched)
 
     pub source-list : {m : ℕ} → m ≡ length table → NodeList m (take k queue)
-    source-list l = rw (l ∙ source-long) (ball-list source-tabled c r node searched)
-
-    -- and the whole board's sets there are a table to begin with
-    pub source-sought : {m count : ℕ} {first : List ℕ} → m ≡ length table → Written m (λ v. getD table v 0) (take k queue) first count
-        → Sought pattern board t c r (take k queue) first
-    source-sought l w =
-        ball-sought source-tabled c r node searched
-        (copied-begins pattern board (take k queue) (l ∙ source-long) (s .drawn .parts .nodes) (everything board) (λ v m _. everything-taken board v m) (s .whole) w)
+    source-list l = rw (l ∙ source-long) (ball-list source-tabled c r node source-searched)
 
   -- ---- the line
 

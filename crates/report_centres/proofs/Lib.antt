@@ -1,3 +1,5 @@
 pub mod Centre
+pub mod Component
+pub mod OnceMore
 pub mod Pieces
 pub mod Progress

@@ -1,24 +1,31 @@
 -- Pieces of a report: the lines of the centres from one on, as long as there is room for the longest line, and the last line; and what the
 -- contracts of the functions that put them cite.
-use mathlib.Core.Bool.{Bool, true, _&&_, not, cond}
+use mathlib.Core.Bool.{Bool, true, false, _&&_, not, cond}
 use mathlib.Core.List.{List, [], _++_}
 use mathlib.Core.Path.{_≡_}
-use Prim.Native.Nat.{ℕ, suc, _+_, _-_}
-use lib.Dec.{eqb, leb}
-use lib.ListN.{length, take}
+use Prim.Native.Nat.{ℕ, suc, _+_, _-_, _≤_, _<_}
+use lib.Dec.{T, eqb, leb}
+use lib.ListN.{length, getD, take}
+use Rattle.base_lists.specs.List.{part}
 use Rattle.base_lists.specs.Below.{countBelow, leastBelow, concatBelow}
 use Rattle.base_text.specs.Text.{Put, Fits}
 use Rattle.graph.specs.Circuit.{Circuit}
+use Rattle.graph.specs.Search.{inside}
 use Rattle.file_format.specs.Circuit.{Drawn}
+use Rattle.table.specs.Fill.{marksOf, NodeList}
 use Rattle.table.specs.Host.{everything}
 use Rattle.table.specs.Row.{lastTable}
 use Rattle.table.specs.Prepared.{Tables, Prepared}
 use Rattle.place.specs.declared.Around.{Around}
-use Rattle.place.specs.declared.Found.{Found}
-use Rattle.place.specs.Find.{Located}
-use Rattle.place.specs.Match.{radiusOf, found}
+use Rattle.place.specs.Find.{Located, Seen}
+use Rattle.place.specs.Match.{radiusOf, ballOf, found}
+use Rattle.place.specs.Spread.{matched, Reached, Spread, Lists}
 use Rattle.report.specs.Lines.{longestLine}
 use Rattle.report.specs.Report.{hasPlace, centreLine, endLine}
+use Rattle.place_components.specs.Components.{Component}
+use Rattle.report_centres.specs.declared.Held.{Held}
+use Rattle.report_texts.specs.Texts.{bodyText}
+use Rattle.report_centres.specs.declared.Last.{Last}
 use Rattle.report_centres.specs.declared.Part.{Part}
 
 -- ---- the lines of some centres
@@ -83,15 +90,66 @@ pub record SourceOfSome (t : Tables) (table : List ℕ) (r : ℕ) : Type 0 where
   pub board : Circuit
   pub source : Source pattern board t table r
 
+-- The centre's component in the whole board's match graph, which has `size` nodes: those with the centre's label.
+pub record CentreLabelled (t : Tables) (table labels : List ℕ) (size c : ℕ) : Type 0 where
+  pub low : c < length table
+  pub long : length labels ≡ length table
+  pub comp : List ℕ
+  pub nodes : List ℕ
+  pub component : Component (length table) c (matched t table) size comp nodes
+  pub same : (v : ℕ) → v < length table → Reached comp v → getD labels v 0 ≡ getD labels c 0
+  pub only : (v : ℕ) → v < length table → getD labels v 0 ≡ getD labels c 0 → Reached comp v
+
+-- The ball around the centre holds the centre's component, of every pattern and board that a line is put from.
+abbrev pub EveryHeld : Tables → List ℕ → Around → Type 0
+EveryHeld t table around =
+    (pattern board : Circuit) → Source pattern board t table (around .radius) → (comp : List ℕ) → Spread (length table) (around .centre) (matched t table) comp
+    → (v : ℕ) → v < length (board .kinds) → Reached comp v → T (inside (ballOf board (around .centre) (around .radius)) v)
+
+-- The place around the centre comes from the graph of some nodes,
+pub record Cut (pattern board : Circuit) (t : Tables) (around : Around) (nodes : List ℕ) : Type 0 where
+  pub list : NodeList (length (board .kinds)) nodes
+  pub seen : Seen pattern board t (around .centre) (around .radius) (marksOf (length (board .kinds)) nodes)
+
+-- of every such pattern and board.
+abbrev pub EveryCut : Tables → List ℕ → Around → List ℕ → Type 0
+EveryCut t table around nodes = (pattern board : Circuit) → Source pattern board t table (around .radius) → Cut pattern board t around nodes
+
+-- the centre's component in the entries of a search, where the ball holds it
+pub record Entire (t : Tables) (table : List ℕ) (around : Around) (dist : List ℕ) : Type 0 where
+  pub spread : Spread (length table) (around .centre) (matched t table) dist
+  pub nodes : List ℕ
+  pub lists : Lists nodes dist
+  pub held : EveryHeld t table around
+
+-- what is known of a ball: it holds the centre's component, or the place comes from the first nodes of the queue
+pub record Holds (t : Tables) (table : List ℕ) (around : Around) (dist queue : List ℕ) (h : Held) : Type 0 where
+  pub whole : h .all ≡ true → Entire t table around dist
+  pub short : h .all ≡ false → h .kept ≤ length queue
+  pub cut : h .all ≡ false → EveryCut t table around (take (h .kept) queue)
+
 -- what is known of a centre: whether there is a place around it, and then the place in the tables
-pub record Known (pattern board : Circuit) (t : Tables) (around : Around) (dist queue sets : List ℕ) (a : Found) : Type 0 where
-  pub answer : a .found ≡ found pattern board (around .centre) (around .radius)
-  pub there : a .found ≡ true → Located pattern board t (around .centre) (around .radius) dist sets (take (a .size) queue)
+pub record Known (pattern board : Circuit) (t : Tables) (around : Around) (dist sets : List ℕ) (b : Bool) : Type 0 where
+  pub answer : b ≡ found pattern board (around .centre) (around .radius)
+  pub nodes : List ℕ
+  pub there : b ≡ true → Located pattern board t (around .centre) (around .radius) dist sets nodes
 
 -- this of every pattern and board that a line is put from
-abbrev pub EveryKnown : Tables → List ℕ → Around → List ℕ → List ℕ → List ℕ → Found → Type 0
-EveryKnown t table around dist queue sets a =
-    (pattern board : Circuit) → Source pattern board t table (around .radius) → Known pattern board t around dist queue sets a
+abbrev pub EveryKnown : Tables → List ℕ → Around → List ℕ → List ℕ → Bool → Type 0
+EveryKnown t table around dist sets b =
+    (pattern board : Circuit) → Source pattern board t table (around .radius) → Known pattern board t around dist sets b
+
+-- The text of the component that was put last stands in the buffer: for each centre with its label it is what follows the colon in the line of the component.
+pub record Noted (t : Tables) (table labels out : List ℕ) (l : Last) : Type 0 where
+  pub order : l .from ≤ l .to
+  pub short : l .to ≤ l .at
+  pub text :
+      (c : ℕ) → c < length table → (getD table c 0 ≡ 0 → ⊥) → getD labels c 0 ≡ l .label → (dist : List ℕ) → Spread (length table) c (matched t table) dist →
+      part (l .from) (l .to - l .from) out ≡ bodyText t dist table
+
+-- this, where there is one
+abbrev pub Kept : Tables → List ℕ → List ℕ → List ℕ → Last → Type 0
+Kept t table labels out l = (l .to ≡ 0 → ⊥) → Noted t table labels out l
 
 -- the centre's line is put, of every such pattern and board
 abbrev pub EveryLine : Tables → List ℕ → Around → List ℕ → ℕ → List ℕ → ℕ → Type 0

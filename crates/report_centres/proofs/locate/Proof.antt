@@ -1,80 +1,25 @@
--- `report_centres::locate` meets its contract: the search lists the ball, and the whole board's sets there are a table to begin with.
--- Assumes nothing.
+-- `report_centres::locate` meets its contract: the place is the component where the ball holds it; else the whole board's sets at those of its nodes that the
+-- ball has are a table to begin with. Assumes nothing.
 use denote.Ref.{now}
-use mathlib.Core.Path.{refl, sym, _∙_}
+use mathlib.Core.Path.{_≡_, refl, sym, _∙_}
 use Prim.Native.Nat.{_≤_}
 use native.Mathlib.Omega.{arith}
 use borrow.Author.Needs.{needs}
-use lib.ListN.{length, take, length-take}
+use lib.ListN.{length, take}
+use lib.Seq.{length-take-le}
+use Rattle.base_lists.proofs.Tests.{true-T, false-T}
 use Rattle.graph.specs.Circuit.{Circuit}
+use Rattle.table.specs.Fill.{NodeList}
 use Rattle.table.specs.Prepared.{tables}
 use Rattle.place.specs.Find.{Sought}
 use Rattle.report_centres.specs.Pieces.{Source}
-use Rattle.report_centres.proofs.Centre.{source-net, source-short, source-list, source-sought}
+use Rattle.report_centres.proofs.Centre.{source-long, source-few}
+use Rattle.report_centres.proofs.Component.{held-found, held-located, cut-sought}
 use Rattle.report_centres.proofs.locate.Statement.{statement}
 use Rattle.report_centres.proofs.locate.Tie as tie
 
-abbrev entry : tie.After-search-arg2 → tie.Start
-entry c = c .before .before .before .before .before .before .before .before .before .before
-
-search-requires : tie.Need-search-requires
-search-requires c κs =
-    let p = entry c .pre in
-    let (d, q) = p .1 .1 .0 in
-    (source-net (p .0 .source) d, (rw d (p .1 .0), d ∙ sym q))
-
--- no more nodes are listed than the queue has room for
-short : (c : tie.After-search) → c .search .result ≤ length (c .search .last .1 .1 .1 .1 .1 .0)
-short c =
-    let p = entry (c .before) .pre in
-    omega (arith, source-short (p .0 .source) _ (p .1 .0) (p .1 .1 .0 .0) (c .search .ensures), p .1 .1 .0, c .search .kept)
-
--- the ball is listed
-abbrev listed : tie.After-slice-known6 → tie.After-search
-listed c = c .before .before .before .before
-
-slice-reshare-prefix-copy : tie.Need-slice-reshare-prefix-copy
-slice-reshare-prefix-copy c = short (listed c)
-
-slice-aggregate-copy : tie.Need-slice-aggregate-copy
-slice-aggregate-copy c = let h = short (listed (c .before)) in simp length-take (omega arith)
-
-copy-requires : tie.Need-copy-requires
-copy-requires c κs =
-    let ball = listed (c .before .before) in
-    let p = entry (ball .before) .pre in
-    let found = ball .search .ensures in
-    (source-list (p .0 .source) _ (p .1 .0) (p .1 .1 .0 .0) found (p .1 .1 .1 .0), source-list (p .0 .source) _ (p .1 .0) (p .1 .1 .0 .0) found refl .below)
-
--- its first table is written
-abbrev copied : tie.After-find-arg4 → tie.After-copy
-copied c = c .before .before .before .before .before .before
-
-abbrev ball : tie.After-find-arg4 → tie.After-search
-ball c = listed (copied c .before .before .before)
-
--- it is one to begin with, of every pattern and board
-sought : (c : tie.After-find-arg4) → let a = entry (ball c .before) .args in
-    (pattern board : Circuit) → Source pattern board (tables (now (a .masks)) (now (a .offsets)) (now (a .links))) (now (a .whole)) (a .around .radius)
-    → Sought pattern board (tables (now (a .masks)) (now (a .offsets)) (now (a .links))) (a .around .centre) (a .around .radius)
-    (take (ball c .search .result) (ball c .search .last .1 .1 .1 .1 .1 .0)) (copied c .copy .last .1 .1 .0)
-sought c pattern board s =
-    let p = entry (ball c .before) .pre in
-    source-sought s _ (p .1 .0) (p .1 .1 .0 .0) (ball c .search .ensures) (p .1 .1 .1 .0) (copied c .copy .ensures)
-
-find-requires : tie.Need-find-requires
-find-requires c κs =
-    let p = entry (ball c .before) .pre in
-    let (d, q) = p .1 .1 .0 in
-    let (s, o) = p .1 .1 .1 in
-    let long = copied c .copy .kept .1 .1 .0 ∙ s in
-    let kept = ball c .search .kept in (
-      (short (ball c), record { pattern = _; board = _; radius = _; sought = sought c _ _ (p .0 .source) }),
-      (
-        copied c .copy .ensures .size,
-        (kept .1 .1 .1 .1 .0 ∙ d ∙ sym long, kept .1 .1 .1 .1 .1 .0 ∙ q ∙ sym long, o ∙ sym long),
-      ),
-    )
+copy-sets-requires : tie.Need-copy-sets-requires
+copy-sets-requires c κs = search needs
 
 same-length : tie.Need-same-length
 same-length c = search needs
@@ -85,26 +30,111 @@ same-length-2 c = search needs
 same-length-3 : tie.Need-same-length-3
 same-length-3 c = search needs
 
+-- ---- the ball holds the component
+
+returns : tie.Need-returns
+returns c = (
+  λ pattern board s.
+      let p = c .before .before .before .before .before .before .before .before .before .before .before .before .pre in
+      let low = p .1 .0 .0 in
+      let f = p .1 .0 .1 in
+      let e = p .1 .1 .0 .whole (c .before .before .before .before .if1 .taken) in
+      let held = e .held pattern board s _ (e .spread) in
+      record {
+        answer = sym (held-found s _ low (e .spread) f held);
+        nodes = e .nodes;
+        there = λ _. rw (c .before .before .copy-sets .ensures) (held-located s _ low (e .spread) f held (e .nodes) (e .lists));
+      },
+  λ _. (refl, c .before .before .copy-sets .ensures),
+)
+
+-- ---- it does not
+
+abbrev entry : tie.Else1 → tie.Start
+entry c = c .before .before .before .before .before .before .before .before
+
+-- the scratch table has room for the board
+few : (c : tie.Else1) → length (now (entry c .args .whole)) ≤ 512
+few c = source-few (entry c .pre .0 .source)
+
+array-borrow-prefix-other : tie.Need-array-borrow-prefix-other
+array-borrow-prefix-other c = few c
+
+slice-aggregate-spare : tie.Need-slice-aggregate-spare
+slice-aggregate-spare c = sym (length-take-le _ _ (few (c .before)))
+
+short : (c : tie.Else1) → entry c .args .ball .kept ≤ length (now (entry c .args .queue))
+short c = entry c .pre .1 .1 .0 .short (c .if1 .left)
+
+slice-reshare-prefix-copy : tie.Need-slice-reshare-prefix-copy
+slice-reshare-prefix-copy c = short (c .before)
+
+slice-aggregate-copy : tie.Need-slice-aggregate-copy
+slice-aggregate-copy c = sym (length-take-le _ _ (short (c .before .before)))
+
+list : (c : tie.Else1) → let a = entry c .args in NodeList (length (now (a .whole))) (take (a .ball .kept) (now (a .queue)))
+list c = let p = entry c .pre in rw (source-long (p .0 .source)) (p .1 .1 .0 .cut (c .if1 .left) _ _ (p .0 .source) .list)
+
+copy-requires : tie.Need-copy-requires
+copy-requires c κs =
+    let here = c .before .before .before in
+    (rw (entry here .pre .1 .1 .1 .2) (list here), list here .below)
+
+-- ---- a first table is written
+
+abbrev there : tie.After-copy → tie.Else1
+there c = c .before .before .before .before
+
+-- it is one to begin with, of every pattern and board
+sought : (c : tie.After-copy) → let a = entry (there c) .args in
+    (pattern board : Circuit) → Source pattern board (tables (now (a .masks)) (now (a .offsets)) (now (a .links))) (now (a .whole)) (a .around .radius)
+    → Sought pattern board (tables (now (a .masks)) (now (a .offsets)) (now (a .links))) (a .around .centre) (a .around .radius)
+    (take (a .ball .kept) (now (a .queue))) (c .copy .last .1 .1 .0)
+sought c pattern board s =
+    let here = there c in
+    let p = entry here .pre in
+    cut-sought s (p .1 .1 .0 .cut (here .if1 .left) pattern board s) (p .1 .0 .0) (p .1 .1 .1 .2) (c .copy .ensures)
+
+find-requires : tie.Need-find-requires
+find-requires c κs =
+    let copied = c .before .before .before .before .before in
+    let here = there copied in
+    let p = entry here .pre in
+    let (d, q, s) = p .1 .1 .1 in
+    let long = copied .copy .kept .1 .1 .0 ∙ s in (
+      (short here, record { pattern = _; board = _; radius = _; sought = sought copied _ _ (p .0 .source) }),
+      (
+        copied .copy .ensures .size,
+        (d ∙ sym long, q ∙ sym long, length-take-le _ _ (few here) ∙ sym long),
+      ),
+    )
+
 same-length-4 : tie.Need-same-length-4
 same-length-4 c = search needs
 
-returns : tie.Need-returns
-returns c pattern board s =
-    let done = c .before .before .before .before .before .before .before .before in
-    let place = done .find .ensures pattern board _ (sought (done .before) pattern board s) in
-    record { answer = place .answer; there = place .there }
+returns-2 : tie.Need-returns-2
+returns-2 c = (
+  λ pattern board s.
+      let done = c .before .before .before .before .before .before .before in
+      let place = done .find .ensures pattern board _ (sought (done .before .before .before .before .before .before) pattern board s) in
+      record { answer = place .answer; nodes = _; there = place .there },
+  λ e. absurd (false-T (c .before .before .before .before .before .before .before .before .before .before .before .before .before .before .before .before .before .if1 .left) (true-T e)),
+)
 
 pub locate-spec : {M : Type 1} → statement M
 locate-spec =
     tie.close
     (tie.spec
-    search-requires
+    copy-sets-requires
+    same-length
+    returns
+    array-borrow-prefix-other
+    slice-aggregate-spare
     slice-reshare-prefix-copy
     slice-aggregate-copy
     copy-requires
     find-requires
-    same-length
     same-length-2
     same-length-3
     same-length-4
-    returns)
+    returns-2)

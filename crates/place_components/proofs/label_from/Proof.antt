@@ -1,0 +1,154 @@
+-- `place_components::label_from` meets its contract: nothing is left to name where the node's set is empty or it has a label, else its component is, which
+-- the search lists. Assumes nothing.
+use mathlib.Core.Bool.{not}
+use mathlib.Core.Path.{_≡_, sym, subst, _∙_}
+use Prim.Native.Nat.{ℕ, _+_, _≤_, _<_}
+use native.Mathlib.Omega.{arith}
+use borrow.Author.Needs.{needs}
+use borrow.Author.Tests.{not-true, not-false}
+use denote.Ref.{now}
+use lib.Dec.{eqb, eqb→eq}
+use lib.ListN.{length, getD, take, set}
+use lib.Seq.{length-take-le}
+use Rattle.base_lists.proofs.Tests.{both-right, true-T}
+use Rattle.graph.specs.Search.{far}
+use Rattle.graph.proofs.Net.{net-few}
+use Rattle.table.specs.Fill.{fillAt}
+use Rattle.table.specs.Prepared.{tables}
+use Rattle.place.specs.Spread.{matched, Spread, Lists}
+use Rattle.place_components.specs.Components.{Labelling}
+use Rattle.place_components.proofs.Labels.{match-ready, match-adjacency, labelling-skip, labelling-next}
+use Rattle.place_components.proofs.label_from.Statement.{statement}
+use Rattle.place_components.proofs.label_from.Tie as tie
+
+mul-begins : tie.Need-mul-begins
+mul-begins c = search needs
+
+shared-slice-read-begins : tie.Need-shared-slice-read-begins
+shared-slice-read-begins c = search needs
+
+mul-begins-2 : tie.Need-mul-begins-2
+mul-begins-2 c = search needs
+
+slice-read-begins : tie.Need-slice-read-begins
+slice-read-begins c = search needs
+
+begins-requires : tie.Need-begins-requires
+begins-requires c κs = search needs
+
+abbrev start : tie.After-begins → tie.Start
+start c = c .before .before .before .before .before .before .before .before .before .before .before
+
+returns : tie.Need-returns
+returns c = labelling-skip (start (c .before) .pre .1 .1 .1) (sym (c .before .begins .ensures) ∙ not-true _ (c .if1 .taken))
+
+-- ---- a component begins
+
+abbrev begun : tie.Else1 → tie.Start
+begun c = start (c .before)
+
+few : (c : tie.Else1) → length (now (begun c .args .sets)) < far
+few c = omega (arith, net-few (match-ready (begun c .pre .0) .net))
+
+fresh : (c : tie.Else1) → getD (now (begun c .args .labels)) (begun c .args .f) 0 ≡ far
+fresh c =
+    let a = begun c .args in
+    eqb→eq _ _
+    (both-right (not (eqb (getD (now (a .sets)) (a .f) 0) 0)) (eqb (getD (now (a .labels)) (a .f) 0) far)
+    (true-T (sym (c .before .begins .ensures) ∙ not-false _ (c .if1 .left))))
+
+cast-c : tie.Need-cast-c
+cast-c c = omega (arith, few c, begun c .pre .1 .0)
+
+component-requires : tie.Need-component-requires
+component-requires c κs =
+    let p = begun (c .before .before) .pre in
+    let (d, q) = p .1 .1 .0 in
+    (match-ready (p .0), (rw d (p .1 .0), (sym d, d ∙ sym q)))
+
+-- ---- its nodes are listed
+
+abbrev here : tie.After-component → tie.Else1
+here c = c .before .before .before
+
+listed : (c : tie.After-component) → let a = begun (here c) .args in
+    Spread (length (now (a .sets))) (a .f) (matched (tables (now (a .masks)) (now (a .offsets)) (now (a .links))) (now (a .sets))) (c .component .last .1 .1 .1 .1 .1 .0)
+    × (c .component .result ≤ length (c .component .last .1 .1 .1 .1 .1 .1 .0))
+    × Lists (take (c .component .result) (c .component .last .1 .1 .1 .1 .1 .1 .0)) (c .component .last .1 .1 .1 .1 .1 .0)
+listed c = (rw (← begun (here c) .pre .1 .1 .0 .0) (c .component .ensures .0), c .component .ensures .1 .0, c .component .ensures .1 .1)
+
+slice-reshare-prefix-label : tie.Need-slice-reshare-prefix-label
+slice-reshare-prefix-label c = search needs
+
+slice-aggregate-label : tie.Need-slice-aggregate-label
+slice-aggregate-label c = let l = listed (c .before .before .before .before .before) in sym (length-take-le _ _ (l .1))
+
+label-requires : tie.Need-label-requires
+label-requires c κs =
+    let known = c .before .before .before .before .before .before in
+    let l = listed known in
+    rw (begun (here known) .pre .1 .1 .1 .long ∙ sym (l .0 .size)) (l .2 .list .below)
+
+abbrev done : tie.After-slice-known8 → tie.After-component
+done c = c .before .before .before .before .before .before .before .before .before
+
+cast-sizes : tie.Need-cast-sizes
+cast-sizes c =
+    let known = done c in
+    omega (arith, listed known .1, known .component .kept .1 .1 .1 .1 .1 .1 .0, begun (here known) .pre .1 .1 .0, few (here known))
+
+mul-sizes : tie.Need-mul-sizes
+mul-sizes c = search needs
+
+slice-write-sizes : tie.Need-slice-write-sizes
+slice-write-sizes c = search needs
+
+same-length : tie.Need-same-length
+same-length c = search needs
+
+same-length-2 : tie.Need-same-length-2
+same-length-2 c = search needs
+
+same-length-3 : tie.Need-same-length-3
+same-length-3 c = search needs
+
+same-length-4 : tie.Need-same-length-4
+same-length-4 c = search needs
+
+returns-2 : tie.Need-returns-2
+returns-2 c =
+    let known = done c in
+    let a = begun (here known) .args in
+    let p = begun (here known) .pre in
+    let l = listed known in
+    let k = known .component .result in
+    let queue = known .component .last .1 .1 .1 .1 .1 .1 .0 in
+    let adj = matched (tables (now (a .masks)) (now (a .offsets)) (now (a .links))) (now (a .sets)) in
+    rw (c .before .before .label .ensures)
+    (subst (λ (m : ℕ). Labelling (length (now (a .sets))) adj (now (a .sets)) (a .f + 1) (fillAt (λ v. a .f) (take k queue) (now (a .labels))) (set (now (a .sizes)) (a .f) m))
+    (length-take-le k queue (l .1))
+    (labelling-next (p .1 .1 .1) (match-adjacency (p .0)) (p .1 .0) (few (here known)) (fresh (here known)) (l .0) (l .2)))
+
+pub label-from-spec : {M : Type 1} → statement M
+label-from-spec =
+    tie.close
+    (tie.spec
+    mul-begins
+    shared-slice-read-begins
+    mul-begins-2
+    slice-read-begins
+    begins-requires
+    returns
+    cast-c
+    component-requires
+    slice-reshare-prefix-label
+    slice-aggregate-label
+    label-requires
+    cast-sizes
+    mul-sizes
+    slice-write-sizes
+    same-length
+    same-length-2
+    same-length-3
+    same-length-4
+    returns-2)

@@ -1,0 +1,199 @@
+// The components of a match graph: each node gets the label of its component, once for all; and whether matching links lead from a centre to its
+// whole component in so many steps.
+use file_format::Board;
+use graph::UNREACHED;
+use graph_search::fill;
+use place_component::component;
+use place_component::expand;
+ghost use mathlib.Core.Bool.{true, not, _&&_, cond};
+ghost use mathlib.Core.Path.{_≡_};
+ghost use Prim.Native.Nat.{_+_, _≤_, _<_};
+ghost use lib.Dec.{eqb, ltb};
+ghost use lib.ListN.{length, getD, take};
+ghost use Rattle.base_lists.specs.List.{Below};
+ghost use Rattle.graph.specs.Search.{far};
+ghost use Rattle.table.specs.Fill.{fillAt};
+ghost use Rattle.table.specs.Prepared.{tables, Ready};
+ghost use Rattle.place.specs.Spread.{matched};
+ghost use Rattle.place_components.specs.Components.{having, MatchTable, Labelling, Components, Covered};
+
+// Components of at most so many nodes are searched along their matching links, and not along all links of the board.
+const FEW: usize = 64;
+
+// Sets the entry of each node of a list to x.
+pub fn label(nodes: &[u16], x: u16, labels: &mut [u16])
+    requires { ⌜ Below (length (now labels)) (now nodes) ⌝ }
+    ensures { λ _. ⌜ now (labels .exit) ≡ fillAt (λ v. x) (now (nodes .entry)) (now (labels .entry)) ⌝ }
+{
+    let mut i = 0;
+    while i < nodes.len() {
+        let v = nodes[i] as usize;
+        labels[v] = x;
+        i += 1;
+    }
+}
+
+// Whether a component begins with node f: its set is not empty, and it has no label yet.
+fn begins(set: u32, label: u16) -> bool
+    ensures { λ b. ⌜ b ≡ (not (eqb set 0) && eqb label far) ⌝ }
+{
+    if set == 0 {
+        return false;
+    }
+    label == UNREACHED
+}
+
+// Where a component begins with node f, its nodes get the label f, and f the number of them. `dist` and `queue` are scratch.
+fn label_from(
+    masks: &[u32],
+    offsets: &[u16],
+    links: &[u16],
+    sets: &[u32],
+    f: usize,
+    dist: &mut [u16],
+    queue: &mut [u16],
+    labels: &mut [u16],
+    sizes: &mut [u16],
+)
+    requires { ⌜ MatchTable (tables (now masks) (now offsets) (now links)) (now sets) ⌝ }
+    requires { ⌜ f < length (now sets) ⌝ }
+    requires { ⌜ (length (now dist) ≡ length (now sets)) × (length (now queue) ≡ length (now sets)) ⌝ }
+    requires { ⌜ Labelling (length (now sets)) (matched (tables (now masks) (now offsets) (now links)) (now sets)) (now sets) f (now labels) (now sizes) ⌝ }
+    ensures { λ _. ⌜ Labelling (length (now (sets .entry))) (matched (tables (now (masks .entry)) (now (offsets .entry)) (now (links .entry))) (now (sets .entry))) (now (sets .entry)) (f + 1) (now (labels .exit)) (now (sizes .exit)) ⌝ }
+{
+    if !begins(sets[f], labels[f]) {
+        return;
+    }
+    let c = f as u16;
+    let k = component(masks, offsets, links, sets, c, dist, queue);
+    label(&queue[..k], c, labels);
+    sizes[f] = k as u16;
+}
+
+// Leaves in `labels` for each node whose set is not empty the label of its component, and in `sizes` under the label how many nodes that has.
+pub fn components(
+    masks: &[u32],
+    offsets: &[u16],
+    links: &[u16],
+    sets: &[u32],
+    labels: &mut [u16],
+    sizes: &mut [u16],
+)
+    requires { ⌜ MatchTable (tables (now masks) (now offsets) (now links)) (now sets) ⌝ }
+    requires { ⌜ length (now sets) ≤ 512 ⌝ }
+    requires { ⌜ (length (now labels) ≡ length (now sets)) × (length (now sizes) ≡ length (now sets)) ⌝ }
+    ensures { λ _. ⌜ Components (length (now (sets .entry))) (matched (tables (now (masks .entry)) (now (offsets .entry)) (now (links .entry))) (now (sets .entry))) (now (sets .entry)) (now (labels .exit)) (now (sizes .exit)) ⌝ }
+{
+    let mut distances = [0u16; Board::MAX_NODES];
+    let mut nodes = [0u16; Board::MAX_NODES];
+    let n = sets.len();
+    let dist = &mut distances[..n];
+    let queue = &mut nodes[..n];
+    fill(labels, UNREACHED);
+    let mut f = 0;
+    while f < n {
+        label_from(masks, offsets, links, sets, f, dist, queue, labels, sizes);
+        f += 1;
+    }
+}
+
+// Whether the search goes on: it has not reached so many nodes, and links are left to follow.
+fn goes_on(tail: usize, size: usize, d: u16, r: u16) -> bool
+    ensures { λ b. ⌜ b ≡ (ltb tail size && ltb d r) ⌝ }
+{
+    if size <= tail {
+        return false;
+    }
+    d < r
+}
+
+// Whether at most r matching links lead from c to each of the `size` nodes of its component. Then `dist` has an entry for each node, `UNREACHED` where
+// it is not in the component. The search stops as soon as it has them all. `queue` is scratch: `hi` of its nodes are at most d links away, and i have been
+// looked from.
+fn covers(
+    masks: &[u32],
+    offsets: &[u16],
+    links: &[u16],
+    sets: &[u32],
+    c: u16,
+    r: u16,
+    size: usize,
+    dist: &mut [u16],
+    queue: &mut [u16],
+) -> bool
+    requires { ⌜ Ready (tables (now masks) (now offsets) (now links)) (now sets) ⌝ }
+    requires { ⌜ c < length (now dist) ⌝ }
+    requires { ⌜ (length (now sets) ≡ length (now dist)) × (length (now dist) ≡ length (now queue)) ⌝ }
+    ensures { λ b. ⌜ ((b ≡ true) → Covered (length (now (dist .entry))) c (matched (tables (now (masks .entry)) (now (offsets .entry)) (now (links .entry))) (now (sets .entry))) r size (now (dist .exit))) ⌝ }
+{
+    fill(dist, UNREACHED);
+    let at = c as usize;
+    dist[at] = 0;
+    queue[0] = c;
+    let mut tail = 1;
+    let mut i = 0;
+    let mut hi = 1;
+    let mut d: u16 = 0;
+    while goes_on(tail, size, d, r) {
+        if i == hi {
+            hi = tail;
+            d += 1;
+        } else {
+            let v = queue[i] as usize;
+            tail = expand(masks, offsets, links, sets, v, dist, queue, tail);
+            i += 1;
+        }
+    }
+    tail == size
+}
+
+// The same, for a component of few nodes; for a larger one the board's links are searched as soon.
+pub fn covers_few(
+    masks: &[u32],
+    offsets: &[u16],
+    links: &[u16],
+    sets: &[u32],
+    c: u16,
+    r: u16,
+    size: usize,
+    dist: &mut [u16],
+    queue: &mut [u16],
+) -> bool
+    requires { ⌜ Ready (tables (now masks) (now offsets) (now links)) (now sets) ⌝ }
+    requires { ⌜ c < length (now dist) ⌝ }
+    requires { ⌜ (length (now sets) ≡ length (now dist)) × (length (now dist) ≡ length (now queue)) ⌝ }
+    ensures { λ b. ⌜ ((b ≡ true) → Covered (length (now (dist .entry))) c (matched (tables (now (masks .entry)) (now (offsets .entry)) (now (links .entry))) (now (sets .entry))) r size (now (dist .exit))) ⌝ }
+{
+    if FEW < size {
+        return false;
+    }
+    covers(masks, offsets, links, sets, c, r, size, dist, queue)
+}
+
+// One more, where the label is x.
+fn counted(label: u16, x: u16, count: usize) -> usize
+    requires { ⌜ count < 65536 ⌝ }
+    ensures { λ k. ⌜ k ≡ count + cond (eqb label x) 1 0 ⌝ }
+{
+    if label == x {
+        return count + 1;
+    }
+    count
+}
+
+// Moves those of the first k nodes that have the label x to the front of the queue, in their order. Returns how many they are.
+pub fn keep(labels: &[u16], x: u16, k: usize, queue: &mut [u16]) -> usize
+    requires { ⌜ (k ≤ length (now queue)) × (length (now queue) ≤ 65536) × Below (length (now labels)) (take k (now queue)) ⌝ }
+    ensures { λ j. ⌜ (j ≤ length (now (queue .exit))) × (take j (now (queue .exit)) ≡ having (λ v. eqb (getD (now (labels .entry)) v 0) x) (take k (now (queue .entry)))) ⌝ }
+{
+    let mut kept = 0;
+    let mut i = 0;
+    while i < k {
+        let v = queue[i];
+        let at = v as usize;
+        queue[kept] = v;
+        kept = counted(labels[at], x, kept);
+        i += 1;
+    }
+    kept
+}

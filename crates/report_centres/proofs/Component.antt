@@ -1,0 +1,198 @@
+-- The centre's component in the whole board's match graph. Where matching links lead to all of it in r steps the ball holds it, and the place is the
+-- component with its matching links; else the place comes from those nodes of the ball that have the component's label. Assumes nothing.
+use mathlib.Core.Bool.{Bool, true, false, cond}
+use mathlib.Core.List.{List}
+use mathlib.Core.Logic.{inl, inr, ⊎-elim}
+use mathlib.Core.Path.{_≡_, refl, sym, ap, subst, _∙_}
+use Prim.Native.Nat.{ℕ, _^_, _≤_, _<_}
+use native.Mathlib.Omega.{arith}
+use borrow.Author.Tests.{eq-eqb}
+use lib.Dec.{T, eqb, eqb→eq}
+use lib.ListN.{length, getD, take, replicate}
+use Rattle.base_lists.specs.List.{Occurs, Below}
+use Rattle.base_lists.proofs.Tests.{true-T, any-at, at-any}
+use Rattle.base_lists.proofs.Tables.{getD-tabulate}
+use Rattle.graph.specs.Bfs.{bfs, adjacent, Found as Searched}
+use Rattle.graph.specs.Circuit.{Circuit}
+use Rattle.graph.specs.Search.{far, inside}
+use Rattle.graph.proofs.Ball.{inside-zero, inside-suc, inside-grows}
+use Rattle.table.specs.Fill.{listed, marksOf, NodeList, fillAt}
+use Rattle.table.specs.First.{Written}
+use Rattle.table.specs.Host.{Taken, everything}
+use Rattle.table.specs.Prepared.{Tables}
+use Rattle.table.proofs.Begun.{copied-begins}
+use Rattle.table.proofs.Host.{everything-taken}
+use Rattle.table.proofs.Meaning.{last-fits}
+use Rattle.table.proofs.Sets.{fits-word}
+use Rattle.place.specs.declared.Around.{Around}
+use Rattle.place.specs.Match.{ballOf, found}
+use Rattle.place.specs.Find.{Sought, Located}
+use Rattle.place.specs.Spread.{matched, Reached, Spread, Lists}
+use Rattle.place.proofs.Find.{ball-list, ball-marks, whole-located, whole-found, cut-seen}
+use Rattle.place.proofs.Links.{match-kept}
+use Rattle.place_components.specs.Components.{having, MatchTable, Growing, Covered}
+use Rattle.place_components.proofs.Lists.{all-within, having-from, having-to, having-list}
+use Rattle.place_components.proofs.Labels.{match-adjacency, spread-same, spread-respect, marked-lists}
+use Rattle.place_components.proofs.Covering.{covered-spread}
+use Rattle.report_centres.specs.Pieces.{Source, CentreLabelled, Cut}
+use Rattle.report_centres.proofs.Centre.{source-tabled, source-long}
+
+-- a node is marked where it is listed
+inside-marks : (n : ℕ) (nodes : List ℕ) (v : ℕ) → v < n → inside (marksOf n nodes) v ≡ listed nodes v
+unfolding inside marksOf
+inside-marks n nodes v h = ap (λ (x : ℕ). eqb x 1) (getD-tabulate n (λ v. cond (listed nodes v) 1 0) v 0 h) ∙ go (listed nodes v)
+  where
+    go : (b : Bool) → eqb (cond b 1 0) 1 ≡ b
+    go true = refl
+    go false = refl
+
+module _ {pattern board : Circuit} {t : Tables} {table : List ℕ} {r : ℕ} (s : Source pattern board t table r) where
+  abbrev n : ℕ
+  n = length (board .kinds)
+
+  -- the whole board's table is one of sets
+  pub source-match : MatchTable t table
+  source-match =
+      record {
+        pattern = pattern;
+        board = board;
+        tabled = source-tabled s;
+        long = source-long s;
+        small = λ v. rw (s .whole) (fits-word (s .ready .parts) (last-fits pattern board (everything board)) v);
+      }
+
+  even : length (board .starts) ≡ length (board .ends)
+  even = s .drawn .nodes .parallel
+
+  module _ (c : ℕ) (h : c < length table) where
+    node : c < n
+    node = rw (source-long s) at h
+
+    -- ---- the whole component
+
+    -- matching links are links: so many of them lead no farther than the ball of that radius
+    growing : Growing (length table) c (matched t table) (λ d. inside (ballOf board c d))
+    unfolding source-match ballOf Below
+    growing =
+        record {
+          first = inside-zero n (board .starts) (board .ends) c c .1 (node, refl);
+          grows = λ d v t. inside-grows n (board .starts) (board .ends) c d v t;
+          next =
+              λ d v w m t o.
+              let a = match-adjacency source-match in
+              let low : w < n = rw (source-long s) at (subst (λ (x : ℕ). x < length table) (o .2) (a .inside v m (o .0) (o .1))) in
+              let link = a .joined v w m .0 o in
+              inside-suc n (board .starts) (board .ends) c d w .1
+              (low, inr (v, ⊎-elim (λ l. inr (match-kept pattern board table v w .0 l .0)) (λ l. inl (match-kept pattern board table w v .0 l .0)) link, t));
+        }
+
+    -- the component is reached in r steps: the ball holds it
+    pub covered-held : {labels dist : List ℕ} {size : ℕ} → CentreLabelled t table labels size c → Covered (length table) c (matched t table) r size dist
+        → (comp : List ℕ) → Spread (length table) c (matched t table) comp → (v : ℕ) → v < n → Reached comp v → T (inside (ballOf board c r) v)
+    covered-held l g comp k v m q =
+        let h′ : v < length table = rw (source-long s) m in
+        g .steps v h′ (spread-same k (covered-spread h (match-adjacency source-match .inside) (l .component) g) v h′ q) (λ d. inside (ballOf board c d)) growing
+
+    -- ---- where the ball holds it
+
+    module _ {dist : List ℕ} (k : Spread (length table) c (matched t table) dist) (f : getD table c 0 ≡ 0 → ⊥)
+        (held : (v : ℕ) → v < n → Reached dist v → T (inside (ballOf board c r) v)) where
+      spread : Spread n c (matched t table) dist
+      spread = rw (← source-long s) k
+
+      pub held-found : found pattern board c r ≡ true
+      held-found = whole-found (source-tabled s) even r node (s .whole) spread held f
+
+      pub held-located : (nodes : List ℕ) → Lists nodes dist → Located pattern board t c r dist table nodes
+      held-located = whole-located (source-tabled s) even r node (s .whole) spread held
+
+    -- ---- the ball's nodes in the component
+
+    module _ {labels : List ℕ} {size : ℕ} (l : CentreLabelled t table labels size c) {k : ℕ} {dist queue : List ℕ}
+        (searched : Searched k dist queue (bfs (adjacent (t .offsets) (t .links)) n c r)) where
+      abbrev test : ℕ → Bool
+      test v = eqb (getD labels v 0) (getD labels c 0)
+
+      abbrev kept : List ℕ
+      kept = having test (take k queue)
+
+      occurs-taken : (nodes : List ℕ) (v : ℕ) → v < n → Occurs nodes v → Taken board (marksOf n nodes) v
+      unfolding listed
+      occurs-taken nodes v m (i, b, e) =
+          record { below = m; marked = rw (inside-marks n nodes v m) (at-any (λ w. eqb w v) nodes i b (true-T (eq-eqb _ _ e))) }
+
+      taken-occurs : (nodes : List ℕ) (v : ℕ) → Taken board (marksOf n nodes) v → Occurs nodes v
+      unfolding listed
+      taken-occurs nodes v m =
+          let (i, b, e) = any-at (λ w. eqb w v) nodes (subst T (inside-marks n nodes v (m .below)) (m .marked)) in
+          (i, b, eqb→eq _ _ e)
+
+      ball : marksOf n (take k queue) ≡ ballOf board c r
+      ball = ball-marks (source-tabled s) c r node searched
+
+      list : NodeList n kept
+      list = having-list test (ball-list (source-tabled s) c r node searched)
+
+      within : (v : ℕ) → Taken board (marksOf n kept) v → Taken board (ballOf board c r) v
+      within v m =
+          subst (λ (row : List ℕ). Taken board row v) ball
+          (occurs-taken (take k queue) v (m .below) (having-from test (take k queue) v (taken-occurs kept v m) .0))
+
+      keeps : (v : ℕ) → Taken board (ballOf board c r) v → Reached (l .comp) v → Taken board (marksOf n kept) v
+      keeps v m q =
+          occurs-taken kept v (m .below)
+          (having-to test (take k queue) v (taken-occurs (take k queue) v (subst (λ (row : List ℕ). Taken board row v) (sym ball) m))
+          (true-T (eq-eqb _ _ (l .same v (rw (source-long s) (m .below)) q))))
+
+      pub kept-cut : {nodes : List ℕ} → nodes ≡ kept → Cut pattern board t (record { centre = c; radius = r }) nodes
+      kept-cut e =
+          record {
+            list = rw e list;
+            seen = rw e (cut-seen (source-tabled s) c r node {comp = l .comp} even (s .whole) (rw (← source-long s) (l .component .spread)) (marksOf n kept) within keeps);
+          }
+
+      -- they are as many as the component has:
+      module _ (all : length kept ≡ size) where
+        table-list : NodeList (length table) kept
+        table-list = rw (source-long s) list
+
+        only : (w : ℕ) → w < length table → Occurs kept w → Reached (l .comp) w
+        only w m o = l .only w m (eqb→eq _ _ (having-from test (take k queue) w o .1))
+
+        member : (v : ℕ) → v < length table → Reached (l .comp) v → Occurs kept v
+        unfolding Below
+        member v m q =
+            all-within kept (l .nodes) (list .distinct)
+            (λ w o.
+            let low : w < length table = subst (λ (x : ℕ). x < length table) (o .2) (table-list .below (o .0) (o .1)) in
+            l .component .lists .complete w (rw (l .component .spread .size) low) (only w low o))
+            (omega (arith, all, l .component .count)) v (l .component .lists .complete v (rw (l .component .spread .size) m) q)
+
+        -- the ball holds it,
+        pub kept-held : (comp : List ℕ) → Spread (length table) c (matched t table) comp → (v : ℕ) → v < n → Reached comp v → T (inside (ballOf board c r) v)
+        kept-held comp g v m q =
+            let h′ : v < length table = rw (source-long s) m in
+            within v (occurs-taken kept v m (member v h′ (spread-same g (l .component .spread) v h′ q))) .marked
+
+        -- and their marks are its entries
+        pub kept-lists : Lists kept (fillAt (λ v. 0) kept (replicate (length table) far))
+        kept-lists = marked-lists table-list .1
+
+        pub kept-spread : Spread (length table) c (matched t table) (fillAt (λ v. 0) kept (replicate (length table) far))
+        kept-spread =
+            let (long, marks) = marked-lists table-list in
+            spread-respect h (match-adjacency source-match .inside) (l .component .spread) long
+            (λ v m q. marks .near v (member v m q))
+            (λ v m q. only v m (marks .complete v (rw long m) q))
+
+  -- the whole board's sets at nodes that the place comes from are a table to begin with
+  pub cut-sought : {around : Around} {nodes first : List ℕ} {m count : ℕ} → Cut pattern board t around nodes → around .centre < length table → m ≡ length table
+      → Written m (λ v. getD table v 0) nodes first count → Sought pattern board t (around .centre) (around .radius) nodes first
+  cut-sought {nodes = nodes} k low q w =
+      record {
+        tabled = source-tabled s;
+        centre = rw (source-long s) at low;
+        list = k .list;
+        seen = k .seen;
+        begins = copied-begins pattern board nodes (q ∙ source-long s) (s .drawn .parts .nodes) (everything board) (λ v m _. everything-taken board v m) (s .whole) w;
+      }

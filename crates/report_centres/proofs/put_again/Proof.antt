@@ -1,0 +1,47 @@
+-- `report_centres::put_again` meets its contract: the head, and then the text, which the head leaves where it stands. Assumes nothing.
+use mathlib.Core.Path.{_≡_, refl}
+use Prim.Native.Nat.{_+_, _-_, _≤_}
+use native.Mathlib.Omega.{arith}
+use borrow.Author.Needs.{needs}
+use denote.Ref.{now}
+use lib.ListN.{length, length-append}
+use Rattle.base_lists.specs.List.{part}
+use Rattle.base_text.proofs.Text.{put-then, put-same, put-length, fits-first}
+use Rattle.report_texts.specs.Texts.{headText}
+use Rattle.report_texts.proofs.Texts.{part-length, put-before}
+use Rattle.report_centres.proofs.put_again.Statement.{statement}
+use Rattle.report_centres.proofs.put_again.Tie as tie
+
+-- the text is so long, and there is room for it
+room : (s : tie.Start) → let l = s .args .last in
+    (l .from + (l .to - l .from) ≤ length (now (s .args .out))) × (l .at + (length (headText (s .args .c)) + (l .to - l .from)) ≤ length (now (s .args .out)))
+room s =
+    let l = s .args .last in
+    let h = s .pre .1 .room in
+    let two = length-append (headText (s .args .c)) (part (l .from) (l .to - l .from) (now (s .args .out))) in
+    let inside : l .from + (l .to - l .from) ≤ length (now (s .args .out)) = omega (arith, s .pre .0, h, two) in
+    (inside, omega (arith, h, two, part-length (l .from) (l .to - l .from) (now (s .args .out)) inside))
+
+put-head-requires : tie.Need-put-head-requires
+put-head-requires c κs = fits-first _ _ (c .before .before .pre .1)
+
+put-copy-requires : tie.Need-put-copy-requires
+put-copy-requires c κs =
+    let s = c .before .before .before .before .before .before in
+    let p = c .before .before .before .put-head .ensures in
+    (s .pre .0 .0, omega (arith, s .pre .0, p .end), omega (arith, room s, p .end, put-length p))
+
+same-length : tie.Need-same-length
+same-length c = search needs
+
+returns : tie.Need-returns
+returns c =
+    let s = c .before .before .before .before .before .before .before .before .before in
+    let l = s .args .last in
+    let p = c .before .before .before .before .before .before .put-head .ensures in (
+      put-then p (put-same (put-before p (l .from) (l .to - l .from) (omega (arith, s .pre .0)) (room s .0)) (c .before .before .put-copy .ensures)),
+      (refl, refl, refl),
+    )
+
+pub put-again-spec : {M : Type 1} → statement M
+put-again-spec = tie.close (tie.spec put-head-requires put-copy-requires same-length returns)
