@@ -2,16 +2,14 @@
 -- document 01's reply in that form; the calls themselves are those of the crates below.
 use mathlib.Core.List.{List, [], _∷_}
 use Prim.Native.Nat.{ℕ}
-use lib.ListN.{length, getD}
-use Rattle.file_format.specs.declared.File.{File}
-use Rattle.file_format.specs.declared.File.the-variants.{Pattern, Board, Neither}
+use lib.ListN.{length}
 use Rattle.file_format.specs.Reading.{ReadOutcome, filled}
-use Rattle.file_format.specs.Refusals.{Verdict, accept, refuse, first, shortTable}
+use Rattle.file_format.specs.Refusals.{first, shortTable}
 use Rattle.file_format.specs.Reply as files
+use Rattle.heronditch_reply.specs.Replies.{numberOf, meantFile, slots, counted, pieced}
 use Rattle.call_convert.specs.Call.{ConvertOutcome}
 use Rattle.call_distance.specs.Calls.{BallOutcome}
 use Rattle.file_write.specs.Writing.{WriteOutcome}
-use Rattle.table.specs.Reply as table
 use Rattle.call_match.specs.Call.{TableOutcome}
 use Rattle.place.specs.Outcome.{PlaceOutcome}
 use Rattle.barring.specs.Outcome.{BarOutcome}
@@ -21,57 +19,10 @@ use Rattle.call_report.specs.Call.{ReportOutcome}
 use Rattle.call_compare.specs.declared.CompareAnswer.{CompareAnswer}
 use Rattle.call_compare.specs.Call.{compareReply}
 use Rattle.call_shelf.specs.Shelf.{ShelfOutcome}
-use Rattle.heronditch.specs.declared.reply.Reply.{Reply}
-use Rattle.heronditch.specs.declared.reply.Counted.{Counted}
-use Rattle.heronditch.specs.declared.reply.Piece.{Piece}
+use Rattle.heronditch_reply.specs.declared.Reply.{Reply}
+use Rattle.heronditch_reply.specs.declared.Counted.{Counted}
+use Rattle.heronditch_reply.specs.declared.Piece.{Piece}
 use Rattle.heronditch.specs.declared.shelf.Comparison.{Comparison}
-
--- ---- replies
-
--- the file that a refusal means
-unfoldable pub fileNumber : File → ℕ
-fileNumber Neither = 0
-fileNumber Pattern = 1
-fileNumber Board = 2
-
--- acceptance is number 0 of neither file
-unfoldable pub numberOf : Verdict → ℕ
-numberOf accept = 0
-numberOf (refuse x) = x .number
-
-unfoldable pub meantFile : Verdict → ℕ
-meantFile accept = 0
-meantFile (refuse x) = fileNumber (x .file)
-
--- up to two values replied with; a slot without one is 0
-unfoldable pub slots : files.Reply → Reply
-slots r =
-    record { number = numberOf (r .verdict); file = meantFile (r .verdict); first = getD (r .values) 0 0; second = getD (r .values) 1 0 }
-
--- the four counts replied with
-unfoldable pub counted : table.Reply → Counted
-counted r =
-    record {
-      number = numberOf (r .verdict);
-      file = meantFile (r .verdict);
-      started = r .counts .started;
-      kept = r .counts .kept;
-      struck = r .counts .struck;
-      rounds = r .counts .rounds;
-    }
-
--- where the report goes on, how many centres had a place, and how many bytes were put
-unfoldable pub pieced : files.Reply → Piece
-pieced r =
-    record {
-      number = numberOf (r .verdict);
-      file = meantFile (r .verdict);
-      next = getD (r .values) 0 0;
-      found = getD (r .values) 1 0;
-      size = getD (r .values) 2 0;
-    }
-
--- ---- the calls: the reply, and each lent table as the call leaves it
 
 pub record HostRead : Type 0 where
   pub reply : Reply

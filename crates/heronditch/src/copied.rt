@@ -1,12 +1,12 @@
 // A stretch of a table, copied out.
 ghost use mathlib.Core.Path.{_≡_};
 ghost use Rattle.heronditch.specs.Host.{hostNeighbours};
-use crate::reply::Reply;
-use crate::reply::accepted;
-use crate::reply::refused;
 use file_format::File;
 use file_format::Refusal;
 use graph::copy;
+use heronditch_reply::Reply;
+use heronditch_reply::accepted;
+use heronditch_reply::refused;
 
 pub fn copy_out(part: &[u16], out: &mut [u16]) -> Reply
     ensures { λ r. ⌜ record { reply = r; out = now (out .exit) } ≡ hostNeighbours (now (part .entry)) (now (out .entry)) ⌝ }

@@ -12,21 +12,22 @@ ghost use Rattle.file_write.specs.Writing.{writing};
 ghost use Rattle.call_match.specs.Call.{matching, oneWayMatching};
 ghost use Rattle.call_barring.specs.Call.{barCall};
 ghost use Rattle.call_merge.specs.Call.{merging};
-ghost use Rattle.heronditch.specs.Host.{slots, hostReadPackages, hostWrite, hostBall, hostMatch, hostBar, hostMerge, hostConvert};
-use crate::reply::Counted;
-use crate::reply::Reply;
-use crate::reply::of_ball;
-use crate::reply::of_bar;
-use crate::reply::of_check;
-use crate::reply::of_convert;
-use crate::reply::of_match;
-use crate::reply::of_merge;
-use crate::reply::of_radius;
-use crate::reply::of_read;
-use crate::reply::of_write;
+ghost use Rattle.heronditch.specs.Host.{hostReadPackages, hostWrite, hostBall, hostMatch, hostBar, hostMerge, hostConvert};
+ghost use Rattle.heronditch_reply.specs.Replies.{slots};
 use file_format::Edition;
 use file_format::Editions;
 use file_format::Role;
+use heronditch_reply::Counted;
+use heronditch_reply::Reply;
+use heronditch_reply::of_ball;
+use heronditch_reply::of_bar;
+use heronditch_reply::of_check;
+use heronditch_reply::of_convert;
+use heronditch_reply::of_match;
+use heronditch_reply::of_merge;
+use heronditch_reply::of_radius;
+use heronditch_reply::of_read;
+use heronditch_reply::of_write;
 
 #[no_mangle]
 pub extern "C" fn heronditch_read_pattern_2(

@@ -2,13 +2,14 @@
 ghost use mathlib.Core.Path.{_≡_};
 ghost use Rattle.call_compare.specs.Call.{whichNumber, orderNumber, comparing};
 ghost use Rattle.call_shelf.specs.Shelf.{shelfReply, shelving};
-ghost use Rattle.heronditch.specs.Host.{slots, hostCompare, hostShelf};
-use crate::reply::Reply;
-use crate::reply::accepted;
-use crate::reply::refused;
+ghost use Rattle.heronditch.specs.Host.{hostCompare, hostShelf};
+ghost use Rattle.heronditch_reply.specs.Replies.{slots};
 use call_compare::CompareAnswer;
 use call_compare::Which;
 use call_shelf::ShelfAnswer;
+use heronditch_reply::Reply;
+use heronditch_reply::accepted;
+use heronditch_reply::refused;
 use order::Order;
 
 // The same as a reply without values, with which of the two files is meant (1 the first, 2 the second) and the order found (1 less, 2 equal,

@@ -5,9 +5,9 @@ ghost use Rattle.file_format.specs.declared.Edition.the-variants as editions;
 ghost use Rattle.file_format.specs.Layout.{firstEdition, inEdition};
 ghost use Rattle.call_bounded.specs.Call.{boundedMatching};
 ghost use Rattle.heronditch.specs.Host.{hostMatch};
-use crate::reply::Counted;
-use crate::reply::of_match;
 use file_format::Edition;
+use heronditch_reply::Counted;
+use heronditch_reply::of_match;
 
 #[no_mangle]
 pub extern "C" fn heronditch_match_31(pattern: &[u8], board: &[u8], table: &mut [u32]) -> Counted

@@ -4,7 +4,8 @@ use borrow.Author.Tests.{lt-ltb, le-ltb}
 use Rattle.file_format.specs.Reading.{filled}
 use Rattle.file_format.specs.Refusals.{first, shortTable}
 use Rattle.file_format.specs.Reply.{reply}
-use Rattle.heronditch.specs.Host.{fileNumber, numberOf, meantFile, slots, hostNeighbours}
+use Rattle.heronditch.specs.Host.{hostNeighbours}
+use Rattle.heronditch_reply.specs.Replies.{fileNumber, numberOf, meantFile, slots}
 use Rattle.heronditch.proofs.copied.copy_out.Statement.{statement}
 use Rattle.heronditch.proofs.copied.copy_out.Tie as tie
 

@@ -1,6 +1,7 @@
 -- `heronditch::shelf::of_compare` meets its contract, case by case. Assumes nothing.
 use Rattle.call_compare.specs.Call.{compareReply}
-use Rattle.heronditch.specs.Host.{hostCompare, numberOf, meantFile}
+use Rattle.heronditch.specs.Host.{hostCompare}
+use Rattle.heronditch_reply.specs.Replies.{numberOf, meantFile}
 use borrow.Author.Needs.{needs}
 use Rattle.heronditch.proofs.shelf.of_compare.Statement.{statement}
 use Rattle.heronditch.proofs.shelf.of_compare.Tie as tie

@@ -1,0 +1,37 @@
+-- `heronditch_reply::of_place` meets its contract, case by case. Assumes nothing.
+use Rattle.place.specs.Outcome.{placeReply}
+use Rattle.heronditch_reply.specs.Replies.{counted, numberOf, meantFile}
+use borrow.Author.Needs.{needs}
+use Rattle.heronditch_reply.proofs.of_place.Statement.{statement}
+use Rattle.heronditch_reply.proofs.of_place.Tie as tie
+
+enum-known-answer : tie.Need-enum-known-answer
+enum-known-answer c = search needs
+
+with-counts-requires : tie.Need-with-counts-requires
+with-counts-requires c κs = search needs
+
+enum-known-answer-2 : tie.Need-enum-known-answer-2
+enum-known-answer-2 c = search needs
+
+refused-with-requires : tie.Need-refused-with-requires
+refused-with-requires c κs = search needs
+
+returns : tie.Need-returns
+unfolding counted numberOf meantFile placeReply
+returns c = rw (c .before .before .answer .given .1, c .with-counts .ensures)
+
+returns-2 : tie.Need-returns-2
+unfolding counted numberOf meantFile placeReply
+returns-2 c = rw (c .before .before .answer2 .given .1, c .refused-with .ensures)
+
+pub of-place-spec : {M : Type 1} → statement M
+of-place-spec =
+    tie.close
+    (tie.spec
+    enum-known-answer
+    with-counts-requires
+    enum-known-answer-2
+    refused-with-requires
+    returns
+    returns-2)
