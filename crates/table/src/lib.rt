@@ -7,7 +7,7 @@ pub const FORWARD_MASKS: usize = 32;
 
 pub mod first;
 pub mod largest;
-mod strike;
+pub mod strike;
 
 // The pairs at first, those left and those struck, and how many rounds struck a pair.
 pub struct Counts {

@@ -1,0 +1,5 @@
+mod Entries
+mod Looking
+mod Marking
+mod Striking
+mod Going
