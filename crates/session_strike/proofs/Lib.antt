@@ -1,5 +1,5 @@
 mod Entries
 mod Looking
-mod Marking
-mod Striking
+pub mod Marking
+pub mod Striking
 mod Going

@@ -8,7 +8,7 @@ use native.Mathlib.Omega.{arith}
 use borrow.Author.Tests.{eqb-true, eqb-false, eq-eqb, ne-eqb, ltb-true, ltb-false, lt-ltb, not-false}
 use lib.Bits.{bitOr, or-lt}
 use lib.Dec.{T, eqb, ltb}
-use lib.ListN.{length, getD, set, length-set, List·getD-eq-default}
+use lib.ListN.{length, getD, set, replicate, length-set, length-replicate, List·getD-eq-default}
 use lib.Pow.{pow-lt}
 use lib.Seq.{getD-set-same, getD-set-other, set-out}
 use Rattle.base_lists.specs.List.{Occurs}
@@ -23,7 +23,7 @@ use Rattle.simulation.specs.Simulation.{Direction, forwards, backwards}
 use Rattle.table.specs.Row.{pairs}
 use Rattle.table.proofs.Pending.{pairs-at, pairs-put}
 use Rattle.table.proofs.StrikeSets.{first-bit}
-use Rattle.session_strike.specs.Moves.{marked, mark, markOne, markAll, markBeside, nodeAt, unmark}
+use Rattle.session_strike.specs.Moves.{marked, mark, markOne, markAll, markBeside, markBoth, nodeAt, unmark}
 
 -- ---- words
 
@@ -166,6 +166,16 @@ module _ (n : ℕ) where
     beside-marks forwards x room h o = all-keeps (markAll n marks (moves forwards v)) (moves backwards v) x (all-marks marks (moves forwards v) x room h o)
     beside-marks backwards x room h o =
         all-marks (markAll n marks (moves forwards v)) (moves backwards v) x (omega (arith, length-all marks (moves forwards v))) h o
+
+-- two nodes marked
+pub both-first : (n x y : ℕ) → n ≤ 512 → x < n → T (marked (markBoth n x y) x)
+unfolding markBoth
+both-first n x y few h = one-keeps n (markOne n (replicate 16 0) x) y x (one-marks n (replicate 16 0) x x (omega (arith, length-replicate {A = ℕ} 16 0)) h refl)
+
+pub both-second : (n x y : ℕ) → n ≤ 512 → y < n → T (marked (markBoth n x y) y)
+unfolding markBoth
+both-second n x y few h =
+    one-marks n (markOne n (replicate 16 0) x) y y (omega (arith, length-one n (replicate 16 0) x, length-replicate {A = ℕ} 16 0)) h refl
 
 -- ---- the first mark of a word taken away
 

@@ -27,7 +27,9 @@ use Rattle.table_row.specs.Problem.{Problem}
 use Rattle.table_row.specs.Row.{inTable, every, strikeOf, lastOf}
 use Rattle.table_row.specs.Reading.{InTable}
 use Rattle.table_row.proofs.Begin.{begins-fits, begins-next, begins-rest}
+use Rattle.table_row.proofs.Counting.{last-rests}
 use Rattle.table_row.proofs.Masks.{bit-union, masks-strike}
+use Rattle.table_row.proofs.Meaning.{last-fits}
 use Rattle.table_row.proofs.Sets.{in-node}
 use Rattle.table.specs.First.{Begins}
 use Rattle.table.specs.Host.{everything}
@@ -155,6 +157,15 @@ module _ (pattern host : Circuit) {masks : List ℕ} {moves : Direction → ℕ 
         begins-rest P most b
         (sym (masks-strike P most steps-within (begins-fits P b))
         ∙ sym (is-tabulate (length (host .kinds)) (nextSet P old) old long (λ v h. sym (rests v (rw (← long) at h)) ∙ next-row old long v h)))
+
+  -- in the last table no node changes
+  pub last-rest : (v : ℕ) → v < length (host .kinds) → nextOf masks moves (lastTable pattern host (everything host)) v ≡ getD (lastTable pattern host (everything host)) v 0
+  unfolding problemOf
+  last-rest v h =
+      let fits = last-fits P in
+      next-row (lastOf P) (fits .size) v h
+      ∙ sym (getD-tabulate (length (host .kinds)) (nextSet P (lastOf P)) v 0 h)
+      ∙ ap (λ (t : List ℕ). getD t v 0) (masks-strike P most steps-within fits ∙ last-rests P most)
 
   -- ---- what follows a link is followed back
 

@@ -7,7 +7,7 @@ use mathlib.Core.Path.{_≡_}
 use Prim.Native.Nat.{ℕ, _+_, _*_, _/_, _%_, _^_}
 use lib.Bits.{bitOr}
 use lib.Dec.{eqb, ltb}
-use lib.ListN.{length, getD, set}
+use lib.ListN.{length, getD, set, replicate}
 use Rattle.base_bits.specs.Bits.{bit, firstOf, withoutFirst, unionAt}
 use Rattle.graph.specs.Net.{forwardLinks, backwardLinks, driven, driving}
 use Rattle.graph.specs.Search.{far}
@@ -60,6 +60,10 @@ markAll n marks (w ∷ ws) = markAll n (markOne n marks w) ws
 -- and with those of the nodes beside node v
 unfoldable pub markBeside : ℕ → (Direction → ℕ → List ℕ) → List ℕ → ℕ → List ℕ
 markBeside n moves marks v = markAll n (markAll n marks (moves forwards v)) (moves backwards v)
+
+-- two of n nodes marked, and no other
+unfoldable pub markBoth : ℕ → ℕ → ℕ → List ℕ
+markBoth n x y = markOne n (markOne n (replicate 16 0) x) y
 
 -- the first node that word j marks, and the marks without it
 unfoldable pub nodeAt : List ℕ → ℕ → ℕ

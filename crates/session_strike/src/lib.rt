@@ -22,10 +22,10 @@ ghost use Rattle.base_lists.specs.Below.{leastBelow};
 ghost use Rattle.graph.specs.Search.{far};
 ghost use Rattle.simulation.specs.Simulation.{forwards, backwards};
 ghost use Rattle.session_strike.specs.Going.{Settles};
-ghost use Rattle.session_strike.specs.Moves.{Room, beyond, movesIn, nextOf, mark, markOne, markAll, markBeside, nodeAt, unmark, lookSets, lookMarks};
+ghost use Rattle.session_strike.specs.Moves.{Room, beyond, movesIn, nextOf, mark, markOne, markAll, markBeside, markBoth, nodeAt, unmark, lookSets, lookMarks};
 
 // How many numbers have the marks of all nodes, 32 to a number.
-pub const MARKS: usize = 16;
+const MARKS: usize = 16;
 
 // The other end of link i: no node where the link is out.
 fn end_of(ends: &[u16], i: usize) -> usize
@@ -100,7 +100,7 @@ fn next_set(
 }
 
 // Marks node v.
-pub fn mark(marks: &mut [u32], v: usize)
+fn mark(marks: &mut [u32], v: usize)
     requires { ⌜ v / 32 < length (now marks) ⌝ }
     ensures { λ _. ⌜ now (marks .exit) ≡ mark (now (marks .entry)) v ⌝ }
 {
@@ -223,7 +223,7 @@ fn look_next(
 }
 
 // Goes on from a table until no node is marked. A node that is looked at and changes marks the nodes beside it; nothing else is looked at.
-pub fn settle(
+fn settle(
     masks: &[u32],
     offsets: &[u16],
     numbers: &[u16],
@@ -240,4 +240,26 @@ pub fn settle(
         look_next(masks, offsets, numbers, ends, sets, marks, j);
         j = find(marks);
     }
+}
+
+// Goes on from a table where no node but x and y can change at first, as when a link from x to y is taken out.
+pub fn strike_from(
+    masks: &[u32],
+    offsets: &[u16],
+    numbers: &[u16],
+    ends: &[u16],
+    sets: &mut [u32],
+    x: usize,
+    y: usize,
+)
+    requires { ⌜ Room (now masks) (now offsets) (now numbers) (now ends) ⌝ }
+    requires { ⌜ length (now sets) ≤ 512 ⌝ }
+    ensures { λ _. ⌜ Settles (now (masks .entry)) (movesIn (now (offsets .entry)) (now (numbers .entry)) (now (ends .entry))) (now (sets .entry))
+        (markBoth (length (now (sets .entry))) x y) (now (sets .exit)) ⌝ }
+{
+    let mut marks = [0u32; MARKS];
+    let n = sets.len();
+    mark_one(n, x, &mut marks);
+    mark_one(n, y, &mut marks);
+    settle(masks, offsets, numbers, ends, sets, &mut marks);
 }
