@@ -82,7 +82,7 @@ module _ (pattern board : Circuit) where
   fresh-inside i h = rw (getD-tabulate (length (board .starts)) (λ i. 1) i 0 h) tt
 
   pub fresh-left : (i : ℕ) → isLeft (fresh pattern board) i ≡ ltb i (length (board .starts))
-  unfolding isLeft
+  unfolding isLeft fresh
   fresh-left i = go (ltb i (length (fresh pattern board .board .starts))) refl
     where
       go : (b : Bool) → ltb i (length (fresh pattern board .board .starts)) ≡ b → b && inside (fresh pattern board .left) i ≡ b

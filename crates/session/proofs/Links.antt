@@ -25,7 +25,7 @@ use Rattle.table.specs.Fill.{allNodes}
 use Rattle.table.specs.Row.{neighbours}
 use Rattle.session_strike.specs.Moves.{beyond, movesIn}
 use Rattle.session.specs.Machine.{Machine, isLeft, takeOut, boardLeft}
-use Rattle.session.specs.State.{endLeft, Linked}
+use Rattle.session.specs.State.{endLeft, without, Linked}
 use Rattle.session.proofs.Left.{end-out, left-below, left-inside, below-left}
 
 -- ---- the other ends of some links
@@ -117,21 +117,17 @@ module _ (m : Machine) {offsets numbers ends : List ℕ} (linked : Linked m offs
   linked-leads forwards v w h l =
       let n : w < 512 = omega arith in
       rw (linked .byStart v h)
-      (Iff·trans (leads m (m .board .starts) (m .board .ends) refl (sym parallel) (forwardLinks ends) (linked .ends) v w n)
+      (Iff·trans (leads m (m .board .starts) (m .board .ends) refl (sym parallel) (forwardLinks ends) (linked .atEnds) v w n)
       (Iff·trans (Iff·symm (chosen-iff (m .board) (m .left) v w)) (Iff·symm (select-mem (chosen (m .board) (m .left) .starts) (chosen (m .board) (m .left) .ends) v w))))
   linked-leads backwards v w h l =
       let n : w < 512 = omega arith in
-      let along = leads m (m .board .ends) (m .board .starts) (sym parallel) parallel (backwardLinks ends) (linked .starts) v w n in
+      let along = leads m (m .board .ends) (m .board .starts) (sym parallel) parallel (backwardLinks ends) (linked .atStarts) v w n in
       rw (linked .byEnd v h, parallel)
       (Iff·trans along
       (Iff·trans ((λ (i, x, t). (i, link-swap _ _ _ _ _ x, t)), (λ (i, x, t). (i, link-swap _ _ _ _ _ x, t)))
       (Iff·trans (Iff·symm (chosen-iff (m .board) (m .left) w v)) (Iff·symm (select-mem-back (chosen (m .board) (m .left) .starts) (chosen (m .board) (m .left) .ends) v w)))))
 
 -- ---- a link taken out
-
--- the ends with the two entries of a link made no node's
-abbrev pub without : List ℕ → ℕ → List ℕ
-without ends place = set (set ends place far) (4096 + place) far
 
 module _ (ends : List ℕ) (place : ℕ) (h : place < 4096) where
   pub forward-out : forwardLinks (without ends place) ≡ set (forwardLinks ends) place far
@@ -151,17 +147,17 @@ module _ (m : Machine) {offsets numbers ends : List ℕ} (linked : Linked m offs
       record {
         byStart = linked .byStart;
         byEnd = linked .byEnd;
-        ends =
+        atEnds =
             λ i.
             ap (λ (l : List ℕ). getD l i far) (forward-out ends place h)
             ∙ entry-out (forwardLinks ends) place i
-            ∙ ap (λ (x : ℕ). cond (eqb i place) far x) (linked .ends i)
+            ∙ ap (λ (x : ℕ). cond (eqb i place) far x) (linked .atEnds i)
             ∙ sym (end-out m place (m .board .ends) i);
-        starts =
+        atStarts =
             λ i.
             ap (λ (l : List ℕ). getD l i far) (backward-out ends place h)
             ∙ entry-out (backwardLinks ends) place i
-            ∙ ap (λ (x : ℕ). cond (eqb i place) far x) (linked .starts i)
+            ∙ ap (λ (x : ℕ). cond (eqb i place) far x) (linked .atStarts i)
             ∙ sym (end-out m place (m .board .starts) i);
       }
 

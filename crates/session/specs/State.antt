@@ -1,9 +1,10 @@
 -- The tables that a session lives in, and which machine they hold. The caller lends them to each call; what they hold is the session's own affair.
-use mathlib.Core.Bool.{cond}
+use mathlib.Core.Bool.{Bool, _&&_, cond}
 use mathlib.Core.List.{List}
 use mathlib.Core.Path.{_≡_}
-use Prim.Native.Nat.{ℕ, _<_}
-use lib.ListN.{length, getD, take}
+use Prim.Native.Nat.{ℕ, _+_, _<_}
+use lib.Dec.{ltb}
+use lib.ListN.{length, getD, set, take}
 use Rattle.file_format.specs.Circuit.{Bounded}
 use Rattle.file_format.specs.declared.Role.the-variants as role
 use Rattle.graph.specs.Neighbours.{select}
@@ -44,8 +45,20 @@ endLeft m ends i = cond (isLeft m i) (getD ends i 0) far
 pub record Linked (m : Machine) (offsets numbers ends : List ℕ) : Type 0 where
   pub byStart : (v : ℕ) → v < length (m .board .kinds) → driven offsets numbers v ≡ select (m .board .starts) (allNodes (length (m .board .starts))) v
   pub byEnd : (v : ℕ) → v < length (m .board .kinds) → driving offsets numbers v ≡ select (m .board .ends) (allNodes (length (m .board .starts))) v
-  pub ends : (i : ℕ) → getD (forwardLinks ends) i far ≡ endLeft m (m .board .ends) i
-  pub starts : (i : ℕ) → getD (backwardLinks ends) i far ≡ endLeft m (m .board .starts) i
+  pub atEnds : (i : ℕ) → getD (forwardLinks ends) i far ≡ endLeft m (m .board .ends) i
+  pub atStarts : (i : ℕ) → getD (backwardLinks ends) i far ≡ endLeft m (m .board .starts) i
+
+-- ---- a link taken out
+
+-- the tables say that a link is left at a place: it has an end among so many nodes
+unfoldable pub takes : List ℕ → ℕ → ℕ → Bool
+takes ends nodes place = ltb place 4096 && ltb (getD ends place far) nodes
+
+-- the ends with the two entries of a link made no node's
+abbrev pub without : List ℕ → ℕ → List ℕ
+without ends place = set (set ends place far) (4096 + place) far
+
+-- ---- which machine it is
 
 -- The tables hold a machine: its sizes, masks and links, and the last table of the row, before the all-0 rule.
 pub record Holds (m : Machine) (s : State) : Type 0 where
