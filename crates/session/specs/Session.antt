@@ -7,6 +7,7 @@ use lib.Dec.{leb}
 use lib.ListN.{length, getD}
 use Rattle.file_format.specs.Reading.{filled}
 use Rattle.file_format.specs.Refusals.{Verdict, refuse, first, shortTable}
+use Rattle.file_format.specs.Reply.{Reply, reply}
 use Rattle.file_format.specs.declared.Refusal.{Refusal}
 use Rattle.session.specs.Machine.{Machine, cutReply, cutMachine, machineTable}
 use Rattle.session.specs.State.{State, Holds}
@@ -29,12 +30,12 @@ pub record CutPromise (before : State) (place : ℕ) (reply : Verdict) (after : 
   pub refused : (x : Refusal) → reply ≡ refuse x → after ≡ before
 
 -- Reading out the table of a machine: "8 a lent output table too short"; else the table stands at the front, and entries past N stay.
-pub record ReadPromise (s : State) (before : List ℕ) (reply : Verdict) (n : ℕ) (after : List ℕ) : Type 0 where
+pub record ReadPromise (s : State) (before : List ℕ) (answer : Reply) (after : List ℕ) : Type 0 where
   pub machine :
       (m : Machine) → Holds m s →
-      (reply ≡ first (shortTable (length (m .board .kinds)) (length before) ∷ [])) × (n ≡ length (m .board .kinds))
-      × (after ≡ filled (first (shortTable (length (m .board .kinds)) (length before) ∷ [])) (machineTable m) before)
-  pub refused : (x : Refusal) → reply ≡ refuse x → after ≡ before
+      let verdict = first (shortTable (length (m .board .kinds)) (length before) ∷ []) in
+      (answer ≡ reply verdict (length (m .board .kinds) ∷ [])) × (after ≡ filled verdict (machineTable m) before)
+  pub refused : (x : Refusal) → answer .verdict ≡ refuse x → after ≡ before
 
 -- ---- one call after another
 

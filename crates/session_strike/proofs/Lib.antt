@@ -1,4 +1,4 @@
-mod Entries
+pub mod Entries
 mod Looking
 pub mod Marking
 pub mod Striking
