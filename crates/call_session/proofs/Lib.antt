@@ -1,1 +1,2 @@
 mod Opening
+pub mod Promise

@@ -41,6 +41,7 @@ use graph_neighbours::neighbours::Direction;
 use graph_neighbours::neighbours::neighbours;
 
 mod copied;
+pub mod cutting;
 pub mod reply;
 pub mod second;
 pub mod shelf;

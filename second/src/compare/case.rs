@@ -7,7 +7,7 @@ use super::damage::{spoil, upset};
 use super::finder::Finder;
 use super::proposals::{proposals, Proposal};
 use super::tally::Tally;
-use super::{agree, editions, laws, shelves, Difference};
+use super::{agree, editions, laws, sessions, shelves, Difference};
 use crate::circuit::{Circuit, Edition, Role};
 use crate::graph;
 use crate::load::Numbers;
@@ -255,5 +255,6 @@ pub fn check(
     }
     laws::check(finder, &case, tally)?;
     editions::check(finder, seed, number, tally)?;
+    sessions::check(finder, seed, number, tally)?;
     shelves::check(finder, seed, number, tally)
 }
