@@ -1,25 +1,23 @@
 -- The tables that opening fills hold a fresh machine. Assumes nothing.
 use mathlib.Core.Bool.{Bool, true, false, cond}
 use mathlib.Core.List.{List, _++_}
-use mathlib.Core.Path.{_≡_, refl, sym, ap, subst, _∙_}
-use Prim.Native.Nat.{ℕ, _+_, _-_, _≤_, _<_}
+use mathlib.Core.Path.{_≡_, refl, sym, ap, _∙_}
+use Prim.Native.Nat.{ℕ, _+_, _-_, _<_}
 use native.Mathlib.Omega.{arith}
 use borrow.Author.Tests.{ltb-true, ltb-false}
-use lib.Dec.{T, ltb}
-use lib.ListN.{length, getD, take, drop, replicate, length-replicate, length-drop, getD-replicate, List·getD-eq-default, List·getD-append}
+use lib.Dec.{ltb}
+use lib.ListN.{length, getD, take, drop, replicate, length-replicate, getD-replicate, List·getD-eq-default, List·getD-append}
 use lib.Seq.{take-at, getD-append-add, getD-drop}
-use Rattle.base_lists.specs.List.{tabulate, Below}
+use Rattle.base_lists.specs.List.{Below}
 use Rattle.base_lists.proofs.Tables.{length-tabulate}
-use Rattle.graph.specs.Chosen.{chosen}
 use Rattle.graph.specs.Circuit.{Circuit}
-use Rattle.graph.specs.Net.{forwardLinks, backwardLinks}
 use Rattle.graph.specs.Search.{far}
 use Rattle.graph.proofs.Chosen.{chosen-all}
 use Rattle.graph.proofs.Groups.{all-below, keys-wider}
-use Rattle.file_format.specs.Circuit.{Bounded, circuitOf}
+use Rattle.file_format.specs.Circuit.{Bounded}
 use Rattle.file_format.specs.Layout.{CircuitFile}
 use Rattle.file_format.specs.Reading.{front}
-use Rattle.file_format.specs.Refusals.{Verdict, accept, refuse, first}
+use Rattle.file_format.specs.Refusals.{accept, refuse, first}
 use Rattle.file_format.specs.declared.Refusal.{Refusal}
 use Rattle.file_format.specs.declared.Role.the-variants as role
 use Rattle.file_format.proofs.Accepted.{bounded-starts, bounded-ends}
@@ -27,7 +25,7 @@ use Rattle.file_pair.specs.declared.Pair.{Pair}
 use Rattle.file_pair.specs.Pair.{pairConditions, BothRead}
 use Rattle.table.specs.Host.{everything}
 use Rattle.table.specs.Row.{lastTable}
-use Rattle.session.specs.Machine.{Machine, fresh, isLeft, boardLeft}
+use Rattle.session.specs.Machine.{Machine, fresh, boardLeft}
 use Rattle.session.specs.State.{State, state, Linked, Holds, endLeft}
 use Rattle.session.proofs.Left.{fresh-inside, fresh-left}
 use Rattle.session_open.specs.Open.{padded, Numbered, Ended, Fixed}

@@ -9,7 +9,6 @@ use file_pair::read_pair;
 use session_open::store_fixed;
 use session_open::store_links;
 use table_whole::match_circuits;
-ghost use mathlib.Core.Path.{_≡_};
 ghost use Rattle.file_format.specs.Layout.{inEdition};
 ghost use Rattle.session.specs.State.{state, StateRoom};
 ghost use Rattle.call_session.specs.Call.{openVerdict, OpenPromise};

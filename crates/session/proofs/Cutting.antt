@@ -9,16 +9,12 @@ use borrow.Author.Tests.{ltb-true, ltb-false, lt-ltb, le-ltb}
 use lib.Dec.{T, ltb}
 use lib.ListN.{length, getD, set, take, drop, length-set}
 use lib.Seq.{getD-take, getD-drop, take-at}
-use Rattle.base_lists.specs.List.{part, Below}
-use Rattle.base_lists.proofs.Tests.{T-true, T-false, true-T, false-T}
+use Rattle.base_lists.specs.List.{part}
+use Rattle.base_lists.proofs.Tests.{T-true, true-T, false-T}
 use Rattle.base_bits.specs.Bits.{unionAt}
 use Rattle.graph.specs.Chosen.{chosen}
-use Rattle.graph.specs.Circuit.{Circuit}
-use Rattle.graph.specs.Net.{forwardLinks}
-use Rattle.graph.specs.Search.{inside, far}
+use Rattle.graph.specs.Search.{far}
 use Rattle.graph.proofs.Groups.{all-below, key-below}
-use Rattle.file_format.specs.Circuit.{Bounded}
-use Rattle.file_format.specs.declared.Role.the-variants as role
 use Rattle.file_format.proofs.Accepted.{bounded-starts, bounded-ends}
 use Rattle.simulation.specs.Simulation.{Direction, forwards, backwards}
 use Rattle.table.specs.First.{Begins}
@@ -32,7 +28,7 @@ use Rattle.session_strike.specs.Moves.{movesIn, nextOf, marked, markBoth}
 use Rattle.session_strike.proofs.Marking.{both-first, both-second}
 use Rattle.session_strike.proofs.Striking.{last-rest}
 use Rattle.session.specs.Machine.{Machine, isLeft, takeOut, boardLeft}
-use Rattle.session.specs.State.{State, state, Linked, Holds, endLeft, takes, without}
+use Rattle.session.specs.State.{State, state, Holds, endLeft, takes, without}
 use Rattle.session.proofs.Left.{left-below, left-fewer}
 use Rattle.session.proofs.Links.{linked-leads, linked-out, moves-apart}
 use Rattle.session.proofs.Fewer.{fewer-begins}
@@ -143,8 +139,8 @@ module _ {m : Machine} {s : State} (holds : Holds m s) (place : ℕ) where
         let y : ℕ = getD (m .board .ends) place 0 in
         let few : length old ≤ 512 = omega (arith, old-long, nodes-few) in
         let apart = moves-apart m (holds .links) place inside-links (holds .board .parallel) v n
-            (λ e. false-T q (subst (λ (w : ℕ). T (marked (markBoth (length old) x y) w)) e (both-first (length old) x y few (rw e h))))
-            (λ e. false-T q (subst (λ (w : ℕ). T (marked (markBoth (length old) x y) w)) e (both-second (length old) x y few (rw e h)))) in
+        (λ e. false-T q (subst (λ (w : ℕ). T (marked (markBoth (length old) x y) w)) e (both-first (length old) x y few (rw e h))))
+        (λ e. false-T q (subst (λ (w : ℕ). T (marked (markBoth (length old) x y) w)) e (both-second (length old) x y few (rw e h)))) in
         ap₂ (λ (a b : List ℕ). survivors (succOf masks) (predOf masks) (unionAt old a) (unionAt old b) (getD old v 0)) (apart forwards) (apart backwards)
         ∙ last-rest (m .pattern) (boardLeft m) follows v n
 

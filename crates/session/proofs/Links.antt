@@ -1,20 +1,20 @@
 -- The links of a machine as the tables hold them: they lead where the links left lead, and taking a link out leaves the others. Assumes nothing.
-use mathlib.Core.Bool.{Bool, true, false, not, cond}
+use mathlib.Core.Bool.{Bool, true, false, cond}
 use mathlib.Core.List.{List, [], _∷_}
 use mathlib.Core.Logic.{_↔_, Iff·trans, Iff·symm}
 use mathlib.Core.Path.{_≡_, refl, sym, ap, ap₂, subst, _∙_}
 use Prim.Native.Nat.{ℕ, zero, suc, _+_, _≤_, _<_, suc-le-suc}
 use native.Mathlib.Nat.{zero-lt-suc, not-suc-le-zero, le-of-suc-le-suc}
 use native.Mathlib.Omega.{arith}
-use borrow.Author.Tests.{eqb-true, eqb-false, ltb-true, ltb-false, eq-eqb}
+use borrow.Author.Tests.{eqb-true, eqb-false, ltb-true, ltb-false}
 use lib.Dec.{T, eqb, ltb}
 use lib.ListN.{length, getD, set, take, drop, List·getD-eq-default}
 use lib.Seq.{getD-set-same, getD-set-other, set-out, take-set-le, take-set-lt, drop-set-lt, drop-set-add}
-use Rattle.base_lists.specs.List.{tabulate, part, Occurs}
+use Rattle.base_lists.specs.List.{part, Occurs}
 use Rattle.base_lists.proofs.Tables.{length-tabulate, getD-tabulate}
-use Rattle.base_lists.proofs.Tests.{T-true, true-T, false-T}
+use Rattle.base_lists.proofs.Tests.{T-true, true-T}
 use Rattle.graph.specs.Chosen.{chosen, ChosenLink}
-use Rattle.graph.specs.Circuit.{Circuit, LinkAt, HasLink}
+use Rattle.graph.specs.Circuit.{LinkAt, HasLink}
 use Rattle.graph.specs.Neighbours.{select}
 use Rattle.graph.specs.Net.{forwardLinks, backwardLinks, driven, driving}
 use Rattle.graph.specs.Search.{inside, far}
@@ -26,7 +26,7 @@ use Rattle.table.specs.Row.{neighbours}
 use Rattle.session_strike.specs.Moves.{beyond, movesIn}
 use Rattle.session.specs.Machine.{Machine, isLeft, takeOut, boardLeft}
 use Rattle.session.specs.State.{endLeft, without, Linked}
-use Rattle.session.proofs.Left.{end-out, left-below, left-inside, below-left}
+use Rattle.session.proofs.Left.{end-out, left-inside, below-left}
 
 -- ---- the other ends of some links
 

@@ -2,18 +2,16 @@
 -- nodes with the links left. Assumes nothing.
 use mathlib.Core.Bool.{Bool, true, false, _&&_, _||_, not, cond, and-true}
 use mathlib.Core.List.{List, [], _∷_}
-use mathlib.Core.Logic.{_↔_}
 use mathlib.Core.Path.{_≡_, refl, sym, ap, ap₂, subst, _∙_}
-use Prim.Native.Nat.{ℕ, _≤_, _<_}
+use Prim.Native.Nat.{ℕ}
 use borrow.Author.Tests.{eqb-true, eq-eqb}
 use lib.Dec.{T, eqb, eqb→eq}
 use lib.ListN.{length}
 use Rattle.base_lists.specs.List.{any}
 use Rattle.base_lists.proofs.Tests.{T-true, true-T, same-test}
-use Rattle.graph.specs.Chosen.{chosen, ChosenLink}
-use Rattle.graph.specs.Circuit.{Circuit, HasLink, LinkAt, circuitGraph}
-use Rattle.graph.specs.Search.{inside}
-use Rattle.graph.proofs.Ball.{Within, within-all}
+use Rattle.graph.specs.Chosen.{chosen}
+use Rattle.graph.specs.Circuit.{circuitGraph}
+use Rattle.graph.proofs.Ball.{within-all}
 use Rattle.graph.proofs.Chosen.{chosen-iff, chosen-has}
 use Rattle.file_format.specs.Circuit.{Bounded}
 use Rattle.file_format.specs.Refusals.{Verdict, accept, refuse, first, linkGone}
@@ -26,8 +24,8 @@ use Rattle.table.specs.Host.{KindsMatch}
 use Rattle.table.specs.Row.{InTable}
 use Rattle.table.proofs.Answer.{board-answer}
 use Rattle.table.proofs.Host.{within-joins}
-use Rattle.session.specs.Machine.{Machine, fresh, isLeft, takeOut, cutReply, cutMachine, replies, machineAfter, boardLeft, machineTable}
-use Rattle.session.specs.Session.{CutPromise, Cuts}
+use Rattle.session.specs.Machine.{Machine, isLeft, takeOut, cutReply, cutMachine, replies, machineAfter, boardLeft, machineTable}
+use Rattle.session.specs.Session.{Cuts}
 use Rattle.session.specs.State.{State, Holds}
 use Rattle.session.proofs.Left.{left-out}
 

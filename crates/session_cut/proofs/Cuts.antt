@@ -1,18 +1,18 @@
 -- What taking a link out and striking on come to, for tables of any content and for those that hold a machine. Assumes nothing.
-use mathlib.Core.Bool.{Bool, true, false, _&&_, cond}
+use mathlib.Core.Bool.{Bool, true, false, cond}
 use mathlib.Core.List.{List, _++_}
 use mathlib.Core.Path.{_≡_, refl, sym, ap, subst, _∙_}
 use Prim.Native.Nat.{ℕ, _+_, _≤_, _<_}
 use native.Mathlib.Omega.{arith}
-use borrow.Author.Tests.{ltb-true, ltb-false, lt-ltb, le-ltb, leb-true, leb-false, le-leb, lt-leb}
-use lib.Dec.{T, ltb, leb}
+use borrow.Author.Tests.{lt-ltb, le-ltb, leb-true, le-leb, lt-leb}
+use lib.Dec.{T, leb}
 use lib.ListN.{length, getD, take, drop}
-use Rattle.base_lists.proofs.Tests.{T-true, true-T}
-use Rattle.file_format.specs.Refusals.{Verdict, accept, refuse}
+use Rattle.base_lists.proofs.Tests.{true-T}
+use Rattle.file_format.specs.Refusals.{accept, refuse}
 use Rattle.file_format.specs.declared.File.the-variants.{Neither}
 use Rattle.file_format.specs.declared.Refusal.{Refusal}
 use Rattle.graph.specs.Search.{far}
-use Rattle.session.specs.Machine.{Machine, isLeft, cutMachine, cutReply}
+use Rattle.session.specs.Machine.{Machine, isLeft}
 use Rattle.session.specs.Session.{bounded, nodesIn, CutPromise}
 use Rattle.session.specs.State.{State, state, Holds, takes, without}
 use Rattle.session.proofs.Cutting.{takes-left, cut-holds}
@@ -123,7 +123,7 @@ module _ (fixed offsets numbers ends sets : List ℕ) {place : ℕ} {taken : Tak
   cut-promise x y e {last} settles =
       let out : ends′ ≡ without ends place = t .left ∙ ap (λ (b : Bool). cond b (without ends place) ends) (some t e) in
       let link : Link x y ≡ Link (getD ends (4096 + place) far) (getD ends place far) =
-          sym e ∙ t .link ∙ ap (λ (b : Bool). cond b (Link (getD ends (4096 + place) far) (getD ends place far)) Gone) (some t e) in
+      sym e ∙ t .link ∙ ap (λ (b : Bool). cond b (Link (getD ends (4096 + place) far) (getD ends place far)) Gone) (some t e) in
       let start : x ≡ getD ends (4096 + place) far = cc in
       let end : y ≡ getD ends place far = cc in
       record {
@@ -133,7 +133,7 @@ module _ (fixed offsets numbers ends sets : List ℕ) {place : ℕ} {taken : Tak
             let c = cut-left m place left in (
               sym (c .0),
               subst (λ (x : Machine). Holds x (state fixed offsets numbers ends′ (last ++ drop (nodesIn fixed) sets))) (sym (c .1))
-              (rw (out, nodes-held h) (cut-holds h place left (rw (out, nodes-held h, start, end) at settles))),
+                  (rw (out, nodes-held h) (cut-holds h place left (rw (out, nodes-held h, start, end) at settles))),
             );
         refused = λ z q. absurd (never z q);
       }

@@ -1,26 +1,26 @@
 -- What reading the table out comes to. Assumes nothing.
-use mathlib.Core.Bool.{Bool, true, false, cond}
-use mathlib.Core.List.{List, [], _∷_, _++_}
+use mathlib.Core.Bool.{true, false}
+use mathlib.Core.List.{List, _++_}
 use mathlib.Core.Path.{_≡_, refl, sym, ap, subst, _∙_}
 use Prim.Native.Nat.{ℕ, _≤_, _<_}
 use native.Mathlib.Omega.{arith}
 use borrow.Author.Tests.{lt-ltb, le-ltb}
-use lib.Dec.{T, ltb}
-use lib.ListN.{length, getD, take, drop}
+use lib.Dec.{ltb}
+use lib.ListN.{length, take, drop}
 use lib.Seq.{take-at, drop-at, length-take-le}
 use Rattle.file_format.specs.Reading.{filled}
-use Rattle.file_format.specs.Refusals.{Verdict, accept, refuse, first, shortTable}
-use Rattle.file_format.specs.Reply.{Reply, reply}
+use Rattle.file_format.specs.Refusals.{accept, refuse, first, shortTable}
+use Rattle.file_format.specs.Reply.{reply}
 use Rattle.file_format.specs.declared.File.the-variants.{Neither}
 use Rattle.file_format.specs.declared.Refusal.{Refusal}
 use Rattle.graph.specs.Chosen.{chosen}
 use Rattle.session.specs.Machine.{Machine, boardLeft, machineTable}
 use Rattle.session.specs.Session.{bounded, nodesIn, partsIn, ReadPromise}
 use Rattle.session.specs.State.{State, state, Holds}
-use Rattle.table.specs.Answer.{Fits, allOrNone, answerTable}
+use Rattle.table.specs.Answer.{Fits, allOrNone}
 use Rattle.table_row.specs.Answer.{answerOf}
 use Rattle.table.specs.Host.{everything}
-use Rattle.table.specs.Row.{lastTable, problemOf}
+use Rattle.table.specs.Row.{problemOf}
 use Rattle.table.proofs.Answer.{answer-fits}
 use Rattle.table.proofs.Meaning.{last-fits}
 use Rattle.session_cut.specs.declared.OutAnswer.the-variants as out

@@ -1,12 +1,10 @@
 -- What filling the tables of a session leaves. Assumes nothing.
 use mathlib.Core.List.{List, _++_}
 use mathlib.Core.Path.{_≡_, sym, ap, _∙_}
-use Prim.Native.Nat.{ℕ, _≤_, _<_}
+use Prim.Native.Nat.{ℕ, _≤_}
 use native.Mathlib.Omega.{arith}
-use lib.Dec.{T, ltb}
-use lib.ListN.{length, getD, set, take, drop, replicate, length-set, length-append, length-take, length-drop, length-replicate}
+use lib.ListN.{length, set, take, drop, length-set, length-append, length-take, length-drop, length-replicate}
 use lib.Seq.{take-at, take-set-le, getD-set-same, getD-set-other}
-use Rattle.base_lists.specs.List.{all, part}
 use Rattle.base_lists.proofs.Parts.{halved, part-first, part-second, length-halved}
 use Rattle.base_lists.proofs.Tables.{length-tabulate}
 use Rattle.graph.specs.Neighbours.{offsetsOf, grouped}
@@ -69,9 +67,9 @@ fixed-stored starts ends parts nodes old {masks} room long masked =
     let whole : length (masks ++ drop 64 old) ≡ 66 = simp (length-append, length-drop) (omega arith) in
     let once : length (set (masks ++ drop 64 old) 64 parts) ≡ 66 = length-set (masks ++ drop 64 old) 64 parts ∙ whole in
     let front : take 64 (set (set (masks ++ drop 64 old) 64 parts) 65 nodes) ≡ masks =
-        take-set-le 64 (set (masks ++ drop 64 old) 64 parts) 65 nodes (omega arith)
-        ∙ take-set-le 64 (masks ++ drop 64 old) 64 parts (omega arith)
-        ∙ take-at masks (drop 64 old) 64 long in
+    take-set-le 64 (set (masks ++ drop 64 old) 64 parts) 65 nodes (omega arith)
+    ∙ take-set-le 64 (masks ++ drop 64 old) 64 parts (omega arith)
+    ∙ take-at masks (drop 64 old) 64 long in
     record {
       room = length-set (set (masks ++ drop 64 old) 64 parts) 65 nodes ∙ once;
       masked = rw front masked;

@@ -2,24 +2,23 @@
 use mathlib.Core.Bool.{Bool, true, false, not, cond}
 use mathlib.Core.List.{List}
 use mathlib.Core.Path.{_≡_, refl, sym, ap, subst, _∙_}
-use Prim.Native.Nat.{ℕ, zero, _+_, _*_, _^_, _≤_, _<_}
+use Prim.Native.Nat.{ℕ, zero, _+_, _*_, _≤_, _<_}
 use native.Mathlib.Omega.{arith}
 use borrow.Author.Tests.{eqb-true, eqb-false, ltb-true, ltb-false, not-true}
-use lib.Dec.{T, eqb, ltb}
-use lib.ListN.{length, getD, set, length-set}
+use lib.Dec.{eqb, ltb}
+use lib.ListN.{length, getD, set}
 use Rattle.base_lists.specs.Below.{leastBelow}
 use Rattle.base_lists.proofs.Below.{leastBelow-at}
 use Rattle.base_lists.proofs.Tests.{T-true, T-false, false-T}
-use Rattle.base_bits.specs.Bits.{sizeOf}
 use Rattle.graph.specs.Circuit.{Circuit}
 use Rattle.simulation.specs.Simulation.{Direction}
 use Rattle.table.specs.First.{Begins}
 use Rattle.table.specs.Host.{everything}
-use Rattle.table.specs.Row.{pairs, lastTable, problemOf}
+use Rattle.table.specs.Row.{pairs, problemOf}
 use Rattle.table.proofs.Pending.{pairs-le}
 use Rattle.session_strike.specs.Going.{Follows, Covered, Settles}
-use Rattle.session_strike.specs.Moves.{marked, nextOf, markBeside, nodeAt, unmark, lookSets, lookMarks}
-use Rattle.session_strike.proofs.Looking.{next-subset, next-lt, next-out, length-look, look-same, look-other}
+use Rattle.session_strike.specs.Moves.{nextOf, markBeside, nodeAt, unmark, lookSets, lookMarks}
+use Rattle.session_strike.proofs.Looking.{next-subset, next-lt, next-out, length-look, look-same}
 use Rattle.session_strike.proofs.Marking.{Words, words-set, size-less, pairs-less, length-unmark, words-unmark, unmark-less, unmark-keeps, length-beside, words-beside, none-marked}
 use Rattle.session_strike.proofs.Striking.{look-begins, look-covered, rest-last}
 
@@ -123,10 +122,10 @@ module _ (masks : List ℕ) (moves : Direction → ℕ → List ℕ) {sets₀ ma
             let now = g .keeps pattern host follows begins covered in (
               subst (Begins pattern host (everything host)) (sym e) (look-begins pattern host follows (now .0) v),
               subst (λ (x : List ℕ). Covered masks moves x marks′) (sym e)
-              (subst (λ (x : List ℕ). Covered masks moves (lookSets masks moves sets v) x) (sym q)
-              (look-covered pattern host follows sets rest (now .0 .long) v
-              (λ w h other u. now .1 w h (T-false (λ t. false-T u (unmark-keeps marks j inside word-some word w other t))))
-              (omega (arith, g .long, size)))),
+                  (subst (λ (x : List ℕ). Covered masks moves (lookSets masks moves sets v) x) (sym q)
+                  (look-covered pattern host follows sets rest (now .0 .long) v
+                  (λ w h other u. now .1 w h (T-false (λ t. false-T u (unmark-keeps marks j inside word-some word w other t))))
+                  (omega (arith, g .long, size)))),
             );
       }
 
@@ -144,7 +143,7 @@ module _ (masks : List ℕ) (moves : Direction → ℕ → List ℕ) {sets₀ ma
           let fewer = look-fewer masks moves sets rest v (g .inSets) (eqb-false _ _ p) in
           let most = pairs-le (lookMarks masks moves sets rest v) in
           let size : length (lookMarks masks moves sets rest v) ≡ 16 =
-              length-look-marks masks moves sets rest v ∙ length-unmark marks j inside word-some (g .inMarks j) ∙ g .room in
+          length-look-marks masks moves sets rest v ∙ length-unmark marks j inside word-some (g .inMarks j) ∙ g .room in
           omega arith
 
 -- ---- the beginning and the end

@@ -1,8 +1,8 @@
 -- Laws of marks: which nodes are marked after one is marked or taken away, and how many. Assumes nothing.
-use mathlib.Core.Bool.{Bool, true, false, _&&_, _||_, not, cond}
+use mathlib.Core.Bool.{Bool, true, false, not, cond}
 use mathlib.Core.List.{List, [], _∷_}
-use mathlib.Core.Path.{_≡_, refl, sym, ap, subst, _∙_}
-use Prim.Native.Nat.{ℕ, zero, suc, _+_, _*_, _/_, _%_, _^_, _≤_, _<_, zero-le, suc-le-suc}
+use mathlib.Core.Path.{_≡_, refl, ap, _∙_}
+use Prim.Native.Nat.{ℕ, zero, suc, _*_, _/_, _%_, _^_, _≤_, _<_}
 use native.Mathlib.Nat.{le-of-suc-le-suc, not-suc-le-zero}
 use native.Mathlib.Omega.{arith}
 use borrow.Author.Tests.{eqb-true, eqb-false, eq-eqb, ne-eqb, ltb-true, ltb-false, lt-ltb, not-false}
@@ -14,7 +14,7 @@ use lib.Seq.{getD-set-same, getD-set-other, set-out}
 use Rattle.base_lists.specs.List.{Occurs}
 use Rattle.base_lists.specs.Below.{countBelow, leastBelow}
 use Rattle.base_lists.proofs.Below.{countBelow-mono, countBelow-equal, leastBelow-none}
-use Rattle.base_lists.proofs.Tests.{both, both-left, both-right, either-left, either-right, T-true, true-T, false-T}
+use Rattle.base_lists.proofs.Tests.{both, both-left, both-right, either-left, either-right, true-T, false-T}
 use Rattle.base_bits.specs.Bits.{bit, Subset, sizeOf, firstOf, withoutFirst}
 use Rattle.base_bits.proofs.Digits.{bit-of-zero, bit-or, bit-single, same-bits-below}
 use Rattle.base_bits.proofs.Members.{bit-without}

@@ -6,26 +6,23 @@ use mathlib.Core.Logic.{_↔_, _⊎_, inl, inr, ⊎-elim}
 use mathlib.Core.Path.{_≡_, refl, sym, ap, ap₂, subst, _∙_}
 use Prim.Native.Nat.{ℕ, zero, suc, _*_, _≤_, _<_, suc-le-suc}
 use native.Mathlib.Nat.{zero-lt-suc}
-use native.Mathlib.Omega.{arith}
-use borrow.Author.Tests.{eqb-true, eqb-false, eq-eqb, ltb-true, ltb-false}
+use borrow.Author.Tests.{eqb-true, eqb-false, ltb-true, ltb-false}
 use lib.Bits.{bitOr}
 use lib.Dec.{T, eqb, ltb}
 use lib.ListN.{length, getD, set, length-set}
 use lib.Seq.{getD-set-same, getD-set-other, set-out}
-use Rattle.base_lists.specs.List.{any, tabulate, Occurs, Below}
+use Rattle.base_lists.specs.List.{Occurs, Below}
 use Rattle.base_lists.proofs.Tables.{is-tabulate, getD-tabulate}
-use Rattle.base_lists.proofs.Tests.{any-at, at-any, same-test, T-false, false-T, true-T}
+use Rattle.base_lists.proofs.Tests.{any-at, at-any, same-test, T-false, false-T}
 use Rattle.base_bits.specs.Bits.{bit, subsetOf, unionAt}
 use Rattle.base_bits.proofs.Digits.{same-bits}
 use Rattle.base_bits.proofs.Numbers.{number-same}
 use Rattle.graph.specs.Circuit.{Circuit}
-use Rattle.graph.specs.Neighbours.{select}
 use Rattle.graph.proofs.Groups.{select-mem, select-mem-back}
 use Rattle.simulation.specs.Simulation.{Direction, forwards, backwards}
 use Rattle.table_row.specs.Masks.{maskOf, covered, nextSet, StepsWithin}
 use Rattle.table_row.specs.Problem.{Problem}
 use Rattle.table_row.specs.Row.{inTable, every, strikeOf, lastOf}
-use Rattle.table_row.specs.Reading.{InTable}
 use Rattle.table_row.proofs.Begin.{begins-fits, begins-next, begins-rest}
 use Rattle.table_row.proofs.Counting.{last-rests}
 use Rattle.table_row.proofs.Masks.{bit-union, masks-strike}
@@ -39,9 +36,9 @@ use Rattle.table.specs.Strike.{survivors}
 use Rattle.table.proofs.Masks.{select-within}
 use Rattle.table.proofs.StrikeSets.{survivors-again}
 use Rattle.session_strike.specs.Going.{Follows, Covered}
-use Rattle.session_strike.specs.Moves.{marked, nextOf, markBeside, nodeAt, unmark, lookSets, lookMarks}
+use Rattle.session_strike.specs.Moves.{marked, nextOf, markBeside, lookSets, lookMarks}
 use Rattle.session_strike.proofs.Looking.{length-look, next-out, look-same, look-other}
-use Rattle.session_strike.proofs.Marking.{Words, length-unmark, unmark-keeps, beside-keeps, beside-marks}
+use Rattle.session_strike.proofs.Marking.{beside-keeps, beside-marks}
 
 -- ---- unions over neighbours
 

@@ -14,13 +14,12 @@ use table::MASKS;
 use table::strike::surviving;
 ghost use mathlib.Core.Path.{_≡_};
 ghost use mathlib.Core.Bool.{not};
-ghost use Prim.Native.Nat.{_+_, _*_, _/_, _^_, _≤_, _<_};
+ghost use Prim.Native.Nat.{_+_, _*_, _/_, _≤_, _<_};
 ghost use lib.Dec.{eqb};
 ghost use lib.ListN.{length, getD};
 ghost use Rattle.base_bits.specs.Bits.{unionAt};
 ghost use Rattle.base_lists.specs.Below.{leastBelow};
 ghost use Rattle.graph.specs.Search.{far};
-ghost use Rattle.simulation.specs.Simulation.{forwards, backwards};
 ghost use Rattle.session_strike.specs.Going.{Settles};
 ghost use Rattle.session_strike.specs.Moves.{Room, beyond, movesIn, nextOf, mark, markOne, markAll, markBeside, markBoth, nodeAt, unmark, lookSets, lookMarks};
 

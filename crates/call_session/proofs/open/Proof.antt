@@ -1,6 +1,5 @@
 -- `call_session::open` meets its contract: a file is refused, or the tables are filled from the two circuits that were read. Assumes nothing.
-use mathlib.Core.Path.{_≡_, sym, ap, _∙_}
-use Prim.Native.Nat.{ℕ, _≤_}
+use mathlib.Core.Path.{_≡_, sym, _∙_}
 use native.Mathlib.Omega.{arith}
 use borrow.Author.Needs.{needs}
 use denote.Ref.{now}
@@ -90,7 +89,7 @@ slice-aggregate-store-fixed-2 : tie.Need-slice-aggregate-store-fixed-2
 slice-aggregate-store-fixed-2 c = sym (stands-size (both (c .before .before) .drawn) .2)
 
 store-fixed-requires : tie.Need-store-fixed-requires
-store-fixed-requires c κs = 
+store-fixed-requires c κs =
     let told = c .before .before .before in
     let read = both told in
     let p = bounded-any (pattern-bounded read) in
@@ -111,7 +110,7 @@ slice-aggregate-store-links-2 : tie.Need-slice-aggregate-store-links-2
 slice-aggregate-store-links-2 c = sym (stands-size (both (c .before .before .before .before .before .before .before .before) .given) .2)
 
 store-links-requires : tie.Need-store-links-requires
-store-links-requires c κs = 
+store-links-requires c κs =
     let told = c .before .before .before .before .before .before .before .before .before .before .before in
     let read = both told in
     let n = board-bounded read in
@@ -156,7 +155,7 @@ slice-aggregate-match-circuits-6 : tie.Need-slice-aggregate-match-circuits-6
 slice-aggregate-match-circuits-6 c = sym (stands-size (both (c .before .before .before .before .before .before .before .before .before .before .before .before .before .before .before .before .before .before .before .before .before .before .before .before) .given) .2)
 
 slice-relend-prefix-match-circuits : tie.Need-slice-relend-prefix-match-circuits
-slice-relend-prefix-match-circuits c = 
+slice-relend-prefix-match-circuits c =
     let told = c .before .before .before .before .before .before .before .before .before .before .before .before .before .before .before .before .before .before .before .before .before .before .before .before in
     let read = both told in
     omega (arith, board-bounded read .nodes, stands-size (read .given) .0, entry (reading told) .pre .inSets)

@@ -1,11 +1,9 @@
 -- `session_cut::all_or_none` meets its contract: the union of the sets says whether every part occurs. Assumes nothing.
-use mathlib.Core.Path.{_≡_, refl, sym, ap, _∙_}
+use mathlib.Core.Path.{sym, ap, _∙_}
 use borrow.Author.Needs.{needs}
-use denote.Ref.{now}
 use borrow.Author.Tests.{eq-eqb, ne-eqb}
 use Rattle.base_bits.specs.Bits.{sizeOf}
 use Rattle.table.specs.Answer.{allOrNone}
-use Rattle.table_answer.specs.Union.{unionAll}
 use Rattle.table_answer.proofs.AllParts.{occur-size, none-tabulated}
 use Rattle.session_cut.proofs.all_or_none.Statement.{statement}
 use Rattle.session_cut.proofs.all_or_none.Tie as tie

@@ -1,22 +1,18 @@
 -- `session_cut::cut` meets its contract: no link is left at the place, or it is taken out and striking goes on. Assumes nothing.
-use Rattle.session.specs.Session.{CutPromise}
+use Rattle.session.specs.Session.{CutPromise, nodesIn}
 use Rattle.session.specs.State.{state}
 use mathlib.Core.List.{_++_}
-use lib.ListN.{drop}
+use lib.ListN.{drop, length, getD, take}
 use Rattle.session_strike.specs.Going.{Settles}
 use Rattle.session_strike.specs.Moves.{movesIn, markBoth}
 use Rattle.session_cut.specs.declared.CutAnswer.the-variants as answer
-use Rattle.session_cut.specs.Cut.{cutVerdict}
-use mathlib.Core.List.{List}
-use mathlib.Core.Path.{_≡_, sym, ap, subst, _∙_}
+use Rattle.session_cut.specs.Cut.{cutVerdict, TakenOut}
+use mathlib.Core.Path.{_≡_, sym, subst, _∙_}
 use Prim.Native.Nat.{ℕ, _≤_}
 use native.Mathlib.Omega.{arith}
 use borrow.Author.Needs.{needs}
 use denote.Ref.{now}
-use lib.ListN.{length, getD, take}
 use lib.Seq.{length-take-le}
-use Rattle.session.specs.Session.{nodesIn}
-use Rattle.session_cut.specs.Cut.{TakenOut}
 use Rattle.session_cut.proofs.Cuts.{bounded-le, gone-promise, cut-promise}
 use Rattle.session_cut.proofs.cut.Statement.{statement}
 use Rattle.session_cut.proofs.cut.Tie as tie
@@ -55,28 +51,28 @@ same-length : tie.Need-same-length
 same-length c = search needs
 
 returns : tie.Need-returns
-returns c = 
+returns c =
     let called = c .before .before .before .before in
     let a = entry called .args in
     gone-promise (now (a .fixed)) (now (a .offsets)) (now (a .numbers)) (now (a .ends)) (now (a .sets)) (taking called) (c .enum-told .given .1)
 
 slice-aggregate-strike-from : tie.Need-slice-aggregate-strike-from
-slice-aggregate-strike-from c = 
+slice-aggregate-strike-from c =
     let start = entry (c .before .before .before .before .before .before) in
     sym (length-take-le 64 (now (start .args .fixed)) (omega (arith, start .pre .inFixed)))
 
 slice-relend-prefix-strike-from : tie.Need-slice-relend-prefix-strike-from
-slice-relend-prefix-strike-from c = 
+slice-relend-prefix-strike-from c =
     let called = c .before .before .before .before .before .before .before in
     omega (arith, few called, entry called .pre .inSets)
 
 slice-aggregate-strike-from-2 : tie.Need-slice-aggregate-strike-from-2
-slice-aggregate-strike-from-2 c = 
+slice-aggregate-strike-from-2 c =
     let called = c .before .before .before .before .before .before .before .before in
     sym (length-take-le _ (now (entry called .args .sets)) (omega (arith, few called, entry called .pre .inSets)))
 
 strike-from-requires : tie.Need-strike-from-requires
-strike-from-requires c κs = 
+strike-from-requires c κs =
     let called = c .before .before .before .before .before .before .before .before in
     let start = entry called in
     let p = start .pre in
@@ -98,7 +94,7 @@ same-length-3 : tie.Need-same-length-3
 same-length-3 c = search needs
 
 returns-2 : tie.Need-returns-2
-returns-2 c = 
+returns-2 c =
     let struck = c .before .before in
     let told = struck .before .before .before .before .before in
     let called = told .before .before .before .before in

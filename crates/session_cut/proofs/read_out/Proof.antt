@@ -1,13 +1,11 @@
 -- `session_cut::read_out` meets its contract. Assumes nothing.
-use mathlib.Core.List.{List, _++_}
-use mathlib.Core.Path.{_≡_, sym, ap, subst, _∙_}
-use Prim.Native.Nat.{ℕ, _≤_, _<_}
+use mathlib.Core.Path.{sym}
+use Prim.Native.Nat.{_≤_}
 use native.Mathlib.Omega.{arith}
 use borrow.Author.Needs.{needs}
 use denote.Ref.{now}
-use lib.ListN.{length, getD, take, drop}
+use lib.ListN.{length, getD}
 use lib.Seq.{length-take-le}
-use Rattle.session.specs.Session.{nodesIn}
 use Rattle.session_cut.proofs.Cuts.{bounded-le}
 use Rattle.session_cut.proofs.Out.{out-short, out-read}
 use Rattle.session_cut.proofs.read_out.Statement.{statement}
@@ -36,7 +34,7 @@ slice-aggregate-copy : tie.Need-slice-aggregate-copy
 slice-aggregate-copy c = sym (length-take-le _ _ (few (c .before .before)))
 
 copy-requires : tie.Need-copy-requires
-copy-requires c κs = 
+copy-requires c κs =
     let called = c .before .before .before in
     let long = length-take-le (called .at-most .result) (now (entry called .args .sets)) (few called) in
     omega (arith, c .before .before .if1 .left)
@@ -54,7 +52,7 @@ slice-relend-prefix-all-or-none : tie.Need-slice-relend-prefix-all-or-none
 slice-relend-prefix-all-or-none c = search needs
 
 slice-aggregate-all-or-none : tie.Need-slice-aggregate-all-or-none
-slice-aggregate-all-or-none c = 
+slice-aggregate-all-or-none c =
     let copied = c .before .before .before .before .before in
     sym (length-take-le _ _ (omega (arith, copied .copy .kept .1 .0, copied .before .before .before .if1 .left)))
 

@@ -1,12 +1,10 @@
 -- `session_cut::take_out` meets its contract. Assumes nothing.
-use mathlib.Core.List.{List}
-use mathlib.Core.Path.{_≡_, sym, ap, ap₂, subst}
+use mathlib.Core.Path.{sym, ap₂, subst}
 use Prim.Native.Nat.{ℕ, _+_, _≤_, _<_}
 use native.Mathlib.Omega.{arith}
 use borrow.Author.Needs.{needs}
 use denote.Ref.{now}
-use lib.ListN.{length, getD, set, length-set}
-use lib.Seq.{getD-set-other}
+use lib.ListN.{length-set}
 use Rattle.graph.specs.Search.{far}
 use Rattle.session.specs.State.{without}
 use Rattle.session_strike.proofs.Entries.{entry-any}
@@ -30,7 +28,7 @@ cast-end : tie.Need-cast-end
 cast-end c = omega (arith, c .slice-known .given (c .before .before .args .place))
 
 returns-2 : tie.Need-returns-2
-returns-2 c = 
+returns-2 c =
     let start = c .before .before .before in
     let ends = now (start .args .ends) in
     let place = start .args .place in
@@ -65,7 +63,7 @@ same-length : tie.Need-same-length
 same-length c = search needs
 
 returns-3 : tie.Need-returns-3
-returns-3 c = 
+returns-3 c =
     let start = c .before .before .before .before in
     let ends = now (start .args .ends) in
     let place = start .args .place in

@@ -5,7 +5,6 @@ use borrow.Author.Needs.{needs}
 use denote.Ref.{now}
 use lib.ListN.{length, length-take, length-drop, length-append}
 use lib.Seq.{length-take-le}
-use Rattle.graph.specs.Neighbours.{grouped}
 use Rattle.session_open.proofs.Filling.{length-all, numbered}
 use Rattle.session_open.proofs.group_links.Statement.{statement}
 use Rattle.session_open.proofs.group_links.Tie as tie
@@ -14,7 +13,7 @@ slice-relend-prefix-group : tie.Need-slice-relend-prefix-group
 slice-relend-prefix-group c = search needs
 
 slice-aggregate-group : tie.Need-slice-aggregate-group
-slice-aggregate-group c = 
+slice-aggregate-group c =
     let s = c .before .before .before .before .before .before in
     sym (length-take-le 513 (now (s .args .offsets)) (omega (arith, s .pre .0 .inOffsets)))
 
@@ -22,12 +21,12 @@ slice-relend-prefix-group-2 : tie.Need-slice-relend-prefix-group-2
 slice-relend-prefix-group-2 c = search needs
 
 slice-aggregate-group-2 : tie.Need-slice-aggregate-group-2
-slice-aggregate-group-2 c = 
+slice-aggregate-group-2 c =
     let s = c .before .before .before .before .before .before .before in
     sym (length-take-le 4096 (now (s .args .numbers)) (omega (arith, s .pre .0 .inLinks)))
 
 group-requires : tie.Need-group-requires
-group-requires c κs = 
+group-requires c κs =
     let s = c .before .before .before .before .before .before .before in
     let p = s .pre in
     let o = length-take-le 513 (now (s .args .offsets)) (omega (arith, p .0 .inOffsets)) in
@@ -54,7 +53,7 @@ part-group-end-2 : tie.Need-part-group-end-2
 part-group-end-2 c = search needs
 
 group-requires-2 : tie.Need-group-requires-2
-group-requires-2 c κs = 
+group-requires-2 c κs =
     let s = c .before .before .before .before .before .before .before .before .before .before .before .before .before .before in
     let p = s .pre in
     let first = c .before .before .before .before .before .before .group .kept in
@@ -70,7 +69,7 @@ same-length-2 : tie.Need-same-length-2
 same-length-2 c = search needs
 
 returns : tie.Need-returns
-returns c = 
+returns c =
     let s = c .before .before .before .before .before .before .before .before .before .before .before .before .before .before .before .before .before .before .before in
     let p = s .pre in
     let a = s .args in

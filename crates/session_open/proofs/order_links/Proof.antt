@@ -1,11 +1,9 @@
 -- `session_open::order_links` meets its contract. Assumes nothing.
-use mathlib.Core.List.{List}
 use mathlib.Core.Path.{_≡_, sym, ap, _∙_}
-use Prim.Native.Nat.{ℕ, _≤_}
 use native.Mathlib.Omega.{arith}
 use borrow.Author.Needs.{needs}
 use denote.Ref.{now}
-use lib.ListN.{length, take, drop}
+use lib.ListN.{length, take}
 use lib.Seq.{length-take-le, take-at}
 use Rattle.table.specs.Fill.{allNodes}
 use Rattle.session_open.proofs.Filling.{length-all}
@@ -33,7 +31,7 @@ slice-aggregate-list-all : tie.Need-slice-aggregate-list-all
 slice-aggregate-list-all c = sym (room (c .before .before .before .before .before .before))
 
 list-all-requires : tie.Need-list-all-requires
-list-all-requires c κs = 
+list-all-requires c κs =
     let s = c .before .before .before .before .before .before in
     omega (arith, room s, s .pre .1 .1 .0 .1)
 
@@ -41,12 +39,12 @@ slice-reshare-prefix-group-links : tie.Need-slice-reshare-prefix-group-links
 slice-reshare-prefix-group-links c = search needs
 
 slice-aggregate-group-links : tie.Need-slice-aggregate-group-links
-slice-aggregate-group-links c = 
+slice-aggregate-group-links c =
     let called = c .before .before .before in
     sym (ap length (take-at (called .list-all .last .0) _ _ (listed called .0)) ∙ listed called .0)
 
 group-links-requires : tie.Need-group-links-requires
-group-links-requires c κs = 
+group-links-requires c κs =
     let called = c .before .before .before .before .before in
     let p = entry called .pre in
     (p .0, (p .1 .0, (p .1 .1 .0, (p .1 .1 .1 .0, take-at (called .list-all .last .0) _ _ (listed called .0) ∙ listed called .1))))

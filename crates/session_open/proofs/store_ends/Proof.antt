@@ -1,12 +1,10 @@
 -- `session_open::store_ends` meets its contract. Assumes nothing.
-use lib.ListN.{length-take, length-drop, length-append}
-use mathlib.Core.Path.{_≡_, sym, ap, _∙_}
+use mathlib.Core.Path.{sym, ap, _∙_}
 use Prim.Native.Nat.{ℕ}
 use native.Mathlib.Omega.{arith}
 use Rattle.session_open.specs.Open.{padded}
 use borrow.Author.Needs.{needs}
 use denote.Ref.{now}
-use lib.ListN.{length}
 use lib.Seq.{length-take-le}
 use Rattle.session_open.proofs.Filling.{ended, second-half}
 use Rattle.session_open.proofs.store_ends.Statement.{statement}
@@ -16,12 +14,12 @@ slice-relend-prefix-store-values : tie.Need-slice-relend-prefix-store-values
 slice-relend-prefix-store-values c = search needs
 
 slice-aggregate-store-values : tie.Need-slice-aggregate-store-values
-slice-aggregate-store-values c = 
+slice-aggregate-store-values c =
     let s = c .before .before .before .before in
     sym (length-take-le 4096 (now (s .args .out)) (omega (arith, s .pre .2)))
 
 store-values-requires : tie.Need-store-values-requires
-store-values-requires c κs = 
+store-values-requires c κs =
     let s = c .before .before .before .before in
     rw (length-take-le 4096 (now (s .args .out)) (omega (arith, s .pre .2))) (s .pre .1)
 
@@ -41,13 +39,13 @@ same-length : tie.Need-same-length
 same-length c = search needs
 
 returns : tie.Need-returns
-returns c = 
+returns c =
     let two = c .before .before in
     let one = two .before .before .before .before in
     let s = one .before .before .before .before .before in
     let a = s .args in
     let half = length-take-le 4096 (now (a .out)) (omega (arith, s .pre .2)) in
-    ended (now (a .starts)) (now (a .ends)) (now (a .out)) (s .pre .0) (s .pre .1) (s .pre .2) 
+    ended (now (a .starts)) (now (a .ends)) (now (a .out)) (s .pre .0) (s .pre .1) (s .pre .2)
     (one .store-values .ensures ∙ ap (λ (k : ℕ). padded k (now (a .ends))) half)
     (two .store-values2 .ensures ∙ ap (λ (k : ℕ). padded k (now (a .starts))) (second-half (one .store-values .last .1 .0) (now (a .out)) (one .store-values .kept .1 .0 ∙ half) (s .pre .2)))
 

@@ -1,9 +1,9 @@
 -- `session_open::store_fixed` meets its contract. Assumes nothing.
-use mathlib.Core.Path.{_≡_, sym, ap, _∙_}
+use mathlib.Core.Path.{sym, _∙_}
 use native.Mathlib.Omega.{arith}
 use borrow.Author.Needs.{needs}
 use denote.Ref.{now}
-use lib.ListN.{length, length-set, length-append, length-drop}
+use lib.ListN.{length-set, length-append, length-drop}
 use lib.Seq.{length-take-le}
 use Rattle.session_open.proofs.Filling.{fixed-stored}
 use Rattle.session_open.proofs.store_fixed.Statement.{statement}
@@ -13,12 +13,12 @@ slice-relend-prefix-pattern-masks : tie.Need-slice-relend-prefix-pattern-masks
 slice-relend-prefix-pattern-masks c = search needs
 
 slice-aggregate-pattern-masks : tie.Need-slice-aggregate-pattern-masks
-slice-aggregate-pattern-masks c = 
+slice-aggregate-pattern-masks c =
     let s = c .before .before .before .before in
     sym (length-take-le 64 (now (s .args .fixed)) (omega (arith, s .pre .1 .1)))
 
 pattern-masks-requires : tie.Need-pattern-masks-requires
-pattern-masks-requires c κs = 
+pattern-masks-requires c κs =
     let s = c .before .before .before .before in
     (s .pre .0, length-take-le 64 (now (s .args .fixed)) (omega (arith, s .pre .1 .1)))
 
@@ -32,7 +32,7 @@ cast-fixed-2 : tie.Need-cast-fixed-2
 cast-fixed-2 c = search needs
 
 slice-write-fixed-2 : tie.Need-slice-write-fixed-2
-slice-write-fixed-2 c = 
+slice-write-fixed-2 c =
     let s = c .before .before .before .before .before .before .before in
     let room = s .pre .1 .1 in
     let long = c .before .before .pattern-masks .kept .1 .1 .0 ∙ length-take-le 64 (now (s .args .fixed)) (omega arith) in
@@ -42,7 +42,7 @@ same-length : tie.Need-same-length
 same-length c = search needs
 
 returns : tie.Need-returns
-returns c = 
+returns c =
     let s = c .before .before .before .before .before .before .before in
     let a = s .args in
     let masks = c .before .before .pattern-masks in

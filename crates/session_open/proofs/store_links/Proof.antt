@@ -3,10 +3,6 @@ use mathlib.Core.Path.{refl}
 use borrow.Author.Needs.{needs}
 use Rattle.session_open.proofs.store_links.Statement.{statement}
 use Rattle.session_open.proofs.store_links.Tie as tie
-use Rattle.session_open.proofs.store_links.Reads as reads
-use Rattle.session_open.proofs.store_links.Lts as lts
-use Rattle.session_open.proofs.order_links.Reads as order-links-reads
-use Rattle.session_open.proofs.store_ends.Reads as store-ends-reads
 
 -- src/lib.rt:109:34
 slice-aggregate-order-links : tie.Need-slice-aggregate-order-links

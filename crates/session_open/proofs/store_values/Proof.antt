@@ -1,6 +1,6 @@
 -- `session_open::store_values` meets its contract. Assumes nothing.
 use mathlib.Core.List.{List, _++_}
-use mathlib.Core.Path.{_≡_, sym, ap, _∙_}
+use mathlib.Core.Path.{ap, _∙_}
 use Prim.Native.Nat.{ℕ}
 use denote.Ref.{now}
 use lib.ListN.{length, drop}
@@ -20,7 +20,7 @@ same-length c = search needs
 
 returns : tie.Need-returns
 unfolding padded
-returns c = 
+returns c =
     let copied = c .before .before in
     let filled = copied .before .before .before .before in
     let a = filled .before .before .before .before .args in

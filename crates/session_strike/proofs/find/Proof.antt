@@ -1,7 +1,7 @@
 -- `session_strike::find` meets its contract. The loop's invariant: no word before has a mark. The measure is how many words are left. Assumes nothing.
 use mathlib.Core.Bool.{not, false}
-use mathlib.Core.Path.{_≡_, refl, sym, ap, _∙_}
-use Prim.Native.Nat.{ℕ, _+_, _-_, _≤_, _<_}
+use mathlib.Core.Path.{_≡_, sym, ap, _∙_}
+use Prim.Native.Nat.{ℕ, _-_, _≤_, _<_}
 use native.Mathlib.Omega.{arith}
 use borrow.Author.Needs.{needs}
 use denote.Ref.{now}
@@ -30,7 +30,7 @@ shared-slice-read-if1 : tie.Need-shared-slice-read-if1 Inv-loop μ-loop
 shared-slice-read-if1 c = search needs
 
 returns : tie.Need-returns Inv-loop μ-loop
-returns c = 
+returns c =
     let loop = c .before .before .before in
     let marks = now (loop .before .args .marks) in
     sym (leastBelow-is (length marks) (λ k. not (eqb (getD marks k 0) 0)) (loop .loop .j) (c .before .before .loop-test .taken)
@@ -46,7 +46,7 @@ loop-again : tie.Need-loop-again Inv-loop μ-loop
 loop-again c = (search needs, below-more _ _ (c .before .before .before .loop .inv .1) (ap not (eq-eqb _ 0 (c .if1 .left))))
 
 returns-2 : tie.Need-returns-2 Inv-loop μ-loop
-returns-2 c = 
+returns-2 c =
     let loop = c .before in
     let marks = now (loop .before .args .marks) in
     let all : loop .loop .j ≡ length marks = omega arith in

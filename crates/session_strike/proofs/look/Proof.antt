@@ -1,10 +1,9 @@
 -- `session_strike::look` meets its contract: the set stays, or it is another one. Assumes nothing.
-use mathlib.Core.Path.{sym, ap, ap₂, _∙_}
+use mathlib.Core.Path.{sym, ap, _∙_}
 use Prim.Native.Nat.{ℕ}
-use native.Mathlib.Omega.{arith}
 use borrow.Author.Needs.{needs}
 use denote.Ref.{now}
-use lib.ListN.{length, set, length-set}
+use lib.ListN.{set, length-set}
 use Rattle.session_strike.specs.Moves.{movesIn, markBeside}
 use Rattle.session_strike.proofs.Looking.{look-same, look-other, next-out}
 use Rattle.session_strike.proofs.look.Statement.{statement}
@@ -20,7 +19,7 @@ same-length : tie.Need-same-length
 same-length c = search needs
 
 returns : tie.Need-returns
-returns c = 
+returns c =
     let tested = c .before in
     let called = tested .before .before in
     let a = called .before .before .before .before .before .before .before .before .args in
@@ -43,14 +42,14 @@ same-length-3 : tie.Need-same-length-3
 same-length-3 c = search needs
 
 returns-2 : tie.Need-returns-2
-returns-2 c = 
+returns-2 c =
     let marking = c .before .before in
     let tested = marking .before .before .before .before in
     let called = tested .before .before in
     let a = called .before .before .before .before .before .before .before .before .args in
     let moves = movesIn (now (a .offsets)) (now (a .numbers)) (now (a .ends)) in
     let other = look-other (now (a .masks)) moves (now (a .sets)) (a .v) (now (a .marks))
-        (λ e. marking .before .before .before .if1 .left (called .next-set .ensures ∙ e ∙ sym (tested .set-at .ensures))) in (
+    (λ e. marking .before .before .before .if1 .left (called .next-set .ensures ∙ e ∙ sym (tested .set-at .ensures))) in (
       ap (set (now (a .sets)) (a .v)) (called .next-set .ensures) ∙ other .0,
       marking .mark-beside .ensures ∙ ap (λ (n : ℕ). markBeside n moves (now (a .marks)) (a .v)) (length-set (now (a .sets)) (a .v) _) ∙ other .1,
     )
@@ -59,7 +58,7 @@ same-length-4 : tie.Need-same-length-4
 same-length-4 c = search needs
 
 returns-3 : tie.Need-returns-3
-returns-3 c = 
+returns-3 c =
     let tested = c .before .before in
     let called = tested .before .before in
     let a = called .before .before .before .before .before .before .before .before .args in

@@ -1,11 +1,10 @@
 -- `session_strike::look_next` meets its contract. Assumes nothing.
 use mathlib.Core.List.{List}
-use mathlib.Core.Path.{sym, ap, ap₂, _∙_}
+use mathlib.Core.Path.{ap, ap₂, _∙_}
 use Prim.Native.Nat.{ℕ, _+_, _*_}
-use native.Mathlib.Omega.{arith}
 use borrow.Author.Needs.{needs}
 use denote.Ref.{now}
-use lib.ListN.{length, set, length-set}
+use lib.ListN.{set, length-set}
 use Rattle.session_strike.specs.Moves.{movesIn, nodeAt, unmark, lookSets, lookMarks}
 use Rattle.session_strike.proofs.look_next.Statement.{statement}
 use Rattle.session_strike.proofs.look_next.Tie as tie
@@ -44,13 +43,13 @@ same-length : tie.Need-same-length
 same-length c = search needs
 
 same-length-2 : tie.Need-same-length-2
-same-length-2 c = 
+same-length-2 c =
     let called = c .before .before .before .before in
     called .look .kept .1 .1 .1 .1 .1 .0 ∙ simp length-set
 
 returns : tie.Need-returns
 unfolding nodeAt unmark
-returns c = 
+returns c =
     let called = c .before .before .before .before in
     let without = called .before .before .before in
     let first = without .before in

@@ -5,7 +5,6 @@ use Prim.Native.Nat.{ℕ}
 use borrow.Author.Needs.{needs}
 use denote.Ref.{now}
 use Rattle.base_lists.specs.List.{part}
-use lib.ListN.{take, drop}
 use Rattle.graph.specs.Net.{forwardLinks, backwardLinks, driven, driving}
 use Rattle.session_strike.specs.Moves.{beyond, movesIn, markAll, markBeside}
 use Rattle.session_strike.proofs.mark_beside.Statement.{statement}
@@ -82,7 +81,7 @@ same-length c = search needs
 
 returns : tie.Need-returns
 unfolding part movesIn driven driving markBeside
-returns c = 
+returns c =
     let two = c .before .before in
     let second = two .before .before .before in
     let one = second .before .before .before .before .before in

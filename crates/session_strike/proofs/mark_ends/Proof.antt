@@ -2,11 +2,11 @@
 -- how many are left. Assumes nothing.
 use mathlib.Core.List.{List}
 use mathlib.Core.Path.{_≡_, refl, sym, ap, _∙_}
-use Prim.Native.Nat.{ℕ, _+_, _-_, _≤_, _<_}
+use Prim.Native.Nat.{ℕ, _+_, _-_, _≤_}
 use native.Mathlib.Omega.{arith}
 use borrow.Author.Needs.{needs}
 use denote.Ref.{now}
-use lib.ListN.{length, getD, drop}
+use lib.ListN.{length, drop}
 use Rattle.session_strike.specs.Moves.{beyond, markOne, markAll}
 use Rattle.session_strike.proofs.Entries.{marks-next, marks-end}
 use Rattle.session_strike.proofs.mark_ends.Statement.{statement}
@@ -44,7 +44,7 @@ loop-less : tie.Need-loop-less Inv-loop μ-loop
 loop-less c = omega arith
 
 loop-again : tie.Need-loop-again Inv-loop μ-loop
-loop-again c = 
+loop-again c =
     let loop = c .before .before .before .before .before .before .before in
     let a = loop .before .before .before .before .args in
     let ends = now (a .ends) in
@@ -55,16 +55,16 @@ loop-again c =
       omega arith,
       called .kept .1 .1 .0 ∙ loop .loop .inv .1,
       ap (λ (m : List ℕ). markAll (a .n) m (beyond ends (drop (j + 1) numbers)))
-      (called .ensures ∙ ap (markOne (a .n) marks) (c .before .before .before .before .end-of .ensures))
-      ∙ marks-next (a .n) ends numbers marks j (omega arith)
-      ∙ loop .loop .inv .2,
+          (called .ensures ∙ ap (markOne (a .n) marks) (c .before .before .before .before .end-of .ensures))
+          ∙ marks-next (a .n) ends numbers marks j (omega arith)
+          ∙ loop .loop .inv .2,
     )
 
 same-length : tie.Need-same-length Inv-loop μ-loop
 same-length c = c .before .loop .inv .1 ∙ sym (c .before .before .before .before .before .pre .1)
 
 returns : tie.Need-returns Inv-loop μ-loop
-returns c = 
+returns c =
     let loop = c .before in
     let a = loop .before .before .before .before .args in
     sym (marks-end (a .n) (now (a .ends)) (now (a .numbers)) (loop .loop .marks) (loop .loop .j) (c .loop-test .left)) ∙ loop .loop .inv .2

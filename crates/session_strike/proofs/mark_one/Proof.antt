@@ -1,6 +1,4 @@
 -- `session_strike::mark_one` meets its contract. Assumes nothing.
-use mathlib.Core.Path.{_≡_, refl, sym, ap, _∙_}
-use native.Mathlib.Omega.{arith}
 use borrow.Author.Needs.{needs}
 use borrow.Author.Tests.{lt-ltb, le-ltb}
 use Rattle.session_strike.specs.Moves.{markOne}
@@ -15,7 +13,7 @@ same-length c = search needs
 
 returns : tie.Need-returns
 unfolding markOne
-returns c = 
+returns c =
     let called = c .before .before in
     let tested = called .before .before in
     rw (lt-ltb _ _ (tested .if1 .taken)) (called .mark .ensures)

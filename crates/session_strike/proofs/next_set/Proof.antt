@@ -19,7 +19,7 @@ set-at-requires : tie.Need-set-at-requires
 set-at-requires c κs = search needs
 
 returns : tie.Need-returns
-returns c = 
+returns c =
     let start = c .before .before .before .before .before .before .before in
     sym (next-none (now (start .args .masks)) _ (now (start .args .sets)) (start .args .v) (sym (c .before .set-at .ensures) ∙ c .if1 .taken))
 
@@ -90,7 +90,7 @@ reach-requires-2 : tie.Need-reach-requires-2
 reach-requires-2 c κs = search needs
 
 slice-aggregate-surviving : tie.Need-slice-aggregate-surviving
-slice-aggregate-surviving c = 
+slice-aggregate-surviving c =
     let start = c .before .before .before .before .before .before .before .before .before .before .before .before .before .before .before .before .before .before in
     let long = start .pre .inMasks in
     sym (length-take-le 32 (now (start .args .masks)) (omega arith))
@@ -105,20 +105,20 @@ part-surviving-end : tie.Need-part-surviving-end
 part-surviving-end c = search needs
 
 surviving-requires : tie.Need-surviving-requires
-surviving-requires c κs = 
+surviving-requires c κs =
     let known = c .before .before .before .before .before .before .before .before .before .before .before .before .before .before in
     let start = known .before .before .before .before .before in
     let masks = now (start .args .masks) in
     let long = start .pre .inMasks in
     let small : c .before .before .before .before .before .before .before .before .before .before .before .before .before .set-at .result < 2 ^ 32 =
-        omega (arith, c .before .before .before .before .before .before .before .before .before .before .before .before .before .set-at .ensures, known .shared-slice-known5 .given (start .args .v)) in (
+    omega (arith, c .before .before .before .before .before .before .before .before .before .before .before .before .before .set-at .ensures, known .shared-slice-known5 .given (start .args .v)) in (
       rw (length-take-le 32 masks (omega arith)) small,
       rw (length-take-le 32 (drop 32 masks) (omega (arith, length-drop 32 masks))) small,
     )
 
 returns-2 : tie.Need-returns-2
 unfolding part movesIn driven driving
-returns-2 c = 
+returns-2 c =
     let back = c .before .before .before in
     let second = back .before .before in
     let out = second .before .before .before in

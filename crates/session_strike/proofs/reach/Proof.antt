@@ -1,14 +1,13 @@
 -- `session_strike::reach` meets its contract. The loop's invariant: the union so far, with the sets at the ends of the links that are left, is the whole
 -- union. The measure is how many are left. Assumes nothing.
-use mathlib.Core.Path.{_≡_, refl, sym, ap, _∙_}
-use Prim.Native.Nat.{ℕ, _+_, _-_, _≤_, _<_}
+use mathlib.Core.Path.{_≡_, sym, ap, _∙_}
+use Prim.Native.Nat.{ℕ, _+_, _-_, _≤_}
 use native.Mathlib.Omega.{arith}
 use borrow.Author.Needs.{needs}
 use denote.Ref.{now}
 use lib.Bits.{bitOr, or-zero-l}
 use lib.ListN.{length, getD, drop}
 use Rattle.base_bits.specs.Bits.{unionAt}
-use Rattle.graph.specs.Search.{far}
 use Rattle.session_strike.specs.Moves.{beyond}
 use Rattle.session_strike.proofs.Entries.{union-next, union-end}
 use Rattle.session_strike.proofs.reach.Statement.{statement}
@@ -46,7 +45,7 @@ loop-less : tie.Need-loop-less Inv-loop μ-loop
 loop-less c = omega arith
 
 loop-again : tie.Need-loop-again Inv-loop μ-loop
-loop-again c = 
+loop-again c =
     let loop = c .before .before .before .before in
     let a = loop .before .before .before .before .args in
     let sets = now (a .sets) in
@@ -55,13 +54,13 @@ loop-again c =
     let j = loop .loop .j in (
       omega arith,
       ap (λ (x : ℕ). bitOr (bitOr (loop .loop .union) x) (unionAt sets (beyond ends (drop (j + 1) numbers))))
-      (c .set-at .ensures ∙ ap (λ (w : ℕ). getD sets w 0) (c .before .end-of .ensures))
-      ∙ union-next sets ends numbers (loop .loop .union) j (omega arith)
-      ∙ loop .loop .inv .1,
+          (c .set-at .ensures ∙ ap (λ (w : ℕ). getD sets w 0) (c .before .end-of .ensures))
+          ∙ union-next sets ends numbers (loop .loop .union) j (omega arith)
+          ∙ loop .loop .inv .1,
     )
 
 returns : tie.Need-returns Inv-loop μ-loop
-returns c = 
+returns c =
     let loop = c .before in
     let a = loop .before .before .before .before .args in
     sym (union-end (now (a .sets)) (now (a .ends)) (now (a .numbers)) (loop .loop .union) (loop .loop .j) (c .loop-test .left)) ∙ loop .loop .inv .1

@@ -1,11 +1,8 @@
 -- `session_strike::settle` meets its contract. The loop's invariant is `Going`; the measure falls with a set that gets smaller, or with a mark that is taken
 -- away. Assumes nothing.
-use mathlib.Core.Path.{_≡_, sym, _∙_}
-use Prim.Native.Nat.{ℕ, _^_, _<_}
+use mathlib.Core.Path.{sym, _∙_}
 use native.Mathlib.Omega.{arith}
 use borrow.Author.Needs.{needs}
-use denote.Ref.{now}
-use lib.ListN.{length, getD}
 use Rattle.session_strike.specs.Moves.{movesIn}
 use Rattle.session_strike.proofs.Going.{Going, left, word-some, going-start, going-next, going-less, going-end}
 use Rattle.session_strike.proofs.settle.Statement.{statement}
@@ -21,13 +18,13 @@ find-requires : tie.Need-find-requires Inv-loop μ-loop
 find-requires c κs = search needs
 
 loop-holds : tie.Need-loop-holds Inv-loop μ-loop
-loop-holds c = 
+loop-holds c =
     let known = c .before .before in
     let start = known .before .before .before .before .before .before in
     going-start _ _ (start .pre .1 .1) (λ i. omega (arith, known .before .slice-known .given i)) (λ i. omega (arith, known .slice-known2 .given i)) (c .find .ensures)
 
 look-next-requires : tie.Need-look-next-requires Inv-loop μ-loop
-look-next-requires c κs = 
+look-next-requires c κs =
     let loop = c .before .before .before in
     let start = loop .before .before .before .before .before .before .before .before .before in
     let g = loop .loop .inv in
@@ -38,13 +35,13 @@ find-requires-2 : tie.Need-find-requires-2 Inv-loop μ-loop
 find-requires-2 c κs = search needs
 
 loop-less : tie.Need-loop-less Inv-loop μ-loop
-loop-less c = 
+loop-less c =
     let called = c .before .before .before .before .before .before in
     let loop = called .before .before .before .before in
     going-less _ _ (loop .loop .inv) (called .before .before .before .loop-test .taken) (called .look-next .ensures .0) (called .look-next .ensures .1)
 
 loop-again : tie.Need-loop-again Inv-loop μ-loop
-loop-again c = 
+loop-again c =
     let called = c .before .before .before .before .before .before in
     let loop = called .before .before .before .before in
     let start = loop .before .before .before .before .before .before .before .before .before in
@@ -55,7 +52,7 @@ same-length : tie.Need-same-length Inv-loop μ-loop
 same-length c = c .before .loop .inv .long
 
 same-length-2 : tie.Need-same-length-2 Inv-loop μ-loop
-same-length-2 c = 
+same-length-2 c =
     let loop = c .before in
     loop .loop .inv .room ∙ sym (loop .before .before .before .before .before .before .before .before .before .pre .1 .1)
 

@@ -33,15 +33,15 @@ same-length c = search needs
 
 returns : tie.Need-returns
 unfolding markBoth
-returns c = 
+returns c =
     let settled = c .before .before .before in
     let two = settled .before .before .before .before in
     let one = two .before .before .before in
     let a = one .before .before .before .before .before .before .before .args in
     let marks = two .mark-one2 .ensures ∙ ap (λ (m : List ℕ). markOne (length (now (a .sets))) m (a .y)) (one .mark-one .ensures) in
     λ pattern host follows begins covered.
-        settled .settle .ensures pattern host follows begins
-        (subst (Covered (now (a .masks)) (movesIn (now (a .offsets)) (now (a .numbers)) (now (a .ends))) (now (a .sets))) (sym marks) covered)
+    settled .settle .ensures pattern host follows begins
+    (subst (Covered (now (a .masks)) (movesIn (now (a .offsets)) (now (a .numbers)) (now (a .ends))) (now (a .sets))) (sym marks) covered)
 
 pub strike-from-spec : {M : Type 1} → statement M
 strike-from-spec =
