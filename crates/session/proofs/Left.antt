@@ -77,7 +77,7 @@ below-left m i h t = both (ltb i (length (m .board .starts))) (inside (m .left) 
 module _ (pattern board : Circuit) where
   pub fresh-inside : (i : ℕ) → i < length (board .starts) → T (inside (fresh pattern board .left) i)
   unfolding fresh inside
-  fresh-inside i h = rw (getD-tabulate (length (board .starts)) (λ i. 1) i 0 h) tt
+  fresh-inside i h = rw getD-tabulate tt
 
   pub fresh-left : (i : ℕ) → isLeft (fresh pattern board) i ≡ ltb i (length (board .starts))
   unfolding isLeft fresh

@@ -21,7 +21,7 @@ slice-aggregate-store-values c =
 store-values-requires : tie.Need-store-values-requires
 store-values-requires c κs =
     let s = c .before .before .before .before in
-    rw (length-take-le 4096 (now (s .args .out)) (omega (arith, s .pre .2))) (s .pre .1)
+    rw (length-take-le 4096 (now (s .args .out)) (omega (arith, s .pre .2))) (omega (arith, s .pre .0, s .pre .1))
 
 sub-store-values : tie.Need-sub-store-values
 sub-store-values c = search needs
