@@ -12,3 +12,4 @@ pub mod Examples
 pub mod Files
 pub mod Distances
 pub mod Barring
+pub mod Cutting

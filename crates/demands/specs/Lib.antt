@@ -7,3 +7,4 @@ pub mod Examples
 pub mod Files
 pub mod Distances
 pub mod Barring
+pub mod Cutting

@@ -58,7 +58,7 @@ run-holds (place ∷ places) (r ∷ rs) m h (s, cut, rest) =
     (ap₂ (λ (x : Verdict) (xs : List Verdict). x ∷ xs) e es, end)
 
 -- the links left after a list are those that are not in it
-cut-keeps : (m : Machine) (place i : ℕ) → isLeft (cutMachine m place) i ≡ isLeft m i && not (eqb place i)
+pub cut-keeps : (m : Machine) (place i : ℕ) → isLeft (cutMachine m place) i ≡ isLeft m i && not (eqb place i)
 unfolding cutMachine
 cut-keeps m place i = go (isLeft m place) refl
   where
