@@ -31,7 +31,7 @@ use Rattle.session.proofs.Left.{fresh-inside, fresh-left}
 use Rattle.session_open.specs.Open.{padded, Numbered, Ended, Fixed}
 use Rattle.session_strike.proofs.Entries.{entry-any}
 use Rattle.call_session.specs.declared.OpenAnswer.the-variants as answer
-use Rattle.call_session.specs.Call.{openVerdict, OpenPromise}
+use Rattle.call_session.specs.Call.{openVerdict, openState, OpenPromise}
 
 -- ---- the links of a fresh machine
 
@@ -76,7 +76,7 @@ module _ (pattern board : Circuit) (b : Bounded role.Board board) where
   board-fresh = chosen-all board _ (b .parallel) (fresh-inside pattern board)
 
   linked-fresh :
-      {offsets numbers stored : List ℕ} → Numbered (length (board .kinds)) (board .starts) (board .ends) offsets numbers → Ended (board .starts) (board .ends) stored →
+      {before held offsets numbers stored : List ℕ} → Numbered (length (board .kinds)) (board .starts) (board .ends) before held offsets numbers → Ended (board .starts) (board .ends) stored →
       Linked m offsets numbers stored
   unfolding fresh
   linked-fresh numbered ended =
@@ -87,28 +87,32 @@ module _ (pattern board : Circuit) (b : Bounded role.Board board) where
         atStarts = λ i. ap (λ (l : List ℕ). getD l i far) (ended .backward) ∙ end-fresh (board .starts) refl i;
       }
 
-  -- So these tables hold a fresh machine.
-  pub fresh-holds :
-      Bounded role.Pattern pattern → {fixed offsets numbers stored table : List ℕ} (sets : List ℕ) {parts nodes : ℕ} →
-      parts ≡ length (pattern .kinds) → nodes ≡ length (board .kinds) → Fixed (pattern .starts) (pattern .ends) parts nodes fixed →
-      Numbered nodes (board .starts) (board .ends) offsets numbers → Ended (board .starts) (board .ends) stored →
-      table ≡ lastTable pattern board (everything board) → length table ≡ nodes → Holds m (state fixed offsets numbers stored (table ++ drop nodes sets))
-  unfolding fresh
-  fresh-holds p {table = table} sets {nodes = nodes} ep en fixed numbered ended last long =
-      record {
-        pattern = p;
-        board = b;
-        bytes = length-tabulate (length (board .starts)) (λ i. 1);
-        masked = fixed .masked;
-        parts = fixed .ofParts ∙ ep;
-        nodes = fixed .ofNodes ∙ en;
-        links = linked-fresh (rw en at numbered) ended;
-        table =
-            ap (λ (k : ℕ). take k (table ++ drop nodes sets)) (sym en)
-            ∙ take-at table (drop nodes sets) nodes long
-            ∙ last
-            ∙ ap (λ (c : Circuit). lastTable pattern c (everything c)) (sym board-fresh);
-      }
+  -- So these tables hold a fresh machine, and are those that opening is to fill.
+  module _ (p : Bounded role.Pattern pattern) {fixed offsets numbers stored table : List ℕ} (s : State) {parts nodes : ℕ} (ep : parts ≡ length (pattern .kinds))
+      (en : nodes ≡ length (board .kinds)) (stays : Fixed (pattern .starts) (pattern .ends) parts nodes fixed)
+      (numbered : Numbered nodes (board .starts) (board .ends) (s .offsets) (s .numbers) offsets numbers) (ended : Ended (board .starts) (board .ends) stored)
+      (last : table ≡ lastTable pattern board (everything board)) (long : length table ≡ nodes) where
+    pub fresh-holds : Holds m (state fixed offsets numbers stored (table ++ drop nodes (s .sets)))
+    unfolding fresh
+    fresh-holds =
+        record {
+          pattern = p;
+          board = b;
+          bytes = length-tabulate (length (board .starts)) (λ i. 1);
+          masked = stays .masked;
+          parts = stays .ofParts ∙ ep;
+          nodes = stays .ofNodes ∙ en;
+          links = linked-fresh (rw en at numbered) ended;
+          table =
+              ap (λ (k : ℕ). take k (table ++ drop nodes (s .sets))) (sym en)
+              ∙ take-at table (drop nodes (s .sets)) nodes long
+              ∙ last
+              ∙ ap (λ (c : Circuit). lastTable pattern c (everything c)) (sym board-fresh);
+        }
+
+    pub fresh-state : state fixed offsets numbers stored (table ++ drop nodes (s .sets)) ≡ openState pattern board s
+    unfolding openState
+    fresh-state = rw (stays .content, numbered .inOffsets, numbered .inNumbers, ended .content, last, ep, en)
 
 -- what the pattern's links need of it
 pub pattern-below : {c : Circuit} → Bounded role.Pattern c → Below 32 (c .starts) × Below 32 (c .ends)
@@ -125,15 +129,17 @@ never x q = let e : _≡_ {A = ℕ} 0 1 = cc in omega arith
 module _ {pattern board : CircuitFile} {before : State} where
   pub open-refused : {x : Refusal} → first (pairConditions role.AnyPattern pattern board) ≡ refuse x → OpenPromise pattern board before (openVerdict (answer.Refused x)) before
   unfolding openVerdict
-  open-refused {x} e = record { replied = sym e; opened = λ q. absurd (never x (sym q)); refused = λ y q. refl }
+  open-refused {x} e = record { replied = sym e; opened = λ q. absurd (never x (sym q)); content = λ q. absurd (never x (sym q)); refused = λ y q. refl }
 
   pub open-held :
       {read : Pair} {parts nodes : Circuit} → BothRead role.AnyPattern pattern board read parts nodes → {after : State} →
-      Holds (fresh (front (read .parts) (read .joins) parts) (front (read .nodes) (read .links) nodes)) after → OpenPromise pattern board before (openVerdict answer.Open) after
+      Holds (fresh (front (read .parts) (read .joins) parts) (front (read .nodes) (read .links) nodes)) after →
+      after ≡ openState (front (read .parts) (read .joins) parts) (front (read .nodes) (read .links) nodes) before → OpenPromise pattern board before (openVerdict answer.Open) after
   unfolding openVerdict
-  open-held both h =
+  open-held both h e =
       record {
         replied = sym (both .verdict);
         opened = λ q. rw (both .drawn .content, both .given .content) at h;
+        content = λ q. rw (both .drawn .content, both .given .content) at e;
         refused = λ x q. absurd (never x q);
       }

@@ -25,6 +25,7 @@ host-open answer p e =
     record {
       replied = e ∙ ap (λ (v : Verdict). slots (files.reply v [])) (p .replied);
       opened = λ q. p .opened (p .replied ∙ q);
+      content = λ q. p .content (p .replied ∙ q);
       refused = λ x q. p .refused x (p .replied ∙ q);
     }
 
@@ -39,7 +40,7 @@ pub host-cut :
 unfolding cutVerdict files.reply
 host-cut {before} {after} {place} answer {r} p e =
     record {
-      machine = λ m h. (e ∙ ap (λ (v : Verdict). slots (files.reply v [])) (p .machine m h .0), p .machine m h .1);
+      machine = λ m h. (e ∙ ap (λ (v : Verdict). slots (files.reply v [])) (p .machine m h .0), p .machine m h .1, p .machine m h .2);
       refused = refused answer p e;
     }
   where

@@ -9,8 +9,9 @@ use Rattle.file_format.specs.Reading.{filled}
 use Rattle.file_format.specs.Refusals.{accept, refuse, first, shortTable}
 use Rattle.file_format.specs.Reply.{reply}
 use Rattle.file_format.specs.declared.Refusal.{Refusal}
-use Rattle.call_session.specs.Call.{openConditions}
+use Rattle.call_session.specs.Call.{openConditions, openState}
 use Rattle.session.specs.Machine.{Machine, fresh, cutReply, cutMachine, machineTable}
+use Rattle.session.specs.Session.{cutState}
 use Rattle.session.specs.State.{State, state, Holds}
 use Rattle.heronditch.specs.declared.reply.Reply.{Reply}
 use Rattle.heronditch.specs.Host.{slots}
@@ -19,11 +20,12 @@ use Rattle.heronditch.specs.Host.{slots}
 pub record HostOpen (pattern board : CircuitFile) (before : State) (r : Reply) (after : State) : Type 0 where
   pub replied : r ≡ slots (reply (first (openConditions pattern board)) [])
   pub opened : first (openConditions pattern board) ≡ accept → Holds (fresh (circuitOf pattern) (circuitOf board)) after
+  pub content : first (openConditions pattern board) ≡ accept → after ≡ openState (circuitOf pattern) (circuitOf board) before
   pub refused : (x : Refusal) → first (openConditions pattern board) ≡ refuse x → after ≡ before
 
 -- a cut of tables that hold a machine: its reply, and the machine after it. Where the number is not 0, the tables are as they were.
 pub record HostCut (before : State) (place : ℕ) (r : Reply) (after : State) : Type 0 where
-  pub machine : (m : Machine) → Holds m before → (r ≡ slots (reply (cutReply m place) [])) × Holds (cutMachine m place) after
+  pub machine : (m : Machine) → Holds m before → (r ≡ slots (reply (cutReply m place) [])) × Holds (cutMachine m place) after × (after ≡ cutState m place before)
   pub refused : (r .number ≡ 0 → ⊥) → after ≡ before
 
 -- reading out the table of a machine, which a number other than 0 leaves as it was

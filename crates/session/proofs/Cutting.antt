@@ -144,15 +144,20 @@ module _ {m : Machine} {s : State} (holds : Holds m s) (place : ℕ) where
         ap₂ (λ (a b : List ℕ). survivors (succOf masks) (predOf masks) (unionAt old a) (unionAt old b) (getD old v 0)) (apart forwards) (apart backwards)
         ∙ last-rest (m .pattern) (boardLeft m) follows v n
 
-    -- striking on leads to the tables of the machine without the link
-    pub cut-holds :
+    -- striking on leads to the last table without the link
+    pub cut-last :
         {last : List ℕ} →
         Settles masks moves′ (take (length (m .board .kinds)) (s .sets))
         (markBoth (length (take (length (m .board .kinds)) (s .sets))) (getD (s .ends) (4096 + place) far) (getD (s .ends) place far)) last →
+        last ≡ lastTable (m .pattern) (boardLeft m′) (everything (boardLeft m′))
+    cut-last settles = settles (m .pattern) (boardLeft m′) follows′ (rw (holds .table) begins) (rw (holds .table, start-at, end-at) covered)
+
+    -- so that the tables hold the machine without it
+    pub cut-holds :
+        {last : List ℕ} → last ≡ lastTable (m .pattern) (boardLeft m′) (everything (boardLeft m′)) →
         Holds m′ (state (s .fixed) (s .offsets) (s .numbers) (without (s .ends) place) (last ++ drop (length (m .board .kinds)) (s .sets)))
     unfolding takeOut boardLeft chosen
-    cut-holds {last} settles =
-        let e = settles (m .pattern) (boardLeft m′) follows′ (rw (holds .table) begins) (rw (holds .table, start-at, end-at) covered) in
+    cut-holds {last} e =
         let long : length last ≡ length (m .board .kinds) = ap length e ∙ last-fits (m .pattern) (boardLeft m′) (everything (boardLeft m′)) .size in
         record {
           pattern = holds .pattern;

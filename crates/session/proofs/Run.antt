@@ -53,7 +53,7 @@ run-holds [] [] m h e = (refl, subst (Holds m) (sym e) h)
 run-holds [] (r ∷ rs) m h c = absurd c
 run-holds (place ∷ places) [] m h c = absurd c
 run-holds (place ∷ places) (r ∷ rs) m h (s, cut, rest) =
-    let (e, now) = cut .machine m h in
+    let (e, now, content) = cut .machine m h in
     let (es, end) = run-holds places rs (cutMachine m place) now rest in
     (ap₂ (λ (x : Verdict) (xs : List Verdict). x ∷ xs) e es, end)
 

@@ -1,16 +1,18 @@
 -- What the calls of a session promise, on the tables that are lent; and a list of cuts, one call after another.
 use mathlib.Core.Bool.{cond}
-use mathlib.Core.List.{List, [], _∷_}
+use mathlib.Core.List.{List, [], _∷_, _++_}
 use mathlib.Core.Path.{_≡_}
 use Prim.Native.Nat.{ℕ}
 use lib.Dec.{leb}
-use lib.ListN.{length, getD}
+use lib.ListN.{length, getD, drop}
 use Rattle.file_format.specs.Reading.{filled}
 use Rattle.file_format.specs.Refusals.{Verdict, refuse, first, shortTable}
 use Rattle.file_format.specs.Reply.{Reply, reply}
 use Rattle.file_format.specs.declared.Refusal.{Refusal}
-use Rattle.session.specs.Machine.{Machine, cutReply, cutMachine, machineTable}
-use Rattle.session.specs.State.{State, Holds}
+use Rattle.table.specs.Host.{everything}
+use Rattle.table.specs.Row.{lastTable}
+use Rattle.session.specs.Machine.{Machine, isLeft, takeOut, cutReply, cutMachine, boardLeft, machineTable}
+use Rattle.session.specs.State.{State, state, without, Holds}
 
 -- A number of the tables that says how many there are of something: 0 where it is above what there is room for, as in tables that hold no machine.
 unfoldable pub bounded : ℕ → ℕ → ℕ
@@ -23,10 +25,18 @@ nodesIn fixed = bounded 512 (getD fixed 65 0)
 abbrev pub partsIn : List ℕ → ℕ
 partsIn fixed = bounded 32 (getD fixed 64 0)
 
--- A cut of tables that hold a machine: the reply is the machine's, and the tables hold the machine after it. A refusal leaves all tables as they were,
+-- the tables after a cut: where a link is left at the place, its two entries are no node's, and the sets are the last table without it, before those past N
+unfoldable pub cutState : Machine → ℕ → State → State
+cutState m place s =
+    cond (isLeft m place)
+    (state (s .fixed) (s .offsets) (s .numbers) (without (s .ends) place)
+    (lastTable (m .pattern) (boardLeft (takeOut m place)) (everything (boardLeft (takeOut m place))) ++ drop (length (m .board .kinds)) (s .sets)))
+    s
+
+-- A cut of tables that hold a machine: the reply is the machine's, and the tables hold the machine after it, by these entries. A refusal leaves all tables as they were,
 -- whatever they hold.
 pub record CutPromise (before : State) (place : ℕ) (reply : Verdict) (after : State) : Type 0 where
-  pub machine : (m : Machine) → Holds m before → (reply ≡ cutReply m place) × Holds (cutMachine m place) after
+  pub machine : (m : Machine) → Holds m before → (reply ≡ cutReply m place) × Holds (cutMachine m place) after × (after ≡ cutState m place before)
   pub refused : (x : Refusal) → reply ≡ refuse x → after ≡ before
 
 -- Reading out the table of a machine: "8 a lent output table too short"; else the table stands at the front, and entries past N stay.

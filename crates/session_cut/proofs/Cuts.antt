@@ -7,17 +7,19 @@ use native.Mathlib.Omega.{arith}
 use borrow.Author.Tests.{lt-ltb, le-ltb, leb-true, le-leb, lt-leb}
 use lib.Dec.{T, leb}
 use lib.ListN.{length, getD, take, drop}
-use Rattle.base_lists.proofs.Tests.{true-T}
+use Rattle.base_lists.proofs.Tests.{T-true, true-T}
 use Rattle.file_format.specs.Refusals.{accept, refuse}
 use Rattle.file_format.specs.declared.File.the-variants.{Neither}
 use Rattle.file_format.specs.declared.Refusal.{Refusal}
 use Rattle.graph.specs.Search.{far}
-use Rattle.session.specs.Machine.{Machine, isLeft}
-use Rattle.session.specs.Session.{bounded, nodesIn, CutPromise}
+use Rattle.session.specs.Machine.{Machine, isLeft, takeOut, boardLeft}
+use Rattle.session.specs.Session.{bounded, nodesIn, cutState, CutPromise}
 use Rattle.session.specs.State.{State, state, Holds, takes, without}
-use Rattle.session.proofs.Cutting.{takes-left, cut-holds}
+use Rattle.session.proofs.Cutting.{takes-left, cut-last, cut-holds}
 use Rattle.session.proofs.Run.{cut-left, cut-gone}
 use Rattle.session_strike.specs.Going.{Settles}
+use Rattle.table.specs.Host.{everything}
+use Rattle.table.specs.Row.{lastTable}
 use Rattle.session_strike.specs.Moves.{movesIn, markBoth}
 use Rattle.session_cut.specs.declared.CutAnswer.the-variants as answer
 use Rattle.session_cut.specs.declared.Taken.{Taken}
@@ -97,6 +99,18 @@ module _ {ends : List ℕ} {nodes place : ℕ} {taken : Taken} {ends′ : List �
 held : {m : Machine} {s : State} → Holds m s → (place : ℕ) → isLeft m place ≡ takes (s .ends) (nodesIn (s .fixed)) place
 held {s = s} h place = sym (takes-left h place) ∙ ap (λ (n : ℕ). takes (s .ends) n place) (sym (nodes-held h))
 
+-- the tables after a cut, by whether the link is left
+state-gone : (m : Machine) (place : ℕ) {s : State} → isLeft m place ≡ false → cutState m place s ≡ s
+unfolding cutState
+state-gone m place e = rw e
+
+state-left : (m : Machine) (place : ℕ) (s : State) → T (isLeft m place) →
+    cutState m place s
+    ≡ state (s .fixed) (s .offsets) (s .numbers) (without (s .ends) place)
+    (lastTable (m .pattern) (boardLeft (takeOut m place)) (everything (boardLeft (takeOut m place))) ++ drop (length (m .board .kinds)) (s .sets))
+unfolding cutState
+state-left m place s t = rw (T-true {b = isLeft m place} t)
+
 never : (z : Refusal) → accept ≡ refuse z → ⊥
 never z q = let e : _≡_ {A = ℕ} 0 1 = cc in omega arith
 
@@ -110,8 +124,11 @@ module _ (fixed offsets numbers ends sets : List ℕ) {place : ℕ} {taken : Tak
       record {
         machine =
             λ m h.
-            let c = cut-gone m place (held h place ∙ none t e) in
-            (sym (c .0), subst (λ (x : Machine). Holds x (state fixed offsets numbers ends′ sets)) (sym (c .1)) (rw same h));
+            let c = cut-gone m place (held h place ∙ none t e) in (
+              sym (c .0),
+              subst (λ (x : Machine). Holds x (state fixed offsets numbers ends′ sets)) (sym (c .1)) (rw same h),
+              ap (λ (l : List ℕ). state fixed offsets numbers l sets) same ∙ sym (state-gone m place (held h place ∙ none t e)),
+            );
         refused = λ x q. ap (λ (l : List ℕ). state fixed offsets numbers l sets) same;
       }
 
@@ -130,10 +147,12 @@ module _ (fixed offsets numbers ends sets : List ℕ) {place : ℕ} {taken : Tak
         machine =
             λ m h.
             let left : T (isLeft m place) = true-T (held h place ∙ some t e) in
-            let c = cut-left m place left in (
+            let c = cut-left m place left in
+            let n = nodes-held h in
+            let end = cut-last h place left (rw (out, n, start, end) at settles) in (
               sym (c .0),
-              subst (λ (x : Machine). Holds x (state fixed offsets numbers ends′ (last ++ drop (nodesIn fixed) sets))) (sym (c .1))
-                  (rw (out, nodes-held h) (cut-holds h place left (rw (out, nodes-held h, start, end) at settles))),
+              subst (λ (x : Machine). Holds x (state fixed offsets numbers ends′ (last ++ drop (nodesIn fixed) sets))) (sym (c .1)) (rw (out, n) (cut-holds h place left end)),
+              rw (out, n, end) (sym (state-left m place (state fixed offsets numbers ends sets) left)),
             );
         refused = λ z q. absurd (never z q);
       }

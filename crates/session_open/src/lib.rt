@@ -32,7 +32,7 @@ fn group_links(
     requires { ⌜ (length (now starts) ≡ length (now ends)) × (length (now starts) ≤ 4096) ⌝ }
     requires { ⌜ T (all (λ v. ltb v n) (now starts)) × T (all (λ v. ltb v n) (now ends)) ⌝ }
     requires { ⌜ now order ≡ allNodes (length (now starts)) ⌝ }
-    ensures { λ _. ⌜ Numbered n (now (starts .entry)) (now (ends .entry)) (now (offsets .exit)) (now (numbers .exit)) ⌝ }
+    ensures { λ _. ⌜ Numbered n (now (starts .entry)) (now (ends .entry)) (now (offsets .entry)) (now (numbers .entry)) (now (offsets .exit)) (now (numbers .exit)) ⌝ }
 {
     group(
         n,
@@ -64,7 +64,7 @@ fn order_links(
     requires { ⌜ (length (now starts) ≡ length (now ends)) × (length (now starts) ≤ 4096) ⌝ }
     requires { ⌜ T (all (λ v. ltb v n) (now starts)) × T (all (λ v. ltb v n) (now ends)) ⌝ }
     requires { ⌜ length (now order) ≡ 4096 ⌝ }
-    ensures { λ _. ⌜ Numbered n (now (starts .entry)) (now (ends .entry)) (now (offsets .exit)) (now (numbers .exit)) ⌝ }
+    ensures { λ _. ⌜ Numbered n (now (starts .entry)) (now (ends .entry)) (now (offsets .entry)) (now (numbers .entry)) (now (offsets .exit)) (now (numbers .exit)) ⌝ }
 {
     let m = starts.len();
     list_all(&mut order[..m]);
@@ -102,7 +102,7 @@ pub fn store_links(
     requires { ⌜ n ≤ 512 ⌝ }
     requires { ⌜ (length (now starts) ≡ length (now ends)) × (length (now starts) ≤ 4096) ⌝ }
     requires { ⌜ T (all (λ v. ltb v n) (now starts)) × T (all (λ v. ltb v n) (now ends)) ⌝ }
-    ensures { λ _. ⌜ Numbered n (now (starts .entry)) (now (ends .entry)) (now (offsets .exit)) (now (numbers .exit)) ⌝ }
+    ensures { λ _. ⌜ Numbered n (now (starts .entry)) (now (ends .entry)) (now (offsets .entry)) (now (numbers .entry)) (now (offsets .exit)) (now (numbers .exit)) ⌝ }
     ensures { λ _. ⌜ Ended (now (starts .entry)) (now (ends .entry)) (now (out .exit)) ⌝ }
 {
     let mut order = [0u16; Board::MAX_LINKS];

@@ -12,7 +12,8 @@ use Rattle.file_format.proofs.Accepted.{bounded-any, bounded-starts, bounded-en
 use Rattle.file_format.proofs.Reading.{stands-size, stands-room}
 use Rattle.file_pair.specs.Pair.{BothRead}
 use Rattle.file_pair.proofs.Both.{both-read, refused-pair, pattern-bounded, board-bounded}
-use Rattle.call_session.proofs.Opening.{fresh-holds, pattern-below, open-refused, open-held}
+use Rattle.session.specs.State.{state}
+use Rattle.call_session.proofs.Opening.{fresh-holds, fresh-state, pattern-below, open-refused, open-held}
 use Rattle.call_session.proofs.open.Statement.{statement}
 use Rattle.call_session.proofs.open.Tie as tie
 
@@ -191,10 +192,17 @@ returns-2 c =
     let fixed = linked .before .before .before .before .before .before .before .before in
     let told = fixed .before .before .before .before in
     let read = both told in
+    let old = entry (reading told) .args in
+    let before = state (now (old .fixed)) (now (old .offsets)) (now (old .numbers)) (now (old .ends)) (now (old .sets)) in
+    let p = bounded-any (pattern-bounded read) in
+    let parts = sym (stands-size (read .drawn) .0) in
+    let nodes = sym (stands-size (read .given) .0) in
+    let long = matched .match-circuits .kept .1 .1 .1 .1 .1 .1 .0 ∙ fits told in
     open-held read
-    (fresh-holds _ _ (board-bounded read) (bounded-any (pattern-bounded read)) (now (entry (reading told) .args .sets)) (sym (stands-size (read .drawn) .0)) (sym (stands-size (read .given) .0))
-    (fixed .store-fixed .ensures) (linked .store-links .ensures .0) (linked .store-links .ensures .1) (matched .match-circuits .ensures .last)
-    (matched .match-circuits .kept .1 .1 .1 .1 .1 .1 .0 ∙ fits told))
+    (fresh-holds _ _ (board-bounded read) p before parts nodes (fixed .store-fixed .ensures) (linked .store-links .ensures .0) (linked .store-links .ensures .1)
+    (matched .match-circuits .ensures .last) long)
+    (fresh-state _ _ (board-bounded read) p before parts nodes (fixed .store-fixed .ensures) (linked .store-links .ensures .0) (linked .store-links .ensures .1)
+    (matched .match-circuits .ensures .last) long)
 
 pub open-spec : {M : Type 1} → statement M
 open-spec =

@@ -84,7 +84,7 @@ returns c =
     (one .last .1 .1 .1 .1 .0)
     (two .last .1 .1 .1 .0)
     (two .last .1 .1 .1 .1 .0)
-    _ _ _ _ (now (a .offsets)) (now (a .numbers)) (p .0) o l o′ l′ (p .1 .1 .0 .0)
+    (now (a .offsets)) (now (a .numbers)) (p .0) (p .1 .0) (p .1 .1 .0 .1) (p .1 .1 .1 .0 .0) (p .1 .1 .1 .0 .1) o l o′ l′ (p .1 .1 .0 .0)
     (one .ensures .0) (rw (p .1 .1 .1 .1) at (one .ensures .1)) (two .ensures .0) (rw (p .1 .1 .1 .1) at (two .ensures .1))
 
 pub group-links-spec : {M : Type 1} → statement M
