@@ -1,10 +1,9 @@
 -- Ask 13: what a list of cuts comes to, without the machine. Assumes nothing.
 use mathlib.Core.Bool.{Bool, true, false, _&&_, _||_, not, cond, and-true}
-use mathlib.Core.List.{List, [], _∷_, _++_}
+use mathlib.Core.List.{List, [], _∷_}
 use mathlib.Core.Logic.{_↔_, Iff·rfl, Iff·trans}
 use mathlib.Core.Path.{_≡_, refl, sym, ap, ap₂, subst, _∙_}
 use Prim.Native.Nat.{ℕ, _≤_, _<_}
-use native.Mathlib.Omega.{arith}
 use borrow.Author.Tests.{lt-ltb, not-true}
 use lib.Dec.{T, eqb, ltb}
 use lib.ListN.{length, take, drop}
@@ -15,11 +14,11 @@ use Rattle.graph.specs.Chosen.{chosen, ChosenLink}
 use Rattle.graph.specs.Circuit.{Circuit, LinkAt, HasLink, circuitGraph, graphOf}
 use Rattle.graph.specs.Search.{inside}
 use Rattle.graph.proofs.Chosen.{chosen-iff}
-use Rattle.simulation.specs.Perfect.{SameGraph, SameAgree}
+use Rattle.simulation.specs.Perfect.{SameGraph}
 use Rattle.simulation.specs.Simulation.{Largest}
 use Rattle.simulation.proofs.Same.{same-refl, largest-same}
 use Rattle.file_format.specs.Circuit.{circuitOf}
-use Rattle.file_format.specs.Layout.{CircuitFile, nodesOf, linksOf, startsOf, endsOf}
+use Rattle.file_format.specs.Layout.{CircuitFile, nodesOf, linksOf}
 use Rattle.file_format.specs.Refusals.{Verdict, accept, refuse, first, linkGone}
 use Rattle.file_format.specs.Reply.{Reply, reply}
 use Rattle.file_format.proofs.Fields.{length-labels, length-starts}
@@ -33,7 +32,7 @@ use Rattle.call_session.proofs.Promise as call
 use Rattle.session.specs.Machine as of
 use Rattle.session.specs.Machine.{Machine, fresh, isLeft, cutReply, cutMachine, machineAfter, boardLeft, machineTable}
 use Rattle.session.specs.Session.{ReadPromise, Cuts}
-use Rattle.session.specs.State.{State, Holds}
+use Rattle.session.specs.State.{State}
 use Rattle.session.proofs.Left.{fresh-left, left-inside, below-left}
 use Rattle.session.proofs.Run.{cut-keeps, left-after, after-same}
 use Rattle.demands.specs.Cutting.{fourteen, cutReplies, leftOf, Ask13}

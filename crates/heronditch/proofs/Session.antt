@@ -1,9 +1,9 @@
 -- The promises of a session's calls, as a host program sees them. Assumes nothing.
 use mathlib.Core.List.{List, [], _∷_}
-use mathlib.Core.Path.{_≡_, refl, sym, ap, _∙_}
+use mathlib.Core.Path.{_≡_, refl, ap, _∙_}
 use Prim.Native.Nat.{ℕ}
 use Rattle.file_format.specs.Layout.{CircuitFile}
-use Rattle.file_format.specs.Refusals.{Verdict, accept, refuse}
+use Rattle.file_format.specs.Refusals.{Verdict, accept}
 use Rattle.file_format.specs.Reply as files
 use Rattle.call_session.specs.declared.OpenAnswer.{OpenAnswer}
 use Rattle.call_session.specs.Call.{openVerdict, OpenPromise}
