@@ -25,7 +25,7 @@
  * heronditch_match_31 and heronditch_match_32 read it, and no other call does.
  *
  * Numbers of refusal. Where several hold, the pattern's 1 to 6 come first, then its 11, or its 13 (6 and 11 are not asked of a pattern with
- * bounds), then the board's 1 to 5, then 7, the check's 3, 10, 12, 8, and 9 or 15:
+ * bounds), then the board's 1 to 5, then 7, the check's 3, 10, 12, 8, and 9 or 15. 14 is a cut's alone:
  *   1  a file of under 4 bytes                         6  the pattern is not connected
  *   2  the number of nodes or links out of range       7  the centre is not a node of the board
  *   3  a length that is not the edition's;             8  a lent table is too short
@@ -36,6 +36,7 @@
  *   5  links that do not rise strictly,                   are farther apart, which is a mistake in its drawing
  *      by start and then by end                       12  converting to the first edition, a package other than 0
  *                                                     13  a bound outside 1 to HERONDITCH_BOUND
+ *                                                     14  a cut of a link that is out, or of a place past the last
  *                                                     15  the centre has a place, where it is asked why it has none
  */
 #ifndef HERONDITCH_H
@@ -295,6 +296,69 @@ heronditch_counts heronditch_match_31(const uint8_t *pattern, size_t pattern_len
                                       size_t table_len);
 heronditch_counts heronditch_match_32(const uint8_t *pattern, size_t pattern_len, const uint8_t *board, size_t board_len, uint32_t *table,
                                       size_t table_len);
+
+/* A session: cutting links while searching. It lives in this struct, which the caller lends to each call: 37,132 bytes, of no meaning to the
+ * caller. It may be copied and moved, and two copies are two sessions. It begins with opening. A call on a struct that no opening filled, or
+ * that was overwritten, ends and stays within the struct and the table lent, whatever it replies. */
+typedef struct {
+    uint32_t fixed[66];
+    uint32_t sets[HERONDITCH_NODES];
+    uint16_t offsets[1026];
+    uint16_t numbers[2 * HERONDITCH_BOARD_LINKS];
+    uint16_t ends[2 * HERONDITCH_BOARD_LINKS];
+} heronditch_session;
+
+/* The calls on its arrays; use those below. */
+heronditch_reply heronditch_session_open(const uint8_t *pattern, size_t pattern_len, const uint8_t *board, size_t board_len, uint32_t *fixed,
+                                         uint16_t *offsets, uint16_t *numbers, uint16_t *ends, uint32_t *sets);
+heronditch_reply heronditch_session_open_12(const uint8_t *pattern, size_t pattern_len, const uint8_t *board, size_t board_len, uint32_t *fixed,
+                                            uint16_t *offsets, uint16_t *numbers, uint16_t *ends, uint32_t *sets);
+heronditch_reply heronditch_session_open_21(const uint8_t *pattern, size_t pattern_len, const uint8_t *board, size_t board_len, uint32_t *fixed,
+                                            uint16_t *offsets, uint16_t *numbers, uint16_t *ends, uint32_t *sets);
+heronditch_reply heronditch_session_open_22(const uint8_t *pattern, size_t pattern_len, const uint8_t *board, size_t board_len, uint32_t *fixed,
+                                            uint16_t *offsets, uint16_t *numbers, uint16_t *ends, uint32_t *sets);
+heronditch_reply heronditch_session_cut(const uint32_t *fixed, const uint16_t *offsets, const uint16_t *numbers, uint16_t *ends, uint32_t *sets,
+                                        size_t place);
+heronditch_reply heronditch_session_table(const uint32_t *fixed, const uint32_t *sets, uint32_t *table, size_t table_len);
+
+/* Opens a session on a pattern and a board: all links are left. Refused as heronditch_match is, but for 8; a refusal leaves the struct as it was.
+ * Of the names with two digits the first is the pattern's edition and the second the board's. */
+static inline heronditch_reply heronditch_open(heronditch_session *s, const uint8_t *pattern, size_t pattern_len, const uint8_t *board,
+                                               size_t board_len)
+{
+    return heronditch_session_open(pattern, pattern_len, board, board_len, s->fixed, s->offsets, s->numbers, s->ends, s->sets);
+}
+
+static inline heronditch_reply heronditch_open_12(heronditch_session *s, const uint8_t *pattern, size_t pattern_len, const uint8_t *board,
+                                                  size_t board_len)
+{
+    return heronditch_session_open_12(pattern, pattern_len, board, board_len, s->fixed, s->offsets, s->numbers, s->ends, s->sets);
+}
+
+static inline heronditch_reply heronditch_open_21(heronditch_session *s, const uint8_t *pattern, size_t pattern_len, const uint8_t *board,
+                                                  size_t board_len)
+{
+    return heronditch_session_open_21(pattern, pattern_len, board, board_len, s->fixed, s->offsets, s->numbers, s->ends, s->sets);
+}
+
+static inline heronditch_reply heronditch_open_22(heronditch_session *s, const uint8_t *pattern, size_t pattern_len, const uint8_t *board,
+                                                  size_t board_len)
+{
+    return heronditch_session_open_22(pattern, pattern_len, board, board_len, s->fixed, s->offsets, s->numbers, s->ends, s->sets);
+}
+
+/* Cuts the link at a place of the board's file, from 0: number 0 says that it was left and is out now. 14 where it was out before, or where the
+ * file has no link at that place; then nothing changes. */
+static inline heronditch_reply heronditch_cut(heronditch_session *s, size_t place)
+{
+    return heronditch_session_cut(s->fixed, s->offsets, s->numbers, s->ends, s->sets, place);
+}
+
+/* Reads the table out, N entries as heronditch_match fills them, on the links that are left; replies with N. */
+static inline heronditch_reply heronditch_table(const heronditch_session *s, uint32_t *table, size_t table_len)
+{
+    return heronditch_session_table(s->fixed, s->sets, table, table_len);
+}
 
 #ifdef __cplusplus
 }

@@ -18,5 +18,6 @@ pub mod merged;
 pub mod place;
 pub mod random;
 pub mod report;
+pub mod session;
 pub mod shelf;
 pub mod simulation;

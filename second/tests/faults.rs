@@ -14,6 +14,7 @@ use second::compare::{case, edges};
 use second::graph::{ball, distances, radius, within, Subgraph};
 use second::load::Numbers;
 use second::merged::merged;
+use second::session::{Machine, Run};
 use second::shelf::{pattern, strings};
 use second::simulation::{largest, match_graph, none_left_out, Counts, Pairs};
 
@@ -115,9 +116,16 @@ enum Fault {
     HigherNumberFirst,
     EqualDropped,
     RefusedStops,
+    // Of cutting.
+    CutAgain,
+    CutPastTheLast,
+    CutOldPairs,
+    CutForwardOnly,
+    CutEarlierLink,
+    CutPartsLeftOut,
 }
 
-const FAULTS: [Fault; 86] = [
+const FAULTS: [Fault; 92] = [
     Fault::OneRound,
     Fault::EveryLink,
     Fault::MergedRadius,
@@ -204,6 +212,12 @@ const FAULTS: [Fault; 86] = [
     Fault::HigherNumberFirst,
     Fault::EqualDropped,
     Fault::RefusedStops,
+    Fault::CutAgain,
+    Fault::CutPastTheLast,
+    Fault::CutOldPairs,
+    Fault::CutForwardOnly,
+    Fault::CutEarlierLink,
+    Fault::CutPartsLeftOut,
 ];
 
 /// The second finder with a planted fault.
@@ -666,6 +680,29 @@ impl Finder for Faulty {
         out: &mut [u8],
     ) -> Words {
         self.bar_call(editions, pattern, board, centre, out)
+    }
+
+    fn session(
+        &self,
+        editions: [Edition; 2],
+        pattern: &[u8],
+        board: &[u8],
+        places: &[usize],
+    ) -> Run {
+        let right = Second.session(editions, pattern, board, places);
+        let cutting = matches!(
+            self.0,
+            Fault::CutAgain
+                | Fault::CutPastTheLast
+                | Fault::CutOldPairs
+                | Fault::CutForwardOnly
+                | Fault::CutEarlierLink
+                | Fault::CutPartsLeftOut
+        );
+        match both_in_bits(editions, pattern, board) {
+            Ok((pattern, board)) if cutting => faulty_session(self.0, pattern, board, places),
+            _ => right,
+        }
     }
 
     fn merge(&self, pattern: &[u8], classes: &mut [u8], out: &mut [u8]) -> Words {
@@ -1140,6 +1177,49 @@ impl Faulty {
         out[..bytes.len()].copy_from_slice(&bytes);
         [0, 0, bytes.len() as u32, 0, 0, 0]
     }
+}
+
+/// The table of a machine, as a session with a fault has it.
+fn faulty_table(fault: Fault, machine: &Machine, last: &[u32]) -> Vec<u32> {
+    let rest = machine.rest();
+    let (pairs, _) = largest(&machine.pattern, &rest, &Subgraph::whole(&rest));
+    let plain: Vec<u32> = (0..rest.kinds.len()).map(|v| pairs.word(v)).collect();
+    match fault {
+        Fault::CutPartsLeftOut => plain,
+        Fault::CutOldPairs => last.to_vec(),
+        Fault::CutForwardOnly => {
+            let starts: Vec<usize> = rest.links.iter().map(|link| link.0).collect();
+            let own = machine.table();
+            let keep = |v: usize| if starts.contains(&v) { own[v] } else { last[v] };
+            (0..own.len()).map(keep).collect()
+        }
+        _ => machine.table(),
+    }
+}
+
+/// A session with a fault in its cuts.
+fn faulty_session(fault: Fault, pattern: Circuit, board: Circuit, places: &[usize]) -> Run {
+    let mut machine = Machine::fresh(pattern, board);
+    let mut last = machine.table();
+    let mut run = Run::opened(last.clone());
+    let m = machine.left.len();
+    for &place in places {
+        let wrong = if fault == Fault::CutEarlierLink && place > 0 {
+            place - 1
+        } else {
+            place
+        };
+        let out = place < m && !machine.left[place];
+        let number = match machine.cut(wrong) {
+            Ok(()) => 0,
+            Err(_) if fault == Fault::CutAgain && out => 0,
+            Err(_) if fault == Fault::CutPastTheLast && place == m => 0,
+            Err(refusal) => refusal.number,
+        };
+        last = faulty_table(fault, &machine, &last);
+        run.push(number, last.clone());
+    }
+    run
 }
 
 /// The whole-board call without the rule that every part has a node.

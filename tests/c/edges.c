@@ -597,8 +597,57 @@ static void bounds(void)
           "a path that ends where it began");
 }
 
+/* a session on T and B, and on a struct of any content */
+static void sessions(void)
+{
+    static heronditch_session s, before;
+    uint32_t table[8];
+    memset(&s, 0xA5, sizeof s);
+    check(sizeof s == 37132, "the size of a session");
+    check(is_reply(heronditch_open(&s, NULL, 0, NULL, 0), 1, HERONDITCH_PATTERN, 0, 0) && untouched(&s, 0, sizeof s), "open of nothing");
+    check(is_reply(heronditch_open(&s, T, sizeof T, T, 17), 3, HERONDITCH_BOARD, 0, 0) && untouched(&s, 0, sizeof s), "open on a damaged board");
+    check(is_reply(heronditch_open(&s, T, sizeof T, B, sizeof B), 0, HERONDITCH_NEITHER, 0, 0), "open");
+    check(is_reply(heronditch_table(&s, table, 5), 8, HERONDITCH_NEITHER, 0, 0), "a session's table in 5 entries");
+    memset(table, 0xA5, sizeof table);
+    check(is_reply(heronditch_table(&s, table, 8), 0, HERONDITCH_NEITHER, 6, 0) && table[0] == 1 && table[1] == 2 && table[2] == 4 && !table[3] && !table[4] &&
+              !table[5] && untouched(table, 24, 32),
+          "the table of a fresh session");
+    before = s;
+    check(is_reply(heronditch_cut(&s, 3), 14, HERONDITCH_NEITHER, 0, 0) && !memcmp(&s, &before, sizeof s), "a cut of the place M");
+    check(is_reply(heronditch_cut(&s, (size_t)-1), 14, HERONDITCH_NEITHER, 0, 0) && !memcmp(&s, &before, sizeof s), "a cut of the last place of all");
+    check(is_reply(heronditch_cut(&s, 2), 0, HERONDITCH_NEITHER, 0, 0), "a cut that strikes nothing");
+    check(heronditch_table(&s, table, 6).first == 6 && table[0] == 1 && table[1] == 2 && table[2] == 4, "the table after it");
+    before = s;
+    check(is_reply(heronditch_cut(&s, 2), 14, HERONDITCH_NEITHER, 0, 0) && !memcmp(&s, &before, sizeof s), "the same cut again");
+    check(is_reply(heronditch_cut(&s, 0), 0, HERONDITCH_NEITHER, 0, 0), "a cut that strikes");
+    check(heronditch_table(&s, table, 6).first == 6 && !table[0] && !table[1] && !table[2], "all 0 after it");
+    check(is_reply(heronditch_open(&s, TWO_BITS, sizeof TWO_BITS, B, sizeof B), 0, HERONDITCH_NEITHER, 0, 0), "open with a pattern in two bits");
+    static const uint8_t none[] = {0, 0, 0, 0};
+    check(is_reply(heronditch_open(&s, T, sizeof T, none, 4), 0, HERONDITCH_NEITHER, 0, 0), "open on no node");
+    check(is_reply(heronditch_cut(&s, 0), 14, HERONDITCH_NEITHER, 0, 0) && is_reply(heronditch_table(&s, NULL, 0), 0, HERONDITCH_NEITHER, 0, 0), "a session on no node");
+    /* contents that no opening leaves: each call ends; valgrind sees what it reads and writes */
+    uint32_t random = 1;
+    for (int round = 0; round < 200; round++) {
+        uint8_t *bytes = (uint8_t *)&s;
+        if (round % 3 == 0)
+            heronditch_open(&s, T, sizeof T, B, sizeof B);
+        for (size_t i = 0; i < sizeof s; i++) {
+            random = random * 1664525u + 1013904223u;
+            if (round % 3 || random >> 24 == 0)
+                bytes[i] = (uint8_t)(random >> 16);
+        }
+        if (round % 2)
+            s.fixed[65] = 512;
+        for (size_t place = 0; place < 4096; place += 97)
+            heronditch_cut(&s, place);
+        uint32_t all[512];
+        check(heronditch_table(&s, all, 512).number == 0, "a session of any content");
+    }
+}
+
 int main(void)
 {
+    sessions();
     no_arrays();
     one_way();
     lengths();

@@ -98,6 +98,23 @@ static void *bar(void *x)
     refused |= heronditch_bar(PATTERN, other, sizeof other, 0, links, HERONDITCH_PATTERN_LINKS).number;
     return x;
 }
+/* opened by the first of these three, which go one after another */
+static heronditch_session session;
+static void *open_session(void *x)
+{
+    refused |= heronditch_open(&session, PATTERN, BOARD).number;
+    return x;
+}
+static void *cut(void *x)
+{
+    refused |= heronditch_cut(&session, 0).number;
+    return x;
+}
+static void *table_of(void *x)
+{
+    refused |= heronditch_table(&session, table, HERONDITCH_NODES).number;
+    return x;
+}
 static void *merge(void *x)
 {
     refused |= heronditch_merge(PATTERN, links, HERONDITCH_PARTS, bytes, sizeof pattern).number;
@@ -160,7 +177,7 @@ int main(void)
     static const struct {
         const char *name;
         void *(*call)(void *);
-    } calls[] = {{"read", read_board}, {"write", write_board}, {"radius", radius}, {"ball", ball}, {"match", match}, {"match one way", one_way}, {"match with bounds", match_bounded}, {"place", place}, {"check", check}, {"bar", bar}, {"merge", merge}, {"report", report}, {"load", load}, {"compare", compare}, {"shelf", shelf}};
+    } calls[] = {{"read", read_board}, {"write", write_board}, {"radius", radius}, {"ball", ball}, {"match", match}, {"match one way", one_way}, {"match with bounds", match_bounded}, {"place", place}, {"check", check}, {"bar", bar}, {"open", open_session}, {"cut", cut}, {"table", table_of}, {"merge", merge}, {"report", report}, {"load", load}, {"compare", compare}, {"shelf", shelf}};
     size_t most = 0;
     if (circuit(HERONDITCH_PARTS, HERONDITCH_PATTERN_LINKS, pattern) != sizeof pattern || circuit(HERONDITCH_NODES, HERONDITCH_BOARD_LINKS, board) != sizeof board)
         return 2;

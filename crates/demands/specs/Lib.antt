@@ -10,3 +10,4 @@ pub mod Barring
 pub mod Shelf
 pub mod Bounds
 pub mod OneWay
+pub mod Cutting

@@ -159,3 +159,8 @@ packageLost r to packages = record { number = 12; file = fileOf r; holds = lostP
 -- 15 "the centre has a place" (document 02, the least that still says none), "checked after 8": `found` says whether it has
 unfoldable pub centrePlaced : Bool → Condition
 centrePlaced found = record { number = 15; file = Neither; holds = found }
+
+-- 14 "A cut of a link already out, or of a place not below M, changes nothing and its reply is 14." (document 02, cutting tracks while searching):
+-- `left` says whether the place is that of a link which is left. It names neither file.
+unfoldable pub linkGone : Bool → Condition
+linkGone left = record { number = 14; file = Neither; holds = not left }

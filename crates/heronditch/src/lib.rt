@@ -42,6 +42,7 @@ use heronditch_reply::of_report;
 use heronditch_reply::of_write;
 
 mod copied;
+pub mod cutting;
 pub mod second;
 pub mod shelf;
 pub mod third;

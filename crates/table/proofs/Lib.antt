@@ -10,14 +10,14 @@ pub mod Answer
 pub mod PreparedMasks
 mod Directions
 pub mod StrikeFill
-mod Pending
+pub mod Pending
 mod Waking
 mod StrikeDue
 pub mod NodeLists
 pub mod Masks
 pub mod Prepare
 pub mod Examples
-mod StrikeSets
+pub mod StrikeSets
 mod StrikeRow
 mod StrikeRounds
 pub mod Begun

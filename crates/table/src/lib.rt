@@ -7,7 +7,7 @@ pub const FORWARD_MASKS: usize = 32;
 
 pub mod first;
 pub mod largest;
-mod strike;
+pub mod strike;
 
 // The links along which a pair needs partners: what a part drives and what drives it, or what it drives alone.
 pub enum Ways {

@@ -61,7 +61,7 @@ fn reach_back(alone: bool, offsets: &[u16], links: &[u16], sets: &[u32], v: usiz
 }
 
 // Those parts of the set that drive only parts of f, and that only parts of b drive.
-fn surviving(set: u32, succ: &[u32], pred: &[u32], f: u32, b: u32) -> u32
+pub fn surviving(set: u32, succ: &[u32], pred: &[u32], f: u32, b: u32) -> u32
     requires { ⌜ set < 2 ^ length (now succ) ⌝ }
     requires { ⌜ set < 2 ^ length (now pred) ⌝ }
     ensures { λ r. ⌜ r ≡ survivors (now (succ .entry)) (now (pred .entry)) f b set ⌝ }

@@ -9,7 +9,7 @@ ghost use Rattle.table.specs.Answer.{Fits, Ruled};
 ghost use Rattle.table_answer.specs.Union.{unionAll};
 
 // The parts that occur in a table: the union of all its sets.
-fn occurring(table: &[u32]) -> u32
+pub fn occurring(table: &[u32]) -> u32
     ensures { λ r. ⌜ r ≡ unionAll (now (table .entry)) ⌝ }
 {
     let mut union: u32 = 0;

@@ -116,6 +116,12 @@ pub enum Call<'a> {
         bytes: &'a [u8],
         lengths: &'a [u32],
     },
+    Session {
+        editions: [Edition; 2],
+        pattern: &'a [u8],
+        board: &'a [u8],
+        places: &'a [usize],
+    },
 }
 
 /// N and M as a file's first four bytes have them, 0 where it is shorter, and
@@ -187,6 +193,12 @@ impl Call<'_> {
             },
             Call::Compare { .. } => "compare_2",
             Call::Shelf { .. } => "shelf_2",
+            Call::Session { editions, .. } => match editions {
+                [Edition::First, Edition::First] => "session_open",
+                [Edition::First, Edition::Second] => "session_open_12",
+                [Edition::Second, Edition::First] => "session_open_21",
+                [Edition::Second, Edition::Second] => "session_open_22",
+            },
         }
     }
 
@@ -239,7 +251,7 @@ impl Call<'_> {
                 let (n, m) = sizes(file);
                 vec![Circuit::length_in(other(from), n, m)]
             }
-            Call::Compare { .. } => vec![],
+            Call::Compare { .. } | Call::Session { .. } => vec![],
             Call::Shelf { bytes, lengths } => vec![shelf(&strings(bytes, lengths)).len()],
         }
     }
@@ -305,6 +317,15 @@ impl fmt::Display for Call<'_> {
             | Call::MatchIn { pattern, board, .. }
             | Call::MatchOneWay { pattern, board, .. } => both(f, pattern, board),
             Call::MatchBounded { pattern, board, .. } => both(f, pattern, board),
+            Call::Session {
+                pattern,
+                board,
+                places,
+                ..
+            } => {
+                write!(f, " places {places:?}")?;
+                both(f, pattern, board)
+            }
             Call::Place {
                 pattern,
                 board,
@@ -496,7 +517,7 @@ pub fn run(finder: &dyn Finder, call: &Call, lent: &Lent) -> Outcome {
     Outcome { reply, tables }
 }
 
-/// Runs one of the calls on second-edition files.
+/// Runs one of the calls on second-edition files, or a session.
 fn run_second(finder: &dyn Finder, call: &Call, lent: &Lent) -> (Words, Vec<Vec<u32>>) {
     match *call {
         Call::ReadSecond { role, file } => {
@@ -554,12 +575,22 @@ fn run_second(finder: &dyn Finder, call: &Call, lent: &Lent) -> (Words, Vec<Vec<
             (reply, vec![wide(out)])
         }
         Call::Compare { first, second } => (finder.compare(first, second), vec![]),
+        Call::Session {
+            editions,
+            pattern,
+            board,
+            places,
+        } => {
+            let run = finder.session(editions, pattern, board, places);
+            let refused = run.refused.map(|x| [x.number, x.file.code(), 0, 0, 0, 0]);
+            (refused.unwrap_or_default(), vec![run.numbers, run.tables])
+        }
         Call::Shelf { bytes, lengths } => {
             let mut order = lent.bytes(0);
             let reply = finder.shelf(bytes, lengths, &mut order);
             (reply, vec![wide(order)])
         }
-        _ => unreachable!("not on a second-edition file"),
+        _ => unreachable!("not one of the later calls"),
     }
 }
 

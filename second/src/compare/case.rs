@@ -7,7 +7,7 @@ use super::damage::{spoil, upset};
 use super::finder::Finder;
 use super::proposals::{proposals, Proposal};
 use super::tally::Tally;
-use super::{agree, bounds, editions, laws, shelves, Difference};
+use super::{agree, bounds, editions, laws, sessions, shelves, Difference};
 use crate::circuit::{Circuit, Edition, Role};
 use crate::graph;
 use crate::load::Numbers;
@@ -261,5 +261,6 @@ pub fn check(
     laws::check(finder, &case, tally)?;
     editions::check(finder, seed, number, tally)?;
     bounds::check(finder, seed, number, tally)?;
+    sessions::check(finder, seed, number, tally)?;
     shelves::check(finder, seed, number, tally)
 }

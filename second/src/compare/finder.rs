@@ -3,6 +3,7 @@
 use crate::calls::{self, Comparison, Counted, PlaceTables, Reply};
 use crate::circuit::{Edition, Role};
 use crate::load::Numbers;
+use crate::session::{self, Run};
 
 /// A reply in one form for all calls: the number, the file, and the values or
 /// counts, 0 where there is none.
@@ -102,6 +103,13 @@ pub trait Finder {
     fn convert(&self, role: Role, from: Edition, file: &[u8], out: &mut [u8]) -> Words;
     fn compare(&self, first: &[u8], second: &[u8]) -> Words;
     fn shelf(&self, bytes: &[u8], lengths: &[u32], order: &mut [u8]) -> Words;
+    fn session(
+        &self,
+        editions: [Edition; 2],
+        pattern: &[u8],
+        board: &[u8],
+        places: &[usize],
+    ) -> Run;
 }
 
 /// The edition that is not this one.
@@ -305,5 +313,15 @@ impl Finder for Second {
 
     fn shelf(&self, bytes: &[u8], lengths: &[u32], order: &mut [u8]) -> Words {
         calls::shelve(bytes, lengths, order).into()
+    }
+
+    fn session(
+        &self,
+        editions: [Edition; 2],
+        pattern: &[u8],
+        board: &[u8],
+        places: &[usize],
+    ) -> Run {
+        session::session(editions, pattern, board, places)
     }
 }

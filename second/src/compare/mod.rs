@@ -11,6 +11,7 @@ pub mod editions;
 pub mod finder;
 pub mod laws;
 pub mod proposals;
+pub mod sessions;
 pub mod shelves;
 pub mod tally;
 

@@ -3,9 +3,10 @@
 use std::ptr::{null, null_mut};
 
 use second::calls::PlaceTables;
-use second::circuit::{Edition, Role};
+use second::circuit::{Edition, File, Refusal, Role};
 use second::compare::finder::{Finder, Words};
 use second::load::Numbers;
+use second::session::Run;
 
 /// The reply of the calls without counts.
 #[repr(C)]
@@ -58,6 +59,30 @@ type Write = unsafe extern "C" fn(
     usize,
     *mut u8,
     usize,
+) -> Reply;
+
+/// The tables that a session lives in, as the header's struct has them.
+#[repr(C)]
+#[derive(Clone, PartialEq)]
+struct Session {
+    fixed: [u32; 66],
+    sets: [u32; 512],
+    offsets: [u16; 1026],
+    numbers: [u16; 8192],
+    ends: [u16; 8192],
+}
+
+/// Opens a session on files of two editions.
+type Open = unsafe extern "C" fn(
+    *const u8,
+    usize,
+    *const u8,
+    usize,
+    *mut u32,
+    *mut u16,
+    *mut u16,
+    *mut u16,
+    *mut u32,
 ) -> Reply;
 
 extern "C" {
@@ -412,6 +437,64 @@ extern "C" {
         out: *mut u8,
         out_length: usize,
     ) -> Reply;
+    fn heronditch_session_open(
+        pattern: *const u8,
+        pattern_length: usize,
+        board: *const u8,
+        board_length: usize,
+        fixed: *mut u32,
+        offsets: *mut u16,
+        numbers: *mut u16,
+        ends: *mut u16,
+        sets: *mut u32,
+    ) -> Reply;
+    fn heronditch_session_open_12(
+        pattern: *const u8,
+        pattern_length: usize,
+        board: *const u8,
+        board_length: usize,
+        fixed: *mut u32,
+        offsets: *mut u16,
+        numbers: *mut u16,
+        ends: *mut u16,
+        sets: *mut u32,
+    ) -> Reply;
+    fn heronditch_session_open_21(
+        pattern: *const u8,
+        pattern_length: usize,
+        board: *const u8,
+        board_length: usize,
+        fixed: *mut u32,
+        offsets: *mut u16,
+        numbers: *mut u16,
+        ends: *mut u16,
+        sets: *mut u32,
+    ) -> Reply;
+    fn heronditch_session_open_22(
+        pattern: *const u8,
+        pattern_length: usize,
+        board: *const u8,
+        board_length: usize,
+        fixed: *mut u32,
+        offsets: *mut u16,
+        numbers: *mut u16,
+        ends: *mut u16,
+        sets: *mut u32,
+    ) -> Reply;
+    fn heronditch_session_cut(
+        fixed: *const u32,
+        offsets: *const u16,
+        numbers: *const u16,
+        ends: *mut u16,
+        sets: *mut u32,
+        place: usize,
+    ) -> Reply;
+    fn heronditch_session_table(
+        fixed: *const u32,
+        sets: *const u32,
+        table: *mut u32,
+        table_length: usize,
+    ) -> Reply;
     fn heronditch_load(
         seed: u32,
         nodes: u32,
@@ -465,6 +548,82 @@ fn lent<T>(slice: &mut [T]) -> *mut T {
         null_mut()
     } else {
         slice.as_mut_ptr()
+    }
+}
+
+impl Session {
+    /// Tables of any content, as opening may find them.
+    fn filled(byte: u8) -> Box<Session> {
+        let (word, half) = (u32::from(byte) * 0x0101_0101, u16::from(byte) * 0x0101);
+        Box::new(Session {
+            fixed: [word; 66],
+            sets: [word; 512],
+            offsets: [half; 1026],
+            numbers: [half; 8192],
+            ends: [half; 8192],
+        })
+    }
+
+    /// Opens a session; replies with the refusal, if it has one. A refusal
+    /// leaves the tables as they were.
+    fn open(&mut self, open: Open, pattern: &[u8], board: &[u8]) -> Option<Refusal> {
+        let before = self.clone();
+        let reply = unsafe {
+            open(
+                given(pattern),
+                pattern.len(),
+                given(board),
+                board.len(),
+                self.fixed.as_mut_ptr(),
+                self.offsets.as_mut_ptr(),
+                self.numbers.as_mut_ptr(),
+                self.ends.as_mut_ptr(),
+                self.sets.as_mut_ptr(),
+            )
+        };
+        if reply.number == 0 {
+            return None;
+        }
+        assert!(*self == before, "a refusal changed the tables");
+        let file = [File::Neither, File::Pattern, File::Board][reply.file as usize];
+        let number = reply.number;
+        Some(Refusal { number, file })
+    }
+
+    /// Cuts at a place; replies with the number. A refusal names neither file,
+    /// and leaves the tables as they were.
+    fn cut(&mut self, place: usize) -> u32 {
+        let before = self.clone();
+        let reply = unsafe {
+            heronditch_session_cut(
+                self.fixed.as_ptr(),
+                self.offsets.as_ptr(),
+                self.numbers.as_ptr(),
+                self.ends.as_mut_ptr(),
+                self.sets.as_mut_ptr(),
+                place,
+            )
+        };
+        assert!(reply.number == 0 || *self == before, "14 changed the tables");
+        assert!([reply.file as usize, reply.first, reply.second] == [0; 3]);
+        reply.number
+    }
+
+    /// The table, by N entries that it replies with; one entry less is 8.
+    fn table(&self) -> Vec<u32> {
+        let read = |table: &mut [u32]| unsafe {
+            let (fixed, sets) = (self.fixed.as_ptr(), self.sets.as_ptr());
+            heronditch_session_table(fixed, sets, lent(table), table.len())
+        };
+        let mut table = vec![0x5A5A_5A5A; 513];
+        let reply = read(&mut table);
+        assert!(reply.number == 0 && table[reply.first..].iter().all(|&x| x == 0x5A5A_5A5A));
+        table.truncate(reply.first);
+        if let Some((_, shorter)) = table.clone().split_last_mut() {
+            let kept = shorter.to_vec();
+            assert!(read(shorter).number == 8 && shorter == kept);
+        }
+        table
     }
 }
 
@@ -888,5 +1047,30 @@ impl Finder for Host {
             )
         }
         .words()
+    }
+
+    fn session(
+        &self,
+        editions: [Edition; 2],
+        pattern: &[u8],
+        board: &[u8],
+        places: &[usize],
+    ) -> Run {
+        let open: Open = match editions {
+            [Edition::First, Edition::First] => heronditch_session_open,
+            [Edition::First, Edition::Second] => heronditch_session_open_12,
+            [Edition::Second, Edition::First] => heronditch_session_open_21,
+            [Edition::Second, Edition::Second] => heronditch_session_open_22,
+        };
+        let mut session = Session::filled(places.len() as u8 ^ 0xA5);
+        if let Some(refusal) = session.open(open, pattern, board) {
+            return Run::refused(refusal);
+        }
+        let mut run = Run::opened(session.table());
+        for &place in places {
+            let number = session.cut(place);
+            run.push(number, session.table());
+        }
+        run
     }
 }

@@ -1,0 +1,2 @@
+mod Opening
+pub mod Promise

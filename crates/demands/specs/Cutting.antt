@@ -1,0 +1,61 @@
+-- Ask 13, "Cutting tracks while searching", quoted over what is proved of it: `Ask13`. proofs/Cutting proves it. What the calls promise of the lent
+-- tables is OpenPromise, CutPromise and ReadPromise; here a list of cuts is spoken of without the machine: by the places that it names.
+use mathlib.Core.Bool.{_&&_, not, cond, false}
+use mathlib.Core.List.{List, [], _∷_, _++_}
+use mathlib.Core.Path.{_≡_}
+use Prim.Native.Nat.{ℕ, _≤_}
+use lib.Dec.{ltb}
+use lib.ListN.{length, take, drop}
+use Rattle.graph.specs.Circuit.{LinkAt}
+use Rattle.graph.specs.Graph.{Graph}
+use Rattle.simulation.specs.Simulation.{Largest}
+use Rattle.file_format.specs.declared.File.the-variants.{Neither}
+use Rattle.file_format.specs.declared.Refusal.{Refusal}
+use Rattle.file_format.specs.Layout.{CircuitFile, nodesOf, linksOf, startsOf, endsOf}
+use Rattle.file_format.specs.Refusals.{Verdict, accept, refuse, first, shortTable}
+use Rattle.file_format.specs.Reply.{Reply, reply}
+use Rattle.table.specs.Fill.{listed}
+use Rattle.table.specs.Row.{InTable}
+use Rattle.call_match.specs.Call.{matchConditions}
+use Rattle.call_session.specs.Call.{openConditions, OpenPromise}
+use Rattle.session.specs.Session.{ReadPromise, Cuts}
+use Rattle.session.specs.State.{State}
+use Rattle.demands.specs.Demands.{graph, equal}
+
+-- number 14, of neither file
+abbrev pub fourteen : Refusal
+fourteen = record { number = 14; file = Neither }
+
+-- The replies to a list of cuts on a board of m links, some of which were cut earlier: 'cut' (acceptance) where the place is below m and was not named
+-- before, and else 14.
+unfoldable pub cutReplies : ℕ → List ℕ → List ℕ → List Verdict
+cutReplies m earlier [] = []
+cutReplies m earlier (place ∷ places) =
+    cond (ltb place m && not (listed earlier place)) accept (refuse fourteen) ∷ cutReplies m (place ∷ earlier) places
+
+-- the board's nodes, with those of its links whose places are not in a list
+unfoldable pub leftOf : CircuitFile → List ℕ → Graph
+leftOf board places =
+    record {
+      Node = graph board .Node;
+      Link = λ v w. (i : ℕ) × LinkAt (startsOf board) (endsOf board) v w i × (listed places i ≡ false);
+    }
+
+pub record Ask13 : Type 1 where
+  -- "opening refuses as Ask 7's call does but for 8"
+  pub conditions : (pattern board : CircuitFile) (lent : ℕ) →
+      matchConditions pattern board lent ≡ openConditions pattern board ++ (shortTable (nodesOf board) lent ∷ [])
+  pub refused : (pattern board : CircuitFile) (before after : State) (said : Verdict) → OpenPromise pattern board before said after →
+      (said ≡ first (openConditions pattern board)) × ((x : Refusal) → said ≡ refuse x → after ≡ before)
+  -- "For every list of cuts from a fresh session, .. each reply in the list is the machine's": 'cut' for a link that is left, and "A cut of a link already
+  -- out, or of a place not below M, changes nothing and its reply is 14."
+  pub replies : (pattern board : CircuitFile) (before opened after : State) (places : List ℕ) (said : List Verdict) →
+      OpenPromise pattern board before accept opened → Cuts opened places said after → said ≡ cutReplies (linksOf board) [] places
+  -- "after it the table is the largest dual simulation of the pattern in the nodes with the machine's links": those whose places are not in the list. Reading
+  -- it out replies with N, and leaves entries past N.
+  pub table : (pattern board : CircuitFile) (before opened after : State) (places : List ℕ) (said : List Verdict) →
+      OpenPromise pattern board before accept opened → Cuts opened places said after →
+      (lent later : List ℕ) (answer : Reply) → ReadPromise after lent answer later → nodesOf board ≤ length lent →
+      (answer ≡ reply accept (nodesOf board ∷ []))
+      × Largest (graph pattern) (equal pattern board) (leftOf board places) (InTable (take (nodesOf board) later))
+      × (drop (nodesOf board) later ≡ drop (nodesOf board) lent)

@@ -1,0 +1,88 @@
+-- Laws of the links that are left: all of a fresh machine's, and what a cut takes out. Assumes nothing.
+use mathlib.Core.Bool.{Bool, true, false, _&&_, not, cond}
+use mathlib.Core.List.{List}
+use mathlib.Core.Path.{_≡_, refl, sym, ap, _∙_}
+use Prim.Native.Nat.{ℕ, _≤_, _<_}
+use borrow.Author.Tests.{eqb-true, eqb-false, ltb-true, ltb-false, lt-ltb}
+use lib.Dec.{T, eqb, ltb}
+use lib.ListN.{length, getD, set, List·getD-eq-default}
+use lib.Seq.{getD-set-same, getD-set-other, set-out}
+use Rattle.base_lists.proofs.Tables.{getD-tabulate}
+use Rattle.base_lists.proofs.Tests.{both, both-left, both-right, T-true, true-T}
+use Rattle.graph.specs.Circuit.{Circuit}
+use Rattle.graph.specs.Search.{inside, far}
+use Rattle.session.specs.Machine.{Machine, fresh, isLeft, takeOut}
+use Rattle.session.specs.State.{endLeft}
+
+-- an entry that is set to 0 is not 1
+inside-out : (left : List ℕ) (place i : ℕ) → inside (set left place 0) i ≡ inside left i && not (eqb i place)
+unfolding inside
+inside-out left place i = go (eqb i place) refl (ltb place (length left)) refl
+  where
+    none : (b : Bool) → b && false ≡ false
+    none true = refl
+    none false = refl
+
+    same : (b : Bool) → b && true ≡ b
+    same true = refl
+    same false = refl
+
+    go : (b : Bool) → eqb i place ≡ b → (a : Bool) → ltb place (length left) ≡ a → eqb (getD (set left place 0) i 0) 1 ≡ eqb (getD left i 0) 1 && not b
+    go true e true l = rw (eqb-true i place e, getD-set-same left place 0 0 (ltb-true _ _ l)) (sym (none (eqb (getD left place 0) 1)))
+    go true e false l =
+        let out : length left ≤ place = ltb-false _ _ l in
+        rw (eqb-true i place e, set-out left place 0 out, List·getD-eq-default left 0 out)
+    go false e a l = rw (getD-set-other left place i 0 0 (eqb-false i place e)) (sym (same (eqb (getD left i 0) 1)))
+
+module _ (m : Machine) (place : ℕ) where
+  pub left-out : (i : ℕ) → isLeft (takeOut m place) i ≡ isLeft m i && not (eqb i place)
+  unfolding isLeft takeOut
+  left-out i = ap (λ (b : Bool). ltb i (length (m .board .starts)) && b) (inside-out (m .left) place i) ∙ go (ltb i (length (m .board .starts)))
+    where
+      go : (a : Bool) → a && (inside (m .left) i && not (eqb i place)) ≡ (a && inside (m .left) i) && not (eqb i place)
+      go true = refl
+      go false = refl
+
+  -- the entries of the link that is taken out become no node's
+  pub end-out : (ends : List ℕ) (i : ℕ) → endLeft (takeOut m place) ends i ≡ cond (eqb i place) far (endLeft m ends i)
+  unfolding endLeft
+  end-out ends i = ap (λ (b : Bool). cond b (getD ends i 0) far) (left-out i) ∙ go (isLeft m i) (eqb i place)
+    where
+      go : (a b : Bool) → cond (a && not b) (getD ends i 0) far ≡ cond b far (cond a (getD ends i 0) far)
+      go true true = refl
+      go true false = refl
+      go false true = refl
+      go false false = refl
+
+  -- fewer are left
+  pub left-fewer : (i : ℕ) → T (inside (takeOut m place .left) i) → T (inside (m .left) i)
+  unfolding takeOut
+  left-fewer i t = both-left (inside (m .left) i) _ (rw (inside-out (m .left) place i) at t)
+
+-- a link that is left is one of the file
+pub left-below : (m : Machine) (i : ℕ) → T (isLeft m i) → i < length (m .board .starts)
+unfolding isLeft
+left-below m i t = ltb-true i _ (T-true (both-left (ltb i (length (m .board .starts))) (inside (m .left) i) t))
+
+pub left-inside : (m : Machine) (i : ℕ) → T (isLeft m i) → T (inside (m .left) i)
+unfolding isLeft
+left-inside m i t = both-right (ltb i (length (m .board .starts))) (inside (m .left) i) t
+
+pub below-left : (m : Machine) (i : ℕ) → i < length (m .board .starts) → T (inside (m .left) i) → T (isLeft m i)
+unfolding isLeft
+below-left m i h t = both (ltb i (length (m .board .starts))) (inside (m .left) i) (true-T (lt-ltb i _ h)) t
+
+-- ---- a fresh machine
+
+module _ (pattern board : Circuit) where
+  pub fresh-inside : (i : ℕ) → i < length (board .starts) → T (inside (fresh pattern board .left) i)
+  unfolding fresh inside
+  fresh-inside i h = rw getD-tabulate tt
+
+  pub fresh-left : (i : ℕ) → isLeft (fresh pattern board) i ≡ ltb i (length (board .starts))
+  unfolding isLeft fresh
+  fresh-left i = go (ltb i (length (fresh pattern board .board .starts))) refl
+    where
+      go : (b : Bool) → ltb i (length (fresh pattern board .board .starts)) ≡ b → b && inside (fresh pattern board .left) i ≡ b
+      go true e = T-true (fresh-inside i (ltb-true i _ e))
+      go false e = refl

@@ -1,0 +1,5 @@
+pub mod Left
+pub mod Links
+pub mod Fewer
+pub mod Cutting
+pub mod Run

@@ -1,0 +1,117 @@
+-- For every list of cuts: each reply is the machine's, and afterwards the tables hold the machine after the list. Its table is the largest dual simulation in the
+-- nodes with the links left. Assumes nothing.
+use mathlib.Core.Bool.{Bool, true, false, _&&_, _||_, not, cond, and-true}
+use mathlib.Core.List.{List, [], _∷_}
+use mathlib.Core.Path.{_≡_, refl, sym, ap, ap₂, subst, _∙_}
+use Prim.Native.Nat.{ℕ}
+use borrow.Author.Tests.{eqb-true, eq-eqb}
+use lib.Dec.{T, eqb, eqb→eq}
+use lib.ListN.{length}
+use Rattle.base_lists.specs.List.{any}
+use Rattle.base_lists.proofs.Tests.{T-true, true-T, same-test}
+use Rattle.graph.specs.Chosen.{chosen}
+use Rattle.graph.specs.Circuit.{circuitGraph}
+use Rattle.graph.proofs.Ball.{within-all}
+use Rattle.graph.proofs.Chosen.{chosen-iff, chosen-has}
+use Rattle.file_format.specs.Circuit.{Bounded}
+use Rattle.file_format.specs.Refusals.{Verdict, accept, refuse, first, linkGone}
+use Rattle.file_format.specs.declared.Role.the-variants as role
+use Rattle.file_format.specs.declared.File.the-variants.{Neither}
+use Rattle.file_format.proofs.Accepted.{bounded-starts, bounded-ends}
+use Rattle.simulation.specs.Simulation.{Largest}
+use Rattle.table.specs.Fill.{listed}
+use Rattle.table.specs.Host.{KindsMatch}
+use Rattle.table.specs.Row.{bothWays, InTable}
+use Rattle.table.proofs.Answer.{board-along, along-dual}
+use Rattle.table.proofs.Host.{within-joins}
+use Rattle.session.specs.Machine.{Machine, isLeft, takeOut, cutReply, cutMachine, replies, machineAfter, boardLeft, machineTable}
+use Rattle.session.specs.Session.{Cuts}
+use Rattle.session.specs.State.{State, Holds}
+use Rattle.session.proofs.Left.{left-out}
+
+-- ---- the two kinds of cut
+
+module _ (m : Machine) (place : ℕ) where
+  -- "takes it out of the set. Its reply is then 'cut'."
+  pub cut-left : T (isLeft m place) → (cutReply m place ≡ accept) × (cutMachine m place ≡ takeOut m place)
+  unfolding cutReply cutMachine first linkGone
+  cut-left t = let e : isLeft m place ≡ true = T-true {b = isLeft m place} t in (rw e, rw e)
+
+  -- "A cut of a link already out, or of a place not below M, changes nothing and its reply is 14."
+  pub cut-gone : isLeft m place ≡ false → (cutReply m place ≡ refuse (record { number = 14; file = Neither })) × (cutMachine m place ≡ m)
+  unfolding cutReply cutMachine first linkGone
+  cut-gone e = (rw e, rw e)
+
+-- ---- a list of cuts
+
+-- "For every list of cuts from a fresh session, after it .. each reply in the list is the machine's": and so from any machine that the tables hold.
+pub run-holds :
+    (places : List ℕ) (rs : List Verdict) (m : Machine) {before after : State} → Holds m before → Cuts before places rs after →
+    (rs ≡ replies m places) × Holds (machineAfter m places) after
+unfolding Cuts replies machineAfter
+run-holds [] [] m h e = (refl, subst (Holds m) (sym e) h)
+run-holds [] (r ∷ rs) m h c = absurd c
+run-holds (place ∷ places) [] m h c = absurd c
+run-holds (place ∷ places) (r ∷ rs) m h (s, cut, rest) =
+    let (e, now, content) = cut .machine m h in
+    let (es, end) = run-holds places rs (cutMachine m place) now rest in
+    (ap₂ (λ (x : Verdict) (xs : List Verdict). x ∷ xs) e es, end)
+
+-- the links left after a list are those that are not in it
+pub cut-keeps : (m : Machine) (place i : ℕ) → isLeft (cutMachine m place) i ≡ isLeft m i && not (eqb place i)
+unfolding cutMachine
+cut-keeps m place i = go (isLeft m place) refl
+  where
+    apart : eqb i place ≡ eqb place i
+    apart = same-test (λ t. true-T (eq-eqb place i (sym (eqb→eq i place t)))) (λ t. true-T (eq-eqb i place (sym (eqb→eq place i t))))
+
+    stays : (c : Bool) → eqb place i ≡ c → isLeft m place ≡ false → isLeft m i ≡ isLeft m i && not c
+    stays true q e = let none : isLeft m i ≡ false = ap (isLeft m) (sym (eqb-true place i q)) ∙ e in rw none
+    stays false q e = sym (and-true (isLeft m i))
+
+    go : (b : Bool) → isLeft m place ≡ b → isLeft (cond b (takeOut m place) m) i ≡ isLeft m i && not (eqb place i)
+    go true e = left-out m place i ∙ ap (λ (b : Bool). isLeft m i && not b) apart
+    go false e = stays (eqb place i) refl e
+
+pub left-after : (places : List ℕ) (m : Machine) (i : ℕ) → isLeft (machineAfter m places) i ≡ isLeft m i && not (listed places i)
+unfolding machineAfter listed any
+left-after [] m i = sym (and-true (isLeft m i))
+left-after (place ∷ places) m i =
+    left-after places (cutMachine m place) i
+    ∙ ap (λ (b : Bool). b && not (any (λ w. eqb w i) places)) (cut-keeps m place i)
+    ∙ go (isLeft m i) (eqb place i) (any (λ w. eqb w i) places)
+  where
+    go : (a b c : Bool) → (a && not b) && not c ≡ a && not (b || c)
+    go true true c = refl
+    go true false c = refl
+    go false b c = refl
+
+-- ---- what the table means
+
+-- a machine keeps its pattern and its board
+pub after-same : (places : List ℕ) (m : Machine) → (machineAfter m places .pattern ≡ m .pattern) × (machineAfter m places .board ≡ m .board)
+unfolding machineAfter cutMachine takeOut
+after-same [] m = (refl, refl)
+after-same (place ∷ places) m =
+    let (p, b) = after-same places (cutMachine m place) in
+    let (q, c) = one (isLeft m place) in
+    (p ∙ q, b ∙ c)
+  where
+    one : (b : Bool) → (cond b (takeOut m place) m .pattern ≡ m .pattern) × (cond b (takeOut m place) m .board ≡ m .board)
+    one true = (refl, refl)
+    one false = (refl, refl)
+
+-- "the table is the largest dual simulation of the pattern in the nodes with the machine's links"
+pub machine-largest :
+    (m : Machine) → Bounded role.Pattern (m .pattern) → Bounded role.Board (m .board) →
+    Largest (circuitGraph (m .pattern)) (KindsMatch (m .pattern) (boardLeft m)) (circuitGraph (boardLeft m)) (InTable (machineTable m))
+unfolding machineTable boardLeft chosen
+machine-largest m p b =
+    let within = within-all (length (m .board .kinds)) (m .board .starts) (m .board .ends) (bounded-starts b) (bounded-ends b) in
+    along-dual
+    (board-along bothWays (m .pattern) (boardLeft m) (p .nodes)
+    (within-joins (boardLeft m)
+    (record {
+      starts = λ v w l. within .starts v w (chosen-has (m .board) (m .left) v w (chosen-iff (m .board) (m .left) v w .0 l));
+      ends = λ v w l. within .ends v w (chosen-has (m .board) (m .left) v w (chosen-iff (m .board) (m .left) v w .0 l));
+    })))

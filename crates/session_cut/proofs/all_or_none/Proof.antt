@@ -1,0 +1,55 @@
+-- `session_cut::all_or_none` meets its contract: the union of the sets says whether every part occurs. Assumes nothing.
+use mathlib.Core.Path.{sym, ap, _∙_}
+use borrow.Author.Needs.{needs}
+use borrow.Author.Tests.{eq-eqb, ne-eqb}
+use Rattle.base_bits.specs.Bits.{sizeOf}
+use Rattle.table.specs.Answer.{allOrNone}
+use Rattle.table_answer.proofs.AllParts.{occur-size, none-tabulated}
+use Rattle.session_cut.proofs.all_or_none.Statement.{statement}
+use Rattle.session_cut.proofs.all_or_none.Tie as tie
+
+occurring-requires : tie.Need-occurring-requires
+occurring-requires c κs = search needs
+
+size-requires : tie.Need-size-requires
+size-requires c κs = search needs
+
+cast-if1 : tie.Need-cast-if1
+cast-if1 c = search needs
+
+same-length : tie.Need-same-length
+same-length c = search needs
+
+returns : tie.Need-returns
+unfolding allOrNone
+returns c = λ few fits.
+    let sized = ap sizeOf (sym (c .before .before .occurring .ensures)) ∙ sym (c .before .size .ensures) in
+    let all = sym (occur-size _ few _ fits) ∙ eq-eqb _ _ (sized ∙ c .if1 .taken) in
+    rw all
+
+clear-requires : tie.Need-clear-requires
+clear-requires c κs = search needs
+
+same-length-2 : tie.Need-same-length-2
+same-length-2 c = search needs
+
+returns-2 : tie.Need-returns-2
+unfolding allOrNone
+returns-2 c = λ few fits.
+    let tested = c .before .before .before .before in
+    let sized = ap sizeOf (sym (tested .before .before .occurring .ensures)) ∙ sym (tested .before .size .ensures) in
+    let none = sym (occur-size _ few _ fits) ∙ ne-eqb _ _ (λ e. tested .if1 .left (sym sized ∙ e)) in
+    rw none (c .before .before .clear .ensures ∙ none-tabulated _)
+
+pub all-or-none-spec : {M : Type 1} → statement M
+all-or-none-spec =
+    tie.close
+    (tie.spec
+    occurring-requires
+    size-requires
+    cast-if1
+    same-length
+    returns
+    clear-requires
+    same-length-2
+    returns-2)

@@ -1,0 +1,94 @@
+-- `session_cut::take_out` meets its contract. Assumes nothing.
+use mathlib.Core.Path.{sym, ap₂, subst}
+use Prim.Native.Nat.{ℕ, _+_, _≤_, _<_}
+use native.Mathlib.Omega.{arith}
+use borrow.Author.Needs.{needs}
+use denote.Ref.{now}
+use lib.ListN.{length-set}
+use Rattle.graph.specs.Search.{far}
+use Rattle.session.specs.State.{without}
+use Rattle.session_strike.proofs.Entries.{entry-any}
+use Rattle.session_cut.specs.declared.Taken.{Taken}
+use Rattle.session_cut.specs.declared.Taken.the-variants.{Link}
+use Rattle.session_cut.specs.Cut.{TakenOut}
+use Rattle.session_cut.proofs.Cuts.{gone-place, gone-end, taken-link}
+use Rattle.session_cut.proofs.take_out.Statement.{statement}
+use Rattle.session_cut.proofs.take_out.Tie as tie
+
+returns : tie.Need-returns
+returns c = gone-place _ _ _ (c .if1 .taken)
+
+mul-end : tie.Need-mul-end
+mul-end c = search needs
+
+slice-read-end : tie.Need-slice-read-end
+slice-read-end c = search needs
+
+cast-end : tie.Need-cast-end
+cast-end c = omega (arith, c .slice-known .given (c .before .before .args .place))
+
+returns-2 : tie.Need-returns-2
+returns-2 c =
+    let start = c .before .before .before in
+    let ends = now (start .args .ends) in
+    let place = start .args .place in
+    let few = c .before .before .if1 .left in
+    gone-end ends (start .args .nodes) place few (subst (λ (x : ℕ). start .args .nodes ≤ x) (entry-any ends place 0 far (omega (arith, start .pre))) (c .if2 .taken))
+
+add-back : tie.Need-add-back
+add-back c = search needs
+
+mul-start : tie.Need-mul-start
+mul-start c = search needs
+
+slice-read-start : tie.Need-slice-read-start
+slice-read-start c = search needs
+
+cast-start : tie.Need-cast-start
+cast-start c = omega (arith, c .slice-known2 .given (4096 + c .before .before .before .before .args .place))
+
+mul-ends : tie.Need-mul-ends
+mul-ends c = search needs
+
+slice-write-ends : tie.Need-slice-write-ends
+slice-write-ends c = search needs
+
+mul-ends-2 : tie.Need-mul-ends-2
+mul-ends-2 c = search needs
+
+slice-write-ends-2 : tie.Need-slice-write-ends-2
+slice-write-ends-2 c = simp length-set (omega (arith, c .before .before .before .before .pre))
+
+same-length : tie.Need-same-length
+same-length c = search needs
+
+returns-3 : tie.Need-returns-3
+returns-3 c =
+    let start = c .before .before .before .before in
+    let ends = now (start .args .ends) in
+    let place = start .args .place in
+    let few = c .before .before .before .if1 .left in
+    let end = entry-any ends place 0 far (omega (arith, start .pre)) in
+    let first = entry-any ends (4096 + place) 0 far (omega (arith, start .pre)) in
+    subst (λ (x : Taken). TakenOut ends (start .args .nodes) place x (without ends place)) (ap₂ (λ (x y : ℕ). Link x y) (sym first) (sym end))
+    (taken-link ends (start .args .nodes) place few (subst (λ (x : ℕ). x < start .args .nodes) end (c .before .if2 .left)))
+
+pub take-out-spec : {M : Type 1} → statement M
+take-out-spec =
+    tie.close
+    (tie.spec
+    returns
+    mul-end
+    slice-read-end
+    cast-end
+    returns-2
+    add-back
+    mul-start
+    slice-read-start
+    cast-start
+    mul-ends
+    slice-write-ends
+    mul-ends-2
+    slice-write-ends-2
+    same-length
+    returns-3)

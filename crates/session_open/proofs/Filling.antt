@@ -1,0 +1,144 @@
+-- What filling the tables of a session leaves. Assumes nothing.
+use mathlib.Core.List.{List, [], _∷_, _++_, append-nil, append-assoc}
+use mathlib.Core.Path.{_≡_, sym, ap, ap₂, _∙_}
+use Prim.Native.Nat.{ℕ, suc, _+_, _≤_}
+use native.Mathlib.Omega.{arith}
+use lib.Dec.{T, ltb}
+use lib.ListN.{length, set, take, drop, length-set, length-append, length-take, length-drop, length-replicate, take-append-drop, drop-of-length-le}
+use lib.Seq.{take-at, drop-at, take-all, set-at, length-take-le, take-set-le, getD-set-same, getD-set-other}
+use Rattle.base_lists.specs.List.{all, part}
+use Rattle.base_lists.proofs.Parts.{halved, part-first, part-second, length-halved}
+use Rattle.base_lists.proofs.Tables.{length-tabulate}
+use Rattle.graph.specs.Neighbours.{offsetsOf, grouped}
+use Rattle.graph.specs.Net.{NetRoom, driven, driving}
+use Rattle.graph.proofs.Groups.{length-grouped, length-offsets, stretch-select}
+use Rattle.table.specs.Fill.{allNodes}
+use Rattle.table.specs.Row.{among}
+use Rattle.table.specs.Prepared.{counting, masksOf, Masked}
+use Rattle.session_open.specs.Open.{halvesFilled, padded, Numbered, Ended, Fixed}
+
+pub length-all : (m : ℕ) → length (allNodes m) ≡ m
+unfolding allNodes
+length-all m = length-tabulate m (λ v. v)
+
+-- a list whose two halves were filled at their fronts, one after the other
+halves :
+    (size : ℕ) (xs ys old : List ℕ) {a b : List ℕ} (k l : ℕ) → length old ≡ size + size → length xs ≡ k → length ys ≡ l → k ≤ size → l ≤ size →
+    a ≡ xs ++ drop k (take size old) → b ≡ ys ++ drop l (take size (drop size (a ++ drop size old))) → halved size a b old ≡ halvesFilled size xs ys old
+unfolding halvesFilled
+halves size xs ys old {a} {b} k l long inXs inYs few less e f =
+    let front : length (take size old) ≡ size = length-take-le size old (omega arith) in
+    let first : length a ≡ size = ap length e ∙ simp (length-append, length-drop) (omega arith) in
+    let back : drop size (a ++ drop size old) ≡ drop size old = drop-at a (drop size old) size first in
+    let half : length (drop size old) ≡ size = length-drop size old ∙ omega arith in
+    let rest : take size (drop size (a ++ drop size old)) ≡ drop size old = ap (take size) back ∙ take-all size (drop size old) (omega arith) in
+    let none : drop size (drop size (a ++ drop size old)) ≡ [] = ap (drop size) back ∙ drop-of-length-le (drop size old) {i = size} (omega arith) in
+    ap₂ (λ (p q : List ℕ). p ++ q)
+    (take-at a (drop size old) size first ∙ e ∙ ap (λ (i : ℕ). xs ++ drop i (take size old)) (sym inXs))
+    (ap (λ (q : List ℕ). b ++ q) none ∙ append-nil b ∙ f ∙ ap₂ (λ (i : ℕ) (q : List ℕ). ys ++ drop i q) (sym inYs) rest)
+
+-- Two lists that grouping has filled, both halves of both, with the numbers of the links.
+module _ (n : ℕ) (starts ends fo fl bo bl offsets numbers : List ℕ)
+    (room : NetRoom offsets numbers) (few : n ≤ 512) (most : length starts ≤ 4096)
+    (inStarts : T (all (λ v. ltb v n) starts)) (inEnds : T (all (λ v. ltb v n) ends))
+    (inFo : length fo ≡ 513) (inFl : length fl ≡ 4096) (inBo : length bo ≡ 513) (inBl : length bl ≡ 4096)
+    (parallel : length starts ≡ length ends) where
+  abbrev order : List ℕ
+  order = allNodes (length starts)
+
+  pub numbered :
+      fo ≡ offsetsOf n starts ++ drop (suc n) (take 513 offsets) → fl ≡ grouped n starts order ++ drop (length starts) (take 4096 numbers) →
+      bo ≡ offsetsOf n ends ++ drop (suc n) (take 513 (drop 513 (fo ++ drop 513 offsets))) →
+      bl ≡ grouped n ends order ++ drop (length ends) (take 4096 (drop 4096 (fl ++ drop 4096 numbers))) →
+      Numbered n starts ends offsets numbers (halved 513 fo bo offsets) (halved 4096 fl bl numbers)
+  unfolding driven driving
+  numbered e f e′ f′ =
+      let a = part-first 513 fo bo offsets inFo in
+      let b = part-first 4096 fl bl numbers inFl in
+      let a′ = part-second 513 fo bo offsets inFo inBo in
+      let b′ = part-second 4096 fl bl numbers inFl inBl in
+      let paired : length starts ≡ length order = sym (length-all (length starts)) in
+      let ended : length ends ≡ length order = sym parallel ∙ paired in
+      record {
+        room = record {
+          inOffsets = length-halved 513 fo bo offsets inFo inBo (omega (arith, room .inOffsets)) ∙ room .inOffsets;
+          inLinks = length-halved 4096 fl bl numbers inFl inBl (omega (arith, room .inLinks)) ∙ room .inLinks;
+        };
+        inOffsets =
+            halves 513 (offsetsOf n starts) (offsetsOf n ends) offsets (suc n) (suc n) (room .inOffsets) (length-offsets n starts) (length-offsets n ends)
+            (omega arith) (omega arith) e e′;
+        inNumbers =
+            halves 4096 (grouped n starts order) (grouped n ends order) numbers (length starts) (length ends) (room .inLinks)
+            (length-grouped n starts order paired inStarts) (length-grouped n ends order ended inEnds) most (omega arith) f f′;
+        byStart = λ v h. rw (a, b, e, f) (stretch-select n starts order _ _ v paired h);
+        byEnd = λ v h. rw (a′, b′, e′, f′) (stretch-select n ends order _ _ v ended h);
+      }
+
+-- ---- the ends
+
+pub length-padded : (k : ℕ) (values : List ℕ) → length values ≤ k → length (padded k values) ≡ k
+unfolding padded
+length-padded k values h = simp (length-append, length-drop, length-replicate) (omega arith)
+
+-- two halves that were filled whole
+whole : (size : ℕ) (xs ys old : List ℕ) → length xs ≡ size → length ys ≡ size → length old ≡ size + size → halved size xs ys old ≡ xs ++ ys
+whole size xs ys old first second long =
+    let back : drop size (xs ++ drop size old) ≡ drop size old = drop-at xs (drop size old) size first in
+    let none : drop size (drop size (xs ++ drop size old)) ≡ [] = ap (drop size) back ∙ drop-of-length-le (drop size old) {i = size} (omega (arith, length-drop size old)) in
+    ap₂ (λ (p q : List ℕ). p ++ q) (take-at xs (drop size old) size first) (ap (λ (q : List ℕ). ys ++ q) none ∙ append-nil ys)
+
+pub ended : (starts ends out : List ℕ) {xs ys : List ℕ} → length starts ≤ 4096 → length ends ≤ 4096 → length out ≡ 8192 → xs ≡ padded 4096 ends → ys ≡ padded 4096 starts
+    → Ended starts ends (halved 4096 xs ys out)
+ended starts ends out {xs} {ys} h l room e f =
+    let first : length xs ≡ 4096 = ap length e ∙ length-padded 4096 ends l in
+    let second : length ys ≡ 4096 = ap length f ∙ length-padded 4096 starts h in
+    record {
+      room = length-halved 4096 xs ys out first second (omega arith) ∙ room;
+      content = whole 4096 xs ys out first second room ∙ ap₂ (λ (p q : List ℕ). p ++ q) e f;
+      forward = part-first 4096 xs ys out first ∙ e;
+      backward = part-second 4096 xs ys out first second ∙ f;
+    }
+
+-- ---- what stays
+
+-- two numbers stored after the masks
+stored-two : (masks old : List ℕ) (x y : ℕ) → length masks ≡ 64 → length old ≡ 2 → set (set (masks ++ old) 64 x) 65 y ≡ masks ++ (x ∷ y ∷ [])
+stored-two masks [] x y long room = absurd (omega arith)
+stored-two masks (a ∷ []) x y long room = absurd (omega arith)
+stored-two masks (a ∷ b ∷ []) x y long room =
+    ap (λ (l : List ℕ). set l 65 y) (set-at masks a (b ∷ []) x 64 long)
+    ∙ ap (λ (l : List ℕ). set l 65 y) (sym (append-assoc masks (x ∷ []) (b ∷ [])))
+    ∙ set-at (masks ++ (x ∷ [])) b [] y 65 (length-append masks (x ∷ []) ∙ omega arith)
+    ∙ append-assoc masks (x ∷ []) (y ∷ [])
+stored-two masks (a ∷ b ∷ c ∷ old) x y long room = absurd (omega arith)
+
+-- the masks are their two halves
+masks-whole : {starts ends : List ℕ} (masks : List ℕ) → length masks ≡ 64 → Masked starts ends masks → masks ≡ masksOf 32 starts ends ++ masksOf 32 ends starts
+unfolding part counting among
+masks-whole masks long masked =
+    sym (take-append-drop 32 masks)
+    ∙ ap₂ (λ (p q : List ℕ). p ++ q) (masked .succ) (sym (take-all 32 (drop 32 masks) (omega (arith, length-drop 32 masks))) ∙ masked .pred)
+
+pub fixed-stored : (starts ends : List ℕ) (parts nodes : ℕ) (old : List ℕ) {masks : List ℕ} → length old ≡ 66 → length masks ≡ 64 → Masked starts ends masks
+    → Fixed starts ends parts nodes (set (set (masks ++ drop 64 old) 64 parts) 65 nodes)
+fixed-stored starts ends parts nodes old {masks} room long masked =
+    let whole : length (masks ++ drop 64 old) ≡ 66 = simp (length-append, length-drop) (omega arith) in
+    let once : length (set (masks ++ drop 64 old) 64 parts) ≡ 66 = length-set (masks ++ drop 64 old) 64 parts ∙ whole in
+    let front : take 64 (set (set (masks ++ drop 64 old) 64 parts) 65 nodes) ≡ masks =
+    take-set-le 64 (set (masks ++ drop 64 old) 64 parts) 65 nodes (omega arith)
+    ∙ take-set-le 64 (masks ++ drop 64 old) 64 parts (omega arith)
+    ∙ take-at masks (drop 64 old) 64 long in
+    let joined : masks ≡ masksOf 32 starts ends ++ masksOf 32 ends starts = masks-whole masks long masked in
+    record {
+      room = length-set (set (masks ++ drop 64 old) 64 parts) 65 nodes ∙ once;
+      content = stored-two masks (drop 64 old) parts nodes long (length-drop 64 old ∙ omega arith) ∙ ap (λ (l : List ℕ). l ++ (parts ∷ nodes ∷ [])) joined;
+      masked = rw front masked;
+      ofParts =
+          getD-set-other (set (masks ++ drop 64 old) 64 parts) 65 64 nodes 0 (λ e. absurd (omega arith))
+          ∙ getD-set-same (masks ++ drop 64 old) 64 parts 0 (omega arith);
+      ofNodes = getD-set-same (set (masks ++ drop 64 old) 64 parts) 65 nodes 0 (omega arith);
+    }
+
+-- the second half of a list whose first half was filled
+pub second-half : (xs out : List ℕ) → length xs ≡ 4096 → length out ≡ 8192 → length (take 4096 (drop 4096 (xs ++ drop 4096 out))) ≡ 4096
+second-half xs out h room = simp (length-take, length-drop, length-append) (omega arith)

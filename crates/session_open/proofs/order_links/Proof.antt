@@ -1,0 +1,77 @@
+-- `session_open::order_links` meets its contract. Assumes nothing.
+use mathlib.Core.Path.{_≡_, sym, ap, _∙_}
+use native.Mathlib.Omega.{arith}
+use borrow.Author.Needs.{needs}
+use denote.Ref.{now}
+use lib.ListN.{length, take}
+use lib.Seq.{length-take-le, take-at}
+use Rattle.table.specs.Fill.{allNodes}
+use Rattle.session_open.proofs.Filling.{length-all}
+use Rattle.session_open.proofs.order_links.Statement.{statement}
+use Rattle.session_open.proofs.order_links.Tie as tie
+
+-- the table has room for the numbers of all links
+room : (s : tie.Start) → length (take (length (now (s .args .starts))) (now (s .args .order))) ≡ length (now (s .args .starts))
+room s = length-take-le (length (now (s .args .starts))) (now (s .args .order)) (omega (arith, s .pre .1 .1 .0 .1, s .pre .1 .1 .1 .1))
+
+abbrev entry : tie.After-list-all → tie.Start
+entry c = c .before .before .before .before .before .before .before
+
+-- where they are listed
+listed : (c : tie.After-list-all)
+    → (length (c .list-all .last .0) ≡ length (now (entry c .args .starts))) × (c .list-all .last .0 ≡ allNodes (length (now (entry c .args .starts))))
+listed c =
+    let all = c .list-all .ensures ∙ ap allNodes (room (entry c)) in
+    (ap length all ∙ length-all (length (now (entry c .args .starts))), all)
+
+slice-relend-prefix-list-all : tie.Need-slice-relend-prefix-list-all
+slice-relend-prefix-list-all c = search needs
+
+slice-aggregate-list-all : tie.Need-slice-aggregate-list-all
+slice-aggregate-list-all c = sym (room (c .before .before .before .before .before .before))
+
+list-all-requires : tie.Need-list-all-requires
+list-all-requires c κs =
+    let s = c .before .before .before .before .before .before in
+    omega (arith, room s, s .pre .1 .1 .0 .1)
+
+slice-reshare-prefix-group-links : tie.Need-slice-reshare-prefix-group-links
+slice-reshare-prefix-group-links c = search needs
+
+slice-aggregate-group-links : tie.Need-slice-aggregate-group-links
+slice-aggregate-group-links c =
+    let called = c .before .before .before in
+    sym (ap length (take-at (called .list-all .last .0) _ _ (listed called .0)) ∙ listed called .0)
+
+group-links-requires : tie.Need-group-links-requires
+group-links-requires c κs =
+    let called = c .before .before .before .before .before in
+    let p = entry called .pre in
+    (p .0, (p .1 .0, (p .1 .1 .0, (p .1 .1 .1 .0, take-at (called .list-all .last .0) _ _ (listed called .0) ∙ listed called .1))))
+
+same-length : tie.Need-same-length
+same-length c = search needs
+
+same-length-2 : tie.Need-same-length-2
+same-length-2 c = search needs
+
+same-length-3 : tie.Need-same-length-3
+same-length-3 c = search needs
+
+returns : tie.Need-returns
+returns c = search needs
+
+pub order-links-spec : {M : Type 1} → statement M
+order-links-spec =
+    tie.close
+    (tie.spec
+    slice-relend-prefix-list-all
+    slice-aggregate-list-all
+    list-all-requires
+    slice-reshare-prefix-group-links
+    slice-aggregate-group-links
+    group-links-requires
+    same-length
+    same-length-2
+    same-length-3
+    returns)

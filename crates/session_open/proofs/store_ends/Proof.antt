@@ -1,0 +1,64 @@
+-- `session_open::store_ends` meets its contract. Assumes nothing.
+use mathlib.Core.Path.{sym, ap, _∙_}
+use Prim.Native.Nat.{ℕ}
+use native.Mathlib.Omega.{arith}
+use Rattle.session_open.specs.Open.{padded}
+use borrow.Author.Needs.{needs}
+use denote.Ref.{now}
+use lib.Seq.{length-take-le}
+use Rattle.session_open.proofs.Filling.{ended, second-half}
+use Rattle.session_open.proofs.store_ends.Statement.{statement}
+use Rattle.session_open.proofs.store_ends.Tie as tie
+
+slice-relend-prefix-store-values : tie.Need-slice-relend-prefix-store-values
+slice-relend-prefix-store-values c = search needs
+
+slice-aggregate-store-values : tie.Need-slice-aggregate-store-values
+slice-aggregate-store-values c =
+    let s = c .before .before .before .before in
+    sym (length-take-le 4096 (now (s .args .out)) (omega (arith, s .pre .2)))
+
+store-values-requires : tie.Need-store-values-requires
+store-values-requires c κs =
+    let s = c .before .before .before .before in
+    rw (length-take-le 4096 (now (s .args .out)) (omega (arith, s .pre .2))) (omega (arith, s .pre .0, s .pre .1))
+
+sub-store-values : tie.Need-sub-store-values
+sub-store-values c = search needs
+
+part-store-values-start : tie.Need-part-store-values-start
+part-store-values-start c = search needs
+
+part-store-values-end : tie.Need-part-store-values-end
+part-store-values-end c = search needs
+
+store-values-requires-2 : tie.Need-store-values-requires-2
+store-values-requires-2 c κs = search needs
+
+same-length : tie.Need-same-length
+same-length c = search needs
+
+returns : tie.Need-returns
+returns c =
+    let two = c .before .before in
+    let one = two .before .before .before .before in
+    let s = one .before .before .before .before .before in
+    let a = s .args in
+    let half = length-take-le 4096 (now (a .out)) (omega (arith, s .pre .2)) in
+    ended (now (a .starts)) (now (a .ends)) (now (a .out)) (s .pre .0) (s .pre .1) (s .pre .2)
+    (one .store-values .ensures ∙ ap (λ (k : ℕ). padded k (now (a .ends))) half)
+    (two .store-values2 .ensures ∙ ap (λ (k : ℕ). padded k (now (a .starts))) (second-half (one .store-values .last .1 .0) (now (a .out)) (one .store-values .kept .1 .0 ∙ half) (s .pre .2)))
+
+pub store-ends-spec : {M : Type 1} → statement M
+store-ends-spec =
+    tie.close
+    (tie.spec
+    slice-relend-prefix-store-values
+    slice-aggregate-store-values
+    store-values-requires
+    sub-store-values
+    part-store-values-start
+    part-store-values-end
+    store-values-requires-2
+    same-length
+    returns)

@@ -1,0 +1,30 @@
+-- `session_open::store_values` meets its contract. Assumes nothing.
+use mathlib.Core.List.{List, _++_}
+use mathlib.Core.Path.{ap, _∙_}
+use Prim.Native.Nat.{ℕ}
+use denote.Ref.{now}
+use lib.ListN.{length, drop}
+use Rattle.session_open.specs.Open.{padded}
+use borrow.Author.Needs.{needs}
+use Rattle.session_open.proofs.store_values.Statement.{statement}
+use Rattle.session_open.proofs.store_values.Tie as tie
+
+fill-requires : tie.Need-fill-requires
+fill-requires c κs = search needs
+
+copy-requires : tie.Need-copy-requires
+copy-requires c κs = search needs
+
+same-length : tie.Need-same-length
+same-length c = search needs
+
+returns : tie.Need-returns
+unfolding padded
+returns c =
+    let copied = c .before .before in
+    let filled = copied .before .before .before .before in
+    let a = filled .before .before .before .before .args in
+    copied .copy .ensures ∙ ap (λ (l : List ℕ). now (a .values) ++ drop (length (now (a .values))) l) (filled .fill .ensures)
+
+pub store-values-spec : {M : Type 1} → statement M
+store-values-spec = tie.close (tie.spec fill-requires copy-requires same-length returns)

@@ -1,0 +1,51 @@
+-- Laws of entries read with a default, of unions over them and of lists of nodes that are marked. Assumes nothing.
+use mathlib.Core.List.{List, [], _∷_}
+use mathlib.Core.Path.{_≡_, refl, sym, ap, _∙_}
+use Prim.Native.Nat.{ℕ, zero, suc, _+_, _≤_, _<_}
+use native.Mathlib.Nat.{le-of-suc-le-suc, not-suc-le-zero}
+use native.Mathlib.Numerals.{add-one}
+use lib.Bits.{bitOr, or-zero-r}
+use lib.ListN.{length, getD, drop, drop-of-length-le}
+use lib.Seq.{drop-cons}
+use Rattle.base_bits.specs.Bits.{unionAt}
+use Rattle.base_bits.proofs.Tests.{bitOr-assoc}
+use Rattle.graph.specs.Search.{far}
+use Rattle.session_strike.specs.Moves.{beyond, markOne, markAll}
+
+-- an entry of a list does not depend on the default
+pub entry-any : (xs : List ℕ) (i a b : ℕ) → i < length xs → getD xs i a ≡ getD xs i b
+entry-any [] i a b h = absurd (not-suc-le-zero h)
+entry-any (x ∷ xs) zero a b h = refl
+entry-any (x ∷ xs) (suc i) a b h = entry-any xs i a b (le-of-suc-le-suc h)
+
+-- ---- one turn of the loops over the links of a node
+
+pub beyond-next : (ends numbers : List ℕ) (j : ℕ) → j < length numbers
+    → beyond ends (drop j numbers) ≡ getD ends (getD numbers j 0) far ∷ beyond ends (drop (j + 1) numbers)
+unfolding beyond
+beyond-next ends numbers j h = rw (add-one, drop-cons numbers j 0)
+
+pub beyond-end : (ends numbers : List ℕ) (j : ℕ) → length numbers ≤ j → beyond ends (drop j numbers) ≡ []
+unfolding beyond
+beyond-end ends numbers j h = rw (drop-of-length-le numbers h)
+
+pub union-next : (sets ends numbers : List ℕ) (union j : ℕ) → j < length numbers
+    → bitOr (bitOr union (getD sets (getD ends (getD numbers j 0) far) 0)) (unionAt sets (beyond ends (drop (j + 1) numbers)))
+    ≡ bitOr union (unionAt sets (beyond ends (drop j numbers)))
+unfolding unionAt
+union-next sets ends numbers union j h =
+    bitOr-assoc union (getD sets (getD ends (getD numbers j 0) far) 0) (unionAt sets (beyond ends (drop (j + 1) numbers)))
+    ∙ ap (λ (l : List ℕ). bitOr union (unionAt sets l)) (sym (beyond-next ends numbers j h))
+
+pub union-end : (sets ends numbers : List ℕ) (union j : ℕ) → length numbers ≤ j → bitOr union (unionAt sets (beyond ends (drop j numbers))) ≡ union
+unfolding unionAt
+union-end sets ends numbers union j h = rw (beyond-end ends numbers j h) (or-zero-r union)
+
+pub marks-next : (n : ℕ) (ends numbers marks : List ℕ) (j : ℕ) → j < length numbers
+    → markAll n (markOne n marks (getD ends (getD numbers j 0) far)) (beyond ends (drop (j + 1) numbers)) ≡ markAll n marks (beyond ends (drop j numbers))
+unfolding markAll
+marks-next n ends numbers marks j h = ap (markAll n marks) (sym (beyond-next ends numbers j h))
+
+pub marks-end : (n : ℕ) (ends numbers marks : List ℕ) (j : ℕ) → length numbers ≤ j → markAll n marks (beyond ends (drop j numbers)) ≡ marks
+unfolding markAll
+marks-end n ends numbers marks j h = rw (beyond-end ends numbers j h)

@@ -1,0 +1,33 @@
+-- `session_strike::end_of` meets its contract: past the end of the list stands no node. Assumes nothing.
+use mathlib.Core.Path.{sym}
+use native.Mathlib.Omega.{arith}
+use borrow.Author.Needs.{needs}
+use denote.Ref.{now}
+use lib.ListN.{List·getD-eq-default}
+use Rattle.graph.specs.Search.{far}
+use Rattle.session_strike.proofs.Entries.{entry-any}
+use Rattle.session_strike.proofs.end_of.Statement.{statement}
+use Rattle.session_strike.proofs.end_of.Tie as tie
+
+cast-result : tie.Need-cast-result
+cast-result c = search needs
+
+returns : tie.Need-returns
+returns c = sym (List·getD-eq-default (now (c .before .args .ends)) far (c .if1 .taken))
+
+mul-result : tie.Need-mul-result
+mul-result c = search needs
+
+shared-slice-read-result : tie.Need-shared-slice-read-result
+shared-slice-read-result c = search needs
+
+cast-result-2 : tie.Need-cast-result-2
+cast-result-2 c = omega (arith, c .shared-slice-known .given (c .before .before .args .i))
+
+returns-2 : tie.Need-returns-2
+returns-2 c = entry-any (now (c .before .before .args .ends)) (c .before .before .args .i) 0 far (c .before .if1 .left)
+
+pub end-of-spec : {M : Type 1} → statement M
+end-of-spec =
+    tie.close
+    (tie.spec cast-result returns mul-result shared-slice-read-result cast-result-2 returns-2)

@@ -1,0 +1,167 @@
+-- `session_strike::next_set` meets its contract. Of an empty set nothing survives, so that its neighbours need no look. Assumes nothing.
+use mathlib.Core.List.{List}
+use mathlib.Core.Path.{sym, ap, _∙_}
+use Prim.Native.Nat.{ℕ, _^_, _<_}
+use native.Mathlib.Omega.{arith}
+use borrow.Author.Needs.{needs}
+use denote.Ref.{now}
+use Rattle.base_lists.specs.List.{part}
+use lib.ListN.{drop, length-drop}
+use lib.Seq.{length-take-le}
+use Rattle.base_bits.specs.Bits.{unionAt}
+use Rattle.graph.specs.Net.{forwardLinks, backwardLinks, driven, driving}
+use Rattle.session_strike.specs.Moves.{beyond, movesIn}
+use Rattle.session_strike.proofs.Looking.{next-unions, next-none}
+use Rattle.session_strike.proofs.next_set.Statement.{statement}
+use Rattle.session_strike.proofs.next_set.Tie as tie
+
+set-at-requires : tie.Need-set-at-requires
+set-at-requires c κs = search needs
+
+returns : tie.Need-returns
+returns c =
+    let start = c .before .before .before .before .before .before .before in
+    sym (next-none (now (start .args .masks)) _ (now (start .args .sets)) (start .args .v) (sym (c .before .set-at .ensures) ∙ c .if1 .taken))
+
+sub-stretch : tie.Need-sub-stretch
+sub-stretch c = search needs
+
+part-stretch-start : tie.Need-part-stretch-start
+part-stretch-start c = search needs
+
+part-stretch-end : tie.Need-part-stretch-end
+part-stretch-end c = search needs
+
+sub-stretch-2 : tie.Need-sub-stretch-2
+sub-stretch-2 c = search needs
+
+part-stretch-start-2 : tie.Need-part-stretch-start-2
+part-stretch-start-2 c = search needs
+
+part-stretch-end-2 : tie.Need-part-stretch-end-2
+part-stretch-end-2 c = search needs
+
+stretch-requires : tie.Need-stretch-requires
+stretch-requires c κs = search needs
+
+sub-reach : tie.Need-sub-reach
+sub-reach c = search needs
+
+part-reach-start : tie.Need-part-reach-start
+part-reach-start c = search needs
+
+part-reach-end : tie.Need-part-reach-end
+part-reach-end c = search needs
+
+reach-requires : tie.Need-reach-requires
+reach-requires c κs = search needs
+
+sub-stretch-3 : tie.Need-sub-stretch-3
+sub-stretch-3 c = search needs
+
+part-stretch-start-3 : tie.Need-part-stretch-start-3
+part-stretch-start-3 c = search needs
+
+part-stretch-end-3 : tie.Need-part-stretch-end-3
+part-stretch-end-3 c = search needs
+
+sub-stretch-4 : tie.Need-sub-stretch-4
+sub-stretch-4 c = search needs
+
+part-stretch-start-4 : tie.Need-part-stretch-start-4
+part-stretch-start-4 c = search needs
+
+part-stretch-end-4 : tie.Need-part-stretch-end-4
+part-stretch-end-4 c = search needs
+
+stretch-requires-2 : tie.Need-stretch-requires-2
+stretch-requires-2 c κs = search needs
+
+sub-reach-2 : tie.Need-sub-reach-2
+sub-reach-2 c = search needs
+
+part-reach-start-2 : tie.Need-part-reach-start-2
+part-reach-start-2 c = search needs
+
+part-reach-end-2 : tie.Need-part-reach-end-2
+part-reach-end-2 c = search needs
+
+reach-requires-2 : tie.Need-reach-requires-2
+reach-requires-2 c κs = search needs
+
+slice-aggregate-surviving : tie.Need-slice-aggregate-surviving
+slice-aggregate-surviving c =
+    let start = c .before .before .before .before .before .before .before .before .before .before .before .before .before .before .before .before .before .before in
+    let long = start .pre .inMasks in
+    sym (length-take-le 32 (now (start .args .masks)) (omega arith))
+
+sub-surviving : tie.Need-sub-surviving
+sub-surviving c = search needs
+
+part-surviving-start : tie.Need-part-surviving-start
+part-surviving-start c = search needs
+
+part-surviving-end : tie.Need-part-surviving-end
+part-surviving-end c = search needs
+
+surviving-requires : tie.Need-surviving-requires
+surviving-requires c κs =
+    let known = c .before .before .before .before .before .before .before .before .before .before .before .before .before .before in
+    let start = known .before .before .before .before .before in
+    let masks = now (start .args .masks) in
+    let long = start .pre .inMasks in
+    let small : c .before .before .before .before .before .before .before .before .before .before .before .before .before .set-at .result < 2 ^ 32 =
+    omega (arith, c .before .before .before .before .before .before .before .before .before .before .before .before .before .set-at .ensures, known .shared-slice-known5 .given (start .args .v)) in (
+      rw (length-take-le 32 masks (omega arith)) small,
+      rw (length-take-le 32 (drop 32 masks) (omega (arith, length-drop 32 masks))) small,
+    )
+
+returns-2 : tie.Need-returns-2
+unfolding part movesIn driven driving
+returns-2 c =
+    let back = c .before .before .before in
+    let second = back .before .before in
+    let out = second .before .before .before in
+    let first = out .before .before in
+    let called = first .before .before .before .before in
+    let start = called .before .before .before .before .before .before in
+    let sets = now (start .args .sets) in
+    next-unions (now (start .args .masks)) (movesIn (now (start .args .offsets)) (now (start .args .numbers)) (now (start .args .ends))) sets (start .args .v)
+    (out .reach .ensures ∙ ap (λ (l : List ℕ). unionAt sets (beyond (forwardLinks (now (start .args .ends))) l)) (first .stretch .ensures))
+    (back .reach2 .ensures ∙ ap (λ (l : List ℕ). unionAt sets (beyond (backwardLinks (now (start .args .ends))) l)) (second .stretch2 .ensures))
+    (called .set-at .ensures) (c .surviving .ensures)
+
+pub next-set-spec : {M : Type 1} → statement M
+next-set-spec =
+    tie.close
+    (tie.spec
+    set-at-requires
+    returns
+    sub-stretch
+    part-stretch-start
+    part-stretch-end
+    sub-stretch-2
+    part-stretch-start-2
+    part-stretch-end-2
+    stretch-requires
+    sub-reach
+    part-reach-start
+    part-reach-end
+    reach-requires
+    sub-stretch-3
+    part-stretch-start-3
+    part-stretch-end-3
+    sub-stretch-4
+    part-stretch-start-4
+    part-stretch-end-4
+    stretch-requires-2
+    sub-reach-2
+    part-reach-start-2
+    part-reach-end-2
+    reach-requires-2
+    slice-aggregate-surviving
+    sub-surviving
+    part-surviving-start
+    part-surviving-end
+    surviving-requires
+    returns-2)

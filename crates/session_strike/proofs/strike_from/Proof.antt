@@ -1,0 +1,57 @@
+-- `session_strike::strike_from` meets its contract. Assumes nothing.
+use mathlib.Core.List.{List}
+use mathlib.Core.Path.{sym, ap, subst, _∙_}
+use Prim.Native.Nat.{ℕ}
+use denote.Ref.{now}
+use lib.ListN.{length}
+use Rattle.session_strike.specs.Going.{Covered}
+use Rattle.session_strike.specs.Moves.{movesIn, markOne, markBoth}
+use borrow.Author.Needs.{needs}
+use Rattle.session_strike.proofs.strike_from.Statement.{statement}
+use Rattle.session_strike.proofs.strike_from.Tie as tie
+
+slice-aggregate-mark-one : tie.Need-slice-aggregate-mark-one
+slice-aggregate-mark-one c = search needs
+
+mark-one-requires : tie.Need-mark-one-requires
+mark-one-requires c κs = search needs
+
+slice-aggregate-mark-one-2 : tie.Need-slice-aggregate-mark-one-2
+slice-aggregate-mark-one-2 c = search needs
+
+mark-one-requires-2 : tie.Need-mark-one-requires-2
+mark-one-requires-2 c κs = search needs
+
+slice-aggregate-settle : tie.Need-slice-aggregate-settle
+slice-aggregate-settle c = search needs
+
+settle-requires : tie.Need-settle-requires
+settle-requires c κs = search needs
+
+same-length : tie.Need-same-length
+same-length c = search needs
+
+returns : tie.Need-returns
+unfolding markBoth
+returns c =
+    let settled = c .before .before .before in
+    let two = settled .before .before .before .before in
+    let one = two .before .before .before in
+    let a = one .before .before .before .before .before .before .before .args in
+    let marks = two .mark-one2 .ensures ∙ ap (λ (m : List ℕ). markOne (length (now (a .sets))) m (a .y)) (one .mark-one .ensures) in
+    λ pattern host follows begins covered.
+    settled .settle .ensures pattern host follows begins
+    (subst (Covered (now (a .masks)) (movesIn (now (a .offsets)) (now (a .numbers)) (now (a .ends))) (now (a .sets))) (sym marks) covered)
+
+pub strike-from-spec : {M : Type 1} → statement M
+strike-from-spec =
+    tie.close
+    (tie.spec
+    slice-aggregate-mark-one
+    mark-one-requires
+    slice-aggregate-mark-one-2
+    mark-one-requires-2
+    slice-aggregate-settle
+    settle-requires
+    same-length
+    returns)
