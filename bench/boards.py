@@ -81,15 +81,16 @@ def add_links(random, links, nodes, total):
         links.add((random.below(nodes), random.below(nodes)))
 
 
-def full_random():
-    """A board and a pattern of full size, with three kinds."""
+def full_random(nodes=512):
+    """A board, by default of full size, with eight links a node, and a pattern
+    of full size, with three kinds."""
     random = Random(1)
     pattern_kinds = [1 + random.below(3) for _ in range(32)]
     pattern_links = random_tree(random, 32)
     add_links(random, pattern_links, 32, 48)
-    kinds = [1 + random.below(3) for _ in range(512)]
+    kinds = [1 + random.below(3) for _ in range(nodes)]
     links = set()
-    add_links(random, links, 512, 4096)
+    add_links(random, links, nodes, 8 * nodes)
     return (pattern_kinds, pattern_links), (kinds, links)
 
 
@@ -106,16 +107,16 @@ def planted_32():
     return (pattern_kinds, pattern_links), (kinds, links)
 
 
-def chain():
+def chain(copies=42):
     """Copies of a pattern of 12 parts, each joined to the next by one link, so
     that a ball holds the copies beside the centre's and no others."""
     random = Random(5)
     pattern_kinds = [1 + random.below(4) for _ in range(12)]
     pattern_links = random_tree(random, 12)
     add_links(random, pattern_links, 12, 16)
-    links = {(copy * 12 + u, copy * 12 + t) for copy in range(42) for u, t in pattern_links}
-    links |= {(node, node + 1) for node in range(11, 503, 12)}
-    return (pattern_kinds, pattern_links), (pattern_kinds * 42, links)
+    links = {(copy * 12 + u, copy * 12 + t) for copy in range(copies) for u, t in pattern_links}
+    links |= {(node, node + 1) for node in range(11, 12 * copies - 1, 12)}
+    return (pattern_kinds, pattern_links), (pattern_kinds * copies, links)
 
 
 def planted():
@@ -180,13 +181,13 @@ def one_kind_dense():
     return ([7] * 32, pattern_links), ([7] * 512, links)
 
 
-def one_kind_sparse():
+def one_kind_sparse(nodes=512, total=1000):
     """One kind everywhere, and few links."""
     random = Random(7)
-    pattern_links, links = random_tree(random, 32), random_tree(random, 512)
+    pattern_links, links = random_tree(random, 32), random_tree(random, nodes)
     add_links(random, pattern_links, 32, 64)
-    add_links(random, links, 512, 1000)
-    return ([7] * 32, pattern_links), ([7] * 512, links)
+    add_links(random, links, nodes, total)
+    return ([7] * 32, pattern_links), ([7] * nodes, links)
 
 
 def no_pair(length):
@@ -225,11 +226,11 @@ BOARDS = {
 }
 
 
-def make(folder, name):
-    """Makes the board of a name."""
+def make(folder, name, circuits=None):
+    """Makes the board of a name, or of two circuits."""
     place = pathlib.Path(folder) / name
     place.mkdir(parents=True, exist_ok=True)
-    pattern, board = BOARDS[name]()
+    pattern, board = circuits or BOARDS[name]()
     (place / "pattern.cir").write_bytes(circuit_file(*pattern))
     (place / "board.cir").write_bytes(circuit_file(*board))
 
