@@ -4,15 +4,9 @@
 #include <stdlib.h>
 #include <string.h>
 
+#include "folder.h"
 #include "heronditch.h"
 #include "native.h"
-
-struct file {
-    uint8_t bytes[65536];
-    size_t size;
-};
-
-static struct file pattern, board;
 
 /* What a call replies with, and what is lent to it. */
 struct result {
@@ -22,25 +16,12 @@ struct result {
     uint8_t nodes[NATIVE_NODES], links[NATIVE_LINKS];
 };
 
-static void load(const char *folder, const char *name, struct file *to)
-{
-    char path[4096];
-    snprintf(path, sizeof path, "%s/%s", folder, name);
-    FILE *f = fopen(path, "rb");
-    if (!f) {
-        perror(path);
-        exit(2);
-    }
-    to->size = fread(to->bytes, 1, sizeof to->bytes, f);
-    fclose(f);
-}
-
 static native_counts counts_of(heronditch_counts c)
 {
     return (native_counts){c.number, c.file, c.started, c.kept, c.struck, c.rounds};
 }
 
-#define FILES pattern.bytes, pattern.size, board.bytes, board.size
+#define FILES pattern, pattern_len, board, board_len
 #define TABLE r->table, NATIVE_NODES
 #define TABLES r->nodes, NATIVE_NODES, r->links, NATIVE_LINKS, TABLE, r->distances, NATIVE_NODES
 
@@ -76,13 +57,13 @@ static void plain_place(size_t centre, struct result *r)
 /* The ball as wide as can be, and the radius. There is no plain C of these two. */
 static void proved_ball(size_t centre, struct result *r)
 {
-    r->counts.number = heronditch_ball(board.bytes, board.size, centre, 65535, r->distances, NATIVE_NODES).number;
+    r->counts.number = heronditch_ball(board, board_len, centre, 65535, r->distances, NATIVE_NODES).number;
 }
 
 static void proved_radius(size_t centre, struct result *r)
 {
     (void)centre;
-    r->counts.number = heronditch_radius(pattern.bytes, pattern.size).number;
+    r->counts.number = heronditch_radius(pattern, pattern_len).number;
 }
 
 /* The result of a call that is lent tables full of ones. */
@@ -121,8 +102,7 @@ static int run(unsigned job, const char *how, size_t first, size_t last)
 int main(int argc, char **argv)
 {
     if (argc == 6) {
-        load(argv[3], "pattern.cir", &pattern);
-        load(argv[3], "board.cir", &board);
+        load_folder(argv[3]);
         for (unsigned job = 0; job < sizeof jobs / sizeof *jobs; job++)
             if (!strcmp(argv[1], jobs[job].name))
                 return run(job, argv[2], strtoul(argv[4], NULL, 10), strtoul(argv[5], NULL, 10));

@@ -5,24 +5,10 @@
 #include <stdlib.h>
 #include <string.h>
 
+#include "folder.h"
 #include "heronditch.h"
 
-static uint8_t pattern[HERONDITCH_PATTERN_BYTES + 1], board[HERONDITCH_BOARD_BYTES + 1];
 static uint8_t second[HERONDITCH_PATTERN_BYTES_2], third[HERONDITCH_PATTERN_BYTES_3];
-
-static size_t load(const char *folder, const char *name, uint8_t *bytes, size_t size)
-{
-    char path[4096];
-    snprintf(path, sizeof path, "%s/%s", folder, name);
-    FILE *f = fopen(path, "rb");
-    if (!f) {
-        perror(path);
-        exit(2);
-    }
-    size_t n = fread(bytes, 1, size, f);
-    fclose(f);
-    return n;
-}
 
 int main(int argc, char **argv)
 {
@@ -32,7 +18,8 @@ int main(int argc, char **argv)
         fprintf(stderr, "usage: %s FOLDER BOUND\n", argv[0]);
         return 2;
     }
-    size_t p = load(argv[1], "pattern.cir", pattern, sizeof pattern), b = load(argv[1], "board.cir", board, sizeof board);
+    load_folder(argv[1]);
+    size_t p = pattern_len;
     /* the second edition has as many zero packages after the kinds, the third a bound for each link after that */
     size_t nodes = 4 + 2 * (size_t)(pattern[0] + 256 * pattern[1]), links = (size_t)(pattern[2] + 256 * pattern[3]);
     memcpy(second, pattern, nodes);
@@ -41,8 +28,8 @@ int main(int argc, char **argv)
     memcpy(third, second, p);
     for (size_t i = 0; i < links; i++)
         third[p + 2 * i] = (uint8_t)bound;
-    heronditch_counts x = heronditch_match_21(second, p, board, b, one, HERONDITCH_NODES);
-    heronditch_counts y = heronditch_match_31(third, p + 2 * links, board, b, two, HERONDITCH_NODES);
+    heronditch_counts x = heronditch_match_21(second, p, board, board_len, one, HERONDITCH_NODES);
+    heronditch_counts y = heronditch_match_31(third, p + 2 * links, board, board_len, two, HERONDITCH_NODES);
     if (x.number || y.number || (bound == 1 && (memcmp(&x, &y, sizeof x) || memcmp(one, two, sizeof one))))
         return 1;
     printf("%u %u %u\n", y.started, y.kept, y.rounds);

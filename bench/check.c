@@ -3,26 +3,12 @@
 #include <stdio.h>
 #include <stdlib.h>
 
+#include "folder.h"
 #include "heronditch.h"
 
-static uint8_t pattern[HERONDITCH_PATTERN_BYTES + 1], board[HERONDITCH_BOARD_BYTES + 1];
 static uint16_t kinds[HERONDITCH_NODES], starts[HERONDITCH_BOARD_LINKS], ends[HERONDITCH_BOARD_LINKS], distances[HERONDITCH_NODES];
 static uint8_t nodes[HERONDITCH_NODES], links[HERONDITCH_BOARD_LINKS];
 static uint32_t table[HERONDITCH_NODES];
-
-static size_t load(const char *folder, const char *name, uint8_t *bytes, size_t size)
-{
-    char path[4096];
-    snprintf(path, sizeof path, "%s/%s", folder, name);
-    FILE *f = fopen(path, "rb");
-    if (!f) {
-        perror(path);
-        exit(2);
-    }
-    size_t n = fread(bytes, 1, size, f);
-    fclose(f);
-    return n;
-}
 
 int main(int argc, char **argv)
 {
@@ -30,16 +16,16 @@ int main(int argc, char **argv)
         fprintf(stderr, "usage: %s FOLDER FIRST-CENTRE LAST-CENTRE\n", argv[0]);
         return 2;
     }
-    size_t p = load(argv[1], "pattern.cir", pattern, sizeof pattern), b = load(argv[1], "board.cir", board, sizeof board);
-    heronditch_reply size = heronditch_read_board(board, b, kinds, HERONDITCH_NODES, starts, HERONDITCH_BOARD_LINKS, ends, HERONDITCH_BOARD_LINKS);
-    uint16_t radius = (uint16_t)heronditch_radius(pattern, p).first;
+    load_folder(argv[1]);
+    heronditch_reply size = heronditch_read_board(board, board_len, kinds, HERONDITCH_NODES, starts, HERONDITCH_BOARD_LINKS, ends, HERONDITCH_BOARD_LINKS);
+    uint16_t radius = (uint16_t)heronditch_radius(pattern, pattern_len).first;
     size_t found = 0, last = strtoul(argv[3], NULL, 10);
     for (size_t centre = strtoul(argv[2], NULL, 10); centre <= last; centre++) {
-        if (heronditch_place_within(pattern, p, board, b, centre, radius, nodes, HERONDITCH_NODES, links, HERONDITCH_BOARD_LINKS, table, HERONDITCH_NODES, distances, HERONDITCH_NODES).number)
+        if (heronditch_place_within(pattern, pattern_len, board, board_len, centre, radius, nodes, HERONDITCH_NODES, links, HERONDITCH_BOARD_LINKS, table, HERONDITCH_NODES, distances, HERONDITCH_NODES).number)
             continue;
         found++;
-        heronditch_place(pattern, p, board, b, centre, nodes, HERONDITCH_NODES, links, HERONDITCH_BOARD_LINKS, table, HERONDITCH_NODES, distances, HERONDITCH_NODES);
-        if (heronditch_check(pattern, p, board, b, centre, nodes, size.first, links, size.second).first != 1)
+        heronditch_place(pattern, pattern_len, board, board_len, centre, nodes, HERONDITCH_NODES, links, HERONDITCH_BOARD_LINKS, table, HERONDITCH_NODES, distances, HERONDITCH_NODES);
+        if (heronditch_check(pattern, pattern_len, board, board_len, centre, nodes, size.first, links, size.second).first != 1)
             return 1;
     }
     printf("%zu\n", found);

@@ -9,27 +9,14 @@
 #include <stdlib.h>
 #include <string.h>
 
+#include "folder.h"
 #include "heronditch.h"
 
-static uint8_t pattern[HERONDITCH_PATTERN_BYTES + 1], board[HERONDITCH_BOARD_BYTES + 1], rest[HERONDITCH_BOARD_BYTES];
+static uint8_t rest[HERONDITCH_BOARD_BYTES];
 static uint32_t table[HERONDITCH_NODES];
 static unsigned order[HERONDITCH_BOARD_LINKS];
 static uint8_t out[HERONDITCH_BOARD_LINKS];
 static heronditch_session session;
-
-static size_t load(const char *folder, const char *name, uint8_t *bytes, size_t size)
-{
-    char path[4096];
-    snprintf(path, sizeof path, "%s/%s", folder, name);
-    FILE *f = fopen(path, "rb");
-    if (!f) {
-        perror(path);
-        exit(2);
-    }
-    size_t n = fread(bytes, 1, size, f);
-    fclose(f);
-    return n;
-}
 
 /* The board's file without the links that are out; its length. */
 static size_t remaining(size_t n, size_t m)
@@ -56,7 +43,7 @@ int main(int argc, char **argv)
         fprintf(stderr, "usage: %s FOLDER session|fresh EVERY\n", argv[0]);
         return 2;
     }
-    size_t p = load(argv[1], "pattern.cir", pattern, sizeof pattern), b = load(argv[1], "board.cir", board, sizeof board);
+    load_folder(argv[1]);
     size_t n = board[0] + 256u * board[1], m = board[2] + 256u * board[3], every = strtoul(argv[3], NULL, 10);
     int fresh = !strcmp(argv[2], "fresh");
     for (size_t i = 0; i < m; i++)
@@ -71,7 +58,7 @@ int main(int argc, char **argv)
     }
     uint64_t sum = 0;
     size_t tables = 0;
-    if (heronditch_open(&session, pattern, p, board, b).number)
+    if (heronditch_open(&session, pattern, pattern_len, board, board_len).number)
         return 1;
     for (size_t i = 0; i < m; i++) {
         if (fresh)
@@ -82,7 +69,7 @@ int main(int argc, char **argv)
             continue;
         if (fresh) {
             size_t length = remaining(n, m);
-            if (heronditch_match(pattern, p, rest, length, table, HERONDITCH_NODES).number)
+            if (heronditch_match(pattern, pattern_len, rest, length, table, HERONDITCH_NODES).number)
                 return 1;
         } else if (heronditch_table(&session, table, HERONDITCH_NODES).number)
             return 1;

@@ -1,11 +1,13 @@
-/* Matches a pattern on a whole board, both of the second edition, and prints the nodes of each part:
+/* Matches a pattern on a whole board, both of the second edition, and prints the nodes of each part; with -b a pattern whose links have bounds, a
+ * file of the third edition, on a board of the first:
  *
- *     match PATTERN.cir BOARD.cir
+ *     match [-b] PATTERN.cir BOARD.cir
  *
  * Build: cc -Iinclude examples/match.c target/staticlib/libheronditch.a -o match
  */
 #include <stdio.h>
 #include <stdlib.h>
+#include <string.h>
 
 #include "heronditch.h"
 
@@ -28,16 +30,18 @@ static size_t load(const char *name, uint8_t *bytes, size_t size)
 
 int main(int argc, char **argv)
 {
-    static uint8_t pattern[HERONDITCH_PATTERN_BYTES_2 + 1], board[HERONDITCH_BOARD_BYTES_2 + 1];
+    static uint8_t pattern[HERONDITCH_PATTERN_BYTES_3 + 1], board[HERONDITCH_BOARD_BYTES_2 + 1];
     static uint32_t table[HERONDITCH_NODES];
 
-    if (argc != 3) {
-        fprintf(stderr, "usage: %s PATTERN.cir BOARD.cir\n", argv[0]);
+    int bounds = argc > 1 && !strcmp(argv[1], "-b");
+    if (argc != 3 + bounds) {
+        fprintf(stderr, "usage: %s [-b] PATTERN.cir BOARD.cir\n", argv[0]);
         return 2;
     }
-    size_t pattern_len = load(argv[1], pattern, sizeof pattern);
-    size_t board_len = load(argv[2], board, sizeof board);
-    heronditch_counts reply = heronditch_match_22(pattern, pattern_len, board, board_len, table, HERONDITCH_NODES);
+    size_t pattern_len = load(argv[1 + bounds], pattern, sizeof pattern);
+    size_t board_len = load(argv[2 + bounds], board, sizeof board);
+    heronditch_counts reply = bounds ? heronditch_match_31(pattern, pattern_len, board, board_len, table, HERONDITCH_NODES)
+                                     : heronditch_match_22(pattern, pattern_len, board, board_len, table, HERONDITCH_NODES);
     if (reply.number) {
         const char *file = reply.file == HERONDITCH_PATTERN ? " pattern" : reply.file == HERONDITCH_BOARD ? " board" : "";
         printf("refused %u%s\n", (unsigned)reply.number, file);

@@ -85,6 +85,176 @@ type Open = unsafe extern "C" fn(
     *mut u32,
 ) -> Reply;
 
+/// Declares C functions that are of one shape: they differ by role, by direction or by the editions of their files alone.
+macro_rules! alike {
+    ($($name:ident),+: fn $arguments:tt -> $reply:ty) => {
+        extern "C" {
+            $(fn $name $arguments -> $reply;)+
+        }
+    };
+}
+
+alike! {
+    heronditch_read_pattern,
+    heronditch_read_board: fn(
+        file: *const u8,
+        file_length: usize,
+        kinds: *mut u16,
+        kinds_length: usize,
+        starts: *mut u16,
+        starts_length: usize,
+        ends: *mut u16,
+        ends_length: usize,
+    ) -> Reply
+}
+alike! {
+    heronditch_write_pattern,
+    heronditch_write_board: fn(
+        kinds: *const u16,
+        kinds_length: usize,
+        starts: *const u16,
+        starts_length: usize,
+        ends: *const u16,
+        ends_length: usize,
+        out: *mut u8,
+        out_length: usize,
+    ) -> Reply
+}
+alike! {
+    heronditch_radius,
+    heronditch_radius_2: fn(
+        pattern: *const u8, pattern_length: usize
+    ) -> Reply
+}
+alike! {
+    heronditch_ball,
+    heronditch_ball_2: fn(
+        board: *const u8,
+        board_length: usize,
+        centre: usize,
+        radius: u16,
+        out: *mut u16,
+        out_length: usize,
+    ) -> Reply
+}
+alike! {
+    heronditch_match,
+    heronditch_match_one_way,
+    heronditch_match_12,
+    heronditch_match_21,
+    heronditch_match_22,
+    heronditch_match_31,
+    heronditch_match_one_way_12,
+    heronditch_match_32,
+    heronditch_match_one_way_21,
+    heronditch_match_one_way_22: fn(
+        pattern: *const u8,
+        pattern_length: usize,
+        board: *const u8,
+        board_length: usize,
+        table: *mut u32,
+        table_length: usize,
+    ) -> Counts
+}
+alike! {
+    heronditch_check,
+    heronditch_check_12,
+    heronditch_check_21,
+    heronditch_check_22: fn(
+        pattern: *const u8,
+        pattern_length: usize,
+        board: *const u8,
+        board_length: usize,
+        centre: usize,
+        nodes: *const u8,
+        nodes_length: usize,
+        links: *const u8,
+        links_length: usize,
+    ) -> Reply
+}
+alike! {
+    heronditch_bar,
+    heronditch_bar_12,
+    heronditch_bar_21,
+    heronditch_bar_22: fn(
+        pattern: *const u8,
+        pattern_length: usize,
+        board: *const u8,
+        board_length: usize,
+        centre: usize,
+        out: *mut u8,
+        out_length: usize,
+    ) -> Reply
+}
+alike! {
+    heronditch_merge,
+    heronditch_merge_2: fn(
+        pattern: *const u8,
+        pattern_length: usize,
+        classes: *mut u8,
+        classes_length: usize,
+        out: *mut u8,
+        out_length: usize,
+    ) -> Reply
+}
+alike! {
+    heronditch_read_pattern_2,
+    heronditch_read_board_2: fn(
+        file: *const u8,
+        file_length: usize,
+        kinds: *mut u16,
+        kinds_length: usize,
+        packages: *mut u16,
+        packages_length: usize,
+        starts: *mut u16,
+        starts_length: usize,
+        ends: *mut u16,
+        ends_length: usize,
+    ) -> Reply
+}
+alike! {
+    heronditch_write_pattern_2,
+    heronditch_write_board_2: fn(
+        kinds: *const u16,
+        kinds_length: usize,
+        packages: *const u16,
+        packages_length: usize,
+        starts: *const u16,
+        starts_length: usize,
+        ends: *const u16,
+        ends_length: usize,
+        out: *mut u8,
+        out_length: usize,
+    ) -> Reply
+}
+alike! {
+    heronditch_convert_pattern_12,
+    heronditch_convert_pattern_21,
+    heronditch_convert_board_12,
+    heronditch_convert_board_21: fn(
+        file: *const u8,
+        file_length: usize,
+        out: *mut u8,
+        out_length: usize,
+    ) -> Reply
+}
+alike! {
+    heronditch_session_open,
+    heronditch_session_open_12,
+    heronditch_session_open_21,
+    heronditch_session_open_22: fn(
+        pattern: *const u8,
+        pattern_length: usize,
+        board: *const u8,
+        board_length: usize,
+        fixed: *mut u32,
+        offsets: *mut u16,
+        numbers: *mut u16,
+        ends: *mut u16,
+        sets: *mut u32,
+    ) -> Reply
+}
+
 extern "C" {
     fn heronditch_compare_2(
         first: *const u8,
@@ -100,71 +270,6 @@ extern "C" {
         order: *mut u8,
         order_length: usize,
     ) -> Reply;
-    fn heronditch_read_pattern(
-        file: *const u8,
-        file_length: usize,
-        kinds: *mut u16,
-        kinds_length: usize,
-        starts: *mut u16,
-        starts_length: usize,
-        ends: *mut u16,
-        ends_length: usize,
-    ) -> Reply;
-    fn heronditch_read_board(
-        file: *const u8,
-        file_length: usize,
-        kinds: *mut u16,
-        kinds_length: usize,
-        starts: *mut u16,
-        starts_length: usize,
-        ends: *mut u16,
-        ends_length: usize,
-    ) -> Reply;
-    fn heronditch_write_pattern(
-        kinds: *const u16,
-        kinds_length: usize,
-        starts: *const u16,
-        starts_length: usize,
-        ends: *const u16,
-        ends_length: usize,
-        out: *mut u8,
-        out_length: usize,
-    ) -> Reply;
-    fn heronditch_write_board(
-        kinds: *const u16,
-        kinds_length: usize,
-        starts: *const u16,
-        starts_length: usize,
-        ends: *const u16,
-        ends_length: usize,
-        out: *mut u8,
-        out_length: usize,
-    ) -> Reply;
-    fn heronditch_radius(pattern: *const u8, pattern_length: usize) -> Reply;
-    fn heronditch_ball(
-        board: *const u8,
-        board_length: usize,
-        centre: usize,
-        radius: u16,
-        out: *mut u16,
-        out_length: usize,
-    ) -> Reply;
-    fn heronditch_match(
-        pattern: *const u8,
-        pattern_length: usize,
-        board: *const u8,
-        board_length: usize,
-        table: *mut u32,
-        table_length: usize,
-    ) -> Counts;
-    fn heronditch_match_one_way(
-        pattern: *const u8,
-        pattern_length: usize,
-        board: *const u8,
-        board_length: usize,
-        table: *mut u32,
-        table_length: usize,
-    ) -> Counts;
     fn heronditch_place(
         pattern: *const u8,
         pattern_length: usize,
@@ -196,291 +301,6 @@ extern "C" {
         distances: *mut u16,
         distances_length: usize,
     ) -> Counts;
-    fn heronditch_check(
-        pattern: *const u8,
-        pattern_length: usize,
-        board: *const u8,
-        board_length: usize,
-        centre: usize,
-        nodes: *const u8,
-        nodes_length: usize,
-        links: *const u8,
-        links_length: usize,
-    ) -> Reply;
-    fn heronditch_bar(
-        pattern: *const u8,
-        pattern_length: usize,
-        board: *const u8,
-        board_length: usize,
-        centre: usize,
-        out: *mut u8,
-        out_length: usize,
-    ) -> Reply;
-    fn heronditch_merge(
-        pattern: *const u8,
-        pattern_length: usize,
-        classes: *mut u8,
-        classes_length: usize,
-        out: *mut u8,
-        out_length: usize,
-    ) -> Reply;
-    fn heronditch_read_pattern_2(
-        file: *const u8,
-        file_length: usize,
-        kinds: *mut u16,
-        kinds_length: usize,
-        packages: *mut u16,
-        packages_length: usize,
-        starts: *mut u16,
-        starts_length: usize,
-        ends: *mut u16,
-        ends_length: usize,
-    ) -> Reply;
-    fn heronditch_read_board_2(
-        file: *const u8,
-        file_length: usize,
-        kinds: *mut u16,
-        kinds_length: usize,
-        packages: *mut u16,
-        packages_length: usize,
-        starts: *mut u16,
-        starts_length: usize,
-        ends: *mut u16,
-        ends_length: usize,
-    ) -> Reply;
-    fn heronditch_write_pattern_2(
-        kinds: *const u16,
-        kinds_length: usize,
-        packages: *const u16,
-        packages_length: usize,
-        starts: *const u16,
-        starts_length: usize,
-        ends: *const u16,
-        ends_length: usize,
-        out: *mut u8,
-        out_length: usize,
-    ) -> Reply;
-    fn heronditch_write_board_2(
-        kinds: *const u16,
-        kinds_length: usize,
-        packages: *const u16,
-        packages_length: usize,
-        starts: *const u16,
-        starts_length: usize,
-        ends: *const u16,
-        ends_length: usize,
-        out: *mut u8,
-        out_length: usize,
-    ) -> Reply;
-    fn heronditch_radius_2(pattern: *const u8, pattern_length: usize) -> Reply;
-    fn heronditch_ball_2(
-        board: *const u8,
-        board_length: usize,
-        centre: usize,
-        radius: u16,
-        out: *mut u16,
-        out_length: usize,
-    ) -> Reply;
-    fn heronditch_match_12(
-        pattern: *const u8,
-        pattern_length: usize,
-        board: *const u8,
-        board_length: usize,
-        table: *mut u32,
-        table_length: usize,
-    ) -> Counts;
-    fn heronditch_match_21(
-        pattern: *const u8,
-        pattern_length: usize,
-        board: *const u8,
-        board_length: usize,
-        table: *mut u32,
-        table_length: usize,
-    ) -> Counts;
-    fn heronditch_match_22(
-        pattern: *const u8,
-        pattern_length: usize,
-        board: *const u8,
-        board_length: usize,
-        table: *mut u32,
-        table_length: usize,
-    ) -> Counts;
-    fn heronditch_match_31(
-        pattern: *const u8,
-        pattern_length: usize,
-        board: *const u8,
-        board_length: usize,
-        table: *mut u32,
-        table_length: usize,
-    ) -> Counts;
-    fn heronditch_match_one_way_12(
-        pattern: *const u8,
-        pattern_length: usize,
-        board: *const u8,
-        board_length: usize,
-        table: *mut u32,
-        table_length: usize,
-    ) -> Counts;
-    fn heronditch_match_32(
-        pattern: *const u8,
-        pattern_length: usize,
-        board: *const u8,
-        board_length: usize,
-        table: *mut u32,
-        table_length: usize,
-    ) -> Counts;
-    fn heronditch_match_one_way_21(
-        pattern: *const u8,
-        pattern_length: usize,
-        board: *const u8,
-        board_length: usize,
-        table: *mut u32,
-        table_length: usize,
-    ) -> Counts;
-    fn heronditch_match_one_way_22(
-        pattern: *const u8,
-        pattern_length: usize,
-        board: *const u8,
-        board_length: usize,
-        table: *mut u32,
-        table_length: usize,
-    ) -> Counts;
-    fn heronditch_check_12(
-        pattern: *const u8,
-        pattern_length: usize,
-        board: *const u8,
-        board_length: usize,
-        centre: usize,
-        nodes: *const u8,
-        nodes_length: usize,
-        links: *const u8,
-        links_length: usize,
-    ) -> Reply;
-    fn heronditch_check_21(
-        pattern: *const u8,
-        pattern_length: usize,
-        board: *const u8,
-        board_length: usize,
-        centre: usize,
-        nodes: *const u8,
-        nodes_length: usize,
-        links: *const u8,
-        links_length: usize,
-    ) -> Reply;
-    fn heronditch_check_22(
-        pattern: *const u8,
-        pattern_length: usize,
-        board: *const u8,
-        board_length: usize,
-        centre: usize,
-        nodes: *const u8,
-        nodes_length: usize,
-        links: *const u8,
-        links_length: usize,
-    ) -> Reply;
-    fn heronditch_bar_12(
-        pattern: *const u8,
-        pattern_length: usize,
-        board: *const u8,
-        board_length: usize,
-        centre: usize,
-        out: *mut u8,
-        out_length: usize,
-    ) -> Reply;
-    fn heronditch_bar_21(
-        pattern: *const u8,
-        pattern_length: usize,
-        board: *const u8,
-        board_length: usize,
-        centre: usize,
-        out: *mut u8,
-        out_length: usize,
-    ) -> Reply;
-    fn heronditch_bar_22(
-        pattern: *const u8,
-        pattern_length: usize,
-        board: *const u8,
-        board_length: usize,
-        centre: usize,
-        out: *mut u8,
-        out_length: usize,
-    ) -> Reply;
-    fn heronditch_merge_2(
-        pattern: *const u8,
-        pattern_length: usize,
-        classes: *mut u8,
-        classes_length: usize,
-        out: *mut u8,
-        out_length: usize,
-    ) -> Reply;
-    fn heronditch_convert_pattern_12(
-        file: *const u8,
-        file_length: usize,
-        out: *mut u8,
-        out_length: usize,
-    ) -> Reply;
-    fn heronditch_convert_pattern_21(
-        file: *const u8,
-        file_length: usize,
-        out: *mut u8,
-        out_length: usize,
-    ) -> Reply;
-    fn heronditch_convert_board_12(
-        file: *const u8,
-        file_length: usize,
-        out: *mut u8,
-        out_length: usize,
-    ) -> Reply;
-    fn heronditch_convert_board_21(
-        file: *const u8,
-        file_length: usize,
-        out: *mut u8,
-        out_length: usize,
-    ) -> Reply;
-    fn heronditch_session_open(
-        pattern: *const u8,
-        pattern_length: usize,
-        board: *const u8,
-        board_length: usize,
-        fixed: *mut u32,
-        offsets: *mut u16,
-        numbers: *mut u16,
-        ends: *mut u16,
-        sets: *mut u32,
-    ) -> Reply;
-    fn heronditch_session_open_12(
-        pattern: *const u8,
-        pattern_length: usize,
-        board: *const u8,
-        board_length: usize,
-        fixed: *mut u32,
-        offsets: *mut u16,
-        numbers: *mut u16,
-        ends: *mut u16,
-        sets: *mut u32,
-    ) -> Reply;
-    fn heronditch_session_open_21(
-        pattern: *const u8,
-        pattern_length: usize,
-        board: *const u8,
-        board_length: usize,
-        fixed: *mut u32,
-        offsets: *mut u16,
-        numbers: *mut u16,
-        ends: *mut u16,
-        sets: *mut u32,
-    ) -> Reply;
-    fn heronditch_session_open_22(
-        pattern: *const u8,
-        pattern_length: usize,
-        board: *const u8,
-        board_length: usize,
-        fixed: *mut u32,
-        offsets: *mut u16,
-        numbers: *mut u16,
-        ends: *mut u16,
-        sets: *mut u32,
-    ) -> Reply;
     fn heronditch_session_cut(
         fixed: *const u32,
         offsets: *const u16,
