@@ -1,8 +1,8 @@
 #!/usr/bin/env python3
 """Compares the report program with the second finder's and with the one in C: compare.py FINDER SECOND PROGRAM
 
-All are run in folders with files made here: random boards with copies of the pattern, the edges of the report's lines, damaged and absent
-files. Exits 1 on a difference, naming the folder, which is kept.
+All are run in folders with files made here: random boards with copies of the pattern, boards in which what matches hangs together and balls cut
+it in every way, the edges of the report's lines, damaged and absent files. Exits 1 on a difference, naming the folder, which is kept.
 """
 import os
 import random
@@ -12,8 +12,10 @@ import sys
 import tempfile
 from pathlib import Path
 
-sys.path.insert(0, str(Path(__file__).resolve().parents[2] / "bench"))
+for place in ("bench", "tools"):
+    sys.path.insert(0, str(Path(__file__).resolve().parents[2] / place))
 from boards import circuit_file as encode  # noqa: E402
+from model import match_table  # noqa: E402
 
 
 def tree(rng, parts):
@@ -42,6 +44,50 @@ def planted(rng):
         if len(board) < 4096:
             board.add((rng.randrange(len(nodes)), rng.randrange(len(nodes))))
     return encode(kinds, links), encode(nodes, board)
+
+
+def joined(shape, copies):
+    """Which copies are joined: in a row, a ring, a tree, a grid of rows, or each to the first."""
+    pairs = {
+        "row": [(i, i + 1) for i in range(copies - 1)],
+        "ring": [(i, (i + 1) % copies) for i in range(copies)],
+        "tree": [((i - 1) // 2, i) for i in range(1, copies)],
+        "grid": [(i, i + 1) for i in range(copies - 1)] + [(i, i + 6) for i in range(copies - 6)],
+        "star": [(0, i) for i in range(1, copies)],
+    }
+    return pairs[shape]
+
+
+def hanging(rng):
+    """A pattern, and a board on which copies of it are joined by links as the pattern has them, in one piece or a few.
+
+    What matches hangs together along the copies. So a ball holds all of it, or cuts it at an end, on every side, or inside a copy, and what is
+    left of a copy that is cut may fall, and with it what it holds up: where the pattern is a ring and the copies are one long ring, all of it. A
+    link more is a short cut that matches, or one that brings nodes nearer and does not; a link less lets a copy fall on the whole board.
+    """
+    parts = rng.choice([2, 2, 3, 3, 4, 6, 9])
+    kinds = [rng.randrange(1, 2 + parts) for _ in range(parts)]
+    links = {(part, (part + 1) % parts) for part in range(parts)} if rng.random() < 0.4 else tree(rng, parts)
+    long = rng.random() < 0.5  # the copies' last links lead on to the next copy, where the pattern is a ring
+    nodes, board = [], set()
+    for _ in range(rng.choice([1, 1, 2, 5])):
+        copies = min(rng.choice([2, 5, 12, 30, 80]), (512 - len(nodes)) // parts)
+        at = [range(len(nodes) + copy * parts, len(nodes) + (copy + 1) * parts) for copy in range(copies)]
+        nodes += kinds * copies
+        for copy in range(copies):
+            on = (copy + 1) % copies if long else copy
+            board |= {(at[copy][a], at[on if a == parts - 1 and b == 0 else copy][b]) for a, b in links}
+        for one, other in joined(rng.choice(["row", "ring", "tree", "grid", "star"]), copies) if copies else []:
+            a, b = rng.choice(sorted(links))
+            board.add((at[one][a], at[other][b]))
+    for _ in range(rng.choice([0, 0, 1, 3])):
+        board.add((rng.randrange(len(nodes)), rng.randrange(len(nodes))))
+    for _ in range(rng.choice([0, 0, 1, 3])):
+        board.discard(rng.choice(sorted(board)))
+    order = list(range(len(nodes)))
+    rng.shuffle(order)
+    moved = [nodes[order.index(node)] for node in range(len(nodes))]
+    return encode(kinds, links), encode(moved, {(order[a], order[b]) for a, b in board})
 
 
 def longest():
@@ -97,6 +143,9 @@ def folders():
             cut = rng.randrange(len(board))
             board = board[:cut] + bytes([rng.randrange(256)]) + board[cut + 1:]
         yield f"random {number}", pattern, board
+    rng = random.Random(3)
+    for number in range(200):
+        yield f"cut {number}", *hanging(rng)
 
 
 def unreadable(finder):
@@ -117,10 +166,30 @@ def report(folder, *command):
     return subprocess.run(command, cwd=folder, capture_output=True, check=False).stdout
 
 
+def ways(text, pattern, board):
+    """How many places of a report have all that hangs together with them, how many are cut, and how many nodes match and have none around them.
+
+    A place is cut where one around a node of it has a node that it has not.
+    """
+    table = [0] * 512
+    match_table(pattern, board, table)
+    places = {}
+    for line in text.splitlines():
+        if line.startswith(b"place "):
+            head, body = line.split(b":")
+            places[int(head[6:])] = frozenset(map(int, body.split(b"/")[0].split()))
+    known = {place: place for place in places.values()}
+    around = {centre: known[place] for centre, place in places.items()}
+    is_cut = {place: any(not other <= place for other in {around[v] for v in place if v in around}) for place in known}
+    total = sum(is_cut[place] for place in around.values())
+    return len(around) - total, total, sum(1 for entry in table if entry) - len(around)
+
+
 def main():
     """Compares the programs in each folder."""
     finder, second, program = (os.path.abspath(name) for name in sys.argv[1:4])
     places = lines = most = 0
+    seen = (0, 0, 0)
     for name, pattern, board in folders():
         folder = Path(tempfile.mkdtemp())
         for file, content in (("pattern.cir", pattern), ("board.cir", board)):
@@ -133,11 +202,16 @@ def main():
         lines += one.count(b"\n")
         places += one.count(b"place ")
         most = max(most, max(map(len, one.split(b"\n"))) + 1)
+        if name.startswith("cut "):
+            seen = tuple(map(sum, zip(seen, ways(one, pattern, board))))
         shutil.rmtree(folder)
     unreadable(finder)
+    if min(seen) < 1000:
+        sys.exit(f"where what matches hangs together, too few of a way: {seen}")
     if most != 34609:
         sys.exit(f"the longest line has {most} bytes, and not 34,609")
     print(f"{lines} lines are the same, {places} of them places, the longest of {most} bytes")
+    print("where what matches hangs together: {} places have all of it, {} are cut, {} nodes have none around them".format(*seen))
 
 
 if __name__ == "__main__":
