@@ -1,8 +1,9 @@
 /* Prints the report of a pattern on a board:
  *
- *     report PATTERN.cir BOARD.cir
+ *     report PATTERN.cir BOARD.cir [BYTES]
  *
- * An absent file counts as empty. Its status: 0 the report is printed whole; 1 so is the one line of a refused file; 2 a file cannot be
+ * BYTES is how much is lent for the report at a time, at least HERONDITCH_LINE_BYTES; without it there is room for any report at once, so that the
+ * files are read and the board is matched once. An absent file counts as empty. Its status: 0 the report is printed whole; 1 so is the one line of a refused file; 2 a file cannot be
  * read, or the report could not be written whole: a line on standard error says why, and what was printed is a front of the report.
  *
  * Build: cc -Iinclude examples/report.c target/staticlib/libheronditch.a -o report
@@ -53,10 +54,11 @@ static int put(const uint8_t *bytes, size_t size)
 
 int main(int argc, char **argv)
 {
-    static uint8_t pattern[HERONDITCH_PATTERN_BYTES + 1], board[HERONDITCH_BOARD_BYTES + 1], out[16 * HERONDITCH_LINE_BYTES];
+    static uint8_t pattern[HERONDITCH_PATTERN_BYTES + 1], board[HERONDITCH_BOARD_BYTES + 1], out[HERONDITCH_REPORT_BYTES];
+    size_t lent = argc == 4 ? strtoul(argv[3], NULL, 10) : sizeof out;
 
-    if (argc != 3) {
-        fprintf(stderr, "usage: %s PATTERN.cir BOARD.cir\n", argv[0]);
+    if (argc < 3 || argc > 4 || lent < HERONDITCH_LINE_BYTES || lent > sizeof out) {
+        fprintf(stderr, "usage: %s PATTERN.cir BOARD.cir [BYTES]\n", argv[0]);
         return 2;
     }
     signal(SIGPIPE, SIG_IGN); /* a reader that goes away is an error of write */
@@ -66,7 +68,7 @@ int main(int argc, char **argv)
     size_t from = 0;
     uint16_t found = 0;
     for (;;) {
-        heronditch_piece p = heronditch_report(pattern, pattern_len, board, board_len, from, found, out, sizeof out);
+        heronditch_piece p = heronditch_report(pattern, pattern_len, board, board_len, from, found, out, lent);
         if (p.number != 0) /* cannot be: the buffer has room for the longest line */
             return 3;
         if (p.size == 0)
@@ -77,6 +79,8 @@ int main(int argc, char **argv)
             fprintf(stderr, "the report is not whole: %s\n", strerror(errno));
             return 2;
         }
+        if (lent == sizeof out) /* that was all */
+            return status;
         from = p.next;
         found = (uint16_t)p.found;
     }

@@ -80,6 +80,10 @@ extern "C" {
 /* no line of a report is longer: what is lent for it has room for this many bytes */
 #define HERONDITCH_LINE_BYTES 34829
 
+/* what has room for this many bytes takes any report at once, in one piece: 512 lines and the last one, each with room for the longest (proved:
+ * crates/call_report/proofs/Once, one-piece) */
+#define HERONDITCH_REPORT_BYTES (513 * HERONDITCH_LINE_BYTES)
+
 /* stack that a call needs, measured and rounded up (tests/c/stack.c) */
 #define HERONDITCH_STACK 65536
 
@@ -206,8 +210,9 @@ heronditch_reply heronditch_load(uint32_t seed, uint32_t n, uint32_t m, uint32_t
 /* Puts a piece of the report of a pattern on a board: the lines of the centres from a node on, as long as there is room for a line of
  * HERONDITCH_LINE_BYTES, and the last line where the centres are done. The first piece is from 0 with 0 found, each further one from next
  * with the found of the reply before; they, one after another, are the report, whole. Nothing is put (size 0) exactly when the report is at
- * its end. A refused file is no refusal of this call: its line, `refused 3 pattern`, is the whole report. Only 8 is replied: where the
- * files are accepted and out has not HERONDITCH_LINE_BYTES, or a file is refused and out has not 20. */
+ * its end. Each call reads both files and matches the whole board anew: who lends HERONDITCH_REPORT_BYTES needs one call. A refused file is no
+ * refusal of this call: its line, `refused 3 pattern`, is the whole report. Only 8 is replied: where the files are accepted and out has not
+ * HERONDITCH_LINE_BYTES, or a file is refused and out has not 20. */
 heronditch_piece heronditch_report(const uint8_t *pattern, size_t pattern_len, const uint8_t *board, size_t board_len, size_t from,
                                    uint16_t found, uint8_t *out, size_t out_len);
 

@@ -2,3 +2,4 @@ pub mod Outcome
 pub mod Whole
 pub mod Promise
 pub mod Refused
+pub mod Once

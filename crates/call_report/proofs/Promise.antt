@@ -13,7 +13,7 @@ use lib.Seq.{take-at, drop-at}
 use Rattle.file_format.specs.declared.File.the-variants.{Neither}
 use Rattle.file_format.specs.declared.Refusal.{Refusal}
 use Rattle.file_format.specs.declared.Role.the-variants.{Pattern, Board}
-use Rattle.file_format.specs.Circuit.{circuitOf}
+use Rattle.file_format.specs.Circuit.{circuitOf, Bounded}
 use Rattle.file_format.specs.Layout.{firstEdition}
 use Rattle.file_format.specs.Reading.{filled}
 use Rattle.file_format.specs.Refusals.{Verdict, accept, refuse, first, fileConditions, shortTable}
@@ -92,7 +92,7 @@ module _ (pattern board : List ℕ) (from found : ℕ) (out : List ℕ) where
     pub accepts : result .reply .verdict ≡ accept
     accepts = ap (λ (r : ReportOutcome). r .reply .verdict) result-is
 
-    next-is : nextOf result ≡ piece .next
+    pub next-is : nextOf result ≡ piece .next
     next-is = ap nextOf result-is
 
     found-is : foundOf result ≡ piece .found
@@ -136,9 +136,12 @@ module _ (pattern board : List ℕ) (from found : ℕ) (out : List ℕ) where
 -- what two files' circuits have at most
 module _ (pattern board : List ℕ) where
   -- the board of two accepted files
-  few : verdictOf pattern board ≡ accept → length (circuitOf (firstEdition board) .kinds) ≤ 512
+  pub board-bounded : verdictOf pattern board ≡ accept → Bounded Board (circuitOf (firstEdition board))
   unfolding pairConditions
-  few e = accepted-bounded (accepted Board (firstEdition board) (first-parts (fileConditions Pattern (firstEdition pattern)) (fileConditions Board (firstEdition board)) e .1)) .nodes
+  board-bounded e = accepted-bounded (accepted Board (firstEdition board) (first-parts (fileConditions Pattern (firstEdition pattern)) (fileConditions Board (firstEdition board)) e .1))
+
+  few : verdictOf pattern board ≡ accept → length (circuitOf (firstEdition board) .kinds) ≤ 512
+  few e = board-bounded e .nodes
 
   -- There are at most 513 items: so many calls are enough.
   pub items-few : itemsOf pattern board ≤ 513
@@ -159,7 +162,7 @@ module _ (pattern board : List ℕ) where
       go (refuse x) e = zero-le
 
 -- all the items are the report
-items-whole : (pattern board : List ℕ) (k : ℕ) → k ≤ itemsOf pattern board → itemsOf pattern board ≤ k → prefixOf pattern board k ≡ reportOf pattern board
+pub items-whole : (pattern board : List ℕ) (k : ℕ) → k ≤ itemsOf pattern board → itemsOf pattern board ≤ k → prefixOf pattern board k ≡ reportOf pattern board
 unfolding reportOf pairConditions
 items-whole pattern board k h l =
     ap (prefixOf pattern board) (le-antisymm h l) ∙ prefix-all (verdictOf pattern board) (circuitOf (firstEdition pattern)) (circuitOf (firstEdition board))
