@@ -19,7 +19,7 @@ use Rattle.graph.specs.Search.{far}
 use Rattle.graph.proofs.Net.{net-of}
 use Rattle.table.specs.Fill.{listed, fillAt, NodeList}
 use Rattle.table.specs.Prepared.{Tables, Ready}
-use Rattle.table.proofs.StrikeFill.{length-fill, getD-fill}
+use Rattle.table.proofs.Fill.{length-fill, getD-fill}
 use Rattle.place.specs.Match.{matchStarts, matchEnds}
 use Rattle.place.specs.Spread.{matched, Reached, Spread, Lists}
 use Rattle.place.proofs.Find.{tabled-joins}

@@ -15,7 +15,7 @@ use report::lines::put_line;
 use report_texts::head_bytes;
 use report_texts::put_copy;
 use report_texts::put_head;
-use table::first::copy;
+use table_first::copy;
 ghost use mathlib.Core.Bool.{true, false, _&&_, not, cond};
 ghost use mathlib.Core.List.{_++_};
 ghost use mathlib.Core.Path.{_≡_};

@@ -20,7 +20,7 @@ use Rattle.session.specs.State.{State, state, Holds}
 use Rattle.table.specs.Answer.{Fits, allOrNone}
 use Rattle.table_row.specs.Answer.{answerOf}
 use Rattle.table.specs.Host.{everything}
-use Rattle.table.specs.Row.{bothWays, problemBy, problemOf}
+use Rattle.table.specs.Row.{bothWays, problemBy}
 use Rattle.table.proofs.Answer.{answer-fits}
 use Rattle.table.proofs.Meaning.{last-fits}
 use Rattle.session_cut.specs.declared.OutAnswer.the-variants as out

@@ -11,7 +11,7 @@ use graph_neighbours::tables::LINKS;
 use graph_neighbours::tables::OFFSETS;
 use table::FORWARD_MASKS;
 use table::MASKS;
-use table::strike::surviving;
+use table_strike::surviving;
 ghost use mathlib.Core.Path.{_≡_};
 ghost use mathlib.Core.Bool.{not};
 ghost use Prim.Native.Nat.{_+_, _*_, _/_, _≤_, _<_};
