@@ -5,10 +5,12 @@ use mathlib.Core.List.{List, [], _∷_, _++_, append-nil}
 use mathlib.Core.Path.{_≡_, refl, sym, ap, subst, _∙_}
 use Prim.Native.Nat.{ℕ, zero, suc, _+_, _≤_, _<_, zero-le, suc-le-suc}
 use native.Mathlib.Nat.{le-step, le-of-suc-le-suc, not-suc-le-zero, zero-lt-suc}
+use native.Mathlib.Numerals.{add-one}
 use native.Mathlib.Omega.{arith}
 use borrow.Author.Tests.{ne-eqb}
 use lib.Dec.{T, eqb, eqb-refl}
-use lib.ListN.{length, getD}
+use lib.ListN.{length, getD, take, length-append}
+use lib.Seq.{take-suc}
 use Rattle.base_lists.specs.List.{Occurs, Below}
 use Rattle.base_lists.specs.Below.{countBelow, leastBelow}
 use Rattle.base_lists.proofs.Below.{leastBelow-is}
@@ -139,3 +141,14 @@ module _ (p : ℕ → Bool) where
           → cond b (x ∷ having p (xs ++ (v ∷ []))) (having p (xs ++ (v ∷ []))) ≡ cond b (x ∷ having p xs) (having p xs) ++ cond (p v) (v ∷ []) []
       go true e = ap (λ (l : List ℕ). x ∷ l) e
       go false e = e
+
+  -- the same, counted
+  pub having-count : (xs : List ℕ) (i : ℕ) → i < length xs → length (having p (take (i + 1) xs)) ≡ length (having p (take i xs)) + cond (p (getD xs i 0)) 1 0
+  having-count xs i h =
+      rw (add-one i)
+      (ap (λ (l : List ℕ). length (having p l)) (take-suc xs i 0 h) ∙ ap length (having-more (take i xs) (getD xs i 0))
+      ∙ length-append (having p (take i xs)) _ ∙ ap (λ (k : ℕ). length (having p (take i xs)) + k) (go (p (getD xs i 0))))
+    where
+      go : (b : Bool) → length (cond b (getD xs i 0 ∷ []) []) ≡ cond b 1 0
+      go true = refl
+      go false = refl

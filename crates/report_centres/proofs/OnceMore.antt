@@ -56,12 +56,13 @@ module _ {pattern board : Circuit} {t : Tables} {table : List ℕ} {r : ℕ} (s 
 
   -- so a centre whose ball holds the component has the line of its head and the text that was put last
   pub again-line :
-      {labels out dist : List ℕ} {last : Last} (c : ℕ) (h : c < n) (f : getD table c 0 ≡ 0 → ⊥) → Noted t table labels out last → getD labels c 0 ≡ last .label →
-      Entire t table (record { centre = c; radius = r }) dist → headText c ++ part (last .from) (last .to - last .from) out ≡ centreLine pattern board c
-  again-line {dist = dist} c h f k e g =
+      {labels out nodes : List ℕ} {last : Last} (c : ℕ) (h : c < n) (f : getD table c 0 ≡ 0 → ⊥) → Noted t table labels out last → getD labels c 0 ≡ last .label →
+      Entire t table (record { centre = c; radius = r }) nodes → headText c ++ part (last .from) (last .to - last .from) out ≡ centreLine pattern board c
+  again-line c h f k e g =
+      let dist = g .comp in
       let held = g .held pattern board s dist (g .spread) in
       ap (λ (l : List ℕ). headText c ++ l) (k .text c h f e dist (g .spread)) ∙ sym (line-split t dist table c)
-      ∙ source-line s c true (sym (held-found s c h (g .spread) f held)) refl (held-located s c h (g .spread) f held (g .nodes) (g .lists))
+      ∙ source-line s c true (sym (held-found s c h (g .spread) f held)) refl (held-located s c h (g .spread) f held _ (g .lists))
 
 -- ---- the text in the buffer
 

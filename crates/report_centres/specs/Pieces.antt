@@ -115,17 +115,17 @@ pub record Cut (pattern board : Circuit) (t : Tables) (around : Around) (nodes :
 abbrev pub EveryCut : Tables → List ℕ → Around → List ℕ → Type 0
 EveryCut t table around nodes = (pattern board : Circuit) → Source pattern board t table (around .radius) → Cut pattern board t around nodes
 
--- the centre's component in the entries of a search, where the ball holds it
-pub record Entire (t : Tables) (table : List ℕ) (around : Around) (dist : List ℕ) : Type 0 where
-  pub spread : Spread (length table) (around .centre) (matched t table) dist
-  pub nodes : List ℕ
-  pub lists : Lists nodes dist
+-- the nodes of the centre's component, where the ball holds it
+pub record Entire (t : Tables) (table : List ℕ) (around : Around) (nodes : List ℕ) : Type 0 where
+  pub comp : List ℕ
+  pub spread : Spread (length table) (around .centre) (matched t table) comp
+  pub lists : Lists nodes comp
   pub held : EveryHeld t table around
 
--- what is known of a ball: it holds the centre's component, or the place comes from the first nodes of the queue
-pub record Holds (t : Tables) (table : List ℕ) (around : Around) (dist queue : List ℕ) (h : Held) : Type 0 where
-  pub whole : h .all ≡ true → Entire t table around dist
-  pub short : h .all ≡ false → h .kept ≤ length queue
+-- what is known of a ball: the first nodes of the queue are the centre's component, which the ball holds, or the place comes from them
+pub record Holds (t : Tables) (table : List ℕ) (around : Around) (queue : List ℕ) (h : Held) : Type 0 where
+  pub short : h .kept ≤ length queue
+  pub whole : h .all ≡ true → Entire t table around (take (h .kept) queue)
   pub cut : h .all ≡ false → EveryCut t table around (take (h .kept) queue)
 
 -- what is known of a centre: whether there is a place around it, and then the place in the tables

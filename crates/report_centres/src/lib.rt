@@ -1,15 +1,12 @@
 // The lines of one centre after another, and the last line, put at the front of a buffer.
 use base_text::make_names;
 use file_format::Board;
-use graph::UNREACHED;
-use graph_search::fill;
-use graph_search::search;
 use place::Around;
 use place_around::find;
 use place_components::components;
-use place_components::covers_few;
-use place_components::keep;
-use place_components::label;
+use place_components::covers;
+use place_components::gather;
+use place_components::mark;
 use report::lines::put_end;
 use report::lines::put_line;
 use report_texts::head_bytes;
@@ -25,7 +22,7 @@ ghost use lib.ListN.{length, getD};
 ghost use Rattle.base_lists.specs.List.{part};
 ghost use Rattle.base_text.specs.Text.{Put, Fits, Names};
 ghost use Rattle.table.specs.Prepared.{tables};
-ghost use Rattle.place.specs.Spread.{matched};
+ghost use Rattle.place.specs.Spread.{matched, Spread};
 ghost use Rattle.place_components.specs.Components.{Components};
 ghost use Rattle.report.specs.Lines.{longestLine};
 ghost use Rattle.report_texts.specs.Texts.{headText};
@@ -33,6 +30,9 @@ ghost use Rattle.report_centres.specs.Pieces.{roomy, centresPiece, Sourc
 
 // No line of a report is longer: a buffer has to be as long, and a line is put where so many bytes are left.
 pub const LONGEST: usize = 34829;
+
+// Components of at most so many nodes are searched along their matching links first, and not along all links of the board.
+const FEW: usize = 64;
 
 // A piece that was put: where to go on, how many centres before that one have a place, and how many bytes the piece has.
 pub struct Part {
@@ -71,14 +71,14 @@ fn counted(count: usize, at: usize, next: usize) -> usize
     count + 1
 }
 
-// How much of the centre's component on the whole board its ball has: all of it, or else so many nodes, which stand first in a queue.
+// How much of the centre's component on the whole board its ball has: all of it or not, and how many nodes, which stand first in a queue.
 struct Held {
     all: bool,
     kept: usize,
 }
 
-// Whether the ball around a centre holds the whole of the centre's component, which has `size` nodes. Where it does, `dist` is left with `UNREACHED` outside
-// the component. Where it does not, those of its nodes that the ball has stand first in the queue.
+// Whether the ball around a centre holds the whole of the centre's component, which has `size` nodes, and those of its nodes that the ball has: they are left
+// first in the queue. `dist` is scratch.
 fn holds(
     masks: &[u32],
     offsets: &[u16],
@@ -93,22 +93,23 @@ fn holds(
     requires { ⌜ SourceOfSome (tables (now masks) (now offsets) (now links)) (now whole) (around .radius) ⌝ }
     requires { ⌜ CentreLabelled (tables (now masks) (now offsets) (now links)) (now whole) (now labels) size (around .centre) ⌝ }
     requires { ⌜ (length (now dist) ≡ length (now whole)) × (length (now queue) ≡ length (now whole)) ⌝ }
-    ensures { λ h. ⌜ Holds (tables (now (masks .entry)) (now (offsets .entry)) (now (links .entry))) (now (whole .entry)) around (now (dist .exit)) (now (queue .exit)) h ⌝ }
+    ensures { λ h. ⌜ Holds (tables (now (masks .entry)) (now (offsets .entry)) (now (links .entry))) (now (whole .entry)) around (now (queue .exit)) h ⌝ }
 {
     let c = around.centre;
     let r = around.radius;
-    if covers_few(masks, offsets, links, whole, c, r, size, dist, queue) {
-        return Held { all: true, kept: 0 };
+    if size <= FEW {
+        if covers(masks, offsets, links, whole, c, r, size, dist, queue) {
+            return Held {
+                all: true,
+                kept: size,
+            };
+        }
     }
-    let at = c as usize;
-    let k = search(offsets, links, c, r, dist, queue);
-    let kept = keep(labels, labels[at], k, queue);
-    if kept != size {
-        return Held { all: false, kept };
+    let kept = gather(offsets, links, labels, size, c, r, dist, queue);
+    Held {
+        all: kept == size,
+        kept,
     }
-    fill(dist, UNREACHED);
-    label(&queue[..kept], 0, dist);
-    Held { all: true, kept }
 }
 
 // All sets of a table.
@@ -139,18 +140,19 @@ fn locate(
 ) -> bool
     requires { ⌜ SourceOfSome (tables (now masks) (now offsets) (now links)) (now whole) (around .radius) ⌝ }
     requires { ⌜ (around .centre < length (now whole)) × (getD (now whole) (around .centre) 0 ≡ 0 → ⊥) ⌝ }
-    requires { ⌜ Holds (tables (now masks) (now offsets) (now links)) (now whole) around (now dist) (now queue) ball ⌝ }
+    requires { ⌜ Holds (tables (now masks) (now offsets) (now links)) (now whole) around (now queue) ball ⌝ }
     requires { ⌜ (length (now dist) ≡ length (now whole)) × (length (now queue) ≡ length (now whole)) × (length (now sets) ≡ length (now whole)) ⌝ }
     ensures { λ b. ⌜ EveryKnown (tables (now (masks .entry)) (now (offsets .entry)) (now (links .entry))) (now (whole .entry)) around (now (dist .exit)) (now (sets .exit)) b ⌝ }
-    ensures { λ _. ⌜ ((ball .all ≡ true) → (now (dist .exit) ≡ now (dist .entry)) × (now (sets .exit) ≡ now (whole .entry))) ⌝ }
+    ensures { λ _. ⌜ ((ball .all ≡ true) → Spread (length (now (whole .entry))) (around .centre) (matched (tables (now (masks .entry)) (now (offsets .entry)) (now (links .entry))) (now (whole .entry))) (now (dist .exit)) × (now (sets .exit) ≡ now (whole .entry))) ⌝ }
 {
+    let kept = ball.kept;
     if ball.all {
+        mark(&queue[..kept], dist);
         copy_sets(whole, sets);
         return true;
     }
     let mut other = [0u32; Board::MAX_NODES];
     let spare = &mut other[..whole.len()];
-    let kept = ball.kept;
     let started = copy(&queue[..kept], whole, sets);
     let place = find(
         masks,

@@ -12,11 +12,34 @@ use Rattle.graph.specs.Circuit.{Circuit}
 use Rattle.table.specs.Fill.{NodeList}
 use Rattle.table.specs.Prepared.{tables}
 use Rattle.place.specs.Find.{Sought}
-use Rattle.report_centres.specs.Pieces.{Source}
+use Rattle.place_components.proofs.Labels.{match-adjacency, marked-spread}
+use Rattle.report_centres.specs.Pieces.{Source, Entire}
 use Rattle.report_centres.proofs.Centre.{source-long, source-few}
-use Rattle.report_centres.proofs.Component.{held-found, held-located, cut-sought}
+use Rattle.report_centres.proofs.Component.{source-match, held-found, held-located, cut-sought}
 use Rattle.report_centres.proofs.locate.Statement.{statement}
 use Rattle.report_centres.proofs.locate.Tie as tie
+
+-- ---- the ball holds the component
+
+abbrev begun : tie.Then1 → tie.Start
+begun c = c .before .before .before .before .before .before .before .before
+
+slice-reshare-prefix-mark : tie.Need-slice-reshare-prefix-mark
+slice-reshare-prefix-mark c = begun c .pre .1 .1 .0 .short
+
+slice-aggregate-mark : tie.Need-slice-aggregate-mark
+slice-aggregate-mark c = sym (length-take-le _ _ (begun (c .before) .pre .1 .1 .0 .short))
+
+-- the component's nodes are listed
+entire : (c : tie.Then1) → let a = begun c .args in
+    Entire (tables (now (a .masks)) (now (a .offsets)) (now (a .links))) (now (a .whole)) (a .around) (take (a .ball .kept) (now (a .queue)))
+entire c = begun c .pre .1 .1 .0 .whole (c .if1 .taken)
+
+mark-requires : tie.Need-mark-requires
+mark-requires c κs =
+    let here = c .before .before in
+    let e = entire here in
+    rw (begun here .pre .1 .1 .1 .0 ∙ sym (e .spread .size)) (e .lists .list .below)
 
 copy-sets-requires : tie.Need-copy-sets-requires
 copy-sets-requires c κs = search needs
@@ -27,31 +50,39 @@ same-length c = search needs
 same-length-2 : tie.Need-same-length-2
 same-length-2 c = search needs
 
-same-length-3 : tie.Need-same-length-3
-same-length-3 c = search needs
-
--- ---- the ball holds the component
-
 returns : tie.Need-returns
-returns c = (
-  λ pattern board s.
-      let p = c .before .before .before .before .before .before .before .before .before .before .before .before .pre in
-      let low = p .1 .0 .0 in
-      let f = p .1 .0 .1 in
-      let e = p .1 .1 .0 .whole (c .before .before .before .before .if1 .taken) in
-      let held = e .held pattern board s _ (e .spread) in
-      record {
-        answer = sym (held-found s _ low (e .spread) f held);
-        nodes = e .nodes;
-        there = λ _. rw (c .before .before .copy-sets .ensures) (held-located s _ low (e .spread) f held (e .nodes) (e .lists));
-      },
-  λ _. (refl, c .before .before .copy-sets .ensures),
-)
+returns c =
+    let here = c .before .before .before .before .before .before .before .before .before in
+    let p = begun here .pre in
+    let low = p .1 .0 .0 in
+    let f = p .1 .0 .1 in
+    let e = entire here in
+    let sets = c .before .before .copy-sets .ensures in
+    let marks = rw (p .1 .1 .1 .0) at (c .before .before .before .before .before .before .mark .ensures) in
+    let (spread, lists) = rw (sym marks) at (marked-spread low (match-adjacency (source-match (p .0 .source)) .inside) (e .spread) (e .lists)) in (
+      λ pattern board s.
+          let held = e .held pattern board s _ spread in
+          record {
+            answer = sym (held-found s _ low spread f held);
+            nodes = take (begun here .args .ball .kept) (now (begun here .args .queue));
+            there = λ _. rw sets (held-located s _ low spread f held _ lists);
+          },
+      λ _. (spread, sets),
+    )
 
 -- ---- it does not
 
 abbrev entry : tie.Else1 → tie.Start
 entry c = c .before .before .before .before .before .before .before .before
+
+same-length-3 : tie.Need-same-length-3
+same-length-3 c = search needs
+
+same-length-4 : tie.Need-same-length-4
+same-length-4 c = search needs
+
+same-length-5 : tie.Need-same-length-5
+same-length-5 c = search needs
 
 -- the scratch table has room for the board
 few : (c : tie.Else1) → length (now (entry c .args .whole)) ≤ 512
@@ -64,7 +95,7 @@ slice-aggregate-spare : tie.Need-slice-aggregate-spare
 slice-aggregate-spare c = sym (length-take-le _ _ (few (c .before)))
 
 short : (c : tie.Else1) → entry c .args .ball .kept ≤ length (now (entry c .args .queue))
-short c = entry c .pre .1 .1 .0 .short (c .if1 .left)
+short c = entry c .pre .1 .1 .0 .short
 
 slice-reshare-prefix-copy : tie.Need-slice-reshare-prefix-copy
 slice-reshare-prefix-copy c = short (c .before)
@@ -109,8 +140,8 @@ find-requires c κs =
       ),
     )
 
-same-length-4 : tie.Need-same-length-4
-same-length-4 c = search needs
+same-length-6 : tie.Need-same-length-6
+same-length-6 c = search needs
 
 returns-2 : tie.Need-returns-2
 returns-2 c = (
@@ -125,8 +156,13 @@ pub locate-spec : {M : Type 1} → statement M
 locate-spec =
     tie.close
     (tie.spec
+    slice-reshare-prefix-mark
+    slice-aggregate-mark
+    mark-requires
     copy-sets-requires
     same-length
+    same-length-2
+    same-length-3
     returns
     array-borrow-prefix-other
     slice-aggregate-spare
@@ -134,7 +170,7 @@ locate-spec =
     slice-aggregate-copy
     copy-requires
     find-requires
-    same-length-2
-    same-length-3
     same-length-4
+    same-length-5
+    same-length-6
     returns-2)

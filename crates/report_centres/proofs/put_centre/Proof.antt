@@ -17,7 +17,7 @@ use Rattle.base_text.specs.Text.{Put}
 use Rattle.base_text.proofs.Text.{put-nothing, put-same, fits-same}
 use Rattle.graph.specs.Circuit.{Circuit}
 use Rattle.table.specs.Prepared.{tables}
-use Rattle.place.specs.Spread.{matched, Spread}
+use Rattle.place.specs.Spread.{matched}
 use Rattle.place_components.specs.Components.{Labelled}
 use Rattle.report.specs.Lines.{lineText}
 use Rattle.report.specs.Report.{centreLine}
@@ -261,12 +261,11 @@ remembered c true q =
     let source = p .0 .source in
     let e = c .noted .ensures in
     let (l, f, t) = e .1 .0 q in
-    let (d, w) = done put .locate .ensures .1 q in
+    let (spread, w) = done put .locate .ensures .1 q in
     let dist = done put .locate .last .1 .1 .1 .1 .1 .1 .0 in
     let fits = fits-same {o = now (a .out)} (sym (line put _ _ source)) (centre-fits _ _ _ (source .drawn .nodes) (rw (source-long source) at (p .1 .1 .0)) (p .1 .1 .1 .1 .0)) in
     λ _.
-    noted-after source (p .1 .0) _ (p .1 .1 .0) (there known .if1 .left)
-    (subst (λ (x : List ℕ). Spread (length (now (a .whole))) (a .around .centre) (matched ts (now (a .whole))) x) (sym d) (known .holds .ensures .whole q .spread))
+    noted-after source (p .1 .0) _ (p .1 .1 .0) (there known .if1 .left) spread
     (subst (λ (x : List ℕ). Put (now (a .out)) (a .last .at) (lineText ts dist x (a .around .centre)) (put .put-line .last .1 .1 .1 .1 .1 .1 .1 .0) (put .put-line .result)) w (put .put-line .ensures))
     (subst (λ (x : List ℕ). a .last .at + length (lineText ts dist x (a .around .centre)) ≤ length (now (a .out))) w (fits .room))
     l f t (e .0)
