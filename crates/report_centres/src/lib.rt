@@ -6,7 +6,6 @@ use graph_search::fill;
 use graph_search::search;
 use place::Around;
 use place_around::find;
-use place_components::components;
 use place_components::covers_few;
 use place_components::keep;
 use place_components::label;
@@ -39,6 +38,13 @@ pub struct Part {
     pub next: usize,
     pub found: usize,
     pub size: usize,
+}
+
+// Where a piece goes on: with the centre `from`, before which `found` centres had a place, at the pattern's radius.
+pub struct Resume {
+    pub radius: u16,
+    pub from: usize,
+    pub found: u16,
 }
 
 // Whether there is room for the longest line after `at` bytes.
@@ -296,30 +302,26 @@ fn put_centre(
     noted(ball.all, label, c, last, end)
 }
 
-// The lines of the centres from `from` on, before which `found` centres had a place, as long as there is room for the longest line.
+// The lines of the centres from where a piece goes on, as long as there is room for the longest line.
 pub fn put_centres(
     masks: &[u32],
     offsets: &[u16],
     links: &[u16],
     whole: &[u32],
-    r: u16,
-    from: usize,
-    found: u16,
+    labels: &[u16],
+    sizes: &[u16],
+    resume: Resume,
     out: &mut [u8],
 ) -> Part
-    requires { ⌜ SourceOfSome (tables (now masks) (now offsets) (now links)) (now whole) r ⌝ }
-    ensures { λ p. ⌜ EveryWrote (tables (now (masks .entry)) (now (offsets .entry)) (now (links .entry))) (now (whole .entry)) r (λ pattern board. centresPiece pattern board from found (length (now (out .entry)))) (now (out .entry)) (now (out .exit)) p ⌝ }
+    requires { ⌜ SourceOfSome (tables (now masks) (now offsets) (now links)) (now whole) (resume .radius) ⌝ }
+    requires { ⌜ Components (length (now whole)) (matched (tables (now masks) (now offsets) (now links)) (now whole)) (now whole) (now labels) (now sizes) ⌝ }
+    ensures { λ p. ⌜ EveryWrote (tables (now (masks .entry)) (now (offsets .entry)) (now (links .entry))) (now (whole .entry)) (resume .radius) (λ pattern board. centresPiece pattern board (resume .from) (resume .found) (length (now (out .entry)))) (now (out .entry)) (now (out .exit)) p ⌝ }
 {
     let mut names = [0u32; Board::MAX_NODES];
     make_names(&mut names);
     let n = whole.len();
-    let mut names_of = [0u16; Board::MAX_NODES];
-    let mut counts = [0u16; Board::MAX_NODES];
-    let labels = &mut names_of[..n];
-    let sizes = &mut counts[..n];
-    components(masks, offsets, links, whole, labels, sizes);
-    let mut c = from;
-    let mut count = found as usize;
+    let mut c = resume.from;
+    let mut count = resume.found as usize;
     let mut last = Last {
         at: 0,
         label: 0,
@@ -329,7 +331,7 @@ pub fn put_centres(
     while goes_on(c, n, last.at, out.len()) {
         let around = Around {
             centre: c as u16,
-            radius: r,
+            radius: resume.radius,
         };
         let next = put_centre(
             &names,
