@@ -2,7 +2,7 @@
 -- counted (Progress), of every pattern and board that lines are put from. The measure is how many centres are left. Assumes nothing.
 use denote.Ref.{now}
 use mathlib.Core.Bool.{true}
-use mathlib.Core.Path.{_≡_, refl}
+use mathlib.Core.Path.{_≡_}
 use Prim.Native.Nat.{_+_, _-_, _≤_, _<_}
 use native.Mathlib.Omega.{arith}
 use borrow.Author.Needs.{needs}
@@ -15,17 +15,18 @@ use Rattle.table.specs.Prepared.{tables}
 use Rattle.report.specs.Lines.{longestLine}
 use Rattle.report_centres.specs.Pieces.{roomy, Source, Kept}
 use Rattle.report_centres.proofs.Centre.{source-long, source-few}
+use Rattle.report_centres.proofs.OnceMore.{kept-start}
 use Rattle.report_centres.proofs.Progress.{Progress, progress-start, progress-small, progress-goes, progress-step, progress-end}
 use Rattle.report_centres.proofs.put_centres.Statement.{statement}
 use Rattle.report_centres.proofs.put_centres.Tie as tie
 
 abbrev Inv-loop : tie.InvT-loop
-Inv-loop masks offsets links whole labels sizes resume out₀ names n c₀ count₀ last₀ out c count last =
-    ((pattern board : Circuit) → Source pattern board (tables masks offsets links) whole (resume .radius) → Progress pattern board (resume .from) (resume .found) out₀ c count (last .at) out)
-    × Kept (tables masks offsets links) whole labels out last
+Inv-loop masks offsets links whole labels sizes resume out₀ names n c₀ count₀ texts₀ at₀ out c count texts at =
+    ((pattern board : Circuit) → Source pattern board (tables masks offsets links) whole (resume .radius) → Progress pattern board (resume .from) (resume .found) out₀ c count at out)
+    × Kept (tables masks offsets links) whole labels out at texts
 
 abbrev μ-loop : tie.MeasureT-loop
-μ-loop masks offsets links whole labels sizes resume out₀ names n c₀ count₀ last₀ out c count last = length whole - c
+μ-loop masks offsets links whole labels sizes resume out₀ names n c₀ count₀ texts₀ at₀ out c count texts at = length whole - c
 
 abbrev entry : tie.After-struct-known Inv-loop μ-loop → tie.Start Inv-loop μ-loop
 entry c = c .before .before .before .before .before .before .before .before .before .before .before
@@ -40,12 +41,12 @@ cast-count : tie.Need-cast-count Inv-loop μ-loop
 cast-count c = search needs
 
 loop-holds : tie.Need-loop-holds Inv-loop μ-loop
-loop-holds c = (λ pattern board s. progress-start _ _ _ _ _, λ f. absurd (f refl))
+loop-holds c = (λ pattern board s. progress-start _ _ _ _ _, kept-start)
 
 -- where the loop stands, of the pattern and the board that there are
 stands : (c : tie.At-loop Inv-loop μ-loop) →
     let s = entry (c .before) in
-    Progress (s .pre .0 .pattern) (s .pre .0 .board) (s .args .resume .from) (s .args .resume .found) (now (s .args .out)) (c .loop .c) (c .loop .count) (c .loop .last .at) (c .loop .out)
+    Progress (s .pre .0 .pattern) (s .pre .0 .board) (s .args .resume .from) (s .args .resume .found) (now (s .args .out)) (c .loop .c) (c .loop .count) (c .loop .at) (c .loop .out)
 stands c = c .loop .inv .0 _ _ (entry (c .before) .pre .0 .source)
 
 goes-on-requires : tie.Need-goes-on-requires Inv-loop μ-loop
@@ -62,7 +63,7 @@ start c = entry (turn c .before)
 goes : (c : tie.Then1 Inv-loop μ-loop) →
     (pattern board : Circuit)
     → Source pattern board (tables (now (start c .args .masks)) (now (start c .args .offsets)) (now (start c .args .links))) (now (start c .args .whole)) (start c .args .resume .radius)
-    → (turn c .loop .c < length (board .kinds)) × (roomy (length (now (start c .args .out))) (turn c .loop .last .at) ≡ true)
+    → (turn c .loop .c < length (board .kinds)) × (roomy (length (now (start c .args .out))) (turn c .loop .at) ≡ true)
 goes c pattern board s =
     progress-goes _ _ _ _ (turn c .loop .inv .0 pattern board s) _ (rw (source-long s) at (c .before .goes-on .ensures)) (c .if1 .taken)
 
@@ -70,28 +71,31 @@ goes c pattern board s =
 more : (c : tie.Then1 Inv-loop μ-loop) → turn c .loop .c < length (now (start c .args .whole))
 more c = let s = start c .pre .0 in rw (source-long (s .source)) (goes c _ _ (s .source) .0)
 
-cast-t21 : tie.Need-cast-t21 Inv-loop μ-loop
-cast-t21 c = omega (arith, more c, source-few (start c .pre .0 .source))
+cast-t22 : tie.Need-cast-t22 Inv-loop μ-loop
+cast-t22 c = omega (arith, more c, source-few (start c .pre .0 .source))
 
 slice-aggregate-put-centre : tie.Need-slice-aggregate-put-centre Inv-loop μ-loop
 slice-aggregate-put-centre c = search needs
 
+slice-aggregate-put-centre-2 : tie.Need-slice-aggregate-put-centre-2 Inv-loop μ-loop
+slice-aggregate-put-centre-2 c = search needs
+
 put-centre-requires : tie.Need-put-centre-requires Inv-loop μ-loop
 put-centre-requires c κs =
-    let here = c .before .before in
+    let here = c .before .before .before in
     let p = start here .pre in
     let named = turn here .before .before .before .make-names in
-    let room : turn here .loop .last .at + longestLine ≤ length (now (start here .args .out)) = leb-true _ _ (goes here _ _ (p .0 .source) .1) in
+    let room : turn here .loop .at + longestLine ≤ length (now (start here .args .out)) = leb-true _ _ (goes here _ _ (p .0 .source) .1) in
     (p .0, (p .1, (more here, ((named .ensures, omega (arith, named .kept .0, source-few (p .0 .source))), (omega (arith, put-length (stands (turn here) .put)), turn here .loop .inv .1)))))
 
 counted-requires : tie.Need-counted-requires Inv-loop μ-loop
 counted-requires c κs =
-    let here = c .before .before .before .before .before in
+    let here = c .before .before .before .before .before .before .before in
     let s = start here in
     progress-small _ _ _ _ (stands (turn here)) (s .pre .0 .source .drawn .nodes) (turn here .before .struct-known .given .1 .1 .0 .fits)
 
 abbrev turned : tie.After-counted Inv-loop μ-loop → tie.Then1 Inv-loop μ-loop
-turned c = c .before .before .before .before .before .before
+turned c = c .before .before .before .before .before .before .before .before
 
 add-c : tie.Need-add-c Inv-loop μ-loop
 add-c c = omega (arith, more (turned c), source-few (start (turned c) .pre .0 .source))
@@ -102,7 +106,7 @@ loop-less c = omega (arith, more (turned c))
 loop-again : tie.Need-loop-again Inv-loop μ-loop
 loop-again c =
     let here = turned c in
-    let put = c .before .before .before .put-centre .ensures in (
+    let put = c .before .before .before .before .put-centre .ensures in (
       λ pattern board s.
           let (more, spacious) = goes here pattern board s in
           progress-step _ _ _ _ (turn here .loop .inv .0 pattern board s) (s .drawn .nodes) more spacious (put .0 pattern board s) (c .counted .ensures),
@@ -132,8 +136,9 @@ put-centres-spec =
     cast-count
     loop-holds
     goes-on-requires
-    cast-t21
+    cast-t22
     slice-aggregate-put-centre
+    slice-aggregate-put-centre-2
     put-centre-requires
     counted-requires
     add-c
