@@ -7,7 +7,6 @@ use native.Mathlib.Omega.{arith}
 use borrow.Author.Needs.{needs}
 use lib.ListN.{length, take}
 use lib.Seq.{length-take-le}
-use Rattle.base_lists.proofs.Tests.{true-T, false-T}
 use Rattle.graph.specs.Circuit.{Circuit}
 use Rattle.table.specs.Fill.{NodeList}
 use Rattle.table.specs.Prepared.{tables}
@@ -59,16 +58,14 @@ returns c =
     let e = entire here in
     let sets = c .before .before .copy-sets .ensures in
     let marks = rw (p .1 .1 .1 .0) at (c .before .before .before .before .before .before .mark .ensures) in
-    let (spread, lists) = rw (sym marks) at (marked-spread low (match-adjacency (source-match (p .0 .source)) .inside) (e .spread) (e .lists)) in (
-      λ pattern board s.
-          let held = e .held pattern board s _ spread in
-          record {
-            answer = sym (held-found s _ low spread f held);
-            nodes = take (begun here .args .ball .kept) (now (begun here .args .queue));
-            there = λ _. rw sets (held-located s _ low spread f held _ lists);
-          },
-      λ _. (spread, sets),
-    )
+    let (spread, lists) = rw (sym marks) at (marked-spread low (match-adjacency (source-match (p .0 .source)) .inside) (e .spread) (e .lists)) in
+    λ pattern board s.
+    let held = e .held pattern board s _ spread in
+    record {
+      answer = sym (held-found s _ low spread f held);
+      nodes = take (begun here .args .ball .kept) (now (begun here .args .queue));
+      there = λ _. rw sets (held-located s _ low spread f held _ lists);
+    }
 
 -- ---- it does not
 
@@ -144,13 +141,10 @@ same-length-6 : tie.Need-same-length-6
 same-length-6 c = search needs
 
 returns-2 : tie.Need-returns-2
-returns-2 c = (
-  λ pattern board s.
-      let done = c .before .before .before .before .before .before .before in
-      let place = done .find .ensures pattern board _ (sought (done .before .before .before .before .before .before) pattern board s) in
-      record { answer = place .answer; nodes = _; there = place .there },
-  λ e. absurd (false-T (c .before .before .before .before .before .before .before .before .before .before .before .before .before .before .before .before .before .if1 .left) (true-T e)),
-)
+returns-2 c pattern board s =
+    let done = c .before .before .before .before .before .before .before in
+    let place = done .find .ensures pattern board _ (sought (done .before .before .before .before .before .before) pattern board s) in
+    record { answer = place .answer; nodes = _; there = place .there }
 
 pub locate-spec : {M : Type 1} → statement M
 locate-spec =
