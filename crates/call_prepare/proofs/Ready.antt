@@ -2,8 +2,8 @@
 use mathlib.Core.List.{List}
 use mathlib.Core.Path.{_≡_, sym, ap, _∙_}
 use Prim.Native.Nat.{ℕ}
-use lib.ListN.{length}
-use Rattle.graph.specs.Circuit.{Circuit}
+use lib.ListN.{length, take}
+use Rattle.graph.specs.Circuit.{Circuit, circuit}
 use Rattle.graph.specs.Search.{radius}
 use Rattle.simulation.specs.Simulation.{Direction}
 use Rattle.file_format.specs.declared.Role.{Role}
@@ -71,6 +71,13 @@ module _
 
   pub ready-both : read .verdict ≡ verdict.Accepted → BothPrepared r ways pattern board read partKinds nodeKinds t
   ready-both e = p .both (ready-verdict e)
+
+-- what was prepared, by the labels at the fronts of the tables
+pub ready-prepared :
+    {r : Role} {ways : List Direction} {pattern board : CircuitFile} {read : Pair} {partKinds nodeKinds : List ℕ} {t : Tables} →
+    BothPrepared r ways pattern board read partKinds nodeKinds t →
+    PreparedBy ways (circuit (take (read .parts) partKinds) (startsOf pattern) (endsOf pattern)) (circuit (take (read .nodes) nodeKinds) (startsOf board) (endsOf board)) t
+ready-prepared b = rw (b .parts .content, b .nodes .content) (b .prepared)
 
 -- the radius of a pattern, which is connected
 pub ready-radius :
