@@ -1,4 +1,5 @@
+pub mod Opened
 pub mod Outcome
-pub mod Whole
 pub mod Promise
 pub mod Refused
+pub mod Whole
