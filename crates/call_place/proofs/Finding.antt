@@ -25,7 +25,7 @@ use Rattle.place_circuits.specs.Ball.{SomeDrawn, EveryDrawn}
 use Rattle.call_place.specs.declared.Reach.{Reach}
 use Rattle.call_place.specs.Call.{tooShort, roomConditions, placeConditions, inputConditions, decided, placeAt, radiusFor, placeOn}
 use Rattle.call_prepare.specs.Read.{BothPrepared}
-use Rattle.call_prepare.proofs.Ready.{ready-radius}
+use Rattle.call_prepare.proofs.Ready.{ready-prepared, ready-radius}
 
 -- a call that is turned away leaves the four tables as they were
 abbrev pub untouched : Refusal → List ℕ → List ℕ → List ℕ → List ℕ → PlaceOutcome
@@ -81,7 +81,7 @@ ready-drawn {pattern} {board} b =
       nodeStarts = startsOf board;
       nodeEnds = endsOf board;
       drawn = rw (b .parts .content, b .nodes .content) (b .drawn);
-      prepared = rw (b .parts .content, b .nodes .content) (b .prepared);
+      prepared = ready-prepared b;
     }
 
 module _ (reach : Reach) (pattern board : CircuitFile) (w : ℕ) (nodes links table distances : List ℕ) where

@@ -22,7 +22,6 @@ use Rattle.table.specs.Answer.{Fits, allOrNone}
 use Rattle.table_row.specs.Answer.{answerOf}
 use Rattle.table.specs.Host.{everything}
 use Rattle.table.specs.Row.{problemBy}
-use Rattle.table.proofs.Answer.{answer-fits}
 use Rattle.table.proofs.Meaning.{last-fits}
 use Rattle.session_cut.specs.declared.OutAnswer.the-variants as out
 use Rattle.session_cut.specs.Cut.{outReply}

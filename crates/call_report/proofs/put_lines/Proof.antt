@@ -1,12 +1,12 @@
--- `report_pieces::put_lines` meets its contract: the lines of the centres are put, and the last line. Assumes nothing.
+-- `call_report::put_lines` meets its contract: the lines of the centres are put, and the last line. Assumes nothing.
 use native.Mathlib.Omega.{arith}
 use borrow.Author.Needs.{needs}
 use Rattle.report_centres.specs.Pieces.{linesPiece}
 use Rattle.report_centres.proofs.Centre.{source-long, source-few}
 use Rattle.report_centres.proofs.Pieces.{wrote-within, closed-wrote}
 use Rattle.report_centres.proofs.Progress.{piece-small}
-use Rattle.report_pieces.proofs.put_lines.Statement.{statement}
-use Rattle.report_pieces.proofs.put_lines.Tie as tie
+use Rattle.call_report.proofs.put_lines.Statement.{statement}
+use Rattle.call_report.proofs.put_lines.Tie as tie
 
 put-centres-requires : tie.Need-put-centres-requires
 put-centres-requires c κs = search needs
@@ -16,15 +16,15 @@ abbrev lined : tie.After-put-last-arg → tie.After-put-centres
 lined c = c .before .before .before
 
 abbrev start : tie.After-put-last-arg → tie.Start
-start c = lined c .before .before .before .before .before .before .before
+start c = lined c .before .before .before .before .before .before .before .before .before
 
 put-last-requires : tie.Need-put-last-requires
 put-last-requires c κs =
     let s = start c in
-    let source = s .pre .source in
+    let source = s .pre .0 .source in
     let wrote = lined c .put-centres .ensures _ _ source in (
       wrote-within wrote,
-      rw (wrote .found) (piece-small _ _ (s .args .from) (s .args .found) (source .drawn .nodes) (s .fits .found .fits) _),
+      rw (wrote .found) (piece-small _ _ (s .args .resume .from) (s .args .resume .found) (source .drawn .nodes) (omega (arith, s .good .1 .1 .1 .1 .1 .1 .0)) _),
       omega (arith, source-few source),
     )
 
@@ -36,7 +36,7 @@ unfolding linesPiece
 returns c pattern board s =
     let done = c .before .before in
     let a = start (done .before) in
-    closed-wrote _ (piece-small _ _ (a .args .from) (a .args .found) (s .drawn .nodes) (a .fits .found .fits) _) (omega (arith, s .drawn .nodes .nodes))
+    closed-wrote _ (piece-small _ _ (a .args .resume .from) (a .args .resume .found) (s .drawn .nodes) (omega (arith, a .good .1 .1 .1 .1 .1 .1 .0)) _) (omega (arith, s .drawn .nodes .nodes))
     (lined (done .before) .put-centres .ensures pattern board s) (rw (source-long s) at (done .put-last .ensures))
 
 pub put-lines-spec : {M : Type 1} → statement M
