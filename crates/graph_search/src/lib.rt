@@ -46,7 +46,7 @@ fn scan(part: &[u16], d: u16, dist: &mut [u16], queue: &mut [u16], from: usize) 
 }
 
 // Looks at the neighbours of node v: what it drives, then what drives it.
-fn expand(
+pub fn expand(
     offsets: &[u16],
     links: &[u16],
     v: usize,
@@ -68,7 +68,7 @@ fn expand(
 }
 
 // One level: looks at the neighbours of the nodes that stand in the queue from lo up to its end.
-pub fn level(
+fn level(
     offsets: &[u16],
     links: &[u16],
     lo: usize,

@@ -9,7 +9,7 @@ use native.Mathlib.Numerals.{add-one}
 use native.Mathlib.Omega.{arith}
 use borrow.Author.Tests.{ne-eqb}
 use lib.Dec.{T, eqb, eqb-refl}
-use lib.ListN.{length, getD, take, length-append}
+use lib.ListN.{length, getD, take, length-append, List·getD-append}
 use lib.Seq.{take-suc}
 use Rattle.base_lists.specs.List.{Occurs, Below}
 use Rattle.base_lists.specs.Below.{countBelow, leastBelow}
@@ -39,6 +39,17 @@ distinct-rest x xs d = λ i j h k e. d (suc i) (suc j) (suc-le-suc h) (suc-le-su
 distinct-first : (x : ℕ) (xs : List ℕ) → Distinct (x ∷ xs) → Occurs xs x → ⊥
 unfolding Distinct
 distinct-first x xs d (j, k, e) = d zero (suc j) (zero-lt-suc j) (suc-le-suc k) (sym e)
+
+-- the first of a list of nodes are one
+pub first-list : {n : ℕ} (xs ys : List ℕ) → NodeList n (xs ++ ys) → NodeList n xs
+unfolding Below Distinct
+first-list {n} xs ys l =
+    let long = length-append xs ys in
+    record {
+      below = λ i h. subst (λ (v : ℕ). v < n) (List·getD-append xs ys 0 i h) (l .below i (omega arith));
+      distinct = λ i j h k e. l .distinct i j h (omega arith) (List·getD-append xs ys 0 i (omega arith) ∙ e ∙ sym (List·getD-append xs ys 0 j k));
+      short = omega (arith, l .short);
+    }
 
 -- ---- as long as another
 

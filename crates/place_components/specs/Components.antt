@@ -1,7 +1,7 @@
 -- The components of a match graph, each node with the label of its component: what naming them leaves, what a search along matching links has
 -- covered, and what a search along all links gathers of them. An adjacency function says what is joined to a node, directions ignored.
 use mathlib.Core.Bool.{Bool, cond}
-use mathlib.Core.List.{List, [], _∷_}
+use mathlib.Core.List.{List, [], _∷_, _++_}
 use mathlib.Core.Path.{_≡_}
 use Prim.Native.Nat.{ℕ, suc, _^_, _≤_, _<_}
 use lib.Dec.{T, eqb}
@@ -83,13 +83,15 @@ pub record Covered (n c : ℕ) (adj : ℕ → List ℕ) (r size : ℕ) (nodes di
 abbrev pub sameLabel : List ℕ → ℕ → ℕ → Bool
 sameLabel labels c v = eqb (getD labels v 0) (getD labels c 0)
 
--- The nodes that a search from c among n nodes reaches as far as some distance, at most r: at r, where those that pass a test are not as many as wanted.
+-- Nodes that a search from c among n nodes reaches as far as some distance, at most r, the first of all that it reaches; all of them, and at r, where those that
+-- pass a test are not as many as wanted.
 pub record Until (adj : ℕ → List ℕ) (n c r : ℕ) (p : ℕ → Bool) (size : ℕ) (nodes : List ℕ) : Type 0 where
   pub depth : ℕ
+  pub rest : List ℕ
   pub within : depth ≤ r
   pub below : Below n nodes
-  pub reached : nodes ≡ bfs adj n c depth .reached
-  pub stop : (length (having p nodes) ≡ size → ⊥) → depth ≡ r
+  pub reached : nodes ++ rest ≡ bfs adj n c depth .reached
+  pub stop : (length (having p nodes) ≡ size → ⊥) → (depth ≡ r) × (rest ≡ [])
 
 -- Those of them that pass the test.
 pub record Gathered (adj : ℕ → List ℕ) (n c r : ℕ) (p : ℕ → Bool) (size : ℕ) (nodes : List ℕ) : Type 0 where

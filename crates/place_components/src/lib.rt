@@ -4,7 +4,6 @@ use file_format::Board;
 use graph::UNREACHED;
 use graph_search::begin;
 use graph_search::fill;
-use graph_search::level;
 use place_component::component;
 use place_component::expand;
 ghost use mathlib.Core.Bool.{true, not, _&&_, cond};
@@ -198,8 +197,8 @@ fn count_from(labels: &[u16], x: u16, from: usize, count: usize, nodes: &[u16]) 
     found
 }
 
-// Searches the board's links from c, level by level, as far as r links, and stops after the level with which `size` nodes that have c's label are
-// reached. Returns how many nodes are reached; they stand first in the queue.
+// Searches the board's links from c as far as r links, and stops as soon as `size` nodes that have c's label are reached. Returns how many nodes are
+// reached; they stand first in the queue. `hi` of them are at most d links away, and i have been looked from.
 fn search_until(
     offsets: &[u16],
     links: &[u16],
@@ -218,19 +217,25 @@ fn search_until(
     begin(c, dist, queue);
     let at = c as usize;
     let x = labels[at];
-    let mut lo = 0;
+    let mut i = 0;
+    let mut hi = 1;
     let mut tail = 1;
     let mut count = 1;
     let mut d: u16 = 0;
     while goes_on(count, size, d, r) {
-        if lo == tail {
+        if i == tail {
             return tail;
         }
-        let next = level(offsets, links, lo, tail, d + 1, dist, queue);
-        count = count_from(labels, x, tail, count, &queue[..next]);
-        lo = tail;
-        tail = next;
-        d += 1;
+        if i == hi {
+            hi = tail;
+            d += 1;
+        } else {
+            let v = queue[i] as usize;
+            let next = graph_search::expand(offsets, links, v, d + 1, dist, queue, tail);
+            count = count_from(labels, x, tail, count, &queue[..next]);
+            tail = next;
+            i += 1;
+        }
     }
     tail
 }

@@ -2,7 +2,7 @@
 -- to as many nodes with its label as it has, the ball holds it, and the place is the component with its matching links; else the place comes from those nodes
 -- of the ball that have its label. Assumes nothing.
 use mathlib.Core.Bool.{Bool, true, false, cond}
-use mathlib.Core.List.{List}
+use mathlib.Core.List.{List, [], _++_, append-nil}
 use mathlib.Core.Logic.{inl, inr, ⊎-elim}
 use mathlib.Core.Path.{_≡_, refl, sym, ap, subst, _∙_}
 use Prim.Native.Nat.{ℕ, _^_, _≤_, _<_}
@@ -17,6 +17,7 @@ use Rattle.base_lists.proofs.Tables.{getD-tabulate}
 use Rattle.graph.specs.Bfs.{bfs, adjacent, Found as Searched}
 use Rattle.graph.specs.Circuit.{Circuit}
 use Rattle.graph.specs.Search.{inside}
+use Rattle.graph.proofs.BfsScan.{occurs-append}
 use Rattle.graph.proofs.Ball.{inside-zero, inside-suc, inside-grows, inside-mono}
 use Rattle.table.specs.Fill.{listed, marksOf, NodeList}
 use Rattle.table.specs.First.{Written}
@@ -33,7 +34,7 @@ use Rattle.place.specs.Spread.{matched, Reached, Spread, Lists}
 use Rattle.place.proofs.Find.{ball-list, ball-marks, whole-located, whole-found, cut-seen}
 use Rattle.place.proofs.Links.{match-kept}
 use Rattle.place_components.specs.Components.{MatchTable, Growing, Covered, sameLabel, Gathered}
-use Rattle.place_components.proofs.Lists.{all-within, having-from, having-to, having-list}
+use Rattle.place_components.proofs.Lists.{first-list, all-within, having-from, having-to, having-list}
 use Rattle.place_components.proofs.Labels.{match-adjacency, spread-same}
 use Rattle.place_components.proofs.Covering.{covered-spread}
 use Rattle.report_centres.specs.Pieces.{Source, CentreLabelled, Cut}
@@ -118,17 +119,20 @@ module _ {pattern board : Circuit} {t : Tables} {table : List ℕ} {r : ℕ} (s 
       abbrev test : ℕ → Bool
       test = sameLabel labels c
 
-      -- it has reached the ball of some radius, which is at most r
-      searched : Searched (length (g .all)) (bfs (adjacent (t .offsets) (t .links)) n c d .dist) (g .all) (bfs (adjacent (t .offsets) (t .links)) n c d)
-      searched =
-          let e : g .all ≡ bfs (adjacent (t .offsets) (t .links)) n c d .reached = rw (source-long s) at (g .until .reached) in
-          record { distances = refl; count = ap length e; nodes = take-length (g .all) ∙ e }
+      -- what it has reached is the first of the ball of some radius, which is at most r
+      abbrev all : List ℕ
+      all = g .all ++ g .until .rest
 
-      ball : marksOf n (g .all) ≡ ballOf board c d
-      ball = ap (marksOf n) (sym (take-length (g .all))) ∙ ball-marks (source-tabled s) c d node searched
+      searched : Searched (length all) (bfs (adjacent (t .offsets) (t .links)) n c d .dist) all (bfs (adjacent (t .offsets) (t .links)) n c d)
+      searched =
+          let e : all ≡ bfs (adjacent (t .offsets) (t .links)) n c d .reached = rw (source-long s) at (g .until .reached) in
+          record { distances = refl; count = ap length e; nodes = take-length all ∙ e }
+
+      ball : marksOf n all ≡ ballOf board c d
+      ball = ap (marksOf n) (sym (take-length all)) ∙ ball-marks (source-tabled s) c d node searched
 
       list : NodeList n nodes
-      list = rw (g .passed) (having-list test (rw (take-length (g .all)) at (ball-list (source-tabled s) c d node searched)))
+      list = rw (g .passed) (having-list test (first-list (g .all) (g .until .rest) (rw (take-length all) at (ball-list (source-tabled s) c d node searched))))
 
       occurs-taken : (nodes : List ℕ) (v : ℕ) → v < n → Occurs nodes v → Taken board (marksOf n nodes) v
       unfolding listed
@@ -145,26 +149,33 @@ module _ {pattern board : Circuit} {t : Tables} {table : List ℕ} {r : ℕ} (s 
       passed v o = having-from test (g .all) v (rw (g .passed) at o)
 
       within : (v : ℕ) → Taken board (marksOf n nodes) v → Taken board (ballOf board c d) v
-      within v m = subst (λ (row : List ℕ). Taken board row v) ball (occurs-taken (g .all) v (m .below) (passed v (taken-occurs nodes v m) .0))
+      within v m =
+          subst (λ (row : List ℕ). Taken board row v) ball
+          (occurs-taken all v (m .below) (occurs-append v (g .all) (g .until .rest) .1 (inl (passed v (taken-occurs nodes v m) .0))))
 
-      keeps : (v : ℕ) → Taken board (ballOf board c d) v → Reached (l .comp) v → Taken board (marksOf n nodes) v
-      keeps v m q =
-          occurs-taken nodes v (m .below)
-          (rw (g .passed)
-          (having-to test (g .all) v (taken-occurs (g .all) v (subst (λ (row : List ℕ). Taken board row v) (sym ball) m))
-          (true-T (eq-eqb _ _ (l .same v (rw (source-long s) (m .below)) q)))))
+      -- They are not as many as the component has: all of the ball of r is reached,
+      module _ (f : length nodes ≡ size → ⊥) where
+        whole : (d ≡ r) × (g .until .rest ≡ [])
+        whole = g .until .stop (λ q. f (ap length (g .passed) ∙ q))
 
-      -- They are not as many as the component has: the radius is r, and the place comes from them.
-      pub gathered-cut : (length nodes ≡ size → ⊥) → Cut pattern board t (record { centre = c; radius = r }) nodes
-      gathered-cut f =
-          let e : d ≡ r = g .until .stop (λ q. f (ap length (g .passed) ∙ q)) in
-          record {
-            list = list;
-            seen = cut-seen (source-tabled s) c r node {comp = l .comp} even (s .whole) (rw (← source-long s) (l .component .spread)) (marksOf n nodes) (rw e at within) (rw e at keeps);
-          }
+        keeps : (v : ℕ) → Taken board (ballOf board c d) v → Reached (l .comp) v → Taken board (marksOf n nodes) v
+        keeps v m q =
+            let o : Occurs all v = taken-occurs all v (subst (λ (row : List ℕ). Taken board row v) (sym ball) m) in
+            let o′ : Occurs (g .all) v = rw (whole .1, append-nil (g .all)) at o in
+            occurs-taken nodes v (m .below)
+            (rw (g .passed) (having-to test (g .all) v o′ (true-T (eq-eqb _ _ (l .same v (rw (source-long s) (m .below)) q)))))
+
+        -- and the place comes from them.
+        pub gathered-cut : Cut pattern board t (record { centre = c; radius = r }) nodes
+        gathered-cut =
+            let e = whole .0 in
+            record {
+              list = list;
+              seen = cut-seen (source-tabled s) c r node {comp = l .comp} even (s .whole) (rw (← source-long s) (l .component .spread)) (marksOf n nodes) (rw e at within) (rw e at keeps);
+            }
 
       -- They are as many:
-      module _ (all : length nodes ≡ size) where
+      module _ (count : length nodes ≡ size) where
         low : (w : ℕ) → Occurs nodes w → w < length table
         unfolding Below
         low w o = subst (λ (x : ℕ). x < length table) (o .2) (rw (source-long s) (list .below (o .0) (o .1)))
@@ -176,7 +187,7 @@ module _ {pattern board : Circuit} {t : Tables} {table : List ℕ} {r : ℕ} (s 
         member v m q =
             let full = l .component .lists .complete in
             let size = l .component .spread .size in
-            all-within nodes (l .nodes) (list .distinct) (λ w o. full w (rw size (low w o)) (only w o)) (omega (arith, all, l .component .count)) v (full v (rw size m) q)
+            all-within nodes (l .nodes) (list .distinct) (λ w o. full w (rw size (low w o)) (only w o)) (omega (arith, count, l .component .count)) v (full v (rw size m) q)
 
         -- the ball holds it,
         pub gathered-held : (comp : List ℕ) → Spread (length table) c (matched t table) comp → (v : ℕ) → v < n → Reached comp v → T (inside (ballOf board c r) v)
