@@ -1,15 +1,12 @@
--- `cases::reads::step` is safe, and goes on. Assumes nothing.
+-- `cases::reads::case_at` is safe, and goes on. Assumes nothing.
 use native.Mathlib.Omega.{arith}
 use lib.ListN.{length-take}
 use borrow.Author.Needs.{needs}
-use Rattle.cases.proofs.reads.step.Statement.{statement}
-use Rattle.cases.proofs.reads.step.Tie as tie
+use Rattle.cases.proofs.reads.case_at.Statement.{statement}
+use Rattle.cases.proofs.reads.case_at.Tie as tie
 
-shared-slice-read-role-of : tie.Need-shared-slice-read-role-of
-shared-slice-read-role-of c = omega arith
-
-role-of-requires : tie.Need-role-of-requires
-role-of-requires c κs = tt
+head-at-requires : tie.Need-head-at-requires
+head-at-requires c κs = omega arith
 
 add-number : tie.Need-add-number
 add-number c = omega arith
@@ -20,38 +17,11 @@ number-requires c κs = omega arith
 least-requires : tie.Need-least-requires
 least-requires c κs = tt
 
-add-number-2 : tie.Need-add-number-2
-add-number-2 c = omega arith
-
-number-requires-2 : tie.Need-number-requires-2
-number-requires-2 c κs = omega arith
-
-least-requires-2 : tie.Need-least-requires-2
-least-requires-2 c κs = tt
-
-add-number-3 : tie.Need-add-number-3
-add-number-3 c = omega arith
-
-number-requires-3 : tie.Need-number-requires-3
-number-requires-3 c κs = omega arith
-
-least-requires-3 : tie.Need-least-requires-3
-least-requires-3 c κs = tt
-
 add-from : tie.Need-add-from
 add-from c = omega arith
 
-add-number-4 : tie.Need-add-number-4
-add-number-4 c = omega arith
-
-number-requires-4 : tie.Need-number-requires-4
-number-requires-4 c κs = omega arith
-
 sub-least : tie.Need-sub-least
 sub-least c = omega arith
-
-least-requires-4 : tie.Need-least-requires-4
-least-requires-4 c κs = tt
 
 add-to : tie.Need-add-to
 add-to c = omega arith
@@ -98,26 +68,16 @@ same-length-3 c = search needs
 returns : tie.Need-returns
 returns c = omega arith
 
-pub step-spec : {M : Type 1} → statement M
-step-spec =
+pub case-at-spec : {M : Type 1} → statement M
+case-at-spec =
     tie.close
     (tie.spec
-    shared-slice-read-role-of
-    role-of-requires
+    head-at-requires
+    add-from
     add-number
     number-requires
-    least-requires
-    add-number-2
-    number-requires-2
-    least-requires-2
-    add-number-3
-    number-requires-3
-    least-requires-3
-    add-from
-    add-number-4
-    number-requires-4
     sub-least
-    least-requires-4
+    least-requires
     add-to
     sub-run-case
     part-run-case-start

@@ -1,9 +1,9 @@
--- `cases::distances::query` is safe. Assumes nothing.
+-- `cases::distances::look_up` is safe. Assumes nothing.
 use native.Mathlib.Omega.{arith}
 use lib.ListN.{length-take}
 use borrow.Author.Needs.{needs}
-use Rattle.cases.proofs.distances.query.Statement.{statement}
-use Rattle.cases.proofs.distances.query.Tie as tie
+use Rattle.cases.proofs.distances.look_up.Statement.{statement}
+use Rattle.cases.proofs.distances.look_up.Tie as tie
 
 number-requires : tie.Need-number-requires
 number-requires c κs = search needs
@@ -38,9 +38,6 @@ number-requires-4 c κs = search needs
 least-requires : tie.Need-least-requires
 least-requires c κs = search needs
 
-refill-requires : tie.Need-refill-requires
-refill-requires c κs = search needs
-
 slice-relend-prefix-ball : tie.Need-slice-relend-prefix-ball
 slice-relend-prefix-ball c = search needs
 
@@ -68,8 +65,8 @@ same-length c = search needs
 returns : tie.Need-returns
 returns c = search needs
 
-pub query-spec : {M : Type 1} → statement M
-query-spec =
+pub look-up-spec : {M : Type 1} → statement M
+look-up-spec =
     tie.close
     (tie.spec
     number-requires
@@ -83,7 +80,6 @@ query-spec =
     add-number-3
     number-requires-4
     least-requires
-    refill-requires
     slice-relend-prefix-ball
     slice-aggregate-ball
     ball-requires
