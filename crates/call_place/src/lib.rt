@@ -11,6 +11,7 @@ use file_format::Role;
 use graph_neighbours::tables::LINKS;
 use graph_neighbours::tables::OFFSETS;
 use place::Around;
+use place::Asked;
 use place::PlaceAnswer;
 use place_circuits::place_circuits;
 use table::Counts;
@@ -57,12 +58,6 @@ fn turned_away(x: Refusal) -> PlaceAnswer
             rounds: 0,
         },
     )
-}
-
-// What is asked for: a centre, which may be none of the board's nodes, and a radius.
-struct Asked {
-    pub centre: usize,
-    pub radius: u16,
 }
 
 // How many entries each of the four lent tables has.

@@ -41,17 +41,17 @@ fn run_all(calls: Calls, b: &[u8]) {
 }
 
 // All cases of a file.
-fn run(calls: Calls, name: &[u8], buf: &mut [u8]) {
+fn run_file(calls: Calls, name: &[u8], buf: &mut [u8]) {
     let n = load(name, buf);
     run_all(calls, &buf[..n]);
 }
 
 fn run_files(buf: &mut [u8]) {
-    run(Calls::Reads, b"reads", buf);
-    run(Calls::Writes, b"writes", buf);
-    run(Calls::Distances, b"distances", buf);
-    run(Calls::Tables, b"tables", buf);
-    run(Calls::Bounds, b"bounds", buf);
+    run_file(Calls::Reads, b"reads", buf);
+    run_file(Calls::Writes, b"writes", buf);
+    run_file(Calls::Distances, b"distances", buf);
+    run_file(Calls::Tables, b"tables", buf);
+    run_file(Calls::Bounds, b"bounds", buf);
 }
 
 // The buffer is lent whole, so that its bytes are not looked at one by one in the proof.

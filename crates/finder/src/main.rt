@@ -168,7 +168,7 @@ fn print_report(pattern: &[u8], board: &[u8], out: &mut [u8]) -> Printed
 
 // Each file is read into a buffer of a byte more than the longest that is accepted. The buffers are lent whole, so that their bytes are not
 // looked at one by one in the proof.
-fn run(pattern: &mut [u8], board: &mut [u8], out: &mut [u8])
+fn report_files(pattern: &mut [u8], board: &mut [u8], out: &mut [u8])
     requires { ⌜ (length (now pattern) ≡ most role.Pattern) × (length (now board) ≡ most role.Board) ⌝ }
     requires { ⌜ longestLine ≤ length (now out) ⌝ }
 {
@@ -195,5 +195,5 @@ fn main() {
     let mut pattern = [0u8; PATTERN_BYTES];
     let mut board = [0u8; BOARD_BYTES];
     let mut out = [0u8; PIECE_BYTES];
-    run(&mut pattern, &mut board, &mut out);
+    report_files(&mut pattern, &mut board, &mut out);
 }

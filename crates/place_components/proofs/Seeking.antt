@@ -13,7 +13,8 @@ use lib.Seq.{length-take-le, getD-take, take-length}
 use Rattle.base_lists.specs.List.{Below}
 use Rattle.graph.specs.Bfs.{State, scan, level, levels, start, bfs}
 use Rattle.graph.proofs.BfsSteps.{level-next, level-end, levels-next, levels-none, levels-end, extends-scan, extends-level, extends-length, extends-take}
-use Rattle.place_components.specs.Components.{having, Until}
+use Rattle.place_components.specs.Components.{having, Until, Counted}
+use Rattle.place_components.specs.declared.Tally.{Tally}
 
 pub record Seeking (adj : ℕ → List ℕ) (n c r i hi d : ℕ) (s : State) : Type 0 where
   pub onward : (m : ℕ) → d < m → levels adj (m - (d + 1)) (d + 1) hi (level adj (d + 1) s (drop i (take hi (s .reached)))) ≡ bfs adj n c m
@@ -120,3 +121,22 @@ module _ {adj : ℕ → List ℕ} {n c r i hi d : ℕ} {s : State} (k : Seeking 
             stop = λ f. absurd (f (e l));
           }
       go false q = all-until p size below (k .last (omega (arith, ltb-false d r q, k .within)))
+
+-- ---- counting on
+
+-- the tally is of the nodes reached before, or of all of them, and then of all where it comes to as many as wanted
+pub counted-on :
+    {p : ℕ → Bool} {size : ℕ} {last t : Tally} (next : ℕ) (queue : List ℕ) → next ≤ length queue → Counted p size last (take next queue) t → last .seen ≤ next →
+    last .count ≡ length (having p (take (last .seen) queue)) → (last .count ≡ size → ⊥) →
+    (t .seen ≤ next) × (t .count ≡ length (having p (take (t .seen) queue))) × (t .count ≡ size → t .seen ≡ next)
+counted-on {p} {size} {last} {t} next queue h k seen count f = go (ltb (length (take next queue)) size) refl
+  where
+    long : length (take next queue) ≡ next
+    long = length-take-le next queue h
+
+    go : (b : Bool) → ltb (length (take next queue)) size ≡ b → (t .seen ≤ next) × (t .count ≡ length (having p (take (t .seen) queue))) × (t .count ≡ size → t .seen ≡ next)
+    go true q = rw (k .short (ltb-true _ _ q)) (seen, count, λ e. absurd (f e))
+    go false q =
+        let (all, c) = k .long (ltb-false _ _ q) in
+        let same = all ∙ long in
+        (omega (arith, same), c ∙ ap (λ (j : ℕ). length (having p (take j queue))) (sym same), λ _. same)

@@ -12,6 +12,7 @@ use Rattle.graph.specs.Circuit.{Circuit}
 use Rattle.table.specs.Prepared.{Tables}
 use Rattle.place.specs.Find.{Tabled}
 use Rattle.place.specs.Spread.{Reached, ClosedSet, Spread, Lists}
+use Rattle.place_components.specs.declared.Tally.{Tally}
 
 -- those of a list's nodes that pass a test
 unfoldable pub having : (ℕ → Bool) → List ℕ → List ℕ
@@ -92,6 +93,11 @@ pub record Until (adj : ℕ → List ℕ) (n c r : ℕ) (p : ℕ → Bool) (size
   pub below : Below n nodes
   pub reached : nodes ++ rest ≡ bfs adj n c depth .reached
   pub stop : (length (having p nodes) ≡ size → ⊥) → (depth ≡ r) × (rest ≡ [])
+
+-- Counting on: either nothing was counted, where the nodes are fewer than wanted, or all of them were.
+pub record Counted (p : ℕ → Bool) (size : ℕ) (last : Tally) (nodes : List ℕ) (t : Tally) : Type 0 where
+  pub short : length nodes < size → t ≡ last
+  pub long : size ≤ length nodes → (t .seen ≡ length nodes) × (t .count ≡ length (having p nodes))
 
 -- Those of them that pass the test.
 pub record Gathered (adj : ℕ → List ℕ) (n c r : ℕ) (p : ℕ → Bool) (size : ℕ) (nodes : List ℕ) : Type 0 where

@@ -18,7 +18,7 @@ ghost use Rattle.graph.specs.Search.{far};
 ghost use Rattle.table.specs.Fill.{fillAt};
 ghost use Rattle.table.specs.Prepared.{tables, Ready};
 ghost use Rattle.place.specs.Spread.{matched};
-ghost use Rattle.place_components.specs.Components.{having, MatchTable, Labelling, Components, Covered, sameLabel, Until, Gathered};
+ghost use Rattle.place_components.specs.Components.{having, MatchTable, Labelling, Components, Covered, sameLabel, Until, Gathered, Counted};
 
 // Sets the entry of each node of a list to x.
 fn label(nodes: &[u16], x: u16, labels: &mut [u16])
@@ -197,6 +197,27 @@ fn count_from(labels: &[u16], x: u16, from: usize, count: usize, nodes: &[u16]) 
     found
 }
 
+// How many of the first `seen` nodes of a queue have some label.
+struct Tally {
+    seen: usize,
+    count: usize,
+}
+
+// Counts on, as soon as there are as many nodes as there would have to be with the label x.
+fn count_on(labels: &[u16], x: u16, size: usize, tally: Tally, nodes: &[u16]) -> Tally
+    requires { ⌜ (tally .seen ≤ length (now nodes)) × (length (now nodes) ≤ 65536) × Below (length (now labels)) (now nodes) ⌝ }
+    requires { ⌜ tally .count ≡ length (having (λ v. eqb (getD (now labels) v 0) x) (take (tally .seen) (now nodes))) ⌝ }
+    ensures { λ t. ⌜ Counted (λ v. eqb (getD (now (labels .entry)) v 0) x) size tally (now (nodes .entry)) t ⌝ }
+{
+    if nodes.len() < size {
+        return tally;
+    }
+    Tally {
+        seen: nodes.len(),
+        count: count_from(labels, x, tally.seen, tally.count, nodes),
+    }
+}
+
 // Searches the board's links from c as far as r links, and stops as soon as `size` nodes that have c's label are reached. Returns how many nodes are
 // reached; they stand first in the queue. `hi` of them are at most d links away, and i have been looked from.
 fn search_until(
@@ -220,9 +241,9 @@ fn search_until(
     let mut i = 0;
     let mut hi = 1;
     let mut tail = 1;
-    let mut count = 1;
+    let mut tally = Tally { seen: 1, count: 1 };
     let mut d: u16 = 0;
-    while goes_on(count, size, d, r) {
+    while goes_on(tally.count, size, d, r) {
         if i == tail {
             return tail;
         }
@@ -232,7 +253,7 @@ fn search_until(
         } else {
             let v = queue[i] as usize;
             let next = graph_search::expand(offsets, links, v, d + 1, dist, queue, tail);
-            count = count_from(labels, x, tail, count, &queue[..next]);
+            tally = count_on(labels, x, size, tally, &queue[..next]);
             tail = next;
             i += 1;
         }

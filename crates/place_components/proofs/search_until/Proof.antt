@@ -12,25 +12,27 @@ use denote.Ref.{now}
 use lib.Dec.{eqb, ltb, ltb→lt}
 use lib.ListN.{length, getD, take}
 use lib.Seq.{length-take-le, take-take, getD-take}
-use Rattle.base_lists.proofs.Tests.{both-right, true-T, false-T}
+use Rattle.base_lists.proofs.Tests.{both-left, both-right, true-T, false-T}
 use Rattle.graph.specs.Bfs.{State, start, adjacent, stateOf, Searching}
 use Rattle.graph.proofs.BfsSteps.{extends-scan, tables-extend, tail-le, reached-length, queue-node}
 use Rattle.graph.proofs.Net.{net-few}
 use Rattle.place_components.specs.Components.{having, sameLabel}
-use Rattle.place_components.proofs.Seeking.{Seeking, all-until, seeking-start, seeking-next, seeking-level, seeking-none, seeking-until}
+use Rattle.place_components.proofs.Seeking.{Seeking, counted-on, all-until, seeking-start, seeking-next, seeking-level, seeking-none, seeking-until}
 use Rattle.place_components.proofs.search_until.Statement.{statement}
 use Rattle.place_components.proofs.search_until.Tie as tie
 
 abbrev Inv-loop : tie.InvT-loop
-Inv-loop offsets links labels size c r dist₀ queue₀ at x i₀ hi₀ tail₀ count₀ d₀ dist queue i hi tail count d =
+Inv-loop offsets links labels size c r dist₀ queue₀ at x i₀ hi₀ tail₀ tally₀ d₀ dist queue i hi tail tally d =
     Seeking (adjacent offsets links) (length labels) c r i hi d (stateOf dist queue tail)
     × (length dist ≡ length labels)
     × (length queue ≡ length labels)
     × Searching dist queue tail
-    × (count ≡ length (having (sameLabel labels c) (take tail queue)))
+    × (tally .seen ≤ tail)
+    × (tally .count ≡ length (having (sameLabel labels c) (take (tally .seen) queue)))
+    × (tally .count ≡ size → tally .seen ≡ tail)
 
 abbrev μ-loop : tie.MeasureT-loop
-μ-loop offsets links labels size c r dist₀ queue₀ at x i₀ hi₀ tail₀ count₀ d₀ dist queue i hi tail count d = (r - d) + (length labels - i)
+μ-loop offsets links labels size c r dist₀ queue₀ at x i₀ hi₀ tail₀ tally₀ d₀ dist queue i hi tail tally d = (r - d) + (length labels - i)
 
 begin-requires : tie.Need-begin-requires Inv-loop μ-loop
 begin-requires c κs = search needs
@@ -57,7 +59,9 @@ loop-holds c =
       first .kept .1 .0 ∙ sym long,
       first .kept .1 .1 .0 ∙ sym (s .pre .1 .1 .0) ∙ sym long,
       first .ensures .kept,
+      le-refl 1,
       one _ _ (now (s .args .labels)) _ _ e,
+      λ _. refl,
     )
 
 goes-on-requires : tie.Need-goes-on-requires Inv-loop μ-loop
@@ -79,7 +83,15 @@ more : (c : tie.Then1 Inv-loop μ-loop) → turn c .loop .d < begun (turn c) .ar
 more c =
     let l = turn c .loop in
     let a = begun (turn c) .args in
-    ltb→lt (l .d) (a .r) (both-right (not (eqb (l .count) (a .size))) (ltb (l .d) (a .r)) (true-T (sym (c .before .goes-on .ensures) ∙ c .if1 .taken)))
+    ltb→lt (l .d) (a .r) (both-right (not (eqb (l .tally .count) (a .size))) (ltb (l .d) (a .r)) (true-T (sym (c .before .goes-on .ensures) ∙ c .if1 .taken)))
+
+-- there are not as many as wanted yet
+wanted : (c : tie.Then1 Inv-loop μ-loop) → turn c .loop .tally .count ≡ begun (turn c) .args .size → ⊥
+wanted c e =
+    let l = turn c .loop in
+    let a = begun (turn c) .args in
+    let t = both-left (not (eqb (l .tally .count) (a .size))) (ltb (l .d) (a .r)) (true-T (sym (c .before .goes-on .ensures) ∙ c .if1 .taken)) in
+    rw (eq-eqb (l .tally .count) (a .size) e) at t
 
 -- all that is reached has been looked from: no farther is anything found
 
@@ -139,6 +151,8 @@ loop-again c =
       l .inv .2,
       l .inv .3,
       l .inv .4,
+      l .inv .5,
+      l .inv .6,
     )
 
 -- one of them has not
@@ -169,21 +183,30 @@ abbrev there : tie.After-expand Inv-loop μ-loop → tie.Else3 Inv-loop μ-loop
 there c = c .before .before .before .before
 
 -- what was reached stands where it stood
-longer : (c : tie.After-expand Inv-loop μ-loop) → let l = onward (there c .before) .loop in
-    (l .tail ≤ c .expand .result) × (take (l .tail) (c .expand .last .1 .1 .1 .1 .1 .0) ≡ take (l .tail) (l .queue))
-longer c =
+longer : (c : tie.After-expand Inv-loop μ-loop) (k : ℕ) → let l = onward (there c .before) .loop in
+    k ≤ l .tail → (k ≤ c .expand .result) × (take k (c .expand .last .1 .1 .1 .1 .1 .0) ≡ take k (l .queue))
+longer c k h =
     let l = onward (there c .before) .loop in
-    tables-extend (l .tail) _ _ _ _ _ _ _ (l .inv .3) (c .expand .ensures) (extends-scan _ (stateOf (l .dist) (l .queue) (l .tail)) _) (le-refl _)
+    tables-extend k _ _ _ _ _ _ _ (l .inv .3) (c .expand .ensures) (extends-scan _ (stateOf (l .dist) (l .queue) (l .tail)) _) h
 
-slice-reshare-prefix-count-from : tie.Need-slice-reshare-prefix-count-from Inv-loop μ-loop
-slice-reshare-prefix-count-from c = c .before .before .before .before .expand .ensures .kept .within
+slice-reshare-prefix-count-on : tie.Need-slice-reshare-prefix-count-on Inv-loop μ-loop
+slice-reshare-prefix-count-on c = c .before .before .before .before .expand .ensures .kept .within
 
-slice-aggregate-count-from : tie.Need-slice-aggregate-count-from Inv-loop μ-loop
-slice-aggregate-count-from c = sym (length-take-le _ _ (c .before .before .before .before .before .expand .ensures .kept .within))
+slice-aggregate-count-on : tie.Need-slice-aggregate-count-on Inv-loop μ-loop
+slice-aggregate-count-on c = sym (length-take-le _ _ (c .before .before .before .before .before .expand .ensures .kept .within))
 
-count-from-requires : tie.Need-count-from-requires Inv-loop μ-loop
+-- so many of those that were counted have the label
+counted : (c : tie.After-expand Inv-loop μ-loop) → let at = onward (there c .before) in let a = begun at .args in
+    at .loop .tally .count ≡ length (having (sameLabel (now (a .labels)) (a .c)) (take (at .loop .tally .seen) (c .expand .last .1 .1 .1 .1 .1 .0)))
+counted c =
+    let at = onward (there c .before) in
+    let l = at .loop in
+    let a = begun at .args in
+    l .inv .5 ∙ ap (λ ns. length (having (sameLabel (now (a .labels)) (a .c)) ns)) (sym (longer c (l .tally .seen) (l .inv .4) .1))
+
+count-on-requires : tie.Need-count-on-requires Inv-loop μ-loop
 unfolding stateOf
-count-from-requires c κs =
+count-on-requires c κs =
     let done = c .before .before .before .before .before in
     let at = onward (there done .before) in
     let l = at .loop in
@@ -192,13 +215,13 @@ count-from-requires c κs =
     let p = begun at .pre in
     let queue = call .last .1 .1 .1 .1 .1 .0 in
     let size = length-take-le (call .result) queue (call .ensures .kept .within) in
-    let (grows, same) = longer done in
+    let grows = longer done (l .tally .seen) (l .inv .4) .0 in
     let e = call .kept .1 .1 .1 .1 .0 ∙ l .inv .1 in (
       (omega (arith, size, grows), omega (arith, size, tail-le _ _ _ (call .ensures .kept), e, p .1 .1 .1, net-few (p .0)), rw e at (call .ensures .kept .ready .inside)),
-      l .inv .4 ∙ ap (λ ns. length (having (sameLabel (now (a .labels)) (a .c)) ns)) (sym (take-take (l .tail) (call .result) queue grows ∙ same)),
+      counted done ∙ ap (λ ns. length (having (sameLabel (now (a .labels)) (a .c)) ns)) (sym (take-take (l .tally .seen) (call .result) queue grows)),
     )
 
-abbrev after : tie.After-count-from Inv-loop μ-loop → tie.After-expand Inv-loop μ-loop
+abbrev after : tie.After-count-on Inv-loop μ-loop → tie.After-expand Inv-loop μ-loop
 after c = c .before .before .before .before .before .before
 
 add-i : tie.Need-add-i Inv-loop μ-loop
@@ -215,12 +238,16 @@ loop-again-2 c =
     let at = onward (here .before) in
     let l = at .loop in
     let call = done .expand in
+    let seen = longer done (l .tally .seen) (l .inv .4) .0 in
+    let t = counted-on (call .result) (call .last .1 .1 .1 .1 .1 .0) (call .ensures .kept .within) (c .count-on .ensures) seen (counted done) (wanted (here .before .before)) in
     let entry = sym (getD-take (l .tail) (l .queue) (l .i) 0 (omega (arith, near (here .before)))) in (
       subst (Seeking _ _ _ _ (l .i + 1) (l .hi) (l .d)) (sym (call .ensures .state)) (seeking-next (l .inv .0) _ (next here) (more (here .before .before)) entry),
       call .kept .1 .1 .1 .1 .0 ∙ l .inv .1,
       call .kept .1 .1 .1 .1 .1 .0 ∙ l .inv .2,
       call .ensures .kept,
-      c .count-from .ensures,
+      t .0,
+      t .1,
+      t .2,
     )
 
 -- ---- the end
@@ -246,7 +273,9 @@ returns-2 c =
       k .within,
       rw (begun at .pre .1 .1 .1) at
           (seeking-until (l .inv .0) (sameLabel (now (a .labels)) (a .c)) (a .size) (rw (l .inv .1) at (k .ready .inside))
-          (λ h. sym (l .inv .4) ∙ eqb-true (l .count) (a .size) (stopped _ (l .d) (a .r) (sym (c .before .goes-on .ensures) ∙ c .if1 .left) h))),
+          (λ h.
+          let q = eqb-true (l .tally .count) (a .size) (stopped _ (l .d) (a .r) (sym (c .before .goes-on .ensures) ∙ c .if1 .left) h) in
+          ap (λ (k : ℕ). length (having (sameLabel (now (a .labels)) (a .c)) (take k (l .queue)))) (sym (l .inv .6 q)) ∙ sym (l .inv .5) ∙ q)),
     )
 
 pub search-until-spec : {M : Type 1} → statement M
@@ -271,9 +300,9 @@ search-until-spec =
     cast-v
     add-expand
     expand-requires
-    slice-reshare-prefix-count-from
-    slice-aggregate-count-from
-    count-from-requires
+    slice-reshare-prefix-count-on
+    slice-aggregate-count-on
+    count-on-requires
     add-i
     loop-less-2
     loop-again-2

@@ -1,12 +1,12 @@
--- `shelf::run` meets its contract. Assumes nothing.
+-- `shelf::shelve` meets its contract. Assumes nothing.
 use mathlib.Core.Path.{_≡_, sym, _∙_}
 use native.Mathlib.Omega.{arith}
 use lib.ListN.{length}
 use Rattle.call_shelf.specs.Shelf.{mostFiles}
 use Rattle.shelf.proofs.Reading.{unreadable-under}
 use borrow.Author.Needs.{needs}
-use Rattle.shelf.proofs.run.Statement.{statement}
-use Rattle.shelf.proofs.run.Tie as tie
+use Rattle.shelf.proofs.shelve.Statement.{statement}
+use Rattle.shelf.proofs.shelve.Tie as tie
 
 -- there are 16 notes
 sixteen : (c : tie.After-read-all) → length (c .read-all .last .1 .0) ≡ mostFiles
@@ -60,8 +60,8 @@ same-length-6 c = search needs
 returns-2 : tie.Need-returns-2
 returns-2 c = search needs
 
-pub run-spec : {M : Type 1} → statement M
-run-spec =
+pub shelve-spec : {M : Type 1} → statement M
+shelve-spec =
     tie.close
     (tie.spec
     read-all-requires
