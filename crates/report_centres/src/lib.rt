@@ -121,18 +121,6 @@ fn holds(
     }
 }
 
-// All sets of a table.
-fn copy_sets(from: &[u32], sets: &mut [u32])
-    requires { ⌜ length (now sets) ≡ length (now from) ⌝ }
-    ensures { λ _. ⌜ now (sets .exit) ≡ now (from .entry) ⌝ }
-{
-    let mut i = 0;
-    while i < from.len() {
-        sets[i] = from[i];
-        i += 1;
-    }
-}
-
 // Whether there is a place around a centre, of whose ball it is known how much of the centre's component it has. Where it has all, the place is the component with
 // its matching links; else striking goes on in ball and component alone, from the whole board's sets: what lies outside the component supports nothing inside
 // it. Where there is a place, `dist` is left with `UNREACHED` outside it, and `sets` with its sets. `queue` is scratch.
@@ -156,7 +144,7 @@ fn locate(
     let kept = ball.kept;
     if ball.all {
         mark(&queue[..kept], dist);
-        copy_sets(whole, sets);
+        base_bits::copy(whole, sets);
         return true;
     }
     let mut other = [0u32; Board::MAX_NODES];

@@ -1,11 +1,12 @@
 -- `report_centres::locate` meets its contract: the place is the component where the ball holds it; else the whole board's sets at those of its nodes that the
 -- ball has are a table to begin with. Assumes nothing.
 use denote.Ref.{now}
-use mathlib.Core.Path.{_≡_, refl, sym, _∙_}
-use Prim.Native.Nat.{_≤_}
+use mathlib.Core.List.{List, _++_, append-nil}
+use mathlib.Core.Path.{_≡_, refl, sym, ap, _∙_}
+use Prim.Native.Nat.{ℕ, _≤_}
 use native.Mathlib.Omega.{arith}
 use borrow.Author.Needs.{needs}
-use lib.ListN.{length, take}
+use lib.ListN.{length, take, drop, drop-of-length-le}
 use lib.Seq.{length-take-le}
 use Rattle.graph.specs.Circuit.{Circuit}
 use Rattle.table.specs.Fill.{NodeList}
@@ -40,8 +41,14 @@ mark-requires c κs =
     let e = entire here in
     rw (begun here .pre .1 .1 .1 .0 ∙ sym (e .spread .size)) (e .lists .list .below)
 
-copy-sets-requires : tie.Need-copy-sets-requires
-copy-sets-requires c κs = search needs
+copy-requires : tie.Need-copy-requires
+copy-requires c κs = omega (arith, begun (c .before .before .before .before .before .before) .pre .1 .1 .1 .2)
+
+-- a table that is as long as the sets is the sets, once they are copied
+whole : (xs ys : List ℕ) → length ys ≡ length xs → xs ++ drop (length xs) ys ≡ xs
+whole xs ys l =
+    let none : length ys ≤ length xs = omega (arith, l) in
+    ap (λ (ns : List ℕ). xs ++ ns) (drop-of-length-le ys none) ∙ append-nil xs
 
 same-length : tie.Need-same-length
 same-length c = search needs
@@ -56,7 +63,7 @@ returns c =
     let low = p .1 .0 .0 in
     let f = p .1 .0 .1 in
     let e = entire here in
-    let sets = c .before .before .copy-sets .ensures in
+    let sets = c .before .before .copy .ensures ∙ whole _ _ (p .1 .1 .1 .2) in
     let marks = rw (p .1 .1 .1 .0) at (c .before .before .before .before .before .before .mark .ensures) in
     let (spread, lists) = rw (sym marks) at (marked-spread low (match-adjacency (source-match (p .0 .source)) .inside) (e .spread) (e .lists)) in
     λ pattern board s.
@@ -103,25 +110,25 @@ slice-aggregate-copy c = sym (length-take-le _ _ (short (c .before .before)))
 list : (c : tie.Else1) → let a = entry c .args in NodeList (length (now (a .whole))) (take (a .ball .kept) (now (a .queue)))
 list c = let p = entry c .pre in rw (source-long (p .0 .source)) (p .1 .1 .0 .cut (c .if1 .left) _ _ (p .0 .source) .list)
 
-copy-requires : tie.Need-copy-requires
-copy-requires c κs =
+copy-requires-2 : tie.Need-copy-requires-2
+copy-requires-2 c κs =
     let here = c .before .before .before in
     (rw (entry here .pre .1 .1 .1 .2) (list here), list here .below)
 
 -- ---- a first table is written
 
-abbrev there : tie.After-copy → tie.Else1
+abbrev there : tie.After-copy2 → tie.Else1
 there c = c .before .before .before .before
 
 -- it is one to begin with, of every pattern and board
-sought : (c : tie.After-copy) → let a = entry (there c) .args in
+sought : (c : tie.After-copy2) → let a = entry (there c) .args in
     (pattern board : Circuit) → Source pattern board (tables (now (a .masks)) (now (a .offsets)) (now (a .links))) (now (a .whole)) (a .around .radius)
     → Sought pattern board (tables (now (a .masks)) (now (a .offsets)) (now (a .links))) (a .around .centre) (a .around .radius)
-    (take (a .ball .kept) (now (a .queue))) (c .copy .last .1 .1 .0)
+    (take (a .ball .kept) (now (a .queue))) (c .copy2 .last .1 .1 .0)
 sought c pattern board s =
     let here = there c in
     let p = entry here .pre in
-    cut-sought s (p .1 .1 .0 .cut (here .if1 .left) pattern board s) (p .1 .0 .0) (p .1 .1 .1 .2) (c .copy .ensures)
+    cut-sought s (p .1 .1 .0 .cut (here .if1 .left) pattern board s) (p .1 .0 .0) (p .1 .1 .1 .2) (c .copy2 .ensures)
 
 find-requires : tie.Need-find-requires
 find-requires c κs =
@@ -129,10 +136,10 @@ find-requires c κs =
     let here = there copied in
     let p = entry here .pre in
     let (d, q, s) = p .1 .1 .1 in
-    let long = copied .copy .kept .1 .1 .0 ∙ s in (
+    let long = copied .copy2 .kept .1 .1 .0 ∙ s in (
       (short here, record { pattern = _; board = _; radius = _; sought = sought copied _ _ (p .0 .source) }),
       (
-        copied .copy .ensures .size,
+        copied .copy2 .ensures .size,
         (d ∙ sym long, q ∙ sym long, length-take-le _ _ (few here) ∙ sym long),
       ),
     )
@@ -153,7 +160,7 @@ locate-spec =
     slice-reshare-prefix-mark
     slice-aggregate-mark
     mark-requires
-    copy-sets-requires
+    copy-requires
     same-length
     same-length-2
     same-length-3
@@ -162,7 +169,7 @@ locate-spec =
     slice-aggregate-spare
     slice-reshare-prefix-copy
     slice-aggregate-copy
-    copy-requires
+    copy-requires-2
     find-requires
     same-length-4
     same-length-5
