@@ -116,7 +116,7 @@ roomy c =
 known-requires : tie.Need-known-requires
 known-requires c κs =
     let here = c .before .before .before .before .before in
-    (omega (arith, named (there here)), begun here .pre .1 .1 .1 .1 .1 .long)
+    (omega (arith, named (there here), begun here .pre .1 .1 .0), begun here .pre .1 .1 .1 .1 .1 .long)
 
 -- ---- the text that is noted
 
@@ -218,7 +218,7 @@ note-requires : tie.Need-note-requires
 note-requires c κs =
     let here = c .before .before .before in
     let known = looked (here .before) in
-    (omega (arith, named (there known)), begun known .pre .1 .1 .1 .1 .1 .long, omega (arith, c .before .before .head-bytes .ensures, fresh here .order))
+    (omega (arith, named (there known), begun known .pre .1 .1 .0), begun known .pre .1 .1 .1 .1 .1 .long, omega (arith, c .before .before .head-bytes .ensures, fresh here .order))
 
 same-length-3 : tie.Need-same-length-3
 same-length-3 c = search needs
