@@ -1,6 +1,6 @@
 /* The report in plain C, tuned, for the comparison of cost: `native_report [FOLDER]` reads pattern.cir and board.cir once, makes the whole
- * board's match table, the components of its match graph and the text of each once, passes over the centres and pairs that are not in it, stops a
- * search where it has the centre's component, strikes in ball and component alone, and prints through a large buffer. It is no part of the product. */
+ * board's match table, the components of its match graph and the text of each once, passes over the centres and pairs that are not in it, searches small
+ * components along their matching links, stops a search where it has the centre's component, strikes in ball and component alone, and prints through a large buffer. It is no part of the product. */
 #include <errno.h>
 #include <stdio.h>
 #include <stdlib.h>

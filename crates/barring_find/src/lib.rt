@@ -12,7 +12,7 @@ use graph_neighbours::tables::OFFSETS;
 use graph_neighbours::tables::neighbour_tables;
 use graph_search::search;
 use place::Around;
-use table::first::start;
+use table_first::start;
 ghost use mathlib.Core.Path.{_≡_};
 ghost use Prim.Native.Nat.{_≤_, _<_};
 ghost use lib.ListN.{length};

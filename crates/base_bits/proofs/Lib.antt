@@ -4,3 +4,4 @@ pub mod Tests
 pub mod Counts
 pub mod Members
 pub mod Unions
+pub mod Passing

@@ -114,6 +114,10 @@ module _ (x : ℕ) (p : zero < x) (h : x < 2 ^ 32) where
   pub first-bit : T (bit x (firstOf x))
   first-bit = rw (← first-trailing) (trailing-bit 32 x p h)
 
+  -- it is below n, where the set has only parts below n
+  pub first-below : (n : ℕ) → x < 2 ^ n → firstOf x < n
+  first-below n l = bit-below n x (firstOf x) l first-bit
+
   pub without-and : bitAnd x (x - 1) ≡ withoutFirst x
   unfolding withoutFirst firstOf
   without-and = and-pred-number 32 x p h

@@ -1,8 +1,10 @@
 // Sets of pattern parts as 32-bit numbers: part u is in the set when bit u is 1.
+ghost use mathlib.Core.List.{_++_};
 ghost use mathlib.Core.Path.{_≡_};
-ghost use Prim.Native.Nat.{_^_, _<_};
-ghost use lib.ListN.{length, replicate};
-ghost use Rattle.base_bits.specs.Bits.{bit, subsetOf, intersects, firstOf, withoutFirst, sizeOf, unionOver};
+ghost use Prim.Native.Nat.{_^_, _≤_, _<_};
+ghost use lib.ListN.{length, drop, replicate};
+ghost use Rattle.base_lists.specs.List.{Below};
+ghost use Rattle.base_bits.specs.Bits.{bit, subsetOf, intersects, firstOf, withoutFirst, sizeOf, unionAt, unionOver};
 
 // Whether part u is in the set.
 pub fn has(set: u32, u: u32) -> bool
@@ -68,6 +70,33 @@ pub fn union_of(masks: &[u32], set: u32) -> u32
         left = left & (left - 1);
     }
     union
+}
+
+// The union of sets[w] over the numbers w of a list.
+pub fn union_at(sets: &[u32], numbers: &[u16]) -> u32
+    requires { ⌜ Below (length (now sets)) (now numbers) ⌝ }
+    ensures { λ r. ⌜ r ≡ unionAt (now (sets .entry)) (now (numbers .entry)) ⌝ }
+{
+    let mut union: u32 = 0;
+    let mut i = 0;
+    while i < numbers.len() {
+        let w = numbers[i] as usize;
+        union = union | sets[w];
+        i += 1;
+    }
+    union
+}
+
+// Copies the sets to the front of a table that has room for them.
+pub fn copy(sets: &[u32], table: &mut [u32])
+    requires { ⌜ length (now sets) ≤ length (now table) ⌝ }
+    ensures { λ _. ⌜ now (table .exit) ≡ now (sets .entry) ++ drop (length (now (sets .entry))) (now (table .entry)) ⌝ }
+{
+    let mut v = 0;
+    while v < sets.len() {
+        table[v] = sets[v];
+        v += 1;
+    }
 }
 
 // Makes every set empty.

@@ -1,29 +1,13 @@
 // Layers: which parts occur within a number of links from each node. Each is made from the one before, so that a link is looked at once for
 // each layer, whatever the number of paths.
+use base_bits::union_at;
 use graph_neighbours::neighbours::Direction;
 use graph_neighbours::neighbours::neighbours_in;
 ghost use mathlib.Core.Path.{_≡_};
 ghost use lib.ListN.{length};
-ghost use Rattle.base_bits.specs.Bits.{unionAt};
-ghost use Rattle.base_lists.specs.List.{Below};
 ghost use Rattle.graph.specs.Net.{Net};
 ghost use Rattle.graph_neighbours.specs.Lookup.{neighboursIn};
 ghost use Rattle.bounded_layer.specs.Pass.{nextLayer};
-
-// The union of the sets of a list of nodes.
-pub fn reach(part: &[u16], sets: &[u32]) -> u32
-    requires { ⌜ Below (length (now sets)) (now part) ⌝ }
-    ensures { λ r. ⌜ r ≡ unionAt (now (sets .entry)) (now (part .entry)) ⌝ }
-{
-    let mut union: u32 = 0;
-    let mut i = 0;
-    while i < part.len() {
-        let w = part[i] as usize;
-        union = union | sets[w];
-        i += 1;
-    }
-    union
-}
 
 // The layer after one: what each node has, and what its neighbours in the direction have in the layer.
 pub fn widen(
@@ -41,7 +25,7 @@ pub fn widen(
     let mut v = 0;
     while v < next.len() {
         let near = neighbours_in(direction, offsets, links, v);
-        next[v] = old[v] | reach(near, layer);
+        next[v] = old[v] | union_at(layer, near);
         v += 1;
     }
 }

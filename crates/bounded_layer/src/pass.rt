@@ -1,11 +1,11 @@
 // One pass, for one direction and one bound: a part stays at a node when each part that it has a link of this bound to occurs at the end of
 // some path from the node.
-use crate::layer::reach;
+use base_bits::union_at;
 use graph_neighbours::neighbours::Direction;
 use graph_neighbours::neighbours::neighbours_in;
 ghost use mathlib.Core.Path.{_≡_};
 ghost use Prim.Native.Nat.{_^_, _<_};
-ghost use lib.ListN.{length, getD};
+ghost use lib.ListN.{length};
 ghost use Rattle.base_bits.specs.Bits.{unionAt};
 ghost use Rattle.graph.specs.Net.{Net};
 ghost use Rattle.graph_neighbours.specs.Lookup.{neighboursIn};
@@ -44,7 +44,7 @@ fn pass_node(
     if set == 0 {
         return 0;
     }
-    let f = reach(neighbours_in(direction, offsets, links, v), layer);
+    let f = union_at(layer, neighbours_in(direction, offsets, links, v));
     covered(set, masks, f)
 }
 

@@ -1,6 +1,7 @@
 // One round: a pass for each direction and each bound in use, all of them from the table of the round before.
 use crate::BOUND_MASKS;
 use crate::WAY_MASKS;
+use base_bits::copy;
 use bounded_layer::layer::widen;
 use bounded_layer::pass::pass;
 use graph_neighbours::neighbours::Direction;
@@ -91,18 +92,6 @@ fn strike_way(
         layer,
         new,
     );
-}
-
-// The sets of one table in another.
-fn copy(from: &[u32], to: &mut [u32])
-    requires { ⌜ length (now to) ≡ length (now from) ⌝ }
-    ensures { λ _. ⌜ now (to .exit) ≡ now (from .entry) ⌝ }
-{
-    let mut v = 0;
-    while v < to.len() {
-        to[v] = from[v];
-        v += 1;
-    }
 }
 
 // How many pairs a table has.

@@ -1,4 +1,4 @@
-// Striking round after round until a round strikes nothing, as table::largest does without bounds.
+// Striking round after round until a round strikes nothing, as table_largest does without bounds.
 use bounded_strike::round::strike;
 use table::Rest;
 ghost use mathlib.Core.Path.{_≡_};

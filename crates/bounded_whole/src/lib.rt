@@ -9,11 +9,10 @@ use graph_neighbours::tables::OFFSETS;
 use graph_neighbours::tables::neighbour_tables;
 use table::Counts;
 use table::Ways;
-use table::first::start;
-use table::largest::counted;
+use table::counted;
 use table_answer::all_or_none;
+use table_first::start;
 use table_prepare::nodes::list_all;
-use table_whole::match_whole;
 ghost use mathlib.Core.Path.{_≡_};
 ghost use lib.ListN.{length};
 ghost use Rattle.file_format.specs.Circuit.{Bounded};
@@ -118,7 +117,7 @@ pub fn match_bounded(
     ensures { λ r. ⌜ BoundedAnswer (circuit (now («part_kinds» .entry)) (now («part_starts» .entry)) (now («part_ends» .entry))) (now (bounds .entry)) (circuit (now («node_kinds» .entry)) (now («node_starts» .entry)) (now («node_ends» .entry))) (now (table .exit)) r ⌝ }
 {
     if largest_bound(bounds) < 2 {
-        return match_whole(
+        let counts = table_whole::match_circuits(
             Ways::Both,
             part_kinds,
             part_starts,
@@ -128,6 +127,7 @@ pub fn match_bounded(
             node_ends,
             table,
         );
+        return all_or_none(part_kinds.len(), table, counts);
     }
     let counts = match_circuits(
         part_kinds,

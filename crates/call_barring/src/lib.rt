@@ -11,6 +11,7 @@ use file_format::Refusal;
 use file_format::Role;
 use file_pair::read_pair;
 use place::Around;
+use place::Asked;
 ghost use mathlib.Core.Path.{_≡_};
 ghost use Rattle.file_format.specs.Circuit.{Bounded};
 ghost use Rattle.file_format.specs.declared.Role.the-variants as role;
@@ -18,12 +19,6 @@ ghost use Rattle.file_format.specs.Layout.{inEdition};
 ghost use Rattle.graph.specs.Circuit.{Circuit, circuit};
 ghost use Rattle.barring.specs.Outcome.{barReply};
 ghost use Rattle.call_barring.specs.Call.{barOn, barCall};
-
-// What is asked for: a centre, which may be none of the board's nodes, and the pattern's radius.
-struct Asked {
-    pub centre: usize,
-    pub radius: u16,
-}
 
 // The call on two circuits that were read. Everything is tested before anything is written to the lent bytes.
 fn bar_on(

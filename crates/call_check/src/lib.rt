@@ -8,6 +8,7 @@ use file_format::Refusal;
 use file_format::Role;
 use file_pair::read_pair;
 use place::Around;
+use place::Asked;
 use proposal_check::check_circuits;
 ghost use mathlib.Core.Path.{_≡_};
 ghost use Rattle.file_format.specs.Circuit.{Drawn};
@@ -21,12 +22,6 @@ pub enum CheckAnswer {
     Yes,
     No,
     Refused(Refusal),
-}
-
-// What is asked for: a centre, which may be none of the board's nodes, and a radius.
-struct Asked {
-    pub centre: usize,
-    pub radius: u16,
 }
 
 // A refusal that means neither file.

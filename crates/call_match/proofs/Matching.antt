@@ -3,27 +3,32 @@ use mathlib.Core.List.{List, [], _∷_, _++_}
 use mathlib.Core.Path.{_≡_, sym, ap, ap₂, _∙_}
 use Prim.Native.Nat.{ℕ, _≤_, _<_}
 use borrow.Author.Tests.{lt-ltb, le-ltb}
-use lib.ListN.{length, drop}
+use lib.ListN.{length, take, drop}
 use Rattle.graph.specs.Circuit.{Circuit}
+use Rattle.file_format.specs.declared.Role.{Role}
 use Rattle.file_format.specs.declared.Role.the-variants.{AnyPattern}
 use Rattle.file_format.specs.declared.File.the-variants.{Neither}
 use Rattle.file_format.specs.declared.Refusal.{Refusal}
 use Rattle.file_format.specs.Circuit.{circuitOf}
 use Rattle.file_format.specs.Layout.{CircuitFile, nodesOf}
-use Rattle.file_format.specs.Reading.{filled, front}
+use Rattle.file_format.specs.Reading.{filled}
 use Rattle.file_format.specs.Refusals.{Verdict, accept, refuse, first, shortTable}
 use Rattle.file_format.proofs.Fields.{length-labels}
 use Rattle.file_format.proofs.Refusals.{first-accept, first-refuse}
-use Rattle.file_pair.specs.Pair.{pairConditions, BothRead}
+use Rattle.file_pair.specs.Pair.{pairConditions}
 use Rattle.file_pair.specs.declared.Pair.{Pair}
 use Rattle.call_match.specs.declared.TableAnswer.the-variants.{Matched, Refused}
 use Rattle.table.specs.declared.Counts.{Counts}
-use Rattle.call_match.specs.Call.{TableOutcome, matchConditions, replyOf, matchOn, matchingBy}
+use Rattle.call_match.specs.Call.{TableOutcome, matchConditions, replyOf, matchOn, EveryMatch, matchingBy}
 use Rattle.simulation.specs.Simulation.{Direction}
 use Rattle.table.specs.Host.{everything}
 use Rattle.table.specs.Answer.{answerBy, answerCountsBy, AnsweredOn}
+use Rattle.table.specs.Prepared.{Tables}
 use Rattle.table.specs.Reply.{Reply, replied}
 use Rattle.table.proofs.Answer.{answer-fits}
+use Rattle.table_whole.specs.Kinds.{SomeLinks}
+use Rattle.call_prepare.specs.Read.{BothPrepared}
+use Rattle.call_prepare.proofs.Ready.{ready-prepared}
 
 -- the table has an entry for each node
 pub length-answer : (ways : List Direction) (pattern board : CircuitFile)
@@ -84,6 +89,12 @@ module _ (ways : List Direction) (pattern board : CircuitFile) (table : List ℕ
   unfolding matchOn matchingBy
   matching-accepted e = rw (then-table e, length-labels board)
 
-  pub matching-read : {p : Pair} {parts nodes : Circuit} → BothRead AnyPattern pattern board p parts nodes → {o : TableOutcome}
-      → o ≡ matchOn ways (front (p .parts) (p .joins) parts) (front (p .nodes) (p .links) nodes) table → o ≡ matchingBy ways pattern board table
-  matching-read read e = (rw (read .drawn .content, read .given .content) at e) ∙ matching-accepted (read .verdict)
+  pub matching-read : {read : Pair} {partKinds nodeKinds : List ℕ} {t : Tables} → first (pairConditions AnyPattern pattern board) ≡ accept
+      → BothPrepared AnyPattern ways pattern board read partKinds nodeKinds t → {o : TableOutcome}
+      → EveryMatch (take (read .parts) partKinds) (take (read .nodes) nodeKinds) t table o → o ≡ matchingBy ways pattern board table
+  matching-read ok b every = (rw (b .parts .content, b .nodes .content) at (every _ _ _ _ _ (ready-prepared b))) ∙ matching-accepted ok
+
+-- what matching starts from
+pub ready-links : {r : Role} {ways : List Direction} {pattern board : CircuitFile} {read : Pair} {partKinds nodeKinds : List ℕ} {t : Tables}
+    → BothPrepared r ways pattern board read partKinds nodeKinds t → SomeLinks (take (read .parts) partKinds) (take (read .nodes) nodeKinds) t
+ready-links b = record { ways = _; partStarts = _; partEnds = _; nodeStarts = _; nodeEnds = _; prepared = ready-prepared b }

@@ -1,8 +1,9 @@
 -- The exported call on two files, whole: its reply and the table's later content, from the inputs alone.
 use mathlib.Core.List.{List, [], _∷_, _++_}
+use mathlib.Core.Path.{_≡_}
 use Prim.Native.Nat.{ℕ}
 use lib.ListN.{length}
-use Rattle.graph.specs.Circuit.{Circuit}
+use Rattle.graph.specs.Circuit.{Circuit, circuit}
 use Rattle.simulation.specs.Simulation.{Direction}
 use Rattle.file_format.specs.declared.Role.the-variants.{Pattern, Board, AnyPattern}
 use Rattle.file_format.specs.Circuit.{circuitOf}
@@ -14,6 +15,7 @@ use Rattle.call_match.specs.declared.TableAnswer.{TableAnswer}
 use Rattle.call_match.specs.declared.TableAnswer.the-variants.{Matched, Refused}
 use Rattle.table.specs.Answer.{answerBy, answerCountsBy}
 use Rattle.table.specs.Host.{everything}
+use Rattle.table.specs.Prepared.{Tables, PreparedBy}
 use Rattle.table.specs.Refine.{countsOf}
 use Rattle.table.specs.Reply.{Reply, noCounts, replied}
 use Rattle.table.specs.Row.{bothWays, oneWay, lastTable}
@@ -42,6 +44,13 @@ matchedBy ways verdict p b table =
 -- the call on two circuits that were read: the table may be short
 unfoldable pub matchOn : List Direction → Circuit → Circuit → List ℕ → TableOutcome
 matchOn ways p b table = matchedBy ways (first (shortTable (length (b .kinds)) (length table) ∷ [])) p b table
+
+-- this of every pattern and board with these kinds, and every choice of directions, that tables are of
+abbrev pub EveryMatch : List ℕ → List ℕ → Tables → List ℕ → TableOutcome → Type 0
+EveryMatch partKinds nodeKinds t table o =
+    (ways : List Direction) (partStarts partEnds nodeStarts nodeEnds : List ℕ) →
+    PreparedBy ways (circuit partKinds partStarts partEnds) (circuit nodeKinds nodeStarts nodeEnds) t →
+    o ≡ matchOn ways (circuit partKinds partStarts partEnds) (circuit nodeKinds nodeStarts nodeEnds) table
 
 -- the call on two files, in the directions chosen
 unfoldable pub matchingBy : List Direction → CircuitFile → CircuitFile → List ℕ → TableOutcome

@@ -5,7 +5,6 @@ use Prim.Native.Nat.{ℕ, _≤_, _<_}
 use borrow.Author.Tests.{lt-ltb, le-ltb}
 use lib.ListN.{length, take}
 use Rattle.graph.specs.Circuit.{Circuit}
-use Rattle.graph.specs.Search.{radius}
 use Rattle.file_format.specs.declared.Role.the-variants.{Pattern}
 use Rattle.file_format.specs.declared.File.the-variants.{Neither}
 use Rattle.file_format.specs.declared.Refusal.{Refusal}
@@ -17,6 +16,7 @@ use Rattle.file_format.proofs.Refusals.{first-accept, first-refuse}
 use Rattle.file_pair.specs.declared.Pair.{Pair}
 use Rattle.file_pair.specs.Pair.{pairConditions}
 use Rattle.table.specs.Prepared.{Tables}
+use Rattle.table.specs.Row.{bothWays}
 use Rattle.table.specs.Reply.{noCounts}
 use Rattle.place.specs.declared.PlaceAnswer.the-variants.{Refused}
 use Rattle.place.specs.Match.{radiusOf}
@@ -25,6 +25,7 @@ use Rattle.place_circuits.specs.Ball.{SomeDrawn, EveryDrawn}
 use Rattle.call_place.specs.declared.Reach.{Reach}
 use Rattle.call_place.specs.Call.{tooShort, roomConditions, placeConditions, inputConditions, decided, placeAt, radiusFor, placeOn}
 use Rattle.call_prepare.specs.Read.{BothPrepared}
+use Rattle.call_prepare.proofs.Ready.{ready-prepared, ready-radius}
 
 -- a call that is turned away leaves the four tables as they were
 abbrev pub untouched : Refusal → List ℕ → List ℕ → List ℕ → List ℕ → PlaceOutcome
@@ -71,7 +72,7 @@ module _ (r : ℕ) (p b : Circuit) (w : ℕ) (nodes links table distances : List
 -- ---- two files that were read
 
 -- what the search starts from
-pub ready-drawn : {pattern board : CircuitFile} {read : Pair} {partKinds nodeKinds : List ℕ} {t : Tables} → BothPrepared pattern board read partKinds nodeKinds t
+pub ready-drawn : {pattern board : CircuitFile} {read : Pair} {partKinds nodeKinds : List ℕ} {t : Tables} → BothPrepared Pattern bothWays pattern board read partKinds nodeKinds t
     → SomeDrawn (take (read .parts) partKinds) (take (read .nodes) nodeKinds) t
 ready-drawn {pattern} {board} b =
     record {
@@ -80,7 +81,7 @@ ready-drawn {pattern} {board} b =
       nodeStarts = startsOf board;
       nodeEnds = endsOf board;
       drawn = rw (b .parts .content, b .nodes .content) (b .drawn);
-      prepared = rw (b .parts .content, b .nodes .content) (b .prepared);
+      prepared = ready-prepared b;
     }
 
 module _ (reach : Reach) (pattern board : CircuitFile) (w : ℕ) (nodes links table distances : List ℕ) where
@@ -112,12 +113,12 @@ module _ (reach : Reach) (pattern board : CircuitFile) (w : ℕ) (nodes links ta
   find-accepted e = rw (inputs-go-on e, length-labels board, length-starts board)
 
   pub find-read : {p : Pair} {partKinds nodeKinds : List ℕ} {t : Tables} {r : ℕ} → first (pairConditions Pattern pattern board) ≡ accept
-      → BothPrepared pattern board p partKinds nodeKinds t → r ≡ radiusFor reach (p .radius) → {o : PlaceOutcome}
+      → BothPrepared Pattern bothWays pattern board p partKinds nodeKinds t → r ≡ radiusFor reach (p .radius) → {o : PlaceOutcome}
       → EveryDrawn (take (p .parts) partKinds) (take (p .nodes) nodeKinds) t o (λ pattern board. placeOn r pattern board w nodes links table distances)
       → o ≡ outcome
   unfolding ready-drawn radiusOf
   find-read {r = r} ok both reached {o} every =
-      let measured = both .measured ∙ sym (ap (λ (n : ℕ). radius n (startsOf pattern) (endsOf pattern)) (length-labels pattern)) in
+      let measured = ready-radius both in
       let some = ready-drawn both in
       let e : o ≡ placeOn r (circuitOf pattern) (circuitOf board) w nodes links table distances =
       rw (both .parts .content, both .nodes .content) at (every (startsOf pattern) (endsOf pattern) (startsOf board) (endsOf board) (some .drawn) (some .prepared)) in

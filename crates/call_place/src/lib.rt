@@ -1,4 +1,5 @@
 // The place calls: a pattern file, the board of another file and a centre, at the pattern's radius or at a radius given.
+use call_prepare::Reading;
 use call_prepare::read_prepared;
 use file_format::Board;
 use file_format::Editions;
@@ -6,13 +7,16 @@ use file_format::File;
 use file_format::FileVerdict;
 use file_format::Pattern;
 use file_format::Refusal;
+use file_format::Role;
 use graph_neighbours::tables::LINKS;
 use graph_neighbours::tables::OFFSETS;
 use place::Around;
+use place::Asked;
 use place::PlaceAnswer;
 use place_circuits::place_circuits;
 use table::Counts;
 use table::MASKS;
+use table::Ways;
 ghost use mathlib.Core.Bool.{cond};
 ghost use mathlib.Core.Path.{_≡_};
 ghost use Rattle.file_format.specs.Circuit.{circuitOf};
@@ -54,12 +58,6 @@ fn turned_away(x: Refusal) -> PlaceAnswer
             rounds: 0,
         },
     )
-}
-
-// What is asked for: a centre, which may be none of the board's nodes, and a radius.
-struct Asked {
-    pub centre: usize,
-    pub radius: u16,
 }
 
 // How many entries each of the four lent tables has.
@@ -170,7 +168,11 @@ fn find(
     let mut offsets = [0u16; OFFSETS];
     let mut stretches = [0u16; LINKS];
     let read = read_prepared(
-        editions,
+        Reading {
+            role: Role::Pattern,
+            ways: Ways::Both,
+            editions,
+        },
         pattern,
         board,
         &mut pk,

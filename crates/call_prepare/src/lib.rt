@@ -6,17 +6,26 @@ use file_format::Pattern;
 use file_format::Role;
 use file_pair::Pair;
 use file_pair::read_pair;
-use table_prepare::lookups::prepare;
+use table::Ways;
+use table_prepare::lookups::prepare_along;
 ghost use mathlib.Core.Path.{_≡_};
 ghost use lib.ListN.{length};
 ghost use Rattle.graph.specs.Net.{NetRoom};
 ghost use Rattle.file_format.specs.Layout.{inEdition};
 ghost use Rattle.table.specs.Prepared.{tables};
-ghost use Rattle.call_prepare.specs.Read.{PairPrepared};
+ghost use Rattle.table.specs.Row.{waysOf};
+ghost use Rattle.call_prepare.specs.Read.{AsPattern, PairPrepared};
+
+// How two files are read for a search: what the first is read as, the directions that count, and the edition of each.
+pub struct Reading {
+    pub role: Role,
+    pub ways: Ways,
+    pub editions: Editions,
+}
 
 // Reads both files, and makes of their links what the search looks up; or the first refusal. The labels are left at the front of their tables.
 pub fn read_prepared(
-    editions: Editions,
+    reading: Reading,
     pattern: &[u8],
     board: &[u8],
     pk: &mut [u32],
@@ -25,16 +34,19 @@ pub fn read_prepared(
     offsets: &mut [u16],
     links: &mut [u16],
 ) -> Pair
+    requires { ⌜ AsPattern (reading .role) ⌝ }
     requires { ⌜ (length (now pk) ≡ 32) × (length (now nk) ≡ 512) ⌝ }
     requires { ⌜ (length (now masks) ≡ 64) × NetRoom (now offsets) (now links) ⌝ }
-    ensures { λ r. ⌜ PairPrepared (inEdition (editions .pattern) (now (pattern .entry))) (inEdition (editions .board) (now (board .entry))) r (now (pk .exit)) (now (nk .exit)) (tables (now (masks .exit)) (now (offsets .exit)) (now (links .exit))) ⌝ }
+    ensures { λ r. ⌜ PairPrepared (reading .role) (waysOf (reading .ways)) (inEdition (reading .editions .pattern) (now (pattern .entry))) (inEdition (reading .editions .board) (now (board .entry))) r (now (pk .exit)) (now (nk .exit)) (tables (now (masks .exit)) (now (offsets .exit)) (now (links .exit))) ⌝ }
 {
+    let role = reading.role;
+    let editions = reading.editions;
     let mut ps = [0u16; Pattern::MAX_LINKS];
     let mut pe = [0u16; Pattern::MAX_LINKS];
     let mut ns = [0u16; Board::MAX_LINKS];
     let mut ne = [0u16; Board::MAX_LINKS];
     let read = read_pair(
-        Role::Pattern,
+        role,
         editions,
         pattern,
         board,
@@ -51,7 +63,9 @@ pub fn read_prepared(
     };
     let joins = read.joins;
     let m = read.links;
-    prepare(
+    let ways = reading.ways;
+    prepare_along(
+        ways,
         read.nodes,
         &ps[..joins],
         &pe[..joins],

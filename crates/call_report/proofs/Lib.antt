@@ -1,5 +1,6 @@
+pub mod Once
+pub mod Opened
 pub mod Outcome
-pub mod Whole
 pub mod Promise
 pub mod Refused
-pub mod Once
+pub mod Whole

@@ -1,4 +1,6 @@
 // The report call: the report of a pattern file on a board file, put piece by piece into a lent buffer.
+use call_prepare::Reading;
+use call_prepare::read_prepared;
 use file_format::Board;
 use file_format::Edition;
 use file_format::Editions;
@@ -7,17 +9,30 @@ use file_format::FileVerdict;
 use file_format::Pattern;
 use file_format::Refusal;
 use file_format::Role;
-use file_pair::read_pair;
+use file_pair::Pair;
+use graph_neighbours::tables::LINKS;
+use graph_neighbours::tables::OFFSETS;
+use place_components::components;
 use report::lines::put_refusal;
 use report_centres::LONGEST;
 use report_centres::Part;
-use report_pieces::put_piece;
+use report_centres::Resume;
+use report_centres::put_centres;
+use report_centres::put_last;
+use table::MASKS;
+use table::Ways;
+use table_whole::match_tables;
 ghost use mathlib.Core.Path.{_≡_};
 ghost use Prim.Native.Nat.{_≤_};
 ghost use lib.ListN.{length};
 ghost use Rattle.call_report.specs.Call.{refusalPiece, outcomeFor, reportReply, reporting};
 ghost use Rattle.report.specs.Lines.{longestRefusal};
-ghost use Rattle.report_centres.specs.Pieces.{Wrote};
+ghost use Rattle.report_centres.specs.Pieces.{linesPiece, SourceOfSome, Wrote, EveryWrote};
+ghost use Rattle.place.specs.Spread.{matched};
+ghost use Rattle.place_components.specs.Components.{Components};
+ghost use Rattle.table.specs.Prepared.{tables};
+ghost use Rattle.graph.specs.Net.{NetRoom};
+ghost use Rattle.call_report.specs.Opened.{Opened, SomeOpened, EveryReported};
 ghost use Rattle.file_format.specs.declared.File.the-variants as file;
 ghost use Rattle.call_report.specs.declared.ReportAnswer.the-variants as answer;
 
@@ -40,23 +55,29 @@ fn too_short() -> ReportAnswer
     })
 }
 
+// Nothing: the report is at its end.
+fn put_nothing(from: usize, found: u16) -> Part
+    ensures { λ r. ⌜ r ≡ record { next = from; found = found; size = 0 } ⌝ }
+{
+    Part {
+        next: from,
+        found: found as usize,
+        size: 0,
+    }
+}
+
 // The line of a refused file, which is the whole report.
 fn put_refused(x: Refusal, from: usize, found: u16, out: &mut [u8]) -> Part
     requires { ⌜ longestRefusal ≤ length (now out) ⌝ }
     ensures { λ r. ⌜ Wrote (now (out .entry)) (refusalPiece x from found) (now (out .exit)) r ⌝ }
 {
-    let count = found as usize;
     if from != 0 {
-        return Part {
-            next: from,
-            found: count,
-            size: 0,
-        };
+        return put_nothing(from, found);
     }
     let size = put_refusal(x, out, 0);
     Part {
         next: 1,
-        found: count,
+        found: found as usize,
         size,
     }
 }
@@ -71,6 +92,129 @@ fn answer_refused(x: Refusal, from: usize, found: u16, out: &mut [u8]) -> Report
     ReportAnswer::Put(put_refused(x, from, found, out))
 }
 
+// The lines of the centres from where a piece goes on, and the last line where the centres are done.
+fn put_lines(
+    masks: &[u32],
+    offsets: &[u16],
+    links: &[u16],
+    whole: &[u32],
+    labels: &[u16],
+    sizes: &[u16],
+    resume: Resume,
+    out: &mut [u8],
+) -> Part
+    requires { ⌜ SourceOfSome (tables (now masks) (now offsets) (now links)) (now whole) (resume .radius) ⌝ }
+    requires { ⌜ Components (length (now whole)) (matched (tables (now masks) (now offsets) (now links)) (now whole)) (now whole) (now labels) (now sizes) ⌝ }
+    ensures { λ p. ⌜ EveryWrote (tables (now (masks .entry)) (now (offsets .entry)) (now (links .entry))) (now (whole .entry)) (resume .radius) (λ pattern board. linesPiece pattern board (resume .from) (resume .found) (length (now (out .entry)))) (now (out .entry)) (now (out .exit)) p ⌝ }
+{
+    let part = put_centres(masks, offsets, links, whole, labels, sizes, resume, out);
+    put_last(part, whole.len(), out)
+}
+
+// Opens two files for the pieces of their report from the centre `from` on: reads them, and leaves what the lines are put from, the whole board's match
+// table and its components among it, at the fronts of the tables. Past the last line nothing is left to put, and nothing is matched.
+pub fn open(
+    from: usize,
+    pattern: &[u8],
+    board: &[u8],
+    masks: &mut [u32],
+    offsets: &mut [u16],
+    links: &mut [u16],
+    whole: &mut [u32],
+    labels: &mut [u16],
+    sizes: &mut [u16],
+) -> Pair
+    requires { ⌜ (length (now masks) ≡ 64) × NetRoom (now offsets) (now links) ⌝ }
+    requires { ⌜ (length (now whole) ≡ 512) × (length (now labels) ≡ 512) × (length (now sizes) ≡ 512) ⌝ }
+    ensures { λ r. ⌜ Opened from (now (pattern .entry)) (now (board .entry)) r (tables (now (masks .exit)) (now (offsets .exit)) (now (links .exit))) (now (whole .exit)) (now (labels .exit)) (now (sizes .exit)) ⌝ }
+{
+    let mut pk = [0u32; Pattern::MAX_NODES];
+    let mut nk = [0u32; Board::MAX_NODES];
+    let editions = Editions {
+        pattern: Edition::First,
+        board: Edition::First,
+    };
+    let reading = Reading {
+        role: Role::Pattern,
+        ways: Ways::Both,
+        editions,
+    };
+    let read = read_prepared(
+        reading,
+        pattern,
+        board,
+        &mut pk,
+        &mut nk,
+        masks,
+        offsets,
+        links,
+    );
+    let verdict = read.verdict;
+    let FileVerdict::Accepted = verdict else {
+        return read;
+    };
+    let n = read.nodes;
+    if n < from {
+        return read;
+    }
+    let parts = read.parts;
+    let table = &mut whole[..n];
+    match_tables(&pk[..parts], &nk[..n], masks, offsets, links, table);
+    components(
+        masks,
+        offsets,
+        links,
+        table,
+        &mut labels[..n],
+        &mut sizes[..n],
+    );
+    read
+}
+
+// A piece of the report of two files that were opened, as `report` puts it.
+pub fn put(
+    read: Pair,
+    masks: &[u32],
+    offsets: &[u16],
+    links: &[u16],
+    whole: &[u32],
+    labels: &[u16],
+    sizes: &[u16],
+    from: usize,
+    found: u16,
+    out: &mut [u8],
+) -> ReportAnswer
+    requires { ⌜ SomeOpened from read (tables (now masks) (now offsets) (now links)) (now whole) (now labels) (now sizes) ⌝ }
+    ensures { λ a. ⌜ EveryReported from found read (tables (now (masks .entry)) (now (offsets .entry)) (now (links .entry))) (now (whole .entry)) (now (labels .entry)) (now (sizes .entry)) (now (out .entry)) (record { reply = reportReply a; out = now (out .exit) }) ⌝ }
+{
+    let verdict = read.verdict;
+    let FileVerdict::Refused(x) = verdict else {
+        if out.len() < LONGEST {
+            return too_short();
+        }
+        let n = read.nodes;
+        if n < from {
+            return ReportAnswer::Put(put_nothing(from, found));
+        }
+        let resume = Resume {
+            radius: read.radius,
+            from,
+            found,
+        };
+        return ReportAnswer::Put(put_lines(
+            masks,
+            offsets,
+            links,
+            &whole[..n],
+            &labels[..n],
+            &sizes[..n],
+            resume,
+            out,
+        ));
+    };
+    answer_refused(x, from, found, out)
+}
+
 // A piece of the report, from the centre `from` on, before which `found` centres had a place, at the front of the buffer: the lines of as
 // many centres as there is room for, and the last line where the centres are done; the first piece is from 0 with 0 found. Nothing is put
 // exactly when the report is at its end. A buffer that is too short, for the line of a refused file or for the longest line, is refused and
@@ -78,48 +222,33 @@ fn answer_refused(x: Refusal, from: usize, found: u16, out: &mut [u8]) -> Report
 pub fn report(pattern: &[u8], board: &[u8], from: usize, found: u16, out: &mut [u8]) -> ReportAnswer
     ensures { λ a. ⌜ record { reply = reportReply a; out = now (out .exit) } ≡ reporting (now (pattern .entry)) (now (board .entry)) from found (now (out .entry)) ⌝ }
 {
-    let mut pk = [0u32; Pattern::MAX_NODES];
-    let mut ps = [0u16; Pattern::MAX_LINKS];
-    let mut pe = [0u16; Pattern::MAX_LINKS];
-    let mut nk = [0u32; Board::MAX_NODES];
-    let mut ns = [0u16; Board::MAX_LINKS];
-    let mut ne = [0u16; Board::MAX_LINKS];
-    let read = read_pair(
-        Role::Pattern,
-        Editions {
-            pattern: Edition::First,
-            board: Edition::First,
-        },
+    let mut masks = [0u32; MASKS];
+    let mut offsets = [0u16; OFFSETS];
+    let mut links = [0u16; LINKS];
+    let mut whole = [0u32; Board::MAX_NODES];
+    let mut labels = [0u16; Board::MAX_NODES];
+    let mut sizes = [0u16; Board::MAX_NODES];
+    let read = open(
+        from,
         pattern,
         board,
-        &mut pk,
-        &mut ps,
-        &mut pe,
-        &mut nk,
-        &mut ns,
-        &mut ne,
+        &mut masks,
+        &mut offsets,
+        &mut links,
+        &mut whole,
+        &mut labels,
+        &mut sizes,
     );
-    let verdict = read.verdict;
-    let FileVerdict::Refused(x) = verdict else {
-        if out.len() < LONGEST {
-            return too_short();
-        }
-        let parts = read.parts;
-        let joins = read.joins;
-        let n = read.nodes;
-        let m = read.links;
-        return ReportAnswer::Put(put_piece(
-            &pk[..parts],
-            &ps[..joins],
-            &pe[..joins],
-            &nk[..n],
-            &ns[..m],
-            &ne[..m],
-            read.radius,
-            from,
-            found,
-            out,
-        ));
-    };
-    answer_refused(x, from, found, out)
+    put(
+        read,
+        &masks,
+        &offsets,
+        &links,
+        &whole,
+        &labels,
+        &sizes,
+        from,
+        found,
+        out,
+    )
 }

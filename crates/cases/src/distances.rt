@@ -4,16 +4,14 @@
 use crate::show::digest;
 use crate::show::end_line;
 use crate::show::least;
-use crate::show::load;
 use crate::show::number;
-use crate::show::refill;
 use crate::show::show_number;
 use crate::show::show_refusal;
 use crate::show::wide;
 use call_distance::BallAnswer;
 use call_distance::RadiusAnswer;
 use file_format::Edition;
-ghost use Prim.Native.Nat.{_+_, _*_, _≤_};
+ghost use Prim.Native.Nat.{_+_, _*_, _≤_, _<_};
 ghost use lib.ListN.{length};
 
 fn show_radius(answer: RadiusAnswer) {
@@ -37,28 +35,35 @@ fn show_ball(answer: BallAnswer) {
 }
 
 // One ball lookup: a centre of 32 bits, a radius and the table's length at an offset.
-fn query(b: &[u8], at: usize, file: &[u8], out: &mut [u16])
+fn look_up(b: &[u8], at: usize, file: &[u8], out: &mut [u16])
     requires { ⌜ at + 8 ≤ length (now b) ⌝ }
 {
     let centre = number(b, at) * 65536 + number(b, at + 2);
     let radius = number(b, at + 4) as u16;
     let lent = least(number(b, at + 6), out.len());
-    refill(out);
     show_ball(call_distance::ball(Edition::First, file, centre, radius, &mut out[..lent]));
     show_number(digest(out));
     end_line();
 }
 
-fn queries(b: &[u8], at: usize, count: usize, file: &[u8], out: &mut [u16])
+// The same with a table of this lookup, filled with a number that no call is asked to write.
+fn query(b: &[u8], at: usize, file: &[u8])
+    requires { ⌜ at + 8 ≤ length (now b) ⌝ }
+{
+    let mut out = [7777u16; 600];
+    look_up(b, at, file, &mut out);
+}
+
+fn queries(b: &[u8], at: usize, count: usize, file: &[u8])
     requires { ⌜ at + 8 * count ≤ length (now b) ⌝ }
 {
     for i in 0..count {
-        query(b, at + 8 * i, file, out);
+        query(b, at + 8 * i, file);
     }
 }
 
 // The case at an offset, a file length, a number of lookups, the lookups and the file; answers where the next one begins.
-fn step(b: &[u8], at: usize, out: &mut [u16]) -> usize
+fn case_at(b: &[u8], at: usize) -> usize
     requires { ⌜ at + 3 ≤ length (now b) ⌝ }
     ensures { λ r. ⌜ (at + 3 ≤ r) × (r ≤ length (now (b .entry))) ⌝ }
 {
@@ -69,19 +74,17 @@ fn step(b: &[u8], at: usize, out: &mut [u16]) -> usize
     let to = from + size;
     show_radius(call_distance::radius(Edition::First, &b[from..to]));
     end_line();
-    queries(b, first, count, &b[from..to], out);
+    queries(b, first, count, &b[from..to]);
     to
 }
 
-fn run_all(b: &[u8], out: &mut [u16]) {
-    let mut at = 0;
-    while at + 3 <= b.len() {
-        at = step(b, at, out);
+// The same at any offset: what is too short for a case is passed over.
+pub fn step(b: &[u8], at: usize) -> usize
+    requires { ⌜ at < length (now b) ⌝ }
+    ensures { λ r. ⌜ (at < r) × (r ≤ length (now (b .entry))) ⌝ }
+{
+    if b.len() - at < 3 {
+        return b.len();
     }
-}
-
-// All cases of the file. The tables are lent whole, so that their entries are not looked at one by one in the proof.
-pub fn run(buf: &mut [u8], out: &mut [u16]) {
-    let n = load(b"distances", buf);
-    run_all(&buf[..n], out);
+    case_at(b, at)
 }

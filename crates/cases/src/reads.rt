@@ -2,16 +2,14 @@
 // for each: what the reader answered, and a digest of each table, so that a table that was touched shows.
 use crate::show::digest;
 use crate::show::end_line;
+use crate::show::head_at;
 use crate::show::least;
-use crate::show::load;
 use crate::show::number;
-use crate::show::refill;
-use crate::show::role_of;
 use crate::show::show_number;
 use crate::show::show_refusal;
 use file_format::ReadAnswer;
 use file_format::Role;
-ghost use Prim.Native.Nat.{_+_, _≤_};
+ghost use Prim.Native.Nat.{_+_, _≤_, _<_};
 ghost use lib.ListN.{length};
 
 fn show_answer(answer: ReadAnswer) {
@@ -27,9 +25,6 @@ fn show_answer(answer: ReadAnswer) {
 
 // One case: the answer and the three tables afterwards.
 fn run_case(role: Role, file: &[u8], kinds: &mut [u16], starts: &mut [u16], ends: &mut [u16]) {
-    refill(kinds);
-    refill(starts);
-    refill(ends);
     show_answer(file_read::read_first(role, file, kinds, starts, ends));
     show_number(digest(kinds));
     show_number(digest(starts));
@@ -38,14 +33,15 @@ fn run_case(role: Role, file: &[u8], kinds: &mut [u16], starts: &mut [u16], ends
 }
 
 // The case at an offset, a role, three table lengths, a file length and the file; answers where the next one begins.
-fn step(b: &[u8], at: usize, kinds: &mut [u16], starts: &mut [u16], ends: &mut [u16]) -> usize
+fn case_at(b: &[u8], at: usize, kinds: &mut [u16], starts: &mut [u16], ends: &mut [u16]) -> usize
     requires { ⌜ at + 9 ≤ length (now b) ⌝ }
     ensures { λ r. ⌜ (at + 9 ≤ r) × (r ≤ length (now (b .entry))) ⌝ }
 {
-    let role = role_of(b[at]);
-    let k = least(number(b, at + 1), kinds.len());
-    let s = least(number(b, at + 3), starts.len());
-    let e = least(number(b, at + 5), ends.len());
+    let lent = head_at(b, at, kinds.len(), starts.len(), ends.len());
+    let role = lent.role;
+    let k = lent.kinds;
+    let s = lent.starts;
+    let e = lent.ends;
     let from = at + 9;
     let to = from + least(number(b, at + 7), b.len() - from);
     run_case(
@@ -58,15 +54,16 @@ fn step(b: &[u8], at: usize, kinds: &mut [u16], starts: &mut [u16], ends: &mut [
     to
 }
 
-fn run_all(b: &[u8], kinds: &mut [u16], starts: &mut [u16], ends: &mut [u16]) {
-    let mut at = 0;
-    while at + 9 <= b.len() {
-        at = step(b, at, kinds, starts, ends);
+// The same with tables of this case, filled with a number that no call is asked to write. What is too short for a case is passed over.
+pub fn step(b: &[u8], at: usize) -> usize
+    requires { ⌜ at < length (now b) ⌝ }
+    ensures { λ r. ⌜ (at < r) × (r ≤ length (now (b .entry))) ⌝ }
+{
+    if b.len() - at < 9 {
+        return b.len();
     }
-}
-
-// All cases of the file. The tables are lent whole, so that their entries are not looked at one by one in the proof.
-pub fn run(buf: &mut [u8], kinds: &mut [u16], starts: &mut [u16], ends: &mut [u16]) {
-    let n = load(b"reads", buf);
-    run_all(&buf[..n], kinds, starts, ends);
+    let mut kinds = [7777u16; 600];
+    let mut starts = [7777u16; 4200];
+    let mut ends = [7777u16; 4200];
+    case_at(b, at, &mut kinds, &mut starts, &mut ends)
 }

@@ -24,15 +24,6 @@ pub fn digest(table: &[u16]) -> u64 {
     sum
 }
 
-// Sets every entry to a number that no call is asked to write.
-pub fn refill(table: &mut [u16]) {
-    let mut i = 0;
-    while i < table.len() {
-        table[i] = 7777;
-        i += 1;
-    }
-}
-
 // The same of bytes.
 pub fn digest_bytes(table: &[u8]) -> u64 {
     let mut sum: usize = 0;
@@ -44,14 +35,6 @@ pub fn digest_bytes(table: &[u8]) -> u64 {
     sum as u64
 }
 
-pub fn refill_bytes(table: &mut [u8]) {
-    let mut i = 0;
-    while i < table.len() {
-        table[i] = 77;
-        i += 1;
-    }
-}
-
 // The same for a table of sets.
 pub fn digest_sets(table: &[u32]) -> u64 {
     let mut sum: u64 = 0;
@@ -61,14 +44,6 @@ pub fn digest_sets(table: &[u32]) -> u64 {
         i += 1;
     }
     sum
-}
-
-pub fn refill_sets(table: &mut [u32]) {
-    let mut i = 0;
-    while i < table.len() {
-        table[i] = 7777;
-        i += 1;
-    }
 }
 
 pub fn show_number(n: u64) {
@@ -112,6 +87,32 @@ pub fn role_of(code: u8) -> Role {
         Role::Pattern
     } else {
         Role::Board
+    }
+}
+
+// How a case of the reader or of the writer begins: a role, and how much of each of three tables is lent.
+pub struct Head {
+    pub role: Role,
+    pub kinds: usize,
+    pub starts: usize,
+    pub ends: usize,
+}
+
+// The head at an offset, where the tables have so many entries.
+pub fn head_at(b: &[u8], at: usize, kinds: usize, starts: usize, ends: usize) -> Head
+    requires { ⌜ at + 7 ≤ length (now b) ⌝ }
+    ensures { λ r. ⌜ (r .kinds ≤ kinds) × (r .starts ≤ starts) × (r .ends ≤ ends) ⌝ }
+    ensures { λ r. ⌜ (r .kinds < 65536) × (r .starts < 65536) × (r .ends < 65536) ⌝ }
+{
+    let role = role_of(b[at]);
+    let k = least(number(b, at + 1), kinds);
+    let s = least(number(b, at + 3), starts);
+    let e = least(number(b, at + 5), ends);
+    Head {
+        role: role,
+        kinds: k,
+        starts: s,
+        ends: e,
     }
 }
 

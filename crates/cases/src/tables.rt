@@ -4,9 +4,7 @@
 use crate::show::digest_sets;
 use crate::show::end_line;
 use crate::show::least;
-use crate::show::load;
 use crate::show::number;
-use crate::show::refill_sets;
 use crate::show::show_number;
 use crate::show::show_refusal;
 use call_bounded::match_bounds;
@@ -16,7 +14,7 @@ use call_match::match_table;
 use file_format::Edition;
 use file_format::Editions;
 use table::Counts;
-ghost use Prim.Native.Nat.{_+_, _≤_};
+ghost use Prim.Native.Nat.{_+_, _≤_, _<_};
 ghost use lib.ListN.{length};
 
 fn show_counts(counts: Counts) {
@@ -39,29 +37,30 @@ const FIRST: Editions = Editions {
     board: Edition::First,
 };
 
-fn show_table(answer: TableAnswer, table: &[u32]) {
-    show_answer(answer);
+// How a case is matched: two ways, one way, or with a pattern that has bounds.
+enum Way {
+    Both,
+    One,
+    Bounded,
+}
+
+fn answer_of(way: Way, pattern: &[u8], board: &[u8], table: &mut [u32]) -> TableAnswer {
+    match way {
+        Way::Both => match_table(FIRST, pattern, board, table),
+        Way::One => match_one_way(FIRST, pattern, board, table),
+        Way::Bounded => match_bounds(Edition::First, pattern, board, table),
+    }
+}
+
+// One case: the answer and the table afterwards.
+fn run_case(way: Way, pattern: &[u8], board: &[u8], table: &mut [u32]) {
+    show_answer(answer_of(way, pattern, board, table));
     show_number(digest_sets(table));
     end_line();
 }
 
-// One case, the answer and the table afterwards: two ways and one way, or with a pattern that has bounds.
-fn run_case(bounded: bool, pattern: &[u8], board: &[u8], table: &mut [u32]) {
-    refill_sets(table);
-    if bounded {
-        let answer = match_bounds(Edition::First, pattern, board, table);
-        show_table(answer, table);
-        return;
-    }
-    let two = match_table(FIRST, pattern, board, table);
-    show_table(two, table);
-    refill_sets(table);
-    let one = match_one_way(FIRST, pattern, board, table);
-    show_table(one, table);
-}
-
 // The case at an offset, the table's length, the lengths of the two files and the files; answers where the next one begins.
-fn step(bounded: bool, b: &[u8], at: usize, table: &mut [u32]) -> usize
+fn case_at(way: Way, b: &[u8], at: usize, table: &mut [u32]) -> usize
     requires { ⌜ at + 6 ≤ length (now b) ⌝ }
     ensures { λ r. ⌜ (at + 6 ≤ r) × (r ≤ length (now (b .entry))) ⌝ }
 {
@@ -69,30 +68,30 @@ fn step(bounded: bool, b: &[u8], at: usize, table: &mut [u32]) -> usize
     let from = at + 6;
     let middle = from + least(number(b, at + 2), b.len() - from);
     let to = middle + least(number(b, at + 4), b.len() - middle);
-    run_case(
-        bounded,
-        &b[from..middle],
-        &b[middle..to],
-        &mut table[..lent],
-    );
+    run_case(way, &b[from..middle], &b[middle..to], &mut table[..lent]);
     to
 }
 
-fn run_all(bounded: bool, b: &[u8], table: &mut [u32]) {
-    let mut at = 0;
-    while at + 6 <= b.len() {
-        at = step(bounded, b, at, table);
+// The same with a table of this case, filled with a number that no call is asked to write.
+fn fresh(way: Way, b: &[u8], at: usize) -> usize
+    requires { ⌜ at + 6 ≤ length (now b) ⌝ }
+    ensures { λ r. ⌜ (at + 6 ≤ r) × (r ≤ length (now (b .entry))) ⌝ }
+{
+    let mut table = [7777u32; 600];
+    case_at(way, b, at, &mut table)
+}
+
+// The case two ways and one way, or with bounds. What is too short for a case is passed over.
+pub fn step(bounded: bool, b: &[u8], at: usize) -> usize
+    requires { ⌜ at < length (now b) ⌝ }
+    ensures { λ r. ⌜ (at < r) × (r ≤ length (now (b .entry))) ⌝ }
+{
+    if b.len() - at < 6 {
+        return b.len();
     }
-}
-
-// All cases of the file. The tables are lent whole, so that their entries are not looked at one by one in the proof.
-pub fn run(buf: &mut [u8], table: &mut [u32]) {
-    let n = load(b"tables", buf);
-    run_all(false, &buf[..n], table);
-}
-
-// The same of patterns with bounds.
-pub fn run_bounded(buf: &mut [u8], table: &mut [u32]) {
-    let n = load(b"bounds", buf);
-    run_all(true, &buf[..n], table);
+    if bounded {
+        return fresh(Way::Bounded, b, at);
+    }
+    fresh(Way::Both, b, at);
+    fresh(Way::One, b, at)
 }

@@ -2,11 +2,9 @@
 // each: what the writer answered, and a digest of the bytes lent, so that a byte that was touched shows.
 use crate::show::digest_bytes;
 use crate::show::end_line;
+use crate::show::head_at;
 use crate::show::least;
-use crate::show::load;
 use crate::show::number;
-use crate::show::refill_bytes;
-use crate::show::role_of;
 use crate::show::show_number;
 use crate::show::show_refusal;
 use file_format::Role;
@@ -51,14 +49,13 @@ fn run_case(
     fill(b, 0, kinds);
     fill(b, 2 * n, starts);
     fill(b, 2 * n + 2 * m, ends);
-    refill_bytes(out);
     show_answer(file_write::write_first(role, kinds, starts, ends, out));
     show_number(digest_bytes(out));
     end_line();
 }
 
 // The case at an offset, a role, how many kinds, starts, ends and bytes, and then the numbers; answers where the next one begins.
-fn step(
+fn case_at(
     b: &[u8],
     at: usize,
     kinds: &mut [u16],
@@ -67,12 +64,13 @@ fn step(
     out: &mut [u8],
 ) -> usize
     requires { ⌜ at + 9 ≤ length (now b) ⌝ }
-    ensures { λ r. do ⌜ (at < r) × (r ≤ (← ⟦b.len()⟧ .entry)) ⌝ }
+    ensures { λ r. ⌜ (at < r) × (r ≤ length (now (b .entry))) ⌝ }
 {
-    let role = role_of(b[at]);
-    let k = least(number(b, at + 1), kinds.len());
-    let s = least(number(b, at + 3), starts.len());
-    let e = least(number(b, at + 5), ends.len());
+    let lent = head_at(b, at, kinds.len(), starts.len(), ends.len());
+    let role = lent.role;
+    let k = lent.kinds;
+    let s = lent.starts;
+    let e = lent.ends;
     let room = least(number(b, at + 7), out.len());
     let from = at + 9;
     let to = from + 2 * k + 2 * s + 2 * e;
@@ -90,21 +88,17 @@ fn step(
     to
 }
 
-fn run_all(b: &[u8], kinds: &mut [u16], starts: &mut [u16], ends: &mut [u16], out: &mut [u8]) {
-    let mut at = 0;
-    while at + 9 <= b.len() {
-        at = step(b, at, kinds, starts, ends, out);
+// The same with tables and bytes of this case, the bytes filled with a number that shows. What is too short for a case is passed over.
+pub fn step(b: &[u8], at: usize) -> usize
+    requires { ⌜ at < length (now b) ⌝ }
+    ensures { λ r. ⌜ (at < r) × (r ≤ length (now (b .entry))) ⌝ }
+{
+    if b.len() - at < 9 {
+        return b.len();
     }
-}
-
-// All cases of the file. The tables are lent whole, so that their entries are not looked at one by one in the proof.
-pub fn run(
-    buf: &mut [u8],
-    kinds: &mut [u16],
-    starts: &mut [u16],
-    ends: &mut [u16],
-    out: &mut [u8],
-) {
-    let n = load(b"writes", buf);
-    run_all(&buf[..n], kinds, starts, ends, out);
+    let mut kinds = [0u16; 600];
+    let mut starts = [0u16; 4200];
+    let mut ends = [0u16; 4200];
+    let mut out = [77u8; 17500];
+    case_at(b, at, &mut kinds, &mut starts, &mut ends, &mut out)
 }

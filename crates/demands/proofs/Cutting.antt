@@ -23,9 +23,8 @@ use Rattle.file_format.specs.Refusals.{Verdict, accept, refuse, first, linkGone
 use Rattle.file_format.specs.Reply.{Reply, reply}
 use Rattle.file_format.proofs.Fields.{length-labels, length-starts}
 use Rattle.table.specs.Fill.{listed}
-use Rattle.table.specs.Host.{KindsMatch, everything}
-use Rattle.table.specs.Row.{bothWays, InTable}
-use Rattle.table.proofs.Answer.{answer-fits}
+use Rattle.table.specs.Host.{KindsMatch}
+use Rattle.table.specs.Row.{InTable}
 use Rattle.call_match.specs.Call.{matchConditions}
 use Rattle.call_session.specs.Call.{OpenPromise}
 use Rattle.call_session.proofs.Promise as call
@@ -34,7 +33,7 @@ use Rattle.session.specs.Machine.{Machine, fresh, isLeft, cutReply, cutMachine,
 use Rattle.session.specs.Session.{ReadPromise, Cuts}
 use Rattle.session.specs.State.{State}
 use Rattle.session.proofs.Left.{fresh-left, left-inside, below-left}
-use Rattle.session.proofs.Run.{cut-keeps, left-after, after-same}
+use Rattle.session.proofs.Run.{cut-keeps, length-table, left-after, after-same}
 use Rattle.demands.specs.Cutting.{fourteen, cutReplies, leftOf, Ask13}
 use Rattle.demands.specs.Demands.{graph, equal}
 
@@ -45,11 +44,6 @@ cut-reply : (m : Machine) (place : ℕ) (b : Bool) → isLeft m place ≡ b → 
 unfolding cutReply first linkGone
 cut-reply m place true e = rw e
 cut-reply m place false e = rw e
-
--- its table has a set for each node
-table-long : (m : Machine) → length (machineTable m) ≡ length (m .board .kinds)
-unfolding machineTable boardLeft chosen
-table-long m = answer-fits bothWays (m .pattern) (boardLeft m) (everything (boardLeft m)) .size
 
 -- from a machine of which those links are left whose places were not named
 replies-from :
@@ -141,7 +135,7 @@ module _ (pattern board : CircuitFile) (before opened after : State) (places : L
       × (drop (nodesOf board) later ≡ drop (nodesOf board) lent)
   table lent later answer read room =
       let (a, t) = call.session-table begun places said after cuts read (rw nodes room) in
-      let long : length (machineTable m) ≡ nodesOf board = table-long m ∙ nodes in (
+      let long : length (machineTable m) ≡ nodesOf board = length-table m ∙ nodes in (
         a ∙ ap (λ (n : ℕ). reply accept (n ∷ [])) nodes,
         subst (λ (x : List ℕ). Largest (graph pattern) (equal pattern board) (leftOf board places) (InTable x))
             (sym (ap (take (nodesOf board)) t ∙ take-at (machineTable m) _ (nodesOf board) long)) largest,

@@ -2,8 +2,7 @@
 use file_check::in_range;
 use file_check::refusal;
 use file_fields::field_at;
-use file_fields::store;
-use file_fields::stretch;
+use file_fields::store_at;
 use file_format::Edition;
 use file_format::FileRead;
 use file_format::FileVerdict;
@@ -61,7 +60,7 @@ fn read_bounds(file: &[u8], at: usize, m: usize, bounds: &mut [u16]) -> bool
     ensures { λ r. ⌜ r ≡ boundsFit (fields (drop at (now (file .entry))) m) ⌝ }
     ensures { λ r. ⌜ take m (now (bounds .exit)) ≡ fields (drop at (now (file .entry))) m ⌝ }
 {
-    store(stretch(file, at, m), m, bounds);
+    store_at(file, at, m, bounds);
     all_within(&bounds[..m])
 }
 

@@ -35,6 +35,14 @@ pub fn store(part: &[u8], k: usize, out: &mut [u16])
     }
 }
 
+// The k fields of a file that begin at an offset, stored so.
+pub fn store_at(file: &[u8], at: usize, k: usize, out: &mut [u16])
+    requires { ⌜ (at + 2 * k ≤ length (now file)) × (k ≤ length (now out)) ⌝ }
+    ensures { λ r. ⌜ now (out .exit) ≡ fields (drop at (now (file .entry))) k ++ drop k (now (out .entry)) ⌝ }
+{
+    store(stretch(file, at, k), k, out);
+}
+
 // The i-th of a stretch of p packages; 0 where there are not so many.
 fn package_at(part: &[u8], p: usize, i: usize) -> u32
     requires { ⌜ 2 * p ≤ length (now part) ⌝ }

@@ -2,6 +2,7 @@
 use mathlib.Core.Path.{_≡_, sym, ap, _∙_}
 use Prim.Native.Nat.{ℕ}
 use Rattle.graph.specs.Circuit.{Circuit}
+use Rattle.graph.specs.Rising.{LinksRise}
 use Rattle.graph.specs.Search.{radius}
 use Rattle.file_format.specs.declared.FileRead.{FileRead}
 use Rattle.file_format.specs.declared.FileVerdict.the-variants.{Accepted, Refused}
@@ -84,6 +85,11 @@ module _ {r : Role} {pattern board : CircuitFile} {read : Pair} {parts nodes : C
   pub board-bounded : Bounded role.Board (front (read .nodes) (read .links) nodes)
   board-bounded = stands-bounded (both .given) role.Board (both-accepted .1)
 
+  pub board-rises : let b = front (read .nodes) (read .links) nodes in LinksRise (b .starts) (b .ends)
+  board-rises =
+      rw (ap (λ (c : Circuit). c .starts) (both .given .content), ap (λ (c : Circuit). c .ends) (both .given .content))
+      (rising-links (startsOf board) (endsOf board) (accepted role.Board board (both-accepted .1) .rises))
+
 -- the radius of a pattern, which is connected
 module _ {pattern board : CircuitFile} {read : Pair} {parts nodes : Circuit} (both : BothRead role.Pattern pattern board read parts nodes) where
   pub pair-radius : read .radius ≡ radius (nodesOf pattern) (startsOf pattern) (endsOf pattern)
@@ -92,11 +98,4 @@ module _ {pattern board : CircuitFile} {read : Pair} {parts nodes : Circuit} (bo
 
   -- so a call draws from the two
   pub both-drawn : Drawn (front (read .parts) (read .joins) parts) (front (read .nodes) (read .links) nodes)
-  both-drawn =
-      record {
-        parts = pattern-bounded both;
-        nodes = board-bounded both;
-        rise =
-            rw (ap (λ (c : Circuit). c .starts) (both .given .content), ap (λ (c : Circuit). c .ends) (both .given .content))
-            (rising-links (startsOf board) (endsOf board) (accepted role.Board board (both-accepted both .1) .rises));
-      }
+  both-drawn = record { parts = pattern-bounded both; nodes = board-bounded both; rise = board-rises both }

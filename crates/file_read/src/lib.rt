@@ -14,7 +14,7 @@ use file_check::refusal;
 use file_check::size_number;
 use file_check::test_links;
 use file_fields::field_at;
-use file_fields::store;
+use file_fields::store_at;
 use file_fields::store_labels;
 use file_fields::stretch;
 use file_format::Board;
@@ -42,8 +42,8 @@ fn fill_links(
     ensures { λ r. ⌜ now (ends .exit) ≡ fields (drop (endsAt edition n m) (now (file .entry))) m ++ drop m (now (ends .entry)) ⌝ }
 {
     let at = 4 + 2 * n + 2 * package_count(edition, n);
-    store(stretch(file, at, m), m, starts);
-    store(stretch(file, at + 2 * m, m), m, ends);
+    store_at(file, at, m, starts);
+    store_at(file, at + 2 * m, m, ends);
 }
 
 // The labels of a file of n nodes and m links, stored in their table.
@@ -76,8 +76,8 @@ fn fill_nodes(
     ensures { λ r. ⌜ now (packages .exit) ≡ fields (drop (packagesAt n) (now (file .entry))) (packageCount edition n) ++ drop (packageCount edition n) (now (packages .entry)) ⌝ }
 {
     let p = package_count(edition, n);
-    store(stretch(file, 4, n), n, kinds);
-    store(stretch(file, 4 + 2 * n, p), p, packages);
+    store_at(file, 4, n, kinds);
+    store_at(file, 4 + 2 * n, p, packages);
 }
 
 // The answer that turns a file away.

@@ -2,18 +2,25 @@
 // Standard output has the report's lines and nothing else. Where a file is there and cannot be read, or the report cannot be written whole, a
 // line on standard error says so; what was printed is then a front of the report.
 use call_report::ReportAnswer;
-use call_report::report;
+use call_report::open;
+use call_report::put;
 use file_format::Board;
 use file_format::Pattern;
+use file_pair::Pair;
+use graph_neighbours::tables::LINKS;
+use graph_neighbours::tables::OFFSETS;
 use input::Found;
 use output::Output;
+use table::MASKS;
 ghost use mathlib.Core.Path.{_≡_};
 ghost use Prim.Native.Nat.{_≤_};
 ghost use lib.ListN.{length};
 ghost use Rattle.io.specs.Counts.{Counts};
 ghost use Rattle.file_format.specs.declared.Role.the-variants as role;
+ghost use Rattle.table.specs.Prepared.{tables};
 ghost use Rattle.report.specs.Lines.{longestLine};
 ghost use Rattle.report.specs.Report.{reportOf};
+ghost use Rattle.call_report.specs.Opened.{Opened};
 ghost use Rattle.finder.specs.Cut.{most};
 ghost use Rattle.finder.specs.Printing.{heldOf, GoesOn, Reached, Handed};
 
@@ -74,15 +81,38 @@ fn hand(pattern: &[u8], board: &[u8], from: usize, next: usize, bytes: &[u8]) ->
     Printed::Items(next)
 }
 
-// Prints the report piece by piece, by way of the buffer, until nothing is left of it or a write fails.
-fn print_report(pattern: &[u8], board: &[u8], out: &mut [u8]) -> Printed
+// Prints the report of two files that were opened piece by piece, by way of the buffer, until nothing is left of it or a write fails.
+fn print_pieces(
+    pattern: &[u8],
+    board: &[u8],
+    read: Pair,
+    masks: &[u32],
+    offsets: &[u16],
+    links: &[u16],
+    whole: &[u32],
+    labels: &[u16],
+    sizes: &[u16],
+    out: &mut [u8],
+) -> Printed
+    requires { ⌜ Opened 0 (now pattern) (now board) read (tables (now masks) (now offsets) (now links)) (now whole) (now labels) (now sizes) ⌝ }
     requires { ⌜ longestLine ≤ length (now out) ⌝ }
     ensures { λ r. ⌜ Handed (now (pattern .entry)) (now (board .entry)) (reportOf (now (pattern .entry)) (now (board .entry))) r ⌝ }
 {
     let mut from: usize = 0;
     let mut found: u16 = 0;
     loop {
-        let answer = report(pattern, board, from, found, out);
+        let answer = put(
+            read,
+            masks,
+            offsets,
+            links,
+            whole,
+            labels,
+            sizes,
+            from,
+            found,
+            out,
+        );
         let ReportAnswer::Put(part) = answer else {
             return Printed::Failed;
         };
@@ -100,9 +130,45 @@ fn print_report(pattern: &[u8], board: &[u8], out: &mut [u8]) -> Printed
     }
 }
 
+// Opens the two files, and prints their report.
+fn print_report(pattern: &[u8], board: &[u8], out: &mut [u8]) -> Printed
+    requires { ⌜ longestLine ≤ length (now out) ⌝ }
+    ensures { λ r. ⌜ Handed (now (pattern .entry)) (now (board .entry)) (reportOf (now (pattern .entry)) (now (board .entry))) r ⌝ }
+{
+    let mut masks = [0u32; MASKS];
+    let mut offsets = [0u16; OFFSETS];
+    let mut links = [0u16; LINKS];
+    let mut whole = [0u32; Board::MAX_NODES];
+    let mut labels = [0u16; Board::MAX_NODES];
+    let mut sizes = [0u16; Board::MAX_NODES];
+    let read = open(
+        0,
+        pattern,
+        board,
+        &mut masks,
+        &mut offsets,
+        &mut links,
+        &mut whole,
+        &mut labels,
+        &mut sizes,
+    );
+    print_pieces(
+        pattern,
+        board,
+        read,
+        &masks,
+        &offsets,
+        &links,
+        &whole,
+        &labels,
+        &sizes,
+        out,
+    )
+}
+
 // Each file is read into a buffer of a byte more than the longest that is accepted. The buffers are lent whole, so that their bytes are not
 // looked at one by one in the proof.
-fn run(pattern: &mut [u8], board: &mut [u8], out: &mut [u8])
+fn report_files(pattern: &mut [u8], board: &mut [u8], out: &mut [u8])
     requires { ⌜ (length (now pattern) ≡ most role.Pattern) × (length (now board) ≡ most role.Board) ⌝ }
     requires { ⌜ longestLine ≤ length (now out) ⌝ }
 {
@@ -129,5 +195,5 @@ fn main() {
     let mut pattern = [0u8; PATTERN_BYTES];
     let mut board = [0u8; BOARD_BYTES];
     let mut out = [0u8; PIECE_BYTES];
-    run(&mut pattern, &mut board, &mut out);
+    report_files(&mut pattern, &mut board, &mut out);
 }

@@ -20,7 +20,8 @@ HasLink starts ends v w = (i : ℕ) × LinkAt starts ends v w i
 unfoldable pub graphOf : ℕ → List ℕ → List ℕ → Graph
 graphOf n starts ends = record { Node = λ v. v < n; Link = HasLink starts ends }
 
--- A circuit's content: the kind of each node, and the links. "A pattern and a board are both circuits."
+-- A circuit's content: the label of each node, and the links. "A pattern and a board are both circuits." A label is a node's kind and, where it has a package, 65,536
+-- times that besides; the field has the name that document 01 gives to a file's first list.
 pub record Circuit : Type 0 where
   pub kinds : List ℕ
   pub starts : List ℕ

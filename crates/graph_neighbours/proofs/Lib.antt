@@ -1,1 +1,2 @@
+mod Grouped
 pub mod Lookup

@@ -6,6 +6,7 @@ ghost use lib.Dec.{T, ltb};
 ghost use lib.ListN.{length};
 ghost use Rattle.base_lists.specs.List.{all};
 ghost use Rattle.graph.specs.Net.{NetRoom, NetOf};
+ghost use Rattle.graph_neighbours.specs.Grouped.{Grouped};
 use crate::group::group;
 
 // The entries of the two lists, and how many of them are the forward table's: room for 512 nodes and for 4,096 links each way.
@@ -16,6 +17,39 @@ pub const LINKS: usize = 8192;
 pub const FORWARD_OFFSETS: usize = 513;
 
 pub const FORWARD_LINKS: usize = 4096;
+
+// Fills one half of each list by grouping `forward` by the links' starts, and the other by grouping `backward` by their ends.
+pub fn group_both(
+    n: usize,
+    starts: &[u16],
+    ends: &[u16],
+    forward: &[u16],
+    backward: &[u16],
+    offsets: &mut [u16],
+    links: &mut [u16],
+)
+    requires { ⌜ NetRoom (now offsets) (now links) ⌝ }
+    requires { ⌜ n ≤ 512 ⌝ }
+    requires { ⌜ (length (now starts) ≤ 4096) × (length (now ends) ≤ 4096) ⌝ }
+    requires { ⌜ (length (now starts) ≡ length (now forward)) × (length (now ends) ≡ length (now backward)) ⌝ }
+    requires { ⌜ T (all (λ v. ltb v n) (now starts)) × T (all (λ v. ltb v n) (now ends)) ⌝ }
+    ensures { λ _. ⌜ Grouped n (now (starts .entry)) (now (ends .entry)) (now (forward .entry)) (now (backward .entry)) (now (offsets .entry)) (now (links .entry)) (now (offsets .exit)) (now (links .exit)) ⌝ }
+{
+    group(
+        n,
+        starts,
+        forward,
+        &mut offsets[..FORWARD_OFFSETS],
+        &mut links[..FORWARD_LINKS],
+    );
+    group(
+        n,
+        ends,
+        backward,
+        &mut offsets[513..1026],
+        &mut links[4096..8192],
+    );
+}
 
 // Fills the tables of n nodes whose links go from `starts` to `ends`.
 pub fn neighbour_tables(
@@ -31,18 +65,5 @@ pub fn neighbour_tables(
     requires { ⌜ T (all (λ v. ltb v n) (now starts)) × T (all (λ v. ltb v n) (now ends)) ⌝ }
     ensures { λ _. ⌜ NetOf n (now (starts .entry)) (now (ends .entry)) (now (offsets .exit)) (now (links .exit)) ⌝ }
 {
-    group(
-        n,
-        starts,
-        ends,
-        &mut offsets[..FORWARD_OFFSETS],
-        &mut links[..FORWARD_LINKS],
-    );
-    group(
-        n,
-        ends,
-        starts,
-        &mut offsets[513..1026],
-        &mut links[4096..8192],
-    );
+    group_both(n, starts, ends, ends, starts, offsets, links);
 }

@@ -8,7 +8,7 @@ ghost use mathlib.Core.Path.{_≡_};
 ghost use Prim.Native.Nat.{_≤_, _<_};
 ghost use lib.ListN.{length, take, drop, replicate};
 ghost use Rattle.base_lists.specs.List.{Below};
-ghost use Rattle.graph.specs.Bfs.{visit, scan, level, levels, bfs, adjacent, stateOf, Searching, Searched, Found};
+ghost use Rattle.graph.specs.Bfs.{visit, scan, level, levels, start, bfs, adjacent, stateOf, Searching, Searched, Found};
 ghost use Rattle.graph.specs.Net.{Net};
 ghost use Rattle.graph.specs.Search.{far};
 
@@ -46,7 +46,7 @@ fn scan(part: &[u16], d: u16, dist: &mut [u16], queue: &mut [u16], from: usize) 
 }
 
 // Looks at the neighbours of node v: what it drives, then what drives it.
-fn expand(
+pub fn expand(
     offsets: &[u16],
     links: &[u16],
     v: usize,
@@ -125,6 +125,18 @@ pub fn fill(s: &mut [u16], x: u16)
     }
 }
 
+// Sets the tables up for a search from the centre c, which alone is reached, and alone in the queue.
+pub fn begin(c: u16, dist: &mut [u16], queue: &mut [u16])
+    requires { ⌜ c < length (now dist) ⌝ }
+    requires { ⌜ length (now dist) ≡ length (now queue) ⌝ }
+    ensures { λ _. ⌜ Searched (now (dist .exit)) (now (queue .exit)) 1 (start (length (now (dist .entry))) c) ⌝ }
+{
+    fill(dist, UNREACHED);
+    let i = c as usize;
+    dist[i] = 0;
+    queue[0] = c;
+}
+
 // The distances of the nodes from the centre c, up to r: `dist[v]` is the distance of node v, and `UNREACHED` where it is more than r.
 // Returns how many nodes it reached; they stand first in the queue, nearest first.
 pub fn search(
@@ -140,9 +152,6 @@ pub fn search(
     requires { ⌜ length (now dist) ≡ length (now queue) ⌝ }
     ensures { λ k. ⌜ Found k (now (dist .exit)) (now (queue .exit)) (bfs (adjacent (now (offsets .entry)) (now (links .entry))) (length (now (dist .entry))) c r) ⌝ }
 {
-    fill(dist, UNREACHED);
-    let i = c as usize;
-    dist[i] = 0;
-    queue[0] = c;
+    begin(c, dist, queue);
     levels(offsets, links, r, dist, queue)
 }

@@ -66,7 +66,8 @@ fn usage() {
     );
 }
 
-fn run(out: &mut [u8])
+// The load that the arguments ask for, by way of a buffer that is lent whole.
+fn load_asked_for(out: &mut [u8])
     requires { ⌜ lengthOf editions.First 512 4096 ≤ length (now out) ⌝ }
 {
     if os::arg_count() != 5 {
@@ -103,5 +104,5 @@ fn run(out: &mut [u8])
 
 fn main() {
     let mut out = [0u8; BYTES];
-    run(&mut out);
+    load_asked_for(&mut out);
 }

@@ -17,6 +17,12 @@ pub struct Around {
     pub radius: u16,
 }
 
+// What a call is asked for: a centre, which may be none of the board's nodes, and a radius.
+pub struct Asked {
+    pub centre: usize,
+    pub radius: u16,
+}
+
 // Whether there is a place, how many nodes it has, and where the rounds ended in the ball.
 pub struct Found {
     pub found: bool,

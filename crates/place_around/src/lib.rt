@@ -2,7 +2,7 @@
 // that asks for one after another. No file is read here, and nothing is tested but whether there is a place.
 use place::Found;
 use place_component::component;
-use table::largest::refine;
+use table_largest::refine;
 ghost use mathlib.Core.Path.{_≡_};
 ghost use Prim.Native.Nat.{_≤_};
 ghost use lib.ListN.{length, take};

@@ -6,11 +6,10 @@ ghost use lib.ListN.{length, take};
 ghost use Rattle.graph.specs.Bfs.{scan, stateOf, Searching, Searched};
 ghost use Rattle.table.specs.Prepared.{tables, Ready};
 ghost use Rattle.place.specs.Spread.{matched, Spread, Lists};
-use graph::UNREACHED;
 use graph_follow::follow;
 use graph_neighbours::neighbours::Direction;
 use graph_neighbours::neighbours::neighbours_in;
-use graph_search::fill;
+use graph_search::begin;
 use place::parts::driven_parts;
 use place::parts::driving_parts;
 
@@ -69,10 +68,7 @@ pub fn component(
     ensures { λ _. ⌜ Spread (length (now (dist .entry))) c (matched (tables (now (masks .entry)) (now (offsets .entry)) (now (links .entry))) (now (sets .entry))) (now (dist .exit)) ⌝ }
     ensures { λ k. ⌜ (k ≤ length (now (queue .exit))) × Lists (take k (now (queue .exit))) (now (dist .exit)) ⌝ }
 {
-    fill(dist, UNREACHED);
-    let at = c as usize;
-    dist[at] = 0;
-    queue[0] = c;
+    begin(c, dist, queue);
     let mut tail = 1;
     let mut i = 0;
     while i < tail {

@@ -139,11 +139,10 @@ module _ (n c : ℕ) (adj : ℕ → List ℕ) (r : ℕ) where
           }
 
   -- so many nodes are reached
-  pub covering-end : (i hi d : ℕ) (s : State) → n < far → Covering n c adj r i hi d s → (size : ℕ) → length (s .reached) ≡ size → Covered n c adj r size (s .dist)
+  pub covering-end : (i hi d : ℕ) (s : State) → n < far → Covering n c adj r i hi d s → (size : ℕ) → length (s .reached) ≡ size → Covered n c adj r size (s .reached) (s .dist)
   covering-end i hi d s few g size e =
       record {
         long = g .spreading .ready .size;
-        nodes = s .reached;
         lists = spreading-lists n c adj i s few (g .spreading);
         count = e;
         least = g .spreading .least;
@@ -152,10 +151,10 @@ module _ (n c : ℕ) (adj : ℕ → List ℕ) (r : ℕ) where
 
 -- Where a search has reached as many nodes as the component has, it has reached the component.
 pub covered-spread :
-    {n c : ℕ} {adj : ℕ → List ℕ} {r size : ℕ} {comp nodes dist : List ℕ} → c < n → ((v : ℕ) → v < n → Below n (adj v)) → Component n c adj size comp nodes →
-    Covered n c adj r size dist → Spread n c adj dist
+    {n c : ℕ} {adj : ℕ → List ℕ} {r size : ℕ} {comp nodes dist covered : List ℕ} → c < n → ((v : ℕ) → v < n → Below n (adj v)) →
+    Component n c adj size comp nodes → Covered n c adj r size covered dist → Spread n c adj dist
 unfolding Below
-covered-spread {n} {c} {adj} {r} {size} {comp} {nodes} {dist} h below k g =
+covered-spread {n} {c} {adj} {r} {size} {comp} {nodes} {dist} {covered} h below k g =
     record {
       size = g .long;
       centre = out c h (k .spread .centre);
@@ -171,7 +170,7 @@ covered-spread {n} {c} {adj} {r} {size} {comp} {nodes} {dist} h below k g =
     member : (v : ℕ) → v < n → Reached comp v → Occurs nodes v
     member v m f = k .lists .complete v (rw (k .spread .size) m) f
 
-    inner : (w : ℕ) → Occurs (g .nodes) w → Occurs nodes w
+    inner : (w : ℕ) → Occurs covered w → Occurs nodes w
     inner w o =
         let m : w < n = subst (λ (x : ℕ). x < n) (o .2) (rw (g .long) at (g .lists .list .below (o .0) (o .1))) in
         member w m (into w m (g .lists .near w o))
@@ -179,4 +178,4 @@ covered-spread {n} {c} {adj} {r} {size} {comp} {nodes} {dist} h below k g =
     out : (v : ℕ) → v < n → Reached comp v → Reached dist v
     out v m f =
         g .lists .near v
-        (all-within (g .nodes) nodes (g .lists .list .distinct) inner (omega (arith, k .count, g .count)) v (member v m f))
+        (all-within covered nodes (g .lists .list .distinct) inner (omega (arith, k .count, g .count)) v (member v m f))

@@ -19,7 +19,7 @@ use Rattle.graph.specs.Search.{far}
 use Rattle.graph.proofs.Net.{net-of}
 use Rattle.table.specs.Fill.{listed, fillAt, NodeList}
 use Rattle.table.specs.Prepared.{Tables, Ready}
-use Rattle.table.proofs.StrikeFill.{length-fill, getD-fill}
+use Rattle.table.proofs.Fill.{length-fill, getD-fill}
 use Rattle.place.specs.Match.{matchStarts, matchEnds}
 use Rattle.place.specs.Spread.{matched, Reached, Spread, Lists}
 use Rattle.place.proofs.Find.{tabled-joins}
@@ -58,7 +58,7 @@ spread-same {c = c} {other = other} g h v l r =
     (g .least (near other) (is-near other c (h .centre)) (λ x y m t o. is-near other y (h .closed x y m (near-is other x t) o)) v l r)
 
 -- what reaches the same nodes as a search is one
-pub spread-respect : {n c : ℕ} {adj : ℕ → List ℕ} {dist other : List ℕ} → c < n → ((v : ℕ) → v < n → Below n (adj v)) → Spread n c adj dist → length other ≡ n
+spread-respect : {n c : ℕ} {adj : ℕ → List ℕ} {dist other : List ℕ} → c < n → ((v : ℕ) → v < n → Below n (adj v)) → Spread n c adj dist → length other ≡ n
     → ((v : ℕ) → v < n → Reached dist v → Reached other v) → ((v : ℕ) → v < n → Reached other v → Reached dist v) → Spread n c adj other
 unfolding Below
 spread-respect {n} {c} {adj} h below g e into back =
@@ -70,7 +70,7 @@ spread-respect {n} {c} {adj} h below g e into back =
     }
 
 -- a table with an entry at each node of a list, and `far` elsewhere, is what a search leaves that has reached those nodes
-pub marked-lists : {n : ℕ} {nodes : List ℕ} → NodeList n nodes → (length (fillAt (λ v. 0) nodes (replicate n far)) ≡ n) × Lists nodes (fillAt (λ v. 0) nodes (replicate n far))
+marked-lists : {n : ℕ} {nodes : List ℕ} → NodeList n nodes → (length (fillAt (λ v. 0) nodes (replicate n far)) ≡ n) × Lists nodes (fillAt (λ v. 0) nodes (replicate n far))
 unfolding listed Below
 marked-lists {n} {nodes} l = (long, record { list = rw long l; near = near-at; complete = at-near })
   where
@@ -98,6 +98,17 @@ marked-lists {n} {nodes} l = (long, record { list = rw long l; near = near-at; c
         let low : v < n = rw long at m in
         let (i, b, e) = any-at (λ w. eqb w v) nodes (left (listed nodes v) (λ q. r (entry v low ∙ q))) in
         (i, b, eqb→eq _ _ e)
+
+-- so the marks of the nodes that a search reached are what one leaves that has reached the same
+pub marked-spread : {n c : ℕ} {adj : ℕ → List ℕ} {comp nodes : List ℕ} → c < n → ((v : ℕ) → v < n → Below n (adj v)) → Spread n c adj comp → Lists nodes comp
+    → Spread n c adj (fillAt (λ v. 0) nodes (replicate n far)) × Lists nodes (fillAt (λ v. 0) nodes (replicate n far))
+marked-spread h below g l =
+    let (long, marks) = marked-lists (rw (g .size) at (l .list)) in (
+      spread-respect h below g long
+          (λ v m q. marks .near v (l .complete v (rw (g .size) m) q))
+          (λ v m q. l .near v (marks .complete v (rw long m) q)),
+      marks,
+    )
 
 pub reached-or-not : (dist : List ℕ) (v : ℕ) → Reached dist v ⊎ (getD dist v 0 ≡ far)
 reached-or-not dist v = go (eqb (getD dist v 0) far) refl

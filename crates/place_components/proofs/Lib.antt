@@ -1,3 +1,4 @@
 pub mod Lists
 pub mod Labels
 pub mod Covering
+pub mod Seeking

@@ -5,10 +5,12 @@ use mathlib.Core.List.{List, [], _∷_, _++_, append-nil}
 use mathlib.Core.Path.{_≡_, refl, sym, ap, subst, _∙_}
 use Prim.Native.Nat.{ℕ, zero, suc, _+_, _≤_, _<_, zero-le, suc-le-suc}
 use native.Mathlib.Nat.{le-step, le-of-suc-le-suc, not-suc-le-zero, zero-lt-suc}
+use native.Mathlib.Numerals.{add-one}
 use native.Mathlib.Omega.{arith}
 use borrow.Author.Tests.{ne-eqb}
 use lib.Dec.{T, eqb, eqb-refl}
-use lib.ListN.{length, getD}
+use lib.ListN.{length, getD, take, length-append, List·getD-append}
+use lib.Seq.{take-suc}
 use Rattle.base_lists.specs.List.{Occurs, Below}
 use Rattle.base_lists.specs.Below.{countBelow, leastBelow}
 use Rattle.base_lists.proofs.Below.{leastBelow-is}
@@ -37,6 +39,17 @@ distinct-rest x xs d = λ i j h k e. d (suc i) (suc j) (suc-le-suc h) (suc-le-su
 distinct-first : (x : ℕ) (xs : List ℕ) → Distinct (x ∷ xs) → Occurs xs x → ⊥
 unfolding Distinct
 distinct-first x xs d (j, k, e) = d zero (suc j) (zero-lt-suc j) (suc-le-suc k) (sym e)
+
+-- the first of a list of nodes are one
+pub first-list : {n : ℕ} (xs ys : List ℕ) → NodeList n (xs ++ ys) → NodeList n xs
+unfolding Below Distinct
+first-list {n} xs ys l =
+    let long = length-append xs ys in
+    record {
+      below = λ i h. subst (λ (v : ℕ). v < n) (List·getD-append xs ys 0 i h) (l .below i (omega arith));
+      distinct = λ i j h k e. l .distinct i j h (omega arith) (List·getD-append xs ys 0 i (omega arith) ∙ e ∙ sym (List·getD-append xs ys 0 j k));
+      short = omega (arith, l .short);
+    }
 
 -- ---- as long as another
 
@@ -139,3 +152,14 @@ module _ (p : ℕ → Bool) where
           → cond b (x ∷ having p (xs ++ (v ∷ []))) (having p (xs ++ (v ∷ []))) ≡ cond b (x ∷ having p xs) (having p xs) ++ cond (p v) (v ∷ []) []
       go true e = ap (λ (l : List ℕ). x ∷ l) e
       go false e = e
+
+  -- the same, counted
+  pub having-count : (xs : List ℕ) (i : ℕ) → i < length xs → length (having p (take (i + 1) xs)) ≡ length (having p (take i xs)) + cond (p (getD xs i 0)) 1 0
+  having-count xs i h =
+      rw (add-one i)
+      (ap (λ (l : List ℕ). length (having p l)) (take-suc xs i 0 h) ∙ ap length (having-more (take i xs) (getD xs i 0))
+      ∙ length-append (having p (take i xs)) _ ∙ ap (λ (k : ℕ). length (having p (take i xs)) + k) (go (p (getD xs i 0))))
+    where
+      go : (b : Bool) → length (cond b (getD xs i 0 ∷ []) []) ≡ cond b 1 0
+      go true = refl
+      go false = refl

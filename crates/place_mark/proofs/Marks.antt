@@ -19,7 +19,7 @@ use Rattle.graph.proofs.Lookup.{stretch-part}
 use Rattle.graph.proofs.Net.{stretch-sound, net-few}
 use Rattle.table.specs.Fill.{marksOf, fillAt, tableAt}
 use Rattle.table.specs.Prepared.{succOf, Tables}
-use Rattle.table.proofs.StrikeFill.{fill-table, cleared-none}
+use Rattle.table.proofs.Fill.{fill-table, cleared-none}
 use Rattle.place.specs.Bytes.{drivenBy, markedEnds, marksLink, markStart, markStarts, linkMarks}
 
 -- an entry that is not written yet

@@ -3,7 +3,7 @@
 use graph_neighbours::neighbours::Direction;
 use graph_neighbours::neighbours::neighbours_in;
 use place::parts::driven_parts;
-use table::first::copy;
+use table_first::copy;
 ghost use mathlib.Core.Bool.{cond};
 ghost use mathlib.Core.Path.{_≡_};
 ghost use Prim.Native.Nat.{suc, _≤_, _<_};

@@ -10,7 +10,7 @@ use place_around::find;
 use proposal_marks::marks::in_row;
 use proposal_marks::marks::links_placed;
 use proposal_marks::marks::marks_subgraph;
-use table::first::start;
+use table_first::start;
 use table_prepare::lookups::prepare;
 ghost use mathlib.Core.Path.{_≡_};
 ghost use Prim.Native.Nat.{_≤_, _<_};

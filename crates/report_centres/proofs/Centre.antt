@@ -7,15 +7,13 @@ use Prim.Native.Nat.{ℕ, _≤_, _<_}
 use native.Mathlib.Omega.{arith}
 use borrow.Author.Tests.{eq-eqb, ne-eqb}
 use lib.Dec.{eqb}
-use lib.ListN.{length, getD, take}
+use lib.ListN.{length, getD}
 use Rattle.base_lists.proofs.Tests.{T-false, false-T}
 use Rattle.base_bits.specs.Bits.{bit}
 use Rattle.base_bits.proofs.Digits.{bit-of-zero, no-bits}
 use Rattle.base_text.specs.Text.{Put}
-use Rattle.graph.specs.Bfs.{bfs, adjacent, Found as Searched}
 use Rattle.graph.specs.Circuit.{Circuit}
 use Rattle.graph.specs.Net.{Net}
-use Rattle.table.specs.Fill.{NodeList}
 use Rattle.table.specs.Host.{everything}
 use Rattle.table.specs.Row.{inTable, InTable}
 use Rattle.table.specs.Prepared.{Tables}
@@ -25,7 +23,7 @@ use Rattle.table.proofs.Narrow.{last-wider}
 use Rattle.place.specs.Match.{radiusOf, ballOf, ballTable, found}
 use Rattle.place.specs.Find.{Tabled, Located}
 use Rattle.place.proofs.Ball.{ball-fits}
-use Rattle.place.proofs.Find.{drawn-tabled, tabled-net, ball-short, ball-list}
+use Rattle.place.proofs.Find.{drawn-tabled, tabled-net}
 use Rattle.place.proofs.Outcome.{found-none}
 use Rattle.report.specs.Lines.{lineText}
 use Rattle.report.specs.Report.{hasPlace, centreLine}
@@ -46,23 +44,6 @@ module _ {pattern board : Circuit} {t : Tables} {table : List ℕ} {r : ℕ} (s 
   -- the neighbour tables are over its entries
   pub source-net : {n : ℕ} → n ≡ length table → Net n (t .offsets) (t .links)
   source-net e = rw (e ∙ source-long) (tabled-net source-tabled)
-
-  -- ---- what finding begins with
-
-  -- the search over tables with an entry for each node lists the ball,
-  module _ (c : ℕ) (h : c < length table) {n k : ℕ} {dist queue : List ℕ} (e : n ≡ length table)
-      (f : Searched k dist queue (bfs (adjacent (t .offsets) (t .links)) n c r)) where
-    node : c < length (board .kinds)
-    node = rw source-long at h
-
-    pub source-searched : Searched k dist queue (bfs (adjacent (t .offsets) (t .links)) (length (board .kinds)) c r)
-    source-searched = rw (e ∙ source-long) at f
-
-    pub source-short : k ≤ n
-    source-short = rw (e ∙ source-long) (ball-short source-tabled c r node source-searched)
-
-    pub source-list : {m : ℕ} → m ≡ length table → NodeList m (take k queue)
-    source-list l = rw (l ∙ source-long) (ball-list source-tabled c r node source-searched)
 
   -- ---- the line
 

@@ -1,22 +1,25 @@
--- The centre's component in the whole board's match graph. Where matching links lead to all of it in r steps the ball holds it, and the place is the
--- component with its matching links; else the place comes from those nodes of the ball that have the component's label. Assumes nothing.
+-- The centre's component in the whole board's match graph. Where matching links lead to all of it in r steps, or the board's links
+-- to as many nodes with its label as it has, the ball holds it, and the place is the component with its matching links; else the place comes from those nodes
+-- of the ball that have its label. Assumes nothing.
 use mathlib.Core.Bool.{Bool, true, false, cond}
-use mathlib.Core.List.{List}
+use mathlib.Core.List.{List, [], _++_, append-nil}
 use mathlib.Core.Logic.{inl, inr, ⊎-elim}
 use mathlib.Core.Path.{_≡_, refl, sym, ap, subst, _∙_}
 use Prim.Native.Nat.{ℕ, _^_, _≤_, _<_}
 use native.Mathlib.Omega.{arith}
 use borrow.Author.Tests.{eq-eqb}
 use lib.Dec.{T, eqb, eqb→eq}
-use lib.ListN.{length, getD, take, replicate}
+use lib.ListN.{length, getD}
+use lib.Seq.{take-length}
 use Rattle.base_lists.specs.List.{Occurs, Below}
 use Rattle.base_lists.proofs.Tests.{true-T, any-at, at-any}
 use Rattle.base_lists.proofs.Tables.{getD-tabulate}
 use Rattle.graph.specs.Bfs.{bfs, adjacent, Found as Searched}
 use Rattle.graph.specs.Circuit.{Circuit}
-use Rattle.graph.specs.Search.{far, inside}
-use Rattle.graph.proofs.Ball.{inside-zero, inside-suc, inside-grows}
-use Rattle.table.specs.Fill.{listed, marksOf, NodeList, fillAt}
+use Rattle.graph.specs.Search.{inside}
+use Rattle.graph.proofs.BfsScan.{occurs-append}
+use Rattle.graph.proofs.Ball.{inside-zero, inside-suc, inside-grows, inside-mono}
+use Rattle.table.specs.Fill.{listed, marksOf, NodeList}
 use Rattle.table.specs.First.{Written}
 use Rattle.table.specs.Host.{Taken, everything}
 use Rattle.table.specs.Prepared.{Tables}
@@ -30,9 +33,9 @@ use Rattle.place.specs.Find.{Sought, Located}
 use Rattle.place.specs.Spread.{matched, Reached, Spread, Lists}
 use Rattle.place.proofs.Find.{ball-list, ball-marks, whole-located, whole-found, cut-seen}
 use Rattle.place.proofs.Links.{match-kept}
-use Rattle.place_components.specs.Components.{having, MatchTable, Growing, Covered}
-use Rattle.place_components.proofs.Lists.{all-within, having-from, having-to, having-list}
-use Rattle.place_components.proofs.Labels.{match-adjacency, spread-same, spread-respect, marked-lists}
+use Rattle.place_components.specs.Components.{MatchTable, Growing, Covered, sameLabel, Gathered}
+use Rattle.place_components.proofs.Lists.{first-list, all-within, having-from, having-to, having-list}
+use Rattle.place_components.proofs.Labels.{match-adjacency, spread-same}
 use Rattle.place_components.proofs.Covering.{covered-spread}
 use Rattle.report_centres.specs.Pieces.{Source, CentreLabelled, Cut}
 use Rattle.report_centres.proofs.Centre.{source-tabled, source-long}
@@ -87,7 +90,7 @@ module _ {pattern board : Circuit} {t : Tables} {table : List ℕ} {r : ℕ} (s 
         }
 
     -- the component is reached in r steps: the ball holds it
-    pub covered-held : {labels dist : List ℕ} {size : ℕ} → CentreLabelled t table labels size c → Covered (length table) c (matched t table) r size dist
+    pub covered-held : {labels nodes dist : List ℕ} {size : ℕ} → CentreLabelled t table labels size c → Covered (length table) c (matched t table) r size nodes dist
         → (comp : List ℕ) → Spread (length table) c (matched t table) comp → (v : ℕ) → v < n → Reached comp v → T (inside (ballOf board c r) v)
     covered-held l g comp k v m q =
         let h′ : v < length table = rw (source-long s) m in
@@ -106,15 +109,30 @@ module _ {pattern board : Circuit} {t : Tables} {table : List ℕ} {r : ℕ} (s 
       pub held-located : (nodes : List ℕ) → Lists nodes dist → Located pattern board t c r dist table nodes
       held-located = whole-located (source-tabled s) even r node (s .whole) spread held
 
-    -- ---- the ball's nodes in the component
+    -- ---- the nodes in the component that a search of the board's links gathers
 
-    module _ {labels : List ℕ} {size : ℕ} (l : CentreLabelled t table labels size c) {k : ℕ} {dist queue : List ℕ}
-        (searched : Searched k dist queue (bfs (adjacent (t .offsets) (t .links)) n c r)) where
+    module _ {labels : List ℕ} {size : ℕ} (l : CentreLabelled t table labels size c) {nodes : List ℕ}
+        (g : Gathered (adjacent (t .offsets) (t .links)) (length table) c r (sameLabel labels c) size nodes) where
+      abbrev d : ℕ
+      d = g .until .depth
+
       abbrev test : ℕ → Bool
-      test v = eqb (getD labels v 0) (getD labels c 0)
+      test = sameLabel labels c
 
-      abbrev kept : List ℕ
-      kept = having test (take k queue)
+      -- what it has reached is the first of the ball of some radius, which is at most r
+      abbrev all : List ℕ
+      all = g .all ++ g .until .rest
+
+      searched : Searched (length all) (bfs (adjacent (t .offsets) (t .links)) n c d .dist) all (bfs (adjacent (t .offsets) (t .links)) n c d)
+      searched =
+          let e : all ≡ bfs (adjacent (t .offsets) (t .links)) n c d .reached = rw (source-long s) at (g .until .reached) in
+          record { distances = refl; count = ap length e; nodes = take-length all ∙ e }
+
+      ball : marksOf n all ≡ ballOf board c d
+      ball = ap (marksOf n) (sym (take-length all)) ∙ ball-marks (source-tabled s) c d node searched
+
+      list : NodeList n nodes
+      list = rw (g .passed) (having-list test (first-list (g .all) (g .until .rest) (rw (take-length all) at (ball-list (source-tabled s) c d node searched))))
 
       occurs-taken : (nodes : List ℕ) (v : ℕ) → v < n → Occurs nodes v → Taken board (marksOf n nodes) v
       unfolding listed
@@ -127,63 +145,63 @@ module _ {pattern board : Circuit} {t : Tables} {table : List ℕ} {r : ℕ} (s 
           let (i, b, e) = any-at (λ w. eqb w v) nodes (subst T (inside-marks n nodes v (m .below)) (m .marked)) in
           (i, b, eqb→eq _ _ e)
 
-      ball : marksOf n (take k queue) ≡ ballOf board c r
-      ball = ball-marks (source-tabled s) c r node searched
+      passed : (v : ℕ) → Occurs nodes v → Occurs (g .all) v × T (test v)
+      passed v o = having-from test (g .all) v (rw (g .passed) at o)
 
-      list : NodeList n kept
-      list = having-list test (ball-list (source-tabled s) c r node searched)
-
-      within : (v : ℕ) → Taken board (marksOf n kept) v → Taken board (ballOf board c r) v
+      within : (v : ℕ) → Taken board (marksOf n nodes) v → Taken board (ballOf board c d) v
       within v m =
           subst (λ (row : List ℕ). Taken board row v) ball
-          (occurs-taken (take k queue) v (m .below) (having-from test (take k queue) v (taken-occurs kept v m) .0))
+          (occurs-taken all v (m .below) (occurs-append v (g .all) (g .until .rest) .1 (inl (passed v (taken-occurs nodes v m) .0))))
 
-      keeps : (v : ℕ) → Taken board (ballOf board c r) v → Reached (l .comp) v → Taken board (marksOf n kept) v
-      keeps v m q =
-          occurs-taken kept v (m .below)
-          (having-to test (take k queue) v (taken-occurs (take k queue) v (subst (λ (row : List ℕ). Taken board row v) (sym ball) m))
-          (true-T (eq-eqb _ _ (l .same v (rw (source-long s) (m .below)) q))))
+      -- They are not as many as the component has: all of the ball of r is reached,
+      module _ (f : length nodes ≡ size → ⊥) where
+        whole : (d ≡ r) × (g .until .rest ≡ [])
+        whole = g .until .stop (λ q. f (ap length (g .passed) ∙ q))
 
-      pub kept-cut : {nodes : List ℕ} → nodes ≡ kept → Cut pattern board t (record { centre = c; radius = r }) nodes
-      kept-cut e =
-          record {
-            list = rw e list;
-            seen = rw e (cut-seen (source-tabled s) c r node {comp = l .comp} even (s .whole) (rw (← source-long s) (l .component .spread)) (marksOf n kept) within keeps);
-          }
+        keeps : (v : ℕ) → Taken board (ballOf board c d) v → Reached (l .comp) v → Taken board (marksOf n nodes) v
+        keeps v m q =
+            let o : Occurs all v = taken-occurs all v (subst (λ (row : List ℕ). Taken board row v) (sym ball) m) in
+            let o′ : Occurs (g .all) v = rw (whole .1, append-nil (g .all)) at o in
+            occurs-taken nodes v (m .below)
+            (rw (g .passed) (having-to test (g .all) v o′ (true-T (eq-eqb _ _ (l .same v (rw (source-long s) (m .below)) q)))))
 
-      -- they are as many as the component has:
-      module _ (all : length kept ≡ size) where
-        table-list : NodeList (length table) kept
-        table-list = rw (source-long s) list
+        -- and the place comes from them.
+        pub gathered-cut : Cut pattern board t (record { centre = c; radius = r }) nodes
+        gathered-cut =
+            let e = whole .0 in
+            record {
+              list = list;
+              seen = cut-seen (source-tabled s) c r node {comp = l .comp} even (s .whole) (rw (← source-long s) (l .component .spread)) (marksOf n nodes) (rw e at within) (rw e at keeps);
+            }
 
-        only : (w : ℕ) → w < length table → Occurs kept w → Reached (l .comp) w
-        only w m o = l .only w m (eqb→eq _ _ (having-from test (take k queue) w o .1))
-
-        member : (v : ℕ) → v < length table → Reached (l .comp) v → Occurs kept v
+      -- They are as many:
+      module _ (count : length nodes ≡ size) where
+        low : (w : ℕ) → Occurs nodes w → w < length table
         unfolding Below
+        low w o = subst (λ (x : ℕ). x < length table) (o .2) (rw (source-long s) (list .below (o .0) (o .1)))
+
+        only : (w : ℕ) → Occurs nodes w → Reached (l .comp) w
+        only w o = l .only w (low w o) (eqb→eq _ _ (passed w o .1))
+
+        member : (v : ℕ) → v < length table → Reached (l .comp) v → Occurs nodes v
         member v m q =
-            all-within kept (l .nodes) (list .distinct)
-            (λ w o.
-            let low : w < length table = subst (λ (x : ℕ). x < length table) (o .2) (table-list .below (o .0) (o .1)) in
-            l .component .lists .complete w (rw (l .component .spread .size) low) (only w low o))
-            (omega (arith, all, l .component .count)) v (l .component .lists .complete v (rw (l .component .spread .size) m) q)
+            let full = l .component .lists .complete in
+            let size = l .component .spread .size in
+            all-within nodes (l .nodes) (list .distinct) (λ w o. full w (rw size (low w o)) (only w o)) (omega (arith, count, l .component .count)) v (full v (rw size m) q)
 
         -- the ball holds it,
-        pub kept-held : (comp : List ℕ) → Spread (length table) c (matched t table) comp → (v : ℕ) → v < n → Reached comp v → T (inside (ballOf board c r) v)
-        kept-held comp g v m q =
+        pub gathered-held : (comp : List ℕ) → Spread (length table) c (matched t table) comp → (v : ℕ) → v < n → Reached comp v → T (inside (ballOf board c r) v)
+        unfolding ballOf
+        gathered-held comp k v m q =
             let h′ : v < length table = rw (source-long s) m in
-            within v (occurs-taken kept v m (member v h′ (spread-same g (l .component .spread) v h′ q))) .marked
+            inside-mono n (board .starts) (board .ends) c d r v (g .until .within)
+            (within v (occurs-taken nodes v m (member v h′ (spread-same k (l .component .spread) v h′ q))) .marked)
 
-        -- and their marks are its entries
-        pub kept-lists : Lists kept (fillAt (λ v. 0) kept (replicate (length table) far))
-        kept-lists = marked-lists table-list .1
-
-        pub kept-spread : Spread (length table) c (matched t table) (fillAt (λ v. 0) kept (replicate (length table) far))
-        kept-spread =
-            let (long, marks) = marked-lists table-list in
-            spread-respect h (match-adjacency source-match .inside) (l .component .spread) long
-            (λ v m q. marks .near v (member v m q))
-            (λ v m q. only v m (marks .complete v (rw long m) q))
+        -- and they are it
+        pub gathered-lists : Lists nodes (l .comp)
+        gathered-lists =
+            let size = l .component .spread .size in
+            record { list = rw (size ∙ source-long s) list; near = only; complete = λ v m q. member v (rw size at m) q }
 
   -- the whole board's sets at nodes that the place comes from are a table to begin with
   pub cut-sought : {around : Around} {nodes first : List ℕ} {m count : ℕ} → Cut pattern board t around nodes → around .centre < length table → m ≡ length table

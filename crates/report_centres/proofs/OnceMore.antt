@@ -1,30 +1,31 @@
--- The text of a component, once more: what follows the colon is the same for each centre whose ball holds the component; it stays in the buffer where later
--- lines are put, and what a line puts is found there again. Assumes nothing.
-use mathlib.Core.Bool.{Bool, true, not}
+-- The text of a component, once more: what follows the colon is the same for each centre whose ball holds the component; what a line puts is found in the
+-- buffer again, and stays there where later lines are put; and the table of where such texts stand, with one text more. Assumes nothing.
+use mathlib.Core.Bool.{Bool, true, false, not, cond}
 use mathlib.Core.List.{List, _++_}
-use mathlib.Core.Path.{_≡_, refl, sym, ap, subst, _∙_}
+use mathlib.Core.Path.{_≡_, refl, sym, ap, ap₂, subst, _∙_}
 use Prim.Native.Nat.{ℕ, _+_, _-_, _≤_, _<_}
+use native.Mathlib.Nat.{le-refl}
 use native.Mathlib.Omega.{arith}
-use borrow.Author.Tests.{ne-eqb}
-use lib.Dec.{T, eqb}
-use lib.ListN.{length, getD, length-append}
+use borrow.Author.Tests.{ne-eqb, eqb-true, eqb-false}
+use lib.Dec.{T, eqb, ltb}
+use lib.ListN.{length, getD, set, replicate, length-set, length-append, length-replicate, getD-replicate}
+use lib.Seq.{getD-set-same, getD-set-other}
 use Rattle.base_lists.specs.List.{part}
 use Rattle.base_lists.proofs.Tests.{same-test, true-T}
 use Rattle.base_text.specs.Text.{Put}
+use Rattle.base_text.proofs.Text.{put-same}
 use Rattle.graph.specs.Circuit.{Circuit}
 use Rattle.graph.specs.Search.{far, reached}
 use Rattle.table.specs.Prepared.{Tables}
-use Rattle.place.specs.declared.Around.{Around}
 use Rattle.place.specs.Spread.{matched, Reached, Spread}
 use Rattle.place.proofs.Spread.{spread-from}
 use Rattle.place_components.specs.Components.{Components}
 use Rattle.place_components.proofs.Labels.{match-adjacency, spread-same}
-use Rattle.report.specs.Lines.{lineText}
 use Rattle.report.specs.Report.{centreLine}
 use Rattle.report_texts.specs.Texts.{headText, bodyText}
 use Rattle.report_texts.proofs.Texts.{line-split, body-same, put-before, put-second}
-use Rattle.report_centres.specs.declared.Last.{Last}
-use Rattle.report_centres.specs.Pieces.{Source, Entire, Noted, Kept}
+use Rattle.report_centres.specs.declared.Span.{Span}
+use Rattle.report_centres.specs.Pieces.{Source, Entire, Noted, under, noting, Kept}
 use Rattle.report_centres.proofs.Centre.{source-line}
 use Rattle.report_centres.proofs.Component.{source-match, held-found, held-located}
 
@@ -54,50 +55,114 @@ module _ {pattern board : Circuit} {t : Tables} {table : List ℕ} {r : ℕ} (s 
       (λ q. reached-test other v (spread-same from g′ v m (test-reached dist v q)))
       (λ q. reached-test dist v (spread-same g′ from v m (test-reached other v q))))
 
-  -- so a centre whose ball holds the component has the line of its head and the text that was put last
-  pub again-line :
-      {labels out dist : List ℕ} {last : Last} (c : ℕ) (h : c < n) (f : getD table c 0 ≡ 0 → ⊥) → Noted t table labels out last → getD labels c 0 ≡ last .label →
-      Entire t table (record { centre = c; radius = r }) dist → headText c ++ part (last .from) (last .to - last .from) out ≡ centreLine pattern board c
-  again-line {dist = dist} c h f k e g =
+  -- a centre whose ball holds the component has the line of its head and this text
+  entire-line :
+      {nodes : List ℕ} (c : ℕ) (h : c < n) (f : getD table c 0 ≡ 0 → ⊥) → (g : Entire t table (record { centre = c; radius = r }) nodes) →
+      headText c ++ bodyText t (g .comp) table ≡ centreLine pattern board c
+  entire-line c h f g =
+      let dist = g .comp in
       let held = g .held pattern board s dist (g .spread) in
-      ap (λ (l : List ℕ). headText c ++ l) (k .text c h f e dist (g .spread)) ∙ sym (line-split t dist table c)
-      ∙ source-line s c true (sym (held-found s c h (g .spread) f held)) refl (held-located s c h (g .spread) f held (g .nodes) (g .lists))
+      sym (line-split t dist table c)
+      ∙ source-line s c true (sym (held-found s c h (g .spread) f held)) refl (held-located s c h (g .spread) f held _ (g .lists))
 
--- ---- the text in the buffer
+  -- so it has the line of its head and the text that is noted under its label
+  pub again-line :
+      {labels out nodes : List ℕ} {at label : ℕ} {x : Span} (c : ℕ) (h : c < n) (f : getD table c 0 ≡ 0 → ⊥) → Noted t table labels out at label x →
+      getD labels c 0 ≡ label → Entire t table (record { centre = c; radius = r }) nodes →
+      headText c ++ part (x .from) (x .to - x .from) out ≡ centreLine pattern board c
+  again-line c h f k e g = ap (λ (l : List ℕ). headText c ++ l) (k .text c h f e (g .comp) (g .spread)) ∙ entire-line c h f g
 
--- the text that was put last stays where a line is put after it
+  -- and in its line, which was put, the text is found again
+  pub noted-after :
+      {labels sizes out after nodes : List ℕ} {at past : ℕ} → Components n (matched t table) table labels sizes → (c : ℕ) (h : c < n) (f : getD table c 0 ≡ 0 → ⊥) →
+      Entire t table (record { centre = c; radius = r }) nodes → Put out at (centreLine pattern board c) after past →
+      at + length (centreLine pattern board c) ≤ length out →
+      Noted t table labels after past (getD labels c 0) (record { from = at + length (headText c); to = past })
+  noted-after {labels} {out = out} {after = after} {at = at} {past = past} k c h f g p room =
+      record {
+        order = omega (arith, put .end, two);
+        short = le-refl past;
+        text =
+            λ d l m e other g′.
+            ap (λ (j : ℕ). part (at + length (headText c)) j after) size
+            ∙ put-second (headText c) (bodyText t (g .comp) table) put (rw (← entire-line c h f g) at room)
+            ∙ body-alike k c d h l f e (g .spread) g′;
+      }
+    where
+      put : Put out at (headText c ++ bodyText t (g .comp) table) after past
+      put = put-same (sym (entire-line c h f g)) p
+
+      two : length (headText c ++ bodyText t (g .comp) table) ≡ length (headText c) + length (bodyText t (g .comp) table)
+      two = length-append (headText c) (bodyText t (g .comp) table)
+
+      size : past - (at + length (headText c)) ≡ length (bodyText t (g .comp) table)
+      size = omega (arith, put .end, two)
+
+-- ---- the texts in the buffer, and the table of them
+
+-- at first there are none
+pub kept-start : {t : Tables} {table labels out : List ℕ} → Kept t table labels out 0 (replicate 1024 0)
+kept-start = record { long = length-replicate {A = ℕ} 1024 0; noted = λ label h f. absurd (f (getD-replicate {A = ℕ} 1024 (512 + label) 0 0 (omega arith))) }
+
+-- they stay where a line is put after them
 pub kept-after :
-    {t : Tables} {table labels out after xs : List ℕ} {last next : Last} {at past : ℕ} → Kept t table labels out last → Put out at xs after past → last .at ≤ at →
-    at ≤ length out → next .label ≡ last .label → next .from ≡ last .from → next .to ≡ last .to → last .at ≤ next .at → Kept t table labels after next
-kept-after {t} {table} {labels} {out} {after} {last = last} {next = next} {at = at} k p low room e₁ e₂ e₃ more f =
-    let g = k (λ z. f (e₃ ∙ z)) in
-    record {
-      order = rw (e₂, e₃) (g .order);
-      short = omega (arith, e₃, g .short);
-      text =
-          λ c h m e dist s.
-          rw (e₂, e₃)
-          (put-before p (last .from) (last .to - last .from) (omega (arith, g .order, g .short)) (omega (arith, g .order, g .short))
-          ∙ g .text c h m (e ∙ e₁) dist s);
-    }
-
--- a line that is put is found there again
-pub noted-after :
-    {pattern board : Circuit} {t : Tables} {table labels sizes out after dist : List ℕ} {r : ℕ} {next : Last} {at past : ℕ} (s : Source pattern board t table r) →
-    Components (length table) (matched t table) table labels sizes → (c : ℕ) → c < length table → (getD table c 0 ≡ 0 → ⊥) →
-    Spread (length table) c (matched t table) dist → Put out at (lineText t dist table c) after past → at + length (lineText t dist table c) ≤ length out →
-    next .label ≡ getD labels c 0 → next .from ≡ at + length (headText c) → next .to ≡ past → next .at ≡ past → Noted t table labels after next
-noted-after {t = t} {table = table} {out = out} {after = after} {dist = dist} {at = at} {past = past} s k c h f g p room e₁ e₂ e₃ e₄ =
-    record {
-      order = omega (arith, e₂, e₃, p .end, ap length (line-split t dist table c), length-append (headText c) (bodyText t dist table));
-      short = omega (arith, e₃, e₄);
-      text =
-          λ d l m e other g′.
-          rw (e₂, e₃)
-          (ap (λ (j : ℕ). part (at + length (headText c)) j after) size
-          ∙ put-second (headText c) (bodyText t dist table) (rw (line-split t dist table c) at p) (rw (line-split t dist table c) at room)
-          ∙ body-alike s k c d h l f (e ∙ e₁) g g′);
-    }
+    {t : Tables} {table labels out after xs texts : List ℕ} {at past : ℕ} → Kept t table labels out at texts → Put out at xs after past → at ≤ length out →
+    Kept t table labels after past texts
+kept-after {t} {table} {labels} {after = after} {texts = texts} {past = past} k p room =
+    record { long = k .long; noted = later }
   where
-    size : past - (at + length (headText c)) ≡ length (bodyText t dist table)
-    size = omega (arith, p .end, ap length (line-split t dist table c), length-append (headText c) (bodyText t dist table))
+    later : (label : ℕ) → label < 512 → (under texts label .to ≡ 0 → ⊥) → Noted t table labels after past label (under texts label)
+    later label h f =
+        let g = k .noted label h f in
+        let x = under texts label in
+        record {
+          order = g .order;
+          short = omega (arith, g .short, p .end);
+          text =
+              λ c h m e dist s.
+              put-before p (x .from) (x .to - x .from) (omega (arith, g .order, g .short)) (omega (arith, g .order, g .short)) ∙ g .text c h m e dist s;
+        }
+
+-- one text more
+module _ (texts : List ℕ) (long : length texts ≡ 1024) (label : ℕ) (low : label < 512) (x : Span) where
+  abbrev more : List ℕ
+  more = set (set texts label (x .from)) (512 + label) (x .to)
+
+  span : {a b c d : ℕ} → a ≡ c → b ≡ d → _≡_ {A = Span} (record { from = a; to = b }) (record { from = c; to = d })
+  span e f = ap₂ (λ (a b : ℕ). record { from = a; to = b }) e f
+
+  here : under more label ≡ x
+  here =
+      span
+      (getD-set-other (set texts label (x .from)) (512 + label) label (x .to) 0 (λ e. omega arith) ∙ getD-set-same texts label (x .from) 0 (omega arith))
+      (getD-set-same (set texts label (x .from)) (512 + label) (x .to) 0 (rw (length-set texts label (x .from)) (omega arith)))
+
+  elsewhere : (l : ℕ) → l < 512 → (l ≡ label → ⊥) → under more l ≡ under texts l
+  elsewhere l h f =
+      span
+      (getD-set-other (set texts label (x .from)) (512 + label) l (x .to) 0 (λ e. omega arith) ∙ getD-set-other texts label l (x .from) 0 f)
+      (getD-set-other (set texts label (x .from)) (512 + label) (512 + l) (x .to) 0 (λ e. f (omega arith))
+      ∙ getD-set-other texts label (512 + l) (x .from) 0 (λ e. omega arith))
+
+pub kept-more :
+    {t : Tables} {table labels out texts : List ℕ} {at : ℕ} → Kept t table labels out at texts → (label : ℕ) → label < 512 → (x : Span) →
+    Noted t table labels out at label x → Kept t table labels out at (noting texts label x)
+unfolding noting
+kept-more {t} {table} {labels} {out} {texts} {at} k label h x g = go (ltb 4294967295 (x .to))
+  where
+    also : (l : ℕ) → l < 512 → (b : Bool) → eqb l label ≡ b → (under (more texts (k .long) label h x) l .to ≡ 0 → ⊥) →
+        Noted t table labels out at l (under (more texts (k .long) label h x) l)
+    also l m true e f =
+        subst (λ (j : ℕ). Noted t table labels out at j (under (more texts (k .long) label h x) j)) (sym (eqb-true l label e))
+        (subst (λ (y : Span). Noted t table labels out at label y) (sym (here texts (k .long) label h x)) g)
+    also l m false e f =
+        let same = elsewhere texts (k .long) label h x l m (eqb-false l label e) in
+        subst (λ (y : Span). Noted t table labels out at l y) (sym same) (k .noted l m (λ z. f (ap (λ (y : Span). y .to) same ∙ z)))
+
+    go : (b : Bool) → Kept t table labels out at (cond b texts (more texts (k .long) label h x))
+    go true = k
+    go false =
+        record {
+          long = length-set (set texts label (x .from)) (512 + label) (x .to) ∙ length-set texts label (x .from) ∙ k .long;
+          noted = λ l m f. also l m (eqb l label) refl f;
+        }

@@ -4,8 +4,8 @@ use mathlib.Core.Bool.{Bool, true, false, _&&_, not, cond}
 use mathlib.Core.List.{List, [], _++_}
 use mathlib.Core.Path.{_≡_}
 use Prim.Native.Nat.{ℕ, suc, _+_, _-_, _≤_, _<_}
-use lib.Dec.{T, eqb, leb}
-use lib.ListN.{length, getD, take}
+use lib.Dec.{T, eqb, leb, ltb}
+use lib.ListN.{length, getD, take, set}
 use Rattle.base_lists.specs.List.{part}
 use Rattle.base_lists.specs.Below.{countBelow, leastBelow, concatBelow}
 use Rattle.base_text.specs.Text.{Put, Fits}
@@ -25,7 +25,7 @@ use Rattle.report.specs.Report.{hasPlace, centreLine, endLine}
 use Rattle.place_components.specs.Components.{Component}
 use Rattle.report_centres.specs.declared.Held.{Held}
 use Rattle.report_texts.specs.Texts.{bodyText}
-use Rattle.report_centres.specs.declared.Last.{Last}
+use Rattle.report_centres.specs.declared.Span.{Span}
 use Rattle.report_centres.specs.declared.Part.{Part}
 
 -- ---- the lines of some centres
@@ -115,17 +115,17 @@ pub record Cut (pattern board : Circuit) (t : Tables) (around : Around) (nodes :
 abbrev pub EveryCut : Tables → List ℕ → Around → List ℕ → Type 0
 EveryCut t table around nodes = (pattern board : Circuit) → Source pattern board t table (around .radius) → Cut pattern board t around nodes
 
--- the centre's component in the entries of a search, where the ball holds it
-pub record Entire (t : Tables) (table : List ℕ) (around : Around) (dist : List ℕ) : Type 0 where
-  pub spread : Spread (length table) (around .centre) (matched t table) dist
-  pub nodes : List ℕ
-  pub lists : Lists nodes dist
+-- the nodes of the centre's component, where the ball holds it
+pub record Entire (t : Tables) (table : List ℕ) (around : Around) (nodes : List ℕ) : Type 0 where
+  pub comp : List ℕ
+  pub spread : Spread (length table) (around .centre) (matched t table) comp
+  pub lists : Lists nodes comp
   pub held : EveryHeld t table around
 
--- what is known of a ball: it holds the centre's component, or the place comes from the first nodes of the queue
-pub record Holds (t : Tables) (table : List ℕ) (around : Around) (dist queue : List ℕ) (h : Held) : Type 0 where
-  pub whole : h .all ≡ true → Entire t table around dist
-  pub short : h .all ≡ false → h .kept ≤ length queue
+-- what is known of a ball: the first nodes of the queue are the centre's component, which the ball holds, or the place comes from them
+pub record Holds (t : Tables) (table : List ℕ) (around : Around) (queue : List ℕ) (h : Held) : Type 0 where
+  pub short : h .kept ≤ length queue
+  pub whole : h .all ≡ true → Entire t table around (take (h .kept) queue)
   pub cut : h .all ≡ false → EveryCut t table around (take (h .kept) queue)
 
 -- what is known of a centre: whether there is a place around it, and then the place in the tables
@@ -139,17 +139,27 @@ abbrev pub EveryKnown : Tables → List ℕ → Around → List ℕ → List ℕ
 EveryKnown t table around dist sets b =
     (pattern board : Circuit) → Source pattern board t table (around .radius) → Known pattern board t around dist sets b
 
--- The text of the component that was put last stands in the buffer: for each centre with its label it is what follows the colon in the line of the component.
-pub record Noted (t : Tables) (table labels out : List ℕ) (l : Last) : Type 0 where
-  pub order : l .from ≤ l .to
-  pub short : l .to ≤ l .at
+-- The text of the component with a label stands in the buffer, before `at`: for each centre with the label it is what follows the colon in the line of the
+-- component.
+pub record Noted (t : Tables) (table labels out : List ℕ) (at label : ℕ) (x : Span) : Type 0 where
+  pub order : x .from ≤ x .to
+  pub short : x .to ≤ at
   pub text :
-      (c : ℕ) → c < length table → (getD table c 0 ≡ 0 → ⊥) → getD labels c 0 ≡ l .label → (dist : List ℕ) → Spread (length table) c (matched t table) dist →
-      part (l .from) (l .to - l .from) out ≡ bodyText t dist table
+      (c : ℕ) → c < length table → (getD table c 0 ≡ 0 → ⊥) → getD labels c 0 ≡ label → (dist : List ℕ) → Spread (length table) c (matched t table) dist →
+      part (x .from) (x .to - x .from) out ≡ bodyText t dist table
 
--- this, where there is one
-abbrev pub Kept : Tables → List ℕ → List ℕ → List ℕ → Last → Type 0
-Kept t table labels out l = (l .to ≡ 0 → ⊥) → Noted t table labels out l
+-- where the text stands that a table has under a label,
+abbrev pub under : List ℕ → ℕ → Span
+under texts label = record { from = getD texts label 0; to = getD texts (512 + label) 0 }
+
+-- the table with a text more, where its end is a number of 32 bits,
+unfoldable pub noting : List ℕ → ℕ → Span → List ℕ
+noting texts label x = cond (ltb 4294967295 (x .to)) texts (set (set texts label (x .from)) (512 + label) (x .to))
+
+-- and a table that says of no text but where it stands
+pub record Kept (t : Tables) (table labels out : List ℕ) (at : ℕ) (texts : List ℕ) : Type 0 where
+  pub long : length texts ≡ 1024
+  pub noted : (label : ℕ) → label < 512 → (under texts label .to ≡ 0 → ⊥) → Noted t table labels out at label (under texts label)
 
 -- the centre's line is put, of every such pattern and board
 abbrev pub EveryLine : Tables → List ℕ → Around → List ℕ → ℕ → List ℕ → ℕ → Type 0

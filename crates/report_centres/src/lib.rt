@@ -1,21 +1,17 @@
 // The lines of one centre after another, and the last line, put at the front of a buffer.
 use base_text::make_names;
 use file_format::Board;
-use graph::UNREACHED;
-use graph_search::fill;
-use graph_search::search;
 use place::Around;
 use place_around::find;
-use place_components::components;
-use place_components::covers_few;
-use place_components::keep;
-use place_components::label;
+use place_components::covers;
+use place_components::gather;
+use place_components::mark;
 use report::lines::put_end;
 use report::lines::put_line;
 use report_texts::head_bytes;
 use report_texts::put_copy;
 use report_texts::put_head;
-use table::first::copy;
+use table_first::copy;
 ghost use mathlib.Core.Bool.{true, false, _&&_, not, cond};
 ghost use mathlib.Core.List.{_++_};
 ghost use mathlib.Core.Path.{_≡_};
@@ -29,16 +25,29 @@ ghost use Rattle.place.specs.Spread.{matched};
 ghost use Rattle.place_components.specs.Components.{Components};
 ghost use Rattle.report.specs.Lines.{longestLine};
 ghost use Rattle.report_texts.specs.Texts.{headText};
-ghost use Rattle.report_centres.specs.Pieces.{roomy, centresPiece, SourceOfSome, CentreLabelled, Holds, EveryKnown, Kept, EveryLine, EveryWrote, Closed};
+ghost use Rattle.report_centres.specs.Pieces.{roomy, centresPiece, SourceOfSome, CentreLabelled, Holds, EveryKnown, under, noting, Kept, EveryLine, EveryWrote, Closed};
 
 // No line of a report is longer: a buffer has to be as long, and a line is put where so many bytes are left.
 pub const LONGEST: usize = 34829;
+
+// Components of at most so many nodes are searched along their matching links first, and not along all links of the board.
+const FEW: usize = 64;
+
+// The largest number of 32 bits.
+const FURTHEST: usize = 4294967295;
 
 // A piece that was put: where to go on, how many centres before that one have a place, and how many bytes the piece has.
 pub struct Part {
     pub next: usize,
     pub found: usize,
     pub size: usize,
+}
+
+// Where a piece goes on: with the centre `from`, before which `found` centres had a place, at the pattern's radius.
+pub struct Resume {
+    pub radius: u16,
+    pub from: usize,
+    pub found: u16,
 }
 
 // Whether there is room for the longest line after `at` bytes.
@@ -71,14 +80,14 @@ fn counted(count: usize, at: usize, next: usize) -> usize
     count + 1
 }
 
-// How much of the centre's component on the whole board its ball has: all of it, or else so many nodes, which stand first in a queue.
+// How much of the centre's component on the whole board its ball has: all of it or not, and how many nodes, which stand first in a queue.
 struct Held {
     all: bool,
     kept: usize,
 }
 
-// Whether the ball around a centre holds the whole of the centre's component, which has `size` nodes. Where it does, `dist` is left with `UNREACHED` outside
-// the component. Where it does not, those of its nodes that the ball has stand first in the queue.
+// Whether the ball around a centre holds the whole of the centre's component, which has `size` nodes, and those of its nodes that the ball has: they are left
+// first in the queue. `dist` is scratch.
 fn holds(
     masks: &[u32],
     offsets: &[u16],
@@ -93,33 +102,22 @@ fn holds(
     requires { ⌜ SourceOfSome (tables (now masks) (now offsets) (now links)) (now whole) (around .radius) ⌝ }
     requires { ⌜ CentreLabelled (tables (now masks) (now offsets) (now links)) (now whole) (now labels) size (around .centre) ⌝ }
     requires { ⌜ (length (now dist) ≡ length (now whole)) × (length (now queue) ≡ length (now whole)) ⌝ }
-    ensures { λ h. ⌜ Holds (tables (now (masks .entry)) (now (offsets .entry)) (now (links .entry))) (now (whole .entry)) around (now (dist .exit)) (now (queue .exit)) h ⌝ }
+    ensures { λ h. ⌜ Holds (tables (now (masks .entry)) (now (offsets .entry)) (now (links .entry))) (now (whole .entry)) around (now (queue .exit)) h ⌝ }
 {
     let c = around.centre;
     let r = around.radius;
-    if covers_few(masks, offsets, links, whole, c, r, size, dist, queue) {
-        return Held { all: true, kept: 0 };
+    if size <= FEW {
+        if covers(masks, offsets, links, whole, c, r, size, dist, queue) {
+            return Held {
+                all: true,
+                kept: size,
+            };
+        }
     }
-    let at = c as usize;
-    let k = search(offsets, links, c, r, dist, queue);
-    let kept = keep(labels, labels[at], k, queue);
-    if kept != size {
-        return Held { all: false, kept };
-    }
-    fill(dist, UNREACHED);
-    label(&queue[..kept], 0, dist);
-    Held { all: true, kept }
-}
-
-// All sets of a table.
-fn copy_sets(from: &[u32], sets: &mut [u32])
-    requires { ⌜ length (now sets) ≡ length (now from) ⌝ }
-    ensures { λ _. ⌜ now (sets .exit) ≡ now (from .entry) ⌝ }
-{
-    let mut i = 0;
-    while i < from.len() {
-        sets[i] = from[i];
-        i += 1;
+    let kept = gather(offsets, links, labels, size, c, r, dist, queue);
+    Held {
+        all: kept == size,
+        kept,
     }
 }
 
@@ -139,18 +137,18 @@ fn locate(
 ) -> bool
     requires { ⌜ SourceOfSome (tables (now masks) (now offsets) (now links)) (now whole) (around .radius) ⌝ }
     requires { ⌜ (around .centre < length (now whole)) × (getD (now whole) (around .centre) 0 ≡ 0 → ⊥) ⌝ }
-    requires { ⌜ Holds (tables (now masks) (now offsets) (now links)) (now whole) around (now dist) (now queue) ball ⌝ }
+    requires { ⌜ Holds (tables (now masks) (now offsets) (now links)) (now whole) around (now queue) ball ⌝ }
     requires { ⌜ (length (now dist) ≡ length (now whole)) × (length (now queue) ≡ length (now whole)) × (length (now sets) ≡ length (now whole)) ⌝ }
     ensures { λ b. ⌜ EveryKnown (tables (now (masks .entry)) (now (offsets .entry)) (now (links .entry))) (now (whole .entry)) around (now (dist .exit)) (now (sets .exit)) b ⌝ }
-    ensures { λ _. ⌜ ((ball .all ≡ true) → (now (dist .exit) ≡ now (dist .entry)) × (now (sets .exit) ≡ now (whole .entry))) ⌝ }
 {
+    let kept = ball.kept;
     if ball.all {
-        copy_sets(whole, sets);
+        mark(&queue[..kept], dist);
+        base_bits::copy(whole, sets);
         return true;
     }
     let mut other = [0u32; Board::MAX_NODES];
     let spare = &mut other[..whole.len()];
-    let kept = ball.kept;
     let started = copy(&queue[..kept], whole, sets);
     let place = find(
         masks,
@@ -167,69 +165,96 @@ fn locate(
     place.found
 }
 
-// Where the next line is to be put, and the text of the component that was put last, what follows the colon: it is that of the component with this label, and
-// stands from `from` up to `to`. There is none where `to` is 0.
-struct Last {
-    at: usize,
-    label: usize,
+// Where text stands in the buffer: from `from` up to `to`. There is none where `to` is 0.
+struct Span {
     from: usize,
     to: usize,
 }
 
-// Whether the line is that text again: the ball holds the component, and the text is that of its label.
-fn again(all: bool, label: usize, last: Last) -> bool
-    ensures { λ b. ⌜ b ≡ (all && (not (eqb (last .to) 0) && eqb label (last .label))) ⌝ }
+// The text that a centre's line has after its colon, as far as it is known: where the ball holds the centre's component, that which is noted under its label.
+fn known(all: bool, label: usize, texts: &[u32]) -> Span
+    requires { ⌜ (label < 512) × (length (now texts) ≡ 1024) ⌝ }
+    ensures { λ r. ⌜ r ≡ cond all (under (now (texts .entry)) label) (record { from = 0; to = 0 }) ⌝ }
 {
     if !all {
-        return false;
+        return Span { from: 0, to: 0 };
     }
-    if last.to == 0 {
-        return false;
-    }
-    label == last.label
+    let from = texts[label] as usize;
+    let to = texts[Board::MAX_NODES + label] as usize;
+    Span { from, to }
 }
 
 // The line of the centre c by that text.
-fn put_again(c: usize, last: Last, out: &mut [u8]) -> Last
-    requires { ⌜ (last .from ≤ last .to) × (last .to ≤ last .at) ⌝ }
-    requires { ⌜ Fits (now out) (last .at) (headText c ++ part (last .from) (last .to - last .from) (now out)) ⌝ }
-    ensures { λ r. ⌜ Put (now (out .entry)) (last .at) (headText c ++ part (last .from) (last .to - last .from) (now (out .entry))) (now (out .exit)) (r .at) ⌝ }
-    ensures { λ r. ⌜ (r .label ≡ last .label) × (r .from ≡ last .from) × (r .to ≡ last .to) ⌝ }
+fn put_again(c: usize, text: Span, out: &mut [u8], at: usize) -> usize
+    requires { ⌜ (text .from ≤ text .to) × (text .to ≤ at) ⌝ }
+    requires { ⌜ Fits (now out) at (headText c ++ part (text .from) (text .to - text .from) (now out)) ⌝ }
+    ensures { λ r. ⌜ Put (now (out .entry)) at (headText c ++ part (text .from) (text .to - text .from) (now (out .entry))) (now (out .exit)) r ⌝ }
 {
-    let body = put_head(c, out, last.at);
-    let end = put_copy(last.from, last.to, out, body);
-    Last {
-        at: end,
-        label: last.label,
-        from: last.from,
-        to: last.to,
-    }
+    let body = put_head(c, out, at);
+    put_copy(text.from, text.to, out, body)
 }
 
-// What is put last after the line of the centre c, which ends at `end`: its own text, where that is its component's.
-fn noted(all: bool, label: usize, c: usize, last: Last, end: usize) -> Last
-    requires { ⌜ (c < 1000) × (last .at + length (headText c) ≤ end) ⌝ }
-    ensures { λ r. ⌜ r .at ≡ end ⌝ }
-    ensures { λ r. ⌜ ((all ≡ true) → (r .label ≡ label) × (r .from ≡ last .at + length (headText c)) × (r .to ≡ end)) ⌝ }
-    ensures { λ r. ⌜ ((all ≡ false) → (r .label ≡ last .label) × (r .from ≡ last .from) × (r .to ≡ last .to)) ⌝ }
+// A component's text noted under its label, where its end is a number of 32 bits.
+fn note(label: usize, text: Span, texts: &mut [u32])
+    requires { ⌜ (label < 512) × (length (now texts) ≡ 1024) × (text .from ≤ text .to) ⌝ }
+    ensures { λ _. ⌜ now (texts .exit) ≡ noting (now (texts .entry)) label text ⌝ }
 {
-    if all {
-        return Last {
-            at: end,
-            label,
-            from: last.at + head_bytes(c),
-            to: end,
-        };
+    if FURTHEST < text.to {
+        return;
     }
-    Last {
-        at: end,
-        label: last.label,
-        from: last.from,
-        to: last.to,
-    }
+    texts[label] = text.from as u32;
+    texts[Board::MAX_NODES + label] = text.to as u32;
 }
 
-// A centre's line, nothing where there is no place around it. A centre that the whole board's table leaves empty has none.
+// Where a line is to be put, and around which centre.
+struct Line {
+    around: Around,
+    at: usize,
+}
+
+// The line of a centre whose ball is known, nothing where there is no place around it. `dist` and `queue` are as that was found out with them, and scratch.
+fn put_new(
+    names: &[u32],
+    masks: &[u32],
+    offsets: &[u16],
+    links: &[u16],
+    whole: &[u32],
+    ball: Held,
+    line: Line,
+    dist: &mut [u16],
+    queue: &mut [u16],
+    out: &mut [u8],
+) -> usize
+    requires { ⌜ SourceOfSome (tables (now masks) (now offsets) (now links)) (now whole) (line .around .radius) ⌝ }
+    requires { ⌜ (line .around .centre < length (now whole)) × (getD (now whole) (line .around .centre) 0 ≡ 0 → ⊥) ⌝ }
+    requires { ⌜ Holds (tables (now masks) (now offsets) (now links)) (now whole) (line .around) (now queue) ball ⌝ }
+    requires { ⌜ (length (now dist) ≡ length (now whole)) × (length (now queue) ≡ length (now whole)) ⌝ }
+    requires { ⌜ Names (now names) × (length (now whole) ≤ length (now names)) ⌝ }
+    requires { ⌜ line .at + longestLine ≤ length (now out) ⌝ }
+    ensures { λ r. ⌜ EveryLine (tables (now (masks .entry)) (now (offsets .entry)) (now (links .entry))) (now (whole .entry)) (line .around) (now (out .entry)) (line .at) (now (out .exit)) r ⌝ }
+{
+    let mut table = [0u32; Board::MAX_NODES];
+    let sets = &mut table[..whole.len()];
+    let there = locate(
+        masks,
+        offsets,
+        links,
+        whole,
+        ball,
+        line.around,
+        dist,
+        queue,
+        sets,
+    );
+    if !there {
+        return line.at;
+    }
+    let c = line.around.centre as usize;
+    put_line(names, masks, offsets, links, dist, sets, c, out, line.at)
+}
+
+// A centre's line, nothing where there is no place around it. A centre that the whole board's table leaves empty has none. The text of a component is made
+// once, and noted: `texts` has under a label where it begins, and `Board::MAX_NODES` further on where it ends.
 fn put_centre(
     names: &[u32],
     masks: &[u32],
@@ -238,22 +263,22 @@ fn put_centre(
     whole: &[u32],
     labels: &[u16],
     sizes: &[u16],
-    around: Around,
-    last: Last,
+    line: Line,
+    texts: &mut [u32],
     out: &mut [u8],
-) -> Last
-    requires { ⌜ SourceOfSome (tables (now masks) (now offsets) (now links)) (now whole) (around .radius) ⌝ }
+) -> usize
+    requires { ⌜ SourceOfSome (tables (now masks) (now offsets) (now links)) (now whole) (line .around .radius) ⌝ }
     requires { ⌜ Components (length (now whole)) (matched (tables (now masks) (now offsets) (now links)) (now whole)) (now whole) (now labels) (now sizes) ⌝ }
-    requires { ⌜ around .centre < length (now whole) ⌝ }
+    requires { ⌜ line .around .centre < length (now whole) ⌝ }
     requires { ⌜ Names (now names) × (length (now whole) ≤ length (now names)) ⌝ }
-    requires { ⌜ last .at + longestLine ≤ length (now out) ⌝ }
-    requires { ⌜ Kept (tables (now masks) (now offsets) (now links)) (now whole) (now labels) (now out) last ⌝ }
-    ensures { λ r. ⌜ EveryLine (tables (now (masks .entry)) (now (offsets .entry)) (now (links .entry))) (now (whole .entry)) around (now (out .entry)) (last .at) (now (out .exit)) (r .at) ⌝ }
-    ensures { λ r. ⌜ Kept (tables (now (masks .entry)) (now (offsets .entry)) (now (links .entry))) (now (whole .entry)) (now (labels .entry)) (now (out .exit)) r ⌝ }
+    requires { ⌜ line .at + longestLine ≤ length (now out) ⌝ }
+    requires { ⌜ Kept (tables (now masks) (now offsets) (now links)) (now whole) (now labels) (now out) (line .at) (now texts) ⌝ }
+    ensures { λ r. ⌜ EveryLine (tables (now (masks .entry)) (now (offsets .entry)) (now (links .entry))) (now (whole .entry)) (line .around) (now (out .entry)) (line .at) (now (out .exit)) r ⌝ }
+    ensures { λ r. ⌜ Kept (tables (now (masks .entry)) (now (offsets .entry)) (now (links .entry))) (now (whole .entry)) (now (labels .entry)) (now (out .exit)) r (now (texts .exit)) ⌝ }
 {
-    let c = around.centre as usize;
+    let c = line.around.centre as usize;
     if whole[c] == 0 {
-        return last;
+        return line.at;
     }
     let label = labels[c] as usize;
     let size = sizes[label] as usize;
@@ -269,67 +294,59 @@ fn put_centre(
         whole,
         labels,
         size,
-        around,
+        line.around,
         dist,
         queue,
     );
-    if again(ball.all, label, last) {
-        return put_again(c, last, out);
+    let text = known(ball.all, label, texts);
+    if text.to != 0 {
+        return put_again(c, text, out, line.at);
     }
-    let mut table = [0u32; Board::MAX_NODES];
-    let sets = &mut table[..n];
-    let there = locate(
+    let end = put_new(
+        names,
         masks,
         offsets,
         links,
         whole,
         ball,
-        around,
+        line,
         dist,
         queue,
-        sets,
+        out,
     );
-    if !there {
-        return last;
+    if ball.all {
+        let from = line.at + head_bytes(c);
+        note(label, Span { from, to: end }, texts);
     }
-    let end = put_line(names, masks, offsets, links, dist, sets, c, out, last.at);
-    noted(ball.all, label, c, last, end)
+    end
 }
 
-// The lines of the centres from `from` on, before which `found` centres had a place, as long as there is room for the longest line.
+// The lines of the centres from where a piece goes on, as long as there is room for the longest line.
 pub fn put_centres(
     masks: &[u32],
     offsets: &[u16],
     links: &[u16],
     whole: &[u32],
-    r: u16,
-    from: usize,
-    found: u16,
+    labels: &[u16],
+    sizes: &[u16],
+    resume: Resume,
     out: &mut [u8],
 ) -> Part
-    requires { ⌜ SourceOfSome (tables (now masks) (now offsets) (now links)) (now whole) r ⌝ }
-    ensures { λ p. ⌜ EveryWrote (tables (now (masks .entry)) (now (offsets .entry)) (now (links .entry))) (now (whole .entry)) r (λ pattern board. centresPiece pattern board from found (length (now (out .entry)))) (now (out .entry)) (now (out .exit)) p ⌝ }
+    requires { ⌜ SourceOfSome (tables (now masks) (now offsets) (now links)) (now whole) (resume .radius) ⌝ }
+    requires { ⌜ Components (length (now whole)) (matched (tables (now masks) (now offsets) (now links)) (now whole)) (now whole) (now labels) (now sizes) ⌝ }
+    ensures { λ p. ⌜ EveryWrote (tables (now (masks .entry)) (now (offsets .entry)) (now (links .entry))) (now (whole .entry)) (resume .radius) (λ pattern board. centresPiece pattern board (resume .from) (resume .found) (length (now (out .entry)))) (now (out .entry)) (now (out .exit)) p ⌝ }
 {
     let mut names = [0u32; Board::MAX_NODES];
     make_names(&mut names);
     let n = whole.len();
-    let mut names_of = [0u16; Board::MAX_NODES];
-    let mut counts = [0u16; Board::MAX_NODES];
-    let labels = &mut names_of[..n];
-    let sizes = &mut counts[..n];
-    components(masks, offsets, links, whole, labels, sizes);
-    let mut c = from;
-    let mut count = found as usize;
-    let mut last = Last {
-        at: 0,
-        label: 0,
-        from: 0,
-        to: 0,
-    };
-    while goes_on(c, n, last.at, out.len()) {
+    let mut c = resume.from;
+    let mut count = resume.found as usize;
+    let mut texts = [0u32; 2 * Board::MAX_NODES];
+    let mut at = 0;
+    while goes_on(c, n, at, out.len()) {
         let around = Around {
             centre: c as u16,
-            radius: r,
+            radius: resume.radius,
         };
         let next = put_centre(
             &names,
@@ -339,18 +356,18 @@ pub fn put_centres(
             whole,
             labels,
             sizes,
-            around,
-            last,
+            Line { around, at },
+            &mut texts,
             out,
         );
-        count = counted(count, last.at, next.at);
-        last = next;
+        count = counted(count, at, next);
+        at = next;
         c += 1;
     }
     Part {
         next: c,
         found: count,
-        size: last.at,
+        size: at,
     }
 }
 

@@ -21,7 +21,7 @@ use Rattle.table.specs.First.{Begins}
 use Rattle.table.specs.Host.{everything}
 use Rattle.table.specs.Prepared.{succOf, predOf}
 use Rattle.table.specs.Row.{lastTable}
-use Rattle.table.specs.Strike.{survivors}
+use Rattle.table_strike.specs.Strike.{survivors}
 use Rattle.table.proofs.Meaning.{last-fits}
 use Rattle.session_strike.specs.Going.{Follows, Covered, Settles}
 use Rattle.session_strike.specs.Moves.{movesIn, nextOf, marked, markBoth}

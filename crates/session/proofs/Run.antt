@@ -20,9 +20,9 @@ use Rattle.file_format.specs.declared.File.the-variants.{Neither}
 use Rattle.file_format.proofs.Accepted.{bounded-starts, bounded-ends}
 use Rattle.simulation.specs.Simulation.{Largest}
 use Rattle.table.specs.Fill.{listed}
-use Rattle.table.specs.Host.{KindsMatch}
+use Rattle.table.specs.Host.{KindsMatch, everything}
 use Rattle.table.specs.Row.{bothWays, InTable}
-use Rattle.table.proofs.Answer.{board-along, along-dual}
+use Rattle.table.proofs.Answer.{answer-fits, board-along, along-dual}
 use Rattle.table.proofs.Host.{within-joins}
 use Rattle.session.specs.Machine.{Machine, isLeft, takeOut, cutReply, cutMachine, replies, machineAfter, boardLeft, machineTable}
 use Rattle.session.specs.Session.{Cuts}
@@ -87,6 +87,11 @@ left-after (place ∷ places) m i =
     go false b c = refl
 
 -- ---- what the table means
+
+-- it has a set for each node
+pub length-table : (m : Machine) → length (machineTable m) ≡ length (m .board .kinds)
+unfolding machineTable boardLeft chosen
+length-table m = answer-fits bothWays (m .pattern) (boardLeft m) (everything (boardLeft m)) .size
 
 -- a machine keeps its pattern and its board
 pub after-same : (places : List ℕ) (m : Machine) → (machineAfter m places .pattern ≡ m .pattern) × (machineAfter m places .board ≡ m .board)

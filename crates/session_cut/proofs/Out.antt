@@ -17,11 +17,11 @@ use Rattle.graph.specs.Chosen.{chosen}
 use Rattle.session.specs.Machine.{Machine, boardLeft, machineTable}
 use Rattle.session.specs.Session.{bounded, nodesIn, partsIn, ReadPromise}
 use Rattle.session.specs.State.{State, state, Holds}
+use Rattle.session.proofs.Run.{length-table}
 use Rattle.table.specs.Answer.{Fits, allOrNone}
 use Rattle.table_row.specs.Answer.{answerOf}
 use Rattle.table.specs.Host.{everything}
-use Rattle.table.specs.Row.{bothWays, problemBy, problemOf}
-use Rattle.table.proofs.Answer.{answer-fits}
+use Rattle.table.specs.Row.{problemBy}
 use Rattle.table.proofs.Meaning.{last-fits}
 use Rattle.session_cut.specs.declared.OutAnswer.the-variants as out
 use Rattle.session_cut.specs.Cut.{outReply}
@@ -30,11 +30,6 @@ use Rattle.session_cut.proofs.Cuts.{bounded-in, nodes-held}
 -- of tables that hold a machine it is the number of parts
 parts-held : {m : Machine} {s : State} → Holds m s → partsIn (s .fixed) ≡ length (m .pattern .kinds)
 parts-held {m} {s} h = ap (bounded 32) (h .parts) ∙ bounded-in 32 (length (m .pattern .kinds)) (h .pattern .nodes)
-
--- its table has a set for each node
-length-table : (m : Machine) → length (machineTable m) ≡ length (m .board .kinds)
-unfolding machineTable boardLeft chosen
-length-table m = answer-fits bothWays (m .pattern) (boardLeft m) (everything (boardLeft m)) .size
 
 -- the sets with the all-0 rule applied are that table
 made-table :

@@ -1,6 +1,7 @@
 // Cutting links while searching: a cut, and reading the table out. Both take tables of any content: where these hold a machine, the reply is the
 // machine's.
 use base_bits::clear;
+use base_bits::copy;
 use base_bits::size;
 use file_format::File;
 use file_format::Refusal;
@@ -10,9 +11,9 @@ use session_strike::strike_from;
 use table::MASKS;
 use table_answer::occurring;
 ghost use mathlib.Core.Path.{_≡_};
-ghost use mathlib.Core.List.{List, _++_};
+ghost use mathlib.Core.List.{List};
 ghost use Prim.Native.Nat.{ℕ, _≤_};
-ghost use lib.ListN.{length, drop};
+ghost use lib.ListN.{length};
 ghost use Rattle.session.specs.Session.{bounded, CutPromise, ReadPromise};
 ghost use Rattle.session.specs.State.{state, StateRoom};
 ghost use Rattle.table.specs.Answer.{Fits, allOrNone};
@@ -96,18 +97,6 @@ pub fn cut(
 pub enum OutAnswer {
     Table(usize),
     Refused(Refusal),
-}
-
-// Copies the sets to the front of a table that has room for them.
-fn copy(sets: &[u32], table: &mut [u32])
-    requires { ⌜ length (now sets) ≤ length (now table) ⌝ }
-    ensures { λ _. ⌜ now (table .exit) ≡ now (sets .entry) ++ drop (length (now (sets .entry))) (now (table .entry)) ⌝ }
-{
-    let mut v = 0;
-    while v < sets.len() {
-        table[v] = sets[v];
-        v += 1;
-    }
 }
 
 // Clears a table of so many parts where one of them is left without a node.

@@ -5,13 +5,14 @@ use Prim.Native.Nat.{ℕ, suc, _+_, _≤_}
 use native.Mathlib.Omega.{arith}
 use lib.Dec.{T, ltb}
 use lib.ListN.{length, set, take, drop, length-set, length-append, length-take, length-drop, length-replicate, take-append-drop, drop-of-length-le}
-use lib.Seq.{take-at, drop-at, take-all, set-at, length-take-le, take-set-le, getD-set-same, getD-set-other}
+use lib.Seq.{take-at, drop-at, take-all, set-at, take-set-le, getD-set-same, getD-set-other}
 use Rattle.base_lists.specs.List.{all, part}
 use Rattle.base_lists.proofs.Parts.{halved, part-first, part-second, length-halved}
 use Rattle.base_lists.proofs.Tables.{length-tabulate}
 use Rattle.graph.specs.Neighbours.{offsetsOf, grouped}
 use Rattle.graph.specs.Net.{NetRoom, driven, driving}
 use Rattle.graph.proofs.Groups.{length-grouped, length-offsets, stretch-select}
+use Rattle.graph_neighbours.specs.Grouped.{Grouped}
 use Rattle.table.specs.Fill.{allNodes}
 use Rattle.table.specs.Row.{among}
 use Rattle.table.specs.Prepared.{counting, masksOf, Masked}
@@ -21,58 +22,38 @@ pub length-all : (m : ℕ) → length (allNodes m) ≡ m
 unfolding allNodes
 length-all m = length-tabulate m (λ v. v)
 
--- a list whose two halves were filled at their fronts, one after the other
+-- a list whose two halves are filled at their fronts
 halves :
-    (size : ℕ) (xs ys old : List ℕ) {a b : List ℕ} (k l : ℕ) → length old ≡ size + size → length xs ≡ k → length ys ≡ l → k ≤ size → l ≤ size →
-    a ≡ xs ++ drop k (take size old) → b ≡ ys ++ drop l (take size (drop size (a ++ drop size old))) → halved size a b old ≡ halvesFilled size xs ys old
-unfolding halvesFilled
-halves size xs ys old {a} {b} k l long inXs inYs few less e f =
-    let front : length (take size old) ≡ size = length-take-le size old (omega arith) in
-    let first : length a ≡ size = ap length e ∙ simp (length-append, length-drop) (omega arith) in
-    let back : drop size (a ++ drop size old) ≡ drop size old = drop-at a (drop size old) size first in
-    let half : length (drop size old) ≡ size = length-drop size old ∙ omega arith in
-    let rest : take size (drop size (a ++ drop size old)) ≡ drop size old = ap (take size) back ∙ take-all size (drop size old) (omega arith) in
-    let none : drop size (drop size (a ++ drop size old)) ≡ [] = ap (drop size) back ∙ drop-of-length-le (drop size old) {i = size} (omega arith) in
-    ap₂ (λ (p q : List ℕ). p ++ q)
-    (take-at a (drop size old) size first ∙ e ∙ ap (λ (i : ℕ). xs ++ drop i (take size old)) (sym inXs))
-    (ap (λ (q : List ℕ). b ++ q) none ∙ append-nil b ∙ f ∙ ap₂ (λ (i : ℕ) (q : List ℕ). ys ++ drop i q) (sym inYs) rest)
+    (size : ℕ) (xs ys old : List ℕ) {new : List ℕ} (k l : ℕ) → length old ≡ size + size → length new ≡ size + size → length xs ≡ k → length ys ≡ l →
+    part 0 size new ≡ xs ++ drop k (part 0 size old) → part size size new ≡ ys ++ drop l (part size size old) → new ≡ halvesFilled size xs ys old
+unfolding halvesFilled part
+halves size xs ys old {new} k l long room inXs inYs e f =
+    let back : (l : List ℕ) → length l ≡ size + size → take size (drop size l) ≡ drop size l = λ l h. take-all size (drop size l) (omega (arith, length-drop size l)) in
+    sym (take-append-drop size new)
+    ∙ ap₂ (λ (p q : List ℕ). p ++ q)
+    (e ∙ ap (λ (i : ℕ). xs ++ drop i (take size old)) (sym inXs))
+    (sym (back new room) ∙ f ∙ ap₂ (λ (i : ℕ) (q : List ℕ). ys ++ drop i q) (sym inYs) (back old long))
 
--- Two lists that grouping has filled, both halves of both, with the numbers of the links.
-module _ (n : ℕ) (starts ends fo fl bo bl offsets numbers : List ℕ)
-    (room : NetRoom offsets numbers) (few : n ≤ 512) (most : length starts ≤ 4096)
-    (inStarts : T (all (λ v. ltb v n) starts)) (inEnds : T (all (λ v. ltb v n) ends))
-    (inFo : length fo ≡ 513) (inFl : length fl ≡ 4096) (inBo : length bo ≡ 513) (inBl : length bl ≡ 4096)
-    (parallel : length starts ≡ length ends) where
-  abbrev order : List ℕ
-  order = allNodes (length starts)
-
-  pub numbered :
-      fo ≡ offsetsOf n starts ++ drop (suc n) (take 513 offsets) → fl ≡ grouped n starts order ++ drop (length starts) (take 4096 numbers) →
-      bo ≡ offsetsOf n ends ++ drop (suc n) (take 513 (drop 513 (fo ++ drop 513 offsets))) →
-      bl ≡ grouped n ends order ++ drop (length ends) (take 4096 (drop 4096 (fl ++ drop 4096 numbers))) →
-      Numbered n starts ends offsets numbers (halved 513 fo bo offsets) (halved 4096 fl bl numbers)
-  unfolding driven driving
-  numbered e f e′ f′ =
-      let a = part-first 513 fo bo offsets inFo in
-      let b = part-first 4096 fl bl numbers inFl in
-      let a′ = part-second 513 fo bo offsets inFo inBo in
-      let b′ = part-second 4096 fl bl numbers inFl inBl in
-      let paired : length starts ≡ length order = sym (length-all (length starts)) in
-      let ended : length ends ≡ length order = sym parallel ∙ paired in
-      record {
-        room = record {
-          inOffsets = length-halved 513 fo bo offsets inFo inBo (omega (arith, room .inOffsets)) ∙ room .inOffsets;
-          inLinks = length-halved 4096 fl bl numbers inFl inBl (omega (arith, room .inLinks)) ∙ room .inLinks;
-        };
-        inOffsets =
-            halves 513 (offsetsOf n starts) (offsetsOf n ends) offsets (suc n) (suc n) (room .inOffsets) (length-offsets n starts) (length-offsets n ends)
-            (omega arith) (omega arith) e e′;
-        inNumbers =
-            halves 4096 (grouped n starts order) (grouped n ends order) numbers (length starts) (length ends) (room .inLinks)
-            (length-grouped n starts order paired inStarts) (length-grouped n ends order ended inEnds) most (omega arith) f f′;
-        byStart = λ v h. rw (a, b, e, f) (stretch-select n starts order _ _ v paired h);
-        byEnd = λ v h. rw (a′, b′, e′, f′) (stretch-select n ends order _ _ v ended h);
-      }
+-- the numbers of the links, grouped both ways
+pub numbered : {n : ℕ} {starts ends before held offsets numbers : List ℕ} →
+    Grouped n starts ends (allNodes (length starts)) (allNodes (length starts)) before held offsets numbers → NetRoom before held →
+    length starts ≡ length ends → T (all (λ v. ltb v n) starts) → T (all (λ v. ltb v n) ends) → Numbered n starts ends before held offsets numbers
+unfolding driven driving
+numbered {n} {starts} {ends} {before} {held} g room parallel inStarts inEnds =
+    let order = allNodes (length starts) in
+    let paired : length starts ≡ length order = sym (length-all (length starts)) in
+    let ended : length ends ≡ length order = sym parallel ∙ paired in
+    record {
+      room = g .room;
+      inOffsets =
+          halves 513 (offsetsOf n starts) (offsetsOf n ends) before (suc n) (suc n) (room .inOffsets) (g .room .inOffsets)
+          (length-offsets n starts) (length-offsets n ends) (g .startOffsets) (g .endOffsets);
+      inNumbers =
+          halves 4096 (grouped n starts order) (grouped n ends order) held (length starts) (length ends) (room .inLinks) (g .room .inLinks)
+          (length-grouped n starts order paired inStarts) (length-grouped n ends order ended inEnds) (g .byStart) (g .byEnd);
+      byStart = λ v h. rw (g .startOffsets, g .byStart) (stretch-select n starts order _ _ v paired h);
+      byEnd = λ v h. rw (g .endOffsets, g .byEnd) (stretch-select n ends order _ _ v ended h);
+    }
 
 -- ---- the ends
 

@@ -2,9 +2,8 @@
 use file_format::Board;
 use graph::UNREACHED;
 use graph::copy;
-use graph_neighbours::group::group;
 use graph_neighbours::tables::FORWARD_LINKS;
-use graph_neighbours::tables::FORWARD_OFFSETS;
+use graph_neighbours::tables::group_both;
 use graph_search::fill;
 use table::MASKS;
 use table_prepare::masks::pattern_masks;
@@ -34,20 +33,7 @@ fn group_links(
     requires { ⌜ now order ≡ allNodes (length (now starts)) ⌝ }
     ensures { λ _. ⌜ Numbered n (now (starts .entry)) (now (ends .entry)) (now (offsets .entry)) (now (numbers .entry)) (now (offsets .exit)) (now (numbers .exit)) ⌝ }
 {
-    group(
-        n,
-        starts,
-        order,
-        &mut offsets[..FORWARD_OFFSETS],
-        &mut numbers[..FORWARD_LINKS],
-    );
-    group(
-        n,
-        ends,
-        order,
-        &mut offsets[513..1026],
-        &mut numbers[4096..8192],
-    );
+    group_both(n, starts, ends, order, order, offsets, numbers);
 }
 
 // The same from a table that has room for the numbers of all links.

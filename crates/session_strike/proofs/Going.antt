@@ -15,7 +15,7 @@ use Rattle.simulation.specs.Simulation.{Direction}
 use Rattle.table.specs.First.{Begins}
 use Rattle.table.specs.Host.{everything}
 use Rattle.table.specs.Row.{pairs, problemBy, problemOf}
-use Rattle.table.proofs.Pending.{pairs-le}
+use Rattle.table.proofs.Pairs.{pairs-le}
 use Rattle.session_strike.specs.Going.{Follows, Covered, Settles}
 use Rattle.session_strike.specs.Moves.{nextOf, markBeside, nodeAt, unmark, lookSets, lookMarks}
 use Rattle.session_strike.proofs.Looking.{next-subset, next-lt, next-out, length-look, look-same}

@@ -9,8 +9,8 @@ use Rattle.base_bits.specs.Bits.{Subset, unionAt}
 use Rattle.base_bits.proofs.Numbers.{number-lt}
 use Rattle.simulation.specs.Simulation.{Direction, forwards, backwards}
 use Rattle.table.specs.Prepared.{succOf, predOf}
-use Rattle.table.specs.Strike.{survivors}
-use Rattle.table.proofs.StrikeSets.{survivors-none, survivors-subset}
+use Rattle.table_strike.specs.Strike.{survivors}
+use Rattle.table_strike.proofs.Survivors.{survivors-none, survivors-subset}
 use Rattle.session_strike.specs.Moves.{nextOf, markBeside, lookSets, lookMarks}
 
 module _ (masks : List ℕ) (moves : Direction → ℕ → List ℕ) (old : List ℕ) (v : ℕ) where

@@ -21,8 +21,8 @@ use Rattle.base_bits.proofs.Members.{bit-without}
 use Rattle.base_bits.proofs.Numbers.{number-lt}
 use Rattle.simulation.specs.Simulation.{Direction, forwards, backwards}
 use Rattle.table.specs.Row.{pairs}
-use Rattle.table.proofs.Pending.{pairs-at, pairs-put}
-use Rattle.table.proofs.StrikeSets.{first-bit}
+use Rattle.table.proofs.Pairs.{pairs-at, pairs-put}
+use Rattle.base_bits.proofs.Members.{first-bit}
 use Rattle.session_strike.specs.Moves.{marked, mark, markOne, markAll, markBeside, markBoth, nodeAt, unmark}
 
 -- ---- words

@@ -32,9 +32,9 @@ use Rattle.table.specs.First.{Begins}
 use Rattle.table.specs.Host.{everything}
 use Rattle.table.specs.Prepared.{counting, masksOf, succOf, predOf}
 use Rattle.table.specs.Row.{among, neighbours, problemBy, problemOf, lastTable}
-use Rattle.table.specs.Strike.{survivors}
+use Rattle.table_strike.specs.Strike.{survivors}
 use Rattle.table.proofs.Masks.{select-within}
-use Rattle.table.proofs.StrikeSets.{survivors-again}
+use Rattle.table_strike.proofs.Survivors.{survivors-again}
 use Rattle.session_strike.specs.Going.{Follows, Covered}
 use Rattle.session_strike.specs.Moves.{marked, nextOf, markBeside, lookSets, lookMarks}
 use Rattle.session_strike.proofs.Looking.{length-look, next-out, look-same, look-other}

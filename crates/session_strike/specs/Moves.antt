@@ -13,7 +13,7 @@ use Rattle.graph.specs.Net.{forwardLinks, backwardLinks, driven, driving}
 use Rattle.graph.specs.Search.{far}
 use Rattle.simulation.specs.Simulation.{Direction, forwards, backwards}
 use Rattle.table.specs.Prepared.{succOf, predOf}
-use Rattle.table.specs.Strike.{survivors}
+use Rattle.table_strike.specs.Strike.{survivors}
 
 -- the lists have their room
 pub record Room (masks offsets numbers ends : List ℕ) : Type 0 where

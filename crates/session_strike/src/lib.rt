@@ -4,14 +4,15 @@ use base_bits::first;
 use base_bits::single;
 use base_bits::without_first;
 use graph::UNREACHED;
-use graph_neighbours::neighbours::stretch;
+use graph_neighbours::neighbours::Direction;
+use graph_neighbours::neighbours::neighbours;
 use graph_neighbours::tables::FORWARD_LINKS;
 use graph_neighbours::tables::FORWARD_OFFSETS;
 use graph_neighbours::tables::LINKS;
 use graph_neighbours::tables::OFFSETS;
 use table::FORWARD_MASKS;
 use table::MASKS;
-use table::strike::surviving;
+use table_strike::surviving;
 ghost use mathlib.Core.Path.{_≡_};
 ghost use mathlib.Core.Bool.{not};
 ghost use Prim.Native.Nat.{_+_, _*_, _/_, _≤_, _<_};
@@ -20,16 +21,34 @@ ghost use lib.ListN.{length, getD};
 ghost use Rattle.base_bits.specs.Bits.{unionAt};
 ghost use Rattle.base_lists.specs.Below.{leastBelow};
 ghost use Rattle.graph.specs.Search.{far};
+ghost use Rattle.graph_neighbours.specs.Lookup.{neighboursIn};
 ghost use Rattle.session_strike.specs.Going.{Settles};
 ghost use Rattle.session_strike.specs.Moves.{Room, beyond, movesIn, nextOf, mark, markOne, markAll, markBeside, markBoth, nodeAt, unmark, lookSets, lookMarks};
 
 // How many numbers have the marks of all nodes, 32 to a number.
 const MARKS: usize = 16;
 
-// The other end of link i: no node where the link is out.
-fn end_of(ends: &[u16], i: usize) -> usize
-    ensures { λ r. ⌜ r ≡ getD (now (ends .entry)) i far ⌝ }
+// The numbers of the links of node v in the direction asked for: of those that start there, or of those that end there.
+fn links_of<'a>(direction: Direction, offsets: &[u16], numbers: &'a [u16], v: usize) -> &'a [u16]
+    requires { ⌜ (length (now offsets) ≡ 1026) × (length (now numbers) ≡ 8192) ⌝ }
+    ensures { λ r. ⌜ now r ≡ neighboursIn direction (now (offsets .entry)) (now (numbers .entry)) v ⌝ }
 {
+    neighbours(
+        direction,
+        &offsets[0..FORWARD_OFFSETS],
+        &numbers[0..FORWARD_LINKS],
+        &offsets[FORWARD_OFFSETS..OFFSETS],
+        &numbers[FORWARD_LINKS..LINKS],
+        v,
+    )
+}
+
+// The other end of link j of some links: no node where the link is out.
+fn end_of(numbers: &[u16], ends: &[u16], j: usize) -> usize
+    requires { ⌜ j < length (now numbers) ⌝ }
+    ensures { λ r. ⌜ r ≡ getD (now (ends .entry)) (getD (now (numbers .entry)) j 0) far ⌝ }
+{
+    let i = numbers[j] as usize;
     if ends.len() <= i {
         return UNREACHED as usize;
     }
@@ -53,7 +72,7 @@ fn reach(numbers: &[u16], ends: &[u16], sets: &[u32]) -> u32
     let mut union: u32 = 0;
     let mut j = 0;
     while j < numbers.len() {
-        union = union | set_at(sets, end_of(ends, numbers[j] as usize));
+        union = union | set_at(sets, end_of(numbers, ends, j));
         j += 1;
     }
     union
@@ -76,16 +95,12 @@ fn next_set(
         return 0;
     }
     let f = reach(
-        stretch(&offsets[0..FORWARD_OFFSETS], &numbers[0..FORWARD_LINKS], v),
+        links_of(Direction::Forward, offsets, numbers, v),
         &ends[0..FORWARD_LINKS],
         sets,
     );
     let b = reach(
-        stretch(
-            &offsets[FORWARD_OFFSETS..OFFSETS],
-            &numbers[FORWARD_LINKS..LINKS],
-            v,
-        ),
+        links_of(Direction::Backward, offsets, numbers, v),
         &ends[FORWARD_LINKS..LINKS],
         sets,
     );
@@ -124,7 +139,7 @@ fn mark_ends(numbers: &[u16], ends: &[u16], n: usize, marks: &mut [u32])
 {
     let mut j = 0;
     while j < numbers.len() {
-        mark_one(n, end_of(ends, numbers[j] as usize), marks);
+        mark_one(n, end_of(numbers, ends, j), marks);
         j += 1;
     }
 }
@@ -143,17 +158,13 @@ fn mark_beside(
     ensures { λ _. ⌜ now (marks .exit) ≡ markBeside n (movesIn (now (offsets .entry)) (now (numbers .entry)) (now (ends .entry))) (now (marks .entry)) v ⌝ }
 {
     mark_ends(
-        stretch(&offsets[0..FORWARD_OFFSETS], &numbers[0..FORWARD_LINKS], v),
+        links_of(Direction::Forward, offsets, numbers, v),
         &ends[0..FORWARD_LINKS],
         n,
         marks,
     );
     mark_ends(
-        stretch(
-            &offsets[FORWARD_OFFSETS..OFFSETS],
-            &numbers[FORWARD_LINKS..LINKS],
-            v,
-        ),
+        links_of(Direction::Backward, offsets, numbers, v),
         &ends[FORWARD_LINKS..LINKS],
         n,
         marks,

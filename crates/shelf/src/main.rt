@@ -182,7 +182,8 @@ fn tell(printed: Printed) {
     }
 }
 
-fn run(bytes: &mut [u8], notes: &mut [u32], order: &mut [u8], out: &mut [u8])
+// Reads the shelf and prints its order, by way of tables that are lent whole.
+fn shelve(bytes: &mut [u8], notes: &mut [u32], order: &mut [u8], out: &mut [u8])
     requires { ⌜ (mostFiles * mostBytes ≤ length (now bytes)) × (length (now notes) ≡ mostFiles) ⌝ }
     requires { ⌜ (mostFiles ≤ length (now order)) × (3 * mostFiles ≤ length (now out)) ⌝ }
 {
@@ -198,5 +199,5 @@ fn main() {
     let mut notes = [0u32; FILES];
     let mut order = [0u8; FILES];
     let mut out = [0u8; 3 * FILES];
-    run(&mut bytes, &mut notes, &mut order, &mut out);
+    shelve(&mut bytes, &mut notes, &mut order, &mut out);
 }

@@ -25,7 +25,7 @@ use Rattle.table_row.proofs.Counting.{started-ones}
 use Rattle.table_row.proofs.Meaning.{last-fits}
 use Rattle.table.specs.declared.Counts.{Counts}
 use Rattle.table.specs.Answer.{Fits, allOccur, allOrNone, answerBy, answerTable, answerCountsBy, AnsweredBy, countsWhere, Ruled}
-use Rattle.table.specs.Host.{hostGraph, everything, KindsMatch}
+use Rattle.table.specs.Host.{everything, KindsMatch}
 use Rattle.table.specs.Refine.{countsBy, countsOf, RefinedBy}
 use Rattle.table.specs.Row.{bothWays, oneWay, problemBy, problemOf, lastTable}
 use Rattle.table.proofs.Host.{everything-same}

@@ -1,33 +1,53 @@
 -- What first tables come to: the table of all pairs of equal kinds, and a larger graph's last table, cut to the nodes of a list. Assumes
 -- nothing.
-use mathlib.Core.Bool.{Bool, true, false, cond}
+use mathlib.Core.Bool.{Bool, true, false, _&&_, cond}
 use mathlib.Core.List.{List}
-use mathlib.Core.Path.{_≡_, refl, ap, subst, _∙_}
+use mathlib.Core.Path.{_≡_, refl, sym, ap, ap₂, subst, _∙_}
 use Prim.Native.Nat.{ℕ, _≤_, _<_}
-use lib.Dec.{T}
+use lib.Dec.{T, eqb}
 use lib.ListN.{length, getD}
+use Rattle.base_lists.proofs.Tables.{getD-tabulate, tabulate-same}
 use Rattle.base_lists.proofs.Tests.{T-true, false-T}
-use Rattle.base_bits.specs.Bits.{bit}
+use Rattle.base_bits.specs.Bits.{bit, numberOf}
 use Rattle.base_bits.proofs.Digits.{bit-of-zero}
 use Rattle.graph.specs.Circuit.{Circuit}
+use Rattle.graph.specs.Search.{inside}
 use Rattle.table_row.specs.Problem.{Problem}
-use Rattle.table_row.specs.Row.{startOf, startedOf, struckOf}
+use Rattle.table_row.specs.Row.{tableOf, startOf, startedOf, struckOf}
 use Rattle.table_row.proofs.Counting.{kept-started}
 use Rattle.table_row.specs.Reading.{InTable}
-use Rattle.table_row.proofs.Sets.{in-node, fits-node}
+use Rattle.table_row.proofs.Sets.{number-if, in-node, fits-node}
 use Rattle.table_row.proofs.Begin.{start-begins}
 use Rattle.table.specs.declared.Rest.{Rest}
 use Rattle.table.specs.Fill.{listed, marksOf, tableAt}
 use Rattle.table.specs.First.{BeginsBy, Begins, startNode, Written}
 use Rattle.table.specs.Host.{Taken, hostGraph}
-use Rattle.table.specs.Row.{inTable, pairs, problemBy, lastTable}
+use Rattle.table.specs.Row.{inTable, agrees, pairs, problemBy, lastTable}
 use Rattle.simulation.specs.Simulation.{Direction}
 use Rattle.table.specs.Refine.{RestedBy, countsBy, countsFrom, RefinedBy}
+use Rattle.table.proofs.Agreement.{start-agrees}
 use Rattle.table.proofs.Meaning.{last-fits, last-candidate}
 use Rattle.table.proofs.Narrow.{last-wider}
 use Rattle.table.proofs.Row.{start-in}
-use Rattle.table.proofs.StrikeFill.{length-table, getD-table}
-use Rattle.table.proofs.StrikeRow.{inside-marks, start-row}
+use Rattle.table.proofs.Fill.{length-table, getD-table}
+
+pub inside-marks : (n : ℕ) (nodes : List ℕ) (v : ℕ) → v < n → inside (marksOf n nodes) v ≡ listed nodes v
+unfolding inside marksOf
+inside-marks n nodes v h = ap (λ (x : ℕ). eqb x 1) (getD-tabulate n (λ v. cond (listed nodes v) 1 0) v 0 h) ∙ go (listed nodes v)
+  where
+    go : (b : Bool) → eqb (cond b 1 0) 1 ≡ b
+    go true = refl
+    go false = refl
+
+pub start-row : (ways : List Direction) (pattern host : Circuit) (nodes : List ℕ)
+    → tableAt (length (host .kinds)) (startNode (pattern .kinds) (host .kinds)) nodes ≡ startOf (problemBy ways pattern host (marksOf (length (host .kinds)) nodes))
+unfolding tableAt startOf tableOf problemBy
+start-row ways pattern host nodes =
+    tabulate-same (length (host .kinds)) (λ v. cond (listed nodes v) (startNode (pattern .kinds) (host .kinds) v) 0)
+    (λ v. numberOf (length (pattern .kinds)) (λ u. inside (marksOf (length (host .kinds)) nodes) v && agrees pattern host u v))
+    (λ v h.
+    ap₂ (λ (b : Bool) (x : ℕ). cond b x 0) (sym (inside-marks (length (host .kinds)) nodes v h)) (start-agrees pattern host v)
+    ∙ number-if (inside (marksOf (length (host .kinds)) nodes) v) (length (pattern .kinds)) (λ u. agrees pattern host u v))
 
 module _ (ways : List Direction) (pattern host : Circuit) (nodes : List ℕ) {n : ℕ} (long : n ≡ length (host .kinds)) where
   abbrev problem : Problem Direction

@@ -8,16 +8,11 @@ pub mod Narrow
 pub mod Host
 pub mod Answer
 pub mod PreparedMasks
-mod Directions
-pub mod StrikeFill
-pub mod Pending
-mod Waking
-mod StrikeDue
+pub mod Directions
+pub mod Fill
+pub mod Pairs
 pub mod NodeLists
 pub mod Masks
 pub mod Prepare
 pub mod Examples
-pub mod StrikeSets
-mod StrikeRow
-mod StrikeRounds
 pub mod Begun

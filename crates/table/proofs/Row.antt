@@ -14,7 +14,7 @@ use Rattle.simulation.specs.Closed.{Relation, _⊆_, Closed, Row}
 use Rattle.simulation.specs.Simulation.{DualSimulation, Candidate, Direction, forwards, backwards, Along}
 use Rattle.simulation.proofs.Simulation.{along-wider, dual-closed}
 use Rattle.table_row.specs.Problem.{Way, Agreeing}
-use Rattle.table_row.specs.Row.{startOf, rowFrom, rowOf}
+use Rattle.table_row.specs.Row.{rowFrom, rowOf}
 use Rattle.table_row.specs.Reading.{InTable, Fits, Reading, Chosen, Wider}
 use Rattle.table_row.proofs.Row as Of
 use Rattle.table.specs.Host.{hostGraph, KindsMatch}

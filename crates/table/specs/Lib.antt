@@ -7,5 +7,3 @@ pub mod Refine
 pub mod Answer
 pub mod Reply
 pub mod Examples
-pub mod Strike
-pub mod Pending

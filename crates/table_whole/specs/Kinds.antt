@@ -2,6 +2,7 @@
 use mathlib.Core.List.{List}
 use Rattle.graph.specs.Circuit.{circuit}
 use Rattle.table.specs.declared.Counts.{Counts}
+use Rattle.table.specs.Answer.{AnsweredOn}
 use Rattle.simulation.specs.Simulation.{Direction}
 use Rattle.table.specs.Prepared.{Tables, PreparedBy}
 use Rattle.table.specs.Refine.{MatchedBy}
@@ -22,3 +23,10 @@ EveryMatched partKinds nodeKinds t table counts =
     (ways : List Direction) (partStarts partEnds nodeStarts nodeEnds : List ℕ) →
     PreparedBy ways (circuit partKinds partStarts partEnds) (circuit nodeKinds nodeStarts nodeEnds) t →
     MatchedBy ways (circuit partKinds partStarts partEnds) (circuit nodeKinds nodeStarts nodeEnds) table counts
+
+-- the answer, which the all-0 rule makes of the table, so
+abbrev pub EveryAnswered : List ℕ → List ℕ → Tables → List ℕ → Counts → Type 0
+EveryAnswered partKinds nodeKinds t table counts =
+    (ways : List Direction) (partStarts partEnds nodeStarts nodeEnds : List ℕ) →
+    PreparedBy ways (circuit partKinds partStarts partEnds) (circuit nodeKinds nodeStarts nodeEnds) t →
+    AnsweredOn ways (circuit partKinds partStarts partEnds) (circuit nodeKinds nodeStarts nodeEnds) table counts

@@ -5,10 +5,10 @@ use graph_neighbours::tables::OFFSETS;
 use table::Counts;
 use table::MASKS;
 use table::Ways;
-use table::first::start;
-use table::largest::counted;
-use table::largest::refine;
+use table::counted;
 use table_answer::all_or_none;
+use table_first::start;
+use table_largest::refine;
 use table_prepare::lookups::prepare_along;
 use table_prepare::nodes::list_all;
 ghost use mathlib.Core.Path.{_≡_};
@@ -16,12 +16,10 @@ ghost use lib.ListN.{length};
 ghost use Rattle.file_format.specs.Circuit.{Bounded};
 ghost use Rattle.file_format.specs.declared.Role.the-variants as role;
 ghost use Rattle.graph.specs.Circuit.{Circuit, circuit};
-ghost use Rattle.graph.specs.Net.{NetRoom};
-ghost use Rattle.table.specs.Refine.{MatchedBy, MatchedOn};
+ghost use Rattle.table.specs.Refine.{MatchedBy};
 ghost use Rattle.table.specs.Row.{waysOf};
-ghost use Rattle.table.specs.Answer.{AnsweredOn};
-ghost use Rattle.table_whole.specs.Kinds.{SomeLinks, EveryMatched};
-ghost use Rattle.table.specs.Prepared.{tables, Prepared};
+ghost use Rattle.table_whole.specs.Kinds.{SomeLinks, EveryMatched, EveryAnswered};
+ghost use Rattle.table.specs.Prepared.{tables};
 
 // The largest dual simulation of a pattern in a board, from prepared masks and neighbour tables. The list of all nodes and the second table of
 // sets are scratch.
@@ -46,7 +44,7 @@ fn match_prepared(
 }
 
 // The same with a list and a second table of its own.
-fn match_tables(
+pub fn match_tables(
     part_kinds: &[u32],
     node_kinds: &[u32],
     masks: &[u32],
@@ -73,40 +71,21 @@ fn match_tables(
     )
 }
 
-// The largest dual simulation of a pattern in a board. The masks and the neighbour tables are left prepared.
-pub fn prepare_and_match(
+// The answer of a call on a whole board: the same, with the table all 0 where some part is left without a node.
+pub fn match_whole(
     part_kinds: &[u32],
-    part_starts: &[u16],
-    part_ends: &[u16],
     node_kinds: &[u32],
-    node_starts: &[u16],
-    node_ends: &[u16],
+    masks: &[u32],
+    offsets: &[u16],
+    links: &[u16],
     table: &mut [u32],
-    masks: &mut [u32],
-    offsets: &mut [u16],
-    links: &mut [u16],
 ) -> Counts
-    ghost { Circuit × Circuit }
-    requires { λ α. ⌜ (circuit (now «part_kinds») (now «part_starts») (now «part_ends»), circuit (now «node_kinds») (now «node_starts») (now «node_ends»)) ≡ α ⌝ }
-    requires { λ α. ⌜ Bounded role.Pattern (α .0) ⌝ }
-    requires { λ α. ⌜ Bounded role.Board (α .1) ⌝ }
-    requires { λ α. ⌜ length (now table) ≡ length (now «node_kinds») ⌝ }
-    requires { λ α. ⌜ (length (now masks) ≡ 64) × NetRoom (now offsets) (now links) ⌝ }
-    ensures { λ α r. ⌜ MatchedOn (α .0) (α .1) (now (table .exit)) r ⌝ }
-    ensures { λ α r. ⌜ Prepared (α .0) (α .1) (tables (now (masks .exit)) (now (offsets .exit)) (now (links .exit))) ⌝ }
+    requires { ⌜ SomeLinks (now «part_kinds») (now «node_kinds») (tables (now masks) (now offsets) (now links)) ⌝ }
+    requires { ⌜ length (now table) ≡ length (now «node_kinds») ⌝ }
+    ensures { λ r. ⌜ EveryAnswered (now («part_kinds» .entry)) (now («node_kinds» .entry)) (tables (now (masks .entry)) (now (offsets .entry)) (now (links .entry))) (now (table .exit)) r ⌝ }
 {
-    prepare_along(
-        Ways::Both,
-        node_kinds.len(),
-        part_starts,
-        part_ends,
-        node_starts,
-        node_ends,
-        masks,
-        offsets,
-        links,
-    );
-    match_tables(part_kinds, node_kinds, masks, offsets, links, table)
+    let counts = match_tables(part_kinds, node_kinds, masks, offsets, links, table);
+    all_or_none(part_kinds.len(), table, counts)
 }
 
 // The last set of the row in the directions that count, with masks and neighbour tables of its own.
@@ -142,35 +121,4 @@ pub fn match_circuits(
         &mut links,
     );
     match_tables(part_kinds, node_kinds, &masks, &offsets, &links, table)
-}
-
-// The answer of a call on a whole board: the same, with the table all 0 where some part is left without a node.
-pub fn match_whole(
-    ways: Ways,
-    part_kinds: &[u32],
-    part_starts: &[u16],
-    part_ends: &[u16],
-    node_kinds: &[u32],
-    node_starts: &[u16],
-    node_ends: &[u16],
-    table: &mut [u32],
-) -> Counts
-    ghost { Circuit × Circuit }
-    requires { λ α. ⌜ (circuit (now «part_kinds») (now «part_starts») (now «part_ends»), circuit (now «node_kinds») (now «node_starts») (now «node_ends»)) ≡ α ⌝ }
-    requires { λ α. ⌜ Bounded role.Pattern (α .0) ⌝ }
-    requires { λ α. ⌜ Bounded role.Board (α .1) ⌝ }
-    requires { λ α. ⌜ length (now table) ≡ length (now «node_kinds») ⌝ }
-    ensures { λ α r. ⌜ AnsweredOn (waysOf ways) (α .0) (α .1) (now (table .exit)) r ⌝ }
-{
-    let counts = match_circuits(
-        ways,
-        part_kinds,
-        part_starts,
-        part_ends,
-        node_kinds,
-        node_starts,
-        node_ends,
-        table,
-    );
-    all_or_none(part_kinds.len(), table, counts)
 }

@@ -1,111 +1,87 @@
--- `call_match::match_files` meets its contract: a file is refused, or the two circuits that were read are matched. Assumes nothing.
+-- `call_match::match_files` meets its contract: a file is refused, or the two circuits that were read and prepared are matched. Assumes nothing.
 use denote.Ref.{now}
-use mathlib.Core.Path.{sym}
+use mathlib.Core.Path.{refl, sym}
 use borrow.Author.Needs.{needs}
-use Rattle.graph.specs.Circuit.{Circuit}
-use Rattle.file_format.proofs.Accepted.{bounded-any}
-use Rattle.file_format.specs.Layout.{inEdition}
-use Rattle.file_pair.specs.Pair.{BothRead}
-use Rattle.file_pair.proofs.Both.{both-read, refused-pair, pattern-bounded, board-bounded}
+use lib.Seq.{length-take-le}
 use Rattle.file_format.specs.declared.Role.the-variants.{AnyPattern}
-use Rattle.file_format.proofs.Reading.{stands-size, stands-room}
-use Rattle.call_match.proofs.Matching.{matching-refused, matching-read}
+use Rattle.file_format.specs.Layout.{inEdition}
+use Rattle.table.specs.Prepared.{tables}
+use Rattle.table.specs.Row.{waysOf}
+use Rattle.call_prepare.specs.Read.{BothPrepared}
+use Rattle.call_prepare.proofs.Ready.{turned-pair, ready-verdict, ready-both}
+use Rattle.call_match.proofs.Matching.{matching-refused, matching-read, ready-links}
 use Rattle.call_match.proofs.match_files.Statement.{statement}
 use Rattle.call_match.proofs.match_files.Tie as tie
 
 -- ---- the two files
 
-abbrev entry : tie.After-read-pair → tie.Start
-entry c = c .before .before .before .before .before .before .before .before .before .before
+slice-aggregate-read-prepared : tie.Need-slice-aggregate-read-prepared
+slice-aggregate-read-prepared c = search needs
 
--- what reading them left
-abbrev parts : tie.After-read-pair → Circuit
-parts c = let l = c .read-pair .last .1 .1 .1 .1 in record { kinds = l .0; starts = l .1 .0; ends = l .1 .1 .0 }
+slice-aggregate-read-prepared-2 : tie.Need-slice-aggregate-read-prepared-2
+slice-aggregate-read-prepared-2 c = search needs
 
-abbrev nodes : tie.After-read-pair → Circuit
-nodes c = let l = c .read-pair .last .1 .1 .1 .1 .1 .1 .1 in record { kinds = l .0; starts = l .1 .0; ends = l .1 .1 .0 }
+slice-aggregate-read-prepared-3 : tie.Need-slice-aggregate-read-prepared-3
+slice-aggregate-read-prepared-3 c = search needs
 
-slice-aggregate-read-pair : tie.Need-slice-aggregate-read-pair
-slice-aggregate-read-pair c = search needs
+slice-aggregate-read-prepared-4 : tie.Need-slice-aggregate-read-prepared-4
+slice-aggregate-read-prepared-4 c = search needs
 
-slice-aggregate-read-pair-2 : tie.Need-slice-aggregate-read-pair-2
-slice-aggregate-read-pair-2 c = search needs
+slice-aggregate-read-prepared-5 : tie.Need-slice-aggregate-read-prepared-5
+slice-aggregate-read-prepared-5 c = search needs
 
-slice-aggregate-read-pair-3 : tie.Need-slice-aggregate-read-pair-3
-slice-aggregate-read-pair-3 c = search needs
-
-slice-aggregate-read-pair-4 : tie.Need-slice-aggregate-read-pair-4
-slice-aggregate-read-pair-4 c = search needs
-
-slice-aggregate-read-pair-5 : tie.Need-slice-aggregate-read-pair-5
-slice-aggregate-read-pair-5 c = search needs
-
-slice-aggregate-read-pair-6 : tie.Need-slice-aggregate-read-pair-6
-slice-aggregate-read-pair-6 c = search needs
-
-read-pair-requires : tie.Need-read-pair-requires
-read-pair-requires c κs = search needs
-
--- both were read
-abbrev reading : tie.After-enum-told → tie.After-read-pair
-reading c = c .before .before .before .before .before .before .before .before
-
-both : (c : tie.After-enum-told)
-    → let a = entry (reading c) .args in
-    BothRead AnyPattern (inEdition (a .editions .pattern) (now (a .pattern))) (inEdition (a .editions .board) (now (a .board))) (reading c .read-pair .result) (parts (reading c)) (nodes (reading c))
-both c = both-read (reading c .read-pair .ensures) (c .enum-told .given .1)
-
--- ---- the match
-
-array-share-prefix-pk : tie.Need-array-share-prefix-pk
-array-share-prefix-pk c = stands-room (both c .drawn) .0
-
-slice-aggregate-match-on : tie.Need-slice-aggregate-match-on
-slice-aggregate-match-on c = sym (stands-size (both (c .before) .drawn) .0)
-
-array-share-prefix-ps : tie.Need-array-share-prefix-ps
-array-share-prefix-ps c = stands-room (both (c .before) .drawn) .1
-
-slice-aggregate-match-on-2 : tie.Need-slice-aggregate-match-on-2
-slice-aggregate-match-on-2 c = sym (stands-size (both (c .before .before) .drawn) .1)
-
-array-share-prefix-pe : tie.Need-array-share-prefix-pe
-array-share-prefix-pe c = stands-room (both (c .before .before) .drawn) .2
-
-slice-aggregate-match-on-3 : tie.Need-slice-aggregate-match-on-3
-slice-aggregate-match-on-3 c = sym (stands-size (both (c .before .before .before) .drawn) .2)
-
-array-share-prefix-nk : tie.Need-array-share-prefix-nk
-array-share-prefix-nk c = stands-room (both (c .before .before .before) .given) .0
-
-slice-aggregate-match-on-4 : tie.Need-slice-aggregate-match-on-4
-slice-aggregate-match-on-4 c = sym (stands-size (both (c .before .before .before .before) .given) .0)
-
-array-share-prefix-ns : tie.Need-array-share-prefix-ns
-array-share-prefix-ns c = stands-room (both (c .before .before .before .before) .given) .1
-
-slice-aggregate-match-on-5 : tie.Need-slice-aggregate-match-on-5
-slice-aggregate-match-on-5 c = sym (stands-size (both (c .before .before .before .before .before) .given) .1)
-
-array-share-prefix-ne : tie.Need-array-share-prefix-ne
-array-share-prefix-ne c = stands-room (both (c .before .before .before .before .before) .given) .2
-
-slice-aggregate-match-on-6 : tie.Need-slice-aggregate-match-on-6
-slice-aggregate-match-on-6 c = sym (stands-size (both (c .before .before .before .before .before .before) .given) .2)
-
-match-on-requires : tie.Need-match-on-requires
-match-on-requires c κs =
-    let read = both (c .before .before .before .before .before .before .before) in
-    (bounded-any (pattern-bounded read), board-bounded read)
+read-prepared-requires : tie.Need-read-prepared-requires
+read-prepared-requires c κs =
+    (record { nodes = refl; links = refl }, ((refl, refl), (refl, record { inOffsets = refl; inLinks = refl })))
 
 enum-known-verdict : tie.Need-enum-known-verdict
 enum-known-verdict c = search needs
 
 returns : tie.Need-returns
-returns c = matching-refused _ _ _ _ (refused-pair (c .before .before .before .before .before .before .before .before .before .read-pair .ensures) (c .before .verdict .given .1))
+returns c =
+    let told = c .before in
+    matching-refused _ _ _ _ (turned-pair (told .before .before .before .before .before .before .before .read-prepared .ensures) (told .verdict .given .1))
 
 enum-told : tie.Need-enum-told
 enum-told c = search needs
+
+-- both were read and prepared
+abbrev reading : tie.After-enum-told → tie.After-read-prepared
+reading c = c .before .before .before .before .before .before .before
+
+ready : (c : tie.After-enum-told) →
+    let a = reading c .before .before .before .before .before .before .before .before .before .args in
+    let read = reading c .read-prepared in
+    let l = read .last .1 .1 .1 in
+    BothPrepared AnyPattern (waysOf (a .ways)) (inEdition (a .editions .pattern) (now (a .pattern))) (inEdition (a .editions .board) (now (a .board))) (read .result) (l .0) (l .1 .0)
+    (tables (l .1 .1 .0) (l .1 .1 .1 .0) (l .1 .1 .1 .1 .0))
+ready c = ready-both (reading c .read-prepared .ensures) (c .enum-told .given .1)
+
+-- ---- the match
+
+array-share-prefix-pk : tie.Need-array-share-prefix-pk
+array-share-prefix-pk c = ready c .parts .room
+
+slice-aggregate-match-on : tie.Need-slice-aggregate-match-on
+slice-aggregate-match-on c = sym (length-take-le _ _ (ready (c .before) .parts .room))
+
+array-share-prefix-nk : tie.Need-array-share-prefix-nk
+array-share-prefix-nk c = ready (c .before) .nodes .room
+
+slice-aggregate-match-on-2 : tie.Need-slice-aggregate-match-on-2
+slice-aggregate-match-on-2 c = sym (length-take-le _ _ (ready (c .before .before) .nodes .room))
+
+slice-aggregate-match-on-3 : tie.Need-slice-aggregate-match-on-3
+slice-aggregate-match-on-3 c = search needs
+
+slice-aggregate-match-on-4 : tie.Need-slice-aggregate-match-on-4
+slice-aggregate-match-on-4 c = search needs
+
+slice-aggregate-match-on-5 : tie.Need-slice-aggregate-match-on-5
+slice-aggregate-match-on-5 c = search needs
+
+match-on-requires : tie.Need-match-on-requires
+match-on-requires c κs = ready-links (ready (c .before .before .before .before .before .before))
 
 same-length : tie.Need-same-length
 same-length c = search needs
@@ -113,35 +89,29 @@ same-length c = search needs
 returns-2 : tie.Need-returns-2
 returns-2 c =
     let matched = c .before .before in
-    let read = matched .before .before .before .before .before .before .before .before in
-    matching-read _ _ _ _ (both read) (matched .match-on .ensures)
+    let read = matched .before .before .before .before .before .before .before in
+    matching-read _ _ _ _ (ready-verdict (reading read .read-prepared .ensures) (read .enum-told .given .1)) (ready read) (matched .match-on .ensures)
 
 pub match-files-spec : {M : Type 1} → statement M
 match-files-spec =
     tie.close
     (tie.spec
-    slice-aggregate-read-pair
-    slice-aggregate-read-pair-2
-    slice-aggregate-read-pair-3
-    slice-aggregate-read-pair-4
-    slice-aggregate-read-pair-5
-    slice-aggregate-read-pair-6
-    read-pair-requires
+    slice-aggregate-read-prepared
+    slice-aggregate-read-prepared-2
+    slice-aggregate-read-prepared-3
+    slice-aggregate-read-prepared-4
+    slice-aggregate-read-prepared-5
+    read-prepared-requires
     enum-known-verdict
     returns
     enum-told
     array-share-prefix-pk
     slice-aggregate-match-on
-    array-share-prefix-ps
-    slice-aggregate-match-on-2
-    array-share-prefix-pe
-    slice-aggregate-match-on-3
     array-share-prefix-nk
+    slice-aggregate-match-on-2
+    slice-aggregate-match-on-3
     slice-aggregate-match-on-4
-    array-share-prefix-ns
     slice-aggregate-match-on-5
-    array-share-prefix-ne
-    slice-aggregate-match-on-6
     match-on-requires
     same-length
     returns-2)

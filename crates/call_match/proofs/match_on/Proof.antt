@@ -7,7 +7,7 @@ use Rattle.call_match.proofs.match_on.Statement.{statement}
 use Rattle.call_match.proofs.match_on.Tie as tie
 
 returns : tie.Need-returns
-returns c = on-short _ _ _ _ (c .if1 .taken)
+returns c ways partStarts partEnds nodeStarts nodeEnds p = on-short _ _ _ _ (c .if1 .taken)
 
 slice-relend-prefix-match-whole : tie.Need-slice-relend-prefix-match-whole
 slice-relend-prefix-match-whole c = search needs
@@ -18,16 +18,15 @@ slice-aggregate-match-whole c = sym (length-take-le _ _ (c .before .if1 .left))
 match-whole-requires : tie.Need-match-whole-requires
 match-whole-requires c κs =
     let test = c .before in
-    let p = test .before .before .before .before .before .before .before .before .pre in
-    (p .0, (p .1, length-take-le _ _ (test .if1 .left)))
+    (test .before .before .before .before .before .before .before .pre, length-take-le _ _ (test .if1 .left))
 
 same-length : tie.Need-same-length
 same-length c = search needs
 
 returns-2 : tie.Need-returns-2
-returns-2 c =
+returns-2 c ways partStarts partEnds nodeStarts nodeEnds p =
     let matched = c .before .before in
-    on-matched _ _ _ _ (matched .before .before .if1 .left) (matched .match-whole .ensures)
+    on-matched _ _ _ _ (matched .before .before .if1 .left) (matched .match-whole .ensures _ _ _ _ _ p)
 
 pub match-on-spec : {M : Type 1} → statement M
 match-on-spec =

@@ -4,8 +4,10 @@ use denote.Ref.{now}
 use mathlib.Core.Path.{refl, sym}
 use borrow.Author.Needs.{needs}
 use lib.Seq.{length-take-le}
+use Rattle.file_format.specs.declared.Role.the-variants.{Pattern}
 use Rattle.file_format.specs.Layout.{inEdition}
 use Rattle.table.specs.Prepared.{tables}
+use Rattle.table.specs.Row.{bothWays}
 use Rattle.call_prepare.specs.Read.{BothPrepared}
 use Rattle.call_prepare.proofs.Ready.{turned-pair, ready-verdict, ready-both}
 use Rattle.call_place.proofs.Finding.{ready-drawn, find-refused, find-read}
@@ -28,7 +30,7 @@ slice-aggregate-read-prepared-5 : tie.Need-slice-aggregate-read-prepared-5
 slice-aggregate-read-prepared-5 c = search needs
 
 read-prepared-requires : tie.Need-read-prepared-requires
-read-prepared-requires c κs = ((refl, refl), (refl, record { inOffsets = refl; inLinks = refl }))
+read-prepared-requires c κs = (record { nodes = refl; links = refl }, ((refl, refl), (refl, record { inOffsets = refl; inLinks = refl })))
 
 enum-known-verdict : tie.Need-enum-known-verdict
 enum-known-verdict c = search needs
@@ -44,7 +46,7 @@ ready : (c : tie.After-enum-told) →
     let a = c .before .before .before .before .before .before .before .before .before .before .before .before .before .before .before .before .before .before .before .args in
     let read = c .before .before .before .before .before .before .before .read-prepared in
     let l = read .last .1 .1 .1 in
-    BothPrepared (inEdition (a .editions .pattern) (now (a .pattern))) (inEdition (a .editions .board) (now (a .board))) (read .result) (l .0) (l .1 .0) (tables (l .1 .1 .0) (l .1 .1 .1 .0) (l .1 .1 .1 .1 .0))
+    BothPrepared Pattern bothWays (inEdition (a .editions .pattern) (now (a .pattern))) (inEdition (a .editions .board) (now (a .board))) (read .result) (l .0) (l .1 .0) (tables (l .1 .1 .0) (l .1 .1 .1 .0) (l .1 .1 .1 .1 .0))
 ready c = ready-both (c .before .before .before .before .before .before .before .read-prepared .ensures) (c .enum-told .given .1)
 
 array-share-prefix-pk : tie.Need-array-share-prefix-pk

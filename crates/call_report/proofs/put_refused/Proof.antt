@@ -8,8 +8,14 @@ use Rattle.call_report.proofs.Refused.{refused-later, refused-fits, ref
 use Rattle.call_report.proofs.put_refused.Statement.{statement}
 use Rattle.call_report.proofs.put_refused.Tie as tie
 
+put-nothing-requires : tie.Need-put-nothing-requires
+put-nothing-requires c κs = search needs
+
 returns : tie.Need-returns
-returns c = let a = c .before .before .args in refused-later (a .x) _ (a .from) (a .found) (c .if1 .taken)
+returns c =
+    let test = c .before in
+    let a = test .before .before .args in
+    rw (c .put-nothing .ensures) (refused-later (a .x) _ (a .from) (a .found) (test .if1 .taken))
 
 -- the buffer has room for the line
 fits : (s : tie.Start) → let a = s .args in Fits (now (a .out)) 0 (refusalLine (a .x))
@@ -28,4 +34,4 @@ returns-2 c =
     refused-first (a .x) (now (a .out)) (a .from) (a .found) (c .before .before .before .before .if1 .left) (fits s) (c .before .before .put-refusal .ensures)
 
 pub put-refused-spec : {M : Type 1} → statement M
-put-refused-spec = tie.close (tie.spec returns put-refusal-requires same-length returns-2)
+put-refused-spec = tie.close (tie.spec put-nothing-requires returns put-refusal-requires same-length returns-2)

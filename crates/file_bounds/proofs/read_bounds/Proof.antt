@@ -8,11 +8,8 @@ use borrow.Author.Needs.{needs}
 use Rattle.file_bounds.proofs.read_bounds.Statement.{statement}
 use Rattle.file_bounds.proofs.read_bounds.Tie as tie
 
-stretch-requires : tie.Need-stretch-requires
-stretch-requires c κs = search needs
-
-store-requires : tie.Need-store-requires
-store-requires c κs = search needs
+store-at-requires : tie.Need-store-at-requires
+store-at-requires c κs = search needs
 
 slice-reshare-prefix-all-within : tie.Need-slice-reshare-prefix-all-within
 slice-reshare-prefix-all-within c = search needs
@@ -28,16 +25,14 @@ same-length c = search needs
 
 returns : tie.Need-returns
 returns c =
-    let stored = c .before .before .before .before in
-    let same = stored-front _ _ _ _ (stored .store .ensures) ∙ stored .before .before .stretch .ensures .1 in
+    let same = stored-front _ _ _ _ (c .before .before .before .before .store-at .ensures) in
     (c .all-within .ensures ∙ ap boundsFit same, same)
 
 pub read-bounds-spec : {M : Type 1} → statement M
 read-bounds-spec =
     tie.close
     (tie.spec
-    stretch-requires
-    store-requires
+    store-at-requires
     slice-reshare-prefix-all-within
     slice-aggregate-all-within
     all-within-requires

@@ -1,10 +1,4 @@
 -- `file_read::fill_nodes` meets its contract: each stretch is stored in its table. Assumes nothing.
-use denote.Ref.{now}
-use mathlib.Core.List.{List, _++_}
-use mathlib.Core.Path.{_≡_, refl, ap, subst, _∙_}
-use Prim.Native.Nat.{ℕ}
-use lib.ListN.{drop}
-use Rattle.file_format.specs.Layout.{fields, packagesAt}
 use borrow.Author.Needs.{needs}
 use Rattle.file_read.proofs.fill_nodes.Statement.{statement}
 use Rattle.file_read.proofs.fill_nodes.Tie as tie
@@ -12,23 +6,17 @@ use Rattle.file_read.proofs.fill_nodes.Tie as tie
 package-count-requires : tie.Need-package-count-requires
 package-count-requires c κs = search needs
 
-stretch-requires : tie.Need-stretch-requires
-stretch-requires c κs = search needs
+store-at-requires : tie.Need-store-at-requires
+store-at-requires c κs = search needs
 
-store-requires : tie.Need-store-requires
-store-requires c κs = search needs
+mul-store-at : tie.Need-mul-store-at
+mul-store-at c = search needs
 
-mul-stretch : tie.Need-mul-stretch
-mul-stretch c = search needs
+add-store-at : tie.Need-add-store-at
+add-store-at c = search needs
 
-add-stretch : tie.Need-add-stretch
-add-stretch c = search needs
-
-stretch-requires-2 : tie.Need-stretch-requires-2
-stretch-requires-2 c κs = search needs
-
-store-requires-2 : tie.Need-store-requires-2
-store-requires-2 c κs = search needs
+store-at-requires-2 : tie.Need-store-at-requires-2
+store-at-requires-2 c κs = search needs
 
 same-length : tie.Need-same-length
 same-length c = search needs
@@ -36,33 +24,12 @@ same-length c = search needs
 same-length-2 : tie.Need-same-length-2
 same-length-2 c = search needs
 
--- the fields that were stored are those of the file from an offset on
-stored : (file old : List ℕ) (at : ℕ) {k p : ℕ} {got after : List ℕ} → k ≡ p → got ≡ fields (drop at file) k → after ≡ got ++ drop k old
-    → after ≡ fields (drop at file) p ++ drop p old
-stored file old at {k} {after = after} q e s =
-    subst (λ (p : ℕ). after ≡ fields (drop at file) p ++ drop p old) q (s ∙ ap (λ (l : List ℕ). l ++ drop k old) e)
-
 returns : tie.Need-returns
 returns c =
-    let counted = c .before .before .before .before .before .before .before .before .before .before in
-    let first = c .before .before .before .before .before .before .before in
-    let a = counted .before .before .before .before .args in (
-      stored (now (a .file)) (now (a .kinds)) 4 refl (first .before .before .stretch .ensures .1) (first .store .ensures),
-      stored (now (a .file)) (now (a .packages)) (packagesAt (a .n)) (counted .package-count .ensures .0) (c .before .before .before .before .stretch2 .ensures .1)
-          (c .before .before .store2 .ensures),
-    )
+    let first = c .before .before .before .before .before .before in
+    (first .store-at .ensures, rw (first .before .before .package-count .ensures .0) at (c .before .before .store-at2 .ensures))
 
 pub fill-nodes-spec : {M : Type 1} → statement M
 fill-nodes-spec =
     tie.close
-    (tie.spec
-    package-count-requires
-    stretch-requires
-    store-requires
-    mul-stretch
-    add-stretch
-    stretch-requires-2
-    store-requires-2
-    same-length
-    same-length-2
-    returns)
+    (tie.spec package-count-requires store-at-requires mul-store-at add-store-at store-at-requires-2 same-length same-length-2 returns)

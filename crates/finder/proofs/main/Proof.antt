@@ -1,4 +1,4 @@
--- `finder::main` meets its contract: each buffer has the length that `run` asks for. Assumes nothing.
+-- `finder::main` meets its contract: each buffer has the length that `report_files` asks for. Assumes nothing.
 use mathlib.Core.Path.{_≡_}
 use Prim.Native.Nat.{ℕ, _≤_}
 use native.Mathlib.Omega.{arith}
@@ -8,21 +8,21 @@ use Rattle.report.specs.Lines.{longestLine}
 use Rattle.finder.proofs.main.Statement.{statement}
 use Rattle.finder.proofs.main.Tie as tie
 
-slice-aggregate-run : tie.Need-slice-aggregate-run
-slice-aggregate-run c = search needs
+slice-aggregate-report-files : tie.Need-slice-aggregate-report-files
+slice-aggregate-report-files c = search needs
 
-slice-aggregate-run-2 : tie.Need-slice-aggregate-run-2
-slice-aggregate-run-2 c = search needs
+slice-aggregate-report-files-2 : tie.Need-slice-aggregate-report-files-2
+slice-aggregate-report-files-2 c = search needs
 
-slice-aggregate-run-3 : tie.Need-slice-aggregate-run-3
-slice-aggregate-run-3 c = search needs
+slice-aggregate-report-files-3 : tie.Need-slice-aggregate-report-files-3
+slice-aggregate-report-files-3 c = search needs
 
 -- a buffer of so many bytes has room for the longest line
 roomy : {n size : ℕ} → n ≡ size → longestLine ≤ n → longestLine ≤ size
 roomy e h = omega arith
 
-run-requires : tie.Need-run-requires
-run-requires c κs = ((search needs, search needs), roomy (slice-aggregate-run-3 c) (lit≤ tt))
+report-files-requires : tie.Need-report-files-requires
+report-files-requires c κs = ((search needs, search needs), roomy (slice-aggregate-report-files-3 c) (lit≤ tt))
 
 returns : tie.Need-returns
 returns c = search needs
@@ -30,4 +30,4 @@ returns c = search needs
 pub main-spec : {M : Type 1} → statement M
 main-spec =
     tie.close
-    (tie.spec slice-aggregate-run slice-aggregate-run-2 slice-aggregate-run-3 run-requires returns)
+    (tie.spec slice-aggregate-report-files slice-aggregate-report-files-2 slice-aggregate-report-files-3 report-files-requires returns)

@@ -1,153 +1,74 @@
--- `finder::print_report` meets its contract, and ends. The loop's invariant: the next piece starts at an item of the report, and as many centres
--- before it have a place as are counted. The measure is how many items are left. Assumes nothing.
-use mathlib.Core.Path.{_≡_, refl, sym, _∙_}
-use Prim.Native.Nat.{_-_, _≤_, zero-le}
-use native.Mathlib.Omega.{arith}
+-- `finder::print_report` meets its contract: the files are opened, and what that leaves is printed. Assumes nothing.
+use mathlib.Core.Path.{refl}
 use borrow.Author.Needs.{needs}
-use denote.Ref.{now}
-use lib.ListN.{length}
-use lib.Seq.{length-take-le}
-use Rattle.report.specs.Lines.{longestLine}
-use Rattle.call_report.specs.declared.ReportAnswer.the-variants as answer
-use Rattle.call_report.specs.Call.{reportReply, ReportOutcome, reporting}
-use Rattle.call_report.specs.Whole.{itemsOf, placesOf}
-use Rattle.call_report.proofs.Promise.{places-few, put-within, put-follows, put-text, put-none}
-use Rattle.call_report.proofs.Whole.{places-start}
-use Rattle.finder.specs.Printing.{GoesOn, Reached, Handed}
 use Rattle.finder.proofs.print_report.Statement.{statement}
 use Rattle.finder.proofs.print_report.Tie as tie
 
-abbrev Inv-loop : tie.InvT-loop
-Inv-loop pattern board out₀ from₀ found₀ out from found =
-    (from ≤ itemsOf pattern board) × (found ≡ placesOf pattern board from) × (length out ≡ length out₀) × (longestLine ≤ length out)
+slice-aggregate-open : tie.Need-slice-aggregate-open
+slice-aggregate-open c = search needs
 
-abbrev μ-loop : tie.MeasureT-loop
-μ-loop pattern board out₀ from₀ found₀ out from found = itemsOf pattern board - from
+slice-aggregate-open-2 : tie.Need-slice-aggregate-open-2
+slice-aggregate-open-2 c = search needs
 
-loop-holds : tie.Need-loop-holds Inv-loop μ-loop
-loop-holds c = (zero-le, sym (places-start _ _ _), refl, search needs)
+slice-aggregate-open-3 : tie.Need-slice-aggregate-open-3
+slice-aggregate-open-3 c = search needs
 
-report-requires : tie.Need-report-requires Inv-loop μ-loop
-report-requires c κs = tt
+slice-aggregate-open-4 : tie.Need-slice-aggregate-open-4
+slice-aggregate-open-4 c = search needs
 
-enum-known-answer : tie.Need-enum-known-answer Inv-loop μ-loop
-enum-known-answer c = search needs
+slice-aggregate-open-5 : tie.Need-slice-aggregate-open-5
+slice-aggregate-open-5 c = search needs
 
-enum-told : tie.Need-enum-told Inv-loop μ-loop
-enum-told c = search needs
+slice-aggregate-open-6 : tie.Need-slice-aggregate-open-6
+slice-aggregate-open-6 c = search needs
 
-same-length : tie.Need-same-length Inv-loop μ-loop
-same-length c = c .before .before .before .before .report .kept .1 .1 .1 .1 .0 ∙ c .before .before .before .before .before .before .loop .inv .2
+open-requires : tie.Need-open-requires
+open-requires c κs = ((refl, record { inOffsets = refl; inLinks = refl }), (refl, refl, refl))
 
-returns : tie.Need-returns Inv-loop μ-loop
-unfolding Handed
-returns c = tt
+slice-aggregate-print-pieces : tie.Need-slice-aggregate-print-pieces
+slice-aggregate-print-pieces c = search needs
 
--- ---- a piece was put
+slice-aggregate-print-pieces-2 : tie.Need-slice-aggregate-print-pieces-2
+slice-aggregate-print-pieces-2 c = search needs
 
--- what the call promised of it
-put : (c : tie.After-known-told Inv-loop μ-loop) →
-    let call = c .before .before .before .before .before in
-    let loop = c .before .before .before .before .before .before .before .loop in
-    let a = c .before .before .before .before .before .before .before .before .before .before .before .args in
-    _≡_ {A = ReportOutcome} (record { reply = reportReply (answer.Put (c .before .answer .given .0 .0)); out = call .report .last .1 .1 .1 .1 .0 })
-    (reporting (now (a .pattern)) (now (a .board)) (loop .from) (loop .found) (loop .out))
-put c = rw (c .before .answer .given .1) at (c .before .before .before .before .before .report .ensures)
+slice-aggregate-print-pieces-3 : tie.Need-slice-aggregate-print-pieces-3
+slice-aggregate-print-pieces-3 c = search needs
 
-same-length-2 : tie.Need-same-length-2 Inv-loop μ-loop
-same-length-2 c = c .before .before .before .before .before .before .report .kept .1 .1 .1 .1 .0 ∙ c .before .before .before .before .before .before .before .before .loop .inv .2
+slice-aggregate-print-pieces-4 : tie.Need-slice-aggregate-print-pieces-4
+slice-aggregate-print-pieces-4 c = search needs
 
-returns-2 : tie.Need-returns-2 Inv-loop μ-loop
-unfolding Handed
-returns-2 c =
-    let k = c .before in
-    let loop = k .before .before .before .before .before .before .before .loop in
-    put-none _ _ _ _ _ _ (loop .inv .3) (put k) (loop .inv .0) (c .if1 .taken)
+slice-aggregate-print-pieces-5 : tie.Need-slice-aggregate-print-pieces-5
+slice-aggregate-print-pieces-5 c = search needs
 
-within : (c : tie.After-known-told Inv-loop μ-loop) → c .before .answer .given .0 .0 .size ≤ length (c .before .before .before .before .before .report .last .1 .1 .1 .1 .0)
-within c = put-within _ _ _ _ _ _ (c .before .before .before .before .before .before .before .loop .inv .3) (put c)
+slice-aggregate-print-pieces-6 : tie.Need-slice-aggregate-print-pieces-6
+slice-aggregate-print-pieces-6 c = search needs
 
-slice-reshare-prefix-hand : tie.Need-slice-reshare-prefix-hand Inv-loop μ-loop
-slice-reshare-prefix-hand c = within (c .before)
+print-pieces-requires : tie.Need-print-pieces-requires
+print-pieces-requires c κs = let made = c .before .before .before .before .before .before .before .before .before .before .before .before .before in (made .«open» .ensures, made .before .before .before .before .before .before .before .before .before .before .pre)
 
-slice-aggregate-hand : tie.Need-slice-aggregate-hand Inv-loop μ-loop
-slice-aggregate-hand c = sym (length-take-le _ _ (within (c .before .before)))
+same-length : tie.Need-same-length
+same-length c = search needs
 
-hand-requires : tie.Need-hand-requires Inv-loop μ-loop
-unfolding GoesOn
-hand-requires c κs =
-    let k = c .before .before in
-    let loop = k .before .before .before .before .before .before .before .loop in
-    put-text _ _ _ _ _ _ (loop .inv .3) (put k) (loop .inv .0) (loop .inv .1)
-
-enum-known-handed : tie.Need-enum-known-handed Inv-loop μ-loop
-enum-known-handed c = search needs
-
-enum-told-2 : tie.Need-enum-told-2 Inv-loop μ-loop
-enum-told-2 c = search needs
-
-same-length-3 : tie.Need-same-length-3 Inv-loop μ-loop
-same-length-3 c = let k = c .before .before .before .before .before in k .before .before .before .before .before .report .kept .1 .1 .1 .1 .0 ∙ k .before .before .before .before .before .before .before .loop .inv .2
-
-returns-3 : tie.Need-returns-3 Inv-loop μ-loop
-unfolding Handed
-returns-3 c = tt
-
--- ---- and handed over
-
--- the items up to where the piece says to go on
-reached : (c : tie.After-handed Inv-loop μ-loop) → c .handed .given .0 .0 ≡ c .before .before .before .before .before .before .answer .given .0 .0 .next
-unfolding Reached
-reached c = rw (c .handed .given .1) at (c .before .before .hand .ensures)
-
--- where the piece was put
-abbrev told : tie.After-handed Inv-loop μ-loop → tie.After-known-told Inv-loop μ-loop
-told c = c .before .before .before .before .before
-
-cast-found : tie.Need-cast-found Inv-loop μ-loop
-cast-found c =
-    let k = told (c .before .before) in
-    let loop = k .before .before .before .before .before .before .before .loop in
-    let (within, places, more) = put-follows _ _ _ _ _ _ (loop .inv .3) (put k) (loop .inv .0) (loop .inv .1) in
-    let a = k .before .before .before .before .before .before .before .before .before .before .before .args in
-    omega (arith, places-few (now (a .pattern)) (now (a .board)) (k .before .answer .given .0 .0 .next))
-
-loop-less : tie.Need-loop-less Inv-loop μ-loop
-loop-less c =
-    let k = told (c .before .before) in
-    let loop = k .before .before .before .before .before .before .before .loop in
-    let (within, places, more) = put-follows _ _ _ _ _ _ (loop .inv .3) (put k) (loop .inv .0) (loop .inv .1) in
-    omega (arith, more (c .before .before .before .before .before .before .if1 .left), reached (c .before .before))
-
-loop-again : tie.Need-loop-again Inv-loop μ-loop
-loop-again c =
-    let k = told (c .before .before) in
-    let loop = k .before .before .before .before .before .before .before .loop in
-    let (within, places, more) = put-follows _ _ _ _ _ _ (loop .inv .3) (put k) (loop .inv .0) (loop .inv .1) in
-    let kept = k .before .before .before .before .before .report .kept .1 .1 .1 .1 .0 in
-    (rw (reached (c .before .before)) within, rw (reached (c .before .before)) places, kept ∙ loop .inv .2, omega (arith, kept))
+returns : tie.Need-returns
+returns c = c .before .before .print-pieces .ensures
 
 pub print-report-spec : {M : Type 1} → statement M
 print-report-spec =
     tie.close
     (tie.spec
-    Inv-loop
-    μ-loop
-    loop-holds
-    report-requires
-    enum-known-answer
-    enum-told
+    slice-aggregate-open
+    slice-aggregate-open-2
+    slice-aggregate-open-3
+    slice-aggregate-open-4
+    slice-aggregate-open-5
+    slice-aggregate-open-6
+    open-requires
+    slice-aggregate-print-pieces
+    slice-aggregate-print-pieces-2
+    slice-aggregate-print-pieces-3
+    slice-aggregate-print-pieces-4
+    slice-aggregate-print-pieces-5
+    slice-aggregate-print-pieces-6
+    print-pieces-requires
     same-length
-    returns
-    same-length-2
-    returns-2
-    slice-reshare-prefix-hand
-    slice-aggregate-hand
-    hand-requires
-    enum-known-handed
-    enum-told-2
-    same-length-3
-    returns-3
-    cast-found
-    loop-less
-    loop-again)
+    returns)

@@ -1,16 +1,16 @@
--- `place_component::component` meets its contract. Its stores set the tables up for the state in which only the centre is reached. The
+-- `place_component::component` meets its contract. It begins with the state in which only the centre is reached. The
 -- loop's invariant is that of the search; the measure is how many nodes have not been looked from. Assumes nothing.
 use mathlib.Core.Path.{_≡_, sym, ap, subst, _∙_}
 use Prim.Native.Nat.{ℕ, _-_, _+_, _<_}
 use native.Mathlib.Omega.{arith}
 use borrow.Author.Needs.{needs}
 use denote.Ref.{now}
-use lib.ListN.{length, getD, length-set}
+use lib.ListN.{length, getD}
 use Rattle.graph.specs.Bfs.{scan, stateOf, Searching}
 use Rattle.base_lists.specs.List.{Below}
 use Rattle.graph.specs.Search.{far}
 use Rattle.graph.proofs.Net.{net-few}
-use Rattle.graph.proofs.BfsSteps.{ready-start, started, reached-length}
+use Rattle.graph.proofs.BfsSteps.{ready-start, reached-length}
 use Rattle.table.specs.Prepared.{tables}
 use Rattle.place.specs.Spread.{matched}
 use Rattle.place.proofs.Spread.{Spreading, spreading-start, spreading-next, spreading-end, spreading-lists, matched-below, queue-node}
@@ -18,44 +18,37 @@ use Rattle.place_component.proofs.component.Statement.{statement}
 use Rattle.place_component.proofs.component.Tie as tie
 
 abbrev Inv-loop : tie.InvT-loop
-Inv-loop masks offsets links sets c dist₀ queue₀ at tail₀ i₀ dist queue tail i =
+Inv-loop masks offsets links sets c dist₀ queue₀ tail₀ i₀ dist queue tail i =
     (length dist ≡ length sets)
     × (length queue ≡ length sets)
     × Searching dist queue tail
     × Spreading (length sets) c (matched (tables masks offsets links) sets) i (stateOf dist queue tail)
 
 abbrev μ-loop : tie.MeasureT-loop
-μ-loop masks offsets links sets c dist₀ queue₀ at tail₀ i₀ dist queue tail i = length sets - i
+μ-loop masks offsets links sets c dist₀ queue₀ tail₀ i₀ dist queue tail i = length sets - i
 
 -- there are not too many nodes
 few : (s : tie.Start Inv-loop μ-loop) → length (now (s .args .sets)) < far
 few s = omega (arith, net-few (s .pre .0 .net))
 
-fill-requires : tie.Need-fill-requires Inv-loop μ-loop
-fill-requires c κs = search needs
-
-mul-dist : tie.Need-mul-dist Inv-loop μ-loop
-mul-dist c = omega (arith, c .before .before .fill .kept .0)
-
-slice-write-dist : tie.Need-slice-write-dist Inv-loop μ-loop
-slice-write-dist c = omega (arith, c .before .before .fill .kept .0)
-
-slice-write-queue : tie.Need-slice-write-queue Inv-loop μ-loop
-slice-write-queue c = omega arith
+begin-requires : tie.Need-begin-requires Inv-loop μ-loop
+begin-requires c κs = search needs
 
 loop-holds : tie.Need-loop-holds Inv-loop μ-loop
 loop-holds c =
-    let s = c .before .before .before .before .before .before .before .before .before .before in
+    let s = c .before .before .before .before .before .before .before .before .before .before .before .before .before in
     let a = s .args in
     let e = s .pre .1 .1 .0 in
-    let filled = c .before .before .fill in
-    let n = length (now (a .dist)) in
-    let first = started n (a .c) (now (a .queue)) (s .pre .1 .0) (s .pre .1 .1 .1) in (
-      length-set (filled .last .0) (a .c) 0 ∙ filled .kept .0 ∙ sym e,
-      length-set (now (a .queue)) 0 (a .c) ∙ sym (s .pre .1 .1 .1) ∙ sym e,
-      rw (filled .ensures) (first .kept),
-      rw (filled .ensures, first .state, e) (spreading-start n (a .c) _ (s .pre .1 .0) (ready-start n (a .c) (s .pre .1 .0))),
+    let first = c .before .before .before .before .begin in
+    let n = length (now (a .dist)) in (
+      first .kept .1 .0 ∙ sym e,
+      first .kept .1 .1 .0 ∙ sym (s .pre .1 .1 .1) ∙ sym e,
+      first .ensures .kept,
+      rw (first .ensures .state, e) (spreading-start n (a .c) _ (s .pre .1 .0) (ready-start n (a .c) (s .pre .1 .0))),
     )
+
+abbrev begun : tie.At-loop Inv-loop μ-loop → tie.Start Inv-loop μ-loop
+begun c = c .before .before .before .before .before .before .before .before .before .before .before .before .before .before
 
 mul-v : tie.Need-mul-v Inv-loop μ-loop
 mul-v c = omega (arith, c .before .loop .inv .2 .within)
@@ -64,25 +57,25 @@ slice-read-v : tie.Need-slice-read-v Inv-loop μ-loop
 slice-read-v c = omega (arith, c .before .before .loop .inv .2 .within)
 
 cast-v : tie.Need-cast-v Inv-loop μ-loop
-cast-v c = omega (arith, c .slice-known4 .given (c .before .before .loop .i))
+cast-v c = omega (arith, c .slice-known5 .given (c .before .before .loop .i))
 
 -- the next node
-node : (c : tie.In-loop Inv-loop μ-loop) → getD (c .before .loop .queue) (c .before .loop .i) 0 < length (now (c .before .before .before .before .before .before .before .before .before .before .before .before .args .sets))
+node : (c : tie.In-loop Inv-loop μ-loop) → getD (c .before .loop .queue) (c .before .loop .i) 0 < length (now (begun (c .before) .args .sets))
 unfolding Below
 node c =
     let loop = c .before .loop in
     let l = reached-length _ _ _ (loop .inv .2) in
-    subst (λ (v : ℕ). v < length (now (c .before .before .before .before .before .before .before .before .before .before .before .before .args .sets))) (queue-node (loop .dist) (loop .queue) (loop .tail) (loop .i) (c .loop-test .taken))
+    subst (λ (v : ℕ). v < length (now (begun (c .before) .args .sets))) (queue-node (loop .dist) (loop .queue) (loop .tail) (loop .i) (c .loop-test .taken))
     (loop .inv .3 .ready .inside (loop .i) (omega arith))
 
 expand-requires : tie.Need-expand-requires Inv-loop μ-loop
 expand-requires c κs =
     let inv = c .before .before .before .before .loop .inv in
     let e = inv .0 in
-    (inv .2, (c .before .before .before .before .before .before .before .before .before .before .before .before .before .before .before .pre .0, (sym e, rw e (node (c .before .before .before)))))
+    (inv .2, (begun (c .before .before .before .before) .pre .0, (sym e, rw e (node (c .before .before .before)))))
 
 add-i : tie.Need-add-i Inv-loop μ-loop
-add-i c = omega (arith, c .before .before .before .before .before .before .before .before .before .loop .inv .1, c .before .before .before .before .before .before .before .before .before .loop .inv .2 .within, c .before .before .before .before .before .before .before .before .loop-test .taken, few (c .before .before .before .before .before .before .before .before .before .before .before .before .before .before .before .before .before .before .before .before))
+add-i c = omega (arith, c .before .before .before .before .before .before .before .before .before .loop .inv .1, c .before .before .before .before .before .before .before .before .before .loop .inv .2 .within, c .before .before .before .before .before .before .before .before .loop-test .taken, few (begun (c .before .before .before .before .before .before .before .before .before)))
 
 loop-less : tie.Need-loop-less Inv-loop μ-loop
 loop-less c = omega (arith, c .before .before .before .before .before .before .before .before .before .loop .inv .2 .within)
@@ -90,7 +83,7 @@ loop-less c = omega (arith, c .before .before .before .before .before .before .b
 loop-again : tie.Need-loop-again Inv-loop μ-loop
 unfolding Below
 loop-again c =
-    let s = c .before .before .before .before .before .before .before .before .before .before .before .before .before .before .before .before .before .before .before .before in
+    let s = begun (c .before .before .before .before .before .before .before .before .before) in
     let a = s .args in
     let loop = c .before .before .before .before .before .before .before .before .before .loop in
     let inv = loop .inv in
@@ -109,10 +102,10 @@ loop-again c =
     )
 
 same-length : tie.Need-same-length Inv-loop μ-loop
-same-length c = c .before .loop .inv .0 ∙ c .before .before .before .before .before .before .before .before .before .before .before .before .pre .1 .1 .0
+same-length c = c .before .loop .inv .0 ∙ begun (c .before) .pre .1 .1 .0
 
 same-length-2 : tie.Need-same-length-2 Inv-loop μ-loop
-same-length-2 c = c .before .loop .inv .1 ∙ c .before .before .before .before .before .before .before .before .before .before .before .before .pre .1 .1 .0 ∙ c .before .before .before .before .before .before .before .before .before .before .before .before .pre .1 .1 .1
+same-length-2 c = c .before .loop .inv .1 ∙ begun (c .before) .pre .1 .1 .0 ∙ begun (c .before) .pre .1 .1 .1
 
 returns : tie.Need-returns Inv-loop μ-loop
 unfolding stateOf
@@ -120,8 +113,8 @@ returns c =
     let loop = c .before .loop in
     let l = reached-length _ _ _ (loop .inv .2) in
     let s = stateOf (loop .dist) (loop .queue) (loop .tail) in (
-      rw (← (c .before .before .before .before .before .before .before .before .before .before .before .before .pre .1 .1 .0)) (spreading-end _ _ _ (loop .i) s (loop .inv .3) (omega arith)),
-      (loop .inv .2 .within, spreading-lists _ _ _ (loop .i) s (few (c .before .before .before .before .before .before .before .before .before .before .before .before)) (loop .inv .3)),
+      rw (← (begun (c .before) .pre .1 .1 .0)) (spreading-end _ _ _ (loop .i) s (loop .inv .3) (omega arith)),
+      (loop .inv .2 .within, spreading-lists _ _ _ (loop .i) s (few (begun (c .before))) (loop .inv .3)),
     )
 
 pub component-spec : {M : Type 1} → statement M
@@ -130,10 +123,7 @@ component-spec =
     (tie.spec
     Inv-loop
     μ-loop
-    fill-requires
-    mul-dist
-    slice-write-dist
-    slice-write-queue
+    begin-requires
     loop-holds
     mul-v
     slice-read-v

@@ -1,60 +1,52 @@
--- `place_components::covers` meets its contract. Its stores set the tables up for the state in which only the centre is reached. The loop's invariant is
+-- `place_components::covers` meets its contract. It begins with the state in which only the centre is reached. The loop's invariant is
 -- that of the search as far as r links (Covering); the measure is how many links and how many nodes are left. Assumes nothing.
+use mathlib.Core.Bool.{not}
 use mathlib.Core.Path.{_≡_, sym, ap, subst, _∙_}
 use Prim.Native.Nat.{ℕ, _-_, _+_, _≤_, _<_}
 use native.Mathlib.Omega.{arith}
 use borrow.Author.Needs.{needs}
 use borrow.Author.Tests.{eqb-true}
 use denote.Ref.{now}
-use lib.Dec.{ltb, ltb→lt}
-use lib.ListN.{length, getD, length-set}
+use lib.Dec.{eqb, ltb, ltb→lt}
+use lib.ListN.{length, getD, take}
 use Rattle.base_lists.specs.List.{Below}
 use Rattle.base_lists.proofs.Tests.{both-right, true-T}
 use Rattle.graph.specs.Bfs.{scan, stateOf, Searching}
 use Rattle.graph.specs.Search.{far}
 use Rattle.graph.proofs.Net.{net-few}
-use Rattle.graph.proofs.BfsSteps.{ready-start, started, reached-length}
+use Rattle.graph.proofs.BfsSteps.{ready-start, reached-length}
 use Rattle.table.specs.Prepared.{tables}
 use Rattle.place.specs.Spread.{matched}
 use Rattle.place.proofs.Spread.{matched-below, queue-node}
+use Rattle.place_components.specs.Components.{Covered}
 use Rattle.place_components.proofs.Covering.{Covering, covering-start, covering-level, covering-next, covering-end}
 use Rattle.place_components.proofs.covers.Statement.{statement}
 use Rattle.place_components.proofs.covers.Tie as tie
 
 abbrev Inv-loop : tie.InvT-loop
-Inv-loop masks offsets links sets c r size dist₀ queue₀ at tail₀ i₀ hi₀ d₀ dist queue tail i hi d =
+Inv-loop masks offsets links sets c r size dist₀ queue₀ tail₀ i₀ hi₀ d₀ dist queue tail i hi d =
     (length dist ≡ length sets)
     × (length queue ≡ length sets)
     × Searching dist queue tail
     × Covering (length sets) c (matched (tables masks offsets links) sets) r i hi d (stateOf dist queue tail)
 
 abbrev μ-loop : tie.MeasureT-loop
-μ-loop masks offsets links sets c r size dist₀ queue₀ at tail₀ i₀ hi₀ d₀ dist queue tail i hi d = (r - d) + (length sets - i)
+μ-loop masks offsets links sets c r size dist₀ queue₀ tail₀ i₀ hi₀ d₀ dist queue tail i hi d = (r - d) + (length sets - i)
 
-fill-requires : tie.Need-fill-requires Inv-loop μ-loop
-fill-requires c κs = search needs
-
-mul-dist : tie.Need-mul-dist Inv-loop μ-loop
-mul-dist c = omega (arith, c .before .before .fill .kept .0)
-
-slice-write-dist : tie.Need-slice-write-dist Inv-loop μ-loop
-slice-write-dist c = omega (arith, c .before .before .fill .kept .0)
-
-slice-write-queue : tie.Need-slice-write-queue Inv-loop μ-loop
-slice-write-queue c = omega arith
+begin-requires : tie.Need-begin-requires Inv-loop μ-loop
+begin-requires c κs = search needs
 
 loop-holds : tie.Need-loop-holds Inv-loop μ-loop
 loop-holds c =
-    let s = c .before .before .before .before .before .before .before .before .before .before in
+    let s = c .before .before .before .before .before .before .before .before .before .before .before .before .before in
     let a = s .args in
     let e = s .pre .1 .1 .0 in
-    let filled = c .before .before .fill in
-    let n = length (now (a .dist)) in
-    let first = started n (a .c) (now (a .queue)) (s .pre .1 .0) (s .pre .1 .1 .1) in (
-      length-set (filled .last .0) (a .c) 0 ∙ filled .kept .0 ∙ sym e,
-      length-set (now (a .queue)) 0 (a .c) ∙ sym (s .pre .1 .1 .1) ∙ sym e,
-      rw (filled .ensures) (first .kept),
-      rw (filled .ensures, first .state, e) (covering-start n (a .c) _ (a .r) (s .pre .1 .0) (ready-start n (a .c) (s .pre .1 .0))),
+    let first = c .before .before .before .before .begin in
+    let n = length (now (a .dist)) in (
+      first .kept .1 .0 ∙ sym e,
+      first .kept .1 .1 .0 ∙ sym (s .pre .1 .1 .1) ∙ sym e,
+      first .ensures .kept,
+      rw (first .ensures .state, e) (covering-start n (a .c) _ (a .r) (s .pre .1 .0) (ready-start n (a .c) (s .pre .1 .0))),
     )
 
 goes-on-requires : tie.Need-goes-on-requires Inv-loop μ-loop
@@ -63,7 +55,7 @@ goes-on-requires c κs = search needs
 -- ---- a turn: links are left to follow
 
 abbrev begun : tie.At-loop Inv-loop μ-loop → tie.Start Inv-loop μ-loop
-begun c = c .before .before .before .before .before .before .before .before .before .before .before
+begun c = c .before .before .before .before .before .before .before .before .before .before .before .before .before .before
 
 -- there are not too many nodes
 few : (c : tie.At-loop Inv-loop μ-loop) → length (now (begun c .args .sets)) < far
@@ -76,7 +68,7 @@ more : (c : tie.Then1 Inv-loop μ-loop) → turn c .loop .d < begun (turn c) .ar
 more c =
     let l = turn c .loop in
     let a = begun (turn c) .args in
-    ltb→lt (l .d) (a .r) (both-right (ltb (l .tail) (a .size)) (ltb (l .d) (a .r)) (true-T (sym (c .before .goes-on .ensures) ∙ c .if1 .taken)))
+    ltb→lt (l .d) (a .r) (both-right (not (eqb (l .tail) (a .size))) (ltb (l .d) (a .r)) (true-T (sym (c .before .goes-on .ensures) ∙ c .if1 .taken)))
 
 -- those at most d links away have all been looked from
 
@@ -108,7 +100,7 @@ slice-read-v : tie.Need-slice-read-v Inv-loop μ-loop
 slice-read-v c = omega (arith, next (c .before))
 
 cast-v : tie.Need-cast-v Inv-loop μ-loop
-cast-v c = omega (arith, c .slice-known4 .given (onward (c .before) .loop .i))
+cast-v c = omega (arith, c .slice-known5 .given (onward (c .before) .loop .i))
 
 -- it is a node
 node : (c : tie.Else2 Inv-loop μ-loop) → getD (onward c .loop .queue) (onward c .loop .i) 0 < length (now (begun (onward c) .args .sets))
@@ -125,7 +117,7 @@ expand-requires c κs =
     let e = inv .0 in
     (inv .2, (begun (onward here) .pre .0, (sym e, rw e (node here))))
 
-abbrev looked : tie.After-slice-known6 Inv-loop μ-loop → tie.Else2 Inv-loop μ-loop
+abbrev looked : tie.After-slice-known7 Inv-loop μ-loop → tie.Else2 Inv-loop μ-loop
 looked c = c .before .before .before .before .before .before .before .before
 
 add-i : tie.Need-add-i Inv-loop μ-loop
@@ -170,8 +162,10 @@ returns c e =
     let at = c .before .before in
     let l = at .loop in
     let s = stateOf (l .dist) (l .queue) (l .tail) in
-    rw (← begun at .pre .1 .1 .0)
-    (covering-end _ _ _ _ (l .i) (l .hi) (l .d) s (few at) (l .inv .3) _ (reached-length _ _ _ (l .inv .2) ∙ eqb-true _ _ e))
+    let a = begun at .args in
+    let adj = matched (tables (now (a .masks)) (now (a .offsets)) (now (a .links))) (now (a .sets)) in
+    subst (λ (m : ℕ). Covered (length (now (a .dist))) (a .c) adj (a .r) m (take m (l .queue)) (l .dist)) (eqb-true (l .tail) (a .size) e)
+    (rw (← begun at .pre .1 .1 .0) (covering-end _ _ _ _ (l .i) (l .hi) (l .d) s (few at) (l .inv .3) _ (reached-length _ _ _ (l .inv .2))))
 
 pub covers-spec : {M : Type 1} → statement M
 covers-spec =
@@ -179,10 +173,7 @@ covers-spec =
     (tie.spec
     Inv-loop
     μ-loop
-    fill-requires
-    mul-dist
-    slice-write-dist
-    slice-write-queue
+    begin-requires
     loop-holds
     goes-on-requires
     add-d

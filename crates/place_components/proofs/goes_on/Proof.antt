@@ -1,13 +1,13 @@
 -- `place_components::goes_on` meets its contract: both tests, one after the other. Assumes nothing.
-use borrow.Author.Tests.{lt-ltb, le-ltb}
+use borrow.Author.Tests.{eq-eqb, ne-eqb}
 use Rattle.place_components.proofs.goes_on.Statement.{statement}
 use Rattle.place_components.proofs.goes_on.Tie as tie
 
 returns : tie.Need-returns
-returns c = let a = c .before .args in rw (le-ltb (a .tail) (a .size) (c .if1 .taken))
+returns c = let a = c .before .args in rw (eq-eqb (a .reached) (a .size) (c .if1 .taken))
 
 returns-2 : tie.Need-returns-2
-returns-2 c = let a = c .before .args in rw (lt-ltb (a .tail) (a .size) (c .if1 .left))
+returns-2 c = let a = c .before .args in rw (ne-eqb (a .reached) (a .size) (c .if1 .left))
 
 pub goes-on-spec : {M : Type 1} → statement M
 goes-on-spec = tie.close (tie.spec returns returns-2)

@@ -1,5 +1,4 @@
 -- `report_centres::put_again` meets its contract: the head, and then the text, which the head leaves where it stands. Assumes nothing.
-use mathlib.Core.Path.{_≡_, refl}
 use Prim.Native.Nat.{_+_, _-_, _≤_}
 use native.Mathlib.Omega.{arith}
 use borrow.Author.Needs.{needs}
@@ -13,14 +12,14 @@ use Rattle.report_centres.proofs.put_again.Statement.{statement}
 use Rattle.report_centres.proofs.put_again.Tie as tie
 
 -- the text is so long, and there is room for it
-room : (s : tie.Start) → let l = s .args .last in
-    (l .from + (l .to - l .from) ≤ length (now (s .args .out))) × (l .at + (length (headText (s .args .c)) + (l .to - l .from)) ≤ length (now (s .args .out)))
+room : (s : tie.Start) → let x = s .args .text in
+    (x .from + (x .to - x .from) ≤ length (now (s .args .out))) × (s .args .at + (length (headText (s .args .c)) + (x .to - x .from)) ≤ length (now (s .args .out)))
 room s =
-    let l = s .args .last in
+    let x = s .args .text in
     let h = s .pre .1 .room in
-    let two = length-append (headText (s .args .c)) (part (l .from) (l .to - l .from) (now (s .args .out))) in
-    let inside : l .from + (l .to - l .from) ≤ length (now (s .args .out)) = omega (arith, s .pre .0, h, two) in
-    (inside, omega (arith, h, two, part-length (l .from) (l .to - l .from) (now (s .args .out)) inside))
+    let two = length-append (headText (s .args .c)) (part (x .from) (x .to - x .from) (now (s .args .out))) in
+    let inside : x .from + (x .to - x .from) ≤ length (now (s .args .out)) = omega (arith, s .pre .0, h, two) in
+    (inside, omega (arith, h, two, part-length (x .from) (x .to - x .from) (now (s .args .out)) inside))
 
 put-head-requires : tie.Need-put-head-requires
 put-head-requires c κs = fits-first _ _ (c .before .before .pre .1)
@@ -37,11 +36,9 @@ same-length c = search needs
 returns : tie.Need-returns
 returns c =
     let s = c .before .before .before .before .before .before .before .before .before in
-    let l = s .args .last in
-    let p = c .before .before .before .before .before .before .put-head .ensures in (
-      put-then p (put-same (put-before p (l .from) (l .to - l .from) (omega (arith, s .pre .0)) (room s .0)) (c .before .before .put-copy .ensures)),
-      (refl, refl, refl),
-    )
+    let x = s .args .text in
+    let p = c .before .before .before .before .before .before .put-head .ensures in
+    put-then p (put-same (put-before p (x .from) (x .to - x .from) (omega (arith, s .pre .0)) (room s .0)) (c .before .before .put-copy .ensures))
 
 pub put-again-spec : {M : Type 1} → statement M
 put-again-spec = tie.close (tie.spec put-head-requires put-copy-requires same-length returns)

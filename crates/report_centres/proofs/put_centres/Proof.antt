@@ -2,35 +2,34 @@
 -- counted (Progress), of every pattern and board that lines are put from. The measure is how many centres are left. Assumes nothing.
 use denote.Ref.{now}
 use mathlib.Core.Bool.{true}
-use mathlib.Core.Path.{_≡_, refl, sym}
+use mathlib.Core.Path.{_≡_}
 use Prim.Native.Nat.{_+_, _-_, _≤_, _<_}
 use native.Mathlib.Omega.{arith}
 use borrow.Author.Needs.{needs}
 use borrow.Author.Tests.{leb-true}
 use lib.Dec.{lit≤}
 use lib.ListN.{length}
-use lib.Seq.{length-take-le}
 use Rattle.base_text.proofs.Text.{put-length}
 use Rattle.graph.specs.Circuit.{Circuit}
 use Rattle.table.specs.Prepared.{tables}
 use Rattle.report.specs.Lines.{longestLine}
 use Rattle.report_centres.specs.Pieces.{roomy, Source, Kept}
 use Rattle.report_centres.proofs.Centre.{source-long, source-few}
-use Rattle.report_centres.proofs.Component.{source-match}
+use Rattle.report_centres.proofs.OnceMore.{kept-start}
 use Rattle.report_centres.proofs.Progress.{Progress, progress-start, progress-small, progress-goes, progress-step, progress-end}
 use Rattle.report_centres.proofs.put_centres.Statement.{statement}
 use Rattle.report_centres.proofs.put_centres.Tie as tie
 
 abbrev Inv-loop : tie.InvT-loop
-Inv-loop masks offsets links whole r from found out₀ names n labels sizes c₀ count₀ last₀ out c count last =
-    ((pattern board : Circuit) → Source pattern board (tables masks offsets links) whole r → Progress pattern board from found out₀ c count (last .at) out)
-    × Kept (tables masks offsets links) whole labels out last
+Inv-loop masks offsets links whole labels sizes resume out₀ names n c₀ count₀ texts₀ at₀ out c count texts at =
+    ((pattern board : Circuit) → Source pattern board (tables masks offsets links) whole (resume .radius) → Progress pattern board (resume .from) (resume .found) out₀ c count at out)
+    × Kept (tables masks offsets links) whole labels out at texts
 
 abbrev μ-loop : tie.MeasureT-loop
-μ-loop masks offsets links whole r from found out₀ names n labels sizes c₀ count₀ last₀ out c count last = length whole - c
+μ-loop masks offsets links whole labels sizes resume out₀ names n c₀ count₀ texts₀ at₀ out c count texts at = length whole - c
 
-abbrev entry : tie.After-names2 Inv-loop μ-loop → tie.Start Inv-loop μ-loop
-entry c = c .before .before .before .before .before .before .before .before
+abbrev entry : tie.After-struct-known Inv-loop μ-loop → tie.Start Inv-loop μ-loop
+entry c = c .before .before .before .before .before .before .before .before .before .before .before
 
 slice-aggregate-make-names : tie.Need-slice-aggregate-make-names Inv-loop μ-loop
 slice-aggregate-make-names c = search needs
@@ -38,35 +37,17 @@ slice-aggregate-make-names c = search needs
 make-names-requires : tie.Need-make-names-requires Inv-loop μ-loop
 make-names-requires c κs = lit≤ tt
 
--- the tables of labels have room
-few : (c : tie.After-names2 Inv-loop μ-loop) → length (now (entry c .args .whole)) ≤ 512
-few c = source-few (entry c .pre .source)
-
-array-borrow-prefix-names-of : tie.Need-array-borrow-prefix-names-of Inv-loop μ-loop
-array-borrow-prefix-names-of c = few c
-
-slice-aggregate-labels : tie.Need-slice-aggregate-labels Inv-loop μ-loop
-slice-aggregate-labels c = sym (length-take-le _ _ (few (c .before)))
-
-array-borrow-prefix-counts : tie.Need-array-borrow-prefix-counts Inv-loop μ-loop
-array-borrow-prefix-counts c = few (c .before)
-
-slice-aggregate-sizes : tie.Need-slice-aggregate-sizes Inv-loop μ-loop
-slice-aggregate-sizes c = sym (length-take-le _ _ (few (c .before .before)))
-
-components-requires : tie.Need-components-requires Inv-loop μ-loop
-components-requires c κs =
-    let here = c .before .before .before .before in
-    (source-match (entry here .pre .source), (few here, (length-take-le _ _ (few here), length-take-le _ _ (few here))))
+cast-count : tie.Need-cast-count Inv-loop μ-loop
+cast-count c = search needs
 
 loop-holds : tie.Need-loop-holds Inv-loop μ-loop
-loop-holds c = (λ pattern board s. progress-start _ _ _ _ _, λ f. absurd (f refl))
+loop-holds c = (λ pattern board s. progress-start _ _ _ _ _, kept-start)
 
 -- where the loop stands, of the pattern and the board that there are
 stands : (c : tie.At-loop Inv-loop μ-loop) →
-    let s = entry (c .before .before .before .before .before .before .before .before .before .before) in
-    Progress (s .pre .pattern) (s .pre .board) (s .args .from) (s .args .found) (now (s .args .out)) (c .loop .c) (c .loop .count) (c .loop .last .at) (c .loop .out)
-stands c = c .loop .inv .0 _ _ (entry (c .before .before .before .before .before .before .before .before .before .before) .pre .source)
+    let s = entry (c .before) in
+    Progress (s .pre .0 .pattern) (s .pre .0 .board) (s .args .resume .from) (s .args .resume .found) (now (s .args .out)) (c .loop .c) (c .loop .count) (c .loop .at) (c .loop .out)
+stands c = c .loop .inv .0 _ _ (entry (c .before) .pre .0 .source)
 
 goes-on-requires : tie.Need-goes-on-requires Inv-loop μ-loop
 goes-on-requires c κs = omega (arith, stands c .fits, put-length (stands c .put))
@@ -77,45 +58,47 @@ abbrev turn : tie.Then1 Inv-loop μ-loop → tie.At-loop Inv-loop μ-loop
 turn c = c .before .before
 
 abbrev start : tie.Then1 Inv-loop μ-loop → tie.Start Inv-loop μ-loop
-start c = entry (turn c .before .before .before .before .before .before .before .before .before .before)
+start c = entry (turn c .before)
 
 goes : (c : tie.Then1 Inv-loop μ-loop) →
     (pattern board : Circuit)
-    → Source pattern board (tables (now (start c .args .masks)) (now (start c .args .offsets)) (now (start c .args .links))) (now (start c .args .whole)) (start c .args .r)
-    → (turn c .loop .c < length (board .kinds)) × (roomy (length (now (start c .args .out))) (turn c .loop .last .at) ≡ true)
+    → Source pattern board (tables (now (start c .args .masks)) (now (start c .args .offsets)) (now (start c .args .links))) (now (start c .args .whole)) (start c .args .resume .radius)
+    → (turn c .loop .c < length (board .kinds)) × (roomy (length (now (start c .args .out))) (turn c .loop .at) ≡ true)
 goes c pattern board s =
     progress-goes _ _ _ _ (turn c .loop .inv .0 pattern board s) _ (rw (source-long s) at (c .before .goes-on .ensures)) (c .if1 .taken)
 
 -- so the centre is one of the board's
 more : (c : tie.Then1 Inv-loop μ-loop) → turn c .loop .c < length (now (start c .args .whole))
-more c = let s = start c .pre in rw (source-long (s .source)) (goes c _ _ (s .source) .0)
+more c = let s = start c .pre .0 in rw (source-long (s .source)) (goes c _ _ (s .source) .0)
 
-cast-t31 : tie.Need-cast-t31 Inv-loop μ-loop
-cast-t31 c = omega (arith, more c, source-few (start c .pre .source))
+cast-t22 : tie.Need-cast-t22 Inv-loop μ-loop
+cast-t22 c = omega (arith, more c, source-few (start c .pre .0 .source))
 
 slice-aggregate-put-centre : tie.Need-slice-aggregate-put-centre Inv-loop μ-loop
 slice-aggregate-put-centre c = search needs
 
+slice-aggregate-put-centre-2 : tie.Need-slice-aggregate-put-centre-2 Inv-loop μ-loop
+slice-aggregate-put-centre-2 c = search needs
+
 put-centre-requires : tie.Need-put-centre-requires Inv-loop μ-loop
 put-centre-requires c κs =
-    let here = c .before .before .before .before in
+    let here = c .before .before .before in
     let p = start here .pre in
-    let named = turn here .before .before .before .before .before .before .before .before .before .before .before .make-names in
-    let known = turn here .before .before .before .before .before .components .ensures in
-    let room : turn here .loop .last .at + longestLine ≤ length (now (start here .args .out)) = leb-true _ _ (goes here _ _ (p .source) .1) in
-    (p, (known, (more here, ((named .ensures, omega (arith, named .kept .0, source-few (p .source))), (omega (arith, put-length (stands (turn here) .put)), turn here .loop .inv .1)))))
+    let named = turn here .before .before .before .make-names in
+    let room : turn here .loop .at + longestLine ≤ length (now (start here .args .out)) = leb-true _ _ (goes here _ _ (p .0 .source) .1) in
+    (p .0, (p .1, (more here, ((named .ensures, omega (arith, named .kept .0, source-few (p .0 .source))), (omega (arith, put-length (stands (turn here) .put)), turn here .loop .inv .1)))))
 
 counted-requires : tie.Need-counted-requires Inv-loop μ-loop
 counted-requires c κs =
     let here = c .before .before .before .before .before .before .before in
     let s = start here in
-    progress-small _ _ _ _ (stands (turn here)) (s .pre .source .drawn .nodes) (s .fits .found .fits)
+    progress-small _ _ _ _ (stands (turn here)) (s .pre .0 .source .drawn .nodes) (turn here .before .struct-known .given .1 .1 .0 .fits)
 
 abbrev turned : tie.After-counted Inv-loop μ-loop → tie.Then1 Inv-loop μ-loop
 turned c = c .before .before .before .before .before .before .before .before
 
 add-c : tie.Need-add-c Inv-loop μ-loop
-add-c c = omega (arith, more (turned c), source-few (start (turned c) .pre .source))
+add-c c = omega (arith, more (turned c), source-few (start (turned c) .pre .0 .source))
 
 loop-less : tie.Need-loop-less Inv-loop μ-loop
 loop-less c = omega (arith, more (turned c))
@@ -123,7 +106,7 @@ loop-less c = omega (arith, more (turned c))
 loop-again : tie.Need-loop-again Inv-loop μ-loop
 loop-again c =
     let here = turned c in
-    let put = c .before .before .before .put-centre .ensures in (
+    let put = c .before .before .before .before .put-centre .ensures in (
       λ pattern board s.
           let (more, spacious) = goes here pattern board s in
           progress-step _ _ _ _ (turn here .loop .inv .0 pattern board s) (s .drawn .nodes) more spacious (put .0 pattern board s) (c .counted .ensures),
@@ -136,12 +119,11 @@ abbrev left : tie.Else1 Inv-loop μ-loop → tie.At-loop Inv-loop μ-loop
 left c = c .before .before
 
 same-length : tie.Need-same-length Inv-loop μ-loop
-same-length c = put-length (stands (left (c .before .before)) .put)
+same-length c = put-length (stands (left c) .put)
 
 returns : tie.Need-returns Inv-loop μ-loop
 returns c pattern board s =
-    let here = c .before .before in
-    progress-end _ _ _ _ (left here .loop .inv .0 pattern board s) _ (rw (source-long s) at (here .before .goes-on .ensures)) (here .if1 .left)
+    progress-end _ _ _ _ (left c .loop .inv .0 pattern board s) _ (rw (source-long s) at (c .before .goes-on .ensures)) (c .if1 .left)
 
 pub put-centres-spec : {M : Type 1} → statement M
 put-centres-spec =
@@ -151,15 +133,12 @@ put-centres-spec =
     μ-loop
     slice-aggregate-make-names
     make-names-requires
-    array-borrow-prefix-names-of
-    slice-aggregate-labels
-    array-borrow-prefix-counts
-    slice-aggregate-sizes
-    components-requires
+    cast-count
     loop-holds
     goes-on-requires
-    cast-t31
+    cast-t22
     slice-aggregate-put-centre
+    slice-aggregate-put-centre-2
     put-centre-requires
     counted-requires
     add-c

@@ -3,17 +3,26 @@ use mathlib.Core.Path.{sym}
 use native.Mathlib.Omega.{arith}
 use borrow.Author.Needs.{needs}
 use denote.Ref.{now}
-use lib.ListN.{List·getD-eq-default}
+use lib.ListN.{getD, List·getD-eq-default}
 use Rattle.graph.specs.Search.{far}
 use Rattle.session_strike.proofs.Entries.{entry-any}
 use Rattle.session_strike.proofs.end_of.Statement.{statement}
 use Rattle.session_strike.proofs.end_of.Tie as tie
 
+mul-i : tie.Need-mul-i
+mul-i c = search needs
+
+shared-slice-read-i : tie.Need-shared-slice-read-i
+shared-slice-read-i c = search needs
+
+cast-i : tie.Need-cast-i
+cast-i c = omega (arith, c .shared-slice-known .given (c .before .args .j))
+
 cast-result : tie.Need-cast-result
 cast-result c = search needs
 
 returns : tie.Need-returns
-returns c = sym (List·getD-eq-default (now (c .before .args .ends)) far (c .if1 .taken))
+returns c = sym (List·getD-eq-default (now (c .before .before .args .ends)) far (c .if1 .taken))
 
 mul-result : tie.Need-mul-result
 mul-result c = search needs
@@ -22,12 +31,16 @@ shared-slice-read-result : tie.Need-shared-slice-read-result
 shared-slice-read-result c = search needs
 
 cast-result-2 : tie.Need-cast-result-2
-cast-result-2 c = omega (arith, c .shared-slice-known .given (c .before .before .args .i))
+cast-result-2 c =
+    let a = c .before .before .before .args in
+    omega (arith, c .shared-slice-known2 .given (getD (now (a .numbers)) (a .j) 0))
 
 returns-2 : tie.Need-returns-2
-returns-2 c = entry-any (now (c .before .before .args .ends)) (c .before .before .args .i) 0 far (c .before .if1 .left)
+returns-2 c =
+    let a = c .before .before .before .args in
+    entry-any (now (a .ends)) (getD (now (a .numbers)) (a .j) 0) 0 far (c .before .if1 .left)
 
 pub end-of-spec : {M : Type 1} → statement M
 end-of-spec =
     tie.close
-    (tie.spec cast-result returns mul-result shared-slice-read-result cast-result-2 returns-2)
+    (tie.spec mul-i shared-slice-read-i cast-i cast-result returns mul-result shared-slice-read-result cast-result-2 returns-2)

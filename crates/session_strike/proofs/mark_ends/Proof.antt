@@ -22,20 +22,11 @@ abbrev μ-loop : tie.MeasureT-loop
 loop-holds : tie.Need-loop-holds Inv-loop μ-loop
 loop-holds c = (omega arith, c .before .before .before .pre .1, refl)
 
-mul-end-of : tie.Need-mul-end-of Inv-loop μ-loop
-mul-end-of c = search needs
-
-shared-slice-read-end-of : tie.Need-shared-slice-read-end-of Inv-loop μ-loop
-shared-slice-read-end-of c = search needs
-
-cast-end-of : tie.Need-cast-end-of Inv-loop μ-loop
-cast-end-of c = omega (arith, c .shared-slice-known3 .given (c .before .before .loop .j))
-
 end-of-requires : tie.Need-end-of-requires Inv-loop μ-loop
 end-of-requires c κs = search needs
 
 mark-one-requires : tie.Need-mark-one-requires Inv-loop μ-loop
-mark-one-requires c κs = (c .before .before .before .before .before .before .before .before .pre .0, c .before .before .before .before .loop .inv .1)
+mark-one-requires c κs = (c .before .before .before .before .before .before .before .pre .0, c .before .before .before .loop .inv .1)
 
 add-j : tie.Need-add-j Inv-loop μ-loop
 add-j c = omega arith
@@ -45,7 +36,7 @@ loop-less c = omega arith
 
 loop-again : tie.Need-loop-again Inv-loop μ-loop
 loop-again c =
-    let loop = c .before .before .before .before .before .before .before in
+    let loop = c .before .before .before .before .before .before in
     let a = loop .before .before .before .before .args in
     let ends = now (a .ends) in
     let numbers = now (a .numbers) in
@@ -76,9 +67,6 @@ mark-ends-spec =
     Inv-loop
     μ-loop
     loop-holds
-    mul-end-of
-    shared-slice-read-end-of
-    cast-end-of
     end-of-requires
     mark-one-requires
     add-j

@@ -10,6 +10,7 @@ use lib.ListN.{drop, length-drop}
 use lib.Seq.{length-take-le}
 use Rattle.base_bits.specs.Bits.{unionAt}
 use Rattle.graph.specs.Net.{forwardLinks, backwardLinks, driven, driving}
+use Rattle.graph_neighbours.specs.Lookup.{neighboursIn}
 use Rattle.session_strike.specs.Moves.{beyond, movesIn}
 use Rattle.session_strike.proofs.Looking.{next-unions, next-none}
 use Rattle.session_strike.proofs.next_set.Statement.{statement}
@@ -23,26 +24,8 @@ returns c =
     let start = c .before .before .before .before .before .before .before in
     sym (next-none (now (start .args .masks)) _ (now (start .args .sets)) (start .args .v) (sym (c .before .set-at .ensures) ∙ c .if1 .taken))
 
-sub-stretch : tie.Need-sub-stretch
-sub-stretch c = search needs
-
-part-stretch-start : tie.Need-part-stretch-start
-part-stretch-start c = search needs
-
-part-stretch-end : tie.Need-part-stretch-end
-part-stretch-end c = search needs
-
-sub-stretch-2 : tie.Need-sub-stretch-2
-sub-stretch-2 c = search needs
-
-part-stretch-start-2 : tie.Need-part-stretch-start-2
-part-stretch-start-2 c = search needs
-
-part-stretch-end-2 : tie.Need-part-stretch-end-2
-part-stretch-end-2 c = search needs
-
-stretch-requires : tie.Need-stretch-requires
-stretch-requires c κs = search needs
+links-of-requires : tie.Need-links-of-requires
+links-of-requires c κs = search needs
 
 sub-reach : tie.Need-sub-reach
 sub-reach c = search needs
@@ -56,26 +39,8 @@ part-reach-end c = search needs
 reach-requires : tie.Need-reach-requires
 reach-requires c κs = search needs
 
-sub-stretch-3 : tie.Need-sub-stretch-3
-sub-stretch-3 c = search needs
-
-part-stretch-start-3 : tie.Need-part-stretch-start-3
-part-stretch-start-3 c = search needs
-
-part-stretch-end-3 : tie.Need-part-stretch-end-3
-part-stretch-end-3 c = search needs
-
-sub-stretch-4 : tie.Need-sub-stretch-4
-sub-stretch-4 c = search needs
-
-part-stretch-start-4 : tie.Need-part-stretch-start-4
-part-stretch-start-4 c = search needs
-
-part-stretch-end-4 : tie.Need-part-stretch-end-4
-part-stretch-end-4 c = search needs
-
-stretch-requires-2 : tie.Need-stretch-requires-2
-stretch-requires-2 c κs = search needs
+links-of-requires-2 : tie.Need-links-of-requires-2
+links-of-requires-2 c κs = search needs
 
 sub-reach-2 : tie.Need-sub-reach-2
 sub-reach-2 c = search needs
@@ -91,7 +56,7 @@ reach-requires-2 c κs = search needs
 
 slice-aggregate-surviving : tie.Need-slice-aggregate-surviving
 slice-aggregate-surviving c =
-    let start = c .before .before .before .before .before .before .before .before .before .before .before .before .before .before .before .before .before .before in
+    let start = c .before .before .before .before .before .before .before .before .before .before .before .before .before .before in
     let long = start .pre .inMasks in
     sym (length-take-le 32 (now (start .args .masks)) (omega arith))
 
@@ -106,29 +71,29 @@ part-surviving-end c = search needs
 
 surviving-requires : tie.Need-surviving-requires
 surviving-requires c κs =
-    let known = c .before .before .before .before .before .before .before .before .before .before .before .before .before .before in
+    let known = c .before .before .before .before .before .before .before .before .before .before in
     let start = known .before .before .before .before .before in
     let masks = now (start .args .masks) in
     let long = start .pre .inMasks in
-    let small : c .before .before .before .before .before .before .before .before .before .before .before .before .before .set-at .result < 2 ^ 32 =
-    omega (arith, c .before .before .before .before .before .before .before .before .before .before .before .before .before .set-at .ensures, known .shared-slice-known5 .given (start .args .v)) in (
+    let small : c .before .before .before .before .before .before .before .before .before .set-at .result < 2 ^ 32 =
+    omega (arith, c .before .before .before .before .before .before .before .before .before .set-at .ensures, known .shared-slice-known5 .given (start .args .v)) in (
       rw (length-take-le 32 masks (omega arith)) small,
       rw (length-take-le 32 (drop 32 masks) (omega (arith, length-drop 32 masks))) small,
     )
 
 returns-2 : tie.Need-returns-2
-unfolding part movesIn driven driving
+unfolding part neighboursIn movesIn driven driving
 returns-2 c =
     let back = c .before .before .before in
     let second = back .before .before in
-    let out = second .before .before .before in
+    let out = second .before in
     let first = out .before .before in
-    let called = first .before .before .before .before in
+    let called = first .before .before in
     let start = called .before .before .before .before .before .before in
     let sets = now (start .args .sets) in
     next-unions (now (start .args .masks)) (movesIn (now (start .args .offsets)) (now (start .args .numbers)) (now (start .args .ends))) sets (start .args .v)
-    (out .reach .ensures ∙ ap (λ (l : List ℕ). unionAt sets (beyond (forwardLinks (now (start .args .ends))) l)) (first .stretch .ensures))
-    (back .reach2 .ensures ∙ ap (λ (l : List ℕ). unionAt sets (beyond (backwardLinks (now (start .args .ends))) l)) (second .stretch2 .ensures))
+    (out .reach .ensures ∙ ap (λ (l : List ℕ). unionAt sets (beyond (forwardLinks (now (start .args .ends))) l)) (first .links-of .ensures))
+    (back .reach2 .ensures ∙ ap (λ (l : List ℕ). unionAt sets (beyond (backwardLinks (now (start .args .ends))) l)) (second .links-of2 .ensures))
     (called .set-at .ensures) (c .surviving .ensures)
 
 pub next-set-spec : {M : Type 1} → statement M
@@ -137,24 +102,12 @@ next-set-spec =
     (tie.spec
     set-at-requires
     returns
-    sub-stretch
-    part-stretch-start
-    part-stretch-end
-    sub-stretch-2
-    part-stretch-start-2
-    part-stretch-end-2
-    stretch-requires
+    links-of-requires
     sub-reach
     part-reach-start
     part-reach-end
     reach-requires
-    sub-stretch-3
-    part-stretch-start-3
-    part-stretch-end-3
-    sub-stretch-4
-    part-stretch-start-4
-    part-stretch-end-4
-    stretch-requires-2
+    links-of-requires-2
     sub-reach-2
     part-reach-start-2
     part-reach-end-2

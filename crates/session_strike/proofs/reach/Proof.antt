@@ -23,15 +23,6 @@ abbrev μ-loop : tie.MeasureT-loop
 loop-holds : tie.Need-loop-holds Inv-loop μ-loop
 loop-holds c = (omega arith, or-zero-l _)
 
-mul-end-of : tie.Need-mul-end-of Inv-loop μ-loop
-mul-end-of c = search needs
-
-shared-slice-read-end-of : tie.Need-shared-slice-read-end-of Inv-loop μ-loop
-shared-slice-read-end-of c = search needs
-
-cast-end-of : tie.Need-cast-end-of Inv-loop μ-loop
-cast-end-of c = omega (arith, c .shared-slice-known4 .given (c .before .before .loop .j))
-
 end-of-requires : tie.Need-end-of-requires Inv-loop μ-loop
 end-of-requires c κs = search needs
 
@@ -46,7 +37,7 @@ loop-less c = omega arith
 
 loop-again : tie.Need-loop-again Inv-loop μ-loop
 loop-again c =
-    let loop = c .before .before .before .before in
+    let loop = c .before .before .before in
     let a = loop .before .before .before .before .args in
     let sets = now (a .sets) in
     let ends = now (a .ends) in
@@ -72,9 +63,6 @@ reach-spec =
     Inv-loop
     μ-loop
     loop-holds
-    mul-end-of
-    shared-slice-read-end-of
-    cast-end-of
     end-of-requires
     set-at-requires
     add-j

@@ -5,22 +5,22 @@ use borrow.Author.Needs.{needs}
 use Rattle.shelf.proofs.main.Statement.{statement}
 use Rattle.shelf.proofs.main.Tie as tie
 
-slice-aggregate-run : tie.Need-slice-aggregate-run
-slice-aggregate-run c = search needs
+slice-aggregate-shelve : tie.Need-slice-aggregate-shelve
+slice-aggregate-shelve c = search needs
 
-slice-aggregate-run-2 : tie.Need-slice-aggregate-run-2
-slice-aggregate-run-2 c = search needs
+slice-aggregate-shelve-2 : tie.Need-slice-aggregate-shelve-2
+slice-aggregate-shelve-2 c = search needs
 
-slice-aggregate-run-3 : tie.Need-slice-aggregate-run-3
-slice-aggregate-run-3 c = search needs
+slice-aggregate-shelve-3 : tie.Need-slice-aggregate-shelve-3
+slice-aggregate-shelve-3 c = search needs
 
-slice-aggregate-run-4 : tie.Need-slice-aggregate-run-4
-slice-aggregate-run-4 c = search needs
+slice-aggregate-shelve-4 : tie.Need-slice-aggregate-shelve-4
+slice-aggregate-shelve-4 c = search needs
 
-run-requires : tie.Need-run-requires
-run-requires c κs = (
-  (omega (arith, slice-aggregate-run (c .before .before .before)), sym (slice-aggregate-run-2 (c .before .before))),
-  (omega (arith, slice-aggregate-run-3 (c .before)), omega (arith, slice-aggregate-run-4 c)),
+shelve-requires : tie.Need-shelve-requires
+shelve-requires c κs = (
+  (omega (arith, slice-aggregate-shelve (c .before .before .before)), sym (slice-aggregate-shelve-2 (c .before .before))),
+  (omega (arith, slice-aggregate-shelve-3 (c .before)), omega (arith, slice-aggregate-shelve-4 c)),
 )
 
 returns : tie.Need-returns
@@ -30,9 +30,9 @@ pub main-spec : {M : Type 1} → statement M
 main-spec =
     tie.close
     (tie.spec
-    slice-aggregate-run
-    slice-aggregate-run-2
-    slice-aggregate-run-3
-    slice-aggregate-run-4
-    run-requires
+    slice-aggregate-shelve
+    slice-aggregate-shelve-2
+    slice-aggregate-shelve-3
+    slice-aggregate-shelve-4
+    shelve-requires
     returns)

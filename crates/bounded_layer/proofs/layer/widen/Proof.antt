@@ -46,8 +46,8 @@ mul-next c = omega arith
 shared-slice-read-next : tie.Need-shared-slice-read-next Inv-loop μ-loop
 shared-slice-read-next c = omega arith
 
-reach-requires : tie.Need-reach-requires Inv-loop μ-loop
-reach-requires c κs =
+union-at-requires : tie.Need-union-at-requires Inv-loop μ-loop
+union-at-requires c κs =
     let loop = c .before .before .before in
     let pre = entry loop .pre in
     rw (c .before .neighbours-in .ensures, pre .1 .0) (neighbours-below (entry loop .args .direction) (pre .0) _ (omega (arith, pre .1 .1, loop .loop .inv .1)))
@@ -76,7 +76,7 @@ loop-again c =
       omega arith,
       simp length-set (inv .1),
       filled-next rule (now (a .next)) (loop .loop .next) v _ (omega arith) (inv .2)
-          (ap (bitOr (getD (now (a .old)) v 0)) (c .reach .ensures ∙ ap (unionAt (now (a .layer))) (near .neighbours-in .ensures))),
+          (ap (bitOr (getD (now (a .old)) v 0)) (c .union-at .ensures ∙ ap (unionAt (now (a .layer))) (near .neighbours-in .ensures))),
     )
 
 same-length : tie.Need-same-length Inv-loop μ-loop
@@ -92,4 +92,4 @@ returns c =
     loop .loop .inv .2 ∙ filled-all (loop .loop .v) rule (now (a .next)) (omega arith) ∙ ap (λ (n : ℕ). tabulate n rule) (start .pre .1 .1)
 
 pub widen-spec : {M : Type 1} → statement M
-widen-spec = tie.close (tie.spec Inv-loop μ-loop loop-holds neighbours-in-requires mul-next shared-slice-read-next reach-requires mul-next-2 slice-write-next add-v loop-less loop-again same-length returns)
+widen-spec = tie.close (tie.spec Inv-loop μ-loop loop-holds neighbours-in-requires mul-next shared-slice-read-next union-at-requires mul-next-2 slice-write-next add-v loop-less loop-again same-length returns)

@@ -20,8 +20,8 @@ entry c = c .before .before .before .before .before
 neighbours-in-requires : tie.Need-neighbours-in-requires
 neighbours-in-requires c κs = record { nodes = _; net = entry c .pre .1; node = entry c .pre .2 }
 
-reach-requires : tie.Need-reach-requires
-reach-requires c κs =
+union-at-requires : tie.Need-union-at-requires
+union-at-requires c κs =
     let start = entry (c .before) in
     rw (c .neighbours-in .ensures) (neighbours-below (start .args .direction) (start .pre .1) _ (start .pre .2))
 
@@ -34,7 +34,7 @@ returns-2 c =
     let start = entry (reached .before .before) in
     c .covered .ensures
     ∙ ap (λ (f : ℕ). keptWithin (now (start .args .masks)) f (start .args .set))
-    (reached .reach .ensures ∙ ap (unionAt (now (start .args .layer))) (reached .before .neighbours-in .ensures))
+    (reached .union-at .ensures ∙ ap (unionAt (now (start .args .layer))) (reached .before .neighbours-in .ensures))
 
 pub pass-node-spec : {M : Type 1} → statement M
-pass-node-spec = tie.close (tie.spec returns neighbours-in-requires reach-requires covered-requires returns-2)
+pass-node-spec = tie.close (tie.spec returns neighbours-in-requires union-at-requires covered-requires returns-2)

@@ -1,11 +1,11 @@
 -- `bounded_strike::round::strike` meets its contract. Assumes nothing.
 use mathlib.Core.Path.{_≡_, sym, ap, _∙_}
-use mathlib.Core.List.{List}
-use Prim.Native.Nat.{ℕ}
+use mathlib.Core.List.{List, _++_, append-nil}
+use Prim.Native.Nat.{ℕ, _≤_}
 use native.Mathlib.Omega.{arith}
 use borrow.Author.Needs.{needs}
 use denote.Ref.{now}
-use lib.ListN.{length, take, drop, length-drop}
+use lib.ListN.{length, take, drop, length-drop, drop-of-length-le}
 use lib.Seq.{length-take-le}
 use Rattle.base_lists.specs.List.{part}
 use Rattle.graph_neighbours.specs.Lookup.{neighboursIn}
@@ -45,6 +45,13 @@ back-long s = s .strike-way2 .kept .1 .1 .1 .1 .1 .1 .1 .1 .0 ∙ forth-long (fo
 
 -- ---- the table
 
+-- the copy is the table of the round before
+same : (k : tie.After-copy) → k .copy .last .1 .0 ≡ now (entry k .args .old)
+same k =
+    let a = entry k .args in
+    let all : length (now (a .new)) ≤ length (now (a .old)) = omega (arith, entry k .pre .1 .2) in
+    k .copy .ensures ∙ ap (λ (rest : List ℕ). now (a .old) ++ rest) (drop-of-length-le (now (a .new)) all) ∙ append-nil (now (a .old))
+
 made : (s : tie.After-strike-way2) →
     let a = entry (copied (forth s)) .args in
     s .strike-way2 .last .1 .1 .1 .1 .1 .1 .1 .1 .0 ≡ roundTable (tables (now (a .masks)) (now (a .offsets)) (now (a .links))) (a .top) (now (a .old))
@@ -57,7 +64,7 @@ made s =
     s .strike-way2 .ensures
     ∙ ap (λ (new : List ℕ). passes (neighboursIn Backward (now (a .offsets)) (now (a .links))) (take 128 (drop 128 (now (a .masks)))) old (a .top) new)
     (f .strike-way .ensures
-    ∙ ap (λ (new : List ℕ). passes (neighboursIn Forward (now (a .offsets)) (now (a .links))) (take 128 (now (a .masks))) old (a .top) new) (k .copy .ensures))
+    ∙ ap (λ (new : List ℕ). passes (neighboursIn Forward (now (a .offsets)) (now (a .links))) (take 128 (now (a .masks))) old (a .top) new) (same k))
 
 -- ---- the needs
 

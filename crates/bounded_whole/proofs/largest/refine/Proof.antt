@@ -1,4 +1,4 @@
--- `bounded_whole::largest::refine` meets its contract, as table::largest::refine does. The loop's invariant: `table` is the table after `rounds`
+-- `bounded_whole::largest::refine` meets its contract, as table_largest::refine does. The loop's invariant: `table` is the table after `rounds`
 -- rounds, each of which struck a pair, and has `kept` pairs. The measure is `kept`, which falls with each round. Assumes nothing.
 use mathlib.Core.List.{List}
 use mathlib.Core.Path.{_≡_, refl, sym, _∙_}

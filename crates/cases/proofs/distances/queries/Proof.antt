@@ -1,20 +1,17 @@
 -- `cases::distances::queries` ends, and each lookup lies within the case. Assumes nothing.
-use mathlib.Core.Path.{_≡_, refl}
 use native.Mathlib.Omega.{arith}
 use Prim.Native.Nat.{_-_, _≤_}
-use borrow.Author.Needs.{needs}
-use lib.ListN.{length}
 use Rattle.cases.proofs.distances.queries.Statement.{statement}
 use Rattle.cases.proofs.distances.queries.Tie as tie
 
 abbrev Inv-loop : tie.InvT-loop
-Inv-loop b at count file out₀ i₀ out i = (i ≤ count) × (length out ≡ length out₀)
+Inv-loop b at count file i₀ i = i ≤ count
 
 abbrev μ-loop : tie.MeasureT-loop
-μ-loop b at count file out₀ i₀ out i = count - i
+μ-loop b at count file i₀ i = count - i
 
 loop-holds : tie.Need-loop-holds Inv-loop μ-loop
-loop-holds c = (omega arith, refl)
+loop-holds c = omega arith
 
 mul-query : tie.Need-mul-query Inv-loop μ-loop
 mul-query c = omega arith
@@ -32,10 +29,7 @@ loop-less : tie.Need-loop-less Inv-loop μ-loop
 loop-less c = omega arith
 
 loop-again : tie.Need-loop-again Inv-loop μ-loop
-loop-again c = (omega arith, search needs)
-
-same-length : tie.Need-same-length Inv-loop μ-loop
-same-length c = c .before .loop .inv .1
+loop-again c = omega arith
 
 returns : tie.Need-returns Inv-loop μ-loop
 returns c = tt
@@ -53,5 +47,4 @@ queries-spec =
     add-i
     loop-less
     loop-again
-    same-length
     returns)

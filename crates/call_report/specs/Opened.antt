@@ -1,0 +1,44 @@
+-- Two files that were opened for their report: what a piece is put from, so that the pieces of a long report read and match once.
+use mathlib.Core.List.{List}
+use mathlib.Core.Path.{_≡_}
+use Prim.Native.Nat.{ℕ, _≤_}
+use lib.ListN.{length, take}
+use Rattle.graph.specs.Circuit.{Circuit}
+use Rattle.file_format.specs.Circuit.{circuitOf, Drawn}
+use Rattle.file_format.specs.Layout.{firstEdition}
+use Rattle.file_format.specs.Reading as Reading
+use Rattle.file_format.specs.Refusals.{accept}
+use Rattle.file_pair.specs.declared.Pair.{Pair}
+use Rattle.table.specs.Prepared.{Tables}
+use Rattle.place.specs.Spread.{matched}
+use Rattle.place_components.specs.Components.{Components}
+use Rattle.report_centres.specs.Pieces.{Source}
+use Rattle.call_report.specs.Call.{verdictOf, ReportOutcome, reporting}
+
+-- what lines are put from: the whole board's table, and its components by their labels
+pub record Lines (pattern board : Circuit) (r : ℕ) (t : Tables) (whole labels sizes : List ℕ) : Type 0 where
+  pub source : Source pattern board t whole r
+  pub components : Components (length whole) (matched t whole) whole labels sizes
+
+-- Both files were accepted: where there are lines from a centre on, what they are put from stands at the fronts of the tables.
+pub record OpenedBoth (from : ℕ) (pattern board : Circuit) (read : Pair) (t : Tables) (whole labels sizes : List ℕ) : Type 0 where
+  pub drawn : Drawn pattern board
+  pub nodes : read .nodes ≡ length (board .kinds)
+  pub room : (read .nodes ≤ length whole) × (read .nodes ≤ length labels) × (read .nodes ≤ length sizes)
+  pub lines : from ≤ read .nodes → Lines pattern board (read .radius) t (take (read .nodes) whole) (take (read .nodes) labels) (take (read .nodes) sizes)
+
+-- two files were opened for the pieces from a centre on
+pub record Opened (from : ℕ) (pattern board : List ℕ) (read : Pair) (t : Tables) (whole labels sizes : List ℕ) : Type 0 where
+  pub verdict : Reading.verdictOf (read .verdict) ≡ verdictOf pattern board
+  pub both : verdictOf pattern board ≡ accept → OpenedBoth from (circuitOf (firstEdition pattern)) (circuitOf (firstEdition board)) read t whole labels sizes
+
+-- this of some two files
+pub record SomeOpened (from : ℕ) (read : Pair) (t : Tables) (whole labels sizes : List ℕ) : Type 0 where
+  pub pattern : List ℕ
+  pub board : List ℕ
+  pub opened : Opened from pattern board read t whole labels sizes
+
+-- the call's outcome, of every two files that were opened so
+abbrev pub EveryReported : ℕ → ℕ → Pair → Tables → List ℕ → List ℕ → List ℕ → List ℕ → ReportOutcome → Type 0
+EveryReported from found read t whole labels sizes out o =
+    (pattern board : List ℕ) → Opened from pattern board read t whole labels sizes → o ≡ reporting pattern board from found out

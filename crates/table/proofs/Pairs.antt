@@ -1,0 +1,40 @@
+-- How many pairs a table has. Assumes nothing.
+use mathlib.Core.Bool.{false}
+use mathlib.Core.List.{List, [], _∷_}
+use mathlib.Core.Path.{_≡_}
+use Prim.Native.Nat.{ℕ, zero, suc, _+_, _-_, _*_, _≤_, _<_, zero-le}
+use native.Mathlib.Nat.{le-of-suc-le-suc, not-suc-le-zero}
+use native.Mathlib.Omega.{arith}
+use lib.ListN.{length, getD, set}
+use Rattle.base_lists.specs.List.{sum}
+use Rattle.base_lists.specs.Below.{countBelow}
+use Rattle.base_lists.proofs.Below.{countBelow-le, countBelow-same}
+use Rattle.base_bits.specs.Bits.{bit, sizeOf}
+use Rattle.base_bits.proofs.Digits.{bit-of-zero}
+use Rattle.table.specs.Row.{pairs}
+
+pub size-none : sizeOf zero ≡ zero
+unfolding sizeOf countBelow
+size-none = countBelow-same 32 (bit zero) (λ u. false) (λ u h. bit-of-zero u)
+
+pub size-le : (x : ℕ) → sizeOf x ≤ 32
+unfolding sizeOf
+size-le x = countBelow-le 32 (bit x)
+
+-- a set has no more parts than the table pairs
+pub pairs-at : (xs : List ℕ) (v : ℕ) → v < length xs → sizeOf (getD xs v 0) ≤ pairs xs
+unfolding pairs sum
+pairs-at [] v h = absurd (not-suc-le-zero h)
+pairs-at (x ∷ xs) zero h = omega arith
+pairs-at (x ∷ xs) (suc v) h = omega (arith, pairs-at xs v (le-of-suc-le-suc h))
+
+pub pairs-le : (xs : List ℕ) → pairs xs ≤ 32 * length xs
+unfolding pairs sum
+pairs-le [] = zero-le
+pairs-le (x ∷ xs) = omega (arith, size-le x, pairs-le xs)
+
+pub pairs-put : (xs : List ℕ) (v y : ℕ) → v < length xs → pairs xs - sizeOf (getD xs v 0) + sizeOf y ≡ pairs (set xs v y)
+unfolding pairs sum
+pairs-put [] v y h = absurd (not-suc-le-zero h)
+pairs-put (x ∷ xs) zero y h = omega arith
+pairs-put (x ∷ xs) (suc v) y h = omega (arith, pairs-put xs v y (le-of-suc-le-suc h), pairs-at xs v (le-of-suc-le-suc h))

@@ -1,0 +1,4 @@
+pub mod Waking
+pub mod Due
+pub mod Row
+pub mod Rounds

@@ -1,0 +1,79 @@
+-- `table_largest::refine` meets its contract: the list of nodes has each node that changes, and what the rounds settle at is the end of the row.
+-- Assumes nothing.
+use mathlib.Core.List.{List, _∷_}
+use mathlib.Core.Path.{_≡_, refl, sym, ap}
+use Prim.Native.Nat.{ℕ, zero, suc, _≤_}
+use native.Mathlib.Nat.{not-suc-le-zero, le-of-suc-le-suc}
+use denote.Ref.{now}
+use lib.ListN.{length, take, replicate}
+use lib.Seq.{length-take-le}
+use Rattle.graph.specs.Search.{far}
+use Rattle.graph.proofs.Net.{net-of, net-few}
+use Rattle.table.specs.Row.{problemBy}
+use Rattle.table_largest.proofs.Rounds.{first-due, settled-rested}
+use borrow.Author.Needs.{needs}
+use Rattle.table_largest.proofs.refine.Statement.{statement}
+use Rattle.table_largest.proofs.refine.Tie as tie
+
+take-replicate : (k n x : ℕ) → k ≤ n → take k (replicate n x) ≡ replicate k x
+take-replicate zero n x h = refl
+take-replicate (suc k) zero x h = absurd (not-suc-le-zero h)
+take-replicate (suc k) (suc n) x h = ap (λ (l : List ℕ). x ∷ l) (take-replicate k n x (le-of-suc-le-suc h))
+
+-- there are no more nodes than the scratch has entries
+few : (s : tie.Start) → length (now (s .args .table)) ≤ 512
+unfolding problemBy
+few s = let known = s .pre .0 in rw (known .begins .long) (net-few (net-of (known .prepared .net)))
+
+array-borrow-prefix-marks : tie.Need-array-borrow-prefix-marks
+array-borrow-prefix-marks c = few (c .before .before .before .before .before .before .before)
+
+slice-aggregate-settle : tie.Need-slice-aggregate-settle
+slice-aggregate-settle c = sym (length-take-le _ _ (few (c .before .before .before .before .before .before .before .before)))
+
+array-borrow-prefix-todo : tie.Need-array-borrow-prefix-todo
+array-borrow-prefix-todo c = few (c .before .before .before .before .before .before .before .before)
+
+slice-aggregate-settle-2 : tie.Need-slice-aggregate-settle-2
+slice-aggregate-settle-2 c = sym (length-take-le _ _ (few (c .before .before .before .before .before .before .before .before .before)))
+
+array-borrow-prefix-changed : tie.Need-array-borrow-prefix-changed
+array-borrow-prefix-changed c = few (c .before .before .before .before .before .before .before .before .before)
+
+slice-aggregate-settle-3 : tie.Need-slice-aggregate-settle-3
+slice-aggregate-settle-3 c = sym (length-take-le _ _ (few (c .before .before .before .before .before .before .before .before .before .before)))
+
+settle-requires : tie.Need-settle-requires
+settle-requires c κs =
+    let start = c .before .before .before .before .before .before .before .before .before .before .before in
+    let known = start .pre .0 in
+    let h = few start in (
+      first-due (known .prepared) (now (start .args .nodes)) (known .begins) (start .pre .1 .0),
+      (start .pre .1 .1 .1, ((take-replicate _ 512 far h, length-take-le _ _ h), (length-take-le _ _ h, start .pre .1 .1 .0))),
+    )
+
+same-length : tie.Need-same-length
+same-length c = search needs
+
+same-length-2 : tie.Need-same-length-2
+same-length-2 c = search needs
+
+returns : tie.Need-returns
+returns c =
+    let start = c .before .before .before .before .before .before .before .before .before .before .before .before .before .before .before .before .before .before .before in
+    λ ways pattern host p b. settled-rested p (now (start .args .nodes)) b (c .before .before .before .before .before .before .before .settle .ensures .0)
+
+pub refine-spec : {M : Type 1} → statement M
+refine-spec =
+    tie.close
+    (tie.spec
+    array-borrow-prefix-marks
+    slice-aggregate-settle
+    array-borrow-prefix-todo
+    slice-aggregate-settle-2
+    array-borrow-prefix-changed
+    slice-aggregate-settle-3
+    settle-requires
+    same-length
+    same-length-2
+    returns)

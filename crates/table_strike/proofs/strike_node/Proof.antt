@@ -1,0 +1,102 @@
+-- `table_strike::strike_node` meets its contract. Of an empty set nothing survives, so that its neighbours need no look. Assumes nothing.
+use mathlib.Core.Path.{sym, ap, _∙_}
+use native.Mathlib.Omega.{arith}
+use borrow.Author.Needs.{needs}
+use denote.Ref.{now}
+use lib.ListN.{drop, length-drop}
+use lib.Seq.{length-take-le}
+use Rattle.base_lists.specs.List.{part}
+use Rattle.base_bits.specs.Bits.{unionAt}
+use Rattle.graph_neighbours.specs.declared.neighbours.Direction.the-variants.{Forward}
+use Rattle.graph_neighbours.specs.Lookup.{neighboursIn}
+use Rattle.graph_neighbours.proofs.Lookup.{neighbours-below}
+use Rattle.table.specs.Prepared.{Tables, tables}
+use Rattle.table_strike.proofs.Survivors.{strike-none, strike-unions}
+use Rattle.table_strike.proofs.strike_node.Statement.{statement}
+use Rattle.table_strike.proofs.strike_node.Tie as tie
+
+abbrev tablesOf : tie.Start → Tables
+tablesOf start = tables (now (start .args .masks)) (now (start .args .offsets)) (now (start .args .links))
+
+mul-set : tie.Need-mul-set
+mul-set c = search needs
+
+shared-slice-read-set : tie.Need-shared-slice-read-set
+shared-slice-read-set c = search needs
+
+returns : tie.Need-returns
+returns c =
+    let start = c .before .before .before .before .before .before in
+    sym (strike-none (tablesOf start) (now (start .args .old)) (start .args .v) (c .if1 .taken))
+
+abbrev entry : tie.Else1 → tie.Start
+entry c = c .before .before .before .before .before .before
+
+-- ---- the unions over what the node drives and what drives it
+
+neighbours-in-requires : tie.Need-neighbours-in-requires
+neighbours-in-requires c κs = record { nodes = _; net = entry c .pre .1 .0 .net; node = entry c .pre .1 .1 }
+
+union-at-requires : tie.Need-union-at-requires
+union-at-requires c κs =
+    let start = entry (c .before) in
+    rw (c .neighbours-in .ensures) (neighbours-below Forward (start .pre .1 .0 .net) _ (start .pre .1 .1))
+
+reach-back-requires : tie.Need-reach-back-requires
+reach-back-requires c κs =
+    let start = entry (c .before .before) in
+    (start .pre .1 .0 .net, start .pre .1 .1)
+
+-- ---- the two halves of the masks
+
+slice-aggregate-surviving : tie.Need-slice-aggregate-surviving
+slice-aggregate-surviving c =
+    let start = entry (c .before .before .before .before) in
+    let long = start .pre .1 .0 .masks in
+    sym (length-take-le 32 (now (start .args .masks)) (omega arith))
+
+sub-surviving : tie.Need-sub-surviving
+sub-surviving c = search needs
+
+part-surviving-start : tie.Need-part-surviving-start
+part-surviving-start c = search needs
+
+part-surviving-end : tie.Need-part-surviving-end
+part-surviving-end c = search needs
+
+surviving-requires : tie.Need-surviving-requires
+surviving-requires c κs =
+    let start = entry (c .before .before .before .before .before) in
+    let masks = now (start .args .masks) in
+    let long = start .pre .1 .0 .masks in
+    let small = start .pre .1 .0 .small (start .args .v) in (
+      rw (length-take-le 32 masks (omega arith)) small,
+      rw (length-take-le 32 (drop 32 masks) (omega (arith, length-drop 32 masks))) small,
+    )
+
+returns-2 : tie.Need-returns-2
+unfolding part neighboursIn
+returns-2 c =
+    let back = c .before .before .before in
+    let out = back .before in
+    let start = entry (out .before .before) in
+    let old = now (start .args .old) in
+    strike-unions (tablesOf start) old (start .args .v) (start .pre .0) (out .union-at .ensures ∙ ap (unionAt old) (out .before .neighbours-in .ensures))
+    (back .reach-back .ensures) (c .surviving .ensures)
+
+pub strike-node-spec : {M : Type 1} → statement M
+strike-node-spec =
+    tie.close
+    (tie.spec
+    mul-set
+    shared-slice-read-set
+    returns
+    neighbours-in-requires
+    union-at-requires
+    reach-back-requires
+    slice-aggregate-surviving
+    sub-surviving
+    part-surviving-start
+    part-surviving-end
+    surviving-requires
+    returns-2)
