@@ -26,7 +26,7 @@ use Rattle.bounded.proofs.Run.{bounded-length}
 use Rattle.call_match.specs.Call.{TableOutcome, replyOf}
 use Rattle.call_match.specs.declared.TableAnswer.the-variants.{Matched, Refused}
 use Rattle.table.specs.declared.Counts.{Counts}
-use Rattle.table.specs.Reply.{Reply, replied}
+use Rattle.table.specs.Reply.{MatchReply, replied}
 use Rattle.call_bounded.specs.Call.{boundedConditions, boundedOn, boundedMatching}
 
 -- ---- two circuits
@@ -57,7 +57,7 @@ module _ (p : Circuit) (bounds : List ℕ) (b : Circuit) (table : List ℕ) wher
 
   pub on-matched : length (b .kinds) ≤ length table → {counts : Counts} {last : List ℕ} → BoundedAnswer p bounds b last counts
       → record { reply = replyOf (Matched counts); table = last ++ drop (length (b .kinds)) table } ≡ boundedOn p bounds b table
-  on-matched h m = ap₂ (λ (r : Reply) (t : List ℕ). record { reply = r; table = t }) (fits-reply h (m .counted)) (fits-table h (m .last))
+  on-matched h m = ap₂ (λ (r : MatchReply) (t : List ℕ). record { reply = r; table = t }) (fits-reply h (m .counted)) (fits-table h (m .last))
 
 -- ---- an accepted pattern of the third edition
 

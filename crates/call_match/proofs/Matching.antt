@@ -24,7 +24,7 @@ use Rattle.simulation.specs.Simulation.{Direction}
 use Rattle.table.specs.Host.{everything}
 use Rattle.table.specs.Answer.{answerBy, answerCountsBy, AnsweredOn}
 use Rattle.table.specs.Prepared.{Tables}
-use Rattle.table.specs.Reply.{Reply, replied}
+use Rattle.table.specs.Reply.{MatchReply, replied}
 use Rattle.table.proofs.Answer.{answer-fits}
 use Rattle.table_whole.specs.Kinds.{SomeLinks}
 use Rattle.call_prepare.specs.Read.{BothPrepared}
@@ -64,7 +64,7 @@ module _ (ways : List Direction) (p b : Circuit) (table : List ℕ) where
 
   pub on-matched : length (b .kinds) ≤ length table → {counts : Counts} {last : List ℕ} → AnsweredOn ways p b last counts
       → record { reply = replyOf (Matched counts); table = last ++ drop (length (b .kinds)) table } ≡ matchOn ways p b table
-  on-matched h m = ap₂ (λ (r : Reply) (t : List ℕ). record { reply = r; table = t }) (fits-reply h (m .counted)) (fits-table h (m .last))
+  on-matched h m = ap₂ (λ (r : MatchReply) (t : List ℕ). record { reply = r; table = t }) (fits-reply h (m .counted)) (fits-table h (m .last))
 
 -- ---- two files
 

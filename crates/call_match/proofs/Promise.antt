@@ -41,7 +41,7 @@ use Rattle.table.specs.declared.Counts.{Counts}
 use Rattle.call_match.specs.Call.{matchConditions, replyOf, matchedBy, matchingBy, matching, oneWayMatching, connectedConditions, rowBy, connectedMatching}
 use Rattle.table.specs.Answer.{answerBy, answerCountsBy, AnsweredBy}
 use Rattle.table.specs.Host.{everything, KindsMatch}
-use Rattle.table.specs.Reply.{Reply, noCounts, replied}
+use Rattle.table.specs.Reply.{MatchReply, noCounts, replied}
 use Rattle.table.specs.Refine.{countsOf}
 use Rattle.table.specs.Row.{inTable, bothWays, oneWay, startBy, lastTable, InTable, Chosen, LargestOccurring}
 use Rattle.table.proofs.Answer.{answer-sum, answer-rounds, answer-ones, answer-started, answer-fewer, answer-connected, board-along, along-dual, along-graph}
@@ -52,8 +52,8 @@ use Rattle.call_match.proofs.Matching.{length-answer}
 
 pub reply-matched : (r : TableAnswer) (counts : Counts) → replyOf r ≡ record { verdict = accept; counts = counts } → r ≡ Matched counts
 unfolding replyOf
-reply-matched (Matched k) counts e = ap (λ (p : Reply). Matched (p .counts)) e
-reply-matched (Refused x) counts e = let apart : refuse x ≡ accept = ap (λ (p : Reply). p .verdict) e in cc
+reply-matched (Matched k) counts e = ap (λ (p : MatchReply). Matched (p .counts)) e
+reply-matched (Refused x) counts e = let apart : refuse x ≡ accept = ap (λ (p : MatchReply). p .verdict) e in cc
 
 pub reply-refused : (r : TableAnswer) (x : Refusal) → replyOf r .verdict ≡ refuse x → r ≡ Refused x
 unfolding replyOf

@@ -17,7 +17,7 @@ use Rattle.table.specs.Answer.{answerBy, answerCountsBy}
 use Rattle.table.specs.Host.{everything}
 use Rattle.table.specs.Prepared.{Tables, PreparedBy}
 use Rattle.table.specs.Refine.{countsOf}
-use Rattle.table.specs.Reply.{Reply, noCounts, replied}
+use Rattle.table.specs.Reply.{MatchReply, noCounts, replied}
 use Rattle.table.specs.Row.{bothWays, oneWay, lastTable}
 
 -- "Rising numbers are the order, the pattern's .. before the board's. Needed: .. match table N". "the whole-board call applies neither 6 nor
@@ -26,13 +26,13 @@ unfoldable pub matchConditions : CircuitFile → CircuitFile → ℕ → List Co
 matchConditions pattern board lent = pairConditions AnyPattern pattern board ++ (shortTable (nodesOf board) lent ∷ [])
 
 -- each case of the answer, so read: a refusal has no counts
-unfoldable pub replyOf : TableAnswer → Reply
+unfoldable pub replyOf : TableAnswer → MatchReply
 replyOf (Matched counts) = record { verdict = accept; counts = counts }
 replyOf (Refused x) = record { verdict = refuse x; counts = noCounts }
 
 -- the reply, and the table as the call leaves it
 pub record TableOutcome : Type 0 where
-  pub reply : Reply
+  pub reply : MatchReply
   pub table : List ℕ
 
 -- The pattern on the whole board: the four counts, and at the front of the table, whose entries past N stay, the last set of the row, or all

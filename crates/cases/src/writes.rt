@@ -23,7 +23,7 @@ fn show_answer(answer: WriteAnswer) {
 }
 
 // Numbers one after another, as many as the table has.
-fn fill(b: &[u8], at: usize, table: &mut [u16])
+fn load_numbers(b: &[u8], at: usize, table: &mut [u16])
     requires { ⌜ at + 2 * length (now table) ≤ length (now b) ⌝ }
 {
     let mut i = 0;
@@ -46,9 +46,9 @@ fn run_case(
 {
     let n = kinds.len();
     let m = starts.len();
-    fill(b, 0, kinds);
-    fill(b, 2 * n, starts);
-    fill(b, 2 * n + 2 * m, ends);
+    load_numbers(b, 0, kinds);
+    load_numbers(b, 2 * n, starts);
+    load_numbers(b, 2 * n + 2 * m, ends);
     show_answer(file_write::write_first(role, kinds, starts, ends, out));
     show_number(digest_bytes(out));
     end_line();

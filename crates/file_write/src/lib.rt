@@ -32,7 +32,7 @@ pub enum WriteAnswer {
 }
 
 // The circuit's file, at the front of bytes that have room for it. `packages` are those that the edition has.
-fn fill(kinds: &[u16], packages: &[u16], starts: &[u16], ends: &[u16], out: &mut [u8])
+fn put_fields(kinds: &[u16], packages: &[u16], starts: &[u16], ends: &[u16], out: &mut [u8])
     requires { ⌜ (length (now kinds) < 65536) × (length (now packages) ≤ length (now kinds)) × (length (now starts) < 65536) × (length (now starts) ≡ length (now ends)) ⌝ }
     requires { ⌜ 4 + 2 * length (now kinds) + 2 * length (now packages) + 4 * length (now starts) ≤ length (now out) ⌝ }
     ensures { λ r. ⌜ now (out .exit) ≡ filled Verdict.accept (stretchBytes (now (kinds .entry)) (now (packages .entry)) (now (starts .entry)) (now (ends .entry))) (now (out .entry)) ⌝ }
@@ -74,7 +74,7 @@ pub fn write(
         });
     }
     let p = package_count(edition, kinds.len());
-    fill(kinds, &packages[..p], starts, ends, out);
+    put_fields(kinds, &packages[..p], starts, ends, out);
     answer
 }
 

@@ -14,12 +14,12 @@ use Rattle.session_cut.specs.declared.CutAnswer.the-variants as cut
 use Rattle.session_cut.specs.declared.OutAnswer.{OutAnswer}
 use Rattle.session_cut.specs.declared.OutAnswer.the-variants as out
 use Rattle.session_cut.specs.Cut.{cutVerdict, outReply}
-use Rattle.heronditch_reply.specs.declared.Reply.{Reply}
+use Rattle.heronditch_reply.specs.declared.HostReply.{HostReply}
 use Rattle.heronditch_reply.specs.Replies.{slots, numberOf}
 use Rattle.heronditch.specs.Session.{HostOpen, HostCut, HostTable}
 
 pub host-open :
-    {pattern board : CircuitFile} {before after : State} (answer : OpenAnswer) {r : Reply} → OpenPromise pattern board before (openVerdict answer) after →
+    {pattern board : CircuitFile} {before after : State} (answer : OpenAnswer) {r : HostReply} → OpenPromise pattern board before (openVerdict answer) after →
     r ≡ slots (files.reply (openVerdict answer) []) → HostOpen pattern board before r after
 host-open answer p e =
     record {
@@ -35,7 +35,7 @@ unfolding slots numberOf
 accepted-zero values = refl
 
 pub host-cut :
-    {before after : State} {place : ℕ} (answer : CutAnswer) {r : Reply} → CutPromise before place (cutVerdict answer) after →
+    {before after : State} {place : ℕ} (answer : CutAnswer) {r : HostReply} → CutPromise before place (cutVerdict answer) after →
     r ≡ slots (files.reply (cutVerdict answer) []) → HostCut before place r after
 unfolding cutVerdict files.reply
 host-cut {before} {after} {place} answer {r} p e =
@@ -45,11 +45,11 @@ host-cut {before} {after} {place} answer {r} p e =
     }
   where
     refused : (answer : CutAnswer) → CutPromise before place (cutVerdict answer) after → r ≡ slots (files.reply (cutVerdict answer) []) → (r .number ≡ 0 → ⊥) → after ≡ before
-    refused cut.Cut p e n = absurd (n (ap (λ (x : Reply). x .number) e ∙ accepted-zero []))
+    refused cut.Cut p e n = absurd (n (ap (λ (x : HostReply). x .number) e ∙ accepted-zero []))
     refused (cut.Refused x) p e n = p .refused x refl
 
 pub host-table :
-    {fixed sets before after : List ℕ} (answer : OutAnswer) {r : Reply} →
+    {fixed sets before after : List ℕ} (answer : OutAnswer) {r : HostReply} →
     ((offsets numbers ends : List ℕ) → ReadPromise (state fixed offsets numbers ends sets) before (outReply answer) after) → r ≡ slots (outReply answer) →
     HostTable fixed sets before r after
 unfolding outReply
@@ -62,5 +62,5 @@ host-table {fixed} {sets} {before} {after} answer {r} p e =
     refused :
         (answer : OutAnswer) → ((offsets numbers ends : List ℕ) → ReadPromise (state fixed offsets numbers ends sets) before (outReply answer) after) →
         r ≡ slots (outReply answer) → (r .number ≡ 0 → ⊥) → after ≡ before
-    refused (out.Table n) p e other = absurd (other (ap (λ (x : Reply). x .number) e ∙ accepted-zero (n ∷ [])))
+    refused (out.Table n) p e other = absurd (other (ap (λ (x : HostReply). x .number) e ∙ accepted-zero (n ∷ [])))
     refused (out.Refused x) p e other = p [] [] [] .refused x refl

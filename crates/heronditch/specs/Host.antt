@@ -19,13 +19,13 @@ use Rattle.call_report.specs.Call.{ReportOutcome}
 use Rattle.call_compare.specs.declared.CompareAnswer.{CompareAnswer}
 use Rattle.call_compare.specs.Call.{compareReply}
 use Rattle.call_shelf.specs.Shelf.{ShelfOutcome}
-use Rattle.heronditch_reply.specs.declared.Reply.{Reply}
+use Rattle.heronditch_reply.specs.declared.HostReply.{HostReply}
 use Rattle.heronditch_reply.specs.declared.Counted.{Counted}
 use Rattle.heronditch_reply.specs.declared.Piece.{Piece}
 use Rattle.heronditch.specs.declared.shelf.Comparison.{Comparison}
 
 pub record HostRead : Type 0 where
-  pub reply : Reply
+  pub reply : HostReply
   pub kinds : List ℕ
   pub starts : List ℕ
   pub ends : List ℕ
@@ -35,7 +35,7 @@ hostRead o = record { reply = slots (o .reply); kinds = o .kinds; starts = o .st
 
 -- the same of a second-edition file
 pub record HostReadPackages : Type 0 where
-  pub reply : Reply
+  pub reply : HostReply
   pub kinds : List ℕ
   pub packages : List ℕ
   pub starts : List ℕ
@@ -45,7 +45,7 @@ unfoldable pub hostReadPackages : ReadOutcome → HostReadPackages
 hostReadPackages o = record { reply = slots (o .reply); kinds = o .kinds; packages = o .packages; starts = o .starts; ends = o .ends }
 
 pub record HostOut : Type 0 where
-  pub reply : Reply
+  pub reply : HostReply
   pub out : List ℕ
 
 unfoldable pub hostWrite : WriteOutcome → HostOut
@@ -78,7 +78,7 @@ unfoldable pub hostBar : BarOutcome → HostOut
 hostBar o = record { reply = slots (o .reply); out = o .out }
 
 pub record HostMerge : Type 0 where
-  pub reply : Reply
+  pub reply : HostReply
   pub classes : List ℕ
   pub out : List ℕ
 

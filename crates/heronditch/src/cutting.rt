@@ -12,13 +12,13 @@ ghost use Rattle.session_cut.specs.Cut.{cutVerdict, outReply};
 use call_session::OpenAnswer;
 use file_format::Edition;
 use file_format::Editions;
-use heronditch_reply::Reply;
+use heronditch_reply::HostReply;
 use heronditch_reply::accepted;
 use heronditch_reply::refused;
 use session_cut::CutAnswer;
 use session_cut::OutAnswer;
 
-fn of_open(answer: OpenAnswer) -> Reply
+fn of_open(answer: OpenAnswer) -> HostReply
     ensures { λ r. ⌜ r ≡ slots (reply (openVerdict answer) []) ⌝ }
 {
     match answer {
@@ -27,7 +27,7 @@ fn of_open(answer: OpenAnswer) -> Reply
     }
 }
 
-fn of_cut(answer: CutAnswer) -> Reply
+fn of_cut(answer: CutAnswer) -> HostReply
     ensures { λ r. ⌜ r ≡ slots (reply (cutVerdict answer) []) ⌝ }
 {
     match answer {
@@ -36,7 +36,7 @@ fn of_cut(answer: CutAnswer) -> Reply
     }
 }
 
-fn of_out(answer: OutAnswer) -> Reply
+fn of_out(answer: OutAnswer) -> HostReply
     ensures { λ r. ⌜ r ≡ slots (outReply answer) ⌝ }
 {
     match answer {
@@ -55,7 +55,7 @@ fn open_in(
     numbers: &mut [u16; 8192],
     ends: &mut [u16; 8192],
     sets: &mut [u32; 512],
-) -> Reply
+) -> HostReply
     ensures { λ r. ⌜ HostOpen (inEdition (editions .pattern) (now (pattern .entry))) (inEdition (editions .board) (now (board .entry)))
         (state (now (fixed .entry)) (now (offsets .entry)) (now (numbers .entry)) (now (ends .entry)) (now (sets .entry))) r
         (state (now (fixed .exit)) (now (offsets .exit)) (now (numbers .exit)) (now (ends .exit)) (now (sets .exit))) ⌝ }
@@ -81,7 +81,7 @@ pub extern "C" fn heronditch_session_open(
     numbers: &mut [u16; 8192],
     ends: &mut [u16; 8192],
     sets: &mut [u32; 512],
-) -> Reply
+) -> HostReply
     ensures { λ r. ⌜ HostOpen (inEdition editions.First (now (pattern .entry))) (inEdition editions.First (now (board .entry)))
         (state (now (fixed .entry)) (now (offsets .entry)) (now (numbers .entry)) (now (ends .entry)) (now (sets .entry))) r
         (state (now (fixed .exit)) (now (offsets .exit)) (now (numbers .exit)) (now (ends .exit)) (now (sets .exit))) ⌝ }
@@ -110,7 +110,7 @@ pub extern "C" fn heronditch_session_open_12(
     numbers: &mut [u16; 8192],
     ends: &mut [u16; 8192],
     sets: &mut [u32; 512],
-) -> Reply
+) -> HostReply
     ensures { λ r. ⌜ HostOpen (inEdition editions.First (now (pattern .entry))) (inEdition editions.Second (now (board .entry)))
         (state (now (fixed .entry)) (now (offsets .entry)) (now (numbers .entry)) (now (ends .entry)) (now (sets .entry))) r
         (state (now (fixed .exit)) (now (offsets .exit)) (now (numbers .exit)) (now (ends .exit)) (now (sets .exit))) ⌝ }
@@ -139,7 +139,7 @@ pub extern "C" fn heronditch_session_open_21(
     numbers: &mut [u16; 8192],
     ends: &mut [u16; 8192],
     sets: &mut [u32; 512],
-) -> Reply
+) -> HostReply
     ensures { λ r. ⌜ HostOpen (inEdition editions.Second (now (pattern .entry))) (inEdition editions.First (now (board .entry)))
         (state (now (fixed .entry)) (now (offsets .entry)) (now (numbers .entry)) (now (ends .entry)) (now (sets .entry))) r
         (state (now (fixed .exit)) (now (offsets .exit)) (now (numbers .exit)) (now (ends .exit)) (now (sets .exit))) ⌝ }
@@ -168,7 +168,7 @@ pub extern "C" fn heronditch_session_open_22(
     numbers: &mut [u16; 8192],
     ends: &mut [u16; 8192],
     sets: &mut [u32; 512],
-) -> Reply
+) -> HostReply
     ensures { λ r. ⌜ HostOpen (inEdition editions.Second (now (pattern .entry))) (inEdition editions.Second (now (board .entry)))
         (state (now (fixed .entry)) (now (offsets .entry)) (now (numbers .entry)) (now (ends .entry)) (now (sets .entry))) r
         (state (now (fixed .exit)) (now (offsets .exit)) (now (numbers .exit)) (now (ends .exit)) (now (sets .exit))) ⌝ }
@@ -196,7 +196,7 @@ pub extern "C" fn heronditch_session_cut(
     ends: &mut [u16; 8192],
     sets: &mut [u32; 512],
     place: usize,
-) -> Reply
+) -> HostReply
     ensures { λ r. ⌜ HostCut (state (now (fixed .entry)) (now (offsets .entry)) (now (numbers .entry)) (now (ends .entry)) (now (sets .entry))) place r
         (state (now (fixed .entry)) (now (offsets .entry)) (now (numbers .entry)) (now (ends .exit)) (now (sets .exit))) ⌝ }
 {
@@ -215,7 +215,7 @@ pub extern "C" fn heronditch_session_table(
     fixed: &[u32; 66],
     sets: &[u32; 512],
     table: &mut [u32],
-) -> Reply
+) -> HostReply
     ensures { λ r. ⌜ HostTable (now (fixed .entry)) (now (sets .entry)) (now (table .entry)) r (now (table .exit)) ⌝ }
 {
     of_out(session_cut::read_out(&fixed[..], &sets[..], table))

@@ -27,8 +27,8 @@ use file_format::Role;
 use graph_neighbours::neighbours::Direction;
 use graph_neighbours::neighbours::neighbours;
 use heronditch_reply::Counted;
+use heronditch_reply::HostReply;
 use heronditch_reply::Piece;
-use heronditch_reply::Reply;
 use heronditch_reply::of_ball;
 use heronditch_reply::of_bar;
 use heronditch_reply::of_check;
@@ -53,7 +53,7 @@ pub extern "C" fn heronditch_read_pattern(
     kinds: &mut [u16],
     starts: &mut [u16],
     ends: &mut [u16],
-) -> Reply
+) -> HostReply
     ensures { λ r. ⌜ record { reply = r; kinds = now (kinds .exit); starts = now (starts .exit); ends = now (ends .exit) }
         ≡ hostRead (reading role.Pattern (firstEdition (now (file .entry))) (now (kinds .entry)) [] (now (starts .entry)) (now (ends .entry))) ⌝ }
 {
@@ -66,7 +66,7 @@ pub extern "C" fn heronditch_read_board(
     kinds: &mut [u16],
     starts: &mut [u16],
     ends: &mut [u16],
-) -> Reply
+) -> HostReply
     ensures { λ r. ⌜ record { reply = r; kinds = now (kinds .exit); starts = now (starts .exit); ends = now (ends .exit) }
         ≡ hostRead (reading role.Board (firstEdition (now (file .entry))) (now (kinds .entry)) [] (now (starts .entry)) (now (ends .entry))) ⌝ }
 {
@@ -79,7 +79,7 @@ pub extern "C" fn heronditch_write_pattern(
     starts: &[u16],
     ends: &[u16],
     out: &mut [u8],
-) -> Reply
+) -> HostReply
     ensures { λ r. ⌜ record { reply = r; out = now (out .exit) }
         ≡ hostWrite (writing role.Pattern editions.First (now (kinds .entry)) [] (now (starts .entry)) (now (ends .entry)) (now (out .entry))) ⌝ }
 {
@@ -92,7 +92,7 @@ pub extern "C" fn heronditch_write_board(
     starts: &[u16],
     ends: &[u16],
     out: &mut [u8],
-) -> Reply
+) -> HostReply
     ensures { λ r. ⌜ record { reply = r; out = now (out .exit) }
         ≡ hostWrite (writing role.Board editions.First (now (kinds .entry)) [] (now (starts .entry)) (now (ends .entry)) (now (out .entry))) ⌝ }
 {
@@ -100,7 +100,7 @@ pub extern "C" fn heronditch_write_board(
 }
 
 #[no_mangle]
-pub extern "C" fn heronditch_radius(pattern: &[u8]) -> Reply
+pub extern "C" fn heronditch_radius(pattern: &[u8]) -> HostReply
     ensures { λ r. ⌜ r ≡ slots (radiusCall (firstEdition (now (pattern .entry)))) ⌝ }
 {
     of_radius(call_distance::radius(Edition::First, pattern))
@@ -112,7 +112,7 @@ pub extern "C" fn heronditch_ball(
     centre: usize,
     radius: u16,
     out: &mut [u16],
-) -> Reply
+) -> HostReply
     ensures { λ r. ⌜ record { reply = r; out = now (out .exit) } ≡ hostBall (ballCall (firstEdition (now (board .entry))) centre radius (now (out .entry))) ⌝ }
 {
     of_ball(call_distance::ball(Edition::First, board, centre, radius, out))
@@ -217,7 +217,7 @@ pub extern "C" fn heronditch_check(
     centre: usize,
     nodes: &[u8],
     links: &[u8],
-) -> Reply
+) -> HostReply
     ensures { λ r. ⌜ r ≡ slots (checkCall (firstEdition (now (pattern .entry))) (firstEdition (now (board .entry))) centre (now (nodes .entry)) (now (links .entry))) ⌝ }
 {
     of_check(call_check::check(
@@ -239,7 +239,7 @@ pub extern "C" fn heronditch_bar(
     board: &[u8],
     centre: usize,
     out: &mut [u8],
-) -> Reply
+) -> HostReply
     ensures { λ r. ⌜ record { reply = r; out = now (out .exit) } ≡ hostBar (barCall (firstEdition (now (pattern .entry))) (firstEdition (now (board .entry))) centre (now (out .entry))) ⌝ }
 {
     of_bar(call_barring::bar(
@@ -255,14 +255,14 @@ pub extern "C" fn heronditch_bar(
 }
 
 #[no_mangle]
-pub extern "C" fn heronditch_merge(pattern: &[u8], classes: &mut [u8], out: &mut [u8]) -> Reply
+pub extern "C" fn heronditch_merge(pattern: &[u8], classes: &mut [u8], out: &mut [u8]) -> HostReply
     ensures { λ r. ⌜ record { reply = r; classes = now (classes .exit); out = now (out .exit) } ≡ hostMerge (merging (firstEdition (now (pattern .entry))) (now (classes .entry)) (now (out .entry))) ⌝ }
 {
     of_merge(call_merge::merge(Edition::First, pattern, classes, out))
 }
 
 #[no_mangle]
-pub extern "C" fn heronditch_load(seed: u32, n: u32, m: u32, k: u32, out: &mut [u8]) -> Reply
+pub extern "C" fn heronditch_load(seed: u32, n: u32, m: u32, k: u32, out: &mut [u8]) -> HostReply
     ensures { λ r. ⌜ record { reply = r; out = now (out .exit) } ≡ hostLoad (loading seed n m k (now (out .entry))) ⌝ }
 {
     of_load(call_load::load(seed, n, m, k, out))
@@ -276,7 +276,7 @@ pub extern "C" fn heronditch_drives<'a>(
     backward: &'a [u16],
     node: usize,
     out: &mut [u16],
-) -> Reply
+) -> HostReply
     ensures { λ r. ⌜ record { reply = r; out = now (out .exit) }
         ≡ hostNeighbours (neighboursOf direction.Forward (now («forward_offsets» .entry)) (now (forward .entry)) (now («backward_offsets» .entry)) (now (backward .entry)) node) (now (out .entry)) ⌝ }
 {
@@ -301,7 +301,7 @@ pub extern "C" fn heronditch_driven<'a>(
     backward: &'a [u16],
     node: usize,
     out: &mut [u16],
-) -> Reply
+) -> HostReply
     ensures { λ r. ⌜ record { reply = r; out = now (out .exit) }
         ≡ hostNeighbours (neighboursOf direction.Backward (now («forward_offsets» .entry)) (now (forward .entry)) (now («backward_offsets» .entry)) (now (backward .entry)) node) (now (out .entry)) ⌝ }
 {

@@ -18,7 +18,7 @@ use file_format::Edition;
 use file_format::Editions;
 use file_format::Role;
 use heronditch_reply::Counted;
-use heronditch_reply::Reply;
+use heronditch_reply::HostReply;
 use heronditch_reply::of_ball;
 use heronditch_reply::of_bar;
 use heronditch_reply::of_check;
@@ -36,7 +36,7 @@ pub extern "C" fn heronditch_read_pattern_2(
     packages: &mut [u16],
     starts: &mut [u16],
     ends: &mut [u16],
-) -> Reply
+) -> HostReply
     ensures { λ r. ⌜ record { reply = r; kinds = now (kinds .exit); packages = now (packages .exit); starts = now (starts .exit); ends = now (ends .exit) }
         ≡ hostReadPackages (reading role.Pattern (inEdition editions.Second (now (file .entry))) (now (kinds .entry)) (now (packages .entry)) (now (starts .entry)) (now (ends .entry))) ⌝ }
 {
@@ -58,7 +58,7 @@ pub extern "C" fn heronditch_read_board_2(
     packages: &mut [u16],
     starts: &mut [u16],
     ends: &mut [u16],
-) -> Reply
+) -> HostReply
     ensures { λ r. ⌜ record { reply = r; kinds = now (kinds .exit); packages = now (packages .exit); starts = now (starts .exit); ends = now (ends .exit) }
         ≡ hostReadPackages (reading role.Board (inEdition editions.Second (now (file .entry))) (now (kinds .entry)) (now (packages .entry)) (now (starts .entry)) (now (ends .entry))) ⌝ }
 {
@@ -80,7 +80,7 @@ pub extern "C" fn heronditch_write_pattern_2(
     starts: &[u16],
     ends: &[u16],
     out: &mut [u8],
-) -> Reply
+) -> HostReply
     ensures { λ r. ⌜ record { reply = r; out = now (out .exit) }
         ≡ hostWrite (writing role.Pattern editions.Second (now (kinds .entry)) (now (packages .entry)) (now (starts .entry)) (now (ends .entry)) (now (out .entry))) ⌝ }
 {
@@ -102,7 +102,7 @@ pub extern "C" fn heronditch_write_board_2(
     starts: &[u16],
     ends: &[u16],
     out: &mut [u8],
-) -> Reply
+) -> HostReply
     ensures { λ r. ⌜ record { reply = r; out = now (out .exit) }
         ≡ hostWrite (writing role.Board editions.Second (now (kinds .entry)) (now (packages .entry)) (now (starts .entry)) (now (ends .entry)) (now (out .entry))) ⌝ }
 {
@@ -118,7 +118,7 @@ pub extern "C" fn heronditch_write_board_2(
 }
 
 #[no_mangle]
-pub extern "C" fn heronditch_radius_2(pattern: &[u8]) -> Reply
+pub extern "C" fn heronditch_radius_2(pattern: &[u8]) -> HostReply
     ensures { λ r. ⌜ r ≡ slots (radiusCall (inEdition editions.Second (now (pattern .entry)))) ⌝ }
 {
     of_radius(call_distance::radius(Edition::Second, pattern))
@@ -130,7 +130,7 @@ pub extern "C" fn heronditch_ball_2(
     centre: usize,
     radius: u16,
     out: &mut [u16],
-) -> Reply
+) -> HostReply
     ensures { λ r. ⌜ record { reply = r; out = now (out .exit) } ≡ hostBall (ballCall (inEdition editions.Second (now (board .entry))) centre radius (now (out .entry))) ⌝ }
 {
     of_ball(call_distance::ball(Edition::Second, board, centre, radius, out))
@@ -251,7 +251,7 @@ pub extern "C" fn heronditch_check_12(
     centre: usize,
     nodes: &[u8],
     links: &[u8],
-) -> Reply
+) -> HostReply
     ensures { λ r. ⌜ r ≡ slots (checkCall (firstEdition (now (pattern .entry))) (inEdition editions.Second (now (board .entry))) centre (now (nodes .entry)) (now (links .entry))) ⌝ }
 {
     of_check(call_check::check(
@@ -273,7 +273,7 @@ pub extern "C" fn heronditch_bar_12(
     board: &[u8],
     centre: usize,
     out: &mut [u8],
-) -> Reply
+) -> HostReply
     ensures { λ r. ⌜ record { reply = r; out = now (out .exit) }
         ≡ hostBar (barCall (firstEdition (now (pattern .entry))) (inEdition editions.Second (now (board .entry))) centre (now (out .entry))) ⌝ }
 {
@@ -296,7 +296,7 @@ pub extern "C" fn heronditch_check_21(
     centre: usize,
     nodes: &[u8],
     links: &[u8],
-) -> Reply
+) -> HostReply
     ensures { λ r. ⌜ r ≡ slots (checkCall (inEdition editions.Second (now (pattern .entry))) (firstEdition (now (board .entry))) centre (now (nodes .entry)) (now (links .entry))) ⌝ }
 {
     of_check(call_check::check(
@@ -318,7 +318,7 @@ pub extern "C" fn heronditch_bar_21(
     board: &[u8],
     centre: usize,
     out: &mut [u8],
-) -> Reply
+) -> HostReply
     ensures { λ r. ⌜ record { reply = r; out = now (out .exit) }
         ≡ hostBar (barCall (inEdition editions.Second (now (pattern .entry))) (firstEdition (now (board .entry))) centre (now (out .entry))) ⌝ }
 {
@@ -341,7 +341,7 @@ pub extern "C" fn heronditch_check_22(
     centre: usize,
     nodes: &[u8],
     links: &[u8],
-) -> Reply
+) -> HostReply
     ensures { λ r. ⌜ r ≡ slots (checkCall (inEdition editions.Second (now (pattern .entry))) (inEdition editions.Second (now (board .entry))) centre (now (nodes .entry)) (now (links .entry))) ⌝ }
 {
     of_check(call_check::check(
@@ -363,7 +363,7 @@ pub extern "C" fn heronditch_bar_22(
     board: &[u8],
     centre: usize,
     out: &mut [u8],
-) -> Reply
+) -> HostReply
     ensures { λ r. ⌜ record { reply = r; out = now (out .exit) }
         ≡ hostBar (barCall (inEdition editions.Second (now (pattern .entry))) (inEdition editions.Second (now (board .entry))) centre (now (out .entry))) ⌝ }
 {
@@ -380,7 +380,11 @@ pub extern "C" fn heronditch_bar_22(
 }
 
 #[no_mangle]
-pub extern "C" fn heronditch_merge_2(pattern: &[u8], classes: &mut [u8], out: &mut [u8]) -> Reply
+pub extern "C" fn heronditch_merge_2(
+    pattern: &[u8],
+    classes: &mut [u8],
+    out: &mut [u8],
+) -> HostReply
     ensures { λ r. ⌜ record { reply = r; classes = now (classes .exit); out = now (out .exit) }
         ≡ hostMerge (merging (inEdition editions.Second (now (pattern .entry))) (now (classes .entry)) (now (out .entry))) ⌝ }
 {
@@ -388,7 +392,7 @@ pub extern "C" fn heronditch_merge_2(pattern: &[u8], classes: &mut [u8], out: &m
 }
 
 #[no_mangle]
-pub extern "C" fn heronditch_convert_pattern_12(file: &[u8], out: &mut [u8]) -> Reply
+pub extern "C" fn heronditch_convert_pattern_12(file: &[u8], out: &mut [u8]) -> HostReply
     ensures { λ r. ⌜ record { reply = r; out = now (out .exit) }
         ≡ hostConvert (converting role.Pattern editions.Second (firstEdition (now (file .entry))) (now (out .entry))) ⌝ }
 {
@@ -396,7 +400,7 @@ pub extern "C" fn heronditch_convert_pattern_12(file: &[u8], out: &mut [u8]) -> 
 }
 
 #[no_mangle]
-pub extern "C" fn heronditch_convert_pattern_21(file: &[u8], out: &mut [u8]) -> Reply
+pub extern "C" fn heronditch_convert_pattern_21(file: &[u8], out: &mut [u8]) -> HostReply
     ensures { λ r. ⌜ record { reply = r; out = now (out .exit) }
         ≡ hostConvert (converting role.Pattern editions.First (inEdition editions.Second (now (file .entry))) (now (out .entry))) ⌝ }
 {
@@ -404,7 +408,7 @@ pub extern "C" fn heronditch_convert_pattern_21(file: &[u8], out: &mut [u8]) -> 
 }
 
 #[no_mangle]
-pub extern "C" fn heronditch_convert_board_12(file: &[u8], out: &mut [u8]) -> Reply
+pub extern "C" fn heronditch_convert_board_12(file: &[u8], out: &mut [u8]) -> HostReply
     ensures { λ r. ⌜ record { reply = r; out = now (out .exit) }
         ≡ hostConvert (converting role.Board editions.Second (firstEdition (now (file .entry))) (now (out .entry))) ⌝ }
 {
@@ -412,7 +416,7 @@ pub extern "C" fn heronditch_convert_board_12(file: &[u8], out: &mut [u8]) -> Re
 }
 
 #[no_mangle]
-pub extern "C" fn heronditch_convert_board_21(file: &[u8], out: &mut [u8]) -> Reply
+pub extern "C" fn heronditch_convert_board_21(file: &[u8], out: &mut [u8]) -> HostReply
     ensures { λ r. ⌜ record { reply = r; out = now (out .exit) }
         ≡ hostConvert (converting role.Board editions.First (inEdition editions.Second (now (file .entry))) (now (out .entry))) ⌝ }
 {

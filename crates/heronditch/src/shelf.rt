@@ -7,7 +7,7 @@ ghost use Rattle.heronditch_reply.specs.Replies.{slots};
 use call_compare::CompareAnswer;
 use call_compare::Which;
 use call_shelf::ShelfAnswer;
-use heronditch_reply::Reply;
+use heronditch_reply::HostReply;
 use heronditch_reply::accepted;
 use heronditch_reply::refused;
 use order::Order;
@@ -65,7 +65,7 @@ fn of_compare(answer: CompareAnswer) -> Comparison
     }
 }
 
-fn of_shelf(answer: ShelfAnswer) -> Reply
+fn of_shelf(answer: ShelfAnswer) -> HostReply
     ensures { λ r. ⌜ r ≡ slots (shelfReply answer) ⌝ }
 {
     match answer {
@@ -82,7 +82,7 @@ pub extern "C" fn heronditch_compare_2(first: &[u8], second: &[u8]) -> Compariso
 }
 
 #[no_mangle]
-pub extern "C" fn heronditch_shelf_2(bytes: &[u8], lengths: &[u32], order: &mut [u8]) -> Reply
+pub extern "C" fn heronditch_shelf_2(bytes: &[u8], lengths: &[u32], order: &mut [u8]) -> HostReply
     ensures { λ r. ⌜ record { reply = r; out = now (order .exit) } ≡ hostShelf (shelving (now (bytes .entry)) (now (lengths .entry)) (now (order .entry))) ⌝ }
 {
     of_shelf(call_shelf::shelf(bytes, lengths, order))

@@ -6,7 +6,7 @@ use Rattle.file_format.specs.declared.File.the-variants.{Pattern, Board, Neithe
 use Rattle.file_format.specs.Refusals.{Verdict, accept, refuse}
 use Rattle.file_format.specs.Reply as files
 use Rattle.table.specs.Reply as table
-use Rattle.heronditch_reply.specs.declared.Reply.{Reply}
+use Rattle.heronditch_reply.specs.declared.HostReply.{HostReply}
 use Rattle.heronditch_reply.specs.declared.Counted.{Counted}
 use Rattle.heronditch_reply.specs.declared.Piece.{Piece}
 
@@ -26,12 +26,12 @@ meantFile accept = 0
 meantFile (refuse x) = fileNumber (x .file)
 
 -- up to two values replied with; a slot without one is 0
-unfoldable pub slots : files.Reply → Reply
+unfoldable pub slots : files.Reply → HostReply
 slots r =
     record { number = numberOf (r .verdict); file = meantFile (r .verdict); first = getD (r .values) 0 0; second = getD (r .values) 1 0 }
 
 -- the four counts replied with
-unfoldable pub counted : table.Reply → Counted
+unfoldable pub counted : table.MatchReply → Counted
 counted r =
     record {
       number = numberOf (r .verdict);

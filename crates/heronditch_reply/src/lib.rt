@@ -31,7 +31,7 @@ use table::Counts;
 
 // Number 0 for acceptance or the refusal's number; the file that it means (0 neither, 1 pattern, 2 board); the values replied with.
 #[repr(C)]
-pub struct Reply {
+pub struct HostReply {
     pub number: u32,
     pub file: u32,
     pub first: usize,
@@ -70,10 +70,10 @@ fn file_number(file: File) -> u32
     }
 }
 
-pub fn accepted(first: usize, second: usize) -> Reply
+pub fn accepted(first: usize, second: usize) -> HostReply
     ensures { λ r. ⌜ r ≡ record { number = 0; file = 0; first = first; second = second } ⌝ }
 {
-    Reply {
+    HostReply {
         number: 0,
         file: 0,
         first,
@@ -81,11 +81,11 @@ pub fn accepted(first: usize, second: usize) -> Reply
     }
 }
 
-pub fn refused(x: Refusal) -> Reply
+pub fn refused(x: Refusal) -> HostReply
     ensures { λ r. ⌜ r ≡ record { number = x .number; file = fileNumber (x .file); first = 0; second = 0 } ⌝ }
 {
     let file = x.file;
-    Reply {
+    HostReply {
         number: x.number as u32,
         file: file_number(file),
         first: 0,
@@ -93,7 +93,7 @@ pub fn refused(x: Refusal) -> Reply
     }
 }
 
-pub fn of_read(answer: ReadAnswer) -> Reply
+pub fn of_read(answer: ReadAnswer) -> HostReply
     ensures { λ r. ⌜ r ≡ slots (readReply answer) ⌝ }
 {
     match answer {
@@ -102,7 +102,7 @@ pub fn of_read(answer: ReadAnswer) -> Reply
     }
 }
 
-pub fn of_write(answer: WriteAnswer) -> Reply
+pub fn of_write(answer: WriteAnswer) -> HostReply
     ensures { λ r. ⌜ r ≡ slots (writeReply answer) ⌝ }
 {
     match answer {
@@ -111,7 +111,7 @@ pub fn of_write(answer: WriteAnswer) -> Reply
     }
 }
 
-pub fn of_convert(answer: ConvertAnswer) -> Reply
+pub fn of_convert(answer: ConvertAnswer) -> HostReply
     ensures { λ r. ⌜ r ≡ slots (convertReply answer) ⌝ }
 {
     match answer {
@@ -120,7 +120,7 @@ pub fn of_convert(answer: ConvertAnswer) -> Reply
     }
 }
 
-pub fn of_radius(answer: RadiusAnswer) -> Reply
+pub fn of_radius(answer: RadiusAnswer) -> HostReply
     ensures { λ r. ⌜ r ≡ slots (radiusReply answer) ⌝ }
 {
     match answer {
@@ -129,7 +129,7 @@ pub fn of_radius(answer: RadiusAnswer) -> Reply
     }
 }
 
-pub fn of_ball(answer: BallAnswer) -> Reply
+pub fn of_ball(answer: BallAnswer) -> HostReply
     ensures { λ r. ⌜ r ≡ slots (ballReply answer) ⌝ }
 {
     match answer {
@@ -138,7 +138,7 @@ pub fn of_ball(answer: BallAnswer) -> Reply
     }
 }
 
-pub fn of_check(answer: CheckAnswer) -> Reply
+pub fn of_check(answer: CheckAnswer) -> HostReply
     ensures { λ r. ⌜ r ≡ slots (checkReply answer) ⌝ }
 {
     match answer {
@@ -202,7 +202,7 @@ pub fn of_place(answer: PlaceAnswer) -> Counted
     }
 }
 
-pub fn of_bar(answer: BarAnswer) -> Reply
+pub fn of_bar(answer: BarAnswer) -> HostReply
     ensures { λ r. ⌜ r ≡ slots (barReply answer) ⌝ }
 {
     match answer {
@@ -211,7 +211,7 @@ pub fn of_bar(answer: BarAnswer) -> Reply
     }
 }
 
-pub fn of_merge(answer: MergeAnswer) -> Reply
+pub fn of_merge(answer: MergeAnswer) -> HostReply
     ensures { λ r. ⌜ r ≡ slots (mergeReply answer) ⌝ }
 {
     match answer {
@@ -220,7 +220,7 @@ pub fn of_merge(answer: MergeAnswer) -> Reply
     }
 }
 
-pub fn of_load(answer: LoadAnswer) -> Reply
+pub fn of_load(answer: LoadAnswer) -> HostReply
     ensures { λ r. ⌜ r ≡ slots (loadReply answer) ⌝ }
 {
     match answer {

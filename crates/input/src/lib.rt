@@ -26,7 +26,7 @@ fn outcome(fd: i32, size: usize, room: usize) -> Found
 }
 
 // Reads from an open file until the buffer is full or the file ends.
-fn fill(fd: i32, buf: &mut [u8]) -> Found
+fn read_open(fd: i32, buf: &mut [u8]) -> Found
     ensures { λ r. ⌜ Within (length (now (buf .exit))) r ⌝ }
 {
     let size = io::read_full(fd, buf);
@@ -54,7 +54,7 @@ pub fn load(name: &[u8], buf: &mut [u8]) -> Found
         }
         return Found::Unreadable;
     }
-    let found = fill(fd, buf);
+    let found = read_open(fd, buf);
     libc::close(fd);
     found
 }

@@ -7,19 +7,19 @@ use Rattle.file_format.specs.declared.File.the-variants.{Neither}
 use Rattle.file_format.specs.Reading.{filled}
 use Rattle.file_format.specs.Refusals.{Verdict, accept, refuse}
 use Rattle.table.specs.Refine.{countsOf}
-use Rattle.table.specs.Reply.{Reply}
+use Rattle.table.specs.Reply.{MatchReply}
 use Rattle.place.specs.declared.PlaceAnswer.{PlaceAnswer}
 use Rattle.place.specs.declared.PlaceAnswer.the-variants.{Placed, Refused}
 use Rattle.place.specs.Match.{ballOf, distancesOf, found, placeNodes, placeLinks, placeTable}
 
 -- number, file and counts of each case of the answer
-unfoldable pub placeReply : PlaceAnswer → Reply
+unfoldable pub placeReply : PlaceAnswer → MatchReply
 placeReply (Placed counts) = record { verdict = accept; counts = counts }
 placeReply (Refused x counts) = record { verdict = refuse x; counts = counts }
 
 -- the reply, and the four tables as the call leaves them
 pub record PlaceOutcome : Type 0 where
-  pub reply : Reply
+  pub reply : MatchReply
   pub nodes : List ℕ
   pub links : List ℕ
   pub table : List ℕ

@@ -244,10 +244,10 @@ fn search_until(
     let mut tally = Tally { seen: 1, count: 1 };
     let mut d: u16 = 0;
     while goes_on(tally.count, size, d, r) {
-        if i == tail {
-            return tail;
-        }
         if i == hi {
+            if hi == tail {
+                return tail;
+            }
             hi = tail;
             d += 1;
         } else {

@@ -7,11 +7,11 @@ unfoldable pub noCounts : Counts
 noCounts = record { started = 0; kept = 0; struck = 0; rounds = 0 }
 
 -- What document 01 says of a reply: accepted, or refused by a number and with the file that is meant; and the four counts.
-pub record Reply : Type 0 where
+pub record MatchReply : Type 0 where
   pub verdict : Verdict
   pub counts : Counts
 
 -- the reply to a verdict, where acceptance has these counts
-unfoldable pub replied : Verdict → Counts → Reply
+unfoldable pub replied : Verdict → Counts → MatchReply
 replied accept counts = record { verdict = accept; counts = counts }
 replied (refuse x) counts = record { verdict = refuse x; counts = noCounts }

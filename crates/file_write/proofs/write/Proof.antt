@@ -65,11 +65,11 @@ returns-2 c =
 package-count-requires : tie.Need-package-count-requires
 package-count-requires c κs = search needs
 
-slice-aggregate-fill : tie.Need-slice-aggregate-fill
-slice-aggregate-fill c = sym (length-take-le _ _ (enough (c .before)))
+slice-aggregate-put-fields : tie.Need-slice-aggregate-put-fields
+slice-aggregate-put-fields c = sym (length-take-le _ _ (enough (c .before)))
 
-fill-requires : tie.Need-fill-requires
-fill-requires c κs =
+put-fields-requires : tie.Need-put-fields-requires
+put-fields-requires c κs =
     let here = c .before .before in
     let a = entry (here .before .before .before) .args in
     let s = accepted (here .before .before .before) in
@@ -86,7 +86,7 @@ returns-3 : tie.Need-returns-3
 returns-3 c =
     let here = c .before .before .before .before .before in
     let s = accepted (here .before .before .before) in
-    same (ap Written (s .1)) (c .before .before .fill .ensures ∙ rw (here .package-count .ensures .0) refl)
+    same (ap Written (s .1)) (c .before .before .put-fields .ensures ∙ rw (here .package-count .ensures .0) refl)
     ∙ sym (writing-filled _ _ _ _ _ _ _ (s .0) (omega arith))
 
 pub write-spec : {M : Type 1} → statement M
@@ -99,7 +99,7 @@ write-spec =
     returns
     returns-2
     package-count-requires
-    slice-aggregate-fill
-    fill-requires
+    slice-aggregate-put-fields
+    put-fields-requires
     same-length
     returns-3)

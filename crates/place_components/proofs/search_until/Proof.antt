@@ -93,60 +93,54 @@ wanted c e =
     let t = both-left (not (eqb (l .tally .count) (a .size))) (ltb (l .d) (a .r)) (true-T (sym (c .before .goes-on .ensures) ∙ c .if1 .taken)) in
     rw (eq-eqb (l .tally .count) (a .size) e) at t
 
--- all that is reached has been looked from: no farther is anything found
-
-same-length : tie.Need-same-length Inv-loop μ-loop
-same-length c = long (turn (c .before)) .0
-
-same-length-2 : tie.Need-same-length-2 Inv-loop μ-loop
-same-length-2 c = long (turn (c .before)) .1
-
-returns : tie.Need-returns Inv-loop μ-loop
-unfolding stateOf
-returns c =
-    let at = turn (c .before) in
-    let l = at .loop in
-    let a = begun at .args in
-    let s = l .inv .0 in
-    let k = l .inv .3 in
-    let size = reached-length _ _ _ k in
-    let all = seeking-none s (omega (arith, s .looked, s .listed, size, c .if2 .taken)) (more (c .before)) (omega (arith, size, c .if2 .taken)) in
-    (k .within, all-until (sameLabel (now (a .labels)) (a .c)) (a .size) (rw (long at .0) at (k .ready .inside)) (rw (begun at .pre .1 .1 .1) at all))
-
--- those at most d links away have: the next level begins
-
-abbrev onward : tie.Else2 Inv-loop μ-loop → tie.At-loop Inv-loop μ-loop
-onward c = turn (c .before)
-
 -- there are nodes for all levels and for all steps of the queue
-near : (c : tie.Else2 Inv-loop μ-loop) → let l = onward c .loop in
-    (l .i < l .tail) × (l .i ≤ l .hi) × (l .hi ≤ l .tail) × (l .d < l .hi) × (l .tail ≤ length (now (begun (onward c) .args .labels))) × (length (now (begun (onward c) .args .labels)) < 65535)
+near : (c : tie.Then1 Inv-loop μ-loop) → let l = turn c .loop in
+    (l .i ≤ l .hi) × (l .hi ≤ l .tail) × (l .d < l .hi) × (l .tail ≤ length (now (begun (turn c) .args .labels))) × (length (now (begun (turn c) .args .labels)) < 65535)
 near c =
-    let at = onward c in
+    let at = turn c in
     let l = at .loop in
     let s = l .inv .0 in
     let size = reached-length _ _ _ (l .inv .3) in
-    let low = tail-le _ _ _ (l .inv .3) in
-    let hi : l .hi ≤ l .tail = omega (arith, s .listed, size) in (
-      omega (arith, s .looked, hi, c .if2 .left),
+    let low = tail-le _ _ _ (l .inv .3) in (
       s .looked,
-      hi,
+      omega (arith, s .listed, size),
       s .deep,
       omega (arith, low, l .inv .1),
       omega (arith, begun at .pre .1 .1 .1, net-few (begun at .pre .0)),
     )
 
+-- all that is reached has been looked from: no farther is anything found
+
+same-length : tie.Need-same-length Inv-loop μ-loop
+same-length c = long (turn (c .before .before)) .0
+
+same-length-2 : tie.Need-same-length-2 Inv-loop μ-loop
+same-length-2 c = long (turn (c .before .before)) .1
+
+returns : tie.Need-returns Inv-loop μ-loop
+unfolding stateOf
+returns c =
+    let at = turn (c .before .before) in
+    let l = at .loop in
+    let a = begun at .args in
+    let k = l .inv .3 in
+    let size = reached-length _ _ _ k in
+    let all = seeking-none (l .inv .0) (c .before .if2 .taken) (more (c .before .before)) (omega (arith, size, c .before .if2 .taken, c .if3 .taken)) in
+    (k .within, all-until (sameLabel (now (a .labels)) (a .c)) (a .size) (rw (long at .0) at (k .ready .inside)) (rw (begun at .pre .1 .1 .1) at all))
+
+-- those at most d links away have: the next level begins
+
 add-d : tie.Need-add-d Inv-loop μ-loop
-add-d c = omega (arith, near (c .before))
+add-d c = omega (arith, near (c .before .before))
 
 loop-less : tie.Need-loop-less Inv-loop μ-loop
 loop-less c = omega (arith, more (c .before .before))
 
 loop-again : tie.Need-loop-again Inv-loop μ-loop
 loop-again c =
-    let l = onward (c .before) .loop in
-    let n = near (c .before) in (
-      seeking-level (l .inv .0) (c .if3 .taken) (l .tail) (more (c .before .before)) (omega (arith, n, c .if3 .taken)) (sym (reached-length _ _ _ (l .inv .3))),
+    let l = turn (c .before .before) .loop in
+    let n = near (c .before .before) in (
+      seeking-level (l .inv .0) (c .before .if2 .taken) (l .tail) (more (c .before .before)) (omega (arith, n, c .if3 .left)) (sym (reached-length _ _ _ (l .inv .3))),
       l .inv .1,
       l .inv .2,
       l .inv .3,
@@ -157,17 +151,17 @@ loop-again c =
 
 -- one of them has not
 
-next : (c : tie.Else3 Inv-loop μ-loop) → onward (c .before) .loop .i < onward (c .before) .loop .hi
-next c = omega (arith, near (c .before), c .if3 .left)
+next : (c : tie.Else2 Inv-loop μ-loop) → turn (c .before) .loop .i < turn (c .before) .loop .hi
+next c = omega (arith, near (c .before), c .if2 .left)
 
 mul-v : tie.Need-mul-v Inv-loop μ-loop
-mul-v c = omega (arith, near (c .before))
+mul-v c = omega (arith, near (c .before), next c)
 
 slice-read-v : tie.Need-slice-read-v Inv-loop μ-loop
-slice-read-v c = omega (arith, near (c .before .before), onward (c .before .before) .loop .inv .2)
+slice-read-v c = omega (arith, near (c .before .before), next (c .before), turn (c .before .before) .loop .inv .2)
 
 cast-v : tie.Need-cast-v Inv-loop μ-loop
-cast-v c = omega (arith, c .slice-known5 .given (onward (c .before .before) .loop .i))
+cast-v c = omega (arith, c .slice-known5 .given (turn (c .before .before) .loop .i))
 
 add-expand : tie.Need-add-expand Inv-loop μ-loop
 add-expand c = omega (arith, near (c .before .before))
@@ -175,18 +169,18 @@ add-expand c = omega (arith, near (c .before .before))
 expand-requires : tie.Need-expand-requires Inv-loop μ-loop
 expand-requires c κs =
     let here = c .before .before .before .before in
-    let at = onward here in
+    let at = turn here in
     let l = at .loop in
-    (rw (long at .0) (begun at .pre .0), (l .inv .3, (queue-node _ _ _ (l .inv .3) (l .i) (omega (arith, near here)), omega (arith, near here))))
+    (rw (long at .0) (begun at .pre .0), (l .inv .3, (queue-node _ _ _ (l .inv .3) (l .i) (omega (arith, near here, next (c .before .before .before))), omega (arith, near here))))
 
-abbrev there : tie.After-expand Inv-loop μ-loop → tie.Else3 Inv-loop μ-loop
+abbrev there : tie.After-expand Inv-loop μ-loop → tie.Else2 Inv-loop μ-loop
 there c = c .before .before .before .before
 
 -- what was reached stands where it stood
-longer : (c : tie.After-expand Inv-loop μ-loop) (k : ℕ) → let l = onward (there c .before) .loop in
+longer : (c : tie.After-expand Inv-loop μ-loop) (k : ℕ) → let l = turn (there c .before) .loop in
     k ≤ l .tail → (k ≤ c .expand .result) × (take k (c .expand .last .1 .1 .1 .1 .1 .0) ≡ take k (l .queue))
 longer c k h =
-    let l = onward (there c .before) .loop in
+    let l = turn (there c .before) .loop in
     tables-extend k _ _ _ _ _ _ _ (l .inv .3) (c .expand .ensures) (extends-scan _ (stateOf (l .dist) (l .queue) (l .tail)) _) h
 
 slice-reshare-prefix-count-on : tie.Need-slice-reshare-prefix-count-on Inv-loop μ-loop
@@ -196,10 +190,10 @@ slice-aggregate-count-on : tie.Need-slice-aggregate-count-on Inv-loop μ-loop
 slice-aggregate-count-on c = sym (length-take-le _ _ (c .before .before .before .before .before .expand .ensures .kept .within))
 
 -- so many of those that were counted have the label
-counted : (c : tie.After-expand Inv-loop μ-loop) → let at = onward (there c .before) in let a = begun at .args in
+counted : (c : tie.After-expand Inv-loop μ-loop) → let at = turn (there c .before) in let a = begun at .args in
     at .loop .tally .count ≡ length (having (sameLabel (now (a .labels)) (a .c)) (take (at .loop .tally .seen) (c .expand .last .1 .1 .1 .1 .1 .0)))
 counted c =
-    let at = onward (there c .before) in
+    let at = turn (there c .before) in
     let l = at .loop in
     let a = begun at .args in
     l .inv .5 ∙ ap (λ ns. length (having (sameLabel (now (a .labels)) (a .c)) ns)) (sym (longer c (l .tally .seen) (l .inv .4) .1))
@@ -208,7 +202,7 @@ count-on-requires : tie.Need-count-on-requires Inv-loop μ-loop
 unfolding stateOf
 count-on-requires c κs =
     let done = c .before .before .before .before .before in
-    let at = onward (there done .before) in
+    let at = turn (there done .before) in
     let l = at .loop in
     let call = done .expand in
     let a = begun at .args in
@@ -225,23 +219,23 @@ abbrev after : tie.After-count-on Inv-loop μ-loop → tie.After-expand Inv-loop
 after c = c .before .before .before .before .before .before
 
 add-i : tie.Need-add-i Inv-loop μ-loop
-add-i c = omega (arith, near (there (after c) .before))
+add-i c = omega (arith, near (there (after c) .before), next (there (after c)))
 
 loop-less-2 : tie.Need-loop-less-2 Inv-loop μ-loop
-loop-less-2 c = omega (arith, near (there (after c) .before))
+loop-less-2 c = omega (arith, near (there (after c) .before), next (there (after c)))
 
 loop-again-2 : tie.Need-loop-again-2 Inv-loop μ-loop
 unfolding stateOf
 loop-again-2 c =
     let done = after c in
     let here = there done in
-    let at = onward (here .before) in
+    let at = turn (here .before) in
     let l = at .loop in
     let call = done .expand in
     let seen = longer done (l .tally .seen) (l .inv .4) .0 in
-    let t = counted-on (call .result) (call .last .1 .1 .1 .1 .1 .0) (call .ensures .kept .within) (c .count-on .ensures) seen (counted done) (wanted (here .before .before)) in
-    let entry = sym (getD-take (l .tail) (l .queue) (l .i) 0 (omega (arith, near (here .before)))) in (
-      subst (Seeking _ _ _ _ (l .i + 1) (l .hi) (l .d)) (sym (call .ensures .state)) (seeking-next (l .inv .0) _ (next here) (more (here .before .before)) entry),
+    let t = counted-on (call .result) (call .last .1 .1 .1 .1 .1 .0) (call .ensures .kept .within) (c .count-on .ensures) seen (counted done) (wanted (here .before)) in
+    let entry = sym (getD-take (l .tail) (l .queue) (l .i) 0 (omega (arith, near (here .before), next here))) in (
+      subst (Seeking _ _ _ _ (l .i + 1) (l .hi) (l .d)) (sym (call .ensures .state)) (seeking-next (l .inv .0) _ (next here) (more (here .before)) entry),
       call .kept .1 .1 .1 .1 .0 ∙ l .inv .1,
       call .kept .1 .1 .1 .1 .1 .0 ∙ l .inv .2,
       call .ensures .kept,

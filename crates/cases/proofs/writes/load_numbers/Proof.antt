@@ -1,10 +1,10 @@
--- `cases::writes::fill` is safe and ends: the numbers read lie in the bytes. Assumes nothing.
+-- `cases::writes::load_numbers` is safe and ends: the numbers read lie in the bytes. Assumes nothing.
 use mathlib.Core.Path.{_≡_, refl}
 use native.Mathlib.Omega.{arith}
 use Prim.Native.Nat.{_-_, _≤_}
 use lib.ListN.{length, length-set}
-use Rattle.cases.proofs.writes.fill.Statement.{statement}
-use Rattle.cases.proofs.writes.fill.Tie as tie
+use Rattle.cases.proofs.writes.load_numbers.Statement.{statement}
+use Rattle.cases.proofs.writes.load_numbers.Tie as tie
 
 abbrev Inv-loop : tie.InvT-loop
 Inv-loop b at table₀ i₀ table i = (i ≤ length table₀) × (length table ≡ length table₀)
@@ -48,8 +48,8 @@ same-length c = omega arith
 returns : tie.Need-returns Inv-loop μ-loop
 returns c = tt
 
-pub fill-spec : {M : Type 1} → statement M
-fill-spec =
+pub load-numbers-spec : {M : Type 1} → statement M
+load-numbers-spec =
     tie.close
     (tie.spec
     Inv-loop

@@ -1,9 +1,9 @@
--- `file_write::fill` meets its contract: the fields stored one behind another make the file. Assumes nothing.
+-- `file_write::put_fields` meets its contract: the fields stored one behind another make the file. Assumes nothing.
 use native.Mathlib.Omega.{arith}
 use Rattle.file_write.proofs.Stores.{file-stored}
 use borrow.Author.Needs.{needs}
-use Rattle.file_write.proofs.fill.Statement.{statement}
-use Rattle.file_write.proofs.fill.Tie as tie
+use Rattle.file_write.proofs.put_fields.Statement.{statement}
+use Rattle.file_write.proofs.put_fields.Tie as tie
 
 cast-store-field : tie.Need-cast-store-field
 cast-store-field c = search needs
@@ -63,8 +63,8 @@ returns c =
     rw (c .before .before .store4 .ensures, c .before .before .before .before .before .before .store3 .ensures, links .store2 .ensures, links .before .before .before .before .store .ensures, nodes .store-field2 .ensures, nodes .before .before .before .before .store-field .ensures)
     (file-stored _ _ _ _ _ (c .before .before .before .before .before .before .before .before .before .before .before .before .before .before .before .before .before .before .before .before .before .before .before .before .before .before .before .before .before .pre .0 .3) (c .before .before .before .before .before .before .before .before .before .before .before .before .before .before .before .before .before .before .before .before .before .before .before .before .before .before .before .before .before .pre .1))
 
-pub fill-spec : {M : Type 1} → statement M
-fill-spec =
+pub put-fields-spec : {M : Type 1} → statement M
+put-fields-spec =
     tie.close
     (tie.spec
     cast-store-field
