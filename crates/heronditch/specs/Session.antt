@@ -24,8 +24,8 @@ pub record HostOpen (pattern board : CircuitFile) (before : State) (r : HostRepl
   pub refused : (x : Refusal) → first (openConditions pattern board) ≡ refuse x → after ≡ before
 
 -- a cut of tables that hold a machine: its reply, and the machine after it. Where the number is not 0, the tables are as they were.
-pub record HostCut (before : State) (place : ℕ) (r : HostReply) (after : State) : Type 0 where
-  pub machine : (m : Machine) → Holds m before → (r ≡ slots (reply (cutReply m place) [])) × Holds (cutMachine m place) after × (after ≡ cutState m place before)
+pub record HostCut (before : State) (link : ℕ) (r : HostReply) (after : State) : Type 0 where
+  pub machine : (m : Machine) → Holds m before → (r ≡ slots (reply (cutReply m link) [])) × Holds (cutMachine m link) after × (after ≡ cutState m link before)
   pub refused : (r .number ≡ 0 → ⊥) → after ≡ before
 
 -- reading out the table of a machine, which a number other than 0 leaves as it was
