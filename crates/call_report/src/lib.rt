@@ -2,7 +2,6 @@
 use call_prepare::Reading;
 use call_prepare::read_prepared;
 use file_format::Board;
-use file_format::Edition;
 use file_format::Editions;
 use file_format::File;
 use file_format::FileVerdict;
@@ -26,6 +25,7 @@ ghost use mathlib.Core.Path.{_≡_};
 ghost use Prim.Native.Nat.{_≤_};
 ghost use lib.ListN.{length};
 ghost use Rattle.call_report.specs.Call.{refusalPiece, outcomeFor, reportReply, reporting};
+ghost use Rattle.file_format.specs.Layout.{inEdition};
 ghost use Rattle.report.specs.Lines.{longestRefusal};
 ghost use Rattle.report_centres.specs.Pieces.{linesPiece, SourceOfSome, Wrote, EveryWrote};
 ghost use Rattle.place.specs.Spread.{matched};
@@ -115,6 +115,7 @@ fn put_lines(
 // table and its components among it, at the fronts of the tables. Past the last line nothing is left to put, and nothing is matched.
 pub fn open(
     from: usize,
+    editions: Editions,
     pattern: &[u8],
     board: &[u8],
     masks: &mut [u32],
@@ -126,14 +127,10 @@ pub fn open(
 ) -> Pair
     requires { ⌜ (length (now masks) ≡ 64) × NetRoom (now offsets) (now links) ⌝ }
     requires { ⌜ (length (now whole) ≡ 512) × (length (now labels) ≡ 512) × (length (now sizes) ≡ 512) ⌝ }
-    ensures { λ r. ⌜ Opened from (now (pattern .entry)) (now (board .entry)) r (tables (now (masks .exit)) (now (offsets .exit)) (now (links .exit))) (now (whole .exit)) (now (labels .exit)) (now (sizes .exit)) ⌝ }
+    ensures { λ r. ⌜ Opened from (inEdition (editions .pattern) (now (pattern .entry))) (inEdition (editions .board) (now (board .entry))) r (tables (now (masks .exit)) (now (offsets .exit)) (now (links .exit))) (now (whole .exit)) (now (labels .exit)) (now (sizes .exit)) ⌝ }
 {
     let mut pk = [0u32; Pattern::MAX_NODES];
     let mut nk = [0u32; Board::MAX_NODES];
-    let editions = Editions {
-        pattern: Edition::First,
-        board: Edition::First,
-    };
     let reading = Reading {
         role: Role::Pattern,
         ways: Ways::Both,
@@ -219,8 +216,16 @@ pub fn put(
 // many centres as there is room for, and the last line where the centres are done; the first piece is from 0 with 0 found. Nothing is put
 // exactly when the report is at its end. A buffer that is too short, for the line of a refused file or for the longest line, is refused and
 // left as it was.
-pub fn report(pattern: &[u8], board: &[u8], from: usize, found: u16, out: &mut [u8]) -> ReportAnswer
-    ensures { λ a. ⌜ record { reply = reportReply a; out = now (out .exit) } ≡ reporting (now (pattern .entry)) (now (board .entry)) from found (now (out .entry)) ⌝ }
+pub fn report(
+    editions: Editions,
+    pattern: &[u8],
+    board: &[u8],
+    from: usize,
+    found: u16,
+    out: &mut [u8],
+) -> ReportAnswer
+    ensures { λ a. ⌜ record { reply = reportReply a; out = now (out .exit) }
+        ≡ reporting (inEdition (editions .pattern) (now (pattern .entry))) (inEdition (editions .board) (now (board .entry))) from found (now (out .entry)) ⌝ }
 {
     let mut masks = [0u32; MASKS];
     let mut offsets = [0u16; OFFSETS];
@@ -230,6 +235,7 @@ pub fn report(pattern: &[u8], board: &[u8], from: usize, found: u16, out: &mut [
     let mut sizes = [0u16; Board::MAX_NODES];
     let read = open(
         from,
+        editions,
         pattern,
         board,
         &mut masks,

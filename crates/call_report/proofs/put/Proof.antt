@@ -5,7 +5,6 @@ use mathlib.Core.Path.{sym, _∙_}
 use borrow.Author.Needs.{needs}
 use lib.Seq.{length-take-le}
 use Rattle.file_format.specs.Circuit.{circuitOf}
-use Rattle.file_format.specs.Layout.{firstEdition}
 use Rattle.table.specs.Prepared.{tables}
 use Rattle.report_centres.proofs.Pieces.{past-wrote}
 use Rattle.call_report.specs.Opened.{OpenedBoth}
@@ -27,7 +26,7 @@ start c = c .before .before .before .before .before .before .before .before .bef
 both : (c : tie.After-enum-told) →
     let s = start c in
     let a = s .args in
-    OpenedBoth (a .from) (circuitOf (firstEdition (s .pre .pattern))) (circuitOf (firstEdition (s .pre .board))) (a .read) (tables (now (a .masks)) (now (a .offsets)) (now (a .links)))
+    OpenedBoth (a .from) (circuitOf (s .pre .pattern)) (circuitOf (s .pre .board)) (a .read) (tables (now (a .masks)) (now (a .offsets)) (now (a .links)))
     (now (a .whole)) (now (a .labels)) (now (a .sizes))
 both c = opened-both (start c .pre .opened) (c .enum-told .given .1)
 
