@@ -189,3 +189,41 @@ pub extern "C" fn heronditch_bar(
         out,
     ))
 }
+// Puts a piece of the report of a pattern on a board: the lines of the centres from a node on, and the last line where the centres are done.
+#[no_mangle]
+pub extern "C" fn heronditch_report_editions(
+    pattern: &[u8],
+    pattern_edition: u32,
+    board: &[u8],
+    board_edition: u32,
+    from: usize,
+    found: u16,
+    out: &mut [u8],
+) -> Piece
+    ensures { λ r. ⌜ record { reply = r; out = now (out .exit) }
+        ≡ hostReport (reporting (told (now (pattern .entry)) «pattern_edition») (told (now (board .entry)) «board_edition») from found (now (out .entry))) ⌝ }
+{
+    of_report(call_report::report(
+        editions_of(pattern_edition, board_edition),
+        pattern,
+        board,
+        from,
+        found,
+        out,
+    ))
+}
+
+// The same of files of the first edition.
+#[no_mangle]
+pub extern "C" fn heronditch_report(
+    pattern: &[u8],
+    board: &[u8],
+    from: usize,
+    found: u16,
+    out: &mut [u8],
+) -> Piece
+    ensures { λ r. ⌜ record { reply = r; out = now (out .exit) }
+        ≡ hostReport (reporting (firstEdition (now (pattern .entry))) (firstEdition (now (board .entry))) from found (now (out .entry))) ⌝ }
+{
+    heronditch_report_editions(pattern, FIRST, board, FIRST, from, found, out)
+}
