@@ -147,8 +147,10 @@ fn find_on(
     )
 }
 
-// The call on two files.
-fn find(
+// The place around the centre, at the pattern's radius or at one given: the ball's four counts, with a byte per board node and one per board link, 1 in
+// the place and else 0, a set of parts per node, and each node's distance from the centre, 65,535 outside the ball, at the front of the four
+// tables; or the refusal, which leaves them as they were.
+pub fn place(
     reach: Reach,
     editions: Editions,
     pattern: &[u8],
@@ -200,61 +202,4 @@ fn find(
         );
     };
     turned_away(x)
-}
-
-// The place around the centre at the pattern's radius: the ball's four counts, with a byte per board node and one per board link, 1 in the
-// place and else 0, a set of parts per node, and each node's distance from the centre, 65,535 outside the ball, at the front of the four
-// tables; or the refusal, which leaves them as they were.
-pub fn place(
-    editions: Editions,
-    pattern: &[u8],
-    board: &[u8],
-    centre: usize,
-    nodes: &mut [u8],
-    links: &mut [u8],
-    table: &mut [u32],
-    distances: &mut [u16],
-) -> PlaceAnswer
-    ensures { λ a. ⌜ record { reply = placeReply a; nodes = now (nodes .exit); links = now (links .exit); table = now (table .exit); distances = now (distances .exit) }
-        ≡ placeAt (inEdition (editions .pattern) (now (pattern .entry))) (inEdition (editions .board) (now (board .entry))) centre (radiusOf (circuitOf (inEdition (editions .pattern) (now (pattern .entry))))) (now (nodes .entry)) (now (links .entry)) (now (table .entry)) (now (distances .entry)) ⌝ }
-{
-    find(
-        Reach::Own,
-        editions,
-        pattern,
-        board,
-        centre,
-        nodes,
-        links,
-        table,
-        distances,
-    )
-}
-
-// The same at a radius given.
-pub fn place_within(
-    editions: Editions,
-    pattern: &[u8],
-    board: &[u8],
-    centre: usize,
-    radius: u16,
-    nodes: &mut [u8],
-    links: &mut [u8],
-    table: &mut [u32],
-    distances: &mut [u16],
-) -> PlaceAnswer
-    ensures { λ a. ⌜ record { reply = placeReply a; nodes = now (nodes .exit); links = now (links .exit); table = now (table .exit); distances = now (distances .exit) }
-        ≡ placeAt (inEdition (editions .pattern) (now (pattern .entry))) (inEdition (editions .board) (now (board .entry))) centre radius (now (nodes .entry)) (now (links .entry)) (now (table .entry)) (now (distances .entry)) ⌝ }
-{
-    find(
-        Reach::Given(radius),
-        editions,
-        pattern,
-        board,
-        centre,
-        nodes,
-        links,
-        table,
-        distances,
-    )
 }

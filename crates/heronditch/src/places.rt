@@ -10,6 +10,7 @@ ghost use Rattle.call_report.specs.Call.{reporting};
 ghost use Rattle.heronditch.specs.Host.{hostPlace, hostBar, hostReport};
 ghost use Rattle.heronditch_reply.specs.Replies.{slots};
 ghost use Rattle.heronditch_told.specs.Told.{told};
+use call_place::Reach;
 use heronditch_reply::Counted;
 use heronditch_reply::HostReply;
 use heronditch_reply::Piece;
@@ -42,6 +43,7 @@ pub extern "C" fn heronditch_place_editions(
         (now (nodes .entry)) (now (links .entry)) (now (table .entry)) (now (distances .entry))) ⌝ }
 {
     of_place(call_place::place(
+        Reach::Own,
         editions_of(pattern_edition, board_edition),
         pattern,
         board,
@@ -71,12 +73,12 @@ pub extern "C" fn heronditch_place_within_editions(
         ≡ hostPlace (placeAt (told (now (pattern .entry)) «pattern_edition») (told (now (board .entry)) «board_edition») centre radius
         (now (nodes .entry)) (now (links .entry)) (now (table .entry)) (now (distances .entry))) ⌝ }
 {
-    of_place(call_place::place_within(
+    of_place(call_place::place(
+        Reach::Given(radius),
         editions_of(pattern_edition, board_edition),
         pattern,
         board,
         centre,
-        radius,
         nodes,
         links,
         table,

@@ -1,5 +1,6 @@
 -- `heronditch::places::heronditch_place_editions` meets its contract: the call of the crate below, its reply as numbers. Assumes nothing.
 use mathlib.Core.Path.{ap}
+use Rattle.call_place.specs.Call.{radiusFor}
 use Rattle.heronditch.specs.Host.{hostPlace}
 use borrow.Author.Needs.{needs}
 use Rattle.heronditch.proofs.places.heronditch_place_editions.Statement.{statement}
@@ -27,7 +28,7 @@ same-length-4 : tie.Need-same-length-4
 same-length-4 c = search needs
 
 returns : tie.Need-returns
-unfolding hostPlace
+unfolding hostPlace radiusFor
 returns c =
     rw (c .of-place .ensures, ← c .before .before .before .before .before .before .before .before .before .before .before .before .before .before .editions-of .ensures .0, ← c .before .before .before .before .before .before .before .before .before .before .before .before .before .before .editions-of .ensures .1) (ap hostPlace (c .before .before .before .before .before .before .before .before .before .place .ensures))
 

@@ -1,5 +1,6 @@
 -- `heronditch::places::heronditch_place_within_editions` meets its contract: the call of the crate below, its reply as numbers. Assumes nothing.
 use mathlib.Core.Path.{ap}
+use Rattle.call_place.specs.Call.{radiusFor}
 use Rattle.heronditch.specs.Host.{hostPlace}
 use borrow.Author.Needs.{needs}
 use Rattle.heronditch.proofs.places.heronditch_place_within_editions.Statement.{statement}
@@ -8,8 +9,8 @@ use Rattle.heronditch.proofs.places.heronditch_place_within_editions.Ti
 editions-of-requires : tie.Need-editions-of-requires
 editions-of-requires c κs = search needs
 
-place-within-requires : tie.Need-place-within-requires
-place-within-requires c κs = search needs
+place-requires : tie.Need-place-requires
+place-requires c κs = search needs
 
 of-place-requires : tie.Need-of-place-requires
 of-place-requires c κs = search needs
@@ -27,16 +28,16 @@ same-length-4 : tie.Need-same-length-4
 same-length-4 c = search needs
 
 returns : tie.Need-returns
-unfolding hostPlace
+unfolding hostPlace radiusFor
 returns c =
-    rw (c .of-place .ensures, ← c .before .before .before .before .before .before .before .before .before .before .before .before .before .before .editions-of .ensures .0, ← c .before .before .before .before .before .before .before .before .before .before .before .before .before .before .editions-of .ensures .1) (ap hostPlace (c .before .before .before .before .before .before .before .before .before .place-within .ensures))
+    rw (c .of-place .ensures, ← c .before .before .before .before .before .before .before .before .before .before .before .before .before .before .editions-of .ensures .0, ← c .before .before .before .before .before .before .before .before .before .before .before .before .before .before .editions-of .ensures .1) (ap hostPlace (c .before .before .before .before .before .before .before .before .before .place .ensures))
 
 pub heronditch-place-within-editions-spec : {M : Type 1} → statement M
 heronditch-place-within-editions-spec =
     tie.close
     (tie.spec
     editions-of-requires
-    place-within-requires
+    place-requires
     of-place-requires
     same-length
     same-length-2
