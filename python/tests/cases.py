@@ -1,25 +1,14 @@
-"""Makes the cases that the proved program `cases` is run on, and what it must print, from model.py.
+"""Cases for the calls on files: the conditions of refusal, the maxima and one past them, every table just long enough and one short, damaged files,
+shapes of every kind, rows of many sets, and small random circuits. test_cases.py runs them through the library, against tools/model.py."""
 
-    python3 tools/cases.py            writes crates/cases/data/* and crates/cases/stdout
-    python3 tools/cases.py --check    says whether what is stored is what it would write
-"""
 import random
-import sys
-from pathlib import Path
 
+import conftest  # noqa: F401  puts tools/ on the path
 import model
 from model import Circuit, encode
 
-ROOT = Path(__file__).resolve().parent.parent
 T = Circuit([10, 20, 30], [0, 1], [1, 2])
 B = Circuit([10, 20, 30, 20, 30, 10], [0, 1, 3], [1, 2, 4])
-
-
-def digest(table):
-    total = 0
-    for x in table:
-        total = (total * 31 + x) % 65521
-    return total
 
 
 def path(n, kind=7):
@@ -48,7 +37,14 @@ def read_cases():
 
     both = ("pattern", "board")
     # the table of refusals in document 01
-    for text in ("020001", "00000000", "01000000", "010001000A0000000100", "010002000A000000000000000000", "020000000A001400"):
+    for text in (
+        "020001",
+        "00000000",
+        "01000000",
+        "010001000A0000000100",
+        "010002000A000000000000000000",
+        "020000000A001400",
+    ):
         for role in both:
             case(role, bytes.fromhex(text))
     case("board", encode(B), 2)
@@ -70,7 +66,7 @@ def read_cases():
             case(role, data, k, s, e)
         # 65,535 in each field
         for at in range(0, len(data), 2):
-            case(role, data[:at] + b"\xff\xff" + data[at + 2:])
+            case(role, data[:at] + b"\xff\xff" + data[at + 2 :])
         # 8 comes after 4, 5 and 6
         case(role, raw(1, 1, 9, 0, 1), 0, 0, 0)
         case(role, raw(1, 2, 9, 0, 0, 0, 0), 0, 0, 0)
@@ -80,7 +76,14 @@ def read_cases():
     case("board", raw(3, 2, 1, 1, 1, 0, 3, 1, 1))
     case("board", raw(3, 2, 1, 1, 1, 0, 1, 1, 3))
     # links: equal, falling by start, falling by end, a self-link, both directions
-    for starts, ends in (([0, 0], [1, 1]), ([1, 0], [0, 1]), ([0, 0], [2, 1]), ([0, 0], [0, 1]), ([0, 1], [1, 0]), ([2, 2], [0, 2])):
+    for starts, ends in (
+        ([0, 0], [1, 1]),
+        ([1, 0], [0, 1]),
+        ([0, 0], [2, 1]),
+        ([0, 0], [0, 1]),
+        ([0, 1], [1, 0]),
+        ([2, 2], [0, 2]),
+    ):
         for role in both:
             case(role, encode(Circuit([1, 2, 3], starts, ends)))
     # connected only against the links' directions; two halves; kind 0
@@ -102,7 +105,10 @@ def read_cases():
     for n in (23, 24, 25, 26, 27):
         case("pattern", encode(ring(n)))
     for arm in (5, 6):
-        case("pattern", encode(circuit_of(5 * arm + 1, [(0 if v % arm == 1 else v - 1, v) for v in range(1, 5 * arm + 1)])))
+        case(
+            "pattern",
+            encode(circuit_of(5 * arm + 1, [(0 if v % arm == 1 else v - 1, v) for v in range(1, 5 * arm + 1)])),
+        )
     case("pattern", encode(Circuit([7] * 16, list(range(14)), list(range(1, 15)))))
     case("pattern", encode(full(32, 256, rng)), 40, 300, 300)
     case("pattern", encode(full(32, 257, rng)), 40, 300, 300)
@@ -117,21 +123,8 @@ def read_cases():
         data = encode(circuit)
         for _ in range(60):
             at = rng.randrange(len(data))
-            case(role, data[:at] + bytes((rng.randrange(256),)) + data[at + 1:])
+            case(role, data[:at] + bytes((rng.randrange(256),)) + data[at + 1 :])
     return out
-
-
-def write_read_cases():
-    blob, lines = b"", []
-    for role, k, s, e, data in read_cases():
-        blob += bytes((0 if role == "pattern" else 1,))
-        for x in (k, s, e, len(data)):
-            blob += bytes((x // 256, x % 256))
-        blob += data
-        tables = [[7777] * x for x in (k, s, e)]
-        reply = model.read(role, data, *tables)
-        lines.append(" ".join(str(x) for x in (*reply, *map(digest, tables))))
-    return "reads", blob, lines
 
 
 def circuit_of(n, pairs):
@@ -171,14 +164,36 @@ def distance_cases():
         out.append((bytes(data), queries))
 
     # the table of refusals in document 01, with a centre and a table that would be refused too
-    for text in ("", "020001", "00000000", "01000000", "010001000A0000000100", "010002000A000000000000000000", "020000000A001400"):
+    for text in (
+        "",
+        "020001",
+        "00000000",
+        "01000000",
+        "010001000A0000000100",
+        "010002000A000000000000000000",
+        "020000000A001400",
+    ):
         case(bytes.fromhex(text), (0, 1, 40), (9, 1, 0))
     # each centre of small circuits, at radius 0, 1, the pattern's and 65,535; tables just long enough, short, and longer
     y = circuit_of(3, [(0, 1), (0, 2)])
-    for circuit in (T, B, y, ring(4), circuit_of(4, [(0, 1), (0, 2), (2, 3)]), circuit_of(5, [(1, 0), (1, 2), (3, 2), (3, 4), (4, 4)])):
+    for circuit in (
+        T,
+        B,
+        y,
+        ring(4),
+        circuit_of(4, [(0, 1), (0, 2), (2, 3)]),
+        circuit_of(5, [(1, 0), (1, 2), (3, 2), (3, 4), (4, 4)]),
+    ):
         n = len(circuit.kinds)
         wide = model.radius(encode(circuit))[1]
-        case(encode(circuit), *((c, r, n) for c in range(n + 2) for r in (0, 1, wide, 65535)), (0, 1, n - 1), (0, 1, 0), (0, 1, n + 3), (n, 1, n - 1))
+        case(
+            encode(circuit),
+            *((c, r, n) for c in range(n + 2) for r in (0, 1, wide, 65535)),
+            (0, 1, n - 1),
+            (0, 1, 0),
+            (0, 1, n + 3),
+            (n, 1, n - 1)
+        )
     # centres past every board, also where their low 16 bits are a node
     case(encode(B), *((c, 2, 6) for c in (5, 6, 7, 512, 65535, 65536, 65537, 131072, 2**31, 2**32 - 1)))
     # N = 0 and N = 1
@@ -204,25 +219,15 @@ def distance_cases():
     # 512 nodes: a path each way, a ring, a star, two halves; 4,096 links
     halves = circuit_of(512, [(v, v + 1) for v in range(511) if v != 255])
     for circuit in (path(512), turned(path(512)), ring(512), circuit_of(512, [(0, v) for v in range(1, 512)]), halves):
-        case(encode(circuit), *((c, r, 512) for c in (0, 255, 511) for r in (0, 1, 2, 254, 255, 256, 510, 511, 65535)), (512, 1, 512), (511, 1, 511), (0, 3, 600))
+        case(
+            encode(circuit),
+            *((c, r, 512) for c in (0, 255, 511) for r in (0, 1, 2, 254, 255, 256, 510, 511, 65535)),
+            (512, 1, 512),
+            (511, 1, 511),
+            (0, 3, 600)
+        )
     case(encode(full(512, 4096, rng)), *((c, r, 600) for c in (0, 100, 511) for r in (0, 1, 2, 3, 65535)))
     return out
-
-
-def write_distance_cases():
-    blob, lines = b"", []
-    for data, queries in distance_cases():
-        blob += bytes((len(data) // 256, len(data) % 256, len(queries)))
-        for c, r, size in queries:
-            for x in (c // 65536, c % 65536, r, size):
-                blob += bytes((x // 256, x % 256))
-        blob += data
-        lines.append(" ".join(map(str, model.radius(data))))
-        for c, r, size in queries:
-            table = [7777] * size
-            reply = model.ball(data, c, r, table)
-            lines.append(" ".join(map(str, (*reply, digest(table + [7777] * (600 - size))))))
-    return "distances", blob, lines
 
 
 def write_cases():
@@ -244,17 +249,36 @@ def write_cases():
         for starts, ends in (([0], []), ([], [0]), ([0, 1], [1]), ([0], [1, 0]), ([9, 9], [9]), ([1, 0], [0, 1, 2])):
             case(role, [1, 2, 3], starts, ends)
         # a start and an end that are no node, first and last; 4 anywhere before 5 anywhere
-        for starts, ends in (([3], [0]), ([0], [3]), ([0, 3], [1, 1]), ([0, 1], [1, 65535]), ([1, 0, 2], [1, 1, 3]), ([0, 0], [3, 3])):
+        for starts, ends in (
+            ([3], [0]),
+            ([0], [3]),
+            ([0, 3], [1, 1]),
+            ([0, 1], [1, 65535]),
+            ([1, 0, 2], [1, 1, 3]),
+            ([0, 0], [3, 3]),
+        ):
             case(role, [1, 2, 3], starts, ends)
         # links: equal, falling by start, falling by end, rising by end alone
-        for starts, ends in (([0, 0], [1, 1]), ([1, 0], [0, 1]), ([0, 0], [2, 1]), ([0, 0], [0, 1]), ([0, 0, 1, 1], [1, 2, 0, 0])):
+        for starts, ends in (
+            ([0, 0], [1, 1]),
+            ([1, 0], [0, 1]),
+            ([0, 0], [2, 1]),
+            ([0, 0], [0, 1]),
+            ([0, 0, 1, 1], [1, 2, 0, 0]),
+        ):
             case(role, [1, 2, 3], starts, ends)
         # connected against the links' directions; two halves; no link
         case(role, [0, 0, 0], [1, 2], [0, 0])
         case(role, [0, 0, 0, 0], [0, 2], [1, 3])
         case(role, [7, 7], [], [])
         # 8 comes after 2 to 6
-        for kinds, starts, ends in (([], [0], []), ([1], [0], []), ([1], [0], [1]), ([1], [0, 0], [0, 0]), ([1, 2], [], [])):
+        for kinds, starts, ends in (
+            ([], [0], []),
+            ([1], [0], []),
+            ([1], [0], [1]),
+            ([1], [0, 0], [0, 0]),
+            ([1, 2], [], []),
+        ):
             case(role, kinds, starts, ends, 0)
         # room: each number of bytes around the file's length
         for circuit in (T, B):
@@ -279,20 +303,14 @@ def write_cases():
         pairs = [(rng.randrange(n + (rng.random() < 0.1)), rng.randrange(n)) for _ in range(m)]
         if rng.random() < 0.8:
             pairs = sorted(set(pairs))
-        case(rng.choice(both), [rng.randrange(65536) for _ in range(n)], [a for a, _ in pairs], [b for _, b in pairs], rng.randrange(20, 40))
+        case(
+            rng.choice(both),
+            [rng.randrange(65536) for _ in range(n)],
+            [a for a, _ in pairs],
+            [b for _, b in pairs],
+            rng.randrange(20, 40),
+        )
     return out
-
-
-def write_write_cases():
-    blob, lines = b"", []
-    for role, kinds, starts, ends, room in write_cases():
-        blob += bytes((0 if role == "pattern" else 1,))
-        for x in (len(kinds), len(starts), len(ends), room, *kinds, *starts, *ends):
-            blob += bytes((x // 256, x % 256))
-        table = [77] * room
-        reply = model.write(role, kinds, starts, ends, table)
-        lines.append(" ".join(str(x) for x in (*reply, digest(table))))
-    return "writes", blob, lines
 
 
 def circuit(kinds, pairs):
@@ -448,34 +466,6 @@ def table_cases():
     return out
 
 
-def check_row(pattern, board):
-    """The model's quick row against the definition, where the definition is quick enough; rows that must be long are."""
-    pattern, board = model.parse_in_bits("pattern", pattern), model.parse("board", board)
-    if isinstance(pattern, int) or isinstance(board, int):
-        return 0
-    rounds = 0
-    for one_way in (True, False):
-        last, (started, *_, rounds) = model.largest(pattern, board, one_way)
-        if started * rounds < 100000:
-            sets = model.row(pattern, board, one_way)
-            assert (sets[-1], rounds) == (last, len(sets) - 1)
-    return rounds
-
-
-def write_table_cases():
-    blob, lines = b"", []
-    assert max(check_row(*files) for _, *files in table_cases()) > 10000
-    for lent, pattern, board in table_cases():
-        for x in (lent, len(pattern), len(board)):
-            blob += bytes((x // 256, x % 256))
-        blob += pattern + board
-        for one_way in (False, True):
-            table = [7777] * lent
-            reply = model.match_table(pattern, board, table, one_way=one_way)
-            lines.append(" ".join(str(x) for x in (*reply, digest(table))))
-    return "tables", blob, lines
-
-
 def bounded_cases():
     """Patterns with bounds on first-edition boards."""
     rng = random.Random(12)
@@ -548,50 +538,3 @@ def bounded_cases():
         board = some_circuit(rng, rng.randrange(1, 14), rng.randrange(0, 24), kinds, False)
         case(pattern, [rng.randrange(1, 5) for _ in pattern.starts], board, len(board.kinds) + rng.randrange(3))
     return out
-
-
-def check_bounds(pattern, board):
-    """With all bounds 1 the model's row is the one without bounds."""
-    drawn, board = model.parse_bounded(pattern), model.parse("board", board)
-    if not isinstance(drawn, int) and not isinstance(board, int):
-        last, counts = model.largest(drawn[0], board)
-        sets = model.bounded_row(drawn[0], [1] * len(drawn[1]), board)
-        assert (sets[-1], len(sets) - 1) == (last, counts[3])
-
-
-def write_bounded_cases():
-    blob, lines = b"", []
-    for lent, pattern, board in bounded_cases():
-        check_bounds(pattern, board)
-        for x in (lent, len(pattern), len(board)):
-            blob += bytes((x // 256, x % 256))
-        blob += pattern + board
-        table = [7777] * lent
-        reply = model.match_bounded(pattern, board, table)
-        lines.append(" ".join(str(x) for x in (*reply, digest(table))))
-    return "bounds", blob, lines
-
-
-def main():
-    made, printed = {}, []
-    for name, blob, lines in (write_read_cases(), write_write_cases(), write_distance_cases(), write_table_cases(), write_bounded_cases()):
-        assert len(blob) <= 131072, (name, len(blob))
-        made[f"crates/cases/data/{name}"] = blob
-        printed += lines
-    made["crates/cases/stdout"] = ("\n".join(printed) + "\n").encode()
-    stale = []
-    for name, content in made.items():
-        target = ROOT / name
-        if "--check" in sys.argv:
-            if not target.exists() or target.read_bytes() != content:
-                stale.append(name)
-        else:
-            target.parent.mkdir(parents=True, exist_ok=True)
-            target.write_bytes(content)
-    for name in stale:
-        print(f"{name} is not what tools/cases.py makes")
-    return 1 if stale else 0
-
-
-if __name__ == "__main__":
-    sys.exit(main())
