@@ -3,8 +3,8 @@
 use mathlib.Core.Path.{sym, _∙_}
 use native.Mathlib.Omega.{arith}
 use borrow.Author.Needs.{needs}
-use Rattle.session_strike.specs.Moves.{movesIn}
-use Rattle.session_strike.proofs.Going.{Going, left, word-some, going-start, going-next, going-less, going-end}
+use Rattle.session_strike.specs.Moves.{movesIn, left}
+use Rattle.session_strike.proofs.Going.{Going, going-start, going-word, going-next, going-less, going-end}
 use Rattle.session_strike.proofs.settle.Statement.{statement}
 use Rattle.session_strike.proofs.settle.Tie as tie
 
@@ -29,7 +29,7 @@ look-next-requires c κs =
     let start = loop .before .before .before .before .before .before .before .before .before in
     let g = loop .loop .inv in
     let more = c .before .before .loop-test .taken in
-    (start .pre .0, ((omega (arith, g .long, start .pre .1 .0), g .room), (more, word-some _ _ g more)))
+    (start .pre .0, ((omega (arith, g .long, start .pre .1 .0), g .stands .room), (more, going-word _ _ g more)))
 
 find-requires-2 : tie.Need-find-requires-2 Inv-loop μ-loop
 find-requires-2 c κs = search needs
@@ -44,9 +44,7 @@ loop-again : tie.Need-loop-again Inv-loop μ-loop
 loop-again c =
     let called = c .before .before .before .before .before .before in
     let loop = called .before .before .before .before in
-    let start = loop .before .before .before .before .before .before .before .before .before in
-    going-next _ _ (loop .loop .inv) (called .before .before .before .loop-test .taken) (start .pre .1 .0) (called .look-next .ensures .0) (called .look-next .ensures .1)
-    (c .find2 .ensures)
+    going-next _ _ (loop .loop .inv) (called .before .before .before .loop-test .taken) (called .look-next .ensures .0) (called .look-next .ensures .1) (c .find2 .ensures)
 
 same-length : tie.Need-same-length Inv-loop μ-loop
 same-length c = c .before .loop .inv .long
@@ -54,7 +52,7 @@ same-length c = c .before .loop .inv .long
 same-length-2 : tie.Need-same-length-2 Inv-loop μ-loop
 same-length-2 c =
     let loop = c .before in
-    loop .loop .inv .room ∙ sym (loop .before .before .before .before .before .before .before .before .before .pre .1 .1)
+    loop .loop .inv .stands .room ∙ sym (loop .before .before .before .before .before .before .before .before .before .pre .1 .1)
 
 returns : tie.Need-returns Inv-loop μ-loop
 returns c = going-end _ _ (c .before .loop .inv) (c .loop-test .left)
