@@ -160,7 +160,7 @@ module _ (masks : List ℕ) (moves : Direction → ℕ → List ℕ) where
   nothing-left {sets} {marks} s h = byMarks marks (λ more. absurd (omega (arith, left-less masks moves s more))) (λ done. done)
 
   -- More looks than are left to do change nothing.
-  look-enough :
+  pub look-enough :
       (a b : ℕ) {sets marks : List ℕ} → Standing sets marks → left sets marks ≤ a → left sets marks ≤ b →
       lookOn masks moves a sets marks ≡ lookOn masks moves b sets marks
   look-enough zero b {sets} {marks} s h l =
