@@ -3,3 +3,4 @@ pub mod Links
 pub mod Fewer
 pub mod Cutting
 pub mod Run
+pub mod Tables

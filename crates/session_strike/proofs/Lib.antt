@@ -2,4 +2,4 @@ pub mod Entries
 mod Looking
 pub mod Marking
 pub mod Striking
-mod Going
+pub mod Going
