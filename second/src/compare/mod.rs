@@ -10,6 +10,7 @@ pub mod edges;
 pub mod editions;
 pub mod finder;
 pub mod laws;
+pub mod numbers;
 pub mod proposals;
 pub mod sessions;
 pub mod shelves;
