@@ -221,7 +221,8 @@ impl<'a> Lookup<'a> {
     /// empty where it has no two, or where they fall back or pass the end.
     pub fn stretch(self, direction: u32) -> &'a [u16] {
         let forward = (self.forward_offsets, self.forward);
-        let (offsets, links) = counted(direction, [forward, (self.backward_offsets, self.backward)]);
+        let (offsets, links) =
+            counted(direction, [forward, (self.backward_offsets, self.backward)]);
         let two = offsets.get(self.node..).and_then(|rest| rest.get(..2));
         let range = two.map(|two| usize::from(two[0])..usize::from(two[1]));
         range.and_then(|range| links.get(range)).unwrap_or(&[])
@@ -290,9 +291,11 @@ pub fn match_one_way(files: Files, table: &mut [u32]) -> Counted {
 
 /// The whole-board table by some ways.
 fn match_by(ways: Ways, files: Files, table: &mut [u32]) -> Counted {
-    either(files.read_in_bits().and_then(|(pattern, board)| {
-        matched(&board, table, || on_board(ways, &pattern, &board))
-    }))
+    either(
+        files.read_in_bits().and_then(|(pattern, board)| {
+            matched(&board, table, || on_board(ways, &pattern, &board))
+        }),
+    )
 }
 
 /// Fills the table of the pairs that a search comes to; replies with its counts.

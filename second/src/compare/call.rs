@@ -309,7 +309,10 @@ impl fmt::Display for Call<'_> {
                 nodes,
                 links,
             } => {
-                write!(f, " centre {centre}\nnodes {nodes:?}\nlinks {links:?}{files}")
+                write!(
+                    f,
+                    " centre {centre}\nnodes {nodes:?}\nlinks {links:?}{files}"
+                )
             }
             Call::Bar { files, centre } => write!(f, " centre {centre}{files}"),
             Call::Report {

@@ -74,6 +74,7 @@ pub struct Case {
     pub pattern: Vec<u8>,
     pub board: Vec<u8>,
     pub editions: [u32; 2],
+    pub direction: u32,
     pub lists: Lists,
     pub centres: Vec<usize>,
     pub radius: u16,
@@ -197,6 +198,7 @@ impl Case {
             pattern: file(random, Role::Pattern, &pattern, 5),
             board: file(random, Role::Board, &board, 8),
             editions: [(); 2].map(|()| numbers::edition(random, Edition::First)),
+            direction: random.pick(&numbers::NUMBERS),
             lists: Lists::random(random),
             centres,
             radius,
@@ -215,39 +217,40 @@ impl Case {
         }
     }
 
-    /// Every call on the case. What is asked for plainly is also asked for by
-    /// the calls that are told editions.
+    /// Both files, plainly or told by the case's numbers.
+    fn asked(&self, plain: bool) -> Files<'_> {
+        match plain {
+            true => Files::first(&self.pattern, &self.board),
+            false => self.files(),
+        }
+    }
+
+    /// Every call on the case. Around one centre places are asked for plainly,
+    /// around the next by the calls that are told editions.
     pub fn calls(&self) -> Vec<Call<'_>> {
         let mut calls = self.calls_without_centre();
-        let (told, radius) = (self.files(), self.radius);
-        let first = Files::first(&self.pattern, &self.board);
-        for &centre in &self.centres {
-            let place = |files, plain, radius| Call::Place {
-                files,
+        let (files, radius) = (self.files(), self.radius);
+        for (&centre, plain) in self.centres.iter().zip([true, false].into_iter().cycle()) {
+            let place = |radius| Call::Place {
+                files: self.asked(plain),
                 plain,
                 centre,
                 radius,
             };
             calls.push(Call::Ball {
-                board: told.board,
+                board: files.board,
                 centre,
                 radius,
             });
-            calls.push(place(first, true, None));
-            calls.push(place(told, false, None));
-            calls.push(Call::Bar {
-                files: told,
-                centre,
-            });
-            calls.push(place(first, true, Some(radius)));
-            calls.push(place(told, false, Some(radius)));
+            calls.extend([place(None), place(Some(radius))]);
+            calls.push(Call::Bar { files, centre });
             calls.push(Call::Neighbours {
-                direction: told.pattern.edition,
+                direction: self.direction,
                 lookup: self.lists.of(centre),
             });
         }
         calls.extend(self.proposals.iter().map(|proposal| Call::Check {
-            files: told,
+            files,
             centre: proposal.centre,
             nodes: &proposal.nodes,
             links: &proposal.links,
@@ -290,18 +293,16 @@ impl Case {
         ]
     }
 
-    /// The report's pieces from some centres on, plainly and told editions: for
-    /// small boards, as each piece is a long one.
+    /// Pieces of the report from some centres on, plainly and told editions by
+    /// turns: for small boards, as much is lent for a piece.
     pub fn reports(&self) -> Vec<Call<'_>> {
-        let first = Files::first(&self.pattern, &self.board);
-        let calls = self.centres.iter().flat_map(|&centre| {
-            let from = centre.min(65536);
-            [(first, true), (self.files(), false)].map(|(files, plain)| Call::Report {
-                files,
-                plain,
-                from,
-                found: self.radius,
-            })
+        let turns = [true, false].into_iter().cycle();
+        let calls = self.centres.iter().zip(turns);
+        let calls = calls.map(|(&centre, plain)| Call::Report {
+            files: self.asked(plain),
+            plain,
+            from: centre.min(65536),
+            found: self.radius,
         });
         calls.collect()
     }

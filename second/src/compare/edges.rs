@@ -192,6 +192,7 @@ fn case(pattern: Vec<u8>, board: Vec<u8>, nodes: usize, radius: u16, tables: Tab
         pattern,
         board,
         editions: [1; 2],
+        direction: 2,
         lists: lists(),
         centres,
         radius,

@@ -1,5 +1,6 @@
 //! The calls on second-edition files, and on a pattern and a board of every
-//! pair of editions: circuits with packages, each in both editions.
+//! pair of editions but the first twice, which is every case's: circuits with
+//! packages, each in both editions.
 
 use super::boards::{board, pattern};
 use super::call::Call;
@@ -57,6 +58,9 @@ fn given(random: &mut Random, circuit: &Circuit) -> Vec<u16> {
     packages
 }
 
+/// The pairs of editions, by their places in `EDITIONS`.
+const PAIRS: [[usize; 2]; 3] = [[0, 1], [1, 0], [1, 1]];
+
 /// Both editions.
 const EDITIONS: [Edition; 2] = [Edition::First, Edition::Second];
 
@@ -110,7 +114,7 @@ impl Drawn {
         }
     }
 
-    /// The two files in a pair of editions, by their places in `EDITIONS`.
+    /// The two files in a pair of editions.
     fn files(&self, random: &mut Random, [one, other]: [usize; 2]) -> Files<'_> {
         Files {
             pattern: told(random, EDITIONS[one], &self.patterns[one]),
@@ -132,7 +136,12 @@ impl Drawn {
             centre,
             radius,
         };
-        let mut calls = vec![written, ball, Call::Radius { pattern }, Call::Merge { pattern }];
+        let mut calls = vec![
+            written,
+            ball,
+            Call::Radius { pattern },
+            Call::Merge { pattern },
+        ];
         for role in [Role::Pattern, Role::Board] {
             let plain = told(random, Edition::Second, &self.plain);
             for at in [0, 1] {
@@ -169,7 +178,7 @@ impl Drawn {
             place(None),
             place(Some(self.radius)),
         ];
-        if random.once_in(16) && files.board.bytes.len() < 400 {
+        if random.once_in(24) && files.board.bytes.len() < 400 {
             calls.push(Call::Report {
                 files,
                 plain,
@@ -208,7 +217,7 @@ impl Drawn {
     }
 }
 
-/// Runs one numbered case: every call on second-edition files, and on every pair
+/// Runs one numbered case: every call on second-edition files, and on the pairs
 /// of editions, against the second finder.
 pub fn check(
     finder: &dyn Finder,
@@ -220,7 +229,7 @@ pub fn check(
     let random = &mut random;
     let drawn = Drawn::random(random);
     let mut calls = drawn.calls_on_one(random);
-    for pair in [[0, 0], [0, 1], [1, 0], [1, 1]] {
+    for pair in PAIRS {
         calls.extend(drawn.calls_on_both(random, pair));
     }
     let Files { pattern, board } = drawn.files(random, [1, 0]);
@@ -237,7 +246,7 @@ pub fn check(
         let lent = lend(random, &call);
         agree(finder, &call, &lent, tally)?;
     }
-    for pair in [[0, 1], [1, 0], [1, 1]] {
+    for pair in PAIRS {
         drawn.checked(finder, random, pair, tally)?;
     }
     Ok(())

@@ -31,14 +31,7 @@ pub trait Finder {
     ) -> Words;
     fn check(&self, files: Files, centre: usize, nodes: &[u8], links: &[u8]) -> Words;
     fn bar(&self, files: Files, centre: usize, out: &mut [u8]) -> Words;
-    fn report(
-        &self,
-        files: Files,
-        plain: bool,
-        from: usize,
-        found: u16,
-        out: &mut [u8],
-    ) -> Words;
+    fn report(&self, files: Files, plain: bool, from: usize, found: u16, out: &mut [u8]) -> Words;
     fn merge(&self, pattern: Told, classes: &mut [u8], out: &mut [u8]) -> Words;
     fn compare(&self, first: &[u8], second: &[u8]) -> Words;
     fn shelf(&self, bytes: &[u8], lengths: &[u32], order: &mut [u8]) -> Words;
@@ -145,14 +138,7 @@ impl Finder for Second {
         calls::bar(files, centre, out).into()
     }
 
-    fn report(
-        &self,
-        files: Files,
-        _plain: bool,
-        from: usize,
-        found: u16,
-        out: &mut [u8],
-    ) -> Words {
+    fn report(&self, files: Files, _plain: bool, from: usize, found: u16, out: &mut [u8]) -> Words {
         calls::report(files, from, found, out).into()
     }
 

@@ -307,14 +307,7 @@ impl Finder for Host {
         call!(heronditch_bar: file files.pattern; file files.board; centre; lent out;).into()
     }
 
-    fn report(
-        &self,
-        files: Files,
-        plain: bool,
-        from: usize,
-        found: u16,
-        out: &mut [u8],
-    ) -> Words {
+    fn report(&self, files: Files, plain: bool, from: usize, found: u16, out: &mut [u8]) -> Words {
         let Files { pattern, board } = files;
         match plain {
             true => call!(heronditch_report: given pattern.bytes; given board.bytes; from; found;
