@@ -14,6 +14,11 @@ except ImportError as error:
         "the extension _heronditch is not there: ./heronditch makes it in a checkout, and a wheel of python/ brings it"
     ) from error
 
+if lib.heronditch_version() != lib.HERONDITCH_VERSION:
+    raise ImportError(
+        f"the library is of version {lib.heronditch_version()}, and its header of {lib.HERONDITCH_VERSION}: make it again"
+    )
+
 FILES = {lib.HERONDITCH_NEITHER: NEITHER, lib.HERONDITCH_PATTERN: PATTERN, lib.HERONDITCH_BOARD: BOARD}
 ROLES = {PATTERN: lib.HERONDITCH_PATTERN, BOARD: lib.HERONDITCH_BOARD}
 ORDERS = {lib.HERONDITCH_LESS: -1, lib.HERONDITCH_EQUAL: 0, lib.HERONDITCH_GREATER: 1}

@@ -214,6 +214,13 @@ def _body(place: Place) -> bytes:
     return f"{' '.join(map(str, place.nodes))} /{links}".encode()
 
 
+def report_of(found: Iterable[Place], board: Circuit) -> bytes:
+    """The report that places come to, a line for each centre."""
+    lines = {centre: body for place in found for body in [_body(place)] for centre in place.centres}
+    told = [b"place %d: %s\n" % (centre, lines[centre]) for centre in sorted(lines)]
+    return b"".join(told) + b"end %d of %d\n" % (len(lines), len(board.names))
+
+
 def _bodies(lines: bytes, board: Circuit) -> dict[bytes, list[int]]:
     """The distinct places of a report, each by what stands after the colon, and their centres."""
     found: dict[bytes, list[int]] = {}
