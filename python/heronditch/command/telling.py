@@ -68,11 +68,13 @@ def link_lines(circuit: Circuit, links: Iterable[Link]) -> list[str]:
 
 
 def chains(circuit: Circuit, links: Iterable[Link]) -> list[list[str]]:
-    """The words of chains that have each link once, from what drives to what is driven where it goes on."""
-    ways = _ways(set(links))
-    driven = {end for start, near in ways.items() for end, arrow in near.items() if arrow == "->" and end != start}
+    """The words of chains that have each link once; they begin with what nothing drives, and then with what is driven two ways alone."""
+    joined = set(links)
+    ways = _ways(joined)
+    driven = {end for start, end in joined if start != end}
+    one_way = {end for start, end in joined if start != end and (end, start) not in joined}
     found = []
-    for start in [*(node for node in ways if node not in driven), *ways]:
+    for start in sorted(ways, key=lambda node: ((node in driven) + (node in one_way), node)):
         while ways[start]:
             found.append(_chain(circuit, ways, start))
     return found
