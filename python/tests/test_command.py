@@ -71,6 +71,7 @@ RUNS = {
         ("match samples/coupling/pattern3.cir samples/coupling/board.cir", ""),
     ],
     "worked": on("worked", "1", "3", "2\n1\n1\n3\n0\n", "pattern.cir", "board.cir")[:-1],
+    "bench": on("bench", "Q1", "J1", "Q1 -> out.L\n", "stage.txt", "board.txt"),
     "shelf": [
         ("shelf samples/shelf", ""),
         ("shelf --lines samples/shelf", ""),

@@ -84,15 +84,20 @@ def link_lines(circuit: Circuit, links: Iterable[Link]) -> list[str]:
 
 
 def chains(circuit: Circuit, links: Iterable[Link]) -> list[list[str]]:
-    """The words of chains that have each link once; they begin with what nothing drives, and then with what is driven two ways alone."""
+    """The words of chains that have each link once. A first one begins with what nothing drives, or with what is driven two ways alone,
+    and the others branch off from those before, as long as they do."""
     joined = set(links)
     ways = _ways(joined)
     driven = {end for start, end in joined if start != end}
     one_way = {end for start, end in joined if start != end and (end, start) not in joined}
     found = []
-    for start in sorted(ways, key=lambda node: ((node in driven) + (node in one_way), node)):
-        while ways[start]:
-            found.append(_chain(circuit, ways, start))
+    for first in sorted(ways, key=lambda node: ((node in driven) + (node in one_way), node)):
+        passed = [first]  # grows while its nodes are gone through
+        for start in passed:
+            while ways[start]:
+                nodes, words = _chain(circuit, ways, start)
+                passed += nodes
+                found.append(words)
     return found
 
 
@@ -104,14 +109,15 @@ def _ways(links: set[Link]) -> dict[int, dict[int, str]]:
     return dict(sorted(ways.items()))
 
 
-def _chain(circuit: Circuit, ways: Mapping[int, dict[int, str]], start: int) -> list[str]:
-    """The words of a chain from a node, whose links are taken out."""
-    words = [circuit.names[start]]
+def _chain(circuit: Circuit, ways: Mapping[int, dict[int, str]], start: int) -> tuple[list[int], list[str]]:
+    """The nodes and the words of a chain from a node on, whose links are taken out."""
+    nodes, words = [], [circuit.names[start]]
     while ways[start]:
         end = min(ways[start])
         arrow = ways[start].pop(end)
         if arrow == "<->":
             ways[end].pop(start)
         words += [arrow, circuit.names[end]]
+        nodes.append(end)
         start = end
-    return words
+    return nodes, words
