@@ -163,6 +163,11 @@ def ball(board: Circuit, centre: Node, within: int) -> dict[int, int]:
     return {node: distance for node, distance in enumerate(far) if distance != OUTSIDE}
 
 
+def neighbours(circuit: Circuit, node: Node, backward: bool = False) -> tuple[int, ...]:
+    """The nodes that a node drives, or backward those that drive it."""
+    return tuple(bindings.neighbours(len(circuit.names), circuit.links, circuit.number(node), backward))
+
+
 def _sixteen_bits(within: int) -> int:
     """A radius as the calls take it. One above 65535 is as good as that: no two nodes of a board are so far apart."""
     if within < 0:
@@ -339,6 +344,7 @@ def order(patterns: Sequence[Circuit]) -> list[int]:
         radius(pattern)  # so that one that is refused is named
 
     def ranked(one: int, other: int) -> int:
+        """How two of the patterns rank."""
         return compare(patterns[one], patterns[other])
 
     return sorted(range(len(patterns)), key=cmp_to_key(ranked))
