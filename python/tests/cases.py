@@ -192,7 +192,7 @@ def distance_cases():
             (0, 1, n - 1),
             (0, 1, 0),
             (0, 1, n + 3),
-            (n, 1, n - 1)
+            (n, 1, n - 1),
         )
     # centres past every board, also where their low 16 bits are a node
     case(encode(B), *((c, 2, 6) for c in (5, 6, 7, 512, 65535, 65536, 65537, 131072, 2**31, 2**32 - 1)))
@@ -224,7 +224,7 @@ def distance_cases():
             *((c, r, 512) for c in (0, 255, 511) for r in (0, 1, 2, 254, 255, 256, 510, 511, 65535)),
             (512, 1, 512),
             (511, 1, 511),
-            (0, 3, 600)
+            (0, 3, 600),
         )
     case(encode(full(512, 4096, rng)), *((c, r, 600) for c in (0, 100, 511) for r in (0, 1, 2, 3, 65535)))
     return out
