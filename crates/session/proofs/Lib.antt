@@ -4,3 +4,4 @@ pub mod Fewer
 pub mod Cutting
 pub mod Run
 pub mod Tables
+mod Examples

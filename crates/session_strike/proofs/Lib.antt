@@ -3,3 +3,4 @@ mod Looking
 pub mod Marking
 pub mod Striking
 pub mod Going
+mod Examples

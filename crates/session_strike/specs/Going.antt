@@ -1,5 +1,5 @@
--- Going on from a table, node by node (Moves: `settled`): where it leads to the last table of the row. A table that is one to begin with, of masks and moves that are a
--- pattern's and a board's, with each node that changes marked.
+-- When going on from a table node by node (Moves: `settled`) leads to the row's last table: the table is one to begin with, masks and moves are a
+-- pattern's and a board's, and each node that changes is marked.
 use mathlib.Core.Bool.{false}
 use mathlib.Core.List.{List}
 use mathlib.Core.Logic.{_↔_}

@@ -105,6 +105,6 @@ left sets marks = pairs sets * 513 + pairs marks
 unfoldable pub settled : List ℕ → (Direction → ℕ → List ℕ) → List ℕ → List ℕ → List ℕ
 settled masks moves sets marks = lookOn masks moves (left sets marks) sets marks
 
--- the sets of n nodes where none but x and y are marked at first
+-- and where none but the nodes x and y are marked at first
 unfoldable pub settledFrom : List ℕ → (Direction → ℕ → List ℕ) → List ℕ → ℕ → ℕ → List ℕ
 settledFrom masks moves sets x y = settled masks moves sets (markBoth (length sets) x y)
