@@ -276,6 +276,8 @@ def why(pattern: Circuit, board: Circuit, centre: Node) -> tuple[Link, ...] | No
     number = board.number(centre)
     with _pair(pattern, board) as files:
         marks = bindings.bar(*files, number)
+        if (marks is None) != (bindings.place(*files, number)[1] is not None):
+            raise Bug(f"heronditch_bar and the place call differ on whether '{board.names[number]}' has a place")
     return None if marks is None else tuple(link for link, mark in zip(pattern.links, marks) if mark)
 
 
