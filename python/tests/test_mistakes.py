@@ -150,6 +150,9 @@ def test_texts_and_files_mistaken() -> None:
     os.rename("board.cir", "file.txt")
     troubled(run("find", "pattern.txt", "text.cir"), "text.cir: a text, and no circuit file; give it a name that ends in .txt")
     troubled(run("find", "pattern.txt", "file.txt"), "file.txt: not a text; a circuit file has a name that ends in .cir")
+    write("wide.txt", B.encode("utf-16"))
+    for words in (["find", "pattern.txt", "wide.txt"], ["make", "wide.txt", "wide.cir"]):
+        troubled(run(*words), "wide.txt: a UTF-16 text; save it as UTF-8")
     os.rename("text.cir", "text")
     os.rename("file.txt", "file")
     assert run("find", "pattern.txt", "text").status == run("find", "pattern.txt", "file").status == 0
