@@ -1,0 +1,101 @@
+"""How nodes, parts and links are laid out for a reader."""
+
+from __future__ import annotations
+
+from typing import Iterable, Mapping, Sequence
+
+from ..circuits import Circuit, Link
+from ..finding import Place, Roles
+
+WIDTH = 100
+Rows = Iterable[tuple[str, Sequence[str]]]
+
+
+def count(number: int, what: str) -> str:
+    """A number of things: '1 node', '2 nodes'."""
+    return f"{number} {what}" if number == 1 else f"{number} {what}s"
+
+
+def listed(words: Sequence[str]) -> str:
+    """Words in a sentence: 'a', 'a and b', 'a, b and c'."""
+    return " and ".join([", ".join(words[:-1]), words[-1]] if len(words) > 1 else words)
+
+
+def filled(words: Iterable[str], first: str, further: str) -> list[str]:
+    """Words in lines of a width, after a beginning for the first line and one for each further line."""
+    lines, line, empty = [], first, True
+    for word in words:
+        if not empty and len(line) + 1 + len(word) > WIDTH:
+            lines.append(line)
+            line, empty = further, True
+        line, empty = (line + word if empty else f"{line} {word}"), False
+    return [*lines, line.rstrip()]
+
+
+def rows(pairs: Rows) -> list[str]:
+    """A line for each label, with its words in a column of their own."""
+    pairs = list(pairs)
+    wide = max((len(label) for label, _ in pairs), default=0)
+    lines = []
+    for label, words in pairs:
+        lines += filled(words, f"  {label.ljust(wide)}  ", " " * (wide + 4))
+    return lines
+
+
+def role_rows(pattern: Circuit, board: Circuit, roles: Roles) -> list[str]:
+    """A line for each part, with the nodes that play it."""
+    return rows((name, board.named(nodes) or ["-"]) for name, nodes in zip(pattern.names, roles))
+
+
+def by_names(pattern: Circuit, board: Circuit, roles: Roles) -> dict[str, list[str]]:
+    """For each part the nodes that play it, by names."""
+    return {name: board.named(nodes) for name, nodes in zip(pattern.names, roles)}
+
+
+def united(places: Sequence[Place]) -> Roles:
+    """For each part the nodes that play it in any of the places."""
+    return tuple(tuple(sorted({node for nodes in parts for node in nodes})) for parts in zip(*(place.roles for place in places)))
+
+
+def link_names(circuit: Circuit, links: Iterable[Link]) -> list[list[str]]:
+    """Links, each by the names of its ends."""
+    return [circuit.named(link) for link in links]
+
+
+def link_lines(circuit: Circuit, links: Iterable[Link]) -> list[str]:
+    """Links as the text form has them, joined to chains."""
+    return [line for chain in chains(circuit, links) for line in filled(chain, "  ", "    ")]
+
+
+def chains(circuit: Circuit, links: Iterable[Link]) -> list[list[str]]:
+    """The words of chains that have each link once; they begin with what nothing drives, and then with what is driven two ways alone."""
+    joined = set(links)
+    ways = _ways(joined)
+    driven = {end for start, end in joined if start != end}
+    one_way = {end for start, end in joined if start != end and (end, start) not in joined}
+    found = []
+    for start in sorted(ways, key=lambda node: ((node in driven) + (node in one_way), node)):
+        while ways[start]:
+            found.append(_chain(circuit, ways, start))
+    return found
+
+
+def _ways(links: set[Link]) -> dict[int, dict[int, str]]:
+    """From each node the nodes at the other end of a link from it, and the arrow; a two-way one stands at both ends."""
+    ways: dict[int, dict[int, str]] = {node: {} for link in sorted(links) for node in link}
+    for start, end in sorted(links):
+        ways[start][end] = "<->" if start != end and (end, start) in links else "->"
+    return dict(sorted(ways.items()))
+
+
+def _chain(circuit: Circuit, ways: Mapping[int, dict[int, str]], start: int) -> list[str]:
+    """The words of a chain from a node, whose links are taken out."""
+    words = [circuit.names[start]]
+    while ways[start]:
+        end = min(ways[start])
+        arrow = ways[start].pop(end)
+        if arrow == "<->":
+            ways[end].pop(start)
+        words += [arrow, circuit.names[end]]
+        start = end
+    return words
