@@ -16,9 +16,20 @@ pub struct File<'a> {
 impl<'a> File<'a> {
     /// A file of the first or second edition, whichever its length is of.
     pub fn new(bytes: &'a [u8]) -> Self {
-        let field = |at: usize| bytes.get(at..at + 2).map_or(0, |b| usize::from(u16::from_le_bytes([b[0], b[1]])));
+        let field = |at: usize| {
+            bytes
+                .get(at..at + 2)
+                .map_or(0, |b| usize::from(u16::from_le_bytes([b[0], b[1]])))
+        };
         let is_second = bytes.len() == 4 + 4 * field(0) + 4 * field(2);
-        File { bytes, edition: if is_second { HERONDITCH_SECOND } else { HERONDITCH_FIRST } }
+        File {
+            bytes,
+            edition: if is_second {
+                HERONDITCH_SECOND
+            } else {
+                HERONDITCH_FIRST
+            },
+        }
     }
 }
 
@@ -33,7 +44,9 @@ impl Refusal {
     /// The library's sentence for the number.
     pub fn message(&self) -> &'static str {
         // SAFETY: the call gives a string that is never freed, for every number.
-        unsafe { CStr::from_ptr(heronditch_message(self.number)) }.to_str().unwrap_or_default()
+        unsafe { CStr::from_ptr(heronditch_message(self.number)) }
+            .to_str()
+            .unwrap_or_default()
     }
 }
 
@@ -74,13 +87,17 @@ pub fn read_board(file: File) -> Result<Board, Refusal> {
     };
     accepted(reply.number, reply.file)?;
     let links = starts.into_iter().zip(ends).take(reply.second).collect();
-    Ok(Board { nodes: reply.first, links })
+    Ok(Board {
+        nodes: reply.first,
+        links,
+    })
 }
 
 /// The largest distance between two parts of a pattern. It is refused where the pattern is.
 pub fn radius(pattern: File) -> Result<usize, Refusal> {
     // SAFETY: the file is told with its own length.
-    let reply = unsafe { heronditch_radius(pattern.bytes.as_ptr(), pattern.bytes.len(), pattern.edition) };
+    let reply =
+        unsafe { heronditch_radius(pattern.bytes.as_ptr(), pattern.bytes.len(), pattern.edition) };
     accepted(reply.number, reply.file).map(|()| reply.first)
 }
 
@@ -133,13 +150,22 @@ mod tests {
     #[test]
     fn the_library_has_the_version_of_the_declarations() {
         assert_eq!(unsafe { heronditch_version() }, HERONDITCH_VERSION);
-        assert_eq!(std::mem::size_of::<heronditch_session>(), HERONDITCH_SESSION_BYTES);
+        assert_eq!(
+            std::mem::size_of::<heronditch_session>(),
+            HERONDITCH_SESSION_BYTES
+        );
     }
 
     #[test]
     fn an_empty_file_is_refused_with_a_sentence() {
         let refusal = radius(File::new(&[])).unwrap_err();
-        assert_eq!(refusal, Refusal { number: HERONDITCH_SHORT_FILE, file: HERONDITCH_PATTERN });
+        assert_eq!(
+            refusal,
+            Refusal {
+                number: HERONDITCH_SHORT_FILE,
+                file: HERONDITCH_PATTERN
+            }
+        );
         assert!(!refusal.message().is_empty());
     }
 }

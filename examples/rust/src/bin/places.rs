@@ -9,9 +9,20 @@ use heronditch_sys::{place, radius, read_board, Board, File, Place, Refusal};
 use std::process::ExitCode;
 
 fn line(centre: usize, place: &Place, board: &Board) -> String {
-    let nodes = (0..board.nodes).filter(|&v| place.nodes[v] == 1).map(|v| format!(" {v}"));
-    let links = board.links.iter().zip(place.links).filter(|(_, marked)| *marked == 1).map(|((start, end), _)| format!(" {start}-{end}"));
-    format!("place {centre}:{} /{}", nodes.collect::<String>(), links.collect::<String>())
+    let nodes = (0..board.nodes)
+        .filter(|&v| place.nodes[v] == 1)
+        .map(|v| format!(" {v}"));
+    let links = board
+        .links
+        .iter()
+        .zip(place.links)
+        .filter(|(_, marked)| *marked == 1)
+        .map(|((start, end), _)| format!(" {start}-{end}"));
+    format!(
+        "place {centre}:{} /{}",
+        nodes.collect::<String>(),
+        links.collect::<String>()
+    )
 }
 
 fn print(pattern: File, board: File) -> Result<(), Refusal> {
@@ -42,8 +53,17 @@ fn run(words: &[String]) -> Result<(), ExitCode> {
     };
     let (pattern, board) = (load(pattern)?, load(board)?);
     print(File::new(&pattern), File::new(&board)).map_err(|refusal| {
-        let file = [(HERONDITCH_PATTERN, " pattern"), (HERONDITCH_BOARD, " board")].into_iter().find(|(number, _)| *number == refusal.file);
-        println!("refused {}{}", refusal.number, file.map_or("", |(_, name)| name));
+        let file = [
+            (HERONDITCH_PATTERN, " pattern"),
+            (HERONDITCH_BOARD, " board"),
+        ]
+        .into_iter()
+        .find(|(number, _)| *number == refusal.file);
+        println!(
+            "refused {}{}",
+            refusal.number,
+            file.map_or("", |(_, name)| name)
+        );
         eprintln!("{}", refusal.message());
         ExitCode::from(1)
     })
