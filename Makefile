@@ -25,19 +25,23 @@ CFLAGS ?= -O2
 INSTALL ?= install
 STRIP ?= strip
 PYTHON ?= no
-PYTHON3 ?= python3
+PYTHON3 ?= $(shell python/interpreter 2>/dev/null || echo python3)
+PYTHONDIR ?= $(shell $(PYTHON3) install/modules $(PREFIX))
 
 OUT = target/install
 SHARED = $(OUT)/libheronditch.so.$(VERSION)
 PROGRAMS = $(OUT)/heronditch-report $(OUT)/heronditch-test-board $(OUT)/heronditch-shelf
 PAGES = $(OUT)/man/heronditch.3
-PROVED = $(OUT)/PROVED.txt
+PROVED = $(if $(wildcard crates),$(OUT)/PROVED.txt,docs/PROVED.txt)
+WHEEL = $(OUT)/wheel/made
 HEADERS = include/heronditch.h include/heronditch.hpp
 DOCS = README.md docs/PROMISES.md docs/LOADS.md docs/TEXT-FORM.md $(wildcard docs/CHANGES.md)
 
-all: $(OUT)/libheronditch.a $(SHARED) $(PROGRAMS) $(PAGES) $(PROVED)
+all: $(OUT)/libheronditch.a $(SHARED) $(PROGRAMS) $(PAGES) $(PROVED) $(if $(filter yes,$(PYTHON)),$(WHEEL))
 
-# What the kit proves. install/built leaves alone what is up to date, and then nothing below is made anew.
+# What the kit proves, where there is something to prove: an archive of what is built has it in target/install. install/built leaves alone what
+# is up to date, and then nothing is made anew. The programs lose their tables of symbols, and nothing else.
+ifneq ($(wildcard crates),)
 target/staticlib/libheronditch.a: FORCE
 	@install/built
 target/bin/finder target/bin/loader target/bin/shelf: target/staticlib/libheronditch.a ;
@@ -45,6 +49,17 @@ target/bin/finder target/bin/loader target/bin/shelf: target/staticlib/libherond
 $(OUT)/libheronditch.a: target/staticlib/libheronditch.a
 	@mkdir -p $(OUT)
 	cp $< $@
+
+$(OUT)/heronditch-report: target/bin/finder
+$(OUT)/heronditch-test-board: target/bin/loader
+$(OUT)/heronditch-shelf: target/bin/shelf
+$(PROGRAMS):
+	@mkdir -p $(OUT)
+	$(STRIP) -o $@ $<
+
+$(PROVED): $(OUT)/libheronditch.a $(SHARED) $(PROGRAMS) FORCE
+	@CC='$(CC)' tools/proved $(VERSION) $(OUT) >$@.new && if cmp -s $@.new $@; then rm $@.new; else mv $@.new $@; fi
+endif
 
 $(OUT)/exports: include/heronditch.h tools/header.py
 	@mkdir -p $(OUT)
@@ -55,19 +70,13 @@ $(SHARED): $(OUT)/libheronditch.a $(OUT)/exports
 	$(CC) $(CFLAGS) $(LDFLAGS) -shared -s -Wl,-soname,$(SONAME) -Wl,--version-script=$(OUT)/exports -Wl,-z,defs,-z,relro,-z,now,-z,noexecstack \
 	    -Wl,--whole-archive $< -Wl,--no-whole-archive -o $@
 
-# The programs lose their tables of symbols, and nothing else.
-$(OUT)/heronditch-report: target/bin/finder
-$(OUT)/heronditch-test-board: target/bin/loader
-$(OUT)/heronditch-shelf: target/bin/shelf
-$(PROGRAMS):
-	@mkdir -p $(OUT)
-	$(STRIP) -o $@ $<
-
 $(PAGES): include/heronditch.h docs/TEXT-FORM.md install/heronditch.1.in tools/header.py tools/pages.py Makefile
 	$(PYTHON3) tools/pages.py $(VERSION) $(OUT)/man
 
-$(PROVED): $(OUT)/libheronditch.a $(SHARED) $(PROGRAMS) tools/proved
-	tools/proved $(VERSION) $(OUT) >$@.new && mv $@.new $@
+$(WHEEL): $(OUT)/libheronditch.a $(wildcard python/setup.py python/pyproject.toml python/heronditch/*.py python/heronditch/*/*.py)
+	rm -rf $(@D)
+	HERONDITCH_LIBRARY=$(abspath $<) python/wheel $(@D)
+	@touch $@
 
 check: all
 	tests/install/run
@@ -86,8 +95,14 @@ install: all
 	$(INSTALL) -m 644 $(OUT)/man/*.3 $(DESTDIR)$(MANDIR)/man3
 	$(INSTALL) -m 644 $(OUT)/man/*.5 $(DESTDIR)$(MANDIR)/man5
 	$(INSTALL) -m 644 $(DOCS) $(PROVED) $(DESTDIR)$(DOCDIR)
+ifeq ($(PYTHON),yes)
+	$(INSTALL) -d $(DESTDIR)$(PYTHONDIR)
+	$(PYTHON3) -m zipfile -e $(OUT)/wheel/heronditch-*.whl $(DESTDIR)$(PYTHONDIR)
+	sed "s|@PYTHON3@|$$(command -v $(PYTHON3))|; s|@PYTHONDIR@|$(PYTHONDIR)|" install/heronditch.in >$(DESTDIR)$(BINDIR)/heronditch
+	chmod 755 $(DESTDIR)$(BINDIR)/heronditch
+endif
 
-# Folders may be shared with others and stay, but for the one of the documentation.
+# Takes the same words as install. Folders may be shared with others and stay, but for the one of the documentation.
 uninstall: $(PAGES)
 	rm -f $(addprefix $(DESTDIR)$(BINDIR)/,$(notdir $(PROGRAMS)))
 	rm -f $(addprefix $(DESTDIR)$(LIBDIR)/,libheronditch.a libheronditch.so $(SONAME) libheronditch.so.$(VERSION))
@@ -95,11 +110,15 @@ uninstall: $(PAGES)
 	cd $(OUT)/man && for page in *; do rm -f $(DESTDIR)$(MANDIR)/man$${page##*.}/$$page; done
 	rm -f $(addprefix $(DESTDIR)$(DOCDIR)/,$(notdir $(DOCS) $(PROVED)))
 	rmdir $(DESTDIR)$(DOCDIR) 2>/dev/null || true
+ifeq ($(PYTHON),yes)
+	test -n '$(PYTHONDIR)'
+	rm -rf $(addprefix $(DESTDIR)$(PYTHONDIR)/,heronditch heronditch-*.dist-info _heronditch.abi3.so) $(DESTDIR)$(BINDIR)/heronditch
+endif
 
-dist: all
+dist: all $(WHEEL)
 	install/dist $(VERSION)
 
-deb: all
+deb: dist
 	install/deb $(VERSION) '$(MAINTAINER)'
 
 clean:
