@@ -1,5 +1,6 @@
-# Builds, tests and installs the library, the programs and the manual pages; README.md, "Installing", says how. What is proved is made by the
-# Rattle kit (rt) where it is not there yet; all else needs a C compiler and Python 3, and an archive of what is built needs neither.
+# Builds, tests and installs the library, the programs and the manual pages; README.md, "Installing", says how. What is
+# proved is made by the Rattle kit (rt) where it is not there yet; all else needs a C compiler and Python 3, and an
+# archive of what is built needs neither.
 #
 #     make                      what is to be installed, in target/install
 #     make check                installs it into a scratch folder, tries it there and takes it away again
@@ -39,8 +40,9 @@ DOCS = README.md docs/PROMISES.md docs/LOADS.md docs/TEXT-FORM.md $(wildcard doc
 
 all: $(OUT)/libheronditch.a $(SHARED) $(PROGRAMS) $(PAGES) $(PROVED) $(if $(filter yes,$(PYTHON)),$(WHEEL))
 
-# What the kit proves, where there is something to prove: an archive of what is built has it in target/install. install/built leaves alone what
-# is up to date, and then nothing is made anew. The programs lose their tables of symbols, and nothing else.
+# What the kit proves, where there is something to prove: an archive of what is built has it in target/install.
+# install/built leaves alone what is up to date, and then nothing is made anew. The programs lose their tables of symbols,
+# and nothing else.
 ifneq ($(wildcard crates),)
 target/staticlib/libheronditch.a: FORCE
 	@install/built
@@ -63,12 +65,13 @@ endif
 
 $(OUT)/exports: include/heronditch.h tools/header.py
 	@mkdir -p $(OUT)
-	@test $(SONAME) = libheronditch.so.$$($(PYTHON3) tools/header.py version)
+	@test $(SONAME) = libheronditch.so.$$($(PYTHON3) tools/header.py version) || \
+	    { echo 'make: VERSION and SONAME of the Makefile have not the version of include/heronditch.h: change them' >&2; exit 1; }
 	$(PYTHON3) tools/header.py exports >$@
 
 $(SHARED): $(OUT)/libheronditch.a $(OUT)/exports
-	$(CC) $(CFLAGS) $(LDFLAGS) -shared -s -Wl,-soname,$(SONAME) -Wl,--version-script=$(OUT)/exports -Wl,-z,defs,-z,relro,-z,now,-z,noexecstack \
-	    -Wl,--whole-archive $< -Wl,--no-whole-archive -o $@
+	$(CC) $(CFLAGS) $(LDFLAGS) -shared -s -Wl,-soname,$(SONAME) -Wl,--version-script=$(OUT)/exports \
+	    -Wl,-z,defs,-z,relro,-z,now,-z,noexecstack -Wl,--whole-archive $< -Wl,--no-whole-archive -o $@
 
 $(PAGES): include/heronditch.h docs/TEXT-FORM.md install/heronditch.1.in tools/header.py tools/pages.py Makefile
 	$(PYTHON3) tools/pages.py $(VERSION) $(OUT)/man
@@ -82,14 +85,15 @@ check: all
 	tests/install/run
 
 install: all
-	$(INSTALL) -d $(addprefix $(DESTDIR),$(BINDIR) $(LIBDIR) $(INCLUDEDIR) $(PKGCONFIGDIR) $(DOCDIR) $(MANDIR)/man1 $(MANDIR)/man3 $(MANDIR)/man5)
+	$(INSTALL) -d $(addprefix $(DESTDIR),$(BINDIR) $(LIBDIR) $(INCLUDEDIR) $(PKGCONFIGDIR) $(DOCDIR))
+	$(INSTALL) -d $(addprefix $(DESTDIR)$(MANDIR)/,man1 man3 man5)
 	$(INSTALL) -m 755 $(PROGRAMS) $(DESTDIR)$(BINDIR)
 	$(INSTALL) -m 644 $(OUT)/libheronditch.a $(SHARED) $(DESTDIR)$(LIBDIR)
 	ln -sf libheronditch.so.$(VERSION) $(DESTDIR)$(LIBDIR)/$(SONAME)
 	ln -sf $(SONAME) $(DESTDIR)$(LIBDIR)/libheronditch.so
 	$(INSTALL) -m 644 $(HEADERS) $(DESTDIR)$(INCLUDEDIR)
-	sed 's|@PREFIX@|$(PREFIX)|; s|@LIBDIR@|$(LIBDIR)|; s|@INCLUDEDIR@|$(INCLUDEDIR)|; s|@VERSION@|$(VERSION)|' install/heronditch.pc.in \
-	    >$(DESTDIR)$(PKGCONFIGDIR)/heronditch.pc
+	sed 's|@PREFIX@|$(PREFIX)|; s|@LIBDIR@|$(LIBDIR)|; s|@INCLUDEDIR@|$(INCLUDEDIR)|; s|@VERSION@|$(VERSION)|' \
+	    install/heronditch.pc.in >$(DESTDIR)$(PKGCONFIGDIR)/heronditch.pc
 	chmod 644 $(DESTDIR)$(PKGCONFIGDIR)/heronditch.pc
 	$(INSTALL) -m 644 $(OUT)/man/*.1 $(DESTDIR)$(MANDIR)/man1
 	$(INSTALL) -m 644 $(OUT)/man/*.3 $(DESTDIR)$(MANDIR)/man3
@@ -98,9 +102,11 @@ install: all
 ifeq ($(PYTHON),yes)
 	$(INSTALL) -d $(DESTDIR)$(PYTHONDIR)
 	$(PYTHON3) -m zipfile -e $(OUT)/wheel/heronditch-*.whl $(DESTDIR)$(PYTHONDIR)
-	sed "s|@PYTHON3@|$$(command -v $(PYTHON3))|; s|@PYTHONDIR@|$(PYTHONDIR)|" install/heronditch.in >$(DESTDIR)$(BINDIR)/heronditch
+	sed "s|@PYTHON3@|$$(command -v $(PYTHON3))|; s|@PYTHONDIR@|$(PYTHONDIR)|" install/heronditch.in \
+	    >$(DESTDIR)$(BINDIR)/heronditch
 	chmod 755 $(DESTDIR)$(BINDIR)/heronditch
 endif
+	@test -n '$(DESTDIR)' || ldconfig 2>/dev/null || true # so that programs find the shared library, where root installs it
 
 # Takes the same words as install. Folders may be shared with others and stay, but for the one of the documentation.
 uninstall: $(PAGES)
@@ -112,7 +118,8 @@ uninstall: $(PAGES)
 	rmdir $(DESTDIR)$(DOCDIR) 2>/dev/null || true
 ifeq ($(PYTHON),yes)
 	test -n '$(PYTHONDIR)'
-	rm -rf $(addprefix $(DESTDIR)$(PYTHONDIR)/,heronditch heronditch-*.dist-info _heronditch.abi3.so) $(DESTDIR)$(BINDIR)/heronditch
+	rm -rf $(addprefix $(DESTDIR)$(PYTHONDIR)/,heronditch heronditch-*.dist-info _heronditch.abi3.so)
+	rm -f $(DESTDIR)$(BINDIR)/heronditch
 endif
 
 dist: all $(WHEEL)
