@@ -176,12 +176,18 @@ pub struct Files<'a> {
 }
 
 impl<'a> Files<'a> {
+    /// Two files and the numbers for their editions.
+    pub fn told([one, other]: [u32; 2], pattern: &'a [u8], board: &'a [u8]) -> Files<'a> {
+        let told = |bytes, edition| Told { bytes, edition };
+        Files {
+            pattern: told(pattern, one),
+            board: told(board, other),
+        }
+    }
+
     /// Two files told by their editions' own numbers.
     pub fn of(editions: [Edition; 2], pattern: &'a [u8], board: &'a [u8]) -> Files<'a> {
-        Files {
-            pattern: Told::of(editions[0], pattern),
-            board: Told::of(editions[1], board),
-        }
+        Files::told(editions.map(Edition::number), pattern, board)
     }
 
     /// Two files told as of the first edition.

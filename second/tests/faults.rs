@@ -512,11 +512,7 @@ struct PlaceCall<'a> {
 impl PlaceCall<'_> {
     /// The two files.
     fn files(&self) -> Files<'_> {
-        let told = |bytes, edition| Told { bytes, edition };
-        Files {
-            pattern: told(&self.pattern, self.editions[0]),
-            board: told(self.board, self.editions[1]),
-        }
+        Files::told(self.editions, &self.pattern, self.board)
     }
 
     /// The second finder's reply, on copies of the tables.
@@ -605,11 +601,7 @@ impl Unpacked {
     }
 
     fn files(&self) -> Files<'_> {
-        let told = |bytes, edition| Told { bytes, edition };
-        Files {
-            pattern: told(&self.pattern, self.editions[0]),
-            board: told(&self.board, self.editions[1]),
-        }
+        Files::told(self.editions, &self.pattern, &self.board)
     }
 }
 

@@ -9,7 +9,7 @@ use super::proposals::{proposals, Proposal};
 use super::tally::Tally;
 use super::{agree, bounds, editions, laws, numbers, sessions, shelves, Difference};
 use crate::calls::Lookup;
-use crate::circuit::{Circuit, Edition, Files, Given, Role, Told};
+use crate::circuit::{Circuit, Edition, Files, Given, Role};
 use crate::graph;
 use crate::load::Numbers;
 use crate::random::Random;
@@ -210,11 +210,7 @@ impl Case {
 
     /// Both files, told by the case's numbers.
     fn files(&self) -> Files<'_> {
-        let told = |bytes, edition| Told { bytes, edition };
-        Files {
-            pattern: told(&self.pattern, self.editions[0]),
-            board: told(&self.board, self.editions[1]),
-        }
+        Files::told(self.editions, &self.pattern, &self.board)
     }
 
     /// Both files, plainly or told by the case's numbers.

@@ -425,11 +425,7 @@ fn names(finder: &dyn Finder, tally: &mut Tally) -> Result<(), Difference> {
         for board in &files {
             for one in NUMBERS {
                 for two in NUMBERS {
-                    let told = |bytes, edition| Told { bytes, edition };
-                    let files = Files {
-                        pattern: told(pattern, one),
-                        board: told(board, two),
-                    };
+                    let files = Files::told([one, two], pattern, board);
                     for call in named(files, &lists()) {
                         in_every_way(finder, &call, tally)?;
                     }
