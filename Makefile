@@ -73,12 +73,13 @@ $(SHARED): $(OUT)/libheronditch.a $(OUT)/exports
 	$(CC) $(CFLAGS) $(LDFLAGS) -shared -s -Wl,-soname,$(SONAME) -Wl,--version-script=$(OUT)/exports \
 	    -Wl,-z,defs,-z,relro,-z,now,-z,noexecstack -Wl,--whole-archive $< -Wl,--no-whole-archive -o $@
 
-$(PAGES): include/heronditch.h docs/TEXT-FORM.md install/heronditch.1.in tools/header.py tools/pages.py Makefile
+$(PAGES): include/heronditch.h docs/TEXT-FORM.md install/heronditch.1.in tools/header.py tools/pages.py Makefile \
+    $(wildcard python/heronditch/command/*.py)
 	$(PYTHON3) tools/pages.py $(VERSION) $(OUT)/man
 
 $(WHEEL): $(OUT)/libheronditch.a $(wildcard python/setup.py python/pyproject.toml python/heronditch/*.py python/heronditch/*/*.py)
 	rm -rf $(@D)
-	HERONDITCH_LIBRARY=$(abspath $<) python/wheel $(@D)
+	HERONDITCH_LIBRARY=$(abspath $<) python/wheel $(@D) >/dev/null
 	@touch $@
 
 check: all
@@ -99,6 +100,8 @@ install: all
 	$(INSTALL) -m 644 $(OUT)/man/*.3 $(DESTDIR)$(MANDIR)/man3
 	$(INSTALL) -m 644 $(OUT)/man/*.5 $(DESTDIR)$(MANDIR)/man5
 	$(INSTALL) -m 644 $(DOCS) $(PROVED) $(DESTDIR)$(DOCDIR)
+	cp -R examples samples $(DESTDIR)$(DOCDIR)
+	chmod -R u+rwX,go+rX,go-w $(DESTDIR)$(DOCDIR)
 ifeq ($(PYTHON),yes)
 	$(INSTALL) -d $(DESTDIR)$(PYTHONDIR)
 	$(PYTHON3) -m zipfile -e $(OUT)/wheel/heronditch-*.whl $(DESTDIR)$(PYTHONDIR)
@@ -114,7 +117,7 @@ uninstall: $(PAGES)
 	rm -f $(addprefix $(DESTDIR)$(LIBDIR)/,libheronditch.a libheronditch.so $(SONAME) libheronditch.so.$(VERSION))
 	rm -f $(addprefix $(DESTDIR)$(INCLUDEDIR)/,$(notdir $(HEADERS))) $(DESTDIR)$(PKGCONFIGDIR)/heronditch.pc
 	cd $(OUT)/man && for page in *; do rm -f $(DESTDIR)$(MANDIR)/man$${page##*.}/$$page; done
-	rm -f $(addprefix $(DESTDIR)$(DOCDIR)/,$(notdir $(DOCS) $(PROVED)))
+	rm -rf $(addprefix $(DESTDIR)$(DOCDIR)/,$(notdir $(DOCS) $(PROVED)) examples samples)
 	rmdir $(DESTDIR)$(DOCDIR) 2>/dev/null || true
 ifeq ($(PYTHON),yes)
 	test -n '$(PYTHONDIR)'

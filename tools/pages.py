@@ -4,7 +4,9 @@
   pages.py VERSION FOLDER
 
 writes into FOLDER heronditch.3, with a page for each call that leads to it, from the words of include/heronditch.h; circuit.5 from those words
-and from docs/TEXT-FORM.md; and heronditch.1, with a page for each program that leads to it, from install/heronditch.1.in."""
+and from docs/TEXT-FORM.md; and heronditch.1, with a page for each program that leads to it, from install/heronditch.1.in and from what the
+subcommands of the command say of themselves (python/heronditch/command)."""
+import ast
 import pathlib
 import re
 import sys
@@ -154,7 +156,7 @@ def limits(head: header.Header) -> str:
 
 def chapter(text: str, title: str) -> str:
     """what stands under a heading of docs/TEXT-FORM.md"""
-    found = re.search(rf"^## {title}\n(.*?)(?=^## |\Z)", text, re.DOTALL | re.MULTILINE)
+    found = re.search(rf"^#+ {title}\n(.*?)(?=^## |\Z)", text, re.DOTALL | re.MULTILINE)
     if not found:
         raise header.Unreadable(f"docs/TEXT-FORM.md has no chapter '{title}' any more, which circuit(5) takes over")
     return found[1].strip()
@@ -191,15 +193,37 @@ def circuit_page(head: header.Header, version: str) -> list[str]:
     out += [".PP", "A file is refused by a number, the first of these that holds:"]
     for one in numbers:
         out += item(f"{bold(one.value)} ({bold(one.name)})", one.text)
-    out += [".SH FORM AS TEXT", *marked(chapter(text, "Form")), ".SH ERRORS IN A TEXT", *marked(chapter(text, "Errors"))]
+    out += [".SH CIRCUITS AS TEXT", *marked(chapter(text, "Circuits as text")), ".SS Form", *marked(chapter(text, "Form"))]
+    out += [".SS Errors", *marked(chapter(text, "Errors"))]
     return out + [".SH SEE ALSO", ".BR heronditch (1),", ".BR heronditch (3)"]
+
+
+def subcommands() -> list[str]:
+    """the subcommands of the command heronditch in the order of its help, each with what it says of itself"""
+    folder = ROOT / "python" / "heronditch" / "command"
+    calls = [call for path in sorted(folder.glob("*.py")) for call in ast.walk(ast.parse(path.read_text())) if isinstance(call, ast.Call)]
+    said = {}
+    for call in calls:
+        if isinstance(call.func, ast.Name) and call.func.id == "Subcommand":
+            name, _, about, shown = (ast.literal_eval(word) for word in call.args[:4])
+            said[name] = [*item(bold(name), about), *example(textwrap.dedent(shown).split("\n"))[1:]]
+    order = re.findall(r'^    "([a-z-]+)": "\w+",$', (folder / "__init__.py").read_text(), re.MULTILINE)
+    if not said or sorted(order) != sorted(said):
+        raise header.Unreadable("python/heronditch/command: cannot find the subcommands, which heronditch(1) lists, in the order of MODULES")
+    return [line for name in order for line in said[name]]
+
+
+def programs_page(version: str) -> list[str]:
+    """heronditch(1)"""
+    text = (ROOT / "install" / "heronditch.1.in").read_text()
+    return text.replace("@VERSION@", version).replace("@SUBCOMMANDS@", "\n".join(subcommands())).rstrip("\n").split("\n")
 
 
 def write(folder: pathlib.Path, version: str) -> None:
     """every page"""
     head = header.read()
     pages = {"heronditch.3": calls_page(head, version), "circuit.5": circuit_page(head, version)}
-    pages["heronditch.1"] = [(ROOT / "install" / "heronditch.1.in").read_text().replace("@VERSION@", version).rstrip("\n")]
+    pages["heronditch.1"] = programs_page(version)
     pages |= {f"{one.name}.3": [".so man3/heronditch.3"] for one in head.functions}
     pages |= {f"{name}.1": [".so man1/heronditch.1"] for name in PROGRAMS}
     folder.mkdir(parents=True, exist_ok=True)
