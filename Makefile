@@ -36,7 +36,7 @@ PAGES = $(OUT)/man/heronditch.3
 PROVED = $(if $(wildcard crates),$(OUT)/PROVED.txt,docs/PROVED.txt)
 WHEEL = $(OUT)/wheel/made
 HEADERS = include/heronditch.h include/heronditch.hpp
-DOCS = README.md docs/PROMISES.md docs/LOADS.md docs/TEXT-FORM.md $(wildcard docs/CHANGES.md)
+DOCS = README.md $(addprefix docs/,BENCH.md CHANGES.md LOADS.md PROMISES.md TEXT-FORM.md)
 
 all: $(OUT)/libheronditch.a $(SHARED) $(PROGRAMS) $(PAGES) $(PROVED) $(if $(filter yes,$(PYTHON)),$(WHEEL))
 

@@ -147,7 +147,7 @@ def read(path: pathlib.Path = HEADER) -> Header:
     """the header in its parts"""
     found = re.match(r"/\*(.*?)\*/\n(.*?)extern \"C\" \{\n#endif\n(.*)#ifdef __cplusplus\n", path.read_text(), re.DOTALL)
     if not found:
-        raise Unreadable(f"{path.name}: it has not the shape of comment, guard, extern \"C\" and declarations")
+        raise Unreadable(f'{path.name}: it has not the shape of comment, guard, extern "C" and declarations')
     header = Header(plain(found[1]), [Section("")])
     for piece in PIECE.finditer(found[3]):
         section = header.sections[-1]

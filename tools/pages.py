@@ -3,9 +3,9 @@
 
   pages.py VERSION FOLDER
 
-writes into FOLDER heronditch.3, with a page for each call that leads to it, from the words of include/heronditch.h; circuit.5 from those words
-and from docs/TEXT-FORM.md; and heronditch.1, with a page for each program that leads to it, from install/heronditch.1.in and from what the
-subcommands of the command say of themselves (python/heronditch/command)."""
+writes into FOLDER heronditch.3, with a page for each call that leads to it, from the words of include/heronditch.h; circuit.5
+from those words and from docs/TEXT-FORM.md; and heronditch.1, with a page for each program that leads to it, from
+install/heronditch.1.in and from what the subcommands of the command say of themselves (python/heronditch/command)."""
 import ast
 import pathlib
 import re
@@ -19,6 +19,7 @@ PROGRAMS = ("heronditch-report", "heronditch-test-board", "heronditch-shelf")
 # the refusals that a circuit file can have by itself
 OF_A_FILE = (1, 2, 3, 4, 5, 6, 11, 13)
 WIDTH = 76
+CODE = re.compile(r"`([^`]+)`|\b(?:heronditch|HERONDITCH)_\w+")
 
 
 def escape(text: str) -> str:
@@ -38,16 +39,12 @@ def bold(text: str) -> str:
 
 def inline(text: str) -> str:
     """a paragraph on one line, with what is code in bold: names of the header, and what stands between backquotes"""
-    pieces = re.split(r"`([^`]*)`|\b((?:heronditch|HERONDITCH)_\w+)", " ".join(text.split()))
-    shown = [escape(plain or "") + (bold(quoted or name) if quoted or name else "") for plain, quoted, name in triples(pieces)]
-    line = "".join(shown)
+    line, at, whole = "", 0, " ".join(text.split())
+    for found in CODE.finditer(whole):
+        line += escape(whole[at : found.start()]) + bold(found[1] or found[0])
+        at = found.end()
+    line += escape(whole[at:])
     return "\\&" + line if line.startswith((".", "\\(aq")) else line
-
-
-def triples(pieces: list[str | None]) -> list[tuple[str | None, str | None, str | None]]:
-    """what a split with two groups gives, three by three"""
-    padded = [*pieces, None, None]
-    return [(padded[i], padded[i + 1], padded[i + 2]) for i in range(0, len(pieces), 3)]
 
 
 def example(lines: list[str]) -> list[str]:
@@ -98,7 +95,8 @@ def declared(struct: header.Struct) -> list[str]:
 def constants(block: header.Block) -> list[str]:
     """the numbers with names of a block"""
     if any(one.text for one in block.constants):
-        return [line for one in block.constants for line in item(f"{bold(one.name)} ({one.value})", one.text or "the call is accepted")]
+        marks = [(f"{bold(one.name)} ({one.value})", one.text or "the call is accepted") for one in block.constants]
+        return [line for mark, text in marks for line in item(mark, text)]
     return example([f"#define {one.name} {one.value}" for one in block.constants]) if block.constants else []
 
 
@@ -125,8 +123,9 @@ def calls_page(head: header.Header, version: str) -> list[str]:
     _, _, introduction = head.introduction.partition("\n")
     names = ", ".join(["heronditch", *(one.name for one in head.functions)])
     out = headline("heronditch", 3, version, "Library Functions Manual")
-    out += [".SH NAME", f"{names} \\- find a known circuit on a circuit board", ".SH SYNOPSIS", ".nf", bold("#include <heronditch.h>")]
-    out += [".PP", f"{bold('cc')} \\fIprogram.c\\fP {bold('$(pkg-config --cflags --libs heronditch)')}", ".fi"]
+    out += [".SH NAME", f"{names} \\- find a known circuit on a circuit board"]
+    out += [".SH SYNOPSIS", ".nf", bold("#include <heronditch.h>"), ".PP"]
+    out += [f"{bold('cc')} \\fIprogram.c\\fP {bold('$(pkg-config --cflags --libs heronditch)')}", ".fi"]
     out += [".SH DESCRIPTION", *flow(introduction.strip("\n")), ".SH THE CALLS"]
     for section in head.sections:
         title = section.title or "version"
@@ -141,16 +140,19 @@ def paragraph(head: header.Header, word: str) -> str:
     for text in head.introduction.split("\n\n"):
         if text.startswith(word):
             return text
-    raise header.Unreadable(f"include/heronditch.h has no paragraph any more that begins with '{word}', which circuit(5) takes over")
+    raise header.Unreadable(
+        f"include/heronditch.h: circuit(5) takes over a paragraph that begins with '{word}', and there is none"
+    )
 
 
 def limits(head: header.Header) -> str:
     """the sizes of circuits, with the header's numbers"""
     value = {name.removeprefix("HERONDITCH_"): number for name, number in head.constants.items()}
     return (
-        f"A circuit has N nodes, numbered from 0, and M links, each from one node to another or to itself. A pattern has 1 to {value['PARTS']} nodes,"
-        f" its parts, and at most {value['PATTERN_LINKS']} links, is connected, directions ignored, and no two of its parts are more than"
-        f" {value['RADIUS']} links apart. A board has at most {value['NODES']} nodes and {value['BOARD_LINKS']} links."
+        f"A circuit has N nodes, numbered from 0, and M links, each from one node to another or to itself. A pattern has 1 to"
+        f" {value['PARTS']} nodes, its parts, and at most {value['PATTERN_LINKS']} links, is connected, directions ignored, and no"
+        f" two of its parts are more than {value['RADIUS']} links apart. A board has at most {value['NODES']} nodes and"
+        f" {value['BOARD_LINKS']} links."
     )
 
 
@@ -201,15 +203,17 @@ def circuit_page(head: header.Header, version: str) -> list[str]:
 def subcommands() -> list[str]:
     """the subcommands of the command heronditch in the order of its help, each with what it says of itself"""
     folder = ROOT / "python" / "heronditch" / "command"
-    calls = [call for path in sorted(folder.glob("*.py")) for call in ast.walk(ast.parse(path.read_text())) if isinstance(call, ast.Call)]
+    found = [node for path in sorted(folder.glob("*.py")) for node in ast.walk(ast.parse(path.read_text()))]
     said = {}
-    for call in calls:
-        if isinstance(call.func, ast.Name) and call.func.id == "Subcommand":
+    for call in found:
+        if isinstance(call, ast.Call) and isinstance(call.func, ast.Name) and call.func.id == "Subcommand":
             name, _, about, shown = (ast.literal_eval(word) for word in call.args[:4])
             said[name] = [*item(bold(name), about), *example(textwrap.dedent(shown).split("\n"))[1:]]
     order = re.findall(r'^    "([a-z-]+)": "\w+",$', (folder / "__init__.py").read_text(), re.MULTILINE)
     if not said or sorted(order) != sorted(said):
-        raise header.Unreadable("python/heronditch/command: cannot find the subcommands, which heronditch(1) lists, in the order of MODULES")
+        raise header.Unreadable(
+            "python/heronditch/command: heronditch(1) lists the subcommands of MODULES, and not all are found"
+        )
     return [line for name in order for line in said[name]]
 
 
@@ -228,7 +232,8 @@ def write(folder: pathlib.Path, version: str) -> None:
     pages |= {f"{name}.1": [".so man1/heronditch.1"] for name in PROGRAMS}
     folder.mkdir(parents=True, exist_ok=True)
     for name, lines in pages.items():
-        text = re.sub(r"^(\.(?:S[HS]|RS) .*)\n\.PP$", r"\1", "\n".join(lines), flags=re.MULTILINE)  # no empty line after a heading
+        # no empty line after a heading
+        text = re.sub(r"^(\.(?:S[HS]|RS) .*)\n\.PP$", r"\1", "\n".join(lines), flags=re.MULTILINE)
         (folder / name).write_text(text + "\n")
 
 
