@@ -246,6 +246,15 @@ def test_a_place_that_is_none(monkeypatch: pytest.MonkeyPatch) -> None:
     troubled(run("place", "pattern.txt", "board.txt", "p"), "is none by heronditch_check", "This is a bug")
 
 
+def test_a_reason_for_a_place(monkeypatch: pytest.MonkeyPatch) -> None:
+    """What stands in the way of a place that is there, and nothing in the way of one that is not."""
+    monkeypatch.setattr(bindings, "bar", lambda *_: bytes(2))
+    troubled(run("why", "pattern.txt", "board.txt", "p"), "differ on whether 'p' has a place", "This is a bug")
+    write("board.txt", B.replace("p -> q -> r", "p -> q"))
+    monkeypatch.setattr(bindings, "bar", lambda *_: None)
+    troubled(run("why", "pattern.txt", "board.txt", "p"), "differ on whether 'p' has a place", "This is a bug")
+
+
 def test_files_of_another_place(monkeypatch: pytest.MonkeyPatch) -> None:
     """Names of files are told as they were given, from whichever folder."""
     monkeypatch.chdir(ROOT)
