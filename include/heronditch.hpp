@@ -35,7 +35,7 @@ struct place {
 // What a call is refused by: the number, the file that it means, and the sentence of heronditch_message.
 class refusal : public std::runtime_error {
 public:
-    refusal(uint32_t number, uint32_t meant) : std::runtime_error(heronditch_message(number)), number(number), meant(meant) {}
+    refusal(uint32_t by, uint32_t of) : std::runtime_error(heronditch_message(by)), number(by), meant(of) {}
     const uint32_t number, meant;
 };
 
