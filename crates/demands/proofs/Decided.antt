@@ -121,7 +121,7 @@ merges pattern classes out =
     by-first (mergeConditions pattern (length classes) (length out)) (reply-verdict _ _) (λ x e. (keeps _ classes e, keeps _ out e))
 
 reports :
-    (pattern board : List ℕ) (from before : ℕ) (out : List ℕ) →
+    (pattern board : CircuitFile) (from before : ℕ) (out : List ℕ) →
     Decided (shortTable (needFor (verdictOf pattern board)) (length out) ∷ []) (reporting pattern board from before out .reply .verdict)
     (reporting pattern board from before out .out ≡ out)
 unfolding reporting outcomeFor

@@ -139,7 +139,7 @@ pub record Demand1 : Type 0 where
   pub merges : (pattern : CircuitFile) (classes out : List ℕ) →
       Decided (mergeConditions pattern (length classes) (length out)) (merging pattern classes out .reply .verdict)
       ((merging pattern classes out .classes ≡ classes) × (merging pattern classes out .out ≡ out))
-  pub reports : (pattern board : List ℕ) (from before : ℕ) (out : List ℕ) →
+  pub reports : (pattern board : CircuitFile) (from before : ℕ) (out : List ℕ) →
       Decided (shortTable (needFor (verdictOf pattern board)) (length out) ∷ []) (reporting pattern board from before out .reply .verdict)
       (reporting pattern board from before out .out ≡ out)
   pub converts : (role : Role) (to : Edition) (file : CircuitFile) (out : List ℕ) →

@@ -14,7 +14,7 @@ use Rattle.file_format.specs.declared.Edition.{Edition}
 use Rattle.file_format.specs.declared.Role.{Role}
 use Rattle.file_format.specs.declared.Role.the-variants.{Pattern}
 use Rattle.file_format.specs.Circuit.{circuitOf}
-use Rattle.file_format.specs.Layout.{CircuitFile, firstEdition, nodesOf, linksOf, kindsOf, packagesOf, startsOf, endsOf}
+use Rattle.file_format.specs.Layout.{CircuitFile, nodesOf, linksOf, kindsOf, packagesOf, startsOf, endsOf}
 use Rattle.file_format.specs.Reading.{readConditions, readAnswer, filled, ReadOutcome, reading}
 use Rattle.file_format.specs.Refusals.{Condition, Verdict, accept, refuse, first, eleven, without, fileConditions, Accepted}
 use Rattle.file_format.specs.Reply.{Reply, reply}
@@ -65,11 +65,8 @@ mergingBefore file lent out =
       out = filled verdict (mergedBytes (file .edition) p) out;
     }
 
-unfoldable pub reportBefore : List ℕ → List ℕ → List ℕ
-reportBefore pattern board =
-    let p = firstEdition pattern in
-    let b = firstEdition board in
-    reportFor (before (pairConditions Pattern p b)) (circuitOf p) (circuitOf b)
+unfoldable pub reportBefore : CircuitFile → CircuitFile → List ℕ
+reportBefore pattern board = reportFor (before (pairConditions Pattern pattern board)) (circuitOf pattern) (circuitOf board)
 
 -- ---- the request
 
@@ -80,8 +77,7 @@ pub record TurnedAway (pattern : CircuitFile) : Type 0 where
   pub places : (board : CircuitFile) (w r : ℕ) (lent : Lent) → placed pattern board w r lent .reply .verdict ≡ refuse eleven
   pub merges : (lent out : List ℕ) → merging pattern lent out .reply .verdict ≡ refuse eleven
   pub converts : (to : Edition) (out : List ℕ) → converting Pattern to pattern out .reply .verdict ≡ refuse eleven
-  -- the report reads the first edition
-  pub reports : (file board : List ℕ) → firstEdition file ≡ pattern → reportOf file board ≡ bytes "refused 11 pattern\n"
+  pub reports : (board : CircuitFile) → reportOf pattern board ≡ bytes "refused 11 pattern\n"
 
 -- an accepted pattern's replies, tables, counts and lines are those of before the limit
 pub record AsBefore (pattern : CircuitFile) : Type 0 where
@@ -89,7 +85,7 @@ pub record AsBefore (pattern : CircuitFile) : Type 0 where
   pub measures : radiusCall pattern ≡ radiusBefore pattern
   pub places : (board : CircuitFile) (w r : ℕ) (lent : Lent) → placed pattern board w r lent ≡ placedBefore pattern board w r lent
   pub merges : (lent out : List ℕ) → merging pattern lent out ≡ mergingBefore pattern lent out
-  pub reports : (file board : List ℕ) → firstEdition file ≡ pattern → reportOf file board ≡ reportBefore file board
+  pub reports : (board : CircuitFile) → reportOf pattern board ≡ reportBefore pattern board
 
 pub record Limit : Type 1 where
   -- "11, pattern radius above 12 .., after it": exactly the patterns of which 1 to 6 do not hold, and whose radius is above 12

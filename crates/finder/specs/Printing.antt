@@ -3,6 +3,7 @@ use mathlib.Core.Bool.{true, false}
 use mathlib.Core.List.{List, _++_}
 use mathlib.Core.Path.{_≡_}
 use Prim.Native.Nat.{ℕ}
+use Rattle.file_format.specs.Layout.{CircuitFile}
 use Rattle.call_report.specs.Whole.{prefixOf}
 use Rattle.input.specs.declared.Found.{Found}
 use Rattle.input.specs.declared.Found.the-variants as found
@@ -17,7 +18,7 @@ heldOf found.Absent = record { there = true; size = 0 }
 heldOf found.Unreadable = record { there = false; size = 0 }
 
 -- bytes that go on with a report: after the text of its first items they make that of the items up to a later one
-unfoldable pub GoesOn : List ℕ → List ℕ → ℕ → ℕ → List ℕ → Type 0
+unfoldable pub GoesOn : CircuitFile → CircuitFile → ℕ → ℕ → List ℕ → Type 0
 GoesOn pattern board from next bytes = prefixOf pattern board from ++ bytes ≡ prefixOf pattern board next
 
 -- where no write failed, the items up to that one were handed over
@@ -26,6 +27,6 @@ Reached next (printed.Items k) = k ≡ next
 Reached next printed.Failed = Unit {0}
 
 -- where no write failed, the text of the items that were handed over is this
-unfoldable pub Handed : List ℕ → List ℕ → List ℕ → Printed → Type 0
+unfoldable pub Handed : CircuitFile → CircuitFile → List ℕ → Printed → Type 0
 Handed pattern board text (printed.Items k) = prefixOf pattern board k ≡ text
 Handed pattern board text printed.Failed = Unit {0}

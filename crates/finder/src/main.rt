@@ -5,6 +5,8 @@ use call_report::ReportAnswer;
 use call_report::open;
 use call_report::put;
 use file_format::Board;
+use file_format::Edition;
+use file_format::Editions;
 use file_format::Pattern;
 use file_pair::Pair;
 use graph_neighbours::tables::LINKS;
@@ -17,6 +19,7 @@ ghost use Prim.Native.Nat.{_≤_};
 ghost use lib.ListN.{length};
 ghost use Rattle.io.specs.Counts.{Counts};
 ghost use Rattle.file_format.specs.declared.Role.the-variants as role;
+ghost use Rattle.file_format.specs.Layout.{firstEdition};
 ghost use Rattle.table.specs.Prepared.{tables};
 ghost use Rattle.report.specs.Lines.{longestLine};
 ghost use Rattle.report.specs.Report.{reportOf};
@@ -71,7 +74,7 @@ fn load(name: &[u8], buf: &mut [u8]) -> Held
 
 // Hands the bytes that come next to standard output: those of the report's items from one on up to another.
 fn hand(pattern: &[u8], board: &[u8], from: usize, next: usize, bytes: &[u8]) -> Printed
-    requires { ⌜ GoesOn (now pattern) (now board) from next (now bytes) ⌝ }
+    requires { ⌜ GoesOn (firstEdition (now pattern)) (firstEdition (now board)) from next (now bytes) ⌝ }
     ensures { λ r. ⌜ Reached next r ⌝ }
 {
     let answer = output::write_whole(libc::STDOUT_FILENO, bytes);
@@ -94,9 +97,9 @@ fn print_pieces(
     sizes: &[u16],
     out: &mut [u8],
 ) -> Printed
-    requires { ⌜ Opened 0 (now pattern) (now board) read (tables (now masks) (now offsets) (now links)) (now whole) (now labels) (now sizes) ⌝ }
+    requires { ⌜ Opened 0 (firstEdition (now pattern)) (firstEdition (now board)) read (tables (now masks) (now offsets) (now links)) (now whole) (now labels) (now sizes) ⌝ }
     requires { ⌜ longestLine ≤ length (now out) ⌝ }
-    ensures { λ r. ⌜ Handed (now (pattern .entry)) (now (board .entry)) (reportOf (now (pattern .entry)) (now (board .entry))) r ⌝ }
+    ensures { λ r. ⌜ Handed (firstEdition (now (pattern .entry))) (firstEdition (now (board .entry))) (reportOf (firstEdition (now (pattern .entry))) (firstEdition (now (board .entry)))) r ⌝ }
 {
     let mut from: usize = 0;
     let mut found: u16 = 0;
@@ -130,10 +133,10 @@ fn print_pieces(
     }
 }
 
-// Opens the two files, and prints their report.
+// Opens the two files, of the first edition both, and prints their report.
 fn print_report(pattern: &[u8], board: &[u8], out: &mut [u8]) -> Printed
     requires { ⌜ longestLine ≤ length (now out) ⌝ }
-    ensures { λ r. ⌜ Handed (now (pattern .entry)) (now (board .entry)) (reportOf (now (pattern .entry)) (now (board .entry))) r ⌝ }
+    ensures { λ r. ⌜ Handed (firstEdition (now (pattern .entry))) (firstEdition (now (board .entry))) (reportOf (firstEdition (now (pattern .entry))) (firstEdition (now (board .entry)))) r ⌝ }
 {
     let mut masks = [0u32; MASKS];
     let mut offsets = [0u16; OFFSETS];
@@ -141,8 +144,13 @@ fn print_report(pattern: &[u8], board: &[u8], out: &mut [u8]) -> Printed
     let mut whole = [0u32; Board::MAX_NODES];
     let mut labels = [0u16; Board::MAX_NODES];
     let mut sizes = [0u16; Board::MAX_NODES];
+    let editions = Editions {
+        pattern: Edition::First,
+        board: Edition::First,
+    };
     let read = open(
         0,
+        editions,
         pattern,
         board,
         &mut masks,

@@ -7,6 +7,7 @@ use borrow.Author.Needs.{needs}
 use denote.Ref.{now}
 use lib.ListN.{length}
 use lib.Seq.{length-take-le}
+use Rattle.file_format.specs.Layout.{firstEdition}
 use Rattle.table.specs.Prepared.{tables}
 use Rattle.report.specs.Lines.{longestLine}
 use Rattle.call_report.specs.declared.ReportAnswer.the-variants as answer
@@ -22,10 +23,10 @@ use Rattle.finder.proofs.print_pieces.Tie as tie
 
 abbrev Inv-loop : tie.InvT-loop
 Inv-loop pattern board read masks offsets links whole labels sizes out₀ from₀ found₀ out from found =
-    (from ≤ itemsOf pattern board) × (found ≡ placesOf pattern board from) × (length out ≡ length out₀) × (longestLine ≤ length out)
+    (from ≤ itemsOf (firstEdition pattern) (firstEdition board)) × (found ≡ placesOf (firstEdition pattern) (firstEdition board) from) × (length out ≡ length out₀) × (longestLine ≤ length out)
 
 abbrev μ-loop : tie.MeasureT-loop
-μ-loop pattern board read masks offsets links whole labels sizes out₀ from₀ found₀ out from found = itemsOf pattern board - from
+μ-loop pattern board read masks offsets links whole labels sizes out₀ from₀ found₀ out from found = itemsOf (firstEdition pattern) (firstEdition board) - from
 
 loop-holds : tie.Need-loop-holds Inv-loop μ-loop
 loop-holds c = (zero-le, sym (places-start _ _ _), refl, search needs)
@@ -36,7 +37,7 @@ start c = c .before .before .before .before .before .before .before .before .bef
 
 opened : (c : tie.At-loop Inv-loop μ-loop) →
     let a = start c .args in
-    Opened (c .loop .from) (now (a .pattern)) (now (a .board)) (a .read) (tables (now (a .masks)) (now (a .offsets)) (now (a .links))) (now (a .whole)) (now (a .labels)) (now (a .sizes))
+    Opened (c .loop .from) (firstEdition (now (a .pattern))) (firstEdition (now (a .board))) (a .read) (tables (now (a .masks)) (now (a .offsets)) (now (a .links))) (now (a .whole)) (now (a .labels)) (now (a .sizes))
 opened c = opened-later zero-le (start c .pre .0)
 
 put-requires : tie.Need-put-requires Inv-loop μ-loop
@@ -63,7 +64,7 @@ reported : (c : tie.After-known-told Inv-loop μ-loop) →
     let loop = c .before .before .before .before .before .before .before .loop in
     let a = start (c .before .before .before .before .before .before .before) .args in
     _≡_ {A = ReportOutcome} (record { reply = reportReply (answer.Put (c .before .answer .given .0 .0)); out = call .put .last .1 .1 .1 .1 .1 .1 .1 .1 .1 .0 })
-    (reporting (now (a .pattern)) (now (a .board)) (loop .from) (loop .found) (loop .out))
+    (reporting (firstEdition (now (a .pattern))) (firstEdition (now (a .board))) (loop .from) (loop .found) (loop .out))
 reported c =
     let call = c .before .before .before .before .before in
     rw (c .before .answer .given .1) at (call .put .ensures _ _ (opened (call .before .before)))
@@ -124,7 +125,7 @@ cast-found c =
     let loop = k .before .before .before .before .before .before .before .loop in
     let (within, places, more) = put-follows _ _ _ _ _ _ (loop .inv .3) (reported k) (loop .inv .0) (loop .inv .1) in
     let a = start (k .before .before .before .before .before .before .before) .args in
-    omega (arith, places-few (now (a .pattern)) (now (a .board)) (k .before .answer .given .0 .0 .next))
+    omega (arith, places-few (firstEdition (now (a .pattern))) (firstEdition (now (a .board))) (k .before .answer .given .0 .0 .next))
 
 loop-less : tie.Need-loop-less Inv-loop μ-loop
 loop-less c =
