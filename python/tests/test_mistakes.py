@@ -227,7 +227,15 @@ def test_a_bug_is_told(call: str, monkeypatch: pytest.MonkeyPatch) -> None:
 
 def test_reports_that_end_wrongly(monkeypatch: pytest.MonkeyPatch) -> None:
     """A report whose last line does not count its places."""
-    for data in (b"", b"end 1 of 3\n", b"end 0 of 2\n", b"end 0 of 3", b"end 0 of 3\nx", b"x\nend 1 of 3\n"):
+    for data in (
+        b"",
+        b"end 1 of 3\n",
+        b"end 0 of 2\n",
+        b"end 0 of 3",
+        b"end 0 of 3\nx",
+        b"x\nend 1 of 3\n",
+        b"place 3: 0 /\nend 1 of 3\n",
+    ):
         monkeypatch.setattr(bindings, "report", lambda *_, data=data: data)
         troubled(run("find", "pattern.txt", "board.txt"), "This is a bug in heronditch")
 
