@@ -90,6 +90,10 @@ RUNS = {
         ("draw samples/mute/pattern.txt samples/mute/board.txt Q5 -o none.svg", ""),
         ("draw samples/mute/pattern.txt samples/mute/board.txt Q3 -o samples/mute/board.txt", ""),
         ("draw samples/stereo/pattern.txt samples/stereo/board.txt -o none.svg", ""),
+        ("page samples/mute/pattern.txt samples/mute/board.txt -o page.html", ""),
+        ("page --json samples/worked/pattern.cir samples/worked/board.cir -o page.html", ""),
+        ("page samples/mute/pattern.txt samples/any/board.txt -o none.html", ""),
+        ("page samples/mute/pattern.txt samples/mute/board.txt -o samples/mute/pattern.txt", ""),
     ],
     "take": [
         ("take samples/mute/board.txt Q3 --radius 2 -o taken.txt", ""),

@@ -32,6 +32,7 @@ MODULES = {
     "tell": "tell",
     "take": "take",
     "draw": "draw",
+    "page": "page",
 }
 
 ABOUT = """Finds a known circuit (the pattern) on a circuit board. A circuit is a text (.txt, docs/TEXT-FORM.md) or a circuit file (.cir)."""

@@ -3,6 +3,7 @@
 from __future__ import annotations
 
 import argparse
+import os
 from dataclasses import replace
 
 from ..circuits import BITS, Circuit
@@ -56,7 +57,7 @@ def run_draw(arguments: argparse.Namespace, out: Out) -> bool:
     """Draws a pattern, or what is found of it."""
     read = [arguments.pattern, arguments.pattern_names, arguments.board, arguments.board_names]
     if arguments.board is None:
-        picture = pattern_picture(pattern_of(arguments, BITS), f"Pattern {base(arguments.pattern)}")
+        picture = pattern_picture(pattern_of(arguments, BITS), f"Pattern {os.path.basename(arguments.pattern)}")
     else:
         pattern, board = both_of(arguments, out)
         centre = None if arguments.node is None else node_of(board, arguments.node)
@@ -73,11 +74,6 @@ def run_draw(arguments: argparse.Namespace, out: Out) -> bool:
     sizes = {"file": arguments.out, "nodes": len(picture.spots), "links": len(picture.ties)}
     out.answer(f"{arguments.out}: {picture.title}\n", sizes)
     return True
-
-
-def base(path: str) -> str:
-    """A file's name without its folder and its end."""
-    return path.replace("\\", "/").rsplit("/", 1)[-1].rsplit(".", 1)[0]
 
 
 SUBCOMMANDS = (
