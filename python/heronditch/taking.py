@@ -3,6 +3,7 @@
 from __future__ import annotations
 
 from dataclasses import replace
+from shlex import quote
 from typing import Collection
 
 from .circuits import LIMITS, Circuit, Node
@@ -67,4 +68,6 @@ def mend(board: Circuit, centre: str, radius: int, refusal: int) -> str:
     whole = part_of(board, ball(board, centre, radius))
     ends = [end for link in whole.links for end in link if whole.names[end] != centre]
     busiest = max(range(len(whole.names)), key=lambda node: (ends.count(node), -node))
-    return f"{told}; or leave out a net that joins much, such as {whole.names[busiest]} (--leave-out {whole.names[busiest]})."
+    return (
+        f"{told}; or leave out a net that joins much, such as {whole.names[busiest]} (--leave-out {quote(whole.names[busiest])})."
+    )

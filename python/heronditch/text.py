@@ -143,7 +143,7 @@ class Reader:
         path = os.path.join(self.folder, words[1])
         try:
             shared = _Register(path)
-            shared.read(_decoded(path))
+            shared.read(decoded(path))
         except OSError as error:
             return self.fault(f"can't use '{words[1]}': {error.strerror}")
         except Faults as faults:
@@ -259,7 +259,7 @@ class _Register(Reader):
             self.fault("a register has 'kind NAME NUMBER' and 'package NAME NUMBER' lines alone")
 
 
-def _decoded(path: str) -> str:
+def decoded(path: str) -> str:
     """The text of a file."""
     with open(path, "rb") as file:
         data = file.read()
@@ -279,13 +279,13 @@ def from_text(text: str, name: str = "text", role: str | None = None, folder: st
 
 def load_text(path: str, role: str | None = None) -> Circuit:
     """The circuit of a text file, which is for a role if that is told."""
-    return from_text(_decoded(path), path, role, os.path.dirname(path))
+    return from_text(decoded(path), path, role, os.path.dirname(path))
 
 
 def load_kinds(path: str) -> Kinds:
     """The register of a file of 'kind' and 'package' lines."""
     reader = _Register(path)
-    reader.read(_decoded(path))
+    reader.read(decoded(path))
     if reader.faults:
         raise Faults(message for _, message in sorted(reader.faults))
     return Kinds(reader.registers["kind"], reader.registers["package"])

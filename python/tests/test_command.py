@@ -95,6 +95,15 @@ RUNS = {
         ("page samples/mute/pattern.txt samples/any/board.txt -o none.html", ""),
         ("page samples/mute/pattern.txt samples/mute/board.txt -o samples/mute/pattern.txt", ""),
     ],
+    "import": [
+        ("import samples/import/amplifier.net -o board.txt", ""),
+        ("import --without-packages --leave-out 'R?7' samples/import/amplifier.net -o board.txt", ""),
+        ("import samples/import/amplifier.sp -o board.txt", ""),
+        ("show board.txt", ""),
+        ("import samples/import/amplifier.sp -o board.cir", ""),
+        ("import samples/import/README.md -o board.txt", ""),
+        ("import samples/import/missing.net -o board.txt", ""),
+    ],
     "take": [
         ("take samples/mute/board.txt Q3 --radius 2 -o taken.txt", ""),
         ("show taken.txt", ""),

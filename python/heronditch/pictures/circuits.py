@@ -22,6 +22,12 @@ def short(name: str) -> str:
     return name if len(name) <= LONGEST else f"{name[: LONGEST - 9]}…{name[-8:]}"
 
 
+def parts_label(parts: Sequence[str]) -> str:
+    """The parts that a node plays: all where there is room, else the first and how many more."""
+    whole = ", ".join(parts)
+    return whole if len(whole) <= LONGEST or len(parts) == 1 else f"{short(parts[0])} +{len(parts) - 1}"
+
+
 def ways(links: Iterable[Link]) -> list[tuple[Link, bool]]:
     """Links, those that go both ways in one, each with whether it does."""
     have = set(links)
@@ -113,7 +119,7 @@ def place_spots(found: Sequence[Place], style: dict[int, Style], centre: int | N
         away = "" if centre is None else str(found[0].distances[node])
         told = f"{board.names[node]}, {kind_told(board.kinds[node], board, pattern)}, plays {plays}"
         told += f", {away} from {board.names[centre]}" if centre is not None else ""
-        lines = (short(board.names[node]), short(plays))
+        lines = (short(board.names[node]), short(parts_label(parts.get(node, []))))
         spots[node] = Spot(lines, style[board.kinds[node]], thick=node == centre, badge=away, told=told)
     return spots
 

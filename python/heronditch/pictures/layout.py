@@ -74,30 +74,39 @@ def size(spot: Spot) -> Point:
     return max(46.0, (longest * 7.4 + 10) * room), 14.0 * len(spot.lines) + (14 if room < 1.3 else 16)
 
 
-def flow(picture: Picture) -> list[int]:
-    """For each spot how far it is from what nothing drives, along the links; two-way links are laid out by it, so that signals run
-    from left to right."""
-    after: list[list[int]] = [[] for _ in picture.spots]
-    driven, held = set(), set()  # driven at all, and driven by a link that goes one way
-    for tie in sorted(picture.ties, key=lambda tie: not tie.strong):
+def spread(spots: Sequence[int], ties: Sequence[Tie]) -> dict[int, int]:
+    """For each of some spots how far it is, along ties, from what nothing drives; or else from what is driven by two-way ties alone."""
+    after: dict[int, list[int]] = {spot: [] for spot in spots}
+    driven, held = set(), set()  # driven at all, and driven by a tie that goes one way
+    for tie in ties:
         after[tie.start].append(tie.end)
         driven.add(tie.end)
         if tie.both:
             after[tie.end].append(tie.start)
             driven.add(tie.start)
-        else:
+        elif tie.start != tie.end:
             held.add(tie.end)
-    order = sorted(range(len(after)), key=lambda spot: (not picture.spots[spot].strong, (spot in driven) + (spot in held), spot))
     far: dict[int, int] = {}
-    sources = [spot for spot in order if spot not in driven and picture.spots[spot].strong]
-    for first in [sources, *([spot] for spot in order)]:
-        ring = [spot for spot in first if spot not in far]
-        step = 0
+    rest = sorted(spots, key=lambda spot: ((spot in driven) + (spot in held), spot))
+    for first in [[spot for spot in spots if spot not in driven], *([spot] for spot in rest)]:
+        ring, step = [spot for spot in first if spot not in far], 0
         while ring:
             far.update(dict.fromkeys(ring, step))
             step += 1
             ring = list(dict.fromkeys(other for spot in ring for other in after[spot] if other not in far))
-    return [far[spot] for spot in range(len(after))]
+    return far
+
+
+def flow(picture: Picture) -> list[int]:
+    """For each spot how far it is from what nothing drives, by strong ties alone, and faint spots a step behind; two-way ties are laid
+    out by it, so that signals run from left to right."""
+    strong = [number for number, spot in enumerate(picture.spots) if spot.strong]
+    far = spread(strong, [tie for tie in picture.ties if tie.strong])
+    for tie in picture.ties:
+        for inner, outer in ((tie.start, tie.end), (tie.end, tie.start)):
+            if inner in far and not picture.spots[outer].strong:
+                far.setdefault(outer, far[inner] + 1)
+    return [far[spot] for spot in range(len(picture.spots))]
 
 
 def source(picture: Picture) -> str:
