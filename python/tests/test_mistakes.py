@@ -150,6 +150,9 @@ def test_texts_and_files_mistaken() -> None:
     os.rename("board.cir", "file.txt")
     troubled(run("find", "pattern.txt", "text.cir"), "text.cir: a text, and no circuit file; give it a name that ends in .txt")
     troubled(run("find", "pattern.txt", "file.txt"), "file.txt: not a text; a circuit file has a name that ends in .cir")
+    write("wide.txt", B.encode("utf-16"))
+    for words in (["find", "pattern.txt", "wide.txt"], ["make", "wide.txt", "wide.cir"]):
+        troubled(run(*words), "wide.txt: a UTF-16 text; save it as UTF-8")
     os.rename("text.cir", "text")
     os.rename("file.txt", "file")
     assert run("find", "pattern.txt", "text").status == run("find", "pattern.txt", "file").status == 0
@@ -246,7 +249,26 @@ def test_a_place_that_is_none(monkeypatch: pytest.MonkeyPatch) -> None:
     troubled(run("place", "pattern.txt", "board.txt", "p"), "is none by heronditch_check", "This is a bug")
 
 
+def test_a_reason_for_a_place(monkeypatch: pytest.MonkeyPatch) -> None:
+    """What stands in the way of a place that is there, and nothing in the way of one that is not."""
+    monkeypatch.setattr(bindings, "bar", lambda *_: bytes(2))
+    troubled(run("why", "pattern.txt", "board.txt", "p"), "differ on whether 'p' has a place", "This is a bug")
+    write("board.txt", B.replace("p -> q -> r", "p -> q"))
+    monkeypatch.setattr(bindings, "bar", lambda *_: None)
+    troubled(run("why", "pattern.txt", "board.txt", "p"), "differ on whether 'p' has a place", "This is a bug")
+
+
 def test_files_of_another_place(monkeypatch: pytest.MonkeyPatch) -> None:
     """Names of files are told as they were given, from whichever folder."""
     monkeypatch.chdir(ROOT)
     assert run("find", "samples/mute/pattern.txt", "samples/mute/board.txt").status == 0
+
+
+def test_names_that_begin_with_a_hyphen() -> None:
+    """A net called '-12V' is a node like any other."""
+    write("board.txt", B.replace("node p", "node -12V").replace("p -> q", "-12V -> q"))
+    for words in (["why"], ["place", "--radius", "2"], ["place", "--json"]):
+        assert run(*words, "pattern.txt", "board.txt", "-12V").status == (1 if words == ["why"] else 0)
+    assert run("why", "pattern.txt", "board.txt", "--", "-12V").out == "-12V has a place\n"
+    assert run("why", "pattern.txt", "board.txt", "--nonsense").status == 2
+    assert run("check", "pattern.txt", "board.txt", "-12V", given="-12V -> q -> r\n").status == 0

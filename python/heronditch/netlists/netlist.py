@@ -4,6 +4,8 @@ from __future__ import annotations
 
 from typing import NamedTuple
 
+from ..text import decoded
+
 IN, OUT, BOTH = "in", "out", "both"  # the net drives the part, the part drives the net, and both
 
 
@@ -29,3 +31,9 @@ class Netlist(NamedTuple):
     parts: tuple[Part, ...]
     pins: tuple[Pin, ...]
     told: tuple[str, ...] = ()
+
+
+def text_of(path: str) -> str:
+    """The text of a file."""
+    with open(path, "rb") as file:
+        return decoded(file.read(), path)

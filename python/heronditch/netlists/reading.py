@@ -3,9 +3,8 @@
 from __future__ import annotations
 
 from ..errors import Faults
-from ..text import decoded
 from .kicad import read_net, read_pcb
-from .netlist import Netlist
+from .netlist import Netlist, text_of
 from .spice import read_spice
 
 SPICE = (".cir", ".sp", ".spi", ".spice", ".ckt")
@@ -13,7 +12,7 @@ SPICE = (".cir", ".sp", ".spi", ".spice", ".ckt")
 
 def read_netlist(path: str) -> tuple[str, Netlist]:
     """What a file is, in words, and its netlist."""
-    text = decoded(path)
+    text = text_of(path)
     start = text.lstrip()[:40]
     if start.startswith("(kicad_pcb"):
         return "KiCad board", read_pcb(text, path)

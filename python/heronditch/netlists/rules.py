@@ -9,8 +9,8 @@ from typing import NamedTuple, Sequence
 
 from ..circuits import Kinds
 from ..errors import Faults
-from ..text import Reader, decoded
-from .netlist import Part
+from ..text import Reader
+from .netlist import Part, text_of
 
 SIZES = {"reference": 3, "value": 4, "footprint": 3, "net": 3, "rail": 2}
 FORMS = {
@@ -100,7 +100,7 @@ class _Reader(Reader):
 def load_rules(path: str) -> Rules:
     """The rules of a file."""
     reader = _Reader(path)
-    reader.read(decoded(path))
+    reader.read(text_of(path))
     return reader.checked()
 
 
