@@ -225,7 +225,7 @@ def test_damaged(folder: pathlib.Path) -> None:
             assert done.status == 2 or name.endswith(".sp")
 
 
-@settings(max_examples=80, deadline=None)
+@settings(max_examples=150, deadline=None)
 @given(some.text(alphabet="()\"\\ abRQX1\n.;+*'net#", max_size=60), some.sampled_from(["(export ", "(kicad_pcb ", "title\n", ""]))
 def test_nonsense(tmp_path_factory: pytest.TempPathFactory, text: str, start: str) -> None:
     """Whatever a file holds, it is read or told, and never a traceback."""

@@ -3,7 +3,7 @@
 from __future__ import annotations
 
 import re
-from typing import Iterable, Iterator
+from typing import Iterable
 
 from ..errors import Faults
 from .netlist import BOTH, IN, OUT, Netlist, Part, Pin
@@ -19,22 +19,18 @@ PINS: dict[str, tuple[str, ...]] = {
 OVER = {".subckt": ".ends", ".control": ".endc"}  # what is passed over, from one line to the other
 
 
-def whole_lines(text: str) -> Iterator[str]:
+def whole_lines(text: str) -> list[str]:
     """The lines after the title, without comments, those that go on joined; up to .end."""
-    held = ""
+    held: list[str] = []
     for line in text.splitlines()[1:]:
         line = re.split(r";|\s\$\s|\s//", line, maxsplit=1)[0].strip()
-        if line.startswith("+"):
-            held += " " + line[1:]
-            continue
-        if held:
-            yield held
-        held = "" if line.startswith("*") else line
         if line.lower() == ".end":
-            held = ""
             break
-    if held:
-        yield held
+        if line.startswith("+") and held:
+            held[-1] += " " + line[1:]
+        elif line and line[0] not in "*+":
+            held.append(line)
+    return held
 
 
 def models(lines: Iterable[str]) -> dict[str, str]:
@@ -42,7 +38,7 @@ def models(lines: Iterable[str]) -> dict[str, str]:
     found = {}
     for line in lines:
         words = line.replace("(", " ").split()
-        if words[0].lower() == ".model" and len(words) > 2:
+        if len(words) > 2 and words[0].lower() == ".model":
             found[words[1].lower()] = words[2].upper()
     return found
 
@@ -83,7 +79,7 @@ def nodes_of(words: list[str], path: str) -> tuple[list[tuple[str, str]], list[s
 
 def read_spice(text: str, path: str) -> Netlist:
     """The netlist of a SPICE file; its names count without capitals, and are told as they stand first."""
-    lines = list(whole_lines(text))
+    lines = whole_lines(text)
     types = models(lines)
     elements, told = kept_lines(lines)
     parts, pins = [], []
