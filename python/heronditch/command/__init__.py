@@ -30,6 +30,10 @@ MODULES = {
     "convert": "files",
     "test-board": "files",
     "tell": "tell",
+    "take": "take",
+    "draw": "draw",
+    "page": "page",
+    "import": "imports",
 }
 
 ABOUT = """Finds a known circuit (the pattern) on a circuit board. A circuit is a text (.txt, docs/TEXT-FORM.md) or a circuit file (.cir)."""

@@ -1,0 +1,67 @@
+"""page: a search as one HTML page."""
+
+from __future__ import annotations
+
+import argparse
+import hashlib
+from importlib import import_module
+from typing import Any
+
+from ..bindings import version
+from ..finding import places
+from ..pages import Asked, page
+from .draw import written
+from .find import found_data
+from .inputs import add_both, both_of
+from .notes import on_none
+from .subcommands import Out, Subcommand
+from .telling import count
+
+
+def page_arguments(form: argparse.ArgumentParser) -> None:
+    """The arguments of page."""
+    add_both(form)
+    form.add_argument("-o", dest="out", metavar="FILE.html", required=True, help="the page to write")
+
+
+def digest(path: str) -> str:
+    """The SHA-256 of a file."""
+    with open(path, "rb") as file:
+        return hashlib.sha256(file.read()).hexdigest()
+
+
+def library() -> dict[str, Any]:
+    """The library that answers, and what was proved of it where that is known."""
+    try:
+        found: dict[str, Any] = import_module("heronditch.batch.library").identity()
+    except ModuleNotFoundError:
+        return {"version": version()}
+    return found
+
+
+def run_page(arguments: argparse.Namespace, out: Out) -> bool:
+    """Searches, and writes the page."""
+    pattern, board = both_of(arguments, out)
+    found = places(pattern, board)
+    if not found:
+        on_none(pattern, board, out, lambda *plain: bool(places(*plain)))
+    files = {role: (path, digest(path)) for role, path in (("pattern", arguments.pattern), ("board", arguments.board))}
+    text = page(found, pattern, board, Asked(files, library(), out.notes))
+    read = [arguments.pattern, arguments.pattern_names, arguments.board, arguments.board_names]
+    written(arguments.out, text, read)
+    out.answer(f"{arguments.out}: {count(len(found), 'place')}\n", {"file": arguments.out, **found_data(found, pattern, board)})
+    return bool(found)
+
+
+SUBCOMMANDS = (
+    Subcommand(
+        "page",
+        "a search as one HTML page, to read, print and keep",
+        "Writes a page with what was asked (names, SHA-256, version, what was proved), each distinct place with its picture and its parts, or,"
+        "\nwhere there is none, the counts, what comes nearest and what bars. It needs no network and no scripts, and prints on A4. The pictures"
+        "\nare laid out by graphviz (Debian's package of that name). Status 1 where there is no place; the page is written then, too.",
+        "  heronditch page samples/mute/pattern.txt samples/mute/board.txt -o report.html",
+        page_arguments,
+        run_page,
+    ),
+)
