@@ -1,5 +1,5 @@
 -- Ask 14: what the call says, and how it stands to the place call. Assumes nothing.
-use mathlib.Core.List.{List, []}
+use mathlib.Core.List.{List}
 use mathlib.Core.Logic.{_↔_, ⊎-elim}
 use mathlib.Core.Path.{_≡_, refl, sym, ap, _∙_}
 use Prim.Native.Nat.{ℕ, _≤_}
@@ -7,34 +7,18 @@ use lib.ListN.{length, take, drop}
 use Rattle.graph.specs.Circuit.{Circuit}
 use Rattle.graph.specs.Graph.{Radius}
 use Rattle.graph.proofs.Walks.{radius-unique}
-use Rattle.file_format.specs.declared.Refusal.{Refusal}
 use Rattle.file_format.specs.Circuit.{circuitOf}
 use Rattle.file_format.specs.Layout.{CircuitFile, linksOf}
 use Rattle.file_format.specs.Refusals.{Verdict, accept, refuse}
-use Rattle.file_format.proofs.Refusals.{accepts-iff, refuses-by}
 use Rattle.place.specs.Match.{radiusOf}
 use Rattle.place.proofs.Accepted.{accepted-radius}
 use Rattle.barring.specs.Least.{least}
 use Rattle.call_place.proofs.Promise.{found-verdict, none-verdict, verdict-is, accept-or-nine, nine-iff}
-use Rattle.call_barring.specs.Call.{barInputs, barCall}
+use Rattle.call_barring.specs.Call.{barCall}
 use Rattle.call_barring.proofs.Promise as call
 use Rattle.demands.specs.Barring.{fifteen, Ask14}
-use Rattle.demands.specs.Demands.{graph, Lent, Ready, placed, placedOwn, Decided, nine}
+use Rattle.demands.specs.Demands.{graph, Lent, Ready, placed, placedOwn, nine}
 use Rattle.demands.proofs.Merged.{ready-sound}
-
--- ---- refusals
-
-decided : (pattern board : CircuitFile) (w : ℕ) (out : List ℕ) →
-    Decided (barInputs pattern board w (length out)) (barCall pattern board w out .reply .verdict)
-    ((barCall pattern board w out .reply .values ≡ []) × (barCall pattern board w out .out ≡ out))
-decided pattern board w out =
-    let conditions = barInputs pattern board w (length out) in
-    let e = call.verdict-is pattern board w out in
-    record {
-      refused = λ x. rw e (refuses-by conditions x);
-      accepted = rw e (accepts-iff conditions);
-      kept = λ x q. call.refused-keeps pattern board w out x (sym e ∙ q);
-    }
 
 -- what is past the pattern's M bytes stays, refused or not
 rest : (pattern board : CircuitFile) (w : ℕ) (out : List ℕ) → drop (linksOf pattern) (barCall pattern board w out .out) ≡ drop (linksOf pattern) out
@@ -83,7 +67,6 @@ bytes pattern board w out ok r is =
 pub ask-14 : Ask14
 ask-14 =
     record {
-      decided = decided;
       answers = answers;
       turned = turned;
       begins = λ pattern board w lent out x room. call.accept-bars pattern board w out (x .drawn) (x .given) (x .centre) room;

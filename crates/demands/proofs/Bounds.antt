@@ -28,18 +28,6 @@ use Rattle.call_bounded.proofs.Promise as call
 use Rattle.demands.specs.Demands.{Decided}
 use Rattle.demands.specs.Bounds.{ThirdEdition, BoundedMatched, Ask12}
 
-decided : (pattern : List ℕ) (board : CircuitFile) (table : List ℕ) →
-    Decided (boundedConditions pattern board (length table)) (boundedMatching pattern board table .reply .verdict)
-    ((boundedMatching pattern board table .reply .counts ≡ noCounts) × (boundedMatching pattern board table .table ≡ table))
-decided pattern board table =
-    let conditions = boundedConditions pattern board (length table) in
-    let e = call.verdict-is pattern board table in
-    record {
-      refused = λ x. rw e (refuses-by conditions x);
-      accepted = rw e (accepts-iff conditions);
-      kept = call.refused-keeps pattern board table;
-    }
-
 -- ---- accepted patterns
 
 read : (pattern : List ℕ) → first (thirdConditions pattern) ≡ accept → ThirdEdition pattern
@@ -83,4 +71,4 @@ matches pattern board table t b room =
 
 -- "A link through a few parts": refusals, the table and the counts, all bounds 1, raised bounds.
 pub ask-12 : Ask12
-ask-12 = record { decided = decided; reads = reads; matches = matches; second = call.ones-second; raised = call.raised-keeps }
+ask-12 = record { reads = reads; matches = matches; second = call.ones-second; raised = call.raised-keeps }

@@ -12,7 +12,7 @@ use Rattle.file_format.specs.declared.Role.the-variants.{Pattern}
 use Rattle.file_format.specs.Reading.{filled}
 use Rattle.file_format.specs.Refusals.{Verdict, accept, refuse, Accepted, FirstHolding, fileConditions, first, shortTable}
 use Rattle.file_format.specs.Reply.{reply}
-use Rattle.file_format.proofs.Refusals.{accepted, accepted-verdict, accepts-iff, refuses-by}
+use Rattle.file_format.proofs.Refusals.{accepted, accepted-verdict, refuses-by}
 use Rattle.order.specs.declared.Order.{Order}
 use Rattle.order.specs.declared.Order.the-variants.{Equal}
 use Rattle.order.proofs.Laws.{whole-order, total, antisymmetric, transitive}
@@ -25,7 +25,6 @@ use Rattle.call_compare.specs.Call.{verdictFor, comparedBy, comparing}
 use Rattle.call_compare.proofs.Files.{equal-files, equal-circuits}
 use Rattle.call_shelf.specs.Shelf.{isAccepted, fileAt, acceptedIn, shelfOf, shelvingOf, shelving}
 use Rattle.call_shelf.proofs.Meaning.{shelf-in-order, shelf-once, shelf-one}
-use Rattle.demands.specs.Demands.{Decided}
 use Rattle.demands.specs.Shelf.{PatternFile, filesIn, Ask10}
 use Rattle.demands.proofs.Decided.{reply-verdict}
 use Rattle.demands.proofs.Demands.{of-bytes}
@@ -99,21 +98,6 @@ module _ (bytes lengths order : List ℕ) where
   unfolding shelving shelvingOf
   verdict-is = reply-verdict _ _
 
-  kept : (x : Refusal) → first (shortTable (length numbers) (length order) ∷ []) ≡ refuse x →
-      (shelving bytes lengths order .reply .values ≡ []) × (shelving bytes lengths order .order ≡ order)
-  unfolding shelving shelvingOf reply filled
-  kept x e = (rw e, rw e)
-
-  decided : Decided (shortTable (length numbers) (length order) ∷ []) (shelving bytes lengths order .reply .verdict)
-      ((shelving bytes lengths order .reply .values ≡ []) × (shelving bytes lengths order .order ≡ order))
-  decided =
-      let conditions = shortTable (length numbers) (length order) ∷ [] in
-      record {
-        refused = λ x. rw verdict-is (refuses-by conditions x);
-        accepted = rw verdict-is (accepts-iff conditions);
-        kept = λ x q. kept x (sym verdict-is ∙ q);
-      }
-
   put : shelving bytes lengths order .reply .verdict ≡ accept →
       (shelving bytes lengths order .reply .values ≡ length numbers ∷ [])
       × (take (length numbers) (shelving bytes lengths order .order) ≡ numbers)
@@ -140,6 +124,5 @@ ask-10 =
       ordered = shelf-in-order;
       once = shelf-once;
       only = λ files numbers h. shelf-one files h;
-      decided = decided;
       put = put;
     }

@@ -15,8 +15,8 @@ use Rattle.file_format.specs.Layout.{CircuitFile, linksOf}
 use Rattle.file_format.specs.Refusals.{accept, refuse}
 use Rattle.barring.specs.Barring.{Bars}
 use Rattle.barring.specs.Least.{least, keptCount}
-use Rattle.call_barring.specs.Call.{barInputs, barCall}
-use Rattle.demands.specs.Demands.{graph, equal, Lent, Ready, placedOwn, Decided, nine}
+use Rattle.call_barring.specs.Call.{barCall}
+use Rattle.demands.specs.Demands.{graph, equal, Lent, Ready, placedOwn, nine}
 
 -- number 15, of neither file
 abbrev pub fifteen : Refusal
@@ -32,11 +32,8 @@ abbrev pub Marked : CircuitFile → List ℕ → Relation
 Marked pattern out = ChosenLink (circuitOf pattern) (take (linksOf pattern) out)
 
 pub record Ask14 : Type 1 where
-  -- Each call, on every input: the conditions of the files, 7, "the pattern's M bytes, length under 8", "15, the centre has a place, checked after 8".
-  -- A refusal has no value and leaves the bytes as they were.
-  pub decided : (pattern board : CircuitFile) (w : ℕ) (out : List ℕ) →
-      Decided (barInputs pattern board w (length out)) (barCall pattern board w out .reply .verdict)
-      ((barCall pattern board w out .reply .values ≡ []) × (barCall pattern board w out .out ≡ out))
+  -- (On every input: the conditions of the files, 7, "the pattern's M bytes, length under 8", "15, the centre has a place, checked after 8": specs/Demands
+  -- `bars`.)
   -- "When a centre gives 9": on every accepted pattern, board and centre, with bytes long enough, there is an answer exactly where the place call at the
   -- pattern's radius gives 9, and 15 exactly where it finds a place.
   pub answers : (pattern board : CircuitFile) (w : ℕ) (lent : Lent) (out : List ℕ) → Ready pattern board w lent → linksOf pattern ≤ length out →

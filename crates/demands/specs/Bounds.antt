@@ -52,11 +52,8 @@ pub record BoundedMatched (pattern : List ℕ) (board : CircuitFile) (table : Li
   pub rest : drop (nodesOf board) (result .table) ≡ drop (nodesOf board) table
 
 pub record Ask12 : Type 1 where
-  -- On every input: 1, 2 and 3 with the third edition's length, 4, 5, "13, a bound outside 1 to 4, checked after the pattern's 5 and before the board's
-  -- 1", the board's 1 to 5, 8. A refusal has no counts and leaves the table as it was.
-  pub decided : (pattern : List ℕ) (board : CircuitFile) (table : List ℕ) →
-      Decided (boundedConditions pattern board (length table)) (boundedMatching pattern board table .reply .verdict)
-      ((boundedMatching pattern board table .reply .counts ≡ noCounts) × (boundedMatching pattern board table .table ≡ table))
+  -- (On every input: 1, 2 and 3 with the third edition's length, 4, 5, "13, a bound outside 1 to 4, checked after the pattern's 5 and before the board's
+  -- 1", the board's 1 to 5, 8: specs/Demands `bounds`.)
   -- the files that none of the pattern's conditions refuses
   pub reads : (pattern : List ℕ) → NoneHolds (thirdConditions pattern) ↔ ThirdEdition pattern
   -- for every accepted pattern of the third edition and every accepted board of either edition

@@ -4,13 +4,13 @@
 -- A call's contract is an equation that asks nothing of its inputs: its reply and each lent table at exit are those of a definition applied to
 -- the inputs alone (`reading`, `writing`, `radiusCall`, `ballCall`, `matching`, `placeAt`, `merging`, `reporting`). That a call ends, and with a
 -- fixed reply, is that contract, proved of the code. The demands here are about the replies and tables themselves.
-use mathlib.Core.Bool.{not}
+use mathlib.Core.Bool.{_&&_, not}
 use mathlib.Core.List.{List, [], _∷_, _++_, map}
 use mathlib.Core.Logic.{_↔_}
 use mathlib.Core.Path.{_≡_}
 use Prim.Native.Nat.{ℕ, suc, _-_, _≤_, _<_}
 use lib.Count.{ones}
-use lib.Dec.{T}
+use lib.Dec.{T, ltb}
 use lib.ListN.{length, getD, take, replicate}
 use Rattle.base_lists.specs.List.{Below, sum}
 use Rattle.graph.specs.Circuit.{graphOf, circuitGraph}
@@ -30,9 +30,12 @@ use Rattle.file_format.specs.Circuit.{circuitOf}
 use Rattle.file_format.specs.Layout.{CircuitFile, inEdition, packageCount, nodesOf, linksOf}
 use Rattle.file_format.specs.Links.{linksBelow, rising}
 use Rattle.file_format.specs.Reading.{ReadOutcome, readConditions, reading}
-use Rattle.file_format.specs.Refusals.{Condition, Verdict, accept, refuse, NoneHolds, FirstHolding, fileConditions, Accepted, shortTable}
+use Rattle.file_format.specs.Refusals.{Condition, Verdict, accept, refuse, NoneHolds, FirstHolding, fileConditions, Accepted, shortTable, linkGone}
+use Rattle.file_format.specs.Reply.{Reply}
 use Rattle.table.specs.declared.Counts.{Counts}
+use Rattle.table.specs.Fill.{listed}
 use Rattle.table.specs.Host.{KindsMatch}
+use Rattle.table.specs.Reply.{noCounts, MatchReply}
 use Rattle.table.specs.Row.{bothWays, InTable, Chosen, LargestOccurring}
 use Rattle.place.specs.Match.{radiusOf, found, markedGraph}
 use Rattle.place.specs.Outcome.{PlaceOutcome}
@@ -44,6 +47,18 @@ use Rattle.call_place.specs.Call.{inputConditions, placeAt}
 use Rattle.call_merge.specs.Call.{MergeOutcome, mergeConditions, merging}
 use Rattle.call_merge.specs.Classes.{classByte}
 use Rattle.call_report.specs.Call.{reporting, needFor, verdictOf}
+use Rattle.call_load.specs.Call.{loadConditions, loading}
+use Rattle.call_bounded.specs.Call.{boundedConditions, boundedMatching}
+use Rattle.call_check.specs.Call.{checkConditions, checkCall}
+use Rattle.call_barring.specs.Call.{barInputs, barCall}
+use Rattle.order_files.specs.Files.{secondEdition}
+use Rattle.call_compare.specs.Call.{comparing, compareReply}
+use Rattle.shelf_strings.specs.Strings.{cutInto}
+use Rattle.call_shelf.specs.Shelf.{shelfOf, mostFiles, shelving}
+use Rattle.session.specs.State.{State}
+use Rattle.session.specs.Session.{CutPromise, ReadPromise, Cuts}
+use Rattle.call_session.specs.Call.{openConditions, OpenPromise}
+use Rattle.demands.specs.Numbers.{EachNumbered}
 
 -- ---- the words of all three
 
@@ -88,12 +103,24 @@ pub record Ready (pattern board : CircuitFile) (w : ℕ) (lent : Lent) : Type 0 
 -- "From the file readers to the last report line, every call ends with a fixed reply for every byte string, centre and table size. It refuses
 -- under the numbered conditions of document 01 and no other; a refusal returns its number and the file concerned, and changes no lent table."
 
--- A call that numbered conditions decide: it is refused by a number and a file exactly when they are those of the first condition that holds,
--- it is accepted exactly when none holds, and a refusal leaves what is `Kept`.
+-- A call that numbered conditions decide: each of them is one of the fifteen (specs/Numbers); it is refused by a number and a file exactly when they are
+-- those of the first condition that holds, it is accepted exactly when none holds, and a refusal leaves what is `Kept`.
 pub record Decided (conditions : List Condition) (verdict : Verdict) (Kept : Type 0) : Type 0 where
+  pub numbered : EachNumbered conditions
   pub refused : (x : Refusal) → (verdict ≡ refuse x) ↔ FirstHolding conditions x
   pub accepted : (verdict ≡ accept) ↔ NoneHolds conditions
   pub kept : (x : Refusal) → verdict ≡ refuse x → Kept
+
+-- a call that replies with values, or with counts: a refusal has none of them, and "counts are 0"
+abbrev pub Replies : List Condition → Reply → Type 0 → Type 0
+Replies conditions answer Kept = Decided conditions (answer .verdict) ((answer .values ≡ []) × Kept)
+
+abbrev pub Counting : List Condition → MatchReply → Type 0 → Type 0
+Counting conditions answer Kept = Decided conditions (answer .verdict) ((answer .counts ≡ noCounts) × Kept)
+
+-- number 9, of neither file
+unfoldable pub nine : Refusal
+nine = record { number = 9; file = Neither }
 
 -- 9 "no place around the centre": demand 3 says what that is
 unfoldable pub noPlace : CircuitFile → CircuitFile → ℕ → ℕ → Condition
@@ -104,10 +131,11 @@ unfoldable pub placedConditions : CircuitFile → CircuitFile → ℕ → ℕ �
 placedConditions pattern board w r lent =
     inputConditions pattern board w (length (lent .nodes)) (length (lent .links)) (length (lent .table)) (length (lent .distances)) ++ (noPlace pattern board w r ∷ [])
 
--- a call has left the tables as they were lent
+-- a call has left the tables as they were lent; "counts are 0, except that 9 carries the ball's counts"
 unfoldable pub Untouched : Lent → PlaceOutcome → Type 0
 Untouched lent result =
     (result .nodes ≡ lent .nodes) × (result .links ≡ lent .links) × (result .table ≡ lent .table) × (result .distances ≡ lent .distances)
+    × ((result .reply .verdict ≡ refuse nine → ⊥) → result .reply .counts ≡ noCounts)
 
 unfoldable pub Unread : List ℕ → List ℕ → List ℕ → List ℕ → ReadOutcome → Type 0
 Unread kinds packages starts ends result = (result .kinds ≡ kinds) × (result .packages ≡ packages) × (result .starts ≡ starts) × (result .ends ≡ ends)
@@ -118,32 +146,52 @@ ReadsAs role file =
     (kinds packages starts ends : List ℕ) → nodesOf file ≤ length kinds → packageCount (file .edition) (nodesOf file) ≤ length packages →
     linksOf file ≤ length starts → linksOf file ≤ length ends → reading role file kinds packages starts ends .reply .verdict ≡ accept
 
--- Each call, on every input. (The neighbour lookup refuses nothing.)
+-- a session that was opened on two files, and in which links were then cut, by the calls' promises: the places cut, one after another, and the tables after it
+unfoldable pub Running : CircuitFile → CircuitFile → List ℕ → State → Type 0
+Running pattern board places after =
+    (before : State) × (opened : State) × (said : List Verdict) × OpenPromise pattern board before accept opened × Cuts opened places said after
+
+-- Each call, on every input. The neighbour lookup refuses nothing; in C, where its stretch is copied out, it is refused by 8 (heronditch/specs/Host
+-- `hostNeighbours`).
 pub record Demand1 : Type 0 where
-  pub reads : (role : Role) (file : CircuitFile) (kinds packages starts ends : List ℕ) →
-      Decided (readConditions role file (length kinds) (length packages) (length starts) (length ends)) (reading role file kinds packages starts ends .reply .verdict)
-      (Unread kinds packages starts ends (reading role file kinds packages starts ends))
-  pub writes : (role : Role) (e : Edition) (kinds packages starts ends out : List ℕ) →
-      Decided (writeConditions role e kinds packages starts ends (length out)) (writing role e kinds packages starts ends out .reply .verdict)
-      (writing role e kinds packages starts ends out .out ≡ out)
-  pub measures : (file : CircuitFile) → Decided (fileConditions Pattern file) (radiusCall file .verdict) (Unit {0})
-  pub balls : (file : CircuitFile) (w r : ℕ) (out : List ℕ) →
-      Decided (ballConditions file w (length out)) (ballCall file w r out .reply .verdict) (ballCall file w r out .out ≡ out)
-  -- both whole-board calls, which are told apart by the directions that count
-  pub matches : (ways : List Direction) (pattern board : CircuitFile) (table : List ℕ) →
-      Decided (matchConditions pattern board (length table)) (matchingBy ways pattern board table .reply .verdict)
-      (matchingBy ways pattern board table .table ≡ table)
-  pub places : (pattern board : CircuitFile) (w r : ℕ) (lent : Lent) →
-      Decided (placedConditions pattern board w r lent) (placed pattern board w r lent .reply .verdict)
-      (Untouched lent (placed pattern board w r lent))
-  pub merges : (pattern : CircuitFile) (classes out : List ℕ) →
-      Decided (mergeConditions pattern (length classes) (length out)) (merging pattern classes out .reply .verdict)
-      ((merging pattern classes out .classes ≡ classes) × (merging pattern classes out .out ≡ out))
-  pub reports : (pattern board : List ℕ) (from before : ℕ) (out : List ℕ) →
-      Decided (shortTable (needFor (verdictOf pattern board)) (length out) ∷ []) (reporting pattern board from before out .reply .verdict)
-      (reporting pattern board from before out .out ≡ out)
-  pub converts : (role : Role) (to : Edition) (file : CircuitFile) (out : List ℕ) →
-      Decided (convertConditions role to file (length out)) (converting role to file out .reply .verdict) (converting role to file out .out ≡ out)
+  pub reads : (role : Role) (file : CircuitFile) (kinds packages starts ends : List ℕ) → let result = reading role file kinds packages starts ends in
+      Replies (readConditions role file (length kinds) (length packages) (length starts) (length ends)) (result .reply) (Unread kinds packages starts ends result)
+  pub writes : (role : Role) (e : Edition) (kinds packages starts ends out : List ℕ) → let result = writing role e kinds packages starts ends out in
+      Replies (writeConditions role e kinds packages starts ends (length out)) (result .reply) (result .out ≡ out)
+  pub converts : (role : Role) (to : Edition) (file : CircuitFile) (out : List ℕ) → let result = converting role to file out in
+      Replies (convertConditions role to file (length out)) (result .reply) (result .out ≡ out)
+  pub loads : (seed n m k : ℕ) (out : List ℕ) → let result = loading seed n m k out in
+      Replies (loadConditions n m k (length out)) (result .reply) (result .out ≡ out)
+  pub measures : (file : CircuitFile) → Replies (fileConditions Pattern file) (radiusCall file) (Unit {0})
+  pub balls : (file : CircuitFile) (w r : ℕ) (out : List ℕ) → let result = ballCall file w r out in
+      Replies (ballConditions file w (length out)) (result .reply) (result .out ≡ out)
+  -- both whole-board calls, which are told apart by the directions that count; and on a pattern of the third edition
+  pub matches : (ways : List Direction) (pattern board : CircuitFile) (table : List ℕ) → let result = matchingBy ways pattern board table in
+      Counting (matchConditions pattern board (length table)) (result .reply) (result .table ≡ table)
+  pub bounds : (pattern : List ℕ) (board : CircuitFile) (table : List ℕ) → let result = boundedMatching pattern board table in
+      Counting (boundedConditions pattern board (length table)) (result .reply) (result .table ≡ table)
+  pub places : (pattern board : CircuitFile) (w r : ℕ) (lent : Lent) → let result = placed pattern board w r lent in
+      Decided (placedConditions pattern board w r lent) (result .reply .verdict) (Untouched lent result)
+  pub checks : (pattern board : CircuitFile) (w : ℕ) (nodes links : List ℕ) →
+      Replies (checkConditions pattern board w (length nodes) (length links)) (checkCall pattern board w nodes links) (Unit {0})
+  pub bars : (pattern board : CircuitFile) (w : ℕ) (out : List ℕ) → let result = barCall pattern board w out in
+      Replies (barInputs pattern board w (length out)) (result .reply) (result .out ≡ out)
+  pub merges : (pattern : CircuitFile) (classes out : List ℕ) → let result = merging pattern classes out in
+      Replies (mergeConditions pattern (length classes) (length out)) (result .reply) ((result .classes ≡ classes) × (result .out ≡ out))
+  pub compares : (a b : List ℕ) → let result = compareReply (comparing a b) in
+      Decided (fileConditions Pattern (secondEdition a) ++ fileConditions Pattern (secondEdition b)) (result .verdict) (result .order ≡ 0)
+  pub shelves : (bytes lengths order : List ℕ) → let result = shelving bytes lengths order in
+      Replies (shortTable (length (shelfOf (cutInto bytes (take mostFiles lengths)))) (length order) ∷ []) (result .reply) (result .order ≡ order)
+  pub reports : (pattern board : CircuitFile) (from before : ℕ) (out : List ℕ) → let result = reporting pattern board from before out in
+      Replies (shortTable (needFor (verdictOf pattern board)) (length out) ∷ []) (result .reply) (result .out ≡ out)
+  -- opening, cutting and reading out
+  pub opens : (pattern board : CircuitFile) (before after : State) (said : Verdict) → OpenPromise pattern board before said after →
+      Decided (openConditions pattern board) said (after ≡ before)
+  pub cuts : (pattern board : CircuitFile) (places : List ℕ) (before after : State) (place : ℕ) (said : Verdict) →
+      Running pattern board places before → CutPromise before place said after →
+      Decided (linkGone (ltb place (linksOf board) && not (listed places place)) ∷ []) said (after ≡ before)
+  pub tables : (pattern board : CircuitFile) (places : List ℕ) (s : State) (lent later : List ℕ) (answer : Reply) →
+      Running pattern board places s → ReadPromise s lent answer later → Replies (shortTable (nodesOf board) (length lent) ∷ []) answer (later ≡ lent)
   -- what the other demands mean by accepted, and what the conditions 4, 5, 6 and 11 test
   pub accepts : (role : Role) (file : CircuitFile) → Accepted role file ↔ ReadsAs role file
   pub below : (n : ℕ) (starts ends : List ℕ) → T (linksBelow n starts ends) ↔ (Below n starts × Below n ends)
@@ -245,10 +293,6 @@ pub record Demand2 : Type 1 where
 -- "For every accepted pattern, board and centre, with tables long enough, 9 is given exactly when there is no perfect subgraph around the centre
 -- at the radius; else what is marked is one, and contains every other. The merged pattern, run at the first pattern's radius, is refused with 9
 -- exactly when the first is, and else marks the same nodes and links."
-
--- number 9, of neither file
-unfoldable pub nine : Refusal
-nine = record { number = 9; file = Neither }
 
 -- the subgraph of the board that the first N node bytes and the first M link bytes mark
 abbrev pub marked : CircuitFile → PlaceOutcome → Graph

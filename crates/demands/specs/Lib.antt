@@ -1,3 +1,4 @@
+pub mod Numbers
 pub mod Demands
 pub mod Groupings
 pub mod Limit
