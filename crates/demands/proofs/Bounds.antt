@@ -13,20 +13,21 @@ use Rattle.file_format.specs.Circuit.{circuitOf}
 use Rattle.file_format.specs.Layout.{CircuitFile, nodesOf}
 use Rattle.file_format.specs.Refusals.{accept, first, NoneHolds, Accepted}
 use Rattle.file_format.proofs.Fields.{length-labels}
-use Rattle.file_format.proofs.Refusals.{accepted-verdict, accepts-iff, refuses-by}
+use Rattle.file_format.proofs.Refusals.{accepted-verdict, accepts-iff}
 use Rattle.table.specs.declared.Counts.{Counts}
-use Rattle.table.specs.Reply.{noCounts}
 use Rattle.table_answer.proofs.AllParts.{none-tabulated}
 use Rattle.file_bounds.specs.Third.{frontOf, boundsOf, thirdConditions}
 use Rattle.file_bounds.proofs.Fit.{at-fit}
 use Rattle.file_bounds.proofs.Third.{third-accepted, third-long, front-verdicts}
-use Rattle.bounded.specs.Run.{BoundedRun}
+use Rattle.bounded.specs.Problem.{boundedGraph}
+use Rattle.bounded.specs.Run.{BoundedSets, BoundedRun}
+use Rattle.bounded.specs.Simulation.{LargestBounded}
 use Rattle.bounded.proofs.Run.{bounded-run, bounded-found, bounded-missing}
-use Rattle.call_bounded.specs.Call.{boundedConditions, boundedMatching}
+use Rattle.call_bounded.specs.Call.{boundedMatching}
 use Rattle.call_bounded.proofs.Matching.{third-bounds}
 use Rattle.call_bounded.proofs.Promise as call
-use Rattle.demands.specs.Demands.{Decided}
-use Rattle.demands.specs.Bounds.{ThirdEdition, BoundedMatched, Ask12}
+use Rattle.demands.specs.Demands.{graph, equal, RowRun, Matched}
+use Rattle.demands.specs.Bounds.{ThirdEdition, Ask12}
 
 -- ---- accepted patterns
 
@@ -45,11 +46,13 @@ reads pattern = (λ none. read pattern (accepts-iff (thirdConditions pattern) .1
 -- the run of a row, by counts that are said to be its counts
 run-by : (P : Circuit) (bounds : List ℕ) (B : Circuit) (last : List ℕ) {counts row : Counts} → counts ≡ row →
     ((c : BoundedRun P bounds B (row .started) (row .rounds)) × (c .table (row .rounds) ≡ last)) →
-    ((c : BoundedRun P bounds B (counts .started) (counts .rounds)) × (c .table (counts .rounds) ≡ last))
-run-by P bounds B last e r = rw e r
+    ((c : RowRun (BoundedSets P bounds B) (counts .started) (counts .rounds)) × (c .table (counts .rounds) ≡ last))
+run-by P bounds B last e (c, is) = rw e (record { table = c .table; holds = c .holds; started = c .started; differ = c .differ; rest = c .rest }, is)
 
 matches : (pattern : List ℕ) (board : CircuitFile) (table : List ℕ) → ThirdEdition pattern → Accepted Board board → nodesOf board ≤ length table →
-    BoundedMatched pattern board table (boundedMatching pattern board table)
+    let file = frontOf pattern in
+    Matched (BoundedSets (circuitOf file) (boundsOf pattern) (circuitOf board))
+    (LargestBounded (boundedGraph (circuitOf file) (boundsOf pattern)) (equal file board) (graph board)) (nodesOf file) (nodesOf board) table (boundedMatching pattern board table)
 matches pattern board table t b room =
     let P = circuitOf (frontOf pattern) in
     let B = circuitOf board in

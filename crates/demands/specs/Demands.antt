@@ -11,7 +11,7 @@ use mathlib.Core.Path.{_≡_}
 use Prim.Native.Nat.{ℕ, suc, _-_, _≤_, _<_}
 use lib.Count.{ones}
 use lib.Dec.{T, ltb}
-use lib.ListN.{length, getD, take, replicate}
+use lib.ListN.{length, getD, take, drop, replicate}
 use Rattle.base_lists.specs.List.{Below, sum}
 use Rattle.graph.specs.Circuit.{graphOf, circuitGraph}
 use Rattle.graph.specs.Graph.{Graph, Ball, Connected, Radius}
@@ -19,15 +19,15 @@ use Rattle.graph.specs.Rising.{LinksRise}
 use Rattle.graph.specs.Search.{connected, radius}
 use Rattle.simulation.specs.Closed.{Relation, _⊆_, Row}
 use Rattle.simulation.specs.Simulation.{Candidate, Direction, Along, Largest}
-use Rattle.simulation.specs.Perfect.{Perfect, Place}
-use Rattle.simulation.specs.Quotient.{Mutual}
+use Rattle.simulation.specs.Perfect.{SameGraph, Perfect, Place}
+use Rattle.simulation.specs.Quotient.{Mutual, QuotientGraph}
 use Rattle.file_format.specs.declared.Edition.{Edition}
 use Rattle.file_format.specs.declared.File.the-variants.{Neither}
 use Rattle.file_format.specs.declared.Refusal.{Refusal}
 use Rattle.file_format.specs.declared.Role.{Role}
 use Rattle.file_format.specs.declared.Role.the-variants.{Pattern, Board, AnyPattern}
 use Rattle.file_format.specs.Circuit.{circuitOf}
-use Rattle.file_format.specs.Layout.{CircuitFile, inEdition, packageCount, nodesOf, linksOf}
+use Rattle.file_format.specs.Layout.{CircuitFile, inEdition, packageCount, nodesOf, linksOf, labelsOf}
 use Rattle.file_format.specs.Links.{linksBelow, rising}
 use Rattle.file_format.specs.Reading.{ReadOutcome, readConditions, reading}
 use Rattle.file_format.specs.Refusals.{Condition, Verdict, accept, refuse, NoneHolds, FirstHolding, fileConditions, Accepted, shortTable, linkGone}
@@ -36,7 +36,7 @@ use Rattle.table.specs.declared.Counts.{Counts}
 use Rattle.table.specs.Fill.{listed}
 use Rattle.table.specs.Host.{KindsMatch}
 use Rattle.table.specs.Reply.{noCounts, MatchReply}
-use Rattle.table.specs.Row.{bothWays, InTable, Chosen, LargestOccurring}
+use Rattle.table.specs.Row.{InTable}
 use Rattle.place.specs.Match.{radiusOf, found, markedGraph}
 use Rattle.place.specs.Outcome.{PlaceOutcome}
 use Rattle.file_write.specs.Writing.{writeConditions, writing}
@@ -45,7 +45,7 @@ use Rattle.call_distance.specs.Calls.{radiusCall, ballConditions, ballCall}
 use Rattle.call_match.specs.Call.{TableOutcome, matchConditions, matchingBy, matching}
 use Rattle.call_place.specs.Call.{inputConditions, placeAt}
 use Rattle.call_merge.specs.Call.{MergeOutcome, mergeConditions, merging}
-use Rattle.call_merge.specs.Classes.{classByte}
+use Rattle.call_merge.specs.Classes.{classByte, Smallest}
 use Rattle.call_report.specs.Call.{reporting, needFor, verdictOf}
 use Rattle.call_load.specs.Call.{loadConditions, loading}
 use Rattle.call_bounded.specs.Call.{boundedConditions, boundedMatching}
@@ -206,53 +206,37 @@ pub record Demand1 : Type 0 where
 -- it. Counts and rounds are those of 01's row of sets. A circuit written reads back as itself; an accepted file writes back to its own bytes."
 
 -- The row: "R0 is the set of pairs with equal kinds. Each further set keeps those pairs of the last whose links have partners in the last."
--- Links are followed in the directions chosen.
-abbrev pub Sets : List Direction → Graph → Relation → Graph → ℕ → Relation
-Sets ways P Agree H = Row (Chosen ways (Along (P .Link))) (Along (H .Link)) (Candidate P Agree H)
+abbrev pub Sets : Graph → Relation → Graph → ℕ → Relation
+Sets P Agree H = Row (Along (P .Link)) (Along (H .Link)) (Candidate P Agree H)
 
 -- "started, the pairs of R0; .. rounds, how many sets differ from the one before": each set before `rounds` has a pair that the next one has
 -- not, and no later one has. Pairs are counted as one bits of tables that hold the sets.
-pub record RowRun (ways : List Direction) (P : Graph) (Agree : Relation) (H : Graph) (begun rounds : ℕ) : Type 0 where
+pub record RowRun (sets : ℕ → Relation) (begun rounds : ℕ) : Type 0 where
   pub table : ℕ → List ℕ
-  pub holds : (k u v : ℕ) → InTable (table k) u v ↔ Sets ways P Agree H k u v
+  pub holds : (k u v : ℕ) → InTable (table k) u v ↔ sets k u v
   pub started : begun ≡ sum (map ones (table 0))
-  pub differ : (k : ℕ) → k < rounds → Sets ways P Agree H k ⊆ Sets ways P Agree H (suc k) → ⊥
-  pub rest : (k : ℕ) → rounds ≤ k → Sets ways P Agree H k ⊆ Sets ways P Agree H (suc k)
+  pub differ : (k : ℕ) → k < rounds → sets k ⊆ sets (suc k) → ⊥
+  pub rest : (k : ℕ) → rounds ≤ k → sets k ⊆ sets (suc k)
 
--- "four counts: started ..; kept, the pairs left; struck, started minus kept; rounds ..", along both directions
-pub record RowCounts (P : Graph) (Agree : Relation) (H : Graph) (counts : Counts) : Type 0 where
-  pub run : RowRun bothWays P Agree H (counts .started) (counts .rounds)
+-- "four counts: started ..; kept, the pairs left; struck, started minus kept; rounds .."
+pub record RowCounts (sets : ℕ → Relation) (counts : Counts) : Type 0 where
+  pub run : RowRun sets (counts .started) (counts .rounds)
   pub kept : counts .kept ≡ sum (map ones (run .table (counts .rounds)))
   pub struck : counts .struck ≡ counts .started - counts .kept
 
--- What the whole-board call comes to, along the directions chosen and with the pattern connected or not: the largest set of pairs that is closed
--- along them and in which each part occurs, unless it is empty. The row is run to its end; its last set is the table, and "If some part is left
--- without a node, the table is all 0, kept is 0, struck equals started, and rounds count as before."
-pub record MatchedAlong (ways : List Direction) (pattern board : CircuitFile) (result : TableOutcome) : Type 1 where
+-- What a whole-board call comes to, by its row of sets and by what is the largest: the row is run to its end; its last set is the table, and "If some
+-- part is left without a node, the table is all 0, kept is 0, struck equals started, and rounds count as before." Entries past N stay.
+pub record Matched (sets : ℕ → Relation) (Best : Relation → Type 1) (parts n : ℕ) (lent : List ℕ) (result : TableOutcome) : Type 1 where
   pub accepted : result .reply .verdict ≡ accept
-  pub largest :
-      LargestOccurring (graph pattern .Node) (Candidate (graph pattern) (equal pattern board) (graph board))
-      (Chosen ways (Along (graph pattern .Link))) (Along (graph board .Link)) (InTable (take (nodesOf board) (result .table)))
-  pub run : RowRun ways (graph pattern) (equal pattern board) (graph board) (result .reply .counts .started) (result .reply .counts .rounds)
+  pub largest : Best (InTable (take n (result .table)))
+  pub run : RowRun sets (result .reply .counts .started) (result .reply .counts .rounds)
   -- "kept is the number of one bits in the whole table"
-  pub kept : result .reply .counts .kept ≡ sum (map ones (take (nodesOf board) (result .table)))
+  pub kept : result .reply .counts .kept ≡ sum (map ones (take n (result .table)))
   pub struck : result .reply .counts .struck ≡ result .reply .counts .started - result .reply .counts .kept
-  pub found :
-      ((u : ℕ) → u < nodesOf pattern → (v : ℕ) × InTable (run .table (result .reply .counts .rounds)) u v) →
-      take (nodesOf board) (result .table) ≡ run .table (result .reply .counts .rounds)
-  pub missing :
-      (u : ℕ) → u < nodesOf pattern → ((v : ℕ) → InTable (run .table (result .reply .counts .rounds)) u v → ⊥) →
-      take (nodesOf board) (result .table) ≡ replicate (nodesOf board) 0
-
--- The match-table call: along both directions, so that the table is the largest dual simulation.
-pub record Matched (pattern board : CircuitFile) (result : TableOutcome) : Type 1 where
-  pub along : MatchedAlong bothWays pattern board result
-  pub largest : Largest (graph pattern) (equal pattern board) (graph board) (InTable (take (nodesOf board) (result .table)))
-  -- "Connected patterns get the table and counts they always got."
-  pub connected :
-      Accepted Pattern pattern →
-      RowCounts (graph pattern) (equal pattern board) (graph board) (result .reply .counts)
-      × (take (nodesOf board) (result .table) ≡ along .run .table (result .reply .counts .rounds))
+  pub found : let last = run .table (result .reply .counts .rounds) in ((u : ℕ) → u < parts → (v : ℕ) × InTable last u v) → take n (result .table) ≡ last
+  pub missing : let last = run .table (result .reply .counts .rounds) in
+      (u : ℕ) → u < parts → ((v : ℕ) → InTable last u v → ⊥) → take n (result .table) ≡ replicate n 0
+  pub rest : drop n (result .table) ≡ drop n lent
 
 -- a circuit stands at the front of the tables that a reading call was lent, with the packages that the edition has
 pub record ReadBack (e : Edition) (kinds packages starts ends : List ℕ) (result : ReadOutcome) : Type 0 where
@@ -266,10 +250,16 @@ pub record ReadBack (e : Edition) (kinds packages starts ends : List ℕ) (resul
 pub record Demand2 : Type 1 where
   -- of any pattern: the whole-board call applies neither 6 nor 11
   pub table : (pattern board : CircuitFile) (table : List ℕ) → Accepted AnyPattern pattern → Accepted Board board → nodesOf board ≤ length table →
-      Matched pattern board (matching pattern board table)
+      Matched (Sets (graph pattern) (equal pattern board) (graph board)) (Largest (graph pattern) (equal pattern board) (graph board)) (nodesOf pattern) (nodesOf board) table
+      (matching pattern board table)
+  -- "Connected patterns get the table and counts they always got.": those of the row
+  pub connected : (pattern board : CircuitFile) (table : List ℕ) → Accepted Pattern pattern → Accepted Board board → nodesOf board ≤ length table →
+      let result = matching pattern board table in
+      (counts : RowCounts (Sets (graph pattern) (equal pattern board) (graph board)) (result .reply .counts))
+      × (take (nodesOf board) (result .table) ≡ counts .run .table (result .reply .counts .rounds))
   -- the place calls' counts are those of the row in the ball, whether there is a place or not
   pub ball : (pattern board : CircuitFile) (w r : ℕ) (lent : Lent) → Ready pattern board w lent →
-      RowCounts (graph pattern) (equal pattern board) (Ball (graph board) w r) (placed pattern board w r lent .reply .counts)
+      RowCounts (Sets (graph pattern) (equal pattern board) (Ball (graph board) w r)) (placed pattern board w r lent .reply .counts)
   pub reads : (role : Role) (e : Edition) (kinds packages starts ends out ks ps ss es : List ℕ) → writing role e kinds packages starts ends out .reply .verdict ≡ accept →
       length kinds ≤ length ks → packageCount e (length kinds) ≤ length ps → length starts ≤ length ss → length ends ≤ length es →
       ReadBack e kinds packages starts ends
@@ -281,12 +271,6 @@ pub record Demand2 : Type 1 where
       (take (packageCount (file .edition) (nodesOf file)) (reading role file ks ps ss es .packages)) (take (linksOf file) (reading role file ks ps ss es .starts))
       (take (linksOf file) (reading role file ks ps ss es .ends)) out .out)
       ≡ file .bytes
-  -- the converter "keeps the circuit", and there and back again gives the same bytes
-  pub converts : (role : Role) (to : Edition) (file : CircuitFile) (out out′ : List ℕ) → Below 256 (file .bytes) →
-      converting role to file out .reply .verdict ≡ accept → length (file .bytes) ≤ length out′ →
-      let new = inEdition to (take (getD (converting role to file out .reply .values) 0 0) (converting role to file out .out)) in
-      (circuitOf new ≡ circuitOf file)
-      × (take (length (file .bytes)) (converting role (file .edition) new out′ .out) ≡ file .bytes)
 
 -- ---- Demand 3
 
@@ -306,16 +290,28 @@ pub record FoundAt (pattern board : CircuitFile) (w r : ℕ) (result : PlaceOutc
   -- "(1 in the place, else 0)"
   pub bytes : result .reply .verdict ≡ accept → Below 2 (take (nodesOf board) (result .nodes)) × Below 2 (take (linksOf board) (result .links))
 
+-- the merging call is lent N class bytes and as many bytes as the pattern's file has
+pub record Enough (pattern : CircuitFile) (classes out : List ℕ) : Type 0 where
+  pub bytes : nodesOf pattern ≤ length classes
+  pub file : length (pattern .bytes) ≤ length out
+
 -- the merged file: the front of the lent bytes, of the length replied; "the merged file has the pattern's edition"
 unfoldable pub mergedFile : CircuitFile → MergeOutcome → CircuitFile
 mergedFile pattern m = inEdition (pattern .edition) (take (getD (m .reply .values) 1 0) (m .out))
 
+-- "The merged pattern has a part per class, of the same kind, and a link from class a to class b, b equal to a included, where some member of a has a
+-- link to some member of b.", and "The merged part takes its class's package": a file so made of the parts' classes, or of any groups. It is accepted.
+pub record Made (pattern : CircuitFile) (group : ℕ → ℕ) (file : CircuitFile) : Type 0 where
+  pub accepted : Accepted Pattern file
+  pub quotient : SameGraph (graph file) (QuotientGraph (graph pattern) group)
+  pub kinds : (u : ℕ) → u < nodesOf pattern → getD (labelsOf file) (group u) 0 ≡ getD (labelsOf pattern) u 0
+
 -- "It compares whether 9 is given and, where it is not, the first N node bytes and the first M link bytes, N and M being the board's; counts
--- and match tables may differ."
+-- and match tables may differ.": the verdicts are the same.
 pub record SameFound (n m : ℕ) (a b : PlaceOutcome) : Type 0 where
-  pub nine : (a .reply .verdict ≡ refuse nine) ↔ (b .reply .verdict ≡ refuse nine)
-  pub nodes : a .reply .verdict ≡ accept → take n (a .nodes) ≡ take n (b .nodes)
-  pub links : a .reply .verdict ≡ accept → take m (a .links) ≡ take m (b .links)
+  pub verdict : a .reply .verdict ≡ b .reply .verdict
+  pub nodes : (a .reply .verdict ≡ refuse nine → ⊥) → take n (a .nodes) ≡ take n (b .nodes)
+  pub links : (a .reply .verdict ≡ refuse nine → ⊥) → take m (a .links) ≡ take m (b .links)
 
 pub record Demand3 : Type 1 where
   -- an accepted pattern has a radius, which is a 16-bit number
@@ -325,11 +321,18 @@ pub record Demand3 : Type 1 where
       FoundAt pattern board w r (placedOwn pattern board w lent)
   pub given : (pattern board : CircuitFile) (w r : ℕ) (lent : Lent) → Ready pattern board w lent →
       FoundAt pattern board w r (placed pattern board w r lent)
-  -- the merged file, as the merging call leaves it, handed to the call with a radius given
-  pub merged : (pattern : CircuitFile) (classes out : List ℕ) (board : CircuitFile) (w : ℕ) (lent again : Lent) → Ready pattern board w lent → Room board again →
-      nodesOf pattern ≤ length classes → length (pattern .bytes) ≤ length out → (r : ℕ) → Radius (graph pattern) r →
-      SameFound (nodesOf board) (linksOf board) (placed (mergedFile pattern (merging pattern classes out)) board w r again) (placedOwn pattern board w lent)
-  -- "Two parts share a class exactly when each matches the other in the pattern's table on itself."
-  pub classes : (pattern : CircuitFile) (classes out table : List ℕ) → Accepted Pattern pattern → nodesOf pattern ≤ length classes → length (pattern .bytes) ≤ length out →
-      nodesOf pattern ≤ length table → (u v : ℕ) → u < nodesOf pattern → v < nodesOf pattern →
+  -- "Two parts share a class exactly when each matches the other in the pattern's table on itself.
+  pub classes : (pattern : CircuitFile) (classes out table : List ℕ) → Accepted Pattern pattern → Enough pattern classes out → nodesOf pattern ≤ length table →
+      (u v : ℕ) → u < nodesOf pattern → v < nodesOf pattern →
       (classByte pattern classes out u ≡ classByte pattern classes out v) ↔ Mutual (InTable (matching pattern pattern table .table)) u v
+  -- Classes are numbered by their smallest part, rising."
+  pub numbered : (pattern : CircuitFile) (classes out : List ℕ) → Accepted Pattern pattern → Enough pattern classes out → (u v s t : ℕ) →
+      u < nodesOf pattern → v < nodesOf pattern → Smallest pattern classes out u s → Smallest pattern classes out v t →
+      (classByte pattern classes out u < classByte pattern classes out v) ↔ (s < t)
+  -- The merged file is the pattern made of the classes.
+  pub made : (pattern : CircuitFile) (classes out : List ℕ) → Accepted Pattern pattern → Enough pattern classes out →
+      Made pattern (classByte pattern classes out) (mergedFile pattern (merging pattern classes out))
+  -- It is handed to the call with a radius given, the first pattern's.
+  pub merged : (pattern : CircuitFile) (classes out : List ℕ) (board : CircuitFile) (w : ℕ) (lent again : Lent) → Ready pattern board w lent → Room board again →
+      Enough pattern classes out → (r : ℕ) → Radius (graph pattern) r →
+      SameFound (nodesOf board) (linksOf board) (placed (mergedFile pattern (merging pattern classes out)) board w r again) (placedOwn pattern board w lent)
