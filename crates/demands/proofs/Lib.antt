@@ -17,3 +17,5 @@ pub mod Shelf
 pub mod Bounds
 pub mod OneWay
 pub mod Cutting
+pub mod Load
+pub mod Packages

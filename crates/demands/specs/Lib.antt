@@ -12,3 +12,5 @@ pub mod Shelf
 pub mod Bounds
 pub mod OneWay
 pub mod Cutting
+pub mod Load
+pub mod Packages
