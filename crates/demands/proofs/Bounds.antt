@@ -1,19 +1,18 @@
 -- Ask 12: what the call with bounds says. Assumes nothing.
 use mathlib.Core.List.{List}
 use mathlib.Core.Logic.{_↔_}
-use mathlib.Core.Path.{_≡_, sym, ap, _∙_}
-use Prim.Native.Nat.{ℕ, _≤_, _<_}
+use mathlib.Core.Path.{_≡_, sym, _∙_}
+use Prim.Native.Nat.{ℕ, _≤_}
 use native.Mathlib.Omega.{arith}
-use lib.ListN.{length, getD}
-use lib.Dec.{T}
+use lib.ListN.{length}
 use Rattle.base_lists.proofs.Tests.{true-T}
 use Rattle.graph.specs.Circuit.{Circuit}
 use Rattle.file_format.specs.declared.Role.the-variants.{Board}
 use Rattle.file_format.specs.Circuit.{circuitOf}
 use Rattle.file_format.specs.Layout.{CircuitFile, nodesOf}
-use Rattle.file_format.specs.Refusals.{accept, first, NoneHolds, Accepted}
+use Rattle.file_format.specs.Refusals.{accept, first, Accepted}
 use Rattle.file_format.proofs.Fields.{length-labels}
-use Rattle.file_format.proofs.Refusals.{accepted-verdict, accepts-iff}
+use Rattle.file_format.proofs.Refusals.{accepted-verdict}
 use Rattle.table.specs.declared.Counts.{Counts}
 use Rattle.table_answer.proofs.AllParts.{none-tabulated}
 use Rattle.file_bounds.specs.Third.{frontOf, boundsOf, thirdConditions}
@@ -38,8 +37,8 @@ taken : (pattern : List ℕ) → ThirdEdition pattern → first (thirdConditions
 taken pattern t =
     front-verdicts pattern (t .long) (true-T (at-fit (boundsOf pattern) (λ i h. (t .bounds .some i h, t .bounds .most i h)))) ∙ accepted-verdict (t .drawn)
 
-reads : (pattern : List ℕ) → NoneHolds (thirdConditions pattern) ↔ ThirdEdition pattern
-reads pattern = (λ none. read pattern (accepts-iff (thirdConditions pattern) .1 none), λ t. accepts-iff (thirdConditions pattern) .0 (taken pattern t))
+reads : (pattern : List ℕ) → (first (thirdConditions pattern) ≡ accept) ↔ ThirdEdition pattern
+reads pattern = (read pattern, taken pattern)
 
 -- ---- the table and the counts
 

@@ -13,6 +13,7 @@ use Rattle.base_lists.proofs.Tests.{both, both-left, both-right, all-at, at-all
 use Rattle.graph.specs.Circuit.{Circuit}
 use Rattle.graph.proofs.Distance.{connected-iff, radius-is}
 use Rattle.file_format.specs.declared.Edition.{Edition}
+use Rattle.file_format.specs.declared.File.the-variants.{Neither}
 use Rattle.file_format.specs.declared.Refusal.{Refusal}
 use Rattle.file_format.specs.declared.Role.{Role}
 use Rattle.file_format.specs.declared.Role.the-variants.{Pattern, AnyPattern}
@@ -25,7 +26,7 @@ use Rattle.file_format.specs.Reply.{Reply, readReply, reply}
 use Rattle.file_format.proofs.Accepted.{links-within}
 use Rattle.file_format.proofs.Fields.{length-kinds, length-packages, length-starts, length-ends, length-labels}
 use Rattle.file_format.proofs.Reading.{reading-filled}
-use Rattle.file_format.proofs.Refusals.{accepted, accepted-verdict, accept-not-refuse, first-accept, first-parts, first-refuse, accepts-iff, refuses-by}
+use Rattle.file_format.proofs.Refusals.{accepted, accepted-verdict, accept-not-refuse, first-accept, first-parts, first-refuse}
 use Rattle.file_format.proofs.Rising.{rising-iff}
 use Rattle.table.specs.declared.Counts.{Counts}
 use Rattle.table.specs.Fill.{listed}
@@ -60,7 +61,7 @@ use Rattle.call_session.specs.Call.{openConditions, OpenPromise}
 use Rattle.call_session.proofs.Promise as session
 use Rattle.demands.specs.Numbers as number
 use Rattle.demands.specs.Numbers.{EachNumbered}
-use Rattle.demands.specs.Demands.{Lent, placed, Decided, Replies, Counting, nine, noPlace, placedConditions, Untouched, Unread, ReadsAs, Running, Demand1}
+use Rattle.demands.specs.Demands.{Lent, placed, Decided, Replies, Counting, nine, placedConditions, Untouched, Unread, ReadsAs, Running, Demand1}
 use Rattle.demands.proofs.Numbers.{file-numbered, file-then, read-numbered, write-numbered, convert-numbered, load-numbered, ball-numbered, match-numbered, bounds-numbered, place-numbered, check-numbered, bar-numbered, merge-numbered, pair-numbered, short-numbered}
 
 -- ---- a verdict that is the first of a list of conditions
@@ -68,11 +69,10 @@ use Rattle.demands.proofs.Numbers.{file-numbered, file-then, read-numbe
 pub by-first :
     {conditions : List Condition} {verdict : Verdict} {Kept : Type 0} → EachNumbered conditions → verdict ≡ first conditions →
     ((x : Refusal) → first conditions ≡ refuse x → Kept) → Decided conditions verdict Kept
-by-first {conditions} each e keeps =
+by-first each e keeps =
     record {
       numbered = each;
-      refused = λ x. rw e (refuses-by conditions x);
-      accepted = rw e (accepts-iff conditions);
+      decided = e;
       kept = λ x r. keeps x (sym e ∙ r);
     }
 
@@ -220,8 +220,11 @@ turned : (b : Bool) → cond b accept (refuse nine) ≡ cond (not b) (refuse nin
 turned true = refl
 turned false = refl
 
+abbrev noPlace : CircuitFile → CircuitFile → ℕ → ℕ → Condition
+noPlace pattern board w r = record { number = 9; file = Neither; holds = not (found (circuitOf pattern) (circuitOf board) w r) }
+
 verdict-nine : (pattern board : CircuitFile) (w r : ℕ) → placeVerdict (circuitOf pattern) (circuitOf board) w r ≡ first (noPlace pattern board w r ∷ [])
-unfolding placeVerdict first noPlace nine
+unfolding placeVerdict first nine
 verdict-nine pattern board w r = turned (found (circuitOf pattern) (circuitOf board) w r)
 
 module _ (pattern board : CircuitFile) (w r : ℕ) (lent : Lent) where
@@ -243,8 +246,8 @@ module _ (pattern board : CircuitFile) (w r : ℕ) (lent : Lent) where
   by-nine sound x e =
       ⊎-elim (λ ok. let apart : refuse x ≡ accept = sym e ∙ ok in let z : _≡_ {A = ℕ} 0 1 = cc in absurd (omega arith))
       (λ none.
-          let (nodes, links, table, distances) = nine-keeps pattern board w r (lent .nodes) (lent .links) (lent .table) (lent .distances) sound none in
-          (nodes, links, table, distances, λ other. absurd (other none)))
+      let (nodes, links, table, distances) = nine-keeps pattern board w r (lent .nodes) (lent .links) (lent .table) (lent .distances) sound none in
+      (nodes, links, table, distances, λ other. absurd (other none)))
       (accept-or-nine pattern board w r (lent .nodes) (lent .links) (lent .table) (lent .distances) sound)
 
   verdict-all : placed pattern board w r lent .reply .verdict ≡ first (placedConditions pattern board w r lent)

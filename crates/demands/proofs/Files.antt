@@ -29,50 +29,50 @@ use Rattle.demands.specs.Cutting.{cutReplies}
 use Rattle.demands.specs.Examples.{AllHold}
 use Rattle.demands.specs.Files.{refused, ReadT, ReadB, R1, R2, R3, R4, R5, R6, R7, R8, secondT, ReadSecond, thirdT, ReadThird, packed, looped, R3Editions, R10, rowOf14, R11, R12, R13, R14, R15, byEdition, ToldEdition, ToldThird, ToldRole, ToldDirection, fileExamples}
 
-readT : ReadT
-unfolding ReadT fileT circuitT labelsOf labels label kindsOf packagesOf startsOf endsOf nodesOf linksOf fields field stretchBytes bytesOf tabulate
-readT = (refl, refl)
-
-readB : ReadB
-unfolding ReadB fileB circuitB labelsOf labels label kindsOf packagesOf startsOf endsOf nodesOf linksOf fields field stretchBytes bytesOf tabulate
-readB = (refl, refl)
-
-r1 : R1
-unfolding R1 first fileConditions linkConditions asksConnected linksBelow rising earlier nodesOf linksOf startsOf endsOf fields field connected ball inside beside tabulate all allBelow refused
-r1 = (refl, refl)
-
-r2 : R2
-unfolding R2 first fileConditions linkConditions asksConnected linksBelow rising earlier nodesOf linksOf startsOf endsOf fields field connected ball inside beside tabulate all allBelow refused
-r2 = refl
-
-r3 : R3
-unfolding R3 first fileConditions linkConditions asksConnected linksBelow rising earlier nodesOf linksOf startsOf endsOf fields field connected ball inside beside tabulate all allBelow refused
-r3 = refl
-
-r4 : R4
-unfolding R4 first fileConditions linkConditions asksConnected linksBelow rising earlier nodesOf linksOf startsOf endsOf fields field connected ball inside beside tabulate all allBelow refused
-r4 = refl
-
-r5 : R5
-unfolding R5 first fileConditions linkConditions asksConnected linksBelow rising earlier nodesOf linksOf startsOf endsOf fields field connected ball inside beside tabulate all allBelow refused
-r5 = refl
-
-r6 : R6
-unfolding R6 first fileConditions linkConditions asksConnected linksBelow rising earlier nodesOf linksOf startsOf endsOf fields field connected ball inside beside tabulate all allBelow refused
-r6 = refl
-
-r7 : R7
-unfolding R7 fileB ballConditions centreOutside shortTable first fileConditions linkConditions asksConnected linksBelow rising earlier nodesOf linksOf startsOf endsOf fields field connected ball inside beside tabulate all allBelow refused
-r7 lent = refl
-
-r8 : R8
-unfolding R8 fileT reading readConditions reply shortTable first fileConditions linkConditions asksConnected linksBelow rising earlier nodesOf linksOf startsOf endsOf fields field connected radius maximum distances misses ball inside beside tabulate all allBelow refused
-r8 = refl
-
 -- all that is opened where a file is read and its conditions are tried
 opened : Unit {0}
 unfolding first fileConditions linkConditions asksConnected linksBelow rising earlier nodesOf linksOf kindsOf packagesOf startsOf endsOf fields field connected radius maximum distances misses ball inside beside tabulate all allBelow refused
 opened = tt
+
+readT : ReadT
+unfolding ReadT opened fileT circuitT labelsOf labels label stretchBytes bytesOf
+readT = (refl, refl)
+
+readB : ReadB
+unfolding ReadB opened fileB circuitB labelsOf labels label stretchBytes bytesOf
+readB = (refl, refl)
+
+r1 : R1
+unfolding R1 opened
+r1 = (refl, refl)
+
+r2 : R2
+unfolding R2 opened
+r2 = refl
+
+r3 : R3
+unfolding R3 opened
+r3 = refl
+
+r4 : R4
+unfolding R4 opened
+r4 = refl
+
+r5 : R5
+unfolding R5 opened
+r5 = refl
+
+r6 : R6
+unfolding R6 opened
+r6 = refl
+
+r7 : R7
+unfolding R7 fileB ballConditions centreOutside shortTable opened
+r7 lent = refl
+
+r8 : R8
+unfolding R8 fileT reading readConditions reply shortTable opened
+r8 = refl
 
 readSecond : ReadSecond
 unfolding ReadSecond opened secondT circuitT stretchBytes bytesOf

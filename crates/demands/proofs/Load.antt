@@ -1,11 +1,11 @@
 -- Ask 3: what the load call makes. Assumes nothing.
 use mathlib.Core.List.{List, [], _∷_}
-use mathlib.Core.Path.{_≡_, refl, sym, ap, _∙_}
+use mathlib.Core.Path.{_≡_, sym, ap, _∙_}
 use Prim.Native.Nat.{ℕ}
-use lib.ListN.{length, getD, take, drop}
+use lib.ListN.{length, getD, take}
 use Rattle.graph.specs.Circuit.{Circuit}
 use Rattle.file_format.specs.declared.Role.the-variants.{Board}
-use Rattle.file_format.specs.Layout.{CircuitFile, firstEdition}
+use Rattle.file_format.specs.Layout.{firstEdition}
 use Rattle.file_format.specs.Refusals.{accept, first}
 use Rattle.file_format.specs.Reply.{Reply, reply}
 use Rattle.file_format.proofs.FirstEdition.{first-labels}

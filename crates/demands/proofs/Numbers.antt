@@ -22,7 +22,7 @@ use Rattle.call_place.specs.Call.{roomConditions, inputConditions}
 use Rattle.call_check.specs.Call.{checkConditions}
 use Rattle.call_barring.specs.Call.{hasPlace, barInputs}
 use Rattle.call_merge.specs.Call.{mergeConditions}
-use Rattle.demands.specs.Demands.{Lent, noPlace, placedConditions}
+use Rattle.demands.specs.Demands.{Lent, placedConditions}
 use Rattle.demands.specs.Numbers as number
 use Rattle.demands.specs.Numbers.{EachNumbered}
 
@@ -107,7 +107,7 @@ bounds-numbered pattern board lent =
     joined (thirdConditions pattern) _ (third-numbered pattern) (file-then Board board _ (number.eight (nodesOf board) lent, tt))
 
 pub place-numbered : (pattern board : CircuitFile) (w r : ℕ) (lent : Lent) → EachNumbered (placedConditions pattern board w r lent)
-unfolding EachNumbered placedConditions inputConditions roomConditions noPlace
+unfolding EachNumbered placedConditions inputConditions roomConditions
 place-numbered pattern board w r lent =
     joined (inputConditions pattern board w (length (lent .nodes)) (length (lent .links)) (length (lent .table)) (length (lent .distances))) _
     (pair-then Pattern pattern board _ (number.seven _ w, (number.eight _ _, (number.eight _ _, (number.eight _ _, (number.eight _ _, tt)))))) (number.nine (found _ _ w r), tt)

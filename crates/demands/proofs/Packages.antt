@@ -1,6 +1,6 @@
 -- Ask 6: what equal is, and the converter. Assumes nothing.
 use mathlib.Core.Bool.{Bool, true, false}
-use mathlib.Core.List.{List, []}
+use mathlib.Core.List.{List}
 use mathlib.Core.Logic.{_↔_}
 use mathlib.Core.Path.{_≡_, refl, sym, ap, subst, _∙_}
 use Prim.Native.Nat.{ℕ, _≤_, _<_}
@@ -15,7 +15,7 @@ use Rattle.file_format.specs.declared.Edition.{Edition}
 use Rattle.file_format.specs.declared.Edition.the-variants.{First, Second}
 use Rattle.file_format.specs.declared.Role.{Role}
 use Rattle.file_format.specs.Circuit.{circuitOf}
-use Rattle.file_format.specs.Label.{label, kindIn, packageIn, labels}
+use Rattle.file_format.specs.Label.{label, labels}
 use Rattle.file_format.specs.Layout.{CircuitFile, inEdition, packageCount, lengthOf, nodesOf, linksOf, kindsOf, packagesOf, labelsOf}
 use Rattle.file_format.specs.Refusals.{accept}
 use Rattle.file_format.proofs.Fields.{length-kinds, length-packages, length-labels}

@@ -3,7 +3,7 @@ use mathlib.Core.List.{List}
 use mathlib.Core.Path.{_≡_, sym, _∙_}
 use Prim.Native.Nat.{ℕ}
 use lib.ListN.{length, take}
-use Rattle.graph.specs.Graph.{Contains, Radius}
+use Rattle.graph.specs.Graph.{Contains}
 use Rattle.graph.proofs.Walks.{radius-unique}
 use Rattle.file_format.specs.Circuit.{circuitOf}
 use Rattle.file_format.specs.Layout.{CircuitFile, nodesOf, linksOf}
@@ -17,7 +17,7 @@ use Rattle.proposal.proofs.Finder.{place-checks}
 use Rattle.call_place.proofs.Promise.{found-verdict, verdict-is, nodes-front, links-front}
 use Rattle.call_check.specs.Call.{checkConditions, checkCall}
 use Rattle.call_check.proofs.Promise.{inputs-accept, yes-or-no, yes-iff, yes-test}
-use Rattle.demands.specs.Demands.{graph, Lent, Ready, placed, placedOwn, marked}
+use Rattle.demands.specs.Demands.{Lent, Ready, placed, placedOwn, marked}
 use Rattle.demands.specs.Proposals.{says-yes, Offered, Ask9}
 use Rattle.demands.proofs.Demands.{demand-3}
 use Rattle.demands.proofs.Merged.{ready-sound}

@@ -10,16 +10,14 @@ use lib.Seq.{take-at, drop-at}
 use Rattle.file_format.specs.declared.Refusal.{Refusal}
 use Rattle.file_format.specs.declared.Role.the-variants.{Pattern}
 use Rattle.file_format.specs.Reading.{filled}
-use Rattle.file_format.specs.Refusals.{Verdict, accept, refuse, Accepted, FirstHolding, fileConditions, first, shortTable}
+use Rattle.file_format.specs.Refusals.{Verdict, accept, refuse, Accepted, fileConditions, first, shortTable}
 use Rattle.file_format.specs.Reply.{reply}
-use Rattle.file_format.proofs.Refusals.{accepted, accepted-verdict, refuses-by}
+use Rattle.file_format.proofs.Refusals.{accepted, accepted-verdict}
 use Rattle.order.specs.declared.Order.{Order}
 use Rattle.order.specs.declared.Order.the-variants.{Equal}
 use Rattle.order.proofs.Laws.{whole-order, total, antisymmetric, transitive}
 use Rattle.order_files.specs.Files.{secondEdition, compareFiles}
-use Rattle.call_compare.specs.declared.CompareAnswer.{CompareAnswer}
 use Rattle.call_compare.specs.declared.CompareAnswer.the-variants as answer
-use Rattle.call_compare.specs.declared.Which.{Which}
 use Rattle.call_compare.specs.declared.Which.the-variants as which
 use Rattle.call_compare.specs.Call.{verdictFor, comparedBy, comparing}
 use Rattle.call_compare.proofs.Files.{equal-files, equal-circuits}
@@ -65,20 +63,16 @@ module _ (a b : List ℕ) where
     λ e. let h = e .0 in let z : _≡_ {A = ℕ} 0 1 = cc in absurd (omega arith),
   )
 
-  refused-first : (x : Refusal) → (comparing a b ≡ answer.Refused x which.First) ↔ FirstHolding (fileConditions Pattern (secondEdition a)) x
+  refused-first : (x : Refusal) → (comparing a b ≡ answer.Refused x which.First) ↔ (first (fileConditions Pattern (secondEdition a)) ≡ refuse x)
   unfolding comparing
-  refused-first x =
-      let told = first-refused (verdictFor a) (verdictFor b) (compareFiles a b) x in
-      let by = refuses-by (fileConditions Pattern (secondEdition a)) x in
-      (λ e. by .0 (told .0 e), λ h. told .1 (by .1 h))
+  refused-first x = first-refused (verdictFor a) (verdictFor b) (compareFiles a b) x
 
   refused-second : (x : Refusal) →
-      (comparing a b ≡ answer.Refused x which.Second) ↔ (Accepted Pattern (secondEdition a) × FirstHolding (fileConditions Pattern (secondEdition b)) x)
+      (comparing a b ≡ answer.Refused x which.Second) ↔ (Accepted Pattern (secondEdition a) × (first (fileConditions Pattern (secondEdition b)) ≡ refuse x))
   unfolding comparing
   refused-second x =
       let told = second-refused (verdictFor a) (verdictFor b) (compareFiles a b) x in
-      let by = refuses-by (fileConditions Pattern (secondEdition b)) x in
-      (λ e. (accepted Pattern (secondEdition a) (told .0 e .0), by .0 (told .0 e .1)), λ h. told .1 (accepted-verdict (h .0), by .1 (h .1)))
+      (λ e. (accepted Pattern (secondEdition a) (told .0 e .0), told .0 e .1), λ h. told .1 (accepted-verdict (h .0), h .1))
 
 -- ---- the shelf
 
@@ -118,8 +112,8 @@ ask-10 =
       files = same-bytes;
       compared = compared;
       equal = equal;
-      first = refused-first;
-      second = refused-second;
+      refusedFirst = refused-first;
+      refusedSecond = refused-second;
       accepts = accepts;
       ordered = shelf-in-order;
       once = shelf-once;

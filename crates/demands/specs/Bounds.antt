@@ -9,7 +9,7 @@ use Rattle.simulation.specs.Closed.{_⊆_}
 use Rattle.file_format.specs.declared.Role.the-variants.{Board, AnyPattern}
 use Rattle.file_format.specs.Circuit.{circuitOf}
 use Rattle.file_format.specs.Layout.{CircuitFile, field, nodesOf}
-use Rattle.file_format.specs.Refusals.{accept, NoneHolds, Accepted}
+use Rattle.file_format.specs.Refusals.{accept, first, Accepted}
 use Rattle.table.specs.Row.{InTable}
 use Rattle.file_bounds.specs.Third.{boundedLength, frontOf, boundsOf, thirdConditions}
 use Rattle.bounded.specs.Simulation.{LargestBounded}
@@ -31,7 +31,7 @@ pub record Ask12 : Type 1 where
   -- (On every input: 1, 2 and 3 with the third edition's length, 4, 5, "13, a bound outside 1 to 4, checked after the pattern's 5 and before the board's
   -- 1", the board's 1 to 5, 8: specs/Demands `bounds`.)
   -- the files that none of the pattern's conditions refuses
-  pub reads : (pattern : List ℕ) → NoneHolds (thirdConditions pattern) ↔ ThirdEdition pattern
+  pub reads : (pattern : List ℕ) → (first (thirdConditions pattern) ≡ accept) ↔ ThirdEdition pattern
   -- "A pattern link with bound h is then met by a directed path of 1 to h board links, end to end": the table is the largest set of pairs in which every
   -- link is met so, "with its counts, all-0 rule": specs/Demands `Matched`, of the row with these steps and moves
   pub matches : (pattern : List ℕ) (board : CircuitFile) (table : List ℕ) → ThirdEdition pattern → Accepted Board board → nodesOf board ≤ length table →

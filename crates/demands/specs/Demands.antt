@@ -30,7 +30,7 @@ use Rattle.file_format.specs.Circuit.{circuitOf}
 use Rattle.file_format.specs.Layout.{CircuitFile, inEdition, packageCount, nodesOf, linksOf, labelsOf}
 use Rattle.file_format.specs.Links.{linksBelow, rising}
 use Rattle.file_format.specs.Reading.{ReadOutcome, readConditions, reading}
-use Rattle.file_format.specs.Refusals.{Condition, Verdict, accept, refuse, NoneHolds, FirstHolding, fileConditions, Accepted, shortTable, linkGone}
+use Rattle.file_format.specs.Refusals.{Condition, Verdict, accept, refuse, first, fileConditions, Accepted, shortTable, linkGone}
 use Rattle.file_format.specs.Reply.{Reply}
 use Rattle.table.specs.declared.Counts.{Counts}
 use Rattle.table.specs.Fill.{listed}
@@ -103,12 +103,11 @@ pub record Ready (pattern board : CircuitFile) (w : ℕ) (lent : Lent) : Type 0 
 -- "From the file readers to the last report line, every call ends with a fixed reply for every byte string, centre and table size. It refuses
 -- under the numbered conditions of document 01 and no other; a refusal returns its number and the file concerned, and changes no lent table."
 
--- A call that numbered conditions decide: each of them is one of the fifteen (specs/Numbers); it is refused by a number and a file exactly when they are
--- those of the first condition that holds, it is accepted exactly when none holds, and a refusal leaves what is `Kept`.
+-- A call that numbered conditions decide: each of them is one of the fifteen (specs/Numbers); the call is refused by the number and the file of the first
+-- condition that holds, and accepted where none holds; and a refusal leaves what is `Kept`.
 pub record Decided (conditions : List Condition) (verdict : Verdict) (Kept : Type 0) : Type 0 where
   pub numbered : EachNumbered conditions
-  pub refused : (x : Refusal) → (verdict ≡ refuse x) ↔ FirstHolding conditions x
-  pub accepted : (verdict ≡ accept) ↔ NoneHolds conditions
+  pub decided : verdict ≡ first conditions
   pub kept : (x : Refusal) → verdict ≡ refuse x → Kept
 
 -- a call that replies with values, or with counts: a refusal has none of them, and "counts are 0"
@@ -122,14 +121,11 @@ Counting conditions answer Kept = Decided conditions (answer .verdict) ((answer 
 unfoldable pub nine : Refusal
 nine = record { number = 9; file = Neither }
 
--- 9 "no place around the centre": demand 3 says what that is
-unfoldable pub noPlace : CircuitFile → CircuitFile → ℕ → ℕ → Condition
-noPlace pattern board w r = record { number = 9; file = Neither; holds = not (found (circuitOf pattern) (circuitOf board) w r) }
-
--- the conditions of the place calls
+-- the conditions of the place calls: those of the inputs, and 9 "no place around the centre" (demand 3 says what that is)
 unfoldable pub placedConditions : CircuitFile → CircuitFile → ℕ → ℕ → Lent → List Condition
 placedConditions pattern board w r lent =
-    inputConditions pattern board w (length (lent .nodes)) (length (lent .links)) (length (lent .table)) (length (lent .distances)) ++ (noPlace pattern board w r ∷ [])
+    inputConditions pattern board w (length (lent .nodes)) (length (lent .links)) (length (lent .table)) (length (lent .distances))
+    ++ (record { number = 9; file = Neither; holds = not (found (circuitOf pattern) (circuitOf board) w r) } ∷ [])
 
 -- a call has left the tables as they were lent; "counts are 0, except that 9 carries the ball's counts"
 unfoldable pub Untouched : Lent → PlaceOutcome → Type 0

@@ -3,7 +3,7 @@
 -- known: one definition, of which the merged pattern is the instance for the classes (merge/specs/Merged).
 use mathlib.Core.List.{List, [], _∷_}
 use mathlib.Core.Path.{_≡_}
-use Prim.Native.Nat.{ℕ, _≤_, _<_}
+use Prim.Native.Nat.{ℕ, _≤_}
 use lib.ListN.{length, getD}
 use Rattle.simulation.specs.Grouping.{Grouping, AsEachMember}
 use Rattle.file_format.specs.declared.Role.the-variants.{Pattern, Board}

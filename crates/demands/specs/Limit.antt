@@ -73,7 +73,7 @@ reportBefore pattern board = reportFor (before (pairConditions Pattern pattern b
 -- ---- the request
 
 -- A pattern that is turned away with 11 is so by every call that checks 6, whatever the board, the centre, the radius given and the tables. (Comparing and
--- the shelf ask the same of each file: specs/Demands `compares`, specs/Shelf `first`, `second`, `accepts`. Writing: `written` below.)
+-- the shelf ask the same of each file: specs/Demands `compares`, specs/Shelf `refusedFirst`, `refusedSecond`, `accepts`. Writing: `written` below.)
 pub record TurnedAway (pattern : CircuitFile) : Type 0 where
   pub reads : (kinds packages starts ends : List ℕ) → reading Pattern pattern kinds packages starts ends .reply .verdict ≡ refuse eleven
   pub measures : radiusCall pattern .verdict ≡ refuse eleven

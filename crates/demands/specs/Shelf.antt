@@ -10,7 +10,7 @@ use Rattle.base_lists.specs.List.{Below}
 use Rattle.file_format.specs.declared.Edition.the-variants.{Second}
 use Rattle.file_format.specs.declared.Refusal.{Refusal}
 use Rattle.file_format.specs.declared.Role.the-variants.{Pattern}
-use Rattle.file_format.specs.Refusals.{accept, Accepted, FirstHolding, fileConditions}
+use Rattle.file_format.specs.Refusals.{accept, refuse, first, Accepted, fileConditions}
 use Rattle.file_write.specs.Bytes.{fileBytes}
 use Rattle.order.specs.declared.Order.{Order}
 use Rattle.order.specs.declared.Order.the-variants.{Less, Equal}
@@ -60,9 +60,9 @@ pub record Ask10 : Type 0 where
   pub compared : (a b : List ℕ) → Accepted Pattern (secondEdition a) → Accepted Pattern (secondEdition b) → comparing a b ≡ answer.Compared (compareFiles a b)
   pub equal : (a b : List ℕ) → PatternFile a → PatternFile b → (comparing a b ≡ answer.Compared Equal) ↔ (a ≡ b)
   -- and else the refusal of the first that is refused, and which of the two that is
-  pub first : (a b : List ℕ) (x : Refusal) → (comparing a b ≡ answer.Refused x which.First) ↔ FirstHolding (fileConditions Pattern (secondEdition a)) x
-  pub second : (a b : List ℕ) (x : Refusal) →
-      (comparing a b ≡ answer.Refused x which.Second) ↔ (Accepted Pattern (secondEdition a) × FirstHolding (fileConditions Pattern (secondEdition b)) x)
+  pub refusedFirst : (a b : List ℕ) (x : Refusal) → (comparing a b ≡ answer.Refused x which.First) ↔ (first (fileConditions Pattern (secondEdition a)) ≡ refuse x)
+  pub refusedSecond : (a b : List ℕ) (x : Refusal) →
+      (comparing a b ≡ answer.Refused x which.Second) ↔ (Accepted Pattern (secondEdition a) × (first (fileConditions Pattern (secondEdition b)) ≡ refuse x))
   -- ---- the shelf
   -- "accepted ones": read as second-edition patterns without refusal
   pub accepts : (files : List (List ℕ)) (i : ℕ) → T (acceptedIn files i) ↔ Accepted Pattern (secondEdition (fileAt files i))
