@@ -26,7 +26,7 @@ use Rattle.file_format.specs.Reply.{Reply, readReply, reply}
 use Rattle.file_format.proofs.Accepted.{links-within}
 use Rattle.file_format.proofs.Fields.{length-kinds, length-packages, length-starts, length-ends, length-labels}
 use Rattle.file_format.proofs.Reading.{reading-filled}
-use Rattle.file_format.proofs.Refusals.{accepted, accepted-verdict, accept-not-refuse, first-accept, first-parts, first-refuse}
+use Rattle.file_format.proofs.Refusals.{accepted, accepted-verdict, accept-not-refuse, first-accept, first-parts, first-refuse, accepts-iff, refuses-by}
 use Rattle.file_format.proofs.Rising.{rising-iff}
 use Rattle.table.specs.declared.Counts.{Counts}
 use Rattle.table.specs.Fill.{listed}
@@ -69,10 +69,11 @@ use Rattle.demands.proofs.Numbers.{file-numbered, file-then, read-numbe
 pub by-first :
     {conditions : List Condition} {verdict : Verdict} {Kept : Type 0} → EachNumbered conditions → verdict ≡ first conditions →
     ((x : Refusal) → first conditions ≡ refuse x → Kept) → Decided conditions verdict Kept
-by-first each e keeps =
+by-first {conditions} each e keeps =
     record {
       numbered = each;
-      decided = e;
+      refused = λ x. rw e (refuses-by conditions x);
+      accepted = rw e (accepts-iff conditions);
       kept = λ x r. keeps x (sym e ∙ r);
     }
 

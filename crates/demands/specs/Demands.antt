@@ -30,7 +30,7 @@ use Rattle.file_format.specs.Circuit.{circuitOf}
 use Rattle.file_format.specs.Layout.{CircuitFile, inEdition, packageCount, nodesOf, linksOf, labelsOf}
 use Rattle.file_format.specs.Links.{linksBelow, rising}
 use Rattle.file_format.specs.Reading.{ReadOutcome, readConditions, reading}
-use Rattle.file_format.specs.Refusals.{Condition, Verdict, accept, refuse, first, fileConditions, Accepted, shortTable, linkGone}
+use Rattle.file_format.specs.Refusals.{Condition, Verdict, accept, refuse, NoneHolds, FirstHolding, fileConditions, Accepted, shortTable, linkGone}
 use Rattle.file_format.specs.Reply.{Reply}
 use Rattle.table.specs.declared.Counts.{Counts}
 use Rattle.table.specs.Fill.{listed}
@@ -103,11 +103,12 @@ pub record Ready (pattern board : CircuitFile) (w : ℕ) (lent : Lent) : Type 0 
 -- "From the file readers to the last report line, every call ends with a fixed reply for every byte string, centre and table size. It refuses
 -- under the numbered conditions of document 01 and no other; a refusal returns its number and the file concerned, and changes no lent table."
 
--- A call that numbered conditions decide: each of them is one of the fifteen (specs/Numbers); the call is refused by the number and the file of the first
--- condition that holds, and accepted where none holds; and a refusal leaves what is `Kept`.
+-- A call that numbered conditions decide: each of them is one of the fifteen (specs/Numbers); the call is refused by a number and a file exactly when they
+-- are those of the first condition that holds, it is accepted exactly when none holds, and a refusal leaves what is `Kept`.
 pub record Decided (conditions : List Condition) (verdict : Verdict) (Kept : Type 0) : Type 0 where
   pub numbered : EachNumbered conditions
-  pub decided : verdict ≡ first conditions
+  pub refused : (x : Refusal) → (verdict ≡ refuse x) ↔ FirstHolding conditions x
+  pub accepted : (verdict ≡ accept) ↔ NoneHolds conditions
   pub kept : (x : Refusal) → verdict ≡ refuse x → Kept
 
 -- a call that replies with values, or with counts: a refusal has none of them, and "counts are 0"
@@ -166,6 +167,7 @@ pub record Demand1 : Type 0 where
       Counting (matchConditions pattern board (length table)) (result .reply) (result .table ≡ table)
   pub bounds : (pattern : List ℕ) (board : CircuitFile) (table : List ℕ) → let result = boundedMatching pattern board table in
       Counting (boundedConditions pattern board (length table)) (result .reply) (result .table ≡ table)
+  -- both place calls, which are told apart by the radius
   pub places : (pattern board : CircuitFile) (w r : ℕ) (lent : Lent) → let result = placed pattern board w r lent in
       Decided (placedConditions pattern board w r lent) (result .reply .verdict) (Untouched lent result)
   pub checks : (pattern board : CircuitFile) (w : ℕ) (nodes links : List ℕ) →
