@@ -14,3 +14,4 @@ pub mod OneWay
 pub mod Cutting
 pub mod Load
 pub mod Packages
+pub mod Report
