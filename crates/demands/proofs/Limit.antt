@@ -16,7 +16,6 @@ use Rattle.graph.proofs.Distance.{radius-is}
 use Rattle.graph.proofs.Walks.{radius-unique}
 use Rattle.file_format.specs.declared.Edition.{Edition}
 use Rattle.file_format.specs.declared.File.the-variants.{Neither}
-use Rattle.file_format.specs.declared.Refusal.{Refusal}
 use Rattle.file_format.specs.declared.Role.the-variants.{Pattern, Board}
 use Rattle.file_format.specs.Layout.{CircuitFile, lengthOf}
 use Rattle.file_format.specs.Links.{linksBelow}
@@ -38,6 +37,9 @@ use Rattle.call_convert.specs.Call.{convertConditions, converting}
 use Rattle.call_distance.specs.Calls.{radiusCall}
 use Rattle.call_place.specs.Call.{roomConditions, inputConditions, placeAt}
 use Rattle.call_place.proofs.Promise.{input-refused}
+use Rattle.call_check.specs.Call.{checkConditions, checkCall}
+use Rattle.call_barring.specs.Call.{barInputs, barCall}
+use Rattle.call_barring.proofs.Promise as bar-call
 use Rattle.call_merge.specs.Call.{mergeConditions, merging}
 use Rattle.call_merge.proofs.Promise.{pattern-accepted, merged-accepted, merged-circuit}
 use Rattle.demands.specs.Demands.{graph, Lent, placed, mergedFile}
@@ -126,6 +128,14 @@ module _ (pattern : CircuitFile) (e : first (fileConditions Pattern pattern) ≡
   unfolding converting convertConditions
   turned-converts to out = reply-verdict _ _ ∙ first-refuse (fileConditions Pattern pattern) _ eleven e
 
+  turned-checks : (board : CircuitFile) (w : ℕ) (nodes links : List ℕ) → checkCall pattern board w nodes links .verdict ≡ refuse eleven
+  unfolding checkCall checkConditions
+  turned-checks board w nodes links = reply-verdict _ _ ∙ first-refuse (pairConditions Pattern pattern board) _ eleven (pair-turned board)
+
+  turned-bars : (board : CircuitFile) (w : ℕ) (out : List ℕ) → barCall pattern board w out .reply .verdict ≡ refuse eleven
+  unfolding barInputs
+  turned-bars board w out = bar-call.verdict-is pattern board w out ∙ first-refuse (pairConditions Pattern pattern board) _ eleven (pair-turned board)
+
   turned-reports : (board : CircuitFile) → reportOf pattern board ≡ bytes "refused 11 pattern\n"
   unfolding reportOf reportFor refusalLine fileWord bytes decimal digits
   turned-reports board = rw (first-refuse (fileConditions Pattern pattern) (fileConditions Board board) eleven e)
@@ -138,6 +148,8 @@ module _ (pattern : CircuitFile) (e : first (fileConditions Pattern pattern) ≡
         places = turned-places;
         merges = turned-merges;
         converts = turned-converts;
+        checks = turned-checks;
+        bars = turned-bars;
         reports = turned-reports;
       }
 

@@ -26,6 +26,8 @@ use Rattle.merge.specs.Merged.{classCount, classes}
 use Rattle.call_convert.specs.Call.{converting}
 use Rattle.call_distance.specs.Calls.{radiusCall}
 use Rattle.call_place.specs.Call.{inputConditions, decided}
+use Rattle.call_check.specs.Call.{checkCall}
+use Rattle.call_barring.specs.Call.{barCall}
 use Rattle.call_merge.specs.Call.{mergedBytes, mergeConditions, MergeOutcome, merging}
 use Rattle.demands.specs.Demands.{graph, Lent, placed, mergedFile}
 
@@ -70,13 +72,16 @@ reportBefore pattern board = reportFor (before (pairConditions Pattern pattern b
 
 -- ---- the request
 
--- a pattern that is turned away with 11 is so by every call that checks 6, whatever the board, the centre, the radius given and the tables
+-- A pattern that is turned away with 11 is so by every call that checks 6, whatever the board, the centre, the radius given and the tables. (Comparing and
+-- the shelf ask the same of each file: specs/Demands `compares`, specs/Shelf `refusedFirst`, `refusedSecond`, `accepts`. Writing: `written` below.)
 pub record TurnedAway (pattern : CircuitFile) : Type 0 where
   pub reads : (kinds packages starts ends : List ℕ) → reading Pattern pattern kinds packages starts ends .reply .verdict ≡ refuse eleven
   pub measures : radiusCall pattern .verdict ≡ refuse eleven
   pub places : (board : CircuitFile) (w r : ℕ) (lent : Lent) → placed pattern board w r lent .reply .verdict ≡ refuse eleven
   pub merges : (lent out : List ℕ) → merging pattern lent out .reply .verdict ≡ refuse eleven
   pub converts : (to : Edition) (out : List ℕ) → converting Pattern to pattern out .reply .verdict ≡ refuse eleven
+  pub checks : (board : CircuitFile) (w : ℕ) (nodes links : List ℕ) → checkCall pattern board w nodes links .verdict ≡ refuse eleven
+  pub bars : (board : CircuitFile) (w : ℕ) (out : List ℕ) → barCall pattern board w out .reply .verdict ≡ refuse eleven
   pub reports : (board : CircuitFile) → reportOf pattern board ≡ bytes "refused 11 pattern\n"
 
 -- an accepted pattern's replies, tables, counts and lines are those of before the limit
