@@ -276,3 +276,10 @@ def test_reports_of_the_samples(name: str) -> None:
     pattern, board = (load_text(f"samples/{name}/{role}.txt", role) for role in ("pattern", "board"))
     pattern = pattern.without_packages().without_bounds()
     assert report(pattern, board.without_packages()) == (ROOT / f"samples/{name}/report.txt").read_bytes()
+
+
+def test_places_in_places() -> None:
+    """Of samples/mute the place of left and right has each of them in it, and nothing else has another in it."""
+    found = places(*(load_text(f"samples/mute/{role}.txt", role) for role in ("pattern", "board")))
+    within = {(a, b) for a, one in enumerate(found) for b, other in enumerate(found) if a != b and one.contains(other)}
+    assert within == {(1, 0), (1, 2)}
