@@ -2,6 +2,7 @@
 
 from __future__ import annotations
 
+import hashlib
 from typing import Any, Iterable, Mapping, NamedTuple, Sequence
 
 from ..circuits import Circuit, Link
@@ -40,12 +41,13 @@ def links_list(circuit: Circuit, links: Iterable[Link]) -> Html:
 
 def asked_section(asked: Asked, pattern: Circuit, board: Circuit) -> Html:
     """What was asked, of whom, and what was proved."""
-    sizes = {"pattern": (pattern, "part"), "board": (board, "node")}
     rows = []
-    for role, (path, digest) in asked.files.items():
-        circuit, word = sizes[role]
+    for (role, (path, digest)), circuit, word in zip(asked.files.items(), (pattern, board), ("part", "node")):
         told = f"{count(len(circuit.names), word)}, {count(len(circuit.links), 'link')}"
+        data = circuit.to_bytes()
         rows.append([role, path, told, element("code", digest, class_="hash")])
+        looked_up = element("code", hashlib.sha256(data).hexdigest(), class_="hash")
+        rows.append([f"{role}, as looked up", f"circuit file, edition {circuit.edition}", f"{len(data)} bytes", looked_up])
     files = table("The files", ["role", "name", "size", "SHA-256"], rows)
     library = asked.library
     answered: list[list[str]] = [["version", f"heronditch {library['version']}"]]
