@@ -16,6 +16,7 @@ import heronditch
 from conftest import ROOT, run
 
 DOCUMENTS = ["README.md", "docs/BENCH.md", "samples/any/README.md", "samples/packages/README.md", "samples/mute/README.md"]
+DOCUMENTS += ["docs/IMPORT.md", "samples/import/README.md"]
 
 
 def blocks(path: pathlib.Path) -> list[list[str]]:

@@ -117,6 +117,8 @@ def test_every_place_is_reached_by_keyboard(browser: Chrome, tmp_path: pathlib.P
             assert browser.execute_script("return location.hash") == target and browser.execute_script(SHOWN)
             assert "#" + browser.switch_to.active_element.get_dom_attribute("id") == target
             reached.append(target)
+        if reached == wanted:
+            break
     assert reached == wanted
     assert browser.get_log("browser") == []
 
@@ -127,9 +129,18 @@ def test_stands_alone(tmp_path: pathlib.Path) -> None:
     assert not re.search(r"<script|<iframe|@import|url\(|<img", text)
     assert set(re.findall(r'(?:src|href)="([^"#]*)', text)) == {"data:,", ""}
     for path in MUTE:
-        assert path in text and hashlib.sha256((ROOT / path).read_bytes()).hexdigest() in text
+        for file in (path, path.replace(".txt", ".cir")):  # the text, and the circuit file that it makes
+            assert path in text and hashlib.sha256((ROOT / file).read_bytes()).hexdigest() in text
     assert "heronditch 3" in text and "what was proved" in text
     assert text == made(tmp_path / "again.html", *MUTE)
+
+
+def test_what_is_left_out_is_told(tmp_path: pathlib.Path) -> None:
+    """A page says which part of the files was not looked at."""
+    both = ("samples/packages/pattern.txt", "samples/packages/board.txt")
+    assert run("page", "--without-packages", *both, "-o", tmp_path / "page.html").status == 0
+    told = "all packages were left out, as asked (--without-packages)"
+    assert told in (tmp_path / "page.html").read_text(encoding="utf-8") and told not in made(tmp_path / "whole.html", *both)
 
 
 def test_can_be_read_aloud(browser: Chrome, tmp_path: pathlib.Path) -> None:

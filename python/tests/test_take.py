@@ -2,10 +2,13 @@
 
 from __future__ import annotations
 
+import pathlib
+
 import pytest
 from hypothesis import given, settings
 from hypothesis import strategies as some
 
+from conftest import run, write
 from drawing import circuits
 from heronditch import Circuit, Refused, from_text, place, to_text
 from heronditch.taking import take
@@ -42,3 +45,14 @@ def test_told_why_not() -> None:
         take(board, "Q", 2)
     assert many.value.number == 2
     assert take(board, "Q", 2, ["hub"]).names == ("Q",)
+
+
+def test_names_that_begin_with_a_hyphen(folder: pathlib.Path) -> None:
+    """A node may be called -12V: after '--' stands no option."""
+    write("board.txt", "node -12V 1\nnode b 2\n-12V -> b")
+    assert (
+        run("take", "--radius", 1, "-o", "taken.txt", "--", "board.txt", "-12V").out
+        == "taken.txt: 2 parts, 1 link, around -12V\n"
+    )
+    assert run("take", "board.txt", "b", "--leave-out=-12V", "--radius", 1, "-o", "one.txt").out.startswith("one.txt: 1 part,")
+    assert run("draw", "-o", "out.svg", "--", "taken.txt", "board.txt", "-12V").status == 0

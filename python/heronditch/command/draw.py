@@ -10,7 +10,7 @@ from ..circuits import BITS, Circuit
 from ..errors import Faults
 from ..finding import Place, place, places
 from ..pictures import Picture, draw, pattern_picture, place_picture
-from .inputs import add_both, both_of, node_of, pattern_of, same_file
+from .inputs import add_pattern, both_of, node_of, pattern_of, same_file
 from .notes import on_none
 from .subcommands import Out, Subcommand
 from .telling import count
@@ -18,11 +18,9 @@ from .telling import count
 
 def draw_arguments(form: argparse.ArgumentParser) -> None:
     """The arguments of draw."""
-    add_both(form)
-    for action in form._actions:
-        if action.dest == "board":
-            action.nargs, action.required = "?", False
-            action.help = "a board, to draw all places of the pattern on it"
+    add_pattern(form)
+    form.add_argument("board", metavar="BOARD", nargs="?", help="a board, .txt or .cir, to draw all places of the pattern on it")
+    form.add_argument("--board-names", metavar="TEXT", help="the text that a BOARD.cir was made from, for its names")
     form.add_argument("node", metavar="NODE", nargs="?", help="a node of the board, to draw the place around it alone")
     form.add_argument("--title", metavar="TEXT", help="what stands above the picture, in place of a title of its own")
     form.add_argument("-o", dest="out", metavar="FILE.svg", required=True, help="the picture to write")

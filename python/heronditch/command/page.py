@@ -8,6 +8,7 @@ from importlib import import_module
 from typing import Any
 
 from ..bindings import version
+from ..errors import Faults
 from ..finding import places
 from ..pages import Asked, page
 from .draw import written
@@ -24,10 +25,20 @@ def page_arguments(form: argparse.ArgumentParser) -> None:
     form.add_argument("-o", dest="out", metavar="FILE.html", required=True, help="the page to write")
 
 
-def digest(path: str) -> str:
-    """The SHA-256 of a file."""
-    with open(path, "rb") as file:
-        return hashlib.sha256(file.read()).hexdigest()
+def digests(arguments: argparse.Namespace) -> dict[str, tuple[str, str]]:
+    """The name and the SHA-256 of each file that was asked about."""
+    found = {}
+    for role in ("pattern", "board"):
+        path = getattr(arguments, role)
+        with open(path, "rb") as file:
+            found[role] = (path, hashlib.sha256(file.read()).hexdigest())
+    return found
+
+
+def left_out(arguments: argparse.Namespace) -> list[str]:
+    """Sentences on what the command line leaves out."""
+    told = {"packages": arguments.without_packages, "bounds": arguments.without_bounds}
+    return [f"all {what} were left out, as asked (--without-{what})" for what, asked in told.items() if asked]
 
 
 def library() -> dict[str, Any]:
@@ -41,12 +52,14 @@ def library() -> dict[str, Any]:
 
 def run_page(arguments: argparse.Namespace, out: Out) -> bool:
     """Searches, and writes the page."""
+    files = digests(arguments)
     pattern, board = both_of(arguments, out)
+    if digests(arguments) != files:
+        raise Faults(["a file was changed while it was read: ask again"])
     found = places(pattern, board)
     if not found:
         on_none(pattern, board, out, lambda *plain: bool(places(*plain)))
-    files = {role: (path, digest(path)) for role, path in (("pattern", arguments.pattern), ("board", arguments.board))}
-    text = page(found, pattern, board, Asked(files, library(), out.notes))
+    text = page(found, pattern, board, Asked(files, library(), [*left_out(arguments), *out.notes]))
     read = [arguments.pattern, arguments.pattern_names, arguments.board, arguments.board_names]
     written(arguments.out, text, read)
     out.answer(f"{arguments.out}: {count(len(found), 'place')}\n", {"file": arguments.out, **found_data(found, pattern, board)})

@@ -59,6 +59,7 @@ code { font-family: "DejaVu Sans Mono", Consolas, monospace; font-size: .9em; }
 .hash { white-space: normal; overflow-wrap: anywhere; }
 .links { padding-left: 1.2rem; margin: .3rem 0; }
 .links li { break-inside: avoid; overflow-wrap: break-word; }
+td .links { min-width: 18rem; }
 .beside { display: flex; flex-wrap: wrap; gap: 0 2.5rem; }
 .beside > * { flex: 0 1 auto; max-width: 100%; }
 .beside > div { flex: 1 1 20rem; }

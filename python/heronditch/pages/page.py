@@ -2,6 +2,7 @@
 
 from __future__ import annotations
 
+import hashlib
 from typing import Any, Iterable, Mapping, NamedTuple, Sequence
 
 from ..circuits import Circuit, Link
@@ -9,7 +10,7 @@ from ..command.find import inner
 from ..command.telling import chains, count, listed, part_labels, united
 from ..errors import Faults
 from ..finding import Place, match
-from ..pictures import Picture, draw, pattern_picture, place_picture
+from ..pictures import Picture, draw, kind_told, pattern_picture, place_picture
 from .html import Html, document, element, joined, table, words
 from .none import Near, barred, nearest, rarest
 
@@ -40,12 +41,13 @@ def links_list(circuit: Circuit, links: Iterable[Link]) -> Html:
 
 def asked_section(asked: Asked, pattern: Circuit, board: Circuit) -> Html:
     """What was asked, of whom, and what was proved."""
-    sizes = {"pattern": (pattern, "part"), "board": (board, "node")}
     rows = []
-    for role, (path, digest) in asked.files.items():
-        circuit, word = sizes[role]
+    for (role, (path, digest)), circuit, word in zip(asked.files.items(), (pattern, board), ("part", "node")):
         told = f"{count(len(circuit.names), word)}, {count(len(circuit.links), 'link')}"
+        data = circuit.to_bytes()
         rows.append([role, path, told, element("code", digest, class_="hash")])
+        looked_up = element("code", hashlib.sha256(data).hexdigest(), class_="hash")
+        rows.append([f"{role}, as looked up", f"circuit file, edition {circuit.edition}", f"{len(data)} bytes", looked_up])
     files = table("The files", ["role", "name", "size", "SHA-256"], rows)
     library = asked.library
     answered: list[list[str]] = [["version", f"heronditch {library['version']}"]]
@@ -108,9 +110,10 @@ def place_section(place: Place, number: int, within: Sequence[int], last: int) -
 
 
 def found_sections(found: Sequence[Place], pattern: Circuit, board: Circuit) -> list[Html]:
-    """All places together, and each by itself."""
+    """All places together, the pattern, and each place by itself."""
     together = roles_table("What plays each part in any place", pattern, board, united(found))
-    sections = [element("section", element("h2", "All places together", id="together"), together), element("h2", "The places")]
+    sections = [element("section", element("h2", "All places together", id="together"), together)] if len(found) > 1 else []
+    sections += [pattern_section(pattern), element("h2", "The places")]
     for number, (place, within) in enumerate(zip(found, inner(found)), 1):
         sections.append(place_section(place, number, within, len(found)))
     return sections
@@ -144,7 +147,7 @@ def why_section(pattern: Circuit, board: Circuit) -> Html:
     if rare is None:
         return element("section", heading, element("p", "No node of the board is of a kind that the pattern asks for."))
     kind, nodes = rare
-    name = pattern.register.kind_name(kind)
+    name = kind_told(kind, pattern, board)
     told = (
         f"The rarest kind of the pattern on this board is {name}: {count(len(nodes), 'node')}. Around each of them the links below, of which"
         " none can be spared, bar a place: with these links of the pattern alone the node matches no part in its ball."
@@ -154,12 +157,12 @@ def why_section(pattern: Circuit, board: Circuit) -> Html:
         links = links_list(pattern, group.links) if group.links else Html("none: no part is of its kind and package")
         rows.append([words(group.nodes), links])
     return element(
-        "section", heading, element("p", told), table("The least links that bar", ["around", "links of the pattern"], rows)
+        "section", heading, element("p", told), table("Links that bar, none to spare", ["around", "links of the pattern"], rows)
     )
 
 
 def none_sections(pattern: Circuit, board: Circuit) -> list[Html]:
-    """Where nothing was found: the counts, what comes nearest, and what bars."""
+    """Where nothing was found: the counts, what comes nearest, what bars, and the pattern."""
     counts = match(pattern, board).counts
     meanings = {
         "started": "pairs of a part and a node that agree in kind and package",
@@ -170,13 +173,14 @@ def none_sections(pattern: Circuit, board: Circuit) -> list[Html]:
     rows = [[name, str(number), meanings[name]] for name, number in (counts._asdict() if counts else {}).items()]
     told = table("The counts, on the whole board", ["count", "number", "meaning"], rows)
     section = element("section", element("h2", "The counts", id="counts"), told)
-    return [section, near_section(pattern, board), why_section(pattern, board)]
+    return [section, near_section(pattern, board), why_section(pattern, board), pattern_section(pattern)]
 
 
 def contents(found: Sequence[Place]) -> Html:
     """The list of what the page has."""
     none = [("#counts", "The counts"), ("#nearest", "What comes nearest"), ("#bars", "What bars")]
-    entries = [*([("#together", "All places together")] if found else none), ("#pattern", "The pattern")]
+    together = [("#together", "All places together")] if len(found) > 1 else []
+    entries = [*(together if found else none), ("#pattern", "The pattern")]
     entries += [(f"#place-{number}", f"Place {number}") for number in range(1, len(found) + 1)]
     entries.append(("#asked", "What was asked"))
     listing = element("ul", *(element("li", element("a", told, href=where)) for where, told in entries))
@@ -198,10 +202,7 @@ def page(found: Sequence[Place], pattern: Circuit, board: Circuit, asked: Asked)
         element("p", answer, class_="answer" if found else "answer none", id="main"),
         contents(found),
         Html("<main>"),
-        *sections[:1],
-        *([] if found else sections[1:]),
-        pattern_section(pattern),
-        *(sections[1:] if found else []),
+        *sections,
         asked_section(asked, pattern, board),
         Html("</main>"),
     )
