@@ -130,7 +130,7 @@ def test_spice(folder: pathlib.Path) -> None:
     board = load_text("board.txt", "board")
     kinds = {name: board.register.kind_name(kind) for name, kind in zip(board.names, board.kinds)}
     assert (kinds["Q1"], kinds["R24"], kinds["C12"], kinds["X1"], kinds["b1"]) == ("npn", "resistor", "capacitor", "ic", "net")
-    assert not {"V1", "0", "VCC", "vcc", "E1", "in"} & set(kinds) and len(kinds) == 19
+    assert not {"V1", "0", "VCC", "vcc", "E1", "in", "this"} & set(kinds) and len(kinds) == 19
     assert {"b1 -> Q1", "Q1 -> c1", "Q1 -> e1", "e1 -> Q1", "c1 -> C12", "X1 -> c2"} <= links() and "Q1 -> b1" not in links()
     pattern = from_text("node q 12\nnode b 1\nnode c 1\nnode C 11\nb -> q -> c <-> C")
     assert len(places(pattern, board)) == 1
@@ -171,7 +171,7 @@ def test_rules(folder: pathlib.Path) -> None:
     """Rules of one's own; what is wrong with them is told with the line; the first that fits holds."""
     rules = "kind net 1\nkind fast 5\nkind slow 6\nvalue U *FAST* fast\nreference U slow\nnet * net\nrail SUPPLY\n"
     write("rules.txt", rules)
-    parts = "U1 74FAST00\nU2 other\nR1 10k"
+    parts = "U1 74FAST00\nU2 other\nR1 FAST"  # a rule of values is for its letters alone
     text = netlist("A U1 1 input", "A U2 1 output", "A R1 1 passive", "SUPPLY U1 2 input", "SUPPLY U2 2 input", parts=parts)
     answer = imported("in.net", text, "--rules", "rules.txt")
     board = load_text("board.txt", "board")

@@ -1,4 +1,7 @@
 Two stages, one after the other, and a buffer
+.subckt buffer plus minus o
+E1 o 0 plus minus 1e5
+.ends
 * the first stage
 C11 in b1 1u
 R11 VCC b1 100k
@@ -18,9 +21,6 @@ X1 c2 out out buffer gain=1
 V1 VCC 0 DC 12
 .model BC847 NPN(BF=200
 + IS=1e-14)
-.subckt buffer plus minus o
-E1 o 0 plus minus 1e5
-.ends
 .tran 1u 1m
 .control
 run

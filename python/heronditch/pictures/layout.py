@@ -121,7 +121,10 @@ def source(picture: Picture) -> str:
         start, end, way = tie.start, tie.end, "both" if tie.both else "forward"
         if tie.both and (depth[end], end) < (depth[start], start):
             start, end = end, start
-        lines.append(f"{start} -> {end} [id={number} dir={way} weight={8 if tie.strong else 1}]")
+        told = "weight=8" if tie.strong else "weight=1"
+        if not tie.strong and picture.spots[start].strong and picture.spots[end].strong:
+            told = "constraint=false"  # a link within the place that is not the place's has no say in the layout
+        lines.append(f"{start} -> {end} [id={number} dir={way} {told}]")
     return "\n".join([*lines, "}"]) + "\n"
 
 
