@@ -21,6 +21,7 @@ ghost use mathlib.Core.Bool.{cond};
 ghost use mathlib.Core.Path.{_≡_};
 ghost use Rattle.file_format.specs.Circuit.{circuitOf};
 ghost use Rattle.file_format.specs.Layout.{inEdition};
+ghost use Rattle.file_format.specs.Reading.{verdictOf};
 ghost use Rattle.file_format.specs.Refusals.{accept, refuse, first};
 ghost use Rattle.table.specs.Prepared.{tables};
 ghost use Rattle.table.specs.Reply.{noCounts};
@@ -58,6 +59,21 @@ fn turned_away(x: Refusal) -> PlaceAnswer
             rounds: 0,
         },
     )
+}
+
+// The answer by the verdict on two files alone: nothing is searched, and nothing counted.
+fn answer_by(verdict: FileVerdict) -> PlaceAnswer
+    ensures { λ r. ⌜ placeReply r ≡ record { verdict = verdictOf verdict; counts = noCounts } ⌝ }
+{
+    match verdict {
+        FileVerdict::Accepted => PlaceAnswer::Placed(Counts {
+            started: 0,
+            kept: 0,
+            struck: 0,
+            rounds: 0,
+        }),
+        FileVerdict::Refused(x) => turned_away(x),
+    }
 }
 
 // How many entries each of the four lent tables has.
@@ -184,22 +200,22 @@ pub fn place(
         &mut stretches,
     );
     let verdict = read.verdict;
-    let FileVerdict::Refused(x) = verdict else {
-        let radius = radius_for(reach, read.radius);
-        let parts = read.parts;
-        let n = read.nodes;
-        return find_on(
-            &pk[..parts],
-            &nk[..n],
-            &masks,
-            &offsets,
-            &stretches,
-            Asked { centre, radius },
-            nodes,
-            links,
-            table,
-            distances,
-        );
+    let FileVerdict::Accepted = verdict else {
+        return answer_by(verdict);
     };
-    turned_away(x)
+    let radius = radius_for(reach, read.radius);
+    let parts = read.parts;
+    let n = read.nodes;
+    find_on(
+        &pk[..parts],
+        &nk[..n],
+        &masks,
+        &offsets,
+        &stretches,
+        Asked { centre, radius },
+        nodes,
+        links,
+        table,
+        distances,
+    )
 }

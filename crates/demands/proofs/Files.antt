@@ -24,6 +24,7 @@ use Rattle.call_load.specs.Call.{loadConditions, loading}
 use Rattle.call_distance.specs.Calls.{ballConditions}
 use Rattle.call_bounded.specs.Call.{boundedConditions, boundedMatching}
 use Rattle.call_barring.specs.Call.{hasPlace, barInputs, barCall}
+use Rattle.call_file.specs.Told.{asRole}
 use Rattle.heronditch_told.specs.Told.{editionOf, isThird, roleOf, directionOf}
 use Rattle.demands.specs.Cutting.{cutReplies}
 use Rattle.demands.specs.Examples.{AllHold}
@@ -119,7 +120,7 @@ unfolding ToldThird opened fileT secondT isThird thirdConditions
 toldThird = (refl, refl, refl)
 
 toldRole : ToldRole
-unfolding ToldRole opened roleOf
+unfolding ToldRole opened roleOf asRole
 toldRole = refl
 
 toldDirection : ToldDirection

@@ -22,6 +22,7 @@ use Rattle.call_load.specs.Call.{loading}
 use Rattle.call_distance.specs.Calls.{ballConditions}
 use Rattle.call_bounded.specs.Call.{boundedMatching}
 use Rattle.call_barring.specs.Call.{barCall}
+use Rattle.call_file.specs.Told.{asRole}
 use Rattle.heronditch_told.specs.Told.{told, isThird, roleOf, directionOf}
 use Rattle.demands.specs.Cutting.{cutReplies}
 use Rattle.demands.specs.Examples.{Statements, done, _also_}
@@ -156,7 +157,7 @@ ToldThird =
 -- 0 and 1 a pattern, the others a board: of no node
 unfoldable pub ToldRole : Type 0
 ToldRole =
-    let asked : ℕ → Verdict = λ r. first (fileConditions (roleOf r) (firstEdition (0 ∷ 0 ∷ 0 ∷ 0 ∷ []))) in
+    let asked : ℕ → Verdict = λ r. first (fileConditions (asRole (roleOf r)) (firstEdition (0 ∷ 0 ∷ 0 ∷ 0 ∷ []))) in
     let two = refused 2 file.Pattern in
     asked 0 ∷ asked 1 ∷ asked 2 ∷ asked 3 ∷ asked 4 ∷ [] ≡ two ∷ two ∷ accept ∷ accept ∷ accept ∷ []
 

@@ -4,6 +4,7 @@ ghost use Rattle.file_format.specs.Reading.{reading};
 ghost use Rattle.file_write.specs.Writing.{writing};
 ghost use Rattle.graph_neighbours.specs.Lookup.{neighboursOf};
 ghost use Rattle.call_convert.specs.Call.{converting};
+ghost use Rattle.call_file.specs.Told.{asRole};
 ghost use Rattle.call_distance.specs.Calls.{radiusCall, ballCall};
 ghost use Rattle.call_load.specs.Call.{loading};
 ghost use Rattle.call_merge.specs.Call.{merging};
@@ -40,9 +41,9 @@ pub extern "C" fn heronditch_read(
     ends: &mut [u16],
 ) -> HostReply
     ensures { λ r. ⌜ record { reply = r; kinds = now (kinds .exit); packages = now (packages .exit); starts = now (starts .exit); ends = now (ends .exit) }
-        ≡ hostRead (reading (roleOf role) (told (now (file .entry)) edition) (now (kinds .entry)) (now (packages .entry)) (now (starts .entry)) (now (ends .entry))) ⌝ }
+        ≡ hostRead (reading (asRole (roleOf role)) (told (now (file .entry)) edition) (now (kinds .entry)) (now (packages .entry)) (now (starts .entry)) (now (ends .entry))) ⌝ }
 {
-    of_read(file_read::read(
+    of_read(call_file::read(
         role_of(role),
         edition_of(edition),
         file,
@@ -65,9 +66,9 @@ pub extern "C" fn heronditch_write(
     out: &mut [u8],
 ) -> HostReply
     ensures { λ r. ⌜ record { reply = r; out = now (out .exit) }
-        ≡ hostWrite (writing (roleOf role) (editionOf edition) (now (kinds .entry)) (now (packages .entry)) (now (starts .entry)) (now (ends .entry)) (now (out .entry))) ⌝ }
+        ≡ hostWrite (writing (asRole (roleOf role)) (editionOf edition) (now (kinds .entry)) (now (packages .entry)) (now (starts .entry)) (now (ends .entry)) (now (out .entry))) ⌝ }
 {
-    of_write(file_write::write(
+    of_write(call_file::write(
         role_of(role),
         edition_of(edition),
         kinds,
@@ -88,9 +89,9 @@ pub extern "C" fn heronditch_convert(
     out: &mut [u8],
 ) -> HostReply
     ensures { λ r. ⌜ record { reply = r; out = now (out .exit) }
-        ≡ hostConvert (converting (roleOf role) (editionOf «to_edition») (told (now (file .entry)) edition) (now (out .entry))) ⌝ }
+        ≡ hostConvert (converting (asRole (roleOf role)) (editionOf «to_edition») (told (now (file .entry)) edition) (now (out .entry))) ⌝ }
 {
-    of_convert(call_convert::convert(
+    of_convert(call_file::convert(
         role_of(role),
         edition_of(edition),
         edition_of(to_edition),

@@ -6,9 +6,9 @@ use Prim.Native.Nat.{ℕ}
 use lib.Dec.{ltb}
 use Rattle.file_format.specs.declared.Edition.{Edition}
 use Rattle.file_format.specs.declared.Edition.the-variants.{First, Second}
-use Rattle.file_format.specs.declared.Role.{Role}
-use Rattle.file_format.specs.declared.Role.the-variants.{Pattern, Board}
 use Rattle.file_format.specs.Layout.{CircuitFile, inEdition}
+use Rattle.call_file.specs.declared.FileRole.{FileRole}
+use Rattle.call_file.specs.declared.FileRole.the-variants.{Pattern, Board}
 use Rattle.graph_neighbours.specs.declared.neighbours.Direction.{Direction}
 use Rattle.graph_neighbours.specs.declared.neighbours.Direction.the-variants.{Forward, Backward}
 
@@ -25,7 +25,7 @@ abbrev pub told : List ℕ → ℕ → CircuitFile
 told bytes edition = inEdition (editionOf edition) bytes
 
 -- "Reading and writing are told the role": 1 a pattern, 2 a board
-unfoldable pub roleOf : ℕ → Role
+unfoldable pub roleOf : ℕ → FileRole
 roleOf number = cond (ltb number 2) Pattern Board
 
 -- "The neighbour lookup, told a direction": 1 what a node drives, 2 what drives it

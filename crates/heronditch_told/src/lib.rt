@@ -1,9 +1,9 @@
 // What a host program tells by a number: an edition, a role, a direction. Every number has an answer.
 ghost use mathlib.Core.Path.{_≡_};
 ghost use Rattle.heronditch_told.specs.Told.{editionOf, roleOf, directionOf};
+use call_file::FileRole;
 use file_format::Edition;
 use file_format::Editions;
-use file_format::Role;
 use graph_neighbours::neighbours::Direction;
 
 // The edition that a number stands for.
@@ -27,13 +27,13 @@ pub fn editions_of(pattern: u32, board: u32) -> Editions
 }
 
 // The role that a number stands for.
-pub fn role_of(number: u32) -> Role
+pub fn role_of(number: u32) -> FileRole
     ensures { λ r. ⌜ r ≡ roleOf number ⌝ }
 {
     if number < 2 {
-        return Role::Pattern;
+        return FileRole::Pattern;
     }
-    Role::Board
+    FileRole::Board
 }
 
 // The direction that a number stands for.

@@ -6,8 +6,10 @@ use borrow.Author.Needs.{needs}
 use lib.Seq.{length-take-le}
 use Rattle.file_format.specs.declared.Role.the-variants.{Pattern}
 use Rattle.file_format.specs.Layout.{inEdition}
+use Rattle.file_format.specs.Reading.{verdictOf}
 use Rattle.table.specs.Prepared.{tables}
 use Rattle.table.specs.Row.{bothWays}
+use Rattle.place.specs.Outcome.{placeReply}
 use Rattle.call_prepare.specs.Read.{BothPrepared}
 use Rattle.call_prepare.proofs.Ready.{turned-pair, ready-verdict, ready-both}
 use Rattle.call_place.proofs.Finding.{ready-drawn, find-refused, find-read}
@@ -32,11 +34,20 @@ slice-aggregate-read-prepared-5 c = search needs
 read-prepared-requires : tie.Need-read-prepared-requires
 read-prepared-requires c κs = (record { nodes = refl; links = refl }, ((refl, refl), (refl, record { inOffsets = refl; inLinks = refl })))
 
-enum-known-verdict : tie.Need-enum-known-verdict
-enum-known-verdict c = search needs
-
 enum-told : tie.Need-enum-told
 enum-told c = search needs
+
+enum-told-2 : tie.Need-enum-told-2
+enum-told-2 c = search needs
+
+answer-by-requires : tie.Need-answer-by-requires
+answer-by-requires c κs = search needs
+
+returns : tie.Need-returns
+unfolding verdictOf placeReply
+returns c =
+    let told = c .before .enum-told2 .given .1 in
+    rw (c .answer-by .ensures, told) (find-refused _ _ _ _ _ _ _ _ (turned-pair (c .before .before .before .before .before .before .before .before .read-prepared .ensures) told))
 
 radius-for-requires : tie.Need-radius-for-requires
 radius-for-requires c κs = search needs
@@ -85,17 +96,10 @@ same-length-3 c = search needs
 same-length-4 : tie.Need-same-length-4
 same-length-4 c = search needs
 
-returns : tie.Need-returns
-returns c =
-    find-read _ _ _ _ _ _ _ _ (ready-verdict (c .before .before .before .before .before .before .before .before .before .before .before .before .before .before .before .before .before .before .before .before .before .before .before .before .before .before .read-prepared .ensures) (c .before .before .before .before .before .before .before .before .before .before .before .before .before .before .before .before .before .before .before .enum-told .given .1)) (ready (c .before .before .before .before .before .before .before .before .before .before .before .before .before .before .before .before .before .before .before))
-    (c .before .before .before .before .before .before .before .before .before .before .before .before .before .before .before .before .before .before .radius-for .ensures) (c .before .before .before .before .before .before .before .before .find-on .ensures)
-
-turned-away-requires : tie.Need-turned-away-requires
-turned-away-requires c κs = search needs
-
 returns-2 : tie.Need-returns-2
 returns-2 c =
-    rw (c .turned-away .ensures) (find-refused _ _ _ _ _ _ _ _ (turned-pair (c .before .before .before .before .before .before .before .before .before .read-prepared .ensures) (c .before .before .verdict .given .1)))
+    find-read _ _ _ _ _ _ _ _ (ready-verdict (c .before .before .before .before .before .before .before .before .before .before .before .before .before .before .before .before .before .before .before .before .before .before .before .before .before .before .read-prepared .ensures) (c .before .before .before .before .before .before .before .before .before .before .before .before .before .before .before .before .before .before .before .enum-told .given .1)) (ready (c .before .before .before .before .before .before .before .before .before .before .before .before .before .before .before .before .before .before .before))
+    (c .before .before .before .before .before .before .before .before .before .before .before .before .before .before .before .before .before .before .radius-for .ensures) (c .before .before .before .before .before .before .before .before .find-on .ensures)
 
 pub place-spec : {M : Type 1} → statement M
 place-spec =
@@ -107,8 +111,10 @@ place-spec =
     slice-aggregate-read-prepared-4
     slice-aggregate-read-prepared-5
     read-prepared-requires
-    enum-known-verdict
     enum-told
+    enum-told-2
+    answer-by-requires
+    returns
     radius-for-requires
     array-share-prefix-pk
     slice-aggregate-find-on
@@ -122,6 +128,4 @@ place-spec =
     same-length-2
     same-length-3
     same-length-4
-    returns
-    turned-away-requires
     returns-2)
