@@ -77,6 +77,11 @@ def version() -> int:
     return int(lib.heronditch_version())
 
 
+def library_sha256() -> str:
+    """The SHA-256 of the library's archive that was linked."""
+    return str(ffi.string(lib.LIBRARY_SHA256), "ascii")
+
+
 def message(number: int) -> str:
     """The library's sentence for a number of refusal."""
     return str(ffi.string(lib.heronditch_message(number)), "utf-8")

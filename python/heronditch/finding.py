@@ -195,7 +195,7 @@ def places(pattern: Circuit, board: Circuit) -> list[Place]:
     whole = match(pattern, board)
     found = []
     with _pair(pattern, board) as files:
-        for body, centres in _bodies(lines, board).items():
+        for body, centres in bodies(lines, len(board.names)).items():
             counts, marks = bindings.place(*files, centres[0])
             if marks is None or not bindings.check(*files, centres[0], marks.nodes, marks.links):
                 raise Bug(f"the report has a place around '{board.names[centres[0]]}', and the place call or the check has none")
@@ -221,14 +221,14 @@ def report_of(found: Iterable[Place], board: Circuit) -> bytes:
     return b"".join(told) + b"end %d of %d\n" % (len(lines), len(board.names))
 
 
-def _bodies(lines: bytes, board: Circuit) -> dict[bytes, list[int]]:
-    """The distinct places of a report, each by what stands after the colon, and their centres."""
+def bodies(lines: bytes, nodes: int) -> dict[bytes, list[int]]:
+    """The distinct places of a report on a board of so many nodes, each by what stands after the colon, and their centres."""
     found: dict[bytes, list[int]] = {}
     *heads, last, rest = lines.split(b"\n")
     for line in heads:
         head, _, body = line.partition(b": ")
         found.setdefault(body, []).append(int(head[len(b"place ") :]))
-    if rest or last != f"end {len(heads)} of {len(board.names)}".encode():
+    if rest or last != f"end {len(heads)} of {nodes}".encode():
         raise Bug(f"the report does not end as it has to: {last!r}")
     return found
 

@@ -258,15 +258,19 @@ class _Register(Reader):
             self.fault("a register has 'kind NAME NUMBER' and 'package NAME NUMBER' lines alone")
 
 
-def _decoded(path: str) -> str:
-    """The text of a file."""
-    with open(path, "rb") as file:
-        data = file.read()
+def decoded(data: bytes, name: str) -> str:
+    """The text of a file's bytes."""
     try:
         return data.decode("utf-8-sig")
     except UnicodeDecodeError as error:
         line = data[: error.start].count(b"\n") + 1
-        raise Faults([f"{path}:{line}: not a UTF-8 text"]) from None
+        raise Faults([f"{name}:{line}: not a UTF-8 text"]) from None
+
+
+def _decoded(path: str) -> str:
+    """The text of a file."""
+    with open(path, "rb") as file:
+        return decoded(file.read(), path)
 
 
 def from_text(text: str, name: str = "text", role: str | None = None, folder: str = "") -> Circuit:

@@ -24,6 +24,8 @@ MODULES = {
     "merge": "patterns",
     "order": "patterns",
     "shelf": "patterns",
+    "batch": "batch",
+    "verify": "verify",
     "make": "files",
     "show": "files",
     "convert": "files",
@@ -72,7 +74,7 @@ def complain(out: Out, error: Exception, arguments: argparse.Namespace) -> int:
         out.trouble(error.messages, {})
     elif isinstance(error, OSError):
         mend = "; give a circuit in it by its name" if isinstance(error, IsADirectoryError) else ""
-        out.trouble([f"{error.filename}: {error.strerror}{mend}"], {})
+        out.trouble([f"{error.filename or 'standard output'}: {error.strerror}{mend}"], {})
     else:
         out.trouble([str(error)], {"bug": True})
     return TROUBLE
