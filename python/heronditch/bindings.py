@@ -83,8 +83,9 @@ def library_sha256() -> str:
 
 
 def message(number: int) -> str:
-    """The library's sentence for a number of refusal."""
-    return str(ffi.string(lib.heronditch_message(number)), "utf-8")
+    """The library's sentence for a number of refusal, as it stands after a colon."""
+    sentence = str(ffi.string(lib.heronditch_message(number)), "utf-8")
+    return sentence[:1].lower() + sentence[1:]
 
 
 def demand(reply: Any) -> None:

@@ -280,6 +280,8 @@ class Circuit:
         """Demands that the circuit fits a role: 'pattern', 'board', or 'bits' for a pattern of the whole-board table alone."""
         file = PATTERN if role == BITS else role
         _check_size(len(self.kinds), len(self.links), role, file)
+        if role == BOARD and self.bounds is not None:
+            raise Refused(3, file, "it has bounds, which are for patterns", "Leave them out.")
         wrong = self.shape() if role == PATTERN and self.bounds is None else None
         if wrong:
             raise wrong

@@ -12,17 +12,16 @@ AGAIN = "make it again from its text (heronditch make)"
 
 MEND = {
     1: f"The file is empty or was cut short: {AGAIN}.",
-    2: "A pattern has 1 to 32 parts and at most 256 links, a board at most 512 nodes and 4096 links:"
-    " leave out what is not needed, or look at a part of it.",
+    2: "Leave out what is not needed, or look at a part of the board at a time.",
     3: f"The file was cut short or added to, or it is no circuit file: {AGAIN}.",
     4: f"The file is damaged: {AGAIN}.",
     5: f"The file is damaged, or another program wrote its links in another order: {AGAIN}.",
     6: "Join its bits by the links that were left out; of a pattern in several bits only the whole board can be"
     " asked (heronditch match, heronditch cut).",
-    7: "The nodes of a board are numbered from 0.",
+    7: "Give one of them.",
     8: "This is a mistake in heronditch, and not yours: please report it.",
     9: "Ask for the links that stand in the way (heronditch why).",
-    10: "SEED is a number below 4294967296, N is 1 to 512, M at most 4096 and K 1 to 65536.",
+    10: "Give four such numbers, each from 0 on and below 4294967296.",
     11: "Look between these two for a link that was left out, or for two circuits drawn as one; of a wider pattern"
     " only the whole board can be asked (heronditch match, heronditch cut).",
     12: "Keep the second edition, or leave the packages out (--without-packages).",

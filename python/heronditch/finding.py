@@ -12,7 +12,7 @@ from typing import Iterable, Iterator, Mapping, Sequence
 from . import bindings
 from .bindings import OUTSIDE, Counts, File, Marks
 from .circuits import BITS, SECOND, Circuit, Link, Node
-from .errors import BOARD, PATTERN, Bug, Faults, Refused
+from .errors import BOARD, NEITHER, PATTERN, Bug, Faults, Refused
 
 Roles = tuple[tuple[int, ...], ...]
 
@@ -224,12 +224,15 @@ def report_of(found: Iterable[Place], board: Circuit) -> bytes:
 def bodies(lines: bytes, nodes: int) -> dict[bytes, list[int]]:
     """The distinct places of a report on a board of so many nodes, each by what stands after the colon, and their centres."""
     found: dict[bytes, list[int]] = {}
-    *heads, last, rest = lines.split(b"\n")
+    *heads, last = lines.removesuffix(b"\n").split(b"\n")
     for line in heads:
         head, _, body = line.partition(b": ")
-        found.setdefault(body, []).append(int(head[len(b"place ") :]))
-    if rest or last != f"end {len(heads)} of {nodes}".encode():
-        raise Bug(f"the report does not end as it has to: {last!r}")
+        centre = head.removeprefix(b"place ")
+        if not centre.isdigit():
+            raise Bug(f"the report has a line that is none: {line[:60]!r}")
+        found.setdefault(body, []).append(int(centre))
+    if lines[-1:] != b"\n" or last != b"end %d of %d" % (len(heads), nodes):
+        raise Bug(f"the report does not end as it has to: {last[:60]!r}")
     return found
 
 
@@ -278,16 +281,20 @@ class Session:
     def cut(self, link: int | tuple[Node, Node]) -> Link:
         """Cuts a link, told by its place in the board's file or by its ends; refused with 14 where it is out already or is none."""
         number = link if isinstance(link, int) else self._place(link)
-        if number < 0:
-            raise Refused(14, "", bindings.message(14))
-        self._session.cut(number)
+        if not 0 <= number < len(self.board.links):
+            raise Refused(14, NEITHER, f"the board has {len(self.board.links)} links, from 0 on, and none at place {number}")
+        try:
+            self._session.cut(number)
+        except Refused as refused:
+            told = f"the link '{self.board.told(self.board.links[number])}' is out already"
+            raise Refused(refused.number, NEITHER, told) from None
         return self.board.links[number]
 
     def _place(self, link: tuple[Node, Node]) -> int:
         """The place of a link in the board's file."""
         ends = (self.board.number(link[0]), self.board.number(link[1]))
         if ends not in self.board.links:
-            raise Refused(14, "", f"the board has no link '{self.board.told(ends)}'")
+            raise Refused(14, NEITHER, f"the board has no link '{self.board.told(ends)}'")
         return self.board.links.index(ends)
 
     def match(self) -> Match:

@@ -10,6 +10,7 @@ import sys
 from importlib import import_module
 from typing import Sequence
 
+from ..bindings import version
 from ..errors import Bug, Faults, Refused
 from .subcommands import NONE, TROUBLE, Out, Subcommand
 
@@ -49,6 +50,7 @@ def parser(words: Sequence[str]) -> argparse.ArgumentParser:
     """The parser of a command line."""
     plain = argparse.RawDescriptionHelpFormatter
     whole = argparse.ArgumentParser("heronditch", description=ABOUT, epilog=STATUS, formatter_class=plain)
+    whole.add_argument("--version", action="version", version=f"heronditch {version()}", help="print the version of the library")
     choices = whole.add_subparsers(required=True, metavar="SUBCOMMAND")
     for one in subcommands(words):
         form = choices.add_parser(

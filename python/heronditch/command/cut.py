@@ -13,7 +13,7 @@ from ..text import ARROWS, drawn_links, number_of, words_of
 from .inputs import add_both, both_of, node_of
 from .notes import on_none
 from .subcommands import Out, Subcommand
-from .telling import by_names, rows
+from .telling import by_names, part_labels, rows
 
 Cut = Union[int, tuple[int, int]]
 
@@ -44,7 +44,7 @@ def left(now: Match, before: Match) -> list[str]:
     lost = [[node for node in was if node not in nodes] for nodes, was in zip(now.roles, before.roles)]
     return rows(
         (name, [*now.board.named(nodes), *(["(lost", *now.board.named(gone), "now)"] if gone else [])])
-        for name, nodes, gone in zip(now.pattern.names, now.roles, lost)
+        for name, nodes, gone in zip(part_labels(now.pattern), now.roles, lost)
     )
 
 

@@ -44,7 +44,13 @@ def rows(pairs: Rows) -> list[str]:
 
 def role_rows(pattern: Circuit, board: Circuit, roles: Roles) -> list[str]:
     """A line for each part, with the nodes that play it."""
-    return rows((name, board.named(nodes) or ["-"]) for name, nodes in zip(pattern.names, roles))
+    return rows((name, board.named(nodes) or ["-"]) for name, nodes in zip(part_labels(pattern), roles))
+
+
+def part_labels(pattern: Circuit) -> list[str]:
+    """The parts by name, or by number where the pattern has no names."""
+    numbered = all(name == str(number) for number, name in enumerate(pattern.names))
+    return [f"part {name}" for name in pattern.names] if numbered else list(pattern.names)
 
 
 def by_names(pattern: Circuit, board: Circuit, roles: Roles) -> dict[str, list[str]]:

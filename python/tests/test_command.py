@@ -1,0 +1,204 @@
+"""Every subcommand on every sample: what it prints is what is stored in expected/, and files that it writes are those of the samples.
+
+HERONDITCH_STORE=1 stores what is printed now; look at what changed before it is kept."""
+
+from __future__ import annotations
+
+import json
+import os
+import pathlib
+import shlex
+
+import pytest
+
+from conftest import ROOT, run
+from heronditch.command import MODULES, subcommands
+
+EXPECTED = pathlib.Path(__file__).with_name("expected")
+
+
+def on(
+    sample: str, found: str, none: str, cuts: str, pattern: str = "pattern.txt", board: str = "board.txt"
+) -> list[tuple[str, str]]:
+    """The runs on a sample: every subcommand that takes its pattern and its board, a node with a place, one without, and cuts."""
+    one, other = f"samples/{sample}/{pattern}", f"samples/{sample}/{board}"
+    both = f"{one} {other}"
+    return [
+        (f"find {both}", ""),
+        (f"find --lines {both}", ""),
+        (f"find --json {both}", ""),
+        (f"find --without-packages --without-bounds {both}", ""),
+        (f"place {both} {found}", ""),
+        (f"place --radius 1 {both} {found}", ""),
+        (f"place {both} {none}", ""),
+        (f"match {both}", ""),
+        (f"match --one-way {both}", ""),
+        (f"why {both} {found}", ""),
+        (f"why {both} {none}", ""),
+        (f"why --json {both} {none}", ""),
+        (f"check {both} {found}", f"{found}\n"),
+        (f"cut {both}", cuts),
+        (f"cut --json {both}", cuts),
+        (f"merge {one}", ""),
+        (f"order {one} {other} {one}", ""),
+        (f"show {one}", ""),
+        (f"convert --as pattern --edition second {one} out.cir", ""),
+        ("show out.cir", ""),
+        (f"make {one.replace('.cir', '.txt')} made.cir", ""),
+    ]
+
+
+RUNS = {
+    "mute": [
+        *on("mute", "Q3", "Q5", "Q3 -> out.S\nQ1 -> out.L\n# nothing\nQ1 -> out.L\nnonsense\nC1 <-> line.L\n400\n0\n"),
+        (
+            "check samples/mute/pattern.txt samples/mute/board.txt Q1",
+            "P1 -> mute <-> R2 <-> base.L -> Q1 -> out.L <-> R1 <-> line.L <-> C1",
+        ),
+        ("find samples/mute/pattern.cir samples/mute/board.txt", ""),
+        ("find --board-names samples/mute/board.txt samples/mute/pattern.txt samples/mute/board.cir", ""),
+        ("tell samples/mute/board.txt samples/mute/report.txt", ""),
+        ("tell --distance samples/mute/board.txt samples/mute/report.txt", ""),
+    ],
+    "any": on("any", "X1", "U4", "U1 -> amp.M\nR1 <-> out.M\n"),
+    "rail": on("rail", "REG1", "ext", "V -> C\n+12V -> C1\n"),
+    "packages": [*on("packages", "Q1", "Q3", "0\n1\n2\n"), ("find samples/packages/pattern.cir samples/packages/board2.cir", "")],
+    "stereo": [*on("stereo", "U1A", "J1", "R1 <-> mid.L\n"), ("match samples/stereo/pattern.txt samples/stereo/mono.txt", "")],
+    "coupling": [
+        *on("coupling", "Q1", "Q3", "in.1 -> Q1\n"),
+        ("place --without-bounds samples/coupling/pattern.txt samples/coupling/board.txt Q1", ""),
+        ("why --without-bounds samples/coupling/pattern.txt samples/coupling/board.txt Q3", ""),
+        ("match samples/coupling/pattern3.cir samples/coupling/board.cir", ""),
+    ],
+    "worked": on("worked", "1", "3", "2\n1\n1\n3\n0\n", "pattern.cir", "board.cir")[:-1],
+    "shelf": [
+        ("shelf samples/shelf", ""),
+        ("shelf --lines samples/shelf", ""),
+        ("shelf --json samples/shelf", ""),
+        ("order samples/shelf/stage.txt samples/shelf/p00.cir samples/shelf/p04.cir samples/shelf/follower.txt", ""),
+        ("order --json samples/shelf/p04.cir samples/shelf/stage.txt", ""),
+        ("order samples/shelf/stage.txt samples/shelf/bits.txt", ""),
+        ("merge samples/shelf/wires.txt -o merged.txt", ""),
+        ("show merged.txt", ""),
+    ],
+    "test-board": [
+        ("test-board 1 5 5 3", ""),
+        ("test-board 1 5 5 3 -o board.cir", ""),
+        ("show --json board.cir", ""),
+        ("test-board 1 0 5 3", ""),
+        ("test-board one 0 5 3", ""),
+    ],
+}
+
+
+def transcript(runs: list[tuple[str, str]]) -> str:
+    """What runs of the command print: each after its command line, standard error after '! ', and the status."""
+    lines = []
+    for words, given in runs:
+        done = run(*shlex.split(words), given=given)
+        lines += [f"$ heronditch {words}", *(f"< {line}" for line in given.splitlines())]
+        lines += [*done.out.splitlines(), *(f"! {line}" for line in done.err.splitlines()), f"[{done.status}]", ""]
+    return "\n".join(lines)
+
+
+@pytest.mark.parametrize("name", list(RUNS))
+def test_stored(folder: pathlib.Path, name: str, monkeypatch: pytest.MonkeyPatch) -> None:
+    """What is printed is what is stored."""
+    monkeypatch.setenv("COLUMNS", "100")
+    os.symlink(ROOT / "samples", "samples")
+    seen = transcript(RUNS[name])
+    path = EXPECTED / f"{name}.txt"
+    if os.environ.get("HERONDITCH_STORE"):
+        path.write_text(seen, encoding="utf-8")
+    assert seen.splitlines() == path.read_text(encoding="utf-8").splitlines()
+    assert "Traceback" not in seen
+
+
+def test_every_subcommand_is_tried() -> None:
+    """No subcommand is without a stored run."""
+    tried = {words.split()[0] for runs in RUNS.values() for words, _ in runs}
+    assert tried == set(MODULES) == {one.name for one in subcommands([])}
+
+
+def test_lines_are_the_reports() -> None:
+    """--lines gives the stored reports, byte for byte; status as grep has it."""
+    for name in ("mute", "any", "rail", "worked", "packages", "coupling"):
+        done = run("find", "--lines", f"samples/{name}/pattern.cir", f"samples/{name}/board.cir")
+        assert done == (0, (ROOT / f"samples/{name}/report.txt").read_text(), "")
+    assert run("shelf", "--lines", "samples/shelf").out == (ROOT / "samples/shelf/shelf.txt").read_text()
+
+
+def test_matches_are_those_of_c() -> None:
+    """The tables that the C programs print on the samples, by the names of the texts."""
+    for name, more, stored in (("packages", [], "matched"), ("coupling", [], "matched")):
+        done = run("match", "--json", f"samples/{name}/pattern.txt", f"samples/{name}/board.txt", *more)
+        parts = json.loads(done.out)["parts"]
+        board = [
+            line.split()[1] for line in (ROOT / f"samples/{name}/board.txt").read_text().splitlines() if line.startswith("node ")
+        ]
+        lines = [line.split(": ")[1].split() for line in (ROOT / f"samples/{name}/{stored}.txt").read_text().splitlines()]
+        assert list(parts.values()) == [[board[int(node)] for node in line] for line in lines]
+
+
+MADE = [
+    ("mute/pattern", "pattern", []),
+    ("mute/board", "board", []),
+    ("any/pattern", "pattern", []),
+    ("any/board", "board", []),
+    ("rail/pattern", "pattern", []),
+    ("rail/board", "board", []),
+    ("stereo/pattern", "bits", []),
+    ("stereo/board", "board", []),
+    ("stereo/mono", "board", []),
+    ("packages/pattern", "pattern", ["--without-packages"]),
+    ("packages/board", "board", ["--without-packages"]),
+    ("coupling/pattern", "pattern", ["--without-bounds"]),
+    ("coupling/board", "board", []),
+]
+
+
+@pytest.mark.parametrize("name, role, more", MADE)
+def test_samples_are_made(tmp_path: pathlib.Path, name: str, role: str, more: list[str]) -> None:
+    """The files of the samples come from their texts."""
+    assert run("make", "--as", role, *more, f"samples/{name}.txt", tmp_path / "out.cir").status == 0
+    assert (tmp_path / "out.cir").read_bytes() == (ROOT / f"samples/{name}.cir").read_bytes()
+
+
+@pytest.mark.parametrize("text, file", [("wires", 0), ("stage", 1), ("bits", 2), ("follower", 3), ("stage", 4)])
+def test_the_shelf_is_made(tmp_path: pathlib.Path, text: str, file: int) -> None:
+    """The files of the shelf come from their texts."""
+    assert run("make", "--edition", "second", f"samples/shelf/{text}.txt", tmp_path / "out.cir").status == 0
+    assert (tmp_path / "out.cir").read_bytes() == (ROOT / f"samples/shelf/p{file:02}.cir").read_bytes()
+
+
+def test_help() -> None:
+    """Every subcommand has help with an example that runs."""
+    assert run("--help").status == 0 and run().status == 2 and run("nonsense").status == 2
+    assert run("--version").out.startswith("heronditch 3")
+    for one in subcommands([]):
+        done = run(one.name, "--help")
+        assert done.status == 0 and one.example in done.out and "--json" in done.out
+        assert run(one.name).status == 2
+
+
+def test_examples_of_the_help(folder: pathlib.Path) -> None:
+    """The examples of the help give status 0."""
+    os.symlink(ROOT / "samples", "samples")
+    for one in subcommands([]):
+        for line in one.example.splitlines():
+            given, _, words = (
+                line.rpartition("| heronditch ") if "|" in line else ("", "", line.strip().removeprefix("heronditch "))
+            )
+            text = shlex.split(given)[1] + "\n" if given else ""
+            assert run(*shlex.split(words), given=text).status == 0, line
+
+
+def test_json_everywhere(folder: pathlib.Path) -> None:
+    """With --json every answer is an object a line, and so is every trouble."""
+    os.symlink(ROOT / "samples", "samples")
+    for runs in RUNS.values():
+        for words, given in runs:
+            done = run(*shlex.split(words), "--json", given=given)
+            answers = [json.loads(line) for line in done.out.splitlines()]
+            assert answers or "usage:" in done.err
+            assert any("trouble" in answer for answer in answers) == (done.status == 2) or "usage:" in done.err
