@@ -2,22 +2,33 @@
 
 from __future__ import annotations
 
+import io
 import json
 import os
 import stat
 import sys
-from typing import Any, Iterable, Iterator, Sequence
+from typing import Any, Iterable, Iterator, Protocol, Sequence
 
 from ..errors import Faults
 from .ending import Ending
 
 
+class Raw(Protocol):
+    """A file that may take a part of what it is given."""
+
+    def write(self, data: bytes, /) -> int | None:
+        """Writes bytes; how many it took."""
+
+    def fileno(self) -> int:
+        """The number by which the system knows it."""
+
+
 class Lines:
     """A file that is written in whole lines."""
 
-    def __init__(self, descriptor: int, name: str, ending: Ending) -> None:
+    def __init__(self, raw: Raw, name: str, ending: Ending) -> None:
         self.count = 0
-        self._descriptor = descriptor
+        self._raw = raw
         self._name = name
         self._ending = ending
 
@@ -27,20 +38,27 @@ class Lines:
         with self._ending.held():
             try:
                 while done < len(data):
-                    done += os.write(self._descriptor, data[done:])
+                    done += self._raw.write(data[done:]) or 0
             except OSError as error:
                 self.count += data[:done].count(b"\n")
                 self._cut(done - (data.rfind(b"\n", 0, done) + 1))
                 raise self._failed(error) from None
             self.count += len(lines)
 
-    def close(self) -> None:
-        """Demands that what was written is kept, where the file can say so."""
+    def keep(self) -> None:
+        """Demands that what was written is kept, where that can be asked: not of a pipe."""
         try:
-            if stat.S_ISREG(os.fstat(self._descriptor).st_mode):
-                os.fsync(self._descriptor)
+            if self._is_file():
+                os.fsync(self._raw.fileno())
         except OSError as error:
             raise self._failed(error) from None
+
+    def _is_file(self) -> bool:
+        """Whether this is a file, and no pipe or device."""
+        try:
+            return stat.S_ISREG(os.fstat(self._raw.fileno()).st_mode)
+        except io.UnsupportedOperation:
+            return False
 
     def _failed(self, error: OSError) -> Faults:
         told = f"{self._name}: {error.strerror}: it ends after {self.count} whole lines"
@@ -48,30 +66,31 @@ class Lines:
 
     def _cut(self, torn: int) -> None:
         """Cuts off the beginning of a line, where that is the end of a file."""
-        if torn and stat.S_ISREG(os.fstat(self._descriptor).st_mode):
-            end = os.lseek(self._descriptor, 0, os.SEEK_CUR)
-            if end == os.fstat(self._descriptor).st_size:
-                os.ftruncate(self._descriptor, end - torn)
+        if torn and self._is_file():
+            descriptor = self._raw.fileno()
+            end = os.lseek(descriptor, 0, os.SEEK_CUR)
+            if end == os.fstat(descriptor).st_size:
+                os.ftruncate(descriptor, end - torn)
 
 
 def standard_output(ending: Ending) -> Lines:
     """The lines of standard output."""
     sys.stdout.flush()
-    return Lines(sys.stdout.fileno(), "standard output", ending)
+    return Lines(getattr(sys.stdout.buffer, "raw", sys.stdout.buffer), "standard output", ending)
 
 
 def new_file(path: str, ending: Ending) -> Lines:
     """The lines of a file, which must have none yet."""
     if os.path.isfile(path) and os.path.getsize(path):
         raise Faults([f"{path}: there are lines in it: go on after them by --resume {path}, or give another name"])
-    return Lines(os.open(path, os.O_WRONLY | os.O_CREAT | os.O_APPEND, 0o666), path, ending)
+    return Lines(open(path, "ab", buffering=0), path, ending)
 
 
 def further(path: str, ending: Ending) -> Lines:
     """The lines of a file, after those that are there; the beginning of a line at its end is cut off."""
-    descriptor = os.open(path, os.O_RDWR | os.O_CREAT | os.O_APPEND, 0o666)
-    os.ftruncate(descriptor, whole_bytes(path))
-    return Lines(descriptor, path, ending)
+    file = open(path, "ab", buffering=0)
+    file.truncate(whole_bytes(path))
+    return Lines(file, path, ending)
 
 
 def whole_lines(path: str) -> Iterator[bytes]:

@@ -44,14 +44,16 @@ def listed(null: bool) -> list[str]:
 
 
 def expanded(word: str) -> list[str]:
-    """A file's name, or those of the circuits in a folder, in the order of their names."""
+    """A file's name, or those of the circuit files in a folder, of its texts where it has none; in the order of their names."""
     if not os.path.isdir(word):
         return [word]
     with os.scandir(word) as entries:
-        names = sorted(entry.name for entry in entries if entry.name.endswith(ENDS) and entry.is_file())
-    if not names:
-        raise Faults([f"{word}: the folder has no file whose name ends in .cir or .txt"])
-    return [os.path.join(word, name) for name in names]
+        files = sorted(entry.name for entry in entries if entry.is_file())
+    for end in ENDS:
+        names = [name for name in files if name.endswith(end)]
+        if names:
+            return [os.path.join(word, name) for name in names]
+    raise Faults([f"{word}: the folder has no file whose name ends in .cir or .txt"])
 
 
 def read(name: str, role: str) -> Source:
@@ -71,6 +73,12 @@ def sha256_of(data: bytes) -> str:
     return hashlib.sha256(data).hexdigest()
 
 
+def first_of(sentences: Sequence[str]) -> str:
+    """The first sentence, and how many more there are."""
+    more = f" (and {len(sentences) - 1} more)" if len(sentences) > 1 else ""
+    return f"{sentences[0]}{more}"
+
+
 def understood(name: str, data: bytes, role: str) -> Source:
     """The circuit of a file's bytes, which are a text where the name ends so, or ends in neither way and no byte is 0."""
     sha256 = sha256_of(data)
@@ -79,7 +87,7 @@ def understood(name: str, data: bytes, role: str) -> Source:
     try:
         circuit = from_text(decoded(data, name), name, role, os.path.dirname(name))
     except Faults as wrong:
-        return Source(name, sha256, fault="; ".join(wrong.messages))
+        return Source(name, sha256, fault=first_of(wrong.messages))
     except OSError as error:
         return Source(name, sha256, fault=f"{error.filename}: {error.strerror}")
     file = File(circuit.to_bytes(), circuit.edition)

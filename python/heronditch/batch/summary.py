@@ -2,6 +2,7 @@
 
 from __future__ import annotations
 
+import json
 import os
 from typing import Iterable, Sequence
 
@@ -26,15 +27,21 @@ def cell(count: Count) -> str:
 
 
 class Table:
-    """The lines of a table, one for each board, as they come."""
+    """A table for reading: its lines, one for each board, as they come."""
 
     def __init__(self, patterns: Sequence[str], boards: Sequence[str]) -> None:
         self._patterns = patterns
         self._heads = heads(patterns)
         self._boards = max([len("board"), *map(len, boards)])
         self._wide = [max(3, len(head)) for head in self._heads]
-        self._places = [0] * len(patterns)
-        self._with = [0] * len(patterns)
+        self.places = [0] * len(patterns)
+        self.boards = [0] * len(patterns)
+
+    def take(self, counts: Sequence[Count]) -> None:
+        """Takes the counts of a board into the totals."""
+        for at, count in enumerate(counts):
+            self.places[at] += count or 0
+            self.boards[at] += bool(count)
 
     def _line(self, first: str, cells: Iterable[str]) -> str:
         entries = "".join(f"  {entry.rjust(wide)}" for entry, wide in zip(cells, self._wide))
@@ -46,12 +53,22 @@ class Table:
 
     def row(self, board: str, counts: Sequence[Count]) -> str:
         """The line of a board."""
-        for at, count in enumerate(counts):
-            self._places[at] += count or 0
-            self._with[at] += bool(count)
         return self._line(board, map(cell, counts))
 
     def end(self) -> str:
         """The last lines: how many places each pattern has, on how many boards, and which pattern each column is."""
-        totals = self._line("places", map(str, self._places)) + self._line("boards", map(str, self._with))
+        totals = self._line("places", map(str, self.places)) + self._line("boards", map(str, self.boards))
         return totals + f"{LEGEND}\n" + "".join(f"{head} is {name}\n" for head, name in zip(self._heads, self._patterns))
+
+
+class JsonTable(Table):
+    """The same by JSON objects, one a line."""
+
+    def head(self) -> str:
+        return json.dumps({"patterns": self._patterns}) + "\n"
+
+    def row(self, board: str, counts: Sequence[Count]) -> str:
+        return json.dumps({"board": board, "places": counts}) + "\n"
+
+    def end(self) -> str:
+        return json.dumps({"places": self.places, "boards": self.boards}) + "\n"

@@ -14,7 +14,7 @@ from ..batch.library import identity
 from ..batch.lines import Lines, already, further, new_file, standard_output
 from ..batch.receipts import Count, Row, count_of, look
 from ..batch.sources import STDIN, Source, names_of, read
-from ..batch.summary import Table
+from ..batch.summary import JsonTable, Table
 from ..errors import BOARD, PATTERN, Faults
 from .subcommands import Out, Subcommand
 from .telling import count
@@ -26,8 +26,10 @@ TOLD = 10  # the files that are told by name
 
 def batch_arguments(form: argparse.ArgumentParser) -> None:
     """The arguments of batch."""
-    circuits = f"circuits, .txt or .cir; a folder stands for those in it, and '{STDIN}' for a list on standard input"
-    form.add_argument("--patterns", metavar="P", nargs="+", required=True, help=circuits)
+    circuits = (
+        f"circuits, .txt or .cir; a folder stands for its .cir files, or its texts where it has none, and '{STDIN}' for a list"
+    )
+    form.add_argument("--patterns", metavar="P", nargs="+", required=True, help=f"{circuits} on standard input")
     form.add_argument("--boards", metavar="B", nargs="+", required=True, help="the same")
     form.add_argument("-0", "--null", action="store_true", help="names of the list end in a null byte (find -print0)")
     add_jobs(form)
@@ -63,7 +65,8 @@ class Batch:
         self.boards = share(names_of(arguments.boards, arguments.null), arguments.shard)
         if not self.patterns or not (self.boards or arguments.shard):
             raise Faults(["there is no pattern or no board to look at: the list is empty"])
-        self.table = Table(self.patterns, self.boards) if arguments.summary else None
+        form = JsonTable if arguments.json else Table
+        self.table = form(self.patterns, self.boards) if arguments.summary else None
         self.counts: list[Count] = []  # of the board that is under way
         self.found = self.unanswered = self.done = 0
         self.unread: list[str] = []
@@ -87,6 +90,7 @@ class Batch:
             self.counts.append(one)
             if len(self.counts) == len(self.patterns):
                 if self.table:
+                    self.table.take(self.counts)
                     self.say(self.table.row(self.boards[self.done // len(self.patterns)], self.counts))
                 self.counts = []
             self.done += 1
@@ -122,7 +126,7 @@ class Batch:
             self.tell_end(ended)
             raise
         if lines:
-            lines.close()
+            lines.keep()
         if self.table:
             self.say(self.table.end())
         self.tell_unanswered()
@@ -174,7 +178,6 @@ def until_ended(work: Callable[[Ending], bool]) -> bool:
 
 def run_batch(arguments: argparse.Namespace, out: Out) -> bool:
     """Looks at every pattern on every board."""
-    out.as_json = False  # each line is JSON in any case, and nothing else stands between them
     demand_jobs(arguments)
     return until_ended(lambda ending: Batch(arguments, out, ending).run())
 
@@ -187,8 +190,8 @@ SUBCOMMANDS = (
         "\nSHA-256 and the editions of both files, the verdict (places, none, refused, or unread), the number of centres, the distinct places, and"
         "\nthe library. 'heronditch verify' checks the lines again. A file that cannot be read costs its own lines. Status 0 where something was"
         "\nfound, 1 where nothing was, 2 where a pair has no answer or the lines could not be written. docs/SCALE.md has more on many boards.",
-        "  heronditch batch --patterns samples/mute/pattern.txt --boards samples/mute/board.txt samples/rail/board.txt"
-        "\n  find boards -name '*.cir' | heronditch batch --patterns shelf --boards - -j 4 -o receipts.jsonl",
+        "  heronditch batch --patterns samples/mute/pattern.txt --boards samples/mute/board.txt samples/any/board.txt -o receipts.jsonl"
+        "\n  echo samples/mute/board.cir | heronditch batch --patterns samples/mute/pattern.cir --boards - --summary",
         batch_arguments,
         run_batch,
     ),
