@@ -14,7 +14,7 @@ from .subcommands import Out, Subcommand
 from .telling import count
 from .working import add_jobs, demand_jobs, progress
 
-LINES = 64  # the lines of a task
+LINES = 1024  # the lines of a task
 
 
 def verify_arguments(form: argparse.ArgumentParser) -> None:
