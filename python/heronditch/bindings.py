@@ -168,6 +168,27 @@ def ball(board: File, centre: int, within: int) -> list[int]:
     return list(ffi.unpack(out, reply.first))
 
 
+def _grouped(nodes: int, pairs: Sequence[tuple[int, int]]) -> list[Any]:
+    """A link table as the lookup is told it: offsets, and the second of each pair grouped by the first."""
+    offsets = [0] * (nodes + 1)
+    for first, _ in pairs:
+        offsets[first + 1] += 1
+    for node in range(nodes):
+        offsets[node + 1] += offsets[node]
+    others = [other for _, other in sorted(pairs)]
+    return [ffi.new("uint16_t[]", offsets), len(offsets), ffi.new("uint16_t[]", others), len(others)]
+
+
+def neighbours(nodes: int, links: Sequence[tuple[int, int]], node: int, backward: bool) -> list[int]:
+    """What a node drives, or backward what drives it, rising."""
+    out, lent = _lent("uint16_t", len(links))
+    direction = lib.HERONDITCH_BACKWARD if backward else lib.HERONDITCH_FORWARD
+    tables = [*_grouped(nodes, links), *_grouped(nodes, [(end, start) for start, end in links])]
+    reply = lib.heronditch_neighbours(direction, *tables, node, *lent)
+    demand(reply)
+    return list(ffi.unpack(out, reply.first))
+
+
 def match(pattern: File, board: File, one_way: bool = False) -> tuple[Counts, list[int]]:
     """Matches a pattern on the whole board: the counts, and a number for each node, in which bit u says that part u matches it."""
     table, lent = _lent("uint32_t", lib.HERONDITCH_NODES)

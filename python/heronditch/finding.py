@@ -7,6 +7,7 @@ from __future__ import annotations
 from contextlib import contextmanager
 from dataclasses import dataclass, field
 from functools import cmp_to_key
+from itertools import compress
 from typing import Iterable, Iterator, Mapping, Sequence
 
 from . import bindings
@@ -54,6 +55,7 @@ class Place:
     roles: Roles
     distances: Mapping[int, int]
     counts: Counts
+    marks: bytes = field(repr=False)  # a byte for each node of the board, then one for each link: 1 in the place, else 0
 
     @property
     def rings(self) -> dict[int, tuple[int, ...]]:
@@ -66,9 +68,14 @@ class Place:
         """By names, for each part the nodes that play it."""
         return {name: self.board.named(nodes) for name, nodes in zip(self.pattern.names, self.roles)}
 
+    @property
+    def mask(self) -> int:
+        """The marks as one number, of which another place's are a part where this one contains it."""
+        return int.from_bytes(self.marks, "little")
+
     def contains(self, other: Place) -> bool:
         """Whether this place has all nodes and links of another."""
-        return set(self.nodes) >= set(other.nodes) and set(self.links) >= set(other.links)
+        return not other.mask & ~self.mask
 
 
 @dataclass(frozen=True)
@@ -84,9 +91,18 @@ def _file(circuit: Circuit) -> File:
 
 
 def _roles(pattern: Circuit, table: Iterable[int]) -> Roles:
-    """For each part the nodes whose number in a table has its bit."""
-    words = list(table)
-    return tuple(tuple(node for node, word in enumerate(words) if word >> part & 1) for part in range(len(pattern.names)))
+    """For each part the nodes whose number in a table has its bit. Few numbers differ, so nodes are first put together by them."""
+    alike: dict[int, list[int]] = {}
+    for node, word in enumerate(table):
+        alike.setdefault(word, []).append(node)
+    played: dict[tuple[int, ...], tuple[int, ...]] = {}  # the nodes of some of those numbers, made once
+    roles = []
+    for part in range(len(pattern.names)):
+        words = tuple(word for word in alike if word >> part & 1)
+        if words not in played:
+            played[words] = tuple(sorted(node for word in words for node in alike[word]))
+        roles.append(played[words])
+    return tuple(roles)
 
 
 def _without_bounds(pattern: Circuit) -> File:
@@ -147,6 +163,11 @@ def ball(board: Circuit, centre: Node, within: int) -> dict[int, int]:
     return {node: distance for node, distance in enumerate(far) if distance != OUTSIDE}
 
 
+def neighbours(circuit: Circuit, node: Node, backward: bool = False) -> tuple[int, ...]:
+    """The nodes that a node drives, or backward those that drive it."""
+    return tuple(bindings.neighbours(len(circuit.names), circuit.links, circuit.number(node), backward))
+
+
 def _sixteen_bits(within: int) -> int:
     """A radius as the calls take it. One above 65535 is as good as that: no two nodes of a board are so far apart."""
     if within < 0:
@@ -173,11 +194,12 @@ def _placed(pattern: Circuit, board: Circuit, centres: Sequence[int], marks: Mar
         pattern,
         board,
         tuple(centres),
-        tuple(node for node, mark in enumerate(marks.nodes) if mark),
-        tuple(link for link, mark in zip(board.links, marks.links) if mark),
+        tuple(compress(range(len(board.names)), marks.nodes)),
+        tuple(compress(board.links, marks.links)),
         _roles(pattern, marks.table),
         {node: distance for node, distance in enumerate(marks.distances) if distance != OUTSIDE},
         counts,
+        marks.nodes + marks.links,
     )
 
 
@@ -193,30 +215,39 @@ def places(pattern: Circuit, board: Circuit) -> list[Place]:
     """Each distinct place once, in the order of their first centres, with all its centres."""
     lines = report(pattern, board)
     whole = match(pattern, board)
+    words = _Words(board)
     found = []
     with _pair(pattern, board) as files:
         for body, centres in bodies(lines, len(board.names)).items():
+            around = board.names[centres[0]]
             counts, marks = bindings.place(*files, centres[0])
             if marks is None or not bindings.check(*files, centres[0], marks.nodes, marks.links):
-                raise Bug(f"the report has a place around '{board.names[centres[0]]}', and the place call or the check has none")
-            if any(word & ~around for word, around in zip(marks.table, whole.table)):
-                raise Bug(f"a part in the place around '{board.names[centres[0]]}' is not in the table of the whole board")
-            one = _placed(pattern, board, centres, marks, counts)
-            if _body(one) != body:
-                raise Bug(f"the report and the place call differ around '{board.names[centres[0]]}'")
-            found.append(one)
+                raise Bug(f"the report has a place around '{around}', and the place call or the check has none")
+            if any(word & ~all_parts for word, all_parts in zip(marks.table, whole.table)):
+                raise Bug(f"a part in the place around '{around}' is not in the table of the whole board")
+            if words.body(marks.nodes + marks.links) != body:
+                raise Bug(f"the report and the place call differ around '{around}'")
+            found.append(_placed(pattern, board, centres, marks, counts))
     return found
 
 
-def _body(place: Place) -> bytes:
-    """What the report has of a place after its centre and the colon."""
-    links = "".join(f" {start}-{end}" for start, end in place.links)
-    return f"{' '.join(map(str, place.nodes))} /{links}".encode()
+class _Words:
+    """The words of a board's nodes and links in a report, made once."""
+
+    def __init__(self, board: Circuit) -> None:
+        self.nodes = [b"%d" % node for node in range(len(board.names))]
+        self.links = [b" %d-%d" % link for link in board.links]
+
+    def body(self, marks: bytes) -> bytes:
+        """What the report has of a place after its centre and the colon."""
+        links = marks[len(self.nodes) :]
+        return b" ".join(compress(self.nodes, marks)) + b" /" + b"".join(compress(self.links, links))
 
 
 def report_of(found: Iterable[Place], board: Circuit) -> bytes:
     """The report that places come to, a line for each centre."""
-    lines = {centre: body for place in found for body in [_body(place)] for centre in place.centres}
+    words = _Words(board)
+    lines = {centre: body for place in found for body in [words.body(place.marks)] for centre in place.centres}
     told = [b"place %d: %s\n" % (centre, lines[centre]) for centre in sorted(lines)]
     return b"".join(told) + b"end %d of %d\n" % (len(lines), len(board.names))
 
@@ -224,14 +255,14 @@ def report_of(found: Iterable[Place], board: Circuit) -> bytes:
 def bodies(lines: bytes, nodes: int) -> dict[bytes, list[int]]:
     """The distinct places of a report on a board of so many nodes, each by what stands after the colon, and their centres."""
     found: dict[bytes, list[int]] = {}
-    *heads, last = lines.removesuffix(b"\n").split(b"\n")
-    for line in heads:
+    *heads, last, rest = [b"", *lines.split(b"\n")]
+    for line in heads[1:]:
         head, _, body = line.partition(b": ")
         centre = head.removeprefix(b"place ")
-        if not centre.isdigit():
+        if not centre.isdigit() or int(centre) >= nodes:
             raise Bug(f"the report has a line that is none: {line[:60]!r}")
         found.setdefault(body, []).append(int(centre))
-    if lines[-1:] != b"\n" or last != b"end %d of %d" % (len(heads), nodes):
+    if rest or last != b"end %d of %d" % (len(heads) - 1, nodes):
         raise Bug(f"the report does not end as it has to: {last[:60]!r}")
     return found
 
@@ -313,6 +344,7 @@ def order(patterns: Sequence[Circuit]) -> list[int]:
         radius(pattern)  # so that one that is refused is named
 
     def ranked(one: int, other: int) -> int:
+        """How two of the patterns rank."""
         return compare(patterns[one], patterns[other])
 
     return sorted(range(len(patterns)), key=cmp_to_key(ranked))

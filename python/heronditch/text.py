@@ -252,6 +252,7 @@ class _Register(Reader):
     """Reads a register, which has 'kind' and 'package' lines alone."""
 
     def statement(self, words: list[str]) -> None:
+        """Reads the words of one line."""
         if words[0] in self.registers:
             self.register_line(words)
         else:

@@ -71,6 +71,7 @@ RUNS = {
         ("match samples/coupling/pattern3.cir samples/coupling/board.cir", ""),
     ],
     "worked": on("worked", "1", "3", "2\n1\n1\n3\n0\n", "pattern.cir", "board.cir")[:-1],
+    "bench": on("bench", "Q1", "J1", "Q1 -> out.L\n", "stage.txt", "board.txt"),
     "shelf": [
         ("shelf samples/shelf", ""),
         ("shelf --lines samples/shelf", ""),
@@ -152,34 +153,53 @@ def test_matches_are_those_of_c() -> None:
 
 
 MADE = [
-    ("mute/pattern", "pattern", []),
-    ("mute/board", "board", []),
-    ("any/pattern", "pattern", []),
-    ("any/board", "board", []),
-    ("rail/pattern", "pattern", []),
-    ("rail/board", "board", []),
-    ("stereo/pattern", "bits", []),
-    ("stereo/board", "board", []),
-    ("stereo/mono", "board", []),
-    ("packages/pattern", "pattern", ["--without-packages"]),
-    ("packages/board", "board", ["--without-packages"]),
-    ("coupling/pattern", "pattern", ["--without-bounds"]),
-    ("coupling/board", "board", []),
+    ("mute/pattern", "mute/pattern", "pattern", []),
+    ("mute/board", "mute/board", "board", []),
+    ("any/pattern", "any/pattern", "pattern", []),
+    ("any/board", "any/board", "board", []),
+    ("rail/pattern", "rail/pattern", "pattern", []),
+    ("rail/board", "rail/board", "board", []),
+    ("stereo/pattern", "stereo/pattern", "bits", []),
+    ("stereo/board", "stereo/board", "board", []),
+    ("stereo/mono", "stereo/mono", "board", []),
+    ("packages/pattern", "packages/pattern", "pattern", ["--without-packages"]),
+    ("packages/board", "packages/board", "board", ["--without-packages"]),
+    ("packages/pattern", "packages/pattern2", "pattern", []),
+    ("packages/board", "packages/board2", "board", []),
+    ("coupling/pattern", "coupling/pattern", "pattern", ["--without-bounds"]),
+    ("coupling/pattern", "coupling/pattern3", "pattern", []),
+    ("coupling/board", "coupling/board", "board", []),
+    ("shelf/wires", "shelf/p00", "pattern", ["--edition", "second"]),
+    ("shelf/stage", "shelf/p01", "pattern", ["--edition", "second"]),
+    ("shelf/bits", "shelf/p02", "bits", ["--edition", "second"]),
+    ("shelf/follower", "shelf/p03", "pattern", ["--edition", "second"]),
+    ("shelf/stage", "shelf/p04", "pattern", ["--edition", "second"]),
 ]
 
 
-@pytest.mark.parametrize("name, role, more", MADE)
-def test_samples_are_made(tmp_path: pathlib.Path, name: str, role: str, more: list[str]) -> None:
+@pytest.mark.parametrize("text, file, role, more", MADE)
+def test_samples_are_made(tmp_path: pathlib.Path, text: str, file: str, role: str, more: list[str]) -> None:
     """The files of the samples come from their texts."""
-    assert run("make", "--as", role, *more, f"samples/{name}.txt", tmp_path / "out.cir").status == 0
-    assert (tmp_path / "out.cir").read_bytes() == (ROOT / f"samples/{name}.cir").read_bytes()
+    assert run("make", "--as", role, *more, f"samples/{text}.txt", tmp_path / "out.cir").status == 0
+    assert (tmp_path / "out.cir").read_bytes() == (ROOT / f"samples/{file}.cir").read_bytes()
 
 
-@pytest.mark.parametrize("text, file", [("wires", 0), ("stage", 1), ("bits", 2), ("follower", 3), ("stage", 4)])
-def test_the_shelf_is_made(tmp_path: pathlib.Path, text: str, file: int) -> None:
-    """The files of the shelf come from their texts."""
-    assert run("make", "--edition", "second", f"samples/shelf/{text}.txt", tmp_path / "out.cir").status == 0
-    assert (tmp_path / "out.cir").read_bytes() == (ROOT / f"samples/shelf/p{file:02}.cir").read_bytes()
+def test_every_file_of_the_samples_is_made() -> None:
+    """No circuit file of the samples is without a text, but T and B, whose bytes the papers have."""
+    have = {str(path.relative_to(ROOT / "samples").with_suffix("")) for path in ROOT.glob("samples/*/*.cir")}
+    assert have - {"worked/pattern", "worked/board"} == {file for _, file, _, _ in MADE}
+
+
+def test_editions_there_and_back(tmp_path: pathlib.Path) -> None:
+    """A file converted to the second edition and back is the same bytes; one with packages has none of the first."""
+    one, two, back = (str(tmp_path / name) for name in ("one.cir", "two.cir", "back.cir"))
+    for role in ("pattern", "board"):
+        first = (ROOT / f"samples/packages/{role}.cir").read_bytes()
+        pathlib.Path(one).write_bytes(first)
+        assert run("convert", "--as", role, one, two).status == run("convert", "--as", role, two, back).status == 0
+        assert pathlib.Path(back).read_bytes() == first and len(pathlib.Path(two).read_bytes()) == len(first) + 2 * first[0]
+        done = run("convert", "--as", role, f"samples/packages/{role}2.cir", back)
+        assert done.status == 2 and "refused 12" in done.err
 
 
 def test_help() -> None:

@@ -17,7 +17,23 @@ from hypothesis import strategies as st
 from conftest import ROOT
 from drawing import boards, circuits, patterns
 from heronditch import Circuit, Faults, Refused, Session, bindings, from_text, load_text
-from heronditch import ball, check, compare, convert, match, merge, order, place, places, radius, report, shelf, test_board, why
+from heronditch import (
+    ball,
+    check,
+    compare,
+    convert,
+    match,
+    merge,
+    neighbours,
+    order,
+    place,
+    places,
+    radius,
+    report,
+    shelf,
+    test_board,
+    why,
+)
 from heronditch.finding import report_of
 
 T = from_text("node a 10\nnode b 20\nnode c 30\na -> b -> c", role="pattern")
@@ -74,6 +90,14 @@ def test_tables_are_the_models(pattern: Circuit, board: Circuit, one_way: bool) 
         map(list, found.roles)
     )
     assert all(part in found.parts(node) for part, nodes in enumerate(found.roles) for node in nodes)
+
+
+@given(boards())
+def test_neighbours(board: Circuit) -> None:
+    """What each node drives, and what drives it."""
+    for node in range(len(board.names)):
+        assert neighbours(board, node) == tuple(end for start, end in board.links if start == node)
+        assert neighbours(board, node, backward=True) == tuple(sorted(start for start, end in board.links if end == node))
 
 
 def barred(pattern: Circuit, board: Circuit, centre: int, kept: set[tuple[int, int]]) -> bool:

@@ -227,7 +227,15 @@ def test_a_bug_is_told(call: str, monkeypatch: pytest.MonkeyPatch) -> None:
 
 def test_reports_that_end_wrongly(monkeypatch: pytest.MonkeyPatch) -> None:
     """A report whose last line does not count its places."""
-    for data in (b"", b"end 1 of 3\n", b"end 0 of 2\n", b"end 0 of 3", b"end 0 of 3\nx", b"x\nend 1 of 3\n"):
+    for data in (
+        b"",
+        b"end 1 of 3\n",
+        b"end 0 of 2\n",
+        b"end 0 of 3",
+        b"end 0 of 3\nx",
+        b"x\nend 1 of 3\n",
+        b"place 3: 0 /\nend 1 of 3\n",
+    ):
         monkeypatch.setattr(bindings, "report", lambda *_, data=data: data)
         troubled(run("find", "pattern.txt", "board.txt"), "This is a bug in heronditch")
 
@@ -242,3 +250,13 @@ def test_files_of_another_place(monkeypatch: pytest.MonkeyPatch) -> None:
     """Names of files are told as they were given, from whichever folder."""
     monkeypatch.chdir(ROOT)
     assert run("find", "samples/mute/pattern.txt", "samples/mute/board.txt").status == 0
+
+
+def test_names_that_begin_with_a_hyphen() -> None:
+    """A net called '-12V' is a node like any other."""
+    write("board.txt", B.replace("node p", "node -12V").replace("p -> q", "-12V -> q"))
+    for words in (["why"], ["place", "--radius", "2"], ["place", "--json"]):
+        assert run(*words, "pattern.txt", "board.txt", "-12V").status == (1 if words == ["why"] else 0)
+    assert run("why", "pattern.txt", "board.txt", "--", "-12V").out == "-12V has a place\n"
+    assert run("why", "pattern.txt", "board.txt", "--nonsense").status == 2
+    assert run("check", "pattern.txt", "board.txt", "-12V", given="-12V -> q -> r\n").status == 0

@@ -54,12 +54,27 @@ def parser(words: Sequence[str]) -> argparse.ArgumentParser:
     choices = whole.add_subparsers(required=True, metavar="SUBCOMMAND")
     for one in subcommands(words):
         form = choices.add_parser(
-            one.name, help=one.summary, description=one.about, epilog=f"example:\n{one.example}", formatter_class=plain
+            one.name,
+            help=one.summary,
+            description=one.about,
+            epilog=f"example:\n{one.example}",
+            formatter_class=plain,
+            allow_abbrev=False,
         )
         one.arguments(form)
         form.add_argument("--json", action="store_true", help="answer by a JSON object")
         form.set_defaults(run=one.run)
     return whole
+
+
+def hyphened(words: Sequence[str]) -> list[str]:
+    """A command line in which a NODE, the last argument, may be a name that begins with a hyphen, as '-12V' does."""
+    if not words or words[0] not in ("place", "why", "check") or "--" in words:
+        return list(words)
+    names = [word for word in words if word[:1] == "-" and word[:2] not in ("-", "--", "-h")]
+    if "--radius" in words:
+        names = [name for name in names if words[words.index("--radius") + 1 : words.index("--radius") + 2] != [name]]
+    return [*(word for word in words if word not in names), *(["--", *names] if names else [])]
 
 
 def located(refused: Refused, arguments: argparse.Namespace) -> str:
@@ -74,9 +89,11 @@ def complain(out: Out, error: Exception, arguments: argparse.Namespace) -> int:
         out.trouble([located(error, arguments)], {"number": error.number, "file": error.file})
     elif isinstance(error, Faults):
         out.trouble(error.messages, {})
+    elif isinstance(error, OSError) and error.filename is None:
+        out.lost(str(error.strerror))
     elif isinstance(error, OSError):
         mend = "; give a circuit in it by its name" if isinstance(error, IsADirectoryError) else ""
-        out.trouble([f"{error.filename or 'standard output'}: {error.strerror}{mend}"], {})
+        out.trouble([f"{error.filename}: {error.strerror}{mend}"], {})
     else:
         out.trouble([str(error)], {"bug": True})
     return TROUBLE
@@ -86,9 +103,11 @@ def main(words: Sequence[str] | None = None) -> int:
     """Runs the command; replies with its status."""
     if hasattr(signal, "SIGPIPE"):
         signal.signal(signal.SIGPIPE, signal.SIG_DFL)
-    for stream in (sys.stdout, sys.stderr):
+    if sys.stdout is None or sys.stdin is None or sys.stderr is None:
+        return TROUBLE  # a stream was closed before the start: there is nowhere to answer, or nothing to read
+    for stream in (sys.stdin, sys.stdout, sys.stderr):
         getattr(stream, "reconfigure", lambda **_: None)(encoding="utf-8", errors="backslashreplace")
-    words = sys.argv[1:] if words is None else words
+    words = hyphened(sys.argv[1:] if words is None else words)
     arguments = parser(words).parse_args(words)
     out = Out(arguments.json)
     try:

@@ -6,8 +6,8 @@ import argparse
 import sys
 from typing import Any, Sequence
 
-from ..circuits import Circuit
-from ..errors import Bug
+from ..circuits import LIMITS, Circuit
+from ..errors import PATTERN, Bug
 from ..finding import Place, place, places, report, report_of
 from .inputs import add_both, add_node, both_of, node_of
 from .notes import on_none
@@ -19,13 +19,17 @@ def find_arguments(form: argparse.ArgumentParser) -> None:
     """The arguments of find."""
     add_both(form)
     form.add_argument("--lines", action="store_true", help="the report, a line for each centre, by numbers")
+    form.add_argument(
+        "--links", action="store_true", help="all links of a place that has more than a pattern can have (256), too"
+    )
 
 
 def inner(found: Sequence[Place]) -> list[list[int]]:
     """For each place the numbers, from 1, of the others that it has in it."""
-    nodes, links = ([set(items) for items in column] for column in zip(*((one.nodes, one.links) for one in found)))
+    masks = [one.mask for one in found]
+    outside = [~mask for mask in masks]
     numbers = range(len(found))
-    return [[b + 1 for b in numbers if a != b and nodes[a] >= nodes[b] and links[a] >= links[b]] for a in numbers]
+    return [[b + 1 for b in numbers if a != b and not masks[b] & outside[a]] for a in numbers]
 
 
 def heading(number: int, one: Place, within: Sequence[int]) -> list[str]:
@@ -38,16 +42,19 @@ def heading(number: int, one: Place, within: Sequence[int]) -> list[str]:
     return filled(words, f"place {number}: ", "    ")
 
 
-def place_lines(one: Place) -> list[str]:
-    """The parts and the links of a place."""
-    return [*role_rows(one.pattern, one.board, one.roles), *link_lines(one.board, one.links)]
+def place_lines(one: Place, all_links: bool = True) -> list[str]:
+    """The parts and the links of a place; no more links than a pattern can have, unless all are asked for."""
+    lines = role_rows(one.pattern, one.board, one.roles)
+    if len(one.links) > LIMITS[PATTERN][2] and not all_links:
+        return [*lines, f"  ({len(one.links)} links; --links prints them)"]
+    return [*lines, *link_lines(one.board, one.links)]
 
 
-def found_text(found: Sequence[Place], pattern: Circuit, board: Circuit) -> str:
+def found_text(found: Sequence[Place], pattern: Circuit, board: Circuit, all_links: bool) -> str:
     """All places, what plays each part in any of them, and how many there are."""
     lines: list[str] = []
     for number, (one, within) in enumerate(zip(found, inner(found) if found else []), 1):
-        lines += [*heading(number, one, within), *place_lines(one), ""]
+        lines += [*heading(number, one, within), *place_lines(one, all_links), ""]
     if len(found) > 1:
         lines += ["all places together:", *role_rows(pattern, board, united(found)), ""]
     centres = sum(len(one.centres) for one in found)
@@ -77,12 +84,12 @@ def found_data(found: Sequence[Place], pattern: Circuit, board: Circuit) -> dict
     }
 
 
-def tell_found(found: Sequence[Place], pattern: Circuit, board: Circuit, out: Out) -> None:
+def tell_found(found: Sequence[Place], pattern: Circuit, board: Circuit, out: Out, all_links: bool) -> None:
     """Answers by all places, in the one form that is asked for."""
     if out.as_json:
         out.answer("", found_data(found, pattern, board))
     else:
-        out.answer(found_text(found, pattern, board), {})
+        out.answer(found_text(found, pattern, board, all_links), {})
 
 
 def run_find(arguments: argparse.Namespace, out: Out) -> bool:
@@ -92,7 +99,7 @@ def run_find(arguments: argparse.Namespace, out: Out) -> bool:
     if not found:
         on_none(pattern, board, out, lambda *plain: bool(places(*plain)))
     if not arguments.lines:
-        tell_found(found, pattern, board, out)
+        tell_found(found, pattern, board, out, arguments.links)
         return bool(found)
     lines = report(pattern, board)
     if lines != report_of(found, board):

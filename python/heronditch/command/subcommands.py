@@ -4,6 +4,7 @@ from __future__ import annotations
 
 import argparse
 import json
+import os
 import sys
 from typing import Any, Callable, Mapping, NamedTuple, Sequence
 
@@ -38,6 +39,12 @@ class Out:
         if self.as_json:
             self.answer("", {"trouble": {**data, "sentences": list(sentences)}})
         sys.stderr.write("".join(f"heronditch: {sentence}\n" for sentence in sentences))
+
+    def lost(self, reason: str) -> None:
+        """Tells that standard output takes no more; what is left of the answer goes nowhere, so that nothing fails once more."""
+        self.troubled = True
+        os.dup2(os.open(os.devnull, os.O_WRONLY), sys.stdout.fileno())
+        sys.stderr.write(f"heronditch: standard output: {reason}; the answer is not whole\n")
 
 
 class Subcommand(NamedTuple):

@@ -23,28 +23,38 @@ def listed(words: Sequence[str]) -> str:
 
 def filled(words: Iterable[str], first: str, further: str) -> list[str]:
     """Words in lines of a width, after a beginning for the first line and one for each further line."""
-    lines, line, empty = [], first, True
+    lines: list[str] = []
+    line: list[str] = []
+    room = WIDTH - len(first)
     for word in words:
-        if not empty and len(line) + 1 + len(word) > WIDTH:
-            lines.append(line)
-            line, empty = further, True
-        line, empty = (line + word if empty else f"{line} {word}"), False
-    return [*lines, line.rstrip()]
+        room -= len(word) + 1
+        if room < -1 and line:
+            lines.append(" ".join(line))
+            line, room = [], WIDTH - len(further) - len(word) - 1
+        line.append(word)
+    lines.append(" ".join(line))
+    return [(first + lines[0]).rstrip(), *(further + rest for rest in lines[1:])]
 
 
 def rows(pairs: Rows) -> list[str]:
     """A line for each label, with its words in a column of their own."""
     pairs = list(pairs)
     wide = max((len(label) for label, _ in pairs), default=0)
+    further = " " * (wide + 4)
+    made: dict[tuple[str, ...], list[str]] = {}  # many labels may have the same words
     lines = []
     for label, words in pairs:
-        lines += filled(words, f"  {label.ljust(wide)}  ", " " * (wide + 4))
+        key = tuple(words)
+        if key not in made:
+            made[key] = filled(key, further, further)
+        lines += [f"  {label.ljust(wide)}  {made[key][0][wide + 4:]}".rstrip(), *made[key][1:]]
     return lines
 
 
 def role_rows(pattern: Circuit, board: Circuit, roles: Roles) -> list[str]:
     """A line for each part, with the nodes that play it."""
-    return rows((name, board.named(nodes) or ["-"]) for name, nodes in zip(part_labels(pattern), roles))
+    names = {nodes: board.named(nodes) or ["-"] for nodes in set(roles)}
+    return rows((label, names[nodes]) for label, nodes in zip(part_labels(pattern), roles))
 
 
 def part_labels(pattern: Circuit) -> list[str]:
@@ -60,7 +70,7 @@ def by_names(pattern: Circuit, board: Circuit, roles: Roles) -> dict[str, list[s
 
 def united(places: Sequence[Place]) -> Roles:
     """For each part the nodes that play it in any of the places."""
-    return tuple(tuple(sorted({node for nodes in parts for node in nodes})) for parts in zip(*(place.roles for place in places)))
+    return tuple(tuple(sorted(set().union(*parts))) for parts in zip(*(place.roles for place in places)))
 
 
 def link_names(circuit: Circuit, links: Iterable[Link]) -> list[list[str]]:
@@ -74,15 +84,20 @@ def link_lines(circuit: Circuit, links: Iterable[Link]) -> list[str]:
 
 
 def chains(circuit: Circuit, links: Iterable[Link]) -> list[list[str]]:
-    """The words of chains that have each link once; they begin with what nothing drives, and then with what is driven two ways alone."""
+    """The words of chains that have each link once. A first one begins with what nothing drives, or with what is driven two ways alone,
+    and the others branch off from those before, as long as they do."""
     joined = set(links)
     ways = _ways(joined)
     driven = {end for start, end in joined if start != end}
     one_way = {end for start, end in joined if start != end and (end, start) not in joined}
     found = []
-    for start in sorted(ways, key=lambda node: ((node in driven) + (node in one_way), node)):
-        while ways[start]:
-            found.append(_chain(circuit, ways, start))
+    for first in sorted(ways, key=lambda node: ((node in driven) + (node in one_way), node)):
+        passed = [first]  # grows while its nodes are gone through
+        for start in passed:
+            while ways[start]:
+                nodes, words = _chain(circuit, ways, start)
+                passed += nodes
+                found.append(words)
     return found
 
 
@@ -94,14 +109,15 @@ def _ways(links: set[Link]) -> dict[int, dict[int, str]]:
     return dict(sorted(ways.items()))
 
 
-def _chain(circuit: Circuit, ways: Mapping[int, dict[int, str]], start: int) -> list[str]:
-    """The words of a chain from a node, whose links are taken out."""
-    words = [circuit.names[start]]
+def _chain(circuit: Circuit, ways: Mapping[int, dict[int, str]], start: int) -> tuple[list[int], list[str]]:
+    """The nodes and the words of a chain from a node on, whose links are taken out."""
+    nodes, words = [], [circuit.names[start]]
     while ways[start]:
         end = min(ways[start])
         arrow = ways[start].pop(end)
         if arrow == "<->":
             ways[end].pop(start)
         words += [arrow, circuit.names[end]]
+        nodes.append(end)
         start = end
-    return words
+    return nodes, words
