@@ -304,6 +304,17 @@ def test_memory_is_flat(load: pathlib.Path) -> None:
     assert most[1] < most[0] + 4096, f"{most} KB"
 
 
+def test_names_of_any_bytes(load: pathlib.Path, tmp_path: pathlib.Path) -> None:
+    """A file's name may be any bytes, a newline too where names end in a null byte; the receipt leads back to it."""
+    name = os.fsencode(tmp_path) + b"/\xff\n.cir"
+    os.link(load / "boards/full/f00000.cir", name)
+    file = tmp_path / "receipts.jsonl"
+    done = batch(load, "--boards", "-", "-0", "-o", file, given=name + b"\0")
+    assert (done.returncode, done.stderr) == (0, b"")
+    assert os.fsencode(receipts(file.read_bytes())[0]["board"]["name"]) == name
+    assert start(load, "verify", file, stdout=subprocess.DEVNULL).wait(PATIENCE) == 0
+
+
 def test_arguments(folder: pathlib.Path) -> None:
     """What is asked for in vain is told."""
     write("board.cir", b"\0\0\0\0")

@@ -39,8 +39,8 @@ def names_of(words: Sequence[str], null: bool = False) -> list[str]:
 
 def listed(null: bool) -> list[str]:
     """The names on standard input, one a line, or each ended by a null byte."""
-    text = sys.stdin.read()
-    return [name for name in (text.split("\0") if null else text.splitlines()) if name]
+    data = sys.stdin.buffer.read()
+    return [os.fsdecode(name) for name in data.split(b"\0" if null else b"\n") if name]
 
 
 def expanded(word: str) -> list[str]:
