@@ -6,7 +6,7 @@ import hashlib
 import os
 import sys
 from dataclasses import dataclass
-from typing import Sequence
+from typing import BinaryIO, Iterator, Sequence
 
 from ..bindings import File
 from ..circuits import Kinds, edition_of
@@ -39,8 +39,16 @@ def names_of(words: Sequence[str], null: bool = False) -> list[str]:
 
 def listed(null: bool) -> list[str]:
     """The names on standard input, one a line, or each ended by a null byte."""
-    data = sys.stdin.buffer.read()
-    return [os.fsdecode(name) for name in data.split(b"\0" if null else b"\n") if name]
+    return [os.fsdecode(name) for name in separated(sys.stdin.buffer, b"\0" if null else b"\n") if name]
+
+
+def separated(file: BinaryIO, end: bytes) -> Iterator[bytes]:
+    """What stands in a file before each end, and after the last; it is read piece by piece, so that the names alone are held."""
+    rest = b""
+    while piece := file.read(1 << 16):
+        *whole, rest = (rest + piece).split(end)
+        yield from whole
+    yield rest
 
 
 def expanded(word: str) -> list[str]:
