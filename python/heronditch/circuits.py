@@ -150,7 +150,7 @@ class Circuit:
 
     def named(self, nodes: Iterable[int]) -> list[str]:
         """The names of nodes."""
-        return [self.names[node] for node in nodes]
+        return list(map(self.names.__getitem__, nodes))
 
     def told(self, link: Link) -> str:
         """A link by names."""

@@ -7,7 +7,8 @@ from __future__ import annotations
 from contextlib import contextmanager
 from dataclasses import dataclass, field
 from functools import cmp_to_key
-from itertools import compress
+from itertools import chain, compress
+from operator import and_
 from typing import Iterable, Iterator, Mapping, Sequence
 
 from . import bindings
@@ -30,7 +31,7 @@ class Match:
     @property
     def roles(self) -> Roles:
         """For each part the nodes that match it."""
-        return _roles(self.pattern, self.table)
+        return _roles(self.pattern, enumerate(self.table))
 
     def parts(self, node: Node) -> tuple[int, ...]:
         """The parts that match a node."""
@@ -90,17 +91,18 @@ def _file(circuit: Circuit) -> File:
     return File(circuit.to_bytes(), circuit.edition)
 
 
-def _roles(pattern: Circuit, table: Iterable[int]) -> Roles:
-    """For each part the nodes whose number in a table has its bit. Few numbers differ, so nodes are first put together by them."""
+def _roles(pattern: Circuit, table: Iterable[tuple[int, int]]) -> Roles:
+    """For each part the nodes whose number has its bit, of nodes and their numbers in a table. Few numbers differ, so nodes are first put
+    together by them, and parts that the same nodes play have one tuple of them."""
     alike: dict[int, list[int]] = {}
-    for node, word in enumerate(table):
+    for node, word in table:
         alike.setdefault(word, []).append(node)
     played: dict[tuple[int, ...], tuple[int, ...]] = {}  # the nodes of some of those numbers, made once
     roles = []
     for part in range(len(pattern.names)):
         words = tuple(word for word in alike if word >> part & 1)
         if words not in played:
-            played[words] = tuple(sorted(node for word in words for node in alike[word]))
+            played[words] = tuple(sorted(chain.from_iterable(alike[word] for word in words)))
         roles.append(played[words])
     return tuple(roles)
 
@@ -190,13 +192,14 @@ def place(pattern: Circuit, board: Circuit, centre: Node, radius: int | None = N
 
 def _placed(pattern: Circuit, board: Circuit, centres: Sequence[int], marks: Marks, counts: Counts) -> Place:
     """A place from its marks."""
+    nodes = tuple(compress(range(len(board.names)), marks.nodes))
     return Place(
         pattern,
         board,
         tuple(centres),
-        tuple(compress(range(len(board.names)), marks.nodes)),
+        nodes,
         tuple(compress(board.links, marks.links)),
-        _roles(pattern, marks.table),
+        _roles(pattern, zip(nodes, compress(marks.table, marks.nodes))),
         {node: distance for node, distance in enumerate(marks.distances) if distance != OUTSIDE},
         counts,
         marks.nodes + marks.links,
@@ -214,7 +217,7 @@ def report(pattern: Circuit, board: Circuit) -> bytes:
 def places(pattern: Circuit, board: Circuit) -> list[Place]:
     """Each distinct place once, in the order of their first centres, with all its centres."""
     lines = report(pattern, board)
-    whole = match(pattern, board)
+    elsewhere = [~parts for parts in match(pattern, board).table]  # the parts that a node does not play on the whole board
     words = _Words(board)
     found = []
     with _pair(pattern, board) as files:
@@ -223,7 +226,7 @@ def places(pattern: Circuit, board: Circuit) -> list[Place]:
             counts, marks = bindings.place(*files, centres[0])
             if marks is None or not bindings.check(*files, centres[0], marks.nodes, marks.links):
                 raise Bug(f"the report has a place around '{around}', and the place call or the check has none")
-            if any(word & ~all_parts for word, all_parts in zip(marks.table, whole.table)):
+            if any(map(and_, marks.table, elsewhere)):
                 raise Bug(f"a part in the place around '{around}' is not in the table of the whole board")
             if words.body(marks.nodes + marks.links) != body:
                 raise Bug(f"the report and the place call differ around '{around}'")
@@ -273,6 +276,8 @@ def why(pattern: Circuit, board: Circuit, centre: Node) -> tuple[Link, ...] | No
     number = board.number(centre)
     with _pair(pattern, board) as files:
         marks = bindings.bar(*files, number)
+        if (marks is None) != (bindings.place(*files, number)[1] is not None):
+            raise Bug(f"heronditch_bar and the place call differ on whether '{board.names[number]}' has a place")
     return None if marks is None else tuple(link for link, mark in zip(pattern.links, marks) if mark)
 
 

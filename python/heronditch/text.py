@@ -9,6 +9,7 @@ from .circuits import BITS, FARTHEST, MOST, ZERO, Circuit, Kinds, Link
 from .errors import BOARD, PATTERN, Faults
 
 ARROWS = ("->", "<-", "<->")
+UTF_16 = (b"\xff\xfe", b"\xfe\xff")  # how such a text begins
 WITHIN = "within"
 WORDS = ("kind", "node", "package", "use", WITHIN)  # the words of statements, which name nothing
 STATEMENTS = "expected 'kind NAME NUMBER', 'package NAME NUMBER', 'use FILE', 'node NAME KIND' or 'NAME -> NAME'"
@@ -143,7 +144,7 @@ class Reader:
         path = os.path.join(self.folder, words[1])
         try:
             shared = _Register(path)
-            shared.read(_decoded(path))
+            shared.read(_loaded(path))
         except OSError as error:
             return self.fault(f"can't use '{words[1]}': {error.strerror}")
         except Faults as faults:
@@ -259,16 +260,18 @@ class _Register(Reader):
             self.fault("a register has 'kind NAME NUMBER' and 'package NAME NUMBER' lines alone")
 
 
-def decoded(data: bytes, name: str) -> str:
+def decoded(data: bytes, path: str) -> str:
     """The text of a file's bytes."""
+    if data.startswith(UTF_16):
+        raise Faults([f"{path}: a UTF-16 text; save it as UTF-8"])
     try:
         return data.decode("utf-8-sig")
     except UnicodeDecodeError as error:
         line = data[: error.start].count(b"\n") + 1
-        raise Faults([f"{name}:{line}: not a UTF-8 text"]) from None
+        raise Faults([f"{path}:{line}: not a UTF-8 text"]) from None
 
 
-def _decoded(path: str) -> str:
+def _loaded(path: str) -> str:
     """The text of a file."""
     with open(path, "rb") as file:
         return decoded(file.read(), path)
@@ -283,13 +286,13 @@ def from_text(text: str, name: str = "text", role: str | None = None, folder: st
 
 def load_text(path: str, role: str | None = None) -> Circuit:
     """The circuit of a text file, which is for a role if that is told."""
-    return from_text(_decoded(path), path, role, os.path.dirname(path))
+    return from_text(_loaded(path), path, role, os.path.dirname(path))
 
 
 def load_kinds(path: str) -> Kinds:
     """The register of a file of 'kind' and 'package' lines."""
     reader = _Register(path)
-    reader.read(_decoded(path))
+    reader.read(_loaded(path))
     if reader.faults:
         raise Faults(message for _, message in sorted(reader.faults))
     return Kinds(reader.registers["kind"], reader.registers["package"])

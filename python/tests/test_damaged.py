@@ -47,7 +47,7 @@ def test_every_length(folder: pathlib.Path, length: int) -> None:
         try_all("good.cir", "bad.cir")
 
 
-@settings(max_examples=60, deadline=None, suppress_health_check=[HealthCheck.function_scoped_fixture])
+@settings(max_examples=40, deadline=None, suppress_health_check=[HealthCheck.function_scoped_fixture])
 @given(st.sampled_from([PATTERN, BOARD, BOUNDED]), st.lists(st.tuples(st.integers(0, 63), st.integers(0, 255)), max_size=4))
 def test_damaged(folder: pathlib.Path, data: bytes, changes: list[tuple[int, int]]) -> None:
     """Files with some bytes changed."""
@@ -65,7 +65,7 @@ WORDS = st.sampled_from(
 )
 
 
-@settings(max_examples=100, deadline=None, suppress_health_check=[HealthCheck.function_scoped_fixture])
+@settings(max_examples=50, deadline=None, suppress_health_check=[HealthCheck.function_scoped_fixture])
 @given(st.lists(WORDS, max_size=25).map(" ".join))
 @example("use .\n")
 @example("node a 1\nuse /\n")
@@ -78,7 +78,7 @@ def test_texts(folder: pathlib.Path, text: str) -> None:
     sound(run("make", "bad.txt", "bad.cir"))
 
 
-@settings(max_examples=100, deadline=None, suppress_health_check=[HealthCheck.function_scoped_fixture])
+@settings(max_examples=50, deadline=None, suppress_health_check=[HealthCheck.function_scoped_fixture])
 @given(st.binary(max_size=40))
 def test_bytes(folder: pathlib.Path, data: bytes) -> None:
     """Any bytes, under every name, as a circuit and on standard input."""

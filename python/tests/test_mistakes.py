@@ -150,6 +150,9 @@ def test_texts_and_files_mistaken() -> None:
     os.rename("board.cir", "file.txt")
     troubled(run("find", "pattern.txt", "text.cir"), "text.cir: a text, and no circuit file; give it a name that ends in .txt")
     troubled(run("find", "pattern.txt", "file.txt"), "file.txt: not a text; a circuit file has a name that ends in .cir")
+    write("wide.txt", B.encode("utf-16"))
+    for words in (["find", "pattern.txt", "wide.txt"], ["make", "wide.txt", "wide.cir"]):
+        troubled(run(*words), "wide.txt: a UTF-16 text; save it as UTF-8")
     os.rename("text.cir", "text")
     os.rename("file.txt", "file")
     assert run("find", "pattern.txt", "text").status == run("find", "pattern.txt", "file").status == 0
@@ -244,6 +247,15 @@ def test_a_place_that_is_none(monkeypatch: pytest.MonkeyPatch) -> None:
     """A place around one node is asked of the check, too."""
     monkeypatch.setattr(bindings, "check", lambda *_: False)
     troubled(run("place", "pattern.txt", "board.txt", "p"), "is none by heronditch_check", "This is a bug")
+
+
+def test_a_reason_for_a_place(monkeypatch: pytest.MonkeyPatch) -> None:
+    """What stands in the way of a place that is there, and nothing in the way of one that is not."""
+    monkeypatch.setattr(bindings, "bar", lambda *_: bytes(2))
+    troubled(run("why", "pattern.txt", "board.txt", "p"), "differ on whether 'p' has a place", "This is a bug")
+    write("board.txt", B.replace("p -> q -> r", "p -> q"))
+    monkeypatch.setattr(bindings, "bar", lambda *_: None)
+    troubled(run("why", "pattern.txt", "board.txt", "p"), "differ on whether 'p' has a place", "This is a bug")
 
 
 def test_files_of_another_place(monkeypatch: pytest.MonkeyPatch) -> None:

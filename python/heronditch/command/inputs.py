@@ -7,8 +7,10 @@ import os
 
 from ..circuits import BITS, FIRST, Circuit
 from ..errors import BOARD, PATTERN, Faults, Refused
-from ..text import load_text
+from ..text import UTF_16, decoded, from_text, load_text
 from .subcommands import Out
+
+CONTROLS = bytes(byte for byte in range(32) if byte not in b"\t\n\v\f\r")
 
 
 def add_pattern(form: argparse.ArgumentParser) -> None:
@@ -31,26 +33,26 @@ def add_node(form: argparse.ArgumentParser) -> None:
     form.add_argument("node", metavar="NODE", help="a node of the board, by its name; by its number where the board has no names")
 
 
-def is_text(path: str) -> bool:
-    """Whether a circuit is a text: by the end of its name, and else by what it holds."""
-    with open(path, "rb") as file:
-        data = file.read()
-    binary = b"\0" in data
+def is_text(path: str, data: bytes) -> bool:
+    """Whether a circuit is a text: by the end of its name, and else by what it holds. A text has no control characters but white space; every
+    circuit file has one, the high byte of its number of nodes."""
+    plain = data.translate(None, CONTROLS) == data
     if path.endswith(".txt"):
-        if binary:
+        if not plain and not data.startswith(UTF_16):
             raise Faults([f"{path}: not a text; a circuit file has a name that ends in .cir"])
         return True
-    if path.endswith(".cir") and len(data) >= 4 and not binary and data.isascii():
+    if path.endswith(".cir") and len(data) >= 4 and plain:
         raise Faults([f"{path}: a text, and no circuit file; give it a name that ends in .txt"])
-    return not path.endswith(".cir") and not binary
+    return not path.endswith(".cir") and plain
 
 
 def load(path: str, role: str | None = None) -> Circuit:
     """The circuit of a text or of a file, for a role if that is told."""
-    if is_text(path):
-        return load_text(path, role)
     with open(path, "rb") as file:
-        return Circuit.from_bytes(file.read(), role)
+        data = file.read()
+    if is_text(path, data):
+        return from_text(decoded(data, path), path, role, os.path.dirname(path))
+    return Circuit.from_bytes(data, role)
 
 
 def without(circuit: Circuit, arguments: argparse.Namespace) -> Circuit:

@@ -30,8 +30,8 @@ def run_merge(arguments: argparse.Namespace, out: Out) -> bool:
     names = [pattern.named(parts) for parts in merged.classes]
     lines = ["classes:", *rows((each[0], each) for each in names)]
     lines += ["merged pattern:", *link_lines(merged.pattern, merged.pattern.links)]
-    told = f"{count(len(names), 'class') if len(names) == 1 else f'{len(names)} classes'} of {count(len(pattern.names), 'part')}"
-    lines.append(f"{told}; no other grouping that matches alike has fewer")
+    classes = "1 class" if len(names) == 1 else f"{len(names)} classes"
+    lines.append(f"{classes} of {count(len(pattern.names), 'part')}; no other grouping that matches alike has fewer")
     if arguments.out:
         write(merged.pattern, arguments.out, arguments.pattern, arguments.force)
     links = [merged.pattern.named(link) for link in merged.pattern.links]
@@ -57,24 +57,22 @@ def accepted(paths: Sequence[str], out: Out) -> list[tuple[str, Circuit]]:
     return good
 
 
-def ranked(names: Sequence[str], patterns: Sequence[Circuit], numbers: Sequence[int]) -> tuple[str, list[dict[str, Any]]]:
-    """Patterns in order, as lines and as data: one that is equal to the one before says so."""
-    lines: list[tuple[str, list[str]]] = []
+def ranked(patterns: Sequence[tuple[str, Circuit]]) -> tuple[str, list[dict[str, Any]]]:
+    """Patterns with their names, in order, as lines and as data: one that is equal to the one before says so."""
     data: list[dict[str, Any]] = []
-    for at, number in enumerate(numbers):
-        before = numbers[at - 1] if at else None
-        equal = None if before is None or compare(patterns[before], patterns[number]) else names[before]
-        lines.append((names[number], ["the", "same", "circuit", "as", equal] if equal else []))
-        data.append({"name": names[number], "equal": equal})
-    wide = max((len(name) for name, _ in lines), default=0)
-    return "".join(f"{name.ljust(wide)}  {' '.join(words)}".rstrip() + "\n" for name, words in lines), data
+    for at, (name, pattern) in enumerate(patterns):
+        before = patterns[at - 1] if at else None
+        data.append({"name": name, "equal": before[0] if before and compare(before[1], pattern) == 0 else None})
+    wide = max((len(name) for name, _ in patterns), default=0)
+    same = [f"the same circuit as {one['equal']}" if one["equal"] else "" for one in data]
+    lines = [f"{one['name'].ljust(wide)}  {more}".rstrip() for one, more in zip(data, same)]
+    return "".join(f"{line}\n" for line in lines), data
 
 
 def run_order(arguments: argparse.Namespace, out: Out) -> bool:
     """Puts patterns in order."""
     good = accepted(arguments.files, out)
-    names, patterns = [name for name, _ in good], [pattern for _, pattern in good]
-    text, data = ranked(names, patterns, order(patterns))
+    text, data = ranked([good[number] for number in order([pattern for _, pattern in good])])
     out.answer(text, {"order": data})
     return bool(good)
 
@@ -117,17 +115,10 @@ def run_shelf(arguments: argparse.Namespace, out: Out) -> bool:
         wrong = refusal(data) if number not in numbers else None
         if wrong:
             out.note(f"p{number:02}.cir is passed over: {wrong}")
-    patterns = {number: Circuit.from_bytes(files[number]) for number in numbers}
-    names = {number: f"p{number:02}.cir" for number in numbers}
-    text, data_order = ranked_by(names, patterns, numbers)
+    text, order_data = ranked([(f"p{number:02}.cir", Circuit.from_bytes(files[number])) for number in numbers])
     plain = "".join(f"{number:02}\n" for number in numbers)
-    out.answer(plain if arguments.lines else text, {"order": data_order})
+    out.answer(plain if arguments.lines else text, {"order": order_data})
     return bool(numbers)
-
-
-def ranked_by(names: dict[int, str], patterns: dict[int, Circuit], numbers: Sequence[int]) -> tuple[str, list[dict[str, Any]]]:
-    """Patterns told by their numbers, in order."""
-    return ranked([names[number] for number in numbers], [patterns[number] for number in numbers], range(len(numbers)))
 
 
 SUBCOMMANDS = (

@@ -2,6 +2,8 @@
 
 from __future__ import annotations
 
+from bisect import bisect_right
+from itertools import accumulate
 from typing import Iterable, Mapping, Sequence
 
 from ..circuits import Circuit, Link
@@ -17,44 +19,44 @@ def count(number: int, what: str) -> str:
 
 
 def listed(words: Sequence[str]) -> str:
-    """Words in a sentence: 'a', 'a and b', 'a, b and c'."""
+    """Words in a sentence: 'a', 'a and b', 'a, b and c'; of many the first ones, and how many more there are."""
+    if len(words) > 8:
+        words = [*words[:6], f"{len(words) - 6} more"]
     return " and ".join([", ".join(words[:-1]), words[-1]] if len(words) > 1 else words)
 
 
 def filled(words: Iterable[str], first: str, further: str) -> list[str]:
     """Words in lines of a width, after a beginning for the first line and one for each further line."""
-    lines: list[str] = []
-    line: list[str] = []
-    room = WIDTH - len(first)
-    for word in words:
-        room -= len(word) + 1
-        if room < -1 and line:
-            lines.append(" ".join(line))
-            line, room = [], WIDTH - len(further) - len(word) - 1
-        line.append(word)
-    lines.append(" ".join(line))
-    return [(first + lines[0]).rstrip(), *(further + rest for rest in lines[1:])]
+    words = list(words)
+    ends = [end + spaces for spaces, end in enumerate(accumulate(map(len, words)))]  # where each ends, were all in one line
+    lines, begin, at = [], first, 0
+    while at < len(words):
+        before = ends[at - 1] + 1 if at else 0
+        after = max(bisect_right(ends, before + WIDTH - len(begin), at), at + 1)
+        lines.append(begin + " ".join(words[at:after]))
+        begin, at = further, after
+    return lines or [first.rstrip()]
 
 
 def rows(pairs: Rows) -> list[str]:
-    """A line for each label, with its words in a column of their own."""
+    """A line for each label, with its words in a column of their own. Words that several labels share are laid out once."""
     pairs = list(pairs)
     wide = max((len(label) for label, _ in pairs), default=0)
     further = " " * (wide + 4)
-    made: dict[tuple[str, ...], list[str]] = {}  # many labels may have the same words
+    made: dict[int, list[str]] = {}  # by which words they are, which `pairs` keeps
     lines = []
     for label, words in pairs:
-        key = tuple(words)
-        if key not in made:
-            made[key] = filled(key, further, further)
-        lines += [f"  {label.ljust(wide)}  {made[key][0][wide + 4:]}".rstrip(), *made[key][1:]]
+        if id(words) not in made:
+            made[id(words)] = filled(words, further, further)
+        first, *rest = made[id(words)]
+        lines += [f"  {label.ljust(wide)}  {first[wide + 4:]}".rstrip(), *rest]
     return lines
 
 
 def role_rows(pattern: Circuit, board: Circuit, roles: Roles) -> list[str]:
     """A line for each part, with the nodes that play it."""
-    names = {nodes: board.named(nodes) or ["-"] for nodes in set(roles)}
-    return rows((label, names[nodes]) for label, nodes in zip(part_labels(pattern), roles))
+    names = {id(nodes): board.named(nodes) or ["-"] for nodes in {id(nodes): nodes for nodes in roles}.values()}
+    return rows((label, names[id(nodes)]) for label, nodes in zip(part_labels(pattern), roles))
 
 
 def part_labels(pattern: Circuit) -> list[str]:
