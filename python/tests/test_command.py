@@ -93,7 +93,7 @@ RUNS = {
         ("batch --patterns samples/mute/pattern.txt samples/shelf --boards samples/mute/board.txt samples/any --summary", ""),
         ("batch --patterns samples/mute/pattern.cir --boards - --summary", "samples/any/board.cir\nsamples/worked/board.cir\n"),
         (
-            "batch --patterns samples/any/pattern.cir samples/coupling/pattern.txt samples/coupling/pattern3.cir --boards samples/mute samples/mute/README.md samples/absent.cir --resume out.jsonl --summary",
+            "batch --patterns samples/any/pattern.cir samples/coupling/pattern.txt samples/coupling/pattern3.cir --boards samples/mute samples/mute/report.txt samples/absent.cir --resume out.jsonl --summary",
             "",
         ),
         ("verify out.jsonl", ""),

@@ -10,6 +10,7 @@ from typing import BinaryIO, Iterator, Sequence
 
 from ..bindings import File
 from ..circuits import Kinds, edition_of
+from ..command.inputs import is_text
 from ..errors import Faults
 from ..text import decoded, from_text
 
@@ -88,11 +89,11 @@ def first_of(sentences: Sequence[str]) -> str:
 
 
 def understood(name: str, data: bytes, role: str) -> Source:
-    """The circuit of a file's bytes, which are a text where the name ends so, or ends in neither way and no byte is 0."""
+    """The circuit of a file's bytes, or of the text that they are."""
     sha256 = sha256_of(data)
-    if name.endswith(".cir") or (not name.endswith(".txt") and b"\0" in data):
-        return Source(name, sha256, File(data, edition_of(data)))
     try:
+        if not is_text(name, data):
+            return Source(name, sha256, File(data, edition_of(data)))
         circuit = from_text(decoded(data, name), name, role, os.path.dirname(name))
     except Faults as wrong:
         return Source(name, sha256, fault=first_of(wrong.messages))
