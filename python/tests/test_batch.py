@@ -301,7 +301,7 @@ def test_memory_is_flat(load: pathlib.Path) -> None:
         process.returncode = os.waitstatus_to_exitcode(status)
         assert process.returncode == 0
         most.append(used.ru_maxrss)
-    assert most[1] < most[0] + 4096, f"{most} KB"
+    assert most[1] < most[0] + 2048, f"{most} KB"
 
 
 def test_names_of_any_bytes(load: pathlib.Path, tmp_path: pathlib.Path) -> None:

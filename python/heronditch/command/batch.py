@@ -68,8 +68,8 @@ class Batch:
         form = JsonTable if arguments.json else Table
         self.table = form(self.patterns, self.boards) if arguments.summary else None
         self.counts: list[Count] = []  # of the board that is under way
-        self.found = self.unanswered = self.done = 0
-        self.unread: list[str] = []
+        self.found = self.unanswered = self.done = self.unread = 0
+        self.faults: list[str] = []  # of the first files that could not be read
 
     def lines(self) -> Lines | None:
         """Where the lines go, None for nowhere."""
@@ -104,7 +104,9 @@ class Batch:
         for name in names:
             source = read(name, role)
             if source.fault is not None:
-                self.unread.append(f"{name}: {source.fault}" if not source.fault.startswith(name) else source.fault)
+                self.unread += 1
+                if self.unread <= TOLD:
+                    self.faults.append(source.fault if source.fault.startswith(name) else f"{name}: {source.fault}")
             yield source
 
     def engine(self) -> tuple[str, ContextManager[tuple[Submit[Any, Any], int]]]:
@@ -161,9 +163,9 @@ class Batch:
     def tell_unanswered(self) -> None:
         """Tells of pairs that have no answer, and of the files that could not be read."""
         if self.unread or self.unanswered:
-            more = [f"and {count(len(self.unread) - TOLD, 'file')} more could not be read"] if len(self.unread) > TOLD else []
+            more = [f"and {count(self.unread - TOLD, 'file')} more could not be read"] if self.unread > TOLD else []
             none = [f"{self.unanswered} of {count(self.done, 'pair')} have no answer: a file was refused or could not be read"]
-            self.out.trouble([*self.unread[:TOLD], *more, *none], {})
+            self.out.trouble([*self.faults, *more, *none], {})
 
 
 def until_ended(work: Callable[[Ending], bool]) -> bool:
