@@ -116,6 +116,14 @@ def _without_bounds(pattern: Circuit) -> File:
     return _file(pattern)
 
 
+def _agree(pattern: Circuit, board: Circuit) -> None:
+    """Demands that no name of a kind or a package stands for one number in the pattern and another on the board."""
+    wrong = pattern.register.differences(board.register)
+    if wrong:
+        told = "is {} in the pattern and {} on the board: one name has one number"
+        raise Faults(f"{what} '{name}' {told.format(here, there)}" for what, name, here, there in wrong)
+
+
 @contextmanager
 def _worded(circuits: Mapping[str, Circuit], role: str = PATTERN) -> Iterator[None]:
     """Words a refusal of the library by the circuit that it means, where that says more."""
@@ -141,12 +149,14 @@ def _misfit(circuit: Circuit, role: str) -> Refused | None:
 @contextmanager
 def _pair(pattern: Circuit, board: Circuit, role: str = PATTERN) -> Iterator[tuple[File, File]]:
     """The files of a pattern without bounds and of a board, for calls whose refusals are worded."""
+    _agree(pattern, board)
     with _worded({PATTERN: pattern, BOARD: board}, role):
         yield _without_bounds(pattern), _file(board)
 
 
 def match(pattern: Circuit, board: Circuit, one_way: bool = False) -> Match:
     """The match table of a pattern, in several bits or with bounds too, on the whole board; one way, only what a part drives counts."""
+    _agree(pattern, board)
     with _worded({PATTERN: pattern, BOARD: board}, BITS):
         told = _without_bounds(pattern) if one_way else _file(pattern)
         counts, table = bindings.match(told, _file(board), one_way)

@@ -10,9 +10,15 @@ import pathlib
 import shlex
 
 import pytest
+from hypothesis import given
+from hypothesis import strategies as st
 
 from conftest import ROOT, run
+from drawing import boards
+from heronditch import Circuit
 from heronditch.command import MODULES, subcommands
+from heronditch.command.telling import WIDTH, chains, filled
+from heronditch.text import drawn_links
 
 EXPECTED = pathlib.Path(__file__).with_name("expected")
 
@@ -233,3 +239,52 @@ def test_json_everywhere(folder: pathlib.Path) -> None:
             answers = [json.loads(line) for line in done.out.splitlines()]
             assert answers or "usage:" in done.err
             assert any("trouble" in answer for answer in answers) == (done.status == 2) or "usage:" in done.err
+
+
+def test_large_places(folder: pathlib.Path) -> None:
+    """Of a place with more links than a pattern can have they are counted, and printed where asked."""
+    nodes = "".join(f"node n{number} 1\n" for number in range(30))
+    links = "".join(f"n{start} -> n{end}\n" for start in range(30) for end in range(9))
+    pathlib.Path("board.txt").write_text(nodes + links)
+    pathlib.Path("pattern.txt").write_text("node a 1\nnode b 1\na -> b\n")
+    short, whole = run("find", "pattern.txt", "board.txt"), run("find", "--links", "pattern.txt", "board.txt")
+    assert short.status == whole.status == 0
+    assert "(270 links; --links prints them)" in short.out and "--links" not in whole.out
+
+
+@given(boards())
+def test_chains(board: Circuit) -> None:
+    """The chains in which links are told have each of them once, and read as a text they are those links."""
+    told = [link for words in chains(board, board.links) for link in drawn_links(words)]
+    assert sorted((board.number(link.start), board.number(link.end)) for link in told) == list(board.links)
+
+
+@given(st.lists(st.text("ab", min_size=1, max_size=130), max_size=40), st.integers(0, 20))
+def test_filled(words: list[str], indent: int) -> None:
+    """Words are put into lines in their order, as many on each as there is room for."""
+    lines = filled(words, "x" * indent + ":", " " * indent)
+    assert " ".join(" ".join(lines).split()) == " ".join(["x" * indent + ":" + "".join(words[:1]), *words[1:]])
+    assert all(len(line) <= WIDTH or len(line.split()) == 1 for line in lines)
+    assert all(len(line) + 1 + len(after.split()[0]) > WIDTH for line, after in zip(lines, lines[1:]))
+
+
+def test_many_names_in_a_note(folder: pathlib.Path) -> None:
+    """Of many parts the first are told, and how many more there are."""
+    pathlib.Path("pattern.txt").write_text(
+        "".join(f"node n{n} 7\n" for n in range(12)) + " -> ".join(f"n{n}" for n in range(12)) + "\n"
+    )
+    pathlib.Path("board.txt").write_text("node a 1\n")
+    assert "(parts 'n0', 'n1', 'n2', 'n3', 'n4', 'n5' and 6 more)" in run("find", "pattern.txt", "board.txt").err
+
+
+def test_a_shelf_of_other_editions(folder: pathlib.Path) -> None:
+    """A first-edition file and a short one are passed over, and it is told why; the shelf ends with the first that is absent."""
+    second = (ROOT / "samples/shelf/p01.cir").read_bytes()
+    files = [second, (ROOT / "samples/worked/pattern.cir").read_bytes(), b"", second]
+    for number, data in enumerate(files):
+        pathlib.Path(f"p{number:02}.cir").write_bytes(data)
+    pathlib.Path("p05.cir").write_bytes(second)
+    done = run("shelf", ".")
+    assert done.status == 0 and done.out == "p00.cir\np03.cir  the same circuit as p00.cir\n"
+    assert "p01.cir is passed over: refused 3 pattern: it is of another edition" in done.err
+    assert "p02.cir is passed over: refused 1 pattern" in done.err

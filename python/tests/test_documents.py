@@ -2,6 +2,7 @@
 
 from __future__ import annotations
 
+import doctest
 import os
 import pathlib
 import re
@@ -11,6 +12,7 @@ import sys
 
 import pytest
 
+import heronditch
 from conftest import ROOT, run
 
 DOCUMENTS = ["README.md", "docs/BENCH.md", "samples/any/README.md", "samples/packages/README.md", "samples/mute/README.md"]
@@ -68,6 +70,11 @@ def test_documents_show_something() -> None:
     """The bench's way is shown in the README, and a repair in docs/BENCH.md."""
     shown_in = {name: {command.split()[1] for other, command, _ in RUNS if other == name} for name in DOCUMENTS}
     assert shown_in["README.md"] >= {"find", "why"} and shown_in["docs/BENCH.md"] >= {"find", "why", "place"}
+
+
+def test_the_modules_own_example() -> None:
+    """The example of the module's description."""
+    assert doctest.testmod(heronditch) == (0, 4)
 
 
 def test_networkx_example() -> None:

@@ -276,3 +276,18 @@ def test_reports_of_the_samples(name: str) -> None:
     pattern, board = (load_text(f"samples/{name}/{role}.txt", role) for role in ("pattern", "board"))
     pattern = pattern.without_packages().without_bounds()
     assert report(pattern, board.without_packages()) == (ROOT / f"samples/{name}/report.txt").read_bytes()
+
+
+def test_registers_that_differ() -> None:
+    """A name that has two numbers in a pattern and on a board is an error in the module, too."""
+    pattern, board = from_text("kind npn 12\nnode Q npn"), from_text("kind npn 13\nnode Q1 npn")
+    for call in (lambda: match(pattern, board), lambda: places(pattern, board), lambda: Session(pattern, board)):
+        with pytest.raises(Faults, match="kind 'npn' is 12 in the pattern and 13 on the board"):
+            call()
+
+
+def test_places_in_places() -> None:
+    """Of samples/mute the place of left and right has each of them in it, and nothing else has another in it."""
+    found = places(*(load_text(f"samples/mute/{role}.txt", role) for role in ("pattern", "board")))
+    within = {(a, b) for a, one in enumerate(found) for b, other in enumerate(found) if a != b and one.contains(other)}
+    assert within == {(1, 0), (1, 2)}

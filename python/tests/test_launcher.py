@@ -5,6 +5,7 @@ from __future__ import annotations
 import os
 import pathlib
 import subprocess
+import sys
 
 from conftest import ROOT
 
@@ -54,6 +55,20 @@ def test_no_library(folder: pathlib.Path) -> None:
     environment = {**os.environ, "HERONDITCH_LIBRARY": "absent.a"}
     done = subprocess.run([ROOT / "heronditch", "--version"], env=environment, capture_output=True, check=False)
     assert done.returncode == 2 and b"there is no absent.a, which HERONDITCH_LIBRARY names" in done.stderr
+
+
+def test_no_module(folder: pathlib.Path) -> None:
+    """A Python that cannot load the extension says so in a sentence."""
+    done = subprocess.run(
+        ["/usr/bin/env", "-u", "PYTHONPATH", sys.executable, ROOT / "python/start.py", "--version"],
+        capture_output=True,
+        check=False,
+    )
+    assert (
+        done.returncode == 2
+        and done.stderr.startswith(b"heronditch: the extension _heronditch is not there")
+        and done.stderr.count(b"\n") == 1
+    )
 
 
 def test_wrong_library(folder: pathlib.Path) -> None:

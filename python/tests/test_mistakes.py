@@ -272,3 +272,24 @@ def test_names_that_begin_with_a_hyphen() -> None:
     assert run("why", "pattern.txt", "board.txt", "--", "-12V").out == "-12V has a place\n"
     assert run("why", "pattern.txt", "board.txt", "--nonsense").status == 2
     assert run("check", "pattern.txt", "board.txt", "-12V", given="-12V -> q -> r\n").status == 0
+
+
+def test_lines_that_differ(monkeypatch: pytest.MonkeyPatch) -> None:
+    """The lines of --lines are those that the places come to."""
+    monkeypatch.setattr("heronditch.command.find.report_of", lambda *_: b"end 0 of 3\n")
+    assert run("find", "pattern.txt", "board.txt").status == 0
+    troubled(
+        run("find", "--lines", "pattern.txt", "board.txt"), "the places found and the lines of the report differ", "This is a bug"
+    )
+
+
+def test_a_report_of_nodes_apart() -> None:
+    """By distance, a place whose nodes no path joins to its centre is none of this board."""
+    troubled(
+        run("tell", "--distance", "board.txt", given="place 0: 0 1 /\nend 1 of 2\n"),
+        "not a report on this board, which has 3 nodes",
+    )
+    write("board.txt", B.replace("p -> q -> r", "p -> q"))
+    troubled(
+        run("tell", "--distance", "board.txt", given="place 0: 0 2 /\nend 1 of 3\n"), "no path joins a node of the place to 'p'"
+    )

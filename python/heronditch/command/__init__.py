@@ -68,13 +68,12 @@ def parser(words: Sequence[str]) -> argparse.ArgumentParser:
 
 
 def hyphened(words: Sequence[str]) -> list[str]:
-    """A command line in which a NODE, the last argument, may be a name that begins with a hyphen, as '-12V' does."""
-    if not words or words[0] not in ("place", "why", "check") or "--" in words:
-        return list(words)
-    names = [word for word in words if word[:1] == "-" and word[:2] not in ("-", "--", "-h")]
-    if "--radius" in words:
-        names = [name for name in names if words[words.index("--radius") + 1 : words.index("--radius") + 2] != [name]]
-    return [*(word for word in words if word not in names), *(["--", *names] if names else [])]
+    """A command line in which the last argument, a NODE, may be a name that begins with a hyphen, as '-12V' does."""
+    *front, last = words or [""]
+    name = last[:1] == "-" and last[:2] not in ("-", "--", "-h")
+    if name and front and front[0] in ("place", "why", "check") and "--" not in front and front[-1] != "--radius":
+        return [*front, "--", last]
+    return list(words)
 
 
 def located(refused: Refused, arguments: argparse.Namespace) -> str:

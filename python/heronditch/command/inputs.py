@@ -30,7 +30,9 @@ def add_both(form: argparse.ArgumentParser) -> None:
 
 def add_node(form: argparse.ArgumentParser) -> None:
     """The argument NODE."""
-    form.add_argument("node", metavar="NODE", help="a node of the board, by its name; by its number where the board has no names")
+    form.add_argument(
+        "node", metavar="NODE", help="a node of the board, by its name, or by its number where the board has no names"
+    )
 
 
 def is_text(path: str, data: bytes) -> bool:
