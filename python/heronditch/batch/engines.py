@@ -4,6 +4,7 @@ Only so many tasks are under way at a time, so that what is held does not grow w
 
 from __future__ import annotations
 
+import logging
 import multiprocessing
 import os
 import threading
@@ -118,7 +119,9 @@ def client_of(address: str) -> Any:
 
 @contextmanager
 def cluster(address: str) -> Iterator[tuple[Submit[Any, Any], int]]:
-    """A Dask cluster, and how many tasks are to be under way. A task whose worker is lost is done by another one."""
+    """A Dask cluster, and how many tasks are to be under way. A task whose worker is lost is done by another one. What Dask would log of
+    lost connections, with tracebacks, is told here in a sentence where it matters."""
+    logging.disable(logging.CRITICAL)
     client = client_of(address)
 
     def submit(function: Callable[[Any], Any], task: Any) -> Any:

@@ -5,6 +5,7 @@ from __future__ import annotations
 import io
 import json
 import os
+import select
 import stat
 import sys
 from typing import Any, Iterable, Iterator, Protocol, Sequence
@@ -38,7 +39,10 @@ class Lines:
         with self._ending.held():
             try:
                 while done < len(data):
-                    done += self._raw.write(data[done:]) or 0
+                    took = self._raw.write(data[done:])
+                    if took is None:  # it was told not to wait: so the wait is here
+                        select.select([], [self._raw.fileno()], [])
+                    done += took or 0
             except OSError as error:
                 self.count += data[:done].count(b"\n")
                 self._cut(done - (data.rfind(b"\n", 0, done) + 1))
@@ -107,10 +111,10 @@ def whole_bytes(path: str) -> int:
 
 
 def names_in(line: bytes) -> Any:
-    """The names of the pattern and the board of a line, and the receipt; None where it is no receipt."""
+    """The names of the pattern and the board of a line, and its places and library; None where it is no receipt."""
     try:
         data = json.loads(line)
-        return (data["pattern"]["name"], data["board"]["name"]), data
+        return (data["pattern"]["name"], data["board"]["name"]), {"places": data["places"], "library": data["library"]}
     except (ValueError, TypeError, KeyError):
         return None, None
 
@@ -125,6 +129,6 @@ def already(path: str, pairs: Iterable[tuple[str, str]], library: Any) -> Iterat
             told = "no receipt" if names is None else f"of {names[0]} on {names[1]}"
             here = "has no more pairs" if pair is None else f"has {pair[0]} on {pair[1]} there"
             raise Faults([f"{path}:{number}: the line is {told}, and this run {here}: name the same circuits in the same order"])
-        if data.get("library") != library:
+        if data["library"] != library:
             raise Faults([f"{path}:{number}: the line was made by another library: begin anew, in another file"])
         yield data
