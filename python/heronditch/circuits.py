@@ -173,7 +173,7 @@ class Circuit:
         for link, bound in zip(self.links, self.bounds or ()):
             if bound != 1:
                 told = f"the link '{self.told(link)}' has bound {bound}, and the {word} edition has none"
-                raise Faults([f"{told}: leave the bounds out (--without-bounds), or keep the third edition"])
+                raise Faults([f"{told}: make it without bounds (heronditch make --without-bounds), or keep the third edition"])
         if edition == SECOND:
             return replace(self, packages=packages, bounds=None)
         for name, package in zip(self.names, packages):

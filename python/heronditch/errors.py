@@ -24,7 +24,7 @@ MEND = {
     10: "Give four such numbers, each from 0 on and below 4294967296.",
     11: "Look between these two for a link that was left out, or for two circuits drawn as one; of a wider pattern"
     " only the whole board can be asked (heronditch match, heronditch cut).",
-    12: "Keep the second edition, or leave the packages out (--without-packages).",
+    12: "Keep the second edition, or make it without packages (heronditch make --without-packages).",
     13: "Give each link a bound from 1 to 4.",
     14: "Cut a link that the board's file has, and each one once.",
     15: "It has a place: ask for it (heronditch place).",

@@ -293,3 +293,16 @@ def test_a_report_of_nodes_apart() -> None:
     troubled(
         run("tell", "--distance", "board.txt", given="place 0: 0 2 /\nend 1 of 3\n"), "no path joins a node of the place to 'p'"
     )
+
+
+def test_the_way_to_mend_it_is_there() -> None:
+    """What is told to a person who loses a bound or a package names the file, and an option that is there."""
+    write("bounded.txt", T.replace("b -> c", "b -> c within 2"))
+    write("packed.txt", T.replace("node a net", "node a net 7"))
+    told = "bounded.txt: the link 'b -> c' has bound 2", "heronditch make --without-bounds"
+    troubled(run("convert", "--edition", "second", "bounded.txt", "out.cir"), *told)
+    done = run("order", "bounded.txt", "pattern.txt")
+    assert done.status == 2 and done.out == "pattern.txt\n" and all(words in done.err for words in told)
+    troubled(run("convert", "--edition", "first", "packed.txt", "out.cir"), "refused 12", "heronditch make --without-packages")
+    for text, option in (("bounded.txt", "--without-bounds"), ("packed.txt", "--without-packages")):
+        assert run("make", option, "--edition", "first", text, "out.cir").status == 0

@@ -11,7 +11,7 @@ import threading
 from collections import deque
 from concurrent.futures import ProcessPoolExecutor
 from concurrent.futures.process import BrokenProcessPool
-from contextlib import contextmanager
+from contextlib import contextmanager, suppress
 from importlib import import_module
 from itertools import islice
 from typing import Any, Callable, Iterable, Iterator, TypeVar
@@ -141,4 +141,5 @@ def cluster(address: str) -> Iterator[tuple[Submit[Any, Any], int]]:
             [f"the Dask cluster at {address} is lost ({type(error).__name__}): start it, and go on with --resume"]
         ) from None
     finally:
-        client.close(timeout=5)
+        with suppress(*cluster_errors()):
+            client.close(timeout=5)

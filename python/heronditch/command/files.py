@@ -106,15 +106,22 @@ def convert_arguments(form: argparse.ArgumentParser) -> None:
     add_out(form)
 
 
+def converted_to(circuit: Circuit, edition: int, role: str) -> Circuit:
+    """A circuit in another edition: by the library, or for the third, which it does not convert to, by the module."""
+    if edition != THIRD:
+        return convert(circuit, edition, role)
+    circuit.check_role(PATTERN)
+    return circuit.in_edition(THIRD)
+
+
 def run_convert(arguments: argparse.Namespace, out: Out) -> bool:
     """Converts a file from its edition to another."""
     circuit = load(arguments.file)
     edition = EDITIONS[arguments.edition] if arguments.edition else {2: 1}.get(circuit.edition, 2)
-    if edition == THIRD:
-        circuit.check_role(PATTERN)
-        converted = circuit.in_edition(THIRD)
-    else:
-        converted = convert(circuit, edition, arguments.role)
+    try:
+        converted = converted_to(circuit, edition, arguments.role)
+    except Faults as faults:
+        raise Faults(f"{arguments.file}: {message}" for message in faults.messages) from None
     write(converted, arguments.out, arguments.file, arguments.force)
     out.answer(f"{arguments.out}: {told(converted)}\n", data_of(converted, arguments.out))
     return True

@@ -8,7 +8,7 @@ from typing import Any, Sequence
 
 from ..bindings import SHELF
 from ..circuits import BITS, SECOND, Circuit
-from ..errors import PATTERN, Refused
+from ..errors import PATTERN, Faults, Refused
 from ..finding import compare, merge, order, radius, shelf
 from .files import write
 from .inputs import add_pattern, load, pattern_of
@@ -54,6 +54,8 @@ def accepted(paths: Sequence[str], out: Out) -> list[tuple[str, Circuit]]:
             good.append((path, pattern))
         except Refused as refused:
             out.trouble([f"{path}: {refused}"], {"number": refused.number, "path": path})
+        except Faults as faults:
+            out.trouble([line if line.startswith(f"{path}:") else f"{path}: {line}" for line in faults.messages], {"path": path})
     return good
 
 
