@@ -2,6 +2,7 @@
 
 from __future__ import annotations
 
+import hashlib
 import json
 import os
 import pathlib
@@ -72,6 +73,14 @@ def test_against_the_second_finder(load: pathlib.Path, whole: bytes) -> None:
     by = {(receipt["verdict"], receipt["by"]) for receipt in made}
     assert {("none", "table"), ("places", "report")} <= by
     assert sum(receipt["verdict"] == "places" for receipt in made) >= 250
+
+
+def test_the_circuits_are_those_that_they_were(load: pathlib.Path) -> None:
+    """The same seeds make the same files everywhere."""
+    files = [*sorted(load.glob("patterns/*.cir")), *(load / name for name in boards_in(load))]
+    sums = "".join(hashlib.sha256(file.read_bytes()).hexdigest() for file in files)
+    assert len(files) == 16 + BOARDS
+    assert hashlib.sha256(sums.encode()).hexdigest() == ""
 
 
 def test_one_order(load: pathlib.Path, whole: bytes) -> None:
@@ -247,6 +256,10 @@ def test_forged_receipts(load: pathlib.Path, whole: bytes, monkeypatch: pytest.M
         forged(line, b'"edition":1', b'"edition":2'): "the file is of edition 1",
         forged(line, b"patterns/p", b"patterns/q"): "the verdict is 'unread'",
         forged(none, b'"places":[]', b'"places":[{}]'): "the places are others",
+        forged(line, b'"name":"patterns', b'"name":"\\u0000'): "the verdict is 'unread'",
+        forged(line, b'"name":"patterns', b'"name":"\\ud800'): "the verdict is 'unread'",
+        b"[" * 100000 + b"\n": "no receipt",
+        b'{"pattern":[],"board":{}}\n': "no receipt",
         b"[1]\n": "no receipt",
         b"nonsense\n": "no receipt",
         line[:-1]: "not whole",

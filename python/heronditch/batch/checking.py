@@ -69,7 +69,7 @@ def check_line(number: int, line: bytes, reading: Read) -> Checked:
         return Checked(number, ["the line is not whole"])
     try:
         then = json.loads(line)
-    except ValueError:
+    except (ValueError, RecursionError):
         return Checked(number, ["the line is no receipt: it is no JSON"])
     names = named_in(then)
     if names is None:

@@ -115,7 +115,7 @@ def names_in(line: bytes) -> Any:
     try:
         data = json.loads(line)
         return (data["pattern"]["name"], data["board"]["name"]), {"places": data["places"], "library": data["library"]}
-    except (ValueError, TypeError, KeyError):
+    except (ValueError, TypeError, KeyError, RecursionError):
         return None, None
 
 

@@ -72,6 +72,8 @@ def read(name: str, role: str) -> Source:
             data = file.read(LARGEST + 1)
     except OSError as error:
         return Source(name, fault=error.strerror or str(error))
+    except ValueError:  # a null byte, or a letter that no name of a file has
+        return Source(name, fault="no file can have this name")
     if len(data) > LARGEST:
         return Source(name, fault=f"more than {LARGEST} bytes, which no circuit has")
     return understood(name, data, role)
