@@ -80,7 +80,7 @@ def test_the_circuits_are_those_that_they_were(load: pathlib.Path) -> None:
     files = [*sorted(load.glob("patterns/*.cir")), *(load / name for name in boards_in(load))]
     sums = "".join(hashlib.sha256(file.read_bytes()).hexdigest() for file in files)
     assert len(files) == 16 + BOARDS
-    assert hashlib.sha256(sums.encode()).hexdigest() == ""
+    assert hashlib.sha256(sums.encode()).hexdigest() == "970329fee732cfde8084dbe74d661c73f3b5a36c21f7f78f9fe7798767d8408d"
 
 
 def test_one_order(load: pathlib.Path, whole: bytes) -> None:
