@@ -9,6 +9,7 @@ variable HERONDITCH_LIBRARY names.
 
 from __future__ import annotations
 
+import hashlib
 import os
 import re
 import sys
@@ -22,6 +23,12 @@ MODULE = "_heronditch"
 def library() -> str:
     """The path of the proved library."""
     return os.environ.get("HERONDITCH_LIBRARY") or os.path.join(ROOT, "target", "staticlib", "libheronditch.a")
+
+
+def library_sha256() -> str:
+    """The SHA-256 of the proved library, which the extension keeps, so that it can say what it has linked."""
+    with open(library(), "rb") as file:
+        return hashlib.sha256(file.read()).hexdigest()
 
 
 def declarations(header: str) -> str:
@@ -47,10 +54,10 @@ def builder() -> Any:
     with open(HEADER, encoding="utf-8") as file:
         header = file.read()
     ffi = FFI()
-    ffi.cdef(declarations(header))
+    ffi.cdef(declarations(header) + "\nstatic char *const LIBRARY_SHA256;")
     ffi.set_source(
         MODULE,
-        '#include "heronditch.h"',
+        f'#include "heronditch.h"\nstatic char *const LIBRARY_SHA256 = "{library_sha256()}";',
         include_dirs=[os.path.dirname(HEADER)],
         extra_objects=[library()],
         py_limited_api=True,

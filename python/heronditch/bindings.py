@@ -3,6 +3,7 @@
 from __future__ import annotations
 
 import struct
+import threading
 from typing import Any, NamedTuple, Sequence
 
 from .errors import BOARD, NEITHER, PATTERN, Refused
@@ -26,6 +27,7 @@ OUTSIDE: int = lib.HERONDITCH_OUTSIDE
 SHELF: int = lib.HERONDITCH_SHELF
 
 _new = ffi.new_allocator(should_clear_after_alloc=False)
+_rooms = threading.local()
 
 
 class File(NamedTuple):
@@ -75,6 +77,11 @@ class Tables(NamedTuple):
 def version() -> int:
     """The version of the library."""
     return int(lib.heronditch_version())
+
+
+def library_sha256() -> str:
+    """The SHA-256 of the library's archive that was linked."""
+    return str(ffi.string(lib.LIBRARY_SHA256), "ascii")
 
 
 def message(number: int) -> str:
@@ -229,10 +236,18 @@ def bar(pattern: File, board: File, centre: int) -> bytes | None:
     return bytes(ffi.buffer(out, pattern.links))
 
 
+def _report_room() -> Any:
+    """Room for any report, one for each thread, which is kept: 18 MB that are lent and given back for each report scatter the heap, so that
+    many reports one after another take more and more memory."""
+    if not hasattr(_rooms, "report"):
+        _rooms.report = _new("uint8_t[]", lib.HERONDITCH_REPORT_BYTES)
+    return _rooms.report
+
+
 def report(pattern: File, board: File) -> bytes:
     """The report of a pattern on a board, whole."""
-    out, lent = _lent("uint8_t", lib.HERONDITCH_REPORT_BYTES)
-    reply = lib.heronditch_report_editions(*_told(pattern, board), 0, 0, *lent)
+    out = _report_room()
+    reply = lib.heronditch_report_editions(*_told(pattern, board), 0, 0, out, lib.HERONDITCH_REPORT_BYTES)
     demand(reply)
     return bytes(ffi.buffer(out, reply.size))
 

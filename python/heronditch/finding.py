@@ -231,7 +231,7 @@ def places(pattern: Circuit, board: Circuit) -> list[Place]:
     words = _Words(board)
     found = []
     with _pair(pattern, board) as files:
-        for body, centres in _bodies(lines, board).items():
+        for body, centres in bodies(lines, len(board.names)).items():
             around = board.names[centres[0]]
             counts, marks = bindings.place(*files, centres[0])
             if marks is None or not bindings.check(*files, centres[0], marks.nodes, marks.links):
@@ -265,17 +265,17 @@ def report_of(found: Iterable[Place], board: Circuit) -> bytes:
     return b"".join(told) + b"end %d of %d\n" % (len(lines), len(board.names))
 
 
-def _bodies(lines: bytes, board: Circuit) -> dict[bytes, list[int]]:
-    """The distinct places of a report, each by what stands after the colon, and their centres."""
+def bodies(lines: bytes, nodes: int) -> dict[bytes, list[int]]:
+    """The distinct places of a report on a board of so many nodes, each by what stands after the colon, and their centres."""
     found: dict[bytes, list[int]] = {}
     *heads, last, rest = [b"", *lines.split(b"\n")]
     for line in heads[1:]:
         head, _, body = line.partition(b": ")
         centre = head.removeprefix(b"place ")
-        if not centre.isdigit() or int(centre) >= len(board.names):
+        if not centre.isdigit() or int(centre) >= nodes:
             raise Bug(f"the report has a line that is none: {line[:60]!r}")
         found.setdefault(body, []).append(int(centre))
-    if rest or last != b"end %d of %d" % (len(heads) - 1, len(board.names)):
+    if rest or last != b"end %d of %d" % (len(heads) - 1, nodes):
         raise Bug(f"the report does not end as it has to: {last[:60]!r}")
     return found
 

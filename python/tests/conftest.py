@@ -41,7 +41,7 @@ def run(*words: object, given: str = "") -> Done:
     """Runs the command, in the folder of the tree's root unless a test went elsewhere."""
     streams = Streams()
     kept = sys.stdout, sys.stderr, sys.stdin
-    sys.stdout, sys.stderr, sys.stdin = streams.out, streams.err, io.StringIO(given)
+    sys.stdout, sys.stderr, sys.stdin = streams.out, streams.err, io.TextIOWrapper(io.BytesIO(given.encode()), "utf-8")
     try:
         status = main([str(word) for word in words])
     except SystemExit as stop:

@@ -129,6 +129,17 @@ RUNS = {
         ("test-board 1 0 5 3", ""),
         ("test-board one 0 5 3", ""),
     ],
+    "batch": [
+        ("batch --patterns samples/mute/pattern.txt samples/shelf --boards samples/mute/board.txt samples/any --summary", ""),
+        ("batch --patterns samples/mute/pattern.cir --boards - --summary", "samples/any/board.cir\nsamples/worked/board.cir\n"),
+        (
+            "batch --patterns samples/any/pattern.cir samples/coupling/pattern.txt samples/coupling/pattern3.cir --boards samples/mute samples/mute/report.txt samples/absent.cir --resume out.jsonl --summary",
+            "",
+        ),
+        ("verify out.jsonl", ""),
+        ("batch --patterns samples/absent --boards samples/mute/board.cir -o other.jsonl --shard 9/8", ""),
+        ("verify samples/mute/report.txt", ""),
+    ],
 }
 
 

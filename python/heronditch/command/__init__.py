@@ -25,6 +25,8 @@ MODULES = {
     "merge": "patterns",
     "order": "patterns",
     "shelf": "patterns",
+    "batch": "batch",
+    "verify": "verify",
     "make": "files",
     "show": "files",
     "convert": "files",
