@@ -99,6 +99,14 @@ def test_directions_of_older_netlists(folder: pathlib.Path) -> None:
     assert [board.register.kind_name(kind) for kind in board.kinds] == ["opamp", "resistor", "net", "net"]
 
 
+def test_bare_names_stay(folder: pathlib.Path) -> None:
+    """Names that stand without quotes, as older netlists have them, stay what they are, though they look like numbers or like Lisp."""
+    bare = ["007", "7", "1e3", "1000.0", "/CS'", "'x", "[a]", ";b", "c;d", "t", "nil", "`q", "a\\b", "{slash}"]
+    nets = "".join(f"(net (code 1) (name {name}) (node (ref R1) (pin 1)) (node (ref 1R) (pin 1)))" for name in bare)
+    imported("in.net", f"(export (version D) (components (comp (ref R1) (value 010)) (comp (ref 1R) (value 'k))) (nets {nets}))")
+    assert load_text("board.txt").names == ("R1", "1R", *bare)
+
+
 FOOTPRINTS = {
     "version 5": "(module Resistor_SMD:R_0603_1608Metric (layer F.Cu) (fp_text reference {ref} (at 0 0)) (fp_text value 10k (at 0 0)) {pads})",
     "version 6": '(footprint "Resistor_SMD:R_0603_1608Metric" (layer "F.Cu") (fp_text reference "{ref}" (at 0 0)) (fp_text value "10k") {pads})',
