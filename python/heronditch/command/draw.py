@@ -5,6 +5,7 @@ from __future__ import annotations
 import argparse
 import os
 from dataclasses import replace
+from typing import Iterable
 
 from ..circuits import BITS, Circuit
 from ..errors import Faults
@@ -32,6 +33,11 @@ def written(path: str, text: str, read: list[str | None]) -> None:
         raise Faults([f"{path}: this would be written over what is read; give another name"])
     with open(path, "w", encoding="utf-8", newline="\n") as file:
         file.write(text)
+
+
+def comment(sentences: Iterable[str]) -> str:
+    """Sentences as comments of a text, a line each, whatever they hold."""
+    return "".join(f"# {' '.join(sentence.split())}\n" for sentence in sentences)
 
 
 def drawn_places(found: list[Place], board: Circuit, centre: int | None) -> Picture:

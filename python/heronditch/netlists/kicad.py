@@ -3,6 +3,7 @@
 from __future__ import annotations
 
 import re
+from collections import Counter
 from importlib import import_module
 from typing import Any, Iterator
 
@@ -109,15 +110,21 @@ def read_pcb(text: str, path: str) -> Netlist:
     if not isinstance(tree, list) or not tree or tree[0] != "kicad_pcb":
         raise Faults([f"{path}: not a KiCad board, which begins with '(kicad_pcb'"])
     parts, pins, nameless = [], [], 0
+    seen: Counter[str] = Counter()
     for footprint in called(tree, "footprint", "module"):
         reference = property_of(footprint, "reference")
         if not reference.strip("*?") or len(footprint) < 2:
             nameless += 1
             continue
-        parts.append(Part(reference, (property_of(footprint, "value"),), str(footprint[1])))
+        seen[reference] += 1
+        own = reference if seen[reference] == 1 else f"{reference}.{seen[reference]}"
+        parts.append(Part(own, (property_of(footprint, "value"),), str(footprint[1])))
         for pad in called(footprint, "pad"):
             net = field(pad, "net")
             if net:
-                pins.append(Pin(reference, net, way_of(field(pad, "pintype"))))
-    told = (f"footprints without a reference: {nameless}",) if nameless else ()
-    return Netlist(tuple(parts), tuple(pins), told)
+                pins.append(Pin(own, net, way_of(field(pad, "pintype"))))
+    told = [f"footprints without a reference: {nameless}"] if nameless else []
+    twice = [reference for reference, count in seen.items() if count > 1]
+    if twice:
+        told.append(f"references of several footprints, which are numbered: {', '.join(twice)}")
+    return Netlist(tuple(parts), tuple(pins), tuple(told))
