@@ -7,10 +7,10 @@ import argparse
 from ..errors import Faults
 from ..netlists import board_of, default_rules, load_rules, read_netlist
 from ..text import to_text
-from .draw import comment, written
 from .files import data_of
 from .subcommands import Out, Subcommand
 from .telling import count
+from .writing import comment, written
 
 
 def import_arguments(form: argparse.ArgumentParser) -> None:

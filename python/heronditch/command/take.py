@@ -7,11 +7,11 @@ import argparse
 from ..errors import BOARD, Faults
 from ..taking import take
 from ..text import to_text
-from .draw import comment, written
 from .files import data_of
 from .inputs import add_node, load, node_of
 from .subcommands import Out, Subcommand
 from .telling import count, listed
+from .writing import comment, written
 
 
 def take_arguments(form: argparse.ArgumentParser) -> None:
