@@ -13,6 +13,7 @@ from hypothesis import strategies as some
 
 from conftest import ROOT, run, write
 from heronditch import Faults, from_text, load_text, places, to_text
+from heronditch.netlists.netlist import text_of
 from heronditch.netlists import Netlist, Part, Pin, board_of, default_rules, load_rules, read_netlist
 
 RULES = load_rules(default_rules())
@@ -99,6 +100,14 @@ def test_directions_of_older_netlists(folder: pathlib.Path) -> None:
     assert [board.register.kind_name(kind) for kind in board.kinds] == ["opamp", "resistor", "net", "net"]
 
 
+def test_bare_names_stay(folder: pathlib.Path) -> None:
+    """Names that stand without quotes, as older netlists have them, stay what they are, though they look like numbers or like Lisp."""
+    bare = ["007", "7", "1e3", "1000.0", "/CS'", "'x", "[a]", ";b", "c;d", "t", "nil", "`q", "a\\b", "{slash}"]
+    nets = "".join(f"(net (code 1) (name {name}) (node (ref R1) (pin 1)) (node (ref 1R) (pin 1)))" for name in bare)
+    imported("in.net", f"(export (version D) (components (comp (ref R1) (value 010)) (comp (ref 1R) (value 'k))) (nets {nets}))")
+    assert load_text("board.txt").names == ("R1", "1R", *bare)
+
+
 FOOTPRINTS = {
     "version 5": "(module Resistor_SMD:R_0603_1608Metric (layer F.Cu) (fp_text reference {ref} (at 0 0)) (fp_text value 10k (at 0 0)) {pads})",
     "version 6": '(footprint "Resistor_SMD:R_0603_1608Metric" (layer "F.Cu") (fp_text reference "{ref}" (at 0 0)) (fp_text value "10k") {pads})',
@@ -136,6 +145,29 @@ def test_spice(folder: pathlib.Path) -> None:
     assert len(places(pattern, board)) == 1
 
 
+def test_spice_words(folder: pathlib.Path) -> None:
+    """Blanks around '=' do not matter, the title is told, and an element with too few nodes is an error with its line."""
+    text = "R9 a b 1k\nX1 a b c amp gain = 2 params: k= 1\nX2 a b c amp gain=2\nR1 a\n* a comment\n+ b 1k\n"
+    answer = imported("in.sp", text)
+    assert load_text("board.txt").names == ("X1", "X2", "R1", "a", "b", "c")
+    assert "the first line, the title: 'R9 a b 1k'" in answer["told"]  # type: ignore[operator]
+    done = run("import", write("short.sp", "title\nQ1 c b\n"), "-o", "out.txt")
+    assert done.status == 2 and "'Q1 c b' has 2 words, and an element Q at least 3 nodes" in done.err
+
+
+def test_references_that_stand_twice(folder: pathlib.Path) -> None:
+    """Footprints of one reference are told apart on a board; in a netlist they cannot be, and that is told."""
+    pads = '(pad "1" smd rect (net 1 "A")) (pad "2" smd rect (net 2 "{net}"))'
+    two = "".join(FOOTPRINTS["version 6"].format(ref="R1", pads=pads.format(net=net)) for net in "BC")
+    far = "".join(FOOTPRINTS["version 6"].format(ref=f"R{net}", pads=f'(pad "1" smd rect (net 3 "{net}"))') for net in "BC")
+    answer = imported("in.kicad_pcb", f"(kicad_pcb {two} {far})")
+    assert {"R1 -> B", "R1.2 -> C", "R1 -> A", "R1.2 -> A"} <= links() and "R1 -> C" not in links()
+    assert "references of several footprints, which are numbered: R1" in answer["told"]  # type: ignore[operator]
+    text = netlist("N R1 1 passive", "N C1 1 passive").replace("(components ", '(components (comp (ref "R1") (value "x"))')
+    told = imported("in.net", text)["told"]
+    assert "references that stand more than once, each taken for one part (1): R1" in told  # type: ignore[operator]
+
+
 def test_sizes(folder: pathlib.Path) -> None:
     """Too large a board is told with its size, and nothing is written; what is left out as asked makes it fit."""
     chain = [f"N{number} R{number} 1 passive" for number in range(300)] + [
@@ -165,6 +197,17 @@ def test_names(folder: pathlib.Path) -> None:
     text = netlist("R1 R1 1 passive", "R1 C1 1 passive", "b C1 2 passive", "b node 1 passive").replace('"b"', '"a b#<c>"')
     imported("in.net", text)
     assert load_text("board.txt").names == ("R1", "C1", "node_", "R1.2", "a_b__c_")
+
+
+def test_names_stay_in_comments(folder: pathlib.Path) -> None:
+    """A name that has a line's end in it does not end the comment that tells it."""
+    text = netlist("N R1 1 passive", "N C1 1 passive", "X R1 2 passive").replace('"X"', '"x\nnode more 1"')
+    imported("in.net", text)
+    assert load_text("board.txt").names == (
+        "R1",
+        "C1",
+        "N",
+    ) and "# - nets of a single part left out (1): x node more 1" in text_of("board.txt")
 
 
 def test_rules(folder: pathlib.Path) -> None:

@@ -7,13 +7,13 @@ import os
 from dataclasses import replace
 
 from ..circuits import BITS, Circuit
-from ..errors import Faults
 from ..finding import Place, place, places
 from ..pictures import Picture, draw, pattern_picture, place_picture
-from .inputs import add_pattern, both_of, node_of, pattern_of, same_file
+from .inputs import add_pattern, both_of, node_of, pattern_of
 from .notes import on_none
 from .subcommands import Out, Subcommand
 from .telling import count
+from .writing import written
 
 
 def draw_arguments(form: argparse.ArgumentParser) -> None:
@@ -24,14 +24,6 @@ def draw_arguments(form: argparse.ArgumentParser) -> None:
     form.add_argument("node", metavar="NODE", nargs="?", help="a node of the board, to draw the place around it alone")
     form.add_argument("--title", metavar="TEXT", help="what stands above the picture, in place of a title of its own")
     form.add_argument("-o", dest="out", metavar="FILE.svg", required=True, help="the picture to write")
-
-
-def written(path: str, text: str, read: list[str | None]) -> None:
-    """Writes a text, never over what was read."""
-    if any(other is not None and same_file(path, other) for other in read):
-        raise Faults([f"{path}: this would be written over what is read; give another name"])
-    with open(path, "w", encoding="utf-8", newline="\n") as file:
-        file.write(text)
 
 
 def drawn_places(found: list[Place], board: Circuit, centre: int | None) -> Picture:

@@ -7,10 +7,10 @@ import argparse
 from ..errors import Faults
 from ..netlists import board_of, default_rules, load_rules, read_netlist
 from ..text import to_text
-from .draw import written
 from .files import data_of
 from .subcommands import Out, Subcommand
 from .telling import count
+from .writing import comment, written
 
 
 def import_arguments(form: argparse.ArgumentParser) -> None:
@@ -31,11 +31,12 @@ def run_import(arguments: argparse.Namespace, out: Out) -> bool:
     rules = load_rules(arguments.rules or default_rules())
     what, netlist = read_netlist(arguments.file)
     board, told = board_of(netlist, rules, arguments.leave_out, not arguments.without_packages)
+    about = f"Read from the {what} {arguments.file} by 'heronditch import'."
     head = [
-        f"# Read from the {what} {arguments.file} by 'heronditch import'. Nothing of this is proved: look it over and edit it before it is used.",
-        *(f"# - {sentence}" for sentence in told),
+        f"{about} Nothing of this is proved: look it over and edit it before it is used.",
+        *(f"- {sentence}" for sentence in told),
     ]
-    written(arguments.out, "\n".join([*head, to_text(board)]), [arguments.file, arguments.rules])
+    written(arguments.out, comment(head) + to_text(board), [arguments.file, arguments.rules])
     sizes = f"{count(len(board.names), 'node')}, {count(len(board.links), 'link')}"
     lines = [f"{arguments.out}: {sizes}, from a {what}; look it over before it is used", *(f"  {sentence}" for sentence in told)]
     out.answer("\n".join(lines) + "\n", {**data_of(board, arguments.out), "told": list(told)})

@@ -11,12 +11,12 @@ from ..bindings import version
 from ..errors import Faults
 from ..finding import places
 from ..pages import Asked, page
-from .draw import written
 from .find import found_data
 from .inputs import add_both, both_of
 from .notes import on_none
 from .subcommands import Out, Subcommand
 from .telling import count
+from .writing import written
 
 
 def page_arguments(form: argparse.ArgumentParser) -> None:

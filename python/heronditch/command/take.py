@@ -7,11 +7,11 @@ import argparse
 from ..errors import BOARD, Faults
 from ..taking import take
 from ..text import to_text
-from .draw import written
 from .files import data_of
 from .inputs import add_node, load, node_of
 from .subcommands import Out, Subcommand
 from .telling import count, listed
+from .writing import comment, written
 
 
 def take_arguments(form: argparse.ArgumentParser) -> None:
@@ -38,8 +38,8 @@ def run_take(arguments: argparse.Namespace, out: Out) -> bool:
         out.note(f"not identified on the board, and so of any kind in the pattern: {unknown}")
     name = board.names[centre]
     without = f", without {listed(board.named(left_out))}" if left_out else ""
-    head = f"# Taken from {arguments.board} around {name}, radius {arguments.radius}{without}.\n"
-    written(arguments.out, head + to_text(pattern), [arguments.board])
+    head = f"Taken from {arguments.board} around {name}, radius {arguments.radius}{without}."
+    written(arguments.out, comment([head]) + to_text(pattern), [arguments.board])
     sizes = f"{count(len(pattern.names), 'part')}, {count(len(pattern.links), 'link')}"
     out.answer(f"{arguments.out}: {sizes}, around {name}\n", data_of(pattern, arguments.out))
     return True

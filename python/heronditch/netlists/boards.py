@@ -50,7 +50,7 @@ def unique(wanted: Iterable[str]) -> list[str]:
 
 
 def merged(parts: Iterable[Part]) -> list[Part]:
-    """Each part once, though a board may have two footprints of one reference."""
+    """Each part once, though a netlist may list a reference twice."""
     return list({part.reference: part for part in parts}.values())
 
 
@@ -69,7 +69,9 @@ def sift(netlist: Netlist, rules: Rules, left_out: Sequence[str]) -> tuple[Kept,
     joined = {pin.part for pin in pins}
     parts = [part for part in merged(netlist.parts) if part.reference in joined]
     loose = [part.reference for part in merged(netlist.parts) if part.reference not in joined | dropped]
+    counts = Counter(part.reference for part in netlist.parts)
     told = [
+        ("references that stand more than once, each taken for one part", [name for name, count in counts.items() if count > 1]),
         ("rails left out", rails),
         ("left out as asked", [*sorted(dropped), *asked]),
         ("nets of a single part left out", single),

@@ -24,6 +24,7 @@ def whole_lines(text: str) -> list[str]:
     held: list[str] = []
     for line in text.splitlines()[1:]:
         line = re.split(r";|\s\$\s|\s//", line, maxsplit=1)[0].strip()
+        line = re.sub(r"\s*=\s*", "=", line)
         if line.lower() == ".end":
             break
         if line.startswith("+") and held:
@@ -82,6 +83,7 @@ def read_spice(text: str, path: str) -> Netlist:
     lines = whole_lines(text)
     types = models(lines)
     elements, told = kept_lines(lines)
+    told.insert(0, f"the first line, the title: '{text.splitlines()[0] if text else ''}'")
     parts, pins = [], []
     spelt: dict[str, str] = {}
     for line in elements:
