@@ -55,10 +55,10 @@ FINDER = [
     Wrong("nothing opened", "finder", "    as_read(input::load(name, buf))", "    as_read(Found::Absent)"),
     Wrong("nothing printed", "finder", "output::write_whole(bytes)", "Output::Written(bytes.len())"),
     Wrong("a piece twice", "finder", "output::write_whole(bytes)", "output::write_whole(bytes);\n    output::write_whole(bytes)"),
-    Wrong("the other standard stream", "finder", "libc::write(fd, rest)", "libc::write(2, rest)", "output"),
-    Wrong("a file that opens taken for absent", "finder", "    fd >= 0", "    fd >= 64", "input"),
 ]
 SHELF = [
+    Wrong("the other standard stream", "shelf", "libc::write(fd, rest)", "libc::write(2, rest)", "output"),
+    Wrong("a file that opens taken for one that does not", "shelf", "    fd >= 0", "    fd >= 64", "input"),
     Wrong("silent", "shelf", "    shelve(&mut", "    return;\n    shelve(&mut"),
     Wrong("nothing opened", "shelf", "    input::load(name, buf)", "    Found::Absent"),
     Wrong("nothing printed", "shelf", "output::write_whole(text)", "Output::Written(text.len())"),
@@ -84,10 +84,9 @@ def replace(source: pathlib.Path, old: str, new: str) -> str:
     return before
 
 
-def store_seventeen(crates: pathlib.Path) -> None:
-    """A shelf of 17 files with no gap is stored."""
+def store(crates: pathlib.Path, files: list[bytes]) -> None:
+    """A shelf of these files is stored."""
     crate = crates / "shelf"
-    files = [model.encode(model.Packed([kind], [], [], [0]), 2) for kind in range(17, 0, -1)]
     shutil.rmtree(crate / "data")
     (crate / "data").mkdir()
     for number, data in enumerate(files):
@@ -95,11 +94,19 @@ def store_seventeen(crates: pathlib.Path) -> None:
     (crate / "stdout").write_bytes(model.shelf_text(files))
 
 
+def part(kind: int) -> bytes:
+    """The file of a pattern of one part."""
+    return model.encode(model.Packed([kind], [], [], [0]), 2)
+
+
+def store_seventeen(crates: pathlib.Path) -> None:
+    """There are 17 files, and no gap."""
+    store(crates, [part(kind) for kind in range(17, 0, -1)])
+
+
 def store_long(crates: pathlib.Path) -> None:
-    """A pattern that is longer than the buffer is stored: it is refused by its length."""
-    pattern = crates / "finder" / "data" / "pattern.cir"
-    pattern.write_bytes(pattern.read_bytes() + bytes(5000))
-    (crates / "finder" / "stdout").write_bytes(b"refused 3 pattern\n")
+    """A file is longer than the buffer: it is refused by its length, and the next one is read."""
+    store(crates, [part(2) + bytes(5000), part(1)])
 
 
 def close_input(crates: pathlib.Path) -> None:
@@ -116,7 +123,7 @@ def fail_reading(crates: pathlib.Path) -> None:
 
 CONDITIONS = [
     (store_seventeen, Wrong("the 17th file read", "shelf", "    while i < FILES {", "    while i < FILES + 1 {")),
-    (store_long, Wrong("a full buffer read on, and another not", "finder", "    if size == room {", "    if size != room {", "input")),
+    (store_long, Wrong("a full buffer read on, and another not", "shelf", "    if size == room {", "    if size != room {", "input")),
     (close_input, Wrong("a file that opens as 0 taken for unreadable", "shelf", "    fd >= 0", "    fd >= 1", "input")),
     (fail_reading, Wrong("a last read of no byte", "shelf", "    let mut more = [0u8; 1];", "    let mut more = [0u8; 0];", "input")),
 ]
