@@ -46,19 +46,23 @@ fn radius_for(reach: Reach, own: u16) -> u16
     }
 }
 
+// The counts of a call in which nothing is searched.
+fn no_counts() -> Counts
+    ensures { λ r. ⌜ r ≡ noCounts ⌝ }
+{
+    Counts {
+        started: 0,
+        kept: 0,
+        struck: 0,
+        rounds: 0,
+    }
+}
+
 // The answer that turns a call away before anything is searched.
 fn turned_away(x: Refusal) -> PlaceAnswer
     ensures { λ r. ⌜ r ≡ PlaceAnswer.Refused x noCounts ⌝ }
 {
-    PlaceAnswer::Refused(
-        x,
-        Counts {
-            started: 0,
-            kept: 0,
-            struck: 0,
-            rounds: 0,
-        },
-    )
+    PlaceAnswer::Refused(x, no_counts())
 }
 
 // The answer by the verdict on two files alone: nothing is searched, and nothing counted.
@@ -66,12 +70,7 @@ fn answer_by(verdict: FileVerdict) -> PlaceAnswer
     ensures { λ r. ⌜ placeReply r ≡ record { verdict = verdictOf verdict; counts = noCounts } ⌝ }
 {
     match verdict {
-        FileVerdict::Accepted => PlaceAnswer::Placed(Counts {
-            started: 0,
-            kept: 0,
-            struck: 0,
-            rounds: 0,
-        }),
+        FileVerdict::Accepted => PlaceAnswer::Placed(no_counts()),
         FileVerdict::Refused(x) => turned_away(x),
     }
 }

@@ -8,6 +8,8 @@ use lib.Dec.{eqb}
 use lib.ListN.{length}
 use Rattle.graph.specs.Circuit.{Circuit}
 use Rattle.file_format.specs.declared.Role.the-variants.{Pattern}
+use Rattle.file_format.specs.declared.FileVerdict.{FileVerdict}
+use Rattle.file_format.specs.declared.FileVerdict.the-variants as told
 use Rattle.file_format.specs.declared.Refusal.{Refusal}
 use Rattle.file_format.specs.Circuit.{circuitOf}
 use Rattle.file_format.specs.Layout.{CircuitFile}
@@ -60,6 +62,11 @@ unfoldable pub outcomeFor : ℕ → Piece → List ℕ → ReportOutcome
 outcomeFor need p out =
     let verdict = first (shortTable need (length out) ∷ []) in
     record { reply = reply verdict (p .next ∷ p .found ∷ length (p .text) ∷ []); out = filled verdict (p .text) out }
+
+-- what a verdict on the files comes to by itself: the line of a refused file, and of accepted ones nothing
+unfoldable pub outcomeBy : FileVerdict → ℕ → ℕ → List ℕ → ReportOutcome
+outcomeBy told.Accepted from found out = record { reply = record { verdict = accept; values = from ∷ found ∷ 0 ∷ [] }; out = out }
+outcomeBy (told.Refused x) from found out = outcomeFor longestRefusal (refusalPiece x from found) out
 
 -- "Rising numbers are the order": the files' conditions come before 8 here too, and what a refused file comes to is text. 8 is the only refusal. For the
 -- lines the room needed is a bound, as merging needs the first pattern's file length: 8 is then known without matching, and what does for

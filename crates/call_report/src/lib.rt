@@ -24,7 +24,7 @@ use table_whole::match_tables;
 ghost use mathlib.Core.Path.{_≡_};
 ghost use Prim.Native.Nat.{_≤_};
 ghost use lib.ListN.{length};
-ghost use Rattle.call_report.specs.Call.{refusalPiece, outcomeFor, reportReply, reporting};
+ghost use Rattle.call_report.specs.Call.{refusalPiece, outcomeFor, outcomeBy, reportReply, reporting};
 ghost use Rattle.file_format.specs.Layout.{inEdition};
 ghost use Rattle.report.specs.Lines.{longestRefusal};
 ghost use Rattle.report_centres.specs.Pieces.{linesPiece, SourceOfSome, Wrote, EveryWrote};
@@ -90,6 +90,16 @@ fn answer_refused(x: Refusal, from: usize, found: u16, out: &mut [u8]) -> Report
         return too_short();
     }
     ReportAnswer::Put(put_refused(x, from, found, out))
+}
+
+// What the call comes to by the verdict on the two files alone.
+fn answer_by(verdict: FileVerdict, from: usize, found: u16, out: &mut [u8]) -> ReportAnswer
+    ensures { λ a. ⌜ record { reply = reportReply a; out = now (out .exit) } ≡ outcomeBy verdict from found (now (out .entry)) ⌝ }
+{
+    match verdict {
+        FileVerdict::Accepted => ReportAnswer::Put(put_nothing(from, found)),
+        FileVerdict::Refused(x) => answer_refused(x, from, found, out),
+    }
 }
 
 // The lines of the centres from where a piece goes on, and the last line where the centres are done.
@@ -185,31 +195,31 @@ pub fn put(
     ensures { λ a. ⌜ EveryReported from found read (tables (now (masks .entry)) (now (offsets .entry)) (now (links .entry))) (now (whole .entry)) (now (labels .entry)) (now (sizes .entry)) (now (out .entry)) (record { reply = reportReply a; out = now (out .exit) }) ⌝ }
 {
     let verdict = read.verdict;
-    let FileVerdict::Refused(x) = verdict else {
-        if out.len() < LONGEST {
-            return too_short();
-        }
-        let n = read.nodes;
-        if n < from {
-            return ReportAnswer::Put(put_nothing(from, found));
-        }
-        let resume = Resume {
-            radius: read.radius,
-            from,
-            found,
-        };
-        return ReportAnswer::Put(put_lines(
-            masks,
-            offsets,
-            links,
-            &whole[..n],
-            &labels[..n],
-            &sizes[..n],
-            resume,
-            out,
-        ));
+    let FileVerdict::Accepted = verdict else {
+        return answer_by(verdict, from, found, out);
     };
-    answer_refused(x, from, found, out)
+    if out.len() < LONGEST {
+        return too_short();
+    }
+    let nodes = read.nodes;
+    if nodes < from {
+        return ReportAnswer::Put(put_nothing(from, found));
+    }
+    let resume = Resume {
+        radius: read.radius,
+        from,
+        found,
+    };
+    ReportAnswer::Put(put_lines(
+        masks,
+        offsets,
+        links,
+        &whole[..nodes],
+        &labels[..nodes],
+        &sizes[..nodes],
+        resume,
+        out,
+    ))
 }
 
 // A piece of the report, from the centre `from` on, before which `found` centres had a place, at the front of the buffer: the lines of as
