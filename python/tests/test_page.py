@@ -9,8 +9,6 @@ import json
 import pathlib
 import re
 import subprocess
-import sys
-import types
 from typing import Any, Iterator
 
 import pytest
@@ -218,6 +216,6 @@ def test_names_are_escaped(browser: Chrome, tmp_path: pathlib.Path) -> None:
 def test_what_was_proved_is_cited(tmp_path: pathlib.Path, monkeypatch: pytest.MonkeyPatch) -> None:
     """What is known of the library stands on the page: its SHA-256, and what was proved of it."""
     known = {"version": 3, "sha256": "ab" * 32, "proved": "logic=proved of the sources <so>"}
-    monkeypatch.setitem(sys.modules, "heronditch.batch.library", types.SimpleNamespace(identity=lambda: known))
+    monkeypatch.setattr("heronditch.command.page.identity", lambda: known)
     text = made(tmp_path / "page.html", *MUTE)
     assert "ab" * 32 in text and "logic=proved of the sources &lt;so&gt;" in text and "not known" not in text

@@ -4,10 +4,8 @@ from __future__ import annotations
 
 import argparse
 import hashlib
-from importlib import import_module
-from typing import Any
 
-from ..bindings import version
+from ..batch.library import identity
 from ..errors import Faults
 from ..finding import places
 from ..pages import Asked, page
@@ -41,15 +39,6 @@ def left_out(arguments: argparse.Namespace) -> list[str]:
     return [f"all {what} were left out, as asked (--without-{what})" for what, asked in told.items() if asked]
 
 
-def library() -> dict[str, Any]:
-    """The library that answers, and what was proved of it where that is known."""
-    try:
-        found: dict[str, Any] = import_module("heronditch.batch.library").identity()
-    except ModuleNotFoundError:
-        return {"version": version()}
-    return found
-
-
 def run_page(arguments: argparse.Namespace, out: Out) -> bool:
     """Searches, and writes the page."""
     files = digests(arguments)
@@ -59,7 +48,7 @@ def run_page(arguments: argparse.Namespace, out: Out) -> bool:
     found = places(pattern, board)
     if not found:
         on_none(pattern, board, out, lambda *plain: bool(places(*plain)))
-    text = page(found, pattern, board, Asked(files, library(), [*left_out(arguments), *out.notes]))
+    text = page(found, pattern, board, Asked(files, identity(), [*left_out(arguments), *out.notes]))
     read = [arguments.pattern, arguments.pattern_names, arguments.board, arguments.board_names]
     written(arguments.out, text, read)
     out.answer(f"{arguments.out}: {count(len(found), 'place')}\n", {"file": arguments.out, **found_data(found, pattern, board)})
