@@ -1,10 +1,6 @@
 /* Asks at each of some centres for the least of the pattern's links that still says that there is no place. bench/run counts the instructions
  * inside the call. Prints how many centres have no place, and how many links are kept around them in all. */
-#include <stdio.h>
-#include <stdlib.h>
-
 #include "folder.h"
-#include "heronditch.h"
 
 static uint8_t out[HERONDITCH_PATTERN_LINKS];
 
@@ -17,8 +13,8 @@ int main(int argc, char **argv)
     load_folder(argv[1]);
     size_t none = 0, kept = 0, last = strtoul(argv[3], NULL, 10);
     for (size_t centre = strtoul(argv[2], NULL, 10); centre <= last; centre++) {
-        heronditch_reply r = heronditch_bar(pattern, pattern_len, board, board_len, centre, out, sizeof out);
-        none += r.number == 0;
+        heronditch_reply r = heronditch_bar(FILES, centre, out, sizeof out);
+        none += r.number == HERONDITCH_ACCEPTED;
         kept += r.first;
     }
     printf("%zu %zu\n", none, kept);

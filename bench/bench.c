@@ -1,11 +1,7 @@
 /* Makes one call on the two files of a folder, by the proved library or in plain C: the match table, or the place around each of some
- * centres; and by the library alone the ball, the radius or the match table one way. bench/run counts the instructions inside the calls. With `compare` both are called, and must reply and leave the same. */
-#include <stdio.h>
-#include <stdlib.h>
-#include <string.h>
-
+ * centres; and by the library alone the ball, the radius or the match table one way. bench/run counts the instructions inside the calls. With
+ * `compare` both are called, and must reply and leave the same. */
 #include "folder.h"
-#include "heronditch.h"
 #include "native.h"
 
 /* What a call replies with, and what is lent to it. */
@@ -21,7 +17,6 @@ static native_counts counts_of(heronditch_counts c)
     return (native_counts){c.number, c.file, c.started, c.kept, c.struck, c.rounds};
 }
 
-#define FILES pattern, pattern_len, board, board_len
 #define TABLE r->table, NATIVE_NODES
 #define TABLES r->nodes, NATIVE_NODES, r->links, NATIVE_LINKS, TABLE, r->distances, NATIVE_NODES
 
@@ -41,29 +36,29 @@ static void proved_one_way(size_t centre, struct result *r)
 static void plain_match(size_t centre, struct result *r)
 {
     (void)centre;
-    r->counts = native_match(FILES, TABLE);
+    r->counts = native_match(PLAIN_FILES, TABLE);
 }
 
 static void proved_place(size_t centre, struct result *r)
 {
-    r->counts = counts_of(heronditch_place(FILES, centre, TABLES));
+    r->counts = counts_of(heronditch_place(PLAIN_FILES, centre, TABLES));
 }
 
 static void plain_place(size_t centre, struct result *r)
 {
-    r->counts = native_place(FILES, centre, TABLES);
+    r->counts = native_place(PLAIN_FILES, centre, TABLES);
 }
 
 /* The ball as wide as can be, and the radius. There is no plain C of these two. */
 static void proved_ball(size_t centre, struct result *r)
 {
-    r->counts.number = heronditch_ball(board, board_len, centre, 65535, r->distances, NATIVE_NODES).number;
+    r->counts.number = heronditch_ball(FILE_OF(board), centre, 65535, r->distances, NATIVE_NODES).number;
 }
 
 static void proved_radius(size_t centre, struct result *r)
 {
     (void)centre;
-    r->counts.number = heronditch_radius(pattern, pattern_len).number;
+    r->counts.number = heronditch_radius(FILE_OF(pattern)).number;
 }
 
 /* The result of a call that is lent tables full of ones. */

@@ -1,37 +1,31 @@
-/* Matches the pattern of a folder on its board, once as a second-edition file and once as a third-edition file with every bound as told, 1 to 4.
- * bench/run counts the instructions inside the two calls. Prints the counts of the second: started, kept, rounds. With bound 1 the two must reply
- * and leave the same. */
-#include <stdio.h>
-#include <stdlib.h>
-#include <string.h>
-
+/* Matches the pattern of a folder on its board: as a second-edition file where the bound told is 0, and as a third-edition file with every bound as
+ * told, 1 to 4. bench/run counts the instructions inside the call. Prints the counts, started, kept, rounds, and a sum over the table, so that
+ * bound 0 and bound 1 print the same. */
 #include "folder.h"
-#include "heronditch.h"
-
-static uint8_t second[HERONDITCH_PATTERN_BYTES_2], third[HERONDITCH_PATTERN_BYTES_3];
 
 int main(int argc, char **argv)
 {
-    static uint32_t one[HERONDITCH_NODES], two[HERONDITCH_NODES];
-    int bound = argc == 3 ? atoi(argv[2]) : 0;
-    if (bound < 1 || bound > HERONDITCH_BOUND) {
+    static uint8_t told[HERONDITCH_PATTERN_BYTES];
+    static uint32_t table[HERONDITCH_NODES];
+    int bound = argc == 3 ? atoi(argv[2]) : -1;
+    if (bound < 0 || bound > HERONDITCH_BOUND) {
         fprintf(stderr, "usage: %s FOLDER BOUND\n", argv[0]);
         return 2;
     }
     load_folder(argv[1]);
-    size_t p = pattern_len;
-    /* the second edition has as many zero packages after the kinds, the third a bound for each link after that */
-    size_t nodes = 4 + 2 * (size_t)(pattern[0] + 256 * pattern[1]), links = (size_t)(pattern[2] + 256 * pattern[3]);
-    memcpy(second, pattern, nodes);
-    memcpy(second + 2 * nodes - 4, pattern + nodes, p - nodes);
-    p += nodes - 4;
-    memcpy(third, second, p);
-    for (size_t i = 0; i < links; i++)
-        third[p + 2 * i] = (uint8_t)bound;
-    heronditch_counts x = heronditch_match_21(second, p, board, board_len, one, HERONDITCH_NODES);
-    heronditch_counts y = heronditch_match_31(third, p + 2 * links, board, board_len, two, HERONDITCH_NODES);
-    if (x.number || y.number || (bound == 1 && (memcmp(&x, &y, sizeof x) || memcmp(one, two, sizeof one))))
+    /* the second edition has as many zero packages after the kinds, the third a bound for each link after that; heronditch_convert would refuse
+     * the patterns that are too wide for a place */
+    size_t kinds = 2 * nodes_of(&pattern), len = pattern.len + kinds;
+    memcpy(told, pattern.bytes, 4 + kinds);
+    memcpy(told + 4 + 2 * kinds, pattern.bytes + 4 + kinds, pattern.len - 4 - kinds);
+    for (size_t i = 0; bound && i < links_of(&pattern); i++, len += 2)
+        told[len] = (uint8_t)bound;
+    heronditch_counts c = heronditch_match(told, len, bound ? HERONDITCH_THIRD : HERONDITCH_SECOND, FILE_OF(board), table, HERONDITCH_NODES);
+    if (c.number != HERONDITCH_ACCEPTED)
         return 1;
-    printf("%u %u %u\n", y.started, y.kept, y.rounds);
+    uint64_t sum = 0;
+    for (size_t v = 0; v < nodes_of(&board); v++)
+        sum = sum * 31 + table[v];
+    printf("%u %u %u %016llx\n", c.started, c.kept, c.rounds, (unsigned long long)sum);
     return 0;
 }

@@ -5,12 +5,7 @@
  *
  * Prints how many cuts there were, how many tables were made, and a sum over the tables after each EVERY-th cut, which is the same either way; the
  * fresh tables are made after those cuts only. */
-#include <stdio.h>
-#include <stdlib.h>
-#include <string.h>
-
 #include "folder.h"
-#include "heronditch.h"
 
 static uint8_t rest[HERONDITCH_BOARD_BYTES];
 static uint32_t table[HERONDITCH_NODES];
@@ -24,14 +19,14 @@ static size_t remaining(size_t n, size_t m)
     size_t left = 0, starts = 4 + 2 * n;
     for (size_t i = 0; i < m; i++)
         left += !out[i];
-    memcpy(rest, board, starts);
+    memcpy(rest, board.bytes, starts);
     rest[2] = (uint8_t)(left % 256);
     rest[3] = (uint8_t)(left / 256);
     for (size_t i = 0, at = 0; i < m; i++) {
         if (out[i])
             continue;
-        memcpy(rest + starts + 2 * at, board + starts + 2 * i, 2);
-        memcpy(rest + starts + 2 * left + 2 * at, board + starts + 2 * m + 2 * i, 2);
+        memcpy(rest + starts + 2 * at, board.bytes + starts + 2 * i, 2);
+        memcpy(rest + starts + 2 * left + 2 * at, board.bytes + starts + 2 * m + 2 * i, 2);
         at++;
     }
     return starts + 4 * left;
@@ -44,7 +39,7 @@ int main(int argc, char **argv)
         return 2;
     }
     load_folder(argv[1]);
-    size_t n = board[0] + 256u * board[1], m = board[2] + 256u * board[3], every = strtoul(argv[3], NULL, 10);
+    size_t n = nodes_of(&board), m = links_of(&board), every = strtoul(argv[3], NULL, 10);
     int fresh = !strcmp(argv[2], "fresh");
     for (size_t i = 0; i < m; i++)
         order[i] = (unsigned)i;
@@ -58,7 +53,7 @@ int main(int argc, char **argv)
     }
     uint64_t sum = 0;
     size_t tables = 0;
-    if (heronditch_open(&session, pattern, pattern_len, board, board_len).number)
+    if (heronditch_open(&session, FILES).number)
         return 1;
     for (size_t i = 0; i < m; i++) {
         if (fresh)
@@ -69,7 +64,7 @@ int main(int argc, char **argv)
             continue;
         if (fresh) {
             size_t length = remaining(n, m);
-            if (heronditch_match(pattern, pattern_len, rest, length, table, HERONDITCH_NODES).number)
+            if (heronditch_match(FILE_OF(pattern), rest, length, HERONDITCH_FIRST, table, HERONDITCH_NODES).number)
                 return 1;
         } else if (heronditch_table(&session, table, HERONDITCH_NODES).number)
             return 1;

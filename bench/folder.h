@@ -2,33 +2,23 @@
 #ifndef FOLDER_H
 #define FOLDER_H
 
-#include <stdint.h>
-#include <stdio.h>
-#include <stdlib.h>
+#include "../examples/common.h"
 
-#include "heronditch.h"
+static circuit_file pattern, board;
 
-static uint8_t pattern[HERONDITCH_PATTERN_BYTES + 1], board[HERONDITCH_BOARD_BYTES + 1];
-static size_t pattern_len, board_len;
+/* both files, as most calls take them */
+#define FILES FILE_OF(pattern), FILE_OF(board)
 
-static size_t load(const char *folder, const char *name, uint8_t *bytes, size_t size)
+/* both files without their editions, as the calls take them that read the first */
+#define PLAIN_FILES pattern.bytes, pattern.len, board.bytes, board.len
+
+static inline void load_folder(const char *folder)
 {
     char path[4096];
-    snprintf(path, sizeof path, "%s/%s", folder, name);
-    FILE *f = fopen(path, "rb");
-    if (!f) {
-        perror(path);
-        exit(2);
-    }
-    size_t n = fread(bytes, 1, size, f);
-    fclose(f);
-    return n;
-}
-
-static void load_folder(const char *folder)
-{
-    pattern_len = load(folder, "pattern.cir", pattern, sizeof pattern);
-    board_len = load(folder, "board.cir", board, sizeof board);
+    snprintf(path, sizeof path, "%s/pattern.cir", folder);
+    load(path, &pattern);
+    snprintf(path, sizeof path, "%s/board.cir", folder);
+    load(path, &board);
 }
 
 #endif

@@ -5,7 +5,7 @@
 
 #include "heronditch.h"
 
-static uint8_t bytes[HERONDITCH_SHELF * HERONDITCH_PATTERN_BYTES_2], order[HERONDITCH_SHELF];
+static uint8_t bytes[HERONDITCH_SHELF * HERONDITCH_PATTERN_BYTES], order[HERONDITCH_SHELF];
 static uint32_t lengths[HERONDITCH_SHELF];
 
 static uint8_t *put(uint8_t *to, unsigned x)
@@ -40,8 +40,8 @@ int main(int argc, char **argv)
         lengths[i] = file(bytes + all, !small, refused ? 32 : alike ? 7 : falling ? 22 - i : 7 + i);
         all += lengths[i];
     }
-    heronditch_comparison c = heronditch_compare_2(bytes, lengths[0], bytes + lengths[0], lengths[1]);
-    heronditch_reply r = heronditch_shelf_2(bytes, all, lengths, HERONDITCH_SHELF, order, sizeof order);
+    heronditch_comparison c = heronditch_compare(bytes, lengths[0], bytes + lengths[0], lengths[1]);
+    heronditch_reply r = heronditch_shelf(bytes, all, lengths, HERONDITCH_SHELF, order, sizeof order);
     printf("%u %u %u\n", (unsigned)lengths[0], (unsigned)c.order, (unsigned)r.first);
     return 0;
 }

@@ -3,53 +3,32 @@
  *
  *     find [-d] PATTERN.cir BOARD.cir
  *
+ * Each file may be of the first edition or of the second: packages count where both have them.
+ *
  * Build: cc -Iinclude examples/find.c target/staticlib/libheronditch.a -o find
  */
-#include <inttypes.h>
-#include <stdio.h>
-#include <stdlib.h>
-#include <string.h>
+#include "common.h"
 
-#include "heronditch.h"
+/* What is lent for a place. */
+static uint8_t nodes[HERONDITCH_NODES], links[HERONDITCH_BOARD_LINKS];
+static uint32_t table[HERONDITCH_NODES];
+static uint16_t distances[HERONDITCH_NODES];
 
-/* Reads at most size bytes of a file: one more than the longest file has, so that the call refuses a longer one. */
-static size_t load(const char *name, uint8_t *bytes, size_t size)
-{
-    FILE *f = fopen(name, "rb");
-    if (!f) {
-        perror(name);
-        exit(2);
-    }
-    size_t n = fread(bytes, 1, size, f);
-    if (ferror(f)) {
-        perror(name);
-        exit(2);
-    }
-    fclose(f);
-    return n;
-}
-
-static const char *file_name(uint32_t file)
-{
-    return file == HERONDITCH_PATTERN ? " pattern" : file == HERONDITCH_BOARD ? " board" : "";
-}
-
-static void print_place(size_t centre, const uint8_t *nodes, size_t n, const uint8_t *links, size_t m, const uint16_t *starts,
-                        const uint16_t *ends)
+static void print_place(size_t centre, const circuit *board)
 {
     printf("place %zu:", centre);
-    for (size_t v = 0; v < n; v++)
+    for (size_t v = 0; v < board->n; v++)
         if (nodes[v])
             printf(" %zu", v);
     printf(" /");
-    for (size_t i = 0; i < m; i++)
+    for (size_t i = 0; i < board->m; i++)
         if (links[i])
-            printf(" %" PRIu16 "-%" PRIu16, starts[i], ends[i]);
+            printf(" %u-%u", board->starts[i], board->ends[i]);
     printf("\n");
 }
 
 /* A line for each distance at which the place has nodes. */
-static void print_distances(const uint8_t *nodes, const uint16_t *distances, size_t n)
+static void print_distances(size_t n)
 {
     for (unsigned d = 0; d < HERONDITCH_NODES; d++) {
         int begun = 0;
@@ -67,42 +46,37 @@ static void print_distances(const uint8_t *nodes, const uint16_t *distances, siz
 
 int main(int argc, char **argv)
 {
-    static uint8_t pattern[HERONDITCH_PATTERN_BYTES + 1], board[HERONDITCH_BOARD_BYTES + 1];
-    static uint16_t kinds[HERONDITCH_NODES], starts[HERONDITCH_BOARD_LINKS], ends[HERONDITCH_BOARD_LINKS];
-    static uint8_t nodes[HERONDITCH_NODES], links[HERONDITCH_BOARD_LINKS];
-    static uint32_t table[HERONDITCH_NODES];
-
-    static uint16_t distances[HERONDITCH_NODES];
+    static circuit_file pattern, board;
+    static circuit drawn;
 
     int probing = argc == 4 && strcmp(argv[1], "-d") == 0;
     if (argc != 3 && !probing) {
         fprintf(stderr, "usage: %s [-d] PATTERN.cir BOARD.cir\n", argv[0]);
         return 2;
     }
-    size_t pattern_len = load(argv[argc - 2], pattern, sizeof pattern);
-    size_t board_len = load(argv[argc - 1], board, sizeof board);
+    load(argv[argc - 2], &pattern);
+    load(argv[argc - 1], &board);
 
     /* The pattern and the board are looked at once, so that a refusal is told before anything else. */
-    heronditch_reply r = heronditch_radius(pattern, pattern_len);
-    if (r.number == 0)
-        r = heronditch_read_board(board, board_len, kinds, HERONDITCH_NODES, starts, HERONDITCH_BOARD_LINKS, ends, HERONDITCH_BOARD_LINKS);
-    if (r.number != 0) {
-        printf("refused %" PRIu32 "%s\n", r.number, file_name(r.file));
-        return 1;
-    }
-    size_t n = r.first, m = r.second, found = 0;
-    for (size_t centre = 0; centre < n; centre++) {
-        heronditch_counts c = heronditch_place(pattern, pattern_len, board, board_len, centre, nodes, HERONDITCH_NODES, links,
-                                               HERONDITCH_BOARD_LINKS, table, HERONDITCH_NODES, distances, HERONDITCH_NODES);
-        if (c.number == 9) /* no place around this centre: that is a theorem, nobody needs to look again */
+    heronditch_reply r = heronditch_radius(FILE_OF(pattern));
+    if (r.number == HERONDITCH_ACCEPTED)
+        r = read_circuit(HERONDITCH_BOARD, &board, &drawn);
+    if (r.number != HERONDITCH_ACCEPTED)
+        return refused(r.number, r.file);
+    size_t found = 0;
+    for (size_t centre = 0; centre < drawn.n; centre++) {
+        heronditch_counts c =
+            heronditch_place_editions(FILE_OF(pattern), FILE_OF(board), centre, nodes, HERONDITCH_NODES, links, HERONDITCH_BOARD_LINKS, table,
+                                      HERONDITCH_NODES, distances, HERONDITCH_NODES);
+        if (c.number == HERONDITCH_NO_PLACE) /* that is a theorem: nobody needs to look again */
             continue;
-        if (c.number != 0) /* cannot be: both files are accepted, the centre is a node and the tables are long enough */
-            return 3;
-        print_place(centre, nodes, n, links, m, starts, ends);
+        if (c.number != HERONDITCH_ACCEPTED) /* cannot be: both files are accepted, the centre is a node and the tables are long enough */
+            return refused(c.number, c.file);
+        print_place(centre, &drawn);
         if (probing)
-            print_distances(nodes, distances, n);
+            print_distances(drawn.n);
         found++;
     }
-    printf("end %zu of %zu\n", found, n);
+    printf("end %zu of %zu\n", found, drawn.n);
     return 0;
 }

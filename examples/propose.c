@@ -4,44 +4,25 @@
  *
  * For each node of the board two quick guesses are made and checked. `copy` assigns a node to every part, step by step, such that kinds agree
  * and every pattern link has a board link; it proposes the nodes and links that it used. `kinds` takes every node in the ball whose kind some
- * part asks for, and all board links between those. Whoever proposed it, a yes means the same: a perfect subgraph around that node.
+ * part asks for, and all board links between those. Whoever proposed it, a yes means the same: a perfect subgraph around that node. Each file
+ * may be of the first edition or of the second; in the second a kind is that and a package.
  *
  * Build: cc -Iinclude examples/propose.c target/staticlib/libheronditch.a -o propose
  */
-#include <stdio.h>
-#include <stdlib.h>
-#include <string.h>
+#include "common.h"
 
-#include "heronditch.h"
-
-/* a circuit as it is read */
-typedef struct {
-    uint8_t file[HERONDITCH_BOARD_BYTES + 1];
-    size_t len, n, m;
-    uint16_t kinds[HERONDITCH_NODES], starts[HERONDITCH_BOARD_LINKS], ends[HERONDITCH_BOARD_LINKS];
-} circuit;
-
+static circuit_file pattern_file, board_file;
 static circuit pattern, board;
 static uint8_t ball[HERONDITCH_NODES], nodes[HERONDITCH_NODES], links[HERONDITCH_BOARD_LINKS];
 static size_t node_of[HERONDITCH_PARTS];
 
-typedef heronditch_reply reading(const uint8_t *, size_t, uint16_t *, size_t, uint16_t *, size_t, uint16_t *, size_t);
-
-static void load(const char *name, reading *read, size_t size, circuit *c)
+/* loads and reads a file in a role, or ends the program */
+static void take(const char *name, uint32_t role, circuit_file *file, circuit *to)
 {
-    FILE *f = fopen(name, "rb");
-    if (!f) {
-        perror(name);
-        exit(2);
-    }
-    c->len = fread(c->file, 1, size + 1, f);
-    fclose(f);
-    heronditch_reply r = read(c->file, c->len, c->kinds, HERONDITCH_NODES, c->starts, HERONDITCH_BOARD_LINKS, c->ends, HERONDITCH_BOARD_LINKS);
-    if (r.number) {
-        printf("refused %u %s\n", (unsigned)r.number, r.file == HERONDITCH_PATTERN ? "pattern" : "board");
-        exit(1);
-    }
-    c->n = r.first, c->m = r.second;
+    load(name, file);
+    heronditch_reply r = read_circuit(role, file, to);
+    if (r.number != HERONDITCH_ACCEPTED)
+        exit(refused(r.number, r.file));
 }
 
 /* marks the nodes at distance at most radius from the centre */
@@ -57,10 +38,10 @@ static void reach(size_t centre, size_t radius)
                 next[board.starts[i]] = next[board.ends[i]] = 1;
 }
 
-/* a part of kind 0 matches every node */
+/* a part of kind 0 matches nodes of every kind; packages are the same */
 static int agree(size_t u, size_t v)
 {
-    return pattern.kinds[u] == 0 || pattern.kinds[u] == board.kinds[v];
+    return pattern.packages[u] == board.packages[v] && (pattern.kinds[u] == 0 || pattern.kinds[u] == board.kinds[v]);
 }
 
 /* the board's link from v to w, or the number of links */
@@ -124,7 +105,8 @@ static const char *judged(int (*propose)(size_t), size_t centre)
     memset(links, 0, sizeof links);
     if (!propose(centre))
         return "nothing";
-    return heronditch_check(pattern.file, pattern.len, board.file, board.len, centre, nodes, board.n, links, board.m).first ? "yes" : "no";
+    heronditch_reply r = heronditch_check(FILE_OF(pattern_file), FILE_OF(board_file), centre, nodes, board.n, links, board.m);
+    return r.first ? "yes" : "no";
 }
 
 int main(int argc, char **argv)
@@ -133,9 +115,9 @@ int main(int argc, char **argv)
         fprintf(stderr, "usage: %s PATTERN.cir BOARD.cir\n", argv[0]);
         return 2;
     }
-    load(argv[1], heronditch_read_pattern, HERONDITCH_PATTERN_BYTES, &pattern);
-    load(argv[2], heronditch_read_board, HERONDITCH_BOARD_BYTES, &board);
-    size_t radius = heronditch_radius(pattern.file, pattern.len).first;
+    take(argv[1], HERONDITCH_PATTERN, &pattern_file, &pattern);
+    take(argv[2], HERONDITCH_BOARD, &board_file, &board);
+    size_t radius = heronditch_radius(FILE_OF(pattern_file)).first;
     for (size_t centre = 0; centre < board.n; centre++) {
         reach(centre, radius);
         const char *copy = judged(propose_copy, centre);

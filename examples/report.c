@@ -2,36 +2,18 @@
  *
  *     report PATTERN.cir BOARD.cir [BYTES]
  *
- * BYTES is how much is lent for the report at a time, at least HERONDITCH_LINE_BYTES; without it there is room for any report at once, so that the
- * files are read and the board is matched once. An absent file counts as empty. Its status: 0 the report is printed whole; 1 so is the one line of a refused file; 2 a file cannot be
- * read, or the report could not be written whole: a line on standard error says why, and what was printed is a front of the report.
+ * Each file may be of the first edition or of the second: packages count where both have them. An absent file counts as empty. BYTES is how much
+ * is lent for the report at a time, at least HERONDITCH_LINE_BYTES; without it there is room for any report at once, so that the files are read
+ * and the board is matched once. Its status: 0 the report is printed whole; 1 so is the one line of a refused file; 2 a file cannot be read, or
+ * the report could not be written whole: a line on standard error says why, and what was printed is a front of the report.
  *
  * Build: cc -Iinclude examples/report.c target/staticlib/libheronditch.a -o report
  */
-#include <errno.h>
 #include <poll.h>
 #include <signal.h>
-#include <stdio.h>
-#include <stdlib.h>
-#include <string.h>
 #include <unistd.h>
 
-#include "heronditch.h"
-
-/* Reads at most size bytes of a file: one more than the longest file has, so that the call refuses a longer one. */
-static size_t load(const char *name, uint8_t *bytes, size_t size)
-{
-    FILE *f = fopen(name, "rb");
-    if (!f && errno == ENOENT)
-        return 0;
-    size_t n = f ? fread(bytes, 1, size, f) : 0;
-    if (!f || ferror(f)) {
-        fprintf(stderr, "cannot read %s\n", name);
-        exit(2);
-    }
-    fclose(f);
-    return n;
-}
+#include "common.h"
 
 /* Writes all of the bytes, or says that it failed. An output that does not block is waited for, five seconds at a time. */
 static int put(const uint8_t *bytes, size_t size)
@@ -54,7 +36,8 @@ static int put(const uint8_t *bytes, size_t size)
 
 int main(int argc, char **argv)
 {
-    static uint8_t pattern[HERONDITCH_PATTERN_BYTES + 1], board[HERONDITCH_BOARD_BYTES + 1], out[HERONDITCH_REPORT_BYTES];
+    static circuit_file pattern, board;
+    static uint8_t out[HERONDITCH_REPORT_BYTES];
     size_t lent = argc == 4 ? strtoul(argv[3], NULL, 10) : sizeof out;
 
     if (argc < 3 || argc > 4 || lent < HERONDITCH_LINE_BYTES || lent > sizeof out) {
@@ -62,15 +45,15 @@ int main(int argc, char **argv)
         return 2;
     }
     signal(SIGPIPE, SIG_IGN); /* a reader that goes away is an error of write */
-    size_t pattern_len = load(argv[1], pattern, sizeof pattern);
-    size_t board_len = load(argv[2], board, sizeof board);
+    load_or_empty(argv[1], &pattern);
+    load_or_empty(argv[2], &board);
     int status = 0;
     size_t from = 0;
     uint16_t found = 0;
     for (;;) {
-        heronditch_piece p = heronditch_report(pattern, pattern_len, board, board_len, from, found, out, lent);
-        if (p.number != 0) /* cannot be: the buffer has room for the longest line */
-            return 3;
+        heronditch_piece p = heronditch_report_editions(FILE_OF(pattern), FILE_OF(board), from, found, out, lent);
+        if (p.number != HERONDITCH_ACCEPTED) /* cannot be: the buffer has room for the longest line */
+            return refused(p.number, p.file);
         if (p.size == 0)
             return status;
         if (out[0] == 'r') /* no other line begins so */

@@ -1,6 +1,6 @@
 """Document 01's definitions, and what document 02 adds to them, in plain Python, written from the paper and from nothing else: sets, lists and simple loops.
 
-The vectors that the proved programs are run on are made from it (cases.py). It is no part of the product and shares no code with it.
+The library is compared with it, case by case (python/tests). It is no part of the product and shares no code with it.
 """
 from collections import namedtuple
 

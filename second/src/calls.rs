@@ -8,15 +8,15 @@ use crate::barring::least;
 use crate::bounded;
 use crate::check::{marked, perfect};
 use crate::circuit::{
-    both, both_in, both_in_bits, gather, gather_second, parse, parse_bounded, parse_in, Circuit,
-    Edition, File, Refusal, Role,
+    counted, read_bounded, Circuit, Edition, File, Files, Given, Refusal, Role, Told,
 };
 use crate::graph::{radius as radius_of, within};
 use crate::load::{load as load_of, Numbers};
 use crate::merged::merged;
 use crate::place::{place as place_of, Place};
+use crate::report::{piece, LONGEST_LINE, LONGEST_REFUSAL};
 use crate::shelf;
-use crate::simulation::{on_board, Counts, Ways};
+use crate::simulation::{on_board, Counts, Pairs, Ways};
 
 /// The reply of a call without counts: number 0 when accepted, and up to two
 /// values, 0 where there is none.
@@ -102,6 +102,29 @@ impl Comparison {
     }
 }
 
+/// The reply of a call that puts a piece of a report: where to go on, how many
+/// centres before that have a place, and how many bytes were put.
+#[derive(Clone, Copy, Debug, PartialEq, Eq)]
+pub struct Put {
+    pub number: u32,
+    pub file: File,
+    pub next: usize,
+    pub found: usize,
+    pub size: usize,
+}
+
+impl From<Refusal> for Put {
+    fn from(refusal: Refusal) -> Put {
+        Put {
+            number: refusal.number,
+            file: refusal.file,
+            next: 0,
+            found: 0,
+            size: 0,
+        }
+    }
+}
+
 /// The one of two replies that the call came to.
 fn either<R: From<Refusal>>(result: Result<R, Refusal>) -> R {
     result.unwrap_or_else(R::from)
@@ -127,98 +150,97 @@ fn field(number: usize) -> u16 {
     u16::try_from(number).expect("a 16-bit number")
 }
 
-/// Reads a file in a role; replies with N and M.
-pub fn read(
-    role: Role,
-    file: &[u8],
-    kinds: &mut [u16],
-    starts: &mut [u16],
-    ends: &mut [u16],
-) -> Reply {
-    either(parse(role, file).and_then(|circuit| {
-        let (n, m) = (circuit.kinds.len(), circuit.links.len());
-        long_enough(&[(kinds.len(), n), (starts.len(), m), (ends.len(), m)])?;
-        fill(kinds, circuit.kinds.iter().copied());
-        fill(starts, circuit.links.iter().map(|link| field(link.0)));
-        fill(ends, circuit.links.iter().map(|link| field(link.1)));
-        Ok(Reply::accepted(n, m))
-    }))
+/// What reading fills.
+pub struct Columns<'a> {
+    pub kinds: &'a mut [u16],
+    pub packages: &'a mut [u16],
+    pub starts: &'a mut [u16],
+    pub ends: &'a mut [u16],
 }
 
-/// Writes a file in a role; replies with its length.
-pub fn write(role: Role, kinds: &[u16], starts: &[u16], ends: &[u16], out: &mut [u8]) -> Reply {
-    either(gather(role, kinds, starts, ends).and_then(|circuit| {
-        let bytes = circuit.bytes();
-        long_enough(&[(out.len(), bytes.len())])?;
-        out[..bytes.len()].copy_from_slice(&bytes);
-        Ok(Reply::accepted(bytes.len(), 0))
-    }))
-}
-
-/// Reads a second-edition file in a role; replies with N and M.
-pub fn read_second(
-    role: Role,
-    file: &[u8],
-    kinds: &mut [u16],
-    packages: &mut [u16],
-    starts: &mut [u16],
-    ends: &mut [u16],
-) -> Reply {
-    either(parse_in(Edition::Second, role, file).and_then(|circuit| {
+/// Reads a file in a role; replies with N and M. In the first edition packages
+/// are neither needed nor touched.
+pub fn read(role: u32, file: Told, out: Columns) -> Reply {
+    either(file.read(Role::counted(role)).and_then(|circuit| {
         let (n, m) = (circuit.kinds.len(), circuit.links.len());
-        let nodes = [(kinds.len(), n), (packages.len(), n)];
+        let packages = match Edition::counted(file.edition) {
+            Edition::First => vec![],
+            Edition::Second => circuit.all_packages(),
+        };
+        let nodes = [(out.kinds.len(), n), (out.packages.len(), packages.len())];
         long_enough(&nodes)?;
-        long_enough(&[(starts.len(), m), (ends.len(), m)])?;
-        fill(kinds, circuit.kinds.iter().copied());
-        fill(packages, circuit.all_packages());
-        fill(starts, circuit.links.iter().map(|link| field(link.0)));
-        fill(ends, circuit.links.iter().map(|link| field(link.1)));
+        long_enough(&[(out.starts.len(), m), (out.ends.len(), m)])?;
+        fill(out.kinds, circuit.kinds.iter().copied());
+        fill(out.packages, packages);
+        fill(out.starts, circuit.links.iter().map(|link| field(link.0)));
+        fill(out.ends, circuit.links.iter().map(|link| field(link.1)));
         Ok(Reply::accepted(n, m))
     }))
 }
 
-/// Writes a second-edition file in a role; replies with its length.
-pub fn write_second(
-    role: Role,
-    kinds: &[u16],
-    packages: &[u16],
-    starts: &[u16],
-    ends: &[u16],
-    out: &mut [u8],
-) -> Reply {
-    either(
-        gather_second(role, kinds, packages, starts, ends).and_then(|circuit| {
-            let bytes = circuit.bytes_in(Edition::Second);
-            long_enough(&[(out.len(), bytes.len())])?;
-            fill(out, bytes.iter().copied());
-            Ok(Reply::accepted(bytes.len(), 0))
-        }),
-    )
+/// Fills a file into bytes lent; replies with its length.
+fn put_file(bytes: Vec<u8>, out: &mut [u8]) -> Result<Reply, Refusal> {
+    let length = bytes.len();
+    long_enough(&[(out.len(), length)])?;
+    fill(out, bytes);
+    Ok(Reply::accepted(length, 0))
 }
 
-/// Converts a file from one edition to another in a role; replies with the new
+/// Writes a file in a role and an edition; replies with its length.
+pub fn write(role: u32, edition: u32, given: Given, out: &mut [u8]) -> Reply {
+    let edition = Edition::counted(edition);
+    let circuit = given.circuit(Role::counted(role), edition);
+    either(circuit.and_then(|circuit| put_file(circuit.bytes_in(edition), out)))
+}
+
+/// Converts a file from its edition to another in a role; replies with the new
 /// file's length. The first edition has no place for a package other than 0.
-pub fn convert(role: Role, from: Edition, to: Edition, file: &[u8], out: &mut [u8]) -> Reply {
-    either(parse_in(from, role, file).and_then(|circuit| {
+pub fn convert(role: u32, file: Told, to: u32, out: &mut [u8]) -> Reply {
+    let (role, to) = (Role::counted(role), Edition::counted(to));
+    either(file.read(role).and_then(|circuit| {
         let packed = circuit.packages.iter().any(|&package| package != 0);
         if to == Edition::First && packed {
             return Err(role.refuses(12));
         }
-        let bytes = circuit.bytes_in(to);
-        long_enough(&[(out.len(), bytes.len())])?;
-        fill(out, bytes.iter().copied());
-        Ok(Reply::accepted(bytes.len(), 0))
+        put_file(circuit.bytes_in(to), out)
+    }))
+}
+
+/// Offsets and links, forward and backward, and a node to look up in them.
+#[derive(Clone, Copy, Debug, PartialEq, Eq)]
+pub struct Lookup<'a> {
+    pub forward_offsets: &'a [u16],
+    pub forward: &'a [u16],
+    pub backward_offsets: &'a [u16],
+    pub backward: &'a [u16],
+    pub node: usize,
+}
+
+impl<'a> Lookup<'a> {
+    /// The stretch of a direction's links that the node's two offsets are about:
+    /// empty where it has no two, or where they fall back or pass the end.
+    pub fn stretch(self, direction: u32) -> &'a [u16] {
+        let forward = (self.forward_offsets, self.forward);
+        let (offsets, links) =
+            counted(direction, [forward, (self.backward_offsets, self.backward)]);
+        let two = offsets.get(self.node..).and_then(|rest| rest.get(..2));
+        let range = two.map(|two| usize::from(two[0])..usize::from(two[1]));
+        range.and_then(|range| links.get(range)).unwrap_or(&[])
+    }
+}
+
+/// Fills the neighbours of a node; replies with how many they are.
+pub fn neighbours(direction: u32, lookup: Lookup, out: &mut [u16]) -> Reply {
+    let stretch = lookup.stretch(direction);
+    either(long_enough(&[(out.len(), stretch.len())]).map(|()| {
+        fill(out, stretch.iter().copied());
+        Reply::accepted(stretch.len(), 0)
     }))
 }
 
 /// Replies with a pattern's radius.
-pub fn radius(pattern: &[u8]) -> Reply {
-    radius_in(Edition::First, pattern)
-}
-
-/// Replies with the radius of a pattern of an edition.
-pub fn radius_in(edition: Edition, pattern: &[u8]) -> Reply {
-    let circuit = parse_in(edition, Role::Pattern, pattern);
+pub fn radius(pattern: Told) -> Reply {
+    let circuit = pattern.read(Role::Pattern);
     either(circuit.map(|circuit| Reply::accepted(radius_of(&circuit), 0)))
 }
 
@@ -230,19 +252,8 @@ fn entries(board: &Circuit, centre: usize, radius: usize) -> Vec<u16> {
 
 /// Fills the distance of each board node from the centre, 65,535 outside the
 /// ball; replies with N.
-pub fn ball(board: &[u8], centre: usize, radius: u16, out: &mut [u16]) -> Reply {
-    ball_in(Edition::First, board, centre, radius, out)
-}
-
-/// The same on a board of an edition.
-pub fn ball_in(
-    edition: Edition,
-    board: &[u8],
-    centre: usize,
-    radius: u16,
-    out: &mut [u16],
-) -> Reply {
-    either(parse_in(edition, Role::Board, board).and_then(|board| {
+pub fn ball(board: Told, centre: usize, radius: u16, out: &mut [u16]) -> Reply {
+    either(board.read(Role::Board).and_then(|board| {
         let n = board.kinds.len();
         inside(centre, &board)?;
         long_enough(&[(out.len(), n)])?;
@@ -260,64 +271,47 @@ fn inside(centre: usize, board: &Circuit) -> Result<(), Refusal> {
 }
 
 /// Fills the match table on the whole board; replies with the counts. The
-/// pattern may be in several bits.
-pub fn match_table(pattern: &[u8], board: &[u8], table: &mut [u32]) -> Counted {
-    match_in([Edition::First; 2], pattern, board, table)
+/// pattern may be in several bits; of a third-edition pattern a link with bound
+/// h is met by a directed path of 1 to h board links.
+pub fn match_table(files: Files, table: &mut [u32]) -> Counted {
+    if !files.pattern.is_third() {
+        return match_by(Ways::Both, files, table);
+    }
+    either(read_bounded(files.pattern.bytes).and_then(|pattern| {
+        let board = files.board.read(Role::Board)?;
+        matched(&board, table, || bounded::on_board(&pattern, &board))
+    }))
 }
 
-/// The same on files each of its edition.
-pub fn match_in(
-    editions: [Edition; 2],
-    pattern: &[u8],
-    board: &[u8],
-    table: &mut [u32],
-) -> Counted {
-    match_by(Ways::Both, editions, pattern, board, table)
-}
-
-/// The same one way: a pair needs partners for what its part drives alone.
-pub fn match_one_way(
-    editions: [Edition; 2],
-    pattern: &[u8],
-    board: &[u8],
-    table: &mut [u32],
-) -> Counted {
-    match_by(Ways::Forward, editions, pattern, board, table)
+/// The same one way, without bounds: a pair needs partners for what its part
+/// drives alone.
+pub fn match_one_way(files: Files, table: &mut [u32]) -> Counted {
+    match_by(Ways::Forward, files, table)
 }
 
 /// The whole-board table by some ways.
-fn match_by(
-    ways: Ways,
-    editions: [Edition; 2],
-    pattern: &[u8],
-    board: &[u8],
-    table: &mut [u32],
-) -> Counted {
+fn match_by(ways: Ways, files: Files, table: &mut [u32]) -> Counted {
     either(
-        both_in_bits(editions, pattern, board).and_then(|(pattern, board)| {
-            let n = board.kinds.len();
-            long_enough(&[(table.len(), n)])?;
-            let (pairs, counts) = on_board(ways, &pattern, &board);
-            fill(table, (0..n).map(|v| pairs.word(v)));
-            Ok(Counted::accepted(counts))
+        files.read_in_bits().and_then(|(pattern, board)| {
+            matched(&board, table, || on_board(ways, &pattern, &board))
         }),
     )
 }
 
-/// The same of a third-edition pattern, on a board of an edition: a pattern
-/// link with bound h is met by a directed path of 1 to h board links.
-pub fn match_bounded(edition: Edition, pattern: &[u8], board: &[u8], table: &mut [u32]) -> Counted {
-    either(parse_bounded(pattern).and_then(|pattern| {
-        let board = parse_in(edition, Role::Board, board)?;
-        let n = board.kinds.len();
-        long_enough(&[(table.len(), n)])?;
-        let (pairs, counts) = bounded::on_board(&pattern, &board);
-        fill(table, (0..n).map(|v| pairs.word(v)));
-        Ok(Counted::accepted(counts))
-    }))
+/// Fills the table of the pairs that a search comes to; replies with its counts.
+fn matched(
+    board: &Circuit,
+    table: &mut [u32],
+    search: impl Fn() -> (Pairs, Counts),
+) -> Result<Counted, Refusal> {
+    let n = board.kinds.len();
+    long_enough(&[(table.len(), n)])?;
+    let (pairs, counts) = search();
+    fill(table, (0..n).map(|v| pairs.word(v)));
+    Ok(Counted::accepted(counts))
 }
 
-/// What the two place calls fill: a byte per board node, a byte per board
+/// What the place calls fill: a byte per board node, a byte per board
 /// link, the table over the place's nodes, and the distances in the ball.
 pub struct PlaceTables<'a> {
     pub nodes: &'a mut [u8],
@@ -348,26 +342,12 @@ impl PlaceTables<'_> {
     }
 }
 
-/// The place around a centre at the pattern's radius.
-pub fn place(pattern: &[u8], board: &[u8], centre: usize, out: PlaceTables) -> Counted {
-    either(
-        both(pattern, board)
-            .and_then(|(pattern, board)| found(&pattern, &board, centre, radius_of(&pattern), out)),
-    )
-}
-
-/// The place around a centre at a radius given.
-pub fn place_within(
-    pattern: &[u8],
-    board: &[u8],
-    centre: usize,
-    radius: u16,
-    out: PlaceTables,
-) -> Counted {
-    either(
-        both(pattern, board)
-            .and_then(|(pattern, board)| found(&pattern, &board, centre, radius.into(), out)),
-    )
+/// The place around a centre, at a radius given or at the pattern's.
+pub fn place(files: Files, centre: usize, radius: Option<u16>, out: PlaceTables) -> Counted {
+    either(files.read().and_then(|(pattern, board)| {
+        let radius = radius.map_or_else(|| radius_of(&pattern), usize::from);
+        found(&pattern, &board, centre, radius, out)
+    }))
 }
 
 /// Refusals 7 and 8, then the place, or 9 with the ball's counts.
@@ -394,84 +374,67 @@ fn found(
 
 /// Replies with 1 where the bytes are a perfect subgraph around the centre at
 /// the pattern's radius, largest or not, and with 0 where they are not.
-pub fn check(pattern: &[u8], board: &[u8], centre: usize, nodes: &[u8], links: &[u8]) -> Reply {
-    check_in([Edition::First; 2], pattern, board, centre, nodes, links)
-}
-
-/// The same on files each of its edition.
-pub fn check_in(
-    editions: [Edition; 2],
-    pattern: &[u8],
-    board: &[u8],
-    centre: usize,
-    nodes: &[u8],
-    links: &[u8],
-) -> Reply {
-    either(
-        both_in(editions, pattern, board).and_then(|(pattern, board)| {
-            inside(centre, &board)?;
-            if nodes.len() != board.kinds.len() || links.len() != board.links.len() {
-                return Err(Refusal::neither(3));
-            }
-            let graph = marked(&board, nodes, links);
-            let yes = |graph| perfect(&pattern, &board, centre, radius_of(&pattern), &graph);
-            Ok(Reply::accepted(usize::from(graph.is_some_and(yes)), 0))
-        }),
-    )
+pub fn check(files: Files, centre: usize, nodes: &[u8], links: &[u8]) -> Reply {
+    either(files.read().and_then(|(pattern, board)| {
+        inside(centre, &board)?;
+        if nodes.len() != board.kinds.len() || links.len() != board.links.len() {
+            return Err(Refusal::neither(3));
+        }
+        let graph = marked(&board, nodes, links);
+        let yes = |graph| perfect(&pattern, &board, centre, radius_of(&pattern), &graph);
+        Ok(Reply::accepted(usize::from(graph.is_some_and(yes)), 0))
+    }))
 }
 
 /// Fills a byte per pattern link, 1 for those of the least that still says
 /// none; replies with how many are 1. Refusal 15 where the centre has a place.
-pub fn bar(
-    editions: [Edition; 2],
-    pattern: &[u8],
-    board: &[u8],
-    centre: usize,
-    out: &mut [u8],
-) -> Reply {
-    either(
-        both_in(editions, pattern, board).and_then(|(pattern, board)| {
-            inside(centre, &board)?;
-            long_enough(&[(out.len(), pattern.links.len())])?;
-            if place_of(&pattern, &board, centre, radius_of(&pattern))
-                .0
-                .is_some()
-            {
-                return Err(Refusal::neither(15));
-            }
-            let kept = least(&pattern, &board, centre);
-            let count = kept.iter().filter(|&&is| is).count();
-            fill(out, kept.into_iter().map(u8::from));
-            Ok(Reply::accepted(count, 0))
-        }),
-    )
+pub fn bar(files: Files, centre: usize, out: &mut [u8]) -> Reply {
+    either(files.read().and_then(|(pattern, board)| {
+        inside(centre, &board)?;
+        long_enough(&[(out.len(), pattern.links.len())])?;
+        let (place, _) = place_of(&pattern, &board, centre, radius_of(&pattern));
+        if place.is_some() {
+            return Err(Refusal::neither(15));
+        }
+        let kept = least(&pattern, &board, centre);
+        let count = kept.iter().filter(|&&is| is).count();
+        fill(out, kept.into_iter().map(u8::from));
+        Ok(Reply::accepted(count, 0))
+    }))
 }
 
-/// Fills the class of each part and the merged file; replies with the number
-/// of classes and that file's length.
-pub fn merge(pattern: &[u8], classes: &mut [u8], out: &mut [u8]) -> Reply {
-    merge_in(Edition::First, pattern, classes, out)
+/// Puts a piece of the report from a centre on. The room needed is that of the
+/// longest line, or of the one line of a refused file.
+pub fn report(files: Files, from: usize, found: u16, out: &mut [u8]) -> Put {
+    let needed = files.read().map_or(LONGEST_REFUSAL, |_| LONGEST_LINE);
+    either(long_enough(&[(out.len(), needed)]).map(|()| {
+        let piece = piece(files, from, found.into(), out.len());
+        let size = piece.text.len();
+        fill(out, piece.text.into_bytes());
+        Put {
+            number: 0,
+            file: File::Neither,
+            next: piece.next,
+            found: piece.found,
+            size,
+        }
+    }))
 }
 
-/// The same on a pattern of an edition; the merged file is of that edition.
-pub fn merge_in(edition: Edition, pattern: &[u8], classes: &mut [u8], out: &mut [u8]) -> Reply {
-    either(
-        parse_in(edition, Role::Pattern, pattern).and_then(|circuit| {
-            long_enough(&[
-                (classes.len(), circuit.kinds.len()),
-                (out.len(), pattern.len()),
-            ])?;
-            let (class, merged) = merged(&circuit);
-            let bytes = merged.bytes_in(edition);
-            let (count, length) = (merged.kinds.len(), bytes.len());
-            fill(
-                classes,
-                class.into_iter().map(|c| u8::try_from(c).expect("a byte")),
-            );
-            fill(out, bytes);
-            Ok(Reply::accepted(count, length))
-        }),
-    )
+/// Fills the class of each part and the merged file, which has the pattern's
+/// edition; replies with the number of classes and that file's length.
+pub fn merge(pattern: Told, classes: &mut [u8], out: &mut [u8]) -> Reply {
+    either(pattern.read(Role::Pattern).and_then(|circuit| {
+        let (parts, length) = (circuit.kinds.len(), pattern.bytes.len());
+        long_enough(&[(classes.len(), parts), (out.len(), length)])?;
+        let (class, merged) = merged(&circuit);
+        let bytes = merged.bytes_in(Edition::counted(pattern.edition));
+        let (count, length) = (merged.kinds.len(), bytes.len());
+        let byte = |class| u8::try_from(class).expect("a byte");
+        fill(classes, class.into_iter().map(byte));
+        fill(out, bytes);
+        Ok(Reply::accepted(count, length))
+    }))
 }
 
 /// Makes the test load of four numbers; replies with its file's length. The
@@ -479,10 +442,7 @@ pub fn merge_in(edition: Edition, pattern: &[u8], classes: &mut [u8], out: &mut 
 pub fn load(numbers: Numbers, out: &mut [u8]) -> Reply {
     either(numbers.in_range().and_then(|numbers| {
         long_enough(&[(out.len(), numbers.needed())])?;
-        let bytes = load_of(numbers).bytes();
-        let length = bytes.len();
-        fill(out, bytes);
-        Ok(Reply::accepted(length, 0))
+        put_file(load_of(numbers).bytes(), out)
     }))
 }
 

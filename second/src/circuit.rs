@@ -1,4 +1,5 @@
-//! Circuits, their two roles, their files, and the refusals about one file.
+//! Circuits, their two roles, their files as calls are told them, and the
+//! refusals about one file.
 
 use crate::bounded::Bounded;
 use crate::graph;
@@ -46,7 +47,30 @@ pub enum Role {
     Board,
 }
 
+/// What a number counts as that stands for one of two things: 1 for the one, 2
+/// for the other. A lower number counts as 1, a higher one as 2.
+pub fn counted<T>(number: u32, [one, other]: [T; 2]) -> T {
+    if number < 2 {
+        one
+    } else {
+        other
+    }
+}
+
 impl Role {
+    /// The role that a number counts as.
+    pub fn counted(number: u32) -> Role {
+        counted(number, [Role::Pattern, Role::Board])
+    }
+
+    /// The number that stands for the role.
+    pub fn number(self) -> u32 {
+        match self {
+            Role::Pattern => 1,
+            Role::Board => 2,
+        }
+    }
+
     /// Whether the role allows so many nodes and so many links.
     pub fn allows(self, nodes: usize, links: usize) -> bool {
         match self {
@@ -70,6 +94,119 @@ impl Role {
 pub enum Edition {
     First,
     Second,
+}
+
+impl Edition {
+    /// The edition that a number counts as.
+    pub fn counted(number: u32) -> Edition {
+        counted(number, [Edition::First, Edition::Second])
+    }
+
+    /// The number that stands for the edition.
+    pub fn number(self) -> u32 {
+        match self {
+            Edition::First => 1,
+            Edition::Second => 2,
+        }
+    }
+}
+
+/// A circuit file as a call is told it: its bytes, and a number that stands
+/// for its edition.
+#[derive(Clone, Copy, Debug, PartialEq, Eq)]
+pub struct Told<'a> {
+    pub bytes: &'a [u8],
+    pub edition: u32,
+}
+
+impl<'a> Told<'a> {
+    /// A file told by its edition's own number.
+    pub fn of(edition: Edition, bytes: &'a [u8]) -> Told<'a> {
+        let edition = edition.number();
+        Told { bytes, edition }
+    }
+
+    /// A file told as of the first edition.
+    pub fn first(bytes: &'a [u8]) -> Told<'a> {
+        Told::of(Edition::First, bytes)
+    }
+
+    /// A pattern file told as of the third edition.
+    pub fn third(bytes: &'a [u8]) -> Told<'a> {
+        Told { bytes, edition: 3 }
+    }
+
+    /// Whether the whole-board match takes the file for one of the third
+    /// edition. No other call knows that edition.
+    pub fn is_third(self) -> bool {
+        self.edition > 2
+    }
+
+    /// The circuit in the file read in a role, or the first of the refusals
+    /// about one file.
+    pub fn read(self, role: Role) -> Result<Circuit, Refusal> {
+        let circuit = self.read_in_bits(role)?;
+        circuit.judge_shape(role)?;
+        Ok(circuit)
+    }
+
+    /// The circuit in the file read in a role, connected or not, or the first
+    /// of refusals 1 to 5.
+    pub fn read_in_bits(self, role: Role) -> Result<Circuit, Refusal> {
+        let edition = Edition::counted(self.edition);
+        let (n, m) = sized(self.bytes, role, |n, m| Circuit::length_in(edition, n, m))?;
+        let fields = fields(&self.bytes[4..]);
+        let (kinds, rest) = fields.split_at(n);
+        let (packages, links) = match edition {
+            Edition::First => rest.split_at(0),
+            Edition::Second => rest.split_at(n),
+        };
+        let (starts, ends) = links.split_at(m);
+        let circuit = assemble(kinds, packages, starts, ends);
+        circuit.judge_links(role)?;
+        Ok(circuit)
+    }
+}
+
+/// The two files of a call.
+#[derive(Clone, Copy, Debug, PartialEq, Eq)]
+pub struct Files<'a> {
+    pub pattern: Told<'a>,
+    pub board: Told<'a>,
+}
+
+impl<'a> Files<'a> {
+    /// Two files and the numbers for their editions.
+    pub fn told([one, other]: [u32; 2], pattern: &'a [u8], board: &'a [u8]) -> Files<'a> {
+        let told = |bytes, edition| Told { bytes, edition };
+        Files {
+            pattern: told(pattern, one),
+            board: told(board, other),
+        }
+    }
+
+    /// Two files told by their editions' own numbers.
+    pub fn of(editions: [Edition; 2], pattern: &'a [u8], board: &'a [u8]) -> Files<'a> {
+        Files::told(editions.map(Edition::number), pattern, board)
+    }
+
+    /// Two files told as of the first edition.
+    pub fn first(pattern: &'a [u8], board: &'a [u8]) -> Files<'a> {
+        Files::of([Edition::First; 2], pattern, board)
+    }
+
+    /// Both circuits, the pattern's refusals before the board's.
+    pub fn read(self) -> Result<(Circuit, Circuit), Refusal> {
+        let pattern = self.pattern.read(Role::Pattern)?;
+        Ok((pattern, self.board.read(Role::Board)?))
+    }
+
+    /// Both circuits for the whole-board table, which takes patterns in
+    /// several bits and of any radius.
+    pub fn read_in_bits(self) -> Result<(Circuit, Circuit), Refusal> {
+        let pattern = self.pattern.read_in_bits(Role::Pattern)?;
+        Ok((pattern, self.board.read(Role::Board)?))
+    }
 }
 
 /// A circuit: the kind of each node, the packages, and the links in file
@@ -161,127 +298,70 @@ fn fields(bytes: &[u8]) -> Vec<u16> {
         .collect()
 }
 
-/// The circuit in a first-edition file read in a role, or the first refusal.
-pub fn parse(role: Role, bytes: &[u8]) -> Result<Circuit, Refusal> {
-    parse_in(Edition::First, role, bytes)
-}
-
-/// The circuit in a file of an edition read in a role, or the first of the
-/// refusals about one file.
-pub fn parse_in(edition: Edition, role: Role, bytes: &[u8]) -> Result<Circuit, Refusal> {
-    let circuit = parse_in_bits(edition, role, bytes)?;
-    circuit.judge_shape(role)?;
-    Ok(circuit)
-}
-
-/// The circuit in a file of an edition read in a role, connected or not, or
-/// the first of refusals 1 to 5.
-fn parse_in_bits(edition: Edition, role: Role, bytes: &[u8]) -> Result<Circuit, Refusal> {
+/// N and M of a file in a role, or the first of refusals 1 to 3; its length
+/// has to be the one given of N and M.
+fn sized(
+    bytes: &[u8],
+    role: Role,
+    length: impl Fn(usize, usize) -> usize,
+) -> Result<(usize, usize), Refusal> {
     if bytes.len() < 4 {
         return Err(role.refuses(1));
     }
-    let fields = fields(bytes);
+    let fields = fields(&bytes[..4]);
     let (n, m) = (usize::from(fields[0]), usize::from(fields[1]));
     if !role.allows(n, m) {
         return Err(role.refuses(2));
     }
-    if bytes.len() != Circuit::length_in(edition, n, m) {
+    if bytes.len() != length(n, m) {
         return Err(role.refuses(3));
     }
-    let (kinds, rest) = fields[2..].split_at(n);
-    let (packages, links) = match edition {
-        Edition::First => rest.split_at(0),
-        Edition::Second => rest.split_at(n),
-    };
-    let (starts, ends) = links.split_at(m);
-    let circuit = assemble(kinds, packages, starts, ends);
-    circuit.judge_links(role)?;
-    Ok(circuit)
+    Ok((n, m))
 }
 
 /// The pattern in a third-edition file: a file of the second edition, and a
 /// bound for each link after its ends; or the first of refusals 1 to 5 and 13.
-pub fn parse_bounded(bytes: &[u8]) -> Result<Bounded, Refusal> {
+pub fn read_bounded(bytes: &[u8]) -> Result<Bounded, Refusal> {
     let role = Role::Pattern;
-    if bytes.len() < 4 {
-        return Err(role.refuses(1));
-    }
-    let fields = fields(bytes);
-    let (n, m) = (usize::from(fields[0]), usize::from(fields[1]));
-    if !role.allows(n, m) {
-        return Err(role.refuses(2));
-    }
-    if bytes.len() != 4 + 4 * n + 6 * m {
-        return Err(role.refuses(3));
-    }
-    let circuit = parse_in_bits(Edition::Second, role, &bytes[..bytes.len() - 2 * m])?;
-    let bounds = fields[fields.len() - m..].to_vec();
+    let (_, m) = sized(bytes, role, |n, m| 4 + 4 * n + 6 * m)?;
+    let (plain, bounds) = bytes.split_at(bytes.len() - 2 * m);
+    let circuit = Told::of(Edition::Second, plain).read_in_bits(role)?;
+    let bounds = fields(bounds);
     if bounds.iter().any(|bound| !(1..=4).contains(bound)) {
         return Err(role.refuses(13));
     }
     Ok(Bounded { circuit, bounds })
 }
 
-/// Both first-edition files, the pattern's refusals before the board's.
-pub fn both(pattern: &[u8], board: &[u8]) -> Result<(Circuit, Circuit), Refusal> {
-    both_in([Edition::First; 2], pattern, board)
+/// A circuit given as tables that are to be written.
+#[derive(Clone, Copy, Debug, PartialEq, Eq)]
+pub struct Given<'a> {
+    pub kinds: &'a [u16],
+    pub packages: &'a [u16],
+    pub starts: &'a [u16],
+    pub ends: &'a [u16],
 }
 
-/// Both files, each of its edition, the pattern's refusals before the board's.
-pub fn both_in(
-    editions: [Edition; 2],
-    pattern: &[u8],
-    board: &[u8],
-) -> Result<(Circuit, Circuit), Refusal> {
-    Ok((
-        parse_in(editions[0], Role::Pattern, pattern)?,
-        parse_in(editions[1], Role::Board, board)?,
-    ))
-}
-
-/// Both files for the whole-board table, which takes patterns in several bits.
-pub fn both_in_bits(
-    editions: [Edition; 2],
-    pattern: &[u8],
-    board: &[u8],
-) -> Result<(Circuit, Circuit), Refusal> {
-    let pattern = parse_in_bits(editions[0], Role::Pattern, pattern)?;
-    Ok((pattern, parse_in(editions[1], Role::Board, board)?))
-}
-
-/// The circuit given as three tables, to be written in the first edition, or
-/// the first of refusals 2 to 6 and 11.
-pub fn gather(role: Role, kinds: &[u16], starts: &[u16], ends: &[u16]) -> Result<Circuit, Refusal> {
-    if !role.allows(kinds.len(), starts.len()) {
-        return Err(role.refuses(2));
+impl Given<'_> {
+    /// The circuit, to be written in a role and an edition, or the first of
+    /// refusals 2 to 6 and 11. In the first edition packages are not looked at.
+    pub fn circuit(self, role: Role, edition: Edition) -> Result<Circuit, Refusal> {
+        let (n, m) = (self.kinds.len(), self.starts.len());
+        if !role.allows(n, m) {
+            return Err(role.refuses(2));
+        }
+        let packages = match edition {
+            Edition::First => &[],
+            Edition::Second => self.packages,
+        };
+        if m != self.ends.len() || edition == Edition::Second && packages.len() != n {
+            return Err(role.refuses(3));
+        }
+        let circuit = assemble(self.kinds, packages, self.starts, self.ends);
+        circuit.judge_links(role)?;
+        circuit.judge_shape(role)?;
+        Ok(circuit)
     }
-    if starts.len() != ends.len() {
-        return Err(role.refuses(3));
-    }
-    let circuit = assemble(kinds, &[], starts, ends);
-    circuit.judge_links(role)?;
-    circuit.judge_shape(role)?;
-    Ok(circuit)
-}
-
-/// The same of four tables, to be written in the second edition.
-pub fn gather_second(
-    role: Role,
-    kinds: &[u16],
-    packages: &[u16],
-    starts: &[u16],
-    ends: &[u16],
-) -> Result<Circuit, Refusal> {
-    if !role.allows(kinds.len(), starts.len()) {
-        return Err(role.refuses(2));
-    }
-    if starts.len() != ends.len() || packages.len() != kinds.len() {
-        return Err(role.refuses(3));
-    }
-    let circuit = assemble(kinds, packages, starts, ends);
-    circuit.judge_links(role)?;
-    circuit.judge_shape(role)?;
-    Ok(circuit)
 }
 
 /// The circuit with these kinds, packages, starts and ends.

@@ -1,14 +1,66 @@
-//! The report's text.
+//! The report's text, whole and in pieces.
 
-use crate::circuit::{both, Circuit, File, Refusal};
+use crate::circuit::{Circuit, File, Files, Refusal};
 use crate::graph::{radius, Subgraph};
 use crate::place::place;
 
-/// The whole report for the bytes of a pattern file and a board file.
-pub fn report(pattern: &[u8], board: &[u8]) -> String {
-    match both(pattern, board) {
-        Ok((pattern, board)) => places(&pattern, &board),
-        Err(refusal) => refused(refusal),
+/// No line of a report is longer.
+pub const LONGEST_LINE: usize = 34829;
+
+/// No line of a refused file is longer.
+pub const LONGEST_REFUSAL: usize = 20;
+
+/// A piece of a report: its text, where to go on after it, and how many centres
+/// before that have a place.
+#[derive(Clone, Debug, PartialEq, Eq)]
+pub struct Piece {
+    pub text: String,
+    pub next: usize,
+    pub found: usize,
+}
+
+/// The whole report of two files.
+pub fn report(files: Files) -> String {
+    piece(files, 0, 0, usize::MAX).text
+}
+
+/// The piece of a report from a centre on, before which some centres have a
+/// place, into so much room: a line is put where there is room for the longest.
+pub fn piece(files: Files, from: usize, found: usize, room: usize) -> Piece {
+    let mut piece = Piece {
+        text: String::new(),
+        next: from,
+        found,
+    };
+    match files.read() {
+        Ok((pattern, board)) => piece.lines(&pattern, &board, room),
+        Err(refusal) if from == 0 => piece.add(refused(refusal)),
+        Err(_) => {}
+    }
+    piece
+}
+
+impl Piece {
+    /// Puts an item of the report: the text of a centre, or the last line.
+    fn add(&mut self, text: String) {
+        self.text += &text;
+        self.next += 1;
+    }
+
+    /// Puts the lines of the centres that are left and the last line, as long
+    /// as there is room.
+    fn lines(&mut self, pattern: &Circuit, board: &Circuit, room: usize) {
+        let (radius, nodes) = (radius(pattern), board.kinds.len());
+        while self.next <= nodes && room - self.text.len() >= LONGEST_LINE {
+            if self.next == nodes {
+                self.add(format!("end {} of {nodes}\n", self.found));
+                return;
+            }
+            let place = place(pattern, board, self.next, radius).0;
+            self.found += usize::from(place.is_some());
+            let text = place.map(|place| line(board, self.next, &place.graph));
+            self.add(text.unwrap_or_default());
+        }
     }
 }
 
@@ -20,18 +72,6 @@ fn refused(refusal: Refusal) -> String {
         File::Board => "board",
     };
     format!("refused {} {file}\n", refusal.number)
-}
-
-/// A line per centre with a place, and the last line.
-fn places(pattern: &Circuit, board: &Circuit) -> String {
-    let radius = radius(pattern);
-    let nodes = board.kinds.len();
-    let found = |centre| Some((centre, place(pattern, board, centre, radius).0?));
-    let places: Vec<_> = (0..nodes).filter_map(found).collect();
-    let lines = places
-        .iter()
-        .map(|(centre, place)| line(board, *centre, &place.graph));
-    lines.collect::<String>() + &format!("end {} of {nodes}\n", places.len())
 }
 
 /// The line of one centre.

@@ -1,7 +1,7 @@
 //! The plain machine that defines a session: the pattern, the nodes and the
 //! set of board links left. Its table is made by a fresh search each time.
 
-use crate::circuit::{both_in_bits, Circuit, Edition, Refusal};
+use crate::circuit::{Circuit, Files, Refusal};
 use crate::simulation::{on_board, Ways};
 
 /// The machine's state: a truth value for each link of the board's file.
@@ -89,8 +89,8 @@ impl Run {
 }
 
 /// Opens a session on two files, and cuts at each place.
-pub fn session(editions: [Edition; 2], pattern: &[u8], board: &[u8], places: &[usize]) -> Run {
-    let (pattern, board) = match both_in_bits(editions, pattern, board) {
+pub fn session(files: Files, places: &[usize]) -> Run {
+    let (pattern, board) = match files.read_in_bits() {
         Ok(both) => both,
         Err(refusal) => return Run::refused(refusal),
     };

@@ -2,7 +2,7 @@
 
 use std::cmp::Ordering;
 
-use crate::circuit::{parse_in, Circuit, Edition, Refusal, Role};
+use crate::circuit::{Circuit, Edition, Refusal, Role, Told};
 
 /// How two circuits rank: by N, then M, then kinds, packages, starts, ends.
 pub fn compare(one: &Circuit, other: &Circuit) -> Ordering {
@@ -24,7 +24,7 @@ fn key(circuit: &Circuit) -> Key {
 
 /// The circuit of a file of the shelf.
 pub fn pattern(file: &[u8]) -> Result<Circuit, Refusal> {
-    parse_in(Edition::Second, Role::Pattern, file)
+    Told::of(Edition::Second, file).read(Role::Pattern)
 }
 
 /// The numbers of the accepted files in order, of equal circuits the lower

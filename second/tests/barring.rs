@@ -8,7 +8,7 @@ mod common;
 use common::circuit;
 use second::barring::{bars, least};
 use second::calls;
-use second::circuit::{Circuit, Edition};
+use second::circuit::{Circuit, Edition, Files};
 use second::graph::radius;
 use second::place::place;
 use second::random::Random;
@@ -28,8 +28,8 @@ fn within(one: &[bool], other: &[bool]) -> bool {
 fn held(pattern: &Circuit, board: &Circuit, centre: usize) -> Option<usize> {
     let mut out = vec![7; pattern.links.len() + 2];
     let files = [pattern, board].map(|c| c.bytes_in(Edition::Second));
-    let editions = [Edition::Second; 2];
-    let reply = calls::bar(editions, &files[0], &files[1], centre, &mut out);
+    let files = Files::of([Edition::Second; 2], &files[0], &files[1]);
+    let reply = calls::bar(files, centre, &mut out);
     let all = vec![true; pattern.links.len()];
     let found = place(pattern, board, centre, radius(pattern)).0.is_some();
     assert_eq!(found, !bars(pattern, board, centre, &all));

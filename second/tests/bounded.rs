@@ -7,7 +7,7 @@ mod common;
 use common::circuit;
 use second::bounded::{on_board, Bounded};
 use second::calls;
-use second::circuit::{Circuit, Edition};
+use second::circuit::{Circuit, Files, Told};
 use second::random::Random;
 use second::simulation::{self, equal};
 
@@ -137,7 +137,13 @@ fn refusals() {
     let pattern = bounded(&[10, 20], &[(0, 1)], &[2]);
     let asked = |file: &[u8], board: &[u8], lent: usize| {
         let mut table = vec![7; lent];
-        let reply = calls::match_bounded(Edition::First, file, board, &mut table);
+        let reply = calls::match_table(
+            Files {
+                pattern: Told::third(file),
+                board: Told::first(board),
+            },
+            &mut table,
+        );
         assert!(reply.number == 0 || table.iter().all(|&entry| entry == 7));
         (reply.number, reply.file.code())
     };

@@ -4,10 +4,8 @@
 //! in limits, orders and tables.
 
 use second::bounded::Bounded;
-use second::calls::{Counted, PlaceTables};
-use second::circuit::{
-    both, both_in, both_in_bits, parse, parse_bounded, parse_in, Circuit, Edition, File, Role,
-};
+use second::calls::{Columns, Counted, Lookup, PlaceTables};
+use second::circuit::{read_bounded, Circuit, Edition, File, Files, Given, Role, Told};
 use second::compare::finder::{Finder, Second, Words};
 use second::compare::tally::Tally;
 use second::compare::{case, edges};
@@ -84,9 +82,20 @@ enum Fault {
     LoadNoKinds,
     LoadNoNodes,
     LoadNamesBoard,
-    // Of the editions.
+    // Of the editions, and of numbers told.
     PackagesIgnored,
     PackagesDropped,
+    PlacesUnpacked,
+    PackagesJudged,
+    EditionsExchanged,
+    ZeroIsSecond,
+    FourIsSecond,
+    OtherRole,
+    OtherWay,
+    // Of the report.
+    ReportFoundAnew,
+    ReportGreedy,
+    ReportAgain,
     // Of links through a few parts.
     BoundExact,
     BoundNone,
@@ -125,7 +134,7 @@ enum Fault {
     CutPartsLeftOut,
 }
 
-const FAULTS: [Fault; 92] = [
+const FAULTS: [Fault; 102] = [
     Fault::OneRound,
     Fault::EveryLink,
     Fault::MergedRadius,
@@ -186,6 +195,16 @@ const FAULTS: [Fault; 92] = [
     Fault::LoadNamesBoard,
     Fault::PackagesIgnored,
     Fault::PackagesDropped,
+    Fault::PlacesUnpacked,
+    Fault::PackagesJudged,
+    Fault::EditionsExchanged,
+    Fault::ZeroIsSecond,
+    Fault::FourIsSecond,
+    Fault::OtherRole,
+    Fault::OtherWay,
+    Fault::ReportFoundAnew,
+    Fault::ReportGreedy,
+    Fault::ReportAgain,
     Fault::BoundExact,
     Fault::BoundNone,
     Fault::BoundUndirected,
@@ -234,7 +253,7 @@ fn sizes(file: &[u8]) -> (usize, usize) {
 
 /// A file's circuit without the checks, changed, and made a file again.
 fn changed(role: Role, file: &[u8], change: impl Fn(&mut Circuit)) -> Vec<u8> {
-    let Ok(mut circuit) = parse(role, file) else {
+    let Ok(mut circuit) = Told::first(file).read(role) else {
         return file.to_vec();
     };
     change(&mut circuit);
@@ -379,7 +398,7 @@ impl Faulty {
     fn place_call(&self, call: &PlaceCall, out: PlaceTables) -> Words {
         let call = &self.seen(call);
         let words = call.sound(&out);
-        match (words[0], both(&call.pattern, call.board)) {
+        match (words[0], call.files().read()) {
             (0 | 9, Ok(files)) => self.answer(call, &files, words, out),
             (_, files) => self.refused(call, files.ok(), words, out),
         }
@@ -394,6 +413,7 @@ impl Faulty {
         PlaceCall {
             pattern: self.pattern(&call.pattern),
             board: call.board,
+            editions: call.editions,
             centre: cut(Fault::CentreCut, call.centre, 65536),
             radius: call
                 .radius
@@ -484,11 +504,17 @@ impl Faulty {
 struct PlaceCall<'a> {
     pattern: Vec<u8>,
     board: &'a [u8],
+    editions: [u32; 2],
     centre: usize,
     radius: Option<u16>,
 }
 
 impl PlaceCall<'_> {
+    /// The two files.
+    fn files(&self) -> Files<'_> {
+        Files::told(self.editions, &self.pattern, self.board)
+    }
+
     /// The second finder's reply, on copies of the tables.
     fn sound(&self, out: &PlaceTables) -> Words {
         let (mut nodes, mut links, mut table) =
@@ -500,10 +526,7 @@ impl PlaceCall<'_> {
             table: &mut table,
             distances: &mut distances,
         };
-        match self.radius {
-            None => Second.place(&self.pattern, self.board, self.centre, out),
-            Some(r) => Second.place_within(&self.pattern, self.board, self.centre, r, out),
-        }
+        Second.place(self.files(), true, self.centre, self.radius, out)
     }
 }
 
@@ -554,23 +577,118 @@ fn forward_ball(board: &Circuit, centre: usize, radius: usize) -> Subgraph {
     Subgraph { nodes, links }
 }
 
+/// Two files without their packages, told as of the first edition; as they are
+/// where one is refused.
+struct Unpacked {
+    editions: [u32; 2],
+    pattern: Vec<u8>,
+    board: Vec<u8>,
+}
+
+impl Unpacked {
+    fn of(files: Files) -> Unpacked {
+        let without = |file: Told, role| match file.read_in_bits(role) {
+            Ok(circuit) => (1, circuit.bytes()),
+            Err(_) => (file.edition, file.bytes.to_vec()),
+        };
+        let (one, pattern) = without(files.pattern, Role::Pattern);
+        let (other, board) = without(files.board, Role::Board);
+        Unpacked {
+            editions: [one, other],
+            pattern,
+            board,
+        }
+    }
+
+    fn files(&self) -> Files<'_> {
+        Files::told(self.editions, &self.pattern, &self.board)
+    }
+}
+
+impl Faulty {
+    /// A file as the faulty finder is told it.
+    fn told<'a>(&self, file: Told<'a>) -> Told<'a> {
+        match (self.0, file.edition) {
+            (Fault::ZeroIsSecond, 0) => Told { edition: 2, ..file },
+            _ => file,
+        }
+    }
+
+    /// Two files whose editions are exchanged.
+    fn exchanged<'a>(&self, files: Files<'a>) -> Files<'a> {
+        let (mut pattern, mut board) = (files.pattern, files.board);
+        if self.0 == Fault::EditionsExchanged {
+            std::mem::swap(&mut pattern.edition, &mut board.edition);
+        }
+        Files { pattern, board }
+    }
+
+    /// A faulty piece of a report, in the place of the one that was put.
+    fn report_call(&self, files: Files, from: usize, found: u16, out: &mut [u8]) -> Words {
+        let mut words = Second.report(files, true, from, found, out);
+        let refused = files.read().is_err();
+        match self.0 {
+            Fault::ReportFoundAnew if words[0] == 0 => {
+                words = Second.report(files, true, from, 0, out);
+            }
+            Fault::ReportGreedy if words[0] == 0 && !refused => {
+                let mut longer = vec![0; out.len() + 60];
+                let more = Second.report(files, true, from, found, &mut longer);
+                let size = more[4] as usize;
+                if size <= out.len() {
+                    out[..size].copy_from_slice(&longer[..size]);
+                    words = more;
+                }
+            }
+            Fault::ReportAgain if words[0] == 0 && refused && from > 0 => {
+                words = Second.report(files, true, 0, found, out);
+            }
+            _ => {}
+        }
+        words
+    }
+
+    /// The whole-board call of a first-edition pattern, by the faulty rules.
+    fn match_first(&self, files: Files, table: &mut [u32]) -> Words {
+        let pattern = self.pattern(files.pattern.bytes);
+        let seen = Files {
+            pattern: Told::first(&pattern),
+            ..files
+        };
+        let words = Second.match_table(seen, table);
+        match (self.0, words, files.board.read(Role::Board)) {
+            (Fault::BoardBeforePattern, [_, 1, ..], Err(refusal)) => {
+                [refusal.number, 2, 0, 0, 0, 0]
+            }
+            (Fault::SixOnTheBoard, ..) => match files.pattern.read(Role::Pattern) {
+                Err(refusal) => [refusal.number, 1, 0, 0, 0, 0],
+                Ok(_) => words,
+            },
+            (Fault::PartsLeftOut, [0, ..], Ok(board)) => plain_row(files.pattern, &board, table),
+            (Fault::ClearedRound, [0, 0, started, 0, struck, rounds], _) if started > 0 => {
+                [0, 0, started, 0, struck, rounds + 1]
+            }
+            _ => self.counts(words),
+        }
+    }
+}
+
 impl Finder for Faulty {
-    fn read(
-        &self,
-        role: Role,
-        file: &[u8],
-        kinds: &mut [u16],
-        starts: &mut [u16],
-        ends: &mut [u16],
-    ) -> Words {
-        let words = Second.read(role, file, kinds, starts, ends);
-        let (n, m) = sizes(file);
-        match (self.0, words[0], self.limit(role, file)) {
-            (Fault::ReaderRefusesAll, ..) => [1, 1 + u32::from(role == Role::Board), 0, 0, 0, 0],
+    fn read(&self, role: u32, file: Told, out: Columns) -> Words {
+        let role = match self.0 {
+            Fault::OtherRole => 3 - Role::counted(role).number(),
+            _ => role,
+        };
+        let words = Second.read(role, file, out);
+        let role = Role::counted(role);
+        let (n, m) = sizes(file.bytes);
+        match (self.0, words[0], self.limit(role, file.bytes)) {
+            (Fault::ReaderRefusesAll, ..) => [1, role.number(), 0, 0, 0, 0],
             (_, 2, Some(true)) => [0, 0, n as u32, m as u32, 0, 0],
-            (_, 0, Some(false)) => [2, 1 + u32::from(role == Role::Board), 0, 0, 0, 0],
+            (_, 0, Some(false)) => [2, role.number(), 0, 0, 0, 0],
             (Fault::FiveBeforeFour, 4, _) if m > 1 => {
-                let at = |k: usize| sizes(&file[4 + 2 * n + 2 * k..]).0;
+                let skipped = 4 + 2 * n * Edition::counted(file.edition).number() as usize;
+                let at = |k: usize| sizes(&file.bytes[skipped + 2 * k..]).0;
                 let fall = (1..m).any(|k| (at(k - 1), at(m + k - 1)) >= (at(k), at(m + k)));
                 [if fall { 5 } else { 4 }, words[1], 0, 0, 0, 0]
             }
@@ -578,118 +696,131 @@ impl Finder for Faulty {
         }
     }
 
-    fn write(
-        &self,
-        role: Role,
-        kinds: &[u16],
-        starts: &[u16],
-        ends: &[u16],
-        out: &mut [u8],
-    ) -> Words {
+    fn write(&self, role: u32, edition: u32, given: Given, out: &mut [u8]) -> Words {
+        let (kinds, starts, ends) = (given.kinds, given.starts, given.ends);
         match self.0 {
             Fault::WritingCut => {
                 let cut = |length: usize| length % 65536;
                 let (n, m) = (cut(kinds.len()), cut(starts.len()));
-                let ends = if ends.len() == starts.len() {
-                    &ends[..m]
-                } else {
-                    ends
+                let even = ends.len() == starts.len();
+                let given = Given {
+                    kinds: &kinds[..n],
+                    starts: &starts[..m],
+                    ends: if even { &ends[..m] } else { ends },
+                    ..given
                 };
-                Second.write(role, &kinds[..n], &starts[..m], ends, out)
+                Second.write(role, edition, given, out)
             }
             Fault::WritingUneven if ends.len() > starts.len() => {
-                Second.write(role, kinds, starts, &ends[..starts.len()], out)
+                let ends = &ends[..starts.len()];
+                Second.write(role, edition, Given { ends, ..given }, out)
             }
-            _ => Second.write(role, kinds, starts, ends, out),
+            Fault::PackagesJudged if given.packages.len() != kinds.len() => {
+                let words = Second.write(role, 2, given, &mut []);
+                [words[0], words[1], 0, 0, 0, 0]
+            }
+            _ => Second.write(role, edition, given, out),
         }
     }
 
-    fn radius(&self, pattern: &[u8]) -> Words {
-        Second.radius(pattern)
-    }
-
-    fn ball(&self, board: &[u8], centre: usize, radius: u16, out: &mut [u16]) -> Words {
-        Second.ball(board, centre, radius, out)
-    }
-
-    fn match_table(&self, pattern: &[u8], board: &[u8], table: &mut [u32]) -> Words {
-        let words = Second.match_table(&self.pattern(pattern), board, table);
-        let sound = parse(Role::Board, board);
-        match (self.0, words, sound) {
-            (Fault::BoardBeforePattern, [_, 1, ..], Err(refusal)) => {
-                [refusal.number, 2, 0, 0, 0, 0]
-            }
-            (Fault::SixOnTheBoard, ..) => match parse(Role::Pattern, pattern) {
-                Err(refusal) => [refusal.number, 1, 0, 0, 0, 0],
-                Ok(_) => words,
-            },
-            (Fault::PartsLeftOut, [0, ..], Ok(board)) => plain_row(pattern, &board, table),
-            (Fault::ClearedRound, [0, 0, started, 0, struck, rounds], _) if started > 0 => {
-                [0, 0, started, 0, struck, rounds + 1]
-            }
-            _ => self.counts(words),
+    fn convert(&self, role: u32, file: Told, to: u32, out: &mut [u8]) -> Words {
+        let words = Second.convert(role, file, to, out);
+        if self.0 != Fault::PackagesDropped || words[0] != 12 {
+            return words;
         }
+        let circuit = file.read(Role::counted(role)).expect("a sound file");
+        let bytes = circuit.bytes();
+        if out.len() < bytes.len() {
+            return [8, 0, 0, 0, 0, 0];
+        }
+        out[..bytes.len()].copy_from_slice(&bytes);
+        [0, 0, bytes.len() as u32, 0, 0, 0]
     }
 
-    fn match_one_way(
-        &self,
-        editions: [Edition; 2],
-        pattern: &[u8],
-        board: &[u8],
-        table: &mut [u32],
-    ) -> Words {
+    fn load(&self, numbers: Numbers, out: &mut [u8]) -> Words {
+        self.load_call(numbers, out)
+    }
+
+    fn neighbours(&self, direction: u32, lookup: Lookup, out: &mut [u16]) -> Words {
         match self.0 {
-            Fault::BothWays => Second.match_in(editions, pattern, board, table),
-            _ => Second.match_one_way(editions, pattern, board, table),
+            Fault::OtherWay if direction < 2 => Second.neighbours(2, lookup, out),
+            Fault::OtherWay => Second.neighbours(1, lookup, out),
+            _ => Second.neighbours(direction, lookup, out),
         }
     }
 
-    fn place(&self, pattern: &[u8], board: &[u8], centre: usize, out: PlaceTables) -> Words {
-        let call = PlaceCall {
-            pattern: pattern.to_vec(),
-            board,
-            centre,
-            radius: None,
-        };
-        self.place_call(&call, out)
+    fn radius(&self, pattern: Told) -> Words {
+        Second.radius(self.told(pattern))
     }
 
-    fn place_within(
+    fn ball(&self, board: Told, centre: usize, radius: u16, out: &mut [u16]) -> Words {
+        Second.ball(self.told(board), centre, radius, out)
+    }
+
+    fn match_table(&self, files: Files, table: &mut [u32]) -> Words {
+        let files = self.exchanged(files);
+        match (self.0, files.pattern.edition) {
+            (Fault::PackagesIgnored, ..=2) => {
+                Second.match_table(Unpacked::of(files).files(), table)
+            }
+            (Fault::FourIsSecond, 4..) => {
+                let pattern = Told {
+                    edition: 2,
+                    ..files.pattern
+                };
+                Second.match_table(Files { pattern, ..files }, table)
+            }
+            (_, 3..) => self.bounded_call(files, table),
+            (_, 2) => Second.match_table(files, table),
+            _ => self.match_first(files, table),
+        }
+    }
+
+    fn match_one_way(&self, files: Files, table: &mut [u32]) -> Words {
+        match self.0 {
+            Fault::BothWays => {
+                let edition = files.pattern.edition.min(2);
+                let pattern = Told {
+                    edition,
+                    ..files.pattern
+                };
+                Second.match_table(Files { pattern, ..files }, table)
+            }
+            _ => Second.match_one_way(files, table),
+        }
+    }
+
+    fn place(
         &self,
-        pattern: &[u8],
-        board: &[u8],
+        files: Files,
+        plain: bool,
         centre: usize,
-        radius: u16,
+        radius: Option<u16>,
         out: PlaceTables,
     ) -> Words {
+        if self.0 == Fault::PlacesUnpacked {
+            return Second.place(Unpacked::of(files).files(), plain, centre, radius, out);
+        }
         let call = PlaceCall {
-            pattern: pattern.to_vec(),
-            board,
+            pattern: files.pattern.bytes.to_vec(),
+            board: files.board.bytes,
+            editions: [files.pattern.edition, files.board.edition],
             centre,
-            radius: Some(radius),
+            radius,
         };
         self.place_call(&call, out)
     }
 
-    fn bar(
-        &self,
-        editions: [Edition; 2],
-        pattern: &[u8],
-        board: &[u8],
-        centre: usize,
-        out: &mut [u8],
-    ) -> Words {
-        self.bar_call(editions, pattern, board, centre, out)
+    fn bar(&self, files: Files, centre: usize, out: &mut [u8]) -> Words {
+        self.bar_call(files, centre, out)
     }
 
-    fn session(
-        &self,
-        editions: [Edition; 2],
-        pattern: &[u8],
-        board: &[u8],
-        places: &[usize],
-    ) -> Run {
-        let right = Second.session(editions, pattern, board, places);
+    fn report(&self, files: Files, _plain: bool, from: usize, found: u16, out: &mut [u8]) -> Words {
+        self.report_call(files, from, found, out)
+    }
+
+    fn session(&self, files: Files, places: &[usize]) -> Run {
+        let right = Second.session(files, places);
         let cutting = matches!(
             self.0,
             Fault::CutAgain
@@ -699,26 +830,26 @@ impl Finder for Faulty {
                 | Fault::CutEarlierLink
                 | Fault::CutPartsLeftOut
         );
-        match both_in_bits(editions, pattern, board) {
+        match files.read_in_bits() {
             Ok((pattern, board)) if cutting => faulty_session(self.0, pattern, board, places),
             _ => right,
         }
     }
 
-    fn merge(&self, pattern: &[u8], classes: &mut [u8], out: &mut [u8]) -> Words {
+    fn merge(&self, pattern: Told, classes: &mut [u8], out: &mut [u8]) -> Words {
         let words = Second.merge(pattern, classes, out);
-        let Ok(circuit) = parse(Role::Pattern, pattern) else {
+        let Ok(circuit) = pattern.read(Role::Pattern) else {
             return words;
         };
-        let (n, m) = sizes_of(&circuit);
+        let (n, length) = (circuit.kinds.len(), pattern.bytes.len());
         match (self.0, words[0]) {
             (Fault::OwnClasses, 0) => {
                 (0..n).for_each(|u| classes[u] = u as u8);
-                out[..pattern.len()].copy_from_slice(pattern);
-                [0, 0, n as u32, pattern.len() as u32, 0, 0]
+                out[..length].copy_from_slice(pattern.bytes);
+                [0, 0, n as u32, length as u32, 0, 0]
             }
             (Fault::MergedLengthEnough, 8) if classes.len() >= n => {
-                let mut longer = vec![0; Circuit::length(n, m)];
+                let mut longer = vec![0; length];
                 let words = Second.merge(pattern, classes, &mut longer);
                 let length = out.len().min(longer.len());
                 out[..length].copy_from_slice(&longer[..length]);
@@ -728,104 +859,22 @@ impl Finder for Faulty {
         }
     }
 
-    fn check(
-        &self,
-        editions: [Edition; 2],
-        pattern: &[u8],
-        board: &[u8],
-        centre: usize,
-        nodes: &[u8],
-        links: &[u8],
-    ) -> Words {
-        Second.check(editions, pattern, board, centre, nodes, links)
-    }
-
-    fn load(&self, numbers: Numbers, out: &mut [u8]) -> Words {
-        self.load_call(numbers, out)
-    }
-
-    fn read_second(
-        &self,
-        role: Role,
-        file: &[u8],
-        kinds: &mut [u16],
-        packages: &mut [u16],
-        starts: &mut [u16],
-        ends: &mut [u16],
-    ) -> Words {
-        Second.read_second(role, file, kinds, packages, starts, ends)
-    }
-
-    fn write_second(
-        &self,
-        role: Role,
-        kinds: &[u16],
-        packages: &[u16],
-        starts: &[u16],
-        ends: &[u16],
-        out: &mut [u8],
-    ) -> Words {
-        Second.write_second(role, kinds, packages, starts, ends, out)
-    }
-
-    fn radius_second(&self, pattern: &[u8]) -> Words {
-        Second.radius_second(pattern)
-    }
-
-    fn ball_second(&self, board: &[u8], centre: usize, radius: u16, out: &mut [u16]) -> Words {
-        Second.ball_second(board, centre, radius, out)
-    }
-
-    fn match_in(
-        &self,
-        editions: [Edition; 2],
-        pattern: &[u8],
-        board: &[u8],
-        table: &mut [u32],
-    ) -> Words {
-        if self.0 == Fault::PackagesIgnored {
-            let without = |edition, role, file: &[u8]| match parse_in(edition, role, file) {
-                Ok(circuit) => (Edition::First, circuit.bytes()),
-                Err(_) => (edition, file.to_vec()),
-            };
-            let (a, pattern) = without(editions[0], Role::Pattern, pattern);
-            let (b, board) = without(editions[1], Role::Board, board);
-            return Second.match_in([a, b], &pattern, &board, table);
-        }
-        Second.match_in(editions, pattern, board, table)
-    }
-
-    fn match_bounded(
-        &self,
-        edition: Edition,
-        pattern: &[u8],
-        board: &[u8],
-        table: &mut [u32],
-    ) -> Words {
-        self.bounded_call(edition, pattern, board, table)
-    }
-
-    fn merge_second(&self, pattern: &[u8], classes: &mut [u8], out: &mut [u8]) -> Words {
-        Second.merge_second(pattern, classes, out)
-    }
-
-    fn convert(&self, role: Role, from: Edition, file: &[u8], out: &mut [u8]) -> Words {
-        let words = Second.convert(role, from, file, out);
-        if self.0 != Fault::PackagesDropped || words[0] != 12 {
-            return words;
-        }
-        let circuit = parse_in(from, role, file).expect("a sound file");
-        let bytes = circuit.bytes();
-        if out.len() < bytes.len() {
-            return [8, 0, 0, 0, 0, 0];
-        }
-        out[..bytes.len()].copy_from_slice(&bytes);
-        [0, 0, bytes.len() as u32, 0, 0, 0]
+    fn check(&self, files: Files, centre: usize, nodes: &[u8], links: &[u8]) -> Words {
+        Second.check(files, centre, nodes, links)
     }
 
     fn compare(&self, first: &[u8], second: &[u8]) -> Words {
         let words = Second.compare(first, second);
-        let rank = |less: bool, equal: bool| [0, 0, 0, if equal { 2 } else { 3 - 2 * u32::from(less) }, 0, 0];
+        let rank = |less: bool, equal: bool| {
+            [
+                0,
+                0,
+                0,
+                if equal { 2 } else { 3 - 2 * u32::from(less) },
+                0,
+                0,
+            ]
+        };
         match self.0 {
             Fault::OrderByBytes if words[0] == 0 => rank(first < second, first == second),
             Fault::LinksBeforeNodes if words[0] == 0 => {
@@ -871,7 +920,9 @@ impl Finder for Faulty {
 
 /// A file's numbers, with M before N.
 fn swapped(file: &[u8]) -> Vec<u16> {
-    let two = file.chunks_exact(2).map(|two| u16::from_le_bytes([two[0], two[1]]));
+    let two = file
+        .chunks_exact(2)
+        .map(|two| u16::from_le_bytes([two[0], two[1]]));
     let mut numbers: Vec<u16> = two.collect();
     numbers.swap(0, 1);
     numbers
@@ -903,12 +954,7 @@ fn follow(
 }
 
 /// The pairs of nodes that a faulty finder takes for joined within a bound.
-fn faulty_joined(
-    fault: Fault,
-    board: &Circuit,
-    inner: &[bool],
-    bound: u16,
-) -> Vec<(usize, usize)> {
+fn faulty_joined(fault: Fault, board: &Circuit, inner: &[bool], bound: u16) -> Vec<(usize, usize)> {
     let mut pairs = vec![];
     for v in 0..board.kinds.len() {
         let mut ends = vec![false; board.kinds.len()];
@@ -962,23 +1008,22 @@ fn faulty_bounded(fault: Fault, pattern: &Bounded, board: &Circuit) -> (Pairs, C
 }
 
 impl Faulty {
-    fn bounded_call(
-        &self,
-        edition: Edition,
-        pattern: &[u8],
-        board: &[u8],
-        table: &mut [u32],
-    ) -> Words {
-        let right = Second.match_bounded(edition, pattern, board, table);
-        let given = parse_in(edition, Role::Board, board);
-        match (self.0, right[0], parse_bounded(pattern), given) {
+    fn bounded_call(&self, files: Files, table: &mut [u32]) -> Words {
+        let (pattern, board) = (files.pattern.bytes, files.board);
+        let asked = |pattern: &[u8], table: &mut [u32]| {
+            let pattern = Told::third(pattern);
+            Second.match_table(Files { pattern, board }, table)
+        };
+        let right = asked(pattern, table);
+        let given = board.read(Role::Board);
+        match (self.0, right[0], read_bounded(pattern), given) {
             (Fault::BoundFive, 13, ..) => {
                 let mut cut = pattern.to_vec();
                 let (_, m) = sizes(pattern);
                 let bounds = cut.len() - 2 * m..;
                 let five = |two: &mut [u8]| two[0] = if two[0] == 5 { 4 } else { two[0] };
                 cut[bounds].chunks_exact_mut(2).for_each(five);
-                Second.match_bounded(edition, &cut, board, table)
+                asked(&cut, table)
             }
             (Fault::ThirteenLate, 13, _, Err(refusal)) => [refusal.number, 2, 0, 0, 0, 0],
             (Fault::ThirteenEarly, 5, ..) => {
@@ -991,7 +1036,7 @@ impl Faulty {
                 let (_, m) = sizes(pattern);
                 let mut whole = pattern.to_vec();
                 whole.extend([1, 0].repeat(m));
-                Second.match_bounded(edition, &whole, board, table)
+                asked(&whole, table)
             }
             (fault, 0, Ok(drawn), Ok(board)) if bounds_fault(fault) && board.links.len() < 40 => {
                 let (pairs, counts) = faulty_bounded(fault, &drawn, &board);
@@ -1078,21 +1123,14 @@ fn faulty_least(fault: Fault, pattern: &Circuit, board: &Circuit, centre: usize)
 }
 
 impl Faulty {
-    fn bar_call(
-        &self,
-        editions: [Edition; 2],
-        pattern: &[u8],
-        board: &[u8],
-        centre: usize,
-        out: &mut [u8],
-    ) -> Words {
-        let right = Second.bar(editions, pattern, board, centre, &mut out.to_vec());
-        let whole = || Second.bar(editions, pattern, board, centre, &mut [0; 256]);
+    fn bar_call(&self, files: Files, centre: usize, out: &mut [u8]) -> Words {
+        let right = Second.bar(files, centre, &mut out.to_vec());
+        let whole = || Second.bar(files, centre, &mut [0; 256]);
         match (self.0, right[0]) {
             (Fault::BarFifteenFirst, 8) if whole()[0] == 15 => [15, 0, 0, 0, 0, 0],
             (Fault::BarNine, 15) => [9, 0, 0, 0, 0, 0],
             (_, 0) => {
-                let Ok((pattern, board)) = both_in(editions, pattern, board) else {
+                let Ok((pattern, board)) = files.read() else {
                     return right;
                 };
                 let kept = faulty_least(self.0, &pattern, &board, centre);
@@ -1223,9 +1261,8 @@ fn faulty_session(fault: Fault, pattern: Circuit, board: Circuit, places: &[usiz
 }
 
 /// The whole-board call without the rule that every part has a node.
-fn plain_row(pattern: &[u8], board: &Circuit, table: &mut [u32]) -> Words {
-    let (pattern, _) =
-        both_in_bits([Edition::First; 2], pattern, &board.bytes()).expect("accepted files");
+fn plain_row(pattern: Told, board: &Circuit, table: &mut [u32]) -> Words {
+    let pattern = pattern.read_in_bits(Role::Pattern).expect("accepted");
     let (pairs, counts) = largest(&pattern, board, &Subgraph::whole(board));
     for (v, entry) in table.iter_mut().enumerate().take(board.kinds.len()) {
         *entry = pairs.word(v);

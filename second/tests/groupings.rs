@@ -8,7 +8,7 @@ mod common;
 
 use common::circuit;
 use second::calls;
-use second::circuit::Circuit;
+use second::circuit::{Circuit, Files, Told};
 use second::graph;
 use second::random::Random;
 
@@ -63,7 +63,8 @@ fn made(pattern: &Circuit, grouping: &[usize]) -> Circuit {
 /// What the table call leaves.
 fn table(pattern: &Circuit, board: &Circuit) -> Vec<u32> {
     let mut table = vec![0; board.kinds.len()];
-    let reply = calls::match_table(&pattern.bytes(), &board.bytes(), &mut table);
+    let files = [pattern, board].map(Circuit::bytes);
+    let reply = calls::match_table(Files::first(&files[0], &files[1]), &mut table);
     assert_eq!(reply.number, 0, "{pattern:?} {board:?}");
     table
 }
@@ -82,7 +83,7 @@ fn supposed(first: &[u32], second: &[u32], grouping: &[usize]) -> bool {
 fn classes(pattern: &Circuit) -> Grouping {
     let file = pattern.bytes();
     let mut classes = vec![0; pattern.kinds.len()];
-    let reply = calls::merge(&file, &mut classes, &mut vec![0; file.len()]);
+    let reply = calls::merge(Told::first(&file), &mut classes, &mut vec![0; file.len()]);
     let classes = classes.into_iter().map(usize::from).collect::<Grouping>();
     assert_eq!((reply.number, reply.first), (0, count(&classes)));
     classes

@@ -2,7 +2,7 @@
 //! that every load is a board.
 
 use second::calls;
-use second::circuit::{parse, File, Role};
+use second::circuit::{File, Role, Told};
 use second::load::{load, Numbers};
 use second::random::Random;
 
@@ -74,6 +74,6 @@ fn every_load_is_a_board() {
         let circuit = load(numbers(random.draw() as u32, n, m, k));
         assert_eq!(circuit.kinds.len(), n as usize);
         assert!(circuit.links.len() <= m as usize);
-        assert_eq!(parse(Role::Board, &circuit.bytes()), Ok(circuit));
+        assert_eq!(Told::first(&circuit.bytes()).read(Role::Board), Ok(circuit));
     }
 }

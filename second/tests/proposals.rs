@@ -3,7 +3,7 @@
 
 use second::calls::check;
 use second::check::{marked, perfect};
-use second::circuit::{parse, Circuit, Role};
+use second::circuit::{Circuit, Files, Role, Told};
 use second::compare::boards::{board, pattern, Size};
 use second::compare::proposals::{proposals, Proposal};
 use second::graph::{ball, connected, radius, Subgraph};
@@ -133,7 +133,7 @@ fn accepts(wrong: Wrong, pattern: &Circuit, board: &Circuit, w: usize, graph: &S
 fn accepted(random: &mut Random, size: Size) -> Circuit {
     loop {
         let drawn = pattern(random, size);
-        if parse(Role::Pattern, &drawn.bytes()).is_ok() {
+        if Told::first(&drawn.bytes()).read(Role::Pattern).is_ok() {
             return drawn;
         }
     }
@@ -161,13 +161,9 @@ fn case(number: u64) -> (Circuit, Circuit, Vec<Proposal>) {
 /// The second finder's answer.
 fn answered(pattern: &Circuit, board: &Circuit, proposal: &Proposal) -> Answer {
     let (nodes, links) = (&proposal.nodes, &proposal.links);
-    let reply = check(
-        &pattern.bytes(),
-        &board.bytes(),
-        proposal.centre,
-        nodes,
-        links,
-    );
+    let files = [pattern, board].map(Circuit::bytes);
+    let files = Files::first(&files[0], &files[1]);
+    let reply = check(files, proposal.centre, nodes, links);
     (reply.number, reply.file.code(), reply.first == 1)
 }
 

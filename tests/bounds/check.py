@@ -1,9 +1,7 @@
 #!/usr/bin/env python3
-"""Checks the sample of bounds against the model: what the search with bounds finds and the plain one misses, and its files; status 1 on a failure."""
+"""Checks the sample of bounds against the model: what the search with bounds finds and the plain one misses; status 1 on a failure."""
 import pathlib
-import subprocess
 import sys
-import tempfile
 
 HERE = pathlib.Path(__file__).resolve().parents[2]
 sys.path.insert(0, str(HERE / "tools"))
@@ -39,15 +37,6 @@ def main():
     assert bounded(drawn, board, [1, 1, 1, 1]) == bounded(drawn, board, [1, 1, 2, 1]) == one, "a bound too small"
     assert bounded(drawn, board, [1, 1, 4, 1]) == both, "a larger bound"
     assert model.match_bounded(drawn[:-2] + b"\x05\x00", board, table) == ("refused", 13, "pattern"), "a bound of 5"
-    with tempfile.TemporaryDirectory() as folder:
-        made = pathlib.Path(folder) / "made.cir"
-        for role, text, name, more in (
-            ("pattern", "pattern", "pattern", ["--without-bounds"]),
-            ("pattern", "pattern", "pattern3", []),
-            ("board", "board", "board", []),
-        ):
-            subprocess.run([HERE / "tools/circuit.py", "make", "--as", role, *more, SAMPLE / f"{text}.txt", made], check=True)
-            assert made.read_bytes() == (SAMPLE / f"{name}.cir").read_bytes(), f"{name} from its text"
     print("bounds: all checks passed")
 
 

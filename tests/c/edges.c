@@ -1,5 +1,5 @@
-/* The edges of the interface, tried from C: no arrays, arrays of length 0, tables of exactly the needed length and of one entry less, and
- * entries past those needed. Prints 'edges: N checks' and exits 0, or says which check failed and exits 1. */
+/* The edges of the interface, tried from C: no arrays, arrays of length 0, tables of exactly the needed length and of one entry less,
+ * entries past those needed, and numbers that have no name. Prints 'edges: N checks' and exits 0, or says which check failed and exits 1. */
 #include <stdio.h>
 #include <string.h>
 
@@ -11,6 +11,15 @@ static const uint8_t B[] = {6, 0, 3, 0, 10, 0, 20, 0, 30, 0, 20, 0, 30, 0, 10, 0
 
 /* two parts of kinds 10 and 20, and no link */
 static const uint8_t TWO_BITS[] = {2, 0, 0, 0, 10, 0, 20, 0};
+
+/* a file and its edition, as the calls take them */
+#define FIRST(file) file, sizeof file, HERONDITCH_FIRST
+#define SECOND(file) file, sizeof file, HERONDITCH_SECOND
+#define THIRD(file) file, sizeof file, HERONDITCH_THIRD
+#define NOTHING(edition) NULL, 0, HERONDITCH_##edition
+
+/* which file a refusal means, and roles */
+enum { NEITHER = HERONDITCH_NEITHER, PATTERN = HERONDITCH_PATTERN, BOARD = HERONDITCH_BOARD };
 
 static int checks, failed;
 
@@ -34,9 +43,18 @@ static int is_counts(heronditch_counts c, uint32_t number, uint32_t file, uint32
     return c.number == number && c.file == file && c.started == started && c.kept == kept && c.struck == struck && c.rounds == rounds;
 }
 
+/* an accepted call and its values or counts; a refused one, all other slots 0 */
+static int replies(heronditch_reply r, size_t first, size_t second) { return is_reply(r, 0, NEITHER, first, second); }
+static int refuses(heronditch_reply r, uint32_t number, uint32_t file) { return is_reply(r, number, file, 0, 0); }
+static int counts(heronditch_counts c, uint32_t started, uint32_t kept, uint32_t struck, uint32_t rounds)
+{
+    return is_counts(c, 0, NEITHER, started, kept, struck, rounds);
+}
+static int counts_refuse(heronditch_counts c, uint32_t number, uint32_t file) { return is_counts(c, number, file, 0, 0, 0, 0); }
+
 static int is_piece(heronditch_piece r, uint32_t number, size_t next, size_t found, size_t size)
 {
-    return r.number == number && r.file == HERONDITCH_NEITHER && r.next == next && r.found == found && r.size == size;
+    return r.number == number && r.file == NEITHER && r.next == next && r.found == found && r.size == size;
 }
 
 /* every byte of a table still holds the filling */
@@ -51,36 +69,38 @@ static int untouched(const void *table, size_t from, size_t to)
 
 static void no_arrays(void)
 {
-    check(is_reply(heronditch_read_pattern(NULL, 0, NULL, 0, NULL, 0, NULL, 0), 1, HERONDITCH_PATTERN, 0, 0), "read_pattern of nothing");
-    check(is_reply(heronditch_read_board(NULL, 0, NULL, 0, NULL, 0, NULL, 0), 1, HERONDITCH_BOARD, 0, 0), "read_board of nothing");
-    check(is_reply(heronditch_write_pattern(NULL, 0, NULL, 0, NULL, 0, NULL, 0), 2, HERONDITCH_PATTERN, 0, 0), "write_pattern of nothing");
-    check(is_reply(heronditch_write_board(NULL, 0, NULL, 0, NULL, 0, NULL, 0), 8, HERONDITCH_NEITHER, 0, 0), "write_board of nothing");
-    check(is_reply(heronditch_radius(NULL, 0), 1, HERONDITCH_PATTERN, 0, 0), "radius of nothing");
-    check(is_reply(heronditch_ball(NULL, 0, 0, 0, NULL, 0), 1, HERONDITCH_BOARD, 0, 0), "ball of nothing");
-    check(is_counts(heronditch_match(NULL, 0, NULL, 0, NULL, 0), 1, HERONDITCH_PATTERN, 0, 0, 0, 0), "match of nothing");
-    check(is_counts(heronditch_match(TWO_BITS, sizeof TWO_BITS, NULL, 0, NULL, 0), 1, HERONDITCH_BOARD, 0, 0, 0, 0),
+    check(refuses(heronditch_read(PATTERN, NOTHING(FIRST), NULL, 0, NULL, 0, NULL, 0, NULL, 0), 1, PATTERN), "read a pattern of nothing");
+    check(refuses(heronditch_read(BOARD, NOTHING(FIRST), NULL, 0, NULL, 0, NULL, 0, NULL, 0), 1, BOARD), "read a board of nothing");
+    check(refuses(heronditch_write(PATTERN, HERONDITCH_FIRST, NULL, 0, NULL, 0, NULL, 0, NULL, 0, NULL, 0), 2, PATTERN),
+          "write a pattern of nothing");
+    check(refuses(heronditch_write(BOARD, HERONDITCH_FIRST, NULL, 0, NULL, 0, NULL, 0, NULL, 0, NULL, 0), 8, NEITHER),
+          "write a board of nothing");
+    check(refuses(heronditch_radius(NOTHING(FIRST)), 1, PATTERN), "radius of nothing");
+    check(refuses(heronditch_ball(NOTHING(FIRST), 0, 0, NULL, 0), 1, BOARD), "ball of nothing");
+    check(counts_refuse(heronditch_match(NOTHING(FIRST), NOTHING(FIRST), NULL, 0), 1, PATTERN), "match of nothing");
+    check(counts_refuse(heronditch_match(FIRST(TWO_BITS), NOTHING(FIRST), NULL, 0), 1, BOARD),
           "match of a pattern in two bits on nothing");
-    check(is_counts(heronditch_match_one_way(NULL, 0, NULL, 0, NULL, 0), 1, HERONDITCH_PATTERN, 0, 0, 0, 0), "match_one_way of nothing");
-    check(is_counts(heronditch_match_one_way(TWO_BITS, sizeof TWO_BITS, NULL, 0, NULL, 0), 1, HERONDITCH_BOARD, 0, 0, 0, 0),
+    check(counts_refuse(heronditch_match_one_way(NOTHING(FIRST), NOTHING(FIRST), NULL, 0), 1, PATTERN), "match_one_way of nothing");
+    check(counts_refuse(heronditch_match_one_way(FIRST(TWO_BITS), NOTHING(FIRST), NULL, 0), 1, BOARD),
           "match_one_way of a pattern in two bits on nothing");
-    check(is_counts(heronditch_match(T, sizeof T, NULL, 0, NULL, 0), 1, HERONDITCH_BOARD, 0, 0, 0, 0), "match on nothing");
-    check(is_counts(heronditch_place(NULL, 0, NULL, 0, 0, NULL, 0, NULL, 0, NULL, 0, NULL, 0), 1, HERONDITCH_PATTERN, 0, 0, 0, 0),
+    check(counts_refuse(heronditch_match(FIRST(T), NOTHING(FIRST), NULL, 0), 1, BOARD), "match on nothing");
+    check(counts_refuse(heronditch_place(NULL, 0, NULL, 0, 0, NULL, 0, NULL, 0, NULL, 0, NULL, 0), 1, PATTERN),
           "place of nothing");
-    check(is_counts(heronditch_place(T, sizeof T, B, sizeof B, 0, NULL, 0, NULL, 0, NULL, 0, NULL, 0), 8, HERONDITCH_NEITHER, 0, 0, 0, 0),
+    check(counts_refuse(heronditch_place(T, sizeof T, B, sizeof B, 0, NULL, 0, NULL, 0, NULL, 0, NULL, 0), 8, NEITHER),
           "place with nothing lent");
-    check(is_counts(heronditch_place_within(T, sizeof T, NULL, 0, 0, 0, NULL, 0, NULL, 0, NULL, 0, NULL, 0), 1, HERONDITCH_BOARD, 0, 0, 0, 0),
+    check(counts_refuse(heronditch_place_within(T, sizeof T, NULL, 0, 0, 0, NULL, 0, NULL, 0, NULL, 0, NULL, 0), 1, BOARD),
           "place_within on nothing");
-    check(is_reply(heronditch_bar(NULL, 0, NULL, 0, 0, NULL, 0), 1, HERONDITCH_PATTERN, 0, 0), "bar of nothing");
-    check(is_reply(heronditch_bar(T, sizeof T, NULL, 0, 0, NULL, 0), 1, HERONDITCH_BOARD, 0, 0), "bar on nothing");
-    check(is_reply(heronditch_bar(T, sizeof T, B, sizeof B, 3, NULL, 0), 8, HERONDITCH_NEITHER, 0, 0), "bar with nothing lent");
-    check(is_reply(heronditch_merge(NULL, 0, NULL, 0, NULL, 0), 1, HERONDITCH_PATTERN, 0, 0), "merge of nothing");
+    check(refuses(heronditch_bar(NOTHING(FIRST), NOTHING(FIRST), 0, NULL, 0), 1, PATTERN), "bar of nothing");
+    check(refuses(heronditch_bar(FIRST(T), NOTHING(FIRST), 0, NULL, 0), 1, BOARD), "bar on nothing");
+    check(refuses(heronditch_bar(FIRST(T), FIRST(B), 3, NULL, 0), 8, NEITHER), "bar with nothing lent");
+    check(refuses(heronditch_merge(NOTHING(FIRST), NULL, 0, NULL, 0), 1, PATTERN), "merge of nothing");
     static const uint8_t none[] = {0, 0, 0, 0};
-    check(is_reply(heronditch_read_board(none, 4, NULL, 0, NULL, 0, NULL, 0), 0, HERONDITCH_NEITHER, 0, 0), "a board of no node");
-    check(is_counts(heronditch_match(T, sizeof T, none, 4, NULL, 0), 0, HERONDITCH_NEITHER, 0, 0, 0, 0), "match on no node");
-    check(is_counts(heronditch_match_one_way(T, sizeof T, none, 4, NULL, 0), 0, HERONDITCH_NEITHER, 0, 0, 0, 0), "match_one_way on no node");
-    check(is_counts(heronditch_place(T, sizeof T, none, 4, 0, NULL, 0, NULL, 0, NULL, 0, NULL, 0), 7, HERONDITCH_NEITHER, 0, 0, 0, 0),
+    check(replies(heronditch_read(BOARD, none, 4, HERONDITCH_FIRST, NULL, 0, NULL, 0, NULL, 0, NULL, 0), 0, 0), "a board of no node");
+    check(counts(heronditch_match(FIRST(T), none, 4, HERONDITCH_FIRST, NULL, 0), 0, 0, 0, 0), "match on no node");
+    check(counts(heronditch_match_one_way(FIRST(T), none, 4, HERONDITCH_FIRST, NULL, 0), 0, 0, 0, 0), "match_one_way on no node");
+    check(counts_refuse(heronditch_place(T, sizeof T, none, 4, 0, NULL, 0, NULL, 0, NULL, 0, NULL, 0), 7, NEITHER),
           "place on no node");
-    check(is_reply(heronditch_bar(T, sizeof T, none, 4, 0, NULL, 0), 7, HERONDITCH_NEITHER, 0, 0), "bar on no node");
+    check(refuses(heronditch_bar(FIRST(T), none, 4, HERONDITCH_FIRST, 0, NULL, 0), 7, NEITHER), "bar on no node");
 }
 
 /* the place call with tables of these lengths, at a centre; checks what is past the needed entries */
@@ -96,7 +116,7 @@ static void place_with(size_t nodes_len, size_t links_len, size_t table_len, siz
     memset(table, 0xA5, sizeof table);
     heronditch_counts c =
         heronditch_place(T, sizeof T, B, sizeof B, centre, nodes, nodes_len, links, links_len, table, table_len, distances, distances_len);
-    check(c.number == number && c.file == HERONDITCH_NEITHER, what);
+    check(c.number == number && c.file == NEITHER, what);
     size_t n = number == 0 ? 6 : 0, m = number == 0 ? 3 : 0;
     check(untouched(nodes, n, sizeof nodes) && untouched(links, m, sizeof links) && untouched(table, 4 * n, sizeof table), what);
     check(untouched(distances, 2 * n, sizeof distances), what);
@@ -114,16 +134,16 @@ static void one_way(void)
 {
     uint32_t table[7];
     memset(table, 0xA5, sizeof table);
-    check(is_counts(heronditch_match_one_way(T, sizeof T, B, sizeof B, table, 5), 8, HERONDITCH_NEITHER, 0, 0, 0, 0), "one way, one set less");
+    check(counts_refuse(heronditch_match_one_way(FIRST(T), FIRST(B), table, 5), 8, NEITHER), "one way, one set less");
     check(untouched(table, 0, sizeof table), "nothing filled one way");
     for (size_t len = 6; len <= 7; len++) {
         static const uint32_t sets[] = {1, 2, 4, 2, 4, 0};
         memset(table, 0xA5, sizeof table);
-        check(is_counts(heronditch_match_one_way(T, sizeof T, B, sizeof B, table, len), 0, HERONDITCH_NEITHER, 6, 5, 1, 1), "T on B one way");
+        check(counts(heronditch_match_one_way(FIRST(T), FIRST(B), table, len), 6, 5, 1, 1), "T on B one way");
         check(!memcmp(table, sets, sizeof sets) && untouched(table, sizeof sets, sizeof table), "T's table on B one way");
     }
     static const uint8_t tail[] = {2, 0, 1, 0, 20, 0, 30, 0, 0, 0, 1, 0};
-    check(is_counts(heronditch_match_one_way(T, sizeof T, tail, sizeof tail, table, 2), 0, HERONDITCH_NEITHER, 2, 0, 2, 0), "T's tail one way");
+    check(counts(heronditch_match_one_way(FIRST(T), FIRST(tail), table, 2), 2, 0, 2, 0), "T's tail one way");
     check(table[0] == 0 && table[1] == 0 && table[2] == 4, "all 0 where T's first part has no node");
 }
 
@@ -140,26 +160,26 @@ static void lengths(void)
     place_with(6, 3, 6, 6, 3, 9, "no place");
     place_with(6, 3, 6, 6, SIZE_MAX, 7, "the largest centre");
     uint32_t table[6];
-    check(is_counts(heronditch_match(T, sizeof T, B, sizeof B, table, 6), 0, HERONDITCH_NEITHER, 6, 3, 3, 2), "counts of T on B");
-    check(is_counts(heronditch_match(T, sizeof T, B, sizeof B, table, 5), 8, HERONDITCH_NEITHER, 0, 0, 0, 0), "a short table");
+    check(counts(heronditch_match(FIRST(T), FIRST(B), table, 6), 6, 3, 3, 2), "counts of T on B");
+    check(counts_refuse(heronditch_match(FIRST(T), FIRST(B), table, 5), 8, NEITHER), "a short table");
     uint8_t nodes[6], links[3];
     uint16_t far[7] = {7, 7, 7, 7, 7, 7, 7};
-    check(is_reply(heronditch_ball(B, sizeof B, 1, 1, far, 5), 8, HERONDITCH_NEITHER, 0, 0) && far[0] == 7, "one distance of a ball less");
-    check(is_reply(heronditch_ball(B, sizeof B, 0, 1, far, 7), 0, HERONDITCH_NEITHER, 6, 0), "a ball");
+    check(refuses(heronditch_ball(FIRST(B), 1, 1, far, 5), 8, NEITHER) && far[0] == 7, "one distance of a ball less");
+    check(replies(heronditch_ball(FIRST(B), 0, 1, far, 7), 6, 0), "a ball");
     check(far[0] == 0 && far[1] == 1 && far[2] == HERONDITCH_OUTSIDE && far[5] == HERONDITCH_OUTSIDE && far[6] == 7, "distances in a ball");
-    check(is_counts(heronditch_place(T, sizeof T, B, sizeof B, 3, nodes, 6, links, 3, table, 6, far, 6), 9, HERONDITCH_NEITHER, 2, 0, 2, 2),
+    check(is_counts(heronditch_place(T, sizeof T, B, sizeof B, 3, nodes, 6, links, 3, table, 6, far, 6), 9, NEITHER, 2, 0, 2, 2),
           "9 carries the ball's counts");
-    check(is_counts(heronditch_place_within(T, sizeof T, B, sizeof B, 0, 0, nodes, 6, links, 3, table, 6, far, 6), 9, HERONDITCH_NEITHER, 1, 0, 1, 1),
+    check(is_counts(heronditch_place_within(T, sizeof T, B, sizeof B, 0, 0, nodes, 6, links, 3, table, 6, far, 6), 9, NEITHER, 1, 0, 1, 1),
           "radius 0");
-    check(is_counts(heronditch_place_within(T, sizeof T, B, sizeof B, 0, 65535, nodes, 6, links, 3, table, 6, far, 6), 0, HERONDITCH_NEITHER, 3, 3, 0, 0),
+    check(counts(heronditch_place_within(T, sizeof T, B, sizeof B, 0, 65535, nodes, 6, links, 3, table, 6, far, 6), 3, 3, 0, 0),
           "the largest radius");
     uint8_t out[sizeof T + 1];
     memset(out, 0xA5, sizeof out);
     uint8_t classes[4] = {0xA5, 0xA5, 0xA5, 0xA5};
-    check(is_reply(heronditch_merge(T, sizeof T, classes, 2, out, sizeof T), 8, HERONDITCH_NEITHER, 0, 0), "one class less");
-    check(is_reply(heronditch_merge(T, sizeof T, classes, 3, out, sizeof T - 1), 8, HERONDITCH_NEITHER, 0, 0), "one byte less");
+    check(refuses(heronditch_merge(FIRST(T), classes, 2, out, sizeof T), 8, NEITHER), "one class less");
+    check(refuses(heronditch_merge(FIRST(T), classes, 3, out, sizeof T - 1), 8, NEITHER), "one byte less");
     check(untouched(out, 0, sizeof out) && untouched(classes, 0, 4), "merge refused changes nothing");
-    check(is_reply(heronditch_merge(T, sizeof T, classes, 4, out, sizeof out), 0, HERONDITCH_NEITHER, 3, sizeof T), "T merged is T");
+    check(replies(heronditch_merge(FIRST(T), classes, 4, out, sizeof out), 3, sizeof T), "T merged is T");
     check(!memcmp(out, T, sizeof T) && out[sizeof T] == 0xA5 && classes[3] == 0xA5, "later bytes stay");
 }
 
@@ -168,97 +188,129 @@ static const uint8_t T2[] = {3, 0, 2, 0, 10, 0, 20, 0, 30, 0, 3, 0, 0, 0, 4, 0, 
 static const uint8_t T0[] = {3, 0, 2, 0, 10, 0, 20, 0, 30, 0, 0, 0, 0, 0, 0, 0, 0, 0, 1, 0, 1, 0, 2, 0};
 
 /* a conversion into as many bytes as are lent, of a buffer of 32: the reply, and what is past the new file */
-typedef heronditch_reply converter(const uint8_t *, size_t, uint8_t *, size_t);
-static void convert_with(converter *convert, const uint8_t *file, size_t size, size_t lent, uint32_t number, uint32_t meant, const uint8_t *want,
-                         size_t want_size, const char *what)
+static void convert_with(uint32_t role, const uint8_t *file, size_t size, uint32_t edition, uint32_t to, size_t lent, uint32_t number, uint32_t meant,
+                         const uint8_t *want, size_t want_size, const char *what)
 {
     uint8_t out[32];
     memset(out, 0xA5, sizeof out);
-    check(is_reply(convert(file, size, out, lent), number, meant, number ? 0 : want_size, 0), what);
+    check(is_reply(heronditch_convert(role, file, size, edition, to, out, lent), number, meant, number ? 0 : want_size, 0), what);
     size_t filled = number ? 0 : want_size;
     check(!memcmp(out, want, filled) && untouched(out, filled, sizeof out), what);
 }
 
-static void second_edition(void)
+/* one file of the second edition, and nothing */
+static void second_alone(void)
 {
-    check(is_reply(heronditch_read_pattern_2(NULL, 0, NULL, 0, NULL, 0, NULL, 0, NULL, 0), 1, HERONDITCH_PATTERN, 0, 0), "read_pattern_2 of nothing");
-    check(is_reply(heronditch_read_board_2(NULL, 0, NULL, 0, NULL, 0, NULL, 0, NULL, 0), 1, HERONDITCH_BOARD, 0, 0), "read_board_2 of nothing");
-    check(is_reply(heronditch_write_pattern_2(NULL, 0, NULL, 0, NULL, 0, NULL, 0, NULL, 0), 2, HERONDITCH_PATTERN, 0, 0), "write_pattern_2 of nothing");
-    check(is_reply(heronditch_write_board_2(NULL, 0, NULL, 0, NULL, 0, NULL, 0, NULL, 0), 8, HERONDITCH_NEITHER, 0, 0), "write_board_2 of nothing");
-    check(is_reply(heronditch_radius_2(NULL, 0), 1, HERONDITCH_PATTERN, 0, 0), "radius_2 of nothing");
-    check(is_reply(heronditch_radius_2(T2, sizeof T2), 0, HERONDITCH_NEITHER, 2, 0), "radius_2 of T");
-    check(is_reply(heronditch_radius_2(T, sizeof T), 3, HERONDITCH_PATTERN, 0, 0), "a first-edition file read as the second");
-    check(is_reply(heronditch_radius(T2, sizeof T2), 3, HERONDITCH_PATTERN, 0, 0), "a second-edition file read as the first");
-    check(is_reply(heronditch_merge_2(NULL, 0, NULL, 0, NULL, 0), 1, HERONDITCH_PATTERN, 0, 0), "merge_2 of nothing");
-    check(is_reply(heronditch_ball_2(NULL, 0, 0, 0, NULL, 0), 1, HERONDITCH_BOARD, 0, 0), "ball_2 of nothing");
+    check(refuses(heronditch_read(PATTERN, NOTHING(SECOND), NULL, 0, NULL, 0, NULL, 0, NULL, 0), 1, PATTERN),
+          "read a second-edition pattern of nothing");
+    check(refuses(heronditch_read(BOARD, NOTHING(SECOND), NULL, 0, NULL, 0, NULL, 0, NULL, 0), 1, BOARD),
+          "read a second-edition board of nothing");
+    check(refuses(heronditch_write(PATTERN, HERONDITCH_SECOND, NULL, 0, NULL, 0, NULL, 0, NULL, 0, NULL, 0), 2, PATTERN),
+          "write a second-edition pattern of nothing");
+    check(refuses(heronditch_write(BOARD, HERONDITCH_SECOND, NULL, 0, NULL, 0, NULL, 0, NULL, 0, NULL, 0), 8, NEITHER),
+          "write a second-edition board of nothing");
+    check(refuses(heronditch_radius(NOTHING(SECOND)), 1, PATTERN), "radius in the second edition of nothing");
+    check(replies(heronditch_radius(SECOND(T2)), 2, 0), "radius in the second edition of T");
+    check(refuses(heronditch_radius(SECOND(T)), 3, PATTERN), "a first-edition file read as the second");
+    check(refuses(heronditch_radius(FIRST(T2)), 3, PATTERN), "a second-edition file read as the first");
+    check(refuses(heronditch_merge(NOTHING(SECOND), NULL, 0, NULL, 0), 1, PATTERN), "merge in the second edition of nothing");
+    check(refuses(heronditch_ball(NOTHING(SECOND), 0, 0, NULL, 0), 1, BOARD), "ball in the second edition of nothing");
     uint16_t far[4] = {7, 7, 7, 7};
-    check(is_reply(heronditch_ball_2(T2, sizeof T2, 0, 1, far, 2), 8, HERONDITCH_NEITHER, 0, 0) && far[0] == 7, "one distance of ball_2 less");
-    check(is_reply(heronditch_ball_2(T2, sizeof T2, 3, 1, far, 3), 7, HERONDITCH_NEITHER, 0, 0), "ball_2 around no node");
-    check(is_reply(heronditch_ball_2(T2, sizeof T2, 0, 1, far, 4), 0, HERONDITCH_NEITHER, 3, 0) && far[0] == 0 && far[1] == 1 &&
+    check(refuses(heronditch_ball(SECOND(T2), 0, 1, far, 2), 8, NEITHER) && far[0] == 7, "one distance of ball in the second edition less");
+    check(refuses(heronditch_ball(SECOND(T2), 3, 1, far, 3), 7, NEITHER), "ball in the second edition around no node");
+    check(replies(heronditch_ball(SECOND(T2), 0, 1, far, 4), 3, 0) && far[0] == 0 && far[1] == 1 &&
               far[2] == HERONDITCH_OUTSIDE && far[3] == 7,
-          "ball_2");
+          "ball in the second edition");
+}
+
+/* packages read, and written again */
+static void packages_kept(void)
+{
     uint16_t kinds[4], packages[4], starts[3], ends[3];
     for (size_t lent = 2; lent <= 4; lent++) {
         memset(kinds, 0xA5, sizeof kinds);
         memset(packages, 0xA5, sizeof packages);
         memset(starts, 0xA5, sizeof starts);
         memset(ends, 0xA5, sizeof ends);
-        heronditch_reply r = heronditch_read_pattern_2(T2, sizeof T2, kinds, 4, packages, lent, starts, 2, ends, 2);
+        heronditch_reply r = heronditch_read(PATTERN, SECOND(T2), kinds, 4, packages, lent, starts, 2, ends, 2);
         if (lent < 3)
-            check(is_reply(r, 8, HERONDITCH_NEITHER, 0, 0) && untouched(kinds, 0, sizeof kinds) && untouched(packages, 0, sizeof packages) &&
+            check(refuses(r, 8, NEITHER) && untouched(kinds, 0, sizeof kinds) && untouched(packages, 0, sizeof packages) &&
                       untouched(starts, 0, sizeof starts) && untouched(ends, 0, sizeof ends),
                   "one package less");
         else
-            check(is_reply(r, 0, HERONDITCH_NEITHER, 3, 2) && packages[0] == 3 && packages[1] == 0 && packages[2] == 4 &&
+            check(replies(r, 3, 2) && packages[0] == 3 && packages[1] == 0 && packages[2] == 4 &&
                       untouched(packages, 6, sizeof packages) && untouched(kinds, 6, sizeof kinds),
                   "packages read");
     }
     uint8_t out[sizeof T2 + 1];
     memset(out, 0xA5, sizeof out);
-    check(is_reply(heronditch_write_pattern_2(kinds, 3, packages, 2, starts, 2, ends, 2, out, sizeof out), 3, HERONDITCH_PATTERN, 0, 0), "one package less to write");
-    check(is_reply(heronditch_write_pattern_2(kinds, 3, packages, 4, starts, 2, ends, 2, out, sizeof out), 3, HERONDITCH_PATTERN, 0, 0), "one package more to write");
-    check(is_reply(heronditch_write_pattern_2(kinds, 3, packages, 3, starts, 2, ends, 2, out, sizeof T2 - 1), 8, HERONDITCH_NEITHER, 0, 0), "one byte less to write");
+    check(refuses(heronditch_write(PATTERN, HERONDITCH_SECOND, kinds, 3, packages, 2, starts, 2, ends, 2, out, sizeof out), 3, PATTERN),
+          "one package less to write");
+    check(refuses(heronditch_write(PATTERN, HERONDITCH_SECOND, kinds, 3, packages, 4, starts, 2, ends, 2, out, sizeof out), 3, PATTERN),
+          "one package more to write");
+    check(refuses(heronditch_write(PATTERN, HERONDITCH_SECOND, kinds, 3, packages, 3, starts, 2, ends, 2, out, sizeof T2 - 1), 8, NEITHER),
+          "one byte less to write");
     check(untouched(out, 0, sizeof out), "nothing written");
-    check(is_reply(heronditch_write_pattern_2(kinds, 3, packages, 3, starts, 2, ends, 2, out, sizeof out), 0, HERONDITCH_NEITHER, sizeof T2, 0) &&
+    check(replies(heronditch_write(PATTERN, HERONDITCH_SECOND, kinds, 3, packages, 3, starts, 2, ends, 2, out, sizeof out), sizeof T2, 0) &&
               !memcmp(out, T2, sizeof T2) && out[sizeof T2] == 0xA5,
           "T written with packages");
-    uint32_t table[4];
-    check(is_counts(heronditch_match_22(T2, sizeof T2, T2, sizeof T2, table, 3), 0, HERONDITCH_NEITHER, 3, 3, 0, 0), "T with packages on itself");
-    check(is_counts(heronditch_match_22(T2, sizeof T2, T2, sizeof T2, table, 2), 8, HERONDITCH_NEITHER, 0, 0, 0, 0), "match_22 with a short table");
-    check(is_counts(heronditch_match_12(T, sizeof T, T2, sizeof T2, table, 3), 0, HERONDITCH_NEITHER, 1, 0, 1, 1), "T without packages on T with some");
-    check(is_counts(heronditch_match_21(T2, sizeof T2, T, sizeof T, table, 3), 0, HERONDITCH_NEITHER, 1, 0, 1, 1), "T with packages on T without");
-    check(is_counts(heronditch_match_21(T0, sizeof T0, B, sizeof B, table, 4), 8, HERONDITCH_NEITHER, 0, 0, 0, 0), "match_21 with a short table");
-    check(is_counts(heronditch_match_12(NULL, 0, NULL, 0, NULL, 0), 1, HERONDITCH_PATTERN, 0, 0, 0, 0), "match_12 of nothing");
-    check(is_counts(heronditch_match_one_way_22(T2, sizeof T2, T2, sizeof T2, table, 4), 0, HERONDITCH_NEITHER, 3, 3, 0, 0), "T with packages on itself one way");
-    check(is_counts(heronditch_match_one_way_22(T2, sizeof T2, T2, sizeof T2, table, 2), 8, HERONDITCH_NEITHER, 0, 0, 0, 0), "match_one_way_22 with a short table");
-    check(is_counts(heronditch_match_one_way_12(NULL, 0, NULL, 0, NULL, 0), 1, HERONDITCH_PATTERN, 0, 0, 0, 0), "match_one_way_12 of nothing");
-    check(is_counts(heronditch_match_one_way_21(T0, sizeof T0, B, sizeof B, table, 4), 8, HERONDITCH_NEITHER, 0, 0, 0, 0), "match_one_way_21 with a short table");
-    uint32_t six[6];
-    check(is_counts(heronditch_match_one_way_21(T0, sizeof T0, B, sizeof B, six, 6), 0, HERONDITCH_NEITHER, 6, 5, 1, 1), "T in the second edition on B one way");
-    static const uint8_t all[] = {1, 1, 1, 1};
-    check(is_reply(heronditch_check_22(T2, sizeof T2, T2, sizeof T2, 0, all, 3, all, 2), 0, HERONDITCH_NEITHER, 1, 0), "T with packages is its own place");
-    check(is_reply(heronditch_check_12(T, sizeof T, T2, sizeof T2, 0, all, 3, all, 2), 0, HERONDITCH_NEITHER, 0, 0), "and none of T without");
-    check(is_reply(heronditch_check_21(T2, sizeof T2, T, sizeof T, 0, all, 3, all, 2), 0, HERONDITCH_NEITHER, 0, 0), "nor the other way round");
-    check(is_reply(heronditch_check_12(T, sizeof T, T0, sizeof T0, 0, all, 3, all, 2), 0, HERONDITCH_NEITHER, 1, 0), "T without packages on T with package 0");
-    check(is_reply(heronditch_check_21(T0, sizeof T0, T, sizeof T, 0, all, 3, all, 2), 0, HERONDITCH_NEITHER, 1, 0), "and the other way round");
-    check(is_reply(heronditch_check_22(T2, sizeof T2, T2, sizeof T2, 0, all, 4, all, 2), 3, HERONDITCH_NEITHER, 0, 0), "check_22 with one node byte more");
-    check(is_reply(heronditch_check_22(T2, sizeof T2, T2, sizeof T2, 0, all, 3, all, 1), 3, HERONDITCH_NEITHER, 0, 0), "check_22 with one link byte less");
-    check(is_reply(heronditch_check_22(T2, sizeof T2, T, sizeof T, 0, all, 3, all, 2), 3, HERONDITCH_BOARD, 0, 0), "check_22 on a first-edition board");
-    check(is_reply(heronditch_check_12(NULL, 0, NULL, 0, 0, NULL, 0, NULL, 0), 1, HERONDITCH_PATTERN, 0, 0), "check_12 of nothing");
-    check(is_reply(heronditch_check_21(NULL, 0, NULL, 0, 0, NULL, 0, NULL, 0), 1, HERONDITCH_PATTERN, 0, 0), "check_21 of nothing");
     uint8_t classes[4] = {0xA5, 0xA5, 0xA5, 0xA5};
     memset(out, 0xA5, sizeof out);
-    check(is_reply(heronditch_merge_2(T2, sizeof T2, classes, 3, out, sizeof T2 - 1), 8, HERONDITCH_NEITHER, 0, 0), "merge_2 with one byte less");
-    check(is_reply(heronditch_merge_2(T2, sizeof T2, classes, 4, out, sizeof out), 0, HERONDITCH_NEITHER, 3, sizeof T2), "T with packages merged");
+    check(refuses(heronditch_merge(SECOND(T2), classes, 3, out, sizeof T2 - 1), 8, NEITHER),
+          "merge in the second edition with one byte less");
+    check(replies(heronditch_merge(SECOND(T2), classes, 4, out, sizeof out), 3, sizeof T2), "T with packages merged");
     check(!memcmp(out, T2, sizeof T2) && out[sizeof T2] == 0xA5 && classes[3] == 0xA5, "the merged file has the packages");
-    convert_with(heronditch_convert_pattern_12, T, sizeof T, sizeof T0, 0, HERONDITCH_NEITHER, T0, sizeof T0, "T to the second edition");
-    convert_with(heronditch_convert_board_12, T, sizeof T, 32, 0, HERONDITCH_NEITHER, T0, sizeof T0, "T to the second edition as a board");
-    convert_with(heronditch_convert_pattern_12, T, sizeof T, sizeof T0 - 1, 8, HERONDITCH_NEITHER, T0, 0, "one byte less to convert");
-    convert_with(heronditch_convert_pattern_21, T0, sizeof T0, sizeof T, 0, HERONDITCH_NEITHER, T, sizeof T, "and back");
-    convert_with(heronditch_convert_pattern_21, T2, sizeof T2, 32, 12, HERONDITCH_PATTERN, T, 0, "a package that would be lost");
-    convert_with(heronditch_convert_board_21, T2, sizeof T2, 0, 12, HERONDITCH_BOARD, T, 0, "12 comes before 8, and names the role's file");
-    convert_with(heronditch_convert_board_21, T2, sizeof T2 - 1, 32, 3, HERONDITCH_BOARD, T, 0, "3 comes before 12");
-    check(is_reply(heronditch_convert_pattern_12(NULL, 0, NULL, 0), 1, HERONDITCH_PATTERN, 0, 0), "convert nothing");
+}
+
+/* T with packages and without, matched and checked on each other */
+static void second_pairs(void)
+{
+    uint32_t table[4];
+    check(counts(heronditch_match(SECOND(T2), SECOND(T2), table, 3), 3, 3, 0, 0), "T with packages on itself");
+    check(counts_refuse(heronditch_match(SECOND(T2), SECOND(T2), table, 2), 8, NEITHER), "match of editions 2 and 2 with a short table");
+    check(counts(heronditch_match(FIRST(T), SECOND(T2), table, 3), 1, 0, 1, 1), "T without packages on T with some");
+    check(counts(heronditch_match(SECOND(T2), FIRST(T), table, 3), 1, 0, 1, 1), "T with packages on T without");
+    check(counts_refuse(heronditch_match(SECOND(T0), FIRST(B), table, 4), 8, NEITHER), "match of editions 2 and 1 with a short table");
+    check(counts_refuse(heronditch_match(NOTHING(FIRST), NOTHING(SECOND), NULL, 0), 1, PATTERN), "match of editions 1 and 2 of nothing");
+    check(counts(heronditch_match_one_way(SECOND(T2), SECOND(T2), table, 4), 3, 3, 0, 0), "T with packages on itself one way");
+    check(counts_refuse(heronditch_match_one_way(SECOND(T2), SECOND(T2), table, 2), 8, NEITHER),
+          "match_one_way of editions 2 and 2 with a short table");
+    check(counts_refuse(heronditch_match_one_way(NOTHING(FIRST), NOTHING(SECOND), NULL, 0), 1, PATTERN),
+          "match_one_way of editions 1 and 2 of nothing");
+    check(counts_refuse(heronditch_match_one_way(SECOND(T0), FIRST(B), table, 4), 8, NEITHER),
+          "match_one_way of editions 2 and 1 with a short table");
+    uint32_t six[6];
+    check(counts(heronditch_match_one_way(SECOND(T0), FIRST(B), six, 6), 6, 5, 1, 1), "T in the second edition on B one way");
+    static const uint8_t all[] = {1, 1, 1, 1};
+    check(replies(heronditch_check(SECOND(T2), SECOND(T2), 0, all, 3, all, 2), 1, 0), "T with packages is its own place");
+    check(replies(heronditch_check(FIRST(T), SECOND(T2), 0, all, 3, all, 2), 0, 0), "and none of T without");
+    check(replies(heronditch_check(SECOND(T2), FIRST(T), 0, all, 3, all, 2), 0, 0), "nor the other way round");
+    check(replies(heronditch_check(FIRST(T), SECOND(T0), 0, all, 3, all, 2), 1, 0), "T without packages on T with package 0");
+    check(replies(heronditch_check(SECOND(T0), FIRST(T), 0, all, 3, all, 2), 1, 0), "and the other way round");
+    check(refuses(heronditch_check(SECOND(T2), SECOND(T2), 0, all, 4, all, 2), 3, NEITHER),
+          "check of editions 2 and 2 with one node byte more");
+    check(refuses(heronditch_check(SECOND(T2), SECOND(T2), 0, all, 3, all, 1), 3, NEITHER),
+          "check of editions 2 and 2 with one link byte less");
+    check(refuses(heronditch_check(SECOND(T2), SECOND(T), 0, all, 3, all, 2), 3, BOARD),
+          "check of editions 2 and 2 on a first-edition board");
+    check(refuses(heronditch_check(NOTHING(FIRST), NOTHING(SECOND), 0, NULL, 0, NULL, 0), 1, PATTERN),
+          "check of editions 1 and 2 of nothing");
+    check(refuses(heronditch_check(NOTHING(SECOND), NOTHING(FIRST), 0, NULL, 0, NULL, 0), 1, PATTERN),
+          "check of editions 2 and 1 of nothing");
+}
+
+static void conversions(void)
+{
+    convert_with(PATTERN, FIRST(T), HERONDITCH_SECOND, sizeof T0, 0, NEITHER, T0, sizeof T0, "T to the second edition");
+    convert_with(BOARD, FIRST(T), HERONDITCH_SECOND, 32, 0, NEITHER, T0, sizeof T0, "T to the second edition as a board");
+    convert_with(PATTERN, FIRST(T), HERONDITCH_SECOND, sizeof T0 - 1, 8, NEITHER, T0, 0, "one byte less to convert");
+    convert_with(PATTERN, SECOND(T0), HERONDITCH_FIRST, sizeof T, 0, NEITHER, T, sizeof T, "and back");
+    convert_with(PATTERN, SECOND(T2), HERONDITCH_FIRST, 32, 12, PATTERN, T, 0, "a package that would be lost");
+    convert_with(BOARD, SECOND(T2), HERONDITCH_FIRST, 0, 12, BOARD, T, 0, "12 comes before 8, and names the role's file");
+    convert_with(BOARD, T2, sizeof T2 - 1, HERONDITCH_SECOND, HERONDITCH_FIRST, 32, 3, BOARD, T, 0, "3 comes before 12");
+    convert_with(PATTERN, SECOND(T2), HERONDITCH_SECOND, sizeof T2, 0, NEITHER, T2, sizeof T2, "the same edition twice copies");
+    convert_with(BOARD, FIRST(T), HERONDITCH_FIRST, 32, 0, NEITHER, T, sizeof T, "the first edition twice copies");
+    check(refuses(heronditch_convert(PATTERN, NOTHING(FIRST), HERONDITCH_SECOND, NULL, 0), 1, PATTERN), "convert nothing");
 }
 
 /* the bytes of the kept links of T on a board around a centre, with so many bytes lent; those past the needed ones stay */
@@ -266,7 +318,7 @@ static void bar_with(const uint8_t *board, size_t board_len, size_t centre, size
 {
     uint8_t out[4];
     memset(out, 0xA5, sizeof out);
-    check(is_reply(heronditch_bar(T, sizeof T, board, board_len, centre, out, lent), number, HERONDITCH_NEITHER, kept, 0), what);
+    check(is_reply(heronditch_bar(FIRST(T), board, board_len, HERONDITCH_FIRST, centre, out, lent), number, NEITHER, kept, 0), what);
     size_t size = number == 0 ? 2 : 0;
     check(untouched(out, size, sizeof out) && !memcmp(out, bytes, size), what);
 }
@@ -284,17 +336,18 @@ static void barred(void)
     bar_with(one_link, sizeof one_link, 0, 2, 0, 2, "\1\1", "every link is needed");
     bar_with(stranger, sizeof stranger, 0, 2, 0, 0, "\0\0", "a centre of a kind that no part has");
     uint8_t out[3] = {0xA5, 0xA5, 0xA5};
-    check(is_reply(heronditch_bar_12(T, sizeof T, T2, sizeof T2, 1, out, 2), 0, HERONDITCH_NEITHER, 1, 0) && out[0] == 0 && out[1] == 1 && out[2] == 0xA5,
+    check(replies(heronditch_bar(FIRST(T), SECOND(T2), 1, out, 2), 1, 0) && out[0] == 0 && out[1] == 1 && out[2] == 0xA5,
           "T without packages on T with some, around the one node that has none: either link bars, and the first is dropped");
-    check(is_reply(heronditch_bar_21(T2, sizeof T2, T, sizeof T, 0, out, 2), 0, HERONDITCH_NEITHER, 0, 0) && out[0] == 0 && out[1] == 0,
+    check(replies(heronditch_bar(SECOND(T2), FIRST(T), 0, out, 2), 0, 0) && out[0] == 0 && out[1] == 0,
           "a centre of a package that no part of its kind has");
-    check(is_reply(heronditch_bar_22(T2, sizeof T2, T2, sizeof T2, 0, out, 2), 15, HERONDITCH_NEITHER, 0, 0), "T with packages has a place on itself");
-    check(is_reply(heronditch_bar_22(T2, sizeof T2, T2, sizeof T2, 0, out, 1), 8, HERONDITCH_NEITHER, 0, 0), "bar_22 with one byte less");
-    check(is_reply(heronditch_bar_22(T, sizeof T, T2, sizeof T2, 0, out, 2), 3, HERONDITCH_PATTERN, 0, 0), "a first-edition pattern read as the second by bar_22");
-    check(is_reply(heronditch_bar_12(NULL, 0, NULL, 0, 0, NULL, 0), 1, HERONDITCH_PATTERN, 0, 0), "bar_12 of nothing");
-    check(is_reply(heronditch_bar_21(T2, sizeof T2, NULL, 0, 0, NULL, 0), 1, HERONDITCH_BOARD, 0, 0), "bar_21 on nothing");
+    check(refuses(heronditch_bar(SECOND(T2), SECOND(T2), 0, out, 2), 15, NEITHER), "T with packages has a place on itself");
+    check(refuses(heronditch_bar(SECOND(T2), SECOND(T2), 0, out, 1), 8, NEITHER), "bar of editions 2 and 2 with one byte less");
+    check(refuses(heronditch_bar(SECOND(T), SECOND(T2), 0, out, 2), 3, PATTERN),
+          "a first-edition pattern read as the second by bar of editions 2 and 2");
+    check(refuses(heronditch_bar(NOTHING(FIRST), NOTHING(SECOND), 0, NULL, 0), 1, PATTERN), "bar of editions 1 and 2 of nothing");
+    check(refuses(heronditch_bar(SECOND(T2), NOTHING(FIRST), 0, NULL, 0), 1, BOARD), "bar of editions 2 and 1 on nothing");
     static const uint8_t part[] = {1, 0, 0, 0, 10, 0};
-    check(is_reply(heronditch_bar(part, sizeof part, stranger, sizeof stranger, 0, NULL, 0), 0, HERONDITCH_NEITHER, 0, 0), "a pattern without links");
+    check(replies(heronditch_bar(FIRST(part), FIRST(stranger), 0, NULL, 0), 0, 0), "a pattern without links");
 }
 
 static int is_comparison(heronditch_comparison c, uint32_t number, uint32_t file, uint32_t which, uint32_t order)
@@ -309,15 +362,15 @@ static const uint8_t ONE_256[] = {1, 0, 0, 0, 10, 0, 0, 1};
 
 static void comparisons(void)
 {
-    check(is_comparison(heronditch_compare_2(ONE, 8, ONE, 8), 0, HERONDITCH_NEITHER, 0, HERONDITCH_EQUAL), "a file and itself");
-    check(is_comparison(heronditch_compare_2(ONE_1, 8, ONE_256, 8), 0, HERONDITCH_NEITHER, 0, HERONDITCH_LESS), "by size of number, not by low byte");
-    check(is_comparison(heronditch_compare_2(ONE_256, 8, ONE_1, 8), 0, HERONDITCH_NEITHER, 0, HERONDITCH_GREATER), "the other way round");
-    check(is_comparison(heronditch_compare_2(ONE_256, 8, T0, sizeof T0), 0, HERONDITCH_NEITHER, 0, HERONDITCH_LESS), "by N first");
-    check(is_comparison(heronditch_compare_2(T0, sizeof T0, T2, sizeof T2), 0, HERONDITCH_NEITHER, 0, HERONDITCH_LESS), "by packages");
-    check(is_comparison(heronditch_compare_2(NULL, 0, ONE, 8), 1, HERONDITCH_PATTERN, 1, 0), "the first is nothing");
-    check(is_comparison(heronditch_compare_2(ONE, 8, NULL, 0), 1, HERONDITCH_PATTERN, 2, 0), "the second is nothing");
-    check(is_comparison(heronditch_compare_2(ONE, 7, NULL, 0), 3, HERONDITCH_PATTERN, 1, 0), "the first one's refusal comes first");
-    check(is_comparison(heronditch_compare_2(ONE, 8, T, sizeof T), 3, HERONDITCH_PATTERN, 2, 0), "a first-edition file");
+    check(is_comparison(heronditch_compare(ONE, 8, ONE, 8), 0, NEITHER, 0, HERONDITCH_EQUAL), "a file and itself");
+    check(is_comparison(heronditch_compare(ONE_1, 8, ONE_256, 8), 0, NEITHER, 0, HERONDITCH_LESS), "by size of number, not by low byte");
+    check(is_comparison(heronditch_compare(ONE_256, 8, ONE_1, 8), 0, NEITHER, 0, HERONDITCH_GREATER), "the other way round");
+    check(is_comparison(heronditch_compare(ONE_256, 8, T0, sizeof T0), 0, NEITHER, 0, HERONDITCH_LESS), "by N first");
+    check(is_comparison(heronditch_compare(T0, sizeof T0, T2, sizeof T2), 0, NEITHER, 0, HERONDITCH_LESS), "by packages");
+    check(is_comparison(heronditch_compare(NULL, 0, ONE, 8), 1, PATTERN, 1, 0), "the first is nothing");
+    check(is_comparison(heronditch_compare(ONE, 8, NULL, 0), 1, PATTERN, 2, 0), "the second is nothing");
+    check(is_comparison(heronditch_compare(ONE, 7, NULL, 0), 3, PATTERN, 1, 0), "the first one's refusal comes first");
+    check(is_comparison(heronditch_compare(ONE, 8, T, sizeof T), 3, PATTERN, 2, 0), "a first-edition file");
 }
 
 static void shelves(void)
@@ -329,15 +382,15 @@ static void shelves(void)
         memcpy(bytes + 8 * i, i % 2 ? ONE : ONE_1, 8);
         lengths[i] = 8;
     }
-    check(is_reply(heronditch_shelf_2(NULL, 0, NULL, 0, NULL, 0), 0, HERONDITCH_NEITHER, 0, 0), "an empty shelf");
+    check(replies(heronditch_shelf(NULL, 0, NULL, 0, NULL, 0), 0, 0), "an empty shelf");
     for (size_t lent = 15; lent < 18; lent++) {
         memset(order, 0xA5, sizeof order);
-        heronditch_reply r = heronditch_shelf_2(bytes, sizeof bytes, lengths, 17, order, lent);
+        heronditch_reply r = heronditch_shelf(bytes, sizeof bytes, lengths, 17, order, lent);
         if (lent < 16) {
-            check(is_reply(r, 8, HERONDITCH_NEITHER, 0, 0) && untouched(order, 0, sizeof order), "one number less");
+            check(refuses(r, 8, NEITHER) && untouched(order, 0, sizeof order), "one number less");
             continue;
         }
-        int in_order = is_reply(r, 0, HERONDITCH_NEITHER, 16, 0) && order[16] == 0xA5;
+        int in_order = replies(r, 16, 0) && order[16] == 0xA5;
         for (size_t i = 0; i < 16; i++)
             in_order = in_order && order[i] == (i < 8 ? 2 * i + 1 : 2 * (i - 8));
         check(in_order, "sixteen of seventeen, equal ones by number");
@@ -346,10 +399,10 @@ static void shelves(void)
     lengths[1] = 7;
     lengths[2] = UINT32_MAX;
     memset(order, 0xA5, sizeof order);
-    check(is_reply(heronditch_shelf_2(bytes, sizeof bytes, lengths, 17, NULL, 0), 0, HERONDITCH_NEITHER, 0, 0), "lengths past the end: all refused");
+    check(replies(heronditch_shelf(bytes, sizeof bytes, lengths, 17, NULL, 0), 0, 0), "lengths past the end: all refused");
     lengths[1] = 8;
     lengths[2] = 9;
-    check(is_reply(heronditch_shelf_2(bytes, 17, lengths, 4, order, 1), 0, HERONDITCH_NEITHER, 1, 0) && order[0] == 1, "one accepted between refused ones");
+    check(replies(heronditch_shelf(bytes, 17, lengths, 4, order, 1), 1, 0) && order[0] == 1, "one accepted between refused ones");
 }
 
 /* a small generator, the same on every machine */
@@ -392,12 +445,13 @@ static void lookups(void)
         memset(want, 0xA5, sizeof want);
         if (lent >= length)
             memcpy(want, at, 2 * length);
-        heronditch_reply r =
-            (d ? heronditch_driven : heronditch_drives)(offsets[0], n[0], table[0], m[0], offsets[1], n[1], table[1], m[1], node, out, lent);
-        same = same && is_reply(r, lent < length ? 8 : 0, HERONDITCH_NEITHER, lent < length ? 0 : length, 0) && !memcmp(out, want, sizeof out);
+        uint32_t direction = d ? HERONDITCH_BACKWARD : HERONDITCH_FORWARD;
+        heronditch_reply r = heronditch_neighbours(direction, offsets[0], n[0], table[0], m[0], offsets[1], n[1], table[1], m[1], node, out, lent);
+        same = same && is_reply(r, lent < length ? 8 : 0, NEITHER, lent < length ? 0 : length, 0) && !memcmp(out, want, sizeof out);
     }
     check(same, "20,000 neighbour lookups");
-    check(is_reply(heronditch_drives(NULL, 0, NULL, 0, NULL, 0, NULL, 0, SIZE_MAX, NULL, 0), 0, HERONDITCH_NEITHER, 0, 0), "a lookup of nothing");
+    check(replies(heronditch_neighbours(HERONDITCH_FORWARD, NULL, 0, NULL, 0, NULL, 0, NULL, 0, SIZE_MAX, NULL, 0), 0, 0),
+          "a lookup of nothing");
 }
 
 /* the report of T on B, as the specification has it */
@@ -415,18 +469,30 @@ static heronditch_piece piece(const uint8_t *board, size_t board_len, size_t fro
 static void reports(void)
 {
     size_t whole = sizeof lines - 1;
-    check(is_piece(piece(B, sizeof B, 0, 0, HERONDITCH_LINE_BYTES - 1), 8, 0, 0, 0) && untouched(room, 0, sizeof room), "a report with one byte less");
+    check(is_piece(piece(B, sizeof B, 0, 0, HERONDITCH_LINE_BYTES - 1), 8, 0, 0, 0) && untouched(room, 0, sizeof room),
+          "a report with one byte less");
     check(is_piece(piece(B, sizeof B, 0, 0, HERONDITCH_LINE_BYTES), 0, 1, 1, 25) && !memcmp(room, lines, 25) && untouched(room, 25, sizeof room),
           "a report with exactly the needed length");
     check(is_piece(piece(B, sizeof B, 0, 0, HERONDITCH_LINE_BYTES + 24), 0, 1, 1, 25), "24 bytes more: one line still");
-    check(is_piece(piece(B, sizeof B, 0, 0, HERONDITCH_LINE_BYTES + 25), 0, 2, 2, 50) && untouched(room, 50, sizeof room), "25 bytes more: two lines");
+    check(is_piece(piece(B, sizeof B, 0, 0, HERONDITCH_LINE_BYTES + 25), 0, 2, 2, 50) && untouched(room, 50, sizeof room),
+          "25 bytes more: two lines");
     check(is_piece(piece(B, sizeof B, 7, 3, sizeof room), 0, 7, 3, 0) && untouched(room, 0, sizeof room), "past the end");
-    check(is_piece(piece(B, sizeof B, SIZE_MAX, 65535, sizeof room), 0, SIZE_MAX, 65535, 0) && untouched(room, 0, sizeof room), "from the largest number");
+    check(is_piece(piece(B, sizeof B, SIZE_MAX, 65535, sizeof room), 0, SIZE_MAX, 65535, 0) && untouched(room, 0, sizeof room),
+          "from the largest number");
     check(is_piece(piece(NULL, 0, 0, 0, 19), 8, 0, 0, 0) && untouched(room, 0, sizeof room), "one byte less for a refused file");
-    check(is_piece(piece(NULL, 0, 0, 0, 20), 0, 1, 0, 16) && !memcmp(room, "refused 1 board\n", 16) && untouched(room, 16, sizeof room), "the line of a refused file");
+    check(is_piece(piece(NULL, 0, 0, 0, 20), 0, 1, 0, 16) && !memcmp(room, "refused 1 board\n", 16) && untouched(room, 16, sizeof room),
+          "the line of a refused file");
     check(is_piece(piece(NULL, 0, 1, 0, 20), 0, 1, 0, 0) && untouched(room, 0, sizeof room), "nothing after it");
     check(is_piece(heronditch_report(NULL, 0, NULL, 0, 0, 0, NULL, 0), 8, 0, 0, 0), "a report of nothing into nothing");
     check(is_piece(heronditch_report(T, sizeof T, B, sizeof B, 0, 0, NULL, 0), 8, 0, 0, 0), "a report into nothing");
+    static const char packed[] = "place 0: 0 1 2 / 0-1 1-2\nplace 1: 0 1 2 / 0-1 1-2\nplace 2: 0 1 2 / 0-1 1-2\nend 3 of 3\n";
+    static uint8_t more[2 * HERONDITCH_LINE_BYTES];
+    check(is_piece(heronditch_report_editions(SECOND(T2), SECOND(T2), 0, 0, more, sizeof more), 0, 4, 3, sizeof packed - 1) && !memcmp(more, packed, sizeof packed - 1),
+          "the report of T with packages on itself");
+    check(is_piece(heronditch_report_editions(FIRST(T), SECOND(T2), 0, 0, more, sizeof more), 0, 4, 0, 11) && !memcmp(more, "end 0 of 3\n", 11),
+          "the report of T without packages on T with some");
+    check(is_piece(heronditch_report_editions(FIRST(T2), SECOND(T2), 0, 0, more, 20), 0, 1, 0, 18) && !memcmp(more, "refused 3 pattern\n", 18),
+          "a second-edition pattern reported as of the first");
     /* piece after piece, with buffers of different lengths */
     char text[sizeof lines];
     size_t from = 0, size = 0, calls = 0;
@@ -440,43 +506,44 @@ static void reports(void)
     check(size == whole && !memcmp(text, lines, whole) && from == 7 && found == 3, "the pieces are the report");
 }
 
-/* the load of seed 7 with 3 nodes, 4 pairs and kinds below 10, and that of one node whose one link is drawn five times */
-static const uint8_t load_of_7[] = {3, 0, 4, 0, 8, 0, 6, 0, 0, 0, 0, 0, 0, 0, 1, 0, 2, 0, 1, 0, 2, 0, 0, 0, 2, 0};
-static const uint8_t load_of_one[] = {1, 0, 1, 0, 0, 0, 0, 0, 0, 0};
+/* the test board of seed 7 with 3 nodes, 4 pairs and kinds below 10, and that of one node whose one link is drawn five times */
+static const uint8_t board_of_7[] = {3, 0, 4, 0, 8, 0, 6, 0, 0, 0, 0, 0, 0, 0, 1, 0, 2, 0, 1, 0, 2, 0, 0, 0, 2, 0};
+static const uint8_t board_of_one[] = {1, 0, 1, 0, 0, 0, 0, 0, 0, 0};
 static uint8_t made[HERONDITCH_BOARD_BYTES + 1];
 
-static int is_load(uint32_t seed, uint32_t n, uint32_t m, uint32_t k, size_t lent, uint32_t number, size_t size)
+static int is_test_board(uint32_t seed, uint32_t n, uint32_t m, uint32_t k, size_t lent, uint32_t number, size_t size)
 {
     memset(made, 0xA5, sizeof made);
-    return is_reply(heronditch_load(seed, n, m, k, made, lent), number, HERONDITCH_NEITHER, size, 0) && untouched(made, size, sizeof made);
+    return is_reply(heronditch_test_board(seed, n, m, k, made, lent), number, NEITHER, size, 0) && untouched(made, size, sizeof made);
 }
 
-static void loads(void)
+static void test_boards(void)
 {
-    size_t size = sizeof load_of_7, most = HERONDITCH_BOARD_BYTES;
-    check(is_load(7, 3, 4, 10, size, 0, size) && !memcmp(made, load_of_7, size), "a load into exactly the needed length");
-    check(is_load(7, 3, 4, 10, size + 1, 0, size) && !memcmp(made, load_of_7, size), "a load with one byte more");
-    check(is_load(7, 3, 4, 10, size - 1, 8, 0), "a load with one byte less");
-    check(is_load(3, 1, 5, 1, 26, 0, 10) && !memcmp(made, load_of_one, 10), "a pair drawn five times");
-    check(is_load(3, 1, 5, 1, 25, 8, 0), "a pair drawn five times, one byte less than for five links");
-    check(is_load(0, 1, 0, 1, 6, 0, 6) && is_load(UINT32_MAX, 1, 0, 1, 6, 0, 6), "the first and the last seed");
-    check(is_load(1, 512, 0, 65536, most, 0, 4 + 2 * 512), "the most nodes and kinds");
-    check(is_load(1, 0, 0, 1, most, 10, 0) && is_load(1, 513, 0, 1, most, 10, 0), "no nodes, and one too many");
-    check(is_load(1, 1, 4097, 1, most, 10, 0), "one pair too many");
-    check(is_load(1, 1, 0, 0, most, 10, 0) && is_load(1, 1, 0, 65537, most, 10, 0), "no kinds, and one too many");
-    check(is_load(1, UINT32_MAX, UINT32_MAX, UINT32_MAX, most, 10, 0), "the largest numbers");
-    check(is_reply(heronditch_load(1, 1, 0, 1, NULL, 0), 8, HERONDITCH_NEITHER, 0, 0), "a load into nothing");
-    check(is_reply(heronditch_load(1, 0, 0, 1, NULL, 0), 10, HERONDITCH_NEITHER, 0, 0), "10 is ahead of 8");
-    heronditch_reply r = heronditch_load(9, 512, 4096, 65536, made, most);
+    size_t size = sizeof board_of_7, most = HERONDITCH_BOARD_BYTES;
+    check(is_test_board(7, 3, 4, 10, size, 0, size) && !memcmp(made, board_of_7, size), "a test board into exactly the needed length");
+    check(is_test_board(7, 3, 4, 10, size + 1, 0, size) && !memcmp(made, board_of_7, size), "a test board with one byte more");
+    check(is_test_board(7, 3, 4, 10, size - 1, 8, 0), "a test board with one byte less");
+    check(is_test_board(3, 1, 5, 1, 26, 0, 10) && !memcmp(made, board_of_one, 10), "a pair drawn five times");
+    check(is_test_board(3, 1, 5, 1, 25, 8, 0), "a pair drawn five times, one byte less than for five links");
+    check(is_test_board(0, 1, 0, 1, 6, 0, 6) && is_test_board(UINT32_MAX, 1, 0, 1, 6, 0, 6), "the first and the last seed");
+    check(is_test_board(1, 512, 0, 65536, most, 0, 4 + 2 * 512), "the most nodes and kinds");
+    check(is_test_board(1, 0, 0, 1, most, 10, 0) && is_test_board(1, 513, 0, 1, most, 10, 0), "no nodes, and one too many");
+    check(is_test_board(1, 1, 4097, 1, most, 10, 0), "one pair too many");
+    check(is_test_board(1, 1, 0, 0, most, 10, 0) && is_test_board(1, 1, 0, 65537, most, 10, 0), "no kinds, and one too many");
+    check(is_test_board(1, UINT32_MAX, UINT32_MAX, UINT32_MAX, most, 10, 0), "the largest numbers");
+    check(refuses(heronditch_test_board(1, 1, 0, 1, NULL, 0), 8, NEITHER), "a test board into nothing");
+    check(refuses(heronditch_test_board(1, 0, 0, 1, NULL, 0), 10, NEITHER), "10 is ahead of 8");
+    heronditch_reply r = heronditch_test_board(9, 512, 4096, 65536, made, most);
     uint16_t kinds[HERONDITCH_NODES], starts[HERONDITCH_BOARD_LINKS], ends[HERONDITCH_BOARD_LINKS];
-    heronditch_reply back = heronditch_read_board(made, r.first, kinds, HERONDITCH_NODES, starts, HERONDITCH_BOARD_LINKS, ends, HERONDITCH_BOARD_LINKS);
-    check(r.number == 0 && back.number == 0 && back.first == 512 && 4 + 2 * 512 + 4 * back.second == r.first, "the largest load is a board");
+    heronditch_reply back = heronditch_read(BOARD, made, r.first, HERONDITCH_FIRST, kinds, HERONDITCH_NODES, NULL, 0, starts, HERONDITCH_BOARD_LINKS, ends, HERONDITCH_BOARD_LINKS);
+    check(r.number == 0 && back.number == 0 && back.first == 512 && 4 + 2 * 512 + 4 * back.second == r.first,
+          "the largest test board is read");
 }
 
 /* what the check replies to T on B with these bytes at a centre; longer arrays are read no further than told */
 static int is_check(const uint8_t *nodes, size_t nodes_len, const uint8_t *links, size_t links_len, size_t centre, uint32_t number, size_t yes)
 {
-    return is_reply(heronditch_check(T, sizeof T, B, sizeof B, centre, nodes, nodes_len, links, links_len), number, HERONDITCH_NEITHER, yes, 0);
+    return is_reply(heronditch_check(FIRST(T), FIRST(B), centre, nodes, nodes_len, links, links_len), number, NEITHER, yes, 0);
 }
 
 static void proposals(void)
@@ -494,11 +561,12 @@ static void proposals(void)
     check(is_check(in, 6, on, 2, 0, 3, 0) && is_check(in, 6, on, 4, 0, 3, 0), "one link byte less, and one more");
     check(is_check(in, 5, on, 2, 6, 7, 0) && is_check(in, 5, on, 2, SIZE_MAX, 7, 0), "7 comes before 3");
     check(is_check(NULL, 0, NULL, 0, 0, 3, 0), "no bytes");
-    check(is_reply(heronditch_check(NULL, 0, NULL, 0, 0, NULL, 0, NULL, 0), 1, HERONDITCH_PATTERN, 0, 0), "a check of nothing");
-    check(is_reply(heronditch_check(T, sizeof T, NULL, 0, 0, in, 6, on, 3), 1, HERONDITCH_BOARD, 0, 0), "a check on nothing");
-    check(is_reply(heronditch_check(T, sizeof T, empty, 4, 0, NULL, 0, NULL, 0), 7, HERONDITCH_NEITHER, 0, 0), "a check on no node");
+    check(refuses(heronditch_check(NOTHING(FIRST), NOTHING(FIRST), 0, NULL, 0, NULL, 0), 1, PATTERN), "a check of nothing");
+    check(refuses(heronditch_check(FIRST(T), NOTHING(FIRST), 0, in, 6, on, 3), 1, BOARD), "a check on nothing");
+    check(refuses(heronditch_check(FIRST(T), empty, 4, HERONDITCH_FIRST, 0, NULL, 0, NULL, 0), 7, NEITHER), "a check on no node");
     static const uint8_t part[] = {1, 0, 0, 0, 10, 0};
-    check(is_reply(heronditch_check(part, 6, part, 6, 0, more, 1, NULL, 0), 0, HERONDITCH_NEITHER, 1, 0), "one part on itself, without links");
+    check(replies(heronditch_check(part, 6, HERONDITCH_FIRST, part, 6, HERONDITCH_FIRST, 0, more, 1, NULL, 0), 1, 0),
+          "one part on itself, without links");
 }
 
 /* The file of a path of so many parts, whose radius is one less; returns its length. */
@@ -527,21 +595,25 @@ static void widths(void)
     uint16_t far[16];
     uint32_t table[16];
     size_t len = path_of(13, twelve), wide = path_of(14, thirteen);
-    check(is_reply(heronditch_radius(twelve, len), 0, HERONDITCH_NEITHER, HERONDITCH_RADIUS, 0), "radius 12");
-    check(is_reply(heronditch_radius(thirteen, wide), 11, HERONDITCH_PATTERN, 0, 0), "radius 13");
-    check(is_reply(heronditch_read_pattern(thirteen, wide, NULL, 0, NULL, 0, NULL, 0), 11, HERONDITCH_PATTERN, 0, 0), "11 comes before 8 in reading");
+    check(replies(heronditch_radius(twelve, len, HERONDITCH_FIRST), HERONDITCH_RADIUS, 0), "radius 12");
+    check(refuses(heronditch_radius(thirteen, wide, HERONDITCH_FIRST), 11, PATTERN), "radius 13");
+    check(refuses(heronditch_read(PATTERN, thirteen, wide, HERONDITCH_FIRST, NULL, 0, NULL, 0, NULL, 0, NULL, 0), 11, PATTERN),
+          "11 comes before 8 in reading");
     uint16_t kinds[14] = {0}, starts[13], ends[13];
     for (uint16_t v = 0; v < 13; v++)
         starts[v] = v, ends[v] = (uint16_t)(v + 1);
-    check(is_reply(heronditch_write_pattern(kinds, 14, starts, 13, ends, 13, NULL, 0), 11, HERONDITCH_PATTERN, 0, 0), "11 comes before 8 in writing");
-    check(is_reply(heronditch_write_pattern(kinds, 13, starts, 12, ends, 12, NULL, 0), 8, HERONDITCH_NEITHER, 0, 0), "radius 12 in writing");
-    check(is_reply(heronditch_write_board(kinds, 14, starts, 13, ends, 13, NULL, 0), 8, HERONDITCH_NEITHER, 0, 0), "a board has no limit");
-    check(is_reply(heronditch_merge(thirteen, wide, NULL, 0, NULL, 0), 11, HERONDITCH_PATTERN, 0, 0), "11 comes before 8 in merging");
-    check(is_counts(heronditch_place(thirteen, wide, NULL, 0, 0, NULL, 0, NULL, 0, NULL, 0, NULL, 0), 11, HERONDITCH_PATTERN, 0, 0, 0, 0),
+    check(refuses(heronditch_write(PATTERN, HERONDITCH_FIRST, kinds, 14, NULL, 0, starts, 13, ends, 13, NULL, 0), 11, PATTERN),
+          "11 comes before 8 in writing");
+    check(refuses(heronditch_write(PATTERN, HERONDITCH_FIRST, kinds, 13, NULL, 0, starts, 12, ends, 12, NULL, 0), 8, NEITHER),
+          "radius 12 in writing");
+    check(refuses(heronditch_write(BOARD, HERONDITCH_FIRST, kinds, 14, NULL, 0, starts, 13, ends, 13, NULL, 0), 8, NEITHER),
+          "a board has no limit");
+    check(refuses(heronditch_merge(thirteen, wide, HERONDITCH_FIRST, NULL, 0, NULL, 0), 11, PATTERN), "11 comes before 8 in merging");
+    check(counts_refuse(heronditch_place(thirteen, wide, NULL, 0, 0, NULL, 0, NULL, 0, NULL, 0, NULL, 0), 11, PATTERN),
           "11 comes before the board's 1");
-    check(is_counts(heronditch_place_within(thirteen, wide, thirteen, wide, 0, 2, nodes, 16, links, 16, table, 16, far, 16), 11, HERONDITCH_PATTERN, 0, 0, 0, 0),
+    check(counts_refuse(heronditch_place_within(thirteen, wide, thirteen, wide, 0, 2, nodes, 16, links, 16, table, 16, far, 16), 11, PATTERN),
           "11 whatever radius is given");
-    check(is_counts(heronditch_place_within(twelve, len, thirteen, wide, 0, 13, nodes, 16, links, 16, table, 16, far, 16), 0, HERONDITCH_NEITHER, 182, 26, 156, 12),
+    check(counts(heronditch_place_within(twelve, len, thirteen, wide, 0, 13, nodes, 16, links, 16, table, 16, far, 16), 182, 26, 156, 12),
           "a radius of 13 given");
     memset(room, 0xA5, sizeof room);
     check(is_piece(heronditch_report(thirteen, wide, NULL, 0, 0, 0, room, 20), 0, 1, 0, 19) && !memcmp(room, "refused 11 pattern\n", 19) && untouched(room, 19, sizeof room),
@@ -555,7 +627,7 @@ static uint8_t P3[] = {2, 0, 1, 0, 10, 0, 20, 0, 0, 0, 0, 0, 0, 0, 1, 0, 2, 0};
 static heronditch_counts bounded(uint8_t bound, const uint8_t *board, size_t board_len, uint32_t *table, size_t table_len)
 {
     P3[BOUND_AT] = bound;
-    return heronditch_match_31(P3, sizeof P3, board, board_len, table, table_len);
+    return heronditch_match(THIRD(P3), board, board_len, HERONDITCH_FIRST, table, table_len);
 }
 
 static void bounds(void)
@@ -566,34 +638,38 @@ static void bounds(void)
     static const uint8_t chain2[] = {3, 0, 2, 0, 10, 0, 99, 0, 20, 0, 0, 0, 7, 0, 0, 0, 0, 0, 1, 0, 1, 0, 2, 0};
     uint32_t table[4];
     memset(table, 0xA5, sizeof table);
-    check(is_counts(bounded(2, chain, sizeof chain, table, 2), 8, HERONDITCH_NEITHER, 0, 0, 0, 0) && untouched(table, 0, sizeof table), "match_31 with a short table");
-    check(is_counts(bounded(2, chain, sizeof chain, table, 3), 0, HERONDITCH_NEITHER, 2, 2, 0, 0), "a link through one part");
+    check(counts_refuse(bounded(2, chain, sizeof chain, table, 2), 8, NEITHER) && untouched(table, 0, sizeof table),
+          "match of editions 3 and 1 with a short table");
+    check(counts(bounded(2, chain, sizeof chain, table, 3), 2, 2, 0, 0), "a link through one part");
     check(table[0] == 1 && table[1] == 0 && table[2] == 2 && untouched(table, 12, sizeof table), "its table, and no entry past it");
-    check(is_counts(bounded(2, chain, sizeof chain, table, 4), 0, HERONDITCH_NEITHER, 2, 2, 0, 0) && untouched(table, 12, sizeof table), "one entry more");
-    check(is_counts(bounded(4, chain, sizeof chain, table, 3), 0, HERONDITCH_NEITHER, 2, 2, 0, 0), "bound 4");
-    check(is_counts(bounded(1, chain, sizeof chain, table, 3), 0, HERONDITCH_NEITHER, 2, 0, 2, 1) && !table[0] && !table[2], "bound 1: no path");
-    check(is_counts(bounded(4, back, sizeof back, table, 3), 0, HERONDITCH_NEITHER, 2, 0, 2, 1), "a path follows its links' directions");
+    check(counts(bounded(2, chain, sizeof chain, table, 4), 2, 2, 0, 0) && untouched(table, 12, sizeof table), "one entry more");
+    check(counts(bounded(4, chain, sizeof chain, table, 3), 2, 2, 0, 0), "bound 4");
+    check(counts(bounded(1, chain, sizeof chain, table, 3), 2, 0, 2, 1) && !table[0] && !table[2], "bound 1: no path");
+    check(counts(bounded(4, back, sizeof back, table, 3), 2, 0, 2, 1), "a path follows its links' directions");
     P3[BOUND_AT] = 2;
-    check(is_counts(heronditch_match_32(P3, sizeof P3, chain2, sizeof chain2, table, 3), 0, HERONDITCH_NEITHER, 2, 2, 0, 0) && table[0] == 1 && table[2] == 2,
+    check(counts(heronditch_match(THIRD(P3), SECOND(chain2), table, 3), 2, 2, 0, 0) && table[0] == 1 && table[2] == 2,
           "a link through a part of another package");
-    check(is_counts(heronditch_match_32(P3, sizeof P3, chain2, sizeof chain2, table, 2), 8, HERONDITCH_NEITHER, 0, 0, 0, 0), "match_32 with a short table");
-    check(is_counts(heronditch_match_32(P3, sizeof P3, chain, sizeof chain, table, 3), 3, HERONDITCH_BOARD, 0, 0, 0, 0), "match_32 on a first-edition board");
-    check(is_counts(heronditch_match_31(P3, sizeof P3, chain2, sizeof chain2, table, 3), 3, HERONDITCH_BOARD, 0, 0, 0, 0), "match_31 on a second-edition board");
-    check(is_counts(bounded(0, chain, sizeof chain, table, 3), 13, HERONDITCH_PATTERN, 0, 0, 0, 0), "bound 0");
-    check(is_counts(bounded(5, chain, sizeof chain, table, 3), 13, HERONDITCH_PATTERN, 0, 0, 0, 0), "bound 5");
-    check(is_counts(bounded(5, NULL, 0, NULL, 0), 13, HERONDITCH_PATTERN, 0, 0, 0, 0), "13 comes before the board's 1");
-    check(is_counts(bounded(2, NULL, 0, NULL, 0), 1, HERONDITCH_BOARD, 0, 0, 0, 0), "match_31 on nothing");
-    check(is_counts(heronditch_match_31(NULL, 0, NULL, 0, NULL, 0), 1, HERONDITCH_PATTERN, 0, 0, 0, 0), "match_31 of nothing");
-    check(is_counts(heronditch_match_32(NULL, 0, NULL, 0, NULL, 0), 1, HERONDITCH_PATTERN, 0, 0, 0, 0), "match_32 of nothing");
-    check(is_counts(heronditch_match_31(P3, BOUND_AT, chain, sizeof chain, table, 3), 3, HERONDITCH_PATTERN, 0, 0, 0, 0), "the second edition's length");
+    check(counts_refuse(heronditch_match(THIRD(P3), SECOND(chain2), table, 2), 8, NEITHER), "match of editions 3 and 2 with a short table");
+    check(counts_refuse(heronditch_match(THIRD(P3), SECOND(chain), table, 3), 3, BOARD),
+          "match of editions 3 and 2 on a first-edition board");
+    check(counts_refuse(heronditch_match(THIRD(P3), FIRST(chain2), table, 3), 3, BOARD),
+          "match of editions 3 and 1 on a second-edition board");
+    check(counts_refuse(bounded(0, chain, sizeof chain, table, 3), 13, PATTERN), "bound 0");
+    check(counts_refuse(bounded(5, chain, sizeof chain, table, 3), 13, PATTERN), "bound 5");
+    check(counts_refuse(bounded(5, NULL, 0, NULL, 0), 13, PATTERN), "13 comes before the board's 1");
+    check(counts_refuse(bounded(2, NULL, 0, NULL, 0), 1, BOARD), "match of editions 3 and 1 on nothing");
+    check(counts_refuse(heronditch_match(NOTHING(THIRD), NOTHING(FIRST), NULL, 0), 1, PATTERN), "match of editions 3 and 1 of nothing");
+    check(counts_refuse(heronditch_match(NOTHING(THIRD), NOTHING(SECOND), NULL, 0), 1, PATTERN), "match of editions 3 and 2 of nothing");
+    check(counts_refuse(heronditch_match(P3, BOUND_AT, HERONDITCH_THIRD, FIRST(chain), table, 3), 3, PATTERN),
+          "the second edition's length");
     static const uint8_t falling[] = {1, 0, 2, 0, 10, 0, 0, 0, 0, 0, 0, 0, 0, 0, 0, 0, 5, 0, 5, 0};
-    check(is_counts(heronditch_match_31(falling, sizeof falling, chain, sizeof chain, table, 3), 5, HERONDITCH_PATTERN, 0, 0, 0, 0), "5 comes before 13");
+    check(counts_refuse(heronditch_match(THIRD(falling), FIRST(chain), table, 3), 5, PATTERN), "5 comes before 13");
     static const uint8_t apart[] = {2, 0, 0, 0, 10, 0, 20, 0, 0, 0, 0, 0};
-    check(is_counts(heronditch_match_31(apart, sizeof apart, chain, sizeof chain, table, 3), 0, HERONDITCH_NEITHER, 2, 2, 0, 0), "no link, and so no bound: 6 is not given");
+    check(counts(heronditch_match(THIRD(apart), FIRST(chain), table, 3), 2, 2, 0, 0), "no link, and so no bound: 6 is not given");
     /* a part that has itself within two links, on a node that has itself by way of another */
     static const uint8_t itself[] = {1, 0, 1, 0, 10, 0, 0, 0, 0, 0, 0, 0, 2, 0};
     static const uint8_t ring[] = {2, 0, 2, 0, 10, 0, 99, 0, 0, 0, 1, 0, 1, 0, 0, 0};
-    check(is_counts(heronditch_match_31(itself, sizeof itself, ring, sizeof ring, table, 2), 0, HERONDITCH_NEITHER, 1, 1, 0, 0) && table[0] == 1,
+    check(counts(heronditch_match(THIRD(itself), FIRST(ring), table, 2), 1, 1, 0, 0) && table[0] == 1,
           "a path that ends where it began");
 }
 
@@ -603,34 +679,35 @@ static void sessions(void)
     static heronditch_session s, before;
     uint32_t table[8];
     memset(&s, 0xA5, sizeof s);
-    check(sizeof s == 37132, "the size of a session");
-    check(is_reply(heronditch_open(&s, NULL, 0, NULL, 0), 1, HERONDITCH_PATTERN, 0, 0) && untouched(&s, 0, sizeof s), "open of nothing");
-    check(is_reply(heronditch_open(&s, T, sizeof T, T, 17), 3, HERONDITCH_BOARD, 0, 0) && untouched(&s, 0, sizeof s), "open on a damaged board");
-    check(is_reply(heronditch_open(&s, T, sizeof T, B, sizeof B), 0, HERONDITCH_NEITHER, 0, 0), "open");
-    check(is_reply(heronditch_table(&s, table, 5), 8, HERONDITCH_NEITHER, 0, 0), "a session's table in 5 entries");
+    check(sizeof s == HERONDITCH_SESSION_BYTES, "the size of a session");
+    check(refuses(heronditch_open(&s, NOTHING(FIRST), NOTHING(FIRST)), 1, PATTERN) && untouched(&s, 0, sizeof s), "open of nothing");
+    check(refuses(heronditch_open(&s, FIRST(T), T, 17, HERONDITCH_FIRST), 3, BOARD) && untouched(&s, 0, sizeof s),
+          "open on a damaged board");
+    check(replies(heronditch_open(&s, FIRST(T), FIRST(B)), 0, 0), "open");
+    check(refuses(heronditch_table(&s, table, 5), 8, NEITHER), "a session's table in 5 entries");
     memset(table, 0xA5, sizeof table);
-    check(is_reply(heronditch_table(&s, table, 8), 0, HERONDITCH_NEITHER, 6, 0) && table[0] == 1 && table[1] == 2 && table[2] == 4 && !table[3] && !table[4] &&
+    check(replies(heronditch_table(&s, table, 8), 6, 0) && table[0] == 1 && table[1] == 2 && table[2] == 4 && !table[3] && !table[4] &&
               !table[5] && untouched(table, 24, 32),
           "the table of a fresh session");
     before = s;
-    check(is_reply(heronditch_cut(&s, 3), 14, HERONDITCH_NEITHER, 0, 0) && !memcmp(&s, &before, sizeof s), "a cut of the place M");
-    check(is_reply(heronditch_cut(&s, (size_t)-1), 14, HERONDITCH_NEITHER, 0, 0) && !memcmp(&s, &before, sizeof s), "a cut of the last place of all");
-    check(is_reply(heronditch_cut(&s, 2), 0, HERONDITCH_NEITHER, 0, 0), "a cut that strikes nothing");
+    check(refuses(heronditch_cut(&s, 3), 14, NEITHER) && !memcmp(&s, &before, sizeof s), "a cut of the place M");
+    check(refuses(heronditch_cut(&s, (size_t)-1), 14, NEITHER) && !memcmp(&s, &before, sizeof s), "a cut of the last place of all");
+    check(replies(heronditch_cut(&s, 2), 0, 0), "a cut that strikes nothing");
     check(heronditch_table(&s, table, 6).first == 6 && table[0] == 1 && table[1] == 2 && table[2] == 4, "the table after it");
     before = s;
-    check(is_reply(heronditch_cut(&s, 2), 14, HERONDITCH_NEITHER, 0, 0) && !memcmp(&s, &before, sizeof s), "the same cut again");
-    check(is_reply(heronditch_cut(&s, 0), 0, HERONDITCH_NEITHER, 0, 0), "a cut that strikes");
+    check(refuses(heronditch_cut(&s, 2), 14, NEITHER) && !memcmp(&s, &before, sizeof s), "the same cut again");
+    check(replies(heronditch_cut(&s, 0), 0, 0), "a cut that strikes");
     check(heronditch_table(&s, table, 6).first == 6 && !table[0] && !table[1] && !table[2], "all 0 after it");
-    check(is_reply(heronditch_open(&s, TWO_BITS, sizeof TWO_BITS, B, sizeof B), 0, HERONDITCH_NEITHER, 0, 0), "open with a pattern in two bits");
+    check(replies(heronditch_open(&s, FIRST(TWO_BITS), FIRST(B)), 0, 0), "open with a pattern in two bits");
     static const uint8_t none[] = {0, 0, 0, 0};
-    check(is_reply(heronditch_open(&s, T, sizeof T, none, 4), 0, HERONDITCH_NEITHER, 0, 0), "open on no node");
-    check(is_reply(heronditch_cut(&s, 0), 14, HERONDITCH_NEITHER, 0, 0) && is_reply(heronditch_table(&s, NULL, 0), 0, HERONDITCH_NEITHER, 0, 0), "a session on no node");
+    check(replies(heronditch_open(&s, FIRST(T), none, 4, HERONDITCH_FIRST), 0, 0), "open on no node");
+    check(refuses(heronditch_cut(&s, 0), 14, NEITHER) && replies(heronditch_table(&s, NULL, 0), 0, 0), "a session on no node");
     /* contents that no opening leaves: each call ends; valgrind sees what it reads and writes */
     uint32_t random = 1;
     for (int round = 0; round < 200; round++) {
         uint8_t *bytes = (uint8_t *)&s;
         if (round % 3 == 0)
-            heronditch_open(&s, T, sizeof T, B, sizeof B);
+            heronditch_open(&s, FIRST(T), FIRST(B));
         for (size_t i = 0; i < sizeof s; i++) {
             random = random * 1664525u + 1013904223u;
             if (round % 3 || random >> 24 == 0)
@@ -645,17 +722,107 @@ static void sessions(void)
     }
 }
 
+/* every number of a refusal has a sentence of its own, and all others share one; none ends with a full stop */
+static void messages(void)
+{
+    const char *other = heronditch_message(HERONDITCH_HAS_PLACE + 1);
+    check(heronditch_version() == HERONDITCH_VERSION, "the version of the library");
+    for (uint32_t number = 0; number <= HERONDITCH_HAS_PLACE; number++) {
+        const char *told = heronditch_message(number);
+        check(strlen(told) > 10 && told[strlen(told) - 1] != '.' && !strchr(told, '\n') && strcmp(told, other), "a sentence");
+        for (uint32_t less = 0; less < number; less++)
+            check(strcmp(told, heronditch_message(less)) != 0, "a sentence of its own");
+    }
+    check(strlen(other) > 10 && !strcmp(other, heronditch_message(UINT32_MAX)), "the sentence of a number that is never replied");
+}
+
+/* what a number counts as that is told for an edition, a role or a direction, of which so many have names */
+static uint32_t counted(uint32_t number, uint32_t names)
+{
+    return number < 1 ? 1 : number > names ? names : number;
+}
+
+/* numbers without a name: as an edition, a role and a direction */
+static void numbers(void)
+{
+    static const uint32_t tried[] = {0, 1, 2, 3, 4, UINT32_MAX};
+    static const uint16_t from[] = {0, 1}, ahead[] = {11}, behind[] = {22};
+    for (size_t i = 0; i < sizeof tried / sizeof *tried; i++) {
+        uint32_t number = tried[i], two = counted(number, 2), three = counted(number, 3);
+        uint16_t kinds[3], packages[3], starts[2], ends[2], to[1] = {0};
+        uint32_t table[3];
+        check(heronditch_radius(T, sizeof T, number).number == (two == 1 ? 0 : 3), "the edition of T");
+        check(heronditch_radius(T2, sizeof T2, number).number == (two == 2 ? 0 : 3), "the edition of T with packages");
+        check(heronditch_match(P3, sizeof P3, number, FIRST(T), table, 3).number == (three == 3 ? 0 : 3), "the third edition of a pattern");
+        check(heronditch_match(FIRST(T), T2, sizeof T2, number, table, 3).number == (two == 2 ? 0 : 3), "the edition of a board");
+        check(heronditch_match_one_way(P3, sizeof P3, number, FIRST(T), table, 3).number == 3, "no third edition one way");
+        check(heronditch_read(number, FIRST(TWO_BITS), kinds, 3, packages, 3, starts, 2, ends, 2).number == (two == 1 ? 6 : 0), "a role");
+        heronditch_reply r = heronditch_neighbours(number, from, 2, ahead, 1, from, 2, behind, 1, 0, to, 1);
+        check(replies(r, 1, 0) && to[0] == (two == 1 ? 11 : 22), "a direction");
+    }
+}
+
+/* places with packages: T with some on itself, on T without, and the other way round; and the first edition told twice */
+static void packed_places(void)
+{
+    uint8_t nodes[4], links[4];
+    uint32_t table[4];
+    uint16_t far[4];
+    memset(nodes, 0xA5, sizeof nodes);
+    check(counts(heronditch_place_editions(SECOND(T2), SECOND(T2), 0, nodes, 3, links, 2, table, 3, far, 3), 3, 3, 0, 0) &&
+              !memcmp(nodes, "\1\1\1\245", 4) && !memcmp(links, "\1\1", 2) && table[0] == 1 && table[1] == 2 && table[2] == 4 && far[2] == 2,
+          "T with packages has a place on itself");
+    check(is_counts(heronditch_place_editions(FIRST(T), SECOND(T2), 1, nodes, 3, links, 2, table, 3, far, 3), 9, NEITHER, 1, 0, 1, 1),
+          "T without packages has none on T with some");
+    check(is_counts(heronditch_place_editions(SECOND(T2), FIRST(T), 1, nodes, 3, links, 2, table, 3, far, 3), 9, NEITHER, 1, 0, 1, 1),
+          "nor the other way round");
+    check(is_counts(heronditch_place_within_editions(SECOND(T2), SECOND(T2), 0, 0, nodes, 3, links, 2, table, 3, far, 3), 9, NEITHER, 1, 0, 1, 1),
+          "T with packages within radius 0");
+    check(counts_refuse(heronditch_place_editions(SECOND(T2), SECOND(T2), 0, nodes, 3, links, 1, table, 3, far, 3), 8, NEITHER),
+          "a place with packages, one link byte less");
+    check(counts_refuse(heronditch_place_editions(NOTHING(SECOND), NOTHING(SECOND), 0, NULL, 0, NULL, 0, NULL, 0, NULL, 0), 1, PATTERN),
+          "a place with packages, of nothing");
+}
+
+/* the calls that are told editions beside those that are not: the first edition told twice */
+static void first_twice(void)
+{
+    for (size_t centre = 0; centre < 7; centre++) {
+        struct {
+            heronditch_counts counts;
+            uint32_t table[8];
+            uint16_t far[8];
+            uint8_t nodes[8], links[8];
+        } plain, told;
+        memset(&plain, 0xA5, sizeof plain);
+        memset(&told, 0xA5, sizeof told);
+        plain.counts = heronditch_place(T, sizeof T, B, sizeof B, centre, plain.nodes, 8, plain.links, 8, plain.table, 8, plain.far, 8);
+        told.counts = heronditch_place_editions(FIRST(T), FIRST(B), centre, told.nodes, 8, told.links, 8, told.table, 8, told.far, 8);
+        check(!memcmp(&plain, &told, sizeof plain), "a place, the first edition told twice");
+        plain.counts = heronditch_place_within(T, sizeof T, B, sizeof B, centre, 1, plain.nodes, 8, plain.links, 8, plain.table, 8, plain.far, 8);
+        told.counts = heronditch_place_within_editions(FIRST(T), FIRST(B), centre, 1, told.nodes, 8, told.links, 8, told.table, 8, told.far, 8);
+        check(!memcmp(&plain, &told, sizeof plain), "a place at a radius, the first edition told twice");
+    }
+}
+
 int main(void)
 {
+    messages();
+    numbers();
+    packed_places();
+    first_twice();
     sessions();
     no_arrays();
     one_way();
     lengths();
     barred();
     reports();
-    loads();
+    test_boards();
     widths();
-    second_edition();
+    second_alone();
+    packages_kept();
+    second_pairs();
+    conversions();
     bounds();
     comparisons();
     shelves();

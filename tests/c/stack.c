@@ -1,5 +1,5 @@
-/* How much stack the calls need: each runs on a stack of its own that was painted before, on the largest circuits. Prints the most bytes
- * that a call touched, and exits 1 where that is above what the header promises. */
+/* How much stack the calls need: each runs on a stack of its own that was painted before, on the largest circuits, in the first edition and in
+ * the second. Prints the most bytes that a call touched, and exits 1 where that is above what the header promises. */
 #include <pthread.h>
 #include <stdio.h>
 #include <stdlib.h>
@@ -9,41 +9,74 @@
 
 enum { STACK = 1 << 20 };
 
+/* the largest pattern, the largest board, and one of another kind; and the largest pattern with every bound 4 */
 static uint8_t pattern[HERONDITCH_PATTERN_BYTES], board[HERONDITCH_BOARD_BYTES], other[HERONDITCH_BOARD_BYTES];
-static uint16_t kinds[HERONDITCH_NODES], starts[HERONDITCH_BOARD_LINKS], ends[HERONDITCH_BOARD_LINKS];
+static uint8_t bounded[HERONDITCH_PATTERN_BYTES];
+static size_t pattern_len, board_len;
+static uint32_t edition;
+
+static uint16_t kinds[HERONDITCH_NODES], packages[HERONDITCH_NODES], starts[HERONDITCH_BOARD_LINKS], ends[HERONDITCH_BOARD_LINKS];
 static uint8_t bytes[HERONDITCH_BOARD_BYTES], links[HERONDITCH_BOARD_LINKS];
 static uint32_t table[HERONDITCH_NODES];
 static uint8_t text[2 * HERONDITCH_LINE_BYTES];
 
-/* a circuit of n nodes of one kind, the links the first m of 0-0, 0-1, .. */
-static size_t circuit(size_t n, size_t m, uint8_t *file)
+/* sixteen copies of the largest pattern, in the second edition: every comparison goes to the end of both files */
+enum { SHELVED = HERONDITCH_PATTERN_BYTES - 2 * HERONDITCH_PATTERN_LINKS };
+static uint8_t shelved[HERONDITCH_SHELF * SHELVED];
+static uint32_t lengths[HERONDITCH_SHELF];
+
+static uint8_t *put(size_t number, uint8_t *to)
 {
-    size_t k = 0;
-    uint16_t at[2] = {(uint16_t)n, (uint16_t)m};
-    for (size_t i = 0; i < 2; i++, k += 2)
-        file[k] = (uint8_t)(at[i] & 255), file[k + 1] = (uint8_t)(at[i] >> 8);
-    for (size_t i = 0; i < n; i++, k += 2)
-        file[k] = 7, file[k + 1] = 0;
-    for (size_t i = 0; i < m; i++, k += 2)
-        file[k] = (uint8_t)(i / n & 255), file[k + 1] = (uint8_t)(i / n >> 8);
-    for (size_t i = 0; i < m; i++, k += 2)
-        file[k] = (uint8_t)(i % n & 255), file[k + 1] = (uint8_t)(i % n >> 8);
-    return k;
+    to[0] = (uint8_t)(number & 255);
+    to[1] = (uint8_t)(number >> 8);
+    return to + 2;
 }
 
-#define PATTERN pattern, sizeof pattern
-#define BOARD board, sizeof board
+/* Makes a circuit of n nodes of one kind, the links the first m of 0-0, 0-1, .. in an edition; returns its length. */
+static size_t circuit(size_t n, size_t m, size_t kind, uint32_t in, uint8_t *file)
+{
+    uint8_t *at = put(m, put(n, file));
+    for (size_t i = 0; i < n; i++)
+        at = put(kind, at);
+    for (size_t i = 0; in != HERONDITCH_FIRST && i < n; i++)
+        at = put(0, at); /* packages */
+    for (size_t i = 0; i < m; i++)
+        at = put(i / n, at);
+    for (size_t i = 0; i < m; i++)
+        at = put(i % n, at);
+    for (size_t i = 0; in == HERONDITCH_THIRD && i < m; i++)
+        at = put(HERONDITCH_BOUND, at);
+    return (size_t)(at - file);
+}
+
+static void make_files(uint32_t in)
+{
+    edition = in;
+    pattern_len = circuit(HERONDITCH_PARTS, HERONDITCH_PATTERN_LINKS, 7, in, pattern);
+    board_len = circuit(HERONDITCH_NODES, HERONDITCH_BOARD_LINKS, 7, in, board);
+    circuit(HERONDITCH_NODES, HERONDITCH_BOARD_LINKS, 9, in, other);
+    circuit(HERONDITCH_PARTS, HERONDITCH_PATTERN_LINKS, 7, HERONDITCH_THIRD, bounded);
+    for (size_t i = 0; i < HERONDITCH_SHELF; i++)
+        lengths[i] = (uint32_t)circuit(HERONDITCH_PARTS, HERONDITCH_PATTERN_LINKS, 7, HERONDITCH_SECOND, shelved + i * SHELVED);
+}
+
+#define PATTERN pattern, pattern_len, edition
+#define BOARD board, board_len, edition
+#define PLAIN pattern, pattern_len, board, board_len
+#define NODE_TABLES bytes, HERONDITCH_NODES, links, HERONDITCH_BOARD_LINKS, table, HERONDITCH_NODES, kinds, HERONDITCH_NODES
 static uint32_t refused;
 
 static void *nothing(void *x) { return x; }
 static void *read_board(void *x)
 {
-    refused |= heronditch_read_board(BOARD, kinds, HERONDITCH_NODES, starts, HERONDITCH_BOARD_LINKS, ends, HERONDITCH_BOARD_LINKS).number;
+    refused |= heronditch_read(HERONDITCH_BOARD, BOARD, kinds, HERONDITCH_NODES, packages, HERONDITCH_NODES, starts,
+                               HERONDITCH_BOARD_LINKS, ends, HERONDITCH_BOARD_LINKS).number;
     return x;
 }
 static void *write_board(void *x)
 {
-    refused |= heronditch_write_board(kinds, HERONDITCH_NODES, starts, HERONDITCH_BOARD_LINKS, ends, HERONDITCH_BOARD_LINKS, bytes, sizeof bytes).number;
+    refused |= heronditch_write(HERONDITCH_BOARD, edition, kinds, HERONDITCH_NODES, packages, HERONDITCH_NODES, starts,
+                                HERONDITCH_BOARD_LINKS, ends, HERONDITCH_BOARD_LINKS, bytes, sizeof bytes).number;
     return x;
 }
 static void *radius(void *x)
@@ -61,17 +94,9 @@ static void *match(void *x)
     refused |= heronditch_match(PATTERN, BOARD, table, HERONDITCH_NODES).number;
     return x;
 }
-/* the largest pattern with every bound 4 */
-static uint8_t bounded[HERONDITCH_PATTERN_BYTES_3];
-static void bound(void)
-{
-    refused |= heronditch_convert_pattern_12(PATTERN, bounded, sizeof bounded).number;
-    for (size_t i = HERONDITCH_PATTERN_BYTES_2; i < sizeof bounded; i += 2)
-        bounded[i] = HERONDITCH_BOUND;
-}
 static void *match_bounded(void *x)
 {
-    refused |= heronditch_match_31(bounded, sizeof bounded, BOARD, table, HERONDITCH_NODES).number;
+    refused |= heronditch_match(bounded, sizeof bounded, HERONDITCH_THIRD, BOARD, table, HERONDITCH_NODES).number;
     return x;
 }
 static void *one_way(void *x)
@@ -79,9 +104,24 @@ static void *one_way(void *x)
     refused |= heronditch_match_one_way(PATTERN, BOARD, table, HERONDITCH_NODES).number;
     return x;
 }
+/* the calls that are not told editions, and beside them those that are */
 static void *place(void *x)
 {
-    refused |= heronditch_place(PATTERN, BOARD, 0, bytes, HERONDITCH_NODES, links, HERONDITCH_BOARD_LINKS, table, HERONDITCH_NODES, kinds, HERONDITCH_NODES).number;
+    refused |= (edition == HERONDITCH_FIRST ? heronditch_place(PLAIN, 0, NODE_TABLES) : heronditch_place_editions(PATTERN, BOARD, 0, NODE_TABLES)).number;
+    return x;
+}
+static void *within(void *x)
+{
+    refused |= (edition == HERONDITCH_FIRST ? heronditch_place_within(PLAIN, 0, 12, NODE_TABLES)
+                                            : heronditch_place_within_editions(PATTERN, BOARD, 0, 12, NODE_TABLES))
+                   .number;
+    return x;
+}
+static void *report(void *x)
+{
+    refused |= (edition == HERONDITCH_FIRST ? heronditch_report(PLAIN, 0, 0, text, sizeof text)
+                                            : heronditch_report_editions(PATTERN, BOARD, 0, 0, text, sizeof text))
+                   .number;
     return x;
 }
 static void *check(void *x)
@@ -95,7 +135,7 @@ static void *check(void *x)
 static void *bar(void *x)
 {
     /* the largest pattern's links and, on a board of another kind, no place */
-    refused |= heronditch_bar(PATTERN, other, sizeof other, 0, links, HERONDITCH_PATTERN_LINKS).number;
+    refused |= heronditch_bar(PATTERN, other, board_len, edition, 0, links, HERONDITCH_PATTERN_LINKS).number;
     return x;
 }
 /* opened by the first of these three, which go one after another */
@@ -117,40 +157,35 @@ static void *table_of(void *x)
 }
 static void *merge(void *x)
 {
-    refused |= heronditch_merge(PATTERN, links, HERONDITCH_PARTS, bytes, sizeof pattern).number;
+    refused |= heronditch_merge(PATTERN, links, HERONDITCH_PARTS, bytes, sizeof bytes).number;
     return x;
 }
-
-static void *load(void *x)
+static void *convert(void *x)
 {
-    refused |= heronditch_load(1, HERONDITCH_NODES, HERONDITCH_BOARD_LINKS, 65536, bytes, sizeof bytes).number;
+    refused |= heronditch_convert(HERONDITCH_BOARD, BOARD, HERONDITCH_SECOND, bytes, sizeof bytes).number;
     return x;
 }
-static void *report(void *x)
+static void *test_board(void *x)
 {
-    refused |= heronditch_report(PATTERN, BOARD, 0, 0, text, sizeof text).number;
+    refused |= heronditch_test_board(1, HERONDITCH_NODES, HERONDITCH_BOARD_LINKS, 65536, bytes, sizeof bytes).number;
     return x;
 }
-
-/* sixteen copies of the largest pattern, in the second edition: every comparison goes to the end of both files */
-static uint8_t shelved[HERONDITCH_SHELF * HERONDITCH_PATTERN_BYTES_2];
-static uint32_t lengths[HERONDITCH_SHELF];
-static void fill_shelf(void)
+static void *neighbours(void *x)
 {
-    for (size_t i = 0; i < HERONDITCH_SHELF; i++) {
-        lengths[i] = HERONDITCH_PATTERN_BYTES_2;
-        refused |= heronditch_convert_pattern_12(PATTERN, shelved + i * HERONDITCH_PATTERN_BYTES_2, HERONDITCH_PATTERN_BYTES_2).number;
-    }
+    static const uint16_t offsets[] = {0, HERONDITCH_NODES};
+    refused |= heronditch_neighbours(HERONDITCH_BACKWARD, offsets, 2, kinds, HERONDITCH_NODES, offsets, 2, starts, HERONDITCH_NODES, 0, ends,
+                                     HERONDITCH_NODES).number;
+    return x;
 }
 static void *compare(void *x)
 {
-    heronditch_comparison c = heronditch_compare_2(shelved, HERONDITCH_PATTERN_BYTES_2, shelved + HERONDITCH_PATTERN_BYTES_2, HERONDITCH_PATTERN_BYTES_2);
-    refused |= c.number || c.order != 2;
+    heronditch_comparison c = heronditch_compare(shelved, SHELVED, shelved + SHELVED, SHELVED);
+    refused |= c.number || c.order != HERONDITCH_EQUAL;
     return x;
 }
 static void *shelf(void *x)
 {
-    heronditch_reply r = heronditch_shelf_2(shelved, sizeof shelved, lengths, HERONDITCH_SHELF, bytes, HERONDITCH_SHELF);
+    heronditch_reply r = heronditch_shelf(shelved, sizeof shelved, lengths, HERONDITCH_SHELF, bytes, HERONDITCH_SHELF);
     refused |= r.number || r.first != HERONDITCH_SHELF;
     return x;
 }
@@ -177,20 +212,21 @@ int main(void)
     static const struct {
         const char *name;
         void *(*call)(void *);
-    } calls[] = {{"read", read_board}, {"write", write_board}, {"radius", radius}, {"ball", ball}, {"match", match}, {"match one way", one_way}, {"match with bounds", match_bounded}, {"place", place}, {"check", check}, {"bar", bar}, {"open", open_session}, {"cut", cut}, {"table", table_of}, {"merge", merge}, {"report", report}, {"load", load}, {"compare", compare}, {"shelf", shelf}};
-    size_t most = 0;
-    if (circuit(HERONDITCH_PARTS, HERONDITCH_PATTERN_LINKS, pattern) != sizeof pattern || circuit(HERONDITCH_NODES, HERONDITCH_BOARD_LINKS, board) != sizeof board)
-        return 2;
-    memcpy(other, board, sizeof board);
-    memset(other + 4, 9, 2 * HERONDITCH_NODES);
-    fill_shelf();
-    bound();
-    size_t idle = touched(nothing); /* what a thread needs by itself */
-    for (size_t i = 0; i < sizeof calls / sizeof *calls; i++) {
-        size_t used = touched(calls[i].call) - idle;
-        printf("stack of %s: %zu bytes\n", calls[i].name, used);
-        if (used > most)
-            most = used;
+    } calls[] = {
+        {"read", read_board}, {"write", write_board}, {"radius", radius}, {"ball", ball}, {"match", match},
+        {"match one way", one_way}, {"match with bounds", match_bounded}, {"place", place}, {"place within", within},
+        {"neighbours", neighbours}, {"check", check}, {"bar", bar}, {"open", open_session}, {"cut", cut},
+        {"table", table_of}, {"merge", merge}, {"convert", convert}, {"report", report}, {"test board", test_board},
+        {"compare", compare}, {"shelf", shelf}};
+    size_t most = 0, idle = touched(nothing); /* what a thread needs by itself */
+    for (uint32_t in = HERONDITCH_FIRST; in <= HERONDITCH_SECOND; in++) {
+        make_files(in);
+        for (size_t i = 0; i < sizeof calls / sizeof *calls; i++) {
+            size_t used = touched(calls[i].call) - idle;
+            printf("stack of %s, edition %u: %zu bytes\n", calls[i].name, (unsigned)in, used);
+            if (used > most)
+                most = used;
+        }
     }
     printf("stack: %zu of %d bytes promised\n", most, HERONDITCH_STACK);
     return refused != 0 || most > HERONDITCH_STACK;

@@ -21,6 +21,7 @@ ghost use mathlib.Core.Bool.{cond};
 ghost use mathlib.Core.Path.{_≡_};
 ghost use Rattle.file_format.specs.Circuit.{circuitOf};
 ghost use Rattle.file_format.specs.Layout.{inEdition};
+ghost use Rattle.file_format.specs.Reading.{verdictOf};
 ghost use Rattle.file_format.specs.Refusals.{accept, refuse, first};
 ghost use Rattle.table.specs.Prepared.{tables};
 ghost use Rattle.table.specs.Reply.{noCounts};
@@ -45,19 +46,33 @@ fn radius_for(reach: Reach, own: u16) -> u16
     }
 }
 
+// The counts of a call in which nothing is searched.
+fn no_counts() -> Counts
+    ensures { λ r. ⌜ r ≡ noCounts ⌝ }
+{
+    Counts {
+        started: 0,
+        kept: 0,
+        struck: 0,
+        rounds: 0,
+    }
+}
+
 // The answer that turns a call away before anything is searched.
 fn turned_away(x: Refusal) -> PlaceAnswer
     ensures { λ r. ⌜ r ≡ PlaceAnswer.Refused x noCounts ⌝ }
 {
-    PlaceAnswer::Refused(
-        x,
-        Counts {
-            started: 0,
-            kept: 0,
-            struck: 0,
-            rounds: 0,
-        },
-    )
+    PlaceAnswer::Refused(x, no_counts())
+}
+
+// The answer by the verdict on two files alone: nothing is searched, and nothing counted.
+fn answer_by(verdict: FileVerdict) -> PlaceAnswer
+    ensures { λ r. ⌜ placeReply r ≡ record { verdict = verdictOf verdict; counts = noCounts } ⌝ }
+{
+    match verdict {
+        FileVerdict::Accepted => PlaceAnswer::Placed(no_counts()),
+        FileVerdict::Refused(x) => turned_away(x),
+    }
 }
 
 // How many entries each of the four lent tables has.
@@ -147,8 +162,10 @@ fn find_on(
     )
 }
 
-// The call on two files.
-fn find(
+// The place around the centre, at the pattern's radius or at one given: the ball's four counts, with a byte per board node and one per board link, 1 in
+// the place and else 0, a set of parts per node, and each node's distance from the centre, 65,535 outside the ball, at the front of the four
+// tables; or the refusal, which leaves them as they were.
+pub fn place(
     reach: Reach,
     editions: Editions,
     pattern: &[u8],
@@ -182,76 +199,19 @@ fn find(
         &mut stretches,
     );
     let verdict = read.verdict;
-    let FileVerdict::Refused(x) = verdict else {
-        let radius = radius_for(reach, read.radius);
-        let parts = read.parts;
-        let n = read.nodes;
-        return find_on(
-            &pk[..parts],
-            &nk[..n],
-            &masks,
-            &offsets,
-            &stretches,
-            Asked { centre, radius },
-            nodes,
-            links,
-            table,
-            distances,
-        );
+    let FileVerdict::Accepted = verdict else {
+        return answer_by(verdict);
     };
-    turned_away(x)
-}
-
-// The place around the centre at the pattern's radius: the ball's four counts, with a byte per board node and one per board link, 1 in the
-// place and else 0, a set of parts per node, and each node's distance from the centre, 65,535 outside the ball, at the front of the four
-// tables; or the refusal, which leaves them as they were.
-pub fn place(
-    editions: Editions,
-    pattern: &[u8],
-    board: &[u8],
-    centre: usize,
-    nodes: &mut [u8],
-    links: &mut [u8],
-    table: &mut [u32],
-    distances: &mut [u16],
-) -> PlaceAnswer
-    ensures { λ a. ⌜ record { reply = placeReply a; nodes = now (nodes .exit); links = now (links .exit); table = now (table .exit); distances = now (distances .exit) }
-        ≡ placeAt (inEdition (editions .pattern) (now (pattern .entry))) (inEdition (editions .board) (now (board .entry))) centre (radiusOf (circuitOf (inEdition (editions .pattern) (now (pattern .entry))))) (now (nodes .entry)) (now (links .entry)) (now (table .entry)) (now (distances .entry)) ⌝ }
-{
-    find(
-        Reach::Own,
-        editions,
-        pattern,
-        board,
-        centre,
-        nodes,
-        links,
-        table,
-        distances,
-    )
-}
-
-// The same at a radius given.
-pub fn place_within(
-    editions: Editions,
-    pattern: &[u8],
-    board: &[u8],
-    centre: usize,
-    radius: u16,
-    nodes: &mut [u8],
-    links: &mut [u8],
-    table: &mut [u32],
-    distances: &mut [u16],
-) -> PlaceAnswer
-    ensures { λ a. ⌜ record { reply = placeReply a; nodes = now (nodes .exit); links = now (links .exit); table = now (table .exit); distances = now (distances .exit) }
-        ≡ placeAt (inEdition (editions .pattern) (now (pattern .entry))) (inEdition (editions .board) (now (board .entry))) centre radius (now (nodes .entry)) (now (links .entry)) (now (table .entry)) (now (distances .entry)) ⌝ }
-{
-    find(
-        Reach::Given(radius),
-        editions,
-        pattern,
-        board,
-        centre,
+    let radius = radius_for(reach, read.radius);
+    let parts = read.parts;
+    let n = read.nodes;
+    find_on(
+        &pk[..parts],
+        &nk[..n],
+        &masks,
+        &offsets,
+        &stretches,
+        Asked { centre, radius },
         nodes,
         links,
         table,

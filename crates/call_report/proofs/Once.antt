@@ -12,7 +12,7 @@ use Rattle.base_lists.proofs.Below.{leastBelow-all}
 use Rattle.graph.specs.Circuit.{Circuit}
 use Rattle.file_format.specs.declared.Role.the-variants.{Board}
 use Rattle.file_format.specs.Circuit.{circuitOf, Bounded}
-use Rattle.file_format.specs.Layout.{firstEdition}
+use Rattle.file_format.specs.Layout.{CircuitFile}
 use Rattle.file_format.specs.Refusals.{Verdict, accept, refuse}
 use Rattle.report.specs.Lines.{longestLine}
 use Rattle.report.specs.Report.{centreLine, reportOf}
@@ -59,12 +59,12 @@ module _ (pattern board : Circuit) (b : Bounded Board board) (room : ℕ) (enoug
       closed-next n room (centresPiece pattern board 0 0 room) (zero-add (linesTaken pattern board 0 room) ∙ taken)
       (rw taken (omega (arith, lines-short n (le-refl n), b .nodes)))
 
-module _ (pattern board out : List ℕ) (enough : 513 * longestLine ≤ length out) where
+module _ (pattern board : CircuitFile) (out : List ℕ) (enough : 513 * longestLine ≤ length out) where
   abbrev parts : Circuit
-  parts = circuitOf (firstEdition pattern)
+  parts = circuitOf pattern
 
   abbrev nodes : Circuit
-  nodes = circuitOf (firstEdition board)
+  nodes = circuitOf board
 
   room : longestLine ≤ length out
   room = omega (arith, enough)

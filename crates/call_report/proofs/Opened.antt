@@ -10,7 +10,7 @@ use Rattle.file_format.specs.declared.FileVerdict.the-variants as told
 use Rattle.file_format.specs.declared.Refusal.{Refusal}
 use Rattle.file_format.specs.declared.Role.the-variants.{Pattern}
 use Rattle.file_format.specs.Circuit.{circuitOf}
-use Rattle.file_format.specs.Layout.{firstEdition, labelsOf}
+use Rattle.file_format.specs.Layout.{CircuitFile, labelsOf}
 use Rattle.file_format.specs.Reading as Reading
 use Rattle.file_format.specs.Refusals.{accept, refuse}
 use Rattle.file_format.proofs.Refusals.{accept-not-refuse}
@@ -30,13 +30,13 @@ use Rattle.call_report.specs.Opened.{Lines, OpenedBoth, Opened}
 
 -- ---- two files that were read and prepared
 
-module _ {pattern board : List ℕ} {read : Pair} {partKinds nodeKinds : List ℕ} {t : Tables} (b : BothPrepared Pattern bothWays (firstEdition pattern) (firstEdition board) read partKinds nodeKinds t) where
+module _ {pattern board : CircuitFile} {read : Pair} {partKinds nodeKinds : List ℕ} {t : Tables} (b : BothPrepared Pattern bothWays pattern board read partKinds nodeKinds t) where
   -- what matching starts from
   pub opened-links : SomeLinks (take (read .parts) partKinds) (take (read .nodes) nodeKinds) t
   opened-links = record { ways = bothWays; partStarts = _; partEnds = _; nodeStarts = _; nodeEnds = _; prepared = ready-prepared b }
 
   -- the board's N
-  pub opened-count : read .nodes ≡ length (labelsOf (firstEdition board))
+  pub opened-count : read .nodes ≡ length (labelsOf board)
   opened-count = sym (length-take-le _ _ (b .nodes .room)) ∙ ap length (b .nodes .content)
 
   pub opened-few : read .nodes ≤ 512
@@ -44,7 +44,7 @@ module _ {pattern board : List ℕ} {read : Pair} {partKinds nodeKinds : List �
 
   -- lines can be put from the whole board's table
   pub opened-source : {whole : List ℕ} {counts : Counts} → EveryMatched (take (read .parts) partKinds) (take (read .nodes) nodeKinds) t whole counts
-      → Source (circuitOf (firstEdition pattern)) (circuitOf (firstEdition board)) t whole (read .radius)
+      → Source (circuitOf pattern) (circuitOf board) t whole (read .radius)
   unfolding radiusOf
   opened-source every =
       record {
@@ -59,8 +59,8 @@ module _ {pattern board : List ℕ} {read : Pair} {partKinds nodeKinds : List �
   module _ (from : ℕ) (whole labels sizes : List ℕ) where
     both-opened : (length whole ≡ 512) × (length labels ≡ 512) × (length sizes ≡ 512)
         → (from ≤ read .nodes
-        → Lines (circuitOf (firstEdition pattern)) (circuitOf (firstEdition board)) (read .radius) t (take (read .nodes) whole) (take (read .nodes) labels) (take (read .nodes) sizes))
-        → OpenedBoth from (circuitOf (firstEdition pattern)) (circuitOf (firstEdition board)) read t whole labels sizes
+        → Lines (circuitOf pattern) (circuitOf board) (read .radius) t (take (read .nodes) whole) (take (read .nodes) labels) (take (read .nodes) sizes))
+        → OpenedBoth from (circuitOf pattern) (circuitOf board) read t whole labels sizes
     both-opened long lines =
         record {
           drawn = b .drawn;
@@ -69,7 +69,7 @@ module _ {pattern board : List ℕ} {read : Pair} {partKinds nodeKinds : List �
           lines = lines;
         }
 
-module _ {pattern board : List ℕ} {read : Pair} {partKinds nodeKinds : List ℕ} {t : Tables} (p : PairPrepared Pattern bothWays (firstEdition pattern) (firstEdition board) read partKinds nodeKinds t) (from : ℕ) where
+module _ {pattern board : CircuitFile} {read : Pair} {partKinds nodeKinds : List ℕ} {t : Tables} (p : PairPrepared Pattern bothWays pattern board read partKinds nodeKinds t) (from : ℕ) where
   -- a file is refused,
   pub opened-refused : {whole labels sizes : List ℕ} {x : Refusal} → read .verdict ≡ told.Refused x → Opened from pattern board read t whole labels sizes
   opened-refused e = record { verdict = p .verdict; both = λ a. absurd (accept-not-refuse (sym a ∙ turned-pair p e)) }
@@ -103,7 +103,7 @@ module _ {pattern board : List ℕ} {read : Pair} {partKinds nodeKinds : List �
 -- ---- what a piece knows
 
 -- files that were opened from a centre on are opened from a later one on
-pub opened-later : {from later : ℕ} {pattern board : List ℕ} {read : Pair} {t : Tables} {whole labels sizes : List ℕ} → from ≤ later
+pub opened-later : {from later : ℕ} {pattern board : CircuitFile} {read : Pair} {t : Tables} {whole labels sizes : List ℕ} → from ≤ later
     → Opened from pattern board read t whole labels sizes → Opened later pattern board read t whole labels sizes
 opened-later h o =
     record {
@@ -111,7 +111,7 @@ opened-later h o =
       both = λ a. let b = o .both a in record { drawn = b .drawn; nodes = b .nodes; room = b .room; lines = λ l. b .lines (le-trans h l) };
     }
 
-module _ {from : ℕ} {pattern board : List ℕ} {read : Pair} {t : Tables} {whole labels sizes : List ℕ} (o : Opened from pattern board read t whole labels sizes) where
+module _ {from : ℕ} {pattern board : CircuitFile} {read : Pair} {t : Tables} {whole labels sizes : List ℕ} (o : Opened from pattern board read t whole labels sizes) where
   pub opened-turned : {x : Refusal} → read .verdict ≡ told.Refused x → verdictOf pattern board ≡ refuse x
   unfolding Reading.verdictOf
   opened-turned e = sym (o .verdict) ∙ ap Reading.verdictOf e
@@ -120,5 +120,5 @@ module _ {from : ℕ} {pattern board : List ℕ} {read : Pair} {t : Tables} {who
   unfolding Reading.verdictOf
   opened-accepted e = sym (o .verdict) ∙ ap Reading.verdictOf e
 
-  pub opened-both : read .verdict ≡ told.Accepted → OpenedBoth from (circuitOf (firstEdition pattern)) (circuitOf (firstEdition board)) read t whole labels sizes
+  pub opened-both : read .verdict ≡ told.Accepted → OpenedBoth from (circuitOf pattern) (circuitOf board) read t whole labels sizes
   opened-both e = o .both (opened-accepted e)

@@ -9,7 +9,7 @@ use Rattle.base_text.proofs.Text.{put-whole}
 use Rattle.file_format.specs.declared.File.the-variants.{Neither}
 use Rattle.file_format.specs.declared.Refusal.{Refusal}
 use Rattle.file_format.specs.Circuit.{circuitOf}
-use Rattle.file_format.specs.Layout.{firstEdition}
+use Rattle.file_format.specs.Layout.{CircuitFile}
 use Rattle.file_format.specs.Reading.{filled}
 use Rattle.file_format.specs.Refusals.{accept, refuse, first, shortTable}
 use Rattle.file_format.specs.Reply.{reply}
@@ -36,14 +36,14 @@ module _ (need : ℕ) (p : Piece) (out : List ℕ) where
 
 -- ---- two files
 
-module _ (pattern board : List ℕ) (from found : ℕ) (out : List ℕ) where
+module _ (pattern board : CircuitFile) (from found : ℕ) (out : List ℕ) where
   pub reporting-refused : {x : Refusal} → verdictOf pattern board ≡ refuse x
       → outcomeFor longestRefusal (refusalPiece x from found) out ≡ reporting pattern board from found out
   unfolding reporting needFor pieceOf pieceFor
   reporting-refused e = rw e
 
   pub reporting-lines : verdictOf pattern board ≡ accept
-      → outcomeFor longestLine (linesPiece (circuitOf (firstEdition pattern)) (circuitOf (firstEdition board)) from found (length out)) out
+      → outcomeFor longestLine (linesPiece (circuitOf pattern) (circuitOf board) from found (length out)) out
       ≡ reporting pattern board from found out
   unfolding reporting needFor pieceOf pieceFor
   reporting-lines e = rw e

@@ -14,7 +14,7 @@ use Rattle.file_format.specs.declared.File.the-variants.{Neither}
 use Rattle.file_format.specs.declared.Refusal.{Refusal}
 use Rattle.file_format.specs.declared.Role.the-variants.{Pattern, Board}
 use Rattle.file_format.specs.Circuit.{circuitOf, Bounded}
-use Rattle.file_format.specs.Layout.{firstEdition}
+use Rattle.file_format.specs.Layout.{CircuitFile}
 use Rattle.file_format.specs.Reading.{filled}
 use Rattle.file_format.specs.Refusals.{Verdict, accept, refuse, first, fileConditions, shortTable}
 use Rattle.file_format.specs.Reply.{Reply, reply}
@@ -62,7 +62,7 @@ eight = record { number = 8; file = Neither }
 
 -- ---- a call
 
-module _ (pattern board : List ℕ) (from found : ℕ) (out : List ℕ) where
+module _ (pattern board : CircuitFile) (from found : ℕ) (out : List ℕ) where
   -- what the call comes to, and the piece that it puts
   abbrev result : ReportOutcome
   result = reporting pattern board from found out
@@ -114,13 +114,13 @@ module _ (pattern board : List ℕ) (from found : ℕ) (out : List ℕ) where
     -- Nothing is put exactly when the report is at its end.
     pub none-iff : (sizeOf result ≡ 0) ↔ (itemsOf pattern board ≤ from)
     unfolding pieceOf
-    none-iff = rw size-is (piece-none (circuitOf (firstEdition pattern)) (circuitOf (firstEdition board)) from found (length out) room (verdictOf pattern board))
+    none-iff = rw size-is (piece-none (circuitOf pattern) (circuitOf board) from found (length out) room (verdictOf pattern board))
 
     -- From an item on, told how many centres before it have a place, the call puts the items up to the one where it says to go on, and
     -- says how many centres before that one have a place.
-    follows : from ≤ itemsOf pattern board → found ≡ placesOf pattern board from → Follows (verdictOf pattern board) (circuitOf (firstEdition pattern)) (circuitOf (firstEdition board)) from piece
+    follows : from ≤ itemsOf pattern board → found ≡ placesOf pattern board from → Follows (verdictOf pattern board) (circuitOf pattern) (circuitOf board) from piece
     unfolding pieceOf
-    follows h e = piece-follows (circuitOf (firstEdition pattern)) (circuitOf (firstEdition board)) from found (length out) room (verdictOf pattern board) h e
+    follows h e = piece-follows (circuitOf pattern) (circuitOf board) from found (length out) room (verdictOf pattern board) h e
 
     pub call-follows :
         from ≤ itemsOf pattern board → found ≡ placesOf pattern board from →
@@ -134,13 +134,13 @@ module _ (pattern board : List ℕ) (from found : ℕ) (out : List ℕ) where
 -- ---- calls one after another
 
 -- what two files' circuits have at most
-module _ (pattern board : List ℕ) where
+module _ (pattern board : CircuitFile) where
   -- the board of two accepted files
-  pub board-bounded : verdictOf pattern board ≡ accept → Bounded Board (circuitOf (firstEdition board))
+  pub board-bounded : verdictOf pattern board ≡ accept → Bounded Board (circuitOf board)
   unfolding pairConditions
-  board-bounded e = accepted-bounded (accepted Board (firstEdition board) (first-parts (fileConditions Pattern (firstEdition pattern)) (fileConditions Board (firstEdition board)) e .1))
+  board-bounded e = accepted-bounded (accepted Board board (first-parts (fileConditions Pattern pattern) (fileConditions Board board) e .1))
 
-  few : verdictOf pattern board ≡ accept → length (circuitOf (firstEdition board) .kinds) ≤ 512
+  few : verdictOf pattern board ≡ accept → length (circuitOf board .kinds) ≤ 512
   few e = board-bounded e .nodes
 
   -- There are at most 513 items: so many calls are enough.
@@ -148,7 +148,7 @@ module _ (pattern board : List ℕ) where
   unfolding itemsFor
   items-few = go (verdictOf pattern board) refl
     where
-      go : (v : Verdict) → verdictOf pattern board ≡ v → itemsFor v (circuitOf (firstEdition board)) ≤ 513
+      go : (v : Verdict) → verdictOf pattern board ≡ v → itemsFor v (circuitOf board) ≤ 513
       go accept e = omega (arith, few e)
       go (refuse x) e = omega arith
 
@@ -157,17 +157,17 @@ module _ (pattern board : List ℕ) where
   unfolding placesFor
   places-few k = go (verdictOf pattern board) refl
     where
-      go : (v : Verdict) → verdictOf pattern board ≡ v → placesFor v (circuitOf (firstEdition pattern)) (circuitOf (firstEdition board)) k ≤ 512
-      go accept e = le-trans (places-small accept (circuitOf (firstEdition pattern)) (circuitOf (firstEdition board)) k) (few e)
+      go : (v : Verdict) → verdictOf pattern board ≡ v → placesFor v (circuitOf pattern) (circuitOf board) k ≤ 512
+      go accept e = le-trans (places-small accept (circuitOf pattern) (circuitOf board) k) (few e)
       go (refuse x) e = zero-le
 
 -- all the items are the report
-pub items-whole : (pattern board : List ℕ) (k : ℕ) → k ≤ itemsOf pattern board → itemsOf pattern board ≤ k → prefixOf pattern board k ≡ reportOf pattern board
+pub items-whole : (pattern board : CircuitFile) (k : ℕ) → k ≤ itemsOf pattern board → itemsOf pattern board ≤ k → prefixOf pattern board k ≡ reportOf pattern board
 unfolding reportOf pairConditions
 items-whole pattern board k h l =
-    ap (prefixOf pattern board) (le-antisymm h l) ∙ prefix-all (verdictOf pattern board) (circuitOf (firstEdition pattern)) (circuitOf (firstEdition board))
+    ap (prefixOf pattern board) (le-antisymm h l) ∙ prefix-all (verdictOf pattern board) (circuitOf pattern) (circuitOf board)
 
-module _ (pattern board : List ℕ) (buffers : ℕ → List ℕ) (rooms : (k : ℕ) → longestLine ≤ length (buffers k)) where
+module _ (pattern board : CircuitFile) (buffers : ℕ → List ℕ) (rooms : (k : ℕ) → longestLine ≤ length (buffers k)) where
   -- where k calls have come to
   abbrev stage : ℕ → Stage
   stage = called pattern board buffers
@@ -182,8 +182,8 @@ module _ (pattern board : List ℕ) (buffers : ℕ → List ℕ) (rooms : (k : �
   unfolding called
   reached zero =
       record {
-        text = sym (prefix-start (verdictOf pattern board) (circuitOf (firstEdition pattern)) (circuitOf (firstEdition board)));
-        found = sym (places-start (verdictOf pattern board) (circuitOf (firstEdition pattern)) (circuitOf (firstEdition board)));
+        text = sym (prefix-start (verdictOf pattern board) (circuitOf pattern) (circuitOf board));
+        found = sym (places-start (verdictOf pattern board) (circuitOf pattern) (circuitOf board));
         within = zero-le;
         far = λ l. zero-le;
       }
@@ -216,7 +216,7 @@ module _ (pattern board : List ℕ) (buffers : ℕ → List ℕ) (rooms : (k : �
 -- ---- what a caller knows of an answer, and passes on
 
 module _
-    (pattern board : List ℕ) (from found : ℕ) (out : List ℕ) {after : List ℕ} (part : Part)
+    (pattern board : CircuitFile) (from found : ℕ) (out : List ℕ) {after : List ℕ} (part : Part)
     (room : longestLine ≤ length out)
     (e : _≡_ {A = ReportOutcome} (record { reply = reportReply (answer.Put part); out = after }) (reporting pattern board from found out))
   where

@@ -8,9 +8,11 @@ use lib.Dec.{eqb}
 use lib.ListN.{length}
 use Rattle.graph.specs.Circuit.{Circuit}
 use Rattle.file_format.specs.declared.Role.the-variants.{Pattern}
+use Rattle.file_format.specs.declared.FileVerdict.{FileVerdict}
+use Rattle.file_format.specs.declared.FileVerdict.the-variants as told
 use Rattle.file_format.specs.declared.Refusal.{Refusal}
 use Rattle.file_format.specs.Circuit.{circuitOf}
-use Rattle.file_format.specs.Layout.{firstEdition}
+use Rattle.file_format.specs.Layout.{CircuitFile}
 use Rattle.file_format.specs.Reading.{filled}
 use Rattle.file_format.specs.Refusals.{Verdict, accept, refuse, first, shortTable}
 use Rattle.file_format.specs.Reply.{Reply, reply}
@@ -27,16 +29,16 @@ refusalPiece x from found =
     cond (eqb from 0) (record { text = refusalLine x; next = 1; found = found }) (record { text = []; next = from; found = found })
 
 -- whether a file is refused; "the pattern's 1 to 6 before the board's"
-abbrev pub verdictOf : List ℕ → List ℕ → Verdict
-verdictOf pattern board = first (pairConditions Pattern (firstEdition pattern) (firstEdition board))
+abbrev pub verdictOf : CircuitFile → CircuitFile → Verdict
+verdictOf pattern board = first (pairConditions Pattern pattern board)
 
 -- the piece of two files, by that
 unfoldable pub pieceFor : Verdict → Circuit → Circuit → ℕ → ℕ → ℕ → Piece
 pieceFor accept pattern board from found room = linesPiece pattern board from found room
 pieceFor (refuse x) pattern board from found room = refusalPiece x from found
 
-unfoldable pub pieceOf : List ℕ → List ℕ → ℕ → ℕ → ℕ → Piece
-pieceOf pattern board from found room = pieceFor (verdictOf pattern board) (circuitOf (firstEdition pattern)) (circuitOf (firstEdition board)) from found room
+unfoldable pub pieceOf : CircuitFile → CircuitFile → ℕ → ℕ → ℕ → Piece
+pieceOf pattern board from found room = pieceFor (verdictOf pattern board) (circuitOf pattern) (circuitOf board) from found room
 
 -- ---- the call
 
@@ -61,8 +63,13 @@ outcomeFor need p out =
     let verdict = first (shortTable need (length out) ∷ []) in
     record { reply = reply verdict (p .next ∷ p .found ∷ length (p .text) ∷ []); out = filled verdict (p .text) out }
 
+-- what a verdict on the files comes to by itself: the line of a refused file, and of accepted ones nothing
+unfoldable pub outcomeBy : FileVerdict → ℕ → ℕ → List ℕ → ReportOutcome
+outcomeBy told.Accepted from found out = record { reply = record { verdict = accept; values = from ∷ found ∷ 0 ∷ [] }; out = out }
+outcomeBy (told.Refused x) from found out = outcomeFor longestRefusal (refusalPiece x from found) out
+
 -- "Rising numbers are the order": the files' conditions come before 8 here too, and what a refused file comes to is text. 8 is the only refusal. For the
 -- lines the room needed is a bound, as merging needs the first pattern's file length: 8 is then known without matching, and what does for
 -- one piece does for every later one, so that no report is refused half-way. Bytes after the piece keep their content.
-unfoldable pub reporting : List ℕ → List ℕ → ℕ → ℕ → List ℕ → ReportOutcome
+unfoldable pub reporting : CircuitFile → CircuitFile → ℕ → ℕ → List ℕ → ReportOutcome
 reporting pattern board from found out = outcomeFor (needFor (verdictOf pattern board)) (pieceOf pattern board from found (length out)) out

@@ -5,7 +5,7 @@ use Prim.Native.Nat.{ℕ, _≤_}
 use lib.ListN.{length, take}
 use Rattle.graph.specs.Circuit.{Circuit}
 use Rattle.file_format.specs.Circuit.{circuitOf, Drawn}
-use Rattle.file_format.specs.Layout.{firstEdition}
+use Rattle.file_format.specs.Layout.{CircuitFile}
 use Rattle.file_format.specs.Reading as Reading
 use Rattle.file_format.specs.Refusals.{accept}
 use Rattle.file_pair.specs.declared.Pair.{Pair}
@@ -28,17 +28,17 @@ pub record OpenedBoth (from : ℕ) (pattern board : Circuit) (read : Pair) (t : 
   pub lines : from ≤ read .nodes → Lines pattern board (read .radius) t (take (read .nodes) whole) (take (read .nodes) labels) (take (read .nodes) sizes)
 
 -- two files were opened for the pieces from a centre on
-pub record Opened (from : ℕ) (pattern board : List ℕ) (read : Pair) (t : Tables) (whole labels sizes : List ℕ) : Type 0 where
+pub record Opened (from : ℕ) (pattern board : CircuitFile) (read : Pair) (t : Tables) (whole labels sizes : List ℕ) : Type 0 where
   pub verdict : Reading.verdictOf (read .verdict) ≡ verdictOf pattern board
-  pub both : verdictOf pattern board ≡ accept → OpenedBoth from (circuitOf (firstEdition pattern)) (circuitOf (firstEdition board)) read t whole labels sizes
+  pub both : verdictOf pattern board ≡ accept → OpenedBoth from (circuitOf pattern) (circuitOf board) read t whole labels sizes
 
 -- this of some two files
 pub record SomeOpened (from : ℕ) (read : Pair) (t : Tables) (whole labels sizes : List ℕ) : Type 0 where
-  pub pattern : List ℕ
-  pub board : List ℕ
+  pub pattern : CircuitFile
+  pub board : CircuitFile
   pub opened : Opened from pattern board read t whole labels sizes
 
 -- the call's outcome, of every two files that were opened so
 abbrev pub EveryReported : ℕ → ℕ → Pair → Tables → List ℕ → List ℕ → List ℕ → List ℕ → ReportOutcome → Type 0
 EveryReported from found read t whole labels sizes out o =
-    (pattern board : List ℕ) → Opened from pattern board read t whole labels sizes → o ≡ reporting pattern board from found out
+    (pattern board : CircuitFile) → Opened from pattern board read t whole labels sizes → o ≡ reporting pattern board from found out

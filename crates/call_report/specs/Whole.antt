@@ -9,7 +9,7 @@ use lib.ListN.{length, getD, take}
 use Rattle.base_lists.specs.Below.{countBelow, concatBelow}
 use Rattle.graph.specs.Circuit.{Circuit}
 use Rattle.file_format.specs.Circuit.{circuitOf}
-use Rattle.file_format.specs.Layout.{firstEdition}
+use Rattle.file_format.specs.Layout.{CircuitFile}
 use Rattle.file_format.specs.Refusals.{Verdict, accept, refuse}
 use Rattle.report.specs.Report.{hasPlace, centreLine, refusalLine, linesOf}
 use Rattle.call_report.specs.Call.{verdictOf, ReportOutcome, reporting}
@@ -33,14 +33,14 @@ placesFor accept pattern board k = let n = length (board .kinds) in countBelow (
 placesFor (refuse x) pattern board k = 0
 
 -- the same of two files
-abbrev pub itemsOf : List ℕ → List ℕ → ℕ
-itemsOf pattern board = itemsFor (verdictOf pattern board) (circuitOf (firstEdition board))
+abbrev pub itemsOf : CircuitFile → CircuitFile → ℕ
+itemsOf pattern board = itemsFor (verdictOf pattern board) (circuitOf board)
 
-abbrev pub prefixOf : List ℕ → List ℕ → ℕ → List ℕ
-prefixOf pattern board = prefixFor (verdictOf pattern board) (circuitOf (firstEdition pattern)) (circuitOf (firstEdition board))
+abbrev pub prefixOf : CircuitFile → CircuitFile → ℕ → List ℕ
+prefixOf pattern board = prefixFor (verdictOf pattern board) (circuitOf pattern) (circuitOf board)
 
-abbrev pub placesOf : List ℕ → List ℕ → ℕ → ℕ
-placesOf pattern board = placesFor (verdictOf pattern board) (circuitOf (firstEdition pattern)) (circuitOf (firstEdition board))
+abbrev pub placesOf : CircuitFile → CircuitFile → ℕ → ℕ
+placesOf pattern board = placesFor (verdictOf pattern board) (circuitOf pattern) (circuitOf board)
 
 -- a piece puts the items from one on up to the one where it says to go on
 pub record Follows (v : Verdict) (pattern board : Circuit) (from : ℕ) (p : Piece) : Type 0 where
@@ -72,7 +72,7 @@ pub record Stage : Type 0 where
   pub text : List ℕ
 
 -- k calls, each with a buffer of its own: the first from 0 with 0 found, each further one from where the one before it said
-unfoldable pub called : List ℕ → List ℕ → (ℕ → List ℕ) → ℕ → Stage
+unfoldable pub called : CircuitFile → CircuitFile → (ℕ → List ℕ) → ℕ → Stage
 called pattern board buffers zero = record { next = 0; found = 0; text = [] }
 called pattern board buffers (suc k) =
     let s = called pattern board buffers k in

@@ -2,7 +2,6 @@
 use call_prepare::Reading;
 use call_prepare::read_prepared;
 use file_format::Board;
-use file_format::Edition;
 use file_format::Editions;
 use file_format::File;
 use file_format::FileVerdict;
@@ -25,7 +24,8 @@ use table_whole::match_tables;
 ghost use mathlib.Core.Path.{_≡_};
 ghost use Prim.Native.Nat.{_≤_};
 ghost use lib.ListN.{length};
-ghost use Rattle.call_report.specs.Call.{refusalPiece, outcomeFor, reportReply, reporting};
+ghost use Rattle.call_report.specs.Call.{refusalPiece, outcomeFor, outcomeBy, reportReply, reporting};
+ghost use Rattle.file_format.specs.Layout.{inEdition};
 ghost use Rattle.report.specs.Lines.{longestRefusal};
 ghost use Rattle.report_centres.specs.Pieces.{linesPiece, SourceOfSome, Wrote, EveryWrote};
 ghost use Rattle.place.specs.Spread.{matched};
@@ -92,6 +92,16 @@ fn answer_refused(x: Refusal, from: usize, found: u16, out: &mut [u8]) -> Report
     ReportAnswer::Put(put_refused(x, from, found, out))
 }
 
+// What the call comes to by the verdict on the two files alone.
+fn answer_by(verdict: FileVerdict, from: usize, found: u16, out: &mut [u8]) -> ReportAnswer
+    ensures { λ a. ⌜ record { reply = reportReply a; out = now (out .exit) } ≡ outcomeBy verdict from found (now (out .entry)) ⌝ }
+{
+    match verdict {
+        FileVerdict::Accepted => ReportAnswer::Put(put_nothing(from, found)),
+        FileVerdict::Refused(x) => answer_refused(x, from, found, out),
+    }
+}
+
 // The lines of the centres from where a piece goes on, and the last line where the centres are done.
 fn put_lines(
     masks: &[u32],
@@ -115,6 +125,7 @@ fn put_lines(
 // table and its components among it, at the fronts of the tables. Past the last line nothing is left to put, and nothing is matched.
 pub fn open(
     from: usize,
+    editions: Editions,
     pattern: &[u8],
     board: &[u8],
     masks: &mut [u32],
@@ -126,14 +137,10 @@ pub fn open(
 ) -> Pair
     requires { ⌜ (length (now masks) ≡ 64) × NetRoom (now offsets) (now links) ⌝ }
     requires { ⌜ (length (now whole) ≡ 512) × (length (now labels) ≡ 512) × (length (now sizes) ≡ 512) ⌝ }
-    ensures { λ r. ⌜ Opened from (now (pattern .entry)) (now (board .entry)) r (tables (now (masks .exit)) (now (offsets .exit)) (now (links .exit))) (now (whole .exit)) (now (labels .exit)) (now (sizes .exit)) ⌝ }
+    ensures { λ r. ⌜ Opened from (inEdition (editions .pattern) (now (pattern .entry))) (inEdition (editions .board) (now (board .entry))) r (tables (now (masks .exit)) (now (offsets .exit)) (now (links .exit))) (now (whole .exit)) (now (labels .exit)) (now (sizes .exit)) ⌝ }
 {
     let mut pk = [0u32; Pattern::MAX_NODES];
     let mut nk = [0u32; Board::MAX_NODES];
-    let editions = Editions {
-        pattern: Edition::First,
-        board: Edition::First,
-    };
     let reading = Reading {
         role: Role::Pattern,
         ways: Ways::Both,
@@ -188,39 +195,47 @@ pub fn put(
     ensures { λ a. ⌜ EveryReported from found read (tables (now (masks .entry)) (now (offsets .entry)) (now (links .entry))) (now (whole .entry)) (now (labels .entry)) (now (sizes .entry)) (now (out .entry)) (record { reply = reportReply a; out = now (out .exit) }) ⌝ }
 {
     let verdict = read.verdict;
-    let FileVerdict::Refused(x) = verdict else {
-        if out.len() < LONGEST {
-            return too_short();
-        }
-        let n = read.nodes;
-        if n < from {
-            return ReportAnswer::Put(put_nothing(from, found));
-        }
-        let resume = Resume {
-            radius: read.radius,
-            from,
-            found,
-        };
-        return ReportAnswer::Put(put_lines(
-            masks,
-            offsets,
-            links,
-            &whole[..n],
-            &labels[..n],
-            &sizes[..n],
-            resume,
-            out,
-        ));
+    let FileVerdict::Accepted = verdict else {
+        return answer_by(verdict, from, found, out);
     };
-    answer_refused(x, from, found, out)
+    if out.len() < LONGEST {
+        return too_short();
+    }
+    let nodes = read.nodes;
+    if nodes < from {
+        return ReportAnswer::Put(put_nothing(from, found));
+    }
+    let resume = Resume {
+        radius: read.radius,
+        from,
+        found,
+    };
+    ReportAnswer::Put(put_lines(
+        masks,
+        offsets,
+        links,
+        &whole[..nodes],
+        &labels[..nodes],
+        &sizes[..nodes],
+        resume,
+        out,
+    ))
 }
 
 // A piece of the report, from the centre `from` on, before which `found` centres had a place, at the front of the buffer: the lines of as
 // many centres as there is room for, and the last line where the centres are done; the first piece is from 0 with 0 found. Nothing is put
 // exactly when the report is at its end. A buffer that is too short, for the line of a refused file or for the longest line, is refused and
 // left as it was.
-pub fn report(pattern: &[u8], board: &[u8], from: usize, found: u16, out: &mut [u8]) -> ReportAnswer
-    ensures { λ a. ⌜ record { reply = reportReply a; out = now (out .exit) } ≡ reporting (now (pattern .entry)) (now (board .entry)) from found (now (out .entry)) ⌝ }
+pub fn report(
+    editions: Editions,
+    pattern: &[u8],
+    board: &[u8],
+    from: usize,
+    found: u16,
+    out: &mut [u8],
+) -> ReportAnswer
+    ensures { λ a. ⌜ record { reply = reportReply a; out = now (out .exit) }
+        ≡ reporting (inEdition (editions .pattern) (now (pattern .entry))) (inEdition (editions .board) (now (board .entry))) from found (now (out .entry)) ⌝ }
 {
     let mut masks = [0u32; MASKS];
     let mut offsets = [0u16; OFFSETS];
@@ -230,6 +245,7 @@ pub fn report(pattern: &[u8], board: &[u8], from: usize, found: u16, out: &mut [
     let mut sizes = [0u16; Board::MAX_NODES];
     let read = open(
         from,
+        editions,
         pattern,
         board,
         &mut masks,

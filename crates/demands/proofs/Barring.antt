@@ -1,40 +1,30 @@
 -- Ask 14: what the call says, and how it stands to the place call. Assumes nothing.
-use mathlib.Core.List.{List, []}
-use mathlib.Core.Logic.{_↔_, ⊎-elim}
+use mathlib.Core.List.{List}
+use mathlib.Core.Logic.{_↔_, ⊎-elim, Iff·trans}
 use mathlib.Core.Path.{_≡_, refl, sym, ap, _∙_}
 use Prim.Native.Nat.{ℕ, _≤_}
+use lib.Dec.{T}
 use lib.ListN.{length, take, drop}
+use Rattle.graph.specs.Chosen.{ChosenLink}
 use Rattle.graph.specs.Circuit.{Circuit}
 use Rattle.graph.specs.Graph.{Radius}
 use Rattle.graph.proofs.Walks.{radius-unique}
-use Rattle.file_format.specs.declared.Refusal.{Refusal}
 use Rattle.file_format.specs.Circuit.{circuitOf}
 use Rattle.file_format.specs.Layout.{CircuitFile, linksOf}
-use Rattle.file_format.specs.Refusals.{Verdict, accept, refuse}
-use Rattle.file_format.proofs.Refusals.{accepts-iff, refuses-by}
+use Rattle.file_format.specs.declared.Role.the-variants.{Pattern, Board}
+use Rattle.file_format.specs.Refusals.{Verdict, accept, refuse, Accepted}
+use Rattle.file_format.proofs.Accepted.{accepted-bounded, accepted-within}
 use Rattle.place.specs.Match.{radiusOf}
 use Rattle.place.proofs.Accepted.{accepted-radius}
-use Rattle.barring.specs.Least.{least}
+use Rattle.barring.specs.Least.{bars, least}
+use Rattle.barring.proofs.Least.{bars-radius}
+use Rattle.barring.proofs.Meaning.{bars-iff}
 use Rattle.call_place.proofs.Promise.{found-verdict, none-verdict, verdict-is, accept-or-nine, nine-iff}
-use Rattle.call_barring.specs.Call.{barInputs, barCall}
+use Rattle.call_barring.specs.Call.{barCall}
 use Rattle.call_barring.proofs.Promise as call
-use Rattle.demands.specs.Barring.{fifteen, Ask14}
-use Rattle.demands.specs.Demands.{graph, Lent, Ready, placed, placedOwn, Decided, nine}
+use Rattle.demands.specs.Barring.{fifteen, Barring, Ask14}
+use Rattle.demands.specs.Demands.{graph, Lent, Ready, placed, placedOwn, nine}
 use Rattle.demands.proofs.Merged.{ready-sound}
-
--- ---- refusals
-
-decided : (pattern board : CircuitFile) (w : ℕ) (out : List ℕ) →
-    Decided (barInputs pattern board w (length out)) (barCall pattern board w out .reply .verdict)
-    ((barCall pattern board w out .reply .values ≡ []) × (barCall pattern board w out .out ≡ out))
-decided pattern board w out =
-    let conditions = barInputs pattern board w (length out) in
-    let e = call.verdict-is pattern board w out in
-    record {
-      refused = λ x. rw e (refuses-by conditions x);
-      accepted = rw e (accepts-iff conditions);
-      kept = λ x q. call.refused-keeps pattern board w out x (sym e ∙ q);
-    }
 
 -- what is past the pattern's M bytes stays, refused or not
 rest : (pattern board : CircuitFile) (w : ℕ) (out : List ℕ) → drop (linksOf pattern) (barCall pattern board w out .out) ≡ drop (linksOf pattern) out
@@ -79,14 +69,21 @@ bytes pattern board w out ok r is =
     call.bytes-front pattern board w out ok
     ∙ ap (λ (k : ℕ). least (circuitOf pattern) (circuitOf board) w k) (radius-unique (accepted-radius (call.pattern-accepted pattern board w out ok)) is)
 
+-- the procedure's test
+tests : (pattern board : CircuitFile) (w r : ℕ) (marks : List ℕ) → Accepted Pattern pattern → Accepted Board board → Radius (graph pattern) r →
+    T (bars (circuitOf pattern) (circuitOf board) w r marks) ↔ Barring pattern board w (ChosenLink (circuitOf pattern) marks)
+tests pattern board w r marks a b is =
+    Iff·trans (bars-iff (circuitOf pattern) (circuitOf board) (accepted-bounded a .nodes) (accepted-within b) w r marks)
+    (bars-radius (circuitOf pattern) (circuitOf board) w r is (ChosenLink (circuitOf pattern) marks))
+
 -- "The least that still says none": refusals, where there is an answer, the bytes and what they mean.
 pub ask-14 : Ask14
 ask-14 =
     record {
-      decided = decided;
       answers = answers;
       turned = turned;
       begins = λ pattern board w lent out x room. call.accept-bars pattern board w out (x .drawn) (x .given) (x .centre) room;
+      tests = tests;
       bytes = bytes;
       rest = rest;
       kept = call.values-are;

@@ -1,44 +1,32 @@
 -- Ask 12: what the call with bounds says. Assumes nothing.
 use mathlib.Core.List.{List}
 use mathlib.Core.Logic.{_↔_}
-use mathlib.Core.Path.{_≡_, sym, ap, _∙_}
-use Prim.Native.Nat.{ℕ, _≤_, _<_}
+use mathlib.Core.Path.{_≡_, sym, _∙_}
+use Prim.Native.Nat.{ℕ, _≤_}
 use native.Mathlib.Omega.{arith}
-use lib.ListN.{length, getD}
-use lib.Dec.{T}
+use lib.ListN.{length}
 use Rattle.base_lists.proofs.Tests.{true-T}
 use Rattle.graph.specs.Circuit.{Circuit}
 use Rattle.file_format.specs.declared.Role.the-variants.{Board}
 use Rattle.file_format.specs.Circuit.{circuitOf}
 use Rattle.file_format.specs.Layout.{CircuitFile, nodesOf}
-use Rattle.file_format.specs.Refusals.{accept, first, NoneHolds, Accepted}
+use Rattle.file_format.specs.Refusals.{accept, first, Accepted}
 use Rattle.file_format.proofs.Fields.{length-labels}
-use Rattle.file_format.proofs.Refusals.{accepted-verdict, accepts-iff, refuses-by}
+use Rattle.file_format.proofs.Refusals.{accepted-verdict}
 use Rattle.table.specs.declared.Counts.{Counts}
-use Rattle.table.specs.Reply.{noCounts}
 use Rattle.table_answer.proofs.AllParts.{none-tabulated}
 use Rattle.file_bounds.specs.Third.{frontOf, boundsOf, thirdConditions}
 use Rattle.file_bounds.proofs.Fit.{at-fit}
 use Rattle.file_bounds.proofs.Third.{third-accepted, third-long, front-verdicts}
-use Rattle.bounded.specs.Run.{BoundedRun}
+use Rattle.bounded.specs.Problem.{boundedGraph}
+use Rattle.bounded.specs.Run.{BoundedSets, BoundedRun}
+use Rattle.bounded.specs.Simulation.{LargestBounded}
 use Rattle.bounded.proofs.Run.{bounded-run, bounded-found, bounded-missing}
-use Rattle.call_bounded.specs.Call.{boundedConditions, boundedMatching}
+use Rattle.call_bounded.specs.Call.{boundedMatching}
 use Rattle.call_bounded.proofs.Matching.{third-bounds}
 use Rattle.call_bounded.proofs.Promise as call
-use Rattle.demands.specs.Demands.{Decided}
-use Rattle.demands.specs.Bounds.{ThirdEdition, BoundedMatched, Ask12}
-
-decided : (pattern : List ℕ) (board : CircuitFile) (table : List ℕ) →
-    Decided (boundedConditions pattern board (length table)) (boundedMatching pattern board table .reply .verdict)
-    ((boundedMatching pattern board table .reply .counts ≡ noCounts) × (boundedMatching pattern board table .table ≡ table))
-decided pattern board table =
-    let conditions = boundedConditions pattern board (length table) in
-    let e = call.verdict-is pattern board table in
-    record {
-      refused = λ x. rw e (refuses-by conditions x);
-      accepted = rw e (accepts-iff conditions);
-      kept = call.refused-keeps pattern board table;
-    }
+use Rattle.demands.specs.Demands.{graph, equal, RowRun, Matched}
+use Rattle.demands.specs.Bounds.{ThirdEdition, Ask12}
 
 -- ---- accepted patterns
 
@@ -49,19 +37,21 @@ taken : (pattern : List ℕ) → ThirdEdition pattern → first (thirdConditions
 taken pattern t =
     front-verdicts pattern (t .long) (true-T (at-fit (boundsOf pattern) (λ i h. (t .bounds .some i h, t .bounds .most i h)))) ∙ accepted-verdict (t .drawn)
 
-reads : (pattern : List ℕ) → NoneHolds (thirdConditions pattern) ↔ ThirdEdition pattern
-reads pattern = (λ none. read pattern (accepts-iff (thirdConditions pattern) .1 none), λ t. accepts-iff (thirdConditions pattern) .0 (taken pattern t))
+reads : (pattern : List ℕ) → (first (thirdConditions pattern) ≡ accept) ↔ ThirdEdition pattern
+reads pattern = (read pattern, taken pattern)
 
 -- ---- the table and the counts
 
 -- the run of a row, by counts that are said to be its counts
 run-by : (P : Circuit) (bounds : List ℕ) (B : Circuit) (last : List ℕ) {counts row : Counts} → counts ≡ row →
     ((c : BoundedRun P bounds B (row .started) (row .rounds)) × (c .table (row .rounds) ≡ last)) →
-    ((c : BoundedRun P bounds B (counts .started) (counts .rounds)) × (c .table (counts .rounds) ≡ last))
-run-by P bounds B last e r = rw e r
+    ((c : RowRun (BoundedSets P bounds B) (counts .started) (counts .rounds)) × (c .table (counts .rounds) ≡ last))
+run-by P bounds B last e (c, is) = rw e (record { table = c .table; holds = c .holds; started = c .started; differ = c .differ; rest = c .rest }, is)
 
 matches : (pattern : List ℕ) (board : CircuitFile) (table : List ℕ) → ThirdEdition pattern → Accepted Board board → nodesOf board ≤ length table →
-    BoundedMatched pattern board table (boundedMatching pattern board table)
+    let file = frontOf pattern in
+    Matched (BoundedSets (circuitOf file) (boundsOf pattern) (circuitOf board))
+    (LargestBounded (boundedGraph (circuitOf file) (boundsOf pattern)) (equal file board) (graph board)) (nodesOf file) (nodesOf board) table (boundedMatching pattern board table)
 matches pattern board table t b room =
     let P = circuitOf (frontOf pattern) in
     let B = circuitOf board in
@@ -83,4 +73,4 @@ matches pattern board table t b room =
 
 -- "A link through a few parts": refusals, the table and the counts, all bounds 1, raised bounds.
 pub ask-12 : Ask12
-ask-12 = record { decided = decided; reads = reads; matches = matches; second = call.ones-second; raised = call.raised-keeps }
+ask-12 = record { reads = reads; matches = matches; second = call.ones-second; raised = call.raised-keeps }

@@ -147,7 +147,6 @@ unfolding matchConditions
 ask-13 =
     record {
       conditions = λ pattern board lent. refl;
-      refused = λ pattern board before after said p. (p .replied, p .refused);
       replies = replies;
       table = table;
     }

@@ -1,5 +1,5 @@
 -- Each call is decided by its conditions, and a refusal leaves every lent table as it was. Assumes nothing.
-use mathlib.Core.Bool.{Bool, true, false, not, cond}
+use mathlib.Core.Bool.{Bool, true, false, _&&_, not, cond}
 use mathlib.Core.List.{List, [], _∷_, _++_}
 use mathlib.Core.Logic.{_↔_, ⊎-elim}
 use mathlib.Core.Path.{_≡_, refl, sym, ap, _∙_}
@@ -7,47 +7,71 @@ use Prim.Native.Nat.{ℕ}
 use native.Mathlib.Nat.{le-of-eq}
 use native.Mathlib.Omega.{arith}
 use lib.Dec.{T, ltb, ltb→lt, lt→ltb}
-use lib.ListN.{length}
+use lib.ListN.{length, take}
 use Rattle.base_lists.specs.List.{all, Below}
 use Rattle.base_lists.proofs.Tests.{both, both-left, both-right, all-at, at-all}
+use Rattle.graph.specs.Circuit.{Circuit}
 use Rattle.graph.proofs.Distance.{connected-iff, radius-is}
 use Rattle.file_format.specs.declared.Edition.{Edition}
+use Rattle.file_format.specs.declared.File.the-variants.{Neither}
 use Rattle.file_format.specs.declared.Refusal.{Refusal}
 use Rattle.file_format.specs.declared.Role.{Role}
-use Rattle.file_format.specs.declared.Role.the-variants.{Pattern}
+use Rattle.file_format.specs.declared.Role.the-variants.{Pattern, AnyPattern}
 use Rattle.file_format.specs.Circuit.{circuitOf}
-use Rattle.file_format.specs.Layout.{CircuitFile, kindsOf, packagesOf, startsOf, endsOf}
+use Rattle.file_format.specs.Layout.{CircuitFile, nodesOf, linksOf, kindsOf, packagesOf, startsOf, endsOf}
 use Rattle.file_format.specs.Links.{linksBelow}
 use Rattle.file_format.specs.Reading.{ReadOutcome, readConditions, reading, filled}
-use Rattle.file_format.specs.Refusals.{Condition, Verdict, accept, refuse, first, fileConditions, Accepted, shortTable}
-use Rattle.file_format.specs.Reply.{readReply, reply}
+use Rattle.file_format.specs.Refusals.{Condition, Verdict, accept, refuse, first, fileConditions, Accepted, shortTable, linkGone}
+use Rattle.file_format.specs.Reply.{Reply, readReply, reply}
 use Rattle.file_format.proofs.Accepted.{links-within}
-use Rattle.file_format.proofs.Fields.{length-kinds, length-packages, length-starts, length-ends}
+use Rattle.file_format.proofs.Fields.{length-kinds, length-packages, length-starts, length-ends, length-labels}
 use Rattle.file_format.proofs.Reading.{reading-filled}
-use Rattle.file_format.proofs.Refusals.{accepted, accepted-verdict, first-accept, first-parts, first-refuse, accepts-iff, refuses-by}
+use Rattle.file_format.proofs.Refusals.{accepted, accepted-verdict, accept-not-refuse, first-accept, first-parts, first-refuse, accepts-iff, refuses-by}
 use Rattle.file_format.proofs.Rising.{rising-iff}
 use Rattle.table.specs.declared.Counts.{Counts}
-use Rattle.table.specs.Reply.{replied}
+use Rattle.table.specs.Fill.{listed}
+use Rattle.table.specs.Reply.{noCounts, replied}
 use Rattle.place.specs.Match.{found}
 use Rattle.place.specs.Outcome.{placeVerdict}
 use Rattle.file_write.specs.Writing.{writeConditions, writing}
 use Rattle.call_convert.specs.Call.{convertConditions, converting}
+use Rattle.call_load.specs.Call.{loadConditions, loading}
 use Rattle.call_distance.specs.Calls.{radiusCall, ballConditions, ballCall}
 use Rattle.simulation.specs.Simulation.{Direction}
 use Rattle.call_match.specs.Call.{matchConditions, matchingBy}
+use Rattle.call_bounded.specs.Call.{boundedConditions, boundedMatching}
 use Rattle.call_place.specs.Call.{inputConditions}
 use Rattle.call_place.proofs.Promise.{input-refused, verdict-is, accept-or-nine, nine-keeps}
+use Rattle.call_check.specs.Call.{checkConditions, checkCall}
+use Rattle.call_barring.specs.Call.{barInputs, barCall}
+use Rattle.call_barring.proofs.Promise as bar-call
 use Rattle.call_merge.specs.Call.{mergeConditions, merging}
+use Rattle.order.specs.declared.Order.{Order}
+use Rattle.order_files.specs.Files.{secondEdition, compareFiles}
+use Rattle.call_compare.specs.Call.{comparedBy, comparing, compareReply}
+use Rattle.shelf_strings.specs.Strings.{cutInto}
+use Rattle.call_shelf.specs.Shelf.{shelfOf, mostFiles, shelvingOf, shelving}
 use Rattle.call_report.specs.Call.{reporting, needFor, verdictOf, outcomeFor}
-use Rattle.demands.specs.Demands.{Lent, placed, Decided, nine, noPlace, placedConditions, Untouched, Unread, ReadsAs, Demand1}
+use Rattle.session.specs.Machine.{Machine, fresh, isLeft, cutReply, machineAfter}
+use Rattle.session.specs.Session.{CutPromise, ReadPromise}
+use Rattle.session.specs.State.{State, Holds}
+use Rattle.session.proofs.Left.{fresh-left}
+use Rattle.session.proofs.Run.{left-after, after-same}
+use Rattle.call_session.specs.Call.{openConditions, OpenPromise}
+use Rattle.call_session.proofs.Promise as session
+use Rattle.demands.specs.Numbers as number
+use Rattle.demands.specs.Numbers.{EachNumbered}
+use Rattle.demands.specs.Demands.{Lent, placed, Decided, Replies, Counting, nine, placedConditions, Untouched, Unread, ReadsAs, Running, Demand1}
+use Rattle.demands.proofs.Numbers.{file-numbered, file-then, read-numbered, write-numbered, convert-numbered, load-numbered, ball-numbered, match-numbered, bounds-numbered, place-numbered, check-numbered, bar-numbered, merge-numbered, pair-numbered, short-numbered}
 
 -- ---- a verdict that is the first of a list of conditions
 
-by-first :
-    (conditions : List Condition) {verdict : Verdict} {Kept : Type 0} → verdict ≡ first conditions →
+pub by-first :
+    {conditions : List Condition} {verdict : Verdict} {Kept : Type 0} → EachNumbered conditions → verdict ≡ first conditions →
     ((x : Refusal) → first conditions ≡ refuse x → Kept) → Decided conditions verdict Kept
-by-first conditions e keeps =
+by-first {conditions} each e keeps =
     record {
+      numbered = each;
       refused = λ x. rw e (refuses-by conditions x);
       accepted = rw e (accepts-iff conditions);
       kept = λ x r. keeps x (sym e ∙ r);
@@ -59,13 +83,22 @@ unfolding reply
 reply-verdict accept values = refl
 reply-verdict (refuse x) values = refl
 
+-- a refusal has no values
+pub no-values : {v : Verdict} {x : Refusal} (values : List ℕ) → v ≡ refuse x → reply v values .values ≡ []
+unfolding reply
+no-values values e = rw e
+
+no-counts : {v : Verdict} {x : Refusal} (counts : Counts) → v ≡ refuse x → replied v counts .counts ≡ noCounts
+unfolding replied
+no-counts counts e = rw e
+
 replied-verdict : (v : Verdict) (counts : Counts) → replied v counts .verdict ≡ v
 unfolding replied
 replied-verdict accept counts = refl
 replied-verdict (refuse x) counts = refl
 
 -- a refused call keeps what was lent
-keeps : {v : Verdict} {x : Refusal} (values old : List ℕ) → v ≡ refuse x → filled v values old ≡ old
+pub keeps : {v : Verdict} {x : Refusal} (values old : List ℕ) → v ≡ refuse x → filled v values old ≡ old
 unfolding filled
 keeps values old e = rw e
 
@@ -78,61 +111,109 @@ unfolding reading
 verdict-read role file kinds packages starts ends = reply-verdict _ _
 
 reads :
-    (role : Role) (file : CircuitFile) (kinds packages starts ends : List ℕ) →
-    Decided (readConditions role file (length kinds) (length packages) (length starts) (length ends)) (reading role file kinds packages starts ends .reply .verdict)
-    (Unread kinds packages starts ends (reading role file kinds packages starts ends))
+    (role : Role) (file : CircuitFile) (kinds packages starts ends : List ℕ) → let result = reading role file kinds packages starts ends in
+    Replies (readConditions role file (length kinds) (length packages) (length starts) (length ends)) (result .reply) (Unread kinds packages starts ends result)
 unfolding reading Unread
 reads role file kinds packages starts ends =
-    by-first (readConditions role file (length kinds) (length packages) (length starts) (length ends)) (verdict-read role file kinds packages starts ends)
-    (λ x e. (keeps _ kinds e, keeps _ packages e, keeps _ starts e, keeps _ ends e))
+    by-first (read-numbered role file (length kinds) (length packages) (length starts) (length ends)) (verdict-read role file kinds packages starts ends)
+    (λ x e. (no-values _ e, (keeps _ kinds e, keeps _ packages e, keeps _ starts e, keeps _ ends e)))
 
 writes :
-    (role : Role) (e : Edition) (kinds packages starts ends out : List ℕ) →
-    Decided (writeConditions role e kinds packages starts ends (length out)) (writing role e kinds packages starts ends out .reply .verdict)
-    (writing role e kinds packages starts ends out .out ≡ out)
+    (role : Role) (e : Edition) (kinds packages starts ends out : List ℕ) → let result = writing role e kinds packages starts ends out in
+    Replies (writeConditions role e kinds packages starts ends (length out)) (result .reply) (result .out ≡ out)
 unfolding writing
 writes role e kinds packages starts ends out =
-    by-first (writeConditions role e kinds packages starts ends (length out)) (reply-verdict _ _) (λ x e. keeps _ out e)
-
-measures : (file : CircuitFile) → Decided (fileConditions Pattern file) (radiusCall file .verdict) (Unit {0})
-unfolding radiusCall
-measures file = by-first (fileConditions Pattern file) (reply-verdict _ _) (λ x e. tt)
-
-balls :
-    (file : CircuitFile) (w r : ℕ) (out : List ℕ) →
-    Decided (ballConditions file w (length out)) (ballCall file w r out .reply .verdict) (ballCall file w r out .out ≡ out)
-unfolding ballCall
-balls file w r out = by-first (ballConditions file w (length out)) (reply-verdict _ _) (λ x e. keeps _ out e)
-
-matches :
-    (ways : List Direction) (pattern board : CircuitFile) (table : List ℕ) →
-    Decided (matchConditions pattern board (length table)) (matchingBy ways pattern board table .reply .verdict)
-    (matchingBy ways pattern board table .table ≡ table)
-unfolding matchingBy
-matches ways pattern board table =
-    by-first (matchConditions pattern board (length table)) (replied-verdict _ _) (λ x e. keeps _ table e)
-
-merges :
-    (pattern : CircuitFile) (classes out : List ℕ) →
-    Decided (mergeConditions pattern (length classes) (length out)) (merging pattern classes out .reply .verdict)
-    ((merging pattern classes out .classes ≡ classes) × (merging pattern classes out .out ≡ out))
-unfolding merging
-merges pattern classes out =
-    by-first (mergeConditions pattern (length classes) (length out)) (reply-verdict _ _) (λ x e. (keeps _ classes e, keeps _ out e))
-
-reports :
-    (pattern board : List ℕ) (from before : ℕ) (out : List ℕ) →
-    Decided (shortTable (needFor (verdictOf pattern board)) (length out) ∷ []) (reporting pattern board from before out .reply .verdict)
-    (reporting pattern board from before out .out ≡ out)
-unfolding reporting outcomeFor
-reports pattern board from before out =
-    by-first (shortTable (needFor (verdictOf pattern board)) (length out) ∷ []) (reply-verdict _ _) (λ x e. keeps _ out e)
+    by-first (write-numbered role e kinds packages starts ends (length out)) (reply-verdict _ _) (λ x e. (no-values _ e, keeps _ out e))
 
 converts :
-    (role : Role) (to : Edition) (file : CircuitFile) (out : List ℕ) →
-    Decided (convertConditions role to file (length out)) (converting role to file out .reply .verdict) (converting role to file out .out ≡ out)
+    (role : Role) (to : Edition) (file : CircuitFile) (out : List ℕ) → let result = converting role to file out in
+    Replies (convertConditions role to file (length out)) (result .reply) (result .out ≡ out)
 unfolding converting
-converts role to file out = by-first (convertConditions role to file (length out)) (reply-verdict _ _) (λ x e. keeps _ out e)
+converts role to file out = by-first (convert-numbered role to file (length out)) (reply-verdict _ _) (λ x e. (no-values _ e, keeps _ out e))
+
+loads :
+    (seed n m k : ℕ) (out : List ℕ) → let result = loading seed n m k out in Replies (loadConditions n m k (length out)) (result .reply) (result .out ≡ out)
+unfolding loading
+loads seed n m k out = by-first (load-numbered n m k (length out)) (reply-verdict _ _) (λ x e. (no-values _ e, keeps _ out e))
+
+measures : (file : CircuitFile) → Replies (fileConditions Pattern file) (radiusCall file) (Unit {0})
+unfolding radiusCall
+measures file = by-first (file-numbered Pattern file) (reply-verdict _ _) (λ x e. (no-values _ e, tt))
+
+balls :
+    (file : CircuitFile) (w r : ℕ) (out : List ℕ) → let result = ballCall file w r out in
+    Replies (ballConditions file w (length out)) (result .reply) (result .out ≡ out)
+unfolding ballCall
+balls file w r out = by-first (ball-numbered file w (length out)) (reply-verdict _ _) (λ x e. (no-values _ e, keeps _ out e))
+
+matches :
+    (ways : List Direction) (pattern board : CircuitFile) (table : List ℕ) → let result = matchingBy ways pattern board table in
+    Counting (matchConditions pattern board (length table)) (result .reply) (result .table ≡ table)
+unfolding matchingBy
+matches ways pattern board table =
+    by-first (match-numbered pattern board (length table)) (replied-verdict _ _) (λ x e. (no-counts _ e, keeps _ table e))
+
+bounds :
+    (pattern : List ℕ) (board : CircuitFile) (table : List ℕ) → let result = boundedMatching pattern board table in
+    Counting (boundedConditions pattern board (length table)) (result .reply) (result .table ≡ table)
+unfolding boundedMatching
+bounds pattern board table =
+    by-first (bounds-numbered pattern board (length table)) (replied-verdict _ _) (λ x e. (no-counts _ e, keeps _ table e))
+
+checks :
+    (pattern board : CircuitFile) (w : ℕ) (nodes links : List ℕ) →
+    Replies (checkConditions pattern board w (length nodes) (length links)) (checkCall pattern board w nodes links) (Unit {0})
+unfolding checkCall
+checks pattern board w nodes links =
+    by-first (check-numbered pattern board w (length nodes) (length links)) (reply-verdict _ _) (λ x e. (no-values _ e, tt))
+
+bars :
+    (pattern board : CircuitFile) (w : ℕ) (out : List ℕ) → let result = barCall pattern board w out in
+    Replies (barInputs pattern board w (length out)) (result .reply) (result .out ≡ out)
+bars pattern board w out =
+    by-first (bar-numbered pattern board w (length out)) (bar-call.verdict-is pattern board w out) (bar-call.refused-keeps pattern board w out)
+
+merges :
+    (pattern : CircuitFile) (classes out : List ℕ) → let result = merging pattern classes out in
+    Replies (mergeConditions pattern (length classes) (length out)) (result .reply) ((result .classes ≡ classes) × (result .out ≡ out))
+unfolding merging
+merges pattern classes out =
+    by-first (merge-numbered pattern (length classes) (length out)) (reply-verdict _ _) (λ x e. (no-values _ e, (keeps _ classes e, keeps _ out e)))
+
+shelves :
+    (bytes lengths order : List ℕ) → let result = shelving bytes lengths order in
+    Replies (shortTable (length (shelfOf (cutInto bytes (take mostFiles lengths)))) (length order) ∷ []) (result .reply) (result .order ≡ order)
+unfolding shelving shelvingOf
+shelves bytes lengths order = by-first (short-numbered _ (length order)) (reply-verdict _ _) (λ x e. (no-values _ e, keeps _ order e))
+
+reports :
+    (pattern board : CircuitFile) (from before : ℕ) (out : List ℕ) → let result = reporting pattern board from before out in
+    Replies (shortTable (needFor (verdictOf pattern board)) (length out) ∷ []) (result .reply) (result .out ≡ out)
+unfolding reporting outcomeFor
+reports pattern board from before out =
+    by-first (short-numbered (needFor (verdictOf pattern board)) (length out)) (reply-verdict _ _) (λ x e. (no-values _ e, keeps _ out e))
+
+-- the comparison: the first file's conditions, then the second's
+compared-by :
+    (cs ds : List Condition) (o : Order) → let result = compareReply (comparedBy (first cs) (first ds) o) in
+    (result .verdict ≡ first (cs ++ ds)) × ((x : Refusal) → first (cs ++ ds) ≡ refuse x → result .order ≡ 0)
+unfolding comparedBy compareReply
+compared-by cs ds o = go (first cs) (first ds) refl refl
+  where
+    go :
+        (v w : Verdict) → first cs ≡ v → first ds ≡ w → let result = compareReply (comparedBy v w o) in
+        (result .verdict ≡ first (cs ++ ds)) × ((x : Refusal) → first (cs ++ ds) ≡ refuse x → result .order ≡ 0)
+    go accept accept e f = (sym (first-accept cs ds e ∙ f), λ x r. absurd (accept-not-refuse (sym (first-accept cs ds e ∙ f) ∙ r)))
+    go accept (refuse y) e f = (sym (first-accept cs ds e ∙ f), λ x r. refl)
+    go (refuse y) w e f = (sym (first-refuse cs ds y e), λ x r. refl)
+
+compares :
+    (a b : List ℕ) → let result = compareReply (comparing a b) in
+    Decided (fileConditions Pattern (secondEdition a) ++ fileConditions Pattern (secondEdition b)) (result .verdict) (result .order ≡ 0)
+unfolding comparing
+compares a b =
+    let both = compared-by (fileConditions Pattern (secondEdition a)) (fileConditions Pattern (secondEdition b)) (compareFiles a b) in
+    by-first (file-then Pattern (secondEdition a) _ (file-numbered Pattern (secondEdition b))) (both .0) (both .1)
 
 -- ---- the place calls: the conditions on the inputs, and then 9
 
@@ -140,8 +221,11 @@ turned : (b : Bool) → cond b accept (refuse nine) ≡ cond (not b) (refuse nin
 turned true = refl
 turned false = refl
 
+abbrev noPlace : CircuitFile → CircuitFile → ℕ → ℕ → Condition
+noPlace pattern board w r = record { number = 9; file = Neither; holds = not (found (circuitOf pattern) (circuitOf board) w r) }
+
 verdict-nine : (pattern board : CircuitFile) (w r : ℕ) → placeVerdict (circuitOf pattern) (circuitOf board) w r ≡ first (noPlace pattern board w r ∷ [])
-unfolding placeVerdict first noPlace nine
+unfolding placeVerdict first nine
 verdict-nine pattern board w r = turned (found (circuitOf pattern) (circuitOf board) w r)
 
 module _ (pattern board : CircuitFile) (w r : ℕ) (lent : Lent) where
@@ -151,18 +235,20 @@ module _ (pattern board : CircuitFile) (w r : ℕ) (lent : Lent) where
   by-inputs : (x : Refusal) → first inputs ≡ refuse x → (placed pattern board w r lent .reply .verdict ≡ refuse x) × Untouched lent (placed pattern board w r lent)
   unfolding placed Untouched
   by-inputs x e =
-      let (verdict, _, nodes, links, table, distances) = input-refused pattern board w r (lent .nodes) (lent .links) (lent .table) (lent .distances) x e in
-      (verdict, (nodes, links, table, distances))
+      let (verdict, counts, nodes, links, table, distances) = input-refused pattern board w r (lent .nodes) (lent .links) (lent .table) (lent .distances) x e in
+      (verdict, (nodes, links, table, distances, λ other. counts))
 
   verdict-place : first inputs ≡ accept → placed pattern board w r lent .reply .verdict ≡ placeVerdict (circuitOf pattern) (circuitOf board) w r
   unfolding placed
   verdict-place = verdict-is pattern board w r (lent .nodes) (lent .links) (lent .table) (lent .distances)
 
   by-nine : first inputs ≡ accept → (x : Refusal) → placed pattern board w r lent .reply .verdict ≡ refuse x → Untouched lent (placed pattern board w r lent)
-  unfolding placed Untouched
+  unfolding placed Untouched nine
   by-nine sound x e =
       ⊎-elim (λ ok. let apart : refuse x ≡ accept = sym e ∙ ok in let z : _≡_ {A = ℕ} 0 1 = cc in absurd (omega arith))
-      (λ none. nine-keeps pattern board w r (lent .nodes) (lent .links) (lent .table) (lent .distances) sound none)
+      (λ none.
+      let (nodes, links, table, distances) = nine-keeps pattern board w r (lent .nodes) (lent .links) (lent .table) (lent .distances) sound none in
+      (nodes, links, table, distances, λ other. absurd (other none)))
       (accept-or-nine pattern board w r (lent .nodes) (lent .links) (lent .table) (lent .distances) sound)
 
   verdict-all : placed pattern board w r lent .reply .verdict ≡ first (placedConditions pattern board w r lent)
@@ -181,7 +267,46 @@ module _ (pattern board : CircuitFile) (w r : ℕ) (lent : Lent) where
       go (refuse y) turns = by-inputs y turns .1
 
   places : Decided (placedConditions pattern board w r lent) (placed pattern board w r lent .reply .verdict) (Untouched lent (placed pattern board w r lent))
-  places = by-first (placedConditions pattern board w r lent) verdict-all untouched
+  places = by-first (place-numbered pattern board w r lent) verdict-all untouched
+
+-- ---- a session
+
+opens : (pattern board : CircuitFile) (before after : State) (said : Verdict) → OpenPromise pattern board before said after → Decided (openConditions pattern board) said (after ≡ before)
+opens pattern board before after said p = by-first (pair-numbered AnyPattern pattern board) (p .replied) (λ x e. p .refused x (p .replied ∙ e))
+
+module _ (pattern board : CircuitFile) (places : List ℕ) (s : State) (running : Running pattern board places s) where
+  abbrev m : Machine
+  m = machineAfter (fresh (circuitOf pattern) (circuitOf board)) places
+
+  holds : Holds m s
+  unfolding Running
+  holds = let (before, opened, said, begun, cuts) = running in session.session-run begun places said s cuts .1
+
+  is-left : (i : ℕ) → isLeft m i ≡ ltb i (linksOf board) && not (listed places i)
+  is-left i =
+      left-after places (fresh (circuitOf pattern) (circuitOf board)) i
+      ∙ ap (λ (b : Bool). b && not (listed places i)) (fresh-left (circuitOf pattern) (circuitOf board) i ∙ ap (ltb i) (length-starts board))
+
+  cuts :
+      (after : State) (place : ℕ) (said : Verdict) → CutPromise s place said after →
+      Decided (linkGone (ltb place (linksOf board) && not (listed places place)) ∷ []) said (after ≡ s)
+  unfolding cutReply EachNumbered
+  cuts after place said p =
+      let e = p .machine m holds .0 ∙ ap (λ (b : Bool). first (linkGone b ∷ [])) (is-left place) in
+      by-first (number.fourteen (ltb place (linksOf board) && not (listed places place)), tt) e (λ x r. p .refused x (e ∙ r))
+
+  nodes-are : length (m .board .kinds) ≡ nodesOf board
+  unfolding fresh
+  nodes-are = ap (λ (c : Circuit). length (c .kinds)) (after-same places (fresh (circuitOf pattern) (circuitOf board)) .1) ∙ length-labels board
+
+  tables :
+      (lent later : List ℕ) (answer : Reply) → ReadPromise s lent answer later →
+      Replies (shortTable (nodesOf board) (length lent) ∷ []) answer (later ≡ lent)
+  tables lent later answer p =
+      let said = p .machine m holds .0 in
+      let e = ap (λ (a : Reply). a .verdict) said ∙ reply-verdict _ _ ∙ ap (λ (n : ℕ). first (shortTable n (length lent) ∷ [])) nodes-are in
+      by-first (short-numbered (nodesOf board) (length lent)) e
+      (λ x r. (ap (λ (a : Reply). a .values) said ∙ no-values _ (sym (reply-verdict _ _) ∙ sym (ap (λ (a : Reply). a .verdict) said) ∙ e ∙ r), p .refused x (e ∙ r)))
 
 -- ---- what is accepted, and what the conditions 4, 5, 6 and 11 test
 
@@ -215,13 +340,22 @@ decided-1 =
     record {
       reads = reads;
       writes = writes;
+      converts = converts;
+      loads = loads;
       measures = measures;
       balls = balls;
       matches = matches;
+      bounds = bounds;
       places = places;
+      checks = checks;
+      bars = bars;
       merges = merges;
+      compares = compares;
+      shelves = shelves;
       reports = reports;
-      converts = converts;
+      opens = opens;
+      cuts = λ pattern board places s after place said running. cuts pattern board places s running after place said;
+      tables = λ pattern board places s lent later answer running. tables pattern board places s running lent later answer;
       accepts = reads-as;
       below = below-iff;
       rises = rising-iff;

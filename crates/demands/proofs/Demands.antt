@@ -1,6 +1,6 @@
 -- The three demands hold. Assumes nothing.
 use mathlib.Core.List.{List, [], _∷_}
-use mathlib.Core.Logic.{⊎-elim}
+use mathlib.Core.Logic.{_↔_, ⊎-elim}
 use mathlib.Core.Path.{_≡_, refl, sym, ap, subst, _∙_}
 use Prim.Native.Nat.{ℕ, _≤_, _<_}
 use native.Mathlib.Omega.{arith}
@@ -12,7 +12,9 @@ use Rattle.base_lists.specs.List.{all, Below}
 use Rattle.base_lists.proofs.Tests.{true-T, at-all}
 use Rattle.graph.specs.Graph.{Ball, Radius}
 use Rattle.graph.proofs.Walks.{radius-unique}
-use Rattle.simulation.specs.Simulation.{Direction}
+use Rattle.simulation.specs.Closed.{Relation}
+use Rattle.simulation.specs.Perfect.{SameGraph}
+use Rattle.simulation.specs.Simulation.{Direction, Largest}
 use Rattle.file_format.specs.declared.Edition.{Edition}
 use Rattle.file_format.specs.declared.ReadAnswer.the-variants as read
 use Rattle.file_format.specs.declared.Role.{Role}
@@ -24,12 +26,12 @@ use Rattle.file_format.specs.Refusals.{accept, first, Accepted}
 use Rattle.file_format.specs.Reply.{readReply, reply}
 use Rattle.file_format.proofs.Accepted.{accepted-bounded, accepted-within, accepted-connected}
 use Rattle.file_format.proofs.Fields.{length-labels}
-use Rattle.file_format.proofs.Refusals.{accepted-verdict}
+use Rattle.file_format.proofs.Refusals.{accepted-any, accepted-verdict}
 use Rattle.table.proofs.Host.{everything-same, within-joins}
 use Rattle.table.specs.declared.Counts.{Counts}
-use Rattle.table.specs.Row.{bothWays}
+use Rattle.table.specs.Row.{bothWays, rowBy, InTable}
 use Rattle.table.specs.Answer.{answerCountsBy}
-use Rattle.table.specs.Host.{everything}
+use Rattle.table.specs.Host.{hostGraph, everything}
 use Rattle.table.proofs.Answer.{along-dual, answer-found, answer-missing, answer-connected}
 use Rattle.table_answer.proofs.AllParts.{none-tabulated}
 use Rattle.place.specs.Match.{radiusOf, ballOf}
@@ -41,16 +43,16 @@ use Rattle.file_write.specs.Writing.{WriteOutcome, writeConditions, writeAnswer
 use Rattle.file_write.proofs.FileFields.{packs-length}
 use Rattle.file_write.proofs.Writing.{sound, writing-accepted}
 use Rattle.file_write.proofs.RoundTrip.{written-reads, read-writes}
-use Rattle.call_convert.specs.Call.{convertedBytes, ConvertOutcome, converting}
-use Rattle.call_convert.proofs.Promise.{converted-length, converted-circuit, convert-sound, convert-accepts, there-and-back}
 use Rattle.call_match.specs.Call.{matchingBy, matching}
 use Rattle.call_match.proofs.Promise as match-call
 use Rattle.call_place.proofs.Promise.{counts-are, accept-or-nine, nine-iff, marked-place, nodes-front, links-front}
 use Rattle.call_merge.specs.Call.{merging}
 use Rattle.call_merge.proofs.Promise as merge-call
-use Rattle.demands.specs.Demands.{Lent, Room, Ready, placed, placedOwn, mergedFile, SameFound, graph, equal, Demand1, RowCounts, MatchedAlong, Matched, ReadBack, Demand2, nine, FoundAt, Demand3}
-use Rattle.demands.proofs.Counts.{row-run, row-counts}
+use Rattle.demands.specs.Demands.{Lent, Room, Ready, Enough, placed, placedOwn, mergedFile, SameFound, graph, equal, Demand1, Sets, RowCounts, Matched, ReadBack, Demand2, nine, FoundAt, Demand3}
+use Rattle.demands.specs.OneWay.{SetsAlong, LargestAlong}
+use Rattle.demands.proofs.Counts.{set-is, both-is, row-run, row-counts}
 use Rattle.demands.proofs.Decided.{reply-verdict, decided-1}
+use Rattle.demands.proofs.Groupings.{merged-made}
 use Rattle.demands.proofs.Merged.{ready-sound, merged-same, radius-fits}
 
 -- ---- Demand 1
@@ -62,63 +64,80 @@ demand-1 = decided-1
 
 -- ---- Demand 2
 
--- the whole-board call, along any directions
-unfoldable pub along-matched :
+-- the whole-board call, along any directions, by any sets that its tables hold and anything that its answer is
+matched-by :
     (ways : List Direction) (pattern board : CircuitFile) (table : List ℕ) → Accepted AnyPattern pattern → Accepted Board board → nodesOf board ≤ length table →
-    MatchedAlong ways pattern board (matchingBy ways pattern board table)
+    {sets : ℕ → Relation} {Best : Relation → Type 1} →
+    ((k u v : ℕ) → InTable (rowBy ways (circuitOf pattern) (circuitOf board) (everything (circuitOf board)) k) u v ↔ sets k u v) →
+    Best (InTable (take (nodesOf board) (matchingBy ways pattern board table .table))) →
+    Matched sets Best (nodesOf pattern) (nodesOf board) table (matchingBy ways pattern board table)
 unfolding answerCountsBy
-along-matched ways pattern board table a b room =
+matched-by ways pattern board table a b room is largest =
     let P = circuitOf pattern in
     let B = circuitOf board in
     let ok = match-call.accepts ways pattern board table a b room in
-    let most = accepted-bounded a .nodes in
-    let host = everything-same B (within-joins B (accepted-within b)) in
     let counted = match-call.counts-are ways pattern board table ok in
     let begun = ap (λ (c : Counts). c .started) counted in
     let rounds = ap (λ (c : Counts). c .rounds) counted in
     let front = match-call.front-is ways pattern board table ok in
-    let (run, ends) = row-run ways P B (everything B) most host begun rounds in
+    let (run, ends) = row-run ways P B (everything B) (accepted-bounded a .nodes) is begun rounds in
     record {
       accepted = ok;
-      largest = match-call.front-along ways pattern board table ok;
+      largest = largest;
       run = run;
       kept = match-call.counts-ones ways pattern board table ok;
       struck = match-call.counts-struck ways pattern board table ok;
       found = λ all. front ∙ sym (answer-found ways P B (everything B) (λ u h. rw ends at (all u (rw (length-labels pattern) at h))) .last) ∙ sym ends;
       missing = λ u h none. front ∙ sym (answer-missing ways P B (everything B) u (rw (length-labels pattern) h) (λ v m. none v (rw ends m)) .last) ∙ rw (length-labels board) (sym (none-tabulated (nodesOf board)));
+      rest = match-call.rest-is ways pattern board table ok;
     }
+
+-- the whole board, as the graph that it is
+whole : {board : CircuitFile} → Accepted Board board → SameGraph (hostGraph (circuitOf board) (everything (circuitOf board))) (graph board)
+whole {board} b = everything-same (circuitOf board) (within-joins (circuitOf board) (accepted-within b))
+
+pub along-matched :
+    (ways : List Direction) (pattern board : CircuitFile) (table : List ℕ) → Accepted AnyPattern pattern → Accepted Board board → nodesOf board ≤ length table →
+    Matched (SetsAlong ways (graph pattern) (equal pattern board) (graph board)) (LargestAlong ways pattern board) (nodesOf pattern) (nodesOf board) table
+    (matchingBy ways pattern board table)
+along-matched ways pattern board table a b room =
+    matched-by ways pattern board table a b room (set-is ways (circuitOf pattern) (circuitOf board) (everything (circuitOf board)) (whole b))
+    (match-call.front-along ways pattern board table (match-call.accepts ways pattern board table a b room))
 
 -- the table call
 table-matched :
     (pattern board : CircuitFile) (table : List ℕ) → Accepted AnyPattern pattern → Accepted Board board → nodesOf board ≤ length table →
-    Matched pattern board (matching pattern board table)
-unfolding answerCountsBy along-matched
+    Matched (Sets (graph pattern) (equal pattern board) (graph board)) (Largest (graph pattern) (equal pattern board) (graph board)) (nodesOf pattern) (nodesOf board) table
+    (matching pattern board table)
 table-matched pattern board table a b room =
+    matched-by bothWays pattern board table a b room (both-is (circuitOf pattern) (circuitOf board) (everything (circuitOf board)) (whole b))
+    (along-dual (match-call.front-along bothWays pattern board table (match-call.accepts bothWays pattern board table a b room)))
+
+-- on a connected pattern
+table-connected :
+    (pattern board : CircuitFile) (table : List ℕ) → Accepted Pattern pattern → Accepted Board board → nodesOf board ≤ length table →
+    let result = matching pattern board table in
+    (counts : RowCounts (Sets (graph pattern) (equal pattern board) (graph board)) (result .reply .counts))
+    × (take (nodesOf board) (result .table) ≡ counts .run .table (result .reply .counts .rounds))
+table-connected pattern board table c b room =
     let P = circuitOf pattern in
     let B = circuitOf board in
-    let most = accepted-bounded a .nodes in
-    let host = everything-same B (within-joins B (accepted-within b)) in
-    let along = along-matched bothWays pattern board table a b room in
-    let counted = match-call.counts-are bothWays pattern board table (along .accepted) in
-    record {
-      along = along;
-      largest = along-dual (along .largest);
-      connected = λ c.
-          let plain = answer-connected P B (everything B) most (accepted-connected c) in
-          let (run, ends) = row-run bothWays P B (everything B) most host (ap (λ (c : Counts). c .started) counted) (ap (λ (c : Counts). c .rounds) counted) in
-          (row-counts P B (everything B) most host (counted ∙ sym (plain .counted)), match-call.front-connected pattern board table c (along .accepted) ∙ sym ends);
-    }
+    let ok = match-call.accepts bothWays pattern board table (accepted-any c) b room in
+    let most = accepted-bounded c .nodes in
+    let plain = answer-connected P B (everything B) most (accepted-connected c) in
+    let (counts, last) = row-counts P B (everything B) most (whole b) (match-call.counts-are bothWays pattern board table ok ∙ sym (plain .counted)) in
+    (counts, match-call.front-connected pattern board table c ok ∙ sym last)
 
 -- the place calls' counts
 ball-counted :
     (pattern board : CircuitFile) (w r : ℕ) (lent : Lent) → Ready pattern board w lent →
-    RowCounts (graph pattern) (equal pattern board) (Ball (graph board) w r) (placed pattern board w r lent .reply .counts)
+    RowCounts (Sets (graph pattern) (equal pattern board) (Ball (graph board) w r)) (placed pattern board w r lent .reply .counts)
 unfolding placed
 ball-counted pattern board w r lent x =
     let P = circuitOf pattern in
     let B = circuitOf board in
     row-counts P B (ballOf B w r) (accepted-bounded (x .drawn) .nodes) (ball-host (accepted-admissible (x .drawn) (x .given)) w r)
-    (counts-are pattern board w r (lent .nodes) (lent .links) (lent .table) (lent .distances) (ready-sound x))
+    (counts-are pattern board w r (lent .nodes) (lent .links) (lent .table) (lent .distances) (ready-sound x)) .0
 
 -- an accepted writing call has written a file of the length replied
 written :
@@ -180,30 +199,10 @@ writes-back role file ks ps ss es out bytes e room =
     ap (λ (o : WriteOutcome). take (length (file .bytes)) (o .out)) (read-writes role file (of-bytes file bytes) ks ps ss es out _ _ (was-read role file ks ps ss es e) room)
     ∙ take-at (file .bytes) _ (length (file .bytes)) refl
 
--- the converter
-converts-back :
-    (role : Role) (to : Edition) (file : CircuitFile) (out out′ : List ℕ) → Below 256 (file .bytes) →
-    converting role to file out .reply .verdict ≡ accept → length (file .bytes) ≤ length out′ →
-    let new = inEdition to (take (getD (converting role to file out .reply .values) 0 0) (converting role to file out .out)) in
-    (circuitOf new ≡ circuitOf file)
-    × (take (length (file .bytes)) (converting role (file .edition) new out′ .out) ≡ file .bytes)
-converts-back role to file out out′ bytes ok room =
-    let s = convert-sound role to file out ok in
-    let o = convert-accepts role to file out s in
-    let size : getD (converting role to file out .reply .values) 0 0 ≡ lengthOf to (nodesOf file) (linksOf file) = ap (λ (o : ConvertOutcome). getD (o .reply .values) 0 0) o in
-    let front : take (lengthOf to (nodesOf file) (linksOf file)) (converting role to file out .out) ≡ convertedBytes to file =
-    ap (λ (o : ConvertOutcome). take (lengthOf to (nodesOf file) (linksOf file)) (o .out)) o
-    ∙ take-at (convertedBytes to file) _ _ (converted-length role to file (s .content)) in
-    rw size (
-      ap (λ (b : List ℕ). circuitOf (inEdition to b)) front ∙ converted-circuit role to file (s .content) (s .kept),
-      ap (λ (o : ConvertOutcome). take (length (file .bytes)) (o .out)) (there-and-back role to file out out′ (of-bytes file bytes) ok room)
-          ∙ take-at (file .bytes) _ (length (file .bytes)) refl,
-    )
-
 -- "The match table is the largest dual simulation, pair by pair as 01 reads it: each of its pairs holds, and every dual simulation lies inside
 -- it. Counts and rounds are those of 01's row of sets. A circuit written reads back as itself; an accepted file writes back to its own bytes."
 pub demand-2 : Demand2
-demand-2 = record { table = table-matched; ball = ball-counted; reads = reads-back; writes = writes-back; converts = converts-back }
+demand-2 = record { table = table-matched; connected = table-connected; ball = ball-counted; reads = reads-back; writes = writes-back }
 
 -- ---- Demand 3
 
@@ -237,15 +236,18 @@ own-found :
 unfolding placedOwn
 own-found pattern board w lent x r is = rw (radius-computed pattern (x .drawn) r is) (found-at pattern board w r lent x)
 
+-- the merging call accepts
+merge-accepts : {pattern : CircuitFile} {classes out : List ℕ} → Accepted Pattern pattern → Enough pattern classes out → merging pattern classes out .reply .verdict ≡ accept
+merge-accepts {pattern} {classes} {out} a room = merge-call.accepts pattern classes out (accepted-verdict a) (room .bytes) (room .file)
+
 -- the merged pattern
 merged-found :
     (pattern : CircuitFile) (classes out : List ℕ) (board : CircuitFile) (w : ℕ) (lent again : Lent) → Ready pattern board w lent → Room board again →
-    nodesOf pattern ≤ length classes → length (pattern .bytes) ≤ length out → (r : ℕ) → Radius (graph pattern) r →
+    Enough pattern classes out → (r : ℕ) → Radius (graph pattern) r →
     SameFound (nodesOf board) (linksOf board) (placed (mergedFile pattern (merging pattern classes out)) board w r again) (placedOwn pattern board w lent)
 unfolding placedOwn
-merged-found pattern classes out board w lent again x room n m r is =
-    let ok = merge-call.accepts pattern classes out (accepted-verdict (x .drawn)) n m in
-    rw (radius-computed pattern (x .drawn) r is) (merged-same pattern classes out ok board w r lent again x room)
+merged-found pattern classes out board w lent again x room enough r is =
+    rw (radius-computed pattern (x .drawn) r is) (merged-same pattern classes out (merge-accepts (x .drawn) enough) board w r lent again x room)
 
 -- "For every accepted pattern, board and centre, with tables long enough, 9 is given exactly when there is no perfect subgraph around the centre
 -- at the radius; else what is marked is one, and contains every other. The merged pattern, run at the first pattern's radius, is refused with 9
@@ -256,7 +258,8 @@ demand-3 =
       radius = λ pattern a. (radiusOf (circuitOf pattern), accepted-radius a, radius-fits a);
       own = own-found;
       given = found-at;
+      classes = λ pattern classes out table a enough room u v h k. merge-call.share-table pattern classes out (merge-accepts a enough) table room u v h k;
+      numbered = λ pattern classes out a enough. merge-call.bytes-rise pattern classes out (merge-accepts a enough);
+      made = λ pattern classes out a enough. merged-made a enough;
       merged = merged-found;
-      classes = λ pattern classes out table a n m room u v h k.
-          merge-call.share-table pattern classes out (merge-call.accepts pattern classes out (accepted-verdict a) n m) table room u v h k;
     }

@@ -8,7 +8,6 @@ use Rattle.graph.specs.Circuit.{circuitGraph, graphOf}
 use Rattle.graph.specs.Graph.{Graph, Distance, DistanceEntry, Radius}
 use Rattle.graph.proofs.Distance.{length-distances}
 use Rattle.graph.proofs.Walks.{radius-unique}
-use Rattle.file_format.specs.declared.Refusal.{Refusal}
 use Rattle.file_format.specs.declared.Role.the-variants.{Board}
 use Rattle.file_format.specs.Circuit.{circuitOf}
 use Rattle.file_format.specs.Layout.{CircuitFile, nodesOf, startsOf, endsOf}

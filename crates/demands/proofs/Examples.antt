@@ -6,7 +6,7 @@ use Rattle.base_lists.specs.List.{tabulate, maximum}
 use Rattle.base_lists.proofs.Tests.{T-false}
 use Rattle.graph.specs.Search.{distances, misses, ball, beside, inside, radius}
 use Rattle.table.specs.Examples.{circuitT, circuitB, twoWay, ring, anyTo20}
-use Rattle.table.specs.Refine.{countsBy, countsOf}
+use Rattle.table.specs.Refine.{countsBy}
 use Rattle.table.proofs.Counting.{struck-minus}
 use Rattle.table.proofs.Examples as table
 use Rattle.place.specs.Match.{radiusOf, found}

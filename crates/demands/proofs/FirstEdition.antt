@@ -1,31 +1,25 @@
 -- For files of the first edition all is as it was before there were packages: `first-edition`. Assumes nothing.
 use mathlib.Core.Bool.{Bool, true, false, _&&_, not}
 use mathlib.Core.List.{List, [], _∷_, _++_}
-use mathlib.Core.Logic.{_↔_}
-use mathlib.Core.Path.{_≡_, refl, sym, ap, subst, _∙_}
-use Prim.Native.Nat.{ℕ, _+_, _*_, _<_}
+use mathlib.Core.Path.{_≡_, refl, ap, _∙_}
+use Prim.Native.Nat.{ℕ, _+_, _*_}
 use native.Mathlib.Omega.{arith}
-use lib.Dec.{eqb, ltb}
-use borrow.Author.Tests.{ltb-true, ltb-false, le-ltb}
-use lib.ListN.{length, getD, drop, List·getD-eq-default}
-use Rattle.base_lists.specs.List.{Below}
+use lib.Dec.{eqb}
+use borrow.Author.Tests.{le-ltb}
+use lib.ListN.{length, drop}
 use Rattle.graph.specs.Circuit.{Circuit}
 use Rattle.file_format.specs.declared.Edition.the-variants.{First}
 use Rattle.file_format.specs.declared.Role.{Role}
 use Rattle.file_format.specs.Circuit.{circuitOf}
-use Rattle.file_format.specs.Label.{kindIn, packageIn}
 use Rattle.file_format.specs.Layout.{firstEdition, field, fields, nodesOf, linksOf, kindsOf, labelsOf, startsOf, endsOf}
 use Rattle.file_format.specs.Reading.{filled, readConditions, reading}
 use Rattle.file_format.specs.Refusals.{Condition, Verdict, accept, refuse, first, linkConditions, fileConditions, shortTable}
 use Rattle.file_format.specs.Role.{inRange, fileOf}
-use Rattle.file_format.proofs.FirstEdition.{first-packages, first-labels, first-length, first-labels-low}
-use Rattle.file_format.proofs.Labels.{plain-kind, plain-package}
+use Rattle.file_format.proofs.FirstEdition.{first-packages, first-labels, first-length}
 use Rattle.file_write.specs.Bytes.{stretchBytes, kindsFor, circuitBytes}
 use Rattle.file_write.specs.Writing.{packagesGiven, circuitConditions, writeConditions, writing}
 use Rattle.merge.specs.Merged.{merged}
-use Rattle.table.specs.Host.{KindMatches, KindsMatch}
 use Rattle.call_merge.specs.Call.{mergedBytes}
-use Rattle.demands.specs.Demands.{equal}
 use Rattle.demands.specs.FirstEdition.{circuitBefore, fileBefore, readingBefore, bytesBefore, writingBefore, FirstEdition}
 
 -- ---- what a file holds
@@ -112,30 +106,6 @@ merges-before : (file : List ℕ) → mergedBytes First (circuitOf (firstEdition
 unfolding mergedBytes circuitBytes kindsFor stretchBytes bytesBefore
 merges-before file = ap (λ (c : Circuit). bytesBefore (merged c)) (held-before file)
 
--- ---- which part and node are equal
-
-below-all : (k : ℕ) (l : List ℕ) → 0 < k → Below k l → (i : ℕ) → getD l i 0 < k
-unfolding Below
-below-all k l z b i = go (ltb i (length l)) refl
-  where
-    go : (t : Bool) → ltb i (length l) ≡ t → getD l i 0 < k
-    go true e = b i (ltb-true i (length l) e)
-    go false e = subst (λ (x : ℕ). x < k) (sym (List·getD-eq-default l 0 (ltb-false i (length l) e))) z
-
-kinds-low : (file : List ℕ) → Below 256 file → (u : ℕ) → getD (circuitBefore file .kinds) u 0 < 65536
-kinds-low file low =
-    subst (λ (l : List ℕ). (u : ℕ) → getD l u 0 < 65536) (kinds-before file)
-    (below-all 65536 (labelsOf (firstEdition file)) (omega arith) (first-labels-low file (below-all 256 file (omega arith) low)))
-
-plain-match : (a b : ℕ) → a < 65536 → b < 65536 → (KindMatches (kindIn a) (kindIn b) × (packageIn a ≡ packageIn b)) ↔ KindMatches a b
-plain-match a b h k = rw (plain-kind a h, plain-kind b k, plain-package a h, plain-package b k) (λ m. m .0, λ m. (m, refl))
-
-equals-before : (pattern board : List ℕ) → Below 256 pattern → Below 256 board → (u v : ℕ)
-    → equal (firstEdition pattern) (firstEdition board) u v ↔ KindMatches (getD (circuitBefore pattern .kinds) u 0) (getD (circuitBefore board .kinds) v 0)
-unfolding KindsMatch
-equals-before pattern board p b u v =
-    rw (kinds-before pattern, kinds-before board) (plain-match _ _ (kinds-low pattern p u) (kinds-low board b v))
-
 -- "a first-edition file counts as having all packages 0": nothing moved for it
 pub first-edition : FirstEdition
 first-edition =
@@ -145,5 +115,4 @@ first-edition =
       reads = reads-before;
       writes = writes-before;
       merges = merges-before;
-      equals = equals-before;
     }

@@ -33,8 +33,8 @@ use Rattle.call_match.proofs.Promise as match-call
 use Rattle.call_merge.specs.Call as call
 use Rattle.call_merge.specs.Classes.{classByte}
 use Rattle.call_merge.proofs.Promise as merge-call
-use Rattle.demands.specs.Demands.{graph, equal}
-use Rattle.demands.specs.Groupings.{Groups, groupedFile, Matches, Supposed, replied, Enough, Made, Such, NothingMore}
+use Rattle.demands.specs.Demands.{graph, equal, Enough, mergedFile, Made}
+use Rattle.demands.specs.Groupings.{Groups, groupedFile, Matches, Supposed, replied, Such, NothingMore}
 use Rattle.demands.proofs.Merged.{file-is}
 
 -- ---- what the table call leaves
@@ -162,6 +162,11 @@ module _ {pattern : CircuitFile} (a : Accepted Pattern pattern) where
     pub ours-such : Such pattern classes out
     ours-such =
         record { groups = our-groups; file = our-bytes ∙ sym (file-is pattern classes out ok); supposed = our-supposed }
+
+    -- the merged file is the pattern made of the classes
+    pub merged-made : Made pattern (classByte pattern classes out) (mergedFile pattern (call.merging pattern classes out))
+    merged-made =
+        subst (λ (file : CircuitFile). Made pattern (classByte pattern classes out) file) (our-bytes ∙ sym (file-is pattern classes out ok)) (grouped-made our-groups)
 
 -- "Then that grouping has at least as many groups as ours, and ours is itself such a grouping."
 pub nothing-more-joined : NothingMore

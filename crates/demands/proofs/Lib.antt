@@ -1,3 +1,4 @@
+pub mod Numbers
 pub mod Demands
 pub mod Decided
 pub mod Counts
@@ -16,3 +17,5 @@ pub mod Shelf
 pub mod Bounds
 pub mod OneWay
 pub mod Cutting
+pub mod Load
+pub mod Packages

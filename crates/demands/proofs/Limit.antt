@@ -2,7 +2,7 @@
 use mathlib.Core.Bool.{Bool, true, false, cond}
 use mathlib.Core.List.{List, [], _∷_, _++_}
 use mathlib.Core.Logic.{_↔_}
-use mathlib.Core.Path.{_≡_, refl, sym, ap, subst, subst₂, _∙_}
+use mathlib.Core.Path.{_≡_, refl, sym, ap, subst₂, _∙_}
 use Prim.Native.Nat.{ℕ, _≤_, _<_}
 use native.Mathlib.Omega.{arith}
 use lib.Dec.{ltb}
@@ -16,9 +16,8 @@ use Rattle.graph.proofs.Distance.{radius-is}
 use Rattle.graph.proofs.Walks.{radius-unique}
 use Rattle.file_format.specs.declared.Edition.{Edition}
 use Rattle.file_format.specs.declared.File.the-variants.{Neither}
-use Rattle.file_format.specs.declared.Refusal.{Refusal}
 use Rattle.file_format.specs.declared.Role.the-variants.{Pattern, Board}
-use Rattle.file_format.specs.Layout.{CircuitFile, firstEdition, lengthOf}
+use Rattle.file_format.specs.Layout.{CircuitFile, lengthOf}
 use Rattle.file_format.specs.Links.{linksBelow}
 use Rattle.file_format.specs.Reading.{ReadOutcome, readConditions, reading}
 use Rattle.file_format.specs.Refusals.{Verdict, accept, refuse, first, tooWide, eleven, without, asksConnected, linkConditions, fileConditions, centreOutside, shortTable, Accepted}
@@ -38,6 +37,9 @@ use Rattle.call_convert.specs.Call.{convertConditions, converting}
 use Rattle.call_distance.specs.Calls.{radiusCall}
 use Rattle.call_place.specs.Call.{roomConditions, inputConditions, placeAt}
 use Rattle.call_place.proofs.Promise.{input-refused}
+use Rattle.call_check.specs.Call.{checkConditions, checkCall}
+use Rattle.call_barring.specs.Call.{barInputs, barCall}
+use Rattle.call_barring.proofs.Promise as bar-call
 use Rattle.call_merge.specs.Call.{mergeConditions, merging}
 use Rattle.call_merge.proofs.Promise.{pattern-accepted, merged-accepted, merged-circuit}
 use Rattle.demands.specs.Demands.{graph, Lent, placed, mergedFile}
@@ -126,10 +128,17 @@ module _ (pattern : CircuitFile) (e : first (fileConditions Pattern pattern) ≡
   unfolding converting convertConditions
   turned-converts to out = reply-verdict _ _ ∙ first-refuse (fileConditions Pattern pattern) _ eleven e
 
-  turned-reports : (file board : List ℕ) → firstEdition file ≡ pattern → reportOf file board ≡ bytes "refused 11 pattern\n"
+  turned-checks : (board : CircuitFile) (w : ℕ) (nodes links : List ℕ) → checkCall pattern board w nodes links .verdict ≡ refuse eleven
+  unfolding checkCall checkConditions
+  turned-checks board w nodes links = reply-verdict _ _ ∙ first-refuse (pairConditions Pattern pattern board) _ eleven (pair-turned board)
+
+  turned-bars : (board : CircuitFile) (w : ℕ) (out : List ℕ) → barCall pattern board w out .reply .verdict ≡ refuse eleven
+  unfolding barInputs
+  turned-bars board w out = bar-call.verdict-is pattern board w out ∙ first-refuse (pairConditions Pattern pattern board) _ eleven (pair-turned board)
+
+  turned-reports : (board : CircuitFile) → reportOf pattern board ≡ bytes "refused 11 pattern\n"
   unfolding reportOf reportFor refusalLine fileWord bytes decimal digits
-  turned-reports file board own =
-      rw (first-refuse (fileConditions Pattern (firstEdition file)) (fileConditions Board (firstEdition board)) eleven (ap (λ (f : CircuitFile). first (fileConditions Pattern f)) own ∙ e))
+  turned-reports board = rw (first-refuse (fileConditions Pattern pattern) (fileConditions Board board) eleven e)
 
   turned-away : TurnedAway pattern
   turned-away =
@@ -139,6 +148,8 @@ module _ (pattern : CircuitFile) (e : first (fileConditions Pattern pattern) ≡
         places = turned-places;
         merges = turned-merges;
         converts = turned-converts;
+        checks = turned-checks;
+        bars = turned-bars;
         reports = turned-reports;
       }
 
@@ -181,11 +192,9 @@ module _ (pattern : CircuitFile) (a : Accepted Pattern pattern) where
   unfolding merging mergingBefore
   same-merges lent out = rw (same-merge (length lent) (length out))
 
-  same-reports : (file board : List ℕ) → firstEdition file ≡ pattern → reportOf file board ≡ reportBefore file board
+  same-reports : (board : CircuitFile) → reportOf pattern board ≡ reportBefore pattern board
   unfolding reportOf reportBefore pairConditions
-  same-reports file board own =
-      let same = subst (λ (f : CircuitFile). before (pairConditions Pattern f (firstEdition board)) ≡ first (pairConditions Pattern f (firstEdition board))) (sym own) (same-pair (firstEdition board)) in
-      rw same
+  same-reports board = rw (same-pair board)
 
   as-before : AsBefore pattern
   as-before =

@@ -2,7 +2,7 @@
 -- pattern is at that radius, and else marks the same nodes and links. Assumes nothing.
 use mathlib.Core.Bool.{Bool, cond}
 use mathlib.Core.List.{List, [], _∷_}
-use mathlib.Core.Logic.{Iff·rfl}
+use mathlib.Core.Logic.{⊎-elim}
 use mathlib.Core.Path.{_≡_, sym, ap, _∙_}
 use Prim.Native.Nat.{ℕ, _<_}
 use native.Mathlib.Omega.{arith}
@@ -18,7 +18,7 @@ use Rattle.file_format.proofs.Fields.{length-labels}
 use Rattle.place.specs.Match.{radiusOf}
 use Rattle.place.specs.Outcome.{placeVerdict}
 use Rattle.place.proofs.Accepted.{accepted-admissible}
-use Rattle.call_place.proofs.Promise.{inputs-accept, verdict-is, nodes-front, links-front}
+use Rattle.call_place.proofs.Promise.{inputs-accept, verdict-is, accept-or-nine, nodes-front, links-front}
 use Rattle.call_place.specs.Call.{inputConditions}
 use Rattle.call_distance.specs.Calls.{radiusCall}
 use Rattle.merge.proofs.Content.{accepted-content, content-within, content-radius, most-parts}
@@ -59,18 +59,27 @@ module _ (file : CircuitFile) (lent out : List ℕ) (ok : merging file lent out 
         ∙ ap (λ (b : Bool). cond b accept (refuse nine)) (sym (same .found))
         ∙ sym (verdict-is file board w r (tables .nodes) (tables .links) (tables .table) (tables .distances) (ready-sound x))
 
+    -- where 9 is not given, the call accepts
+    not-nine : (placed second board w r tables′ .reply .verdict ≡ refuse nine → ⊥) → placed second board w r tables′ .reply .verdict ≡ accept
+    unfolding placed nine
+    not-nine other =
+        ⊎-elim (λ ok. ok) (λ e. absurd (other e))
+        (accept-or-nine second board w r (tables′ .nodes) (tables′ .links) (tables′ .table) (tables′ .distances) (ready-sound merged-ready))
+
     -- at every radius, on every board and around every centre
     pub merged-same : SameFound (nodesOf board) (linksOf board) (placed second board w r tables′) (placed file board w r tables)
     unfolding placed
     merged-same =
         record {
-          nine = rw verdicts Iff·rfl;
+          verdict = verdicts;
           nodes =
-              λ e.
+              λ other.
+              let e = not-nine other in
               nodes-front second board w r (tables′ .nodes) (tables′ .links) (tables′ .table) (tables′ .distances) (ready-sound merged-ready) e ∙ sym (same .nodes)
               ∙ sym (nodes-front file board w r (tables .nodes) (tables .links) (tables .table) (tables .distances) (ready-sound x) (sym verdicts ∙ e));
           links =
-              λ e.
+              λ other.
+              let e = not-nine other in
               links-front second board w r (tables′ .nodes) (tables′ .links) (tables′ .table) (tables′ .distances) (ready-sound merged-ready) e ∙ sym (same .links)
               ∙ sym (links-front file board w r (tables .nodes) (tables .links) (tables .table) (tables .distances) (ready-sound x) (sym verdicts ∙ e));
         }

@@ -10,8 +10,8 @@ pub ask-8 : Ask8
 ask-8 =
     record {
       along = along-matched;
-      twoWays = λ pattern board result m. along-dual (m .largest);
-      oneWays = λ pattern board result m. along-graph (m .largest);
+      twoWays = λ pattern board S m. along-dual m;
+      oneWays = λ pattern board S m. along-graph m;
       refusals = λ pattern board table. match-call.verdict-is oneWay pattern board table ∙ sym (match-call.verdict-is bothWays pattern board table);
       contains = match-call.contains-two-way oneWay;
     }

@@ -1,49 +1,26 @@
 -- Ask 9: what the check says, and how it stands to the place call. Assumes nothing.
-use mathlib.Core.List.{List, []}
-use mathlib.Core.Path.{_≡_, refl, sym, _∙_}
+use mathlib.Core.List.{List}
+use mathlib.Core.Path.{_≡_, sym, _∙_}
 use Prim.Native.Nat.{ℕ}
 use lib.ListN.{length, take}
-use Rattle.graph.specs.Graph.{Contains, Radius}
+use Rattle.graph.specs.Graph.{Contains}
 use Rattle.graph.proofs.Walks.{radius-unique}
-use Rattle.file_format.specs.declared.Refusal.{Refusal}
 use Rattle.file_format.specs.Circuit.{circuitOf}
 use Rattle.file_format.specs.Layout.{CircuitFile, nodesOf, linksOf}
-use Rattle.file_format.specs.Refusals.{accept, refuse, first}
-use Rattle.file_format.specs.Reply.{reply}
+use Rattle.file_format.specs.Refusals.{accept, first}
 use Rattle.file_format.proofs.Accepted.{accepted-bounded}
 use Rattle.file_format.proofs.Fields.{length-labels, length-starts}
-use Rattle.file_format.proofs.Refusals.{accepts-iff, refuses-by}
 use Rattle.place.specs.Match.{radiusOf, placeNodes, placeLinks, markedGraph}
 use Rattle.place.proofs.Accepted.{accepted-admissible, accepted-radius}
 use Rattle.place.proofs.Marks.{nodes-marks, links-marks}
 use Rattle.proposal.proofs.Finder.{place-checks}
 use Rattle.call_place.proofs.Promise.{found-verdict, verdict-is, nodes-front, links-front}
 use Rattle.call_check.specs.Call.{checkConditions, checkCall}
-use Rattle.call_check.proofs.Promise.{inputs-accept, input-refused, yes-or-no, yes-iff, yes-test}
-use Rattle.demands.specs.Demands.{graph, Lent, Ready, placed, placedOwn, Decided, marked}
+use Rattle.call_check.proofs.Promise.{inputs-accept, yes-or-no, yes-iff, yes-test}
+use Rattle.demands.specs.Demands.{Lent, Ready, placed, placedOwn, marked}
 use Rattle.demands.specs.Proposals.{says-yes, Offered, Ask9}
-use Rattle.demands.proofs.Decided.{reply-verdict}
 use Rattle.demands.proofs.Demands.{demand-3}
 use Rattle.demands.proofs.Merged.{ready-sound}
-
--- ---- refusals
-
-check-verdict : (pattern board : CircuitFile) (w : ℕ) (nodes links : List ℕ) →
-    checkCall pattern board w nodes links .verdict ≡ first (checkConditions pattern board w (length nodes) (length links))
-unfolding checkCall
-check-verdict pattern board w nodes links = reply-verdict _ _
-
-check-decided : (pattern board : CircuitFile) (w : ℕ) (nodes links : List ℕ) →
-    Decided (checkConditions pattern board w (length nodes) (length links)) (checkCall pattern board w nodes links .verdict)
-    (checkCall pattern board w nodes links .values ≡ [])
-check-decided pattern board w nodes links =
-    let conditions = checkConditions pattern board w (length nodes) (length links) in
-    let e = check-verdict pattern board w nodes links in
-    record {
-      refused = λ x. rw e (refuses-by conditions x);
-      accepted = rw e (accepts-iff conditions);
-      kept = λ x r. rw (input-refused pattern board w nodes links x (sym e ∙ r)) refl;
-    }
 
 -- ---- yes or no
 
@@ -83,7 +60,6 @@ module _ (pattern board : CircuitFile) (w : ℕ) (lent : Lent) (x : Ready patter
 pub ask-9 : Ask9
 ask-9 =
     record {
-      decided = check-decided;
       answers = λ pattern board w nodes links o. yes-or-no pattern board w nodes links (sound pattern board w nodes links o);
       exactly = λ pattern board w nodes links o r is.
           rw (← radius-unique (accepted-radius (o .drawn)) is) (yes-iff pattern board w nodes links (sound pattern board w nodes links o));

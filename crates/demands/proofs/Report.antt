@@ -1,20 +1,28 @@
 -- What a line of the report means, by the place call at the pattern's radius: where the call accepts, the centre has a line, with the nodes and
 -- the links that the call marks; where it gives 9, it has none. call_place/proofs/Promise says what the call's answers mean. Assumes nothing.
-use mathlib.Core.List.{List, []}
+use mathlib.Core.List.{List, [], _++_}
 use mathlib.Core.Logic.{_↔_}
 use mathlib.Core.Path.{_≡_, sym, _∙_}
 use Prim.Native.Nat.{ℕ}
+use native.Mathlib.Nat.{le-trans}
 use lib.Dec.{T}
 use lib.ListN.{take}
+use Rattle.base_lists.specs.Below.{countBelow, concatBelow}
 use Rattle.base_lists.proofs.Tests.{T-true, T-false}
+use Rattle.file_format.specs.declared.Refusal.{Refusal}
 use Rattle.file_format.specs.Circuit.{circuitOf}
 use Rattle.file_format.specs.Layout.{CircuitFile, nodesOf, linksOf, startsOf, endsOf}
 use Rattle.file_format.specs.Refusals.{accept, refuse}
+use Rattle.file_format.proofs.Fields.{length-labels}
+use Rattle.file_pair.specs.Pair.{pairConditions}
 use Rattle.place.specs.Match.{radiusOf, found}
 use Rattle.place.specs.Outcome.{PlaceOutcome, placeVerdict}
 use Rattle.call_place.proofs.Promise.{verdict-is, found-verdict, none-verdict, nodes-front, links-front}
-use Rattle.report.specs.Report.{nodeItems, linkItems, placeLine, hasPlace, centreLine}
+use Rattle.report.specs.Report.{nodeItems, linkItems, placeLine, hasPlace, centreLine, endLine, refusalLine, linesOf, reportFor, reportOf}
+use Rattle.call_report.specs.Call.{verdictOf}
+use Rattle.call_report.proofs.Promise.{items-few, report-whole}
 use Rattle.demands.specs.Demands.{Lent, Ready, placed, placedOwn, nine}
+use Rattle.demands.specs.Report.{Reported}
 use Rattle.demands.proofs.Merged.{ready-sound}
 
 module _ (pattern board : CircuitFile) (w : ℕ) (lent : Lent) (x : Ready pattern board w lent) where
@@ -52,3 +60,26 @@ module _ (pattern board : CircuitFile) (w : ℕ) (lent : Lent) (x : Ready patter
         λ t. is ∙ rw (T-true {b = found (circuitOf pattern) (circuitOf board) w r} t),
         λ e. found-verdict (circuitOf pattern) (circuitOf board) w r (sym is ∙ e),
       )
+
+-- by whether a file is refused
+module _ (pattern board : CircuitFile) where
+  one-line : (x : Refusal) → verdictOf pattern board ≡ refuse x → reportOf pattern board ≡ refusalLine x
+  unfolding reportOf reportFor pairConditions
+  one-line x e = rw e
+
+  all-lines : verdictOf pattern board ≡ accept → let P = circuitOf pattern in let B = circuitOf board in
+      reportOf pattern board ≡ concatBelow (nodesOf board) (centreLine P B) ++ endLine (countBelow (nodesOf board) (hasPlace P B)) (nodesOf board)
+  unfolding reportOf reportFor linesOf pairConditions
+  all-lines e = rw (e, length-labels board)
+
+-- The report's text: of calls one after another, and line by line.
+pub reported : Reported
+reported =
+    record {
+      whole = λ pattern board buffers rooms k h. report-whole pattern board buffers rooms k (le-trans (items-few pattern board) h);
+      refused = one-line;
+      lines = all-lines;
+      place = line-place;
+      none = line-none;
+      counted = has-place;
+    }

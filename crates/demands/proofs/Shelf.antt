@@ -10,22 +10,19 @@ use lib.Seq.{take-at, drop-at}
 use Rattle.file_format.specs.declared.Refusal.{Refusal}
 use Rattle.file_format.specs.declared.Role.the-variants.{Pattern}
 use Rattle.file_format.specs.Reading.{filled}
-use Rattle.file_format.specs.Refusals.{Verdict, accept, refuse, Accepted, FirstHolding, fileConditions, first, shortTable}
+use Rattle.file_format.specs.Refusals.{Verdict, accept, refuse, Accepted, fileConditions, first, shortTable}
 use Rattle.file_format.specs.Reply.{reply}
-use Rattle.file_format.proofs.Refusals.{accepted, accepted-verdict, accepts-iff, refuses-by}
+use Rattle.file_format.proofs.Refusals.{accepted, accepted-verdict}
 use Rattle.order.specs.declared.Order.{Order}
 use Rattle.order.specs.declared.Order.the-variants.{Equal}
 use Rattle.order.proofs.Laws.{whole-order, total, antisymmetric, transitive}
 use Rattle.order_files.specs.Files.{secondEdition, compareFiles}
-use Rattle.call_compare.specs.declared.CompareAnswer.{CompareAnswer}
 use Rattle.call_compare.specs.declared.CompareAnswer.the-variants as answer
-use Rattle.call_compare.specs.declared.Which.{Which}
 use Rattle.call_compare.specs.declared.Which.the-variants as which
 use Rattle.call_compare.specs.Call.{verdictFor, comparedBy, comparing}
 use Rattle.call_compare.proofs.Files.{equal-files, equal-circuits}
 use Rattle.call_shelf.specs.Shelf.{isAccepted, fileAt, acceptedIn, shelfOf, shelvingOf, shelving}
 use Rattle.call_shelf.proofs.Meaning.{shelf-in-order, shelf-once, shelf-one}
-use Rattle.demands.specs.Demands.{Decided}
 use Rattle.demands.specs.Shelf.{PatternFile, filesIn, Ask10}
 use Rattle.demands.proofs.Decided.{reply-verdict}
 use Rattle.demands.proofs.Demands.{of-bytes}
@@ -66,20 +63,16 @@ module _ (a b : List ℕ) where
     λ e. let h = e .0 in let z : _≡_ {A = ℕ} 0 1 = cc in absurd (omega arith),
   )
 
-  refused-first : (x : Refusal) → (comparing a b ≡ answer.Refused x which.First) ↔ FirstHolding (fileConditions Pattern (secondEdition a)) x
+  refused-first : (x : Refusal) → (comparing a b ≡ answer.Refused x which.First) ↔ (first (fileConditions Pattern (secondEdition a)) ≡ refuse x)
   unfolding comparing
-  refused-first x =
-      let told = first-refused (verdictFor a) (verdictFor b) (compareFiles a b) x in
-      let by = refuses-by (fileConditions Pattern (secondEdition a)) x in
-      (λ e. by .0 (told .0 e), λ h. told .1 (by .1 h))
+  refused-first x = first-refused (verdictFor a) (verdictFor b) (compareFiles a b) x
 
   refused-second : (x : Refusal) →
-      (comparing a b ≡ answer.Refused x which.Second) ↔ (Accepted Pattern (secondEdition a) × FirstHolding (fileConditions Pattern (secondEdition b)) x)
+      (comparing a b ≡ answer.Refused x which.Second) ↔ (Accepted Pattern (secondEdition a) × (first (fileConditions Pattern (secondEdition b)) ≡ refuse x))
   unfolding comparing
   refused-second x =
       let told = second-refused (verdictFor a) (verdictFor b) (compareFiles a b) x in
-      let by = refuses-by (fileConditions Pattern (secondEdition b)) x in
-      (λ e. (accepted Pattern (secondEdition a) (told .0 e .0), by .0 (told .0 e .1)), λ h. told .1 (accepted-verdict (h .0), by .1 (h .1)))
+      (λ e. (accepted Pattern (secondEdition a) (told .0 e .0), told .0 e .1), λ h. told .1 (accepted-verdict (h .0), h .1))
 
 -- ---- the shelf
 
@@ -98,21 +91,6 @@ module _ (bytes lengths order : List ℕ) where
   verdict-is : shelving bytes lengths order .reply .verdict ≡ first (shortTable (length numbers) (length order) ∷ [])
   unfolding shelving shelvingOf
   verdict-is = reply-verdict _ _
-
-  kept : (x : Refusal) → first (shortTable (length numbers) (length order) ∷ []) ≡ refuse x →
-      (shelving bytes lengths order .reply .values ≡ []) × (shelving bytes lengths order .order ≡ order)
-  unfolding shelving shelvingOf reply filled
-  kept x e = (rw e, rw e)
-
-  decided : Decided (shortTable (length numbers) (length order) ∷ []) (shelving bytes lengths order .reply .verdict)
-      ((shelving bytes lengths order .reply .values ≡ []) × (shelving bytes lengths order .order ≡ order))
-  decided =
-      let conditions = shortTable (length numbers) (length order) ∷ [] in
-      record {
-        refused = λ x. rw verdict-is (refuses-by conditions x);
-        accepted = rw verdict-is (accepts-iff conditions);
-        kept = λ x q. kept x (sym verdict-is ∙ q);
-      }
 
   put : shelving bytes lengths order .reply .verdict ≡ accept →
       (shelving bytes lengths order .reply .values ≡ length numbers ∷ [])
@@ -134,12 +112,11 @@ ask-10 =
       files = same-bytes;
       compared = compared;
       equal = equal;
-      first = refused-first;
-      second = refused-second;
+      refusedFirst = refused-first;
+      refusedSecond = refused-second;
       accepts = accepts;
       ordered = shelf-in-order;
       once = shelf-once;
       only = λ files numbers h. shelf-one files h;
-      decided = decided;
       put = put;
     }

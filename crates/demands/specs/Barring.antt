@@ -4,19 +4,21 @@ use mathlib.Core.List.{List, [], _∷_}
 use mathlib.Core.Logic.{_↔_}
 use mathlib.Core.Path.{_≡_}
 use Prim.Native.Nat.{ℕ, _≤_}
+use lib.Dec.{T}
 use lib.ListN.{length, take, drop}
 use Rattle.graph.specs.Chosen.{ChosenLink}
 use Rattle.graph.specs.Graph.{Radius}
 use Rattle.simulation.specs.Closed.{Relation, _⊆_}
 use Rattle.file_format.specs.declared.File.the-variants.{Neither}
 use Rattle.file_format.specs.declared.Refusal.{Refusal}
+use Rattle.file_format.specs.declared.Role.the-variants.{Pattern, Board}
 use Rattle.file_format.specs.Circuit.{circuitOf}
 use Rattle.file_format.specs.Layout.{CircuitFile, linksOf}
-use Rattle.file_format.specs.Refusals.{accept, refuse}
+use Rattle.file_format.specs.Refusals.{accept, refuse, Accepted}
 use Rattle.barring.specs.Barring.{Bars}
-use Rattle.barring.specs.Least.{least, keptCount}
-use Rattle.call_barring.specs.Call.{barInputs, barCall}
-use Rattle.demands.specs.Demands.{graph, equal, Lent, Ready, placedOwn, Decided, nine}
+use Rattle.barring.specs.Least.{bars, least, keptCount}
+use Rattle.call_barring.specs.Call.{barCall}
+use Rattle.demands.specs.Demands.{graph, equal, Lent, Ready, placedOwn, nine}
 
 -- number 15, of neither file
 abbrev pub fifteen : Refusal
@@ -32,11 +34,8 @@ abbrev pub Marked : CircuitFile → List ℕ → Relation
 Marked pattern out = ChosenLink (circuitOf pattern) (take (linksOf pattern) out)
 
 pub record Ask14 : Type 1 where
-  -- Each call, on every input: the conditions of the files, 7, "the pattern's M bytes, length under 8", "15, the centre has a place, checked after 8".
-  -- A refusal has no value and leaves the bytes as they were.
-  pub decided : (pattern board : CircuitFile) (w : ℕ) (out : List ℕ) →
-      Decided (barInputs pattern board w (length out)) (barCall pattern board w out .reply .verdict)
-      ((barCall pattern board w out .reply .values ≡ []) × (barCall pattern board w out .out ≡ out))
+  -- (On every input: the conditions of the files, 7, "the pattern's M bytes, length under 8", "15, the centre has a place, checked after 8": specs/Demands
+  -- `bars`.)
   -- "When a centre gives 9": on every accepted pattern, board and centre, with bytes long enough, there is an answer exactly where the place call at the
   -- pattern's radius gives 9, and 15 exactly where it finds a place.
   pub answers : (pattern board : CircuitFile) (w : ℕ) (lent : Lent) (out : List ℕ) → Ready pattern board w lent → linksOf pattern ≤ length out →
@@ -46,6 +45,9 @@ pub record Ask14 : Type 1 where
   -- "Start from all links": they bar together exactly where there is an answer.
   pub begins : (pattern board : CircuitFile) (w : ℕ) (lent : Lent) (out : List ℕ) → Ready pattern board w lent → linksOf pattern ≤ length out →
       (barCall pattern board w out .reply .verdict ≡ accept) ↔ Barring pattern board w (graph pattern .Link)
+  -- The procedure's test of a choice of links, by a byte for each, is that they bar.
+  pub tests : (pattern board : CircuitFile) (w r : ℕ) (marks : List ℕ) → Accepted Pattern pattern → Accepted Board board → Radius (graph pattern) r →
+      T (bars (circuitOf pattern) (circuitOf board) w r marks) ↔ Barring pattern board w (ChosenLink (circuitOf pattern) marks)
   -- "go through them in file order and drop each one without which the rest still bars. The answer is a byte per link, 1 for kept": the bytes are those of
   -- that procedure, those past the pattern's M stay, and "the reply is how many are 1".
   pub bytes : (pattern board : CircuitFile) (w : ℕ) (out : List ℕ) → barCall pattern board w out .reply .verdict ≡ accept → (r : ℕ) → Radius (graph pattern) r →

@@ -1,27 +1,24 @@
 -- Ask 12, "A link through a few parts", quoted over what is proved of it: `Ask12`. proofs/Bounds proves it. The contract of the call equates its reply
 -- and what it leaves with `boundedMatching` of the inputs alone. A pattern of the third edition is its bytes; the board is of either edition.
-use mathlib.Core.List.{List, map}
+use mathlib.Core.List.{List}
 use mathlib.Core.Logic.{_↔_}
 use mathlib.Core.Path.{_≡_}
-use Prim.Native.Nat.{ℕ, _-_, _≤_, _<_}
-use lib.Count.{ones}
-use lib.ListN.{length, take, drop, replicate}
-use Rattle.base_lists.specs.List.{sum}
+use Prim.Native.Nat.{ℕ, _≤_}
+use lib.ListN.{length, take}
 use Rattle.simulation.specs.Closed.{_⊆_}
 use Rattle.file_format.specs.declared.Role.the-variants.{Board, AnyPattern}
 use Rattle.file_format.specs.Circuit.{circuitOf}
 use Rattle.file_format.specs.Layout.{CircuitFile, field, nodesOf}
-use Rattle.file_format.specs.Refusals.{accept, NoneHolds, Accepted}
-use Rattle.table.specs.Reply.{noCounts}
+use Rattle.file_format.specs.Refusals.{accept, first, Accepted}
 use Rattle.table.specs.Row.{InTable}
 use Rattle.file_bounds.specs.Third.{boundedLength, frontOf, boundsOf, thirdConditions}
 use Rattle.bounded.specs.Simulation.{LargestBounded}
 use Rattle.bounded.specs.Problem.{Bounds, boundedGraph}
 use Rattle.bounded.specs.Raised.{Raised, AllOne}
-use Rattle.bounded.specs.Run.{BoundedRun}
-use Rattle.call_match.specs.Call.{TableOutcome, matching}
-use Rattle.call_bounded.specs.Call.{boundedConditions, boundedMatching}
-use Rattle.demands.specs.Demands.{graph, equal, Decided}
+use Rattle.bounded.specs.Run.{BoundedSets}
+use Rattle.call_match.specs.Call.{matching}
+use Rattle.call_bounded.specs.Call.{boundedMatching}
+use Rattle.demands.specs.Demands.{graph, equal, Matched}
 
 -- "A pattern file of a third edition has a third parallel array after the ends: a bound for each link, 1 to 4. .. The length is 4 + 4N + 6M.": such a
 -- file, where what stands before the bounds is a second-edition file of a pattern, connected or not
@@ -30,38 +27,17 @@ pub record ThirdEdition (pattern : List ℕ) : Type 0 where
   pub drawn : Accepted AnyPattern (frontOf pattern)
   pub bounds : Bounds (circuitOf (frontOf pattern)) (boundsOf pattern)
 
--- What the call comes to. "A pattern link with bound h is then met by a directed path of 1 to h board links": the table is the largest set of pairs in
--- which every link is met so. "with its counts, all-0 rule": the counts are those of the row with these steps and moves, which is run to its end; its
--- last set is the table, or the table is all 0.
-pub record BoundedMatched (pattern : List ℕ) (board : CircuitFile) (table : List ℕ) (result : TableOutcome) : Type 1 where
-  pub accepted : result .reply .verdict ≡ accept
-  pub largest :
-      LargestBounded (boundedGraph (circuitOf (frontOf pattern)) (boundsOf pattern)) (equal (frontOf pattern) board) (graph board)
-      (InTable (take (nodesOf board) (result .table)))
-  pub run :
-      BoundedRun (circuitOf (frontOf pattern)) (boundsOf pattern) (circuitOf board) (result .reply .counts .started) (result .reply .counts .rounds)
-  pub kept : result .reply .counts .kept ≡ sum (map ones (take (nodesOf board) (result .table)))
-  pub struck : result .reply .counts .struck ≡ result .reply .counts .started - result .reply .counts .kept
-  pub found :
-      ((u : ℕ) → u < nodesOf (frontOf pattern) → (v : ℕ) × InTable (run .table (result .reply .counts .rounds)) u v) →
-      take (nodesOf board) (result .table) ≡ run .table (result .reply .counts .rounds)
-  pub missing :
-      (u : ℕ) → u < nodesOf (frontOf pattern) → ((v : ℕ) → InTable (run .table (result .reply .counts .rounds)) u v → ⊥) →
-      take (nodesOf board) (result .table) ≡ replicate (nodesOf board) 0
-  -- the entries past N stay
-  pub rest : drop (nodesOf board) (result .table) ≡ drop (nodesOf board) table
-
 pub record Ask12 : Type 1 where
-  -- On every input: 1, 2 and 3 with the third edition's length, 4, 5, "13, a bound outside 1 to 4, checked after the pattern's 5 and before the board's
-  -- 1", the board's 1 to 5, 8. A refusal has no counts and leaves the table as it was.
-  pub decided : (pattern : List ℕ) (board : CircuitFile) (table : List ℕ) →
-      Decided (boundedConditions pattern board (length table)) (boundedMatching pattern board table .reply .verdict)
-      ((boundedMatching pattern board table .reply .counts ≡ noCounts) × (boundedMatching pattern board table .table ≡ table))
+  -- (On every input: 1, 2 and 3 with the third edition's length, 4, 5, "13, a bound outside 1 to 4, checked after the pattern's 5 and before the board's
+  -- 1", the board's 1 to 5, 8: specs/Demands `bounds`.)
   -- the files that none of the pattern's conditions refuses
-  pub reads : (pattern : List ℕ) → NoneHolds (thirdConditions pattern) ↔ ThirdEdition pattern
-  -- for every accepted pattern of the third edition and every accepted board of either edition
+  pub reads : (pattern : List ℕ) → (first (thirdConditions pattern) ≡ accept) ↔ ThirdEdition pattern
+  -- "A pattern link with bound h is then met by a directed path of 1 to h board links, end to end": the table is the largest set of pairs in which every
+  -- link is met so, "with its counts, all-0 rule": specs/Demands `Matched`, of the row with these steps and moves
   pub matches : (pattern : List ℕ) (board : CircuitFile) (table : List ℕ) → ThirdEdition pattern → Accepted Board board → nodesOf board ≤ length table →
-      BoundedMatched pattern board table (boundedMatching pattern board table)
+      let file = frontOf pattern in
+      Matched (BoundedSets (circuitOf file) (boundsOf pattern) (circuitOf board))
+      (LargestBounded (boundedGraph (circuitOf file) (boundsOf pattern)) (equal file board) (graph board)) (nodesOf file) (nodesOf board) table (boundedMatching pattern board table)
   -- "With all bounds 1 the table and counts are those of the second edition": the whole reply and the table, refusals too, for every byte string of
   -- the third edition's length
   pub second : (pattern : List ℕ) (board : CircuitFile) (table : List ℕ) → length pattern ≡ boundedLength (field pattern 0) (field pattern 2) →

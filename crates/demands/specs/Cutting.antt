@@ -12,7 +12,7 @@ use Rattle.simulation.specs.Simulation.{Largest}
 use Rattle.file_format.specs.declared.File.the-variants.{Neither}
 use Rattle.file_format.specs.declared.Refusal.{Refusal}
 use Rattle.file_format.specs.Layout.{CircuitFile, nodesOf, linksOf, startsOf, endsOf}
-use Rattle.file_format.specs.Refusals.{Verdict, accept, refuse, first, shortTable}
+use Rattle.file_format.specs.Refusals.{Verdict, accept, refuse, shortTable}
 use Rattle.file_format.specs.Reply.{Reply, reply}
 use Rattle.table.specs.Fill.{listed}
 use Rattle.table.specs.Row.{InTable}
@@ -42,11 +42,9 @@ leftOf board places =
     }
 
 pub record Ask13 : Type 1 where
-  -- "opening refuses as Ask 7's call does but for 8"
+  -- "opening refuses as Ask 7's call does but for 8" (that it is so decided, and leaves the tables on a refusal: specs/Demands `opens`)
   pub conditions : (pattern board : CircuitFile) (lent : ℕ) →
       matchConditions pattern board lent ≡ openConditions pattern board ++ (shortTable (nodesOf board) lent ∷ [])
-  pub refused : (pattern board : CircuitFile) (before after : State) (said : Verdict) → OpenPromise pattern board before said after →
-      (said ≡ first (openConditions pattern board)) × ((x : Refusal) → said ≡ refuse x → after ≡ before)
   -- "For every list of cuts from a fresh session, .. each reply in the list is the machine's": 'cut' for a link that is left, and "A cut of a link already
   -- out, or of a place not below M, changes nothing and its reply is 14."
   pub replies : (pattern board : CircuitFile) (before opened after : State) (places : List ℕ) (said : List Verdict) →

@@ -1,20 +1,30 @@
--- Document 01's examples of files: T and B as bytes, and the table of refusals, as statements about the definitions, in a single list.
--- proofs/Files proves the list.
-use mathlib.Core.List.{[], _∷_}
+-- Document 01's examples of files, T and B as bytes, and the table of refusals; T in the editions that document 02 adds, an example of each number that it
+-- adds, and of the numbers that a host program tells. As statements about the definitions, in a single list: proofs/Files proves the list.
+use mathlib.Core.Bool.{true, false}
+use mathlib.Core.List.{List, [], _∷_, _++_}
 use mathlib.Core.Path.{_≡_}
 use Prim.Native.Nat.{ℕ}
-use Rattle.file_format.specs.declared.Edition.the-variants.{First}
+use Rattle.file_format.specs.declared.Edition.the-variants.{First, Second}
 use Rattle.file_format.specs.declared.File.{File}
 use Rattle.file_format.specs.declared.File.the-variants as file
 use Rattle.file_format.specs.declared.Role.the-variants.{Pattern, Board}
 use Rattle.file_format.specs.Circuit.{circuitOf}
-use Rattle.file_format.specs.Examples.{fileT, fileB}
-use Rattle.file_format.specs.Layout.{firstEdition}
+use Rattle.file_format.specs.Examples.{fileT, fileB, fileOne}
+use Rattle.file_format.specs.Layout.{firstEdition, inEdition, kindsOf, packagesOf, startsOf, endsOf, linksOf}
 use Rattle.file_format.specs.Reading.{reading}
-use Rattle.file_format.specs.Refusals.{Verdict, refuse, first, fileConditions}
+use Rattle.file_format.specs.Refusals.{Verdict, accept, refuse, first, fileConditions}
 use Rattle.table.specs.Examples.{circuitT, circuitB}
 use Rattle.file_write.specs.Bytes.{fileBytes}
+use Rattle.file_bounds.specs.Third.{frontOf, boundsOf, thirdConditions}
+use Rattle.graph_neighbours.specs.Lookup.{neighboursOf}
+use Rattle.call_convert.specs.Call.{converting}
+use Rattle.call_load.specs.Call.{loading}
 use Rattle.call_distance.specs.Calls.{ballConditions}
+use Rattle.call_bounded.specs.Call.{boundedMatching}
+use Rattle.call_barring.specs.Call.{barCall}
+use Rattle.call_file.specs.Told.{asRole}
+use Rattle.heronditch_told.specs.Told.{told, isThird, roleOf, directionOf}
+use Rattle.demands.specs.Cutting.{cutReplies}
 use Rattle.demands.specs.Examples.{Statements, done, _also_}
 
 -- number and file
@@ -61,5 +71,103 @@ unfoldable pub R8 : Type 0
 R8 = reading Pattern (firstEdition fileT) (0 ∷ 0 ∷ []) [] (0 ∷ 0 ∷ []) (0 ∷ 0 ∷ []) .reply .verdict ≡ refused 8 file.Neither
 
 -- 9 is E4's
+
+-- ---- the other editions
+
+-- T "of the second edition": the packages 1, 2, 3 "between kinds and starts"
+unfoldable pub secondT : List ℕ
+secondT = 3 ∷ 0 ∷ 2 ∷ 0 ∷ 10 ∷ 0 ∷ 20 ∷ 0 ∷ 30 ∷ 0 ∷ 1 ∷ 0 ∷ 2 ∷ 0 ∷ 3 ∷ 0 ∷ 0 ∷ 0 ∷ 1 ∷ 0 ∷ 1 ∷ 0 ∷ 2 ∷ 0 ∷ []
+
+unfoldable pub ReadSecond : Type 0
+ReadSecond =
+    let file = inEdition Second secondT in
+    (kindsOf file ≡ circuitT .kinds) × (packagesOf file ≡ 1 ∷ 2 ∷ 3 ∷ []) × (startsOf file ≡ circuitT .starts) × (endsOf file ≡ circuitT .ends)
+    × (fileBytes Second (circuitT .kinds) (1 ∷ 2 ∷ 3 ∷ []) (circuitT .starts) (circuitT .ends) ≡ secondT) × (first (fileConditions Pattern file) ≡ accept)
+
+-- "of a third edition": the bounds 1 and 4 "after the ends"
+unfoldable pub thirdT : List ℕ
+thirdT = 3 ∷ 0 ∷ 2 ∷ 0 ∷ 10 ∷ 0 ∷ 20 ∷ 0 ∷ 30 ∷ 0 ∷ 1 ∷ 0 ∷ 2 ∷ 0 ∷ 3 ∷ 0 ∷ 0 ∷ 0 ∷ 1 ∷ 0 ∷ 1 ∷ 0 ∷ 2 ∷ 0 ∷ 1 ∷ 0 ∷ 4 ∷ 0 ∷ []
+
+unfoldable pub ReadThird : Type 0
+ReadThird = (frontOf thirdT ≡ inEdition Second secondT) × (boundsOf thirdT ≡ 1 ∷ 4 ∷ []) × (first (thirdConditions thirdT) ≡ accept)
+
+-- ---- the numbers that document 02 adds
+
+-- one part of kind 10 and package 1, and the same with a link to itself
+unfoldable pub packed : List ℕ
+packed = 1 ∷ 0 ∷ 0 ∷ 0 ∷ 10 ∷ 0 ∷ 1 ∷ 0 ∷ []
+
+unfoldable pub looped : List ℕ
+looped = 1 ∷ 0 ∷ 1 ∷ 0 ∷ 10 ∷ 0 ∷ 1 ∷ 0 ∷ 0 ∷ 0 ∷ 0 ∷ 0 ∷ []
+
+-- 3 "its length is 4 + 4N + 4M": one part without a package; "The length is 4 + 4N + 6M": a link without a bound
+unfoldable pub R3Editions : Type 0
+R3Editions = (first (fileConditions Board (inEdition Second fileOne)) ≡ refused 3 file.Board) × (first (thirdConditions looped) ≡ refused 3 file.Pattern)
+
+-- 10 "one of the four numbers out of its range, checked ahead of 8": N = 513, and no byte lent
+unfoldable pub R10 : Type 0
+R10 = (seed : ℕ) → loading seed 513 0 1 [] .reply .verdict ≡ refused 10 file.Neither
+
+-- 11 "pattern radius above 12": 14 parts in a row
+unfoldable pub rowOf14 : List ℕ
+rowOf14 =
+    14 ∷ 0 ∷ 13 ∷ 0 ∷ 1 ∷ 0 ∷ 1 ∷ 0 ∷ 1 ∷ 0 ∷ 1 ∷ 0 ∷ 1 ∷ 0 ∷ 1 ∷ 0 ∷ 1 ∷ 0 ∷ 1 ∷ 0 ∷ 1 ∷ 0 ∷ 1 ∷ 0 ∷ 1 ∷ 0 ∷ 1 ∷ 0 ∷ 1 ∷ 0 ∷ 1 ∷ 0 ∷
+    0 ∷ 0 ∷ 1 ∷ 0 ∷ 2 ∷ 0 ∷ 3 ∷ 0 ∷ 4 ∷ 0 ∷ 5 ∷ 0 ∷ 6 ∷ 0 ∷ 7 ∷ 0 ∷ 8 ∷ 0 ∷ 9 ∷ 0 ∷ 10 ∷ 0 ∷ 11 ∷ 0 ∷ 12 ∷ 0 ∷
+    1 ∷ 0 ∷ 2 ∷ 0 ∷ 3 ∷ 0 ∷ 4 ∷ 0 ∷ 5 ∷ 0 ∷ 6 ∷ 0 ∷ 7 ∷ 0 ∷ 8 ∷ 0 ∷ 9 ∷ 0 ∷ 10 ∷ 0 ∷ 11 ∷ 0 ∷ 12 ∷ 0 ∷ 13 ∷ 0 ∷ []
+
+unfoldable pub R11 : Type 0
+R11 = first (fileConditions Pattern (firstEdition rowOf14)) ≡ refused 11 file.Pattern
+
+-- 12 "converting to the first edition a file with a package other than 0, .. ahead of 8": no byte lent
+unfoldable pub R12 : Type 0
+R12 = converting Board First (inEdition Second packed) [] .reply .verdict ≡ refused 12 file.Board
+
+-- 13 "a bound outside 1 to 4, .. before the board's 1": 5, and a board of no byte
+unfoldable pub R13 : Type 0
+R13 = boundedMatching (looped ++ (5 ∷ 0 ∷ [])) (firstEdition []) [] .reply .verdict ≡ refused 13 file.Pattern
+
+-- 14 "A cut of a link already out, or of a place not below M": links 1, 1 again and 3 of B
+unfoldable pub R14 : Type 0
+R14 = cutReplies (linksOf (firstEdition fileB)) [] (1 ∷ 1 ∷ 3 ∷ []) ≡ accept ∷ refused 14 file.Neither ∷ refused 14 file.Neither ∷ []
+
+-- 15 "the centre has a place": one part on a board of one node
+unfoldable pub R15 : Type 0
+R15 = barCall (firstEdition fileOne) (firstEdition fileOne) 0 [] .reply .verdict ≡ refused 15 file.Neither
+
+-- ---- the numbers by which a host program tells an edition, a role and a direction: 0, 1, 2, 3, 4
+
+-- what reading a pattern comes to by the number of its edition
+unfoldable pub byEdition : List ℕ → List Verdict
+byEdition bytes =
+    let asked : ℕ → Verdict = λ e. first (fileConditions Pattern (told bytes e)) in
+    asked 0 ∷ asked 1 ∷ asked 2 ∷ asked 3 ∷ asked 4 ∷ []
+
+-- 0 and 1 the first edition, the others the second
+unfoldable pub ToldEdition : Type 0
+ToldEdition =
+    let three = refused 3 file.Pattern in
+    (byEdition fileT ≡ accept ∷ accept ∷ three ∷ three ∷ three ∷ []) × (byEdition secondT ≡ three ∷ three ∷ accept ∷ accept ∷ accept ∷ [])
+
+-- of the whole-board call's pattern 3 and 4 are the third edition, which neither a first nor a second is
+unfoldable pub ToldThird : Type 0
+ToldThird =
+    (isThird 0 ∷ isThird 1 ∷ isThird 2 ∷ isThird 3 ∷ isThird 4 ∷ [] ≡ false ∷ false ∷ false ∷ true ∷ true ∷ [])
+    × (first (thirdConditions fileT) ≡ refused 3 file.Pattern) × (first (thirdConditions secondT) ≡ refused 3 file.Pattern)
+
+-- 0 and 1 a pattern, the others a board: of no node
+unfoldable pub ToldRole : Type 0
+ToldRole =
+    let asked : ℕ → Verdict = λ r. first (fileConditions (asRole (roleOf r)) (firstEdition (0 ∷ 0 ∷ 0 ∷ 0 ∷ []))) in
+    let two = refused 2 file.Pattern in
+    asked 0 ∷ asked 1 ∷ asked 2 ∷ asked 3 ∷ asked 4 ∷ [] ≡ two ∷ two ∷ accept ∷ accept ∷ accept ∷ []
+
+-- 0 and 1 what T's node 1 drives, the others what drives it
+unfoldable pub ToldDirection : Type 0
+ToldDirection =
+    let asked : ℕ → List ℕ = λ d. neighboursOf (directionOf d) (0 ∷ 1 ∷ 2 ∷ 2 ∷ []) (1 ∷ 2 ∷ []) (0 ∷ 0 ∷ 1 ∷ 2 ∷ []) (0 ∷ 1 ∷ []) 1 in
+    asked 0 ∷ asked 1 ∷ asked 2 ∷ asked 3 ∷ asked 4 ∷ [] ≡ (2 ∷ []) ∷ (2 ∷ []) ∷ (0 ∷ []) ∷ (0 ∷ []) ∷ (0 ∷ []) ∷ []
+
 unfoldable pub fileExamples : Statements
-fileExamples = ReadT also ReadB also R1 also R2 also R3 also R4 also R5 also R6 also R7 also R8 also done
+fileExamples =
+    ReadT also ReadB also R1 also R2 also R3 also R4 also R5 also R6 also R7 also R8 also ReadSecond also ReadThird also R3Editions also R10 also R11 also
+    R12 also R13 also R14 also R15 also ToldEdition also ToldThird also ToldRole also ToldDirection also done

@@ -1,14 +1,12 @@
 -- What files of the first edition get, said in the layout of document 01 alone, which knows of no packages: `FirstEdition`. proofs/FirstEdition
--- proves it. Every call is made of what stands here: what a file is asked for, the circuit that it holds, which part and node are equal, and the
--- bytes that are written. "a first-edition file counts as having all packages 0"
+-- proves it. Every call is made of what stands here, what a file is asked for, the circuit that it holds and the bytes that are written, and of which part
+-- and node are equal (specs/Packages). "a first-edition file counts as having all packages 0"
 use mathlib.Core.Bool.{not}
 use mathlib.Core.List.{List, [], _∷_, _++_}
-use mathlib.Core.Logic.{_↔_}
 use mathlib.Core.Path.{_≡_}
 use Prim.Native.Nat.{ℕ, _+_, _*_}
 use lib.Dec.{eqb, ltb}
-use lib.ListN.{length, getD, drop}
-use Rattle.base_lists.specs.List.{Below}
+use lib.ListN.{length, drop}
 use Rattle.graph.specs.Circuit.{Circuit}
 use Rattle.file_format.specs.declared.Edition.the-variants.{First}
 use Rattle.file_format.specs.declared.Role.{Role}
@@ -21,9 +19,7 @@ use Rattle.file_format.specs.Role.{inRange, fileOf}
 use Rattle.file_write.specs.Bytes.{bytesOf}
 use Rattle.file_write.specs.Writing.{writeAnswer, WriteOutcome, writing}
 use Rattle.merge.specs.Merged.{merged}
-use Rattle.table.specs.Host.{KindMatches}
 use Rattle.call_merge.specs.Call.{mergedBytes}
-use Rattle.demands.specs.Demands.{equal}
 
 -- ---- before there were packages
 
@@ -88,6 +84,3 @@ pub record FirstEdition : Type 0 where
   pub writes : (role : Role) (kinds packages starts ends out : List ℕ) →
       writing role First kinds packages starts ends out ≡ writingBefore role (record { kinds = kinds; starts = starts; ends = ends }) out
   pub merges : (file : List ℕ) → mergedBytes First (circuitOf (firstEdition file)) ≡ bytesBefore (merged (circuitBefore file))
-  -- a part and a node are equal when their kinds agree by Ask 1: the demands speak of no other equality
-  pub equals : (pattern board : List ℕ) → Below 256 pattern → Below 256 board → (u v : ℕ) →
-      equal (firstEdition pattern) (firstEdition board) u v ↔ KindMatches (getD (circuitBefore pattern .kinds) u 0) (getD (circuitBefore board .kinds) v 0)

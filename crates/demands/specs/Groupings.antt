@@ -3,15 +3,13 @@
 -- known: one definition, of which the merged pattern is the instance for the classes (merge/specs/Merged).
 use mathlib.Core.List.{List, [], _∷_}
 use mathlib.Core.Path.{_≡_}
-use Prim.Native.Nat.{ℕ, _≤_, _<_}
+use Prim.Native.Nat.{ℕ, _≤_}
 use lib.ListN.{length, getD}
 use Rattle.simulation.specs.Grouping.{Grouping, AsEachMember}
-use Rattle.simulation.specs.Perfect.{SameGraph}
-use Rattle.simulation.specs.Quotient.{QuotientGraph}
 use Rattle.file_format.specs.declared.Role.the-variants.{Pattern, Board}
 use Rattle.file_format.specs.Circuit.{circuitOf}
 use Rattle.file_format.specs.Examples.{fileT}
-use Rattle.file_format.specs.Layout.{CircuitFile, inEdition, firstEdition, nodesOf, labelsOf}
+use Rattle.file_format.specs.Layout.{CircuitFile, inEdition, firstEdition, nodesOf}
 use Rattle.file_format.specs.Refusals.{Accepted}
 use Rattle.file_write.specs.Bytes.{circuitBytes}
 use Rattle.table.specs.Row.{InTable}
@@ -19,7 +17,7 @@ use Rattle.merge.specs.Merged.{SameKind, grouped}
 use Rattle.call_match.specs.Call.{matching}
 use Rattle.call_merge.specs.Call.{merging}
 use Rattle.call_merge.specs.Classes.{classByte}
-use Rattle.demands.specs.Demands.{graph, mergedFile}
+use Rattle.demands.specs.Demands.{graph, Enough, mergedFile, Made}
 
 -- "take every other grouping of the parts, members of a group having the same kind and package number"
 abbrev pub Groups : CircuitFile → (ℕ → ℕ) → ℕ → Type 0
@@ -43,18 +41,6 @@ pub record Supposed (pattern : CircuitFile) (group : ℕ → ℕ) (k : ℕ) : Ty
 unfoldable pub replied : CircuitFile → List ℕ → List ℕ → ℕ
 replied pattern classes out = getD (merging pattern classes out .reply .values) 0 0
 
--- the call is lent N class bytes and as many bytes as the pattern's file has
-pub record Enough (pattern : CircuitFile) (classes out : List ℕ) : Type 0 where
-  pub bytes : nodesOf pattern ≤ length classes
-  pub file : length (pattern .bytes) ≤ length out
-
--- ".. made into a pattern as merging does": it is accepted as a pattern, has a part per group, of its members' kind and package, and a link from group a to
--- group b, b equal to a included, where some member of a has a link to some member of b.
-pub record Made (pattern : CircuitFile) (group : ℕ → ℕ) (file : CircuitFile) : Type 0 where
-  pub accepted : Accepted Pattern file
-  pub quotient : SameGraph (graph file) (QuotientGraph (graph pattern) group)
-  pub kinds : (u : ℕ) → u < nodesOf pattern → getD (labelsOf file) (group u) 0 ≡ getD (labelsOf pattern) u 0
-
 -- "ours is itself such a grouping"
 pub record Such (pattern : CircuitFile) (classes out : List ℕ) : Type 0 where
   pub groups : Groups pattern (classByte pattern classes out) (replied pattern classes out)
@@ -62,6 +48,7 @@ pub record Such (pattern : CircuitFile) (classes out : List ℕ) : Type 0 where
   pub supposed : Supposed pattern (classByte pattern classes out) (replied pattern classes out)
 
 pub record NothingMore : Type 0 where
+  -- "made into a pattern as merging does" (specs/Demands `Made`)
   pub makes : (pattern : CircuitFile) → Accepted Pattern pattern → (group : ℕ → ℕ) (k : ℕ) → Groups pattern group k →
       Made pattern group (groupedFile pattern group k)
   -- "Then that grouping has at least as many groups as ours,"

@@ -1,3 +1,4 @@
+pub mod Numbers
 pub mod Demands
 pub mod Groupings
 pub mod Limit
@@ -11,3 +12,6 @@ pub mod Shelf
 pub mod Bounds
 pub mod OneWay
 pub mod Cutting
+pub mod Load
+pub mod Packages
+pub mod Report

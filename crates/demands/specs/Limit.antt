@@ -14,7 +14,7 @@ use Rattle.file_format.specs.declared.Edition.{Edition}
 use Rattle.file_format.specs.declared.Role.{Role}
 use Rattle.file_format.specs.declared.Role.the-variants.{Pattern}
 use Rattle.file_format.specs.Circuit.{circuitOf}
-use Rattle.file_format.specs.Layout.{CircuitFile, firstEdition, nodesOf, linksOf, kindsOf, packagesOf, startsOf, endsOf}
+use Rattle.file_format.specs.Layout.{CircuitFile, nodesOf, linksOf, kindsOf, packagesOf, startsOf, endsOf}
 use Rattle.file_format.specs.Reading.{readConditions, readAnswer, filled, ReadOutcome, reading}
 use Rattle.file_format.specs.Refusals.{Condition, Verdict, accept, refuse, first, eleven, without, fileConditions, Accepted}
 use Rattle.file_format.specs.Reply.{Reply, reply}
@@ -26,6 +26,8 @@ use Rattle.merge.specs.Merged.{classCount, classes}
 use Rattle.call_convert.specs.Call.{converting}
 use Rattle.call_distance.specs.Calls.{radiusCall}
 use Rattle.call_place.specs.Call.{inputConditions, decided}
+use Rattle.call_check.specs.Call.{checkCall}
+use Rattle.call_barring.specs.Call.{barCall}
 use Rattle.call_merge.specs.Call.{mergedBytes, mergeConditions, MergeOutcome, merging}
 use Rattle.demands.specs.Demands.{graph, Lent, placed, mergedFile}
 
@@ -65,23 +67,22 @@ mergingBefore file lent out =
       out = filled verdict (mergedBytes (file .edition) p) out;
     }
 
-unfoldable pub reportBefore : List ℕ → List ℕ → List ℕ
-reportBefore pattern board =
-    let p = firstEdition pattern in
-    let b = firstEdition board in
-    reportFor (before (pairConditions Pattern p b)) (circuitOf p) (circuitOf b)
+unfoldable pub reportBefore : CircuitFile → CircuitFile → List ℕ
+reportBefore pattern board = reportFor (before (pairConditions Pattern pattern board)) (circuitOf pattern) (circuitOf board)
 
 -- ---- the request
 
--- a pattern that is turned away with 11 is so by every call that checks 6, whatever the board, the centre, the radius given and the tables
+-- A pattern that is turned away with 11 is so by every call that checks 6, whatever the board, the centre, the radius given and the tables. (Comparing and
+-- the shelf ask the same of each file: specs/Demands `compares`, specs/Shelf `refusedFirst`, `refusedSecond`, `accepts`. Writing: `written` below.)
 pub record TurnedAway (pattern : CircuitFile) : Type 0 where
   pub reads : (kinds packages starts ends : List ℕ) → reading Pattern pattern kinds packages starts ends .reply .verdict ≡ refuse eleven
   pub measures : radiusCall pattern .verdict ≡ refuse eleven
   pub places : (board : CircuitFile) (w r : ℕ) (lent : Lent) → placed pattern board w r lent .reply .verdict ≡ refuse eleven
   pub merges : (lent out : List ℕ) → merging pattern lent out .reply .verdict ≡ refuse eleven
   pub converts : (to : Edition) (out : List ℕ) → converting Pattern to pattern out .reply .verdict ≡ refuse eleven
-  -- the report reads the first edition
-  pub reports : (file board : List ℕ) → firstEdition file ≡ pattern → reportOf file board ≡ bytes "refused 11 pattern\n"
+  pub checks : (board : CircuitFile) (w : ℕ) (nodes links : List ℕ) → checkCall pattern board w nodes links .verdict ≡ refuse eleven
+  pub bars : (board : CircuitFile) (w : ℕ) (out : List ℕ) → barCall pattern board w out .reply .verdict ≡ refuse eleven
+  pub reports : (board : CircuitFile) → reportOf pattern board ≡ bytes "refused 11 pattern\n"
 
 -- an accepted pattern's replies, tables, counts and lines are those of before the limit
 pub record AsBefore (pattern : CircuitFile) : Type 0 where
@@ -89,7 +90,7 @@ pub record AsBefore (pattern : CircuitFile) : Type 0 where
   pub measures : radiusCall pattern ≡ radiusBefore pattern
   pub places : (board : CircuitFile) (w r : ℕ) (lent : Lent) → placed pattern board w r lent ≡ placedBefore pattern board w r lent
   pub merges : (lent out : List ℕ) → merging pattern lent out ≡ mergingBefore pattern lent out
-  pub reports : (file board : List ℕ) → firstEdition file ≡ pattern → reportOf file board ≡ reportBefore file board
+  pub reports : (board : CircuitFile) → reportOf pattern board ≡ reportBefore pattern board
 
 pub record Limit : Type 1 where
   -- "11, pattern radius above 12 .., after it": exactly the patterns of which 1 to 6 do not hold, and whose radius is above 12

@@ -13,8 +13,8 @@ use Rattle.file_format.specs.Refusals.{accept, Accepted}
 use Rattle.file_format.specs.Reply.{Reply}
 use Rattle.place.specs.Match.{markedGraph}
 use Rattle.proposal.specs.Meaning.{PerfectMarks}
-use Rattle.call_check.specs.Call.{checkConditions, checkCall}
-use Rattle.demands.specs.Demands.{graph, Lent, Ready, placedOwn, Decided, marked}
+use Rattle.call_check.specs.Call.{checkCall}
+use Rattle.demands.specs.Demands.{graph, Lent, Ready, placedOwn, marked}
 
 -- the two answers
 abbrev pub says-yes : Reply
@@ -33,10 +33,7 @@ pub record Offered (pattern board : CircuitFile) (w : ℕ) (nodes links : List �
   pub linkBytes : length links ≡ linksOf board
 
 pub record Ask9 : Type 1 where
-  -- "Node or link bytes of another length than N and M are 3 with neither file named, checked after 7." A refusal has no answer.
-  pub decided : (pattern board : CircuitFile) (w : ℕ) (nodes links : List ℕ) →
-      Decided (checkConditions pattern board w (length nodes) (length links)) (checkCall pattern board w nodes links .verdict)
-      (checkCall pattern board w nodes links .values ≡ [])
+  -- ("Node or link bytes of another length than N and M are 3 with neither file named, checked after 7.": specs/Demands `checks`.) Else yes or no:
   pub answers : (pattern board : CircuitFile) (w : ℕ) (nodes links : List ℕ) → Offered pattern board w nodes links →
       (checkCall pattern board w nodes links ≡ says-yes) ⊎ (checkCall pattern board w nodes links ≡ says-no)
   -- "say yes exactly when these are a perfect subgraph around the centre at the pattern's radius, largest or not. Bytes other than 0 and 1, or a

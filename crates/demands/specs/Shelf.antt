@@ -10,7 +10,7 @@ use Rattle.base_lists.specs.List.{Below}
 use Rattle.file_format.specs.declared.Edition.the-variants.{Second}
 use Rattle.file_format.specs.declared.Refusal.{Refusal}
 use Rattle.file_format.specs.declared.Role.the-variants.{Pattern}
-use Rattle.file_format.specs.Refusals.{accept, Accepted, FirstHolding, fileConditions, shortTable}
+use Rattle.file_format.specs.Refusals.{accept, refuse, first, Accepted, fileConditions}
 use Rattle.file_write.specs.Bytes.{fileBytes}
 use Rattle.order.specs.declared.Order.{Order}
 use Rattle.order.specs.declared.Order.the-variants.{Less, Equal}
@@ -22,7 +22,6 @@ use Rattle.call_compare.specs.declared.CompareAnswer.the-variants as answer
 use Rattle.call_compare.specs.declared.Which.the-variants as which
 use Rattle.call_compare.specs.Call.{comparing}
 use Rattle.call_shelf.specs.Shelf.{fileAt, acceptedIn, shelfOf, mostFiles, shelving}
-use Rattle.demands.specs.Demands.{Decided}
 
 -- a second-edition pattern file that is accepted, as bytes
 pub record PatternFile (file : List ℕ) : Type 0 where
@@ -61,9 +60,9 @@ pub record Ask10 : Type 0 where
   pub compared : (a b : List ℕ) → Accepted Pattern (secondEdition a) → Accepted Pattern (secondEdition b) → comparing a b ≡ answer.Compared (compareFiles a b)
   pub equal : (a b : List ℕ) → PatternFile a → PatternFile b → (comparing a b ≡ answer.Compared Equal) ↔ (a ≡ b)
   -- and else the refusal of the first that is refused, and which of the two that is
-  pub first : (a b : List ℕ) (x : Refusal) → (comparing a b ≡ answer.Refused x which.First) ↔ FirstHolding (fileConditions Pattern (secondEdition a)) x
-  pub second : (a b : List ℕ) (x : Refusal) →
-      (comparing a b ≡ answer.Refused x which.Second) ↔ (Accepted Pattern (secondEdition a) × FirstHolding (fileConditions Pattern (secondEdition b)) x)
+  pub refusedFirst : (a b : List ℕ) (x : Refusal) → (comparing a b ≡ answer.Refused x which.First) ↔ (first (fileConditions Pattern (secondEdition a)) ≡ refuse x)
+  pub refusedSecond : (a b : List ℕ) (x : Refusal) →
+      (comparing a b ≡ answer.Refused x which.Second) ↔ (Accepted Pattern (secondEdition a) × (first (fileConditions Pattern (secondEdition b)) ≡ refuse x))
   -- ---- the shelf
   -- "accepted ones": read as second-edition patterns without refusal
   pub accepts : (files : List (List ℕ)) (i : ℕ) → T (acceptedIn files i) ↔ Accepted Pattern (secondEdition (fileAt files i))
@@ -72,11 +71,8 @@ pub record Ask10 : Type 0 where
   pub ordered : (files : List (List ℕ)) → ShelfOrder files (shelfOf files)
   pub once : (files : List (List ℕ)) (x : ℕ) (xs : List ℕ) → Sorted (ranked files) (x ∷ xs) → In x xs → ⊥
   pub only : (files : List (List ℕ)) (numbers : List ℕ) → ShelfOrder files numbers → numbers ≡ shelfOf files
-  -- the call puts these numbers at the front of the table lent and leaves the rest; it is refused by 8 exactly where the table is too short for them, and then
-  -- the table stays as it was
-  pub decided : (bytes lengths order : List ℕ) →
-      Decided (shortTable (length (shelfOf (filesIn bytes lengths))) (length order) ∷ []) (shelving bytes lengths order .reply .verdict)
-      ((shelving bytes lengths order .reply .values ≡ []) × (shelving bytes lengths order .order ≡ order))
+  -- the call puts these numbers at the front of the table lent and leaves the rest (it is refused by 8 where the table is too short for them: specs/Demands
+  -- `shelves`)
   pub put : (bytes lengths order : List ℕ) → shelving bytes lengths order .reply .verdict ≡ accept →
       let numbers = shelfOf (filesIn bytes lengths) in
       (shelving bytes lengths order .reply .values ≡ length numbers ∷ [])

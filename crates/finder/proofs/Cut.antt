@@ -13,7 +13,7 @@ use Rattle.report.specs.Report.{reportFor, reportOf}
 use Rattle.finder.specs.Cut.{cut}
 
 -- The report of what is read of two files is theirs.
-pub cut-report : (pattern board : List ℕ) → reportOf (cut Pattern pattern) (cut Board board) ≡ reportOf pattern board
+pub cut-report : (pattern board : List ℕ) → reportOf (firstEdition (cut Pattern pattern)) (firstEdition (cut Board board)) ≡ reportOf (firstEdition pattern) (firstEdition board)
 unfolding reportOf reportFor
 cut-report pattern board = go (first (fileConditions Pattern (firstEdition pattern))) refl (first (fileConditions Board (firstEdition board))) refl
   where
@@ -21,8 +21,8 @@ cut-report pattern board = go (first (fileConditions Pattern (firstEdition patte
     readBoard = fileConditions Board (firstEdition (cut Board board))
 
     go : (v : Verdict) → first (fileConditions Pattern (firstEdition pattern)) ≡ v → (w : Verdict) → first (fileConditions Board (firstEdition board)) ≡ w
-        → reportOf (cut Pattern pattern) (cut Board board) ≡ reportOf pattern board
-    go accept e accept f = ap₂ reportOf (accepted-whole First Pattern pattern e) (accepted-whole First Board board f)
+        → reportOf (firstEdition (cut Pattern pattern)) (firstEdition (cut Board board)) ≡ reportOf (firstEdition pattern) (firstEdition board)
+    go accept e accept f = ap₂ (λ (p b : List ℕ). reportOf (firstEdition p) (firstEdition b)) (accepted-whole First Pattern pattern e) (accepted-whole First Board board f)
     go accept e (refuse x) f =
         rw (first-accept _ readBoard (cut-verdict First Pattern pattern ∙ e), cut-verdict First Board board)
         (rw (first-accept _ (fileConditions Board (firstEdition board)) e, f))

@@ -5,24 +5,28 @@ use call_report::ReportAnswer;
 use call_report::open;
 use call_report::put;
 use file_format::Board;
+use file_format::Edition;
+use file_format::Editions;
 use file_format::Pattern;
+use file_format::Role;
 use file_pair::Pair;
 use graph_neighbours::tables::LINKS;
 use graph_neighbours::tables::OFFSETS;
 use input::Found;
 use output::Output;
 use table::MASKS;
+ghost use mathlib.Core.Bool.{cond};
 ghost use mathlib.Core.Path.{_≡_};
 ghost use Prim.Native.Nat.{_≤_};
 ghost use lib.ListN.{length};
 ghost use Rattle.io.specs.Counts.{Counts};
 ghost use Rattle.file_format.specs.declared.Role.the-variants as role;
+ghost use Rattle.file_format.specs.Layout.{firstEdition};
 ghost use Rattle.table.specs.Prepared.{tables};
 ghost use Rattle.report.specs.Lines.{longestLine};
-ghost use Rattle.report.specs.Report.{reportOf};
 ghost use Rattle.call_report.specs.Opened.{Opened};
 ghost use Rattle.finder.specs.Cut.{most};
-ghost use Rattle.finder.specs.Printing.{heldOf, GoesOn, Reached, Handed};
+ghost use Rattle.finder.specs.Printing.{nameOf, heldOf, GoesOn, Handed, endOf, Ran};
 
 // A byte more than the longest file that is accepted in each role: the report of what is read so is the report of the files (proofs/Cut).
 const PATTERN_BYTES: usize = 4 + 2 * Pattern::MAX_NODES + 4 * Pattern::MAX_LINKS + 1;
@@ -38,11 +42,24 @@ struct Held {
     size: usize,
 }
 
-// How far the report was handed to standard output: so many of its items (a line for each centre, which may be empty, and the last line); or
-// a write failed, and nothing was handed over after it.
-enum Printed {
-    Items(usize),
-    Failed,
+// What is held of both files.
+struct Files {
+    pattern: Held,
+    board: Held,
+}
+
+// How a run ended: the report was handed whole to standard output; or a write failed; or a file cannot be read.
+enum End {
+    Whole,
+    Broken,
+    NoPattern,
+    NoBoard,
+}
+
+// What the program read, and how it ended.
+struct Run {
+    files: Files,
+    end: End,
 }
 
 // What was read, where an absent file counts as an empty one.
@@ -62,26 +79,44 @@ fn as_read(found: Found) -> Held
     }
 }
 
-// The bytes of a file by its name, none where it is absent.
-fn load(name: &[u8], buf: &mut [u8]) -> Held
+// The bytes of the file in a role, by its name, none where it is absent, in a buffer of a byte more than the longest that is accepted.
+fn load(role: Role, name: &[u8], buf: &mut [u8]) -> Held
+    requires { ⌜ (now name ≡ nameOf role) × (length (now buf) ≡ most role) ⌝ }
     ensures { λ r. ⌜ Counts (r .size) (now (buf .exit)) ⌝ }
 {
     as_read(input::load(name, buf))
 }
 
-// Hands the bytes that come next to standard output: those of the report's items from one on up to another.
-fn hand(pattern: &[u8], board: &[u8], from: usize, next: usize, bytes: &[u8]) -> Printed
-    requires { ⌜ GoesOn (now pattern) (now board) from next (now bytes) ⌝ }
-    ensures { λ r. ⌜ Reached next r ⌝ }
+// The bytes of both files.
+fn read_files(pattern: &mut [u8], board: &mut [u8]) -> Files
+    requires { ⌜ (length (now pattern) ≡ most role.Pattern) × (length (now board) ≡ most role.Board) ⌝ }
+    ensures { λ r. ⌜ Counts (r .pattern .size) (now (pattern .exit)) × Counts (r .board .size) (now (board .exit)) ⌝ }
 {
-    let answer = output::write_whole(libc::STDOUT_FILENO, bytes);
-    let Output::Written(_) = answer else {
-        return Printed::Failed;
-    };
-    Printed::Items(next)
+    let first = load(Role::Pattern, b"pattern.cir", pattern);
+    let second = load(Role::Board, b"board.cir", board);
+    Files {
+        pattern: first,
+        board: second,
+    }
 }
 
-// Prints the report of two files that were opened piece by piece, by way of the buffer, until nothing is left of it or a write fails.
+// Hands the bytes that come next to standard output: those of the report's items after the ones that were handed over up to another, and notes how
+// far that is. (An item is a line for each centre, which may be empty, or the last line.) The answer says whether they were taken; where they were
+// not, nothing is handed over any more.
+fn hand(pattern: &[u8], board: &[u8], handed: &mut usize, next: usize, bytes: &[u8]) -> bool
+    requires { ⌜ GoesOn (firstEdition (now pattern)) (firstEdition (now board)) (now handed) next (now bytes) ⌝ }
+    ensures { λ r. ⌜ now (handed .exit) ≡ cond r next (now (handed .entry)) ⌝ }
+{
+    let answer = output::write_whole(bytes);
+    let Output::Written(_) = answer else {
+        return false;
+    };
+    *handed = next;
+    true
+}
+
+// Prints the report of two files that were opened piece by piece, by way of the buffer, until nothing is left of it or a write fails. The answer says
+// whether all of it was handed over.
 fn print_pieces(
     pattern: &[u8],
     board: &[u8],
@@ -93,14 +128,15 @@ fn print_pieces(
     labels: &[u16],
     sizes: &[u16],
     out: &mut [u8],
-) -> Printed
-    requires { ⌜ Opened 0 (now pattern) (now board) read (tables (now masks) (now offsets) (now links)) (now whole) (now labels) (now sizes) ⌝ }
-    requires { ⌜ longestLine ≤ length (now out) ⌝ }
-    ensures { λ r. ⌜ Handed (now (pattern .entry)) (now (board .entry)) (reportOf (now (pattern .entry)) (now (board .entry))) r ⌝ }
+    handed: &mut usize,
+) -> bool
+    requires { ⌜ Opened 0 (firstEdition (now pattern)) (firstEdition (now board)) read (tables (now masks) (now offsets) (now links)) (now whole) (now labels) (now sizes) ⌝ }
+    requires { ⌜ (longestLine ≤ length (now out)) × (now handed ≡ 0) ⌝ }
+    ensures { λ r. ⌜ Handed (firstEdition (now (pattern .entry))) (firstEdition (now (board .entry))) (now (handed .exit)) r ⌝ }
 {
-    let mut from: usize = 0;
     let mut found: u16 = 0;
     loop {
+        let from = *handed;
         let answer = put(
             read,
             masks,
@@ -114,26 +150,24 @@ fn print_pieces(
             out,
         );
         let ReportAnswer::Put(part) = answer else {
-            return Printed::Failed;
+            return false;
         };
         let size = part.size;
         if size == 0 {
-            return Printed::Items(from);
+            return true;
         }
         let next = part.next;
-        let handed = hand(pattern, board, from, next, &out[..size]);
-        let Printed::Items(reached) = handed else {
-            return Printed::Failed;
-        };
-        from = reached;
+        if !hand(pattern, board, handed, next, &out[..size]) {
+            return false;
+        }
         found = part.found as u16;
     }
 }
 
-// Opens the two files, and prints their report.
-fn print_report(pattern: &[u8], board: &[u8], out: &mut [u8]) -> Printed
-    requires { ⌜ longestLine ≤ length (now out) ⌝ }
-    ensures { λ r. ⌜ Handed (now (pattern .entry)) (now (board .entry)) (reportOf (now (pattern .entry)) (now (board .entry))) r ⌝ }
+// Opens the two files, of the first edition both, and prints their report.
+fn print_report(pattern: &[u8], board: &[u8], out: &mut [u8], handed: &mut usize) -> bool
+    requires { ⌜ (longestLine ≤ length (now out)) × (now handed ≡ 0) ⌝ }
+    ensures { λ r. ⌜ Handed (firstEdition (now (pattern .entry))) (firstEdition (now (board .entry))) (now (handed .exit)) r ⌝ }
 {
     let mut masks = [0u32; MASKS];
     let mut offsets = [0u16; OFFSETS];
@@ -141,8 +175,13 @@ fn print_report(pattern: &[u8], board: &[u8], out: &mut [u8]) -> Printed
     let mut whole = [0u32; Board::MAX_NODES];
     let mut labels = [0u16; Board::MAX_NODES];
     let mut sizes = [0u16; Board::MAX_NODES];
+    let editions = Editions {
+        pattern: Edition::First,
+        board: Edition::First,
+    };
     let read = open(
         0,
+        editions,
         pattern,
         board,
         &mut masks,
@@ -163,37 +202,83 @@ fn print_report(pattern: &[u8], board: &[u8], out: &mut [u8]) -> Printed
         &labels,
         &sizes,
         out,
+        handed,
     )
 }
 
-// Each file is read into a buffer of a byte more than the longest that is accepted. The buffers are lent whole, so that their bytes are not
-// looked at one by one in the proof.
-fn report_files(pattern: &mut [u8], board: &mut [u8], out: &mut [u8])
-    requires { ⌜ (length (now pattern) ≡ most role.Pattern) × (length (now board) ≡ most role.Board) ⌝ }
-    requires { ⌜ longestLine ≤ length (now out) ⌝ }
+// How a run ends in which the report was begun.
+fn ended(whole: bool) -> End
+    ensures { λ r. ⌜ r ≡ endOf whole ⌝ }
 {
-    let first = load(b"pattern.cir", pattern);
-    if !first.there {
-        input::cannot_read(b"pattern.cir");
-        return;
+    if whole {
+        return End::Whole;
     }
-    let second = load(b"board.cir", board);
+    End::Broken
+}
+
+// Prints the report of what is held of the two files, where both could be read.
+fn report_held(
+    files: Files,
+    pattern: &[u8],
+    board: &[u8],
+    out: &mut [u8],
+    handed: &mut usize,
+) -> End
+    requires { ⌜ Counts (files .pattern .size) (now pattern) × Counts (files .board .size) (now board) ⌝ }
+    requires { ⌜ (longestLine ≤ length (now out)) × (now handed ≡ 0) ⌝ }
+    ensures { λ r. ⌜ Ran (now (pattern .entry)) (now (board .entry)) (now (handed .exit)) files r ⌝ }
+{
+    let first = files.pattern;
+    let second = files.board;
+    if !first.there {
+        return End::NoPattern;
+    }
     if !second.there {
-        input::cannot_read(b"board.cir");
-        return;
+        return End::NoBoard;
     }
     let parts = first.size;
     let nodes = second.size;
-    let printed = print_report(&pattern[..parts], &board[..nodes], out);
-    let Printed::Items(_) = printed else {
-        os::fail(b"the report is not whole");
-        return;
-    };
+    ended(print_report(&pattern[..parts], &board[..nodes], out, handed))
+}
+
+// Reads the two files and prints their report, by way of buffers that are lent whole, so that their bytes are not looked at one by one in the proof.
+fn report_files(pattern: &mut [u8], board: &mut [u8], out: &mut [u8], handed: &mut usize) -> Run
+    requires { ⌜ (length (now pattern) ≡ most role.Pattern) × (length (now board) ≡ most role.Board) ⌝ }
+    requires { ⌜ (longestLine ≤ length (now out)) × (now handed ≡ 0) ⌝ }
+    ensures { λ r. ⌜ Ran (now (pattern .exit)) (now (board .exit)) (now (handed .exit)) (r .files) (r .end) ⌝ }
+{
+    let files = read_files(pattern, board);
+    let end = report_held(files, pattern, board, out, handed);
+    Run { files, end }
+}
+
+// Tells on standard error where the report is not whole.
+fn tell(end: End) {
+    match end {
+        End::Whole => {}
+        End::Broken => os::fail(b"the report is not whole"),
+        End::NoPattern => input::cannot_read(b"pattern.cir"),
+        End::NoBoard => input::cannot_read(b"board.cir"),
+    }
+}
+
+fn usage() {
+    io::write_all(
+        libc::STDERR_FILENO,
+        b"finder takes no argument: it reports on pattern.cir and board.cir in the folder that it is run in\n",
+    );
 }
 
 fn main() {
+    if input::is_told(os::arg_count()) {
+        usage();
+        return;
+    }
     let mut pattern = [0u8; PATTERN_BYTES];
     let mut board = [0u8; BOARD_BYTES];
     let mut out = [0u8; PIECE_BYTES];
-    report_files(&mut pattern, &mut board, &mut out);
+    let mut handed: usize = 0;
+    let run = report_files(&mut pattern, &mut board, &mut out, &mut handed);
+    let end = run.end;
+    tell(end);
 }

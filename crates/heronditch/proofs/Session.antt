@@ -1,22 +1,31 @@
 -- The promises of a session's calls, as a host program sees them. Assumes nothing.
 use mathlib.Core.List.{List, [], _∷_}
-use mathlib.Core.Path.{_≡_, refl, ap, _∙_}
+use mathlib.Core.Path.{_≡_, refl, sym, ap, ap₂, _∙_}
 use Prim.Native.Nat.{ℕ}
+use lib.ListN.{length}
+use Rattle.graph.specs.Circuit.{circuitGraph}
+use Rattle.simulation.specs.Simulation.{Largest}
+use Rattle.file_format.specs.Circuit.{circuitOf}
 use Rattle.file_format.specs.Layout.{CircuitFile}
-use Rattle.file_format.specs.Refusals.{Verdict, accept}
+use Rattle.file_format.specs.Reading.{filled}
+use Rattle.file_format.specs.Refusals.{Verdict, accept, refuse, first, without, linkConditions, fileConditions, shortTable}
+use Rattle.file_format.specs.declared.Refusal.{Refusal}
+use Rattle.file_format.proofs.Limit.{without-never}
+use Rattle.file_pair.specs.Pair.{pairConditions}
 use Rattle.file_format.specs.Reply as files
+use Rattle.table.specs.Host.{KindsMatch}
+use Rattle.table.specs.Row.{InTable}
 use Rattle.call_session.specs.declared.OpenAnswer.{OpenAnswer}
-use Rattle.call_session.specs.Call.{openVerdict, OpenPromise}
-use Rattle.session.specs.Session.{CutPromise, ReadPromise}
-use Rattle.session.specs.State.{State, state}
-use Rattle.session_cut.specs.declared.CutAnswer.{CutAnswer}
-use Rattle.session_cut.specs.declared.CutAnswer.the-variants as cut
-use Rattle.session_cut.specs.declared.OutAnswer.{OutAnswer}
-use Rattle.session_cut.specs.declared.OutAnswer.the-variants as out
-use Rattle.session_cut.specs.Cut.{cutVerdict, outReply}
+use Rattle.call_session.specs.Call.{openConditions, openVerdict, OpenPromise}
+use Rattle.session.specs.Machine.{Machine, fresh, cutReply, cutMachine, replies, machineAfter, boardLeft, machineTable}
+use Rattle.session.specs.Session.{cutState}
+use Rattle.session.specs.State.{State, state, Holds}
+use Rattle.session.specs.Tables.{nodesIn, cutAnswered, CutMade, cutsAnswered, cutsTables, readVerdict, tableIn, ReadMade}
+use Rattle.session.proofs.Run.{machine-largest}
+use Rattle.session.proofs.Tables.{nodes-held, answered-held, tables-held, cut-held, cut-refused, cuts-held, table-held}
 use Rattle.heronditch_reply.specs.declared.HostReply.{HostReply}
 use Rattle.heronditch_reply.specs.Replies.{slots, numberOf}
-use Rattle.heronditch.specs.Session.{HostOpen, HostCut, HostTable}
+use Rattle.heronditch.specs.Session.{HostOpen, HostCut, HostTable, HostCuts, hostReplies}
 
 pub host-open :
     {pattern board : CircuitFile} {before after : State} (answer : OpenAnswer) {r : HostReply} → OpenPromise pattern board before (openVerdict answer) after →
@@ -29,38 +38,101 @@ host-open answer p e =
       refused = λ x q. p .refused x (p .replied ∙ q);
     }
 
--- a reply of acceptance has number 0
-accepted-zero : (values : List ℕ) → slots (record { verdict = accept; values = values }) .number ≡ 0
-unfolding slots numberOf
-accepted-zero values = refl
+never-zero : (pattern board : CircuitFile) (x : Refusal) → first (openConditions pattern board) ≡ refuse x → x .number ≡ 0 → ⊥
+unfolding pairConditions fileConditions linkConditions without
+never-zero pattern board x = without-never 0 (openConditions pattern board) x
+
+-- no condition has number 0: a reply of number 0 is acceptance
+opened-zero : {pattern board : CircuitFile} {before after : State} {r : HostReply} → HostOpen pattern board before r after → r .number ≡ 0 → first (openConditions pattern board) ≡ accept
+unfolding slots numberOf files.reply
+opened-zero {pattern} {board} {before} {after} {r} p e = go (first (openConditions pattern board)) refl
+  where
+    go : (v : Verdict) → first (openConditions pattern board) ≡ v → v ≡ accept
+    go accept q = refl
+    go (refuse x) q =
+        absurd (never-zero pattern board x q (sym (ap (λ (v : Verdict). slots (files.reply v []) .number) q) ∙ sym (ap (λ (y : HostReply). y .number) (p .replied)) ∙ e))
 
 pub host-cut :
-    {before after : State} {place : ℕ} (answer : CutAnswer) {r : HostReply} → CutPromise before place (cutVerdict answer) after →
-    r ≡ slots (files.reply (cutVerdict answer) []) → HostCut before place r after
-unfolding cutVerdict files.reply
-host-cut {before} {after} {place} answer {r} p e =
-    record {
-      machine = λ m h. (e ∙ ap (λ (v : Verdict). slots (files.reply v [])) (p .machine m h .0), p .machine m h .1, p .machine m h .2);
-      refused = refused answer p e;
-    }
-  where
-    refused : (answer : CutAnswer) → CutPromise before place (cutVerdict answer) after → r ≡ slots (files.reply (cutVerdict answer) []) → (r .number ≡ 0 → ⊥) → after ≡ before
-    refused cut.Cut p e n = absurd (n (ap (λ (x : HostReply). x .number) e ∙ accepted-zero []))
-    refused (cut.Refused x) p e n = p .refused x refl
+    {before after : State} {link : ℕ} {v : Verdict} {r : HostReply} → CutMade before link v after → r ≡ slots (files.reply v []) → HostCut before link r after
+host-cut p e = record { replied = e ∙ ap (λ (v : Verdict). slots (files.reply v [])) (p .replied); tables = p .tables }
 
 pub host-table :
-    {fixed sets before after : List ℕ} (answer : OutAnswer) {r : HostReply} →
-    ((offsets numbers ends : List ℕ) → ReadPromise (state fixed offsets numbers ends sets) before (outReply answer) after) → r ≡ slots (outReply answer) →
-    HostTable fixed sets before r after
-unfolding outReply
-host-table {fixed} {sets} {before} {after} answer {r} p e =
-    record {
-      machine = λ m offsets numbers ends h. let said = p offsets numbers ends .machine m h in (e ∙ ap slots (said .0), said .1);
-      refused = refused answer p e;
-    }
-  where
-    refused :
-        (answer : OutAnswer) → ((offsets numbers ends : List ℕ) → ReadPromise (state fixed offsets numbers ends sets) before (outReply answer) after) →
-        r ≡ slots (outReply answer) → (r .number ≡ 0 → ⊥) → after ≡ before
-    refused (out.Table n) p e other = absurd (other (ap (λ (x : HostReply). x .number) e ∙ accepted-zero (n ∷ [])))
-    refused (out.Refused x) p e other = p [] [] [] .refused x refl
+    {fixed sets before after : List ℕ} {a : files.Reply} {r : HostReply} → ReadMade fixed sets before a after → r ≡ slots a → HostTable fixed sets before r after
+host-table p e = record { replied = e ∙ ap slots (p .replied); table = p .table }
+
+-- ---- what they come to: a number other than 0 leaves the tables as they were, whatever they hold; where they hold a machine, the reply and the tables are the machine's
+
+module _ {before after : State} {link : ℕ} {r : HostReply} (c : HostCut before link r after) where
+  pub cut-keeps : (r .number ≡ 0 → ⊥) → after ≡ before
+  unfolding slots numberOf files.reply
+  cut-keeps other = go (cutAnswered before link) refl
+    where
+      go : (v : Verdict) → cutAnswered before link ≡ v → after ≡ before
+      go accept e = absurd (other (ap (λ (x : HostReply). x .number) (c .replied ∙ ap (λ (v : Verdict). slots (files.reply v [])) e)))
+      go (refuse x) e = c .tables ∙ cut-refused before link x e
+
+  pub cut-machine : (m : Machine) → Holds m before → (r ≡ slots (files.reply (cutReply m link) [])) × Holds (cutMachine m link) after × (after ≡ cutState m link before)
+  cut-machine m h = (
+    c .replied ∙ ap (λ (v : Verdict). slots (files.reply v [])) (answered-held h link),
+    rw (c .tables) (cut-held h link),
+    c .tables ∙ tables-held h link,
+  )
+
+module _ {fixed sets before after : List ℕ} {r : HostReply} (c : HostTable fixed sets before r after) where
+  pub table-keeps : (r .number ≡ 0 → ⊥) → after ≡ before
+  unfolding slots numberOf files.reply filled
+  table-keeps other = go (readVerdict fixed before) refl
+    where
+      go : (v : Verdict) → readVerdict fixed before ≡ v → after ≡ before
+      go accept e = absurd (other (ap (λ (x : HostReply). x .number) (c .replied ∙ ap (λ (v : Verdict). slots (files.reply v (nodesIn fixed ∷ []))) e)))
+      go (refuse x) e = c .table ∙ ap (λ (v : Verdict). filled v (tableIn fixed sets) before) e
+
+  pub table-machine :
+      (m : Machine) (offsets numbers ends : List ℕ) → Holds m (state fixed offsets numbers ends sets) →
+      let verdict = first (shortTable (length (m .board .kinds)) (length before) ∷ []) in
+      (r ≡ slots (files.reply verdict (length (m .board .kinds) ∷ []))) × (after ≡ filled verdict (machineTable m) before)
+  table-machine m offsets numbers ends h =
+      let nodes = nodes-held h in (
+        c .replied ∙ ap (λ (n : ℕ). slots (files.reply (first (shortTable n (length before) ∷ [])) (n ∷ []))) nodes,
+        c .table ∙ ap₂ (λ (n : ℕ) (x : List ℕ). filled (first (shortTable n (length before) ∷ [])) x before) nodes (table-held h),
+      )
+
+-- ---- one cut after another
+
+-- whatever the tables hold: each reply, and the tables after the list
+pub host-cuts :
+    (links : List ℕ) (rs : List HostReply) (before after : State) → HostCuts before links rs after →
+    (rs ≡ hostReplies (cutsAnswered before links)) × (after ≡ cutsTables before links)
+unfolding HostCuts cutsAnswered cutsTables
+host-cuts [] [] before after e = (refl, e)
+host-cuts [] (r ∷ rs) before after c = absurd c
+host-cuts (link ∷ links) [] before after c = absurd c
+host-cuts (link ∷ links) (r ∷ rs) before after (s, cut, rest) =
+    let (es, end) = host-cuts links rs s after rest in (
+      ap₂ (λ (x : HostReply) (xs : List HostReply). x ∷ xs) (cut .replied)
+          (es ∙ ap (λ (t : State). hostReplies (cutsAnswered t links)) (cut .tables)),
+      end ∙ ap (λ (t : State). cutsTables t links) (cut .tables),
+    )
+
+-- "For every list of cuts from a fresh session, after it .. each reply in the list is the machine's": and the table read out is the machine's, which is the largest
+-- dual simulation in the nodes with its links (session/proofs/Run: machine-largest).
+module _ {pattern board : CircuitFile} {before opened : State} {r : HostReply} (begun : HostOpen pattern board before r opened)
+    (fine : r .number ≡ 0) (links : List ℕ) (rs : List HostReply) (after : State) (cuts : HostCuts opened links rs after) where
+  abbrev machine : Machine
+  machine = machineAfter (fresh (circuitOf pattern) (circuitOf board)) links
+
+  pub host-run : (rs ≡ hostReplies (replies (fresh (circuitOf pattern) (circuitOf board)) links)) × Holds machine after
+  host-run =
+      let (es, end) = host-cuts links rs opened after cuts in
+      let (said, holds) = cuts-held links (begun .opened (opened-zero begun fine)) in
+      (es ∙ ap hostReplies said, rw end holds)
+
+  pub host-read :
+      {lent later : List ℕ} {t : HostReply} → HostTable (after .fixed) (after .sets) lent t later →
+      let verdict = first (shortTable (length (machine .board .kinds)) (length lent) ∷ []) in
+      (t ≡ slots (files.reply verdict (length (machine .board .kinds) ∷ []))) × (later ≡ filled verdict (machineTable machine) lent)
+  host-read read = table-machine read machine (after .offsets) (after .numbers) (after .ends) (host-run .1)
+
+  pub host-largest :
+      Largest (circuitGraph (machine .pattern)) (KindsMatch (machine .pattern) (boardLeft machine)) (circuitGraph (boardLeft machine)) (InTable (machineTable machine))
+  host-largest = machine-largest machine (host-run .1 .pattern) (host-run .1 .board)

@@ -1,8 +1,10 @@
 -- The calls as a host program sees them: each reply is a struct of numbers, in which number 0 stands for acceptance. What is below gives
 -- document 01's reply in that form; the calls themselves are those of the crates below.
+use mathlib.Core.Bool.{cond}
 use mathlib.Core.List.{List, [], _∷_}
 use Prim.Native.Nat.{ℕ}
 use lib.ListN.{length}
+use Rattle.file_format.specs.Layout.{CircuitFile}
 use Rattle.file_format.specs.Reading.{ReadOutcome, filled}
 use Rattle.file_format.specs.Refusals.{first, shortTable}
 use Rattle.file_format.specs.Reply as files
@@ -10,7 +12,8 @@ use Rattle.heronditch_reply.specs.Replies.{numberOf, meantFile, slots, counted,
 use Rattle.call_convert.specs.Call.{ConvertOutcome}
 use Rattle.call_distance.specs.Calls.{BallOutcome}
 use Rattle.file_write.specs.Writing.{WriteOutcome}
-use Rattle.call_match.specs.Call.{TableOutcome}
+use Rattle.call_match.specs.Call.{TableOutcome, matching}
+use Rattle.call_bounded.specs.Call.{boundedMatching}
 use Rattle.place.specs.Outcome.{PlaceOutcome}
 use Rattle.barring.specs.Outcome.{BarOutcome}
 use Rattle.call_merge.specs.Call.{MergeOutcome}
@@ -22,27 +25,18 @@ use Rattle.call_shelf.specs.Shelf.{ShelfOutcome}
 use Rattle.heronditch_reply.specs.declared.HostReply.{HostReply}
 use Rattle.heronditch_reply.specs.declared.Counted.{Counted}
 use Rattle.heronditch_reply.specs.declared.Piece.{Piece}
+use Rattle.heronditch_told.specs.Told.{told, isThird}
 use Rattle.heronditch.specs.declared.shelf.Comparison.{Comparison}
 
 pub record HostRead : Type 0 where
-  pub reply : HostReply
-  pub kinds : List ℕ
-  pub starts : List ℕ
-  pub ends : List ℕ
-
-unfoldable pub hostRead : ReadOutcome → HostRead
-hostRead o = record { reply = slots (o .reply); kinds = o .kinds; starts = o .starts; ends = o .ends }
-
--- the same of a second-edition file
-pub record HostReadPackages : Type 0 where
   pub reply : HostReply
   pub kinds : List ℕ
   pub packages : List ℕ
   pub starts : List ℕ
   pub ends : List ℕ
 
-unfoldable pub hostReadPackages : ReadOutcome → HostReadPackages
-hostReadPackages o = record { reply = slots (o .reply); kinds = o .kinds; packages = o .packages; starts = o .starts; ends = o .ends }
+unfoldable pub hostRead : ReadOutcome → HostRead
+hostRead o = record { reply = slots (o .reply); kinds = o .kinds; packages = o .packages; starts = o .starts; ends = o .ends }
 
 pub record HostOut : Type 0 where
   pub reply : HostReply
@@ -60,6 +54,10 @@ hostBall o = record { reply = slots (o .reply); out = o .out }
 pub record HostTable : Type 0 where
   pub reply : Counted
   pub table : List ℕ
+
+-- The whole-board call, told the pattern's edition by a number: "Only Ask 7's whole-board call takes this edition", the third.
+unfoldable pub matchingTold : List ℕ → ℕ → CircuitFile → List ℕ → TableOutcome
+matchingTold pattern edition board table = cond (isThird edition) (boundedMatching pattern board table) (matching (told pattern edition) board table)
 
 unfoldable pub hostMatch : TableOutcome → HostTable
 hostMatch o = record { reply = counted (o .reply); table = o .table }

@@ -1,18 +1,17 @@
 -- The calls of a session as a host program sees them: each reply as a struct of numbers, and what the lent tables hold.
-use mathlib.Core.List.{List, [], _∷_}
+use mathlib.Core.List.{List, [], _∷_, map}
 use mathlib.Core.Path.{_≡_}
 use Prim.Native.Nat.{ℕ}
-use lib.ListN.{length}
 use Rattle.file_format.specs.Circuit.{circuitOf}
 use Rattle.file_format.specs.Layout.{CircuitFile}
 use Rattle.file_format.specs.Reading.{filled}
-use Rattle.file_format.specs.Refusals.{accept, refuse, first, shortTable}
+use Rattle.file_format.specs.Refusals.{Verdict, accept, refuse, first}
 use Rattle.file_format.specs.Reply.{reply}
 use Rattle.file_format.specs.declared.Refusal.{Refusal}
 use Rattle.call_session.specs.Call.{openConditions, openState}
-use Rattle.session.specs.Machine.{Machine, fresh, cutReply, cutMachine, machineTable}
-use Rattle.session.specs.Session.{cutState}
-use Rattle.session.specs.State.{State, state, Holds}
+use Rattle.session.specs.Machine.{fresh}
+use Rattle.session.specs.State.{State, Holds}
+use Rattle.session.specs.Tables.{nodesIn, cutAnswered, cutTables, readVerdict, tableIn}
 use Rattle.heronditch_reply.specs.declared.HostReply.{HostReply}
 use Rattle.heronditch_reply.specs.Replies.{slots}
 
@@ -23,15 +22,23 @@ pub record HostOpen (pattern board : CircuitFile) (before : State) (r : HostRepl
   pub content : first (openConditions pattern board) ≡ accept → after ≡ openState (circuitOf pattern) (circuitOf board) before
   pub refused : (x : Refusal) → first (openConditions pattern board) ≡ refuse x → after ≡ before
 
--- a cut of tables that hold a machine: its reply, and the machine after it. Where the number is not 0, the tables are as they were.
-pub record HostCut (before : State) (place : ℕ) (r : HostReply) (after : State) : Type 0 where
-  pub machine : (m : Machine) → Holds m before → (r ≡ slots (reply (cutReply m place) [])) × Holds (cutMachine m place) after × (after ≡ cutState m place before)
-  pub refused : (r .number ≡ 0 → ⊥) → after ≡ before
+-- a cut, whatever the tables hold: the reply, and the tables after it
+pub record HostCut (before : State) (link : ℕ) (r : HostReply) (after : State) : Type 0 where
+  pub replied : r ≡ slots (reply (cutAnswered before link) [])
+  pub tables : after ≡ cutTables before link
 
--- reading out the table of a machine, which a number other than 0 leaves as it was
+-- reading out, whatever the tables hold: the reply, and the lent table after it
 pub record HostTable (fixed sets before : List ℕ) (r : HostReply) (after : List ℕ) : Type 0 where
-  pub machine :
-      (m : Machine) (offsets numbers ends : List ℕ) → Holds m (state fixed offsets numbers ends sets) →
-      let verdict = first (shortTable (length (m .board .kinds)) (length before) ∷ []) in
-      (r ≡ slots (reply verdict (length (m .board .kinds) ∷ []))) × (after ≡ filled verdict (machineTable m) before)
-  pub refused : (r .number ≡ 0 → ⊥) → after ≡ before
+  pub replied : r ≡ slots (reply (readVerdict fixed before) (nodesIn fixed ∷ []))
+  pub table : after ≡ filled (readVerdict fixed before) (tableIn fixed sets) before
+
+-- one cut after another: the links, the replies, and the tables from the first call to the last
+unfoldable pub HostCuts : State → List ℕ → List HostReply → State → Type 0
+HostCuts before [] [] after = after ≡ before
+HostCuts before [] (r ∷ rs) after = ⊥
+HostCuts before (link ∷ links) [] after = ⊥
+HostCuts before (link ∷ links) (r ∷ rs) after = (s : State) × HostCut before link r s × HostCuts s links rs after
+
+-- the replies to them
+abbrev pub hostReplies : List Verdict → List HostReply
+hostReplies vs = map (λ v. slots (reply v [])) vs

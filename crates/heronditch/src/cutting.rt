@@ -1,20 +1,18 @@
-// A session: cutting links while searching. It lives in five tables of fixed size that the caller lends to each call.
+// A session: cutting links while searching. It lives in five tables of fixed size that are lent to each call; library/host.c has them in one struct.
 ghost use mathlib.Core.List.{[]};
 ghost use mathlib.Core.Path.{_≡_};
 ghost use Rattle.call_session.specs.Call.{openVerdict};
-ghost use Rattle.file_format.specs.Layout.{inEdition};
-ghost use Rattle.file_format.specs.declared.Edition.the-variants as editions;
 ghost use Rattle.file_format.specs.Reply.{reply};
 ghost use Rattle.heronditch_reply.specs.Replies.{slots};
+ghost use Rattle.heronditch_told.specs.Told.{told};
 ghost use Rattle.heronditch.specs.Session.{HostOpen, HostCut, HostTable};
 ghost use Rattle.session.specs.State.{state};
 ghost use Rattle.session_cut.specs.Cut.{cutVerdict, outReply};
 use call_session::OpenAnswer;
-use file_format::Edition;
-use file_format::Editions;
 use heronditch_reply::HostReply;
 use heronditch_reply::accepted;
 use heronditch_reply::refused;
+use heronditch_told::editions_of;
 use session_cut::CutAnswer;
 use session_cut::OutAnswer;
 
@@ -45,23 +43,25 @@ fn of_out(answer: OutAnswer) -> HostReply
     }
 }
 
-// Opens a session on files of these editions.
-fn open_in(
-    editions: Editions,
+// Opens a session on a pattern and a board: all links are left. Refused as the whole-board call is, but for 8.
+#[no_mangle]
+pub extern "C" fn heronditch_session_open(
     pattern: &[u8],
+    pattern_edition: u32,
     board: &[u8],
+    board_edition: u32,
     fixed: &mut [u32; 66],
     offsets: &mut [u16; 1026],
     numbers: &mut [u16; 8192],
     ends: &mut [u16; 8192],
     sets: &mut [u32; 512],
 ) -> HostReply
-    ensures { λ r. ⌜ HostOpen (inEdition (editions .pattern) (now (pattern .entry))) (inEdition (editions .board) (now (board .entry)))
+    ensures { λ r. ⌜ HostOpen (told (now (pattern .entry)) «pattern_edition») (told (now (board .entry)) «board_edition»)
         (state (now (fixed .entry)) (now (offsets .entry)) (now (numbers .entry)) (now (ends .entry)) (now (sets .entry))) r
         (state (now (fixed .exit)) (now (offsets .exit)) (now (numbers .exit)) (now (ends .exit)) (now (sets .exit))) ⌝ }
 {
     of_open(call_session::open(
-        editions,
+        editions_of(pattern_edition, board_edition),
         pattern,
         board,
         &mut fixed[..],
@@ -72,122 +72,7 @@ fn open_in(
     ))
 }
 
-#[no_mangle]
-pub extern "C" fn heronditch_session_open(
-    pattern: &[u8],
-    board: &[u8],
-    fixed: &mut [u32; 66],
-    offsets: &mut [u16; 1026],
-    numbers: &mut [u16; 8192],
-    ends: &mut [u16; 8192],
-    sets: &mut [u32; 512],
-) -> HostReply
-    ensures { λ r. ⌜ HostOpen (inEdition editions.First (now (pattern .entry))) (inEdition editions.First (now (board .entry)))
-        (state (now (fixed .entry)) (now (offsets .entry)) (now (numbers .entry)) (now (ends .entry)) (now (sets .entry))) r
-        (state (now (fixed .exit)) (now (offsets .exit)) (now (numbers .exit)) (now (ends .exit)) (now (sets .exit))) ⌝ }
-{
-    open_in(
-        Editions {
-            pattern: Edition::First,
-            board: Edition::First,
-        },
-        pattern,
-        board,
-        fixed,
-        offsets,
-        numbers,
-        ends,
-        sets,
-    )
-}
-
-#[no_mangle]
-pub extern "C" fn heronditch_session_open_12(
-    pattern: &[u8],
-    board: &[u8],
-    fixed: &mut [u32; 66],
-    offsets: &mut [u16; 1026],
-    numbers: &mut [u16; 8192],
-    ends: &mut [u16; 8192],
-    sets: &mut [u32; 512],
-) -> HostReply
-    ensures { λ r. ⌜ HostOpen (inEdition editions.First (now (pattern .entry))) (inEdition editions.Second (now (board .entry)))
-        (state (now (fixed .entry)) (now (offsets .entry)) (now (numbers .entry)) (now (ends .entry)) (now (sets .entry))) r
-        (state (now (fixed .exit)) (now (offsets .exit)) (now (numbers .exit)) (now (ends .exit)) (now (sets .exit))) ⌝ }
-{
-    open_in(
-        Editions {
-            pattern: Edition::First,
-            board: Edition::Second,
-        },
-        pattern,
-        board,
-        fixed,
-        offsets,
-        numbers,
-        ends,
-        sets,
-    )
-}
-
-#[no_mangle]
-pub extern "C" fn heronditch_session_open_21(
-    pattern: &[u8],
-    board: &[u8],
-    fixed: &mut [u32; 66],
-    offsets: &mut [u16; 1026],
-    numbers: &mut [u16; 8192],
-    ends: &mut [u16; 8192],
-    sets: &mut [u32; 512],
-) -> HostReply
-    ensures { λ r. ⌜ HostOpen (inEdition editions.Second (now (pattern .entry))) (inEdition editions.First (now (board .entry)))
-        (state (now (fixed .entry)) (now (offsets .entry)) (now (numbers .entry)) (now (ends .entry)) (now (sets .entry))) r
-        (state (now (fixed .exit)) (now (offsets .exit)) (now (numbers .exit)) (now (ends .exit)) (now (sets .exit))) ⌝ }
-{
-    open_in(
-        Editions {
-            pattern: Edition::Second,
-            board: Edition::First,
-        },
-        pattern,
-        board,
-        fixed,
-        offsets,
-        numbers,
-        ends,
-        sets,
-    )
-}
-
-#[no_mangle]
-pub extern "C" fn heronditch_session_open_22(
-    pattern: &[u8],
-    board: &[u8],
-    fixed: &mut [u32; 66],
-    offsets: &mut [u16; 1026],
-    numbers: &mut [u16; 8192],
-    ends: &mut [u16; 8192],
-    sets: &mut [u32; 512],
-) -> HostReply
-    ensures { λ r. ⌜ HostOpen (inEdition editions.Second (now (pattern .entry))) (inEdition editions.Second (now (board .entry)))
-        (state (now (fixed .entry)) (now (offsets .entry)) (now (numbers .entry)) (now (ends .entry)) (now (sets .entry))) r
-        (state (now (fixed .exit)) (now (offsets .exit)) (now (numbers .exit)) (now (ends .exit)) (now (sets .exit))) ⌝ }
-{
-    open_in(
-        Editions {
-            pattern: Edition::Second,
-            board: Edition::Second,
-        },
-        pattern,
-        board,
-        fixed,
-        offsets,
-        numbers,
-        ends,
-        sets,
-    )
-}
-
+// Cuts a link, told by its index in the board's file, from 0: 14 where it is out already or not there, which changes nothing.
 #[no_mangle]
 pub extern "C" fn heronditch_session_cut(
     fixed: &[u32; 66],
@@ -195,9 +80,9 @@ pub extern "C" fn heronditch_session_cut(
     numbers: &[u16; 8192],
     ends: &mut [u16; 8192],
     sets: &mut [u32; 512],
-    place: usize,
+    link: usize,
 ) -> HostReply
-    ensures { λ r. ⌜ HostCut (state (now (fixed .entry)) (now (offsets .entry)) (now (numbers .entry)) (now (ends .entry)) (now (sets .entry))) place r
+    ensures { λ r. ⌜ HostCut (state (now (fixed .entry)) (now (offsets .entry)) (now (numbers .entry)) (now (ends .entry)) (now (sets .entry))) link r
         (state (now (fixed .entry)) (now (offsets .entry)) (now (numbers .entry)) (now (ends .exit)) (now (sets .exit))) ⌝ }
 {
     of_cut(session_cut::cut(
@@ -206,10 +91,11 @@ pub extern "C" fn heronditch_session_cut(
         &numbers[..],
         &mut ends[..],
         &mut sets[..],
-        place,
+        link,
     ))
 }
 
+// Reads the table out, on the links that are left. Replies with N.
 #[no_mangle]
 pub extern "C" fn heronditch_session_table(
     fixed: &[u32; 66],

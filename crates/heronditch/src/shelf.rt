@@ -74,15 +74,17 @@ fn of_shelf(answer: ShelfAnswer) -> HostReply
     }
 }
 
+// Compares the circuits of two second-edition patterns; which of the two a refusal means is told beside it.
 #[no_mangle]
-pub extern "C" fn heronditch_compare_2(first: &[u8], second: &[u8]) -> Comparison
+pub extern "C" fn heronditch_compare(first: &[u8], second: &[u8]) -> Comparison
     ensures { λ r. ⌜ r ≡ hostCompare (comparing (now (first .entry)) (now (second .entry))) ⌝ }
 {
     of_compare(call_compare::compare(first, second))
 }
 
+// Puts a shelf of second-edition patterns in order, by their numbers; those that are refused are passed over. Replies with how many are accepted.
 #[no_mangle]
-pub extern "C" fn heronditch_shelf_2(bytes: &[u8], lengths: &[u32], order: &mut [u8]) -> HostReply
+pub extern "C" fn heronditch_shelf(bytes: &[u8], lengths: &[u32], order: &mut [u8]) -> HostReply
     ensures { λ r. ⌜ record { reply = r; out = now (order .exit) } ≡ hostShelf (shelving (now (bytes .entry)) (now (lengths .entry)) (now (order .entry))) ⌝ }
 {
     of_shelf(call_shelf::shelf(bytes, lengths, order))

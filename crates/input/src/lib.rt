@@ -1,7 +1,11 @@
-// Careful reading. A file is read by its name into a buffer, until the buffer is full or the file ends, and the answer says what became of it.
+// Careful reading. A file is read by its name into a buffer, until the buffer is full or the file ends, and the answer says what became of it. What the
+// system answers is judged by functions of their own, each with an equation.
+ghost use mathlib.Core.Bool.{true};
 ghost use mathlib.Core.Path.{_≡_};
+ghost use Prim.Native.Nat.{_≤_};
+ghost use lib.Dec.{ltb};
 ghost use lib.ListN.{length};
-ghost use Rattle.input.specs.Reading.{isAbsent, Tells, Within};
+ghost use Rattle.input.specs.Reading.{isOpen, isAbsent, unopenedOf, endedOf, Tells, Within};
 
 // What became of reading a file: so many of its bytes stand at the front of the buffer; or there is no such name; or it cannot be read.
 pub enum Found {
@@ -10,27 +14,18 @@ pub enum Found {
     Unreadable,
 }
 
-// What became of an open file of which so many bytes were read, to where there is this much room: a read that failed is told from the end by one
-// read more. It is not absent, and be it empty.
-fn outcome(fd: i32, size: usize, room: usize) -> Found
-    ensures { λ r. ⌜ Tells size r ⌝ }
+// Whether a program was told anything besides its own name.
+pub fn is_told(arguments: usize) -> bool
+    ensures { λ r. ⌜ r ≡ ltb 1 arguments ⌝ }
 {
-    if size == room {
-        return Found::Bytes(size);
-    }
-    let mut more = [0u8; 1];
-    if libc::read(fd, &mut more) != 0 {
-        return Found::Unreadable;
-    }
-    Found::Bytes(size)
+    arguments > 1
 }
 
-// Reads from an open file until the buffer is full or the file ends.
-fn read_open(fd: i32, buf: &mut [u8]) -> Found
-    ensures { λ r. ⌜ Within (length (now (buf .exit))) r ⌝ }
+// Whether a number that the system answered is that of an open file: 0 is one, where standard input is closed.
+fn is_open(fd: i32) -> bool
+    ensures { λ r. ⌜ r ≡ isOpen fd ⌝ }
 {
-    let size = io::read_full(fd, buf);
-    outcome(fd, size, buf.len())
+    fd >= 0
 }
 
 // Whether a file that cannot be opened is absent.
@@ -43,16 +38,62 @@ fn absent(error: i32) -> bool
     false
 }
 
+// What became of a file that was not opened, for this error.
+fn unopened(error: i32) -> Found
+    ensures { λ r. ⌜ r ≡ unopenedOf error ⌝ }
+{
+    if absent(error) {
+        return Found::Absent;
+    }
+    Found::Unreadable
+}
+
+// What became of an open file whose reading stopped after so many bytes, ahead of the buffer's end, and of which one read more answered this: 0 is the
+// file's end, and anything else a read that failed.
+fn ended(size: usize, more: isize) -> Found
+    ensures { λ r. ⌜ r ≡ endedOf size more ⌝ }
+{
+    if more != 0 {
+        return Found::Unreadable;
+    }
+    Found::Bytes(size)
+}
+
+// One read more, of at least a byte: a read of none would answer 0 as the file's end does.
+fn read_more(fd: i32, more: &mut [u8]) -> isize
+    requires { ⌜ 1 ≤ length (now more) ⌝ }
+{
+    libc::read(fd, more)
+}
+
+// What became of an open file of which so many bytes were read, to where there is this much room: a read that failed is told from the end by one
+// read more. It is not absent, and be it empty; and where the buffer is full, it was read.
+fn outcome(fd: i32, size: usize, room: usize) -> Found
+    ensures { λ r. ⌜ Tells size room r ⌝ }
+{
+    if size == room {
+        return Found::Bytes(size);
+    }
+    let mut more = [0u8; 1];
+    ended(size, read_more(fd, &mut more))
+}
+
+// Reads from an open file until the buffer is full or the file ends.
+fn read_open(fd: i32, buf: &mut [u8]) -> Found
+    requires { ⌜ isOpen fd ≡ true ⌝ }
+    ensures { λ r. ⌜ Within (length (now (buf .exit))) r ⌝ }
+{
+    let size = io::read_full(fd, buf);
+    outcome(fd, size, buf.len())
+}
+
 // The bytes of a file by its name.
 pub fn load(name: &[u8], buf: &mut [u8]) -> Found
     ensures { λ r. ⌜ Within (length (now (buf .exit))) r ⌝ }
 {
     let fd = os::open_read(name);
-    if fd < 0 {
-        if absent(os::errno()) {
-            return Found::Absent;
-        }
-        return Found::Unreadable;
+    if !is_open(fd) {
+        return unopened(os::errno());
     }
     let found = read_open(fd, buf);
     libc::close(fd);

@@ -1,6 +1,6 @@
 -- What the program tells of a load. Assumes nothing.
 use mathlib.Core.List.{List, [], _∷_}
-use mathlib.Core.Path.{_≡_, sym, ap, _∙_}
+use mathlib.Core.Path.{_≡_, refl, sym, ap, _∙_}
 use Prim.Native.Nat.{ℕ, _≤_}
 use native.Mathlib.Omega.{arith}
 use lib.ListN.{length, take}
@@ -14,16 +14,48 @@ use Rattle.call_load.specs.declared.LoadAnswer.{LoadAnswer}
 use Rattle.call_load.specs.declared.LoadAnswer.the-variants.{Made, Refused}
 use Rattle.call_load.specs.Call.{loadBytes, loadReply, LoadOutcome, loading}
 use Rattle.call_load.proofs.Promise.{load-made, load-replied, front-file}
+use Rattle.loader.specs.declared.words.Word.the-variants.{Number, NoNumber}
+use Rattle.loader.specs.declared.Asked.{Asked}
 use Rattle.loader.specs.declared.Printed.{Printed}
-use Rattle.loader.specs.declared.Printed.the-variants.{Whole, Failed, OutOfRange}
-use Rattle.loader.specs.Printing.{Tried, Told}
+use Rattle.loader.specs.declared.Printed.the-variants.{Whole, Failed, OutOfRange, NoNumbers}
+use Rattle.loader.specs.Printing.{Tried, Told, Given, Ran}
 
--- a file that was handed on is that of a load whose numbers are in their ranges
-pub tried-told : (n m k : ℕ) (r : Printed) → InRange n m k → Tried r → Told n m k r
+-- the front of a buffer that is the file of a load whose numbers are in their ranges, where it was tried to hand it on
+pub tried-told : (seed n m k : ℕ) (out : List ℕ) (size handed : ℕ) (r : Printed) → InRange n m k → take size out ≡ loadBytes seed n m k → length (take size out) ≡ size
+    → Tried (length (take size out)) handed r → Told seed n m k out handed r
 unfolding Tried Told
-tried-told n m k Whole r t = r
-tried-told n m k Failed r t = r
-tried-told n m k OutOfRange r t = absurd t
+tried-told seed n m k out size handed Whole r e s t = (r, t ∙ ap length e, ap (λ (i : ℕ). take i out) (t ∙ s) ∙ e)
+tried-told seed n m k out size handed Failed r e s t = (r, t)
+tried-told seed n m k out size handed OutOfRange r e s t = absurd t
+tried-told seed n m k out size handed NoNumbers r e s t = absurd t
+
+-- ---- four words
+
+module _ (words : Asked) (out : List ℕ) (handed : ℕ) where
+  pub none-first : words .seed ≡ NoNumber → handed ≡ 0 → Ran words out handed NoNumbers
+  unfolding Ran Given
+  none-first a z = rw a (refl, z)
+
+  module _ {seed : ℕ} (a : words .seed ≡ Number seed) where
+    pub none-second : words .n ≡ NoNumber → handed ≡ 0 → Ran words out handed NoNumbers
+    unfolding Ran Given
+    none-second b z = rw (a, b) (refl, z)
+
+    module _ {n : ℕ} (b : words .n ≡ Number n) where
+      pub none-third : words .m ≡ NoNumber → handed ≡ 0 → Ran words out handed NoNumbers
+      unfolding Ran Given
+      none-third d z = rw (a, b, d) (refl, z)
+
+      module _ {m : ℕ} (d : words .m ≡ Number m) where
+        pub none-fourth : words .k ≡ NoNumber → handed ≡ 0 → Ran words out handed NoNumbers
+        unfolding Ran Given
+        none-fourth f z = rw (a, b, d, f) (refl, z)
+
+        pub all-four : {k : ℕ} → words .k ≡ Number k → (r : Printed) → Told seed n m k out handed r → Ran words out handed r
+        unfolding Ran Given
+        all-four f r t = rw (a, b, d, f) t
+
+-- ---- what the call comes to
 
 module _ (seed n m k : ℕ) (before after : List ℕ) (answer : LoadAnswer)
     (e : record { reply = loadReply answer; out = after } ≡ loading seed n m k before) where

@@ -7,90 +7,133 @@ use file_format::Board;
 use output::Output;
 ghost use mathlib.Core.Path.{_≡_};
 ghost use Prim.Native.Nat.{_≤_};
+ghost use lib.Dec.{eqb};
 ghost use lib.ListN.{length};
 ghost use Rattle.file_format.specs.declared.Edition.the-variants as editions;
 ghost use Rattle.file_format.specs.Layout.{lengthOf};
 ghost use Rattle.call_load.specs.Call.{loadBytes};
-ghost use Rattle.loader.specs.Printing.{Tried, Told};
+ghost use Rattle.loader.specs.Printing.{heardOf, Tried, Told, Ran};
 
 mod words;
 
 // The longest file of a load.
 const BYTES: usize = 4 + 2 * Board::MAX_NODES + 4 * Board::MAX_LINKS;
 
-// What came of a load: its file was handed whole to standard output, or that failed, or a number was out of its range.
+// The four words that ask for a load.
+struct Asked {
+    seed: Word,
+    n: Word,
+    m: Word,
+    k: Word,
+}
+
+// What came of the words: the load's file was handed whole to standard output; or that failed; or a number was out of its range; or a word was none.
 enum Printed {
     Whole,
     Failed,
     OutOfRange,
+    NoNumbers,
 }
 
-// Hands the file of a load to standard output.
-fn hand(seed: u32, n: u32, m: u32, k: u32, bytes: &[u8]) -> Printed
-    requires { ⌜ now bytes ≡ loadBytes seed n m k ⌝ }
-    ensures { λ r. ⌜ Tried r ⌝ }
+// What the program was told, and what came of it.
+struct Run {
+    words: Asked,
+    printed: Printed,
+}
+
+// Hands the file of a load to standard output, and notes how many bytes it has. Nothing was handed over before.
+fn hand(seed: u32, n: u32, m: u32, k: u32, handed: &mut usize, bytes: &[u8]) -> Printed
+    requires { ⌜ (now handed ≡ 0) × (now bytes ≡ loadBytes seed n m k) ⌝ }
+    ensures { λ r. ⌜ Tried (length (now (bytes .entry))) (now (handed .exit)) r ⌝ }
 {
-    let answer = output::write_whole(libc::STDOUT_FILENO, bytes);
-    let Output::Written(_) = answer else {
+    let answer = output::write_whole(bytes);
+    let Output::Written(size) = answer else {
         return Printed::Failed;
     };
+    *handed = size;
     Printed::Whole
 }
 
 // Makes the load in a buffer that is long enough for each, and hands it on.
-fn print_load(seed: u32, n: u32, m: u32, k: u32, out: &mut [u8]) -> Printed
-    requires { ⌜ lengthOf editions.First 512 4096 ≤ length (now out) ⌝ }
-    ensures { λ r. ⌜ Told n m k r ⌝ }
+fn print_load(seed: u32, n: u32, m: u32, k: u32, out: &mut [u8], handed: &mut usize) -> Printed
+    requires { ⌜ (lengthOf editions.First 512 4096 ≤ length (now out)) × (now handed ≡ 0) ⌝ }
+    ensures { λ r. ⌜ Told seed n m k (now (out .exit)) (now (handed .exit)) r ⌝ }
 {
     let answer = call_load::load(seed, n, m, k, out);
     let LoadAnswer::Made(size) = answer else {
         return Printed::OutOfRange;
     };
-    hand(seed, n, m, k, &out[..size])
+    hand(seed, n, m, k, handed, &out[..size])
+}
+
+// The number that an argument is, from what the system answered when it was asked for: 0 where the word is whole.
+fn heard(error: i32, word: &[u8]) -> Word
+    ensures { λ r. ⌜ r ≡ heardOf error (now (word .entry)) ⌝ }
+{
+    if error != 0 {
+        return Word::NoNumber;
+    }
+    number(word)
 }
 
 // The number that an argument is, by its place.
 fn argument(i: usize) -> Word {
     let mut buf = [0u8; 32];
     let size = os::arg(i, &mut buf);
-    if os::errno() != 0 {
-        return Word::NoNumber;
-    }
-    number(&buf[..size])
+    heard(os::errno(), &buf[..size])
 }
 
-fn usage() {
-    io::write_all(
-        libc::STDERR_FILENO,
-        b"usage: loader SEED N M K, four numbers below 4294967296\n",
-    );
-}
-
-// The load that the arguments ask for, by way of a buffer that is lent whole.
-fn load_asked_for(out: &mut [u8])
-    requires { ⌜ lengthOf editions.First 512 4096 ≤ length (now out) ⌝ }
+// Whether a program was told four words besides its own name.
+fn are_four(arguments: usize) -> bool
+    ensures { λ r. ⌜ r ≡ eqb arguments 5 ⌝ }
 {
-    if os::arg_count() != 5 {
-        usage();
-        return;
+    arguments == 5
+}
+
+// The words that the program was told: none are numbers where they are not four.
+fn read_words() -> Asked {
+    if !are_four(os::arg_count()) {
+        return Asked {
+            seed: Word::NoNumber,
+            n: Word::NoNumber,
+            m: Word::NoNumber,
+            k: Word::NoNumber,
+        };
     }
-    let Word::Number(seed) = argument(1) else {
-        usage();
-        return;
+    let seed = argument(1);
+    let n = argument(2);
+    let m = argument(3);
+    let k = argument(4);
+    Asked { seed, n, m, k }
+}
+
+// The load that four words ask for.
+fn load_words(words: Asked, out: &mut [u8], handed: &mut usize) -> Printed
+    requires { ⌜ (lengthOf editions.First 512 4096 ≤ length (now out)) × (now handed ≡ 0) ⌝ }
+    ensures { λ r. ⌜ Ran words (now (out .exit)) (now (handed .exit)) r ⌝ }
+{
+    let first = words.seed;
+    let Word::Number(seed) = first else {
+        return Printed::NoNumbers;
     };
-    let Word::Number(n) = argument(2) else {
-        usage();
-        return;
+    let second = words.n;
+    let Word::Number(n) = second else {
+        return Printed::NoNumbers;
     };
-    let Word::Number(m) = argument(3) else {
-        usage();
-        return;
+    let third = words.m;
+    let Word::Number(m) = third else {
+        return Printed::NoNumbers;
     };
-    let Word::Number(k) = argument(4) else {
-        usage();
-        return;
+    let fourth = words.k;
+    let Word::Number(k) = fourth else {
+        return Printed::NoNumbers;
     };
-    match print_load(seed, n, m, k, out) {
+    print_load(seed, n, m, k, out, handed)
+}
+
+// Tells on standard error where there is no load.
+fn tell(printed: Printed) {
+    match printed {
         Printed::Whole => {}
         Printed::Failed => os::fail(b"the load is not whole"),
         Printed::OutOfRange => {
@@ -99,10 +142,29 @@ fn load_asked_for(out: &mut [u8])
                 b"refused 10: N is from 1 to 512, M at most 4096, K from 1 to 65536\n",
             );
         }
+        Printed::NoNumbers => {
+            io::write_all(
+                libc::STDERR_FILENO,
+                b"usage: loader SEED N M K, four numbers below 4294967296\n",
+            );
+        }
     }
+}
+
+// The load that the arguments ask for, by way of a buffer that is lent whole.
+fn load_asked_for(out: &mut [u8], handed: &mut usize) -> Run
+    requires { ⌜ (lengthOf editions.First 512 4096 ≤ length (now out)) × (now handed ≡ 0) ⌝ }
+    ensures { λ r. ⌜ Ran (r .words) (now (out .exit)) (now (handed .exit)) (r .printed) ⌝ }
+{
+    let words = read_words();
+    let printed = load_words(words, out, handed);
+    Run { words, printed }
 }
 
 fn main() {
     let mut out = [0u8; BYTES];
-    load_asked_for(&mut out);
+    let mut handed: usize = 0;
+    let run = load_asked_for(&mut out, &mut handed);
+    let printed = run.printed;
+    tell(printed);
 }

@@ -1,8 +1,10 @@
-// Careful writing. All of some bytes go to a file descriptor, or the answer says that they did not. A write that takes only some of them is
+// Careful writing. All of some bytes go to standard output, or the answer says that they did not. A write that takes only some of them is
 // gone on with, and one that was interrupted is tried again. After one that failed nothing more is written: what comes out is always a front
 // of the bytes.
+ghost use mathlib.Core.Bool.{true};
 ghost use mathlib.Core.Path.{_≡_};
 ghost use Prim.Native.Nat.{_≤_};
+ghost use lib.IntN.{pos};
 ghost use lib.ListN.{length, drop};
 ghost use Rattle.output.specs.Writing.{triedAgain, All};
 
@@ -29,9 +31,16 @@ fn again(error: i32) -> bool
     false
 }
 
-// Hands the bytes after the first `done` to the output until it takes some, and answers how many, 0 where it fails.
+// Lets others run before a write is tried again.
+fn pause(error: i32)
+    requires { ⌜ triedAgain error ≡ true ⌝ }
+{
+    libc::sched_yield();
+}
+
+// Hands the bytes after the first `done` to standard output until it takes some, and answers how many, 0 where it fails.
 fn take_some(fd: i32, bytes: &[u8], done: usize, rest: &[u8]) -> usize
-    requires { ⌜ now rest ≡ drop done (now bytes) ⌝ }
+    requires { ⌜ (fd ≡ pos 1) × (now rest ≡ drop done (now bytes)) ⌝ }
     ensures { λ r. ⌜ r ≤ length (now (rest .entry)) ⌝ }
 {
     let mut tries: u32 = 0;
@@ -45,19 +54,19 @@ fn take_some(fd: i32, bytes: &[u8], done: usize, rest: &[u8]) -> usize
         if !again(error) {
             return 0;
         }
-        libc::sched_yield();
+        pause(error);
         tries += 1;
     }
     0
 }
 
-// Writes all of the bytes, or stops at the first write that fails.
-pub fn write_whole(fd: i32, bytes: &[u8]) -> Output
+// Writes all of the bytes to standard output, or stops at the first write that fails.
+pub fn write_whole(bytes: &[u8]) -> Output
     ensures { λ r. ⌜ All (now (bytes .entry)) r ⌝ }
 {
     let mut done: usize = 0;
     while done < bytes.len() {
-        let taken = take_some(fd, bytes, done, &bytes[done..]);
+        let taken = take_some(libc::STDOUT_FILENO, bytes, done, &bytes[done..]);
         if taken == 0 {
             return Output::Failed;
         }

@@ -14,7 +14,7 @@ use Rattle.file_format.specs.Circuit.{circuitOf}
 use Rattle.file_format.specs.declared.Role.the-variants.{Pattern, Board}
 use Rattle.file_format.specs.Examples.{fileT, fileB, fileOne}
 use Rattle.file_format.specs.Label.{label, labels}
-use Rattle.file_format.specs.Layout.{firstEdition, field, fields, nodesOf, linksOf, kindsOf, packagesOf, startsOf, endsOf, labelsOf}
+use Rattle.file_format.specs.Layout.{CircuitFile, firstEdition, field, fields, nodesOf, linksOf, kindsOf, packagesOf, startsOf, endsOf, labelsOf}
 use Rattle.file_format.specs.Links.{linksBelow, earlier, rising}
 use Rattle.file_format.specs.Refusals.{Verdict, accept, first, linkConditions, fileConditions, asksConnected}
 use Rattle.table.specs.Examples.{rowComputed, circuitT, circuitB}
@@ -86,7 +86,7 @@ T-on-B-lines =
     rw (line-0 .line, line-1 .line, line-2 .line, line-3 .line, line-4 .line, line-5 .line, line-0 .place, line-1 .place, line-2 .place, line-3 .place, line-4 .place, line-5 .place)
 
 -- "For T on B": the four lines
-pub T-on-B : reportOf fileT fileB
+pub T-on-B : reportOf (firstEdition fileT) (firstEdition fileB)
     ≡ bytes "place 0: 0 1 2 / 0-1 1-2\nplace 1: 0 1 2 / 0-1 1-2\nplace 2: 0 1 2 / 0-1 1-2\nend 3 of 6\n"
 unfolding reportOf reportFor
 T-on-B =
@@ -109,24 +109,24 @@ writing : Unit {0}
 unfolding reportOf reportFor linesOf refusalLine fileWord concatBelow countBelow endLine decimal digits bytes
 writing = tt
 
-pub refused-pattern : (board : List ℕ) → reportOf (1 ∷ 0 ∷ 0 ∷ 0 ∷ []) board ≡ bytes "refused 3 pattern\n"
+pub refused-pattern : (board : CircuitFile) → reportOf (firstEdition (1 ∷ 0 ∷ 0 ∷ 0 ∷ [])) board ≡ bytes "refused 3 pattern\n"
 unfolding reading writing
 refused-pattern board = refl
 
-pub absent-pattern : (board : List ℕ) → reportOf [] board ≡ bytes "refused 1 pattern\n"
+pub absent-pattern : (board : CircuitFile) → reportOf (firstEdition []) board ≡ bytes "refused 1 pattern\n"
 unfolding reading writing
 absent-pattern board = refl
 
-pub absent-board : reportOf fileT [] ≡ bytes "refused 1 board\n"
+pub absent-board : reportOf (firstEdition fileT) (firstEdition []) ≡ bytes "refused 1 board\n"
 unfolding reading writing fileT
 absent-board = refl
 
 -- ---- a board without nodes, and a place without links
 
-pub empty-board : reportOf fileT (0 ∷ 0 ∷ 0 ∷ 0 ∷ []) ≡ bytes "end 0 of 0\n"
+pub empty-board : reportOf (firstEdition fileT) (firstEdition (0 ∷ 0 ∷ 0 ∷ 0 ∷ [])) ≡ bytes "end 0 of 0\n"
 unfolding reading writing fileT
 empty-board = refl
 
-pub no-links : reportOf fileOne fileOne ≡ bytes "place 0: 0 /\nend 1 of 1\n"
+pub no-links : reportOf (firstEdition fileOne) (firstEdition fileOne) ≡ bytes "place 0: 0 /\nend 1 of 1\n"
 unfolding reading writing opened fileOne radiusOf radius distances misses maximum matches keepFrom linkMatches matchStarts matchEnds component placeNodes placeLinks anyBelow placeLine nodeItems linkItems linkItem marked hasPlace centreLine
 no-links = refl

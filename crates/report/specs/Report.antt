@@ -12,7 +12,7 @@ use Rattle.file_format.specs.declared.File.the-variants as file
 use Rattle.file_format.specs.declared.Refusal.{Refusal}
 use Rattle.file_format.specs.declared.Role.the-variants.{Pattern, Board}
 use Rattle.file_format.specs.Circuit.{circuitOf}
-use Rattle.file_format.specs.Layout.{firstEdition}
+use Rattle.file_format.specs.Layout.{CircuitFile}
 use Rattle.file_format.specs.Refusals.{Verdict, accept, refuse, first, fileConditions}
 use Rattle.place.specs.Match.{radiusOf, found, placeNodes, placeLinks}
 
@@ -68,13 +68,10 @@ linesOf pattern board =
     let n = length (board .kinds) in
     concatBelow n (centreLine pattern board) ++ endLine (countBelow n (hasPlace pattern board)) n
 
--- the report, by whether a file is refused; "the report program .. still read[s] the first" edition; "the pattern's 1 to 6 before the board's"
+-- the report, by whether a file is refused; "the pattern's 1 to 6 before the board's"
 unfoldable pub reportFor : Verdict → Circuit → Circuit → List ℕ
 reportFor accept pattern board = linesOf pattern board
 reportFor (refuse x) pattern board = refusalLine x
 
-unfoldable pub reportOf : List ℕ → List ℕ → List ℕ
-reportOf pattern board =
-    let p = firstEdition pattern in
-    let b = firstEdition board in
-    reportFor (first (fileConditions Pattern p ++ fileConditions Board b)) (circuitOf p) (circuitOf b)
+unfoldable pub reportOf : CircuitFile → CircuitFile → List ℕ
+reportOf pattern board = reportFor (first (fileConditions Pattern pattern ++ fileConditions Board board)) (circuitOf pattern) (circuitOf board)

@@ -23,12 +23,13 @@ use Rattle.table.specs.Prepared.{succOf, predOf}
 use Rattle.table.specs.Row.{lastTable}
 use Rattle.table_strike.specs.Strike.{survivors}
 use Rattle.table.proofs.Meaning.{last-fits}
-use Rattle.session_strike.specs.Going.{Follows, Covered, Settles}
-use Rattle.session_strike.specs.Moves.{movesIn, nextOf, marked, markBoth}
+use Rattle.session_strike.specs.Going.{Follows, Covered}
+use Rattle.session_strike.specs.Moves.{movesIn, nextOf, marked, markBoth, settledFrom}
+use Rattle.session_strike.proofs.Going.{from-last}
 use Rattle.session_strike.proofs.Marking.{both-first, both-second}
 use Rattle.session_strike.proofs.Striking.{last-rest}
 use Rattle.session.specs.Machine.{Machine, isLeft, takeOut, boardLeft}
-use Rattle.session.specs.State.{State, state, Holds, endLeft, takes, without}
+use Rattle.session.specs.State.{State, Holds, endLeft, takes, without, linkOut}
 use Rattle.session.proofs.Left.{left-below, left-fewer}
 use Rattle.session.proofs.Links.{linked-leads, linked-out, moves-apart}
 use Rattle.session.proofs.Fewer.{fewer-begins}
@@ -146,19 +147,19 @@ module _ {m : Machine} {s : State} (holds : Holds m s) (place : ℕ) where
 
     -- striking on leads to the last table without the link
     pub cut-last :
-        {last : List ℕ} →
-        Settles masks moves′ (take (length (m .board .kinds)) (s .sets))
-        (markBoth (length (take (length (m .board .kinds)) (s .sets))) (getD (s .ends) (4096 + place) far) (getD (s .ends) place far)) last →
-        last ≡ lastTable (m .pattern) (boardLeft m′) (everything (boardLeft m′))
-    cut-last settles = settles (m .pattern) (boardLeft m′) follows′ (rw (holds .table) begins) (rw (holds .table, start-at, end-at) covered)
+        settledFrom masks moves′ (take (length (m .board .kinds)) (s .sets)) (getD (s .ends) (4096 + place) far) (getD (s .ends) place far)
+        ≡ lastTable (m .pattern) (boardLeft m′) (everything (boardLeft m′))
+    cut-last =
+        rw (holds .table, start-at, end-at)
+        (from-last (m .pattern) (boardLeft m′) follows′ old (getD (m .board .starts) place 0) (getD (m .board .ends) place 0) (omega (arith, old-long, nodes-few)) begins covered)
 
     -- so that the tables hold the machine without it
-    pub cut-holds :
-        {last : List ℕ} → last ≡ lastTable (m .pattern) (boardLeft m′) (everything (boardLeft m′)) →
-        Holds m′ (state (s .fixed) (s .offsets) (s .numbers) (without (s .ends) place) (last ++ drop (length (m .board .kinds)) (s .sets)))
+    abbrev new : List ℕ
+    new = lastTable (m .pattern) (boardLeft m′) (everything (boardLeft m′))
+
+    pub cut-holds : Holds m′ (linkOut s place (new ++ drop (length (m .board .kinds)) (s .sets)))
     unfolding takeOut boardLeft chosen
-    cut-holds {last} e =
-        let long : length last ≡ length (m .board .kinds) = ap length e ∙ last-fits (m .pattern) (boardLeft m′) (everything (boardLeft m′)) .size in
+    cut-holds =
         record {
           pattern = holds .pattern;
           board = holds .board;
@@ -167,5 +168,5 @@ module _ {m : Machine} {s : State} (holds : Holds m s) (place : ℕ) where
           parts = holds .parts;
           nodes = holds .nodes;
           links = linked-out m (holds .links) place inside-links;
-          table = take-at last _ (length (m .board .kinds)) long ∙ e;
+          table = take-at new _ (length (m .board .kinds)) (last-fits (m .pattern) (boardLeft m′) (everything (boardLeft m′)) .size);
         }

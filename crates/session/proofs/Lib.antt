@@ -3,3 +3,5 @@ pub mod Links
 pub mod Fewer
 pub mod Cutting
 pub mod Run
+pub mod Tables
+mod Examples

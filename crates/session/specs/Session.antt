@@ -1,10 +1,9 @@
--- What the calls of a session promise, on the tables that are lent; and a list of cuts, one call after another.
+-- What the calls of a session come to on tables that hold a machine, from what they make of any (Tables); and a list of cuts, one call after another.
 use mathlib.Core.Bool.{cond}
 use mathlib.Core.List.{List, [], _∷_, _++_}
 use mathlib.Core.Path.{_≡_}
 use Prim.Native.Nat.{ℕ}
-use lib.Dec.{leb}
-use lib.ListN.{length, getD, drop}
+use lib.ListN.{length, drop}
 use Rattle.file_format.specs.Reading.{filled}
 use Rattle.file_format.specs.Refusals.{Verdict, refuse, first, shortTable}
 use Rattle.file_format.specs.Reply.{Reply, reply}
@@ -12,24 +11,13 @@ use Rattle.file_format.specs.declared.Refusal.{Refusal}
 use Rattle.table.specs.Host.{everything}
 use Rattle.table.specs.Row.{lastTable}
 use Rattle.session.specs.Machine.{Machine, isLeft, takeOut, cutReply, cutMachine, boardLeft, machineTable}
-use Rattle.session.specs.State.{State, state, without, Holds}
-
--- A number of the tables that says how many there are of something: 0 where it is above what there is room for, as in tables that hold no machine.
-unfoldable pub bounded : ℕ → ℕ → ℕ
-bounded most x = cond (leb x most) x 0
-
--- how many nodes, and how many parts
-abbrev pub nodesIn : List ℕ → ℕ
-nodesIn fixed = bounded 512 (getD fixed 65 0)
-
-abbrev pub partsIn : List ℕ → ℕ
-partsIn fixed = bounded 32 (getD fixed 64 0)
+use Rattle.session.specs.State.{State, linkOut, Holds}
 
 -- the tables after a cut: where a link is left at the place, its two entries are no node's, and the sets are the last table without it, before those past N
 unfoldable pub cutState : Machine → ℕ → State → State
 cutState m place s =
     cond (isLeft m place)
-    (state (s .fixed) (s .offsets) (s .numbers) (without (s .ends) place)
+    (linkOut s place
     (lastTable (m .pattern) (boardLeft (takeOut m place)) (everything (boardLeft (takeOut m place))) ++ drop (length (m .board .kinds)) (s .sets)))
     s
 

@@ -58,6 +58,10 @@ takes ends nodes place = ltb place 4096 && ltb (getD ends place far) nodes
 abbrev pub without : List ℕ → ℕ → List ℕ
 without ends place = set (set ends place far) (4096 + place) far
 
+-- the tables with a link taken out, and these sets
+abbrev pub linkOut : State → ℕ → List ℕ → State
+linkOut s place sets = state (s .fixed) (s .offsets) (s .numbers) (without (s .ends) place) sets
+
 -- ---- which machine it is
 
 -- The tables hold a machine: its sizes, masks and links, and the last table of the row, before the all-0 rule.

@@ -1,5 +1,5 @@
-// Cutting links while searching: a cut, and reading the table out. Both take tables of any content: where these hold a machine, the reply is the
-// machine's.
+// Cutting links while searching: a cut, and reading the table out. Both take tables of any content, and what they make of it are equations
+// (session/specs/Tables); where the tables hold a machine, that is the machine's reply, and its table.
 use base_bits::clear;
 use base_bits::copy;
 use base_bits::size;
@@ -11,12 +11,9 @@ use session_strike::strike_from;
 use table::MASKS;
 use table_answer::occurring;
 ghost use mathlib.Core.Path.{_≡_};
-ghost use mathlib.Core.List.{List};
-ghost use Prim.Native.Nat.{ℕ, _≤_};
 ghost use lib.ListN.{length};
-ghost use Rattle.session.specs.Session.{bounded, CutPromise, ReadPromise};
 ghost use Rattle.session.specs.State.{state, StateRoom};
-ghost use Rattle.table.specs.Answer.{Fits, allOrNone};
+ghost use Rattle.session.specs.Tables.{bounded, CutMade, occurOrNone, ReadMade};
 ghost use Rattle.session_cut.specs.Cut.{cutVerdict, outReply, TakenOut};
 
 // What a cut comes to: the link is out now, or why nothing changed.
@@ -70,7 +67,7 @@ pub fn cut(
     place: usize,
 ) -> CutAnswer
     requires { ⌜ StateRoom (state (now fixed) (now offsets) (now numbers) (now ends) (now sets)) ⌝ }
-    ensures { λ r. ⌜ CutPromise (state (now (fixed .entry)) (now (offsets .entry)) (now (numbers .entry)) (now (ends .entry)) (now (sets .entry))) place (cutVerdict r)
+    ensures { λ r. ⌜ CutMade (state (now (fixed .entry)) (now (offsets .entry)) (now (numbers .entry)) (now (ends .entry)) (now (sets .entry))) place (cutVerdict r)
         (state (now (fixed .entry)) (now (offsets .entry)) (now (numbers .entry)) (now (ends .exit)) (now (sets .exit))) ⌝ }
 {
     let n = at_most(512, fixed[65] as usize);
@@ -101,7 +98,7 @@ pub enum OutAnswer {
 
 // Clears a table of so many parts where one of them is left without a node.
 fn all_or_none(parts: usize, table: &mut [u32])
-    ensures { λ _. ⌜ (parts ≤ 32 → Fits (length (now (table .entry))) parts (now (table .entry)) → now (table .exit) ≡ allOrNone (length (now (table .entry))) parts (now (table .entry))) ⌝ }
+    ensures { λ _. ⌜ now (table .exit) ≡ occurOrNone parts (now (table .entry)) ⌝ }
 {
     if size(occurring(table)) as usize == parts {
         return;
@@ -112,7 +109,7 @@ fn all_or_none(parts: usize, table: &mut [u32])
 // Reads the session's table out: the sets, or all 0 where some part is left without a node.
 pub fn read_out(fixed: &[u32], sets: &[u32], table: &mut [u32]) -> OutAnswer
     requires { ⌜ (length (now fixed) ≡ 66) × (length (now sets) ≡ 512) ⌝ }
-    ensures { λ r. ⌜ ((offsets numbers ends : List ℕ) → ReadPromise (state (now (fixed .entry)) offsets numbers ends (now (sets .entry))) (now (table .entry)) (outReply r) (now (table .exit))) ⌝ }
+    ensures { λ r. ⌜ ReadMade (now (fixed .entry)) (now (sets .entry)) (now (table .entry)) (outReply r) (now (table .exit)) ⌝ }
 {
     let n = at_most(512, fixed[65] as usize);
     if table.len() < n {

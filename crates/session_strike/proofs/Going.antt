@@ -1,45 +1,33 @@
--- Where the loop stands that goes on from a table: what it keeps, that it ends, and where. Assumes nothing.
+-- The loop that goes on from a table: what it keeps, that it ends, and that it leads to the last table. Assumes nothing.
 use mathlib.Core.Bool.{Bool, true, false, not, cond}
 use mathlib.Core.List.{List}
-use mathlib.Core.Path.{_≡_, refl, sym, ap, subst, _∙_}
-use Prim.Native.Nat.{ℕ, zero, _+_, _*_, _≤_, _<_}
+use mathlib.Core.Path.{_≡_, refl, sym, ap, _∙_}
+use Prim.Native.Nat.{ℕ, zero, suc, _≤_, _<_}
 use native.Mathlib.Omega.{arith}
-use borrow.Author.Tests.{eqb-true, eqb-false, ltb-true, ltb-false, not-true}
+use borrow.Author.Tests.{eqb-true, eqb-false, ltb-true, ltb-false, lt-ltb, le-ltb, not-true}
 use lib.Dec.{eqb, ltb}
 use lib.ListN.{length, getD, set}
-use Rattle.base_lists.specs.Below.{leastBelow}
 use Rattle.base_lists.proofs.Below.{leastBelow-at}
 use Rattle.base_lists.proofs.Tests.{T-true, T-false, false-T}
 use Rattle.graph.specs.Circuit.{Circuit}
 use Rattle.simulation.specs.Simulation.{Direction}
 use Rattle.table.specs.First.{Begins}
 use Rattle.table.specs.Host.{everything}
-use Rattle.table.specs.Row.{pairs, problemBy, problemOf}
+use Rattle.table.specs.Row.{pairs, problemBy, problemOf, lastTable}
 use Rattle.table.proofs.Pairs.{pairs-le}
-use Rattle.session_strike.specs.Going.{Follows, Covered, Settles}
-use Rattle.session_strike.specs.Moves.{nextOf, markBeside, nodeAt, unmark, lookSets, lookMarks}
+use Rattle.table.proofs.Sets.{fits-word}
+use Rattle.table_row.proofs.Begin.{begins-fits}
+use Rattle.session_strike.specs.Going.{Follows, Covered}
+use Rattle.session_strike.specs.Moves.{nextOf, markBeside, markBoth, nodeAt, unmark, lookSets, lookMarks, firstWord, lookOn, left, settled, settledFrom}
 use Rattle.session_strike.proofs.Looking.{next-subset, next-lt, next-out, length-look, look-same}
-use Rattle.session_strike.proofs.Marking.{Words, words-set, size-less, pairs-less, length-unmark, words-unmark, unmark-less, unmark-keeps, length-beside, words-beside, none-marked}
+use Rattle.session_strike.proofs.Marking.{Words, words-set, size-less, pairs-less, length-unmark, words-unmark, unmark-less, unmark-keeps, length-beside, words-beside, length-both, words-both, none-marked}
 use Rattle.session_strike.proofs.Striking.{look-begins, look-covered, rest-last}
 
--- the word that the loop looks for
-abbrev pub firstWord : List ℕ → ℕ
-firstWord marks = leastBelow (length marks) (λ j. not (eqb (getD marks j 0) 0))
-
--- Where the loop stands. What it keeps of the table and of the marks is said for every pattern and board that they are of at first.
-pub record Going (masks : List ℕ) (moves : Direction → ℕ → List ℕ) (sets₀ marks₀ sets marks : List ℕ) (j : ℕ) : Type 0 where
-  pub long : length sets ≡ length sets₀
+-- What the loop keeps, whatever its lists hold: 16 words of marks, and sets of 32 bits.
+pub record Standing (sets marks : List ℕ) : Type 0 where
   pub room : length marks ≡ 16
   pub inSets : Words sets
   pub inMarks : Words marks
-  pub first : j ≡ firstWord marks
-  pub keeps :
-      (pattern host : Circuit) → Follows pattern host masks moves → Begins pattern host (everything host) sets₀ → Covered masks moves sets₀ marks₀ →
-      Begins pattern host (everything host) sets × Covered masks moves sets marks
-
--- how much there is left to do
-abbrev pub left : List ℕ → List ℕ → ℕ
-left sets marks = pairs sets * 513 + pairs marks
 
 -- ---- the marks of a look
 
@@ -75,16 +63,19 @@ module _ (masks : List ℕ) (moves : Direction → ℕ → List ℕ) (old marks 
           (size-less _ _ (next-lt masks moves old v) (w v) (next-subset masks moves old v) other)
       go false l = absurd (other (next-out masks moves old v (ltb-false _ _ l)))
 
-module _ (masks : List ℕ) (moves : Direction → ℕ → List ℕ) {sets₀ marks₀ sets marks : List ℕ} {j : ℕ}
-    (g : Going masks moves sets₀ marks₀ sets marks j) (more : j < 16) where
-  -- ---- the word that was found
+module _ (masks : List ℕ) (moves : Direction → ℕ → List ℕ) {sets marks : List ℕ} (s : Standing sets marks) (more : firstWord marks < 16) where
+  -- ---- the word that is found
+
+  abbrev j : ℕ
+  j = firstWord marks
+
+  inside : j < length marks
+  inside = omega (arith, s .room)
 
   pub word-some : zero < getD marks j 0
   word-some =
-      let inside : firstWord marks < length marks = omega (arith, g .first, g .room) in
       let t = leastBelow-at (length marks) (λ k. not (eqb (getD marks k 0) 0)) inside in
-      let n : eqb (getD marks (firstWord marks) 0) 0 ≡ false = not-true _ (T-true t) in
-      subst (λ (k : ℕ). zero < getD marks k 0) (sym (g .first)) (positive (getD marks (firstWord marks) 0) (eqb-false _ 0 n))
+      positive (getD marks j 0) (eqb-false _ 0 (not-true _ (T-true t)))
     where
       positive : (x : ℕ) → (x ≡ 0 → ⊥) → zero < x
       positive x n = go (ltb zero x) refl
@@ -92,9 +83,6 @@ module _ (masks : List ℕ) (moves : Direction → ℕ → List ℕ) {sets₀ ma
           go : (b : Bool) → ltb zero x ≡ b → zero < x
           go true e = ltb-true zero x e
           go false e = let l = ltb-false zero x e in absurd (n (omega arith))
-
-  inside : j < length marks
-  inside = omega (arith, g .room)
 
   abbrev v : ℕ
   v = nodeAt marks j
@@ -104,60 +92,183 @@ module _ (masks : List ℕ) (moves : Direction → ℕ → List ℕ) {sets₀ ma
 
   -- ---- one turn
 
-  pub going-next :
-      {sets′ marks′ : List ℕ} {j′ : ℕ} → length sets₀ ≤ 512 → sets′ ≡ lookSets masks moves sets v → marks′ ≡ lookMarks masks moves sets rest v → j′ ≡ firstWord marks′ →
-      Going masks moves sets₀ marks₀ sets′ marks′ j′
-  unfolding problemBy Covered
-  going-next {sets′} {marks′} few e q f =
-      let word = g .inMarks j in
-      let size : length rest ≡ 16 = length-unmark marks j inside word-some word ∙ g .room in
+  abbrev nextSets : List ℕ
+  nextSets = lookSets masks moves sets v
+
+  abbrev nextMarks : List ℕ
+  nextMarks = lookMarks masks moves sets rest v
+
+  size : length rest ≡ 16
+  size = length-unmark marks j inside word-some (s .inMarks j) ∙ s .room
+
+  pub standing-next : Standing nextSets nextMarks
+  standing-next =
       record {
-        long = ap length e ∙ length-look masks moves sets v ∙ g .long;
-        room = ap length q ∙ length-look-marks masks moves sets rest v ∙ size;
-        inSets = subst Words (sym e) (words-look-sets masks moves sets rest v (g .inSets));
-        inMarks = subst Words (sym q) (words-look-marks masks moves sets rest v (words-unmark marks j inside word-some word (g .inMarks)));
-        first = f;
-        keeps =
-            λ pattern host follows begins covered.
-            let now = g .keeps pattern host follows begins covered in (
-              subst (Begins pattern host (everything host)) (sym e) (look-begins pattern host follows (now .0) v),
-              subst (λ (x : List ℕ). Covered masks moves x marks′) (sym e)
-                  (subst (λ (x : List ℕ). Covered masks moves (lookSets masks moves sets v) x) (sym q)
-                  (look-covered pattern host follows sets rest (now .0 .long) v
-                  (λ w h other u. now .1 w h (T-false (λ t. false-T u (unmark-keeps marks j inside word-some word w other t))))
-                  (omega (arith, g .long, size)))),
-            );
+        room = length-look-marks masks moves sets rest v ∙ size;
+        inSets = words-look-sets masks moves sets rest v (s .inSets);
+        inMarks = words-look-marks masks moves sets rest v (words-unmark marks j inside word-some (s .inMarks j) (s .inMarks));
       }
 
   -- less is left
-  pub going-less :
-      {sets′ marks′ : List ℕ} → sets′ ≡ lookSets masks moves sets v → marks′ ≡ lookMarks masks moves sets rest v → left sets′ marks′ < left sets marks
-  going-less e q = rw (e, q) (go (eqb (nextOf masks moves sets v) (getD sets v 0)) refl)
+  pub left-less : left nextSets nextMarks < left sets marks
+  left-less = go (eqb (nextOf masks moves sets v) (getD sets v 0)) refl
     where
-      go : (b : Bool) → eqb (nextOf masks moves sets v) (getD sets v 0) ≡ b → left (lookSets masks moves sets v) (lookMarks masks moves sets rest v) < left sets marks
+      go : (b : Bool) → eqb (nextOf masks moves sets v) (getD sets v 0) ≡ b → left nextSets nextMarks < left sets marks
       go true p =
-          let s = look-same masks moves sets v rest (eqb-true _ _ p) in
-          let fewer = unmark-less marks j inside word-some (g .inMarks j) in
-          omega (arith, ap pairs (s .0), ap pairs (s .1))
+          let same = look-same masks moves sets v rest (eqb-true _ _ p) in
+          let fewer = unmark-less marks j inside word-some (s .inMarks j) in
+          omega (arith, ap pairs (same .0), ap pairs (same .1))
       go false p =
-          let fewer = look-fewer masks moves sets rest v (g .inSets) (eqb-false _ _ p) in
-          let most = pairs-le (lookMarks masks moves sets rest v) in
-          let size : length (lookMarks masks moves sets rest v) ≡ 16 =
-          length-look-marks masks moves sets rest v ∙ length-unmark marks j inside word-some (g .inMarks j) ∙ g .room in
-          omega arith
+          let fewer = look-fewer masks moves sets rest v (s .inSets) (eqb-false _ _ p) in
+          let most = pairs-le nextMarks in
+          omega (arith, standing-next .room)
 
--- ---- the beginning and the end
+  pub look-turn : (k : ℕ) → lookOn masks moves (suc k) sets marks ≡ lookOn masks moves k nextSets nextMarks
+  unfolding lookOn
+  look-turn k = rw (lt-ltb j 16 more)
 
-pub going-start :
-    (masks : List ℕ) (moves : Direction → ℕ → List ℕ) {sets marks : List ℕ} {j : ℕ} → length marks ≡ 16 → Words sets → Words marks → j ≡ firstWord marks →
-    Going masks moves sets marks sets marks j
-going-start masks moves room inSets inMarks first =
-    record { long = refl; room = room; inSets = inSets; inMarks = inMarks; first = first; keeps = λ pattern host follows begins covered. (begins, covered) }
+  -- a table to begin with stays one, and what changes is marked
+  module _ (pattern host : Circuit) (follows : Follows pattern host masks moves) (begins : Begins pattern host (everything host) sets) where
+    pub begins-turn : Begins pattern host (everything host) nextSets
+    begins-turn = look-begins pattern host follows begins v
 
-pub going-end :
-    (masks : List ℕ) (moves : Direction → ℕ → List ℕ) {sets₀ marks₀ sets marks : List ℕ} {j : ℕ} → Going masks moves sets₀ marks₀ sets marks j → 16 ≤ j →
-    Settles masks moves sets₀ marks₀ sets
-unfolding Covered
-going-end masks moves {marks = marks} g done pattern host follows begins covered =
-    let now = g .keeps pattern host follows begins covered in
-    rest-last pattern host follows (now .0) (λ v h. now .1 v h (none-marked marks (omega (arith, g .first, g .room)) v))
+    pub covered-turn : length sets ≤ 512 → Covered masks moves sets marks → Covered masks moves nextSets nextMarks
+    unfolding problemBy Covered
+    covered-turn few covered =
+        look-covered pattern host follows sets rest (begins .long) v
+        (λ w h other u. covered w h (T-false (λ t. false-T u (unmark-keeps marks j inside word-some (s .inMarks j) w other t))))
+        (omega (arith, size))
+
+-- ---- whether a node is marked
+
+byMarks : {A : Type 0} (marks : List ℕ) → (firstWord marks < 16 → A) → (16 ≤ firstWord marks → A) → A
+byMarks {A} marks some none = go (ltb (firstWord marks) 16) refl
+  where
+    go : (b : Bool) → ltb (firstWord marks) 16 ≡ b → A
+    go true e = some (ltb-true _ _ e)
+    go false e = none (ltb-false _ _ e)
+
+look-done : (masks : List ℕ) (moves : Direction → ℕ → List ℕ) (k : ℕ) (sets marks : List ℕ) → 16 ≤ firstWord marks → lookOn masks moves k sets marks ≡ sets
+unfolding lookOn
+look-done masks moves zero sets marks done = refl
+look-done masks moves (suc k) sets marks done = rw (le-ltb (firstWord marks) 16 done)
+
+-- ---- how many looks are enough
+
+module _ (masks : List ℕ) (moves : Direction → ℕ → List ℕ) where
+  nothing-left : {sets marks : List ℕ} → Standing sets marks → left sets marks ≤ 0 → 16 ≤ firstWord marks
+  nothing-left {sets} {marks} s h = byMarks marks (λ more. absurd (omega (arith, left-less masks moves s more))) (λ done. done)
+
+  -- More looks than are left to do change nothing.
+  pub look-enough :
+      (a b : ℕ) {sets marks : List ℕ} → Standing sets marks → left sets marks ≤ a → left sets marks ≤ b →
+      lookOn masks moves a sets marks ≡ lookOn masks moves b sets marks
+  look-enough zero b {sets} {marks} s h l =
+      let done = nothing-left s h in
+      look-done masks moves zero sets marks done ∙ sym (look-done masks moves b sets marks done)
+  look-enough (suc a) zero {sets} {marks} s h l =
+      let done = nothing-left s l in
+      look-done masks moves (suc a) sets marks done ∙ sym (look-done masks moves zero sets marks done)
+  look-enough (suc a) (suc b) {sets} {marks} s h l =
+      byMarks marks
+      (λ more.
+      let less = left-less masks moves s more in
+      look-turn masks moves s more a
+      ∙ look-enough a b (standing-next masks moves s more) (omega arith) (omega arith)
+      ∙ sym (look-turn masks moves s more b))
+      (λ done. look-done masks moves (suc a) sets marks done ∙ sym (look-done masks moves (suc b) sets marks done))
+
+  -- one turn leads where the sets and marks before it lead
+  pub settled-turn :
+      {sets marks : List ℕ} (s : Standing sets marks) (more : firstWord marks < 16) →
+      settled masks moves (nextSets masks moves s more) (nextMarks masks moves s more) ≡ settled masks moves sets marks
+  unfolding settled
+  settled-turn {sets} {marks} s more = go (left sets marks) refl
+    where
+      less : left (nextSets masks moves s more) (nextMarks masks moves s more) < left sets marks
+      less = left-less masks moves s more
+
+      go :
+          (n : ℕ) → left sets marks ≡ n →
+          lookOn masks moves (left (nextSets masks moves s more) (nextMarks masks moves s more)) (nextSets masks moves s more) (nextMarks masks moves s more)
+          ≡ lookOn masks moves n sets marks
+      go zero e = absurd (omega (arith, less))
+      go (suc k) e = look-enough _ k (standing-next masks moves s more) (omega arith) (omega (arith, less)) ∙ sym (look-turn masks moves s more k)
+
+-- ---- the loop
+
+pub record Going (masks : List ℕ) (moves : Direction → ℕ → List ℕ) (sets₀ marks₀ sets marks : List ℕ) (j : ℕ) : Type 0 where
+  pub long : length sets ≡ length sets₀
+  pub stands : Standing sets marks
+  pub first : j ≡ firstWord marks
+  pub leads : settled masks moves sets marks ≡ settled masks moves sets₀ marks₀
+
+module _ (masks : List ℕ) (moves : Direction → ℕ → List ℕ) where
+  pub going-start :
+      {sets marks : List ℕ} {j : ℕ} → length marks ≡ 16 → Words sets → Words marks → j ≡ firstWord marks → Going masks moves sets marks sets marks j
+  going-start room inSets inMarks first =
+      record { long = refl; stands = record { room = room; inSets = inSets; inMarks = inMarks }; first = first; leads = refl }
+
+  module _ {sets₀ marks₀ sets marks : List ℕ} {j : ℕ} (g : Going masks moves sets₀ marks₀ sets marks j) where
+    more : j < 16 → firstWord marks < 16
+    more h = omega (arith, g .first)
+
+    pub going-word : j < 16 → zero < getD marks j 0
+    going-word h = rw (g .first) (word-some masks moves (g .stands) (more h))
+
+    module _ (h : j < 16) {sets′ marks′ : List ℕ} (e : sets′ ≡ lookSets masks moves sets (nodeAt marks j))
+        (q : marks′ ≡ lookMarks masks moves sets (unmark marks j) (nodeAt marks j)) where
+      pub going-less : left sets′ marks′ < left sets marks
+      going-less = rw (e, q, g .first) (left-less masks moves (g .stands) (more h))
+
+      pub going-next : {j′ : ℕ} → j′ ≡ firstWord marks′ → Going masks moves sets₀ marks₀ sets′ marks′ j′
+      going-next f =
+          record {
+            long = ap length e ∙ length-look masks moves sets _ ∙ g .long;
+            stands = rw (e, q, g .first) (standing-next masks moves (g .stands) (more h));
+            first = f;
+            leads = rw (e, q, g .first) (settled-turn masks moves (g .stands) (more h)) ∙ g .leads;
+          }
+
+    pub going-end : 16 ≤ j → sets ≡ settled masks moves sets₀ marks₀
+    unfolding settled
+    going-end done = sym (look-done masks moves _ sets marks (omega (arith, g .first))) ∙ g .leads
+
+-- ---- where it leads
+
+module _ (pattern host : Circuit) {masks : List ℕ} {moves : Direction → ℕ → List ℕ} (follows : Follows pattern host masks moves) where
+  -- where no node is marked, it rests
+  done-last : {sets marks : List ℕ} → Standing sets marks → Begins pattern host (everything host) sets → Covered masks moves sets marks → 16 ≤ firstWord marks →
+      (k : ℕ) → lookOn masks moves k sets marks ≡ lastTable pattern host (everything host)
+  unfolding Covered
+  done-last {sets} {marks} s begins covered done k =
+      look-done masks moves k sets marks done
+      ∙ rest-last pattern host follows begins (λ v l. covered v l (none-marked marks (omega (arith, s .room)) v))
+
+  -- to the last table, where the table is one to begin with and each node that changes is marked
+  look-last :
+      (k : ℕ) {sets marks : List ℕ} → Standing sets marks → left sets marks ≤ k → length sets ≤ 512 → Begins pattern host (everything host) sets →
+      Covered masks moves sets marks → lookOn masks moves k sets marks ≡ lastTable pattern host (everything host)
+  look-last zero s h few begins covered = done-last s begins covered (nothing-left masks moves s h) zero
+  look-last (suc k) {sets} {marks} s h few begins covered =
+      byMarks marks
+      (λ more.
+      look-turn masks moves s more k
+      ∙ look-last k (standing-next masks moves s more) (omega (arith, left-less masks moves s more)) (omega (arith, length-look masks moves sets (v masks moves s more)))
+      (begins-turn masks moves s more pattern host follows begins)
+      (covered-turn masks moves s more pattern host follows begins few covered))
+      (λ done. done-last s begins covered done (suc k))
+
+  -- from a table where none but two nodes can change at first
+  pub from-last :
+      (sets : List ℕ) (x y : ℕ) → length sets ≤ 512 → Begins pattern host (everything host) sets → Covered masks moves sets (markBoth (length sets) x y) →
+      settledFrom masks moves sets x y ≡ lastTable pattern host (everything host)
+  unfolding settled settledFrom problemBy
+  from-last sets x y few begins covered =
+      look-last _
+      (record {
+        room = length-both (length sets) x y;
+        inSets = fits-word (follows .parts) (begins-fits (problemOf pattern host (everything host)) begins);
+        inMarks = words-both (length sets) x y;
+      })
+      (omega arith) few begins covered

@@ -2,4 +2,5 @@ pub mod Entries
 mod Looking
 pub mod Marking
 pub mod Striking
-mod Going
+pub mod Going
+mod Examples

@@ -177,6 +177,19 @@ unfolding markBoth
 both-second n x y few h =
     one-marks n (markOne n (replicate 16 0) x) y y (omega (arith, length-one n (replicate 16 0) x, length-replicate {A = ℕ} 16 0)) h refl
 
+pub length-both : (n x y : ℕ) → length (markBoth n x y) ≡ 16
+unfolding markBoth
+length-both n x y = length-one n (markOne n (replicate 16 0) x) y ∙ length-one n (replicate 16 0) x ∙ length-replicate {A = ℕ} 16 0
+
+words-none : (n : ℕ) → Words (replicate n 0)
+words-none zero i = omega arith
+words-none (suc n) zero = omega arith
+words-none (suc n) (suc i) = words-none n i
+
+pub words-both : (n x y : ℕ) → Words (markBoth n x y)
+unfolding markBoth
+words-both n x y = words-one n (markOne n (replicate 16 0) x) y (words-one n (replicate 16 0) x (words-none 16))
+
 -- ---- the first mark of a word taken away
 
 module _ (marks : List ℕ) (j : ℕ) (inside : j < length marks) (some : zero < getD marks j 0) (word : getD marks j 0 < 2 ^ 32) where

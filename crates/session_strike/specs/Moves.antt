@@ -1,18 +1,20 @@
 -- The links of a board as a session keeps them, so that one can be taken out: by their numbers. One list has for each node the numbers of the
 -- links that start there, and then for each those of the links that end there, with offsets as neighbour tables have them (graph/specs/Net);
 -- another has each link's end, and then each one's start. A link that is out has neither: its two entries are no node's number.
-use mathlib.Core.Bool.{Bool, cond}
+use mathlib.Core.Bool.{Bool, not, cond}
 use mathlib.Core.List.{List, [], _∷_}
 use mathlib.Core.Path.{_≡_}
-use Prim.Native.Nat.{ℕ, _+_, _*_, _/_, _%_, _^_}
+use Prim.Native.Nat.{ℕ, zero, suc, _+_, _*_, _/_, _%_, _^_}
 use lib.Bits.{bitOr}
 use lib.Dec.{eqb, ltb}
 use lib.ListN.{length, getD, set, replicate}
+use Rattle.base_lists.specs.Below.{leastBelow}
 use Rattle.base_bits.specs.Bits.{bit, firstOf, withoutFirst, unionAt}
 use Rattle.graph.specs.Net.{forwardLinks, backwardLinks, driven, driving}
 use Rattle.graph.specs.Search.{far}
 use Rattle.simulation.specs.Simulation.{Direction, forwards, backwards}
 use Rattle.table.specs.Prepared.{succOf, predOf}
+use Rattle.table.specs.Row.{pairs}
 use Rattle.table_strike.specs.Strike.{survivors}
 
 -- the lists have their room
@@ -80,3 +82,29 @@ lookSets masks moves old v = set old v (nextOf masks moves old v)
 unfoldable pub lookMarks : List ℕ → (Direction → ℕ → List ℕ) → List ℕ → List ℕ → ℕ → List ℕ
 lookMarks masks moves old marks v =
     cond (eqb (nextOf masks moves old v) (getD old v 0)) marks (markBeside (length old) moves marks v)
+
+-- ---- going on until no node is marked
+
+-- the first word that marks a node, or how many words there are
+abbrev pub firstWord : List ℕ → ℕ
+firstWord marks = leastBelow (length marks) (λ j. not (eqb (getD marks j 0) 0))
+
+-- So many looks at most, each at the first node that is marked, whose mark is taken away: the sets after them.
+unfoldable pub lookOn : List ℕ → (Direction → ℕ → List ℕ) → ℕ → List ℕ → List ℕ → List ℕ
+lookOn masks moves zero sets marks = sets
+lookOn masks moves (suc k) sets marks =
+    let j = firstWord marks in
+    let v = nodeAt marks j in
+    cond (ltb j 16) (lookOn masks moves k (lookSets masks moves sets v) (lookMarks masks moves sets (unmark marks j) v)) sets
+
+-- More looks than this are never needed: a look takes a mark away, and it may mark up to 512 nodes where it takes a part away.
+abbrev pub left : List ℕ → List ℕ → ℕ
+left sets marks = pairs sets * 513 + pairs marks
+
+-- the sets when no node is marked any more
+unfoldable pub settled : List ℕ → (Direction → ℕ → List ℕ) → List ℕ → List ℕ → List ℕ
+settled masks moves sets marks = lookOn masks moves (left sets marks) sets marks
+
+-- and where none but the nodes x and y are marked at first
+unfoldable pub settledFrom : List ℕ → (Direction → ℕ → List ℕ) → List ℕ → ℕ → ℕ → List ℕ
+settledFrom masks moves sets x y = settled masks moves sets (markBoth (length sets) x y)

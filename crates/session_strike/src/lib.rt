@@ -14,16 +14,12 @@ use table::FORWARD_MASKS;
 use table::MASKS;
 use table_strike::surviving;
 ghost use mathlib.Core.Path.{_≡_};
-ghost use mathlib.Core.Bool.{not};
 ghost use Prim.Native.Nat.{_+_, _*_, _/_, _≤_, _<_};
-ghost use lib.Dec.{eqb};
 ghost use lib.ListN.{length, getD};
 ghost use Rattle.base_bits.specs.Bits.{unionAt};
-ghost use Rattle.base_lists.specs.Below.{leastBelow};
 ghost use Rattle.graph.specs.Search.{far};
 ghost use Rattle.graph_neighbours.specs.Lookup.{neighboursIn};
-ghost use Rattle.session_strike.specs.Going.{Settles};
-ghost use Rattle.session_strike.specs.Moves.{Room, beyond, movesIn, nextOf, mark, markOne, markAll, markBeside, markBoth, nodeAt, unmark, lookSets, lookMarks};
+ghost use Rattle.session_strike.specs.Moves.{Room, beyond, movesIn, nextOf, mark, markOne, markAll, markBeside, nodeAt, unmark, lookSets, lookMarks, firstWord, settled, settledFrom};
 
 // How many numbers have the marks of all nodes, 32 to a number.
 const MARKS: usize = 16;
@@ -198,7 +194,7 @@ fn look(
 
 // The first word that marks a node, or how many words there are.
 fn find(marks: &[u32]) -> usize
-    ensures { λ r. ⌜ r ≡ leastBelow (length (now (marks .entry))) (λ j. not (eqb (getD (now (marks .entry)) j 0) 0)) ⌝ }
+    ensures { λ r. ⌜ r ≡ firstWord (now (marks .entry)) ⌝ }
 {
     let mut j = 0;
     while j < marks.len() {
@@ -243,7 +239,7 @@ fn settle(
 )
     requires { ⌜ Room (now masks) (now offsets) (now numbers) (now ends) ⌝ }
     requires { ⌜ (length (now sets) ≤ 512) × (length (now marks) ≡ 16) ⌝ }
-    ensures { λ _. ⌜ Settles (now (masks .entry)) (movesIn (now (offsets .entry)) (now (numbers .entry)) (now (ends .entry))) (now (sets .entry)) (now (marks .entry)) (now (sets .exit)) ⌝ }
+    ensures { λ _. ⌜ now (sets .exit) ≡ settled (now (masks .entry)) (movesIn (now (offsets .entry)) (now (numbers .entry)) (now (ends .entry))) (now (sets .entry)) (now (marks .entry)) ⌝ }
 {
     let mut j = find(marks);
     while j < MARKS {
@@ -264,8 +260,7 @@ pub fn strike_from(
 )
     requires { ⌜ Room (now masks) (now offsets) (now numbers) (now ends) ⌝ }
     requires { ⌜ length (now sets) ≤ 512 ⌝ }
-    ensures { λ _. ⌜ Settles (now (masks .entry)) (movesIn (now (offsets .entry)) (now (numbers .entry)) (now (ends .entry))) (now (sets .entry))
-        (markBoth (length (now (sets .entry))) x y) (now (sets .exit)) ⌝ }
+    ensures { λ _. ⌜ now (sets .exit) ≡ settledFrom (now (masks .entry)) (movesIn (now (offsets .entry)) (now (numbers .entry)) (now (ends .entry))) (now (sets .entry)) x y ⌝ }
 {
     let mut marks = [0u32; MARKS];
     let n = sets.len();

@@ -1,4 +1,5 @@
 -- The numbers of a shelf and their text. Assumes nothing.
+use mathlib.Core.Bool.{Bool, true, false, cond}
 use mathlib.Core.List.{List, [], _∷_, _++_}
 use mathlib.Core.Path.{_≡_, refl, sym, ap, _∙_}
 use Prim.Native.Nat.{ℕ, _+_, _*_, _≤_}
@@ -19,6 +20,9 @@ use Rattle.shelf_text.specs.Text.{shelfText}
 use Rattle.shelf_text.proofs.Text.{length-text}
 use Rattle.call_shelf.specs.declared.ShelfAnswer.{ShelfAnswer}
 use Rattle.call_shelf.specs.declared.ShelfAnswer.the-variants.{Ordered}
+use Rattle.shelf.specs.declared.Taken.the-variants as taken
+use Rattle.shelf.specs.Reading.{endOf}
+use Rattle.shelf.specs.Printing.{printedOf, Handed, endedOf, Ran}
 use Rattle.call_shelf.specs.Shelf.{fileAt, acceptedIn, shelfOf, shelfReply, ShelfOutcome, shelvingOf, shelving}
 
 -- as many numbers as files, at most
@@ -60,3 +64,18 @@ module _ {out after text : List ℕ} {size : ℕ} (p : Put out 0 text after size
 
   pub text-size : size ≤ length after
   text-size = omega (arith, p .end, ap length (put-whole p f), length-append text (drop (length text) out))
+
+-- ---- what is handed over
+
+-- the front of a buffer that is a text, where it was taken
+pub handed-front : (text out : List ℕ) (size k : ℕ) (r : Bool) → take size out ≡ text → size ≡ length (take size out) → k ≡ cond r (length (take size out)) 0 → Handed text out k r
+unfolding Handed
+handed-front text out size k true e s h = (h ∙ ap length e, ap (λ (n : ℕ). take n out) (h ∙ sym s) ∙ e)
+handed-front text out size k false e s h = h
+
+-- how a run ends in which so many files were read
+pub ran-begun : (bytes notes out : List ℕ) (k count : ℕ) (whole : Bool) → endOf notes ≡ taken.Files count → Handed (printedOf bytes notes) out k whole
+    → Ran bytes notes out k (endedOf count whole)
+unfolding Ran endedOf
+ran-begun bytes notes out k count true e h = (e, h)
+ran-begun bytes notes out k count false e h = (e, h)

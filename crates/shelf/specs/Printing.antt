@@ -1,10 +1,14 @@
 -- What is handed to standard output.
+use mathlib.Core.Bool.{Bool, true, false}
 use mathlib.Core.List.{List, []}
+use mathlib.Core.Path.{_≡_}
 use Prim.Native.Nat.{ℕ}
-use lib.ListN.{take}
+use lib.ListN.{length, take}
 use Rattle.shelf_strings.specs.Strings.{cutInto}
 use Rattle.shelf_text.specs.Text.{shelfText}
 use Rattle.call_shelf.specs.Shelf.{shelfOf}
+use Rattle.shelf.specs.declared.End.{End}
+use Rattle.shelf.specs.declared.End.the-variants as end
 use Rattle.shelf.specs.declared.Taken.{Taken}
 use Rattle.shelf.specs.declared.Taken.the-variants as taken
 use Rattle.shelf.specs.Reading.{endOf}
@@ -22,3 +26,19 @@ printedAt (taken.Unreadable i) bytes notes = []
 -- from the bytes read and from what was noted of each file
 unfoldable pub printedOf : List ℕ → List ℕ → List ℕ
 printedOf bytes notes = printedAt (endOf notes) bytes notes
+
+-- So many bytes were handed over: those at the front of the buffer, and they are the text; or a write failed, and none count.
+unfoldable pub Handed : List ℕ → List ℕ → ℕ → Bool → Type 0
+Handed text out k true = (k ≡ length text) × (take k out ≡ text)
+Handed text out k false = k ≡ 0
+
+unfoldable pub endedOf : ℕ → Bool → End
+endedOf count true = end.Whole count
+endedOf count false = end.Broken count
+
+-- How a run may end that left this in the tables and handed so many bytes over: the whole text of the files that were read, where no write failed, and
+-- none where one of the files could not be read.
+unfoldable pub Ran : List ℕ → List ℕ → List ℕ → ℕ → End → Type 0
+Ran bytes notes out k (end.Whole count) = (endOf notes ≡ taken.Files count) × Handed (printedOf bytes notes) out k true
+Ran bytes notes out k (end.Broken count) = (endOf notes ≡ taken.Files count) × Handed (printedOf bytes notes) out k false
+Ran bytes notes out k (end.NoFile i) = (endOf notes ≡ taken.Unreadable i) × (k ≡ 0)

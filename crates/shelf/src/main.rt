@@ -7,12 +7,13 @@ use call_shelf::ShelfAnswer;
 use file_format::Pattern;
 use input::Found;
 use output::Output;
+ghost use mathlib.Core.Bool.{cond};
 ghost use mathlib.Core.Path.{_≡_};
 ghost use Prim.Native.Nat.{_+_, _*_, _<_, _≤_};
 ghost use lib.ListN.{length, take, set};
 ghost use Rattle.call_shelf.specs.Shelf.{mostFiles};
 ghost use Rattle.shelf.specs.declared.Taken.the-variants as taken;
-ghost use Rattle.shelf.specs.Printing.{printedOf};
+ghost use Rattle.shelf.specs.Printing.{printedOf, Handed, endedOf, Ran};
 ghost use Rattle.input.specs.Reading.{Within};
 ghost use Rattle.shelf.specs.Reading.{nameOf, mostBytes, noted, nextAfter, Reached, endOf};
 
@@ -39,10 +40,12 @@ enum Taken {
     Unreadable(usize),
 }
 
-// Whether the lines were handed whole to standard output.
-enum Printed {
-    Whole,
-    Failed,
+// How a run ended: so many files were read and their lines handed whole to standard output; or a write failed; or the file of this number cannot be
+// read.
+enum End {
+    Whole(usize),
+    Broken(usize),
+    NoFile(usize),
 }
 
 // The name of the i-th file: its two digits.
@@ -138,34 +141,40 @@ fn read_all(bytes: &mut [u8], notes: &mut [u32]) -> Taken
     Taken::Files(i)
 }
 
-// Hands the lines to standard output: they are the text of the files that were read.
-fn hand(bytes: &[u8], notes: &[u32], text: &[u8]) -> Printed
-    requires { ⌜ now text ≡ printedOf (now bytes) (now notes) ⌝ }
+// Hands the lines to standard output, which are the text of the files that were read, and notes how many bytes they are. The answer says whether they
+// were taken. Nothing was handed over before.
+fn hand(bytes: &[u8], notes: &[u32], handed: &mut usize, text: &[u8]) -> bool
+    requires { ⌜ (now handed ≡ 0) × (now text ≡ printedOf (now bytes) (now notes)) ⌝ }
+    ensures { λ r. ⌜ now (handed .exit) ≡ cond r (length (now (text .entry))) 0 ⌝ }
 {
-    let answer = output::write_whole(libc::STDOUT_FILENO, text);
-    let Output::Written(_) = answer else {
-        return Printed::Failed;
+    let answer = output::write_whole(text);
+    let Output::Written(size) = answer else {
+        return false;
     };
-    Printed::Whole
+    *handed = size;
+    true
 }
 
-// Puts the files in order and hands their lines on, by way of a table for their numbers and a buffer for the lines.
+// Puts the files in order and hands their lines on, by way of a table for their numbers and a buffer for the lines. The answer says whether they were
+// taken whole.
 fn print_shelf(
     bytes: &[u8],
     notes: &[u32],
     count: usize,
     order: &mut [u8],
     out: &mut [u8],
-) -> Printed
+    handed: &mut usize,
+) -> bool
     requires { ⌜ (length (now notes) ≡ mostFiles) × (endOf (now notes) ≡ taken.Files count) ⌝ }
-    requires { ⌜ (mostFiles ≤ length (now order)) × (3 * mostFiles ≤ length (now out)) ⌝ }
+    requires { ⌜ (mostFiles ≤ length (now order)) × (3 * mostFiles ≤ length (now out)) × (now handed ≡ 0) ⌝ }
+    ensures { λ r. ⌜ Handed (printedOf (now (bytes .entry)) (now (notes .entry))) (now (out .exit)) (now (handed .exit)) r ⌝ }
 {
     let answer = call_shelf::shelf(bytes, &notes[..count], order);
     let ShelfAnswer::Ordered(ordered) = answer else {
-        return Printed::Failed;
+        return false;
     };
     let size = shelf_text::put_numbers(&order[..ordered], out);
-    hand(bytes, notes, &out[..size])
+    hand(bytes, notes, handed, &out[..size])
 }
 
 fn cannot_read(i: usize)
@@ -175,29 +184,55 @@ fn cannot_read(i: usize)
     input::cannot_read(&name);
 }
 
-fn tell(printed: Printed) {
-    match printed {
-        Printed::Whole => {}
-        Printed::Failed => os::fail(b"the list is not whole"),
+// How a run ends in which so many files were read, and tells where their lines are not whole.
+fn ended(count: usize, whole: bool) -> End
+    ensures { λ r. ⌜ r ≡ endedOf count whole ⌝ }
+{
+    if whole {
+        return End::Whole(count);
     }
+    os::fail(b"the list is not whole");
+    End::Broken(count)
 }
 
 // Reads the shelf and prints its order, by way of tables that are lent whole.
-fn shelve(bytes: &mut [u8], notes: &mut [u32], order: &mut [u8], out: &mut [u8])
+fn shelve(
+    bytes: &mut [u8],
+    notes: &mut [u32],
+    order: &mut [u8],
+    out: &mut [u8],
+    handed: &mut usize,
+) -> End
     requires { ⌜ (mostFiles * mostBytes ≤ length (now bytes)) × (length (now notes) ≡ mostFiles) ⌝ }
-    requires { ⌜ (mostFiles ≤ length (now order)) × (3 * mostFiles ≤ length (now out)) ⌝ }
+    requires { ⌜ (mostFiles ≤ length (now order)) × (3 * mostFiles ≤ length (now out)) × (now handed ≡ 0) ⌝ }
+    ensures { λ r. ⌜ Ran (now (bytes .exit)) (now (notes .exit)) (now (out .exit)) (now (handed .exit)) r ⌝ }
 {
     let taken = read_all(bytes, notes);
     match taken {
-        Taken::Files(count) => tell(print_shelf(bytes, notes, count, order, out)),
-        Taken::Unreadable(i) => cannot_read(i),
+        Taken::Files(count) => ended(count, print_shelf(bytes, notes, count, order, out, handed)),
+        Taken::Unreadable(i) => {
+            cannot_read(i);
+            End::NoFile(i)
+        }
     }
 }
 
+fn usage() {
+    io::write_all(
+        libc::STDERR_FILENO,
+        b"shelf takes no argument: it orders p00.cir to p15.cir in the folder that it is run in\n",
+    );
+}
+
 fn main() {
+    if input::is_told(os::arg_count()) {
+        usage();
+        return;
+    }
     let mut bytes = [0u8; SHELF_BYTES];
     let mut notes = [0u32; FILES];
     let mut order = [0u8; FILES];
     let mut out = [0u8; 3 * FILES];
-    shelve(&mut bytes, &mut notes, &mut order, &mut out);
+    let mut handed: usize = 0;
+    shelve(&mut bytes, &mut notes, &mut order, &mut out, &mut handed);
 }

@@ -11,6 +11,8 @@ use std::path::Path;
 use std::process::ExitCode;
 use std::{env, fs, io};
 
+use second::circuit::Files;
+
 /// The content of a file, empty when there is none of that name.
 fn content(folder: &Path, name: &str) -> Result<Vec<u8>, String> {
     let path = folder.join(name);
@@ -28,7 +30,7 @@ fn run(folder: &Path) -> Result<(), String> {
     }
     let pattern = content(folder, "pattern.cir")?;
     let board = content(folder, "board.cir")?;
-    let text = second::report::report(&pattern, &board);
+    let text = second::report::report(Files::first(&pattern, &board));
     io::stdout()
         .write_all(text.as_bytes())
         .map_err(|error| format!("standard output: {error}"))

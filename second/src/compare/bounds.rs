@@ -7,10 +7,11 @@ use super::call::{run, Call, Lent, Outcome};
 use super::case::{lend, size};
 use super::damage::{spoil, upset};
 use super::finder::Finder;
+use super::numbers::{told, told_third};
 use super::tally::Tally;
 use super::{agree, Difference};
 use crate::bounded::Bounded;
-use crate::circuit::{Circuit, Edition, Role};
+use crate::circuit::{Circuit, Edition, Files, Role, Told};
 use crate::random::Random;
 
 /// A bound for each link: all the same, or each of its own.
@@ -75,7 +76,7 @@ fn outcome(finder: &dyn Finder, call: &Call) -> Outcome {
 fn ones(
     finder: &dyn Finder,
     pattern: &Bounded,
-    (edition, board): (Edition, &[u8]),
+    board: Told,
     tally: &mut Tally,
 ) -> Result<(), Difference> {
     let plain = pattern.circuit.bytes_in(Edition::Second);
@@ -84,16 +85,11 @@ fn ones(
         bounds: vec![1; pattern.bounds.len()],
     }
     .bytes();
-    let with = Call::MatchBounded {
-        edition,
-        pattern: &one,
-        board,
+    let call = |pattern| Call::Match {
+        files: Files { pattern, board },
     };
-    let without = Call::MatchIn {
-        editions: [Edition::Second, edition],
-        pattern: &plain,
-        board,
-    };
+    let with = call(Told::third(&one));
+    let without = call(Told::of(Edition::Second, &plain));
     tally.law("all bounds 1 beside the second edition");
     let (with_is, without_is) = (outcome(finder, &with), outcome(finder, &without));
     if with_is == without_is {
@@ -112,7 +108,7 @@ fn raised(
     finder: &dyn Finder,
     random: &mut Random,
     pattern: &Bounded,
-    (edition, board): (Edition, &[u8]),
+    board: Told,
     tally: &mut Tally,
 ) -> Result<(), Difference> {
     let mut more = pattern.clone();
@@ -120,10 +116,11 @@ fn raised(
         *bound = random.between(usize::from(*bound), 4) as u16;
     }
     let [few, many] = [pattern, &more].map(Bounded::bytes);
-    let call = |pattern| Call::MatchBounded {
-        edition,
-        pattern,
-        board,
+    let call = |pattern| Call::Match {
+        files: Files {
+            pattern: Told::third(pattern),
+            board,
+        },
     };
     let [one, two] = [&few[..], &many[..]].map(|pattern| outcome(finder, &call(pattern)));
     if one.reply[0] != 0 {
@@ -160,15 +157,15 @@ pub fn check(
     let editions = [Edition::First, Edition::Second];
     let boards = editions.map(|edition| board_file(random, edition, &board));
     for (edition, board) in editions.into_iter().zip(&boards) {
-        let call = Call::MatchBounded {
-            edition,
-            pattern: &drawn,
-            board,
+        let files = Files {
+            pattern: told_third(random, &drawn),
+            board: told(random, edition, board),
         };
+        let call = Call::Match { files };
         let lent = lend(random, &call);
         agree(finder, &call, &lent, tally)?;
-        ones(finder, &pattern, (edition, board), tally)?;
-        raised(finder, random, &pattern, (edition, board), tally)?;
+        ones(finder, &pattern, files.board, tally)?;
+        raised(finder, random, &pattern, files.board, tally)?;
     }
     Ok(())
 }

@@ -3,110 +3,77 @@
 
 use std::fmt;
 
-use super::finder::{other, Finder, Words};
-use crate::calls::PlaceTables;
-use crate::circuit::{Circuit, Edition, Role};
+use super::finder::{Finder, Words};
+use crate::calls::{Columns, Lookup, PlaceTables};
+use crate::circuit::{counted, Circuit, Edition, Files, Given, Role, Told};
 use crate::load::Numbers;
 use crate::random::Random;
+use crate::report::{LONGEST_LINE, LONGEST_REFUSAL};
 use crate::shelf::{shelf, strings};
 
-/// One call with all it is given but the lent tables.
+/// One call with all it is given but the lent tables. A plain one is not told
+/// editions: both files are of the first.
 #[derive(Clone, Copy)]
 pub enum Call<'a> {
     Read {
-        role: Role,
-        file: &'a [u8],
+        role: u32,
+        file: Told<'a>,
     },
     Write {
-        role: Role,
-        kinds: &'a [u16],
-        starts: &'a [u16],
-        ends: &'a [u16],
+        role: u32,
+        edition: u32,
+        given: Given<'a>,
+    },
+    Convert {
+        role: u32,
+        file: Told<'a>,
+        to: u32,
+    },
+    Load {
+        numbers: Numbers,
+    },
+    Neighbours {
+        direction: u32,
+        lookup: Lookup<'a>,
     },
     Radius {
-        pattern: &'a [u8],
+        pattern: Told<'a>,
     },
     Ball {
-        board: &'a [u8],
+        board: Told<'a>,
         centre: usize,
         radius: u16,
     },
     Match {
-        pattern: &'a [u8],
-        board: &'a [u8],
+        files: Files<'a>,
     },
     MatchOneWay {
-        editions: [Edition; 2],
-        pattern: &'a [u8],
-        board: &'a [u8],
+        files: Files<'a>,
     },
     Place {
-        pattern: &'a [u8],
-        board: &'a [u8],
+        files: Files<'a>,
+        plain: bool,
         centre: usize,
-    },
-    PlaceWithin {
-        pattern: &'a [u8],
-        board: &'a [u8],
-        centre: usize,
-        radius: u16,
+        radius: Option<u16>,
     },
     Check {
-        editions: [Edition; 2],
-        pattern: &'a [u8],
-        board: &'a [u8],
+        files: Files<'a>,
         centre: usize,
         nodes: &'a [u8],
         links: &'a [u8],
     },
     Bar {
-        editions: [Edition; 2],
-        pattern: &'a [u8],
-        board: &'a [u8],
+        files: Files<'a>,
         centre: usize,
+    },
+    Report {
+        files: Files<'a>,
+        plain: bool,
+        from: usize,
+        found: u16,
     },
     Merge {
-        pattern: &'a [u8],
-    },
-    Load {
-        numbers: Numbers,
-    },
-    ReadSecond {
-        role: Role,
-        file: &'a [u8],
-    },
-    WriteSecond {
-        role: Role,
-        kinds: &'a [u16],
-        packages: &'a [u16],
-        starts: &'a [u16],
-        ends: &'a [u16],
-    },
-    RadiusSecond {
-        pattern: &'a [u8],
-    },
-    BallSecond {
-        board: &'a [u8],
-        centre: usize,
-        radius: u16,
-    },
-    MatchIn {
-        editions: [Edition; 2],
-        pattern: &'a [u8],
-        board: &'a [u8],
-    },
-    MatchBounded {
-        edition: Edition,
-        pattern: &'a [u8],
-        board: &'a [u8],
-    },
-    MergeSecond {
-        pattern: &'a [u8],
-    },
-    Convert {
-        role: Role,
-        from: Edition,
-        file: &'a [u8],
+        pattern: Told<'a>,
     },
     Compare {
         first: &'a [u8],
@@ -117,9 +84,7 @@ pub enum Call<'a> {
         lengths: &'a [u32],
     },
     Session {
-        editions: [Edition; 2],
-        pattern: &'a [u8],
-        board: &'a [u8],
+        files: Files<'a>,
         places: &'a [usize],
     },
 }
@@ -135,124 +100,152 @@ fn sizes(file: &[u8]) -> (usize, usize) {
     (usize::from(n).min(520), usize::from(m).min(4100))
 }
 
+/// What a number for an edition counts as, 1 or 2.
+fn edition(number: u32) -> u32 {
+    Edition::counted(number).number()
+}
+
+/// What a number for a role counts as, in words.
+fn role(number: u32) -> &'static str {
+    match Role::counted(number) {
+        Role::Pattern => "pattern",
+        Role::Board => "board",
+    }
+}
+
+/// What the numbers for the editions of two files count as.
+fn editions(files: Files) -> String {
+    let [pattern, board] = [files.pattern, files.board].map(|file| edition(file.edition));
+    format!("{pattern}{board}")
+}
+
 impl Call<'_> {
     /// The call's name in the host library, without its first word.
     pub fn name(&self) -> &'static str {
-        match self {
-            Call::Read { role, .. } if *role == Role::Pattern => "read_pattern",
-            Call::Read { .. } => "read_board",
-            Call::Write { role, .. } if *role == Role::Pattern => "write_pattern",
-            Call::Write { .. } => "write_board",
+        match *self {
+            Call::Read { .. } => "read",
+            Call::Write { .. } => "write",
+            Call::Convert { .. } => "convert",
+            Call::Load { .. } => "test_board",
+            Call::Neighbours { .. } => "neighbours",
             Call::Radius { .. } => "radius",
             Call::Ball { .. } => "ball",
             Call::Match { .. } => "match",
-            Call::MatchOneWay { editions, .. } => match editions {
-                [Edition::First, Edition::First] => "match_one_way",
-                [Edition::First, Edition::Second] => "match_one_way_12",
-                [Edition::Second, Edition::First] => "match_one_way_21",
-                [Edition::Second, Edition::Second] => "match_one_way_22",
+            Call::MatchOneWay { .. } => "match_one_way",
+            Call::Place { plain, radius, .. } => match (plain, radius) {
+                (true, None) => "place",
+                (true, Some(_)) => "place_within",
+                (false, None) => "place_editions",
+                (false, Some(_)) => "place_within_editions",
             },
-            Call::Place { .. } => "place",
-            Call::PlaceWithin { .. } => "place_within",
-            Call::Check { editions, .. } => match editions {
-                [Edition::First, Edition::First] => "check",
-                [Edition::First, Edition::Second] => "check_12",
-                [Edition::Second, Edition::First] => "check_21",
-                [Edition::Second, Edition::Second] => "check_22",
-            },
-            Call::Bar { editions, .. } => match editions {
-                [Edition::First, Edition::First] => "bar",
-                [Edition::First, Edition::Second] => "bar_12",
-                [Edition::Second, Edition::First] => "bar_21",
-                [Edition::Second, Edition::Second] => "bar_22",
-            },
+            Call::Check { .. } => "check",
+            Call::Bar { .. } => "bar",
+            Call::Report { plain: true, .. } => "report",
+            Call::Report { .. } => "report_editions",
             Call::Merge { .. } => "merge",
-            Call::Load { .. } => "load",
-            Call::ReadSecond { role, .. } if *role == Role::Pattern => "read_pattern_2",
-            Call::ReadSecond { .. } => "read_board_2",
-            Call::WriteSecond { role, .. } if *role == Role::Pattern => "write_pattern_2",
-            Call::WriteSecond { .. } => "write_board_2",
-            Call::RadiusSecond { .. } => "radius_2",
-            Call::BallSecond { .. } => "ball_2",
-            Call::MatchIn { editions, .. } => match editions {
-                [Edition::First, Edition::First] => "match",
-                [Edition::First, Edition::Second] => "match_12",
-                [Edition::Second, Edition::First] => "match_21",
-                [Edition::Second, Edition::Second] => "match_22",
-            },
-            Call::MatchBounded { edition, .. } => match edition {
-                Edition::First => "match_31",
-                Edition::Second => "match_32",
-            },
-            Call::MergeSecond { .. } => "merge_2",
-            Call::Convert { role, from, .. } => match (role, from) {
-                (Role::Pattern, Edition::First) => "convert_pattern_12",
-                (Role::Pattern, Edition::Second) => "convert_pattern_21",
-                (Role::Board, Edition::First) => "convert_board_12",
-                (Role::Board, Edition::Second) => "convert_board_21",
-            },
-            Call::Compare { .. } => "compare_2",
-            Call::Shelf { .. } => "shelf_2",
-            Call::Session { editions, .. } => match editions {
-                [Edition::First, Edition::First] => "session_open",
-                [Edition::First, Edition::Second] => "session_open_12",
-                [Edition::Second, Edition::First] => "session_open_21",
-                [Edition::Second, Edition::Second] => "session_open_22",
-            },
+            Call::Compare { .. } => "compare",
+            Call::Shelf { .. } => "shelf",
+            Call::Session { .. } => "open",
         }
+    }
+
+    /// What its numbers for roles, editions and directions count as.
+    fn told(&self) -> String {
+        match *self {
+            Call::Read { role: r, file } => format!(" {} {}", role(r), edition(file.edition)),
+            Call::Write {
+                role: r,
+                edition: e,
+                ..
+            } => format!(" {} {}", role(r), edition(e)),
+            Call::Convert { role: r, file, to } => {
+                format!(" {} {}{}", role(r), edition(file.edition), edition(to))
+            }
+            Call::Neighbours { direction, .. } => {
+                format!(" {}", counted(direction, ["forward", "backward"]))
+            }
+            Call::Radius { pattern } | Call::Merge { pattern } => {
+                format!(" {}", edition(pattern.edition))
+            }
+            Call::Ball { board, .. } => format!(" {}", edition(board.edition)),
+            Call::Match { files } if files.pattern.is_third() => {
+                format!(" 3{}", edition(files.board.edition))
+            }
+            Call::Match { files }
+            | Call::MatchOneWay { files }
+            | Call::Place {
+                files,
+                plain: false,
+                ..
+            }
+            | Call::Check { files, .. }
+            | Call::Bar { files, .. }
+            | Call::Report {
+                files,
+                plain: false,
+                ..
+            }
+            | Call::Session { files, .. } => format!(" {}", editions(files)),
+            _ => String::new(),
+        }
+    }
+
+    /// The call's name and what it is told.
+    pub fn label(&self) -> String {
+        format!("{}{}", self.name(), self.told())
     }
 
     /// How long each lent table has to be, as far as the sizes tell.
     pub fn needed(&self) -> Vec<usize> {
         match *self {
             Call::Read { file, .. } => {
-                let (n, m) = sizes(file);
-                vec![n, m, m]
+                let (n, m) = sizes(file.bytes);
+                vec![n, counted(file.edition, [0, n]), m, m]
             }
-            Call::Write { kinds, starts, .. } => {
-                vec![Circuit::length(
-                    kinds.len().min(520),
-                    starts.len().min(4100),
-                )]
+            Call::Write { edition, given, .. } => {
+                let (n, m) = (given.kinds.len().min(520), given.starts.len().min(4100));
+                vec![Circuit::length_in(Edition::counted(edition), n, m)]
             }
-            Call::Radius { .. } | Call::Check { .. } => vec![],
-            Call::Ball { board, .. }
-            | Call::Match { board, .. }
-            | Call::MatchOneWay { board, .. } => vec![sizes(board).0],
-            Call::Place { board, .. } | Call::PlaceWithin { board, .. } => {
-                let (n, m) = sizes(board);
-                vec![n, m, n, n]
-            }
-            Call::Bar { pattern, .. } => vec![sizes(pattern).1],
-            Call::Merge { pattern } => {
-                let (n, m) = sizes(pattern);
-                vec![n, Circuit::length(n, m)]
+            Call::Convert { file, to, .. } => {
+                let (n, m) = sizes(file.bytes);
+                vec![Circuit::length_in(Edition::counted(to), n, m)]
             }
             Call::Load { numbers } => {
                 let (n, m) = (numbers.nodes.min(520), numbers.pairs.min(4100));
                 vec![Circuit::length(n as usize, m as usize)]
             }
-            Call::ReadSecond { file, .. } => {
-                let (n, m) = sizes(file);
-                vec![n, n, m, m]
+            Call::Neighbours { direction, lookup } => vec![lookup.stretch(direction).len()],
+            Call::Ball { board, .. } => vec![sizes(board.bytes).0],
+            Call::Match { files } | Call::MatchOneWay { files } => {
+                vec![sizes(files.board.bytes).0]
             }
-            Call::WriteSecond { kinds, starts, .. } => {
-                let (n, m) = (kinds.len().min(520), starts.len().min(4100));
-                vec![Circuit::length_in(Edition::Second, n, m)]
+            Call::Place { files, .. } => {
+                let (n, m) = sizes(files.board.bytes);
+                vec![n, m, n, n]
             }
-            Call::RadiusSecond { .. } => vec![],
-            Call::BallSecond { board, .. } | Call::MatchIn { board, .. } => vec![sizes(board).0],
-            Call::MatchBounded { board, .. } => vec![sizes(board).0],
-            Call::MergeSecond { pattern } => {
-                let (n, m) = sizes(pattern);
-                vec![n, Circuit::length_in(Edition::Second, n, m)]
+            Call::Bar { files, .. } => vec![sizes(files.pattern.bytes).1],
+            Call::Report { files, .. } => {
+                vec![files.read().map_or(LONGEST_REFUSAL, |_| LONGEST_LINE)]
             }
-            Call::Convert { from, file, .. } => {
-                let (n, m) = sizes(file);
-                vec![Circuit::length_in(other(from), n, m)]
+            Call::Merge { pattern } => {
+                let (n, m) = sizes(pattern.bytes);
+                let edition = Edition::counted(pattern.edition);
+                vec![n, Circuit::length_in(edition, n, m)]
             }
-            Call::Compare { .. } | Call::Session { .. } => vec![],
             Call::Shelf { bytes, lengths } => vec![shelf(&strings(bytes, lengths)).len()],
+            Call::Radius { .. }
+            | Call::Check { .. }
+            | Call::Compare { .. }
+            | Call::Session { .. } => vec![],
+        }
+    }
+
+    /// How much longer a lent table may be than needed: of a report by whole
+    /// lines.
+    pub fn longer(&self) -> [usize; 6] {
+        match self {
+            Call::Report { .. } => [0, 1, 24, 25, 100, 3000],
+            _ => [0, 0, 0, 1, 2, 7],
         }
     }
 }
@@ -266,107 +259,74 @@ impl fmt::Display for Hex<'_> {
     }
 }
 
+impl fmt::Display for Told<'_> {
+    fn fmt(&self, f: &mut fmt::Formatter) -> fmt::Result {
+        write!(f, "told as {}: {}", self.edition, Hex(self.bytes))
+    }
+}
+
+impl fmt::Display for Files<'_> {
+    fn fmt(&self, f: &mut fmt::Formatter) -> fmt::Result {
+        write!(f, "\npattern {}\nboard {}", self.pattern, self.board)
+    }
+}
+
 impl fmt::Display for Call<'_> {
     fn fmt(&self, f: &mut fmt::Formatter) -> fmt::Result {
-        write!(f, "call {}", self.name())?;
+        write!(f, "call {}", self.label())?;
         match *self {
-            Call::Read { file, .. } => write!(f, "\nfile {}", Hex(file)),
+            Call::Read { role, file } => write!(f, " role {role}\nfile {file}"),
             Call::Write {
-                kinds,
-                starts,
-                ends,
-                ..
-            } => write!(f, "\nkinds {kinds:?}\nstarts {starts:?}\nends {ends:?}"),
+                role,
+                edition,
+                given,
+            } => write!(f, " role {role} edition {edition}\n{given:?}"),
+            Call::Convert { role, file, to } => {
+                write!(f, " role {role} to {to}\nfile {file}")
+            }
+            Call::Load { numbers } => write!(f, " {numbers:?}"),
+            Call::Neighbours { direction, lookup } => {
+                write!(f, " direction {direction}\n{lookup:?}")
+            }
             Call::Radius { pattern } | Call::Merge { pattern } => {
-                write!(f, "\npattern {}", Hex(pattern))
+                write!(f, "\npattern {pattern}")
             }
             Call::Ball {
                 board,
                 centre,
                 radius,
-            } => write!(f, " centre {centre} radius {radius}\nboard {}", Hex(board)),
-            Call::Load { numbers } => write!(f, " {numbers:?}"),
-            Call::ReadSecond { file, .. } | Call::Convert { file, .. } => {
-                write!(f, "\nfile {}", Hex(file))
-            }
-            Call::WriteSecond {
-                kinds,
-                packages,
-                starts,
-                ends,
-                ..
-            } => write!(
-                f,
-                "\nkinds {kinds:?}\npackages {packages:?}\nstarts {starts:?}\nends {ends:?}"
-            ),
-            Call::RadiusSecond { pattern } | Call::MergeSecond { pattern } => {
-                write!(f, "\npattern {}", Hex(pattern))
-            }
-            Call::BallSecond {
-                board,
+            } => write!(f, " centre {centre} radius {radius}\nboard {board}"),
+            Call::Match { files } | Call::MatchOneWay { files } => write!(f, "{files}"),
+            Call::Place {
+                files,
                 centre,
                 radius,
-            } => write!(f, " centre {centre} radius {radius}\nboard {}", Hex(board)),
+                ..
+            } => write!(f, " centre {centre} radius {radius:?}{files}"),
+            Call::Check {
+                files,
+                centre,
+                nodes,
+                links,
+            } => {
+                write!(
+                    f,
+                    " centre {centre}\nnodes {nodes:?}\nlinks {links:?}{files}"
+                )
+            }
+            Call::Bar { files, centre } => write!(f, " centre {centre}{files}"),
+            Call::Report {
+                files, from, found, ..
+            } => write!(f, " from {from} found {found}{files}"),
             Call::Compare { first, second } => {
                 write!(f, "\nfirst {}\nsecond {}", Hex(first), Hex(second))
             }
             Call::Shelf { bytes, lengths } => {
                 write!(f, "\nbytes {}\nlengths {lengths:?}", Hex(bytes))
             }
-            Call::Match { pattern, board }
-            | Call::MatchIn { pattern, board, .. }
-            | Call::MatchOneWay { pattern, board, .. } => both(f, pattern, board),
-            Call::MatchBounded { pattern, board, .. } => both(f, pattern, board),
-            Call::Session {
-                pattern,
-                board,
-                places,
-                ..
-            } => {
-                write!(f, " places {places:?}")?;
-                both(f, pattern, board)
-            }
-            Call::Place {
-                pattern,
-                board,
-                centre,
-            }
-            | Call::Bar {
-                pattern,
-                board,
-                centre,
-                ..
-            } => {
-                write!(f, " centre {centre}")?;
-                both(f, pattern, board)
-            }
-            Call::Check {
-                pattern,
-                board,
-                centre,
-                nodes,
-                links,
-                ..
-            } => {
-                write!(f, " centre {centre}\nnodes {nodes:?}\nlinks {links:?}")?;
-                both(f, pattern, board)
-            }
-            Call::PlaceWithin {
-                pattern,
-                board,
-                centre,
-                radius,
-            } => {
-                write!(f, " centre {centre} radius {radius}")?;
-                both(f, pattern, board)
-            }
+            Call::Session { files, places } => write!(f, " places {places:?}{files}"),
         }
     }
-}
-
-/// A line for each of two files.
-fn both(f: &mut fmt::Formatter, pattern: &[u8], board: &[u8]) -> fmt::Result {
-    write!(f, "\npattern {}\nboard {}", Hex(pattern), Hex(board))
 }
 
 /// How long each lent table is, and what they are filled with: entry by entry
@@ -441,22 +401,26 @@ fn wide<T: Into<u32>>(table: Vec<T>) -> Vec<u32> {
 /// Runs a call with freshly filled tables.
 pub fn run(finder: &dyn Finder, call: &Call, lent: &Lent) -> Outcome {
     let (reply, tables) = match *call {
-        Call::Read { role, file } => {
-            let (mut a, mut b, mut c) = (lent.fields(0), lent.fields(1), lent.fields(2));
-            let reply = finder.read(role, file, &mut a, &mut b, &mut c);
-            (reply, vec![wide(a), wide(b), wide(c)])
-        }
-        Call::Write {
-            role,
-            kinds,
-            starts,
-            ends,
-        } => {
-            let mut out = lent.bytes(0);
-            let reply = finder.write(role, kinds, starts, ends, &mut out);
+        Call::Read { role, file } => read(finder, role, file, lent),
+        Call::Place {
+            files,
+            plain,
+            centre,
+            radius,
+        } => place(lent, |out: PlaceTables| {
+            finder.place(files, plain, centre, radius, out)
+        }),
+        Call::Write { .. }
+        | Call::Convert { .. }
+        | Call::Load { .. }
+        | Call::Bar { .. }
+        | Call::Report { .. }
+        | Call::Shelf { .. } => into_bytes(finder, call, lent),
+        Call::Neighbours { direction, lookup } => {
+            let mut out = lent.fields(0);
+            let reply = finder.neighbours(direction, lookup, &mut out);
             (reply, vec![wide(out)])
         }
-        Call::Radius { pattern } => (finder.radius(pattern), vec![]),
         Call::Ball {
             board,
             centre,
@@ -466,136 +430,78 @@ pub fn run(finder: &dyn Finder, call: &Call, lent: &Lent) -> Outcome {
             let reply = finder.ball(board, centre, radius, &mut out);
             (reply, vec![wide(out)])
         }
-        Call::Match { pattern, board } => {
+        Call::Match { files } => {
             let mut table = lent.words(0);
-            let reply = finder.match_table(pattern, board, &mut table);
-            (reply, vec![table])
+            (finder.match_table(files, &mut table), vec![table])
         }
-        Call::MatchOneWay {
-            editions,
-            pattern,
-            board,
-        } => {
+        Call::MatchOneWay { files } => {
             let mut table = lent.words(0);
-            let reply = finder.match_one_way(editions, pattern, board, &mut table);
-            (reply, vec![table])
-        }
-        Call::Check {
-            editions,
-            pattern,
-            board,
-            centre,
-            nodes,
-            links,
-        } => {
-            let reply = finder.check(editions, pattern, board, centre, nodes, links);
-            (reply, vec![])
-        }
-        Call::Bar {
-            editions,
-            pattern,
-            board,
-            centre,
-        } => {
-            let mut out = lent.bytes(0);
-            let reply = finder.bar(editions, pattern, board, centre, &mut out);
-            (reply, vec![wide(out)])
+            (finder.match_one_way(files, &mut table), vec![table])
         }
         Call::Merge { pattern } => {
             let (mut classes, mut out) = (lent.bytes(0), lent.bytes(1));
             let reply = finder.merge(pattern, &mut classes, &mut out);
             (reply, vec![wide(classes), wide(out)])
         }
-        Call::Load { numbers } => {
-            let mut out = lent.bytes(0);
-            let reply = finder.load(numbers, &mut out);
-            (reply, vec![wide(out)])
+        Call::Radius { pattern } => (finder.radius(pattern), vec![]),
+        Call::Check {
+            files,
+            centre,
+            nodes,
+            links,
+        } => (finder.check(files, centre, nodes, links), vec![]),
+        Call::Compare { first, second } => (finder.compare(first, second), vec![]),
+        Call::Session { files, places } => {
+            let run = finder.session(files, places);
+            let refused = run.refused.map(|x| [x.number, x.file.code(), 0, 0, 0, 0]);
+            (refused.unwrap_or_default(), vec![run.numbers, run.tables])
         }
-        Call::Place { .. } | Call::PlaceWithin { .. } => run_place(finder, call, lent),
-        _ => run_second(finder, call, lent),
     };
     Outcome { reply, tables }
 }
 
-/// Runs one of the calls on second-edition files, or a session.
-fn run_second(finder: &dyn Finder, call: &Call, lent: &Lent) -> (Words, Vec<Vec<u32>>) {
-    match *call {
-        Call::ReadSecond { role, file } => {
-            let [mut a, mut b, mut c, mut d] = [0, 1, 2, 3].map(|at| lent.fields(at));
-            let reply = finder.read_second(role, file, &mut a, &mut b, &mut c, &mut d);
-            (reply, [a, b, c, d].map(wide).to_vec())
-        }
-        Call::WriteSecond {
+/// A reply, and the later content of each lent table.
+type Ran = (Words, Vec<Vec<u32>>);
+
+/// Runs a call that is lent bytes alone.
+fn into_bytes(finder: &dyn Finder, call: &Call, lent: &Lent) -> Ran {
+    let mut out = lent.bytes(0);
+    let reply = match *call {
+        Call::Write {
             role,
-            kinds,
-            packages,
-            starts,
-            ends,
-        } => {
-            let mut out = lent.bytes(0);
-            let reply = finder.write_second(role, kinds, packages, starts, ends, &mut out);
-            (reply, vec![wide(out)])
-        }
-        Call::RadiusSecond { pattern } => (finder.radius_second(pattern), vec![]),
-        Call::BallSecond {
-            board,
-            centre,
-            radius,
-        } => {
-            let mut out = lent.fields(0);
-            let reply = finder.ball_second(board, centre, radius, &mut out);
-            (reply, vec![wide(out)])
-        }
-        Call::MatchIn {
-            editions,
-            pattern,
-            board,
-        } => {
-            let mut table = lent.words(0);
-            let reply = finder.match_in(editions, pattern, board, &mut table);
-            (reply, vec![table])
-        }
-        Call::MatchBounded {
             edition,
-            pattern,
-            board,
-        } => {
-            let mut table = lent.words(0);
-            let reply = finder.match_bounded(edition, pattern, board, &mut table);
-            (reply, vec![table])
-        }
-        Call::MergeSecond { pattern } => {
-            let (mut classes, mut out) = (lent.bytes(0), lent.bytes(1));
-            let reply = finder.merge_second(pattern, &mut classes, &mut out);
-            (reply, vec![wide(classes), wide(out)])
-        }
-        Call::Convert { role, from, file } => {
-            let mut out = lent.bytes(0);
-            let reply = finder.convert(role, from, file, &mut out);
-            (reply, vec![wide(out)])
-        }
-        Call::Compare { first, second } => (finder.compare(first, second), vec![]),
-        Call::Session {
-            editions,
-            pattern,
-            board,
-            places,
-        } => {
-            let run = finder.session(editions, pattern, board, places);
-            let refused = run.refused.map(|x| [x.number, x.file.code(), 0, 0, 0, 0]);
-            (refused.unwrap_or_default(), vec![run.numbers, run.tables])
-        }
-        Call::Shelf { bytes, lengths } => {
-            let mut order = lent.bytes(0);
-            let reply = finder.shelf(bytes, lengths, &mut order);
-            (reply, vec![wide(order)])
-        }
-        _ => unreachable!("not one of the later calls"),
-    }
+            given,
+        } => finder.write(role, edition, given, &mut out),
+        Call::Convert { role, file, to } => finder.convert(role, file, to, &mut out),
+        Call::Load { numbers } => finder.load(numbers, &mut out),
+        Call::Bar { files, centre } => finder.bar(files, centre, &mut out),
+        Call::Report {
+            files,
+            plain,
+            from,
+            found,
+        } => finder.report(files, plain, from, found, &mut out),
+        Call::Shelf { bytes, lengths } => finder.shelf(bytes, lengths, &mut out),
+        _ => unreachable!("not lent bytes alone"),
+    };
+    (reply, vec![wide(out)])
 }
 
-/// Runs one of the two place calls.
-fn run_place(finder: &dyn Finder, call: &Call, lent: &Lent) -> (Words, Vec<Vec<u32>>) {
+/// Runs a read.
+fn read(finder: &dyn Finder, role: u32, file: Told, lent: &Lent) -> Ran {
+    let [mut a, mut b, mut c, mut d] = [0, 1, 2, 3].map(|at| lent.fields(at));
+    let out = Columns {
+        kinds: &mut a,
+        packages: &mut b,
+        starts: &mut c,
+        ends: &mut d,
+    };
+    let reply = finder.read(role, file, out);
+    (reply, [a, b, c, d].map(wide).to_vec())
+}
+
+/// Runs one of the place calls.
+fn place(lent: &Lent, asked: impl Fn(PlaceTables) -> Words) -> Ran {
     let (mut a, mut b, mut c) = (lent.bytes(0), lent.bytes(1), lent.words(2));
     let mut d = lent.fields(3);
     let out = PlaceTables {
@@ -604,19 +510,6 @@ fn run_place(finder: &dyn Finder, call: &Call, lent: &Lent) -> (Words, Vec<Vec<u
         table: &mut c,
         distances: &mut d,
     };
-    let reply = match *call {
-        Call::Place {
-            pattern,
-            board,
-            centre,
-        } => finder.place(pattern, board, centre, out),
-        Call::PlaceWithin {
-            pattern,
-            board,
-            centre,
-            radius,
-        } => finder.place_within(pattern, board, centre, radius, out),
-        _ => unreachable!("not a place call"),
-    };
+    let reply = asked(out);
     (reply, vec![wide(a), wide(b), c, wide(d)])
 }

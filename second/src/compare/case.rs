@@ -7,24 +7,75 @@ use super::damage::{spoil, upset};
 use super::finder::Finder;
 use super::proposals::{proposals, Proposal};
 use super::tally::Tally;
-use super::{agree, bounds, editions, laws, sessions, shelves, Difference};
-use crate::circuit::{Circuit, Edition, Role};
+use super::{agree, bounds, editions, laws, numbers, sessions, shelves, Difference};
+use crate::calls::Lookup;
+use crate::circuit::{Circuit, Edition, Files, Given, Role};
 use crate::graph;
 use crate::load::Numbers;
 use crate::random::Random;
 
-/// Three tables to write in a role.
+/// Tables to write in a role, in the first edition, with packages that are not
+/// looked at.
 pub struct Tables {
     pub role: Role,
     pub kinds: Vec<u16>,
+    pub packages: Vec<u16>,
     pub starts: Vec<u16>,
     pub ends: Vec<u16>,
 }
 
-/// What a case hands to the calls.
+impl Tables {
+    /// The tables as a call is given them.
+    pub fn given(&self) -> Given<'_> {
+        Given {
+            kinds: &self.kinds,
+            packages: &self.packages,
+            starts: &self.starts,
+            ends: &self.ends,
+        }
+    }
+}
+
+/// Offsets and links to look up in, sound or not.
+#[derive(Default)]
+pub struct Lists {
+    pub offsets: [Vec<u16>; 2],
+    pub links: [Vec<u16>; 2],
+}
+
+impl Lists {
+    /// Lists at random, as long as told at most.
+    fn random(random: &mut Random) -> Lists {
+        let mut list = |bound: usize| -> Vec<u16> {
+            let length = random.below(8);
+            (0..length).map(|_| random.below(bound) as u16).collect()
+        };
+        Lists {
+            offsets: [list(10), list(10)],
+            links: [list(100), list(100)],
+        }
+    }
+
+    /// A lookup of a node.
+    pub fn of(&self, node: usize) -> Lookup<'_> {
+        Lookup {
+            forward_offsets: &self.offsets[0],
+            forward: &self.links[0],
+            backward_offsets: &self.offsets[1],
+            backward: &self.links[1],
+            node,
+        }
+    }
+}
+
+/// What a case hands to the calls: first-edition files with the numbers told
+/// for that, and more.
 pub struct Case {
     pub pattern: Vec<u8>,
     pub board: Vec<u8>,
+    pub editions: [u32; 2],
+    pub direction: u32,
+    pub lists: Lists,
     pub centres: Vec<usize>,
     pub radius: u16,
     pub tables: Tables,
@@ -95,6 +146,7 @@ fn tables(random: &mut Random, role: Role, circuit: &Circuit) -> Tables {
     }
     Tables {
         role,
+        packages: circuit.kinds[random.below(circuit.kinds.len() + 1)..].to_vec(),
         kinds: circuit.kinds,
         starts,
         ends,
@@ -145,6 +197,9 @@ impl Case {
         Case {
             pattern: file(random, Role::Pattern, &pattern, 5),
             board: file(random, Role::Board, &board, 8),
+            editions: [(); 2].map(|()| numbers::edition(random, Edition::First)),
+            direction: random.pick(&numbers::NUMBERS),
+            lists: Lists::random(random),
             centres,
             radius,
             tables,
@@ -153,38 +208,45 @@ impl Case {
         }
     }
 
-    /// Every call on the case.
+    /// Both files, told by the case's numbers.
+    fn files(&self) -> Files<'_> {
+        Files::told(self.editions, &self.pattern, &self.board)
+    }
+
+    /// Both files, plainly or told by the case's numbers.
+    fn asked(&self, plain: bool) -> Files<'_> {
+        match plain {
+            true => Files::first(&self.pattern, &self.board),
+            false => self.files(),
+        }
+    }
+
+    /// Every call on the case. Around one centre places are asked for plainly,
+    /// around the next by the calls that are told editions.
     pub fn calls(&self) -> Vec<Call<'_>> {
         let mut calls = self.calls_without_centre();
-        let (pattern, board, radius) = (&self.pattern[..], &self.board[..], self.radius);
-        for &centre in &self.centres {
+        let (files, radius) = (self.files(), self.radius);
+        for (&centre, plain) in self.centres.iter().zip([true, false].into_iter().cycle()) {
+            let place = |radius| Call::Place {
+                files: self.asked(plain),
+                plain,
+                centre,
+                radius,
+            };
             calls.push(Call::Ball {
-                board,
+                board: files.board,
                 centre,
                 radius,
             });
-            calls.push(Call::Place {
-                pattern,
-                board,
-                centre,
-            });
-            calls.push(Call::Bar {
-                editions: [Edition::First; 2],
-                pattern,
-                board,
-                centre,
-            });
-            calls.push(Call::PlaceWithin {
-                pattern,
-                board,
-                centre,
-                radius,
+            calls.extend([place(None), place(Some(radius))]);
+            calls.push(Call::Bar { files, centre });
+            calls.push(Call::Neighbours {
+                direction: self.direction,
+                lookup: self.lists.of(centre),
             });
         }
         calls.extend(self.proposals.iter().map(|proposal| Call::Check {
-            editions: [Edition::First; 2],
-            pattern,
-            board,
+            files,
             centre: proposal.centre,
             nodes: &proposal.nodes,
             links: &proposal.links,
@@ -195,36 +257,50 @@ impl Case {
     /// The calls that take no centre. Each file is also read in the other role,
     /// and the pattern is also matched on itself.
     fn calls_without_centre(&self) -> Vec<Call<'_>> {
-        let (pattern, board) = (&self.pattern[..], &self.board[..]);
-        let read = |role, file| Call::Read { role, file };
-        let tables = &self.tables;
+        let files = self.files();
+        let Files { pattern, board } = files;
+        let read = |role: Role, file| Call::Read {
+            role: role.number(),
+            file,
+        };
         vec![
             read(Role::Pattern, pattern),
             read(Role::Board, board),
             read(Role::Pattern, board),
             read(Role::Board, pattern),
             Call::Write {
-                role: tables.role,
-                kinds: &tables.kinds,
-                starts: &tables.starts,
-                ends: &tables.ends,
+                role: self.tables.role.number(),
+                edition: self.editions[0],
+                given: self.tables.given(),
             },
             Call::Radius { pattern },
-            Call::Match { pattern, board },
+            Call::Match { files },
             Call::Match {
-                pattern,
-                board: pattern,
+                files: Files {
+                    pattern,
+                    board: pattern,
+                },
             },
-            Call::MatchOneWay {
-                editions: [Edition::First; 2],
-                pattern,
-                board,
-            },
+            Call::MatchOneWay { files },
             Call::Merge { pattern },
             Call::Load {
                 numbers: self.numbers,
             },
         ]
+    }
+
+    /// Pieces of the report from some centres on, plainly and told editions by
+    /// turns: for small boards, as much is lent for a piece.
+    pub fn reports(&self) -> Vec<Call<'_>> {
+        let turns = [true, false].into_iter().cycle();
+        let calls = self.centres.iter().zip(turns);
+        let calls = calls.map(|(&centre, plain)| Call::Report {
+            files: self.asked(plain),
+            plain,
+            from: centre.min(65536),
+            found: self.radius,
+        });
+        calls.collect()
     }
 }
 
@@ -232,7 +308,7 @@ impl Case {
 /// one too short.
 pub fn lend(random: &mut Random, call: &Call) -> Lent {
     let needed = call.needed();
-    let longer = [0, 0, 0, 1, 2, 7];
+    let longer = call.longer();
     let mut lengths: Vec<usize> = needed.iter().map(|n| n + random.pick(&longer)).collect();
     if !needed.is_empty() && random.once_in(9) {
         let at = random.below(needed.len());
@@ -254,7 +330,11 @@ pub fn check(
 ) -> Result<(), Difference> {
     let mut random = Random::of_case(seed, number);
     let case = Case::random(&mut random);
-    for call in case.calls() {
+    let mut calls = case.calls();
+    if random.once_in(12) && case.board.len() < 400 {
+        calls.extend(case.reports());
+    }
+    for call in calls {
         let lent = lend(&mut random, &call);
         agree(finder, &call, &lent, tally)?;
     }

@@ -3,13 +3,14 @@
 //! refusals at once, long rows of sets and long distances.
 
 use super::call::{Call, Lent};
-use super::case::{Case, Tables};
+use super::case::{Case, Lists, Tables};
 use super::finder::Finder;
+use super::numbers::NUMBERS;
 use super::proposals::{proposals, Proposal};
 use super::tally::Tally;
 use super::{agree, laws, Difference};
 use crate::bounded::Bounded;
-use crate::circuit::{both, Circuit, Edition, Role};
+use crate::circuit::{Circuit, Edition, Files, Given, Role, Told};
 use crate::graph;
 use crate::load::Numbers;
 use crate::random::Random;
@@ -190,6 +191,9 @@ fn case(pattern: Vec<u8>, board: Vec<u8>, nodes: usize, radius: u16, tables: Tab
     Case {
         pattern,
         board,
+        editions: [1; 2],
+        direction: 2,
+        lists: lists(),
         centres,
         radius,
         tables,
@@ -198,11 +202,19 @@ fn case(pattern: Vec<u8>, board: Vec<u8>, nodes: usize, radius: u16, tables: Tab
     }
 }
 
+/// Offsets of three nodes, the last of which fall back, and pass the end.
+fn lists() -> Lists {
+    Lists {
+        offsets: [vec![0, 2, 3, 1], vec![1, 1, 2, 9]],
+        links: [vec![7, 8, 9], vec![4, 5, 6]],
+    }
+}
+
 /// Proposals around each centre where both files are accepted, and else one of
 /// no bytes.
 fn offered(pattern: &[u8], board: &[u8], centres: &[usize]) -> Vec<Proposal> {
     let mut random = Random::of_case(5, 1);
-    let Ok((pattern, board)) = both(pattern, board) else {
+    let Ok((pattern, board)) = Files::first(pattern, board).read() else {
         let (nodes, links) = (vec![], vec![]);
         return vec![Proposal {
             centre: 0,
@@ -230,6 +242,7 @@ fn tables(role: Role, circuit: &Circuit) -> Tables {
     Tables {
         role,
         kinds: circuit.kinds.clone(),
+        packages: vec![],
         starts: circuit.links.iter().map(|link| field(link.0)).collect(),
         ends: circuit.links.iter().map(|link| field(link.1)).collect(),
     }
@@ -291,6 +304,7 @@ fn written() -> Vec<Tables> {
     let of = |role, n: usize, starts: usize, ends: usize| Tables {
         role,
         kinds: vec![3; n],
+        packages: vec![3; ends.min(2)],
         starts: vec![0; starts],
         ends: vec![0; ends],
     };
@@ -369,17 +383,131 @@ pub fn check(finder: &dyn Finder, tally: &mut Tally) -> Result<(), Difference> {
     }
     loads(finder, tally)?;
     bounds(finder, tally)?;
+    names(finder, tally)?;
     longest(finder, tally)
 }
 
 /// Every call of an edge's case, lent in every way, and the laws.
 fn of_case(finder: &dyn Finder, case: &Case, tally: &mut Tally) -> Result<(), Difference> {
-    for call in case.calls() {
-        for lent in lendings(&call) {
-            agree(finder, &call, &lent, tally)?;
-        }
+    let small = case.board.len() < 400;
+    let reports = if small { case.reports() } else { vec![] };
+    for call in case.calls().into_iter().chain(reports) {
+        in_every_way(finder, &call, tally)?;
     }
     laws::check(finder, case, tally)
+}
+
+/// A call, lent in every way.
+fn in_every_way(finder: &dyn Finder, call: &Call, tally: &mut Tally) -> Result<(), Difference> {
+    for lent in lendings(call) {
+        agree(finder, call, &lent, tally)?;
+    }
+    Ok(())
+}
+
+/// Every call with every number for an edition, a role and a direction, on
+/// files of every edition.
+fn names(finder: &dyn Finder, tally: &mut Tally) -> Result<(), Difference> {
+    let mut t = circuit(&[10, 20, 30], &[(0, 1), (1, 2)]);
+    t.packages = vec![3, 0, 4];
+    let bounds = vec![2; t.links.len()];
+    let third = Bounded {
+        circuit: t.clone(),
+        bounds,
+    };
+    let files = [
+        t.bytes(),
+        t.bytes_in(Edition::Second),
+        third.bytes(),
+        circuit(&[10, 20], &[]).bytes(),
+    ];
+    for pattern in &files {
+        for board in &files {
+            for one in NUMBERS {
+                for two in NUMBERS {
+                    let files = Files::told([one, two], pattern, board);
+                    for call in named(files, &lists()) {
+                        in_every_way(finder, &call, tally)?;
+                    }
+                }
+            }
+        }
+    }
+    Ok(())
+}
+
+/// T's tables, to be written.
+const WRITTEN: Given = Given {
+    kinds: &[10, 20, 30],
+    packages: &[3, 0, 4],
+    starts: &[0, 1],
+    ends: &[1, 2],
+};
+
+/// The calls that are told numbers, with those of two files.
+fn named<'a>(files: Files<'a>, lists: &'a Lists) -> Vec<Call<'a>> {
+    let Files { pattern, board } = files;
+    let (one, two) = (pattern.edition, board.edition);
+    let (plain, centre, radius) = (false, 0, 2);
+    let place = |radius| Call::Place {
+        files,
+        plain,
+        centre,
+        radius,
+    };
+    vec![
+        Call::Read {
+            role: two,
+            file: pattern,
+        },
+        Call::Convert {
+            role: 2,
+            file: pattern,
+            to: two,
+        },
+        Call::Convert {
+            role: two,
+            file: pattern,
+            to: 1,
+        },
+        Call::Write {
+            role: one,
+            edition: two,
+            given: WRITTEN,
+        },
+        Call::Neighbours {
+            direction: one,
+            lookup: lists.of(0),
+        },
+        Call::Radius { pattern },
+        Call::Merge { pattern },
+        Call::Ball {
+            board,
+            centre,
+            radius,
+        },
+        Call::Match { files },
+        Call::MatchOneWay { files },
+        place(None),
+        place(Some(1)),
+        Call::Check {
+            files,
+            centre,
+            nodes: &[1; 3],
+            links: &[1; 2],
+        },
+        Call::Bar { files, centre },
+        Call::Report {
+            files,
+            plain,
+            from: 0,
+            found: 0,
+        },
+        Call::Session {
+            files,
+            places: &[1, 0, 1, 2],
+        },
+    ]
 }
 
 /// Loads at the edges of their numbers' ranges and one further, alone and
@@ -408,10 +536,7 @@ fn loads(finder: &dyn Finder, tally: &mut Tally) -> Result<(), Difference> {
         all.push(numbers(seed, 40, 60, 5));
     }
     for numbers in all {
-        let call = Call::Load { numbers };
-        for lent in lendings(&call) {
-            agree(finder, &call, &lent, tally)?;
-        }
+        in_every_way(finder, &Call::Load { numbers }, tally)?;
     }
     Ok(())
 }
@@ -457,14 +582,13 @@ fn bounds(finder: &dyn Finder, tally: &mut Tally) -> Result<(), Difference> {
     for (pattern, board) in &pairs {
         for edition in [Edition::First, Edition::Second] {
             let board = &board.bytes_in(edition)[..];
-            let call = Call::MatchBounded {
-                edition,
-                pattern,
-                board,
+            let call = Call::Match {
+                files: Files {
+                    pattern: Told::third(pattern),
+                    board: Told::of(edition, board),
+                },
             };
-            for lent in lendings(&call) {
-                agree(finder, &call, &lent, tally)?;
-            }
+            in_every_way(finder, &call, tally)?;
         }
     }
     Ok(())
@@ -478,13 +602,13 @@ fn longest(finder: &dyn Finder, tally: &mut Tally) -> Result<(), Difference> {
     let board = &board[..];
     for call in [
         Call::Match {
-            pattern: &pattern,
-            board,
+            files: Files::first(&pattern, board),
         },
         Call::Place {
-            pattern: &narrow,
-            board,
+            files: Files::first(&narrow, board),
+            plain: true,
             centre: 510,
+            radius: None,
         },
     ] {
         let lent = Lent {

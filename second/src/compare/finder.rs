@@ -1,7 +1,7 @@
 //! What both finders offer: every call, with lent tables and one form of reply.
 
-use crate::calls::{self, Comparison, Counted, PlaceTables, Reply};
-use crate::circuit::{Edition, Role};
+use crate::calls::{self, Columns, Comparison, Counted, Lookup, PlaceTables, Put, Reply};
+use crate::circuit::{Files, Given, Told};
 use crate::load::Numbers;
 use crate::session::{self, Run};
 
@@ -9,119 +9,37 @@ use crate::session::{self, Run};
 /// counts, 0 where there is none.
 pub type Words = [u32; 6];
 
-/// Every call of a finder.
+/// Every call of a finder. Places and reports are also asked for by calls that
+/// are not told editions, the plain ones: both files are then of the first.
 pub trait Finder {
-    fn read(
+    fn read(&self, role: u32, file: Told, out: Columns) -> Words;
+    fn write(&self, role: u32, edition: u32, given: Given, out: &mut [u8]) -> Words;
+    fn convert(&self, role: u32, file: Told, to: u32, out: &mut [u8]) -> Words;
+    fn load(&self, numbers: Numbers, out: &mut [u8]) -> Words;
+    fn neighbours(&self, direction: u32, lookup: Lookup, out: &mut [u16]) -> Words;
+    fn radius(&self, pattern: Told) -> Words;
+    fn ball(&self, board: Told, centre: usize, radius: u16, out: &mut [u16]) -> Words;
+    fn match_table(&self, files: Files, table: &mut [u32]) -> Words;
+    fn match_one_way(&self, files: Files, table: &mut [u32]) -> Words;
+    fn place(
         &self,
-        role: Role,
-        file: &[u8],
-        kinds: &mut [u16],
-        starts: &mut [u16],
-        ends: &mut [u16],
-    ) -> Words;
-    fn write(
-        &self,
-        role: Role,
-        kinds: &[u16],
-        starts: &[u16],
-        ends: &[u16],
-        out: &mut [u8],
-    ) -> Words;
-    fn radius(&self, pattern: &[u8]) -> Words;
-    fn ball(&self, board: &[u8], centre: usize, radius: u16, out: &mut [u16]) -> Words;
-    fn match_table(&self, pattern: &[u8], board: &[u8], table: &mut [u32]) -> Words;
-    fn match_one_way(
-        &self,
-        editions: [Edition; 2],
-        pattern: &[u8],
-        board: &[u8],
-        table: &mut [u32],
-    ) -> Words;
-    fn place(&self, pattern: &[u8], board: &[u8], centre: usize, out: PlaceTables) -> Words;
-    fn place_within(
-        &self,
-        pattern: &[u8],
-        board: &[u8],
+        files: Files,
+        plain: bool,
         centre: usize,
-        radius: u16,
+        radius: Option<u16>,
         out: PlaceTables,
     ) -> Words;
-    fn check(
-        &self,
-        editions: [Edition; 2],
-        pattern: &[u8],
-        board: &[u8],
-        centre: usize,
-        nodes: &[u8],
-        links: &[u8],
-    ) -> Words;
-    fn bar(
-        &self,
-        editions: [Edition; 2],
-        pattern: &[u8],
-        board: &[u8],
-        centre: usize,
-        out: &mut [u8],
-    ) -> Words;
-    fn merge(&self, pattern: &[u8], classes: &mut [u8], out: &mut [u8]) -> Words;
-    fn load(&self, numbers: Numbers, out: &mut [u8]) -> Words;
-    fn read_second(
-        &self,
-        role: Role,
-        file: &[u8],
-        kinds: &mut [u16],
-        packages: &mut [u16],
-        starts: &mut [u16],
-        ends: &mut [u16],
-    ) -> Words;
-    fn write_second(
-        &self,
-        role: Role,
-        kinds: &[u16],
-        packages: &[u16],
-        starts: &[u16],
-        ends: &[u16],
-        out: &mut [u8],
-    ) -> Words;
-    fn radius_second(&self, pattern: &[u8]) -> Words;
-    fn ball_second(&self, board: &[u8], centre: usize, radius: u16, out: &mut [u16]) -> Words;
-    fn match_in(
-        &self,
-        editions: [Edition; 2],
-        pattern: &[u8],
-        board: &[u8],
-        table: &mut [u32],
-    ) -> Words;
-    fn match_bounded(
-        &self,
-        edition: Edition,
-        pattern: &[u8],
-        board: &[u8],
-        table: &mut [u32],
-    ) -> Words;
-    fn merge_second(&self, pattern: &[u8], classes: &mut [u8], out: &mut [u8]) -> Words;
-    fn convert(&self, role: Role, from: Edition, file: &[u8], out: &mut [u8]) -> Words;
+    fn check(&self, files: Files, centre: usize, nodes: &[u8], links: &[u8]) -> Words;
+    fn bar(&self, files: Files, centre: usize, out: &mut [u8]) -> Words;
+    fn report(&self, files: Files, plain: bool, from: usize, found: u16, out: &mut [u8]) -> Words;
+    fn merge(&self, pattern: Told, classes: &mut [u8], out: &mut [u8]) -> Words;
     fn compare(&self, first: &[u8], second: &[u8]) -> Words;
     fn shelf(&self, bytes: &[u8], lengths: &[u32], order: &mut [u8]) -> Words;
-    fn session(
-        &self,
-        editions: [Edition; 2],
-        pattern: &[u8],
-        board: &[u8],
-        places: &[usize],
-    ) -> Run;
-}
-
-/// The edition that is not this one.
-pub fn other(edition: Edition) -> Edition {
-    match edition {
-        Edition::First => Edition::Second,
-        Edition::Second => Edition::First,
-    }
+    fn session(&self, files: Files, places: &[usize]) -> Run;
 }
 
 /// A number of a reply; none passes 32 bits.
-fn word(number: usize) -> u32 {
+pub fn word(number: usize) -> u32 {
     u32::try_from(number).expect("a 32-bit number")
 }
 
@@ -153,158 +71,79 @@ impl From<Comparison> for Words {
     }
 }
 
+impl From<Put> for Words {
+    fn from(reply: Put) -> Words {
+        let values = [reply.next, reply.found, reply.size].map(word);
+        let [next, found, size] = values;
+        [reply.number, reply.file.code(), next, found, size, 0]
+    }
+}
+
 /// The second finder.
 pub struct Second;
 
 impl Finder for Second {
-    fn read(
-        &self,
-        role: Role,
-        file: &[u8],
-        kinds: &mut [u16],
-        starts: &mut [u16],
-        ends: &mut [u16],
-    ) -> Words {
-        calls::read(role, file, kinds, starts, ends).into()
+    fn read(&self, role: u32, file: Told, out: Columns) -> Words {
+        calls::read(role, file, out).into()
     }
 
-    fn write(
-        &self,
-        role: Role,
-        kinds: &[u16],
-        starts: &[u16],
-        ends: &[u16],
-        out: &mut [u8],
-    ) -> Words {
-        calls::write(role, kinds, starts, ends, out).into()
+    fn write(&self, role: u32, edition: u32, given: Given, out: &mut [u8]) -> Words {
+        calls::write(role, edition, given, out).into()
     }
 
-    fn radius(&self, pattern: &[u8]) -> Words {
-        calls::radius(pattern).into()
-    }
-
-    fn ball(&self, board: &[u8], centre: usize, radius: u16, out: &mut [u16]) -> Words {
-        calls::ball(board, centre, radius, out).into()
-    }
-
-    fn match_table(&self, pattern: &[u8], board: &[u8], table: &mut [u32]) -> Words {
-        calls::match_table(pattern, board, table).into()
-    }
-
-    fn match_one_way(
-        &self,
-        editions: [Edition; 2],
-        pattern: &[u8],
-        board: &[u8],
-        table: &mut [u32],
-    ) -> Words {
-        calls::match_one_way(editions, pattern, board, table).into()
-    }
-
-    fn place(&self, pattern: &[u8], board: &[u8], centre: usize, out: PlaceTables) -> Words {
-        calls::place(pattern, board, centre, out).into()
-    }
-
-    fn place_within(
-        &self,
-        pattern: &[u8],
-        board: &[u8],
-        centre: usize,
-        radius: u16,
-        out: PlaceTables,
-    ) -> Words {
-        calls::place_within(pattern, board, centre, radius, out).into()
-    }
-
-    fn check(
-        &self,
-        editions: [Edition; 2],
-        pattern: &[u8],
-        board: &[u8],
-        centre: usize,
-        nodes: &[u8],
-        links: &[u8],
-    ) -> Words {
-        calls::check_in(editions, pattern, board, centre, nodes, links).into()
-    }
-
-    fn bar(
-        &self,
-        editions: [Edition; 2],
-        pattern: &[u8],
-        board: &[u8],
-        centre: usize,
-        out: &mut [u8],
-    ) -> Words {
-        calls::bar(editions, pattern, board, centre, out).into()
-    }
-
-    fn merge(&self, pattern: &[u8], classes: &mut [u8], out: &mut [u8]) -> Words {
-        calls::merge(pattern, classes, out).into()
+    fn convert(&self, role: u32, file: Told, to: u32, out: &mut [u8]) -> Words {
+        calls::convert(role, file, to, out).into()
     }
 
     fn load(&self, numbers: Numbers, out: &mut [u8]) -> Words {
         calls::load(numbers, out).into()
     }
 
-    fn read_second(
+    fn neighbours(&self, direction: u32, lookup: Lookup, out: &mut [u16]) -> Words {
+        calls::neighbours(direction, lookup, out).into()
+    }
+
+    fn radius(&self, pattern: Told) -> Words {
+        calls::radius(pattern).into()
+    }
+
+    fn ball(&self, board: Told, centre: usize, radius: u16, out: &mut [u16]) -> Words {
+        calls::ball(board, centre, radius, out).into()
+    }
+
+    fn match_table(&self, files: Files, table: &mut [u32]) -> Words {
+        calls::match_table(files, table).into()
+    }
+
+    fn match_one_way(&self, files: Files, table: &mut [u32]) -> Words {
+        calls::match_one_way(files, table).into()
+    }
+
+    fn place(
         &self,
-        role: Role,
-        file: &[u8],
-        kinds: &mut [u16],
-        packages: &mut [u16],
-        starts: &mut [u16],
-        ends: &mut [u16],
+        files: Files,
+        _plain: bool,
+        centre: usize,
+        radius: Option<u16>,
+        out: PlaceTables,
     ) -> Words {
-        calls::read_second(role, file, kinds, packages, starts, ends).into()
+        calls::place(files, centre, radius, out).into()
     }
 
-    fn write_second(
-        &self,
-        role: Role,
-        kinds: &[u16],
-        packages: &[u16],
-        starts: &[u16],
-        ends: &[u16],
-        out: &mut [u8],
-    ) -> Words {
-        calls::write_second(role, kinds, packages, starts, ends, out).into()
+    fn check(&self, files: Files, centre: usize, nodes: &[u8], links: &[u8]) -> Words {
+        calls::check(files, centre, nodes, links).into()
     }
 
-    fn radius_second(&self, pattern: &[u8]) -> Words {
-        calls::radius_in(Edition::Second, pattern).into()
+    fn bar(&self, files: Files, centre: usize, out: &mut [u8]) -> Words {
+        calls::bar(files, centre, out).into()
     }
 
-    fn ball_second(&self, board: &[u8], centre: usize, radius: u16, out: &mut [u16]) -> Words {
-        calls::ball_in(Edition::Second, board, centre, radius, out).into()
+    fn report(&self, files: Files, _plain: bool, from: usize, found: u16, out: &mut [u8]) -> Words {
+        calls::report(files, from, found, out).into()
     }
 
-    fn match_in(
-        &self,
-        editions: [Edition; 2],
-        pattern: &[u8],
-        board: &[u8],
-        table: &mut [u32],
-    ) -> Words {
-        calls::match_in(editions, pattern, board, table).into()
-    }
-
-    fn match_bounded(
-        &self,
-        edition: Edition,
-        pattern: &[u8],
-        board: &[u8],
-        table: &mut [u32],
-    ) -> Words {
-        calls::match_bounded(edition, pattern, board, table).into()
-    }
-
-    fn merge_second(&self, pattern: &[u8], classes: &mut [u8], out: &mut [u8]) -> Words {
-        calls::merge_in(Edition::Second, pattern, classes, out).into()
-    }
-
-    fn convert(&self, role: Role, from: Edition, file: &[u8], out: &mut [u8]) -> Words {
-        calls::convert(role, from, other(from), file, out).into()
+    fn merge(&self, pattern: Told, classes: &mut [u8], out: &mut [u8]) -> Words {
+        calls::merge(pattern, classes, out).into()
     }
 
     fn compare(&self, first: &[u8], second: &[u8]) -> Words {
@@ -315,13 +154,7 @@ impl Finder for Second {
         calls::shelve(bytes, lengths, order).into()
     }
 
-    fn session(
-        &self,
-        editions: [Edition; 2],
-        pattern: &[u8],
-        board: &[u8],
-        places: &[usize],
-    ) -> Run {
-        session::session(editions, pattern, board, places)
+    fn session(&self, files: Files, places: &[usize]) -> Run {
+        session::session(files, places)
     }
 }

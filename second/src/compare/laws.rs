@@ -7,7 +7,7 @@ use super::case::{Case, Tables};
 use super::finder::Finder;
 use super::tally::Tally;
 use super::Difference;
-use crate::circuit::{Edition, Role};
+use crate::circuit::{Files, Given, Role, Told};
 
 /// What a call comes to with tables as long as needed.
 fn outcome(finder: &dyn Finder, call: &Call) -> Outcome {
@@ -48,14 +48,11 @@ fn one_way_contains(
     board: &[u8],
     tally: &mut Tally,
 ) -> Result<(), Difference> {
-    let call = Call::MatchOneWay {
-        editions: [Edition::First; 2],
-        pattern,
-        board,
-    };
+    let files = Files::first(pattern, board);
+    let call = Call::MatchOneWay { files };
     let (one, two) = (
         outcome(finder, &call),
-        outcome(finder, &Call::Match { pattern, board }),
+        outcome(finder, &Call::Match { files }),
     );
     if two.reply[0] != 0 {
         return Ok(());
@@ -69,6 +66,14 @@ fn one_way_contains(
     Err(Difference { text })
 }
 
+/// The call that reads a first-edition file in a role.
+fn read_call(role: Role, file: &[u8]) -> Call<'_> {
+    Call::Read {
+        role: role.number(),
+        file: Told::first(file),
+    }
+}
+
 /// An accepted file, read and then written, is the same file.
 pub fn write_back(
     finder: &dyn Finder,
@@ -76,7 +81,7 @@ pub fn write_back(
     file: &[u8],
     tally: &mut Tally,
 ) -> Result<(), Difference> {
-    let call = Call::Read { role, file };
+    let call = read_call(role, file);
     let read = outcome(finder, &call);
     if read.reply[0] != 0 {
         return Ok(());
@@ -86,10 +91,14 @@ pub fn write_back(
     let written = outcome(
         finder,
         &Call::Write {
-            role,
-            kinds: &tables[0],
-            starts: &tables[1],
-            ends: &tables[2],
+            role: role.number(),
+            edition: 1,
+            given: Given {
+                kinds: &tables[0],
+                packages: &tables[1],
+                starts: &tables[2],
+                ends: &tables[3],
+            },
         },
     );
     let length = file.len() as u32;
@@ -111,10 +120,9 @@ pub fn read_back(
 ) -> Result<(), Difference> {
     let role = tables.role;
     let call = Call::Write {
-        role,
-        kinds: &tables.kinds,
-        starts: &tables.starts,
-        ends: &tables.ends,
+        role: role.number(),
+        edition: 1,
+        given: tables.given(),
     };
     let written = outcome(finder, &call);
     if written.reply[0] != 0 {
@@ -122,9 +130,9 @@ pub fn read_back(
     }
     tally.law("written circuits read back");
     let file = bytes(&written.tables[0]);
-    let read = outcome(finder, &Call::Read { role, file: &file });
+    let read = outcome(finder, &read_call(role, &file));
     let content: Vec<Vec<u16>> = read.tables.iter().map(|table| fields(table)).collect();
-    let given = [&tables.kinds, &tables.starts, &tables.ends];
+    let given = [&tables.kinds, &vec![], &tables.starts, &tables.ends];
     if read.reply[0] == 0 && content.iter().eq(given) {
         return Ok(());
     }
@@ -138,11 +146,27 @@ pub fn read_back(
 /// The merged pattern's file and the first pattern's radius, if the pattern is
 /// accepted.
 fn merged_file(finder: &dyn Finder, pattern: &[u8]) -> Option<(Vec<u8>, u16)> {
+    let pattern = Told::first(pattern);
     let radius = outcome(finder, &Call::Radius { pattern }).reply;
     let merged = outcome(finder, &Call::Merge { pattern });
     let mut file = bytes(&merged.tables[1]);
     file.truncate(merged.reply[3] as usize);
     (radius[0] == 0).then_some((file, radius[2] as u16))
+}
+
+/// A plain place call.
+fn place_call<'a>(
+    pattern: &'a [u8],
+    board: &'a [u8],
+    centre: usize,
+    radius: Option<u16>,
+) -> Call<'a> {
+    Call::Place {
+        files: Files::first(pattern, board),
+        plain: true,
+        centre,
+        radius,
+    }
 }
 
 /// The merged pattern at the first pattern's radius has the same place as the
@@ -157,17 +181,8 @@ pub fn merged(
     let Some((file, radius)) = merged_file(finder, pattern) else {
         return Ok(());
     };
-    let first_call = Call::Place {
-        pattern,
-        board,
-        centre,
-    };
-    let second_call = Call::PlaceWithin {
-        pattern: &file,
-        board,
-        centre,
-        radius,
-    };
+    let first_call = place_call(pattern, board, centre, None);
+    let second_call = place_call(&file, board, centre, Some(radius));
     let first = outcome(finder, &first_call);
     let second = outcome(finder, &second_call);
     tally.law(match first.reply[0] {
@@ -192,11 +207,7 @@ pub fn place_checked(
     centre: usize,
     tally: &mut Tally,
 ) -> Result<(), Difference> {
-    let call = Call::Place {
-        pattern,
-        board,
-        centre,
-    };
+    let call = place_call(pattern, board, centre, None);
     let place = outcome(finder, &call);
     if place.reply[0] != 0 {
         return Ok(());
@@ -204,9 +215,7 @@ pub fn place_checked(
     tally.law("places that the check says yes to");
     let (nodes, links) = (bytes(&place.tables[0]), bytes(&place.tables[1]));
     let check = Call::Check {
-        editions: [Edition::First; 2],
-        pattern,
-        board,
+        files: Files::first(pattern, board),
         centre,
         nodes: &nodes,
         links: &links,

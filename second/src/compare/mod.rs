@@ -10,6 +10,7 @@ pub mod edges;
 pub mod editions;
 pub mod finder;
 pub mod laws;
+pub mod numbers;
 pub mod proposals;
 pub mod sessions;
 pub mod shelves;
@@ -58,8 +59,8 @@ pub fn agree(
     Err(Difference { text })
 }
 
-/// How many random cases a comparison has if no number is told; about a
-/// minute's work.
+/// How many random cases a comparison has if no number is told; some three
+/// minutes' work.
 pub const CASES: u64 = 250_000;
 
 /// Runs the random cases of these numbers.

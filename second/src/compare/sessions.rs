@@ -6,9 +6,10 @@ use super::call::Call;
 use super::case::lend;
 use super::damage::spoil;
 use super::finder::Finder;
+use super::numbers::told;
 use super::tally::Tally;
 use super::{agree, Difference};
-use crate::circuit::Edition;
+use crate::circuit::{Edition, Files};
 use crate::random::Random;
 
 /// A list of places: most of them links, some again, some past the last one.
@@ -68,10 +69,12 @@ pub fn check(
         let count = random.below(12);
         places(random, m, count)
     };
+    let files = Files {
+        pattern: told(random, editions[0], &pattern),
+        board: told(random, editions[1], &bytes),
+    };
     let call = Call::Session {
-        editions,
-        pattern: &pattern,
-        board: &bytes,
+        files,
         places: &places,
     };
     let lent = lend(random, &call);

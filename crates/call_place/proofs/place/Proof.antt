@@ -1,11 +1,88 @@
--- `call_place::place` meets its contract: the search at the pattern's own radius. Assumes nothing.
+-- `call_place::place` meets its contract: a file is refused, or the place is sought on the two circuits that were read and prepared. Assumes
+-- nothing.
+use denote.Ref.{now}
+use mathlib.Core.Path.{refl, sym}
 use borrow.Author.Needs.{needs}
-use Rattle.call_place.specs.Call.{radiusFor}
+use lib.Seq.{length-take-le}
+use Rattle.file_format.specs.declared.Role.the-variants.{Pattern}
+use Rattle.file_format.specs.Layout.{inEdition}
+use Rattle.file_format.specs.Reading.{verdictOf}
+use Rattle.table.specs.Prepared.{tables}
+use Rattle.table.specs.Row.{bothWays}
+use Rattle.place.specs.Outcome.{placeReply}
+use Rattle.call_prepare.specs.Read.{BothPrepared}
+use Rattle.call_prepare.proofs.Ready.{turned-pair, ready-verdict, ready-both}
+use Rattle.call_place.proofs.Finding.{ready-drawn, find-refused, find-read}
 use Rattle.call_place.proofs.place.Statement.{statement}
 use Rattle.call_place.proofs.place.Tie as tie
 
-find-requires : tie.Need-find-requires
-find-requires c κs = search needs
+slice-aggregate-read-prepared : tie.Need-slice-aggregate-read-prepared
+slice-aggregate-read-prepared c = search needs
+
+slice-aggregate-read-prepared-2 : tie.Need-slice-aggregate-read-prepared-2
+slice-aggregate-read-prepared-2 c = search needs
+
+slice-aggregate-read-prepared-3 : tie.Need-slice-aggregate-read-prepared-3
+slice-aggregate-read-prepared-3 c = search needs
+
+slice-aggregate-read-prepared-4 : tie.Need-slice-aggregate-read-prepared-4
+slice-aggregate-read-prepared-4 c = search needs
+
+slice-aggregate-read-prepared-5 : tie.Need-slice-aggregate-read-prepared-5
+slice-aggregate-read-prepared-5 c = search needs
+
+read-prepared-requires : tie.Need-read-prepared-requires
+read-prepared-requires c κs = (record { nodes = refl; links = refl }, ((refl, refl), (refl, record { inOffsets = refl; inLinks = refl })))
+
+enum-told : tie.Need-enum-told
+enum-told c = search needs
+
+enum-told-2 : tie.Need-enum-told-2
+enum-told-2 c = search needs
+
+answer-by-requires : tie.Need-answer-by-requires
+answer-by-requires c κs = search needs
+
+returns : tie.Need-returns
+unfolding verdictOf placeReply
+returns c =
+    let told = c .before .enum-told2 .given .1 in
+    rw (c .answer-by .ensures, told) (find-refused _ _ _ _ _ _ _ _ (turned-pair (c .before .before .before .before .before .before .before .before .read-prepared .ensures) told))
+
+radius-for-requires : tie.Need-radius-for-requires
+radius-for-requires c κs = search needs
+
+-- both were read and prepared
+ready : (c : tie.After-enum-told) →
+    let a = c .before .before .before .before .before .before .before .before .before .before .before .before .before .before .before .before .before .before .before .args in
+    let read = c .before .before .before .before .before .before .before .read-prepared in
+    let l = read .last .1 .1 .1 in
+    BothPrepared Pattern bothWays (inEdition (a .editions .pattern) (now (a .pattern))) (inEdition (a .editions .board) (now (a .board))) (read .result) (l .0) (l .1 .0) (tables (l .1 .1 .0) (l .1 .1 .1 .0) (l .1 .1 .1 .1 .0))
+ready c = ready-both (c .before .before .before .before .before .before .before .read-prepared .ensures) (c .enum-told .given .1)
+
+array-share-prefix-pk : tie.Need-array-share-prefix-pk
+array-share-prefix-pk c = ready (c .before) .parts .room
+
+slice-aggregate-find-on : tie.Need-slice-aggregate-find-on
+slice-aggregate-find-on c = sym (length-take-le _ _ (ready (c .before .before) .parts .room))
+
+array-share-prefix-nk : tie.Need-array-share-prefix-nk
+array-share-prefix-nk c = ready (c .before .before) .nodes .room
+
+slice-aggregate-find-on-2 : tie.Need-slice-aggregate-find-on-2
+slice-aggregate-find-on-2 c = sym (length-take-le _ _ (ready (c .before .before .before) .nodes .room))
+
+slice-aggregate-find-on-3 : tie.Need-slice-aggregate-find-on-3
+slice-aggregate-find-on-3 c = search needs
+
+slice-aggregate-find-on-4 : tie.Need-slice-aggregate-find-on-4
+slice-aggregate-find-on-4 c = search needs
+
+slice-aggregate-find-on-5 : tie.Need-slice-aggregate-find-on-5
+slice-aggregate-find-on-5 c = search needs
+
+find-on-requires : tie.Need-find-on-requires
+find-on-requires c κs = ready-drawn (ready (c .before .before .before .before .before .before .before .before .before .before))
 
 same-length : tie.Need-same-length
 same-length c = search needs
@@ -19,17 +96,36 @@ same-length-3 c = search needs
 same-length-4 : tie.Need-same-length-4
 same-length-4 c = search needs
 
-returns : tie.Need-returns
-unfolding radiusFor
-returns c = c .before .before .before .before .before .before .before .before .find .ensures
+returns-2 : tie.Need-returns-2
+returns-2 c =
+    find-read _ _ _ _ _ _ _ _ (ready-verdict (c .before .before .before .before .before .before .before .before .before .before .before .before .before .before .before .before .before .before .before .before .before .before .before .before .before .before .read-prepared .ensures) (c .before .before .before .before .before .before .before .before .before .before .before .before .before .before .before .before .before .before .before .enum-told .given .1)) (ready (c .before .before .before .before .before .before .before .before .before .before .before .before .before .before .before .before .before .before .before))
+    (c .before .before .before .before .before .before .before .before .before .before .before .before .before .before .before .before .before .before .radius-for .ensures) (c .before .before .before .before .before .before .before .before .find-on .ensures)
 
 pub place-spec : {M : Type 1} → statement M
 place-spec =
     tie.close
     (tie.spec
-    find-requires
+    slice-aggregate-read-prepared
+    slice-aggregate-read-prepared-2
+    slice-aggregate-read-prepared-3
+    slice-aggregate-read-prepared-4
+    slice-aggregate-read-prepared-5
+    read-prepared-requires
+    enum-told
+    enum-told-2
+    answer-by-requires
+    returns
+    radius-for-requires
+    array-share-prefix-pk
+    slice-aggregate-find-on
+    array-share-prefix-nk
+    slice-aggregate-find-on-2
+    slice-aggregate-find-on-3
+    slice-aggregate-find-on-4
+    slice-aggregate-find-on-5
+    find-on-requires
     same-length
     same-length-2
     same-length-3
     same-length-4
-    returns)
+    returns-2)

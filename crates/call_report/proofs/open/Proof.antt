@@ -9,7 +9,7 @@ use lib.ListN.{length}
 use lib.Seq.{length-take-le}
 use Rattle.file_format.specs.declared.Role.the-variants.{Pattern}
 use Rattle.file_format.specs.Circuit.{circuitOf}
-use Rattle.file_format.specs.Layout.{firstEdition}
+use Rattle.file_format.specs.Layout.{inEdition}
 use Rattle.table.specs.Prepared.{tables}
 use Rattle.table.specs.Row.{bothWays}
 use Rattle.report_centres.specs.Pieces.{Source}
@@ -80,7 +80,7 @@ ready : (c : tie.Else1) →
     let a = start (c .before .before .before) .args in
     let read = reading (c .before .before .before) .read-prepared in
     let l = read .last .1 .1 .1 in
-    BothPrepared Pattern bothWays (firstEdition (now (a .pattern))) (firstEdition (now (a .board))) (read .result) (l .0) (l .1 .0) (tables (l .1 .1 .0) (l .1 .1 .1 .0) (l .1 .1 .1 .1 .0))
+    BothPrepared Pattern bothWays (inEdition (a .editions .pattern) (now (a .pattern))) (inEdition (a .editions .board) (now (a .board))) (read .result) (l .0) (l .1 .0) (tables (l .1 .1 .0) (l .1 .1 .1 .0) (l .1 .1 .1 .1 .0))
 ready c = ready-both (reading (c .before .before .before) .read-prepared .ensures) (c .before .enum-told .given .1)
 
 -- the tables have room

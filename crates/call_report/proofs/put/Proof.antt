@@ -1,24 +1,41 @@
 -- `call_report::put` meets its contract: the line of a refused file is put, or nothing past the last line, or a piece of the lines, where there is
 -- room. Assumes nothing.
 use denote.Ref.{now}
-use mathlib.Core.Path.{sym, _∙_}
+use mathlib.Core.Path.{refl, sym, _∙_}
 use borrow.Author.Needs.{needs}
 use lib.Seq.{length-take-le}
 use Rattle.file_format.specs.Circuit.{circuitOf}
-use Rattle.file_format.specs.Layout.{firstEdition}
 use Rattle.table.specs.Prepared.{tables}
 use Rattle.report_centres.proofs.Pieces.{past-wrote}
+use Rattle.call_report.specs.Call.{outcomeBy}
 use Rattle.call_report.specs.Opened.{OpenedBoth}
 use Rattle.call_report.proofs.Opened.{opened-turned, opened-accepted, opened-both}
 use Rattle.call_report.proofs.Outcome.{outcome-short, outcome-put, reporting-refused, reporting-lines}
 use Rattle.call_report.proofs.put.Statement.{statement}
 use Rattle.call_report.proofs.put.Tie as tie
 
-enum-known-verdict : tie.Need-enum-known-verdict
-enum-known-verdict c = search needs
-
 enum-told : tie.Need-enum-told
 enum-told c = search needs
+
+-- ---- a file is refused
+
+enum-told-2 : tie.Need-enum-told-2
+enum-told-2 c = search needs
+
+answer-by-requires : tie.Need-answer-by-requires
+answer-by-requires c κs = search needs
+
+same-length : tie.Need-same-length
+same-length c = search needs
+
+returns : tie.Need-returns
+unfolding outcomeBy
+returns c pattern board o =
+    let put = c .before .before in
+    let told = put .before .before .enum-told2 .given .1 in
+    (put .answer-by .ensures ∙ rw told refl) ∙ reporting-refused _ _ _ _ _ (opened-turned o told)
+
+-- ---- both are accepted
 
 abbrev start : tie.After-enum-told → tie.Start
 start c = c .before .before .before .before .before .before .before .before .before
@@ -27,15 +44,15 @@ start c = c .before .before .before .before .before .before .before .before .bef
 both : (c : tie.After-enum-told) →
     let s = start c in
     let a = s .args in
-    OpenedBoth (a .from) (circuitOf (firstEdition (s .pre .pattern))) (circuitOf (firstEdition (s .pre .board))) (a .read) (tables (now (a .masks)) (now (a .offsets)) (now (a .links)))
+    OpenedBoth (a .from) (circuitOf (s .pre .pattern)) (circuitOf (s .pre .board)) (a .read) (tables (now (a .masks)) (now (a .offsets)) (now (a .links)))
     (now (a .whole)) (now (a .labels)) (now (a .sizes))
 both c = opened-both (start c .pre .opened) (c .enum-told .given .1)
 
 too-short-requires : tie.Need-too-short-requires
 too-short-requires c κs = search needs
 
-returns : tie.Need-returns
-returns c pattern board o =
+returns-2 : tie.Need-returns-2
+returns-2 c pattern board o =
     let test = c .before in
     outcome-short _ _ _ (c .too-short .ensures) (test .if1 .taken) ∙ reporting-lines _ _ _ _ _ (opened-accepted o (test .before .enum-told .given .1))
 
@@ -44,8 +61,8 @@ returns c pattern board o =
 put-nothing-requires : tie.Need-put-nothing-requires
 put-nothing-requires c κs = search needs
 
-returns-2 : tie.Need-returns-2
-returns-2 c pattern board o =
+returns-3 : tie.Need-returns-3
+returns-3 c pattern board o =
     let test = c .before in
     let roomy = test .before in
     let ok = roomy .before .enum-told .given .1 in
@@ -72,46 +89,33 @@ put-lines-requires c κs =
     let lines = both (test .before .before) .lines (test .if2 .left) in
     (record { pattern = _; board = _; source = lines .source }, lines .components)
 
-same-length : tie.Need-same-length
-same-length c = search needs
-
-returns-3 : tie.Need-returns-3
-returns-3 c pattern board o =
-    let put = c .before .before in
-    let test = put .before .before .before .before .before in
-    let roomy = test .before in
-    let ok = roomy .before .enum-told .given .1 in
-    outcome-put _ _ _ (roomy .if1 .left) (put .put-lines .ensures _ _ (opened-both o ok .lines (test .if2 .left) .source)) ∙ reporting-lines _ _ _ _ _ (opened-accepted o ok)
-
--- ---- a file is refused
-
-answer-refused-requires : tie.Need-answer-refused-requires
-answer-refused-requires c κs = search needs
-
 same-length-2 : tie.Need-same-length-2
 same-length-2 c = search needs
 
 returns-4 : tie.Need-returns-4
 returns-4 c pattern board o =
     let put = c .before .before in
-    put .answer-refused .ensures ∙ reporting-refused _ _ _ _ _ (opened-turned o (put .before .before .before .verdict .given .1))
+    let test = put .before .before .before .before .before in
+    let roomy = test .before in
+    let ok = roomy .before .enum-told .given .1 in
+    outcome-put _ _ _ (roomy .if1 .left) (put .put-lines .ensures _ _ (opened-both o ok .lines (test .if2 .left) .source)) ∙ reporting-lines _ _ _ _ _ (opened-accepted o ok)
 
 pub put-spec : {M : Type 1} → statement M
 put-spec =
     tie.close
     (tie.spec
-    enum-known-verdict
     enum-told
-    too-short-requires
+    enum-told-2
+    answer-by-requires
+    same-length
     returns
-    put-nothing-requires
+    too-short-requires
     returns-2
+    put-nothing-requires
+    returns-3
     slice-aggregate-put-lines
     slice-aggregate-put-lines-2
     slice-aggregate-put-lines-3
     put-lines-requires
-    same-length
-    returns-3
-    answer-refused-requires
     same-length-2
     returns-4)

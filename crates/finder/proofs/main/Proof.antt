@@ -1,12 +1,24 @@
--- `finder::main` meets its contract: each buffer has the length that `report_files` asks for. Assumes nothing.
-use mathlib.Core.Path.{_≡_}
+-- `finder::main` meets its contract: each buffer has the length that `report_files` asks for, and nothing was handed over. Assumes nothing.
+use mathlib.Core.Path.{_≡_, refl}
 use Prim.Native.Nat.{ℕ, _≤_}
 use native.Mathlib.Omega.{arith}
-use borrow.Author.Needs.{needs}
 use lib.Dec.{lit≤}
 use Rattle.report.specs.Lines.{longestLine}
+use borrow.Author.Needs.{needs}
 use Rattle.finder.proofs.main.Statement.{statement}
 use Rattle.finder.proofs.main.Tie as tie
+
+arg-count-requires : tie.Need-arg-count-requires
+arg-count-requires c κs = search needs
+
+is-told-requires : tie.Need-is-told-requires
+is-told-requires c κs = search needs
+
+usage-requires : tie.Need-usage-requires
+usage-requires c κs = search needs
+
+returns : tie.Need-returns
+returns c = search needs
 
 slice-aggregate-report-files : tie.Need-slice-aggregate-report-files
 slice-aggregate-report-files c = search needs
@@ -22,12 +34,25 @@ roomy : {n size : ℕ} → n ≡ size → longestLine ≤ n → longestLine ≤ 
 roomy e h = omega arith
 
 report-files-requires : tie.Need-report-files-requires
-report-files-requires c κs = ((search needs, search needs), roomy (slice-aggregate-report-files-3 c) (lit≤ tt))
+report-files-requires c κs = ((search needs, search needs), (roomy (slice-aggregate-report-files-3 (c .before)) (lit≤ tt), refl))
 
-returns : tie.Need-returns
-returns c = search needs
+tell-requires : tie.Need-tell-requires
+tell-requires c κs = search needs
+
+returns-2 : tie.Need-returns-2
+returns-2 c = search needs
 
 pub main-spec : {M : Type 1} → statement M
 main-spec =
     tie.close
-    (tie.spec slice-aggregate-report-files slice-aggregate-report-files-2 slice-aggregate-report-files-3 report-files-requires returns)
+    (tie.spec
+    arg-count-requires
+    is-told-requires
+    usage-requires
+    returns
+    slice-aggregate-report-files
+    slice-aggregate-report-files-2
+    slice-aggregate-report-files-3
+    report-files-requires
+    tell-requires
+    returns-2)

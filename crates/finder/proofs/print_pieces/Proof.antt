@@ -4,9 +4,11 @@ use mathlib.Core.Path.{_≡_, refl, sym, _∙_}
 use Prim.Native.Nat.{_-_, _≤_, zero-le}
 use native.Mathlib.Omega.{arith}
 use borrow.Author.Needs.{needs}
+use borrow.Author.Tests.{not-true, not-false}
 use denote.Ref.{now}
 use lib.ListN.{length}
 use lib.Seq.{length-take-le}
+use Rattle.file_format.specs.Layout.{firstEdition}
 use Rattle.table.specs.Prepared.{tables}
 use Rattle.report.specs.Lines.{longestLine}
 use Rattle.call_report.specs.declared.ReportAnswer.the-variants as answer
@@ -16,19 +18,25 @@ use Rattle.call_report.specs.Whole.{itemsOf, placesOf}
 use Rattle.call_report.proofs.Opened.{opened-later}
 use Rattle.call_report.proofs.Promise.{places-few, put-within, put-follows, put-text, put-none}
 use Rattle.call_report.proofs.Whole.{places-start}
-use Rattle.finder.specs.Printing.{GoesOn, Reached, Handed}
+use Rattle.finder.specs.Printing.{GoesOn, Handed}
 use Rattle.finder.proofs.print_pieces.Statement.{statement}
 use Rattle.finder.proofs.print_pieces.Tie as tie
 
 abbrev Inv-loop : tie.InvT-loop
-Inv-loop pattern board read masks offsets links whole labels sizes out₀ from₀ found₀ out from found =
-    (from ≤ itemsOf pattern board) × (found ≡ placesOf pattern board from) × (length out ≡ length out₀) × (longestLine ≤ length out)
+Inv-loop pattern board read masks offsets links whole labels sizes out₀ handed₀ found₀ out handed found =
+    (handed ≤ itemsOf (firstEdition pattern) (firstEdition board)) × (found ≡ placesOf (firstEdition pattern) (firstEdition board) handed) × (length out ≡ length out₀) × (longestLine ≤ length out)
 
 abbrev μ-loop : tie.MeasureT-loop
-μ-loop pattern board read masks offsets links whole labels sizes out₀ from₀ found₀ out from found = itemsOf pattern board - from
+μ-loop pattern board read masks offsets links whole labels sizes out₀ handed₀ found₀ out handed found = itemsOf (firstEdition pattern) (firstEdition board) - handed
+
+-- nothing was handed over at the start
+start-none : (c : tie.After-slice-known Inv-loop μ-loop) → now (c .before .before .before .before .before .before .before .before .before .args .handed) ≡ 0
+start-none c = c .before .before .before .before .before .before .before .before .before .pre .1 .1
 
 loop-holds : tie.Need-loop-holds Inv-loop μ-loop
-loop-holds c = (zero-le, sym (places-start _ _ _), refl, search needs)
+loop-holds c =
+    let none = start-none c in
+    (rw none zero-le, rw none (sym (places-start _ _ _)), refl, search needs)
 
 -- the files were opened for all pieces, and so for this one
 abbrev start : tie.At-loop Inv-loop μ-loop → tie.Start Inv-loop μ-loop
@@ -36,7 +44,7 @@ start c = c .before .before .before .before .before .before .before .before .bef
 
 opened : (c : tie.At-loop Inv-loop μ-loop) →
     let a = start c .args in
-    Opened (c .loop .from) (now (a .pattern)) (now (a .board)) (a .read) (tables (now (a .masks)) (now (a .offsets)) (now (a .links))) (now (a .whole)) (now (a .labels)) (now (a .sizes))
+    Opened (c .loop .handed) (firstEdition (now (a .pattern))) (firstEdition (now (a .board))) (a .read) (tables (now (a .masks)) (now (a .offsets)) (now (a .links))) (now (a .whole)) (now (a .labels)) (now (a .sizes))
 opened c = opened-later zero-le (start c .pre .0)
 
 put-requires : tie.Need-put-requires Inv-loop μ-loop
@@ -53,7 +61,7 @@ same-length c = c .before .before .before .before .put .kept .1 .1 .1 .1 .1 .1 .
 
 returns : tie.Need-returns Inv-loop μ-loop
 unfolding Handed
-returns c = tt
+returns c = c .before .before .before .before .before .before .loop .inv .0
 
 -- ---- a piece was put
 
@@ -63,7 +71,7 @@ reported : (c : tie.After-known-told Inv-loop μ-loop) →
     let loop = c .before .before .before .before .before .before .before .loop in
     let a = start (c .before .before .before .before .before .before .before) .args in
     _≡_ {A = ReportOutcome} (record { reply = reportReply (answer.Put (c .before .answer .given .0 .0)); out = call .put .last .1 .1 .1 .1 .1 .1 .1 .1 .1 .0 })
-    (reporting (now (a .pattern)) (now (a .board)) (loop .from) (loop .found) (loop .out))
+    (reporting (firstEdition (now (a .pattern))) (firstEdition (now (a .board))) (loop .handed) (loop .found) (loop .out))
 reported c =
     let call = c .before .before .before .before .before in
     rw (c .before .answer .given .1) at (call .put .ensures _ _ (opened (call .before .before)))
@@ -81,42 +89,38 @@ returns-2 c =
 within : (c : tie.After-known-told Inv-loop μ-loop) → c .before .answer .given .0 .0 .size ≤ length (c .before .before .before .before .before .put .last .1 .1 .1 .1 .1 .1 .1 .1 .1 .0)
 within c = put-within _ _ _ _ _ _ (c .before .before .before .before .before .before .before .loop .inv .3) (reported c)
 
+-- where the piece was put that was handed over
+abbrev told : tie.After-hand Inv-loop μ-loop → tie.After-known-told Inv-loop μ-loop
+told c = c .before .before .before .before
+
 slice-reshare-prefix-hand : tie.Need-slice-reshare-prefix-hand Inv-loop μ-loop
-slice-reshare-prefix-hand c = within (c .before)
+slice-reshare-prefix-hand c = within (c .before .before)
 
 slice-aggregate-hand : tie.Need-slice-aggregate-hand Inv-loop μ-loop
-slice-aggregate-hand c = sym (length-take-le _ _ (within (c .before .before)))
+slice-aggregate-hand c = sym (length-take-le _ _ (within (c .before .before .before)))
 
 hand-requires : tie.Need-hand-requires Inv-loop μ-loop
 unfolding GoesOn
 hand-requires c κs =
-    let k = c .before .before in
+    let k = c .before .before .before in
     let loop = k .before .before .before .before .before .before .before .loop in
     put-text _ _ _ _ _ _ (loop .inv .3) (reported k) (loop .inv .0) (loop .inv .1)
 
-enum-known-handed : tie.Need-enum-known-handed Inv-loop μ-loop
-enum-known-handed c = search needs
-
-enum-told-2 : tie.Need-enum-told-2 Inv-loop μ-loop
-enum-told-2 c = search needs
-
 same-length-3 : tie.Need-same-length-3 Inv-loop μ-loop
-same-length-3 c = let k = c .before .before .before .before .before in k .before .before .before .before .before .put .kept .1 .1 .1 .1 .1 .1 .1 .1 .1 .0 ∙ k .before .before .before .before .before .before .before .loop .inv .2
+same-length-3 c = let k = told (c .before) in k .before .before .before .before .before .put .kept .1 .1 .1 .1 .1 .1 .1 .1 .1 .0 ∙ k .before .before .before .before .before .before .before .loop .inv .2
 
+-- a piece that was not taken leaves as many items handed over as before
 returns-3 : tie.Need-returns-3 Inv-loop μ-loop
 unfolding Handed
-returns-3 c = tt
+returns-3 c =
+    let kept = rw (not-true (c .before .hand .result) (c .if2 .taken)) at (c .before .hand .ensures) in
+    rw kept (told (c .before) .before .before .before .before .before .before .before .loop .inv .0)
 
 -- ---- and handed over
 
 -- the items up to where the piece says to go on
-reached : (c : tie.After-handed Inv-loop μ-loop) → c .handed .given .0 .0 ≡ c .before .before .before .before .before .before .answer .given .0 .0 .next
-unfolding Reached
-reached c = rw (c .handed .given .1) at (c .before .before .hand .ensures)
-
--- where the piece was put
-abbrev told : tie.After-handed Inv-loop μ-loop → tie.After-known-told Inv-loop μ-loop
-told c = c .before .before .before .before .before
+reached : (c : tie.Else2 Inv-loop μ-loop) → c .before .hand .last .1 .1 .0 ≡ told (c .before) .before .answer .given .0 .0 .next
+reached c = rw (not-false (c .before .hand .result) (c .if2 .left)) at (c .before .hand .ensures)
 
 cast-found : tie.Need-cast-found Inv-loop μ-loop
 cast-found c =
@@ -124,14 +128,14 @@ cast-found c =
     let loop = k .before .before .before .before .before .before .before .loop in
     let (within, places, more) = put-follows _ _ _ _ _ _ (loop .inv .3) (reported k) (loop .inv .0) (loop .inv .1) in
     let a = start (k .before .before .before .before .before .before .before) .args in
-    omega (arith, places-few (now (a .pattern)) (now (a .board)) (k .before .answer .given .0 .0 .next))
+    omega (arith, places-few (firstEdition (now (a .pattern))) (firstEdition (now (a .board))) (k .before .answer .given .0 .0 .next))
 
 loop-less : tie.Need-loop-less Inv-loop μ-loop
 loop-less c =
     let k = told (c .before .before) in
     let loop = k .before .before .before .before .before .before .before .loop in
     let (within, places, more) = put-follows _ _ _ _ _ _ (loop .inv .3) (reported k) (loop .inv .0) (loop .inv .1) in
-    omega (arith, more (c .before .before .before .before .before .before .if1 .left), reached (c .before .before))
+    omega (arith, more (c .before .before .before .before .before .if1 .left), reached (c .before))
 
 loop-again : tie.Need-loop-again Inv-loop μ-loop
 loop-again c =
@@ -139,7 +143,7 @@ loop-again c =
     let loop = k .before .before .before .before .before .before .before .loop in
     let (within, places, more) = put-follows _ _ _ _ _ _ (loop .inv .3) (reported k) (loop .inv .0) (loop .inv .1) in
     let kept = k .before .before .before .before .before .put .kept .1 .1 .1 .1 .1 .1 .1 .1 .1 .0 in
-    (rw (reached (c .before .before)) within, rw (reached (c .before .before)) places, kept ∙ loop .inv .2, omega (arith, kept))
+    (rw (reached (c .before)) within, rw (reached (c .before)) places, kept ∙ loop .inv .2, omega (arith, kept))
 
 pub print-pieces-spec : {M : Type 1} → statement M
 print-pieces-spec =
@@ -158,8 +162,6 @@ print-pieces-spec =
     slice-reshare-prefix-hand
     slice-aggregate-hand
     hand-requires
-    enum-known-handed
-    enum-told-2
     same-length-3
     returns-3
     cast-found

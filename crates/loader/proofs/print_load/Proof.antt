@@ -29,7 +29,7 @@ unfolding Told
 returns c =
     let call = c .before .before .before .before in
     let s = start call in
-    refused-outside (s .args .seed) (s .args .n) (s .args .m) (s .args .k) _ _ _ (call .load .ensures) (s .pre) _ (c .enum-told .given .1)
+    (refused-outside (s .args .seed) (s .args .n) (s .args .m) (s .args .k) _ _ _ (call .load .ensures) (s .pre .0) _ (c .enum-told .given .1), s .pre .1)
 
 abbrev loaded : tie.After-answer → tie.After-load
 loaded c = c .before .before .before .before
@@ -49,23 +49,23 @@ size c =
     ap length (front c) ∙ sym (made-size (a .seed) (a .n) (a .m) (a .k) _ _ _ (loaded c .load .ensures) _ (c .answer .given .1))
 
 slice-reshare-prefix-hand : tie.Need-slice-reshare-prefix-hand
-slice-reshare-prefix-hand c = front-room _ _ (size (c .before))
+slice-reshare-prefix-hand c = front-room _ _ (size (c .before .before))
 
 slice-aggregate-hand : tie.Need-slice-aggregate-hand
-slice-aggregate-hand c = sym (size (c .before .before))
+slice-aggregate-hand c = sym (size (c .before .before .before))
 
 hand-requires : tie.Need-hand-requires
-hand-requires c κs = front (c .before .before)
+hand-requires c κs = (start (loaded (c .before .before .before)) .pre .1, front (c .before .before .before))
 
 same-length-2 : tie.Need-same-length-2
 same-length-2 c = search needs
 
 returns-2 : tie.Need-returns-2
 returns-2 c =
-    let told = c .before .before .before in
-    let s = start (loaded told) in
-    tried-told (s .args .n) (s .args .m) (s .args .k) _
-    (made-range (s .args .seed) (s .args .n) (s .args .m) (s .args .k) _ _ _ (loaded told .load .ensures) _ (told .answer .given .1)) (c .hand .ensures)
+    let told = c .before .before .before .before in
+    let a = start (loaded told) .args in
+    tried-told (a .seed) (a .n) (a .m) (a .k) _ _ _ _
+    (made-range (a .seed) (a .n) (a .m) (a .k) _ _ _ (loaded told .load .ensures) _ (told .answer .given .1)) (front told) (size told) (c .hand .ensures)
 
 pub print-load-spec : {M : Type 1} → statement M
 print-load-spec =

@@ -1,8 +1,10 @@
 -- `output::take_some` meets its contract: what `count` answers lies within the bytes. It ends, since it tries a bounded number of times. Assumes
 -- nothing.
+use mathlib.Core.Path.{sym, _∙_}
 use Prim.Native.Nat.{_≤_, _-_, zero-le}
 use native.Mathlib.Omega.{arith}
 use borrow.Author.Needs.{needs}
+use borrow.Author.Tests.{not-false}
 use Rattle.output.proofs.take_some.Statement.{statement}
 use Rattle.output.proofs.take_some.Tie as tie
 
@@ -33,8 +35,8 @@ again-requires c κs = search needs
 returns-2 : tie.Need-returns-2 Inv-loop μ-loop
 returns-2 c = zero-le
 
-sched-yield-requires : tie.Need-sched-yield-requires Inv-loop μ-loop
-sched-yield-requires c κs = search needs
+pause-requires : tie.Need-pause-requires Inv-loop μ-loop
+pause-requires c κs = sym (c .before .again .ensures) ∙ not-false _ (c .if2 .left)
 
 add-tries : tie.Need-add-tries Inv-loop μ-loop
 add-tries c = omega arith
@@ -61,7 +63,7 @@ take-some-spec =
     returns
     again-requires
     returns-2
-    sched-yield-requires
+    pause-requires
     add-tries
     loop-less
     loop-again

@@ -1,7 +1,7 @@
 -- `output::write_whole` meets its contract: the loop's invariant is that no more bytes were taken than there are, and each turn takes some.
 -- Assumes nothing.
 use mathlib.Core.List.{List}
-use mathlib.Core.Path.{_≡_}
+use mathlib.Core.Path.{_≡_, refl}
 use Prim.Native.Nat.{ℕ, _≤_, _-_}
 use native.Mathlib.Omega.{arith}
 use borrow.Author.Needs.{needs}
@@ -12,10 +12,10 @@ use Rattle.output.proofs.write_whole.Statement.{statement}
 use Rattle.output.proofs.write_whole.Tie as tie
 
 abbrev Inv-loop : tie.InvT-loop
-Inv-loop fd bytes done₀ done = done ≤ length bytes
+Inv-loop bytes done₀ done = done ≤ length bytes
 
 abbrev μ-loop : tie.MeasureT-loop
-μ-loop fd bytes done₀ done = length bytes - done
+μ-loop bytes done₀ done = length bytes - done
 
 -- what is left, cut to its own length
 rest-all : (bytes : List ℕ) (done : ℕ) → take (length bytes - done) (drop done bytes) ≡ drop done bytes
@@ -34,7 +34,7 @@ part-take-some-end : tie.Need-part-take-some-end Inv-loop μ-loop
 part-take-some-end c = search needs
 
 take-some-requires : tie.Need-take-some-requires Inv-loop μ-loop
-take-some-requires c κs = rest-all (c .before .before .before .before .args .bytes .now) (c .before .before .loop .done)
+take-some-requires c κs = (refl, rest-all (c .before .before .before .before .args .bytes .now) (c .before .before .loop .done))
 
 returns : tie.Need-returns Inv-loop μ-loop
 unfolding All

@@ -3,8 +3,7 @@ use mathlib.Core.Path.{sym, ap, _∙_}
 use borrow.Author.Needs.{needs}
 use borrow.Author.Tests.{eq-eqb, ne-eqb}
 use Rattle.base_bits.specs.Bits.{sizeOf}
-use Rattle.table.specs.Answer.{allOrNone}
-use Rattle.table_answer.proofs.AllParts.{occur-size, none-tabulated}
+use Rattle.session.specs.Tables.{occurOrNone}
 use Rattle.session_cut.proofs.all_or_none.Statement.{statement}
 use Rattle.session_cut.proofs.all_or_none.Tie as tie
 
@@ -21,11 +20,10 @@ same-length : tie.Need-same-length
 same-length c = search needs
 
 returns : tie.Need-returns
-unfolding allOrNone
-returns c = λ few fits.
+unfolding occurOrNone
+returns c =
     let sized = ap sizeOf (sym (c .before .before .occurring .ensures)) ∙ sym (c .before .size .ensures) in
-    let all = sym (occur-size _ few _ fits) ∙ eq-eqb _ _ (sized ∙ c .if1 .taken) in
-    rw all
+    rw (eq-eqb _ _ (sized ∙ c .if1 .taken))
 
 clear-requires : tie.Need-clear-requires
 clear-requires c κs = search needs
@@ -34,12 +32,11 @@ same-length-2 : tie.Need-same-length-2
 same-length-2 c = search needs
 
 returns-2 : tie.Need-returns-2
-unfolding allOrNone
-returns-2 c = λ few fits.
+unfolding occurOrNone
+returns-2 c =
     let tested = c .before .before .before .before in
     let sized = ap sizeOf (sym (tested .before .before .occurring .ensures)) ∙ sym (tested .before .size .ensures) in
-    let none = sym (occur-size _ few _ fits) ∙ ne-eqb _ _ (λ e. tested .if1 .left (sym sized ∙ e)) in
-    rw none (c .before .before .clear .ensures ∙ none-tabulated _)
+    rw (ne-eqb _ _ (λ e. tested .if1 .left (sym sized ∙ e))) (c .before .before .clear .ensures)
 
 pub all-or-none-spec : {M : Type 1} → statement M
 all-or-none-spec =

@@ -1,19 +1,19 @@
 -- `session_cut::cut` meets its contract: no link is left at the place, or it is taken out and striking goes on. Assumes nothing.
-use Rattle.session.specs.Session.{CutPromise, nodesIn}
-use Rattle.session.specs.State.{state}
 use mathlib.Core.List.{_++_}
-use lib.ListN.{drop, length, getD, take}
-use Rattle.session_strike.specs.Going.{Settles}
-use Rattle.session_strike.specs.Moves.{movesIn, markBoth}
-use Rattle.session_cut.specs.declared.CutAnswer.the-variants as answer
-use Rattle.session_cut.specs.Cut.{cutVerdict, TakenOut}
 use mathlib.Core.Path.{_≡_, sym, subst, _∙_}
 use Prim.Native.Nat.{ℕ, _≤_}
 use native.Mathlib.Omega.{arith}
 use borrow.Author.Needs.{needs}
 use denote.Ref.{now}
+use lib.ListN.{drop, length, getD, take}
 use lib.Seq.{length-take-le}
-use Rattle.session_cut.proofs.Cuts.{bounded-le, gone-promise, cut-promise}
+use Rattle.session.specs.State.{state}
+use Rattle.session.specs.Tables.{nodesIn, CutMade}
+use Rattle.session.proofs.Tables.{bounded-le}
+use Rattle.session_strike.specs.Moves.{movesIn, settledFrom}
+use Rattle.session_cut.specs.declared.CutAnswer.the-variants as answer
+use Rattle.session_cut.specs.Cut.{cutVerdict, TakenOut}
+use Rattle.session_cut.proofs.Cuts.{gone-made, link-made}
 use Rattle.session_cut.proofs.cut.Statement.{statement}
 use Rattle.session_cut.proofs.cut.Tie as tie
 
@@ -54,7 +54,7 @@ returns : tie.Need-returns
 returns c =
     let called = c .before .before .before .before in
     let a = entry called .args in
-    gone-promise (now (a .fixed)) (now (a .offsets)) (now (a .numbers)) (now (a .ends)) (now (a .sets)) (taking called) (c .enum-told .given .1)
+    gone-made (now (a .fixed)) (now (a .offsets)) (now (a .numbers)) (now (a .ends)) (now (a .sets)) (taking called) (c .enum-told .given .1)
 
 slice-aggregate-strike-from : tie.Need-slice-aggregate-strike-from
 slice-aggregate-strike-from c =
@@ -101,10 +101,10 @@ returns-2 c =
     let a = entry called .args in
     let ends = called .take-out .last .0 in
     let last = struck .strike-from .last .1 .1 .1 .1 .0 in
-    subst (λ (n : ℕ). CutPromise (state (now (a .fixed)) (now (a .offsets)) (now (a .numbers)) (now (a .ends)) (now (a .sets))) (a .place) (cutVerdict answer.Cut) (state (now (a .fixed)) (now (a .offsets)) (now (a .numbers)) ends (last ++ drop n (now (a .sets)))))
+    subst (λ (n : ℕ). CutMade (state (now (a .fixed)) (now (a .offsets)) (now (a .numbers)) (now (a .ends)) (now (a .sets))) (a .place) (cutVerdict answer.Cut) (state (now (a .fixed)) (now (a .offsets)) (now (a .numbers)) ends (last ++ drop n (now (a .sets)))))
     (sym (number called))
-    (cut-promise (now (a .fixed)) (now (a .offsets)) (now (a .numbers)) (now (a .ends)) (now (a .sets)) (taking called) _ _ (told .taken .given .1)
-    (subst (λ (n : ℕ). Settles (take 64 (now (a .fixed))) (movesIn (now (a .offsets)) (now (a .numbers)) ends) (take n (now (a .sets))) (markBoth (length (take n (now (a .sets)))) (told .taken .given .0 .0) (told .taken .given .0 .1 .0)) last) (number called) (struck .strike-from .ensures)))
+    (link-made (now (a .fixed)) (now (a .offsets)) (now (a .numbers)) (now (a .ends)) (now (a .sets)) (taking called) _ _ (told .taken .given .1)
+    (subst (λ (n : ℕ). last ≡ settledFrom (take 64 (now (a .fixed))) (movesIn (now (a .offsets)) (now (a .numbers)) ends) (take n (now (a .sets))) (told .taken .given .0 .0) (told .taken .given .0 .1 .0)) (number called) (struck .strike-from .ensures)))
 
 pub cut-spec : {M : Type 1} → statement M
 cut-spec =

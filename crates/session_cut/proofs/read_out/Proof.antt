@@ -6,8 +6,8 @@ use borrow.Author.Needs.{needs}
 use denote.Ref.{now}
 use lib.ListN.{length, getD}
 use lib.Seq.{length-take-le}
-use Rattle.session_cut.proofs.Cuts.{bounded-le}
-use Rattle.session_cut.proofs.Out.{out-short, out-read}
+use Rattle.session.proofs.Tables.{bounded-le}
+use Rattle.session_cut.proofs.Out.{short-made, copied-made}
 use Rattle.session_cut.proofs.read_out.Statement.{statement}
 use Rattle.session_cut.proofs.read_out.Tie as tie
 
@@ -28,7 +28,7 @@ at-most-requires : tie.Need-at-most-requires
 at-most-requires c κs = search needs
 
 returns : tie.Need-returns
-returns c = λ offsets numbers ends. out-short _ _ _ offsets numbers ends (rw (c .before .at-most .ensures) at (c .if1 .taken))
+returns c = short-made _ _ _ (rw (c .before .at-most .ensures) at (c .if1 .taken))
 
 slice-aggregate-copy : tie.Need-slice-aggregate-copy
 slice-aggregate-copy c = sym (length-take-le _ _ (few (c .before .before)))
@@ -63,12 +63,12 @@ same-length : tie.Need-same-length
 same-length c = search needs
 
 returns-2 : tie.Need-returns-2
-returns-2 c = λ offsets numbers ends.
+returns-2 c =
     let ruled = c .before .before in
     let second = ruled .before .before in
     let copied = second .before .before .before .before in
     let called = copied .before .before .before .before in
-    out-read _ _ _ offsets numbers ends (called .at-most .ensures) (second .at-most2 .ensures) (copied .before .before .before .if1 .left) (few called) (copied .copy .ensures) (ruled .all-or-none .ensures)
+    copied-made _ _ _ (called .at-most .ensures) (second .at-most2 .ensures) (copied .before .before .before .if1 .left) (few called) (copied .copy .ensures) (ruled .all-or-none .ensures)
 
 pub read-out-spec : {M : Type 1} → statement M
 read-out-spec =

@@ -1,10 +1,11 @@
 -- `session_strike::settle` meets its contract. The loop's invariant is `Going`; the measure falls with a set that gets smaller, or with a mark that is taken
 -- away. Assumes nothing.
 use mathlib.Core.Path.{sym, _∙_}
+use Prim.Native.Nat.{_<_}
 use native.Mathlib.Omega.{arith}
 use borrow.Author.Needs.{needs}
-use Rattle.session_strike.specs.Moves.{movesIn}
-use Rattle.session_strike.proofs.Going.{Going, left, word-some, going-start, going-next, going-less, going-end}
+use Rattle.session_strike.specs.Moves.{movesIn, left}
+use Rattle.session_strike.proofs.Going.{Going, going-start, going-word, going-next, going-less, going-end}
 use Rattle.session_strike.proofs.settle.Statement.{statement}
 use Rattle.session_strike.proofs.settle.Tie as tie
 
@@ -28,8 +29,8 @@ look-next-requires c κs =
     let loop = c .before .before .before in
     let start = loop .before .before .before .before .before .before .before .before .before in
     let g = loop .loop .inv in
-    let more = c .before .before .loop-test .taken in
-    (start .pre .0, ((omega (arith, g .long, start .pre .1 .0), g .room), (more, word-some _ _ g more)))
+    let more : loop .loop .j < 16 = omega arith in
+    (start .pre .0, ((omega (arith, g .long, start .pre .1 .0), g .stands .room), (more, going-word _ _ g more)))
 
 find-requires-2 : tie.Need-find-requires-2 Inv-loop μ-loop
 find-requires-2 c κs = search needs
@@ -38,15 +39,13 @@ loop-less : tie.Need-loop-less Inv-loop μ-loop
 loop-less c =
     let called = c .before .before .before .before .before .before in
     let loop = called .before .before .before .before in
-    going-less _ _ (loop .loop .inv) (called .before .before .before .loop-test .taken) (called .look-next .ensures .0) (called .look-next .ensures .1)
+    going-less _ _ (loop .loop .inv) (omega arith) (called .look-next .ensures .0) (called .look-next .ensures .1)
 
 loop-again : tie.Need-loop-again Inv-loop μ-loop
 loop-again c =
     let called = c .before .before .before .before .before .before in
     let loop = called .before .before .before .before in
-    let start = loop .before .before .before .before .before .before .before .before .before in
-    going-next _ _ (loop .loop .inv) (called .before .before .before .loop-test .taken) (start .pre .1 .0) (called .look-next .ensures .0) (called .look-next .ensures .1)
-    (c .find2 .ensures)
+    going-next _ _ (loop .loop .inv) (omega arith) (called .look-next .ensures .0) (called .look-next .ensures .1) (c .find2 .ensures)
 
 same-length : tie.Need-same-length Inv-loop μ-loop
 same-length c = c .before .loop .inv .long
@@ -54,10 +53,10 @@ same-length c = c .before .loop .inv .long
 same-length-2 : tie.Need-same-length-2 Inv-loop μ-loop
 same-length-2 c =
     let loop = c .before in
-    loop .loop .inv .room ∙ sym (loop .before .before .before .before .before .before .before .before .before .pre .1 .1)
+    loop .loop .inv .stands .room ∙ sym (loop .before .before .before .before .before .before .before .before .before .pre .1 .1)
 
 returns : tie.Need-returns Inv-loop μ-loop
-returns c = going-end _ _ (c .before .loop .inv) (c .loop-test .left)
+returns c = going-end _ _ (c .before .loop .inv) (omega arith)
 
 pub settle-spec : {M : Type 1} → statement M
 settle-spec =

@@ -1,12 +1,11 @@
 -- `session_strike::strike_from` meets its contract. Assumes nothing.
 use mathlib.Core.List.{List}
-use mathlib.Core.Path.{sym, ap, subst, _∙_}
+use mathlib.Core.Path.{ap, _∙_}
 use Prim.Native.Nat.{ℕ}
+use borrow.Author.Needs.{needs}
 use denote.Ref.{now}
 use lib.ListN.{length}
-use Rattle.session_strike.specs.Going.{Covered}
-use Rattle.session_strike.specs.Moves.{movesIn, markOne, markBoth}
-use borrow.Author.Needs.{needs}
+use Rattle.session_strike.specs.Moves.{movesIn, markOne, markBoth, settled, settledFrom}
 use Rattle.session_strike.proofs.strike_from.Statement.{statement}
 use Rattle.session_strike.proofs.strike_from.Tie as tie
 
@@ -32,16 +31,14 @@ same-length : tie.Need-same-length
 same-length c = search needs
 
 returns : tie.Need-returns
-unfolding markBoth
+unfolding settledFrom markBoth
 returns c =
-    let settled = c .before .before .before in
-    let two = settled .before .before .before .before in
+    let called = c .before .before .before in
+    let two = called .before .before .before .before in
     let one = two .before .before .before in
     let a = one .before .before .before .before .before .before .before .args in
     let marks = two .mark-one2 .ensures ∙ ap (λ (m : List ℕ). markOne (length (now (a .sets))) m (a .y)) (one .mark-one .ensures) in
-    λ pattern host follows begins covered.
-    settled .settle .ensures pattern host follows begins
-    (subst (Covered (now (a .masks)) (movesIn (now (a .offsets)) (now (a .numbers)) (now (a .ends))) (now (a .sets))) (sym marks) covered)
+    called .settle .ensures ∙ ap (settled (now (a .masks)) (movesIn (now (a .offsets)) (now (a .numbers)) (now (a .ends))) (now (a .sets))) marks
 
 pub strike-from-spec : {M : Type 1} → statement M
 strike-from-spec =

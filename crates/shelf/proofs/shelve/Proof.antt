@@ -3,7 +3,11 @@ use mathlib.Core.Path.{_≡_, sym, _∙_}
 use native.Mathlib.Omega.{arith}
 use lib.ListN.{length}
 use Rattle.call_shelf.specs.Shelf.{mostFiles}
+use Rattle.shelf.specs.declared.Taken.the-variants as taken
+use Rattle.shelf.specs.Reading.{endOf}
+use Rattle.shelf.specs.Printing.{Ran}
 use Rattle.shelf.proofs.Reading.{unreadable-under}
+use Rattle.shelf.proofs.Printing.{ran-begun}
 use borrow.Author.Needs.{needs}
 use Rattle.shelf.proofs.shelve.Statement.{statement}
 use Rattle.shelf.proofs.shelve.Tie as tie
@@ -18,14 +22,17 @@ read-all-requires c κs = search needs
 enum-known-taken : tie.Need-enum-known-taken
 enum-known-taken c = search needs
 
+-- how the reading ended, by the notes
+files : (c : tie.After-known-told) → endOf (c .before .before .before .before .before .before .before .read-all .last .1 .0) ≡ taken.Files (c .before .taken .given .0 .0)
+files c = sym (c .before .before .before .before .before .before .before .read-all .ensures) ∙ c .before .taken .given .1
+
 print-shelf-requires : tie.Need-print-shelf-requires
 print-shelf-requires c κs =
     let t = c .before .before .before .before .before in
-    let all = t .before .before .before .before .before .before in
-    ((sixteen all, sym (all .read-all .ensures) ∙ t .taken .given .1), (omega arith, omega arith))
+    ((sixteen (t .before .before .before .before .before .before .before), files t), (omega arith, omega arith, c .before .before .before .before .before .before .before .before .before .before .before .before .before .before .before .before .before .before .before .pre .1 .2))
 
-tell-requires : tie.Need-tell-requires
-tell-requires c κs = search needs
+ended-requires : tie.Need-ended-requires
+ended-requires c κs = search needs
 
 enum-known-taken-2 : tie.Need-enum-known-taken-2
 enum-known-taken-2 c = search needs
@@ -49,7 +56,9 @@ same-length-4 : tie.Need-same-length-4
 same-length-4 c = search needs
 
 returns : tie.Need-returns
-returns c = search needs
+returns c =
+    let print = c .before .before .before .before .before in
+    rw (c .ended .ensures) (ran-begun _ _ _ _ _ _ (files (print .before .before .before .before .before .before)) (print .print-shelf .ensures))
 
 same-length-5 : tie.Need-same-length-5
 same-length-5 c = search needs
@@ -58,7 +67,10 @@ same-length-6 : tie.Need-same-length-6
 same-length-6 c = search needs
 
 returns-2 : tie.Need-returns-2
-returns-2 c = search needs
+unfolding Ran
+returns-2 c =
+    let t = c .before .before in
+    (sym (t .before .before .before .before .before .before .read-all .ensures) ∙ t .taken2 .given .1, t .before .before .before .before .before .before .before .before .before .before .before .before .before .pre .1 .2)
 
 pub shelve-spec : {M : Type 1} → statement M
 shelve-spec =
@@ -67,7 +79,7 @@ shelve-spec =
     read-all-requires
     enum-known-taken
     print-shelf-requires
-    tell-requires
+    ended-requires
     enum-known-taken-2
     cannot-read-requires
     same-length

@@ -11,7 +11,7 @@ of-cut-requires : tie.Need-of-cut-requires
 of-cut-requires c κs = search needs
 
 returns : tie.Need-returns
-returns c = host-cut _ (c .before .cut .ensures) (c .of-cut .ensures)
+returns c = host-cut (c .before .cut .ensures) (c .of-cut .ensures)
 
 pub heronditch-session-cut-spec : {M : Type 1} → statement M
 heronditch-session-cut-spec = tie.close (tie.spec cut-requires of-cut-requires returns)

@@ -14,7 +14,7 @@ same-length : tie.Need-same-length
 same-length c = search needs
 
 returns : tie.Need-returns
-returns c = host-table _ (c .before .before .before .read-out .ensures) (c .of-out .ensures)
+returns c = host-table (c .before .before .before .read-out .ensures) (c .of-out .ensures)
 
 pub heronditch-session-table-spec : {M : Type 1} → statement M
 heronditch-session-table-spec =

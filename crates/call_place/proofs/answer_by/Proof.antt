@@ -1,0 +1,29 @@
+-- `call_place::answer_by` meets its contract, by cases on the verdict. Assumes nothing.
+use borrow.Author.Needs.{needs}
+use Rattle.file_format.specs.Reading.{verdictOf}
+use Rattle.place.specs.Outcome.{placeReply}
+use Rattle.call_place.proofs.answer_by.Statement.{statement}
+use Rattle.call_place.proofs.answer_by.Tie as tie
+
+enum-told : tie.Need-enum-told
+enum-told c = search needs
+
+no-counts-requires : tie.Need-no-counts-requires
+no-counts-requires c κs = search needs
+
+enum-known-verdict : tie.Need-enum-known-verdict
+enum-known-verdict c = search needs
+
+turned-away-requires : tie.Need-turned-away-requires
+turned-away-requires c κs = search needs
+
+returns : tie.Need-returns
+unfolding verdictOf placeReply
+returns c = rw (c .no-counts .ensures, c .before .enum-told .given .1)
+
+returns-2 : tie.Need-returns-2
+unfolding verdictOf placeReply
+returns-2 c = rw (c .turned-away .ensures, c .before .before .verdict .given .1)
+
+pub answer-by-spec : {M : Type 1} → statement M
+answer-by-spec = tie.close (tie.spec enum-told no-counts-requires enum-known-verdict turned-away-requires returns returns-2)

@@ -1,0 +1,12 @@
+-- `call_place::no_counts` meets its contract: four counts of 0. Assumes nothing.
+use mathlib.Core.Path.{refl}
+use Rattle.table.specs.Reply.{noCounts}
+use Rattle.call_place.proofs.no_counts.Statement.{statement}
+use Rattle.call_place.proofs.no_counts.Tie as tie
+
+returns : tie.Need-returns
+unfolding noCounts
+returns c = refl
+
+pub no-counts-spec : {M : Type 1} → statement M
+no-counts-spec = tie.close (tie.spec returns)

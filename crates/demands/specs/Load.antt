@@ -1,0 +1,40 @@
+-- Ask 3, "A test load anyone can make again", quoted over what is proved of it: `Ask3`. proofs/Load proves it. "Turned away: 10, one of the four numbers out
+-- of its range, checked ahead of 8", and "An output under 4 + 2N + 4M bytes, M as given, is 8.": specs/Demands `loads`.
+use mathlib.Core.List.{List, [], _∷_}
+use mathlib.Core.Logic.{_↔_}
+use mathlib.Core.Path.{_≡_}
+use Prim.Native.Nat.{ℕ}
+use lib.Dec.{T}
+use lib.ListN.{length, getD, take, drop}
+use Rattle.graph.specs.Circuit.{HasLink}
+use Rattle.file_format.specs.declared.Role.the-variants.{Board}
+use Rattle.file_format.specs.Layout.{CircuitFile, firstEdition, nodesOf, kindsOf, startsOf, endsOf}
+use Rattle.file_format.specs.Refusals.{accept, Accepted}
+use Rattle.load.specs.Draws.{draws}
+use Rattle.load.specs.Load.{inRange, InRange, Drawn}
+use Rattle.call_load.specs.Call.{loading}
+
+-- the file made: the front of the bytes lent, of the length replied
+unfoldable pub madeFile : ℕ → ℕ → ℕ → ℕ → List ℕ → CircuitFile
+madeFile seed n m k out = firstEdition (take (getD (loading seed n m k out .reply .values) 0 0) (loading seed n m k out .out))
+
+-- What a call that accepts has made.
+pub record LoadMade (seed n m k : ℕ) (out : List ℕ) (file : CircuitFile) : Type 0 where
+  -- "The file made is always an accepted board"
+  pub accepted : Accepted Board file
+  pub nodes : nodesOf file ≡ n
+  -- "Draw N kinds below K,
+  pub kinds : kindsOf file ≡ draws seed k n
+  -- then M times a start and an end below N. The file's links are the pairs drawn, each once, in the file's order." (an accepted file's links rise strictly)
+  pub links : (a b : ℕ) → HasLink (startsOf file) (endsOf file) a b ↔ Drawn seed n m a b
+  -- "The reply is the file's length, and bytes past it stay."
+  pub replied : loading seed n m k out .reply .values ≡ length (file .bytes) ∷ []
+  pub rest : drop (length (file .bytes)) (loading seed n m k out .out) ≡ drop (length (file .bytes)) out
+
+pub record Ask3 : Type 0 where
+  -- "with N from 1 to 512, M at most 4,096 and K from 1 to 65,536"
+  pub range : (n m k : ℕ) → T (inRange n m k) ↔ InRange n m k
+  pub made : (seed n m k : ℕ) (out : List ℕ) → loading seed n m k out .reply .verdict ≡ accept → LoadMade seed n m k out (madeFile seed n m k out)
+  -- "and equal numbers make equal files", whatever is lent
+  pub equal : (seed n m k : ℕ) (out out′ : List ℕ) → loading seed n m k out .reply .verdict ≡ accept → loading seed n m k out′ .reply .verdict ≡ accept →
+      madeFile seed n m k out ≡ madeFile seed n m k out′

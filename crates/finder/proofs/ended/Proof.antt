@@ -1,0 +1,15 @@
+-- `finder::ended` meets its contract. Assumes nothing.
+use Rattle.finder.specs.Printing.{endOf}
+use Rattle.finder.proofs.ended.Statement.{statement}
+use Rattle.finder.proofs.ended.Tie as tie
+
+returns : tie.Need-returns
+unfolding endOf
+returns c = rw (c .if1 .taken)
+
+returns-2 : tie.Need-returns-2
+unfolding endOf
+returns-2 c = rw (c .if1 .left)
+
+pub ended-spec : {M : Type 1} → statement M
+ended-spec = tie.close (tie.spec returns returns-2)

@@ -1,0 +1,49 @@
+-- `finder::report_held` meets its contract. Assumes nothing.
+use borrow.Author.Tests.{not-true, not-false}
+use Rattle.finder.specs.Printing.{Ran}
+use Rattle.finder.proofs.Ending.{ran-begun}
+use borrow.Author.Needs.{needs}
+use Rattle.finder.proofs.report_held.Statement.{statement}
+use Rattle.finder.proofs.report_held.Tie as tie
+
+returns : tie.Need-returns
+unfolding Ran
+returns c = (not-true _ (c .if1 .taken), c .before .before .before .before .before .before .before .pre .1 .1)
+
+returns-2 : tie.Need-returns-2
+unfolding Ran
+returns-2 c = (not-false _ (c .before .before .if1 .left), not-true _ (c .if2 .taken), c .before .before .before .before .before .before .before .before .before .pre .1 .1)
+
+slice-aggregate-print-report : tie.Need-slice-aggregate-print-report
+slice-aggregate-print-report c = search needs
+
+slice-aggregate-print-report-2 : tie.Need-slice-aggregate-print-report-2
+slice-aggregate-print-report-2 c = search needs
+
+print-report-requires : tie.Need-print-report-requires
+print-report-requires c κs = search needs
+
+ended-requires : tie.Need-ended-requires
+ended-requires c κs = search needs
+
+same-length : tie.Need-same-length
+same-length c = search needs
+
+returns-3 : tie.Need-returns-3
+returns-3 c =
+    let start = c .before .before .before .before .before .before .before .before .before .before .before .before .before .before .before .before .before in
+    rw (c .ended .ensures)
+    (ran-begun _ _ _ (start .args .files) _ (not-false _ (c .before .before .before .before .before .before .before .before .before .before .if1 .left)) (not-false _ (c .before .before .before .before .before .before .before .before .if2 .left)) (c .before .before .before .print-report .ensures))
+
+pub report-held-spec : {M : Type 1} → statement M
+report-held-spec =
+    tie.close
+    (tie.spec
+    returns
+    returns-2
+    slice-aggregate-print-report
+    slice-aggregate-print-report-2
+    print-report-requires
+    ended-requires
+    same-length
+    returns-3)

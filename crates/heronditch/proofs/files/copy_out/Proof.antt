@@ -1,0 +1,36 @@
+-- `heronditch::files::copy_out` meets its contract: the entries do not fit, or they are files. Assumes nothing.
+use borrow.Author.Needs.{needs}
+use borrow.Author.Tests.{lt-ltb, le-ltb}
+use Rattle.file_format.specs.Reading.{filled}
+use Rattle.file_format.specs.Refusals.{first, shortTable}
+use Rattle.file_format.specs.Reply.{reply}
+use Rattle.heronditch.specs.Host.{hostNeighbours}
+use Rattle.heronditch_reply.specs.Replies.{fileNumber, numberOf, meantFile, slots}
+use Rattle.heronditch.proofs.files.copy_out.Statement.{statement}
+use Rattle.heronditch.proofs.files.copy_out.Tie as tie
+
+refused-requires : tie.Need-refused-requires
+refused-requires c κs = search needs
+
+returns : tie.Need-returns
+unfolding hostNeighbours first shortTable reply slots numberOf meantFile fileNumber filled
+returns c = rw (c .refused .ensures) (simp (lt-ltb _ _ (c .before .if1 .taken)))
+
+copy-requires : tie.Need-copy-requires
+copy-requires c κs = search needs
+
+accepted-requires : tie.Need-accepted-requires
+accepted-requires c κs = search needs
+
+same-length : tie.Need-same-length
+same-length c = search needs
+
+returns-2 : tie.Need-returns-2
+unfolding hostNeighbours first shortTable reply slots numberOf meantFile filled
+returns-2 c =
+    rw (c .accepted .ensures, c .before .before .before .copy .ensures) (simp (le-ltb _ _ (c .before .before .before .before .before .if1 .left)))
+
+pub copy-out-spec : {M : Type 1} → statement M
+copy-out-spec =
+    tie.close
+    (tie.spec refused-requires returns copy-requires accepted-requires same-length returns-2)

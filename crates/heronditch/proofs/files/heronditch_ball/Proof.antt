@@ -1,0 +1,27 @@
+-- `heronditch::files::heronditch_ball` meets its contract: the call of the crate below, its reply as numbers. Assumes nothing.
+use mathlib.Core.Path.{ap}
+use Rattle.heronditch.specs.Host.{hostBall}
+use borrow.Author.Needs.{needs}
+use Rattle.heronditch.proofs.files.heronditch_ball.Statement.{statement}
+use Rattle.heronditch.proofs.files.heronditch_ball.Tie as tie
+
+edition-of-requires : tie.Need-edition-of-requires
+edition-of-requires c κs = search needs
+
+ball-requires : tie.Need-ball-requires
+ball-requires c κs = search needs
+
+of-ball-requires : tie.Need-of-ball-requires
+of-ball-requires c κs = search needs
+
+same-length : tie.Need-same-length
+same-length c = search needs
+
+returns : tie.Need-returns
+unfolding hostBall
+returns c =
+    rw (c .of-ball .ensures, ← c .before .before .before .before .before .edition-of .ensures) (ap hostBall (c .before .before .before .ball .ensures))
+
+pub heronditch-ball-spec : {M : Type 1} → statement M
+heronditch-ball-spec =
+    tie.close (tie.spec edition-of-requires ball-requires of-ball-requires same-length returns)

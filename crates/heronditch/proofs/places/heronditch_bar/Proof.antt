@@ -1,0 +1,27 @@
+-- `heronditch::places::heronditch_bar` meets its contract: the call of the crate below, its reply as numbers. Assumes nothing.
+use mathlib.Core.Path.{ap}
+use Rattle.heronditch.specs.Host.{hostBar}
+use borrow.Author.Needs.{needs}
+use Rattle.heronditch.proofs.places.heronditch_bar.Statement.{statement}
+use Rattle.heronditch.proofs.places.heronditch_bar.Tie as tie
+
+editions-of-requires : tie.Need-editions-of-requires
+editions-of-requires c κs = search needs
+
+bar-requires : tie.Need-bar-requires
+bar-requires c κs = search needs
+
+of-bar-requires : tie.Need-of-bar-requires
+of-bar-requires c κs = search needs
+
+same-length : tie.Need-same-length
+same-length c = search needs
+
+returns : tie.Need-returns
+unfolding hostBar
+returns c =
+    rw (c .of-bar .ensures, ← c .before .before .before .before .before .editions-of .ensures .0, ← c .before .before .before .before .before .editions-of .ensures .1) (ap hostBar (c .before .before .before .bar .ensures))
+
+pub heronditch-bar-spec : {M : Type 1} → statement M
+heronditch-bar-spec =
+    tie.close (tie.spec editions-of-requires bar-requires of-bar-requires same-length returns)

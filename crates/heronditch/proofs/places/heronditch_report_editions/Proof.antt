@@ -1,0 +1,28 @@
+-- `heronditch::places::heronditch_report_editions` meets its contract: the call of the crate below, its reply as numbers. Assumes nothing.
+use mathlib.Core.Path.{ap}
+use Rattle.heronditch.specs.Host.{hostReport}
+use borrow.Author.Needs.{needs}
+use Rattle.heronditch.proofs.places.heronditch_report_editions.Statement.{statement}
+use Rattle.heronditch.proofs.places.heronditch_report_editions.Tie as tie
+
+editions-of-requires : tie.Need-editions-of-requires
+editions-of-requires c κs = search needs
+
+report-requires : tie.Need-report-requires
+report-requires c κs = search needs
+
+of-report-requires : tie.Need-of-report-requires
+of-report-requires c κs = search needs
+
+same-length : tie.Need-same-length
+same-length c = search needs
+
+returns : tie.Need-returns
+unfolding hostReport
+returns c =
+    rw (c .of-report .ensures, ← c .before .before .before .before .before .editions-of .ensures .0, ← c .before .before .before .before .before .editions-of .ensures .1) (ap hostReport (c .before .before .before .report .ensures))
+
+pub heronditch-report-editions-spec : {M : Type 1} → statement M
+heronditch-report-editions-spec =
+    tie.close
+    (tie.spec editions-of-requires report-requires of-report-requires same-length returns)

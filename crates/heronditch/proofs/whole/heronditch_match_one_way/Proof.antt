@@ -1,0 +1,28 @@
+-- `heronditch::whole::heronditch_match_one_way` meets its contract: the call of the crate below, its reply as numbers. Assumes nothing.
+use mathlib.Core.Path.{ap}
+use Rattle.heronditch.specs.Host.{hostMatch}
+use borrow.Author.Needs.{needs}
+use Rattle.heronditch.proofs.whole.heronditch_match_one_way.Statement.{statement}
+use Rattle.heronditch.proofs.whole.heronditch_match_one_way.Tie as tie
+
+editions-of-requires : tie.Need-editions-of-requires
+editions-of-requires c κs = search needs
+
+match-one-way-requires : tie.Need-match-one-way-requires
+match-one-way-requires c κs = search needs
+
+of-match-requires : tie.Need-of-match-requires
+of-match-requires c κs = search needs
+
+same-length : tie.Need-same-length
+same-length c = search needs
+
+returns : tie.Need-returns
+unfolding hostMatch
+returns c =
+    rw (c .of-match .ensures, ← c .before .before .before .before .before .editions-of .ensures .0, ← c .before .before .before .before .before .editions-of .ensures .1) (ap hostMatch (c .before .before .before .match-one-way .ensures))
+
+pub heronditch-match-one-way-spec : {M : Type 1} → statement M
+heronditch-match-one-way-spec =
+    tie.close
+    (tie.spec editions-of-requires match-one-way-requires of-match-requires same-length returns)

@@ -1,0 +1,231 @@
+// Places around a centre, what is proposed as one, why there is none, and the report of all centres.
+ghost use mathlib.Core.Path.{_≡_};
+ghost use Rattle.file_format.specs.Circuit.{circuitOf};
+ghost use Rattle.file_format.specs.Layout.{firstEdition};
+ghost use Rattle.place.specs.Match.{radiusOf};
+ghost use Rattle.call_place.specs.Call.{placeAt};
+ghost use Rattle.call_check.specs.Call.{checkCall};
+ghost use Rattle.call_barring.specs.Call.{barCall};
+ghost use Rattle.call_report.specs.Call.{reporting};
+ghost use Rattle.heronditch.specs.Host.{hostPlace, hostBar, hostReport};
+ghost use Rattle.heronditch_reply.specs.Replies.{slots};
+ghost use Rattle.heronditch_told.specs.Told.{told};
+use call_place::Reach;
+use heronditch_reply::Counted;
+use heronditch_reply::HostReply;
+use heronditch_reply::Piece;
+use heronditch_reply::of_bar;
+use heronditch_reply::of_check;
+use heronditch_reply::of_place;
+use heronditch_reply::of_report;
+use heronditch_told::editions_of;
+
+// The number of the first edition, which document 02's C call and report still read.
+const FIRST: u32 = 1;
+
+// Finds the pattern around a node of the board, at the pattern's radius: the place's nodes and links, its table, and each node's distance from the
+// centre. The counts are those of the whole ball.
+#[no_mangle]
+pub extern "C" fn heronditch_place_editions(
+    pattern: &[u8],
+    pattern_edition: u32,
+    board: &[u8],
+    board_edition: u32,
+    centre: usize,
+    nodes: &mut [u8],
+    links: &mut [u8],
+    table: &mut [u32],
+    distances: &mut [u16],
+) -> Counted
+    ensures { λ r. ⌜ record { reply = r; nodes = now (nodes .exit); links = now (links .exit); table = now (table .exit); distances = now (distances .exit) }
+        ≡ hostPlace (placeAt (told (now (pattern .entry)) «pattern_edition») (told (now (board .entry)) «board_edition») centre
+        (radiusOf (circuitOf (told (now (pattern .entry)) «pattern_edition»)))
+        (now (nodes .entry)) (now (links .entry)) (now (table .entry)) (now (distances .entry))) ⌝ }
+{
+    of_place(call_place::place(
+        Reach::Own,
+        editions_of(pattern_edition, board_edition),
+        pattern,
+        board,
+        centre,
+        nodes,
+        links,
+        table,
+        distances,
+    ))
+}
+
+// The same at a radius given.
+#[no_mangle]
+pub extern "C" fn heronditch_place_within_editions(
+    pattern: &[u8],
+    pattern_edition: u32,
+    board: &[u8],
+    board_edition: u32,
+    centre: usize,
+    radius: u16,
+    nodes: &mut [u8],
+    links: &mut [u8],
+    table: &mut [u32],
+    distances: &mut [u16],
+) -> Counted
+    ensures { λ r. ⌜ record { reply = r; nodes = now (nodes .exit); links = now (links .exit); table = now (table .exit); distances = now (distances .exit) }
+        ≡ hostPlace (placeAt (told (now (pattern .entry)) «pattern_edition») (told (now (board .entry)) «board_edition») centre radius
+        (now (nodes .entry)) (now (links .entry)) (now (table .entry)) (now (distances .entry))) ⌝ }
+{
+    of_place(call_place::place(
+        Reach::Given(radius),
+        editions_of(pattern_edition, board_edition),
+        pattern,
+        board,
+        centre,
+        nodes,
+        links,
+        table,
+        distances,
+    ))
+}
+
+// Finds the pattern around a node of the board, at the pattern's radius, in files of the first edition: "the C call still read[s] the first".
+#[no_mangle]
+pub extern "C" fn heronditch_place(
+    pattern: &[u8],
+    board: &[u8],
+    centre: usize,
+    nodes: &mut [u8],
+    links: &mut [u8],
+    table: &mut [u32],
+    distances: &mut [u16],
+) -> Counted
+    ensures { λ r. ⌜ record { reply = r; nodes = now (nodes .exit); links = now (links .exit); table = now (table .exit); distances = now (distances .exit) }
+        ≡ hostPlace (placeAt (firstEdition (now (pattern .entry))) (firstEdition (now (board .entry))) centre
+        (radiusOf (circuitOf (firstEdition (now (pattern .entry)))))
+        (now (nodes .entry)) (now (links .entry)) (now (table .entry)) (now (distances .entry))) ⌝ }
+{
+    heronditch_place_editions(
+        pattern,
+        FIRST,
+        board,
+        FIRST,
+        centre,
+        nodes,
+        links,
+        table,
+        distances,
+    )
+}
+
+// The same at a radius given.
+#[no_mangle]
+pub extern "C" fn heronditch_place_within(
+    pattern: &[u8],
+    board: &[u8],
+    centre: usize,
+    radius: u16,
+    nodes: &mut [u8],
+    links: &mut [u8],
+    table: &mut [u32],
+    distances: &mut [u16],
+) -> Counted
+    ensures { λ r. ⌜ record { reply = r; nodes = now (nodes .exit); links = now (links .exit); table = now (table .exit); distances = now (distances .exit) }
+        ≡ hostPlace (placeAt (firstEdition (now (pattern .entry))) (firstEdition (now (board .entry))) centre radius
+        (now (nodes .entry)) (now (links .entry)) (now (table .entry)) (now (distances .entry))) ⌝ }
+{
+    heronditch_place_within_editions(
+        pattern,
+        FIRST,
+        board,
+        FIRST,
+        centre,
+        radius,
+        nodes,
+        links,
+        table,
+        distances,
+    )
+}
+
+// Checks a place from elsewhere: replies with 1 where the marked nodes and links are a perfect subgraph around the centre at the pattern's radius,
+// largest or not, and else with 0.
+#[no_mangle]
+pub extern "C" fn heronditch_check(
+    pattern: &[u8],
+    pattern_edition: u32,
+    board: &[u8],
+    board_edition: u32,
+    centre: usize,
+    nodes: &[u8],
+    links: &[u8],
+) -> HostReply
+    ensures { λ r. ⌜ r ≡ slots (checkCall (told (now (pattern .entry)) «pattern_edition») (told (now (board .entry)) «board_edition») centre
+        (now (nodes .entry)) (now (links .entry))) ⌝ }
+{
+    of_check(call_check::check(
+        editions_of(pattern_edition, board_edition),
+        pattern,
+        board,
+        centre,
+        nodes,
+        links,
+    ))
+}
+
+// Says why there is no place around a node of the board, by few of the pattern's links: a byte for each, 1 for kept. Replies with how many are 1.
+#[no_mangle]
+pub extern "C" fn heronditch_bar(
+    pattern: &[u8],
+    pattern_edition: u32,
+    board: &[u8],
+    board_edition: u32,
+    centre: usize,
+    out: &mut [u8],
+) -> HostReply
+    ensures { λ r. ⌜ record { reply = r; out = now (out .exit) }
+        ≡ hostBar (barCall (told (now (pattern .entry)) «pattern_edition») (told (now (board .entry)) «board_edition») centre (now (out .entry))) ⌝ }
+{
+    of_bar(call_barring::bar(
+        editions_of(pattern_edition, board_edition),
+        pattern,
+        board,
+        centre,
+        out,
+    ))
+}
+// Puts a piece of the report of a pattern on a board: the lines of the centres from a node on, and the last line where the centres are done.
+#[no_mangle]
+pub extern "C" fn heronditch_report_editions(
+    pattern: &[u8],
+    pattern_edition: u32,
+    board: &[u8],
+    board_edition: u32,
+    from: usize,
+    found: u16,
+    out: &mut [u8],
+) -> Piece
+    ensures { λ r. ⌜ record { reply = r; out = now (out .exit) }
+        ≡ hostReport (reporting (told (now (pattern .entry)) «pattern_edition») (told (now (board .entry)) «board_edition») from found (now (out .entry))) ⌝ }
+{
+    of_report(call_report::report(
+        editions_of(pattern_edition, board_edition),
+        pattern,
+        board,
+        from,
+        found,
+        out,
+    ))
+}
+
+// The same of files of the first edition.
+#[no_mangle]
+pub extern "C" fn heronditch_report(
+    pattern: &[u8],
+    board: &[u8],
+    from: usize,
+    found: u16,
+    out: &mut [u8],
+) -> Piece
+    ensures { λ r. ⌜ record { reply = r; out = now (out .exit) }
+        ≡ hostReport (reporting (firstEdition (now (pattern .entry))) (firstEdition (now (board .entry))) from found (now (out .entry))) ⌝ }
+{
+    heronditch_report_editions(pattern, FIRST, board, FIRST, from, found, out)
+}

@@ -1,0 +1,21 @@
+-- `loader::heard` meets its contract. Assumes nothing.
+use lib.Dec.{lit<}
+use Rattle.output.proofs.Errors.{error-is, error-not}
+use Rattle.loader.specs.Printing.{heardOf}
+use borrow.Author.Needs.{needs}
+use Rattle.loader.proofs.heard.Statement.{statement}
+use Rattle.loader.proofs.heard.Tie as tie
+
+returns : tie.Need-returns
+unfolding heardOf
+returns c = rw (error-not 0 (c .before .before .args .error) (c .if1 .taken))
+
+number-requires : tie.Need-number-requires
+number-requires c κs = search needs
+
+returns-2 : tie.Need-returns-2
+unfolding heardOf
+returns-2 c = rw (error-is 0 (c .before .before .before .args .error) (c .before .before .before .fits .error) (lit< tt) (c .before .if1 .left)) (c .number .ensures)
+
+pub heard-spec : {M : Type 1} → statement M
+heard-spec = tie.close (tie.spec returns number-requires returns-2)

@@ -1,0 +1,22 @@
+-- `shelf::ended` meets its contract. Assumes nothing.
+use Rattle.shelf.specs.Printing.{endedOf}
+use borrow.Author.Needs.{needs}
+use Rattle.shelf.proofs.ended.Statement.{statement}
+use Rattle.shelf.proofs.ended.Tie as tie
+
+returns : tie.Need-returns
+unfolding endedOf
+returns c = rw (c .if1 .taken)
+
+slice-aggregate-fail : tie.Need-slice-aggregate-fail
+slice-aggregate-fail c = search needs
+
+fail-requires : tie.Need-fail-requires
+fail-requires c κs = search needs
+
+returns-2 : tie.Need-returns-2
+unfolding endedOf
+returns-2 c = rw (c .before .before .if1 .left)
+
+pub ended-spec : {M : Type 1} → statement M
+ended-spec = tie.close (tie.spec returns slice-aggregate-fail fail-requires returns-2)
