@@ -10,6 +10,12 @@ from model import Circuit, encode
 T = Circuit([10, 20, 30], [0, 1], [1, 2])
 B = Circuit([10, 20, 30, 20, 30, 10], [0, 1, 3], [1, 2, 4])
 
+# the examples of document 01's table of refusals, 1 to 6
+REFUSED = [
+    bytes.fromhex(text)
+    for text in ("020001", "00000000", "01000000", "010001000A0000000100", "010002000A000000000000000000", "020000000A001400")
+]
+
 
 def path(n, kind=7):
     return Circuit([kind] * n, list(range(n - 1)), list(range(1, n)))
@@ -37,16 +43,9 @@ def read_cases():
 
     both = ("pattern", "board")
     # the table of refusals in document 01
-    for text in (
-        "020001",
-        "00000000",
-        "01000000",
-        "010001000A0000000100",
-        "010002000A000000000000000000",
-        "020000000A001400",
-    ):
+    for data in REFUSED:
         for role in both:
-            case(role, bytes.fromhex(text))
+            case(role, data)
     case("board", encode(B), 2)
     case("pattern", encode(T), 2)
     # 0 to 5 bytes
@@ -164,16 +163,8 @@ def distance_cases():
         out.append((bytes(data), queries))
 
     # the table of refusals in document 01, with a centre and a table that would be refused too
-    for text in (
-        "",
-        "020001",
-        "00000000",
-        "01000000",
-        "010001000A0000000100",
-        "010002000A000000000000000000",
-        "020000000A001400",
-    ):
-        case(bytes.fromhex(text), (0, 1, 40), (9, 1, 0))
+    for data in (b"", *REFUSED):
+        case(data, (0, 1, 40), (9, 1, 0))
     # each centre of small circuits, at radius 0, 1, the pattern's and 65,535; tables just long enough, short, and longer
     y = circuit_of(3, [(0, 1), (0, 2)])
     for circuit in (
