@@ -1,8 +1,5 @@
 -- Examples of the least that still says none, by computation. Assumes nothing.
-use mathlib.Core.Bool.{not}
-use mathlib.Core.List.{List, [], _∷_}
-use mathlib.Core.Path.{_≡_, refl}
-use Prim.Native.Nat.{ℕ}
+use Rattle.base_lists.specs.Kit.{_≡_, refl, List, [], _∷_, ℕ}
 use Rattle.base_lists.specs.List.{maximum}
 use Rattle.base_lists.specs.Below.{keepFrom}
 use Rattle.graph.specs.Chosen.{picked, chosen}

@@ -1,19 +1,11 @@
 -- The kept links bar, and with any one or more of them taken away the rest does not. Where there is no place all links together bar, which is
 -- why the procedure can begin. Assumes nothing.
-use mathlib.Core.Bool.{false, not}
-use mathlib.Core.List.{List}
-use mathlib.Core.Logic.{_↔_}
-use mathlib.Core.Path.{_≡_, refl, sym, ap, subst, _∙_}
-use Prim.Native.Nat.{ℕ, zero, suc, _≤_, _<_, zero-le}
+use Rattle.base_lists.specs.Kit.{_≡_, _∙_, sym, ap, refl, subst, _↔_, false, not, List, ℕ, _≤_, _<_, suc, zero, zero-le, T, length, getD, set, List·getD-eq-default, length-replicate, getD-replicate, arith, eq-eqb, ne-eqb}
 use native.Mathlib.Decide.{decLt}
-use native.Mathlib.Omega.{arith}
-use lib.Dec.{T}
-use lib.ListN.{length, getD, set, length-replicate, getD-replicate, List·getD-eq-default}
-use borrow.Author.Tests.{eq-eqb, ne-eqb}
 use Rattle.base_lists.specs.Below.{countBelow}
 use Rattle.base_lists.proofs.Below.{countBelow-same}
 use Rattle.base_lists.proofs.Tests.{true-T, T-false, false-T}
-use Rattle.graph.specs.Chosen.{chosen, ChosenLink}
+use Rattle.graph.specs.Chosen.{ChosenLink}
 use Rattle.graph.specs.Circuit.{Circuit, LinkAt, HasLink, graphOf, circuitGraph}
 use Rattle.graph.specs.Graph.{Graph, Radius}
 use Rattle.graph.specs.Search.{inside}
@@ -26,9 +18,9 @@ use Rattle.table.specs.Host.{KindsMatch}
 use Rattle.place.specs.Match.{found}
 use Rattle.place.proofs.Ball.{Admissible, ballGraph}
 use Rattle.barring.specs.Barring.{BarsIn, Bars}
-use Rattle.barring.specs.Least.{bars, dropFrom, allLinks, least, keptCount}
+use Rattle.barring.specs.Least.{bars, allLinks, least, keptCount}
 use Rattle.barring.proofs.Meaning.{not-both, none-not, chosen-largest, bars-none, barring-more, bars-iff, bars-upward}
-use Rattle.barring.proofs.Procedure.{length-drop, drop-passes, drop-needed, without-it, without-other}
+use Rattle.barring.proofs.Procedure.{length-drop, drop-passes, drop-needed, without-other}
 
 -- the same links, said in another way
 bars-same : {P : Graph} {Agree : Relation} {H : Graph} {w : ℕ} {L L′ : Relation} → L ⊆ L′ → L′ ⊆ L → BarsIn P Agree H w L → BarsIn P Agree H w L′

@@ -1,16 +1,8 @@
 -- The test of chosen links means barring: it says whether the largest set of pairs that meets kinds and those links alone has a pair with the
 -- centre. Assumes nothing.
-use mathlib.Core.Bool.{Bool, true, false, not}
-use mathlib.Core.List.{List}
-use mathlib.Core.Logic.{_↔_}
-use mathlib.Core.Path.{_≡_, refl, sym, ap, _∙_}
-use Prim.Native.Nat.{ℕ, _≤_, _<_}
-use lib.Dec.{T}
-use lib.ListN.{length}
-use Rattle.base_lists.proofs.Tests.{T-false, true-T, false-T, T-true}
+use Rattle.base_lists.specs.Kit.{_≡_, _∙_, _↔_, Bool, false, true, not, List, ℕ, _≤_, _<_, T, length}
 use Rattle.graph.specs.Chosen.{chosen, ChosenLink}
-use Rattle.graph.specs.Circuit.{Circuit, HasLink, graphOf, circuitGraph}
-use Rattle.graph.specs.Search.{inside}
+use Rattle.graph.specs.Circuit.{Circuit, graphOf, circuitGraph}
 use Rattle.graph.proofs.Ball.{Within}
 use Rattle.graph.proofs.Chosen.{chosen-iff}
 use Rattle.simulation.specs.Closed.{Relation, _⊆_, LargestClosed}

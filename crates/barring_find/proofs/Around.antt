@@ -1,12 +1,5 @@
 -- From the ball's list and first table to the trials, and from the trial of all links to whether the centre has a place. Assumes nothing.
-use mathlib.Core.Bool.{Bool, true, false, not}
-use mathlib.Core.List.{List, _++_}
-use mathlib.Core.Path.{_≡_, sym, ap, subst, _∙_}
-use Prim.Native.Nat.{ℕ, _≤_, _<_}
-use native.Mathlib.Omega.{arith}
-use borrow.Author.Tests.{not-true, not-false}
-use lib.ListN.{length, take, length-append}
-use lib.Seq.{take-at, take-append-le}
+use Rattle.base_lists.specs.Kit.{_≡_, _∙_, sym, ap, subst, Bool, false, true, not, List, _++_, ℕ, _≤_, _<_, length, take, length-append, take-at, take-append-le, arith, not-false, not-true}
 use Rattle.graph.specs.Circuit.{Circuit}
 use Rattle.graph.specs.Net.{NetOf}
 use Rattle.file_format.specs.declared.Role.the-variants as role

@@ -1,12 +1,5 @@
 -- Where the dropping of links stands. Assumes nothing.
-use mathlib.Core.Bool.{Bool, true, false, cond}
-use mathlib.Core.List.{List, _∷_, _++_}
-use mathlib.Core.Path.{_≡_, refl, sym, ap, subst, _∙_}
-use Prim.Native.Nat.{ℕ, zero, suc, _+_, _-_, _≤_, _<_}
-use native.Mathlib.Numerals.{add-one}
-use native.Mathlib.Omega.{arith}
-use lib.ListN.{length, getD, take, drop, set, length-set, replicate, length-replicate, getD-replicate}
-use lib.Seq.{getD-set-other, set-set, set-getD, take-at}
+use Rattle.base_lists.specs.Kit.{_≡_, _∙_, sym, ap, refl, subst, Bool, false, true, cond, List, _∷_, _++_, ℕ, _≤_, _<_, _+_, _-_, suc, zero, add-one, length, getD, take, set, length-set, length-replicate, getD-replicate, getD-set-other, set-getD, set-set, arith}
 use Rattle.graph.specs.Circuit.{Circuit, circuit}
 use Rattle.barring.specs.Least.{bars, dropFrom, allLinks, least}
 use Rattle.barring_find.specs.Trial.{Tried, EveryBars}

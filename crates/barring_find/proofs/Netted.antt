@@ -1,8 +1,5 @@
 -- Over a board's neighbour tables the search lists the ball. Assumes nothing.
-use mathlib.Core.List.{List}
-use mathlib.Core.Path.{_≡_}
-use Prim.Native.Nat.{ℕ, _≤_, _<_}
-use lib.ListN.{length, take}
+use Rattle.base_lists.specs.Kit.{_≡_, List, ℕ, _≤_, _<_, length, take}
 use Rattle.base_lists.specs.List.{Below}
 use Rattle.graph.specs.Bfs.{bfs, adjacent, Found}
 use Rattle.graph.specs.Circuit.{Circuit}

@@ -1,18 +1,11 @@
 -- From what a trial starts from to what it says. Assumes nothing.
-use mathlib.Core.Bool.{Bool, true, false, cond, Bool·not-not}
-use mathlib.Core.List.{List, _++_}
-use mathlib.Core.Path.{_≡_, refl, sym, ap, subst, _∙_}
-use Prim.Native.Nat.{ℕ, _≤_, _<_}
-use native.Mathlib.Omega.{arith}
-use lib.Dec.{eqb}
-use lib.ListN.{length, getD, take, drop}
-use lib.Seq.{take-at}
+use Rattle.base_lists.specs.Kit.{_≡_, _∙_, sym, ap, refl, subst, Bool, false, true, cond, Bool·not-not, List, _++_, ℕ, _≤_, _<_, eqb, length, getD}
 use Rattle.base_lists.specs.List.{Below}
 use Rattle.base_lists.proofs.Tables.{length-tabulate, getD-tabulate, tabulate-same}
 use Rattle.graph.specs.Chosen.{picked, chosen}
 use Rattle.graph.specs.Circuit.{Circuit}
 use Rattle.graph.proofs.Below.{below-wider}
-use Rattle.graph.proofs.Chosen.{length-picked, picked-below}
+use Rattle.graph.proofs.Chosen.{picked-below}
 use Rattle.graph.proofs.Groups.{all-below}
 use Rattle.file_format.proofs.Accepted.{bounded-starts, bounded-ends}
 use Rattle.table.specs.Fill.{listed, marksOf, tableAt}

@@ -1,8 +1,5 @@
 -- The ball around a centre, listed, and the pairs that agree there. Whose links the neighbour tables are of need not be handed on.
-use mathlib.Core.List.{List}
-use mathlib.Core.Path.{_≡_}
-use Prim.Native.Nat.{ℕ, _≤_}
-use lib.ListN.{length, take}
+use Rattle.base_lists.specs.Kit.{_≡_, List, ℕ, _≤_, length, take}
 use Rattle.base_lists.specs.List.{Below}
 use Rattle.graph.specs.Circuit.{Circuit, circuit}
 use Rattle.graph.specs.Net.{NetOf}

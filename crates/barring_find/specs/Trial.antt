@@ -1,11 +1,6 @@
 -- What a trial starts from, in the ball around a centre, and what it says. Whose kinds the first table is of need not be handed on: the contracts
 -- ask for some pattern and board, and promise for every one.
-use mathlib.Core.Bool.{Bool}
-use mathlib.Core.List.{List}
-use mathlib.Core.Path.{_≡_}
-use Prim.Native.Nat.{ℕ, _≤_, _<_}
-use lib.Dec.{eqb}
-use lib.ListN.{length, getD}
+use Rattle.base_lists.specs.Kit.{_≡_, Bool, List, ℕ, _≤_, _<_, eqb, length, getD}
 use Rattle.graph.specs.Circuit.{Circuit, circuit}
 use Rattle.graph.specs.Net.{NetOf}
 use Rattle.file_format.specs.declared.Role.the-variants as role

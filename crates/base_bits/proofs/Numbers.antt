@@ -1,16 +1,8 @@
 -- A number by its digits: sums and differences of sets, and the number whose digits are those that pass a test. Assumes nothing.
-use mathlib.Core.Bool.{Bool, true, false, _&&_, _||_, not, cond, and-true, and-false, or-false}
-use mathlib.Core.Logic.{_⊎_, inl, inr}
-use mathlib.Core.Path.{_≡_, refl, sym, ap, _∙_, subst}
-use Prim.Native.Nat.{ℕ, zero, suc, _+_, _-_, _*_, _^_, _≤_, _<_}
-use native.Mathlib.Nat.{le-of-suc-le-suc, not-suc-le-zero, le-refl, le-trans, le-add-left, le-of-eq, add-zero, eq-or-lt-of-le, eq-sub-of-add-eq, lt-of-lt-of-le, ne-of-lt, pow-suc}
-use native.Mathlib.Numerals.{add-one}
+use Rattle.base_lists.specs.Kit.{_≡_, _∙_, sym, ap, refl, subst, _⊎_, inl, inr, Bool, false, true, cond, _&&_, not, _||_, and-true, or-false, and-false, ℕ, _≤_, _<_, _+_, _-_, suc, zero, _*_, _^_, not-suc-le-zero, le-refl, le-of-suc-le-suc, le-trans, le-of-eq, eq-or-lt-of-le, add-zero, lt-of-lt-of-le, pow-suc, eq-sub-of-add-eq, le-add-left, ne-of-lt, add-one, T, eqb, eqb→eq, arith, eq-eqb, ne-eqb, eqb-true}
 use native.Mathlib.Decide.{decLt}
-use native.Mathlib.Omega.{arith}
 use lib.Bits.{bitAnd, bitOr, or-disjoint}
-use lib.Dec.{T, eqb, eqb→eq}
 use lib.Pow.{pow-pos, pow-mono}
-use borrow.Author.Tests.{eqb-true, eq-eqb, ne-eqb}
 use Rattle.base_bits.specs.Bits.{bit, numberOf, Subset}
 use Rattle.base_bits.proofs.Digits.{bit-of-zero, bit-above, same-bits, same-bits-below, lt-pow, bit-and, bit-or, bit-single}
 
@@ -141,9 +133,6 @@ bit-minus a b s u = ap (λ (x : ℕ). bit x u) (sym (eq-sub-of-add-eq (rest a b)
 
 single-subset : (a u : ℕ) → T (bit a u) → Subset (2 ^ u) a
 single-subset a u t v s = subst (λ (w : ℕ). T (bit a w)) (sym (eqb→eq v u (rw bit-single at s))) t
-
-pub bit-le : (a u : ℕ) → T (bit a u) → 2 ^ u ≤ a
-bit-le a u t = subset-le a (2 ^ u) (single-subset a u t)
 
 pub bit-sub : (a u v : ℕ) → T (bit a u) → bit (a - 2 ^ u) v ≡ bit a v && not (eqb v u)
 bit-sub a u v t = bit-minus a (2 ^ u) (single-subset a u t) v ∙ rw bit-single

@@ -1,11 +1,7 @@
 -- The parts of a set that pass a test, taken one after another. Assumes nothing.
-use mathlib.Core.Bool.{Bool, true, false, _&&_, _||_, not, cond, and-true, and-false, or-false}
-use mathlib.Core.Path.{_≡_, refl, sym, ap, ap₂, _∙_}
-use Prim.Native.Nat.{ℕ, zero, _^_, _<_}
+use Rattle.base_lists.specs.Kit.{_≡_, _∙_, sym, ap, refl, ap₂, Bool, false, true, cond, _&&_, not, _||_, and-true, or-false, and-false, ℕ, _<_, zero, _^_, eqb, eqb-true}
 use lib.Bits.{bitOr, or-lt}
-use lib.Dec.{eqb}
 use lib.Pow.{pow-pos, pow-lt}
-use borrow.Author.Tests.{eqb-true}
 use Rattle.base_lists.proofs.Tests.{both-left, T-true}
 use Rattle.base_bits.specs.Bits.{bit, numberOf, Subset, firstOf, withoutFirst}
 use Rattle.base_bits.proofs.Digits.{bit-of-zero, bit-below, bit-or, bit-single, same-bits-below}

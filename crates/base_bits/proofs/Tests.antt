@@ -1,10 +1,6 @@
 -- Tests of whole sets by one operation on numbers: empty, included, with a common part. Assumes nothing.
-use mathlib.Core.Bool.{Bool, true, false, _&&_, _||_, not, Bool·not-not, and-self, or-assoc}
-use mathlib.Core.Path.{_≡_, refl, sym, ap, _∙_, subst}
-use Prim.Native.Nat.{ℕ, zero, _^_, _<_}
+use Rattle.base_lists.specs.Kit.{_≡_, _∙_, sym, ap, refl, subst, Bool, false, true, _&&_, not, _||_, Bool·not-not, or-assoc, and-self, ℕ, _<_, zero, _^_, T, eqb, eqb→eq, not-T, T-not, eq-eqb}
 use lib.Bits.{bitAnd, bitOr, and-lt}
-use lib.Dec.{T, eqb, eqb→eq, not-T, T-not}
-use borrow.Author.Tests.{eq-eqb}
 use Rattle.base_lists.specs.List.{allBelow, anyBelow}
 use Rattle.base_lists.proofs.Tests.{both-left, both-right, T-true, T-false, true-T, false-T, same-test, at-allBelow, allBelow-at, at-anyBelow, anyBelow-at}
 use Rattle.base_lists.proofs.Below.{anyBelow-same}

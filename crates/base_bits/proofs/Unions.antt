@@ -1,12 +1,7 @@
 -- The union of the sets that a table gives to the parts of a set. Assumes nothing.
-use mathlib.Core.Bool.{Bool, _&&_, _||_}
-use mathlib.Core.List.{List, [], _∷_}
-use mathlib.Core.Path.{_≡_, sym, ap, _∙_}
-use Prim.Native.Nat.{ℕ, zero, _-_, _^_, _<_}
-use lib.Bits.{bitAnd, bitOr, or-lt}
+use Rattle.base_lists.specs.Kit.{_≡_, _∙_, sym, ap, Bool, _&&_, _||_, List, [], _∷_, ℕ, _<_, _-_, zero, _^_, getD}
+use lib.Bits.{bitAnd, bitOr}
 use lib.Count.{trailingZeros}
-use lib.ListN.{getD}
-use lib.Pow.{pow-pos}
 use Rattle.base_lists.specs.List.{any, anyBelow}
 use Rattle.base_bits.specs.Bits.{bit, members, unionAt, unionOver}
 use Rattle.base_bits.proofs.Digits.{bit-of-zero, bit-or}
@@ -23,11 +18,6 @@ bit-unionAt masks (u ∷ us) v =
 pub bit-unionOver : (masks : List ℕ) (x v : ℕ) → bit (unionOver masks x) v ≡ anyBelow 32 (λ u. bit x u && bit (getD masks u 0) v)
 unfolding unionOver
 bit-unionOver masks x v = bit-unionAt masks (members x) v ∙ any-members (λ u. bit (getD masks u 0) v) x
-
-unionAt-lt : (n : ℕ) (masks us : List ℕ) → ((u : ℕ) → getD masks u 0 < 2 ^ n) → unionAt masks us < 2 ^ n
-unfolding unionAt
-unionAt-lt n masks [] h = pow-pos n
-unionAt-lt n masks (u ∷ us) h = or-lt n (getD masks u 0) (unionAt masks us) (h u) (unionAt-lt n masks us h)
 
 pub unionOver-none : (masks : List ℕ) → unionOver masks zero ≡ zero
 unfolding unionOver unionAt

@@ -1,13 +1,5 @@
 -- Laws of the numbers below a bound that pass a test. Assumes nothing.
-use mathlib.Core.Bool.{Bool, true, false, _&&_, _||_, not, cond, and-true, or-false, or-assoc}
-use mathlib.Core.List.{List, [], _∷_, _++_}
-use mathlib.Core.Path.{_≡_, refl, sym, ap, ap₂, _∙_}
-use Prim.Native.Nat.{ℕ, zero, suc, _+_, _≤_, _<_, zero-le, suc-le-suc}
-use native.Mathlib.Nat.{le-of-suc-le-suc, not-suc-le-zero, zero-lt-suc, zero-add, add-zero, add-suc, le-antisymm, lt-of-not-le, lt-of-le-of-lt}
-use native.Mathlib.Numerals.{one-add}
-use native.Mathlib.Omega.{arith}
-use lib.Dec.{T, eqb, eqb·suc-zero, eqb·suc-suc}
-use lib.ListN.{length}
+use Rattle.base_lists.specs.Kit.{_≡_, _∙_, sym, ap, refl, ap₂, Bool, false, true, cond, _&&_, not, _||_, and-true, or-false, or-assoc, List, [], _∷_, _++_, ℕ, _≤_, _<_, _+_, suc, zero, zero-le, suc-le-suc, not-suc-le-zero, le-of-suc-le-suc, zero-lt-suc, add-zero, zero-add, le-antisymm, add-suc, lt-of-le-of-lt, lt-of-not-le, one-add, T, eqb, eqb·suc-suc, eqb·suc-zero, length, arith}
 use Rattle.base_lists.specs.List.{any, allBelow, anyBelow}
 use Rattle.base_lists.specs.Below.{countBelow, leastBelow, collect}
 use Rattle.base_lists.proofs.Tests.{T-true, true-T, false-T}

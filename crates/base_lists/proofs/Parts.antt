@@ -1,10 +1,5 @@
 -- Laws of a stretch of a list. Assumes nothing.
-use mathlib.Core.List.{List, _++_}
-use mathlib.Core.Path.{_≡_, ap, _∙_}
-use Prim.Native.Nat.{ℕ, _+_, _≤_}
-use native.Mathlib.Omega.{arith}
-use lib.ListN.{length, take, drop, length-append, length-take, length-drop}
-use lib.Seq.{take-at, drop-at}
+use Rattle.base_lists.specs.Kit.{_≡_, _∙_, ap, List, _++_, ℕ, _≤_, _+_, length, take, drop, length-append, length-drop, length-take, take-at, drop-at, arith}
 use Rattle.base_lists.specs.List.{part}
 
 -- it has no more entries than asked for

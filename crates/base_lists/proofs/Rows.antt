@@ -1,11 +1,5 @@
 -- Rows of numbers: their sum and their largest entry, and sequences of rows (or of anything) that come to rest. Assumes nothing.
-use mathlib.Core.List.{List, [], _∷_}
-use mathlib.Core.Logic.{_⊎_, inl, inr, ⊎-elim}
-use mathlib.Core.Path.{_≡_, refl, sym, ap, subst, _∙_}
-use Prim.Native.Nat.{ℕ, zero, suc, _+_, _≤_, _<_, max, zero-le, suc-le-suc}
-use native.Mathlib.Nat.{le-of-suc-le-suc, not-suc-le-zero, zero-lt-suc, eq-or-lt-of-le, le-antisymm, suc-inj, le-max-left}
-use native.Mathlib.Omega.{arith}
-use lib.ListN.{length, getD}
+use Rattle.base_lists.specs.Kit.{_≡_, _∙_, sym, ap, refl, subst, ⊎-elim, _⊎_, inl, inr, List, [], _∷_, ℕ, _≤_, _<_, _+_, suc, zero, zero-le, suc-le-suc, max, not-suc-le-zero, le-of-suc-le-suc, zero-lt-suc, eq-or-lt-of-le, le-antisymm, suc-inj, le-max-left, length, getD, arith}
 use Rattle.base_lists.specs.List.{tabulate, sum, maximum}
 use Rattle.base_lists.proofs.Tables.{length-tabulate, getD-tabulate}
 

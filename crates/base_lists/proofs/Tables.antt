@@ -1,12 +1,5 @@
 -- Laws of lists made from a rule. Assumes nothing.
-use mathlib.Core.List.{List, [], _∷_, _++_, append-nil}
-use mathlib.Core.Path.{_≡_, refl, sym, ap, _∙_}
-use Prim.Native.Nat.{ℕ, zero, suc, _+_, _≤_, _<_}
-use native.Mathlib.Nat.{zero-add, suc-add, le-of-suc-le-suc, not-suc-le-zero, le-of-eq}
-use native.Mathlib.Numerals.{add-one}
-use native.Mathlib.Omega.{arith}
-use lib.ListN.{length, getD, take, drop, set, length-append, length-drop, drop-of-length-le}
-use lib.Seq.{ext-getD, drop-cons, set-at, append-snoc, take-at}
+use Rattle.base_lists.specs.Kit.{_≡_, _∙_, sym, ap, refl, List, [], _∷_, _++_, append-nil, ℕ, _≤_, _<_, _+_, suc, zero, not-suc-le-zero, le-of-suc-le-suc, le-of-eq, zero-add, suc-add, add-one, length, getD, take, drop, set, length-append, length-drop, drop-of-length-le, take-at, drop-cons, ext-getD, set-at, append-snoc, arith}
 use Rattle.base_lists.specs.List.{tabulate}
 
 pub length-tabulate : (n : ℕ) (f : ℕ → ℕ) → length (tabulate n f) ≡ n

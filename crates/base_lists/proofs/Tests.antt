@@ -1,12 +1,5 @@
 -- What the Boolean tests of specs/List mean, and how they are taken apart and put together. Assumes nothing.
-use mathlib.Core.Bool.{Bool, true, false, _&&_, _||_, not}
-use mathlib.Core.List.{List, [], _∷_}
-use mathlib.Core.Logic.{_⊎_, inl, inr}
-use mathlib.Core.Path.{_≡_, refl, sym, subst}
-use Prim.Native.Nat.{ℕ, zero, suc, _<_, suc-le-suc}
-use native.Mathlib.Nat.{le-of-suc-le-suc, not-suc-le-zero, zero-lt-suc}
-use lib.Dec.{T}
-use lib.ListN.{length, getD}
+use Rattle.base_lists.specs.Kit.{_≡_, sym, refl, subst, _⊎_, inl, inr, Bool, false, true, _&&_, not, _||_, List, [], _∷_, ℕ, _<_, suc, zero, suc-le-suc, not-suc-le-zero, le-of-suc-le-suc, zero-lt-suc, T, length, getD}
 use Rattle.base_lists.specs.List.{all, any, allBelow, anyBelow}
 
 -- ---- both, either, not

@@ -1,18 +1,9 @@
 -- Laws of text written into a table, pieces one after another, the room that they need, and the whole table; of decimal numerals; and of
 -- names.
 -- Assumes nothing.
-use mathlib.Core.Bool.{Bool, true, false, cond}
-use mathlib.Core.List.{List, [], _∷_, _++_}
-use mathlib.Core.Path.{_≡_, refl, sym, ap, _∙_}
-use Prim.Native.Nat.{ℕ, zero, suc, _+_, _*_, _/_, _%_, _^_, _≤_, _<_}
-use native.Mathlib.Nat.{le-of-eq, zero-add, pow-suc}
-use native.Mathlib.Omega.{arith}
-use borrow.Author.Tests.{ltb-true, ltb-false, lt-ltb, le-ltb}
-use lib.Dec.{ltb}
-use lib.ListN.{length, getD, set, drop, length-append}
-use lib.Seq.{sets, length-sets, sets-eq}
+use Rattle.base_lists.specs.Kit.{_≡_, _∙_, sym, ap, refl, Bool, false, true, cond, List, [], _∷_, _++_, ℕ, _≤_, _<_, _+_, suc, zero, _*_, _^_, _/_, _%_, le-of-eq, zero-add, pow-suc, ltb, length, getD, drop, set, length-append, sets, sets-eq, length-sets, arith, le-ltb, lt-ltb, ltb-false, ltb-true}
 use Rattle.base_lists.proofs.Tables.{getD-tabulate}
-use Rattle.base_text.specs.Text.{bytes, digits, decimal, fourBytes, nameOf, Names, Put, Fits}
+use Rattle.base_text.specs.Text.{digits, decimal, fourBytes, nameOf, Names, Put, Fits}
 
 -- ---- writing
 
@@ -124,11 +115,6 @@ length-decimal (suc k) x h = go (ltb x 10) refl (length-decimal k (x / 10))
     go false p r =
         let most : x < 10 ^ suc k * 10 = rw (pow-suc 10 (suc k)) at h in
         omega (arith, length-more x (ltb-false x 10 p), r (omega arith))
-
--- numerals as one writes them
-pub numerals : (decimal 0 ≡ bytes "0") × (decimal 10 ≡ bytes "10") × (decimal 512 ≡ bytes "512")
-unfolding decimal digits bytes
-numerals = (refl, refl, refl)
 
 -- ---- names
 

@@ -1,14 +1,8 @@
 -- Text as bytes: words and decimal numerals; and text written into a table from an offset on.
-use mathlib.Core.Bool.{cond}
-use mathlib.Core.List.{List, [], _∷_, _++_}
-use mathlib.Core.Path.{_≡_}
+use Rattle.base_lists.specs.Kit.{_≡_, cond, List, [], _∷_, _++_, ℕ, _≤_, _+_, suc, zero, _*_, _/_, _%_, ltb, length, sets}
 use Prim.Native.Char.{code}
-use Prim.Native.Nat.{ℕ, zero, suc, _+_, _*_, _/_, _%_, _≤_}
 use Prim.Native.String.{String}
 use Prim.Native.String as string
-use lib.Dec.{ltb}
-use lib.ListN.{length}
-use lib.Seq.{sets}
 use Rattle.base_lists.specs.List.{tabulate}
 
 -- A word's bytes: the number of each character, which is its byte where the characters are ASCII's.

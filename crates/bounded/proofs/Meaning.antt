@@ -1,34 +1,24 @@
 -- The row of a pattern with bounds is that of closed sets whose labels are a direction and a bound; so its answer is the largest bounded
 -- simulation. Assumes nothing.
-use mathlib.Core.List.{List}
-use mathlib.Core.Logic.{_↔_, inl, inr, Iff·rfl, Iff·trans}
-use mathlib.Core.Path.{_≡_, refl, sym, subst}
-use Prim.Native.Nat.{ℕ, zero, suc, _≤_, _<_}
-use native.Mathlib.Omega.{arith}
-use lib.Dec.{T, eqb, eqb→eq}
-use lib.ListN.{length, getD}
-use borrow.Author.Tests.{eq-eqb}
+use Rattle.base_lists.specs.Kit.{_≡_, refl, _↔_, inl, inr, Iff·rfl, Iff·trans, List, ℕ, _≤_, _<_, suc, zero, eqb, eqb→eq, length, getD, arith, eq-eqb}
 use Rattle.base_lists.specs.List.{Occurs}
-use Rattle.base_lists.specs.Below.{keepFrom}
 use Rattle.base_lists.proofs.Tests.{true-T}
-use Rattle.graph.specs.Graph.{Graph}
-use Rattle.graph.specs.Circuit.{Circuit, LinkAt, HasLink, graphOf, circuitGraph}
+use Rattle.graph.specs.Circuit.{Circuit, HasLink, graphOf, circuitGraph}
 use Rattle.graph.proofs.Groups.{select-mem, select-mem-back}
 use Rattle.simulation.specs.Closed.{Relation, _⊆_, Closed, Occurring}
-use Rattle.simulation.specs.Simulation.{Candidate, Direction, forwards, backwards, Along}
+use Rattle.simulation.specs.Simulation.{Direction, forwards, backwards, Along}
 use Rattle.simulation.proofs.Simulation.{along-wider}
-use Rattle.table_row.specs.Problem.{Problem, Way, Agreeing, StepOf, MoveOf}
-use Rattle.table_row.specs.Reading.{InTable, Reading, LargestOccurring}
+use Rattle.table_row.specs.Problem.{Way, Agreeing}
+use Rattle.table_row.specs.Reading.{InTable, Reading}
 use Rattle.table_row.proofs.Answer as Of
 use Rattle.table.specs.Host.{KindsMatch}
-use Rattle.table.specs.Row.{agrees, neighbours}
+use Rattle.table.specs.Row.{neighbours}
 use Rattle.table.proofs.Agreement.{agrees-kinds}
-use Rattle.bounded.specs.Path.{PathWithin}
-use Rattle.bounded.specs.Simulation.{BoundedGraph, BoundedSimulation, LargestBounded}
-use Rattle.bounded.specs.Problem.{Bounds, boundedGraph, ofBound, within, Label, labelled, everyLabel, boundedProblem, boundedTable}
+use Rattle.bounded.specs.Simulation.{BoundedSimulation, LargestBounded}
+use Rattle.bounded.specs.Problem.{Bounds, boundedGraph, ofBound, within, labelled, everyLabel, boundedProblem, boundedTable}
 use Rattle.bounded.specs.Run.{Steps, Moves, Candidates}
 use Rattle.graph.proofs.Chosen.{kept-iff}
-use Rattle.bounded.proofs.Paths.{Near, within-wider, within-along, within-iff}
+use Rattle.bounded.proofs.Paths.{within-wider, within-along, within-iff}
 
 -- ---- links and moves
 

@@ -1,19 +1,13 @@
 -- The counts of a pattern with bounds are those of its row of sets, and the table is the row's last set, or all 0. Assumes nothing.
-use mathlib.Core.Bool.{false}
-use mathlib.Core.List.{List, map}
-use mathlib.Core.Path.{_≡_, refl, sym, subst, _∙_}
-use Prim.Native.Nat.{ℕ, suc, _+_, _≤_, _<_}
-use native.Mathlib.Nat.{le-refl}
-use native.Mathlib.Omega.{arith}
+use Rattle.base_lists.specs.Kit.{_≡_, _∙_, sym, subst, List, map, ℕ, _≤_, _<_, _+_, suc, le-refl, length, arith}
 use lib.Count.{ones}
-use lib.ListN.{length}
 use Rattle.base_lists.specs.List.{sum, tabulate}
 use Rattle.base_lists.proofs.Tests.{T-false}
 use Rattle.graph.specs.Circuit.{Circuit}
 use Rattle.simulation.specs.Closed.{_⊆_}
 use Rattle.table_row.specs.Problem.{Problem}
 use Rattle.table_row.specs.Reading.{InTable}
-use Rattle.table_row.specs.Row.{rowOf, startOf, rowFrom, startedOf, lastOf, roundsOf}
+use Rattle.table_row.specs.Row.{rowOf, rowFrom, lastOf}
 use Rattle.table_row.proofs.Answer as Of
 use Rattle.table_row.proofs.Counting.{started-ones, rounds-differ, rounds-last}
 use Rattle.table_row.proofs.Meaning.{last-fits}

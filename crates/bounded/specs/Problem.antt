@@ -1,10 +1,6 @@
 -- The row of sets of a pattern with bounds on a whole board, and its answer: what the contracts cite. It is that of a problem as table_row has
 -- it. A label is a direction and a bound; a board's moves are the ends of directed paths of 1 to h links.
-use mathlib.Core.List.{List, [], _∷_, _++_}
-use mathlib.Core.Path.{_≡_}
-use Prim.Native.Nat.{ℕ, zero, suc, _≤_, _<_}
-use lib.Dec.{eqb}
-use lib.ListN.{length, getD}
+use Rattle.base_lists.specs.Kit.{_≡_, List, [], _∷_, _++_, ℕ, _≤_, _<_, suc, zero, eqb, length, getD}
 use Rattle.base_lists.specs.Below.{keepFrom}
 use Rattle.graph.specs.Circuit.{Circuit, LinkAt}
 use Rattle.simulation.specs.Simulation.{Direction, forwards, backwards}

@@ -1,5 +1,5 @@
 -- Bounded simulation: dual simulation, with a bound on each link of the pattern. Sets are arbitrary, so that "largest" is over every one.
-use Prim.Native.Nat.{ℕ}
+use Rattle.base_lists.specs.Kit.{ℕ}
 use Rattle.graph.specs.Graph.{Graph}
 use Rattle.simulation.specs.Closed.{Relation, _⊆_}
 use Rattle.bounded.specs.Path.{PathWithin}

@@ -1,10 +1,5 @@
 -- Tables that a loop fills from the front: the entry that is next, and the end. Assumes nothing.
-use mathlib.Core.List.{List, [], _∷_, _++_, append-nil}
-use mathlib.Core.Path.{_≡_, refl, ap₂, _∙_}
-use Prim.Native.Nat.{ℕ, zero, suc, _+_, _<_}
-use native.Mathlib.Nat.{le-of-suc-le-suc, not-suc-le-zero}
-use lib.ListN.{length, getD, drop, set}
-use lib.Seq.{drop-length}
+use Rattle.base_lists.specs.Kit.{_≡_, _∙_, refl, ap₂, List, [], _∷_, _++_, append-nil, ℕ, _<_, _+_, suc, zero, not-suc-le-zero, le-of-suc-le-suc, length, getD, drop, set, drop-length}
 use Rattle.base_lists.specs.List.{tabulate}
 use Rattle.base_lists.proofs.Tables.{filled-more}
 

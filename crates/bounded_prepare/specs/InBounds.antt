@@ -1,7 +1,5 @@
 -- What is asked of bounds where the masks are made.
-use mathlib.Core.List.{List}
-use Prim.Native.Nat.{ℕ, _≤_, _<_}
-use lib.ListN.{length, getD}
+use Rattle.base_lists.specs.Kit.{List, ℕ, _≤_, _<_, length, getD}
 
 -- every bound is from 1 to 4
 pub record InBounds (bounds : List ℕ) : Type 0 where

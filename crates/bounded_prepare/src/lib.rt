@@ -5,7 +5,7 @@ use file_format::Pattern;
 use table_prepare::masks::masks_of;
 ghost use mathlib.Core.Path.{_≡_};
 ghost use Prim.Native.Nat.{_≤_, _<_};
-ghost use lib.ListN.{length, getD};
+ghost use lib.ListN.{length};
 ghost use Rattle.base_lists.specs.List.{Below};
 ghost use Rattle.table.specs.Prepared.{masksOf};
 ghost use Rattle.bounded_strike.specs.Prepared.{keyed, BoundMasked, Top};

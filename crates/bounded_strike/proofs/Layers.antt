@@ -1,12 +1,8 @@
 -- A layer has, at each node, the parts that occur at the ends of paths from there. Assumes nothing.
-use mathlib.Core.List.{List, [], _∷_, _++_}
-use mathlib.Core.Path.{_≡_, refl, sym, ap, ap₂, _∙_}
-use Prim.Native.Nat.{ℕ, zero, suc, _<_, suc-le-suc}
-use native.Mathlib.Nat.{zero-lt-suc}
+use Rattle.base_lists.specs.Kit.{_≡_, _∙_, sym, ap, refl, ap₂, List, [], _∷_, _++_, ℕ, _<_, suc, zero, suc-le-suc, zero-lt-suc, length, getD}
 use lib.Bits.{bitOr, or-zero-l, or-zero-r}
-use lib.ListN.{length, getD}
-use Rattle.base_lists.specs.List.{tabulate, Below}
-use Rattle.base_lists.proofs.Tables.{length-tabulate, getD-tabulate, tabulate-same}
+use Rattle.base_lists.specs.List.{Below}
+use Rattle.base_lists.proofs.Tables.{getD-tabulate, tabulate-same}
 use Rattle.base_bits.specs.Bits.{unionAt}
 use Rattle.base_bits.proofs.Tests.{bitOr-assoc}
 use Rattle.bounded.specs.Problem.{gather, within}
@@ -29,11 +25,6 @@ union-gather layer old f n e (w ∷ ws) b =
     ∙ sym (union-append old (f w) (gather f ws))
 
 module _ (near : ℕ → List ℕ) (old : List ℕ) where
-  pub length-layer : (h : ℕ) → length (layerOf near old h) ≡ length old
-  unfolding layerOf nextLayer
-  length-layer zero = refl
-  length-layer (suc h) = length-tabulate (length old) (λ v. bitOr (getD old v 0) (unionAt (layerOf near old h) (near v)))
-
   module _ (inside : (v : ℕ) → v < length old → Below (length old) (near v)) where
     layer-at : (h w : ℕ) → w < length old → getD (layerOf near old h) w 0 ≡ unionAt old (w ∷ within near h w)
     unfolding layerOf nextLayer unionAt within

@@ -1,11 +1,5 @@
 -- How many pairs a table has, counted from the front. Assumes nothing.
-use mathlib.Core.List.{List, [], _∷_}
-use mathlib.Core.Path.{_≡_, refl, ap}
-use Prim.Native.Nat.{ℕ, zero, _+_, _*_, _≤_, _<_, zero-le}
-use native.Mathlib.Numerals.{add-one}
-use native.Mathlib.Omega.{arith}
-use lib.ListN.{length, getD, drop, drop-of-length-le}
-use lib.Seq.{drop-cons}
+use Rattle.base_lists.specs.Kit.{_≡_, ap, List, [], _∷_, ℕ, _≤_, _<_, _+_, _*_, zero-le, add-one, length, getD, drop, drop-of-length-le, drop-cons, arith}
 use Rattle.base_lists.specs.List.{sum}
 use Rattle.base_bits.specs.Bits.{bit, sizeOf}
 use Rattle.base_lists.proofs.Below.{countBelow-le}

@@ -1,16 +1,8 @@
 -- A round of passes is the striking of the row, where the tables are those of a pattern, its bounds and a board. Assumes nothing.
-use mathlib.Core.Bool.{Bool, true, false, _&&_, _||_, not, and-true, and-assoc}
-use mathlib.Core.List.{List, [], _∷_}
-use mathlib.Core.Path.{_≡_, refl, sym, ap, ap₂, subst, _∙_}
-use Prim.Native.Nat.{ℕ, zero, suc, _+_, _*_, _-_, _^_, _≤_, _<_}
-use native.Mathlib.Nat.{lt-of-lt-of-le}
+use Rattle.base_lists.specs.Kit.{_≡_, _∙_, sym, ap, refl, subst, ap₂, Bool, true, _&&_, _||_, and-true, and-assoc, List, [], _∷_, ℕ, _≤_, _<_, _+_, _-_, suc, zero, _*_, _^_, lt-of-lt-of-le, eqb, eqb→eq, length, getD, take, drop, length-drop, List·getD-eq-default, length-take-le, getD-take, getD-drop, arith}
 use native.Mathlib.Decide.{decLt}
-use native.Mathlib.Omega.{arith}
-use lib.Dec.{T, eqb, eqb→eq}
-use lib.ListN.{length, getD, take, drop, length-drop, List·getD-eq-default}
 use lib.Pow.{pow-pos}
-use lib.Seq.{getD-take, getD-drop, length-take-le}
-use Rattle.base_lists.specs.List.{any, tabulate, part, Below, Occurs}
+use Rattle.base_lists.specs.List.{tabulate, part, Below, Occurs}
 use Rattle.base_lists.specs.Below.{keepFrom}
 use Rattle.base_lists.proofs.Tests.{T-true, T-false, false-T, any-at}
 use Rattle.base_lists.proofs.Tables.{length-tabulate, getD-tabulate, tabulate-same, is-tabulate}

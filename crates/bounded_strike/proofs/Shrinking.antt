@@ -1,13 +1,7 @@
 -- A round takes pairs away and adds none. Assumes nothing.
-use mathlib.Core.List.{List}
-use mathlib.Core.Path.{_≡_, refl, subst, _∙_}
-use Prim.Native.Nat.{ℕ, zero, suc, _*_, _^_, _<_}
-use native.Mathlib.Nat.{lt-of-le-of-lt}
+use Rattle.base_lists.specs.Kit.{_≡_, _∙_, refl, subst, List, ℕ, _<_, suc, zero, _*_, _^_, lt-of-le-of-lt, T, length, getD, List·getD-eq-default, arith}
 use native.Mathlib.Decide.{decLt}
-use native.Mathlib.Omega.{arith}
-use lib.Dec.{T}
-use lib.ListN.{length, getD, List·getD-eq-default}
-use Rattle.base_lists.specs.List.{tabulate, part}
+use Rattle.base_lists.specs.List.{part}
 use Rattle.base_lists.proofs.Tests.{false-T}
 use Rattle.base_lists.proofs.Tables.{length-tabulate, getD-tabulate}
 use Rattle.base_bits.specs.Bits.{bit, Subset, unionAt}

@@ -1,9 +1,6 @@
 -- What striking with bounds looks up: when masks and neighbour tables are those of a pattern, its bounds and a board. One list has 256 masks:
 -- for each bound from 1 to 4, for each of 32 parts, the parts that it drives by a link of that bound; and then for each those that drive it so.
-use mathlib.Core.List.{List}
-use mathlib.Core.Path.{_≡_}
-use Prim.Native.Nat.{ℕ, _+_, _*_, _-_, _≤_, _<_}
-use lib.ListN.{length, getD}
+use Rattle.base_lists.specs.Kit.{_≡_, List, ℕ, _≤_, _<_, _+_, _-_, _*_, length, getD}
 use Rattle.base_lists.specs.List.{tabulate, part, Below}
 use Rattle.graph.specs.Circuit.{Circuit}
 use Rattle.graph.specs.Net.{NetOf}

@@ -1,9 +1,6 @@
 -- One round of striking as the program does it, over neighbour tables and masks: what the contracts of the inner functions cite. proofs/Row
 -- ties it to the row of sets.
-use mathlib.Core.List.{List}
-use mathlib.Core.Path.{_≡_}
-use Prim.Native.Nat.{ℕ, zero, suc, _*_, _^_, _≤_, _<_}
-use lib.ListN.{length, getD}
+use Rattle.base_lists.specs.Kit.{_≡_, List, ℕ, _≤_, _<_, suc, zero, _*_, _^_, length, getD}
 use Rattle.base_lists.specs.List.{part}
 use Rattle.graph.specs.Net.{Net}
 use Rattle.graph_neighbours.specs.Lookup.{neighboursIn}

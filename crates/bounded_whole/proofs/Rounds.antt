@@ -1,18 +1,9 @@
 -- The loop of rounds: from one table to the next, until a round strikes nothing. Assumes nothing.
-use mathlib.Core.List.{List}
-use mathlib.Core.Logic.{_⊎_, ⊎-elim}
-use mathlib.Core.Path.{_≡_, refl, sym, ap, subst, _∙_}
-use Prim.Native.Nat.{ℕ, suc, _+_, _*_, _^_, _≤_, _<_}
-use native.Mathlib.Nat.{le-refl, not-suc-le-zero, lt-of-le-of-lt}
-use native.Mathlib.Numerals.{add-one}
-use native.Mathlib.Omega.{arith}
+use Rattle.base_lists.specs.Kit.{_≡_, _∙_, sym, ap, refl, ⊎-elim, _⊎_, List, ℕ, _≤_, _<_, _+_, suc, _*_, _^_, not-suc-le-zero, le-refl, add-one, arith}
 use borrow.Author.Count.{below-more}
-use lib.ListN.{length, getD}
-use Rattle.table_row.specs.Reading.{Fits, InTable}
 use Rattle.table_row.specs.Row.{inTable}
 use Rattle.table_row.proofs.Sets.{pairs-progress}
 use Rattle.table_row.proofs.Falling.{falls-count}
-use Rattle.base_bits.proofs.Numbers.{subset-le}
 use Rattle.table.specs.Row.{pairs}
 use Rattle.table.specs.Prepared.{Tables}
 use Rattle.bounded_strike.specs.Round.{roundTable, roundTimes, Ready, Turn, Settled}

@@ -1,16 +1,8 @@
 -- Where the rounds settle is the end of the row: its last set and its counts; and with the all-0 rule the answer. Assumes nothing.
-use mathlib.Core.Bool.{Bool, true, false, _&&_, cond}
-use mathlib.Core.List.{List, _++_}
-use mathlib.Core.Path.{_≡_, refl, sym, ap, ap₂, subst, _∙_}
-use Prim.Native.Nat.{ℕ, suc, _-_, _^_, _≤_, _<_}
-use native.Mathlib.Omega.{arith}
-use lib.Dec.{T}
-use lib.ListN.{length, getD, take, length-append}
-use lib.Seq.{take-at}
+use Rattle.base_lists.specs.Kit.{_≡_, _∙_, sym, ap, refl, subst, Bool, false, true, cond, _&&_, List, _++_, ℕ, _≤_, _<_, _-_, suc, _^_, T, length, take, length-append, take-at, arith}
 use Rattle.base_lists.specs.List.{tabulate}
 use Rattle.base_lists.proofs.Tests.{T-true, true-T}
 use Rattle.base_lists.proofs.Tables.{tabulate-same}
-use Rattle.base_bits.specs.Bits.{numberOf}
 use Rattle.base_bits.proofs.Numbers.{number-same}
 use Rattle.file_format.specs.Circuit.{Bounded}
 use Rattle.file_format.specs.declared.Role.the-variants.{Pattern}
@@ -21,7 +13,7 @@ use Rattle.graph.proofs.Groups.{all-below}
 use Rattle.graph.specs.Search.{inside}
 use Rattle.graph.proofs.Net.{net-of, net-few}
 use Rattle.table_row.specs.Problem.{Problem}
-use Rattle.table_row.specs.Row.{tableOf, startOf, rowFrom, rowOf, startedOf, lastOf, keptOf, struckOf, roundsOf, pairs}
+use Rattle.table_row.specs.Row.{tableOf, startOf, rowOf, startedOf, lastOf, keptOf, struckOf, roundsOf, pairs}
 use Rattle.table_row.specs.Answer.{allOccur, allOrNone}
 use Rattle.table_row.specs.Reading.{Fits}
 use Rattle.table_row.proofs.Row.{start-fits}

@@ -1,7 +1,5 @@
 -- The row of a pattern with bounds on a whole board: what the functions below the answer promise.
-use mathlib.Core.List.{List}
-use mathlib.Core.Path.{_≡_}
-use Prim.Native.Nat.{ℕ}
+use Rattle.base_lists.specs.Kit.{_≡_, List, ℕ}
 use Rattle.graph.specs.Circuit.{Circuit, circuit}
 use Rattle.table_row.specs.Row.{startedOf, lastOf, keptOf, struckOf, roundsOf}
 use Rattle.table.specs.declared.Counts.{Counts}

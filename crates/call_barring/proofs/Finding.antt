@@ -1,9 +1,5 @@
 -- What the call comes to, by cases: a refused file, a centre outside, too few bytes, or what is found. Assumes nothing.
-use mathlib.Core.List.{List}
-use mathlib.Core.Path.{_≡_, sym, ap, _∙_}
-use Prim.Native.Nat.{ℕ, _≤_, _<_}
-use borrow.Author.Tests.{lt-ltb, le-ltb}
-use lib.ListN.{length}
+use Rattle.base_lists.specs.Kit.{_≡_, _∙_, sym, ap, List, ℕ, _≤_, _<_, length, le-ltb, lt-ltb}
 use Rattle.graph.specs.Circuit.{Circuit}
 use Rattle.graph.specs.Search.{radius}
 use Rattle.file_format.specs.declared.File.the-variants.{Neither}

@@ -1,14 +1,6 @@
 -- What the promise of the call means: 15 exactly where the centre has a place; else the bytes mark links that bar, of which none can be spared.
 -- Assumes nothing.
-use mathlib.Core.Bool.{true, false}
-use mathlib.Core.List.{List, [], _∷_, _++_}
-use mathlib.Core.Logic.{_↔_, ⊎-elim}
-use mathlib.Core.Path.{_≡_, refl, sym, ap, _∙_}
-use Prim.Native.Nat.{ℕ, _≤_, _<_}
-use borrow.Author.Tests.{lt-ltb, le-ltb, ltb-true, ltb-false, not-false}
-use lib.Dec.{T, ltb}
-use lib.ListN.{length, take, drop}
-use lib.Seq.{take-at, drop-at}
+use Rattle.base_lists.specs.Kit.{_≡_, _∙_, sym, ap, refl, _↔_, ⊎-elim, List, [], _∷_, _++_, ℕ, _≤_, _<_, T, length, take, drop, take-at, drop-at, le-ltb, lt-ltb}
 use Rattle.base_lists.proofs.Tests.{T-true, T-false, false-T, decide}
 use Rattle.graph.specs.Chosen.{ChosenLink}
 use Rattle.graph.specs.Circuit.{Circuit, circuitGraph}

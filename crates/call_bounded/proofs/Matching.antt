@@ -1,24 +1,19 @@
 -- What the call comes to, by cases: a refused file, a short table, or the match. Assumes nothing.
-use mathlib.Core.List.{List, [], _∷_, _++_}
-use mathlib.Core.Path.{_≡_, sym, ap, ap₂, _∙_}
-use Prim.Native.Nat.{ℕ, _≤_, _<_}
-use borrow.Author.Tests.{lt-ltb, le-ltb}
-use lib.Dec.{T}
-use lib.ListN.{length, getD, take, drop}
+use Rattle.base_lists.specs.Kit.{_≡_, _∙_, sym, ap, ap₂, List, [], _∷_, _++_, ℕ, _≤_, _<_, length, take, drop, le-ltb, lt-ltb}
 use Rattle.graph.specs.Circuit.{Circuit}
 use Rattle.file_format.specs.declared.File.the-variants.{Neither}
 use Rattle.file_format.specs.declared.FileRead.{FileRead}
 use Rattle.file_format.specs.declared.Refusal.{Refusal}
 use Rattle.file_format.specs.declared.Role.the-variants.{Board, AnyPattern, Pattern}
 use Rattle.file_format.specs.Circuit.{Bounded, circuitOf}
-use Rattle.file_format.specs.Layout.{CircuitFile, nodesOf, startsOf}
-use Rattle.file_format.specs.Reading.{filled, front, Stands, Loaded}
+use Rattle.file_format.specs.Layout.{CircuitFile, nodesOf}
+use Rattle.file_format.specs.Reading.{filled, front, Stands}
 use Rattle.file_format.specs.Refusals.{Verdict, accept, refuse, first, fileConditions, shortTable}
 use Rattle.file_format.proofs.Accepted.{bounded-any}
 use Rattle.file_format.proofs.Fields.{length-labels, length-starts}
 use Rattle.file_format.proofs.Reading.{stands-bounded, front-room}
 use Rattle.file_format.proofs.Refusals.{first-accept, first-refuse, accepted-verdict}
-use Rattle.file_bounds.specs.Third.{frontOf, boundsOf, boundsFit, thirdConditions, BoundsHeld}
+use Rattle.file_bounds.specs.Third.{frontOf, boundsOf, thirdConditions, BoundsHeld}
 use Rattle.file_bounds.proofs.Fit.{fit-at}
 use Rattle.file_bounds.proofs.Third.{bounds-count, third-accepted}
 use Rattle.bounded.specs.Problem.{Bounds, boundedTable, boundedCounts, BoundedAnswer}

@@ -1,16 +1,8 @@
 -- What the exported call's promise means: a refusal is one of the conditions; else the table holds the largest bounded simulation of the pattern
 -- in the board, and the counts are those of the row. All bounds 1 give what the second edition gives, and raising a bound takes no pair away.
 -- Assumes nothing.
-use mathlib.Core.Bool.{Bool, true, false}
-use mathlib.Core.List.{List, [], _∷_, _++_, map, append-assoc}
-use mathlib.Core.Path.{_≡_, refl, sym, ap, ap₂, subst, _∙_}
-use Prim.Native.Nat.{ℕ, _+_, _≤_}
-use native.Mathlib.Omega.{arith}
-use borrow.Author.Tests.{le-ltb}
+use Rattle.base_lists.specs.Kit.{_≡_, _∙_, sym, refl, subst, List, [], _∷_, _++_, map, append-assoc, ℕ, _≤_, _+_, length, take, drop, take-at, drop-at, arith, le-ltb}
 use lib.Count.{ones}
-use lib.Dec.{T}
-use lib.ListN.{length, getD, take, drop}
-use lib.Seq.{take-at, drop-at}
 use Rattle.base_lists.specs.List.{sum}
 use Rattle.base_lists.proofs.Tests.{true-T}
 use Rattle.graph.specs.Circuit.{Circuit, circuitGraph}
@@ -23,7 +15,7 @@ use Rattle.file_format.specs.Reading.{filled}
 use Rattle.file_format.specs.Refusals.{Condition, Verdict, accept, refuse, first, fileConditions, Accepted, shortTable}
 use Rattle.file_format.proofs.Accepted.{accepted-bounded}
 use Rattle.file_format.proofs.Fields.{length-labels}
-use Rattle.file_format.proofs.Refusals.{accepted, accepted-verdict, first-accept, first-refuse, first-parts}
+use Rattle.file_format.proofs.Refusals.{accepted-verdict, first-accept, first-refuse, first-parts}
 use Rattle.file_pair.specs.Pair.{pairConditions}
 use Rattle.file_bounds.specs.Third.{boundedLength, frontOf, boundsOf, thirdConditions}
 use Rattle.file_bounds.proofs.Fit.{at-fit}
@@ -34,7 +26,7 @@ use Rattle.bounded.specs.Raised.{Raised, AllOne}
 use Rattle.bounded.proofs.Meaning.{bounded-largest}
 use Rattle.bounded.proofs.Run.{bounded-length, bounded-sum, bounded-rounds, bounded-ones}
 use Rattle.bounded.proofs.Wider.{raised-more, ones-table, ones-counts}
-use Rattle.call_match.specs.Call.{TableOutcome, matchConditions, matchedBy, matchingBy, matching}
+use Rattle.call_match.specs.Call.{matchConditions, matchedBy, matchingBy, matching}
 use Rattle.table.specs.declared.Counts.{Counts}
 use Rattle.table.specs.Answer.{answerTable, answerCounts}
 use Rattle.table.specs.Host.{everything, KindsMatch}

@@ -1,7 +1,5 @@
 -- The exported call on a third-edition pattern file and a board file, whole: its reply and the table's later content, from the inputs alone.
-use mathlib.Core.List.{List, [], _∷_, _++_}
-use Prim.Native.Nat.{ℕ}
-use lib.ListN.{length}
+use Rattle.base_lists.specs.Kit.{List, [], _∷_, _++_, ℕ, length}
 use Rattle.graph.specs.Circuit.{Circuit}
 use Rattle.file_format.specs.declared.Role.the-variants.{Board}
 use Rattle.file_format.specs.Circuit.{circuitOf}

@@ -1,7 +1,5 @@
 -- The comparison's answer, by the verdicts of the two files. Assumes nothing.
-use mathlib.Core.List.{List}
-use mathlib.Core.Path.{_≡_, refl, sym, ap, _∙_}
-use Prim.Native.Nat.{ℕ}
+use Rattle.base_lists.specs.Kit.{_≡_, _∙_, sym, ap, List, ℕ}
 use Rattle.file_format.specs.declared.FileVerdict.{FileVerdict}
 use Rattle.file_format.specs.declared.FileVerdict.the-variants as verdict
 use Rattle.file_format.specs.declared.Refusal.{Refusal}

@@ -1,26 +1,17 @@
 -- The order on circuits and their second-edition files: a file's numbers are its circuit's, and circuits rank equal exactly when their files are the same
 -- bytes. Assumes nothing.
-use mathlib.Core.List.{List, [], _∷_, _++_}
-use mathlib.Core.Logic.{_↔_}
-use mathlib.Core.Path.{_≡_, refl, sym, ap, ap₂, _∙_}
-use Prim.Native.Nat.{ℕ, _+_, _*_, _/_, _%_}
-use native.Mathlib.Nat.{le-of-eq}
-use native.Mathlib.Omega.{arith}
-use lib.Dec.{T, ltb}
-use lib.ListN.{length, take}
-use lib.Seq.{take-all}
+use Rattle.base_lists.specs.Kit.{_≡_, _∙_, sym, ap, refl, ap₂, _↔_, List, [], _∷_, _++_, ℕ, _+_, _*_, _/_, _%_, le-of-eq, T, ltb, length, take-all, arith}
 use Rattle.base_lists.specs.List.{all}
 use Rattle.file_format.specs.declared.Edition.the-variants.{Second}
 use Rattle.file_format.specs.declared.Role.{Role}
-use Rattle.file_format.specs.declared.Role.the-variants.{Pattern}
-use Rattle.file_format.specs.Layout.{CircuitFile, fields, nodesOf, linksOf, kindsOf, packagesOf, startsOf, endsOf}
+use Rattle.file_format.specs.Layout.{fields, nodesOf, linksOf, kindsOf, packagesOf, startsOf, endsOf}
 use Rattle.file_format.specs.Refusals.{accept, first, fileConditions}
 use Rattle.file_format.proofs.Fields.{length-kinds, length-packages, length-starts, length-ends}
 use Rattle.file_format.proofs.Refusals.{accepted}
 use Rattle.file_write.specs.Bytes.{bytesOf, stretchBytes, fileBytes}
 use Rattle.file_write.proofs.FileFields.{all-fields}
 use Rattle.file_write.proofs.RoundTrip.{same-file}
-use Rattle.order.specs.declared.Order.the-variants.{Less, Equal, Greater}
+use Rattle.order.specs.declared.Order.the-variants.{Equal}
 use Rattle.order.specs.Order.{Whole, Parallel, numbersOf, compareLists, compareWhole}
 use Rattle.order.proofs.Laws.{lists-order, whole-order, numbers-order}
 use Rattle.order_files.specs.Files.{secondEdition, wholeOf, compareFiles, numbersIn}

@@ -1,6 +1,5 @@
 -- The comparison of two second-edition pattern files, whole: its answer, from the two files alone.
-use mathlib.Core.List.{List}
-use Prim.Native.Nat.{ℕ}
+use Rattle.base_lists.specs.Kit.{List, ℕ}
 use Rattle.file_format.specs.declared.Role.the-variants.{Pattern}
 use Rattle.file_format.specs.Refusals.{Verdict, accept, refuse, first, fileConditions}
 use Rattle.order.specs.declared.Order.{Order}

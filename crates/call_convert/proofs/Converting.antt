@@ -1,14 +1,6 @@
 -- What the converter comes to, by cases: a refused file, a package that would be lost, too few bytes lent, or the new file. Assumes nothing.
-use mathlib.Core.Bool.{true, false}
-use mathlib.Core.List.{List, [], _∷_, _++_}
-use mathlib.Core.Path.{_≡_, refl, sym, ap, subst, _∙_}
-use Prim.Native.Nat.{ℕ, _≤_, _<_}
+use Rattle.base_lists.specs.Kit.{_≡_, _∙_, sym, ap, refl, subst, false, true, List, [], _∷_, _++_, ℕ, _≤_, _<_, le-trans, length, getD, take, drop, replicate, length-replicate, getD-replicate, length-take-le, take-at, getD-take, arith, le-ltb, lt-ltb}
 use native.Mathlib.Decide.{decLt}
-use native.Mathlib.Nat.{le-trans}
-use native.Mathlib.Omega.{arith}
-use borrow.Author.Tests.{lt-ltb, le-ltb}
-use lib.ListN.{length, getD, take, drop, replicate, length-replicate, getD-replicate}
-use lib.Seq.{take-at, getD-take, length-take-le}
 use Rattle.base_lists.specs.List.{Below}
 use Rattle.base_lists.proofs.Tables.{length-tabulate, is-tabulate}
 use Rattle.base_lists.proofs.Tests.{T-true}
@@ -152,9 +144,6 @@ module _ (role : Role) (e : Edition) (bytes ks ps ss es : List ℕ) (k : 512 ≤
   module _ (zero : Below 1 ps) (n m : ℕ) (q : reading role file ks ps ss es .answer ≡ read.Read n m) where
     f : Filled role file ks ps ss es n m
     f = reading-accepted role file ks ps ss es n m q
-
-    pub whole-sound : first (fileConditions role file) ≡ accept
-    whole-sound = f .sound
 
     outcome : reading role file ks ps ss es ≡ record {
       answer = read.Read (nodesOf file) (linksOf file);

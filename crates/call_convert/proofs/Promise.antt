@@ -1,15 +1,6 @@
 -- What the converter's promise means: the new file is accepted, holds the circuit of the old one, and there and back again gives the same
 -- bytes. Assumes nothing.
-use mathlib.Core.Bool.{false}
-use mathlib.Core.List.{List, [], _∷_, _++_}
-use mathlib.Core.Path.{_≡_, refl, sym, ap, ap₂, _∙_}
-use Prim.Native.Nat.{ℕ, _≤_, _<_}
-use native.Mathlib.Nat.{le-of-eq}
-use native.Mathlib.Omega.{arith}
-use borrow.Author.Tests.{le-ltb, ltb-false}
-use lib.Dec.{T, ltb}
-use lib.ListN.{length, getD, take, drop}
-use lib.Seq.{take-at, take-all}
+use Rattle.base_lists.specs.Kit.{_≡_, _∙_, sym, ap, refl, ap₂, false, List, [], _∷_, _++_, ℕ, _≤_, _<_, le-of-eq, T, ltb, length, getD, take, drop, take-at, take-all, arith, le-ltb, ltb-false}
 use Rattle.base_lists.specs.List.{all, tabulate}
 use Rattle.base_lists.proofs.Tables.{getD-tabulate, is-tabulate, tabulate-same}
 use Rattle.file_format.specs.declared.Edition.{Edition}
@@ -24,7 +15,7 @@ use Rattle.file_format.specs.Role.{inRange}
 use Rattle.file_format.proofs.FirstEdition.{labels-same, first-packages}
 use Rattle.file_format.proofs.Fields.{length-kinds, length-packages, length-starts, length-ends}
 use Rattle.file_format.proofs.Refusals.{accepted, first-accept, first-parts, first-holds}
-use Rattle.file_write.specs.Bytes.{stretchBytes, fileBytes}
+use Rattle.file_write.specs.Bytes.{stretchBytes}
 use Rattle.file_write.proofs.FileFields.{nodes-written, links-written, kinds-written, packages-written, starts-written, ends-written, length-written}
 use Rattle.file_write.proofs.RoundTrip.{same-verdict, accepted-file}
 use Rattle.call_convert.specs.Call.{everyPackage, convertedBytes, convertConditions, ConvertOutcome, converting}

@@ -1,9 +1,5 @@
 -- What the two calls come to, by cases of the conditions. Assumes nothing.
-use mathlib.Core.List.{List, [], _∷_, _++_}
-use mathlib.Core.Path.{_≡_, sym, ap}
-use Prim.Native.Nat.{ℕ, _≤_, _<_}
-use borrow.Author.Tests.{lt-ltb, le-ltb}
-use lib.ListN.{length, take, drop}
+use Rattle.base_lists.specs.Kit.{_≡_, sym, ap, List, [], _∷_, _++_, ℕ, _≤_, _<_, length, take, drop, le-ltb, lt-ltb}
 use Rattle.graph.specs.Circuit.{Circuit}
 use Rattle.graph.specs.Search.{distances, radius}
 use Rattle.graph.proofs.Distance.{length-distances}

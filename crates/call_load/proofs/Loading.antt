@@ -1,14 +1,5 @@
 -- The load's circuit as the passes leave it, its file, and what the call comes to by cases. Assumes nothing.
-use mathlib.Core.Bool.{true, false, _&&_}
-use mathlib.Core.List.{List, [], _++_}
-use mathlib.Core.Path.{_≡_, refl, sym, ap, ap₂, _∙_}
-use Prim.Native.Nat.{ℕ, _+_, _*_, _≤_, _<_}
-use native.Mathlib.Nat.{le-trans}
-use native.Mathlib.Omega.{arith}
-use borrow.Author.Tests.{lt-ltb, le-ltb}
-use lib.Dec.{T, eqb, leb, le→leb}
-use lib.ListN.{length, getD, take, List·getD-append}
-use lib.Seq.{take-at}
+use Rattle.base_lists.specs.Kit.{_≡_, _∙_, sym, ap, refl, ap₂, false, true, _&&_, List, [], _++_, ℕ, _≤_, _<_, _+_, _*_, le-trans, T, eqb, leb, le→leb, length, getD, take, List·getD-append, take-at, arith, le-ltb, lt-ltb}
 use Rattle.base_lists.proofs.Tests.{T-true, both}
 use Rattle.base_lists.proofs.Below.{anyBelow-same}
 use Rattle.graph.specs.Circuit.{Circuit}

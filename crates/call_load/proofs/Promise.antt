@@ -1,12 +1,5 @@
 -- What the load call's promise means, of its own reply and bytes. Assumes nothing.
-use mathlib.Core.List.{List, [], _∷_, _++_}
-use mathlib.Core.Logic.{_↔_}
-use mathlib.Core.Path.{_≡_, refl, sym, ap, _∙_}
-use Prim.Native.Nat.{ℕ, _≤_, _<_}
-use native.Mathlib.Omega.{arith}
-use borrow.Author.Tests.{ltb-false, not-false}
-use lib.ListN.{length, take, drop}
-use lib.Seq.{take-at, drop-at}
+use Rattle.base_lists.specs.Kit.{_≡_, _∙_, sym, ap, refl, _↔_, List, [], _∷_, _++_, ℕ, _≤_, _<_, length, take, drop, take-at, drop-at, arith, not-false, ltb-false}
 use Rattle.base_lists.proofs.Tests.{true-T, T-true, T-false}
 use Rattle.graph.specs.Circuit.{Circuit, HasLink}
 use Rattle.file_format.specs.declared.Edition.the-variants.{First}

@@ -1,8 +1,5 @@
 -- The call that makes a test load, whole: its reply and the later content of the bytes lent, from the inputs alone.
-use mathlib.Core.List.{List, [], _∷_}
-use mathlib.Core.Path.{_≡_}
-use Prim.Native.Nat.{ℕ}
-use lib.ListN.{length}
+use Rattle.base_lists.specs.Kit.{_≡_, List, [], _∷_, ℕ, length}
 use Rattle.file_format.specs.declared.Edition.the-variants.{First}
 use Rattle.file_format.specs.Layout.{lengthOf}
 use Rattle.file_format.specs.Reading.{filled}

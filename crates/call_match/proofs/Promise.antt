@@ -1,16 +1,7 @@
 -- What the exported call's promise means: a refusal is one of the conditions; else the table holds the largest dual simulation of the
 -- pattern in the board, and the counts are those of the row. Assumes nothing.
-use mathlib.Core.Bool.{Bool, true, false, not, cond}
-use mathlib.Core.List.{List, _++_, map, List·Memᴰ}
-use mathlib.Core.Logic.{_↔_, ⊎-elim}
-use mathlib.Core.Path.{_≡_, refl, sym, ap, subst, _∙_}
-use Prim.Native.Nat.{ℕ, _+_, _-_, _≤_, _<_}
-use native.Mathlib.Omega.{arith}
-use borrow.Author.Tests.{le-ltb}
+use Rattle.base_lists.specs.Kit.{_≡_, _∙_, sym, ap, refl, subst, _↔_, ⊎-elim, Bool, false, true, cond, not, List, _++_, map, ℕ, _≤_, _<_, _+_, _-_, T, eqb, ltb, length, getD, take, drop, List·getD-append, take-at, drop-at, getD-take, getD-append-add, arith, le-ltb}
 use lib.Count.{ones}
-use lib.Dec.{T, eqb, ltb}
-use lib.ListN.{length, getD, take, drop, List·getD-append}
-use lib.Seq.{take-at, drop-at, getD-take, getD-append-add}
 use Rattle.base_lists.specs.List.{sum}
 use Rattle.base_lists.proofs.Tests.{refuted}
 use Rattle.base_bits.specs.Bits.{bit}
@@ -20,7 +11,7 @@ use Rattle.graph.specs.Search.{connected}
 use Rattle.graph.proofs.BfsScan.{lt-or-le}
 use Rattle.graph.proofs.Distance.{connected-iff}
 use Rattle.simulation.specs.Closed.{Relation, _⊆_}
-use Rattle.simulation.specs.Simulation.{Direction, Candidate, Along, Largest, LargestGraphSimulation}
+use Rattle.simulation.specs.Simulation.{Direction, Candidate, Along, Largest}
 use Rattle.simulation.proofs.Simulation.{largest-unique}
 use Rattle.file_format.specs.declared.Refusal.{Refusal}
 use Rattle.file_format.specs.declared.Role.the-variants.{Pattern, Board, AnyPattern}
@@ -32,19 +23,19 @@ use Rattle.file_format.specs.Refusals.{Condition, Verdict, accept, refuse, firs
 use Rattle.file_format.specs.Role.{inRange}
 use Rattle.file_format.proofs.Accepted.{accepted-bounded, accepted-below, accepted-within, accepted-connected}
 use Rattle.file_format.proofs.Fields.{length-labels}
-use Rattle.file_format.proofs.Refusals.{accepted, first-accept, first-refuse, first-holds, first-parts, refuses-iff, turned, turned-accept}
+use Rattle.file_format.proofs.Refusals.{accepted, first-accept, first-refuse, first-holds, first-parts, turned, turned-accept}
 use Rattle.file_pair.specs.Pair.{pairConditions}
 use Rattle.file_pair.proofs.Both.{pair-accept, pair-parts}
 use Rattle.call_match.specs.declared.TableAnswer.{TableAnswer}
 use Rattle.call_match.specs.declared.TableAnswer.the-variants.{Matched, Refused}
 use Rattle.table.specs.declared.Counts.{Counts}
-use Rattle.call_match.specs.Call.{matchConditions, replyOf, matchedBy, matchingBy, matching, oneWayMatching, connectedConditions, rowBy, connectedMatching}
+use Rattle.call_match.specs.Call.{matchConditions, replyOf, matchedBy, matchingBy, matching, connectedConditions, rowBy, connectedMatching}
 use Rattle.table.specs.Answer.{answerBy, answerCountsBy, AnsweredBy}
 use Rattle.table.specs.Host.{everything, KindsMatch}
 use Rattle.table.specs.Reply.{MatchReply, noCounts, replied}
 use Rattle.table.specs.Refine.{countsOf}
-use Rattle.table.specs.Row.{inTable, bothWays, oneWay, startBy, lastTable, InTable, Chosen, LargestOccurring}
-use Rattle.table.proofs.Answer.{answer-sum, answer-rounds, answer-ones, answer-started, answer-fewer, answer-connected, board-along, along-dual, along-graph}
+use Rattle.table.specs.Row.{inTable, bothWays, startBy, lastTable, InTable, Chosen, LargestOccurring}
+use Rattle.table.proofs.Answer.{answer-sum, answer-rounds, answer-ones, answer-started, answer-fewer, answer-connected, board-along, along-dual}
 use Rattle.table.proofs.Host.{within-joins}
 use Rattle.call_match.proofs.Matching.{length-answer}
 
@@ -76,12 +67,6 @@ module _ (ways : List Direction) (pattern board : CircuitFile) (table : List ℕ
   verdict-is = replied-verdict _ _
 
   -- ---- refusals
-
-  -- the call is refused exactly when one of the conditions holds,
-  pub refused-iff :
-      ((x : Refusal) × (matchingBy ways pattern board table .reply .verdict ≡ refuse x)) ↔
-      ((c : Condition) × List·Memᴰ c (matchConditions pattern board (length table)) × T (c .holds))
-  refused-iff = rw verdict-is (refuses-iff (matchConditions pattern board (length table)))
 
   -- and then "All lent tables keep their content; counts are 0".
   pub refused-keeps :
@@ -193,13 +178,6 @@ module _ (pattern board : CircuitFile) (table : List ℕ) (ok : matching pattern
       )
 
 -- ---- one way
-
--- along forward links alone it is the largest graph simulation
-pub front-graph :
-    (pattern board : CircuitFile) (table : List ℕ) → oneWayMatching pattern board table .reply .verdict ≡ accept →
-    LargestGraphSimulation (circuitGraph (circuitOf pattern)) (KindsMatch (circuitOf pattern) (circuitOf board)) (circuitGraph (circuitOf board))
-    (InTable (take (nodesOf board) (oneWayMatching pattern board table .table)))
-front-graph pattern board table ok = along-graph (front-along oneWay pattern board table ok)
 
 -- tables of the same length, one in the other, and the same entries after them
 within-more :

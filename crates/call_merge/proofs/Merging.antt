@@ -1,10 +1,6 @@
 -- What the merging call comes to, by cases: a refused pattern, a short table of classes, too few bytes for the file, or the merged pattern.
 -- Assumes nothing.
-use mathlib.Core.List.{List, [], _++_}
-use mathlib.Core.Path.{_≡_, sym, ap, subst, _∙_}
-use Prim.Native.Nat.{ℕ, _≤_, _<_}
-use borrow.Author.Tests.{lt-ltb, le-ltb}
-use lib.ListN.{length, getD, take, drop}
+use Rattle.base_lists.specs.Kit.{_≡_, _∙_, sym, ap, subst, List, [], _++_, ℕ, _≤_, _<_, length, getD, take, drop, le-ltb, lt-ltb}
 use Rattle.graph.specs.Circuit.{Circuit}
 use Rattle.file_format.specs.declared.Edition.{Edition}
 use Rattle.file_format.specs.declared.Edition.the-variants.{First, Second}
@@ -14,10 +10,10 @@ use Rattle.file_format.specs.declared.Role.the-variants.{Pattern}
 use Rattle.file_format.specs.Circuit.{circuitOf}
 use Rattle.file_format.specs.Layout.{CircuitFile, inEdition, nodesOf, lengthOf, labelsOf}
 use Rattle.file_format.specs.Reading.{filled, front, Stands}
-use Rattle.file_format.specs.Refusals.{accept, refuse, first, fileConditions, shortTable, Accepted}
+use Rattle.file_format.specs.Refusals.{accept, refuse, first, fileConditions, shortTable}
 use Rattle.file_format.specs.Reply.{reply}
 use Rattle.file_format.proofs.FirstEdition.{first-labels-low}
-use Rattle.file_format.proofs.Fields.{length-labels, length-starts}
+use Rattle.file_format.proofs.Fields.{length-labels}
 use Rattle.file_format.proofs.Refusals.{accepted, first-accept, first-refuse}
 use Rattle.file_format.proofs.Reading.{stands-size}
 use Rattle.file_write.specs.Bytes.{LabelsFit}

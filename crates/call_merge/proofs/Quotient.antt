@@ -1,15 +1,6 @@
 -- From a pattern's table on itself the passes make its classes and its quotient by them, the merged pattern, which writing does not refuse. Assumes nothing.
-use mathlib.Core.Bool.{true}
-use mathlib.Core.List.{List, []}
-use mathlib.Core.Path.{_≡_, refl, sym, ap, subst, _∙_}
-use Prim.Native.Nat.{ℕ, _+_, _≤_, _<_}
-use native.Mathlib.Nat.{le-trans, lt-of-lt-of-le}
-use native.Mathlib.Omega.{arith}
-use borrow.Author.Tests.{le-ltb, ltb-false}
-use lib.Dec.{T}
-use lib.ListN.{length, getD, take, List·getD-eq-default}
+use Rattle.base_lists.specs.Kit.{_≡_, _∙_, sym, ap, refl, subst, true, List, [], ℕ, _≤_, _<_, _+_, le-trans, lt-of-lt-of-le, T, length, getD, take, List·getD-eq-default, take-at, sets, sets-eq, arith, le-ltb, ltb-false}
 use native.Mathlib.Decide.{decLt}
-use lib.Seq.{sets, sets-eq, take-at}
 use Rattle.base_lists.proofs.Tests.{T-true, refuted}
 use Rattle.base_lists.specs.List.{Below}
 use Rattle.base_lists.proofs.Tables.{length-tabulate, getD-tabulate}

@@ -1,14 +1,6 @@
 -- What the promise of the exported calls means: a refusal is a condition on the inputs, or there is no perfect subgraph; else what the
 -- tables mark is the place, and the table is the largest dual simulation in it. Assumes nothing.
-use mathlib.Core.List.{List, _++_, List·Memᴰ}
-use mathlib.Core.Logic.{_↔_, _⊎_, inl, inr, ⊎-elim}
-use mathlib.Core.Path.{_≡_, sym, ap, _∙_}
-use Prim.Native.Nat.{ℕ, _≤_, _<_}
-use native.Mathlib.Omega.{arith}
-use borrow.Author.Tests.{ltb-true, not-false, lt-ltb}
-use lib.Dec.{T, ltb}
-use lib.ListN.{length, getD, take, drop, List·getD-append}
-use lib.Seq.{take-at, drop-at}
+use Rattle.base_lists.specs.Kit.{_≡_, _∙_, sym, ap, _↔_, ⊎-elim, _⊎_, inl, inr, List, _++_, ℕ, _≤_, _<_, T, ltb, length, getD, take, drop, List·getD-append, take-at, drop-at, arith, lt-ltb, not-false, ltb-true}
 use Rattle.base_lists.proofs.Tests.{T-true, T-false, decide}
 use Rattle.graph.specs.Circuit.{Circuit, circuitGraph}
 use Rattle.graph.specs.Graph.{Graph, DistanceEntry}
@@ -25,7 +17,7 @@ use Rattle.file_format.specs.Reading.{filled}
 use Rattle.file_format.specs.Refusals.{Condition, accept, refuse, first, fileConditions, centreOutside, Accepted}
 use Rattle.file_format.proofs.Accepted.{accepted-bounded}
 use Rattle.file_format.proofs.Fields.{length-labels, length-starts}
-use Rattle.file_format.proofs.Refusals.{accepted, first-accept, first-parts, first-holds, refuses-iff}
+use Rattle.file_format.proofs.Refusals.{accepted, first-accept, first-parts, first-holds}
 use Rattle.file_pair.specs.Pair.{pairConditions}
 use Rattle.file_pair.proofs.Both.{pair-accept, pair-parts}
 use Rattle.table.specs.Reply.{noCounts}
@@ -87,10 +79,6 @@ module _ (pattern board : CircuitFile) (w r : ℕ) (nodes links table distances 
       (result .reply .verdict ≡ refuse x) × (result .reply .counts ≡ noCounts) × (result .nodes ≡ nodes) × (result .links ≡ links) × (result .table ≡ table) × (result .distances ≡ distances)
   unfolding placeAt decided
   input-refused x e = (rw e, rw e, rw e, rw e, rw e, rw e)
-
-  -- there is such a condition exactly when some condition on the inputs holds
-  pub inputs-iff : ((x : Refusal) × (first inputs ≡ refuse x)) ↔ ((c : Condition) × List·Memᴰ c inputs × T (c .holds))
-  inputs-iff = refuses-iff inputs
 
   -- None holds where both files are accepted, the centre is a node and the tables are long enough,
   pub inputs-accept :

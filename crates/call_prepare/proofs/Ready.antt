@@ -10,7 +10,7 @@ use Rattle.file_format.specs.declared.Role.{Role}
 use Rattle.file_format.specs.declared.Role.the-variants.{Pattern}
 use Rattle.file_format.specs.declared.FileVerdict.the-variants as verdict
 use Rattle.file_format.specs.declared.Refusal.{Refusal}
-use Rattle.file_format.specs.Circuit.{Bounded, Drawn}
+use Rattle.file_format.specs.Circuit.{Bounded}
 use Rattle.file_format.specs.Layout.{CircuitFile, labelsOf, startsOf, endsOf}
 use Rattle.file_format.specs.Reading.{verdictOf, front}
 use Rattle.file_format.specs.Refusals.{accept, refuse, first, asksConnected}

@@ -1,12 +1,5 @@
 -- A buffer that has room for the longest line 513 times takes every report in one piece. Assumes nothing.
-use mathlib.Core.Bool.{not}
-use mathlib.Core.List.{List, [], _++_}
-use mathlib.Core.Path.{_≡_, refl, sym, ap, _∙_}
-use Prim.Native.Nat.{ℕ, zero, suc, _+_, _-_, _*_, _≤_, _<_, zero-le}
-use native.Mathlib.Nat.{le-refl, zero-add}
-use native.Mathlib.Omega.{arith}
-use borrow.Author.Tests.{eq-eqb, le-leb}
-use lib.ListN.{length, length-append}
+use Rattle.base_lists.specs.Kit.{_≡_, _∙_, sym, ap, refl, not, List, [], _++_, ℕ, _≤_, _<_, _+_, _-_, suc, zero, _*_, zero-le, le-refl, zero-add, length, length-append, arith, eq-eqb, le-leb}
 use Rattle.base_lists.specs.Below.{concatBelow}
 use Rattle.base_lists.proofs.Below.{leastBelow-all}
 use Rattle.graph.specs.Circuit.{Circuit}
@@ -19,7 +12,7 @@ use Rattle.report.specs.Report.{centreLine, reportOf}
 use Rattle.report.proofs.Lengths.{centre-length}
 use Rattle.report_centres.specs.Pieces.{Piece, roomy, ends, closed, linesFrom, linesTaken, centresPiece, linesPiece}
 use Rattle.call_report.specs.Call.{verdictOf, refusalPiece, pieceFor, pieceOf, reporting}
-use Rattle.call_report.specs.Whole.{itemsFor, itemsOf, prefixOf, nextOf, textOf}
+use Rattle.call_report.specs.Whole.{itemsFor, itemsOf, nextOf, textOf}
 use Rattle.call_report.proofs.Promise.{board-bounded, call-follows, next-is, items-whole}
 use Rattle.call_report.proofs.Whole.{prefix-start, places-start}
 

@@ -1,11 +1,5 @@
 -- What opening two files comes to, by cases, and what a piece knows of files that were opened. Assumes nothing.
-use mathlib.Core.List.{List, _++_}
-use mathlib.Core.Path.{_≡_, sym, ap, _∙_}
-use Prim.Native.Nat.{ℕ, _≤_, _<_}
-use native.Mathlib.Nat.{le-trans}
-use native.Mathlib.Omega.{arith}
-use lib.ListN.{length, take, drop, length-append, length-drop}
-use lib.Seq.{length-take-le, take-at}
+use Rattle.base_lists.specs.Kit.{_≡_, _∙_, sym, ap, List, _++_, ℕ, _≤_, _<_, le-trans, length, take, drop, length-append, length-drop, length-take-le, take-at, arith}
 use Rattle.file_format.specs.declared.FileVerdict.the-variants as told
 use Rattle.file_format.specs.declared.Refusal.{Refusal}
 use Rattle.file_format.specs.declared.Role.the-variants.{Pattern}

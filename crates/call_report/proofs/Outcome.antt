@@ -1,10 +1,5 @@
 -- What the call on two files comes to, by cases: a piece that is put, a buffer that is too short; a refused file, or the lines. Assumes nothing.
-use mathlib.Core.List.{List}
-use mathlib.Core.Path.{_≡_}
-use Prim.Native.Nat.{ℕ, _≤_, _<_}
-use native.Mathlib.Nat.{zero-add}
-use borrow.Author.Tests.{lt-ltb, le-ltb}
-use lib.ListN.{length}
+use Rattle.base_lists.specs.Kit.{_≡_, List, ℕ, _≤_, _<_, zero-add, length, le-ltb, lt-ltb}
 use Rattle.base_text.proofs.Text.{put-whole}
 use Rattle.file_format.specs.declared.File.the-variants.{Neither}
 use Rattle.file_format.specs.declared.Refusal.{Refusal}

@@ -1,15 +1,6 @@
 -- What the report call's promise means: calls one after another, each with a buffer of any length that holds the longest line, put the report,
 -- whole and once, and then nothing; only a shorter buffer is refused. Assumes nothing.
-use mathlib.Core.List.{List, [], _∷_, _++_}
-use mathlib.Core.Logic.{_↔_}
-use mathlib.Core.Path.{_≡_, refl, sym, ap, ap₂, _∙_}
-use Prim.Native.Nat.{ℕ, zero, suc, _≤_, _<_, zero-le}
-use native.Mathlib.Nat.{le-refl, le-trans, le-antisymm, lt-of-not-le, le-of-suc-le-suc}
-use native.Mathlib.Omega.{arith}
-use borrow.Author.Tests.{lt-ltb, le-ltb}
-use lib.Dec.{lit≤}
-use lib.ListN.{length, take, drop, length-append}
-use lib.Seq.{take-at, drop-at}
+use Rattle.base_lists.specs.Kit.{_≡_, _∙_, sym, ap, refl, ap₂, _↔_, List, [], _∷_, _++_, ℕ, _≤_, _<_, suc, zero, zero-le, le-refl, le-of-suc-le-suc, le-trans, le-antisymm, lt-of-not-le, lit≤, length, take, drop, length-append, take-at, drop-at, arith, le-ltb}
 use Rattle.file_format.specs.declared.File.the-variants.{Neither}
 use Rattle.file_format.specs.declared.Refusal.{Refusal}
 use Rattle.file_format.specs.declared.Role.the-variants.{Pattern, Board}
@@ -73,11 +64,6 @@ module _ (pattern board : CircuitFile) (from found : ℕ) (out : List ℕ) where
   -- the room needed
   abbrev need : ℕ
   need = needFor (verdictOf pattern board)
-
-  -- A buffer that is too short is refused, and keeps its content.
-  pub short-refused : length out < need → result ≡ record { reply = record { verdict = refuse eight; values = [] }; out = out }
-  unfolding reporting outcomeFor reply filled first shortTable
-  short-refused h = rw (lt-ltb (length out) need h)
 
   -- One that has room for the longest line is taken, whatever the files hold.
   module _ (room : longestLine ≤ length out) where
@@ -208,10 +194,6 @@ module _ (pattern board : CircuitFile) (buffers : ℕ → List ℕ) (rooms : (k 
   -- and it is whole as soon as a call puts nothing.
   pub report-done : (k : ℕ) → sizeOf (reporting pattern board (stage k .next) (stage k .found) (buffers k)) ≡ 0 → stage k .text ≡ reportOf pattern board
   report-done k e = whole k (none-iff pattern board (stage k .next) (stage k .found) (buffers k) (rooms k) .0 e)
-
-  -- The count that is passed on stays a 16-bit number.
-  pub found-small : (k : ℕ) → stage k .found ≤ 512
-  found-small k = rw (reached k .found) (places-few pattern board (stage k .next))
 
 -- ---- what a caller knows of an answer, and passes on
 

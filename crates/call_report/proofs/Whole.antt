@@ -1,16 +1,7 @@
 -- A piece puts the items of the report from where it starts up to where it says to go on, and puts nothing exactly past the last item. Assumes
 -- nothing.
-use mathlib.Core.Bool.{Bool, true, false, _&&_, not, cond}
-use mathlib.Core.List.{List, [], _++_, append-nil, append-assoc}
-use mathlib.Core.Logic.{_↔_, _⊎_, inl, inr}
-use mathlib.Core.Path.{_≡_, refl, sym, ap, ap₂, _∙_}
-use Prim.Native.Nat.{ℕ, zero, suc, _+_, _-_, _≤_, _<_, zero-le}
-use native.Mathlib.Nat.{le-refl, le-trans, lt-of-not-le, add-zero, zero-lt-suc, eq-or-lt-of-le}
+use Rattle.base_lists.specs.Kit.{_≡_, _∙_, sym, ap, refl, ap₂, _↔_, _⊎_, inl, inr, Bool, false, true, cond, _&&_, not, List, [], _++_, append-nil, append-assoc, ℕ, _≤_, _<_, _+_, _-_, suc, zero, zero-le, le-refl, zero-lt-suc, le-trans, eq-or-lt-of-le, add-zero, lt-of-not-le, eqb, eqb→eq, leb, length, length-append, arith, eqb-true, not-true, eqb-false, le-leb, lt-leb, leb-true, leb-false}
 use native.Mathlib.Decide.{decLt}
-use native.Mathlib.Omega.{arith}
-use borrow.Author.Tests.{le-leb, lt-leb, leb-true, leb-false, eqb-true, eqb-false, not-true}
-use lib.Dec.{eqb, leb, eqb→eq}
-use lib.ListN.{length, length-append}
 use Rattle.base_lists.specs.Below.{countBelow, concatBelow}
 use Rattle.base_lists.proofs.Below.{countBelow-le, leastBelow-le, leastBelow-at, countBelow-add}
 use Rattle.base_lists.proofs.Tests.{both-left, true-T, T-true}
@@ -24,7 +15,6 @@ use Rattle.report.proofs.Concat.{concat-add}
 use Rattle.call_report.specs.Call.{refusalPiece, pieceFor}
 use Rattle.report_centres.specs.Pieces.{linesFrom, placesFrom, roomy, linesTaken, Piece, centresPiece, ends, closed, linesPiece}
 use Rattle.call_report.specs.Whole.{itemsFor, prefixFor, placesFor, Follows}
-use Rattle.report_centres.proofs.Pieces.{ends-elsewhere}
 
 -- the lines that end a report are not empty
 end-some : (k n : ℕ) → 0 < length (endLine k n)
@@ -146,9 +136,6 @@ module _ (pattern board : Circuit) where
 
       past-text : text ≡ []
       past-text = ap (linesFrom pattern board from) past-none ∙ no-lines from
-
-      past-lined : last ≡ false
-      past-lined = ends-elsewhere n room (from + j) (length text) (λ q. omega arith)
 
       past-places : placesFrom pattern board from j ≡ 0
       unfolding placesFrom

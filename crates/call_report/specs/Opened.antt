@@ -1,8 +1,5 @@
 -- Two files that were opened for their report: what a piece is put from, so that the pieces of a long report read and match once.
-use mathlib.Core.List.{List}
-use mathlib.Core.Path.{_≡_}
-use Prim.Native.Nat.{ℕ, _≤_}
-use lib.ListN.{length, take}
+use Rattle.base_lists.specs.Kit.{_≡_, List, ℕ, _≤_, length, take}
 use Rattle.graph.specs.Circuit.{Circuit}
 use Rattle.file_format.specs.Circuit.{circuitOf, Drawn}
 use Rattle.file_format.specs.Layout.{CircuitFile}

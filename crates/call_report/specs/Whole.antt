@@ -1,11 +1,6 @@
 -- The report by calls one after another: its items, of which each call puts some, and what calls with buffers of any length long enough come
 -- to.
-use mathlib.Core.Bool.{cond}
-use mathlib.Core.List.{List, [], _++_}
-use mathlib.Core.Path.{_≡_}
-use Prim.Native.Nat.{ℕ, zero, suc, _≤_, _<_}
-use lib.Dec.{eqb, leb}
-use lib.ListN.{length, getD, take}
+use Rattle.base_lists.specs.Kit.{_≡_, cond, List, [], _++_, ℕ, _≤_, _<_, suc, zero, eqb, leb, length, getD, take}
 use Rattle.base_lists.specs.Below.{countBelow, concatBelow}
 use Rattle.graph.specs.Circuit.{Circuit}
 use Rattle.file_format.specs.Circuit.{circuitOf}

@@ -1,13 +1,5 @@
 -- The tables that opening fills hold a fresh machine. Assumes nothing.
-use mathlib.Core.Bool.{Bool, true, false, cond}
-use mathlib.Core.List.{List, _++_}
-use mathlib.Core.Path.{_≡_, refl, sym, ap, _∙_}
-use Prim.Native.Nat.{ℕ, _+_, _-_, _<_}
-use native.Mathlib.Omega.{arith}
-use borrow.Author.Tests.{ltb-true, ltb-false}
-use lib.Dec.{ltb}
-use lib.ListN.{length, getD, take, drop, replicate, length-replicate, getD-replicate, List·getD-eq-default, List·getD-append}
-use lib.Seq.{take-at, getD-append-add, getD-drop}
+use Rattle.base_lists.specs.Kit.{_≡_, _∙_, sym, ap, refl, Bool, false, true, cond, List, _++_, ℕ, _<_, _+_, _-_, ltb, length, getD, take, drop, replicate, List·getD-eq-default, length-replicate, getD-replicate, List·getD-append, take-at, getD-drop, getD-append-add, arith, ltb-false, ltb-true}
 use Rattle.base_lists.specs.List.{Below}
 use Rattle.base_lists.proofs.Tables.{length-tabulate}
 use Rattle.graph.specs.Circuit.{Circuit}

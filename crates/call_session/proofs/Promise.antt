@@ -1,9 +1,5 @@
 -- What the calls of a session promise together, for every list of cuts from a fresh one. Assumes nothing.
-use mathlib.Core.List.{List, [], _∷_, _++_}
-use mathlib.Core.Path.{_≡_, refl}
-use Prim.Native.Nat.{ℕ, _≤_}
-use borrow.Author.Tests.{le-ltb}
-use lib.ListN.{length, drop}
+use Rattle.base_lists.specs.Kit.{_≡_, refl, List, [], _∷_, _++_, ℕ, _≤_, length, drop, le-ltb}
 use Rattle.file_format.specs.Circuit.{circuitOf}
 use Rattle.file_format.specs.Layout.{CircuitFile}
 use Rattle.file_format.specs.Reading.{filled}

@@ -1,7 +1,5 @@
 -- Opening a session on two files, whole: its reply, and what the lent tables hold then.
-use mathlib.Core.List.{List, [], _∷_, _++_}
-use mathlib.Core.Path.{_≡_}
-use lib.ListN.{length, drop}
+use Rattle.base_lists.specs.Kit.{_≡_, List, [], _∷_, _++_, length, drop}
 use Rattle.graph.specs.Circuit.{Circuit}
 use Rattle.graph.specs.Neighbours.{offsetsOf, grouped}
 use Rattle.file_format.specs.declared.Refusal.{Refusal}

@@ -1,10 +1,5 @@
 -- Ask 14: what the call says, and how it stands to the place call. Assumes nothing.
-use mathlib.Core.List.{List}
-use mathlib.Core.Logic.{_↔_, ⊎-elim, Iff·trans}
-use mathlib.Core.Path.{_≡_, refl, sym, ap, _∙_}
-use Prim.Native.Nat.{ℕ, _≤_}
-use lib.Dec.{T}
-use lib.ListN.{length, take, drop}
+use Rattle.base_lists.specs.Kit.{_≡_, _∙_, sym, ap, refl, _↔_, ⊎-elim, Iff·trans, List, ℕ, _≤_, T, length, take, drop}
 use Rattle.graph.specs.Chosen.{ChosenLink}
 use Rattle.graph.specs.Circuit.{Circuit}
 use Rattle.graph.specs.Graph.{Radius}

@@ -1,12 +1,6 @@
 -- The four counts are those of the row of sets in a graph H, of which a circuit with some nodes taken is a presentation. Assumes nothing.
-use mathlib.Core.List.{List, map}
-use mathlib.Core.Logic.{_↔_, inl, inr, Iff·rfl, Iff·trans}
-use mathlib.Core.Path.{_≡_, refl, sym, ap, subst, _∙_}
-use Prim.Native.Nat.{ℕ, zero, suc, _≤_}
-use native.Mathlib.Nat.{le-of-eq}
-use native.Mathlib.Omega.{arith}
+use Rattle.base_lists.specs.Kit.{_≡_, _∙_, sym, ap, refl, subst, _↔_, inl, inr, Iff·rfl, Iff·trans, List, map, ℕ, _≤_, suc, zero, le-of-eq, length, arith}
 use lib.Count.{ones}
-use lib.ListN.{length}
 use Rattle.base_lists.specs.List.{sum}
 use Rattle.graph.specs.Circuit.{Circuit, circuitGraph}
 use Rattle.graph.specs.Graph.{Graph}

@@ -1,13 +1,5 @@
 -- Ask 13: what a list of cuts comes to, without the machine. Assumes nothing.
-use mathlib.Core.Bool.{Bool, true, false, _&&_, _||_, not, cond, and-true}
-use mathlib.Core.List.{List, [], _∷_}
-use mathlib.Core.Logic.{_↔_, Iff·rfl, Iff·trans}
-use mathlib.Core.Path.{_≡_, refl, sym, ap, ap₂, subst, _∙_}
-use Prim.Native.Nat.{ℕ, _≤_, _<_}
-use borrow.Author.Tests.{lt-ltb, not-true}
-use lib.Dec.{T, eqb, ltb}
-use lib.ListN.{length, take, drop}
-use lib.Seq.{take-at, drop-at}
+use Rattle.base_lists.specs.Kit.{_≡_, _∙_, sym, ap, refl, subst, ap₂, _↔_, Iff·rfl, Iff·trans, Bool, false, true, cond, _&&_, not, _||_, and-true, List, [], _∷_, ℕ, _≤_, _<_, T, eqb, ltb, length, take, drop, take-at, drop-at, lt-ltb, not-true}
 use Rattle.base_lists.specs.List.{any}
 use Rattle.base_lists.proofs.Tests.{both, both-right, T-true, true-T}
 use Rattle.graph.specs.Chosen.{chosen, ChosenLink}

@@ -1,13 +1,5 @@
 -- Each call is decided by its conditions, and a refusal leaves every lent table as it was. Assumes nothing.
-use mathlib.Core.Bool.{Bool, true, false, _&&_, not, cond}
-use mathlib.Core.List.{List, [], _∷_, _++_}
-use mathlib.Core.Logic.{_↔_, ⊎-elim}
-use mathlib.Core.Path.{_≡_, refl, sym, ap, _∙_}
-use Prim.Native.Nat.{ℕ}
-use native.Mathlib.Nat.{le-of-eq}
-use native.Mathlib.Omega.{arith}
-use lib.Dec.{T, ltb, ltb→lt, lt→ltb}
-use lib.ListN.{length, take}
+use Rattle.base_lists.specs.Kit.{_≡_, _∙_, sym, ap, refl, _↔_, ⊎-elim, Bool, false, true, cond, _&&_, not, List, [], _∷_, _++_, ℕ, le-of-eq, T, ltb, ltb→lt, lt→ltb, length, take, arith}
 use Rattle.base_lists.specs.List.{all, Below}
 use Rattle.base_lists.proofs.Tests.{both, both-left, both-right, all-at, at-all}
 use Rattle.graph.specs.Circuit.{Circuit}

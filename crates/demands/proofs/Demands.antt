@@ -1,13 +1,5 @@
 -- The three demands hold. Assumes nothing.
-use mathlib.Core.List.{List, [], _∷_}
-use mathlib.Core.Logic.{_↔_, ⊎-elim}
-use mathlib.Core.Path.{_≡_, refl, sym, ap, subst, _∙_}
-use Prim.Native.Nat.{ℕ, _≤_, _<_}
-use native.Mathlib.Omega.{arith}
-use borrow.Author.Tests.{lt-ltb}
-use lib.Dec.{T, ltb}
-use lib.ListN.{length, getD, take}
-use lib.Seq.{take-at}
+use Rattle.base_lists.specs.Kit.{_≡_, _∙_, sym, ap, refl, subst, _↔_, ⊎-elim, List, [], _∷_, ℕ, _≤_, _<_, T, ltb, length, getD, take, take-at, arith, lt-ltb}
 use Rattle.base_lists.specs.List.{all, Below}
 use Rattle.base_lists.proofs.Tests.{true-T, at-all}
 use Rattle.graph.specs.Graph.{Ball, Radius}

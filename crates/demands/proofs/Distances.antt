@@ -1,9 +1,5 @@
 -- Document 02, Ask 2, holds: each entry is a distance or 65,535, in the ball lookup and in both place calls. Assumes nothing.
-use mathlib.Core.List.{List}
-use mathlib.Core.Path.{_≡_, refl, sym, ap, subst, _∙_}
-use Prim.Native.Nat.{ℕ, _≤_, _<_}
-use lib.ListN.{length, getD, drop}
-use lib.Seq.{drop-at}
+use Rattle.base_lists.specs.Kit.{_≡_, _∙_, sym, ap, refl, subst, List, ℕ, _≤_, _<_, length, getD, drop, drop-at}
 use Rattle.graph.specs.Circuit.{circuitGraph, graphOf}
 use Rattle.graph.specs.Graph.{Graph, Distance, DistanceEntry, Radius}
 use Rattle.graph.proofs.Distance.{length-distances}

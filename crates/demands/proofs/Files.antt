@@ -1,5 +1,5 @@
 -- Document 01's examples of files and its table of refusals, by computation. Assumes nothing.
-use mathlib.Core.Path.{refl}
+use Rattle.base_lists.specs.Kit.{refl}
 use Rattle.base_lists.specs.List.{all, any, allBelow, tabulate, maximum}
 use Rattle.graph.specs.Neighbours.{stretch}
 use Rattle.graph.specs.Search.{beside, inside, ball, misses, distances, connected, radius}

@@ -1,12 +1,5 @@
 -- For files of the first edition all is as it was before there were packages: `first-edition`. Assumes nothing.
-use mathlib.Core.Bool.{Bool, true, false, _&&_, not}
-use mathlib.Core.List.{List, [], _∷_, _++_}
-use mathlib.Core.Path.{_≡_, refl, ap, _∙_}
-use Prim.Native.Nat.{ℕ, _+_, _*_}
-use native.Mathlib.Omega.{arith}
-use lib.Dec.{eqb}
-use borrow.Author.Tests.{le-ltb}
-use lib.ListN.{length, drop}
+use Rattle.base_lists.specs.Kit.{_≡_, _∙_, ap, refl, Bool, false, true, _&&_, not, List, [], _∷_, _++_, ℕ, _+_, _*_, eqb, length, drop, arith, le-ltb}
 use Rattle.graph.specs.Circuit.{Circuit}
 use Rattle.file_format.specs.declared.Edition.the-variants.{First}
 use Rattle.file_format.specs.declared.Role.{Role}

@@ -1,10 +1,5 @@
 -- The two groupings of specs/Groupings: one that meets the supposition, and one that does not. Assumes nothing.
-use mathlib.Core.List.{[], _∷_}
-use mathlib.Core.Logic.{Iff·rfl}
-use mathlib.Core.Path.{_≡_, refl, sym, ap, subst, _∙_}
-use Prim.Native.Nat.{ℕ, _<_}
-use lib.Dec.{eqb, ltb, eqb→eq, ltb→lt, lit≤}
-use lib.ListN.{length, getD}
+use Rattle.base_lists.specs.Kit.{_≡_, _∙_, sym, ap, refl, subst, Iff·rfl, [], _∷_, ℕ, _<_, eqb, ltb, eqb→eq, ltb→lt, lit≤, length, getD}
 use Rattle.base_lists.specs.Below.{collect, leastBelow}
 use Rattle.base_lists.specs.List.{allBelow, anyBelow, tabulate}
 use Rattle.base_lists.proofs.Tests.{allBelow-at}

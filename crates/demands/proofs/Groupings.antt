@@ -1,10 +1,5 @@
 -- Ask 11 holds: nothing more could be joined. Assumes nothing.
-use mathlib.Core.List.{List}
-use mathlib.Core.Logic.{_↔_, Iff·rfl, Iff·symm, Iff·trans}
-use mathlib.Core.Path.{_≡_, sym, ap, subst, _∙_}
-use Prim.Native.Nat.{ℕ, _≤_, _<_}
-use native.Mathlib.Nat.{le-of-eq}
-use lib.ListN.{length, getD, replicate, length-replicate}
+use Rattle.base_lists.specs.Kit.{_≡_, _∙_, sym, ap, subst, _↔_, Iff·rfl, Iff·trans, Iff·symm, List, ℕ, _≤_, _<_, le-of-eq, length, getD, replicate, length-replicate}
 use Rattle.graph.specs.Circuit.{Circuit, graphOf, circuitGraph}
 use Rattle.simulation.specs.Closed.{Relation}
 use Rattle.simulation.specs.Grouping.{AsEachMember}

@@ -1,12 +1,5 @@
 -- Ask 5 holds: the limit on a pattern's radius. Assumes nothing.
-use mathlib.Core.Bool.{Bool, true, false, cond}
-use mathlib.Core.List.{List, [], _∷_, _++_}
-use mathlib.Core.Logic.{_↔_}
-use mathlib.Core.Path.{_≡_, refl, sym, ap, subst₂, _∙_}
-use Prim.Native.Nat.{ℕ, _≤_, _<_}
-use native.Mathlib.Omega.{arith}
-use lib.Dec.{ltb}
-use lib.ListN.{length}
+use Rattle.base_lists.specs.Kit.{_≡_, _∙_, sym, ap, refl, subst₂, _↔_, Bool, false, true, cond, List, [], _∷_, _++_, ℕ, _≤_, _<_, ltb, length, arith}
 use Rattle.base_lists.proofs.Tests.{refuted}
 use Rattle.base_text.specs.Text.{bytes, digits, decimal}
 use Rattle.graph.specs.Circuit.{graphOf}

@@ -1,8 +1,5 @@
 -- Ask 3: what the load call makes. Assumes nothing.
-use mathlib.Core.List.{List, [], _∷_}
-use mathlib.Core.Path.{_≡_, sym, ap, _∙_}
-use Prim.Native.Nat.{ℕ}
-use lib.ListN.{length, getD, take}
+use Rattle.base_lists.specs.Kit.{_≡_, _∙_, sym, ap, List, [], _∷_, ℕ, length, getD, take}
 use Rattle.graph.specs.Circuit.{Circuit}
 use Rattle.file_format.specs.declared.Role.the-variants.{Board}
 use Rattle.file_format.specs.Layout.{firstEdition}

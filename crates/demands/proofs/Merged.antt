@@ -1,12 +1,6 @@
 -- Demand 3 on merging: what the merging call writes, handed to the place call with a radius given, is refused with 9 exactly when the first
 -- pattern is at that radius, and else marks the same nodes and links. Assumes nothing.
-use mathlib.Core.Bool.{Bool, cond}
-use mathlib.Core.List.{List, [], _∷_}
-use mathlib.Core.Logic.{⊎-elim}
-use mathlib.Core.Path.{_≡_, sym, ap, _∙_}
-use Prim.Native.Nat.{ℕ, _<_}
-use native.Mathlib.Omega.{arith}
-use lib.ListN.{length}
+use Rattle.base_lists.specs.Kit.{_≡_, _∙_, sym, ap, ⊎-elim, Bool, cond, List, [], _∷_, ℕ, _<_, length, arith}
 use Rattle.graph.specs.Circuit.{circuitGraph, graphOf}
 use Rattle.graph.proofs.Distance.{distance-below}
 use Rattle.file_format.specs.declared.Role.the-variants.{Pattern}

@@ -1,5 +1,5 @@
 -- Ask 8 holds. Assumes nothing.
-use mathlib.Core.Path.{sym, _∙_}
+use Rattle.base_lists.specs.Kit.{_∙_, sym}
 use Rattle.table.specs.Row.{bothWays, oneWay}
 use Rattle.table.proofs.Answer.{along-dual, along-graph}
 use Rattle.call_match.proofs.Promise as match-call

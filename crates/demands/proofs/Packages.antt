@@ -1,14 +1,5 @@
 -- Ask 6: what equal is, and the converter. Assumes nothing.
-use mathlib.Core.Bool.{Bool, true, false}
-use mathlib.Core.List.{List}
-use mathlib.Core.Logic.{_↔_}
-use mathlib.Core.Path.{_≡_, refl, sym, ap, subst, _∙_}
-use Prim.Native.Nat.{ℕ, _≤_, _<_}
-use native.Mathlib.Omega.{arith}
-use borrow.Author.Tests.{ltb-true, ltb-false}
-use lib.Dec.{ltb}
-use lib.ListN.{length, getD, take, List·getD-eq-default}
-use lib.Seq.{take-at}
+use Rattle.base_lists.specs.Kit.{_≡_, _∙_, sym, ap, refl, subst, _↔_, Bool, false, true, List, ℕ, _≤_, _<_, ltb, length, getD, take, List·getD-eq-default, take-at, arith, ltb-false, ltb-true}
 use Rattle.base_lists.specs.List.{Below}
 use Rattle.base_lists.proofs.Tables.{getD-tabulate}
 use Rattle.file_format.specs.declared.Edition.{Edition}

@@ -1,8 +1,5 @@
 -- Ask 9: what the check says, and how it stands to the place call. Assumes nothing.
-use mathlib.Core.List.{List}
-use mathlib.Core.Path.{_≡_, sym, _∙_}
-use Prim.Native.Nat.{ℕ}
-use lib.ListN.{length, take}
+use Rattle.base_lists.specs.Kit.{_≡_, _∙_, sym, List, ℕ, length, take}
 use Rattle.graph.specs.Graph.{Contains}
 use Rattle.graph.proofs.Walks.{radius-unique}
 use Rattle.file_format.specs.Circuit.{circuitOf}

@@ -1,12 +1,5 @@
 -- Ask 10: the order on circuits, the comparison of two files and the shelf. Assumes nothing.
-use mathlib.Core.List.{List, [], _∷_}
-use mathlib.Core.Logic.{_↔_}
-use mathlib.Core.Path.{_≡_, refl, sym, ap, _∙_}
-use Prim.Native.Nat.{ℕ}
-use native.Mathlib.Omega.{arith}
-use lib.Dec.{T}
-use lib.ListN.{length, take, drop}
-use lib.Seq.{take-at, drop-at}
+use Rattle.base_lists.specs.Kit.{_≡_, _∙_, sym, ap, refl, _↔_, List, [], _∷_, ℕ, T, length, take, drop, take-at, drop-at, arith}
 use Rattle.file_format.specs.declared.Refusal.{Refusal}
 use Rattle.file_format.specs.declared.Role.the-variants.{Pattern}
 use Rattle.file_format.specs.Reading.{filled}

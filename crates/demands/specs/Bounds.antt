@@ -1,10 +1,6 @@
 -- Ask 12, "A link through a few parts", quoted over what is proved of it: `Ask12`. proofs/Bounds proves it. The contract of the call equates its reply
 -- and what it leaves with `boundedMatching` of the inputs alone. A pattern of the third edition is its bytes; the board is of either edition.
-use mathlib.Core.List.{List}
-use mathlib.Core.Logic.{_↔_}
-use mathlib.Core.Path.{_≡_}
-use Prim.Native.Nat.{ℕ, _≤_}
-use lib.ListN.{length, take}
+use Rattle.base_lists.specs.Kit.{_≡_, _↔_, List, ℕ, _≤_, length, take}
 use Rattle.simulation.specs.Closed.{_⊆_}
 use Rattle.file_format.specs.declared.Role.the-variants.{Board, AnyPattern}
 use Rattle.file_format.specs.Circuit.{circuitOf}

@@ -1,11 +1,6 @@
 -- Ask 13, "Cutting tracks while searching", quoted over what is proved of it: `Ask13`. proofs/Cutting proves it. What the calls promise of the lent
 -- tables is OpenPromise, CutPromise and ReadPromise; here a list of cuts is spoken of without the machine: by the places that it names.
-use mathlib.Core.Bool.{_&&_, not, cond, false}
-use mathlib.Core.List.{List, [], _∷_, _++_}
-use mathlib.Core.Path.{_≡_}
-use Prim.Native.Nat.{ℕ, _≤_}
-use lib.Dec.{ltb}
-use lib.ListN.{length, take, drop}
+use Rattle.base_lists.specs.Kit.{_≡_, false, cond, _&&_, not, List, [], _∷_, _++_, ℕ, _≤_, ltb, length, take, drop}
 use Rattle.graph.specs.Circuit.{LinkAt}
 use Rattle.graph.specs.Graph.{Graph}
 use Rattle.simulation.specs.Simulation.{Largest}

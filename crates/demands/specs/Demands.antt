@@ -4,14 +4,8 @@
 -- A call's contract is an equation that asks nothing of its inputs: its reply and each lent table at exit are those of a definition applied to
 -- the inputs alone (`reading`, `writing`, `radiusCall`, `ballCall`, `matching`, `placeAt`, `merging`, `reporting`). That a call ends, and with a
 -- fixed reply, is that contract, proved of the code. The demands here are about the replies and tables themselves.
-use mathlib.Core.Bool.{_&&_, not}
-use mathlib.Core.List.{List, [], _∷_, _++_, map}
-use mathlib.Core.Logic.{_↔_}
-use mathlib.Core.Path.{_≡_}
-use Prim.Native.Nat.{ℕ, suc, _-_, _≤_, _<_}
+use Rattle.base_lists.specs.Kit.{_≡_, _↔_, _&&_, not, List, [], _∷_, _++_, map, ℕ, _≤_, _<_, _-_, suc, T, ltb, length, getD, take, drop, replicate}
 use lib.Count.{ones}
-use lib.Dec.{T, ltb}
-use lib.ListN.{length, getD, take, drop, replicate}
 use Rattle.base_lists.specs.List.{Below, sum}
 use Rattle.graph.specs.Circuit.{graphOf, circuitGraph}
 use Rattle.graph.specs.Graph.{Graph, Ball, Connected, Radius}

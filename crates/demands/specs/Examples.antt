@@ -1,8 +1,5 @@
 -- Document 01's examples E1 to E9, and those of the requests that came after, as statements about the definitions, in a single list. proofs/Examples proves the list.
-use mathlib.Core.List.{List, [], _∷_}
-use mathlib.Core.Path.{_≡_}
-use Prim.Native.Nat.{ℕ, _<_}
-use lib.Dec.{T}
+use Rattle.base_lists.specs.Kit.{_≡_, List, [], _∷_, ℕ, _<_, T}
 use Rattle.graph.specs.Circuit.{Circuit}
 use Rattle.file_format.specs.declared.File.the-variants.{Neither}
 use Rattle.file_format.specs.Refusals.{refuse}

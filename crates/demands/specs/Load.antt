@@ -1,11 +1,6 @@
 -- Ask 3, "A test load anyone can make again", quoted over what is proved of it: `Ask3`. proofs/Load proves it. "Turned away: 10, one of the four numbers out
 -- of its range, checked ahead of 8", and "An output under 4 + 2N + 4M bytes, M as given, is 8.": specs/Demands `loads`.
-use mathlib.Core.List.{List, [], _∷_}
-use mathlib.Core.Logic.{_↔_}
-use mathlib.Core.Path.{_≡_}
-use Prim.Native.Nat.{ℕ}
-use lib.Dec.{T}
-use lib.ListN.{length, getD, take, drop}
+use Rattle.base_lists.specs.Kit.{_≡_, _↔_, List, [], _∷_, ℕ, T, length, getD, take, drop}
 use Rattle.graph.specs.Circuit.{HasLink}
 use Rattle.file_format.specs.declared.Role.the-variants.{Board}
 use Rattle.file_format.specs.Layout.{CircuitFile, firstEdition, nodesOf, kindsOf, startsOf, endsOf}

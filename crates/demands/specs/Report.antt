@@ -1,11 +1,6 @@
 -- The report, quoted over what is proved of its text: `Reported`. proofs/Report proves it. The contract of the call equates its reply and what it leaves with
 -- `reporting` of the inputs alone; it is refused by 8 alone (specs/Demands `reports`). The program that reads the files: crate finder.
-use mathlib.Core.List.{List, [], _++_}
-use mathlib.Core.Logic.{_↔_}
-use mathlib.Core.Path.{_≡_}
-use Prim.Native.Nat.{ℕ, _≤_}
-use lib.Dec.{T}
-use lib.ListN.{length, take}
+use Rattle.base_lists.specs.Kit.{_≡_, _↔_, List, [], _++_, ℕ, _≤_, T, length, take}
 use Rattle.base_lists.specs.Below.{countBelow, concatBelow}
 use Rattle.file_format.specs.declared.Refusal.{Refusal}
 use Rattle.file_format.specs.Circuit.{circuitOf}

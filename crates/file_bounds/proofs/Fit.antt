@@ -1,10 +1,5 @@
 -- The test whether every bound is from 1 to 4. Assumes nothing.
-use mathlib.Core.Bool.{Bool, true, false, _&&_}
-use mathlib.Core.List.{List}
-use mathlib.Core.Path.{_≡_}
-use Prim.Native.Nat.{ℕ, _≤_, _<_}
-use lib.Dec.{T, leb, leb→le, le→leb}
-use lib.ListN.{length, getD}
+use Rattle.base_lists.specs.Kit.{_≡_, false, true, _&&_, List, ℕ, _≤_, _<_, T, leb, le→leb, leb→le, length, getD}
 use Rattle.base_lists.specs.List.{all}
 use Rattle.base_lists.proofs.Tests.{both, both-left, both-right, all-at, at-all, T-true, T-false}
 use Rattle.file_bounds.specs.Third.{boundsFit}

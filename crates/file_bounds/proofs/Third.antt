@@ -1,15 +1,6 @@
 -- The conditions on a file of the third edition, one after another; and what they say of the file of the second edition before the bounds.
 -- Assumes nothing.
-use mathlib.Core.Bool.{Bool, true, false, _&&_, not, cond}
-use mathlib.Core.List.{List, [], _∷_, _++_}
-use mathlib.Core.Path.{_≡_, refl, sym, ap, ap₂, subst, _∙_}
-use Prim.Native.Nat.{ℕ, _+_, _*_, _≤_, _<_}
-use native.Mathlib.Omega.{arith}
-use lib.Dec.{T, eqb, leb, ltb}
-use lib.ListN.{length, getD, take, drop}
-use lib.Seq.{getD-take, length-take-le}
-use borrow.Author.Tests.{lt-ltb, le-ltb, eq-eqb, ne-eqb, eqb-true, eqb-false, ltb-false}
-use Rattle.base_lists.specs.List.{all}
+use Rattle.base_lists.specs.Kit.{_≡_, _∙_, sym, ap, refl, subst, ap₂, Bool, false, true, cond, _&&_, not, List, [], _∷_, _++_, ℕ, _≤_, _<_, _+_, _*_, T, eqb, ltb, length, take, drop, length-take-le, getD-take, arith, eq-eqb, ne-eqb, le-ltb, lt-ltb, eqb-true, ltb-false, eqb-false}
 use Rattle.base_lists.proofs.Tests.{true-T, T-true, refuted}
 use Rattle.file_format.specs.declared.Edition.the-variants.{Second}
 use Rattle.graph.specs.Circuit.{Circuit}
@@ -17,7 +8,7 @@ use Rattle.file_format.specs.declared.FileRead.{FileRead}
 use Rattle.file_format.specs.declared.FileVerdict.the-variants as verdict
 use Rattle.file_format.specs.declared.Refusal.{Refusal}
 use Rattle.file_format.specs.declared.Role.the-variants.{AnyPattern}
-use Rattle.file_format.specs.Layout.{CircuitFile, inEdition, field, fields, lengthOf, nodesOf, linksOf, startsOf, endsOf}
+use Rattle.file_format.specs.Layout.{CircuitFile, inEdition, field, fields, nodesOf, linksOf, startsOf, endsOf}
 use Rattle.file_format.specs.Refusals.{Condition, Verdict, accept, refuse, first, linkConditions, fileConditions, sizeNumber, Accepted}
 use Rattle.file_format.specs.Reading.{verdictOf, Loaded}
 use Rattle.file_format.specs.Role.{inRange, fileOf}

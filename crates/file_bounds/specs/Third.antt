@@ -1,16 +1,11 @@
 -- The third edition of a pattern file: a file of the second edition, and a bound for each link after it.
-use mathlib.Core.Bool.{Bool, _&&_, not, cond}
-use mathlib.Core.List.{List, [], _∷_, _++_}
-use mathlib.Core.Path.{_≡_}
-use Prim.Native.Nat.{ℕ, _+_, _*_}
-use lib.Dec.{eqb, leb, ltb}
-use lib.ListN.{length, take, drop}
+use Rattle.base_lists.specs.Kit.{_≡_, Bool, cond, _&&_, not, List, [], _∷_, _++_, ℕ, _+_, _*_, eqb, ltb, leb, length, take, drop}
 use Rattle.base_lists.specs.List.{all}
 use Rattle.graph.specs.Circuit.{Circuit}
 use Rattle.file_format.specs.declared.Edition.the-variants.{Second}
 use Rattle.file_format.specs.declared.FileRead.{FileRead}
 use Rattle.file_format.specs.declared.Role.the-variants.{AnyPattern}
-use Rattle.file_format.specs.Layout.{CircuitFile, inEdition, field, fields, lengthOf, nodesOf, linksOf, startsOf, endsOf}
+use Rattle.file_format.specs.Layout.{CircuitFile, inEdition, field, fields, lengthOf, startsOf, endsOf}
 use Rattle.file_format.specs.Reading.{verdictOf, Stands}
 use Rattle.file_format.specs.Refusals.{Condition, accept, first, linkConditions}
 use Rattle.file_format.specs.Role.{inRange, fileOf}

@@ -1,15 +1,6 @@
 -- Laws of the tests on links, for the loops that go through them. Assumes nothing.
-use mathlib.Core.Bool.{Bool, true, false, cond, Bool·not-not}
-use mathlib.Core.List.{List}
-use mathlib.Core.Logic.{_⊎_, inl, inr}
-use mathlib.Core.Path.{_≡_, refl, sym, ap, _∙_}
-use Prim.Native.Nat.{ℕ, _+_, _-_, _≤_, _<_}
+use Rattle.base_lists.specs.Kit.{_≡_, _∙_, sym, ap, refl, _⊎_, inl, inr, Bool, false, true, Bool·not-not, List, ℕ, _≤_, _<_, _+_, _-_, le-trans, le-of-eq, eq-or-lt-of-le, T, eqb, ltb, ltb→lt, lt→ltb, length, getD, arith, ltb-false, ltb-true}
 use native.Mathlib.Decide.{decLt}
-use native.Mathlib.Nat.{eq-or-lt-of-le, le-trans, le-of-eq}
-use native.Mathlib.Omega.{arith}
-use lib.Dec.{T, eqb, ltb, lt→ltb, ltb→lt}
-use lib.ListN.{length, getD}
-use borrow.Author.Tests.{ltb-true, ltb-false}
 use Rattle.base_lists.specs.List.{all}
 use Rattle.base_lists.proofs.Tests.{all-at, at-all, allBelow-at, at-allBelow, T-true, T-false, true-T}
 use Rattle.graph.specs.Search.{far, radius}

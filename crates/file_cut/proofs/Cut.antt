@@ -1,13 +1,7 @@
 -- Of a file a program reads at most a byte more than the longest of its edition that its role accepts: what is read is refused as the whole file
 -- is, and an accepted file is read whole. Assumes nothing.
-use mathlib.Core.Bool.{Bool, true, false}
-use mathlib.Core.List.{List}
-use mathlib.Core.Path.{_≡_, refl, sym, ap, ap₂, _∙_}
-use Prim.Native.Nat.{ℕ, _+_, _*_, _<_, _≤_}
+use Rattle.base_lists.specs.Kit.{_≡_, _∙_, sym, ap, refl, ap₂, Bool, false, true, List, ℕ, _≤_, _<_, _+_, _*_, length, length-take-le, take-all, getD-take, arith}
 use native.Mathlib.Decide.{decLt}
-use native.Mathlib.Omega.{arith}
-use lib.ListN.{length}
-use lib.Seq.{take-all, getD-take, length-take-le}
 use Rattle.base_lists.proofs.Tests.{true-T}
 use Rattle.file_format.specs.declared.Edition.{Edition}
 use Rattle.file_format.specs.declared.Edition.the-variants.{First, Second}

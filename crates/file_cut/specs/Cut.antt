@@ -1,7 +1,5 @@
 -- How much of a file a program reads.
-use mathlib.Core.List.{List}
-use Prim.Native.Nat.{ℕ, _+_}
-use lib.ListN.{take}
+use Rattle.base_lists.specs.Kit.{List, ℕ, _+_, take}
 use Rattle.file_format.specs.declared.Edition.{Edition}
 use Rattle.file_format.specs.declared.Role.{Role}
 use Rattle.file_format.specs.Layout.{lengthOf}

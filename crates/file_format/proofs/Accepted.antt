@@ -1,9 +1,5 @@
 -- What an accepted file says of the circuit that it holds. Assumes nothing.
-use mathlib.Core.List.{List}
-use mathlib.Core.Path.{sym, _∙_}
-use Prim.Native.Nat.{ℕ}
-use lib.Dec.{T, ltb}
-use lib.ListN.{length}
+use Rattle.base_lists.specs.Kit.{_∙_, sym, List, ℕ, T, ltb, length}
 use Rattle.base_lists.specs.List.{all}
 use Rattle.base_lists.proofs.Tests.{both-left, both-right}
 use Rattle.graph.specs.Circuit.{Circuit, circuitGraph}

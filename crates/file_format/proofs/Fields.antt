@@ -1,11 +1,5 @@
 -- Laws of the fields of a stretch, for the loops that go through them. Assumes nothing.
-use mathlib.Core.List.{List, _++_}
-use mathlib.Core.Path.{_≡_, refl, ap, ap₂, _∙_}
-use Prim.Native.Nat.{ℕ, _+_, _*_, _-_, _≤_, _<_}
-use native.Mathlib.Nat.{add-sub-cancel-left}
-use native.Mathlib.Omega.{arith}
-use lib.ListN.{length, getD, take, drop, set}
-use lib.Seq.{getD-take, take-at}
+use Rattle.base_lists.specs.Kit.{_≡_, _∙_, ap, refl, ap₂, List, _++_, ℕ, _≤_, _<_, _+_, _-_, _*_, add-sub-cancel-left, length, getD, take, drop, set, take-at, getD-take, arith}
 use Rattle.file_format.specs.declared.Edition.{Edition}
 use Rattle.file_format.specs.declared.Edition.the-variants.{First, Second}
 use Rattle.file_format.specs.Label.{labels}

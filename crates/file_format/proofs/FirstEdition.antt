@@ -1,11 +1,6 @@
 -- What the editions have to do with each other: a first-edition file "counts as having all packages 0", so that its labels are its kinds.
 -- Assumes nothing.
-use mathlib.Core.List.{List, []}
-use mathlib.Core.Path.{_≡_, refl, ap, subst, _∙_}
-use Prim.Native.Nat.{ℕ, _+_, _*_, _<_}
-use native.Mathlib.Omega.{arith}
-use lib.ListN.{length, getD, drop}
-use lib.Seq.{getD-drop}
+use Rattle.base_lists.specs.Kit.{_≡_, _∙_, ap, refl, subst, List, [], ℕ, _<_, _+_, _*_, length, getD, drop, getD-drop, arith}
 use Rattle.base_lists.specs.List.{Below, tabulate}
 use Rattle.base_lists.proofs.Tables.{tabulate-same}
 use Rattle.file_format.specs.Label.{label, labels}

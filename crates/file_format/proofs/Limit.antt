@@ -1,13 +1,6 @@
 -- The limit on a pattern's radius: which patterns are refused with 11, and what a list of conditions came to before the number came in. Assumes
 -- nothing.
-use mathlib.Core.Bool.{Bool, true, false, cond}
-use mathlib.Core.List.{List, [], _∷_, _++_}
-use mathlib.Core.Logic.{_↔_}
-use mathlib.Core.Path.{_≡_, refl, sym, ap, subst, _∙_}
-use Prim.Native.Nat.{ℕ, _≤_, _<_}
-use native.Mathlib.Omega.{arith}
-use borrow.Author.Tests.{lt-ltb, le-ltb, ltb-true, ltb-false, eqb-true, eqb-false}
-use lib.Dec.{T, eqb, ltb}
+use Rattle.base_lists.specs.Kit.{_≡_, _∙_, sym, ap, refl, subst, _↔_, Bool, false, true, cond, List, [], _∷_, _++_, ℕ, _≤_, _<_, eqb, ltb, arith, le-ltb, lt-ltb, eqb-true, ltb-false, eqb-false, ltb-true}
 use Rattle.base_lists.proofs.Tests.{refuted}
 use Rattle.graph.specs.Circuit.{graphOf, circuitGraph}
 use Rattle.graph.specs.Graph.{Graph, Radius}

@@ -1,14 +1,7 @@
 -- One number per link, start times 65,536 plus end: which of two is the smaller, and when they are the same; and the condition 5 by these
 -- numbers is the condition 5 by start, then by end. Assumes nothing.
-use mathlib.Core.List.{List, _∷_, _++_}
-use mathlib.Core.Logic.{inl, inr, _↔_}
-use mathlib.Core.Path.{_≡_, ap, subst}
-use Prim.Native.Nat.{ℕ, _+_, _*_, _-_, _<_}
+use Rattle.base_lists.specs.Kit.{_≡_, ap, subst, _↔_, inl, inr, List, _∷_, _++_, ℕ, _<_, _+_, _-_, _*_, ltb, ltb→lt, lt→ltb, length, getD, List·getD-eq-default, getD-drop, arith}
 use native.Mathlib.Decide.{decLt}
-use native.Mathlib.Omega.{arith}
-use lib.Dec.{ltb, lt→ltb, ltb→lt}
-use lib.ListN.{length, getD, List·getD-eq-default}
-use lib.Seq.{getD-drop}
 use Rattle.base_lists.specs.List.{Below}
 use Rattle.base_lists.proofs.Below.{allBelow-same}
 use Rattle.base_lists.proofs.Tests.{same-test}

@@ -1,46 +1,23 @@
 -- What the reading call comes to, by cases of the verdict, and what its caller knows of it, by cases of the answer. Assumes nothing.
-use mathlib.Core.List.{List, [], _∷_, _++_}
-use mathlib.Core.Logic.{_⊎_}
-use mathlib.Core.Path.{_≡_, refl, sym, ap, _∙_}
-use Prim.Native.Nat.{ℕ, _≤_, _<_}
-use native.Mathlib.Omega.{arith}
-use borrow.Author.Tests.{ltb-false}
-use Rattle.file_format.proofs.Fields.{length-fields, length-kinds, length-packages, length-labels, length-labels-from, length-starts, length-ends, stored-front}
-use lib.Dec.{lit≤}
-use lib.ListN.{length, take, drop, length-take}
-use lib.Seq.{take-at}
+use Rattle.base_lists.specs.Kit.{_≡_, _∙_, sym, ap, refl, _⊎_, List, [], _∷_, _++_, ℕ, _≤_, _<_, lit≤, length, take, drop, length-take, take-at, arith, ltb-false}
+use Rattle.file_format.proofs.Fields.{length-kinds, length-packages, length-labels, length-labels-from, length-starts, length-ends, stored-front}
 use Rattle.graph.specs.Circuit.{Circuit, circuit}
 use Rattle.graph.specs.Search.{radius}
 use Rattle.file_format.specs.declared.File.the-variants.{Neither}
 use Rattle.file_format.specs.declared.FileRead.{FileRead}
 use Rattle.file_format.specs.declared.FileVerdict.the-variants as verdict
 use Rattle.file_format.specs.declared.Refusal.{Refusal}
-use Rattle.file_format.specs.declared.ReadAnswer.{ReadAnswer}
 use Rattle.file_format.specs.declared.ReadAnswer.the-variants.{Read, Refused}
 use Rattle.file_format.specs.declared.Role.{Role}
 use Rattle.file_format.specs.declared.Role.the-variants as role
 use Rattle.file_format.specs.Circuit.{Bounded}
 use Rattle.file_format.specs.Reading.{reading, readConditions, readAnswer, filled, verdictOf, front, Stands, Held, Loaded, LinksTested}
-use Rattle.file_format.specs.Reply.{Reply, reply, readReply}
-use Rattle.file_format.specs.Layout.{CircuitFile, fields, kindsAt, packageCount, startsAt, endsAt, nodesOf, linksOf, kindsOf, packagesOf, startsOf, endsOf, labelsOf, labelsFrom}
+use Rattle.file_format.specs.Reply.{reply, readReply}
+use Rattle.file_format.specs.Layout.{CircuitFile, fields, packageCount, startsAt, endsAt, nodesOf, linksOf, kindsOf, packagesOf, startsOf, endsOf, labelsOf, labelsFrom}
 use Rattle.file_format.specs.Refusals.{Verdict, accept, refuse, first, fileConditions, sizeNumber, linkNumber, shortTable}
 use Rattle.file_format.specs.Role.{minNodes, maxNodes, maxLinks, fileOf}
 use Rattle.file_format.proofs.Refusals.{turned, turned-accept, byNumber, number-turned, number-accept, verdict-links, first-accept, first-refuse, first-parts, first-holds, tables-short-4, tables-fit-4, accepted, range-orders}
 use Rattle.file_format.proofs.Accepted.{accepted-bounded}
-
-pub answer-turned : (r : Role) (k n m : ℕ) (v : Verdict) → v ≡ turned r k → readAnswer v n m ≡ Refused (record { number = k; file = fileOf r })
-unfolding readAnswer turned
-answer-turned r k n m v e = rw e
-
-pub answer-accept : (n m : ℕ) (v : Verdict) → v ≡ accept → readAnswer v n m ≡ Read n m
-unfolding readAnswer
-answer-accept n m v e = rw e
-
--- what an answer says of its verdict
-pub answer-refused : (n m : ℕ) (v : Verdict) (x : Refusal) → readAnswer v n m ≡ Refused x → v ≡ refuse x
-unfolding readAnswer
-answer-refused n m accept x e = cc
-answer-refused n m (refuse y) x e = cc
 
 pub answer-read : (n m : ℕ) (v : Verdict) (k l : ℕ) → readAnswer v n m ≡ Read k l → (v ≡ accept) × (k ≡ n) × (l ≡ m)
 unfolding readAnswer
@@ -52,14 +29,6 @@ answer-reply : (v : Verdict) (n m : ℕ) → readReply (readAnswer v n m) ≡ re
 unfolding readAnswer readReply reply
 answer-reply accept n m = refl
 answer-reply (refuse x) n m = refl
-
--- a reply says which answer it was
-pub readReply-injective : (a b : ReadAnswer) → readReply a ≡ readReply b → a ≡ b
-unfolding readReply
-readReply-injective (Read n m) (Read n′ m′) e = let v = ap (λ (r : Reply). r .values) e in cc
-readReply-injective (Read n m) (Refused x) e = let v = ap (λ (r : Reply). r .verdict) e in cc
-readReply-injective (Refused x) (Read n m) e = let v = ap (λ (r : Reply). r .verdict) e in cc
-readReply-injective (Refused x) (Refused y) e = let v = ap (λ (r : Reply). r .verdict) e in cc
 
 -- ---- the call, by cases
 

@@ -1,13 +1,5 @@
 -- Laws of lists of conditions, and what it says of a file that none of its conditions holds. Assumes nothing.
-use mathlib.Core.Bool.{Bool, true, false, _&&_, not, cond}
-use mathlib.Core.List.{List, [], _∷_, _++_, List·Memᴰ, List·Memᴰ·head, List·Memᴰ·tail, List·Memᴰ·not-nil, List·Memᴰ·cases-cons}
-use mathlib.Core.Logic.{_⊎_, inl, inr, _↔_, ⊎-elim}
-use mathlib.Core.Path.{_≡_, refl, sym, ap, _∙_, subst}
-use Prim.Native.Nat.{ℕ, _≤_, _<_}
-use native.Mathlib.Omega.{arith}
-use borrow.Author.Tests.{lt-ltb, le-ltb, eq-eqb, ne-eqb, ltb-false, eqb-true, not-false}
-use lib.Dec.{T, eqb, ltb, leb, leb→le}
-use lib.ListN.{length}
+use Rattle.base_lists.specs.Kit.{_≡_, _∙_, sym, ap, refl, _↔_, ⊎-elim, _⊎_, inl, inr, Bool, false, true, cond, _&&_, not, List, [], _∷_, _++_, List·Memᴰ, List·Memᴰ·cases-cons, List·Memᴰ·head, List·Memᴰ·not-nil, List·Memᴰ·tail, ℕ, _≤_, _<_, T, eqb, ltb, leb, leb→le, length, arith, eq-eqb, ne-eqb, le-ltb, lt-ltb, eqb-true, not-false, ltb-false}
 use Rattle.base_lists.specs.List.{all}
 use Rattle.base_lists.proofs.Tests.{refuted, both-false, both-left, both-right, true-T, false-T, T-true, T-false}
 use Rattle.graph.specs.Search.{connected, radius}
@@ -17,7 +9,7 @@ use Rattle.file_format.specs.declared.Role.{Role}
 use Rattle.file_format.specs.declared.Role.the-variants.{Pattern, Board, AnyPattern}
 use Rattle.file_format.specs.Layout.{CircuitFile, nodesOf, linksOf, lengthOf, startsOf, endsOf}
 use Rattle.file_format.specs.Links.{linksBelow, rising}
-use Rattle.file_format.specs.Refusals.{Accepted, Condition, Verdict, accept, refuse, NoneHolds, first, FirstHolding, linkConditions, fileConditions, widest, tooWide, asksConnected, sizeNumber, orderNumber, linkNumber, without, shortTable}
+use Rattle.file_format.specs.Refusals.{Accepted, Condition, Verdict, accept, refuse, NoneHolds, first, FirstHolding, linkConditions, fileConditions, widest, asksConnected, sizeNumber, orderNumber, linkNumber, shortTable}
 use Rattle.file_format.specs.Role.{minNodes, maxNodes, maxLinks, inRange, fileOf}
 
 -- ---- the first of a list of conditions
@@ -67,28 +59,6 @@ none-holds [] e c m t = absurd (List·Memᴰ·not-nil m)
 none-holds (d ∷ ds) e c m t =
     let (fails, rest) = first-holds d ds e in
     ⊎-elim (λ same. false-T (ap (λ (k : Condition). k .holds) same ∙ fails) t) (λ later. none-holds ds rest c later t) (List·Memᴰ·cases-cons m)
-
-refuses-some : (cs : List Condition) (x : Refusal) → first cs ≡ refuse x → (c : Condition) × List·Memᴰ c cs × T (c .holds)
-unfolding first
-refuses-some [] x e = absurd (accept-not-refuse e)
-refuses-some (c ∷ cs) x e = go (c .holds) refl e (refuses-some cs x)
-  where
-    go : (b : Bool) → c .holds ≡ b → cond b (refuse (record { number = c .number; file = c .file })) (first cs) ≡ refuse x
-        → (first cs ≡ refuse x → (d : Condition) × List·Memᴰ d cs × T (d .holds)) → (d : Condition) × List·Memᴰ d (c ∷ cs) × T (d .holds)
-    go true h e rest = (c, List·Memᴰ·head refl, true-T h)
-    go false h e rest = let (d, m, t) = rest e in (d, List·Memᴰ·tail m, t)
-
-some-refuses : (cs : List Condition) (c : Condition) → List·Memᴰ c cs → T (c .holds) → (x : Refusal) × (first cs ≡ refuse x)
-some-refuses [] c m t = absurd (List·Memᴰ·not-nil m)
-some-refuses (d ∷ ds) c m t = go (first (d ∷ ds)) refl
-  where
-    go : (v : Verdict) → first (d ∷ ds) ≡ v → (x : Refusal) × (first (d ∷ ds) ≡ refuse x)
-    go (refuse x) e = (x, e)
-    go accept e = absurd (none-holds (d ∷ ds) e c m t)
-
--- a list of conditions refuses exactly when one of them holds
-pub refuses-iff : (cs : List Condition) → ((x : Refusal) × (first cs ≡ refuse x)) ↔ ((c : Condition) × List·Memᴰ c cs × T (c .holds))
-refuses-iff cs = (λ (x, e). refuses-some cs x e, λ (c, m, t). some-refuses cs c m t)
 
 -- ---- what the first of a list of conditions means
 

@@ -1,15 +1,5 @@
 -- What the test on the links' order means: each link comes before every later one. Assumes nothing.
-use mathlib.Core.List.{List}
-use mathlib.Core.Bool.{_&&_}
-use mathlib.Core.Logic.{_⊎_, inl, inr, ⊎-elim, _↔_}
-use mathlib.Core.Path.{_≡_, subst, _∙_}
-use Prim.Native.Nat.{ℕ, zero, suc, _+_, _-_, _≤_, _<_}
-use borrow.Author.Tests.{ltb-false, eq-eqb}
-use native.Mathlib.Nat.{not-suc-le-zero}
-use native.Mathlib.Numerals.{add-one}
-use native.Mathlib.Omega.{arith}
-use lib.Dec.{T, eqb, ltb, lt→ltb, ltb→lt, eqb→eq}
-use lib.ListN.{length, getD}
+use Rattle.base_lists.specs.Kit.{_≡_, _∙_, subst, _↔_, ⊎-elim, _⊎_, inl, inr, _&&_, List, ℕ, _≤_, _<_, _+_, _-_, suc, zero, not-suc-le-zero, add-one, T, eqb, ltb, eqb→eq, ltb→lt, lt→ltb, length, getD, arith, eq-eqb, ltb-false}
 use Rattle.base_lists.proofs.Tests.{both, both-left, both-right, either-left, either-right, either-cases, allBelow-at, at-allBelow, true-T, T-false, decide}
 use Rattle.graph.specs.Rising.{LinksRise}
 use Rattle.graph.proofs.RisingLinks.{Before}

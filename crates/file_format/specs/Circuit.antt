@@ -1,8 +1,5 @@
 -- The circuit that a file holds, and what an accepted file says of it.
-use mathlib.Core.Path.{_≡_}
-use Prim.Native.Nat.{ℕ, _≤_}
-use lib.Dec.{T}
-use lib.ListN.{length}
+use Rattle.base_lists.specs.Kit.{_≡_, ℕ, _≤_, T, length}
 use Rattle.graph.specs.Circuit.{Circuit}
 use Rattle.graph.specs.Rising.{LinksRise}
 use Rattle.file_format.specs.declared.Role.{Role}

@@ -1,10 +1,6 @@
 -- The call that reads a circuit file, whole: its reply and each table's later content, from the inputs alone; and what a call that goes on
 -- with the circuit knows of a file that was read.
-use mathlib.Core.List.{List, [], _∷_, _++_}
-use mathlib.Core.Path.{_≡_}
-use Prim.Native.Nat.{ℕ, _≤_}
-use lib.Dec.{T}
-use lib.ListN.{length, take, drop}
+use Rattle.base_lists.specs.Kit.{_≡_, List, [], _∷_, _++_, ℕ, _≤_, T, length, take, drop}
 use Rattle.graph.specs.Circuit.{Circuit}
 use Rattle.graph.specs.Search.{radius}
 use Rattle.file_format.specs.declared.FileRead.{FileRead}

@@ -1,12 +1,5 @@
 -- Laws of numbers stored as bytes. Assumes nothing.
-use mathlib.Core.List.{List, [], _∷_, _++_, append-assoc}
-use mathlib.Core.Path.{_≡_, refl, sym, ap, ap₂, _∙_}
-use Prim.Native.Nat.{ℕ, _+_, _*_, _/_, _%_, _≤_, _<_}
-use native.Mathlib.Nat.{add-zero}
-use native.Mathlib.Numerals.{add-one}
-use native.Mathlib.Omega.{arith}
-use lib.ListN.{length, getD, take, drop, set, take-append-drop, length-append}
-use lib.Seq.{sets-eq, take-at, drop-at, drop-drop, take-suc, take-all, length-take-le}
+use Rattle.base_lists.specs.Kit.{_≡_, _∙_, sym, ap, refl, ap₂, List, [], _∷_, _++_, append-assoc, ℕ, _≤_, _<_, _+_, _*_, _/_, _%_, add-zero, add-one, length, getD, take, drop, set, length-append, take-append-drop, length-take-le, take-at, take-all, drop-at, take-suc, sets-eq, drop-drop, arith}
 use Rattle.file_format.specs.Reading.{filled}
 use Rattle.file_format.specs.Refusals.{accept}
 use Rattle.file_write.specs.Bytes.{bytesOf, stretchBytes, stored}

@@ -1,11 +1,5 @@
 -- What the writing call comes to, by cases of the verdict. Assumes nothing.
-use mathlib.Core.Bool.{true, false, _&&_}
-use mathlib.Core.List.{List}
-use mathlib.Core.Path.{_≡_, refl}
-use Prim.Native.Nat.{ℕ, _≤_, _<_}
-use borrow.Author.Tests.{lt-ltb, le-ltb, eq-eqb, ne-eqb, ltb-false}
-use lib.Dec.{T, eqb, eqb→eq}
-use lib.ListN.{length}
+use Rattle.base_lists.specs.Kit.{_≡_, refl, false, true, _&&_, List, ℕ, _≤_, _<_, T, eqb, eqb→eq, length, eq-eqb, ne-eqb, le-ltb, lt-ltb, ltb-false}
 use Rattle.base_lists.proofs.Tests.{refuted, both-left, both-right}
 use Rattle.file_format.specs.declared.File.the-variants.{Neither}
 use Rattle.file_format.specs.declared.Refusal.{Refusal}

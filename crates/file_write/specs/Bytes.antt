@@ -1,7 +1,5 @@
 -- The bytes of a circuit's file, in every edition.
-use mathlib.Core.List.{List, [], _∷_, _++_}
-use Prim.Native.Nat.{ℕ, _+_, _*_, _/_, _%_}
-use lib.ListN.{length, take, drop}
+use Rattle.base_lists.specs.Kit.{List, [], _∷_, _++_, ℕ, _+_, _*_, _/_, _%_, length, take, drop}
 use Rattle.graph.specs.Circuit.{Circuit}
 use Rattle.base_lists.specs.List.{Below}
 use Rattle.file_format.specs.declared.Edition.{Edition}

@@ -1,8 +1,6 @@
 -- Of a file the program reads at most a byte more than the longest that its role accepts: the report of what is read so is the report of
 -- the whole files. Assumes nothing.
-use mathlib.Core.List.{List}
-use mathlib.Core.Path.{_≡_, refl, ap₂, _∙_}
-use Prim.Native.Nat.{ℕ}
+use Rattle.base_lists.specs.Kit.{_≡_, _∙_, refl, ap₂, List, ℕ}
 use Rattle.file_format.specs.declared.Edition.the-variants.{First}
 use Rattle.file_format.specs.declared.Role.the-variants.{Pattern, Board}
 use Rattle.file_format.specs.Layout.{firstEdition}

@@ -1,9 +1,5 @@
 -- How a run ends. Assumes nothing.
-use mathlib.Core.Bool.{Bool, true, false}
-use mathlib.Core.List.{List}
-use mathlib.Core.Path.{_≡_}
-use Prim.Native.Nat.{ℕ}
-use lib.ListN.{take}
+use Rattle.base_lists.specs.Kit.{_≡_, Bool, false, true, List, ℕ, take}
 use Rattle.file_format.specs.Layout.{firstEdition}
 use Rattle.finder.specs.declared.Files.{Files}
 use Rattle.finder.specs.Printing.{Handed, endOf, Ran}

@@ -1,6 +1,5 @@
 -- How much of a file the program reads.
-use mathlib.Core.List.{List}
-use Prim.Native.Nat.{ℕ}
+use Rattle.base_lists.specs.Kit.{List, ℕ}
 use Rattle.file_format.specs.declared.Edition.the-variants.{First}
 use Rattle.file_format.specs.declared.Role.{Role}
 use Rattle.file_cut.specs.Cut as files

@@ -1,9 +1,5 @@
 -- What is held of a file, and what is handed to standard output.
-use mathlib.Core.Bool.{Bool, true, false}
-use mathlib.Core.List.{List, [], _++_}
-use mathlib.Core.Path.{_≡_}
-use Prim.Native.Nat.{ℕ, _≤_}
-use lib.ListN.{take}
+use Rattle.base_lists.specs.Kit.{_≡_, Bool, false, true, List, [], _++_, ℕ, _≤_, take}
 use Rattle.base_text.specs.Text.{bytes}
 use Rattle.file_format.specs.declared.Role.{Role}
 use Rattle.file_format.specs.declared.Role.the-variants as role

@@ -1,14 +1,5 @@
 -- The rows of specs/Search mean walks: a ball's row marks the nodes that a walk of at most r links joins to the centre. Assumes nothing.
-use mathlib.Core.Bool.{Bool, true, false, _&&_, _||_, cond}
-use mathlib.Core.List.{List, [], _∷_}
-use mathlib.Core.Logic.{_⊎_, inl, inr, _↔_, ⊎-elim, ⊎-swap}
-use mathlib.Core.Path.{_≡_, refl, sym, ap, subst, _∙_}
-use Prim.Native.Nat.{ℕ, zero, suc, _+_, _≤_, _<_, zero-le, suc-le-suc}
-use native.Mathlib.Nat.{le-step, le-of-suc-le-suc, not-suc-le-zero, zero-lt-suc, eq-or-lt-of-le, le-antisymm}
-use native.Mathlib.Omega.{arith}
-use lib.Dec.{T, eqb, ltb, eqb→eq, ltb→lt}
-use borrow.Author.Tests.{eq-eqb}
-use lib.ListN.{length, getD}
+use Rattle.base_lists.specs.Kit.{_≡_, _∙_, sym, ap, refl, subst, _↔_, ⊎-elim, _⊎_, inl, inr, ⊎-swap, Bool, false, true, cond, _&&_, _||_, List, [], _∷_, ℕ, _≤_, _<_, _+_, suc, zero, zero-le, suc-le-suc, not-suc-le-zero, le-of-suc-le-suc, zero-lt-suc, eq-or-lt-of-le, le-antisymm, le-step, T, eqb, ltb, eqb→eq, ltb→lt, length, getD, arith, eq-eqb}
 use Rattle.base_lists.specs.List.{tabulate, sum, all}
 use Rattle.base_lists.proofs.Tests.{both, both-left, both-right, either-left, either-right, either-cases, true-T, all-at}
 use Rattle.base_lists.proofs.Tables.{length-tabulate, getD-tabulate}

@@ -1,10 +1,5 @@
 -- Laws of lists whose entries are below a bound. Assumes nothing.
-use mathlib.Core.List.{List, [], _∷_, _++_}
-use Prim.Native.Nat.{ℕ, zero, suc, _+_, _≤_, _<_, suc-le-suc}
-use native.Mathlib.Nat.{lt-of-lt-of-le, not-suc-le-zero, zero-lt-suc, le-of-suc-le-suc}
-use native.Mathlib.Omega.{arith}
-use lib.ListN.{take, drop, length-take, length-drop}
-use lib.Seq.{getD-take, getD-drop}
+use Rattle.base_lists.specs.Kit.{List, [], _∷_, _++_, ℕ, _≤_, _<_, _+_, suc, zero, suc-le-suc, not-suc-le-zero, le-of-suc-le-suc, zero-lt-suc, lt-of-lt-of-le, drop, length-drop, getD-drop, arith}
 use Rattle.base_lists.specs.List.{Below}
 
 -- below a bound is below every larger one
@@ -18,14 +13,6 @@ unfolding Below
 below-drop n xs a b i h =
     let l = simp length-drop at h in
     rw (getD-drop a xs i 0) (b (a + i) (omega arith))
-
--- and its first k
-pub below-take : (n : ℕ) (xs : List ℕ) (k : ℕ) → Below n xs → Below n (take k xs)
-unfolding Below
-below-take n xs k b i h =
-    let l = simp length-take at h in
-    let h′ : i < k = omega arith in
-    rw (getD-take k xs i 0) (b i (omega arith))
 
 -- a list after another
 pub below-append : (n : ℕ) (xs ys : List ℕ) → Below n xs → Below n ys → Below n (xs ++ ys)

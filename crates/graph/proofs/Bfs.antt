@@ -1,17 +1,7 @@
 -- Breadth-first search finds the distances: what it leaves for each node is `far`, where every walk to the node is longer than the radius,
 -- and else the length of a shortest walk. The nodes are any n numbers, and the links any relation that the adjacency function lists.
 -- Assumes nothing.
-use mathlib.Core.Bool.{Bool, true, false, _||_}
-use mathlib.Core.List.{List, []}
-use mathlib.Core.Logic.{_⊎_, inl, inr, ⊎-elim}
-use mathlib.Core.Path.{_≡_, refl, sym, ap, _∙_, subst}
-use Prim.Native.Nat.{ℕ, zero, suc, _+_, _≤_, _<_, zero-le}
-use native.Mathlib.Nat.{le-refl, eq-or-lt-of-le, le-suc-iff, add-zero, add-suc, suc-add, zero-add}
-use native.Mathlib.Omega.{arith}
-use borrow.Author.Tests.{eq-eqb, ne-eqb, eqb-true, eqb-false}
-use lib.Dec.{T, eqb}
-use lib.ListN.{length, getD, drop, replicate, getD-replicate, length-replicate}
-use lib.Seq.{getD-set-same, getD-set-other}
+use Rattle.base_lists.specs.Kit.{_≡_, _∙_, sym, ap, refl, subst, ⊎-elim, _⊎_, inl, inr, Bool, false, true, _||_, List, [], ℕ, _≤_, _<_, _+_, suc, zero, zero-le, le-refl, eq-or-lt-of-le, add-zero, zero-add, add-suc, suc-add, le-suc-iff, T, eqb, length, getD, drop, replicate, length-replicate, getD-replicate, getD-set-other, getD-set-same, arith, eq-eqb, ne-eqb, eqb-true, eqb-false}
 use Rattle.base_lists.proofs.Tests.{T-true, true-T}
 use Rattle.graph.specs.Graph.{Walk, stay, step}
 use Rattle.graph.specs.Search.{far}

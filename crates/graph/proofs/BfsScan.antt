@@ -1,15 +1,5 @@
 -- What a list of visits makes of the entries and of the frontier of a breadth-first search. Assumes nothing.
-use mathlib.Core.Bool.{Bool, true, false, _||_, cond, or-true, or-false}
-use mathlib.Core.List.{List, [], _∷_, _++_}
-use mathlib.Core.Logic.{_⊎_, _↔_, inl, inr, ⊎-elim}
-use mathlib.Core.Path.{_≡_, refl, sym, ap, _∙_, subst}
-use Prim.Native.Nat.{ℕ, _≤_, _<_}
-use native.Mathlib.Nat.{le-refl}
-use native.Mathlib.Omega.{arith}
-use borrow.Author.Tests.{ltb-true, ltb-false, eq-eqb, ne-eqb, eqb-true, eqb-false}
-use lib.Dec.{T, eqb, ltb, eqb→eq, eqb-refl}
-use lib.ListN.{length, getD, drop, set, length-append, List·getD-eq-default, drop-of-length-le}
-use lib.Seq.{drop-length, drop-append-le, getD-set-same, getD-set-other}
+use Rattle.base_lists.specs.Kit.{_≡_, _∙_, sym, ap, refl, subst, _↔_, ⊎-elim, _⊎_, inl, inr, Bool, false, true, cond, _||_, or-false, or-true, List, [], _∷_, _++_, ℕ, _≤_, _<_, le-refl, T, eqb, ltb, eqb→eq, eqb-refl, length, getD, drop, set, length-append, List·getD-eq-default, drop-of-length-le, getD-set-other, getD-set-same, drop-length, drop-append-le, arith, eq-eqb, ne-eqb, eqb-true, ltb-false, eqb-false, ltb-true}
 use Rattle.base_lists.specs.List.{any, Below}
 use Rattle.base_lists.proofs.Tests.{either-left, either-right, either-cases, any-at, at-any, true-T}
 use Rattle.graph.specs.Search.{far}

@@ -1,15 +1,5 @@
 -- Each step of a breadth-first search keeps a state of a search, on lists and on the tables that stand for it. Assumes nothing.
-use mathlib.Core.Bool.{Bool, true, false, cond}
-use mathlib.Core.List.{List, [], _∷_, _++_, append-assoc, append-nil}
-use mathlib.Core.Path.{_≡_, refl, sym, ap, _∙_, subst}
-use Prim.Native.Nat.{ℕ, zero, suc, _+_, _-_, _≤_, _<_, suc-le-suc}
-use native.Mathlib.Nat.{le-of-suc-le-suc, not-suc-le-zero, zero-lt-suc, le-refl}
-use native.Mathlib.Numerals.{add-one}
-use native.Mathlib.Omega.{arith}
-use borrow.Author.Tests.{eq-eqb, ne-eqb, eqb-true, eqb-false}
-use lib.Dec.{eqb}
-use lib.ListN.{length, getD, take, drop, set, length-append, replicate, length-set, length-replicate, getD-replicate, drop-of-length-le}
-use lib.Seq.{drop-cons, length-take-le, take-suc-set, take-append-le, take-take, getD-take}
+use Rattle.base_lists.specs.Kit.{_≡_, _∙_, sym, ap, refl, subst, Bool, false, true, cond, List, [], _∷_, _++_, append-nil, append-assoc, ℕ, _≤_, _<_, _+_, _-_, suc, zero, suc-le-suc, not-suc-le-zero, le-refl, le-of-suc-le-suc, zero-lt-suc, add-one, eqb, length, getD, take, drop, set, length-set, length-append, replicate, drop-of-length-le, length-replicate, getD-replicate, length-take-le, drop-cons, getD-take, take-append-le, take-suc-set, take-take, arith, eq-eqb, ne-eqb, eqb-true, eqb-false}
 use Rattle.graph.specs.Net.{driven, driving}
 use Rattle.graph.specs.Bfs.{State, visit, scan, level, levels, start, adjacent, missing, Ready, stateOf, Searching, Searched, Found}
 use Rattle.base_lists.specs.List.{Below}

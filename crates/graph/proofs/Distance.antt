@@ -1,15 +1,5 @@
 -- The distances, the radius and the test of connectedness of specs/Search are those of specs/Graph. Assumes nothing.
-use mathlib.Core.Bool.{Bool, true, false, not, cond}
-use mathlib.Core.List.{List, [], _∷_}
-use mathlib.Core.Logic.{_⊎_, inl, inr, _↔_, _≢_, ⊎-elim}
-use mathlib.Core.Path.{_≡_, refl, sym, ap, subst, _∙_}
-use Prim.Native.Nat.{ℕ, zero, suc, _+_, _-_, _≤_, _<_, zero-le}
-use native.Mathlib.Nat.{le-refl, le-trans, le-antisymm, zero-add, lt-of-not-le, not-le-of-lt}
-use native.Mathlib.Omega.{arith}
-use lib.Dec.{T, eqb, lit<}
-use borrow.Author.Tests.{eq-eqb, ne-eqb}
-use lib.ListN.{length, getD}
-use lib.Seq.{ext-getD}
+use Rattle.base_lists.specs.Kit.{_≡_, _∙_, sym, ap, refl, subst, _↔_, ⊎-elim, _⊎_, inl, inr, _≢_, Bool, false, true, cond, not, List, [], _∷_, ℕ, _≤_, _<_, _+_, _-_, suc, zero, zero-le, le-refl, le-trans, zero-add, le-antisymm, lt-of-not-le, not-le-of-lt, T, eqb, lit<, length, getD, ext-getD, arith, eq-eqb, ne-eqb}
 use Rattle.base_lists.specs.List.{all, tabulate, maximum}
 use Rattle.base_lists.proofs.Tests.{T-true, T-false, decide, all-at, at-all}
 use Rattle.base_lists.proofs.Tables.{length-tabulate, getD-tabulate, is-tabulate}

@@ -1,13 +1,5 @@
 -- Laws of neighbour tables that are handed on as two lists: what filling them leaves, and what a caller may take from them. Assumes nothing.
-use mathlib.Core.List.{List, _++_}
-use mathlib.Core.Logic.{_⊎_, _↔_, inl, inr, ⊎-elim}
-use mathlib.Core.Path.{_≡_, sym, subst, _∙_}
-use Prim.Native.Nat.{ℕ, suc, _≤_, _<_}
-use native.Mathlib.Nat.{le-refl}
-use native.Mathlib.Omega.{arith}
-use lib.Dec.{T, ltb, lt→ltb}
-use lib.ListN.{length, getD, length-append}
-use lib.Seq.{getD-take}
+use Rattle.base_lists.specs.Kit.{_≡_, _∙_, sym, subst, _↔_, ⊎-elim, _⊎_, inl, inr, List, _++_, ℕ, _≤_, _<_, suc, le-refl, T, ltb, lt→ltb, length, getD, length-append, getD-take, arith}
 use Rattle.base_lists.specs.List.{all, part, Occurs, Below}
 use Rattle.base_lists.proofs.Parts.{length-part-le, halved, part-first, part-second, length-halved}
 use Rattle.base_lists.proofs.Tests.{at-all}

@@ -1,12 +1,6 @@
 -- Breadth-first search as a computation on lists, over any adjacency function: what the contracts of the search cite.
 -- proofs/Bfs ties it to the walks of Graph.
-use mathlib.Core.Bool.{cond}
-use mathlib.Core.List.{List, [], _∷_, _++_}
-use mathlib.Core.Logic.{_⊎_, _↔_}
-use mathlib.Core.Path.{_≡_}
-use Prim.Native.Nat.{ℕ, zero, suc, _+_, _≤_, _<_}
-use lib.Dec.{eqb}
-use lib.ListN.{length, getD, take, drop, set, replicate}
+use Rattle.base_lists.specs.Kit.{_≡_, _↔_, _⊎_, cond, List, [], _∷_, _++_, ℕ, _≤_, _<_, _+_, suc, zero, eqb, length, getD, take, drop, set, replicate}
 use Rattle.base_lists.specs.List.{Occurs, Below}
 use Rattle.graph.specs.Graph.{Walk}
 use Rattle.graph.specs.Net.{driven, driving}

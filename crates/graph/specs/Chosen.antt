@@ -1,7 +1,5 @@
 -- Links chosen by a byte for each: 1 for chosen, anything else for left out.
-use mathlib.Core.List.{List}
-use Prim.Native.Nat.{ℕ, zero}
-use lib.Dec.{T}
+use Rattle.base_lists.specs.Kit.{List, ℕ, zero, T}
 use Rattle.base_lists.specs.Below.{keepFrom}
 use Rattle.graph.specs.Circuit.{Circuit, LinkAt}
 use Rattle.graph.specs.Search.{inside}

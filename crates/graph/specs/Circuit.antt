@@ -1,8 +1,5 @@
 -- A circuit's graph. A circuit is given by how many nodes it has and by two parallel lists, the link starts and the link ends.
-use mathlib.Core.List.{List}
-use mathlib.Core.Path.{_≡_}
-use Prim.Native.Nat.{ℕ, _<_}
-use lib.ListN.{length, getD}
+use Rattle.base_lists.specs.Kit.{_≡_, List, ℕ, _<_, length, getD}
 use Rattle.graph.specs.Graph.{Graph}
 
 -- The i-th link goes from the i-th start to the i-th end.

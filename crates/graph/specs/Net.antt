@@ -1,9 +1,6 @@
 -- The neighbour tables of a graph of at most 512 nodes and 4,096 links, as they are handed on: one list has the offsets of the forward
 -- table and then those of the backward one, with room for 513 each; another has the two link tables, with room for 4,096 each.
-use mathlib.Core.List.{List}
-use mathlib.Core.Path.{_≡_}
-use Prim.Native.Nat.{ℕ, suc, _≤_, _<_}
-use lib.ListN.{length, getD}
+use Rattle.base_lists.specs.Kit.{_≡_, List, ℕ, _≤_, _<_, suc, length, getD}
 use Rattle.base_lists.specs.List.{part, Below}
 use Rattle.graph.specs.Neighbours.{select, below, stretch}
 

@@ -1,14 +1,5 @@
 -- Choosing in place, entry by entry: the chosen ones of those passed stand in front, and those to come are as they were. Assumes nothing.
-use mathlib.Core.Bool.{Bool, true, false, cond}
-use mathlib.Core.List.{List, [], _∷_, _++_, append-nil}
-use mathlib.Core.Path.{_≡_, refl, sym, ap, ap₂, _∙_}
-use Prim.Native.Nat.{ℕ, zero, suc, _+_, _≤_, _<_}
-use native.Mathlib.Nat.{add-zero}
-use native.Mathlib.Numerals.{add-one}
-use native.Mathlib.Omega.{arith}
-use borrow.Author.Tests.{eq-eqb, ne-eqb}
-use lib.ListN.{length, getD, take, set, length-set}
-use lib.Seq.{take-suc, take-suc-set, take-all, getD-set-other, length-take-le}
+use Rattle.base_lists.specs.Kit.{_≡_, _∙_, sym, ap, refl, ap₂, Bool, false, true, cond, List, [], _∷_, _++_, append-nil, ℕ, _≤_, _<_, _+_, suc, zero, add-zero, add-one, length, getD, take, set, length-set, length-take-le, getD-set-other, take-all, take-suc, take-suc-set, arith, eq-eqb, ne-eqb}
 use Rattle.base_lists.specs.Below.{keepFrom}
 use Rattle.graph.specs.Chosen.{picked}
 use Rattle.graph.specs.Search.{inside}

@@ -1,14 +1,5 @@
 -- Laws of following links to nodes by their sets. Assumes nothing.
-use mathlib.Core.Bool.{Bool, true, false, cond, _&&_}
-use mathlib.Core.List.{List, [], _∷_}
-use mathlib.Core.Logic.{_⊎_, _↔_, inl, inr, ⊎-elim}
-use mathlib.Core.Path.{_≡_, refl, sym, ap, _∙_, subst}
-use Prim.Native.Nat.{ℕ, zero, suc, _+_, _^_, _≤_, _<_, suc-le-suc}
-use native.Mathlib.Nat.{zero-lt-suc, not-suc-le-zero, le-of-suc-le-suc}
-use native.Mathlib.Numerals.{add-one}
-use lib.Dec.{T}
-use lib.ListN.{length, getD, drop, drop-of-length-le}
-use lib.Seq.{drop-cons}
+use Rattle.base_lists.specs.Kit.{_≡_, _∙_, sym, ap, refl, subst, _↔_, ⊎-elim, _⊎_, inl, inr, Bool, false, true, cond, _&&_, List, [], _∷_, ℕ, _≤_, _<_, _+_, suc, zero, _^_, suc-le-suc, not-suc-le-zero, le-of-suc-le-suc, zero-lt-suc, add-one, T, length, getD, drop, drop-of-length-le, drop-cons}
 use Rattle.base_lists.specs.List.{Occurs, Below}
 use Rattle.base_lists.proofs.Tests.{both, T-true, T-false, true-T, false-T, at-anyBelow}
 use Rattle.base_bits.specs.Bits.{bit, numberOf, intersects}

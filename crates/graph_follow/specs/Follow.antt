@@ -1,8 +1,5 @@
 -- Following links to nodes by their sets: what the search for a component does, and what lists the nodes that a round has to look at.
-use mathlib.Core.Bool.{cond}
-use mathlib.Core.List.{List, [], _∷_, _++_}
-use Prim.Native.Nat.{ℕ}
-use lib.ListN.{getD}
+use Rattle.base_lists.specs.Kit.{cond, List, [], _∷_, _++_, ℕ, getD}
 use Rattle.base_bits.specs.Bits.{intersects}
 use Rattle.graph.specs.Bfs.{State, visit}
 use Rattle.graph.specs.Net.{driven, driving}

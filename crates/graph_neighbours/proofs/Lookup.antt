@@ -1,9 +1,5 @@
 -- Laws of the lookup. Assumes nothing.
-use mathlib.Core.List.{List}
-use mathlib.Core.Path.{_≡_, ap}
-use Prim.Native.Nat.{ℕ, suc, _+_, _<_}
-use native.Mathlib.Numerals.{add-one}
-use lib.ListN.{getD}
+use Rattle.base_lists.specs.Kit.{_≡_, ap, List, ℕ, _<_, _+_, suc, add-one, getD}
 use Rattle.base_lists.specs.List.{Below}
 use Rattle.graph.specs.Net.{Net}
 use Rattle.graph.proofs.Net.{driven-below, driving-below}

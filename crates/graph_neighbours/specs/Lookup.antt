@@ -1,6 +1,5 @@
 -- The neighbour lookup: "The neighbour lookup, told a direction, hands out that stretch of the one table or the other."
-use mathlib.Core.List.{List}
-use Prim.Native.Nat.{ℕ}
+use Rattle.base_lists.specs.Kit.{List, ℕ}
 use Rattle.graph.specs.Neighbours.{stretch}
 use Rattle.graph.specs.Net.{driven, driving}
 use Rattle.graph_neighbours.specs.declared.neighbours.Direction.{Direction}

@@ -1,17 +1,7 @@
 -- The balls as sets: what is in each, the balls at radius 0 and 1, and one round. Assumes nothing.
-use mathlib.Core.Bool.{Bool, true, false, _&&_, _||_, or-false}
-use mathlib.Core.List.{List, []}
-use mathlib.Core.Logic.{_⊎_, inl, inr, _↔_, ⊎-elim, ⊎-swap}
-use mathlib.Core.Path.{_≡_, refl, sym, ap, subst, _∙_}
-use Prim.Native.Nat.{ℕ, suc, _+_, _^_, _≤_, _<_}
+use Rattle.base_lists.specs.Kit.{_≡_, _∙_, sym, ap, refl, subst, _↔_, ⊎-elim, _⊎_, inl, inr, ⊎-swap, Bool, false, true, _&&_, _||_, or-false, List, [], ℕ, _≤_, _<_, _+_, suc, _^_, not-suc-le-zero, lt-of-lt-of-le, not-le-of-lt, T, eqb, eqb→eq, length, getD, take, set, length-set, length-take, getD-set-other, getD-set-same, getD-take, arith, eq-eqb, eqb-true, eqb-false}
 use native.Mathlib.Decide.{decLt}
-use native.Mathlib.Nat.{lt-of-lt-of-le, not-le-of-lt, not-suc-le-zero}
-use native.Mathlib.Omega.{arith}
-use borrow.Author.Tests.{eq-eqb, eqb-true, eqb-false}
 use lib.Bits.{bitOr}
-use lib.Dec.{T, eqb, eqb→eq}
-use lib.ListN.{length, getD, set, take, length-take, length-set}
-use lib.Seq.{getD-take, getD-set-same, getD-set-other}
 use Rattle.base_bits.specs.Bits.{bit, numberOf}
 use Rattle.base_bits.proofs.Digits.{same-bits, bit-or, bit-single}
 use Rattle.base_bits.proofs.Numbers.{bit-number-all, number-lt}

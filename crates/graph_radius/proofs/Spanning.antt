@@ -1,17 +1,7 @@
 -- The radius by balls: it is the first radius at which every ball has every node, and `far` where there is none; and a circuit is connected
 -- exactly when its radius is not `far`. Assumes nothing.
-use mathlib.Core.Bool.{true, false, not}
-use mathlib.Core.List.{List}
-use mathlib.Core.Logic.{_≢_, ⊎-elim}
-use mathlib.Core.Path.{_≡_, refl, sym, ap, ap₂, subst, _∙_}
-use Prim.Native.Nat.{ℕ, zero, suc, _+_, _^_, _≤_, _<_}
+use Rattle.base_lists.specs.Kit.{_≡_, _∙_, sym, ap, refl, subst, ap₂, ⊎-elim, _≢_, false, true, not, List, ℕ, _≤_, _<_, _+_, suc, zero, _^_, not-suc-le-zero, le-of-suc-le-suc, le-trans, le-of-eq, eq-or-lt-of-le, le-antisymm, pow-suc, add-one, T, eqb, ltb, eqb→eq, not-T, T-not, length, getD, arith, eq-eqb}
 use native.Mathlib.Decide.{decLt}
-use native.Mathlib.Nat.{le-trans, le-antisymm, le-of-eq, le-of-suc-le-suc, not-suc-le-zero, eq-or-lt-of-le, pow-suc}
-use native.Mathlib.Numerals.{add-one}
-use native.Mathlib.Omega.{arith}
-use borrow.Author.Tests.{eq-eqb}
-use lib.Dec.{T, eqb, ltb, eqb→eq, not-T, T-not}
-use lib.ListN.{length, getD}
 use Rattle.base_bits.specs.Bits.{bit, numberOf}
 use Rattle.base_bits.proofs.Digits.{same-bits-below}
 use Rattle.base_bits.proofs.Numbers.{bit-number, number-lt}

@@ -1,11 +1,6 @@
 -- The balls around all nodes of a circuit at once, each a set of nodes as a number.
-use mathlib.Core.Bool.{Bool, true}
-use mathlib.Core.List.{List}
-use mathlib.Core.Path.{_≡_}
-use Prim.Native.Nat.{ℕ, _^_}
+use Rattle.base_lists.specs.Kit.{_≡_, Bool, true, List, ℕ, _^_, T, eqb, ltb, length, getD, set}
 use lib.Bits.{bitOr}
-use lib.Dec.{T, eqb, ltb}
-use lib.ListN.{length, getD, set}
 use Rattle.base_bits.specs.Bits.{numberOf, unionOver}
 use Rattle.base_lists.specs.List.{all, tabulate}
 use Rattle.graph.specs.Search.{inside, ball, radius}

@@ -1,8 +1,5 @@
 -- The promises of a session's calls, as a host program sees them. Assumes nothing.
-use mathlib.Core.List.{List, [], _∷_}
-use mathlib.Core.Path.{_≡_, refl, sym, ap, ap₂, _∙_}
-use Prim.Native.Nat.{ℕ}
-use lib.ListN.{length}
+use Rattle.base_lists.specs.Kit.{_≡_, _∙_, sym, ap, refl, ap₂, List, [], _∷_, ℕ, length}
 use Rattle.graph.specs.Circuit.{circuitGraph}
 use Rattle.simulation.specs.Simulation.{Largest}
 use Rattle.file_format.specs.Circuit.{circuitOf}
@@ -17,12 +14,11 @@ use Rattle.table.specs.Host.{KindsMatch}
 use Rattle.table.specs.Row.{InTable}
 use Rattle.call_session.specs.declared.OpenAnswer.{OpenAnswer}
 use Rattle.call_session.specs.Call.{openConditions, openVerdict, OpenPromise}
-use Rattle.session.specs.Machine.{Machine, fresh, cutReply, cutMachine, replies, machineAfter, boardLeft, machineTable}
-use Rattle.session.specs.Session.{cutState}
+use Rattle.session.specs.Machine.{Machine, fresh, replies, machineAfter, boardLeft, machineTable}
 use Rattle.session.specs.State.{State, state, Holds}
-use Rattle.session.specs.Tables.{nodesIn, cutAnswered, CutMade, cutsAnswered, cutsTables, readVerdict, tableIn, ReadMade}
+use Rattle.session.specs.Tables.{CutMade, cutsAnswered, cutsTables, ReadMade}
 use Rattle.session.proofs.Run.{machine-largest}
-use Rattle.session.proofs.Tables.{nodes-held, answered-held, tables-held, cut-held, cut-refused, cuts-held, table-held}
+use Rattle.session.proofs.Tables.{nodes-held, cuts-held, table-held}
 use Rattle.heronditch_reply.specs.declared.HostReply.{HostReply}
 use Rattle.heronditch_reply.specs.Replies.{slots, numberOf}
 use Rattle.heronditch.specs.Session.{HostOpen, HostCut, HostTable, HostCuts, hostReplies}
@@ -60,33 +56,9 @@ pub host-table :
     {fixed sets before after : List ℕ} {a : files.Reply} {r : HostReply} → ReadMade fixed sets before a after → r ≡ slots a → HostTable fixed sets before r after
 host-table p e = record { replied = e ∙ ap slots (p .replied); table = p .table }
 
--- ---- what they come to: a number other than 0 leaves the tables as they were, whatever they hold; where they hold a machine, the reply and the tables are the machine's
-
-module _ {before after : State} {link : ℕ} {r : HostReply} (c : HostCut before link r after) where
-  pub cut-keeps : (r .number ≡ 0 → ⊥) → after ≡ before
-  unfolding slots numberOf files.reply
-  cut-keeps other = go (cutAnswered before link) refl
-    where
-      go : (v : Verdict) → cutAnswered before link ≡ v → after ≡ before
-      go accept e = absurd (other (ap (λ (x : HostReply). x .number) (c .replied ∙ ap (λ (v : Verdict). slots (files.reply v [])) e)))
-      go (refuse x) e = c .tables ∙ cut-refused before link x e
-
-  pub cut-machine : (m : Machine) → Holds m before → (r ≡ slots (files.reply (cutReply m link) [])) × Holds (cutMachine m link) after × (after ≡ cutState m link before)
-  cut-machine m h = (
-    c .replied ∙ ap (λ (v : Verdict). slots (files.reply v [])) (answered-held h link),
-    rw (c .tables) (cut-held h link),
-    c .tables ∙ tables-held h link,
-  )
+-- ---- what reading out comes to where the tables hold a machine
 
 module _ {fixed sets before after : List ℕ} {r : HostReply} (c : HostTable fixed sets before r after) where
-  pub table-keeps : (r .number ≡ 0 → ⊥) → after ≡ before
-  unfolding slots numberOf files.reply filled
-  table-keeps other = go (readVerdict fixed before) refl
-    where
-      go : (v : Verdict) → readVerdict fixed before ≡ v → after ≡ before
-      go accept e = absurd (other (ap (λ (x : HostReply). x .number) (c .replied ∙ ap (λ (v : Verdict). slots (files.reply v (nodesIn fixed ∷ []))) e)))
-      go (refuse x) e = c .table ∙ ap (λ (v : Verdict). filled v (tableIn fixed sets) before) e
-
   pub table-machine :
       (m : Machine) (offsets numbers ends : List ℕ) → Holds m (state fixed offsets numbers ends sets) →
       let verdict = first (shortTable (length (m .board .kinds)) (length before) ∷ []) in

@@ -1,9 +1,6 @@
 -- The calls as a host program sees them: each reply is a struct of numbers, in which number 0 stands for acceptance. What is below gives
 -- document 01's reply in that form; the calls themselves are those of the crates below.
-use mathlib.Core.Bool.{cond}
-use mathlib.Core.List.{List, [], _∷_}
-use Prim.Native.Nat.{ℕ}
-use lib.ListN.{length}
+use Rattle.base_lists.specs.Kit.{cond, List, [], _∷_, ℕ, length}
 use Rattle.file_format.specs.Layout.{CircuitFile}
 use Rattle.file_format.specs.Reading.{ReadOutcome, filled}
 use Rattle.file_format.specs.Refusals.{first, shortTable}

@@ -1,10 +1,5 @@
 -- Laws of the draws. Assumes nothing.
-use mathlib.Core.Path.{_≡_, sym, ap, _∙_}
-use Prim.Native.Nat.{ℕ, zero, suc, _+_, _*_, _/_, _^_, _<_}
-use native.Mathlib.Nat.{mod-lt, add-zero, add-suc}
-use native.Mathlib.Numerals.{add-one}
-use native.Mathlib.Omega.{arith}
-use lib.ListN.{length, getD}
+use Rattle.base_lists.specs.Kit.{_≡_, _∙_, sym, ap, ℕ, _<_, _+_, suc, zero, _*_, _^_, _/_, add-zero, add-suc, mod-lt, add-one, length, getD, arith}
 use Rattle.base_lists.proofs.Tables.{length-tabulate, getD-tabulate}
 use Rattle.load.specs.Draws.{step, draw, stepped, draws}
 

@@ -1,13 +1,5 @@
 -- What the load is: N nodes, a link exactly where its pair was drawn, rising, no more than M, and within what a board may have. Assumes nothing.
-use mathlib.Core.Bool.{Bool, _&&_}
-use mathlib.Core.List.{List}
-use mathlib.Core.Logic.{_↔_}
-use mathlib.Core.Path.{_≡_, refl, sym, ap, subst, _∙_}
-use Prim.Native.Nat.{ℕ, _+_, _*_, _≤_, _<_}
-use native.Mathlib.Omega.{arith}
-use borrow.Author.Tests.{eq-eqb}
-use lib.Dec.{T, eqb, ltb, leb, lt→ltb, eqb→eq, leb→le, le→leb}
-use lib.ListN.{length, getD}
+use Rattle.base_lists.specs.Kit.{_≡_, _∙_, sym, ap, refl, subst, _↔_, Bool, _&&_, List, ℕ, _≤_, _<_, _+_, _*_, T, eqb, ltb, eqb→eq, leb, lt→ltb, le→leb, leb→le, length, getD, arith, eq-eqb}
 use Rattle.base_lists.specs.List.{all}
 use Rattle.base_lists.proofs.Tests.{both, both-left, both-right, true-T, at-all, anyBelow-at, at-anyBelow}
 use Rattle.graph.specs.Circuit.{HasLink}

@@ -1,6 +1,5 @@
 -- The numbers that a test load draws, one after another (document 02, Ask 3).
-use mathlib.Core.List.{List}
-use Prim.Native.Nat.{ℕ, zero, suc, _+_, _*_, _/_, _%_, _^_}
+use Rattle.base_lists.specs.Kit.{List, ℕ, _+_, suc, zero, _*_, _^_, _/_, _%_}
 use Rattle.base_lists.specs.List.{tabulate}
 
 -- "A step turns s into (1,664,525 times s + 1,013,904,223) mod 2^32"

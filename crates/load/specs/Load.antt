@@ -1,11 +1,6 @@
 -- The test load (document 02, Ask 3): "The load is fixed by four 32-bit numbers: seed, N, M and K, with N from 1 to 512, M at most 4,096 and K
 -- from 1 to 65,536."
-use mathlib.Core.Bool.{Bool, _&&_}
-use mathlib.Core.List.{List}
-use mathlib.Core.Path.{_≡_}
-use Prim.Native.Nat.{ℕ, _+_, _*_, _≤_, _<_}
-use lib.Dec.{eqb, leb}
-use lib.ListN.{getD}
+use Rattle.base_lists.specs.Kit.{_≡_, Bool, _&&_, List, ℕ, _≤_, _<_, _+_, _*_, eqb, leb, getD}
 use Rattle.base_lists.specs.List.{anyBelow}
 use Rattle.graph.specs.Circuit.{Circuit}
 use Rattle.graph_pairs.specs.Pairs.{pairStarts, pairEnds}

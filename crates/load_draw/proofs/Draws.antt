@@ -1,8 +1,5 @@
 -- Draws stored one after another at the front of a table. Assumes nothing.
-use mathlib.Core.List.{List, _++_}
-use mathlib.Core.Path.{_≡_}
-use Prim.Native.Nat.{ℕ, _+_, _<_}
-use lib.ListN.{length, set, drop}
+use Rattle.base_lists.specs.Kit.{_≡_, List, _++_, ℕ, _<_, _+_, length, drop, set}
 use Rattle.base_lists.proofs.Tables.{filled-none, filled-more}
 use Rattle.load.specs.Draws.{step, draw, stepped, draws}
 

@@ -1,9 +1,5 @@
 -- What the program tells of a load. Assumes nothing.
-use mathlib.Core.List.{List, [], _∷_}
-use mathlib.Core.Path.{_≡_, refl, sym, ap, _∙_}
-use Prim.Native.Nat.{ℕ, _≤_}
-use native.Mathlib.Omega.{arith}
-use lib.ListN.{length, take}
+use Rattle.base_lists.specs.Kit.{_≡_, _∙_, sym, ap, refl, List, [], _∷_, ℕ, _≤_, length, take, arith}
 use Rattle.file_format.specs.declared.Refusal.{Refusal}
 use Rattle.file_format.specs.declared.Edition.the-variants.{First}
 use Rattle.file_format.specs.Layout.{lengthOf}

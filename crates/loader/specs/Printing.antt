@@ -1,10 +1,6 @@
 -- What the program hands over and tells of a load.
-use mathlib.Core.Bool.{cond}
-use mathlib.Core.List.{List}
-use mathlib.Core.Path.{_≡_}
-use Prim.Native.Nat.{ℕ}
+use Rattle.base_lists.specs.Kit.{_≡_, cond, List, ℕ, length, take}
 use lib.IntN.{ℤ}
-use lib.ListN.{length, take}
 use Rattle.output.specs.Writing.{isError}
 use Rattle.load.specs.Load.{InRange}
 use Rattle.call_load.specs.Call.{loadBytes}

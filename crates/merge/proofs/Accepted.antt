@@ -1,7 +1,6 @@
 -- Merging a pattern gives a pattern: the merged circuit meets every condition on the content of a pattern file, is no longer and has no
 -- larger radius. Assumes nothing.
-use Prim.Native.Nat.{_≤_}
-use lib.ListN.{length}
+use Rattle.base_lists.specs.Kit.{_≤_, length}
 use Rattle.graph.specs.Circuit.{Circuit}
 use Rattle.file_format.specs.declared.Edition.{Edition}
 use Rattle.file_format.specs.Layout.{lengthOf}

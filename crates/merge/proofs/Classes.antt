@@ -1,13 +1,6 @@
 -- The classes of a pattern's parts: sharing a class is matching each other, and classes are numbered by their smallest part, rising.
 -- Assumes nothing.
-use mathlib.Core.Bool.{Bool}
-use mathlib.Core.Logic.{_↔_}
-use mathlib.Core.Path.{_≡_, sym, ap, subst, _∙_}
-use Prim.Native.Nat.{ℕ, _≤_, _<_, zero-le}
-use native.Mathlib.Nat.{lt-of-le-of-lt}
-use borrow.Author.Tests.{eq-eqb}
-use lib.Dec.{T, eqb→eq}
-use lib.ListN.{length, getD}
+use Rattle.base_lists.specs.Kit.{_≡_, _∙_, sym, ap, subst, _↔_, Bool, ℕ, _≤_, _<_, zero-le, lt-of-le-of-lt, T, eqb→eq, length, getD, eq-eqb}
 use Rattle.base_lists.specs.Below.{countBelow}
 use Rattle.base_lists.proofs.Tests.{both, both-left, both-right, true-T, same-test}
 use Rattle.base_lists.proofs.Tables.{length-tabulate, getD-tabulate}

@@ -1,9 +1,5 @@
 -- A circuit that can be the content of a pattern file. Assumes nothing.
-use mathlib.Core.Path.{_≡_, sym, _∙_}
-use Prim.Native.Nat.{ℕ, _≤_, _<_}
-use native.Mathlib.Nat.{le-trans}
-use lib.Dec.{T, ltb, lit≤}
-use lib.ListN.{length}
+use Rattle.base_lists.specs.Kit.{_≡_, _∙_, sym, ℕ, _≤_, _<_, le-trans, T, ltb, lit≤, length}
 use Rattle.base_lists.specs.List.{all}
 use Rattle.base_lists.proofs.Tests.{both-left, both-right}
 use Rattle.graph.specs.Circuit.{Circuit, circuitGraph}

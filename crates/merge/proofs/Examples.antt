@@ -1,8 +1,5 @@
 -- Document 01's examples of merging, by computation. Assumes nothing.
-use mathlib.Core.List.{List, [], _∷_}
-use mathlib.Core.Path.{_≡_, refl, ap, subst, _∙_}
-use Prim.Native.Nat.{ℕ}
-use lib.Dec.{lit≤}
+use Rattle.base_lists.specs.Kit.{_≡_, _∙_, ap, refl, subst, List, [], _∷_, ℕ, lit≤}
 use Rattle.base_lists.specs.List.{all, allBelow, anyBelow, tabulate, maximum}
 use Rattle.base_lists.specs.Below.{leastBelow, collect}
 use Rattle.base_bits.specs.Bits.{bit}

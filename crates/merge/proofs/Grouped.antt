@@ -1,15 +1,6 @@
 -- A grouping of a pattern's parts, its members of the same kind, makes a pattern: it is the quotient of the pattern by the grouping, meets every
 -- condition on the content of a pattern file, is no longer and has no larger radius. Assumes nothing.
-use mathlib.Core.Bool.{Bool, _&&_}
-use mathlib.Core.Logic.{_↔_}
-use mathlib.Core.List.{List}
-use mathlib.Core.Path.{_≡_, refl, sym, ap, ap₂, subst, _∙_}
-use Prim.Native.Nat.{ℕ, _≤_, _<_, zero-le}
-use native.Mathlib.Nat.{le-trans, lt-of-le-of-lt}
-use native.Mathlib.Omega.{arith}
-use borrow.Author.Tests.{eq-eqb}
-use lib.Dec.{T, eqb, eqb→eq, ltb, leb, lt→ltb, le→leb}
-use lib.ListN.{length, getD}
+use Rattle.base_lists.specs.Kit.{_≡_, _∙_, sym, ap, refl, subst, ap₂, _↔_, Bool, _&&_, List, ℕ, _≤_, _<_, zero-le, le-trans, lt-of-le-of-lt, T, eqb, ltb, eqb→eq, leb, lt→ltb, le→leb, length, getD, arith, eq-eqb}
 use Rattle.base_lists.specs.List.{all}
 use Rattle.base_lists.proofs.Tests.{both, both-left, both-right, true-T, anyBelow-at, at-anyBelow, at-all}
 use Rattle.base_lists.proofs.Tables.{length-tabulate, getD-tabulate, tabulate-same}

@@ -1,11 +1,6 @@
 -- The classes are a grouping of the parts, and the merged pattern, which that grouping makes, is the quotient of the pattern by its classes.
 -- Assumes nothing.
-use mathlib.Core.List.{List}
-use mathlib.Core.Path.{_≡_, sym, ap, _∙_}
-use Prim.Native.Nat.{ℕ, _<_}
-use lib.Dec.{T, eqb→eq}
-use lib.ListN.{length, getD}
-use lib.Seq.{ext-getD}
+use Rattle.base_lists.specs.Kit.{_≡_, _∙_, sym, ap, List, ℕ, _<_, T, eqb→eq, length, getD, ext-getD}
 use Rattle.base_lists.specs.Below.{collect}
 use Rattle.base_lists.proofs.Below.{length-collect}
 use Rattle.base_lists.proofs.Ranks.{collect-rank}

@@ -1,23 +1,16 @@
 -- Merging keeps what is found: at every centre and every radius the pattern and the merged pattern have the same place, and the bytes
 -- that mark it are the same. Assumes nothing.
-use mathlib.Core.Bool.{Bool, _&&_, cond}
-use mathlib.Core.List.{List}
-use mathlib.Core.Logic.{_↔_, Iff·rfl, Iff·trans}
-use mathlib.Core.Path.{_≡_, refl, sym, ap, ap₂, subst, fun-ext}
-use Prim.Native.Nat.{ℕ, zero, _<_}
-use lib.ListN.{length, getD}
+use Rattle.base_lists.specs.Kit.{_≡_, sym, ap, refl, subst, ap₂, fun-ext, _↔_, Iff·rfl, Bool, cond, _&&_, List, ℕ, _<_, zero, length, getD}
 use Rattle.base_lists.specs.List.{tabulate}
 use Rattle.base_lists.proofs.Tests.{same-test}
 use Rattle.graph.specs.Circuit.{Circuit, graphOf, circuitGraph}
-use Rattle.graph.specs.Graph.{Graph}
 use Rattle.graph.specs.Search.{ball, inside}
 use Rattle.simulation.specs.Simulation.{Largest}
-use Rattle.simulation.specs.Perfect.{Place}
 use Rattle.simulation.specs.Quotient.{QuotientGraph}
-use Rattle.simulation.proofs.Same.{same-refl, same-symm, largest-same, place-same}
-use Rattle.simulation.proofs.Quotient.{same-pairs, same-place}
+use Rattle.simulation.proofs.Same.{same-refl, largest-same}
+use Rattle.simulation.proofs.Quotient.{same-pairs}
 use Rattle.table.specs.Host.{KindsMatch}
-use Rattle.place.specs.Match.{radiusOf, ballTable, found, matches, linkMatches, matchStarts, matchEnds, component, placeNodes, placeLinks}
+use Rattle.place.specs.Match.{ballTable, found, matches, linkMatches, matchStarts, matchEnds, component, placeNodes, placeLinks}
 use Rattle.base_lists.specs.Below.{keepFrom}
 use Rattle.place.proofs.Ball.{Admissible, ballGraph, BallPairs, ball-largest, found-iff}
 use Rattle.place.proofs.Links.{matches-iff}
@@ -34,19 +27,6 @@ pub record SameAnswer (p q board : Circuit) (w r : ℕ) : Type 0 where
   pub links : placeLinks p board w r ≡ placeLinks q board w r
 
 module _ {p board : Circuit} (c : PatternContent p) (admissible : Admissible p board) (w r : ℕ) where
-  -- ---- places
-
-  -- The places of the pattern are those of the merged pattern.
-  pub merged-place :
-      (G : Graph) →
-      Place (circuitGraph p) (KindsMatch p board) (circuitGraph board) w r G ↔
-      Place (circuitGraph (merged p)) (KindsMatch (merged p) board) (circuitGraph board) w r G
-  merged-place G =
-      Iff·trans (same-place (merging c board)) (
-        place-same (same-symm (merged-graph c)) (record { agree = λ u v m n. Iff·rfl }) (same-refl _) (same-refl G),
-        place-same (merged-graph c) (record { agree = λ u v m n. Iff·rfl }) (same-refl _) (same-refl G),
-      )
-
   -- ---- pairs
 
   merged-admissible : Admissible (merged p) board
@@ -120,8 +100,3 @@ module _ {p board : Circuit} (c : PatternContent p) (admissible : Admissible p b
             (λ (match : ℕ → Bool) (nodes : List ℕ). tabulate (length (board .starts)) (λ i. cond (match i && inside nodes (getD (board .starts) i 0)) 1 0))
             links-same nodes-same;
       }
-
--- "Demand 3 hands the merged file to the place call with a radius given, the first pattern's radius, on the same board and centre."
-pub merged-at-radius :
-    {p board : Circuit} → PatternContent p → Admissible p board → (w : ℕ) → SameAnswer p (merged p) board w (radiusOf p)
-merged-at-radius {p} c admissible w = merged-answer c admissible w (radiusOf p)

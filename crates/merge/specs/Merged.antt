@@ -1,11 +1,6 @@
 -- The merged pattern, computed. (Class and merged pattern are document 01's terms: the classes are those of mutual matching, and the
 -- merged pattern is the quotient graph.) proofs/ ties this to simulation's Quotient.
-use mathlib.Core.Bool.{Bool, _&&_}
-use mathlib.Core.List.{List}
-use mathlib.Core.Path.{_≡_}
-use Prim.Native.Nat.{ℕ}
-use lib.Dec.{eqb}
-use lib.ListN.{length, getD}
+use Rattle.base_lists.specs.Kit.{_≡_, Bool, _&&_, List, ℕ, eqb, length, getD}
 use Rattle.base_lists.specs.Below.{countBelow, leastBelow, collect}
 use Rattle.base_lists.specs.List.{anyBelow, tabulate}
 use Rattle.graph.specs.Circuit.{Circuit}

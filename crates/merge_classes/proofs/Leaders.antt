@@ -1,14 +1,6 @@
 -- The smallest part of a class, looked for among the members of a set, lowest first. Assumes nothing.
-use mathlib.Core.Bool.{Bool, false, _&&_, and-true, and-false}
-use mathlib.Core.List.{List}
-use mathlib.Core.Logic.{⊎-elim}
-use mathlib.Core.Path.{_≡_, sym, ap, _∙_}
-use Prim.Native.Nat.{ℕ, zero, _^_, _<_}
-use native.Mathlib.Nat.{eq-or-lt-of-le}
+use Rattle.base_lists.specs.Kit.{_≡_, _∙_, sym, ap, ⊎-elim, Bool, false, _&&_, and-true, and-false, List, ℕ, _<_, zero, _^_, eq-or-lt-of-le, T, length, getD, ne-eqb}
 use native.Mathlib.Decide.{ℕ-discrete}
-use borrow.Author.Tests.{ne-eqb}
-use lib.Dec.{T}
-use lib.ListN.{length, getD}
 use Rattle.base_lists.specs.Below.{leastBelow}
 use Rattle.base_lists.proofs.Below.{leastBelow-same, leastBelow-le, leastBelow-at, leastBelow-is}
 use Rattle.base_lists.proofs.Tests.{both, both-right, false-T}

@@ -1,14 +1,5 @@
 -- One pass over the parts numbers the classes, and one collects the kinds of their smallest parts. Assumes nothing.
-use mathlib.Core.Bool.{Bool, true, false}
-use mathlib.Core.List.{List, [], _∷_, _++_, append-nil}
-use mathlib.Core.Path.{_≡_, refl, sym, ap, _∙_}
-use Prim.Native.Nat.{ℕ, suc, _+_, _<_}
-use native.Mathlib.Nat.{add-zero, add-suc, suc-add}
-use native.Mathlib.Numerals.{add-one}
-use native.Mathlib.Omega.{arith}
-use borrow.Author.Tests.{eq-eqb, ne-eqb}
-use lib.ListN.{length, getD, drop, set, List·getD-append}
-use lib.Seq.{sets}
+use Rattle.base_lists.specs.Kit.{_≡_, _∙_, sym, ap, refl, Bool, false, true, List, [], _∷_, _++_, append-nil, ℕ, _<_, _+_, suc, add-zero, add-suc, suc-add, add-one, length, getD, drop, set, List·getD-append, sets, arith, eq-eqb, ne-eqb}
 use Rattle.base_lists.specs.Below.{countBelow, collect}
 use Rattle.base_lists.specs.List.{tabulate}
 use Rattle.base_lists.proofs.Below.{countBelow-suc, collect-suc, length-collect}

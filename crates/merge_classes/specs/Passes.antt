@@ -1,8 +1,5 @@
 -- What the passes of merging ask and leave: from a pattern's table on itself to its classes and the merged pattern.
-use mathlib.Core.List.{List}
-use mathlib.Core.Path.{_≡_}
-use Prim.Native.Nat.{ℕ, _^_, _≤_, _<_}
-use lib.ListN.{length, getD, take}
+use Rattle.base_lists.specs.Kit.{_≡_, List, ℕ, _≤_, _<_, _^_, length, getD, take}
 use Rattle.base_lists.specs.Below.{countBelow, collect}
 use Rattle.base_lists.specs.List.{tabulate}
 use Rattle.graph.specs.Circuit.{Circuit, circuit}

@@ -1,10 +1,5 @@
 -- The ball's table is the largest dual simulation of the pattern in the ball, and a centre is found where it occurs in that. Assumes nothing.
-use mathlib.Core.Bool.{not, Bool·not-not}
-use mathlib.Core.Logic.{_↔_, Iff·rfl}
-use mathlib.Core.Path.{_≡_, sym, ap, subst, _∙_}
-use Prim.Native.Nat.{ℕ, _≤_}
-use lib.Dec.{T}
-use lib.ListN.{length, getD}
+use Rattle.base_lists.specs.Kit.{_≡_, _∙_, sym, ap, subst, _↔_, Iff·rfl, not, Bool·not-not, ℕ, _≤_, T, length, getD}
 use Rattle.base_lists.specs.List.{anyBelow}
 use Rattle.base_lists.proofs.Tests.{anyBelow-at, at-anyBelow}
 use Rattle.base_bits.specs.Bits.{bit}

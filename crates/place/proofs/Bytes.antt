@@ -1,26 +1,14 @@
 -- What the filling functions write is the place: its bytes and its table. Assumes nothing.
-use mathlib.Core.Bool.{Bool, true, false, _&&_, not, cond}
-use mathlib.Core.List.{List}
-use mathlib.Core.Path.{_≡_, refl, sym, ap, subst, _∙_}
-use Prim.Native.Nat.{ℕ, _<_}
-use native.Mathlib.Nat.{le-of-eq}
-use lib.Dec.{eqb}
-use lib.ListN.{length, getD, List·getD-eq-default}
+use Rattle.base_lists.specs.Kit.{_≡_, _∙_, sym, ap, refl, subst, Bool, false, true, cond, _&&_, not, List, ℕ, _<_, eqb, length, getD}
 use Rattle.base_lists.specs.List.{tabulate, Below}
 use Rattle.base_lists.proofs.Tables.{is-tabulate, tabulate-same}
 use Rattle.base_bits.specs.Bits.{intersects, unionOver}
-use Rattle.base_bits.proofs.Unions.{unionOver-none}
 use Rattle.graph.specs.Circuit.{Circuit}
 use Rattle.graph.specs.Search.{far, inside}
 use Rattle.graph.proofs.Ball.{bit-entry}
 use Rattle.place.specs.Match.{ballTable, matches, linkMatches, placeNodes, placeLinks, placeTable}
 use Rattle.place.specs.Bytes.{nodeBytes, nodeSets, drivenBy, linkByte, linkBytes}
 use Rattle.place.proofs.Marks.{nodes-marks}
-
--- before the first link, no set is known but the empty one past the last node
-pub driven-none : (succ sets : List ℕ) → 0 ≡ drivenBy succ sets (length sets)
-unfolding drivenBy
-driven-none succ sets = sym (ap (unionOver succ) (List·getD-eq-default sets 0 (le-of-eq refl)) ∙ unionOver-none succ)
 
 -- choosing by the test and by its opposite
 turned : (b : Bool) (x : ℕ) → cond b 0 x ≡ cond (not b) x 0

@@ -1,11 +1,5 @@
 -- Finding the place from a first table: from what it starts from to what it comes to, and what is then marked. Assumes nothing.
-use mathlib.Core.Bool.{Bool, true, false, not, cond}
-use mathlib.Core.List.{List}
-use mathlib.Core.Path.{_≡_, refl, sym, ap, _∙_, subst}
-use Prim.Native.Nat.{ℕ, _^_, _≤_, _<_, zero-le}
-use borrow.Author.Tests.{eqb-false}
-use lib.Dec.{T, eqb}
-use lib.ListN.{length, getD, take}
+use Rattle.base_lists.specs.Kit.{_≡_, _∙_, sym, ap, refl, subst, Bool, false, true, cond, not, List, ℕ, _≤_, _<_, _^_, zero-le, T, eqb, length, getD, take, eqb-false}
 use Rattle.base_lists.specs.List.{Below}
 use Rattle.base_lists.proofs.Tests.{true-T, false-T}
 use Rattle.base_lists.proofs.Tables.{tabulate-same}
@@ -37,7 +31,7 @@ use Rattle.place.specs.Find.{Tabled, Located, Seen, Sought, FoundIn}
 use Rattle.place.proofs.Ball.{ball-fits}
 use Rattle.place.proofs.Bytes.{bytes-nodes, bytes-links, sets-table}
 use Rattle.place.proofs.Listed.{marks-bytes, table-sets, links-bytes}
-use Rattle.place.proofs.Matched.{found-short, found-list, found-distances, found-marks, found-inside, forward-test, spread-component}
+use Rattle.place.proofs.Matched.{found-short, found-list, found-distances, found-marks, forward-test, spread-component}
 use Rattle.place.proofs.Outcome.{found-none, found-some}
 use Rattle.place.proofs.Whole.{Agreeing, agree-set, agree-matches, spread-narrower, spread-wider, spread-within, Component, whole-small, whole-agrees, part-agrees}
 
@@ -78,10 +72,6 @@ module _ {pattern board : Circuit} {t : Tables} (d : Tabled pattern board t) whe
 
     pub ball-measured : dist ≡ distancesOf board w r
     ball-measured = found-distances board (d .prepared .net) tabled-joins w r h k dist queue f
-
-    -- each node that it reached is in the ball
-    pub ball-reached : (v : ℕ) → v < size → Reached dist v → T (inside (ballOf board w r) v)
-    ball-reached = found-inside board (d .prepared .net) tabled-joins w r h k dist queue f
 
     -- and lists
     pub ball-marks : marksOf size (take k queue) ≡ ballOf board w r

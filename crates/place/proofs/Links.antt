@@ -1,11 +1,5 @@
 -- The links that match: what the test means, and that the kept lists hold the links of the match graph. Assumes nothing.
-use mathlib.Core.Bool.{Bool, _&&_}
-use mathlib.Core.List.{List}
-use mathlib.Core.Logic.{_↔_}
-use mathlib.Core.Path.{_≡_, refl, sym, ap₂, subst}
-use Prim.Native.Nat.{ℕ, _<_}
-use lib.Dec.{T}
-use lib.ListN.{length, getD}
+use Rattle.base_lists.specs.Kit.{_≡_, sym, refl, subst, ap₂, _↔_, Bool, _&&_, List, ℕ, _<_, T, length, getD}
 use Rattle.base_lists.proofs.Tests.{both, both-left, both-right, anyBelow-at, at-anyBelow}
 use Rattle.graph.specs.Circuit.{Circuit, LinkAt, HasLink, graphOf, circuitGraph}
 use Rattle.graph.specs.Graph.{Ball}

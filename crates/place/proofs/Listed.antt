@@ -1,14 +1,7 @@
 -- What is marked from the list of the nodes that the search reached is what its entries say: a byte and a set for each node, and a byte for
 -- each link of a board whose links come by their starts. Assumes nothing.
-use mathlib.Core.Bool.{Bool, true, false, _&&_, not, cond}
-use mathlib.Core.List.{List}
-use mathlib.Core.Path.{_≡_, refl, sym, ap, subst, _∙_}
-use Prim.Native.Nat.{ℕ, suc, _≤_, _<_}
-use native.Mathlib.Omega.{arith}
-use borrow.Author.Tests.{eq-eqb, ne-eqb, leb-true, ltb-true}
-use lib.Dec.{T, eqb, ltb, leb, eqb→eq, eqb-refl, leb→le, le→leb, ltb→lt, lt→ltb}
-use lib.ListN.{length, getD}
-use Rattle.base_lists.specs.List.{any, tabulate, Below}
+use Rattle.base_lists.specs.Kit.{_≡_, _∙_, ap, refl, subst, Bool, false, true, cond, _&&_, not, List, ℕ, _≤_, _<_, suc, T, eqb, ltb, eqb→eq, leb, ltb→lt, lt→ltb, le→leb, leb→le, length, getD, arith, eq-eqb, ne-eqb}
+use Rattle.base_lists.specs.List.{any, Below}
 use Rattle.base_lists.proofs.Tests.{same-test, true-T, both, both-left, both-right, any-at, at-any}
 use Rattle.base_lists.proofs.Tables.{tabulate-same}
 use Rattle.base_bits.specs.Bits.{intersects}
@@ -19,7 +12,7 @@ use Rattle.graph.proofs.Sorted.{Sorted, sorted-at, link-at}
 use Rattle.table.specs.Fill.{listed, marksOf, tableAt}
 use Rattle.table.specs.Prepared.{succOf, Tables}
 use Rattle.place.specs.Bytes.{nodeBytes, nodeSets, drivenBy, linkByte, linkBytes, marksLink, linkMarks}
-use Rattle.place.specs.Spread.{Reached, Lists}
+use Rattle.place.specs.Spread.{Lists}
 
 -- choosing by the opposite of a test
 turned : (b : Bool) (x : ℕ) → cond (not b) x 0 ≡ cond b 0 x

@@ -1,13 +1,6 @@
 -- The place's bytes and its table, entry by entry. Assumes nothing.
-use mathlib.Core.Bool.{Bool, _&&_}
-use mathlib.Core.List.{List}
-use mathlib.Core.Logic.{_↔_, ⊎-elim}
-use mathlib.Core.Path.{_≡_, sym, ap, subst, _∙_}
-use Prim.Native.Nat.{ℕ, _≤_, _<_}
+use Rattle.base_lists.specs.Kit.{_≡_, _∙_, sym, ap, subst, _↔_, ⊎-elim, Bool, _&&_, List, ℕ, _≤_, _<_, T, length, getD, List·getD-eq-default, arith}
 use native.Mathlib.Decide.{decLt}
-use native.Mathlib.Omega.{arith}
-use lib.Dec.{T}
-use lib.ListN.{length, getD, List·getD-eq-default}
 use Rattle.base_lists.proofs.Tests.{both, both-left, both-right, T-true, T-false, false-T, decide}
 use Rattle.base_lists.proofs.Tables.{length-tabulate, getD-tabulate}
 use Rattle.base_bits.specs.Bits.{bit}

@@ -1,14 +1,7 @@
 -- A link of the board is tested by whole sets: it matches where some part of its end's set is driven by some part of its start's.
 -- Assumes nothing.
-use mathlib.Core.Bool.{Bool, _&&_}
-use mathlib.Core.List.{List}
-use mathlib.Core.Logic.{_↔_}
-use mathlib.Core.Path.{_≡_, sym, ap, subst, _∙_}
-use Prim.Native.Nat.{ℕ, _^_, _<_}
+use Rattle.base_lists.specs.Kit.{_≡_, _∙_, sym, ap, subst, _↔_, Bool, _&&_, List, ℕ, _<_, _^_, T, eqb, eqb→eq, eqb-refl, length, getD, List·getD-eq-default, arith}
 use native.Mathlib.Decide.{decLt}
-use native.Mathlib.Omega.{arith}
-use lib.Dec.{T, eqb, eqb→eq, eqb-refl}
-use lib.ListN.{length, getD, List·getD-eq-default}
 use Rattle.base_lists.proofs.Tests.{both, both-left, both-right, false-T, same-test, anyBelow-at, at-anyBelow}
 use Rattle.base_lists.proofs.Tables.{getD-tabulate}
 use Rattle.base_bits.specs.Bits.{bit, intersects, unionOver}

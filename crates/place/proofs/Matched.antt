@@ -1,23 +1,14 @@
 -- Over prepared tables the search follows the match graph's links, so that what it reaches is the centre's component; and the ball's list
 -- is the list of the first search. Assumes nothing.
-use mathlib.Core.Bool.{Bool, true, false, not, cond}
-use mathlib.Core.List.{List, []}
-use mathlib.Core.Logic.{_⊎_, _↔_, inl, inr, ⊎-elim}
-use mathlib.Core.Path.{_≡_, refl, sym, ap, _∙_, subst}
-use Prim.Native.Nat.{ℕ, _^_, _≤_, _<_}
-use native.Mathlib.Nat.{le-of-lt}
-use native.Mathlib.Omega.{arith}
-use borrow.Author.Tests.{eq-eqb, ne-eqb}
-use lib.Dec.{T, eqb, eqb→eq}
-use lib.ListN.{length, getD, take}
+use Rattle.base_lists.specs.Kit.{_≡_, _∙_, sym, ap, refl, subst, _↔_, ⊎-elim, _⊎_, inl, inr, Bool, false, true, cond, not, List, [], ℕ, _≤_, _<_, _^_, le-of-lt, T, eqb, eqb→eq, length, getD, take, arith, eq-eqb, ne-eqb}
 use Rattle.base_lists.specs.List.{Occurs, any, Below}
-use Rattle.base_lists.proofs.Tests.{same-test, T-true, true-T, any-at, at-any}
-use Rattle.base_lists.proofs.Tables.{getD-tabulate, tabulate-same}
+use Rattle.base_lists.proofs.Tests.{same-test, true-T, any-at, at-any}
+use Rattle.base_lists.proofs.Tables.{tabulate-same}
 use Rattle.base_bits.specs.Bits.{intersects, unionOver}
 use Rattle.graph.specs.Bfs.{bfs, adjacent, Adjacency, Found}
 use Rattle.graph.specs.Circuit.{Circuit, HasLink}
 use Rattle.graph.specs.Net.{driven, driving, NetOf}
-use Rattle.graph.specs.Search.{far, ball, inside, distances}
+use Rattle.graph.specs.Search.{far, inside, distances}
 use Rattle.graph.proofs.Ball.{Within}
 use Rattle.graph.proofs.Bfs.{bfs-ready}
 use Rattle.graph.proofs.BfsScan.{occurs-append}
@@ -110,16 +101,6 @@ module _ (board : Circuit) {offsets stretches : List ℕ} (net : NetOf (length (
 
       pub found-marks : marksOf n (take k queue) ≡ ballOf board c r
       found-marks = ap (marksOf n) (f .nodes) ∙ ball-marks
-
-      -- and each node that it reached is in the ball
-      pub found-inside : (v : ℕ) → v < n → (getD dist v 0 ≡ far → ⊥) → T (inside (ballOf board c r) v)
-      unfolding inside marksOf listed
-      found-inside v m q =
-          let l = bfs-listed n around c r h few (board-adjacency .inside) in
-          let (i, b, e) = l .complete v m (λ z. q (ap (λ (x : List ℕ). getD x v 0) (f .distances) ∙ z)) in
-          let here : T (any (λ w. eqb w v) (take k queue)) = rw (f .nodes) (at-any (λ w. eqb w v) ballList i b (true-T (eq-eqb _ _ e))) in
-          subst (λ (row : List ℕ). T (eqb (getD row v 0) 1)) found-marks
-          (rw (getD-tabulate n (λ x. cond (any (λ w. eqb w x) (take k queue)) 1 0) v 0 m, T-true {b = any (λ w. eqb w v) (take k queue)} here) tt)
 
 -- ---- the component
 

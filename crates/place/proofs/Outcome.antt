@@ -1,10 +1,5 @@
 -- What the place's outcome comes to, by cases of whether the centre is found. Assumes nothing.
-use mathlib.Core.Bool.{true, false}
-use mathlib.Core.List.{List, _++_}
-use mathlib.Core.Path.{_≡_, sym, ap, _∙_}
-use Prim.Native.Nat.{ℕ}
-use borrow.Author.Tests.{eq-eqb, ne-eqb}
-use lib.ListN.{length, getD, drop}
+use Rattle.base_lists.specs.Kit.{_≡_, _∙_, sym, ap, false, true, List, _++_, ℕ, length, getD, drop, eq-eqb, ne-eqb}
 use Rattle.graph.specs.Circuit.{Circuit}
 use Rattle.file_format.specs.declared.File.the-variants.{Neither}
 use Rattle.file_format.specs.Reading.{filled}

@@ -1,11 +1,6 @@
 -- What the bytes mark is the place, the perfect subgraph that contains every other; and the centre is not found exactly where there is no
 -- perfect subgraph. Assumes nothing.
-use mathlib.Core.Logic.{_↔_, Iff·rfl, Iff·symm, Iff·trans}
-use mathlib.Core.Path.{sym, subst}
-use Prim.Native.Nat.{ℕ}
-use native.Mathlib.Nat.{le-step, le-refl}
-use lib.Dec.{T}
-use lib.ListN.{length}
+use Rattle.base_lists.specs.Kit.{sym, subst, _↔_, Iff·rfl, Iff·trans, Iff·symm, ℕ, le-refl, le-step, T, length}
 use Rattle.graph.specs.Circuit.{Circuit, HasLink, circuitGraph}
 use Rattle.graph.specs.Graph.{Graph}
 use Rattle.graph.specs.Search.{inside}

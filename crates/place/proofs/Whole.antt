@@ -1,14 +1,7 @@
 -- Laws of the centre's component in the match graph of a larger graph, as the whole board is of a ball. What lies outside the component
 -- supports nothing inside it: so on its nodes a smaller graph's table is that of its nodes in the component alone; and where the smaller graph
 -- has the whole component, its table is the larger graph's there, and the place is that component with its matching links. Assumes nothing.
-use mathlib.Core.Bool.{Bool, not}
-use mathlib.Core.List.{List}
-use mathlib.Core.Logic.{_⊎_, _↔_, inl, inr, ⊎-elim}
-use mathlib.Core.Path.{_≡_, sym, ap, _∙_, subst}
-use Prim.Native.Nat.{ℕ, _^_, _≤_, _<_}
-use borrow.Author.Tests.{ne-eqb}
-use lib.Dec.{T, eqb}
-use lib.ListN.{length, getD}
+use Rattle.base_lists.specs.Kit.{_≡_, _∙_, ap, subst, _↔_, ⊎-elim, _⊎_, inl, inr, Bool, not, List, ℕ, _≤_, _<_, _^_, T, eqb, length, getD, ne-eqb}
 use Rattle.base_lists.specs.List.{Occurs}
 use Rattle.base_lists.proofs.Tests.{same-test, true-T}
 use Rattle.base_bits.proofs.Digits.{same-bits}
@@ -26,7 +19,7 @@ use Rattle.table.proofs.Meaning.{last-fits, last-candidate, last-closed}
 use Rattle.table.proofs.Narrow.{last-wider}
 use Rattle.table.proofs.Row.{Moves}
 use Rattle.table.proofs.Sets.{fits-word}
-use Rattle.place.specs.Match.{ballOf, ballTable, matches, matchStarts, matchEnds}
+use Rattle.place.specs.Match.{matches, matchStarts, matchEnds}
 use Rattle.place.specs.Spread.{matched, Reached, ClosedSet, Spread}
 use Rattle.place.proofs.Links.{matches-iff, match-kept}
 use Rattle.place.proofs.Matched.{matched-adjacency}

@@ -1,11 +1,7 @@
 -- What is written into the lent tables: from the entries that the search for the component leaves, `far` outside it, and the same from the
 -- list of the nodes that it reached, which the contracts of the marking functions cite. proofs/Bytes ties the first to the place's bytes and
 -- its table, proofs/Listed the second to the first.
-use mathlib.Core.Bool.{Bool, _&&_, cond}
-use mathlib.Core.List.{List, [], _∷_}
-use Prim.Native.Nat.{ℕ, suc, _≤_, _<_}
-use lib.Dec.{eqb, ltb, leb}
-use lib.ListN.{length, getD}
+use Rattle.base_lists.specs.Kit.{Bool, cond, _&&_, List, [], _∷_, ℕ, _≤_, _<_, suc, eqb, ltb, leb, length, getD}
 use Rattle.base_lists.specs.List.{any, tabulate}
 use Rattle.base_bits.specs.Bits.{intersects, unionOver}
 use Rattle.graph.specs.Net.{forwardOffsets, forwardLinks}

@@ -1,9 +1,5 @@
 -- Finding the place around a centre from a first table: what it starts from, and what it leaves, before anything is written out.
-use mathlib.Core.Bool.{true, false}
-use mathlib.Core.List.{List}
-use mathlib.Core.Path.{_≡_}
-use Prim.Native.Nat.{ℕ, _≤_, _<_}
-use lib.ListN.{length, getD, take}
+use Rattle.base_lists.specs.Kit.{_≡_, false, true, List, ℕ, _≤_, _<_, length, getD, take}
 use Rattle.base_lists.specs.List.{Below}
 use Rattle.graph.specs.Circuit.{Circuit}
 use Rattle.table.specs.Fill.{marksOf, NodeList}

@@ -1,11 +1,6 @@
 -- The search for the centre's component: links are followed where they match, which is tested by whole sets. It stops where nothing is
 -- new; proofs/Spread ties what it leaves to walks.
-use mathlib.Core.Bool.{Bool}
-use mathlib.Core.List.{List, _++_}
-use mathlib.Core.Path.{_≡_}
-use Prim.Native.Nat.{ℕ, _<_}
-use lib.Dec.{T}
-use lib.ListN.{length, getD}
+use Rattle.base_lists.specs.Kit.{_≡_, Bool, List, _++_, ℕ, _<_, T, length, getD}
 use Rattle.base_lists.specs.List.{Occurs}
 use Rattle.base_bits.specs.Bits.{unionOver}
 use Rattle.graph.specs.Net.{driven, driving}

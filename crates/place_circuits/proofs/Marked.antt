@@ -1,12 +1,5 @@
 -- What is marked from tables that are cut from longer ones is the place. Assumes nothing.
-use mathlib.Core.Bool.{true}
-use mathlib.Core.List.{List, _++_}
-use mathlib.Core.Path.{_≡_, sym, ap, ap₂, _∙_}
-use Prim.Native.Nat.{ℕ, suc, _≤_, _<_}
-use native.Mathlib.Omega.{arith}
-use lib.ListN.{length, getD, take, drop, length-append}
-use lib.Seq.{take-at, take-append-le}
-use Rattle.base_lists.specs.List.{Below}
+use Rattle.base_lists.specs.Kit.{_≡_, _∙_, ap, ap₂, true, List, _++_, ℕ, _≤_, _<_, suc, length, getD, take, drop, length-append, take-at, take-append-le, arith}
 use Rattle.graph.specs.Circuit.{Circuit}
 use Rattle.graph.proofs.Groups.{below-le, all-below}
 use Rattle.file_format.specs.Circuit.{Drawn}

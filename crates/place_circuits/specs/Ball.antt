@@ -1,10 +1,6 @@
 -- Finding in the ball around a centre, from the kinds and from tables: whose links these are of need not be handed on, and every pattern and
 -- board that they are of has the same place.
-use mathlib.Core.Bool.{true}
-use mathlib.Core.List.{List}
-use mathlib.Core.Path.{_≡_}
-use Prim.Native.Nat.{ℕ, _≤_}
-use lib.ListN.{length, take}
+use Rattle.base_lists.specs.Kit.{_≡_, true, List, ℕ, _≤_, length, take}
 use Rattle.graph.specs.Circuit.{Circuit, circuit}
 use Rattle.file_format.specs.Circuit.{Drawn}
 use Rattle.table.specs.Prepared.{Tables, Prepared}

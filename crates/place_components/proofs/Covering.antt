@@ -1,16 +1,6 @@
 -- The search from a centre along an adjacency, as far as r links: what it has reached is at most so many links away, and where that are as many nodes
 -- as the component has, it is the component. Assumes nothing.
-use mathlib.Core.Bool.{Bool}
-use mathlib.Core.List.{List, [], _∷_}
-use mathlib.Core.Logic.{⊎-elim}
-use mathlib.Core.Path.{_≡_, refl, sym, ap, subst, _∙_}
-use Prim.Native.Nat.{ℕ, zero, suc, _+_, _≤_, _<_}
-use native.Mathlib.Nat.{le-refl, le-antisymm, eq-or-lt-of-le, le-of-suc-le-suc, not-suc-le-zero, zero-lt-suc}
-use native.Mathlib.Numerals.{add-one}
-use native.Mathlib.Omega.{arith}
-use lib.Dec.{T}
-use lib.ListN.{length, getD, take}
-use lib.Seq.{getD-take}
+use Rattle.base_lists.specs.Kit.{_≡_, _∙_, sym, ap, refl, subst, ⊎-elim, List, [], _∷_, ℕ, _≤_, _<_, _+_, suc, zero, not-suc-le-zero, le-refl, le-of-suc-le-suc, zero-lt-suc, eq-or-lt-of-le, add-one, length, getD, getD-take, arith}
 use Rattle.base_lists.specs.List.{Occurs, Below}
 use Rattle.base_lists.proofs.Tests.{true-T}
 use Rattle.graph.specs.Bfs.{State, scan, start, Ready}
@@ -18,10 +8,9 @@ use Rattle.graph.specs.Search.{far}
 use Rattle.graph.proofs.BfsSteps.{extends-scan, extends-take, extends-length}
 use Rattle.graph.proofs.BfsScan.{elem, elem-occurs, after-cases, scan-dist}
 use Rattle.graph.proofs.Reached.{Near}
-use Rattle.table.specs.Fill.{Distinct}
-use Rattle.place.specs.Spread.{Reached, Spread, Lists}
+use Rattle.place.specs.Spread.{Reached, Spread}
 use Rattle.place.proofs.Spread.{Spreading, spreading-start, spreading-next, spreading-lists}
-use Rattle.place_components.specs.Components.{Component, Growing, InSteps, Covered}
+use Rattle.place_components.specs.Components.{Component, InSteps, Covered}
 use Rattle.place_components.proofs.Lists.{all-within}
 use Rattle.place_components.proofs.Labels.{near, is-near, near-is}
 

@@ -1,16 +1,6 @@
 -- Naming the components, node by node: where a node has no label yet, neither has any node of its component, and all of them get its number. Two
 -- components are one or apart. Assumes nothing.
-use mathlib.Core.Bool.{Bool, true, false, _&&_, not, cond}
-use mathlib.Core.List.{List}
-use mathlib.Core.Logic.{_⊎_, inl, inr, ⊎-elim}
-use mathlib.Core.Path.{_≡_, refl, sym, ap, subst, _∙_}
-use Prim.Native.Nat.{ℕ, suc, _+_, _≤_, _<_}
-use native.Mathlib.Nat.{eq-or-lt-of-le, le-of-suc-le-suc, not-suc-le-zero}
-use native.Mathlib.Omega.{arith}
-use borrow.Author.Tests.{eq-eqb, ne-eqb, eqb-true, eqb-false}
-use lib.Dec.{T, eqb, eqb→eq}
-use lib.ListN.{length, getD, set, replicate, length-set, length-replicate, getD-replicate}
-use lib.Seq.{getD-set-same, getD-set-other}
+use Rattle.base_lists.specs.Kit.{_≡_, _∙_, sym, ap, refl, subst, ⊎-elim, _⊎_, inl, inr, Bool, false, true, cond, _&&_, not, List, ℕ, _≤_, _<_, _+_, not-suc-le-zero, eq-or-lt-of-le, T, eqb, eqb→eq, length, getD, set, length-set, replicate, length-replicate, getD-replicate, getD-set-other, getD-set-same, arith, eq-eqb, ne-eqb, eqb-true, eqb-false}
 use Rattle.base_lists.specs.List.{Occurs, Below}
 use Rattle.base_lists.proofs.Tests.{true-T, any-at, at-any}
 use Rattle.graph.specs.Bfs.{Adjacency}
@@ -25,7 +15,7 @@ use Rattle.place.specs.Spread.{matched, Reached, Spread, Lists}
 use Rattle.place.proofs.Find.{tabled-joins}
 use Rattle.place.proofs.Matched.{matched-adjacency}
 use Rattle.place.proofs.Spread.{spread-from}
-use Rattle.place_components.specs.Components.{MatchTable, Component, Labelled, Labelling, Components}
+use Rattle.place_components.specs.Components.{MatchTable, Labelled, Labelling, Components}
 
 -- ---- over the tables of a pattern and a board
 

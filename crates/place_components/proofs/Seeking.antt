@@ -1,15 +1,6 @@
 -- A search that may stop inside a level: i of the nodes reached have been looked from, `hi` of them are at most d links away, and what is left of the level, and the
 -- levels after it, lead to what the search finds, however far it goes. Assumes nothing.
-use mathlib.Core.Bool.{Bool, true, false}
-use mathlib.Core.List.{List, [], _++_, append-nil}
-use mathlib.Core.Path.{_≡_, refl, sym, ap, subst, _∙_}
-use Prim.Native.Nat.{ℕ, _+_, _-_, _≤_, _<_}
-use native.Mathlib.Nat.{le-refl, sub-zero}
-use native.Mathlib.Omega.{arith}
-use borrow.Author.Tests.{ltb-true, ltb-false}
-use lib.Dec.{ltb}
-use lib.ListN.{length, getD, take, drop, take-append-drop}
-use lib.Seq.{length-take-le, getD-take, take-length}
+use Rattle.base_lists.specs.Kit.{_≡_, _∙_, sym, ap, refl, subst, Bool, false, true, List, [], _++_, append-nil, ℕ, _≤_, _<_, _+_, _-_, le-refl, sub-zero, ltb, length, getD, take, drop, take-append-drop, length-take-le, getD-take, take-length, arith, ltb-false, ltb-true}
 use Rattle.base_lists.specs.List.{Below}
 use Rattle.graph.specs.Bfs.{State, scan, level, levels, start, bfs}
 use Rattle.graph.proofs.BfsSteps.{level-next, level-end, levels-next, levels-none, levels-end, extends-scan, extends-level, extends-length, extends-take}

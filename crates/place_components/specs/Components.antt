@@ -1,11 +1,6 @@
 -- The components of a match graph, each node with the label of its component: what naming them leaves, what a search along matching links has
 -- covered, and what a search along all links gathers of them. An adjacency function says what is joined to a node, directions ignored.
-use mathlib.Core.Bool.{Bool, cond}
-use mathlib.Core.List.{List, [], _∷_, _++_}
-use mathlib.Core.Path.{_≡_}
-use Prim.Native.Nat.{ℕ, suc, _^_, _≤_, _<_}
-use lib.Dec.{T, eqb}
-use lib.ListN.{length, getD}
+use Rattle.base_lists.specs.Kit.{_≡_, Bool, cond, List, [], _∷_, _++_, ℕ, _≤_, _<_, suc, _^_, T, eqb, length, getD}
 use Rattle.base_lists.specs.List.{Occurs, Below}
 use Rattle.graph.specs.Bfs.{bfs}
 use Rattle.graph.specs.Circuit.{Circuit}

@@ -1,15 +1,5 @@
 -- Laws of marking: writing at the nodes of a list one after another, and the links of one node after another. Assumes nothing.
-use mathlib.Core.Bool.{Bool, true, false, _&&_, _||_, cond}
-use mathlib.Core.List.{List, [], _∷_, _++_}
-use mathlib.Core.Logic.{_⊎_, inl, inr, ⊎-elim}
-use mathlib.Core.Path.{_≡_, refl, sym, ap, subst, _∙_}
-use Prim.Native.Nat.{ℕ, suc, _+_, _-_, _≤_, _<_, min}
-use native.Mathlib.Numerals.{add-one}
-use native.Mathlib.Omega.{arith}
-use borrow.Author.Tests.{lt-ltb, le-ltb, le-leb, lt-leb}
-use lib.Dec.{leb, ltb}
-use lib.ListN.{length, getD, set, take, drop, replicate, length-take, length-drop, length-replicate, length-append, List·getD-append, getD-replicate, drop-of-length-le}
-use lib.Seq.{drop-cons, getD-append-add, getD-take, getD-drop, length-take-le}
+use Rattle.base_lists.specs.Kit.{_≡_, _∙_, sym, ap, refl, subst, ⊎-elim, _⊎_, inl, inr, Bool, false, true, cond, _&&_, _||_, List, [], _∷_, _++_, ℕ, _≤_, _<_, _+_, _-_, suc, min, add-one, ltb, leb, length, getD, take, drop, set, length-append, replicate, length-drop, drop-of-length-le, length-replicate, length-take, getD-replicate, List·getD-append, length-take-le, drop-cons, getD-take, getD-drop, getD-append-add, arith, le-ltb, lt-ltb, le-leb, lt-leb}
 use Rattle.base_lists.specs.List.{any, tabulate, part}
 use Rattle.base_lists.proofs.Tables.{length-tabulate, getD-tabulate, is-tabulate}
 use Rattle.base_bits.specs.Bits.{intersects, unionOver}

@@ -1,17 +1,9 @@
 -- The check says yes exactly when the bytes mark a perfect subgraph around the centre: the marked links make a board of their own, in which a
 -- perfect subgraph that has them all is the place. Assumes nothing.
-use mathlib.Core.Bool.{Bool, true, false, _&&_, _||_, not}
-use mathlib.Core.List.{List}
-use mathlib.Core.Logic.{_↔_, Iff·rfl, Iff·symm, ⊎-elim}
-use mathlib.Core.Path.{_≡_, refl, sym, subst}
-use Prim.Native.Nat.{ℕ, _≤_, _<_}
-use native.Mathlib.Nat.{le-step, le-refl}
-use borrow.Author.Tests.{leb-true, le-leb}
-use lib.Dec.{T, leb}
-use lib.ListN.{length, getD}
-use Rattle.base_lists.proofs.Tests.{both, both-left, both-right, either-left, either-right, decide, T-true, true-T, allBelow-at, at-allBelow, all-at, at-all}
+use Rattle.base_lists.specs.Kit.{_≡_, sym, refl, subst, _↔_, ⊎-elim, Iff·rfl, Iff·symm, Bool, false, true, _&&_, not, _||_, List, ℕ, _≤_, _<_, le-refl, le-step, T, leb, length, getD, le-leb, leb-true}
+use Rattle.base_lists.proofs.Tests.{both, both-left, both-right, decide, T-true, true-T, allBelow-at, at-allBelow, all-at, at-all}
 use Rattle.base_lists.specs.List.{allBelow}
-use Rattle.graph.specs.Chosen.{picked, chosen, ChosenLink}
+use Rattle.graph.specs.Chosen.{chosen, ChosenLink}
 use Rattle.graph.specs.Circuit.{Circuit, LinkAt, HasLink, graphOf, circuitGraph}
 use Rattle.graph.specs.Graph.{Graph, Subgraph, Contains, Connected, Walk, stay, step, InBall, Ball}
 use Rattle.graph.specs.Search.{inside}

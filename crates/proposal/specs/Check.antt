@@ -1,10 +1,6 @@
 -- Checking a place from elsewhere, computed: the bytes are those of a subgraph of the ball, and this subgraph is the place in itself. A subgraph
 -- of a board is a board with fewer links; proofs/Perfect shows that the answer is yes exactly for a perfect subgraph.
-use mathlib.Core.Bool.{Bool, _&&_, _||_, not}
-use mathlib.Core.List.{List}
-use Prim.Native.Nat.{ℕ}
-use lib.Dec.{leb}
-use lib.ListN.{length, getD}
+use Rattle.base_lists.specs.Kit.{Bool, _&&_, not, _||_, List, ℕ, leb, length, getD}
 use Rattle.base_lists.specs.List.{all, allBelow}
 use Rattle.graph.specs.Chosen.{chosen}
 use Rattle.graph.specs.Circuit.{Circuit}

@@ -1,5 +1,5 @@
 -- A board of which proposals are checked by computation, and what is opened there.
-use mathlib.Core.List.{[], _∷_}
+use Rattle.base_lists.specs.Kit.{[], _∷_}
 use Rattle.base_lists.specs.List.{allBelow, anyBelow}
 use Rattle.base_lists.specs.Below.{keepFrom}
 use Rattle.graph.specs.Chosen.{picked, chosen}

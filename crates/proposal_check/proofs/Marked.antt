@@ -1,12 +1,5 @@
 -- What the tests come to, one after another. Assumes nothing.
-use mathlib.Core.Bool.{Bool, true, false}
-use mathlib.Core.List.{List}
-use mathlib.Core.Path.{_≡_, sym, ap, ap₂, _∙_}
-use Prim.Native.Nat.{ℕ, _≤_}
-use native.Mathlib.Omega.{arith}
-use borrow.Author.Tests.{lt-ltb}
-use lib.Dec.{T, ltb}
-use lib.ListN.{length}
+use Rattle.base_lists.specs.Kit.{_≡_, _∙_, sym, ap, ap₂, false, true, List, ℕ, _≤_, T, ltb, length, arith, lt-ltb}
 use Rattle.base_lists.specs.List.{allBelow, all, Below}
 use Rattle.base_lists.proofs.Tests.{true-T, at-all}
 use Rattle.graph.specs.Chosen.{picked, chosen}
@@ -21,7 +14,7 @@ use Rattle.table.specs.Prepared.{succOf, Tables, Masked}
 use Rattle.table.proofs.Prepare.{prepared}
 use Rattle.place.specs.Bytes.{nodeBytes, linkBytes}
 use Rattle.place.specs.Find.{Tabled, Located}
-use Rattle.place.specs.Match.{ballOf, found, placeNodes, placeLinks}
+use Rattle.place.specs.Match.{ballOf, found}
 use Rattle.proposal.specs.Check.{marksSubgraph, inRow, fills, checks}
 
 -- ---- the board is filled by its place

@@ -1,11 +1,5 @@
 -- The nodes that the search reaches are the ball; and tables that are cut from longer ones. Assumes nothing.
-use mathlib.Core.Bool.{Bool}
-use mathlib.Core.List.{List, _++_}
-use mathlib.Core.Path.{_≡_, sym, ap, ap₂, subst, _∙_}
-use Prim.Native.Nat.{ℕ, _≤_, _<_}
-use native.Mathlib.Omega.{arith}
-use lib.ListN.{length, take, length-append}
-use lib.Seq.{length-take-le, take-at}
+use Rattle.base_lists.specs.Kit.{_≡_, _∙_, sym, ap, subst, ap₂, Bool, List, _++_, ℕ, _≤_, _<_, length, take, length-append, length-take-le, take-at, arith}
 use Rattle.base_lists.specs.List.{allBelow}
 use Rattle.graph.specs.Bfs.{bfs, adjacent, Found}
 use Rattle.graph.specs.Net.{NetOf}

@@ -1,9 +1,5 @@
 -- Testing a board against its own place, from kinds, links and tables: whose masks these are need not be handed on.
-use mathlib.Core.Bool.{Bool, true}
-use mathlib.Core.List.{List}
-use mathlib.Core.Path.{_≡_}
-use Prim.Native.Nat.{ℕ}
-use lib.ListN.{length}
+use Rattle.base_lists.specs.Kit.{_≡_, Bool, true, List, ℕ, length}
 use Rattle.graph.specs.Circuit.{Circuit, circuit}
 use Rattle.table.specs.Prepared.{Tables}
 use Rattle.place.specs.Find.{Tabled, Located}

@@ -1,12 +1,5 @@
 -- The tests of the bytes, as the loops make them: what was seen at every index, or at one. Assumes nothing.
-use mathlib.Core.Bool.{Bool, true, false, _&&_, _||_, not, cond}
-use mathlib.Core.List.{List}
-use mathlib.Core.Path.{_≡_, refl, sym, ap, subst, _∙_}
-use Prim.Native.Nat.{ℕ, _≤_, _<_}
-use native.Mathlib.Omega.{arith}
-use borrow.Author.Tests.{eqb-true, eq-eqb, ne-eqb}
-use lib.Dec.{T, eqb}
-use lib.ListN.{length, getD}
+use Rattle.base_lists.specs.Kit.{_≡_, _∙_, sym, ap, refl, Bool, false, true, cond, _&&_, not, _||_, List, ℕ, _≤_, _<_, T, eqb, length, getD, arith, eq-eqb, ne-eqb, eqb-true}
 use Rattle.base_lists.specs.List.{allBelow}
 use Rattle.base_lists.proofs.Below.{allBelow-same}
 use Rattle.base_lists.proofs.Tables.{getD-tabulate}

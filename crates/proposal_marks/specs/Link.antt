@@ -1,8 +1,5 @@
 -- One link of a place, as it is tested.
-use mathlib.Core.Bool.{Bool, _&&_}
-use mathlib.Core.List.{List}
-use Prim.Native.Nat.{ℕ}
-use lib.ListN.{getD}
+use Rattle.base_lists.specs.Kit.{Bool, _&&_, List, ℕ, getD}
 use Rattle.base_bits.specs.Bits.{intersects}
 use Rattle.graph.specs.Search.{reached}
 use Rattle.place.specs.Bytes.{drivenBy}

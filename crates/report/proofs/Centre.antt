@@ -1,12 +1,6 @@
 -- The line that the program puts for a centre with a place is the centre's line of the report, and where there is none the report has no line.
 -- Assumes nothing.
-use mathlib.Core.Bool.{Bool, true, false, not, cond}
-use mathlib.Core.List.{List, [], _++_}
-use mathlib.Core.Path.{_≡_, refl, sym, ap, ap₂, subst, _∙_}
-use Prim.Native.Nat.{ℕ, _<_}
-use native.Mathlib.Nat.{zero-lt-suc}
-use lib.Dec.{eqb}
-use lib.ListN.{length, getD}
+use Rattle.base_lists.specs.Kit.{_≡_, _∙_, sym, ap, refl, subst, ap₂, Bool, false, true, cond, not, List, [], _++_, ℕ, _<_, zero-lt-suc, eqb, length, getD}
 use Rattle.base_lists.specs.Below.{concatBelow}
 use Rattle.base_lists.specs.List.{tabulate, Below}
 use Rattle.base_lists.proofs.Ranks.{concatBelow-same}

@@ -1,13 +1,6 @@
 -- Laws of lists one after another: one more, none, the first apart, how long they are together; and the room for a text that is put piece by
 -- piece. Assumes nothing.
-use mathlib.Core.List.{List, [], _++_, append-nil, append-assoc}
-use mathlib.Core.Logic.{_⊎_, inl, inr}
-use mathlib.Core.Path.{_≡_, refl, sym, ap, ap₂, _∙_}
-use Prim.Native.Nat.{ℕ, zero, suc, _+_, _*_, _≤_, _<_, zero-le}
-use native.Mathlib.Nat.{le-refl, add-zero, add-suc, suc-mul, eq-or-lt-of-le}
-use native.Mathlib.Numerals.{add-one}
-use native.Mathlib.Omega.{arith}
-use lib.ListN.{length, length-append}
+use Rattle.base_lists.specs.Kit.{_≡_, _∙_, sym, ap, refl, ap₂, _⊎_, inl, inr, List, [], _++_, append-nil, append-assoc, ℕ, _≤_, _<_, _+_, suc, zero, _*_, zero-le, le-refl, eq-or-lt-of-le, add-zero, add-suc, suc-mul, add-one, length, length-append, arith}
 use Rattle.base_lists.specs.Below.{concatBelow}
 use Rattle.base_text.specs.Text.{Put, Fits, decimal}
 use Rattle.base_text.proofs.Text.{fits-less, put-length, length-decimal}

@@ -1,10 +1,6 @@
 -- Document 01's example of a report, T on B, from the bytes of the two files; and the two lines of refused files that it implies. Assumes
 -- nothing.
-use mathlib.Core.Bool.{Bool, true, false}
-use mathlib.Core.List.{List, [], _∷_, _++_}
-use mathlib.Core.Path.{_≡_, refl, ap, ap₂, _∙_}
-use Prim.Native.Nat.{ℕ}
-use lib.Dec.{T}
+use Rattle.base_lists.specs.Kit.{_≡_, _∙_, ap, refl, ap₂, Bool, false, true, List, [], _∷_, _++_, ℕ, T}
 use Rattle.base_lists.specs.List.{all, allBelow, anyBelow, tabulate, maximum}
 use Rattle.base_lists.specs.Below.{countBelow, concatBelow, keepFrom}
 use Rattle.base_lists.proofs.Tests.{T-true, T-false}

@@ -1,10 +1,5 @@
 -- How long the lines get: a centre's line of an accepted board has at most 34,829 bytes, the last line 17, a refusal 20. Assumes nothing.
-use mathlib.Core.Bool.{Bool, true, false, cond}
-use mathlib.Core.List.{List, [], _++_}
-use Prim.Native.Nat.{ℕ, _+_, _*_, _≤_, _<_}
-use native.Mathlib.Nat.{le-trans, mul-le-mul-right}
-use native.Mathlib.Omega.{arith}
-use lib.ListN.{length, getD, length-append}
+use Rattle.base_lists.specs.Kit.{Bool, false, true, cond, List, [], _++_, ℕ, _≤_, _<_, _+_, _*_, le-trans, mul-le-mul-right, length, getD, length-append, arith}
 use Rattle.base_text.specs.Text.{bytes, decimal, Fits}
 use Rattle.base_text.proofs.Text.{length-decimal}
 use Rattle.graph.specs.Circuit.{Circuit}

@@ -1,15 +1,6 @@
 -- The file's order of links is node by node: where starts do not fall, the texts of all links one after another are those of the links that
 -- start at node 0, then at node 1, and so on. Assumes nothing.
-use mathlib.Core.Bool.{cond}
-use mathlib.Core.List.{List, [], _∷_, _++_, append-assoc}
-use mathlib.Core.Logic.{_⊎_, inl, inr}
-use mathlib.Core.Path.{_≡_, refl, sym, ap, ap₂, _∙_}
-use Prim.Native.Nat.{ℕ, zero, suc, _≤_, _<_, suc-le-suc}
-use native.Mathlib.Nat.{not-suc-le-zero, suc-ne-zero, suc-inj, le-of-suc-le-suc, zero-lt-suc, eq-or-lt-of-le}
-use native.Mathlib.Omega.{arith}
-use borrow.Author.Tests.{eq-eqb, ne-eqb}
-use lib.Dec.{eqb}
-use lib.ListN.{length, getD}
+use Rattle.base_lists.specs.Kit.{_≡_, _∙_, sym, ap, refl, ap₂, _⊎_, inl, inr, cond, List, [], _∷_, _++_, append-assoc, ℕ, _≤_, _<_, suc, zero, suc-le-suc, not-suc-le-zero, le-of-suc-le-suc, zero-lt-suc, eq-or-lt-of-le, suc-inj, suc-ne-zero, eqb, length, getD, arith, eq-eqb, ne-eqb}
 use Rattle.base_lists.specs.Below.{concatBelow}
 use Rattle.base_lists.specs.List.{Below}
 use Rattle.graph.specs.Neighbours.{select}

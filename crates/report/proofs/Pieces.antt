@@ -1,10 +1,5 @@
 -- The lines and their items piece by piece, as the program puts them. Assumes nothing.
-use mathlib.Core.Bool.{true, false}
-use mathlib.Core.List.{List, [], _∷_, _++_, append-assoc}
-use mathlib.Core.Path.{_≡_}
-use Prim.Native.Nat.{ℕ, _+_, _≤_}
-use native.Mathlib.Omega.{arith}
-use lib.ListN.{length, getD, length-append}
+use Rattle.base_lists.specs.Kit.{_≡_, false, true, List, [], _∷_, _++_, append-assoc, ℕ, _≤_, _+_, length, getD, length-append, arith}
 use Rattle.base_bits.specs.Bits.{intersects, unionOver}
 use Rattle.base_text.specs.Text.{bytes, decimal, Fits}
 use Rattle.graph.specs.Net.{driven}

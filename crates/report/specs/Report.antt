@@ -1,8 +1,5 @@
 -- The report's text, from the bytes of the two files. The quoted sentences are document 01's.
-use mathlib.Core.Bool.{Bool, cond}
-use mathlib.Core.List.{List, [], _++_}
-use Prim.Native.Nat.{ℕ}
-use lib.ListN.{length, getD}
+use Rattle.base_lists.specs.Kit.{Bool, cond, List, [], _++_, ℕ, length, getD}
 use Rattle.base_lists.specs.Below.{countBelow, concatBelow}
 use Rattle.base_text.specs.Text.{bytes, decimal}
 use Rattle.graph.specs.Circuit.{Circuit}

@@ -1,13 +1,6 @@
 -- The line of one centre: none where the whole board's table leaves the centre empty, else from the place that was
 -- found; and what the line adds to the count. Assumes nothing.
-use mathlib.Core.Bool.{Bool, true, false, cond}
-use mathlib.Core.List.{List, []}
-use mathlib.Core.Path.{_≡_, refl, sym, ap, _∙_}
-use Prim.Native.Nat.{ℕ, _≤_, _<_}
-use native.Mathlib.Omega.{arith}
-use borrow.Author.Tests.{eq-eqb, ne-eqb}
-use lib.Dec.{eqb}
-use lib.ListN.{length, getD}
+use Rattle.base_lists.specs.Kit.{_≡_, _∙_, sym, ap, refl, Bool, false, true, cond, List, [], ℕ, _≤_, _<_, eqb, length, getD, arith, eq-eqb, ne-eqb}
 use Rattle.base_lists.proofs.Tests.{T-false, false-T}
 use Rattle.base_bits.specs.Bits.{bit}
 use Rattle.base_bits.proofs.Digits.{bit-of-zero, no-bits}

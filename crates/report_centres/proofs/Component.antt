@@ -1,16 +1,7 @@
 -- The centre's component in the whole board's match graph. Where matching links lead to all of it in r steps, or the board's links
 -- to as many nodes with its label as it has, the ball holds it, and the place is the component with its matching links; else the place comes from those nodes
 -- of the ball that have its label. Assumes nothing.
-use mathlib.Core.Bool.{Bool, true, false, cond}
-use mathlib.Core.List.{List, [], _++_, append-nil}
-use mathlib.Core.Logic.{inl, inr, ⊎-elim}
-use mathlib.Core.Path.{_≡_, refl, sym, ap, subst, _∙_}
-use Prim.Native.Nat.{ℕ, _^_, _≤_, _<_}
-use native.Mathlib.Omega.{arith}
-use borrow.Author.Tests.{eq-eqb}
-use lib.Dec.{T, eqb, eqb→eq}
-use lib.ListN.{length, getD}
-use lib.Seq.{take-length}
+use Rattle.base_lists.specs.Kit.{_≡_, _∙_, sym, ap, refl, subst, ⊎-elim, inl, inr, Bool, false, true, cond, List, [], _++_, append-nil, ℕ, _≤_, _<_, _^_, T, eqb, eqb→eq, length, getD, take-length, arith, eq-eqb}
 use Rattle.base_lists.specs.List.{Occurs, Below}
 use Rattle.base_lists.proofs.Tests.{true-T, any-at, at-any}
 use Rattle.base_lists.proofs.Tables.{getD-tabulate}

@@ -1,15 +1,6 @@
 -- The text of a component, once more: what follows the colon is the same for each centre whose ball holds the component; what a line puts is found in the
 -- buffer again, and stays there where later lines are put; and the table of where such texts stand, with one text more. Assumes nothing.
-use mathlib.Core.Bool.{Bool, true, false, not, cond}
-use mathlib.Core.List.{List, _++_}
-use mathlib.Core.Path.{_≡_, refl, sym, ap, ap₂, subst, _∙_}
-use Prim.Native.Nat.{ℕ, _+_, _-_, _≤_, _<_}
-use native.Mathlib.Nat.{le-refl}
-use native.Mathlib.Omega.{arith}
-use borrow.Author.Tests.{ne-eqb, eqb-true, eqb-false}
-use lib.Dec.{T, eqb, ltb}
-use lib.ListN.{length, getD, set, replicate, length-set, length-append, length-replicate, getD-replicate}
-use lib.Seq.{getD-set-same, getD-set-other}
+use Rattle.base_lists.specs.Kit.{_≡_, _∙_, sym, ap, refl, subst, ap₂, Bool, false, true, cond, not, List, _++_, ℕ, _≤_, _<_, _+_, _-_, le-refl, T, eqb, ltb, length, getD, set, length-set, length-append, replicate, length-replicate, getD-replicate, getD-set-other, getD-set-same, arith, ne-eqb, eqb-true, eqb-false}
 use Rattle.base_lists.specs.List.{part}
 use Rattle.base_lists.proofs.Tests.{same-test, true-T}
 use Rattle.base_text.specs.Text.{Put}

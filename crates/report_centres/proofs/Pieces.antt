@@ -1,16 +1,7 @@
 -- The last line after the lines of the centres, and nothing after that. Assumes nothing.
-use mathlib.Core.Bool.{Bool, true, false, _&&_, cond}
-use mathlib.Core.List.{List, [], _++_, append-nil}
-use mathlib.Core.Path.{_≡_, refl, _∙_}
-use Prim.Native.Nat.{ℕ, suc, _+_, _-_, _≤_, _<_}
-use native.Mathlib.Nat.{zero-add}
-use native.Mathlib.Numerals.{add-one}
-use native.Mathlib.Omega.{arith}
-use borrow.Author.Tests.{eq-eqb, ne-eqb, le-ltb, leb-true}
-use lib.Dec.{eqb, leb, leb→le, le→leb}
-use lib.ListN.{length, length-append}
+use Rattle.base_lists.specs.Kit.{_≡_, _∙_, refl, Bool, false, true, cond, _&&_, List, [], _++_, append-nil, ℕ, _≤_, _<_, _+_, _-_, suc, zero-add, add-one, eqb, leb, le→leb, leb→le, length, length-append, arith, eq-eqb, ne-eqb, le-ltb, leb-true}
 use Rattle.base_lists.proofs.Tests.{both-right, true-T, same-test}
-use Rattle.base_text.specs.Text.{Put, Fits}
+use Rattle.base_text.specs.Text.{Put}
 use Rattle.base_text.proofs.Text.{put-nothing, put-then, put-same, put-length}
 use Rattle.graph.specs.Circuit.{Circuit}
 use Rattle.file_format.specs.declared.Role.the-variants.{Board}

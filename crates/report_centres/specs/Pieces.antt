@@ -1,11 +1,6 @@
 -- Pieces of a report: the lines of the centres from one on, as long as there is room for the longest line, and the last line; and what the
 -- contracts of the functions that put them cite.
-use mathlib.Core.Bool.{Bool, true, false, _&&_, not, cond}
-use mathlib.Core.List.{List, [], _++_}
-use mathlib.Core.Path.{_≡_}
-use Prim.Native.Nat.{ℕ, suc, _+_, _-_, _≤_, _<_}
-use lib.Dec.{T, eqb, leb, ltb}
-use lib.ListN.{length, getD, take, set}
+use Rattle.base_lists.specs.Kit.{_≡_, Bool, false, true, cond, _&&_, not, List, [], _++_, ℕ, _≤_, _<_, _+_, _-_, suc, T, eqb, ltb, leb, length, getD, take, set}
 use Rattle.base_lists.specs.List.{part}
 use Rattle.base_lists.specs.Below.{countBelow, leastBelow, concatBelow}
 use Rattle.base_text.specs.Text.{Put, Fits}

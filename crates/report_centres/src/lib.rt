@@ -12,7 +12,7 @@ use report_texts::head_bytes;
 use report_texts::put_copy;
 use report_texts::put_head;
 use table_first::copy;
-ghost use mathlib.Core.Bool.{true, false, _&&_, not, cond};
+ghost use mathlib.Core.Bool.{true, false, _&&_, cond};
 ghost use mathlib.Core.List.{_++_};
 ghost use mathlib.Core.Path.{_≡_};
 ghost use Prim.Native.Nat.{_+_, _-_, _≤_, _<_};

@@ -1,15 +1,7 @@
 -- Laws of a line's two parts, and of text that stands in a buffer: it stays where later text is put after it, and what was put is found there again. Assumes
 -- nothing.
-use mathlib.Core.Bool.{Bool, cond}
-use mathlib.Core.List.{List, [], _∷_, _++_, append-assoc}
-use mathlib.Core.Path.{_≡_, refl, sym, ap, ap₂, _∙_}
-use Prim.Native.Nat.{ℕ, zero, suc, _+_, _-_, _≤_, _<_, suc-le-suc}
-use native.Mathlib.Nat.{le-of-suc-le-suc, not-suc-le-zero, zero-add}
-use native.Mathlib.Omega.{arith}
-use lib.ListN.{length, getD, take, drop, set, length-set, length-drop, length-append}
-use lib.Seq.{length-take-le, getD-take, getD-drop, getD-set-same, getD-set-other, sets}
+use Rattle.base_lists.specs.Kit.{_≡_, _∙_, sym, ap, refl, ap₂, List, [], _∷_, _++_, append-assoc, ℕ, _≤_, _<_, _+_, _-_, suc, zero, not-suc-le-zero, le-of-suc-le-suc, zero-add, length, getD, take, drop, set, length-set, length-append, length-drop, length-take-le, getD-set-other, getD-set-same, getD-take, getD-drop, sets, arith}
 use Rattle.base_lists.specs.List.{part, tabulate}
-use Rattle.base_lists.specs.Below.{concatBelow}
 use Rattle.base_lists.proofs.Ranks.{concatBelow-same}
 use Rattle.base_lists.proofs.Tables.{is-tabulate, tabulate-same}
 use Rattle.base_text.specs.Text.{bytes, decimal, Put}

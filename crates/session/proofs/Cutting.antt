@@ -1,14 +1,6 @@
 -- A cut on the tables that hold a machine: they say whether the link is left, and where it is, striking on from the last table leads to the tables of
 -- the machine without it. Assumes nothing.
-use mathlib.Core.Bool.{Bool, true, false, _&&_, cond}
-use mathlib.Core.List.{List, _++_}
-use mathlib.Core.Path.{_≡_, refl, sym, ap, ap₂, subst, _∙_}
-use Prim.Native.Nat.{ℕ, _+_, _≤_, _<_}
-use native.Mathlib.Omega.{arith}
-use borrow.Author.Tests.{ltb-true, ltb-false, lt-ltb, le-ltb}
-use lib.Dec.{T, ltb}
-use lib.ListN.{length, getD, set, take, drop, length-set}
-use lib.Seq.{getD-take, getD-drop, take-at}
+use Rattle.base_lists.specs.Kit.{_≡_, _∙_, sym, ap, refl, subst, ap₂, Bool, false, true, cond, _&&_, List, _++_, ℕ, _≤_, _<_, _+_, T, ltb, length, getD, take, drop, set, length-set, take-at, getD-take, getD-drop, arith, le-ltb, lt-ltb, ltb-false, ltb-true}
 use Rattle.base_lists.specs.List.{part}
 use Rattle.base_lists.proofs.Tests.{T-true, true-T, false-T}
 use Rattle.base_bits.specs.Bits.{unionAt}
@@ -54,9 +46,6 @@ module _ {m : Machine} {s : State} (holds : Holds m s) (place : ℕ) where
 
   end-below : T (isLeft m place) → getD (m .board .ends) place 0 < length (m .board .kinds)
   end-below t = key-below (length (m .board .kinds)) (m .board .ends) place (bounded-ends (holds .board)) (omega (arith, left-below m place t, holds .board .parallel))
-
-  start-below : T (isLeft m place) → getD (m .board .starts) place 0 < length (m .board .kinds)
-  start-below t = key-below (length (m .board .kinds)) (m .board .starts) place (bounded-starts (holds .board)) (left-below m place t)
 
   -- the tables say so
   pub takes-left : takes (s .ends) (length (m .board .kinds)) place ≡ isLeft m place

@@ -1,6 +1,5 @@
 -- Reading out sets that no machine has, by computation. Assumes nothing.
-use mathlib.Core.List.{[], _∷_}
-use mathlib.Core.Path.{_≡_, refl}
+use Rattle.base_lists.specs.Kit.{_≡_, refl, [], _∷_}
 use Rattle.base_lists.specs.Below.{countBelow}
 use Rattle.base_bits.specs.Bits.{bit, sizeOf}
 use Rattle.table_answer.specs.Union.{unionAll}

@@ -1,8 +1,5 @@
 -- Why a cut may strike on from the last table: with fewer links left the old largest set contains the new one. Assumes nothing.
-use mathlib.Core.List.{List}
-use Prim.Native.Nat.{ℕ, _≤_}
-use lib.Dec.{T}
-use lib.ListN.{length}
+use Rattle.base_lists.specs.Kit.{List, ℕ, _≤_, T, length}
 use Rattle.base_lists.specs.List.{Occurs}
 use Rattle.graph.specs.Chosen.{chosen, ChosenLink}
 use Rattle.graph.specs.Circuit.{Circuit, HasLink}

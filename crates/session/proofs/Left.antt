@@ -1,12 +1,5 @@
 -- Laws of the links that are left: all of a fresh machine's, and what a cut takes out. Assumes nothing.
-use mathlib.Core.Bool.{Bool, true, false, _&&_, not, cond}
-use mathlib.Core.List.{List}
-use mathlib.Core.Path.{_≡_, refl, sym, ap, _∙_}
-use Prim.Native.Nat.{ℕ, _≤_, _<_}
-use borrow.Author.Tests.{eqb-true, eqb-false, ltb-true, ltb-false, lt-ltb}
-use lib.Dec.{T, eqb, ltb}
-use lib.ListN.{length, getD, set, List·getD-eq-default}
-use lib.Seq.{getD-set-same, getD-set-other, set-out}
+use Rattle.base_lists.specs.Kit.{_≡_, _∙_, sym, ap, refl, Bool, false, true, cond, _&&_, not, List, ℕ, _≤_, _<_, T, eqb, ltb, length, getD, set, List·getD-eq-default, getD-set-other, getD-set-same, set-out, lt-ltb, eqb-true, ltb-false, eqb-false, ltb-true}
 use Rattle.base_lists.proofs.Tables.{getD-tabulate}
 use Rattle.base_lists.proofs.Tests.{both, both-left, both-right, T-true, true-T}
 use Rattle.graph.specs.Circuit.{Circuit}

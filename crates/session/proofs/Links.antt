@@ -1,15 +1,5 @@
 -- The links of a machine as the tables hold them: they lead where the links left lead, and taking a link out leaves the others. Assumes nothing.
-use mathlib.Core.Bool.{Bool, true, false, cond}
-use mathlib.Core.List.{List, [], _∷_}
-use mathlib.Core.Logic.{_↔_, Iff·trans, Iff·symm}
-use mathlib.Core.Path.{_≡_, refl, sym, ap, ap₂, subst, _∙_}
-use Prim.Native.Nat.{ℕ, zero, suc, _+_, _≤_, _<_, suc-le-suc}
-use native.Mathlib.Nat.{zero-lt-suc, not-suc-le-zero, le-of-suc-le-suc}
-use native.Mathlib.Omega.{arith}
-use borrow.Author.Tests.{eqb-true, eqb-false, ltb-true, ltb-false}
-use lib.Dec.{T, eqb, ltb}
-use lib.ListN.{length, getD, set, take, drop, List·getD-eq-default}
-use lib.Seq.{getD-set-same, getD-set-other, set-out, take-set-le, take-set-lt, drop-set-lt, drop-set-add}
+use Rattle.base_lists.specs.Kit.{_≡_, _∙_, sym, ap, refl, subst, ap₂, _↔_, Iff·trans, Iff·symm, Bool, false, true, cond, List, [], _∷_, ℕ, _≤_, _<_, _+_, suc, zero, suc-le-suc, not-suc-le-zero, le-of-suc-le-suc, zero-lt-suc, T, eqb, ltb, length, getD, take, drop, set, List·getD-eq-default, getD-set-other, getD-set-same, set-out, take-set-le, drop-set-add, drop-set-lt, take-set-lt, arith, eqb-true, ltb-false, eqb-false, ltb-true}
 use Rattle.base_lists.specs.List.{part, Occurs}
 use Rattle.base_lists.proofs.Tables.{length-tabulate, getD-tabulate}
 use Rattle.base_lists.proofs.Tests.{T-true, true-T}

@@ -1,12 +1,6 @@
 -- For every list of cuts: each reply is the machine's, and afterwards the tables hold the machine after the list. Its table is the largest dual simulation in the
 -- nodes with the links left. Assumes nothing.
-use mathlib.Core.Bool.{Bool, true, false, _&&_, _||_, not, cond, and-true}
-use mathlib.Core.List.{List, [], _∷_}
-use mathlib.Core.Path.{_≡_, refl, sym, ap, ap₂, subst, _∙_}
-use Prim.Native.Nat.{ℕ}
-use borrow.Author.Tests.{eqb-true, eq-eqb}
-use lib.Dec.{T, eqb, eqb→eq}
-use lib.ListN.{length}
+use Rattle.base_lists.specs.Kit.{_≡_, _∙_, sym, ap, refl, subst, ap₂, Bool, false, true, cond, _&&_, not, _||_, and-true, List, [], _∷_, ℕ, T, eqb, eqb→eq, length, eq-eqb, eqb-true}
 use Rattle.base_lists.specs.List.{any}
 use Rattle.base_lists.proofs.Tests.{T-true, true-T, same-test}
 use Rattle.graph.specs.Chosen.{chosen}

@@ -1,12 +1,5 @@
 -- What a cut and reading out come to where the tables hold a machine: the machine's reply, the tables of the machine after it, and its table. Assumes nothing.
-use mathlib.Core.Bool.{Bool, true, false, cond}
-use mathlib.Core.List.{List, [], _∷_, _++_}
-use mathlib.Core.Path.{_≡_, refl, sym, ap, ap₂, _∙_}
-use Prim.Native.Nat.{ℕ, _≤_, _<_}
-use native.Mathlib.Omega.{arith}
-use borrow.Author.Tests.{leb-true, le-leb, lt-leb}
-use lib.Dec.{leb}
-use lib.ListN.{length, take, drop}
+use Rattle.base_lists.specs.Kit.{_≡_, _∙_, sym, ap, refl, ap₂, Bool, false, true, cond, List, [], _∷_, _++_, ℕ, _≤_, _<_, leb, length, take, drop, arith, le-leb, lt-leb, leb-true}
 use Rattle.base_lists.proofs.Tests.{true-T}
 use Rattle.file_format.specs.Reading.{filled}
 use Rattle.file_format.specs.Refusals.{Verdict, accept, refuse, first, linkGone, shortTable}

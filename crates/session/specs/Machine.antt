@@ -1,10 +1,6 @@
 -- The plain machine that defines a session (document 02, cutting tracks while searching): "its state is the pattern, the nodes and the set of board
 -- links left." The nodes and the links of the file are those of a board, and the set has a byte for each link of the file, 1 for one that is left.
-use mathlib.Core.Bool.{Bool, _&&_, cond}
-use mathlib.Core.List.{List, [], _∷_}
-use Prim.Native.Nat.{ℕ}
-use lib.Dec.{ltb}
-use lib.ListN.{length, set}
+use Rattle.base_lists.specs.Kit.{Bool, cond, _&&_, List, [], _∷_, ℕ, ltb, length, set}
 use Rattle.base_lists.specs.List.{tabulate}
 use Rattle.graph.specs.Chosen.{chosen}
 use Rattle.graph.specs.Circuit.{Circuit}

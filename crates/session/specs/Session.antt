@@ -1,9 +1,5 @@
 -- What the calls of a session come to on tables that hold a machine, from what they make of any (Tables); and a list of cuts, one call after another.
-use mathlib.Core.Bool.{cond}
-use mathlib.Core.List.{List, [], _∷_, _++_}
-use mathlib.Core.Path.{_≡_}
-use Prim.Native.Nat.{ℕ}
-use lib.ListN.{length, drop}
+use Rattle.base_lists.specs.Kit.{_≡_, cond, List, [], _∷_, _++_, ℕ, length, drop}
 use Rattle.file_format.specs.Reading.{filled}
 use Rattle.file_format.specs.Refusals.{Verdict, refuse, first, shortTable}
 use Rattle.file_format.specs.Reply.{Reply, reply}

@@ -1,10 +1,5 @@
 -- The tables that a session lives in, and which machine they hold. The caller lends them to each call; what they hold is the session's own affair.
-use mathlib.Core.Bool.{Bool, _&&_, cond}
-use mathlib.Core.List.{List}
-use mathlib.Core.Path.{_≡_}
-use Prim.Native.Nat.{ℕ, _+_, _<_}
-use lib.Dec.{ltb}
-use lib.ListN.{length, getD, set, take}
+use Rattle.base_lists.specs.Kit.{_≡_, Bool, cond, _&&_, List, ℕ, _<_, _+_, ltb, length, getD, take, set}
 use Rattle.file_format.specs.Circuit.{Bounded}
 use Rattle.file_format.specs.declared.Role.the-variants as role
 use Rattle.graph.specs.Neighbours.{select}

@@ -1,12 +1,7 @@
 -- What a cut and reading out come to on tables of any content, by equations on what they hold: a cut takes the link out and strikes on node by node
 -- (session_strike/specs/Moves: `settled`), and reading out copies the sets and applies the all-0 rule. What this is where the tables hold a machine is
 -- proved (proofs/Tables).
-use mathlib.Core.Bool.{Bool, cond}
-use mathlib.Core.List.{List, [], _∷_, _++_}
-use mathlib.Core.Path.{_≡_}
-use Prim.Native.Nat.{ℕ, _+_}
-use lib.Dec.{eqb, leb}
-use lib.ListN.{length, getD, take, drop, replicate}
+use Rattle.base_lists.specs.Kit.{_≡_, Bool, cond, List, [], _∷_, _++_, ℕ, _+_, eqb, leb, length, getD, take, drop, replicate}
 use Rattle.base_bits.specs.Bits.{sizeOf}
 use Rattle.file_format.specs.Reading.{filled}
 use Rattle.file_format.specs.Refusals.{Verdict, first, linkGone, shortTable}

@@ -1,11 +1,5 @@
 -- What taking a link out and striking on come to, for tables of any content. Assumes nothing.
-use mathlib.Core.Bool.{Bool, true, false, cond}
-use mathlib.Core.List.{List, _++_}
-use mathlib.Core.Path.{_≡_, refl, sym, ap, _∙_}
-use Prim.Native.Nat.{ℕ, _+_, _≤_, _<_}
-use native.Mathlib.Omega.{arith}
-use borrow.Author.Tests.{lt-ltb, le-ltb}
-use lib.ListN.{getD, take, drop}
+use Rattle.base_lists.specs.Kit.{_≡_, _∙_, sym, ap, refl, Bool, false, true, cond, List, _++_, ℕ, _≤_, _<_, _+_, getD, take, drop, arith, le-ltb, lt-ltb}
 use Rattle.file_format.specs.Refusals.{first, linkGone}
 use Rattle.file_format.specs.declared.File.the-variants.{Neither}
 use Rattle.graph.specs.Search.{far}

@@ -1,12 +1,5 @@
 -- What reading the table out comes to, for tables of any content. Assumes nothing.
-use mathlib.Core.Bool.{Bool, true, false, cond}
-use mathlib.Core.List.{List, _++_}
-use mathlib.Core.Path.{_≡_, refl, ap, _∙_}
-use Prim.Native.Nat.{ℕ, _≤_, _<_}
-use borrow.Author.Tests.{lt-ltb, le-ltb}
-use lib.Dec.{eqb}
-use lib.ListN.{length, take, drop, replicate, length-replicate}
-use lib.Seq.{take-at, drop-at, length-take-le}
+use Rattle.base_lists.specs.Kit.{_≡_, _∙_, ap, refl, Bool, false, true, cond, List, _++_, ℕ, _≤_, _<_, eqb, length, take, drop, replicate, length-replicate, length-take-le, take-at, drop-at, le-ltb, lt-ltb}
 use Rattle.base_bits.specs.Bits.{sizeOf}
 use Rattle.file_format.specs.Reading.{filled}
 use Rattle.file_format.specs.Refusals.{first, shortTable}

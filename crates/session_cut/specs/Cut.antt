@@ -1,9 +1,5 @@
 -- Each case of a cut's answer and of reading out, in the words of the conditions; and what a place names, by the tables.
-use mathlib.Core.Bool.{cond}
-use mathlib.Core.List.{List, [], _∷_}
-use mathlib.Core.Path.{_≡_}
-use Prim.Native.Nat.{ℕ, _+_}
-use lib.ListN.{getD}
+use Rattle.base_lists.specs.Kit.{_≡_, cond, List, [], _∷_, ℕ, _+_, getD}
 use Rattle.file_format.specs.Refusals.{Verdict, accept, refuse}
 use Rattle.file_format.specs.Reply.{Reply}
 use Rattle.graph.specs.Search.{far}

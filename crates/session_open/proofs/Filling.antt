@@ -1,11 +1,5 @@
 -- What filling the tables of a session leaves. Assumes nothing.
-use mathlib.Core.List.{List, [], _∷_, _++_, append-nil, append-assoc}
-use mathlib.Core.Path.{_≡_, sym, ap, ap₂, _∙_}
-use Prim.Native.Nat.{ℕ, suc, _+_, _≤_}
-use native.Mathlib.Omega.{arith}
-use lib.Dec.{T, ltb}
-use lib.ListN.{length, set, take, drop, length-set, length-append, length-take, length-drop, length-replicate, take-append-drop, drop-of-length-le}
-use lib.Seq.{take-at, drop-at, take-all, set-at, take-set-le, getD-set-same, getD-set-other}
+use Rattle.base_lists.specs.Kit.{_≡_, _∙_, sym, ap, ap₂, List, [], _∷_, _++_, append-nil, append-assoc, ℕ, _≤_, _+_, suc, T, ltb, length, take, drop, set, length-set, length-append, length-drop, drop-of-length-le, length-replicate, length-take, take-append-drop, take-at, getD-set-other, take-all, drop-at, getD-set-same, take-set-le, set-at, arith}
 use Rattle.base_lists.specs.List.{all, part}
 use Rattle.base_lists.proofs.Parts.{halved, part-first, part-second, length-halved}
 use Rattle.base_lists.proofs.Tables.{length-tabulate}

@@ -1,8 +1,5 @@
 -- What a session's tables hold at first, one after another.
-use mathlib.Core.List.{List, [], _∷_, _++_}
-use mathlib.Core.Path.{_≡_}
-use Prim.Native.Nat.{ℕ, _<_}
-use lib.ListN.{length, getD, take, drop, replicate}
+use Rattle.base_lists.specs.Kit.{_≡_, List, [], _∷_, _++_, ℕ, _<_, length, getD, take, drop, replicate}
 use Rattle.graph.specs.Neighbours.{select, offsetsOf, grouped}
 use Rattle.graph.specs.Net.{NetRoom, forwardLinks, backwardLinks, driven, driving}
 use Rattle.graph.specs.Search.{far}

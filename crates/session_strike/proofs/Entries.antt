@@ -1,12 +1,6 @@
 -- Laws of entries read with a default, of unions over them and of lists of nodes that are marked. Assumes nothing.
-use mathlib.Core.List.{List, [], _∷_}
-use mathlib.Core.Path.{_≡_, refl, sym, ap, _∙_}
-use Prim.Native.Nat.{ℕ, zero, suc, _+_, _≤_, _<_}
-use native.Mathlib.Nat.{le-of-suc-le-suc, not-suc-le-zero}
-use native.Mathlib.Numerals.{add-one}
+use Rattle.base_lists.specs.Kit.{_≡_, _∙_, sym, ap, refl, List, [], _∷_, ℕ, _≤_, _<_, _+_, suc, zero, not-suc-le-zero, le-of-suc-le-suc, add-one, length, getD, drop, drop-of-length-le, drop-cons}
 use lib.Bits.{bitOr, or-zero-r}
-use lib.ListN.{length, getD, drop, drop-of-length-le}
-use lib.Seq.{drop-cons}
 use Rattle.base_bits.specs.Bits.{unionAt}
 use Rattle.base_bits.proofs.Tests.{bitOr-assoc}
 use Rattle.graph.specs.Net.{forwardOffsets, backwardOffsets, forwardLinks, backwardLinks, driven, driving}

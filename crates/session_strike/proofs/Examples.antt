@@ -1,10 +1,5 @@
 -- Going on from a table, by computation: on the links of a board, and on tables that hold no board's links, where a node may keep a part that it ought to lose. Assumes nothing.
-use mathlib.Core.Bool.{cond}
-use mathlib.Core.List.{List, [], _∷_}
-use mathlib.Core.Path.{_≡_, refl}
-use Prim.Native.Nat.{ℕ}
-use lib.Dec.{eqb}
-use lib.ListN.{replicate}
+use Rattle.base_lists.specs.Kit.{_≡_, refl, cond, List, [], _∷_, ℕ, eqb, replicate}
 use Rattle.base_lists.specs.List.{allBelow, part, sum}
 use Rattle.base_lists.specs.Below.{countBelow, leastBelow}
 use Rattle.base_bits.specs.Bits.{bit, numberOf, subsetOf, firstOf, withoutFirst, sizeOf, unionAt}

@@ -1,12 +1,5 @@
 -- The loop that goes on from a table: what it keeps, that it ends, and that it leads to the last table. Assumes nothing.
-use mathlib.Core.Bool.{Bool, true, false, not, cond}
-use mathlib.Core.List.{List}
-use mathlib.Core.Path.{_≡_, refl, sym, ap, _∙_}
-use Prim.Native.Nat.{ℕ, zero, suc, _≤_, _<_}
-use native.Mathlib.Omega.{arith}
-use borrow.Author.Tests.{eqb-true, eqb-false, ltb-true, ltb-false, lt-ltb, le-ltb, not-true}
-use lib.Dec.{eqb, ltb}
-use lib.ListN.{length, getD, set}
+use Rattle.base_lists.specs.Kit.{_≡_, _∙_, sym, ap, refl, Bool, false, true, cond, not, List, ℕ, _≤_, _<_, suc, zero, eqb, ltb, length, getD, set, arith, le-ltb, lt-ltb, eqb-true, not-true, ltb-false, eqb-false, ltb-true}
 use Rattle.base_lists.proofs.Below.{leastBelow-at}
 use Rattle.base_lists.proofs.Tests.{T-true, T-false, false-T}
 use Rattle.graph.specs.Circuit.{Circuit}

@@ -1,10 +1,5 @@
 -- Laws of a look at one node: what its next set is made from, and what a look leaves. Assumes nothing.
-use mathlib.Core.List.{List}
-use mathlib.Core.Path.{_≡_, refl, sym, ap, _∙_}
-use Prim.Native.Nat.{ℕ, _^_, _≤_, _<_}
-use borrow.Author.Tests.{eq-eqb, ne-eqb}
-use lib.ListN.{length, getD, set, length-set, List·getD-eq-default}
-use lib.Seq.{set-getD}
+use Rattle.base_lists.specs.Kit.{_≡_, _∙_, sym, ap, refl, List, ℕ, _≤_, _<_, _^_, length, getD, set, length-set, List·getD-eq-default, set-getD, eq-eqb, ne-eqb}
 use Rattle.base_bits.specs.Bits.{Subset, unionAt}
 use Rattle.base_bits.proofs.Numbers.{number-lt}
 use Rattle.simulation.specs.Simulation.{Direction, forwards, backwards}

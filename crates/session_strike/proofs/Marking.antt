@@ -1,16 +1,7 @@
 -- Laws of marks: which nodes are marked after one is marked or taken away, and how many. Assumes nothing.
-use mathlib.Core.Bool.{Bool, true, false, not, cond}
-use mathlib.Core.List.{List, [], _∷_}
-use mathlib.Core.Path.{_≡_, refl, ap, _∙_}
-use Prim.Native.Nat.{ℕ, zero, suc, _*_, _/_, _%_, _^_, _≤_, _<_}
-use native.Mathlib.Nat.{le-of-suc-le-suc, not-suc-le-zero}
-use native.Mathlib.Omega.{arith}
-use borrow.Author.Tests.{eqb-true, eqb-false, eq-eqb, ne-eqb, ltb-true, ltb-false, lt-ltb, not-false}
+use Rattle.base_lists.specs.Kit.{_≡_, _∙_, ap, refl, Bool, false, true, cond, not, List, [], _∷_, ℕ, _≤_, _<_, suc, zero, _*_, _^_, _/_, _%_, not-suc-le-zero, le-of-suc-le-suc, T, eqb, ltb, length, getD, set, length-set, replicate, List·getD-eq-default, length-replicate, getD-set-other, getD-set-same, set-out, arith, eq-eqb, ne-eqb, lt-ltb, eqb-true, not-false, ltb-false, eqb-false, ltb-true}
 use lib.Bits.{bitOr, or-lt}
-use lib.Dec.{T, eqb, ltb}
-use lib.ListN.{length, getD, set, replicate, length-set, length-replicate, List·getD-eq-default}
 use lib.Pow.{pow-lt}
-use lib.Seq.{getD-set-same, getD-set-other, set-out}
 use Rattle.base_lists.specs.List.{Occurs}
 use Rattle.base_lists.specs.Below.{countBelow, leastBelow}
 use Rattle.base_lists.proofs.Below.{countBelow-mono, countBelow-equal, leastBelow-none}

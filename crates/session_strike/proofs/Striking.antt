@@ -1,16 +1,7 @@
 -- Striking node by node leads to the row's last table: the next set of a node by masks and moves is that of the row, a table to begin with stays one,
 -- and a node none of whose neighbours changed keeps its set. Assumes nothing.
-use mathlib.Core.Bool.{Bool, true, false, _&&_, and-true}
-use mathlib.Core.List.{List, [], _∷_}
-use mathlib.Core.Logic.{_↔_, _⊎_, inl, inr, ⊎-elim}
-use mathlib.Core.Path.{_≡_, refl, sym, ap, ap₂, subst, _∙_}
-use Prim.Native.Nat.{ℕ, zero, suc, _*_, _≤_, _<_, suc-le-suc}
-use native.Mathlib.Nat.{zero-lt-suc}
-use borrow.Author.Tests.{eqb-true, eqb-false, ltb-true, ltb-false}
+use Rattle.base_lists.specs.Kit.{_≡_, _∙_, sym, ap, refl, subst, ap₂, _↔_, ⊎-elim, _⊎_, inl, inr, Bool, false, true, _&&_, and-true, List, [], _∷_, ℕ, _≤_, _<_, suc, zero, _*_, suc-le-suc, zero-lt-suc, T, eqb, ltb, length, getD, set, length-set, getD-set-other, getD-set-same, set-out, eqb-true, ltb-false, eqb-false, ltb-true}
 use lib.Bits.{bitOr}
-use lib.Dec.{T, eqb, ltb}
-use lib.ListN.{length, getD, set, length-set}
-use lib.Seq.{getD-set-same, getD-set-other, set-out}
 use Rattle.base_lists.specs.List.{Occurs, Below}
 use Rattle.base_lists.proofs.Tables.{is-tabulate, getD-tabulate}
 use Rattle.base_lists.proofs.Tests.{any-at, at-any, same-test, T-false, false-T}

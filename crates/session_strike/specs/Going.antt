@@ -1,11 +1,6 @@
 -- When going on from a table node by node (Moves: `settled`) leads to the row's last table: the table is one to begin with, masks and moves are a
 -- pattern's and a board's, and each node that changes is marked.
-use mathlib.Core.Bool.{false}
-use mathlib.Core.List.{List}
-use mathlib.Core.Logic.{_↔_}
-use mathlib.Core.Path.{_≡_}
-use Prim.Native.Nat.{ℕ, _≤_, _<_}
-use lib.ListN.{length, getD}
+use Rattle.base_lists.specs.Kit.{_≡_, _↔_, false, List, ℕ, _≤_, _<_, length, getD}
 use Rattle.base_lists.specs.List.{Occurs, Below}
 use Rattle.graph.specs.Circuit.{Circuit}
 use Rattle.simulation.specs.Simulation.{Direction}

@@ -1,13 +1,8 @@
 -- The links of a board as a session keeps them, so that one can be taken out: by their numbers. One list has for each node the numbers of the
 -- links that start there, and then for each those of the links that end there, with offsets as neighbour tables have them (graph/specs/Net);
 -- another has each link's end, and then each one's start. A link that is out has neither: its two entries are no node's number.
-use mathlib.Core.Bool.{Bool, not, cond}
-use mathlib.Core.List.{List, [], _∷_}
-use mathlib.Core.Path.{_≡_}
-use Prim.Native.Nat.{ℕ, zero, suc, _+_, _*_, _/_, _%_, _^_}
+use Rattle.base_lists.specs.Kit.{_≡_, Bool, cond, not, List, [], _∷_, ℕ, _+_, suc, zero, _*_, _^_, _/_, _%_, eqb, ltb, length, getD, set, replicate}
 use lib.Bits.{bitOr}
-use lib.Dec.{eqb, ltb}
-use lib.ListN.{length, getD, set, replicate}
 use Rattle.base_lists.specs.Below.{leastBelow}
 use Rattle.base_bits.specs.Bits.{bit, firstOf, withoutFirst, unionAt}
 use Rattle.graph.specs.Net.{forwardLinks, backwardLinks, driven, driving}

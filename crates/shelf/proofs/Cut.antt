@@ -1,7 +1,6 @@
 -- Of a file the program reads at most a byte more than the longest that is accepted: the shelf of what is read so is the shelf of the files, for
 -- any list of byte strings. Assumes nothing.
-use mathlib.Core.Bool.{Bool, true, false}
-use mathlib.Core.List.{List, [], map}
+use mathlib.Core.List.{List, []}
 use mathlib.Core.Path.{_≡_, refl, sym, ap, ap₂, _∙_}
 use Prim.Native.Nat.{ℕ}
 use lib.Dec.{T}

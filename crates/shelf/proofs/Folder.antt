@@ -1,7 +1,7 @@
 -- In any folder, where what was noted and read is what the folder has, what is printed is the text of its shelf. Assumes nothing.
 use mathlib.Core.Bool.{Bool, true, false, cond}
-use mathlib.Core.List.{List, [], _∷_, map}
-use mathlib.Core.Path.{_≡_, refl, sym, ap, ap₂, _∙_}
+use mathlib.Core.List.{List, [], _∷_}
+use mathlib.Core.Path.{_≡_, refl, ap, ap₂, _∙_}
 use Prim.Native.Nat.{ℕ, suc, _+_, _≤_}
 use native.Mathlib.Nat.{zero-add}
 use native.Mathlib.Omega.{arith}
@@ -14,7 +14,7 @@ use Rattle.input.specs.declared.Found.{Found}
 use Rattle.input.specs.declared.Found.the-variants as found
 use Rattle.shelf.specs.declared.Taken.{Taken}
 use Rattle.shelf.specs.declared.Taken.the-variants as taken
-use Rattle.shelf.specs.Reading.{mostBytes, noted, answered, answers, endFrom, endOf, cutEach}
+use Rattle.shelf.specs.Reading.{mostBytes, answered, answers, endFrom, endOf, cutEach}
 use Rattle.shelf.specs.Printing.{textOf, printedAt, printedOf}
 use Rattle.shelf.specs.Folder.{Entry, file, absent, unreadable, onShelf, allReadable, textIn, Told}
 use Rattle.shelf.proofs.Cut.{cut-text}

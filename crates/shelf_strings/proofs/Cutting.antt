@@ -1,14 +1,5 @@
 -- Where each of the byte strings lies that lie one after another. Assumes nothing.
-use mathlib.Core.Bool.{Bool, true, false}
-use mathlib.Core.List.{List, [], _∷_, _++_}
-use mathlib.Core.Path.{_≡_, refl, sym, ap, ap₂, _∙_}
-use Prim.Native.Nat.{ℕ, zero, suc, _+_, _-_, _<_, _≤_}
-use native.Mathlib.Numerals.{add-one}
-use native.Mathlib.Omega.{arith}
-use borrow.Author.Tests.{leb-true, leb-false}
-use lib.Dec.{leb}
-use lib.ListN.{length, getD, take, drop, length-drop, drop-of-length-le, List·getD-eq-default}
-use lib.Seq.{take-all, take-suc, drop-drop}
+use Rattle.base_lists.specs.Kit.{_≡_, _∙_, sym, ap, refl, Bool, false, true, List, [], _∷_, _++_, ℕ, _≤_, _<_, _+_, _-_, suc, zero, add-one, leb, length, getD, take, drop, length-drop, List·getD-eq-default, drop-of-length-le, take-all, take-suc, drop-drop, arith, leb-true, leb-false}
 use Rattle.base_lists.specs.List.{sum}
 use Rattle.shelf_strings.specs.Strings.{cutInto, capped}
 

@@ -1,9 +1,5 @@
 -- Byte strings that lie one after another.
-use mathlib.Core.Bool.{cond}
-use mathlib.Core.List.{List, [], _∷_}
-use Prim.Native.Nat.{ℕ}
-use lib.Dec.{leb}
-use lib.ListN.{take, drop}
+use Rattle.base_lists.specs.Kit.{cond, List, [], _∷_, ℕ, leb, take, drop}
 
 -- bytes cut into strings of these lengths, one after another; where the bytes end, the last ones are shorter, or empty
 unfoldable pub cutInto : List ℕ → List ℕ → List (List ℕ)

@@ -1,12 +1,6 @@
 -- Laws of the shelf's text. Assumes nothing.
-use mathlib.Core.List.{List, [], _∷_, _++_, append-assoc, append-nil}
-use mathlib.Core.Path.{_≡_, refl, sym, ap, _∙_}
-use Prim.Native.Nat.{ℕ, suc, _+_, _*_, _<_, _≤_}
-use native.Mathlib.Numerals.{add-one}
-use native.Mathlib.Omega.{arith}
-use lib.ListN.{length, take, getD, length-append, length-take}
-use lib.Seq.{take-suc}
-use Rattle.base_text.specs.Text.{Put, Fits}
+use Rattle.base_lists.specs.Kit.{_≡_, _∙_, sym, ap, refl, List, [], _∷_, _++_, append-nil, append-assoc, ℕ, _≤_, _<_, _+_, _*_, add-one, length, getD, take, length-append, length-take, take-suc, arith}
+use Rattle.base_text.specs.Text.{Fits}
 use Rattle.base_text.proofs.Text.{fits-less}
 use Rattle.shelf_text.specs.Text.{lineOf, shelfText}
 

@@ -1,6 +1,5 @@
 -- "prints the two-digit numbers of accepted ones in order, one to a line" (document 02, a shelf in order)
-use mathlib.Core.List.{List, [], _∷_, _++_}
-use Prim.Native.Nat.{ℕ, _+_, _/_, _%_}
+use Rattle.base_lists.specs.Kit.{List, [], _∷_, _++_, ℕ, _+_, _/_, _%_}
 
 -- a number below 100 in two digits, 48 being the byte of 0; "Every line ends with one byte `0A`."
 unfoldable pub lineOf : ℕ → List ℕ

@@ -1,11 +1,8 @@
 -- Nothing more could be joined: a grouping of a pattern's parts whose groups match what each of their members matches joins no parts but such
 -- as match each other, and so has at least as many groups as there are classes of mutual matching. These classes are such a grouping. The
 -- agreement need not be symmetric. Assumes nothing.
-use mathlib.Core.Bool.{true}
-use mathlib.Core.Path.{_≡_, refl, sym, _∙_}
-use Prim.Native.Nat.{ℕ, zero, suc, _≤_, _<_}
+use Rattle.base_lists.specs.Kit.{_≡_, _∙_, sym, refl, true, ℕ, _≤_, _<_, suc, zero, arith}
 use native.Mathlib.Decide.{decLt}
-use native.Mathlib.Omega.{arith}
 use Rattle.base_lists.specs.Below.{countBelow}
 use Rattle.base_lists.proofs.Ranks.{count-images}
 use Rattle.graph.specs.Graph.{Graph}

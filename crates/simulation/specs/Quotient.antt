@@ -1,7 +1,5 @@
 -- The merged pattern: the quotient of the pattern by mutual matching. (Class and merged pattern are document 01's terms.)
-use mathlib.Core.Logic.{_↔_}
-use mathlib.Core.Path.{_≡_}
-use Prim.Native.Nat.{ℕ}
+use Rattle.base_lists.specs.Kit.{_≡_, _↔_, ℕ}
 use Rattle.graph.specs.Graph.{Graph}
 use Rattle.simulation.specs.Closed.{Relation}
 use Rattle.simulation.specs.Simulation.{Largest}

@@ -1,5 +1,5 @@
 -- Dual simulation, as document 01 reads it, and graph simulation. The pattern P and the graph H are graphs; Agree u v says that part u and node v have equal kinds.
-use Prim.Native.Nat.{ℕ}
+use Rattle.base_lists.specs.Kit.{ℕ}
 use Rattle.graph.specs.Graph.{Graph}
 use Rattle.simulation.specs.Closed.{Relation, _⊆_}
 

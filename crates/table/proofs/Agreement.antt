@@ -1,13 +1,5 @@
 -- The agreement of a part and a node: what its test means, and what it is good for. Nothing else looks into it. Assumes nothing.
-use mathlib.Core.Bool.{true, _&&_, _||_}
-use mathlib.Core.List.{List}
-use mathlib.Core.Logic.{_↔_, _⊎_, inl, inr, ⊎-elim}
-use mathlib.Core.Path.{_≡_, refl, sym, ap, ap₂, subst, _∙_}
-use Prim.Native.Nat.{ℕ, _*_, _/_, _<_}
-use native.Mathlib.Omega.{arith}
-use lib.Dec.{T, eqb, eqb→eq}
-use lib.ListN.{length, getD}
-use borrow.Author.Tests.{eq-eqb}
+use Rattle.base_lists.specs.Kit.{_≡_, _∙_, sym, ap, refl, subst, ap₂, _↔_, ⊎-elim, _⊎_, inl, inr, true, _&&_, _||_, List, ℕ, _<_, _*_, _/_, T, eqb, eqb→eq, length, getD, arith, eq-eqb}
 use Rattle.base_lists.specs.List.{Below}
 use Rattle.base_lists.proofs.Tests.{true-T, T-true, both, both-left, both-right, same-test, either-left, either-right, either-cases}
 use Rattle.base_bits.specs.Bits.{numberOf}

@@ -1,14 +1,7 @@
 -- The whole-board call's answer, for any directions and for every pattern, connected or not: the largest set that is closed along them and in
 -- which every part occurs. For both directions and a connected pattern it is the row's last set with the row's counts. Assumes nothing.
-use mathlib.Core.Bool.{Bool, true, false, cond}
-use mathlib.Core.List.{List, map}
-use mathlib.Core.Logic.{_↔_, Iff·rfl}
-use mathlib.Core.Path.{_≡_, refl, sym, _∙_}
-use Prim.Native.Nat.{ℕ, _+_, _≤_, _<_}
-use native.Mathlib.Nat.{le-refl}
+use Rattle.base_lists.specs.Kit.{_≡_, _∙_, sym, refl, _↔_, Iff·rfl, Bool, false, true, cond, List, map, ℕ, _≤_, _<_, _+_, le-refl, T, length}
 use lib.Count.{ones}
-use lib.Dec.{T}
-use lib.ListN.{length}
 use Rattle.base_lists.specs.List.{tabulate, sum}
 use Rattle.base_lists.proofs.Tests.{T-false, true-T}
 use Rattle.graph.specs.Circuit.{Circuit, graphOf, circuitGraph}

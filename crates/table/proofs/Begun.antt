@@ -1,11 +1,6 @@
 -- What first tables come to: the table of all pairs of equal kinds, and a larger graph's last table, cut to the nodes of a list. Assumes
 -- nothing.
-use mathlib.Core.Bool.{Bool, true, false, _&&_, cond}
-use mathlib.Core.List.{List}
-use mathlib.Core.Path.{_≡_, refl, sym, ap, ap₂, subst, _∙_}
-use Prim.Native.Nat.{ℕ, _≤_, _<_}
-use lib.Dec.{T, eqb}
-use lib.ListN.{length, getD}
+use Rattle.base_lists.specs.Kit.{_≡_, _∙_, sym, ap, refl, subst, ap₂, Bool, false, true, cond, _&&_, List, ℕ, _≤_, _<_, T, eqb, length, getD}
 use Rattle.base_lists.proofs.Tables.{getD-tabulate, tabulate-same}
 use Rattle.base_lists.proofs.Tests.{T-true, false-T}
 use Rattle.base_bits.specs.Bits.{bit, numberOf}

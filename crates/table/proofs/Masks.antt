@@ -1,15 +1,6 @@
 -- Laws of the masks: the sets of the parts that a part drives, or that drive it, built link by link. Assumes nothing.
-use mathlib.Core.Bool.{Bool, true, false, _||_, cond, or-assoc, or-false}
-use mathlib.Core.List.{List, [], _∷_}
-use mathlib.Core.Path.{_≡_, refl, sym, ap, _∙_, subst}
-use Prim.Native.Nat.{ℕ, _+_, _^_, _≤_, _<_}
-use native.Mathlib.Nat.{not-le-of-lt}
-use native.Mathlib.Numerals.{add-one}
+use Rattle.base_lists.specs.Kit.{_≡_, _∙_, sym, ap, refl, subst, Bool, false, true, cond, _||_, or-false, or-assoc, List, [], _∷_, ℕ, _≤_, _<_, _+_, _^_, not-le-of-lt, add-one, eqb, eqb→eq, length, getD, drop, set, length-set, replicate, drop-of-length-le, length-replicate, getD-replicate, getD-set-other, drop-cons, getD-set-same, eq-eqb, eqb-true, eqb-false}
 use lib.Bits.{bitOr}
-use lib.Dec.{eqb, eqb→eq}
-use lib.ListN.{length, getD, drop, set, replicate, length-set, length-replicate, getD-replicate, drop-of-length-le}
-use lib.Seq.{drop-cons, getD-set-same, getD-set-other}
-use borrow.Author.Tests.{eqb-true, eqb-false, eq-eqb}
 use Rattle.base_lists.specs.List.{any, Below}
 use Rattle.base_lists.proofs.Tests.{T-false, true-T, same-test}
 use Rattle.base_lists.proofs.Tables.{is-tabulate}

@@ -1,7 +1,5 @@
 -- The last table of the row is the largest closed set and, for a connected pattern, the largest dual simulation. Assumes nothing.
-use mathlib.Core.List.{List}
-use Prim.Native.Nat.{ℕ, _≤_}
-use lib.ListN.{length}
+use Rattle.base_lists.specs.Kit.{List, ℕ, _≤_, length}
 use Rattle.graph.specs.Circuit.{Circuit, circuitGraph}
 use Rattle.graph.specs.Graph.{Connected}
 use Rattle.simulation.specs.Closed.{_⊆_, LargestClosed}

@@ -1,7 +1,5 @@
 -- More nodes, more pairs: so a ball's largest dual simulation lies in the whole board's. Assumes nothing.
-use mathlib.Core.List.{List}
-use Prim.Native.Nat.{ℕ, _≤_}
-use lib.ListN.{length}
+use Rattle.base_lists.specs.Kit.{List, ℕ, _≤_, length}
 use Rattle.graph.specs.Circuit.{Circuit}
 use Rattle.simulation.specs.Closed.{_⊆_}
 use Rattle.table_row.specs.Reading.{InTable, Wider}

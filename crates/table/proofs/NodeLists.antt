@@ -1,12 +1,5 @@
 -- Laws of the list of all nodes. Assumes nothing.
-use mathlib.Core.Bool.{true, cond}
-use mathlib.Core.List.{List}
-use mathlib.Core.Path.{_≡_, refl, subst}
-use Prim.Native.Nat.{ℕ, zero, suc, _≤_, _<_}
-use native.Mathlib.Omega.{arith}
-use borrow.Author.Tests.{ne-eqb}
-use lib.Dec.{eqb, eqb-refl}
-use lib.ListN.{length, getD}
+use Rattle.base_lists.specs.Kit.{_≡_, refl, subst, true, cond, List, ℕ, _≤_, _<_, suc, zero, eqb, eqb-refl, length, getD, arith, ne-eqb}
 use Rattle.base_lists.specs.List.{any, tabulate, Below}
 use Rattle.base_lists.specs.Below.{countBelow, leastBelow}
 use Rattle.base_lists.proofs.Below.{leastBelow-is}

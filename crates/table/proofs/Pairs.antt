@@ -1,11 +1,5 @@
 -- How many pairs a table has. Assumes nothing.
-use mathlib.Core.Bool.{false}
-use mathlib.Core.List.{List, [], _∷_}
-use mathlib.Core.Path.{_≡_}
-use Prim.Native.Nat.{ℕ, zero, suc, _+_, _-_, _*_, _≤_, _<_, zero-le}
-use native.Mathlib.Nat.{le-of-suc-le-suc, not-suc-le-zero}
-use native.Mathlib.Omega.{arith}
-use lib.ListN.{length, getD, set}
+use Rattle.base_lists.specs.Kit.{_≡_, false, List, [], _∷_, ℕ, _≤_, _<_, _+_, _-_, suc, zero, _*_, zero-le, not-suc-le-zero, le-of-suc-le-suc, length, getD, set, arith}
 use Rattle.base_lists.specs.List.{sum}
 use Rattle.base_lists.specs.Below.{countBelow}
 use Rattle.base_lists.proofs.Below.{countBelow-le, countBelow-same}

@@ -1,24 +1,20 @@
 -- The row of a pattern on a circuit is the row of sets that begins with the pairs of equal kinds, and follows links in the ways chosen. Along
 -- both ways it contains every dual simulation. Assumes nothing.
-use mathlib.Core.List.{List}
-use mathlib.Core.Logic.{_↔_, inl, inr, Iff·trans}
-use mathlib.Core.Path.{_≡_, refl}
-use Prim.Native.Nat.{ℕ, suc}
-use lib.ListN.{length}
+use Rattle.base_lists.specs.Kit.{_≡_, refl, _↔_, inl, inr, Iff·trans, List, ℕ, suc, length}
 use Rattle.base_lists.specs.List.{Occurs}
 use Rattle.base_lists.proofs.Tests.{both, both-left, both-right}
 use Rattle.graph.specs.Circuit.{Circuit, HasLink, graphOf, circuitGraph}
 use Rattle.graph.specs.Search.{inside}
 use Rattle.graph.proofs.Groups.{select-mem, select-mem-back}
-use Rattle.simulation.specs.Closed.{Relation, _⊆_, Closed, Row}
-use Rattle.simulation.specs.Simulation.{DualSimulation, Candidate, Direction, forwards, backwards, Along}
-use Rattle.simulation.proofs.Simulation.{along-wider, dual-closed}
+use Rattle.simulation.specs.Closed.{Relation, _⊆_, Row}
+use Rattle.simulation.specs.Simulation.{Candidate, Direction, forwards, backwards, Along}
+use Rattle.simulation.proofs.Simulation.{along-wider}
 use Rattle.table_row.specs.Problem.{Way, Agreeing}
 use Rattle.table_row.specs.Row.{rowFrom, rowOf}
 use Rattle.table_row.specs.Reading.{InTable, Fits, Reading, Chosen, Wider}
 use Rattle.table_row.proofs.Row as Of
 use Rattle.table.specs.Host.{hostGraph, KindsMatch}
-use Rattle.table.specs.Row.{agrees, neighbours, bothWays, problemBy, problemOf, startBy, rowBy, startTable, row}
+use Rattle.table.specs.Row.{agrees, neighbours, bothWays, problemBy, problemOf, startBy, rowBy, startTable}
 use Rattle.table.proofs.Agreement.{agrees-kinds}
 
 -- A table of a pattern on a circuit has a number per node, of as many digits as there are parts.
@@ -145,14 +141,3 @@ module _ (pattern host : Circuit) (taken : List ℕ) where
   -- the first table holds the pairs with equal kinds
   pub start-in : (u v : ℕ) → InTable (startTable pattern host taken) u v ↔ Candidates pattern host taken u v
   start-in = start-for bothWays pattern host taken
-
-  -- Every set of the row contains each closed set, and so each dual simulation.
-  pub every-row-closed :
-      {S : Relation} → Closed (Candidates pattern host taken) (Steps pattern) (Moves host taken) S →
-      (k : ℕ) → S ⊆ InTable (row pattern host taken k)
-  every-row-closed = Of.every-row (problemOf pattern host taken) reading
-
-  pub every-row :
-      {S : Relation} → DualSimulation (circuitGraph pattern) (KindsMatch pattern host) (hostGraph host taken) S →
-      (k : ℕ) → S ⊆ InTable (row pattern host taken k)
-  every-row s = every-row-closed (dual-closed s)

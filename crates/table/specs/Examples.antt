@@ -1,5 +1,5 @@
 -- The circuits of document 01's examples, and what is opened where their tables are computed.
-use mathlib.Core.List.{[], _∷_}
+use Rattle.base_lists.specs.Kit.{[], _∷_}
 use Rattle.base_lists.specs.List.{all, any, allBelow, anyBelow, tabulate, sum}
 use Rattle.base_lists.specs.Below.{countBelow}
 use Rattle.base_bits.specs.Bits.{bit, numberOf, sizeOf}

@@ -1,8 +1,5 @@
 -- First tables: what striking may begin with, and how they are written at the nodes of a list.
-use mathlib.Core.List.{List}
-use mathlib.Core.Path.{_≡_}
-use Prim.Native.Nat.{ℕ}
-use lib.ListN.{length, getD}
+use Rattle.base_lists.specs.Kit.{_≡_, List, ℕ, length, getD}
 use Rattle.base_bits.specs.Bits.{numberOf}
 use Rattle.graph.specs.Circuit.{Circuit}
 use Rattle.table_row.specs.Reading.{Begins as BeginsOf}

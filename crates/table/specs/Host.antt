@@ -1,11 +1,6 @@
 -- The graph H in which a pattern is matched: "a board or a subgraph of one". It is given by a circuit, from which it takes some of the
 -- nodes, one byte each (1: taken), and some of the links: those that the circuit lists and whose ends are both taken.
-use mathlib.Core.List.{List}
-use mathlib.Core.Logic.{_⊎_}
-use mathlib.Core.Path.{_≡_}
-use Prim.Native.Nat.{ℕ, _<_}
-use lib.Dec.{T}
-use lib.ListN.{length, getD}
+use Rattle.base_lists.specs.Kit.{_≡_, _⊎_, List, ℕ, _<_, T, length, getD}
 use Rattle.file_format.specs.Label.{kindIn, packageIn}
 use Rattle.graph.specs.Circuit.{Circuit, HasLink}
 use Rattle.graph.specs.Graph.{Graph}

@@ -1,8 +1,5 @@
 -- What the refinement of a first table to the last set of the row promises, for the directions that the tables are of.
-use mathlib.Core.List.{List}
-use mathlib.Core.Path.{_≡_}
-use Prim.Native.Nat.{ℕ, _-_}
-use lib.ListN.{length}
+use Rattle.base_lists.specs.Kit.{_≡_, List, ℕ, _-_, length}
 use Rattle.graph.specs.Circuit.{Circuit}
 use Rattle.table.specs.Fill.{marksOf}
 use Rattle.table.specs.First.{BeginsBy}

@@ -1,11 +1,7 @@
 -- The row of sets of a pattern on a circuit, and the four counts: what the contracts cite. They are those of a problem as table_row has it:
 -- which part agrees with which node, and links to be followed in the directions chosen. proofs/ shows that the last set is the largest closed
 -- one, and so what dual simulation and graph simulation have as their largest.
-use mathlib.Core.Bool.{Bool, true, false, _&&_, _||_}
-use mathlib.Core.List.{List, [], _∷_}
-use Prim.Native.Nat.{ℕ}
-use lib.Dec.{eqb}
-use lib.ListN.{length, getD}
+use Rattle.base_lists.specs.Kit.{Bool, false, true, _&&_, _||_, List, [], _∷_, ℕ, eqb, length, getD}
 use Rattle.file_format.specs.Label.{kindIn, packageIn}
 use Rattle.graph.specs.Circuit.{Circuit}
 use Rattle.graph.specs.Neighbours.{select}

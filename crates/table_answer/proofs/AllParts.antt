@@ -1,14 +1,7 @@
 -- A table has each of its parts at some node exactly when the union of its sets has as many parts. Assumes nothing.
-use mathlib.Core.Bool.{Bool, true, false, _&&_, _||_, cond}
-use mathlib.Core.List.{List, [], _∷_}
-use mathlib.Core.Path.{_≡_, refl, sym, ap, ap₂, _∙_}
-use Prim.Native.Nat.{ℕ, zero, suc, _+_, _^_, _≤_, _<_}
-use native.Mathlib.Omega.{arith}
-use borrow.Author.Tests.{eq-eqb, ne-eqb, eqb-true, eqb-false}
-use lib.Bits.{bitOr, or-lt}
-use lib.Dec.{T, eqb}
+use Rattle.base_lists.specs.Kit.{_≡_, _∙_, sym, ap, refl, Bool, false, true, cond, _&&_, _||_, List, [], _∷_, ℕ, _≤_, _<_, _+_, suc, zero, _^_, eqb, length, getD, replicate, arith, eq-eqb, ne-eqb, eqb-true, eqb-false}
+use lib.Bits.{or-lt}
 use lib.Pow.{pow-pos}
-use lib.ListN.{length, getD, replicate}
 use Rattle.base_lists.specs.List.{allBelow, anyBelow, tabulate}
 use Rattle.base_lists.specs.Below.{countBelow}
 use Rattle.base_lists.proofs.Below.{allBelow-same, countBelow-le}

@@ -1,6 +1,5 @@
 -- The union of all sets of a table.
-use mathlib.Core.List.{List, [], _∷_}
-use Prim.Native.Nat.{ℕ, zero}
+use Rattle.base_lists.specs.Kit.{List, [], _∷_, ℕ, zero}
 use lib.Bits.{bitOr}
 
 unfoldable pub unionAll : List ℕ → ℕ

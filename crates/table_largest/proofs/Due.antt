@@ -1,14 +1,6 @@
 -- Only what may change is looked at: a node none of whose neighbours changed keeps its set. Assumes nothing.
-use mathlib.Core.Bool.{Bool, true, false, not, cond}
-use mathlib.Core.List.{List, [], _∷_}
-use mathlib.Core.Logic.{_⊎_, inl, inr}
-use mathlib.Core.Path.{_≡_, refl, sym, ap, ap₂, _∙_, subst}
-use Prim.Native.Nat.{ℕ, zero, suc, _^_, _<_, suc-le-suc}
-use native.Mathlib.Nat.{zero-lt-suc}
-use borrow.Author.Tests.{eqb-true, eqb-false}
+use Rattle.base_lists.specs.Kit.{_≡_, _∙_, sym, ap, refl, subst, ap₂, _⊎_, inl, inr, Bool, false, true, cond, not, List, [], _∷_, ℕ, _<_, suc, zero, _^_, suc-le-suc, zero-lt-suc, T, eqb, length, getD, eqb-true, eqb-false}
 use lib.Bits.{bitOr}
-use lib.Dec.{T, eqb}
-use lib.ListN.{length, getD}
 use Rattle.base_lists.specs.List.{Occurs, Below}
 use Rattle.base_lists.proofs.Tests.{true-T, false-T, both-right}
 use Rattle.base_lists.proofs.Tables.{length-tabulate, getD-tabulate, is-tabulate}

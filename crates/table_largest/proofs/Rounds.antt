@@ -1,16 +1,7 @@
 -- The loop of rounds: from one table to the next, until a round strikes nothing. Assumes nothing.
-use mathlib.Core.List.{List, []}
-use mathlib.Core.Logic.{_⊎_, ⊎-elim}
-use mathlib.Core.Path.{_≡_, refl, sym, ap, ap₂, subst, _∙_}
-use Prim.Native.Nat.{ℕ, suc, _+_, _^_, _≤_, _<_}
-use native.Mathlib.Nat.{le-refl, not-suc-le-zero, lt-of-le-of-lt}
-use native.Mathlib.Numerals.{add-one}
+use Rattle.base_lists.specs.Kit.{_≡_, _∙_, sym, ap, refl, subst, ap₂, ⊎-elim, _⊎_, List, [], ℕ, _≤_, _<_, _+_, suc, _^_, not-suc-le-zero, le-refl, lt-of-le-of-lt, add-one, T, length, getD, take, replicate, List·getD-eq-default, length-take-le, arith}
 use native.Mathlib.Decide.{decLt}
-use native.Mathlib.Omega.{arith}
 use borrow.Author.Count.{below-more}
-use lib.Dec.{T}
-use lib.ListN.{length, getD, take, replicate, List·getD-eq-default}
-use lib.Seq.{length-take-le}
 use Rattle.base_lists.specs.List.{Occurs, Below}
 use Rattle.base_lists.proofs.Tests.{false-T}
 use Rattle.base_bits.specs.Bits.{bit, Subset}

@@ -1,9 +1,5 @@
 -- Striking over masks, neighbour tables and a list of nodes is the striking of the row. Assumes nothing.
-use mathlib.Core.Bool.{Bool, _&&_}
-use mathlib.Core.List.{List}
-use mathlib.Core.Path.{_≡_, refl, sym, ap, ap₂, _∙_}
-use Prim.Native.Nat.{ℕ, zero, suc, _<_}
-use lib.ListN.{length, getD}
+use Rattle.base_lists.specs.Kit.{_≡_, _∙_, sym, ap, refl, ap₂, Bool, _&&_, List, ℕ, _<_, suc, zero, length, getD}
 use Rattle.base_lists.specs.List.{tabulate, Below}
 use Rattle.base_lists.proofs.Tests.{T-false, false-T}
 use Rattle.base_lists.proofs.Tables.{tabulate-same}

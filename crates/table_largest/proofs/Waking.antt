@@ -1,15 +1,6 @@
 -- The list of the nodes to look at next, made with marks: it has what lies beside the nodes that changed, each once, and without its marks the
 -- table of marks is as it was. Assumes nothing.
-use mathlib.Core.Bool.{Bool, true, false, cond}
-use mathlib.Core.List.{List, []}
-use mathlib.Core.Path.{_≡_, refl, sym, ap, _∙_}
-use Prim.Native.Nat.{ℕ, zero, suc, _<_, zero-le}
-use native.Mathlib.Nat.{not-suc-le-zero, zero-lt-suc}
-use native.Mathlib.Omega.{arith}
-use borrow.Author.Tests.{eqb-true, eqb-false}
-use lib.Dec.{T, eqb}
-use lib.ListN.{length, getD, replicate, length-replicate, getD-replicate}
-use lib.Seq.{ext-getD}
+use Rattle.base_lists.specs.Kit.{_≡_, _∙_, sym, ap, refl, Bool, false, true, cond, List, [], ℕ, _<_, suc, zero, zero-le, not-suc-le-zero, zero-lt-suc, T, eqb, length, getD, replicate, length-replicate, getD-replicate, ext-getD, arith, eqb-true, eqb-false}
 use Rattle.base_lists.specs.List.{Occurs, Below}
 use Rattle.base_lists.proofs.Tests.{T-true, false-T}
 use Rattle.graph.specs.Bfs.{State, level, start, missing, Ready, stateOf, Searching}

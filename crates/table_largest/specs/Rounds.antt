@@ -1,11 +1,6 @@
 -- Rounds of striking over neighbour tables and masks, and when a list has all nodes that change in a round: what the contracts here cite.
 -- proofs/Row ties the rounds to the row of sets.
-use mathlib.Core.Bool.{false}
-use mathlib.Core.List.{List}
-use mathlib.Core.Logic.{_↔_}
-use mathlib.Core.Path.{_≡_}
-use Prim.Native.Nat.{ℕ, zero, suc, _≤_, _<_}
-use lib.ListN.{length, getD}
+use Rattle.base_lists.specs.Kit.{_≡_, _↔_, false, List, ℕ, _≤_, _<_, suc, zero, length, getD}
 use Rattle.base_lists.specs.List.{tabulate, Occurs, Below}
 use Rattle.graph.specs.Net.{driven, driving}
 use Rattle.table.specs.Fill.{listed}

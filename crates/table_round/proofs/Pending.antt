@@ -1,14 +1,5 @@
 -- Laws of the two halves of a round: listing the nodes that change, and writing their sets. Assumes nothing.
-use mathlib.Core.Bool.{Bool, true, false, _&&_, _||_, not, cond}
-use mathlib.Core.List.{List, [], _∷_, _++_, map, append-nil, append-assoc}
-use mathlib.Core.Path.{_≡_, refl, sym, ap, _∙_, subst}
-use Prim.Native.Nat.{ℕ, suc, _+_, _-_, _≤_, _<_, zero-le}
-use native.Mathlib.Numerals.{add-one}
-use native.Mathlib.Omega.{arith}
-use borrow.Author.Tests.{eqb-true}
-use lib.Dec.{T, eqb}
-use lib.ListN.{length, getD, take, drop, set, length-set, drop-of-length-le}
-use lib.Seq.{drop-cons, take-suc-set}
+use Rattle.base_lists.specs.Kit.{_≡_, _∙_, sym, ap, refl, subst, Bool, false, true, cond, _&&_, not, _||_, List, [], _∷_, _++_, append-nil, map, append-assoc, ℕ, _≤_, _<_, _+_, _-_, suc, zero-le, add-one, T, eqb, length, getD, take, drop, set, length-set, drop-of-length-le, drop-cons, take-suc-set, arith, eqb-true}
 use Rattle.base_lists.specs.List.{any, Below}
 use Rattle.base_lists.proofs.Tests.{both-left}
 use Rattle.base_bits.specs.Bits.{sizeOf}

@@ -1,10 +1,5 @@
 -- A round in two halves: the nodes that change are listed, each with its next set, and then these sets are written.
-use mathlib.Core.Bool.{cond}
-use mathlib.Core.List.{List, [], _∷_, map}
-use mathlib.Core.Path.{_≡_}
-use Prim.Native.Nat.{ℕ, _+_, _≤_}
-use lib.Dec.{eqb}
-use lib.ListN.{length, getD, take, set}
+use Rattle.base_lists.specs.Kit.{_≡_, cond, List, [], _∷_, map, ℕ, _≤_, _+_, eqb, length, getD, take, set}
 use Rattle.table.specs.Row.{pairs}
 
 -- those nodes of a list to which a rule gives another set than they have

@@ -1,14 +1,7 @@
 -- The answer where every part has to occur: the largest set that is closed and in which every part occurs, unless it is empty; and its
 -- counts. Assumes nothing.
-use mathlib.Core.Bool.{Bool, true, false, cond}
-use mathlib.Core.List.{List, [], _∷_, map}
-use mathlib.Core.Logic.{_↔_, inl, inr}
-use mathlib.Core.Path.{_≡_, refl, sym, ap, _∙_}
-use Prim.Native.Nat.{ℕ, _+_, _-_, _≤_, _<_}
-use native.Mathlib.Nat.{le-refl, lt-of-lt-of-le}
-use native.Mathlib.Omega.{arith}
+use Rattle.base_lists.specs.Kit.{_≡_, _∙_, sym, ap, refl, _↔_, inl, inr, Bool, false, true, cond, List, [], _∷_, map, ℕ, _≤_, _<_, _+_, _-_, le-refl, lt-of-lt-of-le, T, arith}
 use lib.Count.{ones}
-use lib.Dec.{T}
 use Rattle.base_lists.specs.List.{anyBelow, tabulate, sum}
 use Rattle.base_lists.proofs.Tests.{T-true, allBelow-at, at-allBelow, anyBelow-at, at-anyBelow}
 use Rattle.graph.specs.Graph.{Graph}

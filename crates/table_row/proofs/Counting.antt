@@ -1,22 +1,15 @@
 -- The row comes to rest at its last set, and the four counts say how. Assumes nothing.
-use mathlib.Core.Bool.{Bool, false, not}
-use mathlib.Core.List.{List, [], _∷_, map}
-use mathlib.Core.Logic.{_≢_, _⊎_}
-use mathlib.Core.Path.{_≡_, refl, sym, ap, ap₂, subst, _∙_}
-use Prim.Native.Nat.{ℕ, suc, _+_, _≤_, _<_}
-use native.Mathlib.Nat.{le-refl}
-use native.Mathlib.Omega.{arith}
+use Rattle.base_lists.specs.Kit.{_≡_, _∙_, sym, ap, refl, subst, ap₂, _⊎_, _≢_, Bool, false, not, List, [], _∷_, map, ℕ, _≤_, _<_, _+_, suc, le-refl, T, eqb, eqb→eq, eqb-refl, not-T, arith}
 use lib.Count.{ones}
-use lib.Dec.{T, eqb, eqb→eq, eqb-refl, not-T}
 use Rattle.base_lists.specs.List.{sum}
 use Rattle.base_lists.specs.Below.{countBelow}
 use Rattle.base_lists.proofs.Tests.{both, both-left, both-right, T-true}
 use Rattle.base_lists.proofs.Rows.{rests, falls-to-rest}
 use Rattle.table_row.specs.Problem.{Problem}
-use Rattle.table_row.specs.Row.{pairs, same, startOf, strikeOf, rowFrom, rowOf, startedOf, lastOf, keptOf, struckOf, roundsOf}
+use Rattle.table_row.specs.Row.{pairs, same, startOf, strikeOf, rowFrom, rowOf, startedOf, lastOf, keptOf, roundsOf}
 use Rattle.table_row.specs.Reading.{TableOf}
 use Rattle.table_row.proofs.Sets.{fits-word, pairs-progress, pairs-ones}
-use Rattle.table_row.proofs.Row.{start-fits, strike-fits, strike-inside, from-fits, row-fits}
+use Rattle.table_row.proofs.Row.{start-fits, strike-fits, strike-inside, from-fits}
 use Rattle.table_row.proofs.Falling.{FirstRest, falls-count, first-rest, count-first}
 
 -- ---- the test whether two tables are the same
@@ -119,10 +112,6 @@ module _ {D : Type 0} (p : Problem D) (most : p .parts ≤ 32) where
   pub rounds-first : FirstRest pairs (rowOf p) (roundsOf p)
   rounds-first = let (k, r) = first-rest pairs (rowOf p) (row-progress p most) in rw (first-rounds p r) r
 
-  -- "rounds, how many sets differ from the one before": of all the sets of the row, however far it is followed
-  pub rounds-all : (n : ℕ) → roundsOf p ≤ n → countBelow n (differs p) ≡ roundsOf p
-  rounds-all n h = first-differing p rounds-first n h
-
   -- each set up to there differs from the one before, and there the row has come to its last set
   pub rounds-differ : (j : ℕ) → j < roundsOf p → rowOf p (suc j) ≢ rowOf p j
   rounds-differ j h e = omega (arith, rounds-first .falls j h, ap pairs e)
@@ -138,19 +127,6 @@ module _ {D : Type 0} (p : Problem D) (most : p .parts ≤ 32) where
   -- "So started = kept + struck, and rounds are at most struck."
   pub kept-started : keptOf p ≤ startedOf p
   kept-started = omega (arith, kept-rounds)
-
-  pub started-sum : startedOf p ≡ keptOf p + struckOf p
-  unfolding struckOf
-  started-sum = omega (arith, kept-rounds)
-
-  pub rounds-struck : roundsOf p ≤ struckOf p
-  unfolding struckOf
-  rounds-struck = omega (arith, kept-rounds)
-
-  -- "kept is the number of one bits in the whole table"
-  pub kept-ones : keptOf p ≡ sum (map ones (lastOf p))
-  unfolding keptOf lastOf
-  kept-ones = pairs-ones (lastOf p) (fits-word most (row-fits p (startedOf p)))
 
   -- "started, the pairs of R0": so counted too
   pub started-ones : startedOf p ≡ sum (map ones (startOf p))

@@ -1,11 +1,5 @@
 -- A sequence whose count falls with each step until the sequence repeats: where it first does. Assumes nothing.
-use mathlib.Core.Bool.{Bool, false}
-use mathlib.Core.Logic.{_⊎_, inl, inr, ⊎-elim}
-use mathlib.Core.Path.{_≡_, refl, sym, subst}
-use Prim.Native.Nat.{ℕ, zero, suc, _+_, _≤_, _<_, zero-le, suc-le-suc}
-use native.Mathlib.Nat.{le-refl, le-of-suc-le-suc, not-suc-le-zero, zero-lt-suc, eq-or-lt-of-le}
-use native.Mathlib.Omega.{arith}
-use lib.Dec.{T}
+use Rattle.base_lists.specs.Kit.{_≡_, sym, refl, subst, ⊎-elim, _⊎_, inl, inr, Bool, false, ℕ, _≤_, _<_, _+_, suc, zero, zero-le, suc-le-suc, not-suc-le-zero, le-refl, le-of-suc-le-suc, zero-lt-suc, eq-or-lt-of-le, T, arith}
 use Rattle.base_lists.specs.Below.{countBelow}
 use Rattle.base_lists.proofs.Tests.{T-true}
 

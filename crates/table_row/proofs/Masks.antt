@@ -1,11 +1,5 @@
 -- The round by masks is the strike, for any list of ways. Assumes nothing.
-use mathlib.Core.Bool.{Bool, true, false, _&&_, _||_, not}
-use mathlib.Core.List.{List, [], _∷_}
-use mathlib.Core.Path.{_≡_, sym, ap, ap₂, subst, _∙_}
-use Prim.Native.Nat.{ℕ, _≤_, _<_}
-use native.Mathlib.Nat.{lt-of-lt-of-le, not-le-of-lt}
-use lib.Dec.{T, eqb, eqb→eq, eqb-refl}
-use lib.ListN.{length, getD}
+use Rattle.base_lists.specs.Kit.{_≡_, _∙_, sym, ap, subst, ap₂, Bool, false, true, _&&_, not, _||_, List, [], _∷_, ℕ, _≤_, _<_, lt-of-lt-of-le, not-le-of-lt, T, eqb, eqb→eq, eqb-refl, length, getD}
 use Rattle.base_lists.specs.List.{all, any, allBelow, tabulate, Below}
 use Rattle.base_lists.proofs.Tests.{T-false, same-test, all-at, at-all, any-at, at-any, allBelow-at, at-allBelow}
 use Rattle.base_lists.proofs.Below.{allBelow-same}

@@ -1,17 +1,8 @@
 -- Tables of sets of parts: which pairs they hold, when two are equal, and how many pairs they have. Assumes nothing.
-use mathlib.Core.Bool.{Bool, true, false, _&&_, cond}
-use mathlib.Core.List.{List, [], _∷_, map}
-use mathlib.Core.Logic.{_↔_, _⊎_, inl, inr, ⊎-elim}
-use mathlib.Core.Path.{_≡_, refl, sym, ap, ap₂, subst, _∙_}
-use Prim.Native.Nat.{ℕ, zero, suc, _+_, _^_, _≤_, _<_}
-use native.Mathlib.Nat.{lt-of-lt-of-le, lt-of-not-le, not-suc-le-zero}
+use Rattle.base_lists.specs.Kit.{_≡_, _∙_, sym, ap, refl, subst, ap₂, _↔_, ⊎-elim, _⊎_, inl, inr, Bool, false, true, cond, _&&_, List, [], _∷_, map, ℕ, _≤_, _<_, _+_, suc, zero, _^_, not-suc-le-zero, lt-of-lt-of-le, lt-of-not-le, T, length, getD, List·getD-eq-default, length-map, ext-getD, arith}
 use native.Mathlib.Decide.{decLt}
-use native.Mathlib.Omega.{arith}
 use lib.Count.{ones}
-use lib.Dec.{T}
-use lib.ListN.{length, getD, length-map, List·getD-eq-default}
 use lib.Pow.{pow-pos, pow-mono}
-use lib.Seq.{ext-getD}
 use Rattle.base_lists.specs.List.{tabulate, sum}
 use Rattle.base_lists.specs.Below.{countBelow}
 use Rattle.base_lists.proofs.Tests.{false-T, same-test}

@@ -1,10 +1,5 @@
 -- What the tests over lists mean: of entries, and of labels. Assumes nothing.
-use mathlib.Core.Bool.{Bool, _&&_}
-use mathlib.Core.List.{List, [], _∷_}
-use mathlib.Core.Logic.{_↔_, inl, inr}
-use mathlib.Core.Path.{_≡_, refl, sym, ap₂, subst}
-use Prim.Native.Nat.{ℕ}
-use lib.Dec.{T}
+use Rattle.base_lists.specs.Kit.{_≡_, sym, refl, subst, ap₂, _↔_, inl, inr, Bool, _&&_, List, [], _∷_, ℕ, T}
 use Rattle.base_lists.specs.List.{all, any, Occurs}
 use Rattle.base_lists.proofs.Tests.{both, both-left, both-right, all-at, at-all, any-at, at-any}
 use Rattle.simulation.specs.Closed.{Relation}

@@ -1,10 +1,6 @@
 -- The row of sets of a problem, and the four counts. A set of pairs is a table with a number per node, the sum of 2^u over its parts u.
 -- proofs/ shows that the last set is the largest closed one.
-use mathlib.Core.Bool.{Bool, true, false, _&&_, not}
-use mathlib.Core.List.{List, [], _∷_, map}
-use Prim.Native.Nat.{ℕ, zero, suc, _-_}
-use lib.Dec.{eqb}
-use lib.ListN.{getD}
+use Rattle.base_lists.specs.Kit.{Bool, false, true, _&&_, not, List, [], _∷_, map, ℕ, _-_, suc, zero, eqb, getD}
 use Rattle.base_lists.specs.List.{all, any, tabulate, sum}
 use Rattle.base_lists.specs.Below.{countBelow}
 use Rattle.base_bits.specs.Bits.{bit, numberOf, sizeOf}

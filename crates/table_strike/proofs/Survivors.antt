@@ -1,15 +1,7 @@
 -- Laws of the parts of a set whose links all have partners: what `surviving` keeps, and the next set of a node. Assumes nothing.
-use mathlib.Core.Bool.{Bool, true, false, _&&_, _||_, not, cond, and-false}
-use mathlib.Core.Path.{_≡_, refl, sym, ap, ap₂, _∙_}
-use mathlib.Core.List.{List, [], _∷_}
-use Prim.Native.Nat.{ℕ, zero, suc, _+_, _^_, _≤_, _<_}
-use native.Mathlib.Nat.{not-suc-le-zero}
-use native.Mathlib.Omega.{arith}
+use Rattle.base_lists.specs.Kit.{_≡_, _∙_, sym, ap, refl, ap₂, Bool, false, true, cond, _&&_, not, _||_, and-false, List, [], _∷_, ℕ, _≤_, _<_, _+_, suc, zero, _^_, not-suc-le-zero, T, eqb, length, getD, arith, eq-eqb, eqb-true}
 use lib.Bits.{bitOr, or-zero-r, or-add-and, and-le-l, and-le-r}
-use lib.Dec.{T, eqb}
-use lib.ListN.{length, getD}
 use borrow.Author.Count.{below-more}
-use borrow.Author.Tests.{eqb-true, eq-eqb}
 use Rattle.base_lists.specs.List.{all}
 use Rattle.base_lists.proofs.Tests.{both-left, both-right, T-true, true-T, same-test, at-all, all-at, at-allBelow}
 use Rattle.base_bits.specs.Bits.{bit, Subset, subsetOf, firstOf, withoutFirst, unionAt}

@@ -1,9 +1,5 @@
 -- Striking at one node, over neighbour tables and masks.
-use mathlib.Core.Bool.{Bool, _&&_}
-use mathlib.Core.List.{List}
-use Prim.Native.Nat.{ℕ}
-use lib.Dec.{eqb}
-use lib.ListN.{getD}
+use Rattle.base_lists.specs.Kit.{Bool, _&&_, List, ℕ, eqb, getD}
 use Rattle.base_lists.specs.List.{all}
 use Rattle.base_bits.specs.Bits.{bit, numberOf, subsetOf, unionAt}
 use Rattle.graph.specs.Net.{driven, driving}

@@ -1,18 +1,11 @@
 -- `barring_find::bar_circuits` meets its contract: the tables are prepared, the ball is listed, and in it the kept links are found. Assumes nothing.
-use mathlib.Core.List.{List, _++_}
-use mathlib.Core.Path.{_≡_, sym, ap, _∙_}
-use Prim.Native.Nat.{ℕ, _≤_}
-use native.Mathlib.Omega.{arith}
-use denote.Ref.{now}
-use lib.ListN.{length, take}
-use lib.Seq.{length-take-le, take-at}
+use Rattle.base_lists.specs.Kit.{now, _≡_, _∙_, sym, List, _++_, ℕ, _≤_, length, take, length-take-le, arith, needs}
 use Rattle.graph.specs.Circuit.{circuit}
 use Rattle.file_format.proofs.Accepted.{bounded-starts, bounded-ends}
 use Rattle.barring_find.specs.Ball.{Netted, Listed}
 use Rattle.barring_find.specs.Trial.{Tried}
 use Rattle.barring_find.proofs.Netted.{bounded-netted}
 use Rattle.barring_find.proofs.Around.{room, cut-room, cut-size, listed-tried}
-use borrow.Author.Needs.{needs}
 use Rattle.barring_find.proofs.bar_circuits.Statement.{statement}
 use Rattle.barring_find.proofs.bar_circuits.Tie as tie
 

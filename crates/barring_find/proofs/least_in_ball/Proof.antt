@@ -1,16 +1,9 @@
 -- `barring_find::least_in_ball` meets its contract: all links are tried together, and where they bar the kept ones are found and counted. Assumes
 -- nothing.
-use mathlib.Core.List.{List, _++_}
-use mathlib.Core.Path.{_≡_, sym, ap, _∙_}
-use Prim.Native.Nat.{ℕ}
-use borrow.Author.Tests.{not-true, not-false}
-use denote.Ref.{now}
-use lib.ListN.{length, drop}
-use lib.Seq.{length-take-le, take-at}
+use Rattle.base_lists.specs.Kit.{now, _≡_, _∙_, sym, ap, List, _++_, ℕ, length, drop, length-take-le, take-at, needs, not-false, not-true}
 use Rattle.barring.specs.Least.{keptCount}
 use Rattle.barring.proofs.Outcome.{around-placed, around-kept}
 use Rattle.barring_find.proofs.Around.{cut-size, is-placed, is-none}
-use borrow.Author.Needs.{needs}
 use Rattle.barring_find.proofs.least_in_ball.Statement.{statement}
 use Rattle.barring_find.proofs.least_in_ball.Tie as tie
 

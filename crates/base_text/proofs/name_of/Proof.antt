@@ -1,6 +1,5 @@
 -- `base_text::name_of` meets its contract. Assumes nothing.
-use mathlib.Core.Path.{refl}
-use borrow.Author.Needs.{needs}
+use Rattle.base_lists.specs.Kit.{refl, needs}
 use Rattle.base_text.specs.Text.{nameOf}
 use Rattle.base_text.proofs.name_of.Statement.{statement}
 use Rattle.base_text.proofs.name_of.Tie as tie

@@ -1,6 +1,6 @@
 -- `bounded_whole::match_bounded` meets its contract: the all-0 rule is applied to the row's last set, where every bound is 1 to that of the
 -- pattern without bounds. Assumes nothing.
-use borrow.Author.Needs.{needs}
+use Rattle.base_lists.specs.Kit.{needs}
 use Rattle.table.proofs.Answer.{refined-fits, answered}
 use Rattle.bounded_whole.proofs.Settle.{row-fits, row-answer, ones-answer}
 use Rattle.bounded_whole.proofs.match_bounded.Statement.{statement}

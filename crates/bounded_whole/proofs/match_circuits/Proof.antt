@@ -1,15 +1,12 @@
 -- `bounded_whole::match_circuits` meets its contract: the masks and the neighbour tables are prepared, and the pairs are struck from there.
 -- Assumes nothing.
-use mathlib.Core.Path.{_≡_, refl}
-use borrow.Author.Needs.{needs}
-use denote.Ref.{now}
+use Rattle.base_lists.specs.Kit.{now, _≡_, refl, needs}
 use Rattle.graph.specs.Circuit.{circuit}
 use Rattle.graph.proofs.Below.{below-wider}
 use Rattle.graph.proofs.Groups.{all-below}
 use Rattle.file_format.proofs.Accepted.{bounded-starts, bounded-ends}
 use Rattle.table.specs.Prepared.{tables}
 use Rattle.bounded_strike.specs.Prepared.{BoundPrepared}
-use Rattle.bounded_prepare.specs.InBounds.{InBounds}
 use Rattle.bounded_whole.proofs.Settle.{bound-prepared}
 use Rattle.bounded_whole.proofs.match_circuits.Statement.{statement}
 use Rattle.bounded_whole.proofs.match_circuits.Tie as tie

@@ -1,13 +1,5 @@
 -- `bounded_whole::match_prepared` meets its contract: every node is listed, and the pairs of equal kinds are struck to the end. Assumes nothing.
-use mathlib.Core.List.{List}
-use mathlib.Core.Path.{_≡_, sym, ap, _∙_}
-use Prim.Native.Nat.{ℕ, _≤_}
-use native.Mathlib.Nat.{le-trans, le-of-eq}
-use borrow.Author.Needs.{needs}
-use denote.Ref.{now}
-use lib.Dec.{lit≤}
-use lib.ListN.{length}
-use lib.Seq.{length-take-le}
+use Rattle.base_lists.specs.Kit.{now, _≡_, _∙_, sym, ap, List, ℕ, _≤_, le-trans, le-of-eq, lit≤, length, length-take-le, needs}
 use Rattle.graph.specs.Circuit.{circuit}
 use Rattle.graph.proofs.Net.{net-of, net-few}
 use Rattle.table_row.specs.Row.{startOf}

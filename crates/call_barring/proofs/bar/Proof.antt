@@ -1,7 +1,5 @@
 -- `call_barring::bar` meets its contract: a file is refused, or the kept links of the two circuits that were read are found. Assumes nothing.
-use denote.Ref.{now}
-use mathlib.Core.Path.{sym}
-use borrow.Author.Needs.{needs}
+use Rattle.base_lists.specs.Kit.{now, sym, needs}
 use Rattle.graph.specs.Circuit.{Circuit}
 use Rattle.file_format.specs.Layout.{inEdition}
 use Rattle.file_pair.specs.Pair.{BothRead}

@@ -1,9 +1,5 @@
 -- `call_bounded::match_bounds` meets its contract: a file is refused, or the two circuits that were read are matched. Assumes nothing.
-use denote.Ref.{now}
-use mathlib.Core.List.{List}
-use mathlib.Core.Path.{_≡_, sym}
-use Prim.Native.Nat.{ℕ}
-use borrow.Author.Needs.{needs}
+use Rattle.base_lists.specs.Kit.{now, _≡_, sym, List, ℕ, needs}
 use Rattle.graph.specs.Circuit.{Circuit}
 use Rattle.file_format.specs.declared.Role.the-variants.{Board}
 use Rattle.file_format.specs.Layout.{CircuitFile, inEdition}

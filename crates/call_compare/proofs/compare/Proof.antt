@@ -1,5 +1,5 @@
 -- `call_compare::compare` meets its contract, by the verdicts of the two files. Assumes nothing.
-use borrow.Author.Needs.{needs}
+use Rattle.base_lists.specs.Kit.{needs}
 use Rattle.call_compare.proofs.Answer.{first-refused, second-refused, both-accepted}
 use Rattle.call_compare.proofs.compare.Statement.{statement}
 use Rattle.call_compare.proofs.compare.Tie as tie

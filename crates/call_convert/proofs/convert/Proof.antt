@@ -1,7 +1,6 @@
 -- `call_convert::convert` meets its contract: its tables have room for the circuit of every file. Assumes nothing.
-use lib.Dec.{lit≤}
+use Rattle.base_lists.specs.Kit.{lit≤, needs}
 use Rattle.call_convert.proofs.Converting.{zeros}
-use borrow.Author.Needs.{needs}
 use Rattle.call_convert.proofs.convert.Statement.{statement}
 use Rattle.call_convert.proofs.convert.Tie as tie
 

@@ -1,9 +1,7 @@
 -- `call_convert::convert_through` meets its contract: the file is refused, or its circuit, at the front of the tables, is converted. Assumes nothing.
-use denote.Ref.{now}
-use mathlib.Core.Path.{sym}
+use Rattle.base_lists.specs.Kit.{now, sym, needs}
 use Rattle.file_format.proofs.Reading.{front-room}
 use Rattle.call_convert.proofs.Converting.{Whole, converting-refused, whole-turned, whole-read, whole-sizes, whole-circuit, whole-converted}
-use borrow.Author.Needs.{needs}
 use Rattle.call_convert.proofs.convert_through.Statement.{statement}
 use Rattle.call_convert.proofs.convert_through.Tie as tie
 

@@ -1,7 +1,5 @@
 -- `call_distance::ball` meets its contract: the file is refused, or the centre is, or the table, or the ball is filled in. Assumes nothing.
-use denote.Ref.{now}
-use mathlib.Core.Path.{_≡_, sym}
-use native.Mathlib.Omega.{arith}
+use Rattle.base_lists.specs.Kit.{now, _≡_, sym, arith, needs}
 use Rattle.graph.specs.Circuit.{Circuit, circuit}
 use Rattle.file_format.specs.declared.Role.the-variants.{Board}
 use Rattle.file_format.specs.Layout.{CircuitFile, inEdition}
@@ -10,7 +8,6 @@ use Rattle.file_format.specs.Refusals.{accept, first, fileConditions}
 use Rattle.file_format.proofs.Reading.{loaded-accepted, loaded-refused, stands-size, stands-room, stands-bounded, stands-range}
 use Rattle.call_distance.specs.Calls.{ballReply}
 use Rattle.call_distance.proofs.Cases.{ball-refused, ball-outside, ball-short, ball-read}
-use borrow.Author.Needs.{needs}
 use Rattle.call_distance.proofs.ball.Statement.{statement}
 use Rattle.call_distance.proofs.ball.Tie as tie
 

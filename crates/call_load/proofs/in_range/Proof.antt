@@ -1,8 +1,5 @@
 -- `call_load::in_range` meets its contract: each return rewrites with the tests that led there. Assumes nothing.
-use mathlib.Core.Bool.{Bool, _&&_}
-use mathlib.Core.Path.{sym, ap}
-use borrow.Author.Tests.{le-leb, lt-leb}
-use lib.Dec.{leb}
+use Rattle.base_lists.specs.Kit.{sym, ap, Bool, _&&_, leb, le-leb, lt-leb}
 use Rattle.load.specs.Load.{inRange}
 use Rattle.call_load.proofs.in_range.Statement.{statement}
 use Rattle.call_load.proofs.in_range.Tie as tie

@@ -1,5 +1,5 @@
 -- `call_load::refused` meets its contract. Assumes nothing.
-use mathlib.Core.Path.{refl}
+use Rattle.base_lists.specs.Kit.{refl}
 use Rattle.call_load.proofs.refused.Statement.{statement}
 use Rattle.call_load.proofs.refused.Tie as tie
 

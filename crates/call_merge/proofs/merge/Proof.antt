@@ -1,10 +1,5 @@
 -- `call_merge::merge` meets its contract: the pattern is refused, or one of the two tables is short, or the pattern is merged. Assumes nothing.
-use denote.Ref.{now}
-use mathlib.Core.Path.{_≡_, sym, _∙_}
-use native.Mathlib.Nat.{le-trans, le-of-eq}
-use native.Mathlib.Omega.{arith}
-use borrow.Author.Needs.{needs}
-use lib.Seq.{length-take-le}
+use Rattle.base_lists.specs.Kit.{now, _≡_, _∙_, sym, le-trans, le-of-eq, length-take-le, arith, needs}
 use Rattle.graph.specs.Circuit.{Circuit, circuit}
 use Rattle.file_format.specs.declared.Role.the-variants.{Pattern}
 use Rattle.file_format.specs.Layout.{CircuitFile, inEdition}

@@ -1,5 +1,5 @@
 -- `call_place::answer_by` meets its contract, by cases on the verdict. Assumes nothing.
-use borrow.Author.Needs.{needs}
+use Rattle.base_lists.specs.Kit.{needs}
 use Rattle.file_format.specs.Reading.{verdictOf}
 use Rattle.place.specs.Outcome.{placeReply}
 use Rattle.call_place.proofs.answer_by.Statement.{statement}

@@ -1,11 +1,5 @@
 -- `call_place::find_on` meets its contract: the centre is outside, or a table is short, or the place is sought. Assumes nothing.
-use mathlib.Core.Bool.{Bool, true, false, cond}
-use mathlib.Core.Path.{_≡_, ap, _∙_}
-use native.Mathlib.Omega.{arith}
-use borrow.Author.Needs.{needs}
-use borrow.Author.Tests.{not-true, not-false}
-use denote.Ref.{now}
-use lib.ListN.{length, getD}
+use Rattle.base_lists.specs.Kit.{now, _≡_, _∙_, ap, Bool, false, true, cond, length, getD, arith, needs, not-false, not-true}
 use Rattle.file_format.specs.Refusals.{accept, refuse, first}
 use Rattle.place.proofs.Find.{drawn-tabled, tabled-links}
 use Rattle.call_place.specs.Call.{tooShort, roomConditions}

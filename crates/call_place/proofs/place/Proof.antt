@@ -1,9 +1,6 @@
 -- `call_place::place` meets its contract: a file is refused, or the place is sought on the two circuits that were read and prepared. Assumes
 -- nothing.
-use denote.Ref.{now}
-use mathlib.Core.Path.{refl, sym}
-use borrow.Author.Needs.{needs}
-use lib.Seq.{length-take-le}
+use Rattle.base_lists.specs.Kit.{now, sym, refl, length-take-le, needs}
 use Rattle.file_format.specs.declared.Role.the-variants.{Pattern}
 use Rattle.file_format.specs.Layout.{inEdition}
 use Rattle.file_format.specs.Reading.{verdictOf}

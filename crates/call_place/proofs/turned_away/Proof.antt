@@ -1,5 +1,5 @@
 -- `call_place::turned_away` meets its contract: a refusal before the search has counts of 0. Assumes nothing.
-use borrow.Author.Needs.{needs}
+use Rattle.base_lists.specs.Kit.{needs}
 use Rattle.call_place.proofs.turned_away.Statement.{statement}
 use Rattle.call_place.proofs.turned_away.Tie as tie
 

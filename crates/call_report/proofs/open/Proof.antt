@@ -1,18 +1,10 @@
 -- `call_report::open` meets its contract: a file is refused, or no lines are left, or the whole board is matched and its components are named. Assumes
 -- nothing.
-use denote.Ref.{now}
-use mathlib.Core.Path.{_≡_, refl, sym, _∙_}
-use Prim.Native.Nat.{_≤_}
-use native.Mathlib.Omega.{arith}
-use borrow.Author.Needs.{needs}
-use lib.ListN.{length}
-use lib.Seq.{length-take-le}
+use Rattle.base_lists.specs.Kit.{now, _≡_, _∙_, sym, refl, _≤_, length, length-take-le, arith, needs}
 use Rattle.file_format.specs.declared.Role.the-variants.{Pattern}
-use Rattle.file_format.specs.Circuit.{circuitOf}
 use Rattle.file_format.specs.Layout.{inEdition}
 use Rattle.table.specs.Prepared.{tables}
 use Rattle.table.specs.Row.{bothWays}
-use Rattle.report_centres.specs.Pieces.{Source}
 use Rattle.report_centres.proofs.Component.{source-match}
 use Rattle.call_prepare.specs.Read.{BothPrepared}
 use Rattle.call_prepare.proofs.Ready.{ready-both}

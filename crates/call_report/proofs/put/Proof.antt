@@ -1,9 +1,6 @@
 -- `call_report::put` meets its contract: the line of a refused file is put, or nothing past the last line, or a piece of the lines, where there is
 -- room. Assumes nothing.
-use denote.Ref.{now}
-use mathlib.Core.Path.{refl, sym, _∙_}
-use borrow.Author.Needs.{needs}
-use lib.Seq.{length-take-le}
+use Rattle.base_lists.specs.Kit.{now, _∙_, sym, refl, length-take-le, needs}
 use Rattle.file_format.specs.Circuit.{circuitOf}
 use Rattle.table.specs.Prepared.{tables}
 use Rattle.report_centres.proofs.Pieces.{past-wrote}

@@ -1,6 +1,5 @@
 -- `call_report::report` meets its contract: the files are opened, and a piece is put from what that leaves. Assumes nothing.
-use mathlib.Core.Path.{refl}
-use borrow.Author.Needs.{needs}
+use Rattle.base_lists.specs.Kit.{refl, needs}
 use Rattle.call_report.proofs.report.Statement.{statement}
 use Rattle.call_report.proofs.report.Tie as tie
 

@@ -1,15 +1,10 @@
 -- `file_bounds::load_bounded` meets its contract: 1 to 3 by the size, then the file before the bounds, then the bounds. Assumes nothing.
-use mathlib.Core.Path.{_≡_, sym, ap, _∙_}
-use native.Mathlib.Omega.{arith}
-use denote.Ref.{now}
-use borrow.Author.Tests.{not-true, not-false}
-use lib.Seq.{length-take-le}
+use Rattle.base_lists.specs.Kit.{now, _≡_, _∙_, sym, ap, length-take-le, arith, needs, not-false, not-true}
 use Rattle.file_format.specs.declared.Role.the-variants.{AnyPattern}
 use Rattle.file_format.specs.Layout.{field}
 use Rattle.file_format.proofs.Refusals.{turned, range-orders}
 use Rattle.file_bounds.specs.Third.{thirdSize}
 use Rattle.file_bounds.proofs.Third.{third-sized, third-turned, turned-loaded, loaded-front-refused, loaded-bounds-refused, loaded-bounds}
-use borrow.Author.Needs.{needs}
 use Rattle.file_bounds.proofs.load_bounded.Statement.{statement}
 use Rattle.file_bounds.proofs.load_bounded.Tie as tie
 

@@ -1,10 +1,7 @@
 -- `file_bounds::read_bounds` meets its contract: what is stored is what is tested. Assumes nothing.
-use mathlib.Core.Path.{_≡_, sym, ap, _∙_}
-use native.Mathlib.Omega.{arith}
-use lib.Seq.{length-take-le}
+use Rattle.base_lists.specs.Kit.{_≡_, _∙_, sym, ap, length-take-le, arith, needs}
 use Rattle.file_format.proofs.Fields.{stored-front}
 use Rattle.file_bounds.specs.Third.{boundsFit}
-use borrow.Author.Needs.{needs}
 use Rattle.file_bounds.proofs.read_bounds.Statement.{statement}
 use Rattle.file_bounds.proofs.read_bounds.Tie as tie
 

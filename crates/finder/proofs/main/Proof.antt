@@ -1,10 +1,6 @@
 -- `finder::main` meets its contract: each buffer has the length that `report_files` asks for, and nothing was handed over. Assumes nothing.
-use mathlib.Core.Path.{_≡_, refl}
-use Prim.Native.Nat.{ℕ, _≤_}
-use native.Mathlib.Omega.{arith}
-use lib.Dec.{lit≤}
+use Rattle.base_lists.specs.Kit.{_≡_, refl, ℕ, _≤_, lit≤, arith, needs}
 use Rattle.report.specs.Lines.{longestLine}
-use borrow.Author.Needs.{needs}
 use Rattle.finder.proofs.main.Statement.{statement}
 use Rattle.finder.proofs.main.Tie as tie
 

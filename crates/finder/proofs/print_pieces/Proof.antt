@@ -1,13 +1,6 @@
 -- `finder::print_pieces` meets its contract, and ends. The loop's invariant: the next piece starts at an item of the report, and as many centres
 -- before it have a place as are counted. The measure is how many items are left. Assumes nothing.
-use mathlib.Core.Path.{_≡_, refl, sym, _∙_}
-use Prim.Native.Nat.{_-_, _≤_, zero-le}
-use native.Mathlib.Omega.{arith}
-use borrow.Author.Needs.{needs}
-use borrow.Author.Tests.{not-true, not-false}
-use denote.Ref.{now}
-use lib.ListN.{length}
-use lib.Seq.{length-take-le}
+use Rattle.base_lists.specs.Kit.{now, _≡_, _∙_, sym, refl, _≤_, _-_, zero-le, length, length-take-le, arith, needs, not-false, not-true}
 use Rattle.file_format.specs.Layout.{firstEdition}
 use Rattle.table.specs.Prepared.{tables}
 use Rattle.report.specs.Lines.{longestLine}

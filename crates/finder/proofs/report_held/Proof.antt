@@ -1,8 +1,7 @@
 -- `finder::report_held` meets its contract. Assumes nothing.
-use borrow.Author.Tests.{not-true, not-false}
+use Rattle.base_lists.specs.Kit.{needs, not-false, not-true}
 use Rattle.finder.specs.Printing.{Ran}
 use Rattle.finder.proofs.Ending.{ran-begun}
-use borrow.Author.Needs.{needs}
 use Rattle.finder.proofs.report_held.Statement.{statement}
 use Rattle.finder.proofs.report_held.Tie as tie
 

@@ -1,9 +1,5 @@
 -- `graph_chosen::choose` meets its contract: the chosen ones of the entries passed stand in front. Assumes nothing.
-use mathlib.Core.Logic.{⊎-elim}
-use Prim.Native.Nat.{ℕ, _≤_, _<_, _-_}
-use native.Mathlib.Omega.{arith}
-use borrow.Author.Needs.{needs}
-use lib.ListN.{length, getD}
+use Rattle.base_lists.specs.Kit.{⊎-elim, ℕ, _≤_, _<_, _-_, length, arith, needs}
 use Rattle.graph_chosen.proofs.Choosing.{ChosenTo, chosen-none, chosen-one, chosen-other, chosen-all}
 use Rattle.graph_chosen.proofs.choose.Statement.{statement}
 use Rattle.graph_chosen.proofs.choose.Tie as tie

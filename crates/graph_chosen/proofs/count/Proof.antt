@@ -1,13 +1,6 @@
 -- `graph_chosen::count` meets its contract. The loop's invariant: k is how many bytes before j are 1. The measure is how many are left.
 -- Assumes nothing.
-use mathlib.Core.Logic.{⊎-elim}
-use mathlib.Core.Path.{_≡_, refl, ap, _∙_}
-use Prim.Native.Nat.{ℕ, _-_, _≤_}
-use native.Mathlib.Numerals.{add-one}
-use native.Mathlib.Omega.{arith}
-use borrow.Author.Tests.{eq-eqb, ne-eqb}
-use denote.Ref.{now}
-use lib.ListN.{length, getD}
+use Rattle.base_lists.specs.Kit.{now, _≡_, _∙_, ap, refl, ⊎-elim, ℕ, _≤_, _-_, add-one, length, getD, arith, eq-eqb, ne-eqb}
 use Rattle.base_lists.specs.Below.{countBelow}
 use Rattle.base_lists.proofs.Below.{countBelow-suc}
 use Rattle.graph.specs.Search.{inside}

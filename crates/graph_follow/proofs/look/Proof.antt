@@ -1,7 +1,5 @@
 -- `graph_follow::look` meets its contract, by the laws of a look. Assumes nothing.
-use mathlib.Core.Path.{sym, _∙_}
-use borrow.Author.Needs.{needs}
-use denote.Ref.{now}
+use Rattle.base_lists.specs.Kit.{now, _∙_, sym, needs}
 use Rattle.base_lists.proofs.Tests.{true-T}
 use Rattle.graph.specs.Bfs.{stateOf}
 use Rattle.graph_follow.proofs.Following.{look-taken, look-left}

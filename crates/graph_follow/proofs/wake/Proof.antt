@@ -1,11 +1,6 @@
 -- `graph_follow::wake` meets its contract. The loop's invariant: from the state that the tables stand for, the nodes that are left lead to the
 -- state that all of them lead to. The measure is how many are left. Assumes nothing.
-use mathlib.Core.Path.{_≡_, refl, sym, ap, _∙_}
-use Prim.Native.Nat.{_-_, _≤_, _<_}
-use native.Mathlib.Omega.{arith}
-use borrow.Author.Needs.{needs}
-use denote.Ref.{now}
-use lib.ListN.{length, getD, drop}
+use Rattle.base_lists.specs.Kit.{now, _≡_, _∙_, sym, refl, _≤_, _<_, _-_, length, getD, drop, arith, needs}
 use Rattle.base_lists.specs.List.{Below}
 use Rattle.graph.specs.Bfs.{level, stateOf, Searching}
 use Rattle.graph_follow.specs.Follow.{beside}

@@ -1,11 +1,8 @@
 -- `graph_follow::wake_beside` meets its contract: the looks along the two stretches are visits of what lies beside the node. Assumes nothing.
-use mathlib.Core.Path.{sym, _∙_}
-use borrow.Author.Needs.{needs}
-use denote.Ref.{now}
+use Rattle.base_lists.specs.Kit.{now, _∙_, sym, needs}
 use Rattle.graph_neighbours.specs.Lookup.{neighboursIn}
 use Rattle.graph_neighbours.proofs.Lookup.{neighbours-below}
 use Rattle.graph_follow.proofs.Following.{beside-scan}
-use borrow.Author.Needs.{needs}
 use Rattle.graph_follow.proofs.wake_beside.Statement.{statement}
 use Rattle.graph_follow.proofs.wake_beside.Tie as tie
 

@@ -1,11 +1,6 @@
 -- `graph_radius::grow` meets its contract. The loop's invariant: the sets before u are the new ones, and the others as they were. The
 -- measure is how many are left. Assumes nothing.
-use denote.Ref.{now}
-use mathlib.Core.List.{_++_}
-use mathlib.Core.Path.{_≡_, refl, sym, subst, _∙_}
-use Prim.Native.Nat.{ℕ, _-_, _^_, _≤_, _<_}
-use native.Mathlib.Omega.{arith}
-use lib.ListN.{length, getD, drop, length-set}
+use Rattle.base_lists.specs.Kit.{now, _≡_, _∙_, sym, refl, subst, _++_, ℕ, _≤_, _<_, _-_, _^_, length, getD, drop, length-set, arith}
 use Rattle.base_bits.specs.Bits.{unionOver}
 use Rattle.base_lists.specs.List.{tabulate, Below}
 use Rattle.base_lists.proofs.Tables.{filled-none, filled-more, whole}

@@ -1,6 +1,6 @@
 -- `graph_radius::join` meets its contract. Assumes nothing.
 use Rattle.graph_radius.specs.Balls.{joined}
-use borrow.Author.Needs.{needs}
+use Rattle.base_lists.specs.Kit.{needs}
 use Rattle.graph_radius.proofs.join.Statement.{statement}
 use Rattle.graph_radius.proofs.join.Tie as tie
 

@@ -1,11 +1,6 @@
 -- `graph_radius::neighbourhoods` meets its contract. The loop's invariant: the sets are the balls at radius 1 along the links passed. The
 -- measure is how many links are left. Assumes nothing.
-use denote.Ref.{now}
-use mathlib.Core.Path.{_≡_, refl, _∙_}
-use Prim.Native.Nat.{_-_, _≤_, _<_}
-use native.Mathlib.Omega.{arith}
-use lib.ListN.{length, getD, take}
-use lib.Seq.{take-all}
+use Rattle.base_lists.specs.Kit.{now, _≡_, _∙_, refl, _≤_, _<_, _-_, length, getD, take, take-all, arith}
 use Rattle.graph.proofs.Groups.{key-below}
 use Rattle.graph_radius.specs.Balls.{balls}
 use Rattle.graph_radius.proofs.Balls.{balls-begin, balls-more}

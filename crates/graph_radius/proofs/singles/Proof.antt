@@ -1,11 +1,6 @@
 -- `graph_radius::singles` meets its contract. The loop's invariant: the sets before u are made, and the others as they were. The measure is
 -- how many are left. Assumes nothing.
-use denote.Ref.{now}
-use mathlib.Core.List.{_++_}
-use mathlib.Core.Path.{_≡_, refl, _∙_}
-use Prim.Native.Nat.{_-_, _^_, _≤_}
-use native.Mathlib.Omega.{arith}
-use lib.ListN.{length, drop, length-set}
+use Rattle.base_lists.specs.Kit.{now, _≡_, _∙_, refl, _++_, _≤_, _-_, _^_, length, drop, length-set, arith}
 use Rattle.base_lists.specs.List.{tabulate}
 use Rattle.base_lists.proofs.Tables.{filled-none, filled-more, whole}
 use Rattle.graph_radius.proofs.singles.Statement.{statement}

@@ -1,16 +1,9 @@
 -- `graph_search::level` meets its contract. The loop's invariant: from the state that the tables stand for, what is left of the level
 -- leads to the state that all of it leads to, and the nodes of the level still stand in the queue. The measure is how many are left.
 -- Assumes nothing.
-use mathlib.Core.Path.{_≡_, refl, sym, _∙_}
-use Prim.Native.Nat.{_-_, _≤_}
-use native.Mathlib.Nat.{le-refl}
-use lib.ListN.{length, take, drop}
-use lib.Seq.{length-take-le}
+use Rattle.base_lists.specs.Kit.{now, _≡_, _∙_, sym, refl, _≤_, _-_, le-refl, length, take, drop, length-take-le, arith, needs}
 use Rattle.graph.specs.Bfs.{level, adjacent, stateOf, Searching}
 use Rattle.graph.proofs.BfsSteps.{level-next, level-end, extends-scan, tables-extend, same-entry, queue-node}
-use borrow.Author.Needs.{needs}
-use native.Mathlib.Omega.{arith}
-use denote.Ref.{now}
 use Rattle.graph_search.proofs.level.Statement.{statement}
 use Rattle.graph_search.proofs.level.Tie as tie
 

@@ -1,15 +1,10 @@
 -- `graph_search::levels` meets its contract. The loop's invariant: from the state that the tables stand for, the levels that are left
 -- lead to the state that all of them lead to; and each level so far reached a node, so that d is at most as large as `lo`. The measure is
 -- how many levels are left. Assumes nothing.
-use mathlib.Core.Path.{_≡_, refl, sym, _∙_}
-use Prim.Native.Nat.{suc, _-_, _≤_}
-use native.Mathlib.Nat.{le-refl, sub-zero}
-use lib.ListN.{length}
+use Rattle.base_lists.specs.Kit.{_≡_, _∙_, sym, refl, _≤_, _-_, suc, le-refl, sub-zero, length, arith, needs}
 use Rattle.graph.specs.Bfs.{levels, adjacent, stateOf, Searching}
 use Rattle.graph.proofs.BfsSteps.{levels-next, levels-none, levels-end, extends-level, tables-extend, tail-le, reached-length}
 use Rattle.graph.proofs.Net.{net-few}
-use borrow.Author.Needs.{needs}
-use native.Mathlib.Omega.{arith}
 use Rattle.graph_search.proofs.levels.Statement.{statement}
 use Rattle.graph_search.proofs.levels.Tie as tie
 

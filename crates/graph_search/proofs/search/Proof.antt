@@ -1,8 +1,7 @@
 -- `graph_search::search` meets its contract: the levels from the state in which only the centre is reached. Assumes nothing.
-use mathlib.Core.Path.{ap, _∙_}
+use Rattle.base_lists.specs.Kit.{_∙_, needs}
 use Rattle.graph.specs.Bfs.{bfs}
 use Rattle.graph.proofs.BfsSteps.{found}
-use borrow.Author.Needs.{needs}
 use Rattle.graph_search.proofs.search.Statement.{statement}
 use Rattle.graph_search.proofs.search.Tie as tie
 

@@ -1,10 +1,6 @@
 -- `load_draw::draw` meets its contract. Assumes nothing.
-use mathlib.Core.Path.{ap, _∙_}
-use Prim.Native.Nat.{ℕ, _/_, _%_, _^_}
-use native.Mathlib.Nat.{mod-le}
-use native.Mathlib.Omega.{arith}
+use Rattle.base_lists.specs.Kit.{_∙_, ap, ℕ, _^_, _/_, _%_, mod-le, arith, needs}
 use Rattle.load.specs.Draws.{step, draw}
-use borrow.Author.Needs.{needs}
 use Rattle.load_draw.proofs.draw.Statement.{statement}
 use Rattle.load_draw.proofs.draw.Tie as tie
 

@@ -1,12 +1,6 @@
 -- `load_draw::draw_all` meets its contract. The loop's invariant: i numbers are drawn and stored, and the state is i steps on. The measure is how
 -- many are left. Assumes nothing.
-use denote.Ref.{now}
-use mathlib.Core.List.{List, _++_}
-use mathlib.Core.Path.{_≡_, refl, sym, ap, ap₂, _∙_}
-use Prim.Native.Nat.{ℕ, _+_, _-_, _≤_}
-use native.Mathlib.Omega.{arith}
-use borrow.Author.Needs.{needs}
-use lib.ListN.{length, set, drop, length-set}
+use Rattle.base_lists.specs.Kit.{now, _≡_, _∙_, sym, ap, refl, ap₂, List, _++_, ℕ, _≤_, _+_, _-_, length, drop, set, length-set, arith, needs}
 use Rattle.load.specs.Draws.{step, draw, stepped, draws}
 use Rattle.load.proofs.Draws.{stepped-next}
 use Rattle.load_draw.proofs.Draws.{draws-none, draws-more}

@@ -1,7 +1,6 @@
 -- `load_draw::step` meets its contract: the sum of a product mod 2^32, mod 2^32, is that of the product. Assumes nothing.
-use native.Mathlib.Omega.{arith}
+use Rattle.base_lists.specs.Kit.{arith, needs}
 use Rattle.load.specs.Draws.{step}
-use borrow.Author.Needs.{needs}
 use Rattle.load_draw.proofs.step.Statement.{statement}
 use Rattle.load_draw.proofs.step.Tie as tie
 

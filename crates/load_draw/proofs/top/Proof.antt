@@ -1,6 +1,5 @@
 -- `load_draw::top` meets its contract: 16 bits are left. Assumes nothing.
-use mathlib.Core.Path.{refl}
-use native.Mathlib.Omega.{arith}
+use Rattle.base_lists.specs.Kit.{refl, arith}
 use Rattle.load_draw.proofs.top.Statement.{statement}
 use Rattle.load_draw.proofs.top.Tie as tie
 

@@ -1,8 +1,5 @@
 -- `load_draw::wrapping_mul` meets its contract: the product of two numbers of 32 bits has at most 64. Assumes nothing.
-use Prim.Native.Nat.{ℕ, _≤_, _<_}
-use native.Mathlib.Nat.{mul-le-mul}
-use native.Mathlib.Omega.{arith}
-use borrow.Author.Needs.{needs}
+use Rattle.base_lists.specs.Kit.{ℕ, _≤_, _<_, mul-le-mul, arith, needs}
 use Rattle.load_draw.proofs.wrapping_mul.Statement.{statement}
 use Rattle.load_draw.proofs.wrapping_mul.Tie as tie
 

@@ -1,7 +1,7 @@
 -- `loader::hand` meets its contract. Assumes nothing.
 use Rattle.output.specs.Writing.{All}
 use Rattle.loader.specs.Printing.{Tried}
-use borrow.Author.Needs.{needs}
+use Rattle.base_lists.specs.Kit.{needs}
 use Rattle.loader.proofs.hand.Statement.{statement}
 use Rattle.loader.proofs.hand.Tie as tie
 

@@ -1,8 +1,7 @@
 -- `loader::heard` meets its contract. Assumes nothing.
-use lib.Dec.{lit<}
+use Rattle.base_lists.specs.Kit.{lit<, needs}
 use Rattle.output.proofs.Errors.{error-is, error-not}
 use Rattle.loader.specs.Printing.{heardOf}
-use borrow.Author.Needs.{needs}
 use Rattle.loader.proofs.heard.Statement.{statement}
 use Rattle.loader.proofs.heard.Tie as tie
 

@@ -1,6 +1,6 @@
 -- `loader::load_words` meets its contract. Assumes nothing.
 use Rattle.loader.proofs.Printing.{none-first, none-second, none-third, none-fourth, all-four}
-use borrow.Author.Needs.{needs}
+use Rattle.base_lists.specs.Kit.{needs}
 use Rattle.loader.proofs.load_words.Statement.{statement}
 use Rattle.loader.proofs.load_words.Tie as tie
 

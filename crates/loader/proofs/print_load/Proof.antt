@@ -1,11 +1,9 @@
 -- `loader::print_load` meets its contract: the front of the buffer that is handed on is the load's file. Assumes nothing.
-use mathlib.Core.Path.{_≡_, sym, ap, _∙_}
-use lib.ListN.{length, take}
+use Rattle.base_lists.specs.Kit.{_≡_, _∙_, sym, ap, length, take, needs}
 use Rattle.file_format.proofs.Reading.{front-room}
 use Rattle.call_load.specs.Call.{loadBytes}
 use Rattle.loader.specs.Printing.{Told}
 use Rattle.loader.proofs.Printing.{tried-told, made-range, made-front, made-size, refused-outside}
-use borrow.Author.Needs.{needs}
 use Rattle.loader.proofs.print_load.Statement.{statement}
 use Rattle.loader.proofs.print_load.Tie as tie
 

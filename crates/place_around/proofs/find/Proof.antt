@@ -1,12 +1,6 @@
 -- `place_around::find` meets its contract: the rounds end with the ball's table, and where the centre is left in it the search finds its
 -- component. Assumes nothing.
-use mathlib.Core.Path.{_≡_, sym, _∙_}
-use Prim.Native.Nat.{_<_}
-use native.Mathlib.Omega.{arith}
-use borrow.Author.Needs.{needs}
-use denote.Ref.{now}
-use lib.ListN.{length}
-use lib.Seq.{length-take-le}
+use Rattle.base_lists.specs.Kit.{_≡_, _∙_, sym, _<_, length, length-take-le, arith, needs}
 use Rattle.table.specs.Row.{bothWays}
 use Rattle.place.proofs.Find.{sought-known, sought-long, sets-ready, found-nothing, found-place}
 use Rattle.place_around.proofs.find.Statement.{statement}

@@ -1,14 +1,6 @@
 -- `place_circuits::place_circuits` meets its contract: the place is found in the ball, and where there is one it is marked, and the ball's
 -- distances are copied. Assumes nothing.
-use mathlib.Core.List.{List, [], _++_}
-use mathlib.Core.Path.{_≡_, sym, ap, _∙_}
-use Prim.Native.Nat.{ℕ, _≤_}
-use native.Mathlib.Omega.{arith}
-use borrow.Author.Needs.{needs}
-use borrow.Author.Tests.{not-true, not-false}
-use denote.Ref.{now}
-use lib.ListN.{length, getD, take, drop}
-use lib.Seq.{length-take-le}
+use Rattle.base_lists.specs.Kit.{now, _≡_, _∙_, sym, ap, List, [], _++_, ℕ, _≤_, length, getD, take, drop, length-take-le, arith, needs, not-false, not-true}
 use Rattle.graph.specs.Circuit.{circuit}
 use Rattle.file_format.specs.Circuit.{Drawn}
 use Rattle.table.specs.Prepared.{tables, Tables, Prepared}

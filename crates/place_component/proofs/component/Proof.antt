@@ -1,11 +1,6 @@
 -- `place_component::component` meets its contract. It begins with the state in which only the centre is reached. The
 -- loop's invariant is that of the search; the measure is how many nodes have not been looked from. Assumes nothing.
-use mathlib.Core.Path.{_≡_, sym, ap, subst, _∙_}
-use Prim.Native.Nat.{ℕ, _-_, _+_, _<_}
-use native.Mathlib.Omega.{arith}
-use borrow.Author.Needs.{needs}
-use denote.Ref.{now}
-use lib.ListN.{length, getD}
+use Rattle.base_lists.specs.Kit.{now, _≡_, _∙_, sym, ap, subst, ℕ, _<_, _+_, _-_, length, getD, arith, needs}
 use Rattle.graph.specs.Bfs.{scan, stateOf, Searching}
 use Rattle.base_lists.specs.List.{Below}
 use Rattle.graph.specs.Search.{far}

@@ -1,9 +1,6 @@
 -- `place_component::expand` meets its contract: the looks along the two stretches are visits of what matching links join to the node.
 -- Assumes nothing.
-use mathlib.Core.Path.{sym, _∙_}
-use borrow.Author.Needs.{needs}
-use denote.Ref.{now}
-use lib.ListN.{length}
+use Rattle.base_lists.specs.Kit.{now, _∙_, sym, length, needs}
 use Rattle.graph.specs.Net.{Net}
 use Rattle.graph_neighbours.specs.Lookup.{neighboursIn}
 use Rattle.graph_neighbours.proofs.Lookup.{neighbours-below}

@@ -1,12 +1,6 @@
 -- `place_components::components` meets its contract. The loop's invariant: the nodes before f are named (Labelling). The measure is how many nodes are left.
 -- Assumes nothing.
-use mathlib.Core.Path.{_≡_, sym, ap, _∙_}
-use Prim.Native.Nat.{_-_, _≤_, _<_}
-use native.Mathlib.Omega.{arith}
-use borrow.Author.Needs.{needs}
-use denote.Ref.{now}
-use lib.ListN.{length, replicate}
-use lib.Seq.{length-take-le}
+use Rattle.base_lists.specs.Kit.{now, _≡_, _∙_, sym, ap, _≤_, _<_, _-_, length, replicate, length-take-le, arith, needs}
 use Rattle.graph.specs.Search.{far}
 use Rattle.table.specs.Prepared.{tables}
 use Rattle.place.specs.Spread.{matched}

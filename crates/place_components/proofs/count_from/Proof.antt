@@ -1,14 +1,6 @@
 -- `place_components::count_from` meets its contract. The loop's invariant: so many of the first i nodes have the label. The measure is how many are left.
 -- Assumes nothing.
-use mathlib.Core.List.{List}
-use mathlib.Core.Path.{_≡_, ap, _∙_}
-use Prim.Native.Nat.{ℕ, _-_, _≤_, _<_}
-use native.Mathlib.Omega.{arith}
-use borrow.Author.Needs.{needs}
-use denote.Ref.{now}
-use lib.Dec.{eqb}
-use lib.ListN.{length, getD, take}
-use lib.Seq.{length-take-le, take-length}
+use Rattle.base_lists.specs.Kit.{now, _≡_, _∙_, ap, List, ℕ, _≤_, _<_, _-_, eqb, length, getD, take, length-take-le, take-length, arith, needs}
 use Rattle.base_lists.specs.List.{Below}
 use Rattle.place_components.specs.Components.{having}
 use Rattle.place_components.proofs.Lists.{having-short, having-count}

@@ -1,7 +1,5 @@
 -- `place_components::count_on` meets its contract. Assumes nothing.
-use mathlib.Core.Path.{refl}
-use native.Mathlib.Omega.{arith}
-use borrow.Author.Needs.{needs}
+use Rattle.base_lists.specs.Kit.{refl, arith, needs}
 use Rattle.place_components.proofs.count_on.Statement.{statement}
 use Rattle.place_components.proofs.count_on.Tie as tie
 

@@ -1,7 +1,5 @@
 -- `place_components::counted` meets its contract: one more exactly where the label is x. Assumes nothing.
-use native.Mathlib.Omega.{arith}
-use borrow.Author.Needs.{needs}
-use borrow.Author.Tests.{eq-eqb, ne-eqb}
+use Rattle.base_lists.specs.Kit.{arith, needs, eq-eqb, ne-eqb}
 use Rattle.place_components.proofs.counted.Statement.{statement}
 use Rattle.place_components.proofs.counted.Tie as tie
 

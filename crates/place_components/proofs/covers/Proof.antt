@@ -1,14 +1,6 @@
 -- `place_components::covers` meets its contract. It begins with the state in which only the centre is reached. The loop's invariant is
 -- that of the search as far as r links (Covering); the measure is how many links and how many nodes are left. Assumes nothing.
-use mathlib.Core.Bool.{not}
-use mathlib.Core.Path.{_≡_, sym, ap, subst, _∙_}
-use Prim.Native.Nat.{ℕ, _-_, _+_, _≤_, _<_}
-use native.Mathlib.Omega.{arith}
-use borrow.Author.Needs.{needs}
-use borrow.Author.Tests.{eqb-true}
-use denote.Ref.{now}
-use lib.Dec.{eqb, ltb, ltb→lt}
-use lib.ListN.{length, getD, take}
+use Rattle.base_lists.specs.Kit.{now, _≡_, _∙_, sym, ap, subst, not, ℕ, _≤_, _<_, _+_, _-_, eqb, ltb, ltb→lt, length, getD, take, arith, needs, eqb-true}
 use Rattle.base_lists.specs.List.{Below}
 use Rattle.base_lists.proofs.Tests.{both-right, true-T}
 use Rattle.graph.specs.Bfs.{scan, stateOf, Searching}

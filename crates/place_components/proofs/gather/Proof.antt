@@ -1,7 +1,5 @@
 -- `place_components::gather` meets its contract: those with the centre's label are kept of what the search reaches. Assumes nothing.
-use mathlib.Core.Path.{sym, _∙_}
-use native.Mathlib.Omega.{arith}
-use borrow.Author.Needs.{needs}
+use Rattle.base_lists.specs.Kit.{_∙_, arith, needs}
 use Rattle.graph.proofs.Net.{net-few}
 use Rattle.place_components.proofs.gather.Statement.{statement}
 use Rattle.place_components.proofs.gather.Tie as tie

@@ -1,14 +1,6 @@
 -- `place_components::label` meets its contract. The loop's invariant: the entries that are left to set lead to the whole. The measure is how many
 -- are left. Assumes nothing.
-use mathlib.Core.List.{List}
-use mathlib.Core.Path.{_≡_, refl, _∙_}
-use Prim.Native.Nat.{ℕ, _+_, _-_, _≤_, _<_}
-use native.Mathlib.Numerals.{add-one}
-use native.Mathlib.Omega.{arith}
-use borrow.Author.Needs.{needs}
-use denote.Ref.{now}
-use lib.ListN.{length, getD, drop, set, length-set, drop-of-length-le}
-use lib.Seq.{drop-cons}
+use Rattle.base_lists.specs.Kit.{now, _≡_, _∙_, refl, List, ℕ, _≤_, _<_, _+_, _-_, add-one, length, getD, drop, set, length-set, drop-of-length-le, drop-cons, arith, needs}
 use Rattle.base_lists.specs.List.{Below}
 use Rattle.table.specs.Fill.{fillAt}
 use Rattle.place_components.proofs.label.Statement.{statement}

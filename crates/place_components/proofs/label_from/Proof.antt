@@ -1,15 +1,6 @@
 -- `place_components::label_from` meets its contract: nothing is left to name where the node's set is empty or it has a label, else its component is, which
 -- the search lists. Assumes nothing.
-use mathlib.Core.Bool.{not}
-use mathlib.Core.Path.{_≡_, sym, subst, _∙_}
-use Prim.Native.Nat.{ℕ, _+_, _≤_, _<_}
-use native.Mathlib.Omega.{arith}
-use borrow.Author.Needs.{needs}
-use borrow.Author.Tests.{not-true, not-false}
-use denote.Ref.{now}
-use lib.Dec.{eqb, eqb→eq}
-use lib.ListN.{length, getD, take, set}
-use lib.Seq.{length-take-le}
+use Rattle.base_lists.specs.Kit.{now, _≡_, _∙_, sym, subst, not, ℕ, _≤_, _<_, _+_, eqb, eqb→eq, length, getD, take, set, length-take-le, arith, needs, not-false, not-true}
 use Rattle.base_lists.proofs.Tests.{both-right, true-T}
 use Rattle.graph.specs.Search.{far}
 use Rattle.graph.proofs.Net.{net-few}

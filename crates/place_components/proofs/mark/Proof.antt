@@ -1,5 +1,5 @@
 -- `place_components::mark` meets its contract. Assumes nothing.
-use borrow.Author.Needs.{needs}
+use Rattle.base_lists.specs.Kit.{needs}
 use Rattle.place_components.proofs.mark.Statement.{statement}
 use Rattle.place_components.proofs.mark.Tie as tie
 

@@ -1,17 +1,6 @@
 -- `place_components::search_until` meets its contract. The loop's invariant: proofs/Seeking's, of the state that the tables stand for, and so many of the nodes reached
 -- have the centre's label. The measure is how many levels and how many nodes are left. Assumes nothing.
-use mathlib.Core.Bool.{Bool, true, false, not, _&&_}
-use mathlib.Core.List.{List}
-use mathlib.Core.Path.{_≡_, refl, sym, ap, subst, _∙_}
-use Prim.Native.Nat.{ℕ, _+_, _-_, _≤_, _<_}
-use native.Mathlib.Nat.{le-refl}
-use native.Mathlib.Omega.{arith}
-use borrow.Author.Needs.{needs}
-use borrow.Author.Tests.{eq-eqb, ne-eqb, lt-ltb, eqb-true}
-use denote.Ref.{now}
-use lib.Dec.{eqb, ltb, ltb→lt}
-use lib.ListN.{length, getD, take}
-use lib.Seq.{length-take-le, take-take, getD-take}
+use Rattle.base_lists.specs.Kit.{now, _≡_, _∙_, sym, ap, refl, subst, Bool, false, true, _&&_, not, List, ℕ, _≤_, _<_, _+_, _-_, le-refl, eqb, ltb, ltb→lt, length, getD, take, length-take-le, getD-take, take-take, arith, needs, eq-eqb, lt-ltb, eqb-true}
 use Rattle.base_lists.proofs.Tests.{both-left, both-right, true-T, false-T}
 use Rattle.graph.specs.Bfs.{State, start, adjacent, stateOf, Searching}
 use Rattle.graph.proofs.BfsSteps.{extends-scan, tables-extend, tail-le, reached-length, queue-node}

@@ -1,13 +1,6 @@
 -- `place_mark::mark_ends` meets its contract. The loop's invariant: the bytes before k are marked, and the others as they were. The measure is
 -- how many are left. Assumes nothing.
-use mathlib.Core.Bool.{cond}
-use mathlib.Core.List.{List, _++_}
-use mathlib.Core.Path.{_≡_, refl, ap, subst, _∙_}
-use Prim.Native.Nat.{ℕ, _-_, _≤_, _<_}
-use native.Mathlib.Omega.{arith}
-use borrow.Author.Needs.{needs}
-use denote.Ref.{now}
-use lib.ListN.{length, getD, drop, length-set}
+use Rattle.base_lists.specs.Kit.{now, _≡_, _∙_, refl, subst, cond, List, _++_, ℕ, _≤_, _<_, _-_, length, getD, drop, length-set, arith, needs}
 use Rattle.base_lists.specs.List.{tabulate, Below}
 use Rattle.base_lists.proofs.Tables.{filled-none, filled-more, whole}
 use Rattle.base_bits.specs.Bits.{intersects}

@@ -1,8 +1,5 @@
 -- `proposal_check::check_circuits` meets its contract: the tests one after another; what is left of the links is a board of its own. Assumes nothing.
-use mathlib.Core.Path.{sym, _∙_}
-use borrow.Author.Tests.{not-true, not-false}
-use borrow.Author.Needs.{needs}
-use lib.Seq.{length-take-le}
+use Rattle.base_lists.specs.Kit.{_∙_, sym, length-take-le, needs, not-false, not-true}
 use Rattle.graph.proofs.Groups.{all-below}
 use Rattle.graph.proofs.Below.{below-wider}
 use Rattle.file_format.proofs.Accepted.{bounded-starts, bounded-ends}

@@ -1,11 +1,5 @@
 -- `proposal_check::fills` meets its contract: the place is found in the board's own links, and compared with what is marked. Assumes nothing.
-use denote.Ref.{now}
-use mathlib.Core.Path.{_≡_, sym, subst, _∙_}
-use Prim.Native.Nat.{ℕ}
-use borrow.Author.Tests.{not-true, not-false}
-use borrow.Author.Needs.{needs}
-use lib.ListN.{length}
-use lib.Seq.{length-take-le}
+use Rattle.base_lists.specs.Kit.{now, _≡_, _∙_, sym, subst, ℕ, length, length-take-le, needs, not-false, not-true}
 use Rattle.base_lists.specs.List.{Below}
 use Rattle.table.specs.Prepared.{succOf}
 use Rattle.proposal_check.proofs.Searched.{cut-room, cut-long, cut-row, cut-links}

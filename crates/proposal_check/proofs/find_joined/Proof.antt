@@ -1,12 +1,6 @@
 -- `proposal_check::find_joined` meets its contract: the nodes that the search lists are all that links join to the centre, and the pairs of
 -- equal kinds among them are a first table. Assumes nothing.
-use mathlib.Core.List.{List}
-use mathlib.Core.Path.{_≡_, sym, _∙_}
-use Prim.Native.Nat.{ℕ, _≤_}
-use borrow.Author.Needs.{needs}
-use denote.Ref.{now}
-use lib.ListN.{length, take}
-use lib.Seq.{length-take-le}
+use Rattle.base_lists.specs.Kit.{now, _≡_, _∙_, sym, List, ℕ, _≤_, length, take, length-take-le, needs}
 use Rattle.graph.specs.Bfs.{bfs, adjacent, Found}
 use Rattle.graph.specs.Circuit.{circuit}
 use Rattle.table.specs.Prepared.{tables, Tables}

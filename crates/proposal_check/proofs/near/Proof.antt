@@ -1,11 +1,5 @@
 -- `proposal_check::near` meets its contract: the search reaches the nodes of the ball, and no other. Assumes nothing.
-use denote.Ref.{now}
-use mathlib.Core.List.{List}
-use mathlib.Core.Path.{_≡_, refl, sym, ap, _∙_}
-use Prim.Native.Nat.{ℕ, _<_}
-use borrow.Author.Needs.{needs}
-use lib.ListN.{length}
-use lib.Seq.{length-take-le}
+use Rattle.base_lists.specs.Kit.{now, _≡_, _∙_, sym, ap, refl, List, ℕ, _<_, length, length-take-le, needs}
 use Rattle.graph.specs.Net.{Net}
 use Rattle.graph.proofs.Net.{net-of}
 use Rattle.graph.proofs.Ball.{within-all}

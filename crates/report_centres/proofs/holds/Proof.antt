@@ -1,15 +1,6 @@
 -- `report_centres::holds` meets its contract: the component is reached along matching links; or those of its nodes that the ball has are gathered, all of them
 -- where they are as many as it has. Assumes nothing.
-use denote.Ref.{now}
-use mathlib.Core.List.{List}
-use mathlib.Core.Logic.{⊎-elim}
-use mathlib.Core.Path.{_≡_, sym, ap, subst, _∙_}
-use Prim.Native.Nat.{ℕ, _≤_}
-use native.Mathlib.Nat.{min-le-right}
-use borrow.Author.Needs.{needs}
-use borrow.Author.Tests.{eqb-true, eqb-false}
-use lib.ListN.{length, take, length-take}
-use lib.Seq.{length-take-le}
+use Rattle.base_lists.specs.Kit.{now, _≡_, _∙_, sym, ap, subst, ⊎-elim, List, ℕ, _≤_, min-le-right, length, take, length-take, length-take-le, needs, eqb-true, eqb-false}
 use Rattle.base_lists.proofs.Tests.{false-T}
 use Rattle.place_components.proofs.Labels.{match-ready, match-adjacency}
 use Rattle.place_components.proofs.Covering.{covered-spread}

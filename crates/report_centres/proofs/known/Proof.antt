@@ -1,8 +1,5 @@
 -- `report_centres::known` meets its contract. Assumes nothing.
-use Prim.Native.Nat.{_+_}
-use native.Mathlib.Omega.{arith}
-use borrow.Author.Needs.{needs}
-use borrow.Author.Tests.{not-true, not-false}
+use Rattle.base_lists.specs.Kit.{_+_, arith, needs, not-false, not-true}
 use Rattle.report_centres.proofs.known.Statement.{statement}
 use Rattle.report_centres.proofs.known.Tie as tie
 

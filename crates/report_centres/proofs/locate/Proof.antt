@@ -1,13 +1,6 @@
 -- `report_centres::locate` meets its contract: the place is the component where the ball holds it; else the whole board's sets at those of its nodes that the
 -- ball has are a table to begin with. Assumes nothing.
-use denote.Ref.{now}
-use mathlib.Core.List.{List, _++_, append-nil}
-use mathlib.Core.Path.{_≡_, refl, sym, ap, _∙_}
-use Prim.Native.Nat.{ℕ, _≤_}
-use native.Mathlib.Omega.{arith}
-use borrow.Author.Needs.{needs}
-use lib.ListN.{length, take, drop, drop-of-length-le}
-use lib.Seq.{length-take-le}
+use Rattle.base_lists.specs.Kit.{now, _≡_, _∙_, sym, ap, List, _++_, append-nil, ℕ, _≤_, length, take, drop, drop-of-length-le, length-take-le, arith, needs}
 use Rattle.graph.specs.Circuit.{Circuit}
 use Rattle.table.specs.Fill.{NodeList}
 use Rattle.table.specs.Prepared.{tables}

@@ -1,9 +1,5 @@
 -- `report_centres::note` meets its contract. Assumes nothing.
-use denote.Ref.{now}
-use native.Mathlib.Omega.{arith}
-use borrow.Author.Needs.{needs}
-use borrow.Author.Tests.{lt-ltb, le-ltb}
-use lib.ListN.{length-set}
+use Rattle.base_lists.specs.Kit.{now, length-set, arith, needs, le-ltb, lt-ltb}
 use Rattle.report_centres.specs.Pieces.{noting}
 use Rattle.report_centres.proofs.note.Statement.{statement}
 use Rattle.report_centres.proofs.note.Tie as tie

@@ -1,9 +1,5 @@
 -- `report_centres::put_again` meets its contract: the head, and then the text, which the head leaves where it stands. Assumes nothing.
-use Prim.Native.Nat.{_+_, _-_, _≤_}
-use native.Mathlib.Omega.{arith}
-use borrow.Author.Needs.{needs}
-use denote.Ref.{now}
-use lib.ListN.{length, length-append}
+use Rattle.base_lists.specs.Kit.{now, _≤_, _+_, _-_, length, length-append, arith, needs}
 use Rattle.base_lists.specs.List.{part}
 use Rattle.base_text.proofs.Text.{put-then, put-same, put-length, fits-first}
 use Rattle.report_texts.specs.Texts.{headText}

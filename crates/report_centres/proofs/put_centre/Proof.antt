@@ -1,13 +1,6 @@
 -- `report_centres::put_centre` meets its contract: nothing where the whole board's table leaves the centre empty; the text that is noted under the centre's
 -- label, where the ball holds the component; else a new line, whose text is noted where it is the component's. Assumes nothing.
-use denote.Ref.{now}
-use mathlib.Core.Bool.{Bool, true, false, cond}
-use mathlib.Core.Path.{_≡_, refl, sym, ap, subst, _∙_}
-use Prim.Native.Nat.{ℕ, _+_, _≤_, _<_}
-use native.Mathlib.Omega.{arith}
-use borrow.Author.Needs.{needs}
-use lib.ListN.{length, getD}
-use lib.Seq.{length-take-le}
+use Rattle.base_lists.specs.Kit.{now, _≡_, _∙_, sym, ap, refl, subst, Bool, false, true, cond, ℕ, _≤_, _<_, _+_, length, getD, length-take-le, arith, needs}
 use Rattle.base_text.proofs.Text.{put-nothing, put-same, fits-same}
 use Rattle.table.specs.Prepared.{tables}
 use Rattle.place.specs.Spread.{matched}

@@ -1,14 +1,6 @@
 -- `report_centres::put_centres` meets its contract. The loop's invariant: the lines of the centres before c are put and those with a place
 -- counted (Progress), of every pattern and board that lines are put from. The measure is how many centres are left. Assumes nothing.
-use denote.Ref.{now}
-use mathlib.Core.Bool.{true}
-use mathlib.Core.Path.{_≡_}
-use Prim.Native.Nat.{_+_, _-_, _≤_, _<_}
-use native.Mathlib.Omega.{arith}
-use borrow.Author.Needs.{needs}
-use borrow.Author.Tests.{leb-true}
-use lib.Dec.{lit≤}
-use lib.ListN.{length}
+use Rattle.base_lists.specs.Kit.{now, _≡_, true, _≤_, _<_, _+_, _-_, lit≤, length, arith, needs, leb-true}
 use Rattle.base_text.proofs.Text.{put-length}
 use Rattle.graph.specs.Circuit.{Circuit}
 use Rattle.table.specs.Prepared.{tables}

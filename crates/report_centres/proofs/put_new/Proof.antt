@@ -1,12 +1,5 @@
 -- `report_centres::put_new` meets its contract: nothing where there is no place around the centre, else the line of the place. Assumes nothing.
-use denote.Ref.{now}
-use mathlib.Core.Path.{_≡_, sym, _∙_}
-use Prim.Native.Nat.{ℕ, _≤_}
-use native.Mathlib.Omega.{arith}
-use borrow.Author.Needs.{needs}
-use borrow.Author.Tests.{not-true, not-false}
-use lib.ListN.{length}
-use lib.Seq.{length-take-le}
+use Rattle.base_lists.specs.Kit.{now, _≡_, _∙_, sym, ℕ, _≤_, length, length-take-le, arith, needs, not-false, not-true}
 use Rattle.base_text.proofs.Text.{put-nothing, put-same, fits-same}
 use Rattle.graph.specs.Circuit.{Circuit}
 use Rattle.table.specs.Prepared.{tables}

@@ -1,8 +1,5 @@
 -- `report_texts::head_bytes` meets its contract: a number below 1,000 has one digit, two or three. Assumes nothing.
-use mathlib.Core.Path.{_≡_, ap, _∙_}
-use Prim.Native.Nat.{ℕ, _+_, _/_, _≤_, _<_}
-use native.Mathlib.Omega.{arith}
-use lib.ListN.{length, length-append}
+use Rattle.base_lists.specs.Kit.{_≡_, _∙_, ap, ℕ, _≤_, _<_, _+_, _/_, length, length-append, arith}
 use Rattle.base_text.specs.Text.{bytes, decimal}
 use Rattle.base_text.proofs.Text.{decimal-digit, decimal-two, decimal-more}
 use Rattle.report_texts.specs.Texts.{headText}

@@ -1,13 +1,5 @@
 -- `report_texts::put_copy` meets its contract. The loop's invariant: the bytes before the i-th are put once more. The measure is how many are left. Assumes nothing.
-use mathlib.Core.List.{List, _∷_, [], _++_}
-use mathlib.Core.Path.{_≡_, refl, sym, ap, _∙_}
-use Prim.Native.Nat.{ℕ, suc, _+_, _-_, _≤_, _<_}
-use native.Mathlib.Nat.{sub-self}
-use native.Mathlib.Omega.{arith}
-use borrow.Author.Needs.{needs}
-use denote.Ref.{now}
-use lib.ListN.{length, getD, take, drop, length-drop}
-use lib.Seq.{length-take-le, take-suc, getD-drop}
+use Rattle.base_lists.specs.Kit.{now, _≡_, _∙_, sym, ap, List, [], _∷_, _++_, ℕ, _≤_, _<_, _+_, _-_, suc, sub-self, length, getD, take, drop, length-drop, getD-drop, take-suc, arith, needs}
 use Rattle.base_lists.specs.List.{part}
 use Rattle.base_text.specs.Text.{Put}
 use Rattle.base_text.proofs.Text.{put-one, put-nothing, put-then, put-same, put-length}

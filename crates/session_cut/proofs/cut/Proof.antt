@@ -1,12 +1,5 @@
 -- `session_cut::cut` meets its contract: no link is left at the place, or it is taken out and striking goes on. Assumes nothing.
-use mathlib.Core.List.{_++_}
-use mathlib.Core.Path.{_≡_, sym, subst, _∙_}
-use Prim.Native.Nat.{ℕ, _≤_}
-use native.Mathlib.Omega.{arith}
-use borrow.Author.Needs.{needs}
-use denote.Ref.{now}
-use lib.ListN.{drop, length, getD, take}
-use lib.Seq.{length-take-le}
+use Rattle.base_lists.specs.Kit.{now, _≡_, _∙_, sym, subst, _++_, ℕ, _≤_, length, getD, take, drop, length-take-le, arith, needs}
 use Rattle.session.specs.State.{state}
 use Rattle.session.specs.Tables.{nodesIn, CutMade}
 use Rattle.session.proofs.Tables.{bounded-le}

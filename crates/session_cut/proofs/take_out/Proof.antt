@@ -1,10 +1,5 @@
 -- `session_cut::take_out` meets its contract. Assumes nothing.
-use mathlib.Core.Path.{sym, ap₂, subst}
-use Prim.Native.Nat.{ℕ, _+_, _≤_, _<_}
-use native.Mathlib.Omega.{arith}
-use borrow.Author.Needs.{needs}
-use denote.Ref.{now}
-use lib.ListN.{length-set}
+use Rattle.base_lists.specs.Kit.{now, sym, subst, ap₂, ℕ, _≤_, _<_, _+_, length-set, arith, needs}
 use Rattle.graph.specs.Search.{far}
 use Rattle.session.specs.State.{without}
 use Rattle.session_strike.proofs.Entries.{entry-any}

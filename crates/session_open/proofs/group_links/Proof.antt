@@ -1,9 +1,5 @@
 -- `session_open::group_links` meets its contract: the numbers are grouped by the links' starts, and by their ends. Assumes nothing.
-use mathlib.Core.Path.{sym, ap, _∙_}
-use native.Mathlib.Omega.{arith}
-use borrow.Author.Needs.{needs}
-use denote.Ref.{now}
-use lib.ListN.{length}
+use Rattle.base_lists.specs.Kit.{now, _∙_, sym, ap, length, arith, needs}
 use Rattle.session_open.proofs.Filling.{length-all, numbered}
 use Rattle.session_open.proofs.group_links.Statement.{statement}
 use Rattle.session_open.proofs.group_links.Tie as tie

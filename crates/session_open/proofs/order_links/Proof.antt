@@ -1,10 +1,5 @@
 -- `session_open::order_links` meets its contract. Assumes nothing.
-use mathlib.Core.Path.{_≡_, sym, ap, _∙_}
-use native.Mathlib.Omega.{arith}
-use borrow.Author.Needs.{needs}
-use denote.Ref.{now}
-use lib.ListN.{length, take}
-use lib.Seq.{length-take-le, take-at}
+use Rattle.base_lists.specs.Kit.{now, _≡_, _∙_, sym, ap, length, take, length-take-le, take-at, arith, needs}
 use Rattle.table.specs.Fill.{allNodes}
 use Rattle.session_open.proofs.Filling.{length-all}
 use Rattle.session_open.proofs.order_links.Statement.{statement}

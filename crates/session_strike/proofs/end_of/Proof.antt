@@ -1,9 +1,5 @@
 -- `session_strike::end_of` meets its contract: past the end of the list stands no node. Assumes nothing.
-use mathlib.Core.Path.{sym}
-use native.Mathlib.Omega.{arith}
-use borrow.Author.Needs.{needs}
-use denote.Ref.{now}
-use lib.ListN.{getD, List·getD-eq-default}
+use Rattle.base_lists.specs.Kit.{now, sym, getD, List·getD-eq-default, arith, needs}
 use Rattle.graph.specs.Search.{far}
 use Rattle.session_strike.proofs.Entries.{entry-any}
 use Rattle.session_strike.proofs.end_of.Statement.{statement}

@@ -1,9 +1,5 @@
 -- `session_strike::mark_beside` meets its contract. Assumes nothing.
-use mathlib.Core.List.{List}
-use mathlib.Core.Path.{ap, ap₂, _∙_}
-use Prim.Native.Nat.{ℕ}
-use borrow.Author.Needs.{needs}
-use denote.Ref.{now}
+use Rattle.base_lists.specs.Kit.{now, _∙_, ap, ap₂, List, ℕ, needs}
 use Rattle.base_lists.specs.List.{part}
 use Rattle.graph.specs.Net.{forwardLinks, backwardLinks, driven, driving}
 use Rattle.graph_neighbours.specs.Lookup.{neighboursIn}

@@ -1,13 +1,6 @@
 -- `session_strike::next_set` meets its contract. Of an empty set nothing survives, so that its neighbours need no look. Assumes nothing.
-use mathlib.Core.List.{List}
-use mathlib.Core.Path.{sym, ap, _∙_}
-use Prim.Native.Nat.{ℕ, _^_, _<_}
-use native.Mathlib.Omega.{arith}
-use borrow.Author.Needs.{needs}
-use denote.Ref.{now}
+use Rattle.base_lists.specs.Kit.{now, _∙_, sym, ap, List, ℕ, _<_, _^_, drop, length-drop, length-take-le, arith, needs}
 use Rattle.base_lists.specs.List.{part}
-use lib.ListN.{drop, length-drop}
-use lib.Seq.{length-take-le}
 use Rattle.base_bits.specs.Bits.{unionAt}
 use Rattle.graph.specs.Net.{forwardLinks, backwardLinks, driven, driving}
 use Rattle.graph_neighbours.specs.Lookup.{neighboursIn}

@@ -1,9 +1,6 @@
 -- `session_strike::settle` meets its contract. The loop's invariant is `Going`; the measure falls with a set that gets smaller, or with a mark that is taken
 -- away. Assumes nothing.
-use mathlib.Core.Path.{sym, _∙_}
-use Prim.Native.Nat.{_<_}
-use native.Mathlib.Omega.{arith}
-use borrow.Author.Needs.{needs}
+use Rattle.base_lists.specs.Kit.{_∙_, sym, _<_, arith, needs}
 use Rattle.session_strike.specs.Moves.{movesIn, left}
 use Rattle.session_strike.proofs.Going.{Going, going-start, going-word, going-next, going-less, going-end}
 use Rattle.session_strike.proofs.settle.Statement.{statement}

@@ -1,10 +1,5 @@
 -- `session_strike::strike_from` meets its contract. Assumes nothing.
-use mathlib.Core.List.{List}
-use mathlib.Core.Path.{ap, _∙_}
-use Prim.Native.Nat.{ℕ}
-use borrow.Author.Needs.{needs}
-use denote.Ref.{now}
-use lib.ListN.{length}
+use Rattle.base_lists.specs.Kit.{now, _∙_, ap, List, ℕ, length, needs}
 use Rattle.session_strike.specs.Moves.{movesIn, markOne, markBoth, settled, settledFrom}
 use Rattle.session_strike.proofs.strike_from.Statement.{statement}
 use Rattle.session_strike.proofs.strike_from.Tie as tie

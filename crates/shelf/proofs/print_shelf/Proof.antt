@@ -7,7 +7,6 @@ use denote.Ref.{now}
 use lib.ListN.{length, take}
 use lib.Seq.{length-take-le}
 use Rattle.base_text.specs.Text.{Fits}
-use Rattle.base_text.proofs.Text.{put-whole, put-length}
 use Rattle.shelf_strings.specs.Strings.{cutInto}
 use Rattle.shelf_text.specs.Text.{shelfText}
 use Rattle.call_shelf.specs.Shelf.{shelfOf}

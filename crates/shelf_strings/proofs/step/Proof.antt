@@ -1,8 +1,5 @@
 -- `shelf_strings::step` meets its contract. Assumes nothing.
-use Prim.Native.Nat.{_+_}
-use native.Mathlib.Omega.{arith}
-use borrow.Author.Needs.{needs}
-use borrow.Author.Tests.{le-leb, lt-leb}
+use Rattle.base_lists.specs.Kit.{_+_, arith, needs, le-leb, lt-leb}
 use Rattle.shelf_strings.specs.Strings.{capped}
 use Rattle.shelf_strings.proofs.step.Statement.{statement}
 use Rattle.shelf_strings.proofs.step.Tie as tie

@@ -1,8 +1,5 @@
 -- `shelf_strings::string_at` meets its contract. The loop's invariant: the first j strings lie before the place. Assumes nothing.
-use mathlib.Core.Path.{sym}
-use Prim.Native.Nat.{_-_, _≤_}
-use native.Mathlib.Omega.{arith}
-use borrow.Author.Needs.{needs}
+use Rattle.base_lists.specs.Kit.{sym, _≤_, _-_, arith, needs}
 use Rattle.shelf_strings.proofs.Cutting.{Passed, cut-past, passed-none, passed-more, passed-last}
 use Rattle.shelf_strings.proofs.string_at.Statement.{statement}
 use Rattle.shelf_strings.proofs.string_at.Tie as tie

@@ -1,7 +1,5 @@
 -- `shelf_text::put_line` meets its contract: three bytes, one after another. Assumes nothing.
-use mathlib.Core.List.{List, [], _∷_, _++_}
-use Prim.Native.Nat.{ℕ, _+_, _/_, _%_}
-use borrow.Author.Needs.{needs}
+use Rattle.base_lists.specs.Kit.{List, [], _∷_, _++_, ℕ, _+_, _/_, _%_, needs}
 use Rattle.base_text.specs.Text.{Put, Fits}
 use Rattle.base_text.proofs.Text.{put-then, fits-first, fits-then}
 use Rattle.shelf_text.specs.Text.{lineOf}

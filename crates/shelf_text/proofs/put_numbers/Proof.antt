@@ -1,11 +1,5 @@
 -- `shelf_text::put_numbers` meets its contract. The loop's invariant: the lines of the first i numbers are written. Assumes nothing.
-use mathlib.Core.Path.{_≡_}
-use Prim.Native.Nat.{_+_, _-_, _≤_}
-use native.Mathlib.Omega.{arith}
-use denote.Ref.{now}
-use lib.ListN.{length, take}
-use lib.Seq.{take-all}
-use mathlib.Core.Path.{ap}
+use Rattle.base_lists.specs.Kit.{now, _≡_, ap, _≤_, _+_, _-_, length, take, take-all, arith}
 use Rattle.base_text.specs.Text.{Put}
 use Rattle.base_text.proofs.Text.{put-nothing, put-then, put-same, put-length, fits-then}
 use Rattle.shelf_text.specs.Text.{shelfText}

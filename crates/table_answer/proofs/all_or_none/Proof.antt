@@ -1,7 +1,5 @@
 -- `table_answer::all_or_none` meets its contract: the union of the sets says whether every part occurs. Assumes nothing.
-use mathlib.Core.Path.{_≡_, sym, ap, _∙_}
-use borrow.Author.Needs.{needs}
-use denote.Ref.{now}
+use Rattle.base_lists.specs.Kit.{now, _≡_, _∙_, sym, ap, needs}
 use Rattle.base_bits.specs.Bits.{sizeOf}
 use Rattle.table_answer.specs.Union.{unionAll}
 use Rattle.table_answer.proofs.AllParts.{ruled-all, ruled-none}

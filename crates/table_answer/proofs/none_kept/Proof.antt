@@ -1,5 +1,5 @@
 -- `table_answer::none_kept` meets its contract. Assumes nothing.
-use mathlib.Core.Path.{refl}
+use Rattle.base_lists.specs.Kit.{refl}
 use Rattle.table_answer.proofs.none_kept.Statement.{statement}
 use Rattle.table_answer.proofs.none_kept.Tie as tie
 

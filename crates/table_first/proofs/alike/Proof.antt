@@ -1,13 +1,7 @@
 -- `table_first::alike` meets its contract. The loop's invariant: the set so far is that of the parts before u. The measure is how many
 -- parts are left. Assumes nothing.
-use mathlib.Core.Logic.{⊎-elim}
-use mathlib.Core.Path.{_≡_, refl, sym, ap, ap₂, _∙_}
-use Prim.Native.Nat.{ℕ, _-_, _≤_}
-use native.Mathlib.Omega.{arith}
-use borrow.Author.Needs.{needs}
-use denote.Ref.{now}
+use Rattle.base_lists.specs.Kit.{now, _≡_, _∙_, sym, ap, refl, ap₂, ⊎-elim, ℕ, _≤_, _-_, length, getD, arith, needs}
 use lib.Bits.{bitOr}
-use lib.ListN.{length, getD}
 use Rattle.base_bits.specs.Bits.{numberOf}
 use Rattle.base_bits.proofs.Numbers.{number-insert, number-skip}
 use Rattle.table.specs.Row.{kindsAgree}

@@ -1,11 +1,6 @@
 -- `table_first::start` meets its contract. The loop's invariant: the turns that are left lead to the whole table and the whole count. The
 -- measure is how many are left. Assumes nothing.
-use mathlib.Core.Path.{_≡_}
-use Prim.Native.Nat.{_-_, _<_}
-use native.Mathlib.Omega.{arith}
-use borrow.Author.Needs.{needs}
-use denote.Ref.{now}
-use lib.ListN.{length, getD}
+use Rattle.base_lists.specs.Kit.{now, _≡_, _<_, _-_, length, getD, arith, needs}
 use Rattle.base_lists.specs.List.{Below}
 use Rattle.table.specs.First.{startNode}
 use Rattle.table_first.proofs.Filling.{Filling, filling-start, filling-fits, filling-next, filling-end, filled-written}

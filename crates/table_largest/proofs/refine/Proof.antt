@@ -1,17 +1,10 @@
 -- `table_largest::refine` meets its contract: the list of nodes has each node that changes, and what the rounds settle at is the end of the row.
 -- Assumes nothing.
-use mathlib.Core.List.{List, _∷_}
-use mathlib.Core.Path.{_≡_, refl, sym, ap}
-use Prim.Native.Nat.{ℕ, zero, suc, _≤_}
-use native.Mathlib.Nat.{not-suc-le-zero, le-of-suc-le-suc}
-use denote.Ref.{now}
-use lib.ListN.{length, take, replicate}
-use lib.Seq.{length-take-le}
+use Rattle.base_lists.specs.Kit.{now, _≡_, sym, ap, refl, List, _∷_, ℕ, _≤_, suc, zero, not-suc-le-zero, le-of-suc-le-suc, length, take, replicate, length-take-le, needs}
 use Rattle.graph.specs.Search.{far}
 use Rattle.graph.proofs.Net.{net-of, net-few}
 use Rattle.table.specs.Row.{problemBy}
 use Rattle.table_largest.proofs.Rounds.{first-due, settled-rested}
-use borrow.Author.Needs.{needs}
 use Rattle.table_largest.proofs.refine.Statement.{statement}
 use Rattle.table_largest.proofs.refine.Tie as tie
 

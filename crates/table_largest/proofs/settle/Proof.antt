@@ -1,13 +1,7 @@
 -- `table_largest::settle` meets its contract. The loop's invariant: `table` is the table after `rounds` rounds, each of which struck a pair; the
 -- nodes that change are listed, each with its next set; and nothing is marked. The measure is how many pairs there are, which falls with each
 -- round. Assumes nothing.
-use mathlib.Core.Path.{_≡_, refl, sym, ap, _∙_}
-use Prim.Native.Nat.{ℕ, _≤_, _<_}
-use native.Mathlib.Omega.{arith}
-use borrow.Author.Needs.{needs}
-use denote.Ref.{now}
-use lib.ListN.{length, take, replicate, length-replicate}
-use lib.Seq.{length-take-le}
+use Rattle.base_lists.specs.Kit.{now, _≡_, _∙_, sym, ap, refl, ℕ, _≤_, _<_, length, take, replicate, length-replicate, length-take-le, arith, needs}
 use Rattle.base_lists.specs.List.{part}
 use Rattle.graph.specs.Bfs.{stateOf}
 use Rattle.graph.specs.Search.{far}

@@ -1,11 +1,6 @@
 -- `table_round::changes` meets its contract. The loop's invariant: what is listed, with what is left of the list, leads to the whole. The
 -- measure is how many are left. Assumes nothing.
-use mathlib.Core.Path.{_≡_, refl, _∙_}
-use Prim.Native.Nat.{_-_, _<_}
-use native.Mathlib.Omega.{arith}
-use borrow.Author.Needs.{needs}
-use denote.Ref.{now}
-use lib.ListN.{length, getD}
+use Rattle.base_lists.specs.Kit.{now, _≡_, _∙_, refl, _<_, _-_, length, getD, arith, needs}
 use Rattle.base_lists.specs.List.{Below}
 use Rattle.table.specs.Prepared.{tables}
 use Rattle.table_strike.specs.Strike.{strikeNode}

@@ -1,8 +1,5 @@
 -- `table_strike::reach_back` meets its contract: nothing, or the union over what drives the node. Assumes nothing.
-use mathlib.Core.Bool.{Bool, cond}
-use mathlib.Core.Path.{sym, ap, _∙_}
-use borrow.Author.Needs.{needs}
-use denote.Ref.{now}
+use Rattle.base_lists.specs.Kit.{now, _∙_, sym, ap, Bool, cond}
 use Rattle.base_bits.specs.Bits.{unionAt}
 use Rattle.graph.specs.Net.{driving}
 use Rattle.graph_neighbours.specs.declared.neighbours.Direction.the-variants.{Backward}

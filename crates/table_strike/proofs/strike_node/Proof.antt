@@ -1,10 +1,5 @@
 -- `table_strike::strike_node` meets its contract. Of an empty set nothing survives, so that its neighbours need no look. Assumes nothing.
-use mathlib.Core.Path.{sym, ap, _∙_}
-use native.Mathlib.Omega.{arith}
-use borrow.Author.Needs.{needs}
-use denote.Ref.{now}
-use lib.ListN.{drop, length-drop}
-use lib.Seq.{length-take-le}
+use Rattle.base_lists.specs.Kit.{now, _∙_, sym, ap, drop, length-drop, length-take-le, arith, needs}
 use Rattle.base_lists.specs.List.{part}
 use Rattle.base_bits.specs.Bits.{unionAt}
 use Rattle.graph_neighbours.specs.declared.neighbours.Direction.the-variants.{Forward}

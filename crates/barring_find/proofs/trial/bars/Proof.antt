@@ -1,12 +1,7 @@
 -- `barring_find::trial::bars` meets its contract: with the masks of the chosen links the centre is in no pair that is left exactly where they
 -- bar. Assumes nothing.
-use mathlib.Core.Path.{_≡_, refl, sym, subst, _∙_}
-use Prim.Native.Nat.{ℕ, _≤_, _<_}
-use denote.Ref.{now}
-use lib.ListN.{length}
-use lib.Seq.{length-take-le}
+use Rattle.base_lists.specs.Kit.{now, _≡_, _∙_, sym, refl, subst, ℕ, _≤_, _<_, length, length-take-le, needs}
 use Rattle.barring_find.proofs.Tried.{tried-starts, tried-ends, tried-long, tried-begun, tried-bars}
-use borrow.Author.Needs.{needs}
 use Rattle.barring_find.proofs.trial.bars.Statement.{statement}
 use Rattle.barring_find.proofs.trial.bars.Tie as tie
 

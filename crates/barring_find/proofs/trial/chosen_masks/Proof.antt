@@ -1,18 +1,10 @@
 -- `barring_find::trial::chosen_masks` meets its contract: the chosen starts and ends stand at the front of two lists, and the masks are made of
 -- these. Assumes nothing.
-use mathlib.Core.List.{List}
-use mathlib.Core.Path.{_≡_, sym, ap, subst, _∙_}
-use Prim.Native.Nat.{ℕ, _≤_}
-use native.Mathlib.Omega.{arith}
-use denote.Ref.{now}
-use lib.ListN.{length, take}
-use lib.Seq.{length-take-le}
+use Rattle.base_lists.specs.Kit.{now, _≡_, _∙_, sym, ap, subst, ℕ, _≤_, length, take, length-take-le, needs}
 use Rattle.base_lists.specs.List.{Below}
 use Rattle.graph.specs.Chosen.{picked}
 use Rattle.graph.proofs.Chosen.{picked-parallel, picked-below}
-use Rattle.table.specs.Prepared.{Masked}
 use Rattle.barring_find.proofs.Tried.{masked-same}
-use borrow.Author.Needs.{needs}
 use Rattle.barring_find.proofs.trial.chosen_masks.Statement.{statement}
 use Rattle.barring_find.proofs.trial.chosen_masks.Tie as tie
 

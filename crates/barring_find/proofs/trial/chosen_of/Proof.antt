@@ -1,13 +1,6 @@
 -- `barring_find::trial::chosen_of` meets its contract: the entries are copied, and of the copy the marked ones are moved to the front. Assumes
 -- nothing.
-use mathlib.Core.List.{List, _++_}
-use mathlib.Core.Path.{_≡_, sym, ap, _∙_}
-use Prim.Native.Nat.{ℕ, _≤_}
-use native.Mathlib.Omega.{arith}
-use borrow.Author.Needs.{needs}
-use denote.Ref.{now}
-use lib.ListN.{length, take, length-append}
-use lib.Seq.{length-take-le, take-at, take-append-le}
+use Rattle.base_lists.specs.Kit.{now, _≡_, _∙_, sym, ap, List, _++_, ℕ, _≤_, length, take, length-append, length-take-le, take-at, take-append-le, arith, needs}
 use Rattle.graph.specs.Chosen.{picked}
 use Rattle.barring_find.proofs.trial.chosen_of.Statement.{statement}
 use Rattle.barring_find.proofs.trial.chosen_of.Tie as tie

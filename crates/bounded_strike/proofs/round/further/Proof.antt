@@ -1,8 +1,5 @@
 -- `bounded_strike::round::further` meets its contract. Assumes nothing.
-use mathlib.Core.Path.{sym, subst, _∙_}
-use Prim.Native.Nat.{ℕ}
-use borrow.Author.Needs.{needs}
-use denote.Ref.{now}
+use Rattle.base_lists.specs.Kit.{now, _∙_, sym, subst, ℕ, needs}
 use Rattle.graph.specs.Net.{Net}
 use Rattle.bounded_strike.proofs.round.further.Statement.{statement}
 use Rattle.bounded_strike.proofs.round.further.Tie as tie

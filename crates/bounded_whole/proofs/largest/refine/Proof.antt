@@ -1,12 +1,6 @@
 -- `bounded_whole::largest::refine` meets its contract, as table_largest::refine does. The loop's invariant: `table` is the table after `rounds`
 -- rounds, each of which struck a pair, and has `kept` pairs. The measure is `kept`, which falls with each round. Assumes nothing.
-use mathlib.Core.List.{List}
-use mathlib.Core.Path.{_≡_, refl, sym, _∙_}
-use Prim.Native.Nat.{ℕ, _+_, _<_}
-use native.Mathlib.Omega.{arith}
-use borrow.Author.Needs.{needs}
-use denote.Ref.{now}
-use lib.ListN.{length}
+use Rattle.base_lists.specs.Kit.{now, _≡_, _∙_, sym, refl, List, ℕ, _<_, _+_, length, arith}
 use Rattle.table.specs.Prepared.{Tables, tables}
 use Rattle.bounded_strike.specs.Round.{Turn}
 use Rattle.bounded_whole.proofs.Rounds.{first-turn, turn-count, turn-less, turn-next, turn-last, turn-end}

@@ -1,9 +1,5 @@
 -- `call_load::make::make` meets its contract: the load is drawn, its links are collected, and writing its circuit is not refused. Assumes nothing.
-use denote.Ref.{now}
-use mathlib.Core.Path.{_≡_, sym, ap, _∙_}
-use Prim.Native.Nat.{_*_}
-use native.Mathlib.Omega.{arith}
-use lib.ListN.{length, take}
+use Rattle.base_lists.specs.Kit.{now, _≡_, _∙_, sym, ap, _*_, length, take, arith, needs}
 use Rattle.graph.specs.Circuit.{Circuit}
 use Rattle.file_format.specs.Reading.{filled}
 use Rattle.file_format.specs.Refusals.{accept}
@@ -16,7 +12,6 @@ use Rattle.load_draw.specs.Marks.{AllBelow}
 use Rattle.call_load.specs.declared.LoadAnswer.the-variants.{Made}
 use Rattle.call_load.specs.Call.{loadBytes}
 use Rattle.call_load.proofs.Loading.{pairs-below, links-count, fronts, written, written-size, written-not-refused}
-use borrow.Author.Needs.{needs}
 use Rattle.call_load.proofs.make.make.Statement.{statement}
 use Rattle.call_load.proofs.make.make.Tie as tie
 

@@ -1,12 +1,6 @@
 -- `call_merge::circuits::merge_circuit` meets its contract: its scratch tables have room for every pattern, the merged pattern is made and
 -- written, and writing it is not refused. Assumes nothing.
-use denote.Ref.{now}
-use mathlib.Core.Path.{_≡_, refl, sym, ap, ap₂, _∙_}
-use native.Mathlib.Nat.{le-trans, le-of-eq}
-use borrow.Author.Needs.{needs}
-use lib.Dec.{lit≤}
-use lib.ListN.{length, take}
-use lib.Seq.{length-take-le}
+use Rattle.base_lists.specs.Kit.{now, _≡_, _∙_, sym, ap, refl, ap₂, le-trans, le-of-eq, lit≤, length, take, length-take-le, needs}
 use Rattle.graph.specs.Circuit.{Circuit, circuit}
 use Rattle.file_format.specs.Reading.{filled}
 use Rattle.file_format.specs.Refusals.{accept}

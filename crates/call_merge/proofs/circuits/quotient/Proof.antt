@@ -1,13 +1,6 @@
 -- `call_merge::circuits::quotient` meets its contract: the pattern is matched on itself, its classes are numbered, and the merged pattern's kinds
 -- and links are stored. Assumes nothing.
-use denote.Ref.{now}
-use mathlib.Core.List.{List}
-use mathlib.Core.Path.{_≡_, sym, _∙_}
-use Prim.Native.Nat.{ℕ}
-use native.Mathlib.Nat.{le-trans, le-of-eq}
-use native.Mathlib.Omega.{arith}
-use borrow.Author.Needs.{needs}
-use lib.ListN.{length}
+use Rattle.base_lists.specs.Kit.{now, _≡_, _∙_, sym, List, ℕ, le-trans, le-of-eq, length, arith, needs}
 use Rattle.graph.specs.Circuit.{Circuit, circuit}
 use Rattle.merge.specs.Merged.{selfTable, classCount, classes}
 use Rattle.merge.proofs.Content.{PatternContent, content-bounded, content-board, most-parts}

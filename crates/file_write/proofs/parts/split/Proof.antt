@@ -1,11 +1,6 @@
 -- `file_write::parts::split` meets its contract. The loop's invariant: the kinds and the packages of the labels passed stand at the front. Assumes
 -- nothing.
-use mathlib.Core.List.{List, _++_}
-use mathlib.Core.Path.{_≡_, refl, sym, ap, _∙_}
-use Prim.Native.Nat.{ℕ, _-_, _≤_}
-use native.Mathlib.Omega.{arith}
-use denote.Ref.{now}
-use lib.ListN.{length, getD, drop, length-set}
+use Rattle.base_lists.specs.Kit.{now, _≡_, _∙_, sym, ap, refl, _++_, ℕ, _≤_, _-_, length, getD, drop, length-set, arith}
 use Rattle.base_lists.specs.List.{tabulate}
 use Rattle.base_lists.proofs.Tables.{filled-none, filled-more, whole}
 use Rattle.file_format.specs.Label.{kindIn, packageIn, kindsIn, packagesIn}

@@ -1,15 +1,8 @@
 -- `graph_extent::ball::fill_ball` meets its contract: the distances are written into the front of the lent table. Assumes nothing.
-use denote.Ref.{now}
-use mathlib.Core.List.{List, _++_}
-use mathlib.Core.Path.{sym, ap, _∙_, subst}
-use Prim.Native.Nat.{ℕ, _≤_, _<_}
-use lib.Dec.{T, ltb}
-use lib.ListN.{length, drop, take}
-use lib.Seq.{length-take-le}
+use Rattle.base_lists.specs.Kit.{now, _∙_, sym, ap, subst, List, _++_, ℕ, _≤_, _<_, T, ltb, length, take, drop, length-take-le, needs}
 use Rattle.base_lists.specs.List.{all}
 use Rattle.graph.specs.Search.{distances}
 use Rattle.file_format.proofs.Accepted.{bounded-starts, bounded-ends}
-use borrow.Author.Needs.{needs}
 use Rattle.graph_extent.proofs.ball.fill_ball.Statement.{statement}
 use Rattle.graph_extent.proofs.ball.fill_ball.Tie as tie
 

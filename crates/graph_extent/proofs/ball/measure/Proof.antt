@@ -1,12 +1,8 @@
 -- `graph_extent::ball::measure` meets its contract: the search over the tables just made finds the distances. Assumes nothing.
-use denote.Ref.{now}
-use mathlib.Core.Path.{refl, sym, _∙_}
-use lib.ListN.{length}
-use lib.Seq.{length-take-le}
+use Rattle.base_lists.specs.Kit.{now, _∙_, sym, refl, length, length-take-le, needs}
 use Rattle.graph.proofs.Ball.{within-all}
 use Rattle.graph.proofs.Measures.{net-distances}
 use Rattle.graph.proofs.Net.{net-of}
-use borrow.Author.Needs.{needs}
 use Rattle.graph_extent.proofs.ball.measure.Statement.{statement}
 use Rattle.graph_extent.proofs.ball.measure.Tie as tie
 

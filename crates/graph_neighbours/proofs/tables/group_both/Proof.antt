@@ -1,12 +1,7 @@
 -- `graph_neighbours::tables::group_both` meets its contract: one grouping serves both directions, and fills one half of each list.
 -- Assumes nothing.
-use denote.Ref.{now}
-use mathlib.Core.Path.{_≡_, sym, _∙_}
-use native.Mathlib.Omega.{arith}
-use lib.ListN.{length, length-take, length-drop, length-append}
-use lib.Seq.{length-take-le}
+use Rattle.base_lists.specs.Kit.{now, _≡_, _∙_, sym, length, length-append, length-drop, length-take, length-take-le, arith, needs}
 use Rattle.graph_neighbours.proofs.Grouped.{grouped-both}
-use borrow.Author.Needs.{needs}
 use Rattle.graph_neighbours.proofs.tables.group_both.Statement.{statement}
 use Rattle.graph_neighbours.proofs.tables.group_both.Tie as tie
 

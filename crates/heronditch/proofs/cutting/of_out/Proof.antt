@@ -1,7 +1,7 @@
 -- `heronditch::cutting::of_out` meets its contract, case by case. Assumes nothing.
 use Rattle.session_cut.specs.Cut.{outReply}
 use Rattle.heronditch_reply.specs.Replies.{slots, numberOf, meantFile}
-use borrow.Author.Needs.{needs}
+use Rattle.base_lists.specs.Kit.{needs}
 use Rattle.heronditch.proofs.cutting.of_out.Statement.{statement}
 use Rattle.heronditch.proofs.cutting.of_out.Tie as tie
 

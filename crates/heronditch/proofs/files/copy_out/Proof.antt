@@ -1,6 +1,5 @@
 -- `heronditch::files::copy_out` meets its contract: the entries do not fit, or they are files. Assumes nothing.
-use borrow.Author.Needs.{needs}
-use borrow.Author.Tests.{lt-ltb, le-ltb}
+use Rattle.base_lists.specs.Kit.{needs, le-ltb, lt-ltb}
 use Rattle.file_format.specs.Reading.{filled}
 use Rattle.file_format.specs.Refusals.{first, shortTable}
 use Rattle.file_format.specs.Reply.{reply}

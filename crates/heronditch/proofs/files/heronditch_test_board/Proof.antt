@@ -1,7 +1,6 @@
 -- `heronditch::files::heronditch_test_board` meets its contract: the call of the crate below, its reply as numbers. Assumes nothing.
-use mathlib.Core.Path.{ap}
+use Rattle.base_lists.specs.Kit.{ap, needs}
 use Rattle.heronditch.specs.Host.{hostLoad}
-use borrow.Author.Needs.{needs}
 use Rattle.heronditch.proofs.files.heronditch_test_board.Statement.{statement}
 use Rattle.heronditch.proofs.files.heronditch_test_board.Tie as tie
 

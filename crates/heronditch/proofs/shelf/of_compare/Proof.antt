@@ -2,7 +2,7 @@
 use Rattle.call_compare.specs.Call.{compareReply}
 use Rattle.heronditch.specs.Host.{hostCompare}
 use Rattle.heronditch_reply.specs.Replies.{numberOf, meantFile}
-use borrow.Author.Needs.{needs}
+use Rattle.base_lists.specs.Kit.{needs}
 use Rattle.heronditch.proofs.shelf.of_compare.Statement.{statement}
 use Rattle.heronditch.proofs.shelf.of_compare.Tie as tie
 

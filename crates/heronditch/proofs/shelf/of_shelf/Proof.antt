@@ -1,7 +1,7 @@
 -- `heronditch::shelf::of_shelf` meets its contract, case by case. Assumes nothing.
 use Rattle.call_shelf.specs.Shelf.{shelfReply}
 use Rattle.heronditch_reply.specs.Replies.{slots, numberOf, meantFile}
-use borrow.Author.Needs.{needs}
+use Rattle.base_lists.specs.Kit.{needs}
 use Rattle.heronditch.proofs.shelf.of_shelf.Statement.{statement}
 use Rattle.heronditch.proofs.shelf.of_shelf.Tie as tie
 

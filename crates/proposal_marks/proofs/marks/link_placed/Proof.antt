@@ -1,7 +1,5 @@
 -- `proposal_marks::marks::link_placed` meets its contract. Assumes nothing.
-use mathlib.Core.Path.{refl, ap₂, _∙_}
-use borrow.Author.Tests.{eq-eqb, ne-eqb}
-use borrow.Author.Needs.{needs}
+use Rattle.base_lists.specs.Kit.{_∙_, refl, ap₂, needs, eq-eqb, ne-eqb}
 use Rattle.base_bits.specs.Bits.{intersects}
 use Rattle.graph.specs.Search.{far}
 use Rattle.place.specs.Bytes.{drivenBy}

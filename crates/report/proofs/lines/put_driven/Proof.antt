@@ -1,12 +1,6 @@
 -- `report::lines::put_driven` meets its contract. The loop's invariant: the links to the first i nodes of the list are put. The measure is how
 -- many are left. Assumes nothing.
-use mathlib.Core.List.{List}
-use mathlib.Core.Path.{_≡_, ap}
-use Prim.Native.Nat.{ℕ, _-_, _≤_, _<_}
-use native.Mathlib.Omega.{arith}
-use borrow.Author.Needs.{needs}
-use denote.Ref.{now}
-use lib.ListN.{length, getD}
+use Rattle.base_lists.specs.Kit.{now, _≡_, ap, List, ℕ, _≤_, _<_, _-_, length, getD, arith, needs}
 use Rattle.base_lists.specs.Below.{concatBelow}
 use Rattle.base_text.specs.Text.{Put}
 use Rattle.base_text.proofs.Text.{put-nothing, put-then, put-same, put-length, fits-then}

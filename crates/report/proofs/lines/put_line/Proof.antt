@@ -1,10 +1,5 @@
 -- `report::lines::put_line` meets its contract, piece by piece. Assumes nothing.
-use mathlib.Core.List.{List, _++_}
-use mathlib.Core.Path.{_≡_, sym}
-use Prim.Native.Nat.{ℕ}
-use native.Mathlib.Omega.{arith}
-use borrow.Author.Needs.{needs}
-use denote.Ref.{now}
+use Rattle.base_lists.specs.Kit.{now, _≡_, sym, List, _++_, ℕ, arith, needs}
 use Rattle.base_text.specs.Text.{bytes, Fits, decimal}
 use Rattle.base_text.proofs.Text.{put-then, put-same, fits-same, fits-less, fits-first, fits-then}
 use Rattle.table.specs.Prepared.{tables}

@@ -1,11 +1,6 @@
 -- `report::lines::put_links` meets its contract. The loop's invariant: the links that start below v are put. The measure is how many nodes are
 -- left. Assumes nothing.
-use mathlib.Core.List.{List}
-use mathlib.Core.Path.{_≡_, ap}
-use Prim.Native.Nat.{ℕ, _-_, _≤_}
-use native.Mathlib.Omega.{arith}
-use denote.Ref.{now}
-use lib.ListN.{length}
+use Rattle.base_lists.specs.Kit.{now, _≡_, ap, List, ℕ, _≤_, _-_, length, arith}
 use Rattle.base_lists.specs.Below.{concatBelow}
 use Rattle.base_text.specs.Text.{Put}
 use Rattle.base_text.proofs.Text.{put-nothing, put-then, put-same, put-length, fits-then}
