@@ -9,7 +9,7 @@ use Rattle.table_row.specs.Problem.{Problem}
 use Rattle.table_row.specs.Row.{pairs, same, startOf, strikeOf, rowFrom, rowOf, startedOf, lastOf, keptOf, roundsOf}
 use Rattle.table_row.specs.Reading.{TableOf}
 use Rattle.table_row.proofs.Sets.{fits-word, pairs-progress, pairs-ones}
-use Rattle.table_row.proofs.Row.{start-fits, strike-fits, strike-inside, from-fits}
+use Rattle.table_row.proofs.Row.{start-fits, strike-fits, strike-inside, from-fits, row-fits}
 use Rattle.table_row.proofs.Falling.{FirstRest, falls-count, first-rest, count-first}
 
 -- ---- the test whether two tables are the same
@@ -127,6 +127,11 @@ module _ {D : Type 0} (p : Problem D) (most : p .parts ≤ 32) where
   -- "So started = kept + struck, and rounds are at most struck."
   pub kept-started : keptOf p ≤ startedOf p
   kept-started = omega (arith, kept-rounds)
+
+  -- "kept is the number of one bits in the whole table"
+  pub kept-ones : keptOf p ≡ sum (map ones (lastOf p))
+  unfolding keptOf lastOf
+  kept-ones = pairs-ones (lastOf p) (fits-word most (row-fits p (startedOf p)))
 
   -- "started, the pairs of R0": so counted too
   pub started-ones : startedOf p ≡ sum (map ones (startOf p))
