@@ -14,12 +14,12 @@ use Rattle.loader.specs.declared.words.Word.the-variants.{Number, NoNumb
 use Rattle.loader.specs.declared.Asked.{Asked}
 use Rattle.loader.specs.declared.Printed.{Printed}
 use Rattle.loader.specs.declared.Printed.the-variants.{Whole, Failed, OutOfRange, NoNumbers}
-use Rattle.loader.specs.Printing.{Tried, Told, Given, Ran}
+use Rattle.loader.specs.Printing.{Tried, Handed, Given, Ran}
 
 -- the front of a buffer that is the file of a load whose numbers are in their ranges, where it was tried to hand it on
 pub tried-told : (seed n m k : ℕ) (out : List ℕ) (size handed : ℕ) (r : Printed) → InRange n m k → take size out ≡ loadBytes seed n m k → length (take size out) ≡ size
-    → Tried (length (take size out)) handed r → Told seed n m k out handed r
-unfolding Tried Told
+    → Tried (length (take size out)) handed r → Handed seed n m k out handed r
+unfolding Tried Handed
 tried-told seed n m k out size handed Whole r e s t = (r, t ∙ ap length e, ap (λ (i : ℕ). take i out) (t ∙ s) ∙ e)
 tried-told seed n m k out size handed Failed r e s t = (r, t)
 tried-told seed n m k out size handed OutOfRange r e s t = absurd t
@@ -47,7 +47,7 @@ module _ (words : Asked) (out : List ℕ) (handed : ℕ) where
         unfolding Ran Given
         none-fourth f z = rw (a, b, d, f) (refl, z)
 
-        pub all-four : {k : ℕ} → words .k ≡ Number k → (r : Printed) → Told seed n m k out handed r → Ran words out handed r
+        pub all-four : {k : ℕ} → words .k ≡ Number k → (r : Printed) → Handed seed n m k out handed r → Ran words out handed r
         unfolding Ran Given
         all-four f r t = rw (a, b, d, f) t
 

@@ -2,7 +2,7 @@
 use Rattle.base_lists.specs.Kit.{_≡_, _∙_, sym, ap, length, take, needs}
 use Rattle.file_format.proofs.Reading.{front-room}
 use Rattle.call_load.specs.Call.{loadBytes}
-use Rattle.loader.specs.Printing.{Told}
+use Rattle.loader.specs.Printing.{Handed}
 use Rattle.loader.proofs.Printing.{tried-told, made-range, made-front, made-size, refused-outside}
 use Rattle.loader.proofs.print_load.Statement.{statement}
 use Rattle.loader.proofs.print_load.Tie as tie
@@ -23,7 +23,7 @@ abbrev start : tie.After-load → tie.Start
 start c = c .before .before .before
 
 returns : tie.Need-returns
-unfolding Told
+unfolding Handed
 returns c =
     let call = c .before .before .before .before in
     let s = start call in
