@@ -1,0 +1,94 @@
+"""Whether what a page names is in the tree: definitions, theorems, functions, must-fail edits, files, and paragraphs of
+docs/SPECIFICATION.md. tools/spec and tools/promises ask it."""
+import re
+from collections.abc import Iterator
+from functools import cache
+from pathlib import Path
+
+ROOT = Path(__file__).resolve().parent.parent
+SPECIFICATION = ROOT / "docs/SPECIFICATION.md"
+# crate/specs/File `name`, `name`; the same with proofs
+NAMED = re.compile(r"(?<![\w/])(?:crates/)?(\w+)/(specs|proofs)/([A-Z]\w*)((?:,? `[^` ]+`)+)")
+# crate/must-fail `label`, `label`
+EDITS = re.compile(r"(?<![\w/])(?:crates/)?(\w+)/must-fail((?:,? `\w+`)+)")
+FUNCTIONS = re.compile(r"`(\w+(?:::\w+)+)`")
+FILES = re.compile(r"(?<![\w/.-])((?:docs|samples|include|library|tools|tests|second|examples|crates)/[\w./-]*\w)")
+
+
+@cache
+def content(path: Path) -> str:
+    """The text of a file, and nothing where there is none."""
+    return path.read_text() if path.is_file() else ""
+
+
+def flat(text: str) -> str:
+    """The text with each paragraph on one line, so that a name may stand at a line's end."""
+    return re.sub(r"\n(?=\S)", " ", text)
+
+
+def defined(crate: str, folder: str, file: str, name: str) -> bool:
+    """Whether a definition or theorem is in its file."""
+    indent = r"\s*" if folder == "proofs" else ""
+    head = rf"^{indent}(unfoldable |abbrev )?pub (record |data )?{re.escape(name)}(\s|$)"
+    return re.search(head, content(ROOT / "crates" / crate / folder / f"{file}.antt"), re.M) is not None
+
+
+def has_function(path: str) -> bool:
+    """Whether a function, as crate::function, crate::module::function or crate::Type::function, is in its crate."""
+    crate, *within, name = path.split("::")
+    sources = {file: content(file) for file in (ROOT / "crates" / crate / "src").glob("**/*.rt")}
+    if within:
+        home = re.compile(rf"^impl {within[-1]}\b", re.M)
+        sources = {file: text for file, text in sources.items() if file.stem == within[-1] or home.search(text)}
+    return any(re.search(rf"\bfn {name}\b", text) for text in sources.values())
+
+
+@cache
+def all_edits() -> dict[tuple[str, str], str]:
+    """Every must-fail edit, by crate and label, with the first line of its comment."""
+    found = {}
+    for path in sorted(ROOT.glob("crates/*/must-fail/*.edit")):
+        first = content(path).split("\n", 1)[0]
+        found[path.parts[-3], path.stem] = first.lstrip("# ") if first.startswith("#") else ""
+    return found
+
+
+def unknown_names(text: str) -> Iterator[str]:
+    """The definitions and theorems that a text names and that are not there."""
+    for crate, folder, file, names in NAMED.findall(flat(text)):
+        for name in re.findall(r"`([^`]+)`", names):
+            if not defined(crate, folder, file, name):
+                yield f"crates/{crate}/{folder}/{file}.antt has no `{name}`"
+
+
+def unknown_functions(text: str) -> Iterator[str]:
+    """The functions that a text names and that are not there."""
+    for path in FUNCTIONS.findall(flat(text)):
+        if not has_function(path):
+            yield f"crates/{path.split('::')[0]}/src has no function `{path}`"
+
+
+def unknown_edits(text: str) -> Iterator[str]:
+    """The must-fail edits that a text names and that are not there."""
+    for crate, labels in EDITS.findall(flat(text)):
+        for label in re.findall(r"`(\w+)`", labels):
+            if (crate, label) not in all_edits():
+                yield f"crates/{crate}/must-fail has no `{label}`"
+
+
+def unknown_files(text: str) -> Iterator[str]:
+    """The files and folders of the repository that a page names and that are not there; CRATE stands for any crate."""
+    for path in sorted(set(FILES.findall(text))):
+        if "CRATE" not in path and not (ROOT / path).exists():
+            yield f"there is no {path}"
+
+
+def paragraphs(text: str) -> list[tuple[str, str]]:
+    """The numbered paragraphs of the specification, each with all that stands up to the next number or heading."""
+    parts = re.split(r"^(?:(\d+\.\d+) |## )", text, flags=re.M)
+    return [(number, body) for number, body in zip(parts[1::2], parts[2::2]) if number]
+
+
+def numbers() -> list[str]:
+    """The numbers of the specification's paragraphs."""
+    return [number for number, _ in paragraphs(content(SPECIFICATION))]
