@@ -34,9 +34,9 @@ Found = dict[Name, int]  # definitions with their number of lines
 
 
 def names(text: str) -> list[Name]:
-    """`crate/specs/File: name, name` as names."""
-    crate, _, file = text.split(":")[0].split("/")
-    return [Name(crate, file, name) for name in text.split(": ", 1)[1].split(", ")]
+    """`crate/specs/File: name, name` as names; none where the text is not of this form."""
+    form = re.fullmatch(r"(\w+)/specs/(\w+): (.+)", text)
+    return [Name(form[1], form[2], name) for name in form[3].split(", ")] if form else []
 
 
 def parsed(text: str) -> Source:
@@ -162,8 +162,10 @@ def faults() -> Iterator[str]:
     """The names of docs/promises/reading.txt that are not there."""
     everywhere = {name for path in ROOT.glob("crates/*/specs/*.antt") for name in defined_in(path.parts[-3], path.stem)}
     for block in plan():
-        for key in ("statement", "own"):
-            for name in listed(block, key):
+        for text in block.get("statement", []) + block.get("own", []):
+            if not names(text):
+                yield f"page {block['page'][0]}: '{text}' is not of the form 'CRATE/specs/FILE: NAME'"
+            for name in names(text):
                 if origin(name) is None:
                     yield f"page {block['page'][0]}: crates/{name.crate}/specs/{name.file}.antt has no `{name.name}`"
         for text in block.get("name", []):

@@ -133,12 +133,17 @@ def wrapped(text: str, first: str = "", later: str = "") -> str:
     return filled.replace("\0", " ")
 
 
-def shown(key: str, text: str) -> str:
-    """A field's value as it is printed: names in code marks."""
-    if key in ("paragraph", "note") or text.startswith("every "):
-        return text
-    home, names = reference(key, text)
-    return (home + " " if home else "") + ", ".join(f"`{name}`{remark}" for name, remark in names)
+def shown(key: str, texts: list[str]) -> str:
+    """A field's values as they are printed: names in code marks, those of one file (or crate) together."""
+    if key == "paragraph":
+        return ", ".join(texts)
+    if key == "note":
+        return "; ".join(texts)
+    together: dict[str, list[str]] = {}
+    for home, names in (reference(key, text) for text in texts):
+        marked = [name if name.startswith("every ") else f"`{name}`" for name, _ in names]
+        together.setdefault(home, []).extend(name + remark for name, (_, remark) in zip(marked, names))
+    return "; ".join(f"{home} {', '.join(names)}".strip() for home, names in together.items())
 
 
 def printed(block: Block) -> str:
@@ -146,8 +151,7 @@ def printed(block: Block) -> str:
     lines = [wrapped(f"**{block.label()}.** {' '.join(block.fields.get('says', []))}"), ""]
     for key, word in PRINTED.items():
         if key in block.fields:
-            mark = ", " if key == "paragraph" else "; "
-            lines.append(wrapped(mark.join(shown(key, text) for text in block.fields[key]), f"- {word}: ", "  "))
+            lines.append(wrapped(shown(key, block.fields[key]), f"- {word}: ", "  "))
     return "\n".join(lines).rstrip()
 
 

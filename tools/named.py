@@ -7,10 +7,12 @@ from pathlib import Path
 
 ROOT = Path(__file__).resolve().parent.parent
 SPECIFICATION = ROOT / "docs/SPECIFICATION.md"
-# crate/specs/File `name`, `name`; the same with proofs
-NAMED = re.compile(r"(?<![\w/])(?:crates/)?(\w+)/(specs|proofs)/([A-Z]\w*)((?:,? `[^` ]+`)+)")
-# crate/must-fail `label`, `label`
-EDITS = re.compile(r"(?<![\w/])(?:crates/)?(\w+)/must-fail((?:,? `\w+`)+)")
+# crate/specs/File `name`, `name` (remark) and `name`; the same with proofs
+NAMED = re.compile(
+    r"(?<![\w/])(?:crates/)?(\w+)/(specs|proofs)/([A-Z]\w*)((?:(?:,|,? and)? `[^` ]+`(?: \([^()`]*\))?)+)"
+)
+# crate/must-fail `label`, `label` (remark) and `label`
+EDITS = re.compile(r"(?<![\w/])(?:crates/)?(\w+)/must-fail((?:(?:,|,? and)? `\w+`(?: \([^()`]*\))?)+)")
 FUNCTIONS = re.compile(r"`(\w+(?:::\w+)+)`")
 FILES = re.compile(r"(?<![\w/.-])((?:docs|samples|include|library|tools|tests|second|examples|crates)/[\w./-]*\w)")
 
@@ -22,8 +24,8 @@ def content(path: Path) -> str:
 
 
 def flat(text: str) -> str:
-    """The text with each paragraph on one line, so that a name may stand at a line's end."""
-    return re.sub(r"\n(?=\S)", " ", text)
+    """The text with each paragraph and list item on one line, so that a name may stand at a line's end."""
+    return re.sub(r"\n *(?=\S)", " ", text)
 
 
 def defined(crate: str, folder: str, file: str, name: str) -> bool:
