@@ -13,6 +13,7 @@ NAMED = re.compile(
 )
 # crate/must-fail `label`, `label` (remark) and `label`
 EDITS = re.compile(r"(?<![\w/])(?:crates/)?(\w+)/must-fail((?:(?:,|,? and)? `\w+`(?: \([^()`]*\))?)+)")
+WORDS = {"requires", "ensures", "u16"}  # of the language
 FUNCTIONS = re.compile(r"`(\w+(?:::\w+)+)`")
 FILES = re.compile(r"(?<![\w/.-])((?:docs|samples|include|library|tools|tests|second|examples|crates)/[\w./-]*\w)")
 
@@ -76,6 +77,25 @@ def unknown_edits(text: str) -> Iterator[str]:
         for label in re.findall(r"`(\w+)`", labels):
             if (crate, label) not in all_edits():
                 yield f"crates/{crate}/must-fail has no `{label}`"
+
+
+@cache
+def all_names() -> set[str]:
+    """What a bare word in code marks may be: anything that a crate defines, a crate, an edit, or a function for C."""
+    found = {path.name for path in (ROOT / "crates").iterdir()} | {label for _, label in all_edits()}
+    for path in ROOT.glob("crates/*/*/**/*.antt"):
+        found |= set(re.findall(r"^\s*(?:unfoldable |abbrev )?pub (?:record |data )?([^\s:]+)", content(path), re.M))
+    for path in ROOT.glob("crates/*/src/**/*.rt"):
+        found |= set(re.findall(r"\b(?:fn|struct|enum|const) (\w+)", content(path)))
+        found |= set(re.findall(r"^ +([A-Z]\w*)(?:\(.*\))?,$", content(path), re.M))  # an enum's cases
+    return found | set(re.findall(r"\bheronditch_\w+", content(ROOT / "include/heronditch.h"))) | WORDS
+
+
+def unknown_words(text: str) -> Iterator[str]:
+    """The bare words in code marks that nothing is called by."""
+    for word in re.findall(r"`([A-Za-z][\w-]*)`", text):
+        if word not in all_names():
+            yield f"nothing in the tree is called `{word}`"
 
 
 def unknown_files(text: str) -> Iterator[str]:
