@@ -165,3 +165,13 @@ def filled(text: str) -> str:
         indent = re.match(r" *(- )?", part).group()
         made.append(wrapped(" ".join(part[len(indent) :].split()), indent, " " * len(indent)))
     return "\n".join(made)
+
+
+def laid_out(page: str) -> str:
+    """A page as it should be written: the same blocks, in lines of at most WIDTH characters."""
+    parts = []
+    for block in blocks():
+        if block.page == page:
+            lines = [wrapped(f"{key}: {text}", "", "    ") for key, texts in block.fields.items() for text in texts]
+            parts.append("\n".join(lines) if block.fields else filled(block.text))
+    return "\n\n".join(parts) + "\n"
