@@ -35,9 +35,8 @@ def all_exported() -> list[Exported]:
     """The exported functions, by file and in the order of the source."""
     made = []
     for path in sorted(ROOT.glob("crates/*/src/**/*.rt")):
-        homes = {
-            name: f"{crate}/specs/{file}" for crate, file, names in USED.findall(content(path)) for name in names.split(", ")
-        }
+        uses = USED.findall(content(path))
+        homes = {name: f"{crate}/specs/{file}" for crate, file, names in uses for name in names.split(", ")}
         for part in functions(content(path)):
             if start := re.match(r' *pub extern "C" fn (\w+)', part):
                 head = re.split(r"^\{", part, maxsplit=1, flags=re.M)[0]
