@@ -3,9 +3,8 @@ import re
 from functools import cache
 from typing import NamedTuple
 
-from named import ROOT, content
+from named import ROOT, content, functions
 
-FUNCTION = re.compile(r"^(?= *(?:pub )?(?:const )?(?:extern \"C\" )?fn \w)", re.M)
 USED = re.compile(r"^ghost use Rattle·(\w+)(?:·specs)?\.specs\.(\w+)\.\{(.*)\};$", re.M)
 
 
@@ -23,11 +22,6 @@ class Exported(NamedTuple):
     def promises(self) -> bool:
         """Whether it has an `ensures`."""
         return re.search(r"^\s*ensures \{", self.head, re.M) is not None
-
-
-def functions(text: str) -> list[str]:
-    """The functions of a source file, each with all that stands up to the next."""
-    return FUNCTION.split(text)[1:]
 
 
 @cache

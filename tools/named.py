@@ -15,6 +15,7 @@ NAMED = re.compile(
 EDITS = re.compile(r"(?<![\w/])(?:crates/)?(\w+)/must-fail((?:(?:,|,? and)? `\w+`(?: \([^()`]*\))?)+)")
 WORDS = {"requires", "ensures", "u16"}  # of the language
 FUNCTIONS = re.compile(r"`(\w+(?:::\w+)+)`")
+FUNCTION = re.compile(r"^(?= *(?:pub )?(?:const )?(?:extern \"C\" )?fn \w)", re.M)
 FILES = re.compile(r"(?<![\w/.-])((?:docs|samples|include|library|tools|tests|second|examples|crates)/[\w./-]*\w)")
 
 
@@ -36,14 +37,24 @@ def defined(crate: str, folder: str, file: str, name: str) -> bool:
     return re.search(head, content(ROOT / "crates" / crate / folder / f"{file}.antt"), re.M) is not None
 
 
-def has_function(path: str) -> bool:
-    """Whether a function, as crate::function, crate::module::function or crate::Type::function, is in its crate."""
+def functions(text: str) -> list[str]:
+    """The functions of a source file, each with all that stands up to the next."""
+    return FUNCTION.split(text)[1:]
+
+
+def bodies(path: str) -> list[str]:
+    """The functions that crate::function, crate::module::function or crate::Type::function names: one, or none."""
     crate, *within, name = path.split("::")
     sources = {file: content(file) for file in (ROOT / "crates" / crate / "src").glob("**/*.rt")}
     if within:
         home = re.compile(rf"^impl {within[-1]}\b", re.M)
         sources = {file: text for file, text in sources.items() if file.stem == within[-1] or home.search(text)}
-    return any(re.search(rf"\bfn {name}\b", text) for text in sources.values())
+    return [part for text in sources.values() for part in functions(text) if re.match(rf"[^(]*\bfn {name}\b", part)]
+
+
+def has_contract(body: str) -> bool:
+    """Whether a function has an `ensures` or a `requires`."""
+    return re.search(r"^\s*(ensures|requires) \{", body, re.M) is not None
 
 
 @cache
@@ -67,7 +78,7 @@ def unknown_names(text: str) -> Iterator[str]:
 def unknown_functions(text: str) -> Iterator[str]:
     """The functions that a text names and that are not there."""
     for path in FUNCTIONS.findall(flat(text)):
-        if not has_function(path):
+        if not bodies(path):
             yield f"crates/{path.split('::')[0]}/src has no function `{path}`"
 
 

@@ -102,7 +102,7 @@ def figures() -> dict[str, str]:
     """The figures that a page may ask for."""
     labels = [block.label() for block in entries()]
     sources = [named.content(path) for path in ROOT.glob("crates/*/src/**/*.rt")]
-    functions = [part for text in sources for part in exported.functions(text)]
+    functions = [part for text in sources for part in named.functions(text)]
     specs = [definitions.source(path.parts[-3], path.stem).lines for path in ROOT.glob("crates/*/specs/*.antt")]
     demands = definitions.pages()[0][1]
     counted = {
