@@ -1,7 +1,7 @@
 -- The centre's component in the whole board's match graph. Where walks of r matching links lead to all of it, or the board's links
 -- to as many nodes with its label as it has, the ball holds it, and the place is the component with its matching links; else the place comes from those nodes
 -- of the ball that have its label. Assumes nothing.
-use Rattle.base_lists.specs.Kit.{_≡_, _∙_, sym, ap, refl, subst, ⊎-elim, inl, inr, Bool, false, true, cond, List, _++_, ℕ, _<_, suc, _^_, le-antisymm, T, eqb, eqb→eq, length, getD, take-length, arith, eq-eqb}
+use Rattle.base_lists.specs.Kit.{_≡_, _∙_, sym, ap, refl, subst, ⊎-elim, inl, inr, Bool, false, true, cond, List, _++_, ℕ, _≤_, _<_, suc, _^_, le-antisymm, T, eqb, eqb→eq, length, getD, take-length, arith, eq-eqb}
 use Rattle.base_lists.specs.List.{Occurs, Below}
 use Rattle.base_lists.proofs.Tests.{true-T, any-at, at-any}
 use Rattle.base_lists.proofs.Tables.{getD-tabulate}
@@ -144,7 +144,8 @@ module _ {pattern board : Circuit} {t : Tables} {table : List ℕ} {r : ℕ} (s 
       list : NodeList n nodes
       list =
           rw (g .passed)
-          (having-list test (first-list all (g .until .rest) (rw (first, take-length (reachedAt d)) at (rw first (ball-list (source-tabled s) c d node (searched d))))))
+          (having-list test
+          (first-list all (g .until .rest) (subst (NodeList n) (take-length (reachedAt d) ∙ sym first) (ball-list (source-tabled s) c d node (searched d)))))
 
       passed : (v : ℕ) → Occurs nodes v → Occurs all v × T (test v)
       passed v o = having-from test all v (rw (g .passed) at o)
@@ -163,13 +164,19 @@ module _ {pattern board : Circuit} {t : Tables} {table : List ℕ} {r : ℕ} (s 
       only : (w : ℕ) → Occurs nodes w → Reached (l .comp) w
       only w o = l .only w (low w o) (eqb→eq _ _ (passed w o .1))
 
+      in-table : NodeList (length table) nodes
+      in-table = rw (source-long s) list
+
+      most : length nodes ≤ size
+      most = some-few (l .component) in-table only
+
       -- They are not as many as the component has: all of the ball of r is reached,
       module _ (f : length nodes ≡ size → ⊥) where
         full : all ≡ reachedAt r
         full =
             rw (source-long s) at
-                (ap (λ (s : State). s .reached)
-                (g .until .all (λ h. f (le-antisymm (some-few (l .component) (rw (source-long s) list) only) (rw (g .passed) h)))))
+            (ap (λ (s : State). s .reached)
+            (g .until .all (λ h. f (le-antisymm most (rw (g .passed) h)))))
 
         keeps : (v : ℕ) → Taken board (ballOf board c r) v → Reached (l .comp) v → Taken board (marksOf n nodes) v
         keeps v m q =
@@ -189,7 +196,7 @@ module _ {pattern board : Circuit} {t : Tables} {table : List ℕ} {r : ℕ} (s 
       module _ (count : length nodes ≡ size) where
         -- they are the component,
         pub gathered-lists : Lists nodes (l .comp)
-        gathered-lists = some-lists (l .component) (rw (source-long s) list) only count
+        gathered-lists = some-lists (l .component) in-table only count
 
         -- and the ball holds it
         pub gathered-held : (comp : List ℕ) → Spread (length table) c (matched t table) comp → (v : ℕ) → v < n → Reached comp v → T (inside (ballOf board c r) v)

@@ -4,7 +4,7 @@ use Rattle.base_lists.specs.Kit.{now, _≡_, _∙_, sym, ap, refl, List, ℕ, _
 use Rattle.graph.specs.Bfs.{State, start, adjacent, stateOf, Searching}
 use Rattle.graph.proofs.BfsSteps.{tail-le, reached-length}
 use Rattle.graph.proofs.Net.{net-few}
-use Rattle.graph_search.specs.Until.{Advanced, Until}
+use Rattle.graph_search.specs.Until.{Advanced}
 use Rattle.graph_search.proofs.Onward.{centre, centre-standing, first-le, advanced-none, advanced-more, advanced-all, advanced-until}
 use Rattle.place_components.specs.Components.{having, sameLabel}
 use Rattle.place_components.proofs.search_until.Statement.{statement}
