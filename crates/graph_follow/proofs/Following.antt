@@ -55,31 +55,31 @@ module _ (set : ℕ) (sets : List ℕ) where
 
   -- ---- a list of looks is a list of visits
 
-  look-scan : (s : State) (v : ℕ) (vs : List ℕ) → scan 0 s (meeting set sets (v ∷ vs)) ≡ scan 0 (look set sets s v) (meeting set sets vs)
+  look-scan : (d : ℕ) (s : State) (v : ℕ) (vs : List ℕ) → scan d s (meeting set sets (v ∷ vs)) ≡ scan d (look d set sets s v) (meeting set sets vs)
   unfolding meeting look scan
-  look-scan s v vs = go (intersects set (getD sets v 0))
+  look-scan d s v vs = go (intersects set (getD sets v 0))
     where
-      go : (b : Bool) → scan 0 s (cond b (v ∷ meeting set sets vs) (meeting set sets vs)) ≡ scan 0 (cond b (visit 0 s v) s) (meeting set sets vs)
+      go : (b : Bool) → scan d s (cond b (v ∷ meeting set sets vs) (meeting set sets vs)) ≡ scan d (cond b (visit d s v) s) (meeting set sets vs)
       go true = refl
       go false = refl
 
   -- what is left of the list, one look further
   pub follow-next :
-      (s s′ : State) (vs : List ℕ) (i : ℕ) → i < length vs → s′ ≡ look set sets s (getD vs i 0) →
-      scan 0 s′ (meeting set sets (drop (i + 1) vs)) ≡ scan 0 s (meeting set sets (drop i vs))
-  follow-next s s′ vs i h e = rw (e, add-one, drop-cons vs i 0) (sym (look-scan s (getD vs i 0) (drop (suc i) vs)))
+      (d : ℕ) (s s′ : State) (vs : List ℕ) (i : ℕ) → i < length vs → s′ ≡ look d set sets s (getD vs i 0) →
+      scan d s′ (meeting set sets (drop (i + 1) vs)) ≡ scan d s (meeting set sets (drop i vs))
+  follow-next d s s′ vs i h e = rw (e, add-one, drop-cons vs i 0) (sym (look-scan d s (getD vs i 0) (drop (suc i) vs)))
 
-  pub follow-end : (s : State) (vs : List ℕ) (i : ℕ) → length vs ≤ i → scan 0 s (meeting set sets (drop i vs)) ≡ s
+  pub follow-end : (d : ℕ) (s : State) (vs : List ℕ) (i : ℕ) → length vs ≤ i → scan d s (meeting set sets (drop i vs)) ≡ s
   unfolding scan meeting
-  follow-end s vs i h = rw (drop-of-length-le vs h)
+  follow-end d s vs i h = rw (drop-of-length-le vs h)
 
-  pub look-taken : (s : State) (v : ℕ) → T (intersects set (getD sets v 0)) → look set sets s v ≡ visit 0 s v
+  pub look-taken : (d : ℕ) (s : State) (v : ℕ) → T (intersects set (getD sets v 0)) → look d set sets s v ≡ visit d s v
   unfolding look
-  look-taken s v t = rw (T-true {b = intersects set (getD sets v 0)} t)
+  look-taken d s v t = rw (T-true {b = intersects set (getD sets v 0)} t)
 
-  pub look-left : (s : State) (v : ℕ) → intersects set (getD sets v 0) ≡ false → look set sets s v ≡ s
+  pub look-left : (d : ℕ) (s : State) (v : ℕ) → intersects set (getD sets v 0) ≡ false → look d set sets s v ≡ s
   unfolding look
-  look-left s v e = rw e
+  look-left d s v e = rw e
 
 -- ---- the nodes beside a node
 

@@ -9,9 +9,9 @@ unfoldable pub meeting : ℕ → List ℕ → List ℕ → List ℕ
 meeting set sets [] = []
 meeting set sets (v ∷ vs) = cond (intersects set (getD sets v 0)) (v ∷ meeting set sets vs) (meeting set sets vs)
 
--- a look at one node of such a list: it is visited where its set has a part of `set`
-unfoldable pub look : ℕ → List ℕ → State → ℕ → State
-look set sets s v = cond (intersects set (getD sets v 0)) (visit 0 s v) s
+-- a look at one node of such a list: it is visited, at distance d, where its set has a part of `set`
+unfoldable pub look : ℕ → ℕ → List ℕ → State → ℕ → State
+look d set sets s v = cond (intersects set (getD sets v 0)) (visit d s v) s
 
 -- every part: a set that is not empty meets it
 abbrev pub anyPart : ℕ

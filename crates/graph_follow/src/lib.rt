@@ -8,21 +8,31 @@ ghost use lib.ListN.{length};
 ghost use Rattle.base_lists.specs.List.{Below};
 ghost use Rattle.graph.specs.Bfs.{scan, level, stateOf, Searching, Searched};
 ghost use Rattle.graph.specs.Net.{Net};
+ghost use Rattle.graph.specs.Search.{far};
 ghost use Rattle.graph_follow.specs.Follow.{meeting, look, beside};
 
 // Every number: a set meets it unless it is empty.
 const ANY: u32 = 4294967295;
 
-// Looks at node v along a link: it is reached now where its set has a part of `set`.
-fn look(v: u16, set: u32, sets: &[u32], dist: &mut [u16], queue: &mut [u16], tail: usize) -> usize
+// Looks at node v along a link: it is reached now, at distance d, where its set has a part of `set`.
+fn look(
+    v: u16,
+    set: u32,
+    sets: &[u32],
+    d: u16,
+    dist: &mut [u16],
+    queue: &mut [u16],
+    tail: usize,
+) -> usize
     requires { ⌜ Searching (now dist) (now queue) tail ⌝ }
     requires { ⌜ v < length (now dist) ⌝ }
     requires { ⌜ length (now sets) ≡ length (now dist) ⌝ }
-    ensures { λ r. ⌜ Searched (now (dist .exit)) (now (queue .exit)) r (look set (now (sets .entry)) (stateOf (now (dist .entry)) (now (queue .entry)) tail) v) ⌝ }
+    requires { ⌜ d < far ⌝ }
+    ensures { λ r. ⌜ Searched (now (dist .exit)) (now (queue .exit)) r (look d set (now (sets .entry)) (stateOf (now (dist .entry)) (now (queue .entry)) tail) v) ⌝ }
 {
     let i = v as usize;
     if base_bits::meets(set, sets[i]) {
-        return visit(v, 0, dist, queue, tail);
+        return visit(v, d, dist, queue, tail);
     }
     tail
 }
@@ -32,6 +42,7 @@ pub fn follow(
     part: &[u16],
     set: u32,
     sets: &[u32],
+    d: u16,
     dist: &mut [u16],
     queue: &mut [u16],
     from: usize,
@@ -39,12 +50,13 @@ pub fn follow(
     requires { ⌜ Searching (now dist) (now queue) from ⌝ }
     requires { ⌜ Below (length (now dist)) (now part) ⌝ }
     requires { ⌜ length (now sets) ≡ length (now dist) ⌝ }
-    ensures { λ r. ⌜ Searched (now (dist .exit)) (now (queue .exit)) r (scan 0 (stateOf (now (dist .entry)) (now (queue .entry)) from) (meeting set (now (sets .entry)) (now (part .entry)))) ⌝ }
+    requires { ⌜ d < far ⌝ }
+    ensures { λ r. ⌜ Searched (now (dist .exit)) (now (queue .exit)) r (scan d (stateOf (now (dist .entry)) (now (queue .entry)) from) (meeting set (now (sets .entry)) (now (part .entry)))) ⌝ }
 {
     let mut tail = from;
     let mut i = 0;
     while i < part.len() {
-        tail = look(part[i], set, sets, dist, queue, tail);
+        tail = look(part[i], set, sets, d, dist, queue, tail);
         i += 1;
     }
     tail
@@ -70,6 +82,7 @@ fn wake_beside(
         neighbours_in(Direction::Forward, offsets, links, v),
         ANY,
         sets,
+        0,
         marks,
         todo,
         from,
@@ -78,6 +91,7 @@ fn wake_beside(
         neighbours_in(Direction::Backward, offsets, links, v),
         ANY,
         sets,
+        0,
         marks,
         todo,
         tail,

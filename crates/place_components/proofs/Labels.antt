@@ -1,12 +1,15 @@
 -- Naming the components, node by node: where a node has no label yet, neither has any node of its component, and all of them get its number. Two
 -- components are one or apart. Assumes nothing.
-use Rattle.base_lists.specs.Kit.{_≡_, _∙_, sym, ap, refl, subst, ⊎-elim, _⊎_, inl, inr, Bool, false, true, cond, _&&_, not, List, ℕ, _≤_, _<_, _+_, not-suc-le-zero, eq-or-lt-of-le, T, eqb, eqb→eq, length, getD, set, length-set, replicate, length-replicate, getD-replicate, getD-set-other, getD-set-same, arith, eq-eqb, ne-eqb, eqb-true, eqb-false}
+use Rattle.base_lists.specs.Kit.{_≡_, _∙_, sym, ap, refl, subst, ⊎-elim, _⊎_, inl, inr, Bool, false, true, cond, _&&_, not, List, ℕ, _≤_, _<_, _+_, suc, not-suc-le-zero, eq-or-lt-of-le, T, eqb, eqb→eq, length, getD, set, length-set, replicate, length-replicate, getD-replicate, getD-set-other, getD-set-same, arith, eq-eqb, ne-eqb, eqb-true, eqb-false}
 use Rattle.base_lists.specs.List.{Occurs, Below}
 use Rattle.base_lists.proofs.Tests.{true-T, any-at, at-any}
-use Rattle.graph.specs.Bfs.{Adjacency}
+use Rattle.graph.specs.Bfs.{State, bfs, Adjacency}
 use Rattle.graph.specs.Circuit.{HasLink}
 use Rattle.graph.specs.Search.{far}
+use Rattle.graph.proofs.Bfs.{bfs-ready}
 use Rattle.graph.proofs.Net.{net-of}
+use Rattle.graph_search.specs.Until.{Until}
+use Rattle.graph_search.proofs.Onward.{until-walk}
 use Rattle.table.specs.Fill.{listed, fillAt, NodeList}
 use Rattle.table.specs.Prepared.{Tables, Ready}
 use Rattle.table.proofs.Fill.{length-fill, getD-fill}
@@ -14,8 +17,9 @@ use Rattle.place.specs.Match.{matchStarts, matchEnds}
 use Rattle.place.specs.Spread.{matched, Reached, Spread, Lists}
 use Rattle.place.proofs.Find.{tabled-joins}
 use Rattle.place.proofs.Matched.{matched-adjacency}
-use Rattle.place.proofs.Spread.{spread-from}
-use Rattle.place_components.specs.Components.{MatchTable, Labelled, Labelling, Components}
+use Rattle.place.proofs.Spread.{walk-closed, bfs-lists, spread-from}
+use Rattle.place_components.specs.Components.{MatchTable, Component, Labelled, Labelling, Components}
+use Rattle.place_components.proofs.Lists.{first-list, few-within, all-within}
 
 -- ---- over the tables of a pattern and a board
 
@@ -106,6 +110,37 @@ reached-or-not dist v = go (eqb (getD dist v 0) far) refl
     go : (b : Bool) → eqb (getD dist v 0) far ≡ b → Reached dist v ⊎ (getD dist v 0 ≡ far)
     go true e = inr (eqb-true (getD dist v 0) far e)
     go false e = inl (eqb-false (getD dist v 0) far e)
+
+-- ---- nodes of a component
+
+module _ {n c size : ℕ} {adj : ℕ → List ℕ} {comp nodes : List ℕ} (k : Component n c adj size comp nodes) where
+  -- a list of some of its nodes
+  module _ {some : List ℕ} (l : NodeList n some) (only : (v : ℕ) → Occurs some v → Reached comp v) where
+    inner : (w : ℕ) → Occurs some w → Occurs nodes w
+    unfolding Below
+    inner w o = k .lists .complete w (rw (k .spread .size) (subst (λ (x : ℕ). x < n) (o .2) (l .below (o .0) (o .1)))) (only w o)
+
+    -- has no more than the component has,
+    pub some-few : length some ≤ size
+    some-few = omega (arith, few-within some nodes (l .distinct) inner, k .count)
+
+    -- and all of them where it has as many
+    pub some-lists : length some ≡ size → Lists some comp
+    some-lists e =
+        record {
+          list = rw (k .spread .size) l;
+          near = only;
+          complete = λ v m q. all-within some nodes (l .distinct) inner (omega (arith, k .count)) v (k .lists .complete v m q);
+        }
+
+  -- so a search that has reached as many has reached the component
+  pub until-lists : {Link : ℕ → ℕ → Type 0} {r : ℕ} {Enough : Type 0} {s : State} → suc n < far → c < n → Adjacency n adj Link → Until adj n c r Enough s → length (s .reached) ≡ size
+      → Lists (s .reached) comp
+  until-lists {Link} {s = s} few h a u =
+      let d = u .depth in
+      let all : NodeList n (bfs adj n c d .reached) = rw (bfs-ready n c adj Link (omega arith) h a d .size) at (bfs-lists n c adj Link few h a d .list) in
+      some-lists (first-list (s .reached) (u .rest) (rw (u .first) all))
+      (λ v o. walk-closed h a (Reached comp) (k .spread .centre) (k .spread .closed) (until-walk (omega arith) h a u v o .1 .1) refl .1)
 
 -- ---- at the start no node has a label
 

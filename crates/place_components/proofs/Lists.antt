@@ -48,7 +48,7 @@ unfolding countBelow
 count-all zero = refl
 count-all (suc n) = omega (arith, count-all n)
 
-few-within : (xs ys : List ℕ) → Distinct xs → ((v : ℕ) → Occurs xs v → Occurs ys v) → length xs ≤ length ys
+pub few-within : (xs ys : List ℕ) → Distinct xs → ((v : ℕ) → Occurs xs v → Occurs ys v) → length xs ≤ length ys
 unfolding Distinct
 few-within xs ys d inner =
     let m : ℕ = length xs in

@@ -1,13 +1,12 @@
--- The components of a match graph, each node with the label of its component: what naming them leaves, what a search along matching links has
--- covered, and what a search along all links gathers of them. An adjacency function says what is joined to a node, directions ignored.
-use Rattle.base_lists.specs.Kit.{_≡_, Bool, cond, List, [], _∷_, _++_, ℕ, _≤_, _<_, suc, _^_, T, eqb, length, getD}
-use Rattle.base_lists.specs.List.{Occurs, Below}
-use Rattle.graph.specs.Bfs.{bfs}
+-- The components of a match graph, each node with the label of its component: what naming them leaves, and what a search along all links gathers of
+-- them. An adjacency function says what is joined to a node, directions ignored.
+use Rattle.base_lists.specs.Kit.{_≡_, Bool, cond, List, [], _∷_, ℕ, _≤_, _<_, _^_, eqb, length, getD}
+use Rattle.graph.specs.Bfs.{State}
 use Rattle.graph.specs.Circuit.{Circuit}
+use Rattle.graph_search.specs.Until.{Until}
 use Rattle.table.specs.Prepared.{Tables}
 use Rattle.place.specs.Find.{Tabled}
-use Rattle.place.specs.Spread.{Reached, ClosedSet, Spread, Lists}
-use Rattle.place_components.specs.declared.Tally.{Tally}
+use Rattle.place.specs.Spread.{Reached, Spread, Lists}
 
 -- those of a list's nodes that pass a test
 unfoldable pub having : (ℕ → Bool) → List ℕ → List ℕ
@@ -53,49 +52,14 @@ pub record Components (n : ℕ) (adj : ℕ → List ℕ) (sets labels sizes : Li
   pub named : (v : ℕ) → v < n → (getD sets v 0 ≡ 0 → ⊥) → getD labels v 0 < n
   pub labelled : (v : ℕ) → v < n → (getD sets v 0 ≡ 0 → ⊥) → Labelled n adj labels sizes v
 
--- ---- so many links away
-
--- A family of sets, the first of which has c, and each of which has, with what the one before has, what is joined to that: as balls around c are.
-pub record Growing (n c : ℕ) (adj : ℕ → List ℕ) (p : ℕ → ℕ → Bool) : Type 0 where
-  pub first : T (p 0 c)
-  pub grows : (d v : ℕ) → T (p d v) → T (p (suc d) v)
-  pub next : (d v w : ℕ) → v < n → T (p d v) → Occurs (adj v) w → T (p (suc d) w)
-
--- v is at most r links away from c: every such family has it in its r-th set
-abbrev pub InSteps : ℕ → ℕ → (ℕ → List ℕ) → ℕ → ℕ → Type 0
-InSteps n c adj r v = (p : ℕ → ℕ → Bool) → Growing n c adj p → T (p r v)
-
--- A search has reached so many nodes, all of c's component and at most r links away.
-pub record Covered (n c : ℕ) (adj : ℕ → List ℕ) (r size : ℕ) (nodes dist : List ℕ) : Type 0 where
-  pub long : length dist ≡ n
-  pub lists : Lists nodes dist
-  pub count : length nodes ≡ size
-  pub least : (p : ℕ → Bool) → T (p c) → ClosedSet n adj p → (v : ℕ) → v < n → Reached dist v → T (p v)
-  pub steps : (v : ℕ) → v < n → Reached dist v → InSteps n c adj r v
-
 -- ---- as far as the centre's label
 
 -- a node has c's label
 abbrev pub sameLabel : List ℕ → ℕ → ℕ → Bool
 sameLabel labels c v = eqb (getD labels v 0) (getD labels c 0)
 
--- Nodes that a search from c among n nodes reaches as far as some distance, at most r, the first of all that it reaches; all of them, and at r, where those that
--- pass a test are not as many as wanted.
-pub record Until (adj : ℕ → List ℕ) (n c r : ℕ) (p : ℕ → Bool) (size : ℕ) (nodes : List ℕ) : Type 0 where
-  pub depth : ℕ
-  pub rest : List ℕ
-  pub within : depth ≤ r
-  pub below : Below n nodes
-  pub reached : nodes ++ rest ≡ bfs adj n c depth .reached
-  pub stop : (length (having p nodes) ≡ size → ⊥) → (depth ≡ r) × (rest ≡ [])
-
--- Counting on: either nothing was counted, where the nodes are fewer than wanted, or all of them were.
-pub record Counted (p : ℕ → Bool) (size : ℕ) (last : Tally) (nodes : List ℕ) (t : Tally) : Type 0 where
-  pub short : length nodes < size → t ≡ last
-  pub long : size ≤ length nodes → (t .seen ≡ length nodes) × (t .count ≡ length (having p nodes))
-
--- Those of them that pass the test.
+-- Those that pass a test of the nodes that a search from c up to distance r reaches, or of the first of them, where so many of those pass it.
 pub record Gathered (adj : ℕ → List ℕ) (n c r : ℕ) (p : ℕ → Bool) (size : ℕ) (nodes : List ℕ) : Type 0 where
-  pub all : List ℕ
-  pub until : Until adj n c r p size all
-  pub passed : nodes ≡ having p all
+  pub all : State
+  pub until : Until adj n c r (size ≤ length (having p (all .reached))) all
+  pub passed : nodes ≡ having p (all .reached)

@@ -1,24 +1,25 @@
-// The components of a match graph: each node gets the label of its component, once for all; and whether matching links lead from a centre to its
-// whole component in so many steps.
+// The components of a match graph: each node gets the label of its component, once for all; and those nodes of a centre's component that its ball has.
 use file_format::Board;
 use graph::UNREACHED;
+use graph_search::CENTRE;
+use graph_search::advance;
 use graph_search::begin;
 use graph_search::fill;
 use place_component::component;
-use place_component::expand;
-ghost use mathlib.Core.Bool.{true, not, _&&_, cond};
+ghost use mathlib.Core.Bool.{not, _&&_, cond};
 ghost use mathlib.Core.Path.{_≡_};
 ghost use Prim.Native.Nat.{_+_, _≤_, _<_};
-ghost use lib.Dec.{eqb, ltb};
+ghost use lib.Dec.{eqb};
 ghost use lib.ListN.{length, getD, take, replicate};
 ghost use Rattle.base_lists.specs.List.{Below};
-ghost use Rattle.graph.specs.Bfs.{adjacent};
+ghost use Rattle.graph.specs.Bfs.{adjacent, stateOf, Searching};
 ghost use Rattle.graph.specs.Net.{Net};
 ghost use Rattle.graph.specs.Search.{far};
+ghost use Rattle.graph_search.specs.Until.{Until};
 ghost use Rattle.table.specs.Fill.{fillAt};
-ghost use Rattle.table.specs.Prepared.{tables, Ready};
+ghost use Rattle.table.specs.Prepared.{tables};
 ghost use Rattle.place.specs.Spread.{matched};
-ghost use Rattle.place_components.specs.Components.{having, MatchTable, Labelling, Components, Covered, sameLabel, Until, Gathered, Counted};
+ghost use Rattle.place_components.specs.Components.{having, MatchTable, Labelling, Components, sameLabel, Gathered};
 
 // Sets the entry of each node of a list to x.
 fn label(nodes: &[u16], x: u16, labels: &mut [u16])
@@ -106,53 +107,6 @@ pub fn components(
     }
 }
 
-// Whether the search goes on: it has not reached so many nodes, and links are left to follow.
-fn goes_on(reached: usize, size: usize, d: u16, r: u16) -> bool
-    ensures { λ b. ⌜ b ≡ (not (eqb reached size) && ltb d r) ⌝ }
-{
-    if reached == size {
-        return false;
-    }
-    d < r
-}
-
-// Whether at most r matching links lead from c to each of the `size` nodes of its component. Then `dist` has an entry for each node, `UNREACHED` where
-// it is not in the component, and the component's nodes stand first in the queue. The search stops as soon as it has them all: `hi` of the queue's nodes
-// are at most d links away, and i have been looked from.
-pub fn covers(
-    masks: &[u32],
-    offsets: &[u16],
-    links: &[u16],
-    sets: &[u32],
-    c: u16,
-    r: u16,
-    size: usize,
-    dist: &mut [u16],
-    queue: &mut [u16],
-) -> bool
-    requires { ⌜ Ready (tables (now masks) (now offsets) (now links)) (now sets) ⌝ }
-    requires { ⌜ c < length (now dist) ⌝ }
-    requires { ⌜ (length (now sets) ≡ length (now dist)) × (length (now dist) ≡ length (now queue)) ⌝ }
-    ensures { λ b. ⌜ ((b ≡ true) → Covered (length (now (dist .entry))) c (matched (tables (now (masks .entry)) (now (offsets .entry)) (now (links .entry))) (now (sets .entry))) r size (take size (now (queue .exit))) (now (dist .exit))) ⌝ }
-{
-    begin(c, dist, queue);
-    let mut tail = 1;
-    let mut i = 0;
-    let mut hi = 1;
-    let mut d: u16 = 0;
-    while goes_on(tail, size, d, r) {
-        if i == hi {
-            hi = tail;
-            d += 1;
-        } else {
-            let v = queue[i] as usize;
-            tail = expand(masks, offsets, links, sets, v, dist, queue, tail);
-            i += 1;
-        }
-    }
-    tail == size
-}
-
 // One more, where the label is x.
 fn counted(label: u16, x: u16, count: usize) -> usize
     requires { ⌜ count < 65536 ⌝ }
@@ -197,29 +151,8 @@ fn count_from(labels: &[u16], x: u16, from: usize, count: usize, nodes: &[u16]) 
     found
 }
 
-// How many of the first `seen` nodes of a queue have some label.
-struct Tally {
-    seen: usize,
-    count: usize,
-}
-
-// Counts on, as soon as there are as many nodes as there would have to be with the label x.
-fn count_on(labels: &[u16], x: u16, size: usize, tally: Tally, nodes: &[u16]) -> Tally
-    requires { ⌜ (tally .seen ≤ length (now nodes)) × (length (now nodes) ≤ 65536) × Below (length (now labels)) (now nodes) ⌝ }
-    requires { ⌜ tally .count ≡ length (having (λ v. eqb (getD (now labels) v 0) x) (take (tally .seen) (now nodes))) ⌝ }
-    ensures { λ t. ⌜ Counted (λ v. eqb (getD (now (labels .entry)) v 0) x) size tally (now (nodes .entry)) t ⌝ }
-{
-    if nodes.len() < size {
-        return tally;
-    }
-    Tally {
-        seen: nodes.len(),
-        count: count_from(labels, x, tally.seen, tally.count, nodes),
-    }
-}
-
-// Searches the board's links from c as far as r links, and stops as soon as `size` nodes that have c's label are reached. Returns how many nodes are
-// reached; they stand first in the queue. `hi` of them are at most d links away, and i have been looked from.
+// Searches the board's links from c as far as distance r, and stops as soon as `size` nodes that have c's label are reached. Returns how many nodes are
+// reached; they stand first in the queue. Labels are looked at where the search has reached as many nodes more as are still wanted.
 fn search_until(
     offsets: &[u16],
     links: &[u16],
@@ -233,32 +166,25 @@ fn search_until(
     requires { ⌜ Net (length (now dist)) (now offsets) (now links) ⌝ }
     requires { ⌜ c < length (now dist) ⌝ }
     requires { ⌜ (length (now dist) ≡ length (now queue)) × (length (now labels) ≡ length (now dist)) ⌝ }
-    ensures { λ k. ⌜ (k ≤ length (now (queue .exit))) × Until (adjacent (now (offsets .entry)) (now (links .entry))) (length (now (dist .entry))) c r (sameLabel (now (labels .entry)) c) size (take k (now (queue .exit))) ⌝ }
+    requires { ⌜ size ≤ 65536 ⌝ }
+    ensures { λ k. ⌜ Searching (now (dist .exit)) (now (queue .exit)) k ⌝ }
+    ensures { λ k. ⌜ Until (adjacent (now (offsets .entry)) (now (links .entry))) (length (now (dist .entry))) c r (size ≤ length (having (sameLabel (now (labels .entry)) c) (take k (now (queue .exit))))) (stateOf (now (dist .exit)) (now (queue .exit)) k) ⌝ }
 {
     begin(c, dist, queue);
     let at = c as usize;
     let x = labels[at];
-    let mut i = 0;
-    let mut hi = 1;
-    let mut tail = 1;
-    let mut tally = Tally { seen: 1, count: 1 };
-    let mut d: u16 = 0;
-    while goes_on(tally.count, size, d, r) {
-        if i == hi {
-            if hi == tail {
-                return tail;
-            }
-            hi = tail;
-            d += 1;
-        } else {
-            let v = queue[i] as usize;
-            let next = graph_search::expand(offsets, links, v, d + 1, dist, queue, tail);
-            tally = count_on(labels, x, size, tally, &queue[..next]);
-            tail = next;
-            i += 1;
+    let mut from = CENTRE;
+    let mut count = 1;
+    while count < size {
+        let wanted = from.tail + (size - count);
+        let to = advance(offsets, links, from, r, wanted, dist, queue);
+        count = count_from(labels, x, from.tail, count, &queue[..to.tail]);
+        if to.tail < wanted {
+            return to.tail;
         }
+        from = to;
     }
-    tail
+    from.tail
 }
 
 // Leaves first in the queue those nodes with c's label that are at most r of the board's links away, or all `size` nodes that have it, which may be found
@@ -276,6 +202,7 @@ pub fn gather(
     requires { ⌜ Net (length (now dist)) (now offsets) (now links) ⌝ }
     requires { ⌜ c < length (now dist) ⌝ }
     requires { ⌜ (length (now dist) ≡ length (now queue)) × (length (now labels) ≡ length (now dist)) ⌝ }
+    requires { ⌜ size ≤ 65536 ⌝ }
     ensures { λ k. ⌜ (k ≤ length (now (queue .exit))) × Gathered (adjacent (now (offsets .entry)) (now (links .entry))) (length (now (dist .entry))) c r (sameLabel (now (labels .entry)) c) size (take k (now (queue .exit))) ⌝ }
 {
     let k = search_until(offsets, links, labels, size, c, r, dist, queue);

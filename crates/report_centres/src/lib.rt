@@ -3,7 +3,7 @@ use base_text::make_names;
 use file_format::Board;
 use place::Around;
 use place_around::find;
-use place_components::covers;
+use place_component::reach;
 use place_components::gather;
 use place_components::mark;
 use report::lines::put_end;
@@ -107,7 +107,8 @@ fn holds(
     let c = around.centre;
     let r = around.radius;
     if size <= FEW {
-        if covers(masks, offsets, links, whole, c, r, size, dist, queue) {
+        let reached = reach(masks, offsets, links, whole, c, r, size, dist, queue);
+        if reached == size {
             return Held {
                 all: true,
                 kept: size,

@@ -26,22 +26,22 @@ net : (s : tie.Start) → Net (length (now (s .args .dist))) (now (s .args .offs
 net s = rw (← s .pre .1 .1 .0) (s .pre .1 .0 .net)
 
 neighbours-in-requires : tie.Need-neighbours-in-requires
-neighbours-in-requires c κs = record { nodes = _; net = net (c .before .before .before .before .before .before .before .before .before); node = c .before .before .before .before .before .before .before .before .before .pre .1 .1 .1 }
+neighbours-in-requires c κs = record { nodes = _; net = net (c .before .before .before .before .before .before .before .before .before); node = c .before .before .before .before .before .before .before .before .before .pre .1 .1 .1 .0 }
 
 follow-requires : tie.Need-follow-requires
 follow-requires c κs =
     let s = c .before .before .before .before .before .before .before .before .before .before .before .before in
-    (s .pre .0, (rw (c .before .before .neighbours-in .ensures) (neighbours-below _ (net s) _ (s .pre .1 .1 .1)), s .pre .1 .1 .0))
+    (s .pre .0, (rw (c .before .before .neighbours-in .ensures) (neighbours-below _ (net s) _ (s .pre .1 .1 .1 .0)), (s .pre .1 .1 .0, s .pre .1 .1 .1 .1)))
 
 neighbours-in-requires-2 : tie.Need-neighbours-in-requires-2
-neighbours-in-requires-2 c κs = record { nodes = _; net = net (c .before .before .before .before .before .before .before .before .before .before .before .before .before .before .before .before .before); node = c .before .before .before .before .before .before .before .before .before .before .before .before .before .before .before .before .before .pre .1 .1 .1 }
+neighbours-in-requires-2 c κs = record { nodes = _; net = net (c .before .before .before .before .before .before .before .before .before .before .before .before .before .before .before .before .before); node = c .before .before .before .before .before .before .before .before .before .before .before .before .before .before .before .before .before .pre .1 .1 .1 .0 }
 
 follow-requires-2 : tie.Need-follow-requires-2
 follow-requires-2 c κs =
     let s = c .before .before .before .before .before .before .before .before .before .before .before .before .before .before .before .before .before .before .before .before in
     let first = c .before .before .before .before .before .before .before .follow in
-    let e = first .kept .1 .1 .1 .0 in
-    (first .ensures .kept, (rw (e, c .before .before .neighbours-in2 .ensures) (neighbours-below _ (net s) _ (s .pre .1 .1 .1)), s .pre .1 .1 .0 ∙ sym e))
+    let e = first .kept .1 .1 .1 .1 .0 in
+    (first .ensures .kept, (rw (e, c .before .before .neighbours-in2 .ensures) (neighbours-below _ (net s) _ (s .pre .1 .1 .1 .0)), (s .pre .1 .1 .0 ∙ sym e, s .pre .1 .1 .1 .1)))
 
 same-length : tie.Need-same-length
 same-length c = search needs
@@ -56,7 +56,7 @@ returns c =
     let second = c .before .before .before .before .follow2 .ensures in
     record {
       state =
-          matched-scan (tables (now (a .masks)) (now (a .offsets)) (now (a .links))) (now (a .sets)) (a .v) _ _ _ _ _ _ _
+          matched-scan (tables (now (a .masks)) (now (a .offsets)) (now (a .links))) (now (a .sets)) (a .v) (a .d) _ _ _ _ _ _ _
           (c .before .before .before .before .before .before .before .before .before .before .before .before .before .before .before .before .before .driven-parts .ensures) (c .before .before .before .before .before .before .before .before .before .before .before .before .before .before .before .before .driving-parts .ensures) (c .before .before .before .before .before .before .before .before .before .before .before .before .before .before .before .neighbours-in .ensures) (c .before .before .before .before .before .before .before .neighbours-in2 .ensures)
           (c .before .before .before .before .before .before .before .before .before .before .before .before .follow .ensures .state) (second .state);
       kept = second .kept;

@@ -1,12 +1,13 @@
 -- `place_components::label_from` meets its contract: nothing is left to name where the node's set is empty or it has a label, else its component is, which
 -- the search lists. Assumes nothing.
-use Rattle.base_lists.specs.Kit.{now, _≡_, _∙_, sym, subst, not, ℕ, _≤_, _<_, _+_, eqb, eqb→eq, length, getD, take, set, length-take-le, arith, needs, not-false, not-true}
+use Rattle.base_lists.specs.Kit.{now, _≡_, _∙_, sym, subst, not, ℕ, _≤_, _<_, _+_, suc, eqb, eqb→eq, length, getD, take, set, length-take-le, arith, needs, not-false, not-true}
 use Rattle.base_lists.proofs.Tests.{both-right, true-T}
 use Rattle.graph.specs.Search.{far}
 use Rattle.graph.proofs.Net.{net-few}
 use Rattle.table.specs.Fill.{fillAt}
 use Rattle.table.specs.Prepared.{tables}
 use Rattle.place.specs.Spread.{matched, Spread, Lists}
+use Rattle.place.proofs.Spread.{found-spread}
 use Rattle.place_components.specs.Components.{Labelling}
 use Rattle.place_components.proofs.Labels.{match-ready, match-adjacency, labelling-skip, labelling-next}
 use Rattle.place_components.proofs.label_from.Statement.{statement}
@@ -38,7 +39,7 @@ returns c = labelling-skip (start (c .before) .pre .1 .1 .1) (sym (c .before .be
 abbrev begun : tie.Else1 → tie.Start
 begun c = start (c .before)
 
-few : (c : tie.Else1) → length (now (begun c .args .sets)) < far
+few : (c : tie.Else1) → suc (length (now (begun c .args .sets))) < far
 few c = omega (arith, net-few (match-ready (begun c .pre .0) .net))
 
 fresh : (c : tie.Else1) → getD (now (begun c .args .labels)) (begun c .args .f) 0 ≡ far
@@ -66,10 +67,13 @@ listed : (c : tie.After-component) → let a = begun (here c) .args in
     Spread (length (now (a .sets))) (a .f) (matched (tables (now (a .masks)) (now (a .offsets)) (now (a .links))) (now (a .sets))) (c .component .last .1 .1 .1 .1 .1 .0)
     × (c .component .result ≤ length (c .component .last .1 .1 .1 .1 .1 .1 .0))
     × Lists (take (c .component .result) (c .component .last .1 .1 .1 .1 .1 .1 .0)) (c .component .last .1 .1 .1 .1 .1 .0)
-listed c = (rw (← begun (here c) .pre .1 .1 .0 .0) (c .component .ensures .0), c .component .ensures .1 .0, c .component .ensures .1 .1)
+listed c =
+    let p = begun (here c) .pre in
+    found-spread _ _ _ _ (omega (arith, few (here c))) (p .1 .0) (match-adjacency (p .0)) (omega (arith, few (here c)))
+    (rw (p .1 .1 .0 .0) at (c .component .ensures))
 
 slice-reshare-prefix-label : tie.Need-slice-reshare-prefix-label
-slice-reshare-prefix-label c = search needs
+slice-reshare-prefix-label c = listed (c .before .before .before .before) .1
 
 slice-aggregate-label : tie.Need-slice-aggregate-label
 slice-aggregate-label c = let l = listed (c .before .before .before .before .before) in sym (length-take-le _ _ (l .1))
@@ -118,7 +122,7 @@ returns-2 c =
     rw (c .before .before .label .ensures)
     (subst (λ (m : ℕ). Labelling (length (now (a .sets))) adj (now (a .sets)) (a .f + 1) (fillAt (λ v. a .f) (take k queue) (now (a .labels))) (set (now (a .sizes)) (a .f) m))
     (length-take-le k queue (l .1))
-    (labelling-next (p .1 .1 .1) (match-adjacency (p .0)) (p .1 .0) (few (here known)) (fresh (here known)) (l .0) (l .2)))
+    (labelling-next (p .1 .1 .1) (match-adjacency (p .0)) (p .1 .0) (omega (arith, few (here known))) (fresh (here known)) (l .0) (l .2)))
 
 pub label-from-spec : {M : Type 1} → statement M
 label-from-spec =
