@@ -241,14 +241,19 @@ fn report_held(
     ended(print_report(&pattern[..parts], &board[..nodes], out, handed))
 }
 
-// Reads the two files and prints their report, by way of buffers that are lent whole, so that their bytes are not looked at one by one in the proof.
-fn report_files(pattern: &mut [u8], board: &mut [u8], out: &mut [u8], handed: &mut usize) -> Run
-    requires { ⌜ (length (now pattern) ≡ most role.Pattern) × (length (now board) ≡ most role.Board) ⌝ }
-    requires { ⌜ (longestLine ≤ length (now out)) × (now handed ≡ 0) ⌝ }
+// Reads the two files and prints their report, by way of buffers that are lent as arrays: so their lengths are known by their types, and no proof counts
+// their bytes.
+fn report_files(
+    pattern: &mut [u8; PATTERN_BYTES],
+    board: &mut [u8; BOARD_BYTES],
+    out: &mut [u8; PIECE_BYTES],
+    handed: &mut usize,
+) -> Run
+    requires { ⌜ now handed ≡ 0 ⌝ }
     ensures { λ r. ⌜ Ran (now (pattern .exit)) (now (board .exit)) (now (handed .exit)) (r .files) (r .end) ⌝ }
 {
-    let files = read_files(pattern, board);
-    let end = report_held(files, pattern, board, out, handed);
+    let files = read_files(&mut pattern[..], &mut board[..]);
+    let end = report_held(files, &pattern[..], &board[..], &mut out[..], handed);
     Run { files, end }
 }
 
