@@ -20,7 +20,7 @@ ghost use Rattle.file_format.specs.declared.Role.the-variants as role;
 ghost use Rattle.graph.specs.Circuit.{circuit};
 ghost use Rattle.table.specs.Prepared.{tables};
 ghost use Rattle.bounded.specs.Problem.{Bounds, BoundedAnswer};
-ghost use Rattle.bounded_whole.specs.Whole.{SomePattern, EveryRow, BoundedRow};
+ghost use Rattle.bounded_whole.specs.Whole.{SomePattern, EveryRow};
 
 pub mod largest;
 
@@ -59,47 +59,8 @@ fn match_prepared(
     counted(started, end)
 }
 
-// The same with masks and neighbour tables of its own.
-fn match_circuits(
-    part_kinds: &[u32],
-    part_starts: &[u16],
-    part_ends: &[u16],
-    bounds: &[u16],
-    node_kinds: &[u32],
-    node_starts: &[u16],
-    node_ends: &[u16],
-    table: &mut [u32],
-) -> Counts
-    requires { ⌜ Bounded role.Pattern (circuit (now «part_kinds») (now «part_starts») (now «part_ends»)) ⌝ }
-    requires { ⌜ Bounds (circuit (now «part_kinds») (now «part_starts») (now «part_ends»)) (now bounds) ⌝ }
-    requires { ⌜ Bounded role.Board (circuit (now «node_kinds») (now «node_starts») (now «node_ends»)) ⌝ }
-    requires { ⌜ length (now table) ≡ length (now «node_kinds») ⌝ }
-    ensures { λ r. ⌜ BoundedRow (circuit (now («part_kinds» .entry)) (now («part_starts» .entry)) (now («part_ends» .entry))) (now (bounds .entry)) (circuit (now («node_kinds» .entry)) (now («node_starts» .entry)) (now («node_ends» .entry))) (now (table .exit)) r ⌝ }
-{
-    let mut masks = [0u32; BOUND_MASKS];
-    let mut offsets = [0u16; OFFSETS];
-    let mut links = [0u16; LINKS];
-    bound_masks(bounds, part_starts, part_ends, &mut masks);
-    neighbour_tables(
-        node_kinds.len(),
-        node_starts,
-        node_ends,
-        &mut offsets,
-        &mut links,
-    );
-    match_prepared(
-        part_kinds,
-        node_kinds,
-        &masks,
-        &offsets,
-        &links,
-        largest_bound(bounds),
-        table,
-    )
-}
-
-// The answer on a whole board: the same, with the table all 0 where some part is left without a node. Where every bound is 1, what is asked is
-// what the pattern without bounds asks, and that is answered as it always was.
+// The answer on a whole board: the same with masks and neighbour tables of its own, and with the table all 0 where some part is left without a
+// node. Where every bound is 1, what is asked is what the pattern without bounds asks, and that is answered as it always was.
 pub fn match_bounded(
     part_kinds: &[u32],
     part_starts: &[u16],
@@ -116,7 +77,8 @@ pub fn match_bounded(
     requires { ⌜ length (now table) ≡ length (now «node_kinds») ⌝ }
     ensures { λ r. ⌜ BoundedAnswer (circuit (now («part_kinds» .entry)) (now («part_starts» .entry)) (now («part_ends» .entry))) (now (bounds .entry)) (circuit (now («node_kinds» .entry)) (now («node_starts» .entry)) (now («node_ends» .entry))) (now (table .exit)) r ⌝ }
 {
-    if largest_bound(bounds) < 2 {
+    let top = largest_bound(bounds);
+    if top < 2 {
         let counts = table_whole::match_circuits(
             Ways::Both,
             part_kinds,
@@ -129,15 +91,17 @@ pub fn match_bounded(
         );
         return all_or_none(part_kinds.len(), table, counts);
     }
-    let counts = match_circuits(
-        part_kinds,
-        part_starts,
-        part_ends,
-        bounds,
-        node_kinds,
+    let mut masks = [0u32; BOUND_MASKS];
+    let mut offsets = [0u16; OFFSETS];
+    let mut links = [0u16; LINKS];
+    bound_masks(bounds, part_starts, part_ends, &mut masks);
+    neighbour_tables(
+        node_kinds.len(),
         node_starts,
         node_ends,
-        table,
+        &mut offsets,
+        &mut links,
     );
+    let counts = match_prepared(part_kinds, node_kinds, &masks, &offsets, &links, top, table);
     all_or_none(part_kinds.len(), table, counts)
 }

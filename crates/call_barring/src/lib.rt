@@ -4,11 +4,11 @@ use barring::BarAnswer;
 use barring_find::bar_circuits;
 use file_format::Board;
 use file_format::Editions;
-use file_format::File;
 use file_format::FileVerdict;
+use file_format::OUTSIDE;
 use file_format::Pattern;
-use file_format::Refusal;
 use file_format::Role;
+use file_format::TOO_SHORT;
 use file_pair::read_pair;
 use place::Around;
 use place::Asked;
@@ -38,16 +38,10 @@ fn bar_on(
 {
     let centre = asked.centre;
     if node_kinds.len() <= centre {
-        return BarAnswer::Refused(Refusal {
-            number: 7,
-            file: File::Neither,
-        });
+        return BarAnswer::Refused(OUTSIDE);
     }
     if out.len() < part_starts.len() {
-        return BarAnswer::Refused(Refusal {
-            number: 8,
-            file: File::Neither,
-        });
+        return BarAnswer::Refused(TOO_SHORT);
     }
     bar_circuits(
         part_kinds,

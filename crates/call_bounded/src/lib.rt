@@ -4,11 +4,10 @@ use call_match::TableAnswer;
 use file_bounds::load_bounded;
 use file_format::Board;
 use file_format::Edition;
-use file_format::File;
 use file_format::FileVerdict;
 use file_format::Pattern;
-use file_format::Refusal;
 use file_format::Role;
+use file_format::TOO_SHORT;
 use file_read::load;
 ghost use mathlib.Core.Path.{_≡_};
 ghost use Rattle.file_format.specs.Circuit.{Bounded};
@@ -38,10 +37,7 @@ fn match_on(
 {
     let n = node_kinds.len();
     if table.len() < n {
-        return TableAnswer::Refused(Refusal {
-            number: 8,
-            file: File::Neither,
-        });
+        return TableAnswer::Refused(TOO_SHORT);
     }
     TableAnswer::Matched(match_bounded(
         part_kinds,

@@ -3,11 +3,11 @@ use call_prepare::Reading;
 use call_prepare::read_prepared;
 use file_format::Board;
 use file_format::Editions;
-use file_format::File;
 use file_format::FileVerdict;
 use file_format::Pattern;
 use file_format::Refusal;
 use file_format::Role;
+use file_format::TOO_SHORT;
 use graph_neighbours::tables::LINKS;
 use graph_neighbours::tables::OFFSETS;
 use table::Counts;
@@ -41,10 +41,7 @@ fn match_on(
 {
     let n = node_kinds.len();
     if table.len() < n {
-        return TableAnswer::Refused(Refusal {
-            number: 8,
-            file: File::Neither,
-        });
+        return TableAnswer::Refused(TOO_SHORT);
     }
     TableAnswer::Matched(match_whole(
         part_kinds,

@@ -3,11 +3,12 @@ use call_prepare::Reading;
 use call_prepare::read_prepared;
 use file_format::Board;
 use file_format::Editions;
-use file_format::File;
 use file_format::FileVerdict;
+use file_format::OUTSIDE;
 use file_format::Pattern;
 use file_format::Refusal;
 use file_format::Role;
+use file_format::TOO_SHORT;
 use graph_neighbours::tables::LINKS;
 use graph_neighbours::tables::OFFSETS;
 use place::Around;
@@ -34,6 +35,13 @@ ghost use Rattle.call_place.specs.Call.{tooShort, roomConditions, radius
 pub enum Reach {
     Own,
     Given(u16),
+}
+
+// What is asked of two files: around which node of the board, in which editions, and at which radius.
+pub struct Question {
+    pub centre: usize,
+    pub editions: Editions,
+    pub reach: Reach,
 }
 
 // The radius that is asked for, where the pattern's own is known.
@@ -132,17 +140,10 @@ fn find_on(
     let room = roomy(n, m, lent);
     let centre = asked.centre;
     if n <= centre {
-        return turned_away(Refusal {
-            number: 7,
-            file: File::Neither,
-        });
+        return turned_away(OUTSIDE);
     }
-    let short = Refusal {
-        number: 8,
-        file: File::Neither,
-    };
     if !room {
-        return turned_away(short);
+        return turned_away(TOO_SHORT);
     }
     let around = Around {
         centre: centre as u16,
@@ -166,24 +167,25 @@ fn find_on(
 // the place and else 0, a set of parts per node, and each node's distance from the centre, 65,535 outside the ball, at the front of the four
 // tables; or the refusal, which leaves them as they were.
 pub fn place(
-    reach: Reach,
-    editions: Editions,
+    question: Question,
     pattern: &[u8],
     board: &[u8],
-    centre: usize,
     nodes: &mut [u8],
     links: &mut [u8],
     table: &mut [u32],
     distances: &mut [u16],
 ) -> PlaceAnswer
     ensures { λ a. ⌜ record { reply = placeReply a; nodes = now (nodes .exit); links = now (links .exit); table = now (table .exit); distances = now (distances .exit) }
-        ≡ placeAt (inEdition (editions .pattern) (now (pattern .entry))) (inEdition (editions .board) (now (board .entry))) centre (radiusFor reach (radiusOf (circuitOf (inEdition (editions .pattern) (now (pattern .entry)))))) (now (nodes .entry)) (now (links .entry)) (now (table .entry)) (now (distances .entry)) ⌝ }
+        ≡ placeAt (inEdition (question .editions .pattern) (now (pattern .entry))) (inEdition (question .editions .board) (now (board .entry))) (question .centre)
+        (radiusFor (question .reach) (radiusOf (circuitOf (inEdition (question .editions .pattern) (now (pattern .entry))))))
+        (now (nodes .entry)) (now (links .entry)) (now (table .entry)) (now (distances .entry)) ⌝ }
 {
     let mut pk = [0u32; Pattern::MAX_NODES];
     let mut nk = [0u32; Board::MAX_NODES];
     let mut masks = [0u32; MASKS];
     let mut offsets = [0u16; OFFSETS];
     let mut stretches = [0u16; LINKS];
+    let editions = question.editions;
     let read = read_prepared(
         Reading {
             role: Role::Pattern,
@@ -202,7 +204,11 @@ pub fn place(
     let FileVerdict::Accepted = verdict else {
         return answer_by(verdict);
     };
-    let radius = radius_for(reach, read.radius);
+    let reach = question.reach;
+    let asked = Asked {
+        centre: question.centre,
+        radius: radius_for(reach, read.radius),
+    };
     let parts = read.parts;
     let n = read.nodes;
     find_on(
@@ -211,7 +217,7 @@ pub fn place(
         &masks,
         &offsets,
         &stretches,
-        Asked { centre, radius },
+        asked,
         nodes,
         links,
         table,

@@ -3,11 +3,11 @@ use call_prepare::Reading;
 use call_prepare::read_prepared;
 use file_format::Board;
 use file_format::Editions;
-use file_format::File;
 use file_format::FileVerdict;
 use file_format::Pattern;
 use file_format::Refusal;
 use file_format::Role;
+use file_format::TOO_SHORT;
 use file_pair::Pair;
 use graph_neighbours::tables::LINKS;
 use graph_neighbours::tables::OFFSETS;
@@ -49,10 +49,7 @@ const LONGEST_REFUSAL: usize = 20;
 fn too_short() -> ReportAnswer
     ensures { λ a. ⌜ a ≡ answer.Refused (record { number = 8; file = file.Neither }) ⌝ }
 {
-    ReportAnswer::Refused(Refusal {
-        number: 8,
-        file: File::Neither,
-    })
+    ReportAnswer::Refused(TOO_SHORT)
 }
 
 // Nothing: the report is at its end.

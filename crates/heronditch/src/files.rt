@@ -11,8 +11,8 @@ ghost use Rattle.call_merge.specs.Call.{merging};
 ghost use Rattle.heronditch.specs.Host.{hostRead, hostWrite, hostConvert, hostBall, hostMerge, hostLoad, hostNeighbours};
 ghost use Rattle.heronditch_reply.specs.Replies.{slots};
 ghost use Rattle.heronditch_told.specs.Told.{told, editionOf, roleOf, directionOf};
-use file_format::File;
-use file_format::Refusal;
+use call_file::as_role;
+use file_format::TOO_SHORT;
 use graph::copy;
 use graph_neighbours::neighbours::neighbours;
 use heronditch_reply::HostReply;
@@ -43,8 +43,8 @@ pub extern "C" fn heronditch_read(
     ensures { λ r. ⌜ record { reply = r; kinds = now (kinds .exit); packages = now (packages .exit); starts = now (starts .exit); ends = now (ends .exit) }
         ≡ hostRead (reading (asRole (roleOf role)) (told (now (file .entry)) edition) (now (kinds .entry)) (now (packages .entry)) (now (starts .entry)) (now (ends .entry))) ⌝ }
 {
-    of_read(call_file::read(
-        role_of(role),
+    of_read(file_read::read(
+        as_role(role_of(role)),
         edition_of(edition),
         file,
         kinds,
@@ -68,8 +68,8 @@ pub extern "C" fn heronditch_write(
     ensures { λ r. ⌜ record { reply = r; out = now (out .exit) }
         ≡ hostWrite (writing (asRole (roleOf role)) (editionOf edition) (now (kinds .entry)) (now (packages .entry)) (now (starts .entry)) (now (ends .entry)) (now (out .entry))) ⌝ }
 {
-    of_write(call_file::write(
-        role_of(role),
+    of_write(file_write::write(
+        as_role(role_of(role)),
         edition_of(edition),
         kinds,
         packages,
@@ -91,8 +91,8 @@ pub extern "C" fn heronditch_convert(
     ensures { λ r. ⌜ record { reply = r; out = now (out .exit) }
         ≡ hostConvert (converting (asRole (roleOf role)) (editionOf «to_edition») (told (now (file .entry)) edition) (now (out .entry))) ⌝ }
 {
-    of_convert(call_file::convert(
-        role_of(role),
+    of_convert(call_convert::convert(
+        as_role(role_of(role)),
         edition_of(edition),
         edition_of(to_edition),
         file,
@@ -119,10 +119,7 @@ fn copy_out(part: &[u16], out: &mut [u16]) -> HostReply
     ensures { λ r. ⌜ record { reply = r; out = now (out .exit) } ≡ hostNeighbours (now (part .entry)) (now (out .entry)) ⌝ }
 {
     if out.len() < part.len() {
-        return refused(Refusal {
-            number: 8,
-            file: File::Neither,
-        });
+        return refused(TOO_SHORT);
     }
     copy(part, out);
     accepted(part.len(), 0)

@@ -148,12 +148,13 @@ pub fn of_check(answer: CheckAnswer) -> HostReply
     }
 }
 
-fn with_counts(k: Counts) -> Counted
-    ensures { λ r. ⌜ r ≡ record { number = 0; file = 0; started = k .started; kept = k .kept; struck = k .struck; rounds = k .rounds } ⌝ }
+// Four counts, with a number and a file.
+fn with_counts(number: u32, file: u32, k: Counts) -> Counted
+    ensures { λ r. ⌜ r ≡ record { number = number; file = file; started = k .started; kept = k .kept; struck = k .struck; rounds = k .rounds } ⌝ }
 {
     Counted {
-        number: 0,
-        file: 0,
+        number,
+        file,
         started: k.started,
         kept: k.kept,
         struck: k.struck,
@@ -166,21 +167,14 @@ fn refused_with(x: Refusal, k: Counts) -> Counted
     ensures { λ r. ⌜ r ≡ record { number = x .number; file = fileNumber (x .file); started = k .started; kept = k .kept; struck = k .struck; rounds = k .rounds } ⌝ }
 {
     let file = x.file;
-    Counted {
-        number: x.number as u32,
-        file: file_number(file),
-        started: k.started,
-        kept: k.kept,
-        struck: k.struck,
-        rounds: k.rounds,
-    }
+    with_counts(x.number as u32, file_number(file), k)
 }
 
 pub fn of_match(answer: TableAnswer) -> Counted
     ensures { λ r. ⌜ r ≡ counted (replyOf answer) ⌝ }
 {
     match answer {
-        TableAnswer::Matched(k) => with_counts(k),
+        TableAnswer::Matched(k) => with_counts(0, 0, k),
         TableAnswer::Refused(x) => refused_with(
             x,
             Counts {
@@ -197,7 +191,7 @@ pub fn of_place(answer: PlaceAnswer) -> Counted
     ensures { λ r. ⌜ r ≡ counted (placeReply answer) ⌝ }
 {
     match answer {
-        PlaceAnswer::Placed(k) => with_counts(k),
+        PlaceAnswer::Placed(k) => with_counts(0, 0, k),
         PlaceAnswer::Refused(x, k) => refused_with(x, k),
     }
 }

@@ -10,8 +10,9 @@ use place_around::find;
 use proposal_marks::marks::in_row;
 use proposal_marks::marks::links_placed;
 use proposal_marks::marks::marks_subgraph;
+use table::Ways;
 use table_first::start;
-use table_prepare::lookups::prepare;
+use table_prepare::lookups::prepare_along;
 ghost use mathlib.Core.Path.{_≡_};
 ghost use Prim.Native.Nat.{_≤_, _<_};
 ghost use lib.Dec.{T, ltb};
@@ -177,7 +178,8 @@ pub fn check_circuits(
     }
     let m = choose(bytes, node_starts);
     let k = choose(bytes, node_ends);
-    prepare(
+    prepare_along(
+        Ways::Both,
         n,
         part_starts,
         part_ends,

@@ -5,6 +5,7 @@ use base_bits::copy;
 use base_bits::size;
 use file_format::File;
 use file_format::Refusal;
+use file_format::TOO_SHORT;
 use graph::UNREACHED;
 use graph_neighbours::tables::FORWARD_LINKS;
 use session_strike::strike_from;
@@ -113,10 +114,7 @@ pub fn read_out(fixed: &[u32], sets: &[u32], table: &mut [u32]) -> OutAnswer
 {
     let n = at_most(512, fixed[65] as usize);
     if table.len() < n {
-        return OutAnswer::Refused(Refusal {
-            number: 8,
-            file: File::Neither,
-        });
+        return OutAnswer::Refused(TOO_SHORT);
     }
     copy(&sets[..n], table);
     let parts = at_most(32, fixed[64] as usize);

@@ -14,29 +14,9 @@ ghost use lib.Dec.{T, ltb};
 ghost use lib.ListN.{length};
 ghost use Rattle.base_lists.specs.List.{all, Below};
 ghost use Rattle.graph.specs.Net.{NetRoom};
-ghost use Rattle.table.specs.Fill.{allNodes};
 ghost use Rattle.session_open.specs.Open.{padded, Numbered, Ended, Fixed};
 
-// Fills the numbers of the links of each node: of those that start there, and of those that end there. `order` has the numbers of all links.
-fn group_links(
-    n: usize,
-    starts: &[u16],
-    ends: &[u16],
-    order: &[u16],
-    offsets: &mut [u16],
-    numbers: &mut [u16],
-)
-    requires { ⌜ NetRoom (now offsets) (now numbers) ⌝ }
-    requires { ⌜ n ≤ 512 ⌝ }
-    requires { ⌜ (length (now starts) ≡ length (now ends)) × (length (now starts) ≤ 4096) ⌝ }
-    requires { ⌜ T (all (λ v. ltb v n) (now starts)) × T (all (λ v. ltb v n) (now ends)) ⌝ }
-    requires { ⌜ now order ≡ allNodes (length (now starts)) ⌝ }
-    ensures { λ _. ⌜ Numbered n (now (starts .entry)) (now (ends .entry)) (now (offsets .entry)) (now (numbers .entry)) (now (offsets .exit)) (now (numbers .exit)) ⌝ }
-{
-    group_both(n, starts, ends, order, order, offsets, numbers);
-}
-
-// The same from a table that has room for the numbers of all links.
+// Fills the numbers of the links of each node: of those that start there, and of those that end there. `order` has room for the numbers of all links.
 fn order_links(
     n: usize,
     starts: &[u16],
@@ -54,7 +34,8 @@ fn order_links(
 {
     let m = starts.len();
     list_all(&mut order[..m]);
-    group_links(n, starts, ends, &order[..m], offsets, numbers);
+    let listed = &order[..m];
+    group_both(n, starts, ends, listed, listed, offsets, numbers);
 }
 
 // Fills a table with values, and past these with no node.

@@ -21,29 +21,7 @@ ghost use Rattle.table.specs.Row.{waysOf};
 ghost use Rattle.table_whole.specs.Kinds.{SomeLinks, EveryMatched, EveryAnswered};
 ghost use Rattle.table.specs.Prepared.{tables};
 
-// The largest dual simulation of a pattern in a board, from prepared masks and neighbour tables. The list of all nodes and the second table of
-// sets are scratch.
-fn match_prepared(
-    part_kinds: &[u32],
-    node_kinds: &[u32],
-    masks: &[u32],
-    offsets: &[u16],
-    links: &[u16],
-    table: &mut [u32],
-    nodes: &mut [u16],
-    spare: &mut [u32],
-) -> Counts
-    requires { ⌜ SomeLinks (now «part_kinds») (now «node_kinds») (tables (now masks) (now offsets) (now links)) ⌝ }
-    requires { ⌜ (length (now table) ≡ length (now «node_kinds»)) × (length (now nodes) ≡ length (now «node_kinds»)) × (length (now spare) ≡ length (now «node_kinds»)) ⌝ }
-    ensures { λ r. ⌜ EveryMatched (now («part_kinds» .entry)) (now («node_kinds» .entry)) (tables (now (masks .entry)) (now (offsets .entry)) (now (links .entry))) (now (table .exit)) r ⌝ }
-{
-    list_all(nodes);
-    let started = start(nodes, part_kinds, node_kinds, table);
-    let end = refine(nodes, masks, offsets, links, table, spare, started);
-    counted(started, end)
-}
-
-// The same with a list and a second table of its own.
+// The largest dual simulation of a pattern in a board, from prepared masks and neighbour tables.
 pub fn match_tables(
     part_kinds: &[u32],
     node_kinds: &[u32],
@@ -56,19 +34,15 @@ pub fn match_tables(
     requires { ⌜ length (now table) ≡ length (now «node_kinds») ⌝ }
     ensures { λ r. ⌜ EveryMatched (now («part_kinds» .entry)) (now («node_kinds» .entry)) (tables (now (masks .entry)) (now (offsets .entry)) (now (links .entry))) (now (table .exit)) r ⌝ }
 {
-    let mut nodes = [0u16; Board::MAX_NODES];
-    let mut spare = [0u32; Board::MAX_NODES];
+    let mut listed = [0u16; Board::MAX_NODES];
+    let mut second = [0u32; Board::MAX_NODES];
     let n = node_kinds.len();
-    match_prepared(
-        part_kinds,
-        node_kinds,
-        masks,
-        offsets,
-        links,
-        table,
-        &mut nodes[..n],
-        &mut spare[..n],
-    )
+    let nodes = &mut listed[..n];
+    let spare = &mut second[..n];
+    list_all(nodes);
+    let started = start(nodes, part_kinds, node_kinds, table);
+    let end = refine(nodes, masks, offsets, links, table, spare, started);
+    counted(started, end)
 }
 
 // The answer of a call on a whole board: the same, with the table all 0 where some part is left without a node.

@@ -66,20 +66,20 @@ returns-3 c =
     let nodes = held (c .before .before) .nodes in
     sym (ball-short _ _ _ _ (sound (c .before .before)) (omega arith) (omega arith))
 
-array-share-prefix-labels : tie.Need-array-share-prefix-labels
-array-share-prefix-labels c = stands-room (held (c .before .before)) .0
+array-share-prefix-nk : tie.Need-array-share-prefix-nk
+array-share-prefix-nk c = stands-room (held (c .before .before)) .0
 
 slice-aggregate-fill-ball : tie.Need-slice-aggregate-fill-ball
 slice-aggregate-fill-ball c = sym (stands-size (held (c .before .before .before)) .0)
 
-array-share-prefix-starts : tie.Need-array-share-prefix-starts
-array-share-prefix-starts c = stands-room (held (c .before .before .before)) .1
+array-share-prefix-ns : tie.Need-array-share-prefix-ns
+array-share-prefix-ns c = stands-room (held (c .before .before .before)) .1
 
 slice-aggregate-fill-ball-2 : tie.Need-slice-aggregate-fill-ball-2
 slice-aggregate-fill-ball-2 c = sym (stands-size (held (c .before .before .before .before)) .1)
 
-array-share-prefix-ends : tie.Need-array-share-prefix-ends
-array-share-prefix-ends c = stands-room (held (c .before .before .before .before)) .2
+array-share-prefix-ne : tie.Need-array-share-prefix-ne
+array-share-prefix-ne c = stands-room (held (c .before .before .before .before)) .2
 
 slice-aggregate-fill-ball-3 : tie.Need-slice-aggregate-fill-ball-3
 slice-aggregate-fill-ball-3 c = sym (stands-size (held (c .before .before .before .before .before)) .2)
@@ -116,11 +116,11 @@ ball-spec =
     enum-told
     returns-2
     returns-3
-    array-share-prefix-labels
+    array-share-prefix-nk
     slice-aggregate-fill-ball
-    array-share-prefix-starts
+    array-share-prefix-ns
     slice-aggregate-fill-ball-2
-    array-share-prefix-ends
+    array-share-prefix-ne
     slice-aggregate-fill-ball-3
     cast-fill-ball
     fill-ball-requires

@@ -48,8 +48,8 @@ returns-2 c =
 abbrev entry : tie.Else2 → tie.Start
 entry c = c .before .before .before .before .before .before .before .before .before .before .before .before .before
 
-cast-t20 : tie.Need-cast-t20
-cast-t20 c = omega (arith, c .before .if1 .left, entry c .pre .drawn .nodes .nodes)
+cast-t19 : tie.Need-cast-t19
+cast-t19 c = omega (arith, c .before .if1 .left, entry c .pre .drawn .nodes .nodes)
 
 place-circuits-requires : tie.Need-place-circuits-requires
 place-circuits-requires c κs =
@@ -88,7 +88,7 @@ find-on-spec =
     returns
     turned-away-requires-2
     returns-2
-    cast-t20
+    cast-t19
     place-circuits-requires
     same-length
     same-length-2

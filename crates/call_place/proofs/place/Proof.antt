@@ -51,10 +51,10 @@ radius-for-requires c κs = search needs
 
 -- both were read and prepared
 ready : (c : tie.After-enum-told) →
-    let a = c .before .before .before .before .before .before .before .before .before .before .before .before .before .before .before .before .before .before .before .args in
+    let a = c .before .before .before .before .before .before .before .before .before .before .before .before .before .before .before .before .before .before .before .before .args in
     let read = c .before .before .before .before .before .before .before .read-prepared in
     let l = read .last .1 .1 .1 in
-    BothPrepared Pattern bothWays (inEdition (a .editions .pattern) (now (a .pattern))) (inEdition (a .editions .board) (now (a .board))) (read .result) (l .0) (l .1 .0) (tables (l .1 .1 .0) (l .1 .1 .1 .0) (l .1 .1 .1 .1 .0))
+    BothPrepared Pattern bothWays (inEdition (a .question .editions .pattern) (now (a .pattern))) (inEdition (a .question .editions .board) (now (a .board))) (read .result) (l .0) (l .1 .0) (tables (l .1 .1 .0) (l .1 .1 .1 .0) (l .1 .1 .1 .1 .0))
 ready c = ready-both (c .before .before .before .before .before .before .before .read-prepared .ensures) (c .enum-told .given .1)
 
 array-share-prefix-pk : tie.Need-array-share-prefix-pk
