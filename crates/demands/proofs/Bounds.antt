@@ -1,6 +1,7 @@
 -- Ask 12: what the call with bounds says. Assumes nothing.
-use Rattle.base_lists.specs.Kit.{_≡_, _∙_, sym, _↔_, List, ℕ, _≤_, arith}
+use Rattle.base_lists.specs.Kit.{_≡_, _∙_, sym, _↔_, List, ℕ, _≤_, arith, subst}
 use Rattle.base_lists.proofs.Tests.{true-T}
+use Rattle.base_lists.proofs.Tables.{replicate-tabulate}
 use Rattle.graph.specs.Circuit.{Circuit}
 use Rattle.file_format.specs.Circuit.{circuitOf}
 use Rattle.file_format.specs.Layout.{nodesOf}
@@ -8,12 +9,14 @@ use Rattle.file_format.specs.Refusals.{accept, first}
 use Rattle.file_format.proofs.Fields.{length-labels}
 use Rattle.file_format.proofs.Refusals.{accepted-verdict}
 use Rattle.table.specs.declared.Counts.{Counts}
-use Rattle.table_answer.proofs.AllParts.{none-tabulated}
+use Rattle.table.specs.Row.{InTable}
 use Rattle.file_bounds.specs.Third.{frontOf, boundsOf, thirdConditions}
 use Rattle.file_bounds.proofs.Fit.{at-fit}
 use Rattle.file_bounds.proofs.Third.{third-accepted, third-long, front-verdicts}
 use Rattle.bounded.specs.Run.{BoundedSets, BoundedRun}
 use Rattle.bounded.proofs.Run.{bounded-run, bounded-found, bounded-missing}
+use Rattle.bounded.specs.Problem.{boundedTable}
+use Rattle.bounded.proofs.Wider.{raised-more}
 use Rattle.call_bounded.proofs.Matching.{third-bounds}
 use Rattle.call_bounded.proofs.Promise as call
 use Rattle.demands.specs.Demands.{RowRun}
@@ -26,7 +29,7 @@ read pattern e = record { long = third-long pattern e; drawn = third-accepted pa
 
 taken : (pattern : List ℕ) → ThirdEdition pattern → first (thirdConditions pattern) ≡ accept
 taken pattern t =
-    front-verdicts pattern (t .long) (true-T (at-fit (boundsOf pattern) (λ i h. (t .bounds .some i h, t .bounds .most i h)))) ∙ accepted-verdict (t .drawn)
+    front-verdicts pattern (t .long) (true-T (at-fit (boundsOf pattern) (λ i h. (t .bounds .inside .some i h, t .bounds .inside .most i h)))) ∙ accepted-verdict (t .drawn)
 
 -- ---- the table and the counts
 
@@ -56,9 +59,13 @@ ask-12 =
             kept = call.counts-ones pattern board table ok;
             struck = omega (arith, call.counts-sum pattern board table ok);
             found = λ all. front ∙ bounded-found P bounds B (λ u h. rw ends at (all u (rw (length-labels (frontOf pattern)) at h))) ∙ sym ends;
-            missing = λ u h none. front ∙ bounded-missing P bounds B u (rw (length-labels (frontOf pattern)) h) (λ v m. none v (rw ends m)) ∙ rw (length-labels board) (sym (none-tabulated (nodesOf board)));
+            missing = λ u h none. front ∙ bounded-missing P bounds B u (rw (length-labels (frontOf pattern)) h) (λ v m. none v (rw ends m)) ∙ rw (length-labels board) (sym (replicate-tabulate (nodesOf board)));
             rest = call.rest-is pattern board table ok;
           };
       second = call.ones-second;
-      raised = call.raised-keeps;
+      raised = λ pattern pattern′ board table table′ same r ok ok′ u v m.
+          let more = raised-more (circuitOf (frontOf pattern)) (circuitOf board) (call.bounds-each pattern board table ok) r (call.parts-most pattern board table ok) u v in
+          let back = subst (λ (t : List ℕ). InTable t u v) (call.front-is pattern board table ok) m in
+          let there = subst (λ (f : CircuitFile). InTable (boundedTable (circuitOf f) (boundsOf pattern′) (circuitOf board)) u v) same (more back) in
+          subst (λ (t : List ℕ). InTable t u v) (sym (call.front-is pattern′ board table′ ok′)) there;
     }

@@ -1,7 +1,8 @@
 -- Each call is decided by its conditions, and a refusal leaves every lent table as it was. Assumes nothing.
-use Rattle.base_lists.specs.Kit.{_≡_, _∙_, sym, ap, refl, _↔_, ⊎-elim, Bool, false, true, cond, _&&_, not, List, [], _∷_, _++_, ℕ, le-of-eq, T, ltb, ltb→lt, lt→ltb, length, arith}
-use Rattle.base_lists.specs.List.{all, Below}
-use Rattle.base_lists.proofs.Tests.{both, both-left, both-right, all-at, at-all}
+use Rattle.base_lists.specs.Kit.{_≡_, _∙_, sym, ap, refl, _↔_, ⊎-elim, Bool, false, true, cond, _&&_, not, List, [], _∷_, _++_, ℕ, le-of-eq, ltb, length, arith}
+use Rattle.base_lists.specs.List.{all}
+use Rattle.base_lists.proofs.Tests.{both, both-left, both-right}
+use Rattle.base_lists.proofs.Entries.{all-below, below-all}
 use Rattle.graph.specs.Circuit.{Circuit}
 use Rattle.graph.proofs.Distance.{connected-iff, radius-is}
 use Rattle.file_format.specs.declared.File.the-variants.{Neither}
@@ -17,11 +18,12 @@ use Rattle.file_format.specs.Reply.{Reply, readReply, reply}
 use Rattle.file_format.proofs.Accepted.{links-within}
 use Rattle.file_format.proofs.Fields.{length-kinds, length-packages, length-starts, length-ends, length-labels}
 use Rattle.file_format.proofs.Reading.{reading-filled}
-use Rattle.file_format.proofs.Refusals.{accepted, accepted-verdict, accept-not-refuse, first-accept, first-parts, first-refuse, accepts-iff, refuses-by}
+use Rattle.file_format.proofs.Refusals.{accepted, accepted-verdict, accept-not-refuse, first-accept, first-parts, first-refuse, accepts-iff, refuses-by, reply-verdict}
 use Rattle.file_format.proofs.Rising.{rising-links, rise-test}
 use Rattle.table.specs.declared.Counts.{Counts}
 use Rattle.table.specs.Fill.{listed}
 use Rattle.table.specs.Reply.{noCounts, replied}
+use Rattle.table.proofs.Reply.{replied-verdict}
 use Rattle.place.specs.Match.{found}
 use Rattle.place.specs.Outcome.{placeVerdict}
 use Rattle.file_write.specs.Writing.{writing}
@@ -64,12 +66,6 @@ by-first {conditions} each e keeps =
       kept = λ x r. keeps x (sym e ∙ r);
     }
 
--- the verdict of a reply is the one that it was made from
-pub reply-verdict : (v : Verdict) (values : List ℕ) → reply v values .verdict ≡ v
-unfolding reply
-reply-verdict accept values = refl
-reply-verdict (refuse x) values = refl
-
 -- a refusal has no values
 pub no-values : {v : Verdict} {x : Refusal} (values : List ℕ) → v ≡ refuse x → reply v values .values ≡ []
 unfolding reply
@@ -78,11 +74,6 @@ no-values values e = rw e
 no-counts : {v : Verdict} {x : Refusal} (counts : Counts) → v ≡ refuse x → replied v counts .counts ≡ noCounts
 unfolding replied
 no-counts counts e = rw e
-
-replied-verdict : (v : Verdict) (counts : Counts) → replied v counts .verdict ≡ v
-unfolding replied
-replied-verdict accept counts = refl
-replied-verdict (refuse x) counts = refl
 
 -- a refused call keeps what was lent
 pub keeps : {v : Verdict} {x : Refusal} (values old : List ℕ) → v ≡ refuse x → filled v values old ≡ old
@@ -214,13 +205,6 @@ reads-accepted role file f =
     let ok = f (kindsOf file) (packagesOf file) (startsOf file) (endsOf file) (le-of-eq (sym (length-kinds file))) (le-of-eq (sym (length-packages file))) (le-of-eq (sym (length-starts file))) (le-of-eq (sym (length-ends file))) in
     accepted role file (first-parts (fileConditions role file) _ (sym (verdict-read role file (kindsOf file) (packagesOf file) (startsOf file) (endsOf file)) ∙ ok) .0)
 
-all-below : (n : ℕ) (xs : List ℕ) → T (all (λ v. ltb v n) xs) ↔ Below n xs
-unfolding Below
-all-below n xs = (
-  λ t i h. ltb→lt _ _ (all-at (λ v. ltb v n) xs t i h),
-  λ b. at-all (λ v. ltb v n) xs (λ i h. lt→ltb _ _ (b i h)),
-)
-
 -- ---- each call, in the order of specs/Demands
 
 pub decided-1 : Demand1
@@ -260,8 +244,8 @@ decided-1 =
       below = λ n starts ends.
           let s = all (λ v. ltb v n) starts in
           let e = all (λ v. ltb v n) ends in (
-            λ t. (all-below n starts .0 (both-left s e t), all-below n ends .0 (both-right s e t)),
-            λ (a, b). both s e (all-below n starts .1 a) (all-below n ends .1 b),
+            λ t. (all-below n starts (both-left s e t), all-below n ends (both-right s e t)),
+            λ (a, b). both s e (below-all n starts a) (below-all n ends b),
           );
       rises = λ starts ends. (rising-links starts ends, rise-test starts ends);
       joins = λ n starts ends t. connected-iff (links-within n starts ends t);

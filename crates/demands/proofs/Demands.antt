@@ -1,7 +1,8 @@
 -- The three demands hold. Assumes nothing.
-use Rattle.base_lists.specs.Kit.{_≡_, _∙_, sym, ap, refl, subst, _↔_, ⊎-elim, List, [], _∷_, ℕ, _≤_, _<_, T, ltb, length, take, take-at, arith, lt-ltb}
+use Rattle.base_lists.specs.Kit.{_≡_, _∙_, sym, ap, refl, subst, _↔_, ⊎-elim, List, [], _∷_, ℕ, _≤_, _<_, length, take, take-at, arith}
 use Rattle.base_lists.specs.List.{all, Below}
-use Rattle.base_lists.proofs.Tests.{true-T, at-all}
+use Rattle.base_lists.proofs.Tables.{replicate-tabulate}
+use Rattle.base_lists.proofs.Entries.{below-all}
 use Rattle.graph.specs.Graph.{Radius}
 use Rattle.graph.proofs.Walks.{radius-unique}
 use Rattle.simulation.specs.Closed.{Relation}
@@ -18,14 +19,13 @@ use Rattle.file_format.specs.Refusals.{accept, first, Accepted}
 use Rattle.file_format.specs.Reply.{readReply, reply}
 use Rattle.file_format.proofs.Accepted.{accepted-bounded, accepted-within, accepted-connected}
 use Rattle.file_format.proofs.Fields.{length-labels}
-use Rattle.file_format.proofs.Refusals.{accepted-any, accepted-verdict}
+use Rattle.file_format.proofs.Refusals.{accepted-any, accepted-verdict, reply-verdict}
 use Rattle.table.proofs.Host.{everything-same, within-joins}
 use Rattle.table.specs.declared.Counts.{Counts}
 use Rattle.table.specs.Row.{bothWays, rowBy, InTable}
 use Rattle.table.specs.Answer.{answerCountsBy}
 use Rattle.table.specs.Host.{hostGraph, everything}
 use Rattle.table.proofs.Answer.{along-dual, answer-found, answer-missing, answer-connected}
-use Rattle.table_answer.proofs.AllParts.{none-tabulated}
 use Rattle.place.specs.Match.{radiusOf, ballOf}
 use Rattle.place.proofs.Accepted.{accepted-admissible, accepted-radius}
 use Rattle.place.proofs.Ball.{ball-host}
@@ -43,7 +43,7 @@ use Rattle.call_merge.specs.Call.{merging}
 use Rattle.call_merge.proofs.Promise as merge-call
 use Rattle.demands.specs.Demands.{Lent, Enough, placed, placedOwn, graph, Demand1, Matched, Demand2, nine, FoundAt, Demand3}
 use Rattle.demands.proofs.Counts.{both-is, row-run, row-counts}
-use Rattle.demands.proofs.Decided.{reply-verdict, decided-1}
+use Rattle.demands.proofs.Decided.{decided-1}
 use Rattle.demands.proofs.Groupings.{merged-made}
 use Rattle.demands.proofs.Merged.{ready-sound, merged-same, radius-fits}
 
@@ -80,7 +80,7 @@ matched-by ways pattern board table a b room is largest =
       kept = match-call.counts-ones ways pattern board table ok;
       struck = match-call.counts-struck ways pattern board table ok;
       found = λ all. front ∙ sym (answer-found ways P B (everything B) (λ u h. rw ends at (all u (rw (length-labels pattern) at h))) .last) ∙ sym ends;
-      missing = λ u h none. front ∙ sym (answer-missing ways P B (everything B) u (rw (length-labels pattern) h) (λ v m. none v (rw ends m)) .last) ∙ rw (length-labels board) (sym (none-tabulated (nodesOf board)));
+      missing = λ u h none. front ∙ sym (answer-missing ways P B (everything B) u (rw (length-labels pattern) h) (λ v m. none v (rw ends m)) .last) ∙ rw (length-labels board) (sym (replicate-tabulate (nodesOf board)));
       rest = match-call.rest-is ways pattern board table ok;
     }
 
@@ -105,11 +105,6 @@ unfolding reading readAnswer
 was-read role file ks ps ss es e =
     let v : first (readConditions role file (length ks) (length ps) (length ss) (length es)) ≡ accept = sym (reply-verdict _ _) ∙ e in
     rw v
-
--- bytes, as the round trips ask for them
-pub of-bytes : (file : CircuitFile) → Below 256 (file .bytes) → T (all (λ b. ltb b 256) (file .bytes))
-unfolding Below
-of-bytes file bytes = at-all (λ b. ltb b 256) (file .bytes) (λ i h. true-T (lt-ltb _ _ (bytes i h)))
 
 -- "The match table is the largest dual simulation, pair by pair as 01 reads it: each of its pairs holds, and every dual simulation lies inside
 -- it. Counts and rounds are those of 01's row of sets. A circuit written reads back as itself; an accepted file writes back to its own bytes."
@@ -149,7 +144,7 @@ demand-2 =
           }
           );
       writes = λ role file ks ps ss es out bytes e room.
-          ap (λ (o : WriteOutcome). take (length (file .bytes)) (o .out)) (read-writes role file (of-bytes file bytes) ks ps ss es out _ _ (was-read role file ks ps ss es e) room)
+          ap (λ (o : WriteOutcome). take (length (file .bytes)) (o .out)) (read-writes role file (below-all 256 (file .bytes) bytes) ks ps ss es out _ _ (was-read role file ks ps ss es e) room)
           ∙ take-at (file .bytes) _ (length (file .bytes)) refl;
     }
 

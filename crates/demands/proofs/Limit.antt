@@ -19,7 +19,7 @@ use Rattle.file_format.specs.Role.{inRange}
 use Rattle.file_format.proofs.Accepted.{links-within}
 use Rattle.file_format.proofs.Limit.{wide-iff, wide-file, narrow-file, accepted-before, unasked-before, without-both}
 use Rattle.file_format.proofs.Reading.{reading-refused}
-use Rattle.file_format.proofs.Refusals.{accept-not-refuse, first-accept, first-refuse, first-holds, range-orders, accepted, accepted-verdict}
+use Rattle.file_format.proofs.Refusals.{accept-not-refuse, first-accept, first-refuse, first-holds, range-orders, accepted, accepted-verdict, reply-verdict}
 use Rattle.file_pair.specs.Pair.{pairConditions}
 use Rattle.file_write.specs.Writing.{WriteOutcome, circuitConditions, writeConditions, writing, writeReply}
 use Rattle.file_write.proofs.Writing.{writing-refused}
@@ -37,7 +37,6 @@ use Rattle.call_merge.specs.Call.{mergeConditions, merging}
 use Rattle.call_merge.proofs.Promise.{pattern-accepted, merged-accepted, merged-circuit}
 use Rattle.demands.specs.Demands.{graph, placed, mergedFile}
 use Rattle.demands.specs.Limit.{before, readingBefore, radiusBefore, placedBefore, mergingBefore, reportBefore, TurnedAway, AsBefore, Limit}
-use Rattle.demands.proofs.Decided.{reply-verdict}
 use Rattle.demands.proofs.Merged.{file-is}
 
 -- ---- which patterns

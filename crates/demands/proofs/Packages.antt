@@ -1,7 +1,8 @@
 -- Ask 6: what equal is, and the converter. Assumes nothing.
-use Rattle.base_lists.specs.Kit.{_≡_, _∙_, sym, ap, refl, subst, _↔_, Bool, false, true, List, ℕ, _≤_, _<_, ltb, length, getD, take, List·getD-eq-default, take-at, arith, ltb-false, ltb-true}
+use Rattle.base_lists.specs.Kit.{_≡_, _∙_, ap, refl, _↔_, Bool, false, true, List, ℕ, _≤_, _<_, ltb, length, getD, take, List·getD-eq-default, take-at, arith, ltb-false, ltb-true}
 use Rattle.base_lists.specs.List.{Below}
 use Rattle.base_lists.proofs.Tables.{getD-tabulate}
+use Rattle.base_lists.proofs.Entries.{below-getD, below-all}
 use Rattle.file_format.specs.Circuit.{circuitOf}
 use Rattle.file_format.specs.Label.{label, labels}
 use Rattle.file_format.specs.Layout.{CircuitFile, inEdition, lengthOf, nodesOf, linksOf, kindsOf, packagesOf, labelsOf}
@@ -12,18 +13,8 @@ use Rattle.table.specs.Host.{KindsMatch}
 use Rattle.call_convert.specs.Call.{convertedBytes, ConvertOutcome, converting}
 use Rattle.call_convert.proofs.Promise.{converted-length, converted-circuit, convert-sound, convert-accepts, there-and-back}
 use Rattle.demands.specs.Packages.{kindAt, packageAt, Ask6}
-use Rattle.demands.proofs.Demands.{of-bytes}
 
 -- ---- which part and node are equal
-
--- an entry below a bound, past the end too
-below-all : (k : ℕ) (l : List ℕ) → 0 < k → Below k l → (i : ℕ) → getD l i 0 < k
-unfolding Below
-below-all k l z b i = go (ltb i (length l)) refl
-  where
-    go : (t : Bool) → ltb i (length l) ≡ t → getD l i 0 < k
-    go true e = b i (ltb-true i (length l) e)
-    go false e = subst (λ (x : ℕ). x < k) (sym (List·getD-eq-default l 0 (ltb-false i (length l) e))) z
 
 -- a node's label, past the last node too
 label-at : (file : CircuitFile) (v : ℕ) → getD (labelsOf file) v 0 ≡ label (kindAt file v) (packageAt file v)
@@ -41,7 +32,7 @@ label-at file v = go (ltb v (nodesOf file)) refl
         rw (List·getD-eq-default (labelsOf file) 0 inLabels, List·getD-eq-default (kindsOf file) 0 inKinds, List·getD-eq-default (packagesOf file) 0 inPackages)
 
 kind-low : (file : CircuitFile) → Below 256 (file .bytes) → (v : ℕ) → kindAt file v < 65536
-kind-low file low = below-all 65536 (kindsOf file) (omega arith) (kinds-low file (below-all 256 (file .bytes) (omega arith) low))
+kind-low file low = below-getD 65536 (kindsOf file) (omega arith) (kinds-low file (below-getD 256 (file .bytes) (omega arith) low))
 
 -- "Packages": the equality, and the converter.
 pub ask-6 : Ask6
@@ -68,7 +59,7 @@ ask-6 =
           ∙ take-at (convertedBytes to file) _ _ (converted-length role to file (s .content)) in
           rw size (
             ap (λ (b : List ℕ). circuitOf (inEdition to b)) front ∙ converted-circuit role to file (s .content) (s .kept),
-            ap (λ (o : ConvertOutcome). take (length (file .bytes)) (o .out)) (there-and-back role to file out out′ (of-bytes file bytes) ok room)
+            ap (λ (o : ConvertOutcome). take (length (file .bytes)) (o .out)) (there-and-back role to file out out′ (below-all 256 (file .bytes) bytes) ok room)
                 ∙ take-at (file .bytes) _ (length (file .bytes)) refl,
           );
     }

@@ -1,8 +1,9 @@
 -- The search for the component: its steps on tables, the loop's invariant, and that what it reaches is what walks join to the centre.
 -- Assumes nothing.
-use Rattle.base_lists.specs.Kit.{_≡_, _∙_, sym, ap, refl, subst, _↔_, ⊎-elim, inl, inr, Bool, false, true, _&&_, not, List, [], _∷_, ℕ, _≤_, _<_, _+_, suc, zero, not-suc-le-zero, le-refl, le-of-suc-le-suc, zero-lt-suc, le-step, T, length, getD, getD-take, arith}
+use Rattle.base_lists.specs.Kit.{_≡_, _∙_, sym, ap, refl, subst, _↔_, ⊎-elim, inl, inr, Bool, false, true, _&&_, not, List, [], _∷_, ℕ, _≤_, _<_, _+_, suc, zero, not-suc-le-zero, le-refl, zero-lt-suc, le-step, T, length, getD, getD-take, arith, T-not}
 use Rattle.base_lists.specs.List.{Occurs, Below}
-use Rattle.base_lists.proofs.Tests.{both, both-left, both-right, T-true, true-T}
+use Rattle.base_lists.proofs.Tests.{both, both-left, both-right, T-true, true-T, lt-or-le}
+use Rattle.base_lists.proofs.Entries.{below-append, occurs-one}
 use Rattle.base_bits.specs.Bits.{unionOver}
 use Rattle.graph.specs.Bfs.{State, scan, start, Ready, Adjacency, stateOf}
 use Rattle.graph.specs.Circuit.{HasLink}
@@ -10,10 +11,9 @@ use Rattle.graph.specs.Graph.{Walk, stay, step}
 use Rattle.graph.specs.Net.{driven, driving, Net}
 use Rattle.graph.specs.Search.{far, inside, ball}
 use Rattle.graph.proofs.Ball.{Within, component-iff}
-use Rattle.graph.proofs.Below.{below-append}
 use Rattle.graph.proofs.Net.{driven-below, driving-below}
-use Rattle.graph.proofs.BfsSteps.{scan-append, extends-scan, extends-take, ready-scan}
-use Rattle.graph.proofs.BfsScan.{lt-or-le, elem, elem-occurs, occurs-elem, after-cases, after-new, scan-dist}
+use Rattle.graph.proofs.BfsSteps.{scan-append, extends-scan, ready-scan, extends-entry}
+use Rattle.graph.proofs.BfsScan.{elem, elem-occurs, occurs-elem, after-cases, after-new, scan-dist}
 use Rattle.graph.proofs.Reached.{Near, Listed, listed-scan, listed-start}
 use Rattle.table.specs.Fill.{Distinct}
 use Rattle.table.specs.Prepared.{succOf, predOf, Tables}
@@ -65,12 +65,8 @@ module _ (n c : ℕ) (adj : ℕ → List ℕ) where
         listed = l;
         centre = l .near c (zero, zero-lt-suc _, refl);
         done = λ j w m. absurd (not-suc-le-zero m);
-        least = λ p t closed v m f. subst (λ x. T (p x)) (only v (l .complete v m f)) t;
+        least = λ p t closed v m f. subst (λ x. T (p x)) (occurs-one c v (l .complete v m f)) t;
       }
-    where
-      only : (v : ℕ) → Occurs (c ∷ []) v → c ≡ v
-      only v (zero, m, e) = e
-      only v (suc j, m, e) = absurd (not-suc-le-zero (le-of-suc-le-suc m))
 
   -- one turn: the neighbours of the next node are visited
   module _ (i : ℕ) (s : State) (g : Spreading n c adj i s) (more : i < length (s .reached)) (b : Below n (adj (getD (s .reached) i 0))) where
@@ -95,17 +91,10 @@ module _ (n c : ℕ) (adj : ℕ → List ℕ) where
         (λ e. let z = scan-dist 0 s (adj node) w ∙ after-new 0 (getD (s .dist) w 0) (elem w (adj node)) e (T-true (occurs-elem w (adj node) o)) in omega arith)
         q
 
-    -- the nodes reached before stand where they stood
-    same-node : (j : ℕ) → j < length (s .reached) → getD (next .reached) j 0 ≡ getD (s .reached) j 0
-    same-node j h =
-        let m = length (s .reached) in
-        sym (getD-take m (next .reached) j 0 h) ∙ ap (λ (l : List ℕ). getD l j 0) (extends-take m s next (extends-scan 0 s (adj node)) (le-refl m))
-        ∙ getD-take m (s .reached) j 0 h
-
     next-done : (j w : ℕ) → j < i + 1 → Occurs (adj (getD (next .reached) j 0)) w → Near next w
     next-done j w h o =
         let h′ : j < length (s .reached) = omega arith in
-        let o′ : Occurs (adj (getD (s .reached) j 0)) w = subst (λ x. Occurs (adj x) w) (same-node j h′) o in
+        let o′ : Occurs (adj (getD (s .reached) j 0)) w = subst (λ x. Occurs (adj x) w) (extends-entry s next (extends-scan 0 s (adj node)) j h′) o in
         ⊎-elim
         (λ m. stays w (g .done j w m o′))
         (λ m. visited w (subst (λ x. Occurs (adj (getD (s .reached) x 0)) w) (omega arith) o′))
@@ -168,22 +157,18 @@ spread-from {n} {c} {adj} {Link} {dist} a g x h f =
         let l : w < n = subst (λ (y : ℕ). y < n) (o .2) (a .inside v m (o .0) (o .1)) in
         (l, a .joined w v l .1 (⊎-elim inr inl (a .joined v w m .0 o)))
 
-    clash : (b : Bool) → T (not b) → T b → ⊥
-    clash true t u = t
-    clash false t u = u
-
     others : (p : ℕ → Bool) → ClosedSet n adj p → ClosedSet n adj (λ v. not (p v))
     others p closed v w m t o = at (p w) refl
       where
         at : (b : Bool) → p w ≡ b → T (not b)
         at false e = tt
-        at true e = let (l, o′) = back v w m o in absurd (clash (p v) t (closed w v l (true-T e) o′))
+        at true e = let (l, o′) = back v w m o in absurd (T-not (p v) t (closed w v l (true-T e) o′))
 
     go : (p : ℕ → Bool) → T (p x) → ClosedSet n adj p → (b : Bool) → p c ≡ b → (v : ℕ) → v < n → Reached dist v → T (p v)
     go p t closed true e v m r = g .least p (true-T e) closed v m r
     go p t closed false e v m r =
         let other : T (not (p x)) = g .least (λ y. not (p y)) (true-T (ap not e)) (others p closed) x h f in
-        absurd (clash (p x) other t)
+        absurd (T-not (p x) other t)
 
 -- What is reached along one adjacency is reached along another, where the two list the same for the nodes of a set that has the centre and, with a
 -- node, what is listed for it.

@@ -1,10 +1,9 @@
 -- The centre's component in the whole board's match graph. Where matching links lead to all of it in r steps, or the board's links
 -- to as many nodes with its label as it has, the ball holds it, and the place is the component with its matching links; else the place comes from those nodes
 -- of the ball that have its label. Assumes nothing.
-use Rattle.base_lists.specs.Kit.{_≡_, _∙_, sym, ap, refl, subst, ⊎-elim, inl, inr, Bool, false, true, cond, List, [], _++_, append-nil, ℕ, _≤_, _<_, _^_, T, eqb, eqb→eq, length, getD, take-length, arith, eq-eqb}
+use Rattle.base_lists.specs.Kit.{_≡_, _∙_, sym, ap, refl, subst, ⊎-elim, inl, inr, Bool, true, List, [], _++_, append-nil, ℕ, _≤_, _<_, _^_, T, eqb, eqb→eq, length, getD, take-length, arith, eq-eqb}
 use Rattle.base_lists.specs.List.{Occurs, Below}
 use Rattle.base_lists.proofs.Tests.{true-T, any-at, at-any}
-use Rattle.base_lists.proofs.Tables.{getD-tabulate}
 use Rattle.graph.specs.Bfs.{bfs, adjacent, Found as Searched}
 use Rattle.graph.specs.Circuit.{Circuit}
 use Rattle.graph.specs.Search.{inside}
@@ -14,7 +13,7 @@ use Rattle.table.specs.Fill.{listed, marksOf, NodeList}
 use Rattle.table.specs.First.{Written}
 use Rattle.table.specs.Host.{Taken, everything}
 use Rattle.table.specs.Prepared.{Tables}
-use Rattle.table.proofs.Begun.{copied-begins}
+use Rattle.table.proofs.Begun.{copied-begins, inside-marks}
 use Rattle.table.proofs.Host.{everything-taken}
 use Rattle.table.proofs.Meaning.{last-fits}
 use Rattle.table.proofs.Sets.{fits-word}
@@ -30,15 +29,6 @@ use Rattle.place_components.proofs.Labels.{match-adjacency, spread-same}
 use Rattle.place_components.proofs.Covering.{covered-spread}
 use Rattle.report_centres.specs.Pieces.{Source, CentreLabelled, Cut}
 use Rattle.report_centres.proofs.Centre.{source-tabled, source-long}
-
--- a node is marked where it is listed
-inside-marks : (n : ℕ) (nodes : List ℕ) (v : ℕ) → v < n → inside (marksOf n nodes) v ≡ listed nodes v
-unfolding inside marksOf
-inside-marks n nodes v h = ap (λ (x : ℕ). eqb x 1) (getD-tabulate n (λ v. cond (listed nodes v) 1 0) v 0 h) ∙ go (listed nodes v)
-  where
-    go : (b : Bool) → eqb (cond b 1 0) 1 ≡ b
-    go true = refl
-    go false = refl
 
 module _ {pattern board : Circuit} {t : Tables} {table : List ℕ} {r : ℕ} (s : Source pattern board t table r) where
   abbrev n : ℕ

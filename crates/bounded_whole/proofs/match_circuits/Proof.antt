@@ -1,9 +1,8 @@
 -- `bounded_whole::match_circuits` meets its contract: the masks and the neighbour tables are prepared, and the pairs are struck from there.
 -- Assumes nothing.
 use Rattle.base_lists.specs.Kit.{now, _≡_, refl, needs}
+use Rattle.base_lists.proofs.Entries.{all-below, below-wider}
 use Rattle.graph.specs.Circuit.{circuit}
-use Rattle.graph.proofs.Below.{below-wider}
-use Rattle.graph.proofs.Groups.{all-below}
 use Rattle.file_format.proofs.Accepted.{bounded-starts, bounded-ends}
 use Rattle.table.specs.Prepared.{tables}
 use Rattle.bounded_strike.specs.Prepared.{BoundPrepared}
@@ -20,7 +19,7 @@ bound-masks-requires c κs =
     let pattern = p .0 in
     let each = p .1 .0 in (
       (
-        record { some = each .some; most = each .most },
+        each .inside,
         below-wider _ 32 _ (pattern .nodes) (all-below _ _ (bounded-starts pattern)),
         below-wider _ 32 _ (pattern .nodes) (all-below _ _ (bounded-ends pattern)),
       ),

@@ -2,8 +2,9 @@
 -- leads to the state that all of it leads to, and the nodes of the level still stand in the queue. The measure is how many are left.
 -- Assumes nothing.
 use Rattle.base_lists.specs.Kit.{now, _≡_, _∙_, sym, refl, _≤_, _-_, le-refl, length, take, drop, length-take-le, arith, needs}
+use Rattle.base_lists.proofs.Parts.{getD-take-same}
 use Rattle.graph.specs.Bfs.{level, adjacent, stateOf, Searching}
-use Rattle.graph.proofs.BfsSteps.{level-next, level-end, extends-scan, tables-extend, same-entry, queue-node}
+use Rattle.graph.proofs.BfsSteps.{level-next, level-end, extends-scan, tables-extend, queue-node}
 use Rattle.graph_search.proofs.level.Statement.{statement}
 use Rattle.graph_search.proofs.level.Tie as tie
 
@@ -64,7 +65,7 @@ loop-again c =
       call .kept .1 .1 .1 .1 .1 .0 ∙ inv .3,
       longer .1 ∙ inv .4,
       call .ensures .kept,
-      level-next _ (a .d) s _ (take (a .hi) (now (a .queue))) i _ (omega arith) (same-entry (a .hi) _ _ i (inv .4) (omega arith)) (call .ensures .state) ∙ inv .6,
+      level-next _ (a .d) s _ (take (a .hi) (now (a .queue))) i _ (omega arith) (getD-take-same (a .hi) _ _ i (inv .4) (omega arith)) (call .ensures .state) ∙ inv .6,
     )
 
 same-length : tie.Need-same-length Inv-loop μ-loop

@@ -1,7 +1,8 @@
 -- `report_centres::holds` meets its contract: the component is reached along matching links; or those of its nodes that the ball has are gathered, all of them
 -- where they are as many as it has. Assumes nothing.
-use Rattle.base_lists.specs.Kit.{now, _≡_, _∙_, sym, ap, subst, ⊎-elim, List, ℕ, _≤_, min-le-right, length, take, length-take, length-take-le, needs, eqb-true, eqb-false}
+use Rattle.base_lists.specs.Kit.{now, _≡_, _∙_, sym, ap, ⊎-elim, ℕ, _≤_, length, length-take-le, needs, eqb-true, eqb-false}
 use Rattle.base_lists.proofs.Tests.{false-T}
+use Rattle.base_lists.proofs.Parts.{length-take-room}
 use Rattle.place_components.proofs.Labels.{match-ready, match-adjacency}
 use Rattle.place_components.proofs.Covering.{covered-spread}
 use Rattle.report_centres.proofs.Centre.{source-net}
@@ -23,16 +24,13 @@ same-length-2 c = search needs
 
 -- ---- matching links lead to all of it
 
-short : (m : ℕ) (l : List ℕ) → length (take m l) ≡ m → m ≤ length l
-short m l e = subst (λ (k : ℕ). k ≤ length l) (sym (length-take m l) ∙ e) (min-le-right m (length l))
-
 returns : tie.Need-returns
 returns c =
     let p = c .before .before .before .before .before .before .before .before .before .before .before .before .before .before .before .before .pre in
     let l = p .1 .0 in
     let g = rw (p .1 .1 .0) at (c .before .before .before .before .before .covers .ensures (c .if2 .taken)) in
     record {
-      short = short _ _ (g .count);
+      short = length-take-room _ _ (g .count);
       whole =
           λ _. record {
             comp = _;
