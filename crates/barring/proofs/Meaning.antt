@@ -1,6 +1,6 @@
 -- The test of chosen links means barring: it says whether the largest set of pairs that meets kinds and those links alone has a pair with the
 -- centre. Assumes nothing.
-use Rattle.base_lists.specs.Kit.{_≡_, _∙_, _↔_, Bool, false, true, not, List, ℕ, _≤_, _<_, T, length}
+use Rattle.base_lists.specs.Kit.{_≡_, _∙_, _↔_, List, ℕ, _≤_, _<_, T, length, T-not, not-T}
 use Rattle.graph.specs.Chosen.{chosen, ChosenLink}
 use Rattle.graph.specs.Circuit.{Circuit, graphOf, circuitGraph}
 use Rattle.graph.proofs.Ball.{Within}
@@ -17,14 +17,6 @@ use Rattle.place.proofs.Ball.{ballGraph, BallPairs, taken-ball, found-occurs}
 use Rattle.barring.specs.Barring.{BarsIn}
 use Rattle.barring.specs.Least.{bars}
 use Rattle.barring.proofs.Procedure.{Fewer}
-
-pub not-both : (b : Bool) → T (not b) → T b → ⊥
-not-both true t f = t
-not-both false t f = f
-
-pub none-not : (b : Bool) → (T b → ⊥) → T (not b)
-none-not true f = absurd (f tt)
-none-not false f = tt
 
 module _ (pattern board : Circuit) (most : length (pattern .kinds) ≤ 32) (links : Within (length (board .kinds)) (board .starts) (board .ends)) (w r : ℕ) where
   -- the pairs of the ball's last table for the chosen links
@@ -55,8 +47,8 @@ module _ (pattern board : Circuit) (most : length (pattern .kinds) ≤ 32) (link
   unfolding bars chosen
   bars-none marks =
       let occurs = found-occurs (chosen pattern marks) board most w r in (
-        λ t u m. not-both (found (chosen pattern marks) board w r) t (occurs .1 (u, m)),
-        λ none. none-not (found (chosen pattern marks) board w r) (λ f. let (u, m) = occurs .0 f in none u m),
+        λ t u m. T-not (found (chosen pattern marks) board w r) t (occurs .1 (u, m)),
+        λ none. not-T (found (chosen pattern marks) board w r) (λ f. let (u, m) = occurs .0 f in none u m),
       )
 
   -- A set of links that bars is barring still with more: so says the test of any choice that has them all.

@@ -1,5 +1,5 @@
 -- From the ball's list and first table to the trials, and from the trial of all links to whether the centre has a place. Assumes nothing.
-use Rattle.base_lists.specs.Kit.{_≡_, _∙_, sym, ap, subst, Bool, false, true, not, List, _++_, ℕ, _≤_, _<_, length, take, length-append, take-at, take-append-le, arith, not-false, not-true}
+use Rattle.base_lists.specs.Kit.{_≡_, _∙_, sym, ap, subst, Bool, false, true, not, List, _++_, ℕ, _≤_, _<_, length, take, take-at, take-append-le, not-false, not-true}
 use Rattle.graph.specs.Circuit.{Circuit}
 use Rattle.graph.specs.Net.{NetOf}
 use Rattle.file_format.specs.declared.Role.the-variants as role
@@ -13,17 +13,6 @@ use Rattle.barring.proofs.Least.{all-test}
 use Rattle.barring_find.specs.Ball.{Listed}
 use Rattle.barring_find.specs.Trial.{Tried}
 use Rattle.barring_find.proofs.Drops.{take-ones}
-
--- a front that is short enough for a list is short enough for a longer one
-pub room : (k : ℕ) (xs ys : List ℕ) → k ≤ length xs → k ≤ length (xs ++ ys)
-room k xs ys h = omega (arith, length-append xs ys)
-
--- the front of a longer list that has the entries of a list
-pub cut-room : (n : ℕ) (xs ys : List ℕ) → length xs ≡ n → n ≤ length (xs ++ ys)
-cut-room n xs ys e = omega (arith, length-append xs ys)
-
-pub cut-size : (n : ℕ) (xs ys : List ℕ) → length xs ≡ n → n ≡ length (take n (xs ++ ys))
-cut-size n xs ys e = sym (ap length (take-at xs ys n e) ∙ e)
 
 -- ---- a trial in the ball that was listed, whose list and table are cut from longer ones
 

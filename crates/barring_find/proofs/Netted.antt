@@ -1,11 +1,11 @@
 -- Over a board's neighbour tables the search lists the ball. Assumes nothing.
 use Rattle.base_lists.specs.Kit.{_≡_, List, ℕ, _≤_, _<_, length, take}
 use Rattle.base_lists.specs.List.{Below}
+use Rattle.base_lists.proofs.Entries.{all-below}
 use Rattle.graph.specs.Bfs.{bfs, adjacent, Found}
 use Rattle.graph.specs.Circuit.{Circuit}
 use Rattle.graph.specs.Net.{Net, NetOf}
 use Rattle.graph.proofs.Ball.{Within, within}
-use Rattle.graph.proofs.Groups.{all-below}
 use Rattle.graph.proofs.Net.{net-of}
 use Rattle.file_format.specs.declared.Role.the-variants as role
 use Rattle.file_format.specs.Circuit.{Bounded}

@@ -1,12 +1,11 @@
 -- From what a trial starts from to what it says. Assumes nothing.
 use Rattle.base_lists.specs.Kit.{_≡_, _∙_, sym, ap, refl, subst, Bool, false, true, cond, Bool·not-not, List, _++_, ℕ, _≤_, _<_, eqb, length, getD}
 use Rattle.base_lists.specs.List.{Below}
-use Rattle.base_lists.proofs.Tables.{length-tabulate, getD-tabulate, tabulate-same}
+use Rattle.base_lists.proofs.Tables.{getD-tabulate, tabulate-same}
+use Rattle.base_lists.proofs.Entries.{all-below, below-wider}
 use Rattle.graph.specs.Chosen.{picked, chosen}
 use Rattle.graph.specs.Circuit.{Circuit}
-use Rattle.graph.proofs.Below.{below-wider}
 use Rattle.graph.proofs.Chosen.{picked-below}
-use Rattle.graph.proofs.Groups.{all-below}
 use Rattle.file_format.proofs.Accepted.{bounded-starts, bounded-ends}
 use Rattle.table.specs.Fill.{listed, marksOf, tableAt}
 use Rattle.table.specs.First.{startNode, Written, Begins}
@@ -14,15 +13,12 @@ use Rattle.table.specs.Prepared.{Masked, Tables, tables}
 use Rattle.table.specs.Refine.{Known}
 use Rattle.table.specs.Row.{bothWays, lastTable}
 use Rattle.table.proofs.Begun.{started-begins}
+use Rattle.table.proofs.Fill.{length-table}
 use Rattle.place.specs.Match.{ballTable, found}
 use Rattle.barring.specs.Least.{bars}
 use Rattle.barring_find.specs.Trial.{Begun, Tried}
 
 -- ---- the first table, copied
-
-length-at : (n : ℕ) (f : ℕ → ℕ) (nodes : List ℕ) → length (tableAt n f nodes) ≡ n
-unfolding tableAt
-length-at n f nodes = length-tabulate n (λ v. cond (listed nodes v) (f v) 0)
 
 -- what is written is the rule's table, whatever its length is called
 pub written-at : {m n : ℕ} {f : ℕ → ℕ} {nodes table : List ℕ} {count : ℕ} → Written m f nodes table count → m ≡ n → table ≡ tableAt n f nodes
@@ -42,7 +38,7 @@ copied-again n f nodes =
 module _ {pattern board : Circuit} {t : Tables} {nodes first : List ℕ} (b : Begun pattern board t nodes first) where
   -- there is a set for each node
   pub begun-long : length first ≡ length (board .kinds)
-  begun-long = ap length (b .agree) ∙ length-at _ _ nodes
+  begun-long = ap length (b .agree) ∙ length-table _ _ nodes
 
   module _ {n : ℕ} (long : n ≡ length first) {table : List ℕ} {count : ℕ} (w : Written n (λ v. getD first v 0) nodes table count) where
     -- the copy is the table of the pairs that agree
@@ -64,7 +60,7 @@ module _ {pattern board : Circuit} {t : Tables} {nodes first : List ℕ} (b : Be
     copied-known = record { ways = bothWays; pattern = pattern; host = board; prepared = b .prepared; begins = copied-begins }
 
     pub copied-long : length table ≡ length (board .kinds)
-    copied-long = ap length (w .made) ∙ length-at n _ nodes ∙ long ∙ begun-long
+    copied-long = ap length (w .made) ∙ length-table n _ nodes ∙ long ∙ begun-long
 
 -- ---- chosen masks
 
@@ -82,7 +78,7 @@ module _ {pattern board : Circuit} {offsets links : List ℕ} {w r : ℕ} {nodes
   tried-ends = below-wider _ 32 _ (s .parts .nodes) (all-below _ _ (bounded-ends (s .parts)))
 
   pub tried-long : length first ≡ length (board .kinds)
-  tried-long = ap length (s .agree) ∙ length-at _ _ nodes
+  tried-long = ap length (s .agree) ∙ length-table _ _ nodes
 
   module _ {masks : List ℕ} (marks : List ℕ) (m : Masked (picked marks (pattern .starts)) (picked marks (pattern .ends)) masks) where
     -- with the masks of the chosen links it is the same for the pattern that has these alone

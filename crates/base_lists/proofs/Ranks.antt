@@ -149,14 +149,6 @@ collect-agree (suc n) p q f g d e =
           (λ i h. d (suc i) (suc-le-suc h)) (λ i h. e (suc i) (suc-le-suc h)),
     )
 
--- ---- lists one after another
-
-pub concatBelow-same : (n : ℕ) (g h : ℕ → List ℕ) → ((a : ℕ) → a < n → g a ≡ h a) → concatBelow n g ≡ concatBelow n h
-unfolding concatBelow
-concatBelow-same zero g h e = refl
-concatBelow-same (suc n) g h e =
-    ap₂ (λ (xs ys : List ℕ). xs ++ ys) (concatBelow-same n g h (λ a l. e a (omega arith))) (e n (omega arith))
-
 -- ---- rows of k pairs: pair number a k + b is (a, b)
 
 module _ (k : ℕ) (some : zero < k) where

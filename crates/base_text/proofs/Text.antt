@@ -1,16 +1,11 @@
 -- Laws of text written into a table, pieces one after another, the room that they need, and the whole table; of decimal numerals; and of
 -- names.
 -- Assumes nothing.
-use Rattle.base_lists.specs.Kit.{_≡_, _∙_, sym, ap, refl, Bool, false, true, cond, List, [], _∷_, _++_, ℕ, _≤_, _<_, _+_, suc, zero, _*_, _^_, _/_, _%_, le-of-eq, zero-add, pow-suc, ltb, length, getD, drop, set, length-append, sets, sets-eq, length-sets, arith, le-ltb, lt-ltb, ltb-false, ltb-true}
-use Rattle.base_lists.proofs.Tables.{getD-tabulate}
+use Rattle.base_lists.specs.Kit.{_≡_, _∙_, sym, ap, refl, Bool, false, true, cond, List, [], _∷_, _++_, ℕ, _≤_, _<_, _+_, suc, zero, _*_, _^_, _/_, _%_, le-of-eq, zero-add, pow-suc, ltb, length, getD, drop, set, length-append, sets-eq, length-sets, arith, le-ltb, lt-ltb, ltb-false, ltb-true}
+use Rattle.base_lists.proofs.Tables.{getD-tabulate, sets-append}
 use Rattle.base_text.specs.Text.{digits, decimal, fourBytes, nameOf, Names, Put, Fits}
 
 -- ---- writing
-
-stores-append : (out : List ℕ) (at : ℕ) (xs ys : List ℕ) → sets (sets out at xs) (at + length xs) ys ≡ sets out at (xs ++ ys)
-stores-append out at [] ys = ap (λ (n : ℕ). sets out n ys) (omega arith)
-stores-append out at (b ∷ bs) ys =
-    ap (λ (n : ℕ). sets (sets (set out at b) (suc at) bs) n ys) (omega arith) ∙ stores-append (set out at b) (suc at) bs ys
 
 -- one byte
 pub put-one : (o : List ℕ) (at b : ℕ) → Put o at (b ∷ []) (set o at b) (at + 1)
@@ -33,7 +28,7 @@ put-four-bytes o at a b c d =
 pub put-then : {o o1 o2 xs ys : List ℕ} {at p q : ℕ} → Put o at xs o1 p → Put o1 p ys o2 q → Put o at (xs ++ ys) o2 q
 put-then {o} {o1} {o2} {xs} {ys} {at} {p} {q} f g =
     record {
-      table = g .table ∙ rw (f .table, f .end) (stores-append o at xs ys);
+      table = g .table ∙ rw (f .table, f .end) (sets-append o at xs ys);
       end = g .end ∙ rw (f .end, length-append xs ys) (omega arith);
     }
 
@@ -102,7 +97,7 @@ decimal-three x h l =
 length-more : (x : ℕ) → 10 ≤ x → length (decimal x) ≡ length (decimal (x / 10)) + 1
 length-more x h = ap length (decimal-more x h) ∙ length-append (decimal (x / 10)) _
 
-length-digit : (x : ℕ) → x < 10 → length (decimal x) ≡ 1
+pub length-digit : (x : ℕ) → x < 10 → length (decimal x) ≡ 1
 length-digit x h = ap length (decimal-digit x h)
 
 -- a number below 10 ^ k has at most k digits, k being 1 or more

@@ -4,7 +4,6 @@ use Rattle.base_lists.specs.Kit.{_≡_, refl, _↔_, inl, inr, Iff·rfl, Iff·t
 use Rattle.base_lists.specs.List.{Occurs}
 use Rattle.base_lists.proofs.Tests.{true-T}
 use Rattle.graph.specs.Circuit.{Circuit, HasLink, graphOf, circuitGraph}
-use Rattle.graph.proofs.Groups.{select-mem, select-mem-back}
 use Rattle.simulation.specs.Closed.{Relation, _⊆_, Closed, Occurring}
 use Rattle.simulation.specs.Simulation.{Direction, forwards, backwards, Along}
 use Rattle.simulation.proofs.Simulation.{along-wider}
@@ -14,6 +13,7 @@ use Rattle.table_row.proofs.Answer as Of
 use Rattle.table.specs.Host.{KindsMatch}
 use Rattle.table.specs.Row.{neighbours}
 use Rattle.table.proofs.Agreement.{agrees-kinds}
+use Rattle.table.proofs.Row.{neighbours-along}
 use Rattle.bounded.specs.Simulation.{BoundedSimulation, LargestBounded}
 use Rattle.bounded.specs.Problem.{Bounds, boundedGraph, ofBound, within, labelled, everyLabel, boundedProblem, boundedTable}
 use Rattle.bounded.specs.Run.{Steps, Moves, Candidates}
@@ -21,12 +21,6 @@ use Rattle.graph.proofs.Chosen.{kept-iff}
 use Rattle.bounded.proofs.Paths.{within-wider, within-along, within-iff}
 
 -- ---- links and moves
-
--- a node's neighbours are those to which a link leads
-pub neighbours-along : (c : Circuit) (d : Direction) (v w : ℕ) → Occurs (neighbours c d v) w ↔ Along (HasLink (c .starts) (c .ends)) d v w
-unfolding neighbours Along
-neighbours-along c forwards v w = select-mem (c .starts) (c .ends) v w
-neighbours-along c backwards v w = select-mem-back (c .starts) (c .ends) v w
 
 -- two relations that say the same say the same in each direction
 along-same : {R S : Relation} → ((v w : ℕ) → R v w ↔ S v w) → (d : Direction) (v w : ℕ) → Along R d v w ↔ Along S d v w
@@ -86,7 +80,7 @@ module _ (pattern : Circuit) (bounds : List ℕ) (board : Circuit) where
     known-label : (d : Direction) (h i : ℕ) → i < length (pattern .starts) → getD bounds i 0 ≡ h → Way everyLabel (labelled d h)
     known-label d h i b e =
         let b′ : i < length bounds = omega (arith, each .each, b) in
-        has-label d h (omega (arith, each .some i b′, e)) (omega (arith, each .most i b′, e))
+        has-label d h (omega (arith, each .inside .some i b′, e)) (omega (arith, each .inside .most i b′, e))
 
     pub step-way : (d : Direction) (h u u′ : ℕ) → Steps pattern bounds (labelled d h) u u′ → Way everyLabel (labelled d h)
     unfolding boundedGraph Along

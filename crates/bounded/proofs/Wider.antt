@@ -18,11 +18,12 @@ use Rattle.table.specs.Answer.{answerTable, answerCounts, answerCountsBy}
 use Rattle.table.specs.Host.{everything}
 use Rattle.table.specs.Row.{agrees, neighbours, problemBy, problemOf}
 use Rattle.table.proofs.Host.{everything-taken}
+use Rattle.table.proofs.Row.{neighbours-along}
 use Rattle.bounded.specs.Raised.{Raised, AllOne}
 use Rattle.bounded.specs.Problem.{Bounds, boundedGraph, labelled, boundedProblem, boundedTable, boundedCounts}
 use Rattle.bounded.proofs.Paths.{within-wider, one-path, path-one}
 use Rattle.bounded.specs.Run.{Steps, Moves}
-use Rattle.bounded.proofs.Meaning.{neighbours-along, steps-iff, moves-iff, step-way}
+use Rattle.bounded.proofs.Meaning.{steps-iff, moves-iff, step-way}
 
 -- ---- larger bounds
 

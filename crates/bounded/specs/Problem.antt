@@ -13,15 +13,15 @@ use Rattle.bounded.specs.Simulation.{BoundedGraph}
 
 -- ---- the pattern
 
--- "a bound for each link, 1 to 4"
-abbrev pub widestBound : ℕ
-widestBound = 4
+-- "a bound for each link, 1 to 4": every bound of a list is from 1 to 4
+pub record InBounds (bounds : List ℕ) : Type 0 where
+  pub some : (i : ℕ) → i < length bounds → 1 ≤ getD bounds i 0
+  pub most : (i : ℕ) → i < length bounds → getD bounds i 0 ≤ 4
 
--- a list of bounds for the links of a pattern
+-- and a pattern has one for each link
 pub record Bounds (pattern : Circuit) (bounds : List ℕ) : Type 0 where
   pub each : length bounds ≡ length (pattern .starts)
-  pub some : (i : ℕ) → i < length bounds → 1 ≤ getD bounds i 0
-  pub most : (i : ℕ) → i < length bounds → getD bounds i 0 ≤ widestBound
+  pub inside : InBounds bounds
 
 -- the pattern's i-th link has the i-th bound
 unfoldable pub boundedGraph : Circuit → List ℕ → BoundedGraph

@@ -3,7 +3,7 @@ use Rattle.base_lists.specs.Kit.{_≡_, List, ℕ, _≤_, _<_, _+_, _-_, _*_, l
 use Rattle.base_lists.specs.List.{Below}
 use Rattle.base_lists.proofs.Tables.{length-tabulate, getD-tabulate}
 use Rattle.bounded_strike.specs.Prepared.{keyAt, keyed}
-use Rattle.bounded_prepare.specs.InBounds.{InBounds}
+use Rattle.bounded.specs.Problem.{InBounds}
 
 pub length-keyed : (bounds keys : List ℕ) → length (keyed bounds keys) ≡ length keys
 unfolding keyed

@@ -1,11 +1,13 @@
 -- One round of striking as the program does it, over neighbour tables and masks: what the contracts of the inner functions cite. proofs/Row
 -- ties it to the row of sets.
-use Rattle.base_lists.specs.Kit.{_≡_, List, ℕ, _≤_, _<_, suc, zero, _*_, _^_, length, getD}
+use Rattle.base_lists.specs.Kit.{_≡_, List, ℕ, _≤_, _<_, suc, zero, _*_, _^_, length}
 use Rattle.base_lists.specs.List.{part}
+use Rattle.base_bits.specs.Bits.{Words}
 use Rattle.graph.specs.Net.{Net}
 use Rattle.graph_neighbours.specs.Lookup.{neighboursIn}
 use Rattle.graph_neighbours.specs.declared.neighbours.Direction.the-variants.{Forward, Backward}
 use Rattle.table.specs.Prepared.{Tables}
+use Rattle.table_row.specs.Row.{Falls}
 use Rattle.table.specs.Row.{pairs}
 use Rattle.bounded_layer.specs.Pass.{passTable, nextLayer}
 
@@ -38,7 +40,7 @@ roundTimes t top old (suc k) = roundTable t top (roundTimes t top old k)
 pub record Ready (t : Tables) (top : ℕ) (old : List ℕ) : Type 0 where
   pub masks : length (t .masks) ≡ 256
   pub net : Net (length old) (t .offsets) (t .links)
-  pub small : (v : ℕ) → getD old v 0 < 2 ^ 32
+  pub small : Words old
   pub some : 1 ≤ top
   pub most : top ≤ 4
   pub short : length old ≤ 512
@@ -46,7 +48,7 @@ pub record Ready (t : Tables) (top : ℕ) (old : List ℕ) : Type 0 where
 -- Where the loop stands: `old` is the table after some rounds, each of which struck a pair.
 pub record Turn (t : Tables) (top : ℕ) (start old : List ℕ) (kept rounds : ℕ) : Type 0 where
   pub table : old ≡ roundTimes t top start rounds
-  pub falls : (j : ℕ) → j < rounds → pairs (roundTimes t top start (suc j)) < pairs (roundTimes t top start j)
+  pub falls : Falls pairs (roundTimes t top start) rounds
   pub count : kept ≡ pairs old
   pub ready : Ready t top old
 
@@ -54,5 +56,5 @@ pub record Turn (t : Tables) (top : ℕ) (start old : List ℕ) (kept rounds : �
 pub record Settled (t : Tables) (top : ℕ) (start last : List ℕ) (kept rounds : ℕ) : Type 0 where
   pub table : last ≡ roundTimes t top start rounds
   pub stops : roundTable t top last ≡ last
-  pub falls : (j : ℕ) → j < rounds → pairs (roundTimes t top start (suc j)) < pairs (roundTimes t top start j)
+  pub falls : Falls pairs (roundTimes t top start) rounds
   pub count : kept ≡ pairs last

@@ -3,13 +3,13 @@ use Rattle.base_lists.specs.Kit.{_≡_, _∙_, sym, ap, refl, subst, Bool, fals
 use Rattle.base_lists.specs.List.{tabulate}
 use Rattle.base_lists.proofs.Tests.{T-true, true-T}
 use Rattle.base_lists.proofs.Tables.{tabulate-same}
+use Rattle.base_lists.proofs.Entries.{all-below}
 use Rattle.base_bits.proofs.Numbers.{number-same}
 use Rattle.file_format.specs.Circuit.{Bounded}
 use Rattle.file_format.specs.declared.Role.the-variants.{Pattern}
 use Rattle.file_format.proofs.Accepted.{bounded-starts, bounded-ends}
 use Rattle.graph.specs.Circuit.{Circuit}
 use Rattle.graph.specs.Net.{NetOf}
-use Rattle.graph.proofs.Groups.{all-below}
 use Rattle.graph.specs.Search.{inside}
 use Rattle.graph.proofs.Net.{net-of, net-few}
 use Rattle.table_row.specs.Problem.{Problem}
@@ -206,5 +206,5 @@ pub ones-answer :
     {pattern : Circuit} {bounds : List ℕ} {board : Circuit} {table : List ℕ} {counts : Counts} {top : ℕ} → Bounds pattern bounds → Top bounds top → top < 2 →
     AnsweredOn bothWays pattern board table counts → BoundedAnswer pattern bounds board table counts
 ones-answer {pattern} {bounds} {board} each upto few a =
-    let one : AllOne bounds = λ i h. omega (arith, each .some i h, upto .each i h, few) in
+    let one : AllOne bounds = λ i h. omega (arith, each .inside .some i h, upto .each i h, few) in
     record { counted = a .counted ∙ sym (ones-counts pattern bounds board each one); last = a .last ∙ sym (ones-table pattern bounds board each one) }

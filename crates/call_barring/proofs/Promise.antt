@@ -1,6 +1,6 @@
 -- What the promise of the call means: 15 exactly where the centre has a place; else the bytes mark links that bar, of which none can be spared.
 -- Assumes nothing.
-use Rattle.base_lists.specs.Kit.{_≡_, _∙_, sym, ap, refl, _↔_, ⊎-elim, List, [], _∷_, _++_, ℕ, _≤_, _<_, T, length, take, drop, take-at, drop-at, le-ltb, lt-ltb}
+use Rattle.base_lists.specs.Kit.{_≡_, _∙_, sym, ap, _↔_, ⊎-elim, List, [], _∷_, _++_, ℕ, _≤_, _<_, T, length, take, drop, take-at, drop-at, le-ltb, lt-ltb}
 use Rattle.base_lists.proofs.Tests.{T-true, T-false, false-T, decide}
 use Rattle.graph.specs.Chosen.{ChosenLink}
 use Rattle.graph.specs.Circuit.{Circuit, circuitGraph}
@@ -13,10 +13,10 @@ use Rattle.file_format.specs.declared.Role.the-variants.{Pattern, Board}
 use Rattle.file_format.specs.Circuit.{circuitOf}
 use Rattle.file_format.specs.Layout.{CircuitFile, nodesOf, linksOf}
 use Rattle.file_format.specs.Reading.{filled}
-use Rattle.file_format.specs.Refusals.{Verdict, accept, refuse, first, centreOutside, shortTable, centrePlaced, Accepted}
+use Rattle.file_format.specs.Refusals.{accept, refuse, first, centreOutside, shortTable, centrePlaced, Accepted}
 use Rattle.file_format.specs.Reply.{reply}
 use Rattle.file_format.proofs.Fields.{length-starts}
-use Rattle.file_format.proofs.Refusals.{accepted, accept-not-refuse, first-accept, first-holds, first-parts}
+use Rattle.file_format.proofs.Refusals.{accepted, accept-not-refuse, first-accept, first-holds, first-parts, reply-verdict}
 use Rattle.file_pair.specs.Pair.{pairConditions}
 use Rattle.file_pair.proofs.Both.{pair-accept, pair-parts}
 use Rattle.table.specs.Host.{KindsMatch}
@@ -33,11 +33,6 @@ use Rattle.call_barring.specs.Call.{hasPlace, barInputs, barCall}
 -- number 15, of neither file
 abbrev pub fifteen : Refusal
 fifteen = record { number = 15; file = Neither }
-
-reply-verdict : (v : Verdict) (values : List ℕ) → reply v values .verdict ≡ v
-unfolding reply
-reply-verdict accept values = refl
-reply-verdict (refuse x) values = refl
 
 module _ (pattern board : CircuitFile) (w : ℕ) (out : List ℕ) where
   abbrev P : Circuit

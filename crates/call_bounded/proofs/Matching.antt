@@ -1,5 +1,6 @@
 -- What the call comes to, by cases: a refused file, a short table, or the match. Assumes nothing.
 use Rattle.base_lists.specs.Kit.{_≡_, _∙_, sym, ap, ap₂, List, [], _∷_, _++_, ℕ, _≤_, _<_, length, take, drop, le-ltb, lt-ltb}
+use Rattle.base_lists.proofs.Parts.{length-take-room}
 use Rattle.graph.specs.Circuit.{Circuit}
 use Rattle.file_format.specs.declared.File.the-variants.{Neither}
 use Rattle.file_format.specs.declared.FileRead.{FileRead}
@@ -11,7 +12,7 @@ use Rattle.file_format.specs.Reading.{filled, front, Stands}
 use Rattle.file_format.specs.Refusals.{Verdict, accept, refuse, first, fileConditions, shortTable}
 use Rattle.file_format.proofs.Accepted.{bounded-any}
 use Rattle.file_format.proofs.Fields.{length-labels, length-starts}
-use Rattle.file_format.proofs.Reading.{stands-bounded, front-room}
+use Rattle.file_format.proofs.Reading.{stands-bounded}
 use Rattle.file_format.proofs.Refusals.{first-accept, first-refuse, accepted-verdict}
 use Rattle.file_bounds.specs.Third.{frontOf, boundsOf, thirdConditions, BoundsHeld}
 use Rattle.file_bounds.proofs.Fit.{fit-at}
@@ -63,8 +64,7 @@ module _ (pattern : List ℕ) (e : first (thirdConditions pattern) ≡ accept) w
       let fits = fit-at (boundsOf pattern) (third-accepted pattern e .1) in
       record {
         each = bounds-count pattern ∙ sym (length-starts (frontOf pattern));
-        some = λ i h. fits i h .0;
-        most = λ i h. fits i h .1;
+        inside = record { some = λ i h. fits i h .0; most = λ i h. fits i h .1 };
       }
 
   -- as it was read
@@ -79,7 +79,7 @@ module _ (pattern : List ℕ) (e : first (thirdConditions pattern) ≡ accept) w
     held-length = ap length (held .bounded) ∙ bounds-count pattern ∙ sym (held .stands .links)
 
     pub held-room : read .links ≤ length bounds
-    held-room = front-room (read .links) bounds held-length
+    held-room = length-take-room (read .links) bounds held-length
 
 -- ---- two files
 

@@ -1,7 +1,7 @@
 -- What the exported call's promise means: a refusal is one of the conditions; else the table holds the largest bounded simulation of the pattern
--- in the board, and the counts are those of the row. All bounds 1 give what the second edition gives, and raising a bound takes no pair away.
+-- in the board, and the counts are those of the row. All bounds 1 give what the second edition gives.
 -- Assumes nothing.
-use Rattle.base_lists.specs.Kit.{_≡_, _∙_, sym, refl, subst, List, [], _∷_, _++_, map, append-assoc, ℕ, _≤_, _+_, length, take, drop, take-at, drop-at, arith, le-ltb}
+use Rattle.base_lists.specs.Kit.{_≡_, _∙_, sym, refl, List, [], _∷_, _++_, map, append-assoc, ℕ, _≤_, _+_, length, take, drop, take-at, drop-at, arith, le-ltb}
 use lib.Count.{ones}
 use Rattle.base_lists.specs.List.{sum}
 use Rattle.base_lists.proofs.Tests.{true-T}
@@ -12,33 +12,28 @@ use Rattle.file_format.specs.declared.Role.the-variants.{Board, AnyPattern}
 use Rattle.file_format.specs.Circuit.{circuitOf}
 use Rattle.file_format.specs.Layout.{CircuitFile, field, nodesOf}
 use Rattle.file_format.specs.Reading.{filled}
-use Rattle.file_format.specs.Refusals.{Condition, Verdict, accept, refuse, first, fileConditions, Accepted, shortTable}
+use Rattle.file_format.specs.Refusals.{Verdict, accept, refuse, first, fileConditions, Accepted, shortTable}
 use Rattle.file_format.proofs.Accepted.{accepted-bounded}
 use Rattle.file_format.proofs.Fields.{length-labels}
-use Rattle.file_format.proofs.Refusals.{accepted-verdict, first-accept, first-refuse, first-parts}
+use Rattle.file_format.proofs.Refusals.{accepted-verdict, first-accept, first-parts, first-same}
 use Rattle.file_pair.specs.Pair.{pairConditions}
 use Rattle.file_bounds.specs.Third.{boundedLength, frontOf, boundsOf, thirdConditions}
 use Rattle.file_bounds.proofs.Fit.{at-fit}
 use Rattle.file_bounds.proofs.Third.{third-accepted, front-verdicts}
 use Rattle.bounded.specs.Simulation.{LargestBounded}
 use Rattle.bounded.specs.Problem.{Bounds, boundedGraph, boundedTable, boundedCounts}
-use Rattle.bounded.specs.Raised.{Raised, AllOne}
+use Rattle.bounded.specs.Raised.{AllOne}
 use Rattle.bounded.proofs.Meaning.{bounded-largest}
 use Rattle.bounded.proofs.Run.{bounded-length, bounded-sum, bounded-rounds, bounded-ones}
-use Rattle.bounded.proofs.Wider.{raised-more, ones-table, ones-counts}
+use Rattle.bounded.proofs.Wider.{ones-table, ones-counts}
 use Rattle.call_match.specs.Call.{matchConditions, matchedBy, matchingBy, matching}
-use Rattle.table.specs.declared.Counts.{Counts}
 use Rattle.table.specs.Answer.{answerTable, answerCounts}
 use Rattle.table.specs.Host.{everything, KindsMatch}
 use Rattle.table.specs.Reply.{noCounts, replied}
 use Rattle.table.specs.Row.{bothWays, InTable}
+use Rattle.table.proofs.Reply.{replied-verdict}
 use Rattle.call_bounded.specs.Call.{boundedConditions, boundedBy, boundedMatching}
 use Rattle.call_bounded.proofs.Matching.{third-bounds}
-
-replied-verdict : (v : Verdict) (counts : Counts) → replied v counts .verdict ≡ v
-unfolding replied
-replied-verdict accept counts = refl
-replied-verdict (refuse x) counts = refl
 
 module _ (pattern : List ℕ) (board : CircuitFile) (table : List ℕ) where
   abbrev P : Circuit
@@ -124,19 +119,6 @@ module _ (pattern : List ℕ) (board : CircuitFile) (table : List ℕ) where
     pub counts-ones : boundedMatching pattern board table .reply .counts .kept ≡ sum (map ones (take (nodesOf board) (boundedMatching pattern board table .table)))
     counts-ones = rw (counts-are, front-is) (bounded-ones P (boundsOf pattern) B parts-most)
 
--- ---- raised bounds
-
--- "raising a bound never takes a pair away": of two patterns that differ in their bounds alone, on one board, with any two tables
-pub raised-keeps :
-    (pattern pattern′ : List ℕ) (board : CircuitFile) (table table′ : List ℕ) → frontOf pattern ≡ frontOf pattern′ → Raised (boundsOf pattern) (boundsOf pattern′) →
-    boundedMatching pattern board table .reply .verdict ≡ accept → boundedMatching pattern′ board table′ .reply .verdict ≡ accept →
-    InTable (take (nodesOf board) (boundedMatching pattern board table .table)) ⊆ InTable (take (nodesOf board) (boundedMatching pattern′ board table′ .table))
-raised-keeps pattern pattern′ board table table′ same r ok ok′ u v m =
-    let more = raised-more (circuitOf (frontOf pattern)) (circuitOf board) (bounds-each pattern board table ok) r (parts-most pattern board table ok) u v in
-    let back = subst (λ (t : List ℕ). InTable t u v) (front-is pattern board table ok) m in
-    let there = subst (λ (f : CircuitFile). InTable (boundedTable (circuitOf f) (boundsOf pattern′) (circuitOf board)) u v) same (more back) in
-    subst (λ (t : List ℕ). InTable t u v) (sym (front-is pattern′ board table′ ok′)) there
-
 -- ---- all bounds 1
 
 -- where the answer is that of the pattern without bounds, the outcome is
@@ -147,14 +129,6 @@ same-outcome :
 unfolding replied filled
 same-outcome accept p bounds b table plain = let (t, c) = plain refl in rw (t, c)
 same-outcome (refuse x) p bounds b table plain = refl
-
--- the first of two lists of conditions of which the first parts come to the same
-first-same : (xs ys zs : List Condition) → first xs ≡ first ys → first (xs ++ zs) ≡ first (ys ++ zs)
-first-same xs ys zs e = go (first ys) refl
-  where
-    go : (v : Verdict) → first ys ≡ v → first (xs ++ zs) ≡ first (ys ++ zs)
-    go accept f = first-accept xs zs (e ∙ f) ∙ sym (first-accept ys zs f)
-    go (refuse x) f = first-refuse xs zs x (e ∙ f) ∙ sym (first-refuse ys zs x f)
 
 module _ (pattern : List ℕ) (board : CircuitFile) (table : List ℕ) (long : length pattern ≡ boundedLength (field pattern 0) (field pattern 2)) (one : AllOne (boundsOf pattern)) where
   -- a bound of 1 is from 1 to 4, so that what stands before the bounds is refused or accepted alike,

@@ -1,5 +1,5 @@
 -- What the converter comes to, by cases: a refused file, a package that would be lost, too few bytes lent, or the new file. Assumes nothing.
-use Rattle.base_lists.specs.Kit.{_≡_, _∙_, sym, ap, refl, subst, false, true, List, [], _∷_, _++_, ℕ, _≤_, _<_, le-trans, length, getD, take, drop, replicate, length-replicate, getD-replicate, length-take-le, take-at, getD-take, arith, le-ltb, lt-ltb}
+use Rattle.base_lists.specs.Kit.{_≡_, _∙_, sym, ap, refl, false, true, List, [], _∷_, _++_, ℕ, _≤_, _<_, le-trans, length, getD, take, drop, length-take-le, take-at, getD-take, arith, le-ltb, lt-ltb}
 use native.Mathlib.Decide.{decLt}
 use Rattle.base_lists.specs.List.{Below}
 use Rattle.base_lists.proofs.Tables.{length-tabulate, is-tabulate}
@@ -218,8 +218,3 @@ module _ {role : Role} {e : Edition} {bytes : List ℕ} {n m : ℕ} {k p s t : L
   pub whole-converted : (to : Edition) (out : List ℕ) {o : ConvertOutcome} → o ≡ convertOn role to (take n k) (take n p) (take m s) (take m t) out
       → o ≡ converting role to (inEdition e bytes) out
   whole-converted to out q = (rw (w .kinds, w .packages, w .starts, w .ends) at q) ∙ converting-on role to (inEdition e bytes) out (w .sound)
-
--- a table of zeros
-pub zeros : (n : ℕ) → Below 1 (replicate n 0)
-unfolding Below
-zeros n i h = rw (getD-replicate {A = ℕ} n i 0 0 (subst (λ (k : ℕ). i < k) (length-replicate {A = ℕ} n 0) h)) (omega arith)

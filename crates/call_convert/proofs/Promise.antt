@@ -9,12 +9,12 @@ use Rattle.file_format.specs.declared.Role.{Role}
 use Rattle.file_format.specs.Circuit.{circuitOf}
 use Rattle.file_format.specs.Layout.{CircuitFile, inEdition, firstEdition, packageCount, lengthOf, nodesOf, linksOf, kindsOf, packagesOf, startsOf, endsOf, labelsOf}
 use Rattle.file_format.specs.Reading.{filled}
-use Rattle.file_format.specs.Refusals.{Verdict, accept, refuse, first, fileConditions, lostPackage, packageLost, shortTable}
+use Rattle.file_format.specs.Refusals.{accept, first, fileConditions, lostPackage, packageLost, shortTable}
 use Rattle.file_format.specs.Reply.{reply}
 use Rattle.file_format.specs.Role.{inRange}
 use Rattle.file_format.proofs.FirstEdition.{labels-same, first-packages}
 use Rattle.file_format.proofs.Fields.{length-kinds, length-packages, length-starts, length-ends}
-use Rattle.file_format.proofs.Refusals.{accepted, first-accept, first-parts, first-holds}
+use Rattle.file_format.proofs.Refusals.{accepted, first-accept, first-parts, first-holds, reply-verdict}
 use Rattle.file_write.specs.Bytes.{stretchBytes}
 use Rattle.file_write.proofs.FileFields.{nodes-written, links-written, kinds-written, packages-written, starts-written, ends-written, length-written}
 use Rattle.file_write.proofs.RoundTrip.{same-verdict, accepted-file}
@@ -159,11 +159,6 @@ module _ (role : Role) (to : Edition) (file : CircuitFile) (out : List ℕ) wher
     pub content : first (fileConditions role file) ≡ accept
     pub kept : lostPackage to (everyPackage file) ≡ false
     pub room : lengthOf to (nodesOf file) (linksOf file) ≤ length out
-
-  reply-verdict : (v : Verdict) (values : List ℕ) → reply v values .verdict ≡ v
-  unfolding reply
-  reply-verdict accept values = refl
-  reply-verdict (refuse x) values = refl
 
   pub convert-sound : converting role to file out .reply .verdict ≡ accept → Sound
   unfolding converting convertConditions packageLost shortTable

@@ -3,12 +3,11 @@
 use Rattle.base_lists.specs.Kit.{_≡_, _∙_, sym, ap, refl, subst, _↔_, ⊎-elim, Bool, false, true, cond, not, List, _++_, map, ℕ, _≤_, _<_, _+_, _-_, T, eqb, ltb, length, getD, take, drop, List·getD-append, take-at, drop-at, getD-take, getD-append-add, arith, le-ltb}
 use lib.Count.{ones}
 use Rattle.base_lists.specs.List.{sum}
-use Rattle.base_lists.proofs.Tests.{refuted}
+use Rattle.base_lists.proofs.Tests.{refuted, lt-or-le}
 use Rattle.base_bits.specs.Bits.{bit}
 use Rattle.graph.specs.Circuit.{Circuit, circuitGraph}
 use Rattle.graph.specs.Graph.{Connected}
 use Rattle.graph.specs.Search.{connected}
-use Rattle.graph.proofs.BfsScan.{lt-or-le}
 use Rattle.graph.proofs.Distance.{connected-iff}
 use Rattle.simulation.specs.Closed.{Relation, _⊆_}
 use Rattle.simulation.specs.Simulation.{Direction, Candidate, Along, Largest}
@@ -19,11 +18,11 @@ use Rattle.file_format.specs.Circuit.{circuitOf}
 use Rattle.file_format.specs.Layout.{CircuitFile, nodesOf, linksOf, lengthOf, startsOf, endsOf}
 use Rattle.file_format.specs.Links.{linksBelow, rising}
 use Rattle.file_format.specs.Reading.{filled}
-use Rattle.file_format.specs.Refusals.{Condition, Verdict, accept, refuse, first, without, asksConnected, linkConditions, fileConditions, Accepted, shortTable}
+use Rattle.file_format.specs.Refusals.{Verdict, accept, refuse, first, without, asksConnected, linkConditions, fileConditions, Accepted, shortTable}
 use Rattle.file_format.specs.Role.{inRange}
 use Rattle.file_format.proofs.Accepted.{accepted-bounded, accepted-below, accepted-within, accepted-connected}
 use Rattle.file_format.proofs.Fields.{length-labels}
-use Rattle.file_format.proofs.Refusals.{accepted, first-accept, first-refuse, first-holds, first-parts, turned, turned-accept}
+use Rattle.file_format.proofs.Refusals.{accepted, first-accept, first-refuse, first-holds, first-parts, turned, turned-accept, first-same}
 use Rattle.file_pair.specs.Pair.{pairConditions}
 use Rattle.file_pair.proofs.Both.{pair-accept, pair-parts}
 use Rattle.call_match.specs.declared.TableAnswer.{TableAnswer}
@@ -37,6 +36,7 @@ use Rattle.table.specs.Refine.{countsOf}
 use Rattle.table.specs.Row.{inTable, bothWays, startBy, lastTable, InTable, Chosen, LargestOccurring}
 use Rattle.table.proofs.Answer.{answer-sum, answer-rounds, answer-ones, answer-started, answer-fewer, answer-connected, board-along, along-dual}
 use Rattle.table.proofs.Host.{within-joins}
+use Rattle.table.proofs.Reply.{replied-verdict}
 use Rattle.call_match.proofs.Matching.{length-answer}
 
 -- ---- the two cases of the answer, told apart by what document 01 says of them
@@ -50,11 +50,6 @@ pub reply-refused : (r : TableAnswer) (x : Refusal) → replyOf r .verdict ≡ r
 unfolding replyOf
 reply-refused (Matched k) x e = cc
 reply-refused (Refused y) x e = cc
-
-replied-verdict : (v : Verdict) (counts : Counts) → replied v counts .verdict ≡ v
-unfolding replied
-replied-verdict accept counts = refl
-replied-verdict (refuse x) counts = refl
 
 -- the first n entries of a table hold what it holds at the nodes below n
 in-front : (n : ℕ) (t : List ℕ) (u v : ℕ) → v < n → inTable (take n t) u v ≡ inTable t u v
@@ -220,14 +215,6 @@ contains-two-way ways pattern board table = go (first (matchConditions pattern b
     go (refuse x) e u v m = m
 
 -- ---- connected patterns
-
--- The first of two lists of conditions, of which the first parts come to the same.
-first-same : (xs ys zs : List Condition) → first xs ≡ first ys → first (xs ++ zs) ≡ first (ys ++ zs)
-first-same xs ys zs e = go (first ys) refl
-  where
-    go : (v : Verdict) → first ys ≡ v → first (xs ++ zs) ≡ first (ys ++ zs)
-    go accept f = first-accept xs zs (e ∙ f) ∙ sym (first-accept ys zs f)
-    go (refuse x) f = first-refuse xs zs x (e ∙ f) ∙ sym (first-refuse ys zs x f)
 
 -- the first five tests on a pattern, and what the others come to
 abbrev asked : (a b c d e : Bool) → Verdict → Verdict

@@ -15,11 +15,11 @@ use Rattle.file_format.specs.Circuit.{circuitOf}
 use Rattle.file_format.specs.Layout.{CircuitFile, inEdition, nodesOf, linksOf, startsOf, endsOf}
 use Rattle.file_format.specs.Links.{linksBelow, rising}
 use Rattle.file_format.specs.Reading.{filled}
-use Rattle.file_format.specs.Refusals.{Verdict, accept, refuse, first, fileConditions, linkConditions, asksConnected, Accepted}
+use Rattle.file_format.specs.Refusals.{accept, refuse, first, fileConditions, linkConditions, asksConnected, Accepted}
 use Rattle.file_format.specs.Reply.{Reply, reply}
 use Rattle.file_format.specs.Role.{inRange}
 use Rattle.file_format.proofs.Fields.{length-labels}
-use Rattle.file_format.proofs.Refusals.{accepted, accepted-any, first-parts, range-orders}
+use Rattle.file_format.proofs.Refusals.{accepted, accepted-any, first-parts, range-orders, reply-verdict}
 use Rattle.table.specs.Host.{KindsMatch}
 use Rattle.table.specs.Row.{bothWays, InTable}
 use Rattle.call_match.specs.Call.{matching}
@@ -48,11 +48,6 @@ pub reply-refused : (r : MergeAnswer) (x : Refusal) → mergeReply r .verdict �
 unfolding mergeReply
 reply-refused (Merged k n) x e = cc
 reply-refused (Refused y) x e = cc
-
-reply-verdict : (v : Verdict) (values : List ℕ) → reply v values .verdict ≡ v
-unfolding reply
-reply-verdict accept values = refl
-reply-verdict (refuse x) values = refl
 
 -- ---- the file of a circuit that can be the content of a pattern file, in either edition
 

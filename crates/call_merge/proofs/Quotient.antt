@@ -1,9 +1,11 @@
 -- From a pattern's table on itself the passes make its classes and its quotient by them, the merged pattern, which writing does not refuse. Assumes nothing.
-use Rattle.base_lists.specs.Kit.{_≡_, _∙_, sym, ap, refl, subst, true, List, [], ℕ, _≤_, _<_, _+_, le-trans, lt-of-lt-of-le, T, length, getD, take, List·getD-eq-default, take-at, sets, sets-eq, arith, le-ltb, ltb-false}
+use Rattle.base_lists.specs.Kit.{_≡_, _∙_, sym, ap, refl, subst, true, List, [], ℕ, _≤_, _<_, _+_, le-trans, lt-of-lt-of-le, T, length, getD, take, List·getD-eq-default, sets, arith, le-ltb, ltb-false}
 use native.Mathlib.Decide.{decLt}
 use Rattle.base_lists.proofs.Tests.{T-true, refuted}
 use Rattle.base_lists.specs.List.{Below}
 use Rattle.base_lists.proofs.Tables.{length-tabulate, getD-tabulate}
+use Rattle.base_lists.proofs.Entries.{all-below}
+use Rattle.base_lists.proofs.Parts.{take-sets}
 use Rattle.graph.specs.Circuit.{Circuit, circuit}
 use Rattle.graph.specs.Search.{connected, radius}
 use Rattle.file_format.specs.declared.Edition.{Edition}
@@ -20,7 +22,6 @@ use Rattle.file_format.specs.Refusals.{accept, first, widest, linkConditions, a
 use Rattle.file_format.proofs.Refusals.{first-holds}
 use Rattle.table.specs.declared.Counts.{Counts}
 use Rattle.table.specs.Refine.{MatchedOn}
-use Rattle.graph.proofs.Groups.{all-below}
 use Rattle.file_format.proofs.Accepted.{bounded-starts, bounded-ends}
 use Rattle.file_write.specs.declared.WriteAnswer.the-variants.{Written, Refused}
 use Rattle.file_write.specs.Bytes.{kindsFor, circuitBytes, LabelsFit}
@@ -91,11 +92,6 @@ label-low ls low i = go (decLt i (length ls))
     go (no h) = rw (List·getD-eq-default ls 0 {n = i} (omega arith)) (omega arith)
 
 -- ---- what was stored at the front
-
-front-set : (old values : List ℕ) (k : ℕ) → length values ≡ k → k ≤ length old → take k (sets old 0 values) ≡ values
-front-set old values k e h =
-    let room : 0 + length values ≤ length old = omega arith in
-    ap (take k) (sets-eq values old 0 room) ∙ take-at values _ k e
 
 same-circuit : (q : Circuit) {kinds starts ends : List ℕ} → kinds ≡ q .kinds → starts ≡ q .starts → ends ≡ q .ends → circuit kinds starts ends ≡ q
 same-circuit q k s e = rw (k, s, e)
@@ -187,9 +183,9 @@ module _ {p : Circuit} (c : PatternContent p) where
       let few : k ≤ 32 = rw isK classes-few in
       let short : m ≤ 256 = rw isM (links-fit rows k marked isK) in
       same-circuit (merged p)
-      (ap (take k) ek ∙ front-set mk₀ _ k (ap length kinds ∙ length-merged-kinds p ∙ sym isK) (le-trans few hk) ∙ kinds)
-      (ap (take m) es ∙ front-set ms₀ _ m (ap length starts ∙ sym (isM ∙ links-count rows k marked isK)) (le-trans short hs) ∙ starts)
-      (ap (take m) ee ∙ front-set me₀ _ m (sym isM) (le-trans short he) ∙ ends)
+      (ap (take k) ek ∙ take-sets mk₀ _ k (ap length kinds ∙ length-merged-kinds p ∙ sym isK) (le-trans few hk) ∙ kinds)
+      (ap (take m) es ∙ take-sets ms₀ _ m (ap length starts ∙ sym (isM ∙ links-count rows k marked isK)) (le-trans short hs) ∙ starts)
+      (ap (take m) ee ∙ take-sets me₀ _ m (sym isM) (le-trans short he) ∙ ends)
 
   -- each front has the size that was counted
   pub quotient-size :

@@ -5,13 +5,13 @@ use native.Mathlib.Decide.{decLt}
 use Rattle.base_lists.specs.Below.{countBelow, concatBelow}
 use Rattle.base_lists.proofs.Below.{countBelow-le, leastBelow-le, leastBelow-at, countBelow-add}
 use Rattle.base_lists.proofs.Tests.{both-left, true-T, T-true}
+use Rattle.base_lists.proofs.Concat.{concatBelow-add}
 use Rattle.base_text.specs.Text.{bytes}
 use Rattle.graph.specs.Circuit.{Circuit}
 use Rattle.file_format.specs.declared.Refusal.{Refusal}
 use Rattle.file_format.specs.Refusals.{Verdict, accept, refuse}
 use Rattle.report.specs.Lines.{longestLine}
 use Rattle.report.specs.Report.{hasPlace, centreLine, endLine, refusalLine, linesOf, reportFor}
-use Rattle.report.proofs.Concat.{concat-add}
 use Rattle.call_report.specs.Call.{refusalPiece, pieceFor}
 use Rattle.report_centres.specs.Pieces.{linesFrom, placesFrom, roomy, linesTaken, Piece, centresPiece, ends, closed, linesPiece}
 use Rattle.call_report.specs.Whole.{itemsFor, prefixFor, placesFor, Follows}
@@ -56,7 +56,7 @@ module _ (pattern board : Circuit) where
   -- the lines of the first centres and those of further ones; and their places
   lines-join : (from j : ℕ) → lines from ++ linesFrom pattern board from j ≡ lines (from + j)
   unfolding linesFrom
-  lines-join from j = sym (concat-add from j (centreLine pattern board))
+  lines-join from j = sym (concatBelow-add from j (centreLine pattern board))
 
   places-join : (from j : ℕ) → count from + placesFrom pattern board from j ≡ count (from + j)
   unfolding placesFrom

@@ -1,20 +1,20 @@
 -- The four counts are those of the row of sets in a graph H, of which a circuit with some nodes taken is a presentation. Assumes nothing.
-use Rattle.base_lists.specs.Kit.{_≡_, _∙_, sym, ap, refl, subst, _↔_, inl, inr, Iff·rfl, Iff·trans, List, map, ℕ, _≤_, suc, zero, le-of-eq, length, arith}
+use Rattle.base_lists.specs.Kit.{_≡_, _∙_, sym, ap, subst, _↔_, Iff·rfl, Iff·trans, List, map, ℕ, _≤_, suc, zero, le-of-eq, length, arith}
 use lib.Count.{ones}
 use Rattle.base_lists.specs.List.{sum}
 use Rattle.graph.specs.Circuit.{Circuit, circuitGraph}
 use Rattle.graph.specs.Graph.{Graph}
 use Rattle.simulation.specs.Closed.{Relation, _⊆_, Refine, Row}
 use Rattle.simulation.specs.Perfect.{SameGraph}
-use Rattle.simulation.specs.Simulation.{Direction, forwards, backwards}
+use Rattle.simulation.specs.Simulation.{Direction}
 use Rattle.simulation.proofs.Same.{same-symm}
 use Rattle.simulation.proofs.Simulation.{along-wider}
 use Rattle.table.specs.declared.Counts.{Counts}
 use Rattle.table.specs.Host.{hostGraph, KindsMatch}
 use Rattle.table.specs.Refine.{countsBy, countsOf}
-use Rattle.table.specs.Row.{Way, InTable, bothWays, rowBy, lastBy, lastTable, startedBy, roundsBy}
+use Rattle.table.specs.Row.{InTable, bothWays, rowBy, lastBy, lastTable, startedBy, roundsBy}
 use Rattle.table.proofs.Counting.{struck-minus, started-ones, kept-ones, rounds-differ, rounds-last}
-use Rattle.table.proofs.Row.{row-for, row-first, row-fits, row-inside}
+use Rattle.table.proofs.Row.{row-for, row-first, row-fits, row-inside, both-ways}
 use Rattle.table.proofs.Sets.{same-pairs}
 use Rattle.demands.specs.Demands.{Sets, RowRun, RowCounts}
 use Rattle.demands.specs.OneWay.{SetsAlong}
@@ -30,18 +30,13 @@ sets-same ways P Agree s (suc k) u v r = (
       (v′, along-wider (λ x y. s .links x y .0) d v v′ m, sets-same ways P Agree s k u′ v′ q),
 )
 
-each-way : (d : Direction) → Way bothWays d
-unfolding Way
-each-way forwards = inl refl
-each-way backwards = inr (inl refl)
-
 sets-both : (P : Graph) (Agree : Relation) (H : Graph) (k u v : ℕ) → SetsAlong bothWays P Agree H k u v ↔ Sets P Agree H k u v
 unfolding Row Refine
 sets-both P Agree H zero u v = Iff·rfl
 sets-both P Agree H (suc k) u v = (
   λ r. (
     sets-both P Agree H k u v .0 (r .0),
-    λ d u′ p. let (v′, m, q) = r .1 d u′ (each-way d, p) in (v′, m, sets-both P Agree H k u′ v′ .0 q),
+    λ d u′ p. let (v′, m, q) = r .1 d u′ (both-ways d, p) in (v′, m, sets-both P Agree H k u′ v′ .0 q),
   ),
   λ r. (
     sets-both P Agree H k u v .1 (r .0),

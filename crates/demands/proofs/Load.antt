@@ -6,13 +6,12 @@ use Rattle.file_format.specs.Layout.{firstEdition}
 use Rattle.file_format.specs.Refusals.{accept, first}
 use Rattle.file_format.specs.Reply.{Reply, reply}
 use Rattle.file_format.proofs.FirstEdition.{first-labels}
-use Rattle.file_format.proofs.Refusals.{accepted}
+use Rattle.file_format.proofs.Refusals.{accepted, reply-verdict}
 use Rattle.load.specs.Load.{kindsDrawn, load}
 use Rattle.load.proofs.Load.{in-range, range-in}
 use Rattle.call_load.specs.Call.{loadBytes, loadConditions, loading}
 use Rattle.call_load.proofs.Promise.{load-replied, load-accepted, load-circuit, load-file-nodes, load-file-link, front-file, rest-stays}
 use Rattle.demands.specs.Load.{madeFile, LoadMade, Ask3}
-use Rattle.demands.proofs.Decided.{reply-verdict}
 
 module _ (seed n m k : ℕ) (out : List ℕ) (ok : loading seed n m k out .reply .verdict ≡ accept) where
   replied : loading seed n m k out .reply ≡ record { verdict = accept; values = length (loadBytes seed n m k) ∷ [] }

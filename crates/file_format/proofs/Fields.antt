@@ -72,3 +72,9 @@ stored-more s d i h = filled-more i (λ j. field s (2 * j)) d h
 -- what was stored stands at the front
 pub stored-front : (s d l : List ℕ) (k : ℕ) → l ≡ fields s k ++ drop k d → take k l ≡ fields s k
 stored-front s d l k e = ap (take k) e ∙ take-at (fields s k) (drop k d) k (length-fields s k)
+
+-- ---- fields of bytes are of 16 bits
+
+pub field-low : (s : List ℕ) → ((i : ℕ) → getD s i 0 < 256) → (at : ℕ) → field s at < 65536
+unfolding field
+field-low s low at = omega (arith, low at, low (at + 1))

@@ -1,5 +1,6 @@
 -- What the reading call comes to, by cases of the verdict, and what its caller knows of it, by cases of the answer. Assumes nothing.
-use Rattle.base_lists.specs.Kit.{_≡_, _∙_, sym, ap, refl, _⊎_, List, [], _∷_, _++_, ℕ, _≤_, _<_, lit≤, length, take, drop, length-take, take-at, arith, ltb-false}
+use Rattle.base_lists.specs.Kit.{_≡_, _∙_, sym, ap, refl, _⊎_, List, [], _∷_, _++_, ℕ, _≤_, _<_, lit≤, length, take, drop, take-at, ltb-false}
+use Rattle.base_lists.proofs.Parts.{length-take-room}
 use Rattle.file_format.proofs.Fields.{length-kinds, length-packages, length-labels, length-labels-from, length-starts, length-ends, stored-front}
 use Rattle.graph.specs.Circuit.{Circuit, circuit}
 use Rattle.graph.specs.Search.{radius}
@@ -117,10 +118,6 @@ pub held-loaded : (r : Role) (file : CircuitFile) (read : FileRead) (tables : Ci
 unfolding verdictOf
 held-loaded r file read tables e v h = record { verdict = rw e (sym v); held = λ _. h }
 
--- a front as long as it should be has room
-pub front-room : (k : ℕ) (l : List ℕ) → length (take k l) ≡ k → k ≤ length l
-front-room k l e = omega (arith, rw length-take at e)
-
 -- the fronts of the tables are as long as the counts say, and the tables have room for them
 module _ {file : CircuitFile} {n m : ℕ} {t : Circuit} (s : Stands file n m t) where
   pub stands-size : (length (take n (t .kinds)) ≡ n) × (length (take m (t .starts)) ≡ m) × (length (take m (t .ends)) ≡ m)
@@ -137,7 +134,7 @@ module _ {file : CircuitFile} {n m : ℕ} {t : Circuit} (s : Stands file n m t) 
       rw (s .nodes, ap (λ (c : Circuit). c .starts) e, ap (λ (c : Circuit). c .ends) e)
 
   pub stands-room : (n ≤ length (t .kinds)) × (m ≤ length (t .starts)) × (m ≤ length (t .ends))
-  stands-room = let (k, a, b) = stands-size in (front-room n _ k, front-room m _ a, front-room m _ b)
+  stands-room = let (k, a, b) = stands-size in (length-take-room n _ k, length-take-room m _ a, length-take-room m _ b)
 
   -- the circuit of an accepted file is within the role's maxima
   module _ (r : Role) (e : first (fileConditions r file) ≡ accept) where

@@ -11,6 +11,7 @@ use Rattle.file_format.specs.Layout.{CircuitFile, nodesOf, linksOf, leng
 use Rattle.file_format.specs.Links.{linksBelow, rising}
 use Rattle.file_format.specs.Refusals.{Accepted, Condition, Verdict, accept, refuse, NoneHolds, first, FirstHolding, linkConditions, fileConditions, widest, asksConnected, sizeNumber, orderNumber, linkNumber, shortTable}
 use Rattle.file_format.specs.Role.{minNodes, maxNodes, maxLinks, inRange, fileOf}
+use Rattle.file_format.specs.Reply.{reply}
 
 -- ---- the first of a list of conditions
 
@@ -365,3 +366,20 @@ range-bounds AnyPattern n m t =
 pub accepted-any : {file : CircuitFile} → Accepted Pattern file → Accepted AnyPattern file
 unfolding asksConnected
 accepted-any a = record { bytes = a .bytes; range = a .range; size = a .size; below = a .below; rises = a .rises; joined = λ t. absurd t; narrow = λ t. absurd t }
+
+-- ---- replies
+
+-- the verdict of a reply is the one that it was made from
+pub reply-verdict : (v : Verdict) (values : List ℕ) → reply v values .verdict ≡ v
+unfolding reply
+reply-verdict accept values = refl
+reply-verdict (refuse x) values = refl
+
+-- ---- lists of conditions of which the first parts come to the same
+
+pub first-same : (xs ys zs : List Condition) → first xs ≡ first ys → first (xs ++ zs) ≡ first (ys ++ zs)
+first-same xs ys zs e = go (first ys) refl
+  where
+    go : (v : Verdict) → first ys ≡ v → first (xs ++ zs) ≡ first (ys ++ zs)
+    go accept f = first-accept xs zs (e ∙ f) ∙ sym (first-accept ys zs f)
+    go (refuse x) f = first-refuse xs zs x (e ∙ f) ∙ sym (first-refuse ys zs x f)

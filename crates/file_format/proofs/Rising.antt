@@ -58,7 +58,3 @@ pub rise-test : (starts ends : List ℕ) → LinksRise starts ends → T (rising
 unfolding rising LinksRise
 rise-test starts ends rise =
     at-allBelow (length starts - 1) _ (λ i h. before-earlier _ _ _ _ (rise i (i + 1) (omega arith) (omega arith)))
-
--- "links not strictly rising" is that, and no more
-pub rising-iff : (starts ends : List ℕ) → T (rising starts ends) ↔ LinksRise starts ends
-rising-iff starts ends = (rising-links starts ends, rise-test starts ends)

@@ -1,7 +1,7 @@
 -- The rows of specs/Search mean walks: a ball's row marks the nodes that a walk of at most r links joins to the centre. Assumes nothing.
-use Rattle.base_lists.specs.Kit.{_≡_, _∙_, sym, ap, refl, subst, _↔_, ⊎-elim, _⊎_, inl, inr, ⊎-swap, Bool, false, true, cond, _&&_, _||_, List, [], _∷_, ℕ, _≤_, _<_, _+_, suc, zero, zero-le, suc-le-suc, not-suc-le-zero, le-of-suc-le-suc, zero-lt-suc, eq-or-lt-of-le, le-antisymm, le-step, T, eqb, ltb, eqb→eq, ltb→lt, length, getD, arith, eq-eqb}
+use Rattle.base_lists.specs.Kit.{_≡_, _∙_, sym, ap, refl, subst, _↔_, ⊎-elim, _⊎_, inl, inr, ⊎-swap, Bool, cond, _&&_, _||_, List, [], _∷_, ℕ, _≤_, _<_, _+_, suc, zero, zero-le, suc-le-suc, not-suc-le-zero, le-of-suc-le-suc, zero-lt-suc, eq-or-lt-of-le, le-antisymm, le-step, T, eqb, ltb, eqb→eq, ltb→lt, length, getD, arith, eq-eqb}
 use Rattle.base_lists.specs.List.{tabulate, sum, all}
-use Rattle.base_lists.proofs.Tests.{both, both-left, both-right, either-left, either-right, either-cases, true-T, all-at}
+use Rattle.base_lists.proofs.Tests.{both, both-left, both-right, either-left, either-right, either-cases, true-T, all-at, cond-test, cond-le, is-cond, cond-mono}
 use Rattle.base_lists.proofs.Tables.{length-tabulate, getD-tabulate}
 use Rattle.base_lists.proofs.Rows.{rises-to-rest, getD-le-sum, sum-bits, sum-progress}
 use Rattle.graph.specs.Graph.{Walk, stay, step}
@@ -97,22 +97,13 @@ inside-below [] v t = absurd t
 inside-below (x ∷ xs) zero t = zero-lt-suc _
 inside-below (x ∷ xs) (suc v) t = suc-le-suc (inside-below xs v t)
 
--- a bit made from a test is 1 when the test passes, and at most 1
-bit-test : (b : Bool) → eqb (cond b 1 0) 1 ≡ b
-bit-test true = refl
-bit-test false = refl
-
-bit-le : (b : Bool) → cond b 1 0 ≤ 1
-bit-le true = omega arith
-bit-le false = omega arith
-
 -- the row of bits made from a test
 abbrev pub bits : ℕ → (ℕ → Bool) → List ℕ
 bits n p = tabulate n (λ v. cond (p v) 1 0)
 
 inside-at : (n : ℕ) (p : ℕ → Bool) (v : ℕ) → v < n → inside (bits n p) v ≡ p v
 unfolding inside
-inside-at n p v h = ap (λ x. eqb x 1) (getD-tabulate n (λ i. cond (p i) 1 0) v 0 h) ∙ bit-test (p v)
+inside-at n p v h = ap (λ x. eqb x 1) (getD-tabulate n (λ i. cond (p i) 1 0) v 0 h) ∙ cond-test (p v)
 
 -- it marks the numbers below n that pass the test
 pub inside-bits : (n : ℕ) (p : ℕ → Bool) (v : ℕ) → T (inside (bits n p) v) ↔ ((v < n) × T (p v))
@@ -123,19 +114,7 @@ inside-bits n p v = (
 
 -- its entries are bits
 pub bits-le : (n : ℕ) (p : ℕ → Bool) (v : ℕ) → v < n → getD (bits n p) v 0 ≤ 1
-bits-le n p v h = subst (λ x. x ≤ 1) (sym (getD-tabulate n (λ i. cond (p i) 1 0) v 0 h)) (bit-le (p v))
-
--- a bit is what its test says
-pub bit-entry : (x : ℕ) → x ≤ 1 → x ≡ cond (eqb x 1) 1 0
-bit-entry zero h = refl
-bit-entry (suc zero) h = refl
-bit-entry (suc (suc x)) h = absurd (omega arith)
-
--- a bit is at most another number that is 1 where the bit is
-pub bit-mono : (x y : ℕ) → x ≤ 1 → (T (eqb x 1) → T (eqb y 1)) → x ≤ y
-bit-mono zero y h f = zero-le
-bit-mono (suc zero) y h f = omega (arith, eqb→eq y 1 (f tt))
-bit-mono (suc (suc x)) y h f = absurd (omega arith)
+bits-le n p v h = subst (λ x. x ≤ 1) (sym (getD-tabulate n (λ i. cond (p i) 1 0) v 0 h)) (cond-le (p v))
 
 -- ---- balls
 
@@ -161,7 +140,7 @@ module _ (n : ℕ) (ss es : List ℕ) (c : ℕ) where
 
   pub ball-entry : (r v : ℕ) → v < n → getD (ball n ss es c r) v 0 ≡ cond (inside (ball n ss es c r) v) 1 0
   unfolding inside
-  ball-entry r v h = bit-entry _ (ball-bits r v h)
+  ball-entry r v h = is-cond _ (ball-bits r v h)
 
   -- at radius 0 the centre alone
   pub inside-zero : (v : ℕ) → T (inside (ball n ss es c zero) v) ↔ ((v < n) × (v ≡ c))
@@ -219,7 +198,7 @@ module _ (n : ℕ) (ss es : List ℕ) (c : ℕ) where
   unfolding inside
   ball-progress r =
       sum-progress (ball n ss es c r) (ball n ss es c (suc r)) (length-ball r ∙ sym (length-ball (suc r)))
-      (λ v h. bit-mono _ _ (ball-bits r v (subst (λ x. v < x) (length-ball r) h)) (inside-grows r v))
+      (λ v h. cond-mono _ _ (ball-bits r v (subst (λ x. v < x) (length-ball r) h)) (inside-grows r v))
 
   -- there are at most n ones
   sum-ball-le : (r : ℕ) → sum (ball n ss es c r) ≤ n

@@ -2,14 +2,14 @@
 -- and else the length of a shortest walk. The nodes are any n numbers, and the links any relation that the adjacency function lists.
 -- Assumes nothing.
 use Rattle.base_lists.specs.Kit.{_≡_, _∙_, sym, ap, refl, subst, ⊎-elim, _⊎_, inl, inr, Bool, false, true, _||_, List, [], ℕ, _≤_, _<_, _+_, suc, zero, zero-le, le-refl, eq-or-lt-of-le, add-zero, zero-add, add-suc, suc-add, le-suc-iff, T, eqb, length, getD, drop, replicate, length-replicate, getD-replicate, getD-set-other, getD-set-same, arith, eq-eqb, ne-eqb, eqb-true, eqb-false}
-use Rattle.base_lists.proofs.Tests.{T-true, true-T}
+use Rattle.base_lists.proofs.Tests.{T-true, true-T, lt-or-le}
 use Rattle.graph.specs.Graph.{Walk, stay, step}
 use Rattle.graph.specs.Search.{far}
 use Rattle.base_lists.specs.List.{Below}
+use Rattle.base_lists.proofs.Entries.{below-drop}
 use Rattle.graph.specs.Bfs.{State, level, levels, start, bfs, Ready, Adjacency, Measured}
-use Rattle.graph.proofs.Below.{below-drop}
 use Rattle.graph.proofs.BfsSteps.{levels-end, ready-level, ready-start}
-use Rattle.graph.proofs.BfsScan.{lt-or-le, elem, elem-nil, elem-snoc, elem-occurs, occurs-elem, below-elem, targets, targets-from, to-targets, level-scan, after, after-cases, after-new, after-old, scan-dist, Frontier, frontier-none, frontier-empty, frontier-scan}
+use Rattle.graph.proofs.BfsScan.{elem, elem-nil, elem-snoc, elem-occurs, occurs-elem, below-elem, targets, targets-from, to-targets, level-scan, after, after-cases, after-new, after-old, scan-dist, Frontier, frontier-none, frontier-empty, frontier-scan}
 
 -- ---- walks
 

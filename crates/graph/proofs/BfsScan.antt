@@ -1,18 +1,11 @@
 -- What a list of visits makes of the entries and of the frontier of a breadth-first search. Assumes nothing.
-use Rattle.base_lists.specs.Kit.{_≡_, _∙_, sym, ap, refl, subst, _↔_, ⊎-elim, _⊎_, inl, inr, Bool, false, true, cond, _||_, or-false, or-true, List, [], _∷_, _++_, ℕ, _≤_, _<_, le-refl, T, eqb, ltb, eqb→eq, eqb-refl, length, getD, drop, set, length-append, List·getD-eq-default, drop-of-length-le, getD-set-other, getD-set-same, drop-length, drop-append-le, arith, eq-eqb, ne-eqb, eqb-true, ltb-false, eqb-false, ltb-true}
+use Rattle.base_lists.specs.Kit.{_≡_, _∙_, sym, ap, refl, subst, _↔_, ⊎-elim, _⊎_, inl, inr, Bool, false, true, cond, _||_, or-false, or-true, List, [], _∷_, _++_, ℕ, _≤_, _<_, le-refl, T, eqb, eqb→eq, eqb-refl, length, getD, drop, set, length-append, List·getD-eq-default, drop-of-length-le, getD-set-other, getD-set-same, drop-length, drop-append-le, arith, eq-eqb, ne-eqb, eqb-true, eqb-false}
 use Rattle.base_lists.specs.List.{any, Below}
-use Rattle.base_lists.proofs.Tests.{either-left, either-right, either-cases, any-at, at-any, true-T}
+use Rattle.base_lists.proofs.Tests.{either-left, either-right, either-cases, any-at, at-any, true-T, lt-or-le}
 use Rattle.graph.specs.Search.{far}
 use Rattle.base_lists.specs.List.{Occurs}
 use Rattle.graph.specs.Bfs.{State, visit, scan, level}
 use Rattle.graph.proofs.BfsSteps.{visit-cases, scan-append}
-
-pub lt-or-le : (a b : ℕ) → (a < b) ⊎ (b ≤ a)
-lt-or-le a b = go (ltb a b) refl
-  where
-    go : (t : Bool) → ltb a b ≡ t → (a < b) ⊎ (b ≤ a)
-    go true e = inl (ltb-true a b e)
-    go false e = inr (ltb-false a b e)
 
 -- ---- membership, as a test
 

@@ -1,10 +1,10 @@
 -- Each step of a breadth-first search keeps a state of a search, on lists and on the tables that stand for it. Assumes nothing.
-use Rattle.base_lists.specs.Kit.{_≡_, _∙_, sym, ap, refl, subst, Bool, false, true, cond, List, [], _∷_, _++_, append-nil, append-assoc, ℕ, _≤_, _<_, _+_, _-_, suc, zero, suc-le-suc, not-suc-le-zero, le-refl, le-of-suc-le-suc, zero-lt-suc, add-one, eqb, length, getD, take, drop, set, length-set, length-append, replicate, drop-of-length-le, length-replicate, getD-replicate, length-take-le, drop-cons, getD-take, take-append-le, take-suc-set, take-take, arith, eq-eqb, ne-eqb, eqb-true, eqb-false}
+use Rattle.base_lists.specs.Kit.{_≡_, _∙_, sym, ap, refl, subst, Bool, false, true, cond, List, [], _∷_, _++_, append-nil, append-assoc, ℕ, _≤_, _<_, _+_, _-_, suc, zero, suc-le-suc, not-suc-le-zero, le-refl, le-of-suc-le-suc, zero-lt-suc, add-one, eqb, length, getD, take, drop, set, length-set, length-append, replicate, drop-of-length-le, length-replicate, getD-replicate, length-take-le, drop-cons, getD-take, take-append-le, take-suc-set, take-take, arith, eq-eqb, ne-eqb, eqb-true, eqb-false, List·getD-append}
 use Rattle.graph.specs.Net.{driven, driving}
 use Rattle.graph.specs.Bfs.{State, visit, scan, level, levels, start, adjacent, missing, Ready, stateOf, Searching, Searched, Found}
 use Rattle.base_lists.specs.List.{Below}
+use Rattle.base_lists.proofs.Entries.{below-append, below-one}
 use Rattle.graph.specs.Search.{far}
-use Rattle.graph.proofs.Below.{below-append, below-one}
 
 -- ---- how many nodes are missing
 
@@ -20,7 +20,7 @@ missing-set (x ∷ xs) (suc v) d h e l = go (eqb x far) (missing-set xs v d (le-
     go false q = q
 
 -- before anything is reached, all are missing
-missing-all : (n : ℕ) → missing (replicate n far) ≡ n
+pub missing-all : (n : ℕ) → missing (replicate n far) ≡ n
 unfolding missing
 missing-all zero = refl
 missing-all (suc n) = ap suc (missing-all n)
@@ -136,6 +136,11 @@ extends-length s s′ a = rw (a .1) (simp length-append (omega arith))
 pub extends-take : (m : ℕ) (s s′ : State) → Extends s s′ → m ≤ length (s .reached) → take m (s′ .reached) ≡ take m (s .reached)
 unfolding Extends
 extends-take m s s′ a h = rw (a .1) (take-append-le m (s .reached) (a .0) h)
+
+-- the nodes reached before stand where they stood
+pub extends-entry : (s s′ : State) → Extends s s′ → (j : ℕ) → j < length (s .reached) → getD (s′ .reached) j 0 ≡ getD (s .reached) j 0
+unfolding Extends
+extends-entry s s′ a j h = rw (a .1) (List·getD-append (s .reached) (a .0) 0 j h)
 
 -- ---- each step keeps a state of a search
 
@@ -268,10 +273,6 @@ tables-extend hi dist queue tail dist′ queue′ tail′ s k k′ y h =
     let r′ = reached-length dist′ queue′ tail′ (k′ .kept) in
     let h′ : hi ≤ tail′ = omega arith in
     (h′, sym (take-take hi tail′ queue′ h′) ∙ extends-take hi _ _ x (omega arith) ∙ take-take hi tail queue h)
-
--- lists with the same first entries have the same entry there
-pub same-entry : (hi : ℕ) (xs ys : List ℕ) (i : ℕ) → take hi xs ≡ take hi ys → i < hi → getD xs i 0 ≡ getD (take hi ys) i 0
-same-entry hi xs ys i e h = sym (getD-take hi xs i 0 h) ∙ ap (λ (l : List ℕ). getD l i 0) e
 
 -- what the tables hold of a search
 pub found : (k : ℕ) (dist queue : List ℕ) (s : State) → Searched dist queue k s → Found k dist queue s

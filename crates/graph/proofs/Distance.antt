@@ -223,11 +223,11 @@ eccentricity n ss es c = maximum (distances n ss es c n)
 
 -- the entries of the rows of distances are at most the radius, and one of them is the radius
 module _ (n : ℕ) (ss es : List ℕ) where
-  entry-le-radius : (c v : ℕ) → c < n → getD (distances n ss es c n) v 0 ≤ radius n ss es
+  pub entry-le-radius : (c v : ℕ) → c < n → getD (distances n ss es c n) v 0 ≤ radius n ss es
   unfolding radius
   entry-le-radius c v h = le-trans (getD-le-maximum (distances n ss es c n) v) (rule-le-maximum n (eccentricity n ss es) c h)
 
-  entry-radius : zero < n → (c : ℕ) × (v : ℕ) × (c < n) × (v < n) × (getD (distances n ss es c n) v 0 ≡ radius n ss es)
+  pub entry-radius : zero < n → (c : ℕ) × (v : ℕ) × (c < n) × (v < n) × (getD (distances n ss es c n) v 0 ≡ radius n ss es)
   unfolding radius
   entry-radius h =
       let (c, hc, e) = rule-maximum-attained n (eccentricity n ss es) h in

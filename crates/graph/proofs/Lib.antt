@@ -3,7 +3,6 @@ pub mod Ball
 pub mod Distance
 pub mod Groups
 pub mod CountingSort
-pub mod Below
 pub mod Lookup
 pub mod BfsSteps
 pub mod BfsScan

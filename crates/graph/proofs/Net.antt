@@ -3,13 +3,13 @@ use Rattle.base_lists.specs.Kit.{_≡_, _∙_, sym, subst, _↔_, ⊎-elim, _�
 use Rattle.base_lists.specs.List.{all, part, Occurs, Below}
 use Rattle.base_lists.proofs.Parts.{length-part-le, halved, part-first, part-second, length-halved}
 use Rattle.base_lists.proofs.Tests.{at-all}
+use Rattle.base_lists.proofs.Entries.{below-append, all-below-at}
 use Rattle.graph.specs.Bfs.{adjacent, Adjacency}
 use Rattle.graph.specs.Circuit.{HasLink}
 use Rattle.graph.specs.Neighbours.{select, offsetsOf, grouped, stretch}
 use Rattle.graph.specs.Net.{NetRoom, driven, driving, Stretches, Net, NetOf}
-use Rattle.graph.proofs.Below.{below-append}
 use Rattle.graph.proofs.BfsScan.{occurs-append}
-use Rattle.graph.proofs.Groups.{key-below, below-mono, below-all, length-groups, length-offsets, offset-at, stretch-select, select-link, select-mem, select-mem-back}
+use Rattle.graph.proofs.Groups.{below-mono, below-all, length-groups, length-offsets, offset-at, stretch-select, select-link, select-mem, select-mem-back}
 use Rattle.graph.proofs.Lookup.{Sound}
 
 -- ---- tables that grouping has filled
@@ -19,7 +19,7 @@ pub select-below : (n : ℕ) (keys values : List ℕ) (v : ℕ) → T (all (λ x
 unfolding Below
 select-below n keys values v b j h =
     let (i, l) = select-link keys values v j h in
-    subst (λ (x : ℕ). x < n) (l .end) (key-below n values i b (l .inEnds))
+    subst (λ (x : ℕ). x < n) (l .end) (all-below-at n values i b (l .inEnds))
 
 -- Offsets and links grouped by their keys, with anything behind them, have a stretch for each node.
 pub filled : (n : ℕ) (keys values xs ys : List ℕ) → length keys ≡ length values → T (all (λ x. ltb x n) values)

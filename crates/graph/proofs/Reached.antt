@@ -1,12 +1,13 @@
 -- The list of the nodes that a search has reached agrees with the entries: it has each node whose entry is not `far`, and each once.
 -- Assumes nothing.
-use Rattle.base_lists.specs.Kit.{_≡_, _∙_, sym, ap, refl, subst, ⊎-elim, _⊎_, inl, inr, Bool, false, true, List, [], _∷_, _++_, ℕ, _≤_, _<_, _+_, suc, zero, zero-le, suc-le-suc, not-suc-le-zero, le-refl, le-of-suc-le-suc, zero-lt-suc, eqb, length, getD, drop, set, length-append, replicate, length-replicate, getD-replicate, List·getD-append, getD-set-other, getD-set-same, getD-append-seam, arith, eqb-true, eqb-false}
+use Rattle.base_lists.specs.Kit.{_≡_, _∙_, sym, ap, refl, subst, ⊎-elim, _⊎_, inl, inr, List, [], _∷_, _++_, ℕ, _≤_, _<_, _+_, suc, zero, zero-le, suc-le-suc, le-refl, zero-lt-suc, length, getD, drop, set, length-append, replicate, length-replicate, getD-replicate, List·getD-append, getD-set-other, getD-set-same, getD-append-seam, arith}
 use Rattle.base_lists.specs.List.{Occurs, Below}
+use Rattle.base_lists.proofs.Entries.{occurs-one, one-occurs, below-drop}
+use Rattle.base_lists.proofs.Tests.{lt-or-le, eq-or-not}
 use Rattle.graph.specs.Search.{far}
 use Rattle.graph.specs.Bfs.{State, visit, scan, level, levels, start, bfs, Ready}
-use Rattle.graph.proofs.Below.{below-drop}
 use Rattle.graph.proofs.BfsSteps.{visit-cases, levels-end, ready-visit, ready-scan, ready-level, ready-start, extends-level, extends-length}
-use Rattle.graph.proofs.BfsScan.{lt-or-le, occurs-append}
+use Rattle.graph.proofs.BfsScan.{occurs-append}
 
 -- a node has been reached: its entry is not `far`
 abbrev pub Near : State → ℕ → Type 0
@@ -16,21 +17,6 @@ pub record Listed (n : ℕ) (s : State) : Type 0 where
   pub near : (v : ℕ) → Occurs (s .reached) v → Near s v
   pub complete : (v : ℕ) → v < n → Near s v → Occurs (s .reached) v
   pub distinct : (i j : ℕ) → i < j → j < length (s .reached) → getD (s .reached) i 0 ≡ getD (s .reached) j 0 → ⊥
-
--- a list of one has that one
-occurs-one : (v w : ℕ) → Occurs (v ∷ []) w → v ≡ w
-occurs-one v w (zero, h, e) = e
-occurs-one v w (suc i, h, e) = absurd (not-suc-le-zero (le-of-suc-le-suc h))
-
-one-occurs : (v : ℕ) → Occurs (v ∷ []) v
-one-occurs v = (zero, zero-lt-suc _, refl)
-
-same-or-not : (v w : ℕ) → (v ≡ w) ⊎ (v ≡ w → ⊥)
-same-or-not v w = go (eqb v w) refl
-  where
-    go : (b : Bool) → eqb v w ≡ b → (v ≡ w) ⊎ (v ≡ w → ⊥)
-    go true e = inl (eqb-true v w e)
-    go false e = inr (eqb-false v w e)
 
 module _ (n : ℕ) where
   -- ---- a visit of a node that is not reached yet
@@ -62,7 +48,7 @@ module _ (n : ℕ) where
         (⊎-elim
         (λ q. inr (subst (Occurs (v ∷ [])) q (one-occurs v)))
         (λ g. inl (l .complete w m (λ q. f (elsewhere w g ∙ q))))
-        (same-or-not v w))
+        (eq-or-not v w))
 
     next-distinct : (i j : ℕ) → i < j → j < length (next .reached) → getD (next .reached) i 0 ≡ getD (next .reached) j 0 → ⊥
     next-distinct i j a b q =
@@ -126,7 +112,7 @@ module _ (n : ℕ) where
   listed-start c h =
       record {
         near = λ v o q. let z = here v (occurs-one c v o) in omega arith;
-        complete = λ v m f. ⊎-elim (λ q. subst (Occurs (c ∷ [])) q (one-occurs c)) (λ g. absurd (f (there v m g))) (same-or-not c v);
+        complete = λ v m f. ⊎-elim (λ q. subst (Occurs (c ∷ [])) q (one-occurs c)) (λ g. absurd (f (there v m g))) (eq-or-not c v);
         distinct = λ i j a b q. omega arith;
       }
     where

@@ -48,7 +48,7 @@ module _ (s e : ℕ) (ss es : List ℕ) where
         subst (λ (x : ℕ). Before s e x w) (l .1 .start)
         (subst (λ (y : ℕ). Before s e (getD ss (l .0) 0) y) (l .1 .end) (rise zero (suc (l .0)) (zero-lt-suc _) (suc-le-suc (l .1 .inStarts))))
 
-no-link : (v w : ℕ) → HasLink [] [] v w → ⊥
+pub no-link : (v w : ℕ) → HasLink [] [] v w → ⊥
 unfolding HasLink
 no-link v w l = not-suc-le-zero (l .1 .inStarts)
 

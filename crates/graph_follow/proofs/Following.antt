@@ -2,12 +2,12 @@
 use Rattle.base_lists.specs.Kit.{_≡_, _∙_, sym, ap, refl, subst, _↔_, ⊎-elim, _⊎_, inl, inr, Bool, false, true, cond, _&&_, List, [], _∷_, ℕ, _≤_, _<_, _+_, suc, zero, _^_, suc-le-suc, not-suc-le-zero, le-of-suc-le-suc, zero-lt-suc, add-one, T, length, getD, drop, drop-of-length-le, drop-cons}
 use Rattle.base_lists.specs.List.{Occurs, Below}
 use Rattle.base_lists.proofs.Tests.{both, T-true, T-false, true-T, false-T, at-anyBelow}
+use Rattle.base_lists.proofs.Entries.{below-append}
 use Rattle.base_bits.specs.Bits.{bit, numberOf, intersects}
 use Rattle.base_bits.proofs.Digits.{bit-below, bit-of-zero, same-bits}
 use Rattle.base_bits.proofs.Numbers.{bit-number}
 use Rattle.graph.specs.Bfs.{State, visit, scan}
 use Rattle.graph.specs.Net.{driven, driving, Net}
-use Rattle.graph.proofs.Below.{below-append}
 use Rattle.graph.proofs.Net.{driven-below, driving-below}
 use Rattle.graph.proofs.BfsSteps.{scan-append}
 use Rattle.graph.proofs.BfsScan.{occurs-append}

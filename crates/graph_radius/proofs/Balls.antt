@@ -1,5 +1,5 @@
 -- The balls as sets: what is in each, the balls at radius 0 and 1, and one round. Assumes nothing.
-use Rattle.base_lists.specs.Kit.{_≡_, _∙_, sym, ap, refl, subst, _↔_, ⊎-elim, _⊎_, inl, inr, ⊎-swap, Bool, false, true, _&&_, _||_, or-false, List, [], ℕ, _≤_, _<_, _+_, suc, _^_, not-suc-le-zero, lt-of-lt-of-le, not-le-of-lt, T, eqb, eqb→eq, length, getD, take, set, length-set, length-take, getD-set-other, getD-set-same, getD-take, arith, eq-eqb, eqb-true, eqb-false}
+use Rattle.base_lists.specs.Kit.{_≡_, _∙_, sym, ap, refl, subst, _↔_, ⊎-elim, _⊎_, inl, inr, ⊎-swap, Bool, false, true, _&&_, _||_, or-false, List, [], ℕ, _≤_, _<_, _+_, suc, _^_, lt-of-lt-of-le, not-le-of-lt, T, eqb, eqb→eq, length, getD, take, set, length-set, length-take, getD-set-other, getD-set-same, getD-take, arith, eq-eqb, eqb-true, eqb-false}
 use native.Mathlib.Decide.{decLt}
 use lib.Bits.{bitOr}
 use Rattle.base_bits.specs.Bits.{bit, numberOf}
@@ -14,6 +14,7 @@ use Rattle.graph.specs.Graph.{Walk, stay, step}
 use Rattle.graph.specs.Search.{inside, ball}
 use Rattle.graph.proofs.Ball.{Within, inside-node, inside-zero, inside-suc, ball-walk, ball-iff, walk-node}
 use Rattle.graph.proofs.Walks.{append, reverse, single}
+use Rattle.graph.proofs.RisingLinks.{no-link}
 use Rattle.graph_radius.specs.Balls.{balls, joined, grown}
 
 -- ---- what is in a ball
@@ -118,10 +119,6 @@ near-iff n ss es u v h = (
       inside-suc n ss es u 0 v .1
       (l, ⊎-elim (λ e. inl (inside-zero n ss es u v .1 (l, e))) (λ j. inr (u, j, inside-zero n ss es u u .1 (h, refl))) q),
 )
-
-no-link : (v w : ℕ) → HasLink [] [] v w → ⊥
-unfolding HasLink
-no-link v w l = not-suc-le-zero (l .1 .inStarts)
 
 -- before the first link: each node alone
 pub balls-begin : (n : ℕ) (ss es : List ℕ) → tabulate n (λ u. 2 ^ u) ≡ balls n (take 0 ss) (take 0 es) 1

@@ -6,13 +6,12 @@ use Rattle.base_bits.specs.Bits.{bit, numberOf}
 use Rattle.base_bits.proofs.Digits.{same-bits-below}
 use Rattle.base_bits.proofs.Numbers.{bit-number, number-lt}
 use Rattle.base_lists.specs.List.{all, tabulate, maximum}
-use Rattle.base_lists.proofs.Rows.{getD-le-maximum, maximum-attained, rule-le-maximum, rule-maximum-attained}
 use Rattle.base_lists.proofs.Tests.{T-true, T-false, true-T, false-T, all-at, at-all, same-test, decide}
 use Rattle.graph.specs.Circuit.{graphOf}
 use Rattle.graph.specs.Graph.{Connected}
-use Rattle.graph.specs.Search.{far, inside, ball, distances, connected, radius}
+use Rattle.graph.specs.Search.{far, inside, ball, connected, radius}
 use Rattle.graph.proofs.Ball.{Within, within-all, ball-walk}
-use Rattle.graph.proofs.Distance.{length-distances, distances-spec, inside-distance, distance-inside, distance-near, connected-iff, radius-is}
+use Rattle.graph.proofs.Distance.{distances-spec, inside-distance, distance-inside, distance-near, connected-iff, radius-is, entry-le-radius, entry-radius}
 use Rattle.graph.proofs.Walks.{distance-unique}
 use Rattle.graph_radius.specs.Balls.{balls, everyNode, spanning, grown, Begun, Finds}
 use Rattle.graph_radius.proofs.Balls.{length-balls, ball-below, bit-balls, balls-zero, grown-balls}
@@ -57,31 +56,14 @@ module _ (n : ℕ) (ss es : List ℕ) (k : ℕ) where
 
 -- ---- the radius and `far`
 
--- the entries of the rows of distances are at most the radius, and one of them is the radius
-module _ (n : ℕ) (ss es : List ℕ) where
-  abbrev eccentricity : ℕ → ℕ
-  eccentricity c = maximum (distances n ss es c n)
-
-  entry-le : (c v : ℕ) → c < n → getD (distances n ss es c n) v 0 ≤ radius n ss es
-  unfolding radius
-  entry-le c v h = le-trans (getD-le-maximum (distances n ss es c n) v) (rule-le-maximum n eccentricity c h)
-
-  entry-is : zero < n → (c : ℕ) × (v : ℕ) × (c < n) × (v < n) × (getD (distances n ss es c n) v 0 ≡ radius n ss es)
-  unfolding radius
-  entry-is h =
-      let (c, hc, e) = rule-maximum-attained n eccentricity h in
-      let l = length-distances n ss es c n in
-      let (v, hv, d) = maximum-attained (distances n ss es c n) (subst (λ x. zero < x) (sym l) h) in
-      (c, v, hc, subst (λ x. v < x) l hv, d ∙ e)
-
-  none-zero : n ≡ zero → radius n ss es ≡ zero
-  unfolding radius maximum tabulate
-  none-zero e = subst (λ (m : ℕ). radius m ss es ≡ zero) (sym e) refl
+none-zero : (n : ℕ) (ss es : List ℕ) → n ≡ zero → radius n ss es ≡ zero
+unfolding radius maximum tabulate
+none-zero n ss es e = subst (λ (m : ℕ). radius m ss es ≡ zero) (sym e) refl
 
 module _ {n : ℕ} {ss es : List ℕ} (links : Within n ss es) (few : n ≤ far) where
   radius-le-far : zero < n → radius n ss es ≤ far
   radius-le-far h =
-      let (c, v, hc, hv, e) = entry-is n ss es h in
+      let (c, v, hc, hv, e) = entry-radius n ss es h in
       ⊎-elim
       (λ (t, d, l). omega (arith, e))
       (λ (f, d, w). omega (arith, e, d))
@@ -92,7 +74,7 @@ module _ {n : ℕ} {ss es : List ℕ} (links : Within n ss es) (few : n ≤ far)
   near-everywhere h f u v hu hv =
       ⊎-elim
       (λ (t, _, _). t)
-      (λ (_, e, _). absurd (f (le-antisymm (radius-le-far h) (le-trans (le-of-eq (sym e)) (entry-le n ss es u v hu)))))
+      (λ (_, e, _). absurd (f (le-antisymm (radius-le-far h) (le-trans (le-of-eq (sym e)) (entry-le-radius n ss es u v hu)))))
       (distances-spec links u n v 0 hv)
 
   everywhere-connected : (k : ℕ) → Everywhere n ss es k → T (connected n ss es)

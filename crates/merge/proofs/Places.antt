@@ -12,7 +12,7 @@ use Rattle.simulation.proofs.Quotient.{same-pairs}
 use Rattle.table.specs.Host.{KindsMatch}
 use Rattle.place.specs.Match.{ballTable, found, matches, linkMatches, matchStarts, matchEnds, component, placeNodes, placeLinks}
 use Rattle.base_lists.specs.Below.{keepFrom}
-use Rattle.place.proofs.Ball.{Admissible, ballGraph, BallPairs, ball-largest, found-iff}
+use Rattle.place.proofs.Ball.{Admissible, ballGraph, BallPairs, ball-largest, found-occurs}
 use Rattle.place.proofs.Links.{matches-iff}
 use Rattle.merge.specs.Merged.{classOf, merged}
 use Rattle.merge.proofs.Content.{PatternContent, content-admissible}
@@ -57,11 +57,11 @@ module _ {p board : Circuit} (c : PatternContent p) (admissible : Admissible p b
   unfolding QuotientGraph circuitGraph graphOf
   found-same =
       same-test
-      (λ t. let (u, s) = found-iff admissible w r .0 t in found-iff merged-admissible w r .1 (classOf p u, up u w s))
+      (λ t. let (u, s) = found-occurs p board (admissible .most) w r .0 t in found-occurs (merged p) board (merged-admissible .most) w r .1 (classOf p u, up u w s))
       (λ t.
-      let (a, m) = found-iff merged-admissible w r .0 t in
+      let (a, m) = found-occurs (merged p) board (merged-admissible .most) w r .0 t in
       let (u, h, e) = merged-largest .holds .part a w m in
-      found-iff admissible w r .1 (u, down u a w h e m))
+      found-occurs p board (admissible .most) w r .1 (u, down u a w h e m))
 
   -- a pair of nodes matches a link of the one where it matches a link of the other
   matches-same : (v v′ : ℕ) → matches p (ballTable p board w r) v v′ ≡ matches (merged p) (ballTable (merged p) board w r) v v′

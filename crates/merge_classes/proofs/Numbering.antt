@@ -1,18 +1,13 @@
 -- One pass over the parts numbers the classes, and one collects the kinds of their smallest parts. Assumes nothing.
-use Rattle.base_lists.specs.Kit.{_≡_, _∙_, sym, ap, refl, Bool, false, true, List, [], _∷_, _++_, append-nil, ℕ, _<_, _+_, suc, add-zero, add-suc, suc-add, add-one, length, getD, drop, set, List·getD-append, sets, arith, eq-eqb, ne-eqb}
+use Rattle.base_lists.specs.Kit.{_≡_, _∙_, sym, ap, refl, Bool, false, true, List, [], _∷_, _++_, append-nil, ℕ, _<_, _+_, add-zero, add-one, length, getD, drop, set, List·getD-append, sets, arith, eq-eqb, ne-eqb}
 use Rattle.base_lists.specs.Below.{countBelow, collect}
 use Rattle.base_lists.specs.List.{tabulate}
 use Rattle.base_lists.proofs.Below.{countBelow-suc, collect-suc, length-collect}
-use Rattle.base_lists.proofs.Tables.{length-tabulate, getD-tabulate, filled-more, whole}
+use Rattle.base_lists.proofs.Tables.{length-tabulate, getD-tabulate, filled-more, whole, sets-append}
 use Rattle.merge.specs.Merged.{leader, isLeader, classIn}
 use Rattle.merge.specs.Steps.{Led}
 use Rattle.merge.proofs.Steps.{class-leader, class-follower}
 use Rattle.merge_classes.specs.Passes.{classNumbers, leaderCount, leaderKinds}
-
--- values stored behind others are stored with them
-pub sets-append : (old : List ℕ) (at : ℕ) (xs ys : List ℕ) → sets (sets old at xs) (at + length xs) ys ≡ sets old at (xs ++ ys)
-sets-append old at [] ys = rw add-zero
-sets-append old at (x ∷ xs) ys = rw (add-suc, ← suc-add) (sets-append (set old at x) (suc at) xs ys)
 
 module _ (t : List ℕ) where
   -- the parts that lead their class

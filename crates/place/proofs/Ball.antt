@@ -93,6 +93,3 @@ module _ {pattern board : Circuit} (a : Admissible pattern board) (w r : ℕ) wh
   ball-largest =
       largest-same (same-refl (circuitGraph pattern)) ball-host (record { agree = λ u v m n. Iff·rfl })
       (last-largest pattern board (ballOf board w r) (a .most) (a .connected))
-
-  pub found-iff : T (found pattern board w r) ↔ ((u : ℕ) × BallPairs pattern board w r u w)
-  found-iff = found-occurs pattern board (a .most) w r

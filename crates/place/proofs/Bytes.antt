@@ -2,19 +2,15 @@
 use Rattle.base_lists.specs.Kit.{_≡_, _∙_, sym, ap, refl, subst, Bool, false, true, cond, _&&_, not, List, ℕ, _<_, eqb, length, getD}
 use Rattle.base_lists.specs.List.{tabulate, Below}
 use Rattle.base_lists.proofs.Tables.{is-tabulate, tabulate-same}
+use Rattle.base_lists.proofs.Tests.{is-cond, cond-not}
 use Rattle.base_bits.specs.Bits.{intersects, unionOver}
 use Rattle.graph.specs.Circuit.{Circuit}
 use Rattle.graph.specs.Search.{far, inside}
-use Rattle.graph.proofs.Ball.{bit-entry}
 use Rattle.place.specs.Match.{ballTable, matches, linkMatches, placeNodes, placeLinks, placeTable}
 use Rattle.place.specs.Bytes.{nodeBytes, nodeSets, drivenBy, linkByte, linkBytes}
 use Rattle.place.proofs.Marks.{nodes-marks}
 
 -- choosing by the test and by its opposite
-turned : (b : Bool) (x : ℕ) → cond b 0 x ≡ cond (not b) x 0
-turned true x = refl
-turned false x = refl
-
 both-chosen : (a b : Bool) → _≡_ {A = ℕ} (cond b 0 (cond a 1 0)) (cond (a && not b) 1 0)
 both-chosen true true = refl
 both-chosen true false = refl
@@ -36,14 +32,14 @@ module _
         sym
         (is-tabulate (length dist) _ (placeNodes pattern board w r) (marks .size ∙ sym size)
         (λ v h.
-        bit-entry _ (marks .bytes v (node-below v h)) ∙ ap (λ (b : Bool). cond b 1 0) (reached v (node-below v h)) ∙ sym (turned (eqb (getD dist v 0) far) 1)))
+        is-cond _ (marks .bytes v (node-below v h)) ∙ ap (λ (b : Bool). cond b 1 0) (reached v (node-below v h)) ∙ cond-not (eqb (getD dist v 0) far) 1))
 
     pub sets-table : nodeSets dist (ballTable pattern board w r) ≡ placeTable pattern board w r
     unfolding nodeSets placeTable
     sets-table =
         tabulate-same (length dist) _ _
         (λ v h.
-        turned (eqb (getD dist v 0) far) _ ∙ ap (λ (b : Bool). cond b (getD (ballTable pattern board w r) v 0) 0) (sym (reached v (node-below v h))))
+        sym (cond-not (eqb (getD dist v 0) far) _) ∙ ap (λ (b : Bool). cond b (getD (ballTable pattern board w r) v 0) 0) (sym (reached v (node-below v h))))
         ∙ ap (λ (m : ℕ). tabulate m (λ v. cond (inside (placeNodes pattern board w r) v) (getD (ballTable pattern board w r) v 0) 0)) size
 
     pub bytes-links :

@@ -3,6 +3,7 @@ use Rattle.base_lists.specs.Kit.{_≡_, _∙_, sym, ap, refl, subst, Bool, fals
 use Rattle.base_lists.specs.List.{Below}
 use Rattle.base_lists.proofs.Tests.{true-T, false-T}
 use Rattle.base_lists.proofs.Tables.{tabulate-same}
+use Rattle.base_lists.proofs.Entries.{all-below}
 use Rattle.base_bits.specs.Bits.{intersects, unionOver}
 use Rattle.graph.specs.Bfs.{bfs, adjacent, Found as Searched}
 use Rattle.graph.specs.Circuit.{Circuit, HasLink}
@@ -10,7 +11,6 @@ use Rattle.graph.specs.Net.{Net}
 use Rattle.graph.specs.Rising.{LinksRise}
 use Rattle.graph.specs.Search.{far, inside}
 use Rattle.graph.proofs.Ball.{Within, within}
-use Rattle.graph.proofs.Groups.{all-below}
 use Rattle.graph.proofs.Net.{net-of, net-links}
 use Rattle.graph.proofs.Sorted.{rise-sorted}
 use Rattle.file_format.specs.Circuit.{Drawn}

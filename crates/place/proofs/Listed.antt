@@ -2,7 +2,7 @@
 -- each link of a board whose links come by their starts. Assumes nothing.
 use Rattle.base_lists.specs.Kit.{_≡_, _∙_, ap, refl, subst, Bool, false, true, cond, _&&_, not, List, ℕ, _≤_, _<_, suc, T, eqb, ltb, eqb→eq, leb, ltb→lt, lt→ltb, le→leb, leb→le, length, getD, arith, eq-eqb, ne-eqb}
 use Rattle.base_lists.specs.List.{any, Below}
-use Rattle.base_lists.proofs.Tests.{same-test, true-T, both, both-left, both-right, any-at, at-any}
+use Rattle.base_lists.proofs.Tests.{same-test, true-T, both, both-left, both-right, any-at, at-any, cond-not}
 use Rattle.base_lists.proofs.Tables.{tabulate-same}
 use Rattle.base_bits.specs.Bits.{intersects}
 use Rattle.graph.specs.Net.{forwardOffsets, forwardLinks, NetOf}
@@ -13,11 +13,6 @@ use Rattle.table.specs.Fill.{listed, marksOf, tableAt}
 use Rattle.table.specs.Prepared.{succOf, Tables}
 use Rattle.place.specs.Bytes.{nodeBytes, nodeSets, drivenBy, linkByte, linkBytes, marksLink, linkMarks}
 use Rattle.place.specs.Spread.{Lists}
-
--- choosing by the opposite of a test
-turned : (b : Bool) (x : ℕ) → cond (not b) x 0 ≡ cond b 0 x
-turned true x = refl
-turned false x = refl
 
 both-chosen : (far meets : Bool) → _≡_ {A = ℕ} (cond (not far && meets) 1 0) (cond far 0 (cond meets 1 0))
 both-chosen true meets = refl
@@ -41,13 +36,13 @@ module _ {nodes dist : List ℕ} (l : Lists nodes dist) where
   -- a byte for each node, and a set
   pub marks-bytes : marksOf (length dist) nodes ≡ nodeBytes dist
   unfolding marksOf nodeBytes
-  marks-bytes = tabulate-same (length dist) _ _ (λ v h. ap (λ (b : Bool). cond b 1 0) (listed-reached v h) ∙ turned (eqb (getD dist v 0) far) 1)
+  marks-bytes = tabulate-same (length dist) _ _ (λ v h. ap (λ (b : Bool). cond b 1 0) (listed-reached v h) ∙ cond-not (eqb (getD dist v 0) far) 1)
 
   pub table-sets : (sets : List ℕ) → tableAt (length dist) (λ v. getD sets v 0) nodes ≡ nodeSets dist sets
   unfolding tableAt nodeSets
   table-sets sets =
       tabulate-same (length dist) _ _
-      (λ v h. ap (λ (b : Bool). cond b (getD sets v 0) 0) (listed-reached v h) ∙ turned (eqb (getD dist v 0) far) (getD sets v 0))
+      (λ v h. ap (λ (b : Bool). cond b (getD sets v 0) 0) (listed-reached v h) ∙ cond-not (eqb (getD dist v 0) far) (getD sets v 0))
 
   -- a byte for each link
   module _ {starts ends : List ℕ} (sets : List ℕ) (t : Tables) (net : NetOf (length dist) starts ends (t .offsets) (t .links)) (sorted : Sorted starts)

@@ -16,7 +16,7 @@ use Rattle.table.specs.Host.{KindsMatch}
 use Rattle.table.specs.Row.{InTable}
 use Rattle.table.proofs.Sets.{fits-node}
 use Rattle.place.specs.Match.{ballTable, found, matchStarts, matchEnds, component, placeNodes, placeLinks, placeTable, markedGraph}
-use Rattle.place.proofs.Ball.{Admissible, ballGraph, BallPairs, ball-fits, ball-largest, found-iff}
+use Rattle.place.proofs.Ball.{Admissible, ballGraph, BallPairs, ball-fits, ball-largest, found-occurs}
 use Rattle.place.proofs.Links.{link-matches, match-kept, match-within, match-links}
 use Rattle.place.proofs.Marks.{link-marked, table-in}
 
@@ -87,7 +87,7 @@ module _ {pattern board : Circuit} (a : Admissible pattern board) (w r : ℕ) wh
       T (found pattern board w r) →
       Place (circuitGraph pattern) (KindsMatch pattern board) (circuitGraph board) w r (placeGraph pattern board w r)
   place-found t =
-      let centre = found-iff a w r .0 t in
+      let centre = found-occurs pattern board (a .most) w r .0 t in
       place-same (same-refl (circuitGraph pattern)) (record { agree = λ u v m n. Iff·rfl }) (same-refl (ballGraph board w r))
       (same-symm (marked-component centre)) (component-place (ball-largest a w r) w (a .connected) centre)
 
@@ -95,7 +95,7 @@ module _ {pattern board : Circuit} (a : Admissible pattern board) (w r : ℕ) wh
   pub place-none :
       (T (found pattern board w r) → ⊥) →
       (G : Graph) → Perfect (circuitGraph pattern) (KindsMatch pattern board) (circuitGraph board) w r G → ⊥
-  place-none none G g = none (found-iff a w r .1 (perfect-occurs (ball-largest a w r) w g))
+  place-none none G g = none (found-occurs pattern board (a .most) w r .1 (perfect-occurs (ball-largest a w r) w g))
 
   -- and only there.
   pub none-iff :
@@ -107,7 +107,7 @@ module _ {pattern board : Circuit} (a : Admissible pattern board) (w r : ℕ) wh
   pub found-place :
       T (found pattern board w r) ↔
       ((G : Graph) × Place (circuitGraph pattern) (KindsMatch pattern board) (circuitGraph board) w r G)
-  found-place = (λ t. (_, place-found t), λ (G, g). found-iff a w r .1 (perfect-occurs (ball-largest a w r) w (g .perfect)))
+  found-place = (λ t. (_, place-found t), λ (G, g). found-occurs pattern board (a .most) w r .1 (perfect-occurs (ball-largest a w r) w (g .perfect)))
 
   -- The table over the place is the largest dual simulation in the place itself.
   pub place-table :

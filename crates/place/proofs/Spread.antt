@@ -1,7 +1,7 @@
 -- The search for the component: its steps on tables, and that what it reaches is what walks join to the centre. Assumes nothing.
 use Rattle.base_lists.specs.Kit.{_≡_, _∙_, sym, ap, refl, subst, _↔_, ⊎-elim, inl, inr, Bool, false, true, _&&_, not, List, ℕ, _≤_, _<_, _+_, suc, zero, suc-le-suc, le-refl, le-of-suc-le-suc, le-step, eq-or-lt-of-le, not-le-of-lt, min-le-right, T, length, getD, take, drop, length-take, arith}
 use Rattle.base_lists.specs.List.{Occurs, Below}
-use Rattle.base_lists.proofs.Tests.{both, both-left, both-right, true-T}
+use Rattle.base_lists.proofs.Tests.{both, both-left, both-right, true-T, lt-or-le}
 use Rattle.base_bits.specs.Bits.{unionOver}
 use Rattle.graph.specs.Bfs.{State, scan, level, levels, start, bfs, Ready, Adjacency, Found}
 use Rattle.graph.specs.Circuit.{HasLink}
@@ -9,11 +9,10 @@ use Rattle.graph.specs.Graph.{Walk, stay, step}
 use Rattle.graph.specs.Net.{driven, driving, Net}
 use Rattle.graph.specs.Search.{far, inside, ball}
 use Rattle.graph.proofs.Ball.{Within, component-iff}
-use Rattle.graph.proofs.Below.{below-append, below-drop}
+use Rattle.base_lists.proofs.Entries.{below-append, below-drop}
 use Rattle.graph.proofs.Net.{driven-below, driving-below}
 use Rattle.graph.proofs.Bfs.{bfs-measured, bfs-ready}
 use Rattle.graph.proofs.BfsSteps.{scan-append, levels-end, ready-level, ready-start, extends-level, extends-length}
-use Rattle.graph.proofs.BfsScan.{lt-or-le}
 use Rattle.graph.proofs.Reached.{bfs-listed}
 use Rattle.table.specs.Fill.{Distinct}
 use Rattle.table.specs.Prepared.{succOf, predOf, Tables}
@@ -150,22 +149,18 @@ spread-from {n} {c} {adj} {Link} {dist} a g x h f =
         let l : w < n = subst (λ (y : ℕ). y < n) (o .2) (a .inside v m (o .0) (o .1)) in
         (l, a .joined w v l .1 (⊎-elim inr inl (a .joined v w m .0 o)))
 
-    clash : (b : Bool) → T (not b) → T b → ⊥
-    clash true t u = t
-    clash false t u = u
-
     others : (p : ℕ → Bool) → ClosedSet n adj p → ClosedSet n adj (λ v. not (p v))
     others p closed v w m t o = at (p w) refl
       where
         at : (b : Bool) → p w ≡ b → T (not b)
         at false e = tt
-        at true e = let (l, o′) = back v w m o in absurd (clash (p v) t (closed w v l (true-T e) o′))
+        at true e = let (l, o′) = back v w m o in absurd (T-not (p v) t (closed w v l (true-T e) o′))
 
     go : (p : ℕ → Bool) → T (p x) → ClosedSet n adj p → (b : Bool) → p c ≡ b → (v : ℕ) → v < n → Reached dist v → T (p v)
     go p t closed true e v m r = g .least p (true-T e) closed v m r
     go p t closed false e v m r =
         let other : T (not (p x)) = g .least (λ y. not (p y)) (true-T (ap not e)) (others p closed) x h f in
-        absurd (clash (p x) other t)
+        absurd (T-not (p x) other t)
 
 -- What is reached along one adjacency is reached along another, where the two list the same for the nodes of a set that has the centre and, with a
 -- node, what is listed for it.

@@ -1,7 +1,8 @@
 -- What is marked from tables that are cut from longer ones is the place. Assumes nothing.
 use Rattle.base_lists.specs.Kit.{_≡_, _∙_, ap, ap₂, true, List, _++_, ℕ, _≤_, _<_, suc, length, getD, take, drop, length-append, take-at, take-append-le, arith}
+use Rattle.base_lists.proofs.Entries.{all-below}
 use Rattle.graph.specs.Circuit.{Circuit}
-use Rattle.graph.proofs.Groups.{below-le, all-below}
+use Rattle.graph.proofs.Groups.{below-le}
 use Rattle.file_format.specs.Circuit.{Drawn}
 use Rattle.file_format.proofs.Accepted.{bounded-starts}
 use Rattle.table.specs.Fill.{marksOf, NodeList, tableAt}

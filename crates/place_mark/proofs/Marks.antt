@@ -1,24 +1,16 @@
 -- Laws of marking: writing at the nodes of a list one after another, and the links of one node after another. Assumes nothing.
 use Rattle.base_lists.specs.Kit.{_≡_, _∙_, sym, ap, refl, subst, ⊎-elim, _⊎_, inl, inr, Bool, false, true, cond, _&&_, _||_, List, [], _∷_, _++_, ℕ, _≤_, _<_, _+_, _-_, suc, min, add-one, ltb, leb, length, getD, take, drop, set, length-append, replicate, length-drop, drop-of-length-le, length-replicate, length-take, getD-replicate, List·getD-append, length-take-le, drop-cons, getD-take, getD-drop, getD-append-add, arith, le-ltb, lt-ltb, le-leb, lt-leb}
-use Rattle.base_lists.specs.List.{any, tabulate, part}
+use Rattle.base_lists.specs.List.{any, part}
 use Rattle.base_lists.proofs.Tables.{length-tabulate, getD-tabulate, is-tabulate}
+use Rattle.base_lists.proofs.Tests.{lt-or-le}
 use Rattle.base_bits.specs.Bits.{intersects, unionOver}
 use Rattle.graph.specs.Net.{forwardOffsets, forwardLinks, driven, Net}
-use Rattle.graph.proofs.BfsScan.{lt-or-le}
 use Rattle.graph.proofs.Lookup.{stretch-part}
 use Rattle.graph.proofs.Net.{stretch-sound, net-few}
 use Rattle.table.specs.Fill.{marksOf, fillAt, tableAt}
 use Rattle.table.specs.Prepared.{succOf, Tables}
 use Rattle.table.proofs.Fill.{fill-table, cleared-none}
 use Rattle.place.specs.Bytes.{drivenBy, markedEnds, marksLink, markStart, markStarts, linkMarks}
-
--- an entry that is not written yet
-pub filled-rest : (k : ℕ) (f : ℕ → ℕ) (xs old : List ℕ) → xs ≡ tabulate k f ++ drop k old → getD xs k 0 ≡ getD old k 0
-filled-rest k f xs old e =
-    let here : length (tabulate k f) + 0 ≡ k = omega (arith, length-tabulate k f) in
-    let there : k + 0 ≡ k = omega arith in
-    ap (λ (l : List ℕ). getD l k 0) e ∙ ap (λ (j : ℕ). getD (tabulate k f ++ drop k old) j 0) (sym here)
-    ∙ getD-append-add (tabulate k f) (drop k old) 0 0 ∙ getD-drop k old 0 0 ∙ ap (λ (j : ℕ). getD old j 0) there
 
 -- ---- at the nodes of a list
 

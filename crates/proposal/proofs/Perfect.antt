@@ -1,7 +1,7 @@
 -- The check says yes exactly when the bytes mark a perfect subgraph around the centre: the marked links make a board of their own, in which a
 -- perfect subgraph that has them all is the place. Assumes nothing.
-use Rattle.base_lists.specs.Kit.{_≡_, sym, refl, subst, _↔_, ⊎-elim, Iff·rfl, Iff·symm, Bool, false, true, _&&_, not, _||_, List, ℕ, _≤_, _<_, le-refl, le-step, T, leb, length, getD, le-leb, leb-true}
-use Rattle.base_lists.proofs.Tests.{both, both-left, both-right, decide, T-true, true-T, allBelow-at, at-allBelow, all-at, at-all}
+use Rattle.base_lists.specs.Kit.{_≡_, sym, refl, subst, _↔_, ⊎-elim, Iff·rfl, Iff·symm, Bool, _&&_, not, _||_, List, ℕ, _≤_, _<_, le-refl, le-step, T, leb, length, getD, le-leb, leb-true}
+use Rattle.base_lists.proofs.Tests.{both, both-left, both-right, decide, T-true, true-T, allBelow-at, at-allBelow, all-at, at-all, unless-at, at-unless}
 use Rattle.base_lists.specs.List.{allBelow}
 use Rattle.graph.specs.Chosen.{chosen, ChosenLink}
 use Rattle.graph.specs.Circuit.{Circuit, LinkAt, HasLink, graphOf, circuitGraph}
@@ -23,15 +23,6 @@ use Rattle.proposal.specs.Check.{bits, endsMarked, marksSubgraph, inRow,
 use Rattle.proposal.specs.Meaning.{PerfectMarks}
 
 -- ---- tests
-
--- where a mark is set, what is asked there holds
-pub unless-at : (b c : Bool) → T (not b || c) → T b → T c
-unless-at true c t s = t
-unless-at false c t s = absurd s
-
-pub at-unless : (b c : Bool) → (T b → T c) → T (not b || c)
-at-unless true c f = f tt
-at-unless false c f = tt
 
 -- every byte is 0 or 1
 pub bits-at : (bytes : List ℕ) → T (bits bytes) → (i : ℕ) → i < length bytes → getD bytes i 0 ≤ 1

@@ -1,13 +1,12 @@
 -- What the tests come to, one after another. Assumes nothing.
-use Rattle.base_lists.specs.Kit.{_≡_, _∙_, sym, ap, ap₂, false, true, List, ℕ, _≤_, T, ltb, length, arith, lt-ltb}
-use Rattle.base_lists.specs.List.{allBelow, all, Below}
-use Rattle.base_lists.proofs.Tests.{true-T, at-all}
+use Rattle.base_lists.specs.Kit.{_≡_, _∙_, sym, ap, ap₂, false, true, List, ℕ, _≤_, T, ltb, length, arith}
+use Rattle.base_lists.specs.List.{allBelow, all}
+use Rattle.base_lists.proofs.Entries.{all-below, below-all}
 use Rattle.graph.specs.Chosen.{picked, chosen}
 use Rattle.graph.specs.Circuit.{Circuit, circuit}
 use Rattle.graph.specs.Net.{NetOf}
 use Rattle.graph.specs.Search.{ball, inside}
 use Rattle.graph.proofs.Chosen.{length-picked, picked-parallel, picked-below}
-use Rattle.graph.proofs.Groups.{all-below}
 use Rattle.file_format.specs.Circuit.{Drawn}
 use Rattle.file_format.proofs.Accepted.{bounded-starts, bounded-ends}
 use Rattle.table.specs.Prepared.{succOf, Tables, Masked}
@@ -58,10 +57,6 @@ module _ (pattern board : Circuit) (w r : ℕ) (nodes links : List ℕ) where
         ∙ rw (m, ap (λ (k : ℕ). inRow (ball k (board .starts) (board .ends) w r) nodes) (sym size) ∙ e)
 
 -- ---- the links that are left
-
-below-all : (n : ℕ) (xs : List ℕ) → Below n xs → T (all (λ v. ltb v n) xs)
-unfolding Below
-below-all n xs b = at-all (λ v. ltb v n) xs (λ i h. true-T (lt-ltb _ _ (b i h)))
 
 module _ {pattern board : Circuit} (d : Drawn pattern board) (links : List ℕ) {starts ends : List ℕ}
     (s : starts ≡ picked links (board .starts)) (e : ends ≡ picked links (board .ends))

@@ -1,5 +1,5 @@
 -- The nodes that the search reaches are the ball; and tables that are cut from longer ones. Assumes nothing.
-use Rattle.base_lists.specs.Kit.{_≡_, _∙_, sym, ap, subst, ap₂, Bool, List, _++_, ℕ, _≤_, _<_, length, take, length-append, length-take-le, take-at, arith}
+use Rattle.base_lists.specs.Kit.{_≡_, _∙_, sym, ap, ap₂, Bool, List, _++_, ℕ, _≤_, _<_, length, take, length-append, length-take-le, take-at, arith}
 use Rattle.base_lists.specs.List.{allBelow}
 use Rattle.graph.specs.Bfs.{bfs, adjacent, Found}
 use Rattle.graph.specs.Net.{NetOf}
@@ -18,10 +18,6 @@ unfolding nodeBytes
 near-row {n} {ss} {es} {offsets} {links} t within w h r e f =
     ap nodeBytes (f .distances ∙ ap (λ (m : ℕ). bfs (adjacent offsets links) m w r .dist) e ∙ net-distances t within w h r)
     ∙ rw (length-distances n ss es w r) (sym (ball-distances within w r (let few = net-few (net-of t) in omega arith)))
-
--- what holds of n holds of the length of the n entries that are lent
-pub lent : (n : ℕ) (table : List ℕ) (P : ℕ → Type 0) → n ≤ length table → P n → P (length (take n table))
-lent n table P h = subst P (sym (length-take-le n table h))
 
 -- ---- n entries, cut from more
 

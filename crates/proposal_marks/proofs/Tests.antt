@@ -3,14 +3,14 @@ use Rattle.base_lists.specs.Kit.{_≡_, _∙_, sym, ap, refl, Bool, false, true
 use Rattle.base_lists.specs.List.{allBelow}
 use Rattle.base_lists.proofs.Below.{allBelow-same}
 use Rattle.base_lists.proofs.Tables.{getD-tabulate}
-use Rattle.base_lists.proofs.Tests.{T-true, T-false, true-T, false-T, allBelow-at, at-allBelow}
+use Rattle.base_lists.proofs.Tests.{T-true, T-false, true-T, false-T, allBelow-at, at-allBelow, unless-at, at-unless}
 use Rattle.base_bits.specs.Bits.{intersects}
 use Rattle.graph.specs.Search.{far, inside}
 use Rattle.graph.proofs.Ball.{inside-below}
 use Rattle.place.specs.Bytes.{unlessFar, nodeBytes, drivenBy, linkByte, linkBytes}
 use Rattle.proposal_marks.specs.Link.{placed}
 use Rattle.proposal.specs.Check.{bits, endsMarked, inRow}
-use Rattle.proposal.proofs.Perfect.{bits-at, at-bits, unless-at, at-unless, row-at, at-row}
+use Rattle.proposal.proofs.Perfect.{bits-at, at-bits, row-at, at-row}
 
 -- a byte is 1
 pub one-inside : (row : List ℕ) (v : ℕ) → getD row v 0 ≡ 1 → T (inside row v)

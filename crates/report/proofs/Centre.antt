@@ -3,8 +3,8 @@
 use Rattle.base_lists.specs.Kit.{_≡_, _∙_, sym, ap, refl, subst, ap₂, Bool, false, true, cond, not, List, [], _++_, ℕ, _<_, zero-lt-suc, eqb, length, getD}
 use Rattle.base_lists.specs.Below.{concatBelow}
 use Rattle.base_lists.specs.List.{tabulate, Below}
-use Rattle.base_lists.proofs.Ranks.{concatBelow-same}
 use Rattle.base_lists.proofs.Tables.{length-tabulate, getD-tabulate}
+use Rattle.base_lists.proofs.Concat.{concatBelow-none, concatBelow-same}
 use Rattle.base_bits.specs.Bits.{intersects}
 use Rattle.base_text.specs.Text.{bytes, decimal}
 use Rattle.graph.specs.Circuit.{Circuit}
@@ -19,7 +19,6 @@ use Rattle.place.specs.Match.{radiusOf}
 use Rattle.place.specs.Find.{Located}
 use Rattle.report.specs.Lines.{nodeText, nodesText, linkText, drivenText, startText, linksText, lineText}
 use Rattle.report.specs.Report.{marked, linkItem, nodeItems, linkItems, placeLine, hasPlace, centreLine}
-use Rattle.report.proofs.Concat.{concat-none}
 use Rattle.report.proofs.Order.{from, links-by-start}
 
 -- ---- marked items, by a test
@@ -72,7 +71,7 @@ start-text t dist sets v = go (reached (getD dist v 0)) (driven (t .offsets) (t 
 
     go : (b : Bool) (ends : List ℕ) → cond b (concatBelow (length ends) (text ends)) [] ≡ concatBelow (length ends) (λ i. cond b (text ends i) [])
     go true ends = refl
-    go false ends = sym (concat-none (length ends) _ (λ i l. refl))
+    go false ends = sym (concatBelow-none (length ends) _ (λ i l. refl))
 
 -- neighbour tables of a file's links give the links in the file's order
 links-order : (starts ends : List ℕ) (t : Tables) (dist sets : List ℕ) → length starts ≡ length ends → Below (length dist) starts → LinksRise starts ends

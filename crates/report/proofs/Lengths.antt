@@ -1,10 +1,11 @@
 -- How long the lines get: a centre's line of an accepted board has at most 34,829 bytes, the last line 17, a refusal 20. Assumes nothing.
 use Rattle.base_lists.specs.Kit.{Bool, false, true, cond, List, [], _++_, ℕ, _≤_, _<_, _+_, _*_, le-trans, mul-le-mul-right, length, getD, length-append, arith}
+use Rattle.base_lists.proofs.Concat.{concatBelow-bound}
+use Rattle.base_lists.proofs.Entries.{all-below-at}
 use Rattle.base_text.specs.Text.{bytes, decimal, Fits}
 use Rattle.base_text.proofs.Text.{length-decimal}
 use Rattle.graph.specs.Circuit.{Circuit}
 use Rattle.graph.specs.Search.{inside}
-use Rattle.graph.proofs.Groups.{key-below}
 use Rattle.file_format.specs.declared.File.{File}
 use Rattle.file_format.specs.declared.File.the-variants as file
 use Rattle.file_format.specs.declared.Refusal.{Refusal}
@@ -15,7 +16,6 @@ use Rattle.place.specs.Match.{radiusOf, placeNodes, placeLinks}
 use Rattle.place.proofs.Marks.{nodes-marks, links-marks}
 use Rattle.report.specs.Lines.{longestLine}
 use Rattle.report.specs.Report.{marked, linkItem, nodeItems, linkItems, placeLine, hasPlace, centreLine, endLine, fileWord, refusalLine}
-use Rattle.report.proofs.Concat.{concat-bound}
 
 -- a space before an item
 space : {b : ℕ} (text : List ℕ) → length text ≤ b → length (bytes " " ++ text) ≤ 1 + b
@@ -27,7 +27,7 @@ marked-length : (n b : ℕ) (marks : List ℕ) (item : ℕ → List ℕ) → len
     → length (marked marks item) ≤ n * (1 + b)
 unfolding marked
 marked-length n b marks item h l =
-    le-trans (concat-bound (length marks) (1 + b) _ (λ i m. go (inside marks i) (item i) (l i m))) (mul-le-mul-right (1 + b) h)
+    le-trans (concatBelow-bound (length marks) (1 + b) _ (λ i m. go (inside marks i) (item i) (l i m))) (mul-le-mul-right (1 + b) h)
   where
     go : (on : Bool) (text : List ℕ) → length text ≤ b → length (cond on (bytes " " ++ text) []) ≤ 1 + b
     go true text k = space text k
@@ -65,8 +65,8 @@ centre-length pattern board c b h = go (hasPlace pattern board c)
     links =
         let m = links-marks pattern board c (radiusOf pattern) .size in
         links-length (board .starts) (board .ends) (placeLinks pattern board c (radiusOf pattern)) (omega (arith, b .links))
-        (λ i l. omega (arith, b .nodes, key-below (length (board .kinds)) (board .starts) i (starts-below _ _ _ (b .below)) (omega arith)))
-        (λ i l. omega (arith, b .nodes, key-below (length (board .kinds)) (board .ends) i (ends-below _ _ _ (b .below)) (omega (arith, b .parallel))))
+        (λ i l. omega (arith, b .nodes, all-below-at (length (board .kinds)) (board .starts) i (starts-below _ _ _ (b .below)) (omega arith)))
+        (λ i l. omega (arith, b .nodes, all-below-at (length (board .kinds)) (board .ends) i (ends-below _ _ _ (b .below)) (omega (arith, b .parallel))))
 
     go : (found : Bool) →
         length (cond found

@@ -17,7 +17,7 @@ use Rattle.table.specs.Fill.{listed, marksOf, NodeList}
 use Rattle.table.specs.First.{Written}
 use Rattle.table.specs.Host.{Taken, everything}
 use Rattle.table.specs.Prepared.{Tables}
-use Rattle.table.proofs.Begun.{copied-begins}
+use Rattle.table.proofs.Begun.{copied-begins, inside-marks}
 use Rattle.table.proofs.Host.{everything-taken}
 use Rattle.table.proofs.Meaning.{last-fits}
 use Rattle.table.proofs.Sets.{fits-word}
@@ -32,15 +32,6 @@ use Rattle.place_components.proofs.Lists.{first-list, having-from, having-to, h
 use Rattle.place_components.proofs.Labels.{match-adjacency, spread-same, some-few, some-lists, until-lists}
 use Rattle.report_centres.specs.Pieces.{Source, CentreLabelled, Cut}
 use Rattle.report_centres.proofs.Centre.{source-tabled, source-long, source-few}
-
--- a node is marked where it is listed
-inside-marks : (n : ℕ) (nodes : List ℕ) (v : ℕ) → v < n → inside (marksOf n nodes) v ≡ listed nodes v
-unfolding inside marksOf
-inside-marks n nodes v h = ap (λ (x : ℕ). eqb x 1) (getD-tabulate n (λ v. cond (listed nodes v) 1 0) v 0 h) ∙ go (listed nodes v)
-  where
-    go : (b : Bool) → eqb (cond b 1 0) 1 ≡ b
-    go true = refl
-    go false = refl
 
 module _ {pattern board : Circuit} {t : Tables} {table : List ℕ} {r : ℕ} (s : Source pattern board t table r) where
   abbrev n : ℕ

@@ -1,5 +1,5 @@
 -- The last line after the lines of the centres, and nothing after that. Assumes nothing.
-use Rattle.base_lists.specs.Kit.{_≡_, _∙_, refl, Bool, false, true, cond, _&&_, List, [], _++_, append-nil, ℕ, _≤_, _<_, _+_, _-_, suc, zero-add, add-one, eqb, leb, le→leb, leb→le, length, length-append, arith, eq-eqb, ne-eqb, le-ltb, leb-true}
+use Rattle.base_lists.specs.Kit.{_≡_, _∙_, refl, Bool, false, true, cond, _&&_, List, [], _++_, append-nil, ℕ, _≤_, _<_, _+_, _-_, suc, zero-add, add-one, eqb, leb, le→leb, leb→le, length, length-append, arith, eq-eqb, ne-eqb, le-ltb, leb-true, and-false}
 use Rattle.base_lists.proofs.Tests.{both-right, true-T, same-test}
 use Rattle.base_text.specs.Text.{Put}
 use Rattle.base_text.proofs.Text.{put-nothing, put-then, put-same, put-length}
@@ -32,11 +32,7 @@ ends-elsewhere n room next size h = rw (ne-eqb next n h)
 
 ends-full : (n room next size : ℕ) → roomy room size ≡ false → ends n room next size ≡ false
 unfolding ends
-ends-full n room next size h = rw h (go (eqb next n))
-  where
-    go : (b : Bool) → (b && false) ≡ false
-    go true = refl
-    go false = refl
+ends-full n room next size h = rw h (and-false (eqb next n))
 
 ends-here : (n room next size : ℕ) → next ≡ n → roomy room size ≡ true → ends n room next size ≡ true
 unfolding ends

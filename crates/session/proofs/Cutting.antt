@@ -3,10 +3,10 @@
 use Rattle.base_lists.specs.Kit.{_≡_, _∙_, sym, ap, refl, subst, ap₂, Bool, false, true, cond, _&&_, List, _++_, ℕ, _≤_, _<_, _+_, T, ltb, length, getD, take, drop, set, length-set, take-at, getD-take, getD-drop, arith, le-ltb, lt-ltb, ltb-false, ltb-true}
 use Rattle.base_lists.specs.List.{part}
 use Rattle.base_lists.proofs.Tests.{T-true, true-T, false-T}
+use Rattle.base_lists.proofs.Entries.{all-below, all-below-at}
 use Rattle.base_bits.specs.Bits.{unionAt}
 use Rattle.graph.specs.Chosen.{chosen}
 use Rattle.graph.specs.Search.{far}
-use Rattle.graph.proofs.Groups.{all-below, key-below}
 use Rattle.file_format.proofs.Accepted.{bounded-starts, bounded-ends}
 use Rattle.simulation.specs.Simulation.{Direction, forwards, backwards}
 use Rattle.table.specs.First.{Begins}
@@ -45,7 +45,7 @@ module _ {m : Machine} {s : State} (holds : Holds m s) (place : ℕ) where
   entry h = sym (getD-take 4096 (s .ends) place far h) ∙ holds .links .atEnds place
 
   end-below : T (isLeft m place) → getD (m .board .ends) place 0 < length (m .board .kinds)
-  end-below t = key-below (length (m .board .kinds)) (m .board .ends) place (bounded-ends (holds .board)) (omega (arith, left-below m place t, holds .board .parallel))
+  end-below t = all-below-at (length (m .board .kinds)) (m .board .ends) place (bounded-ends (holds .board)) (omega (arith, left-below m place t, holds .board .parallel))
 
   -- the tables say so
   pub takes-left : takes (s .ends) (length (m .board .kinds)) place ≡ isLeft m place

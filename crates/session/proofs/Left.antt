@@ -1,5 +1,5 @@
 -- Laws of the links that are left: all of a fresh machine's, and what a cut takes out. Assumes nothing.
-use Rattle.base_lists.specs.Kit.{_≡_, _∙_, sym, ap, refl, Bool, false, true, cond, _&&_, not, List, ℕ, _≤_, _<_, T, eqb, ltb, length, getD, set, List·getD-eq-default, getD-set-other, getD-set-same, set-out, lt-ltb, eqb-true, ltb-false, eqb-false, ltb-true}
+use Rattle.base_lists.specs.Kit.{_≡_, _∙_, sym, ap, refl, Bool, false, true, cond, _&&_, not, List, ℕ, _≤_, _<_, T, eqb, ltb, length, getD, set, List·getD-eq-default, getD-set-other, getD-set-same, set-out, lt-ltb, eqb-true, ltb-false, eqb-false, ltb-true, and-false, and-true}
 use Rattle.base_lists.proofs.Tables.{getD-tabulate}
 use Rattle.base_lists.proofs.Tests.{both, both-left, both-right, T-true, true-T}
 use Rattle.graph.specs.Circuit.{Circuit}
@@ -12,20 +12,12 @@ inside-out : (left : List ℕ) (place i : ℕ) → inside (set left place 0) i �
 unfolding inside
 inside-out left place i = go (eqb i place) refl (ltb place (length left)) refl
   where
-    none : (b : Bool) → b && false ≡ false
-    none true = refl
-    none false = refl
-
-    same : (b : Bool) → b && true ≡ b
-    same true = refl
-    same false = refl
-
     go : (b : Bool) → eqb i place ≡ b → (a : Bool) → ltb place (length left) ≡ a → eqb (getD (set left place 0) i 0) 1 ≡ eqb (getD left i 0) 1 && not b
-    go true e true l = rw (eqb-true i place e, getD-set-same left place 0 0 (ltb-true _ _ l)) (sym (none (eqb (getD left place 0) 1)))
+    go true e true l = rw (eqb-true i place e, getD-set-same left place 0 0 (ltb-true _ _ l)) (sym (and-false (eqb (getD left place 0) 1)))
     go true e false l =
         let out : length left ≤ place = ltb-false _ _ l in
         rw (eqb-true i place e, set-out left place 0 out, List·getD-eq-default left 0 out)
-    go false e a l = rw (getD-set-other left place i 0 0 (eqb-false i place e)) (sym (same (eqb (getD left i 0) 1)))
+    go false e a l = rw (getD-set-other left place i 0 0 (eqb-false i place e)) (sym (and-true (eqb (getD left i 0) 1)))
 
 module _ (m : Machine) (place : ℕ) where
   pub left-out : (i : ℕ) → isLeft (takeOut m place) i ≡ isLeft m i && not (eqb i place)

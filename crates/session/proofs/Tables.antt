@@ -1,16 +1,18 @@
 -- What a cut and reading out come to where the tables hold a machine: the machine's reply, the tables of the machine after it, and its table. Assumes nothing.
 use Rattle.base_lists.specs.Kit.{_≡_, _∙_, sym, ap, refl, ap₂, Bool, false, true, cond, List, [], _∷_, _++_, ℕ, _≤_, _<_, leb, length, take, drop, arith, le-leb, lt-leb, leb-true}
 use Rattle.base_lists.proofs.Tests.{true-T}
+use Rattle.base_lists.proofs.Tables.{replicate-tabulate}
 use Rattle.file_format.specs.Reading.{filled}
 use Rattle.file_format.specs.Refusals.{Verdict, accept, refuse, first, linkGone, shortTable}
 use Rattle.file_format.specs.Reply.{Reply, reply}
 use Rattle.file_format.specs.declared.Refusal.{Refusal}
+use Rattle.file_format.proofs.Refusals.{accept-not-refuse}
 use Rattle.graph.specs.Chosen.{chosen}
 use Rattle.table.specs.Answer.{Fits, allOrNone}
 use Rattle.table.specs.Host.{everything}
 use Rattle.table.specs.Row.{problemBy, lastTable}
 use Rattle.table.proofs.Meaning.{last-fits}
-use Rattle.table_answer.proofs.AllParts.{occur-size, none-tabulated}
+use Rattle.table_answer.proofs.AllParts.{occur-size}
 use Rattle.table_row.specs.Answer.{answerOf}
 use Rattle.session.specs.Machine.{Machine, isLeft, takeOut, cutReply, cutMachine, replies, machineAfter, boardLeft, machineTable}
 use Rattle.session.specs.Session.{cutState, CutPromise, ReadPromise}
@@ -92,16 +94,13 @@ cuts-held (place ∷ places) h =
 
 -- ---- refused
 
-never : (x : Refusal) → accept ≡ refuse x → ⊥
-never x q = let e : _≡_ {A = ℕ} 0 1 = cc in omega arith
-
 -- a cut that is refused leaves all tables as they were, whatever they hold
 pub cut-refused : (s : State) (place : ℕ) (x : Refusal) → cutAnswered s place ≡ refuse x → cutTables s place ≡ s
 unfolding cutAnswered cutTables first linkGone
 cut-refused s place x = go (named s place)
   where
     go : (b : Bool) → first (linkGone b ∷ []) ≡ refuse x → cond b (linkOut s place (cutSets s place)) s ≡ s
-    go true q = absurd (never x q)
+    go true q = absurd (accept-not-refuse q)
     go false q = refl
 
 pub cut-promise : {before : State} {place : ℕ} {reply : Verdict} {after : State} → CutMade before place reply after → CutPromise before place reply after
@@ -121,7 +120,7 @@ cut-promise {before} {place} c =
 -- of sets that have no part past so many, the rule is the one of the row's answer
 occur-rule : (parts : ℕ) (t : List ℕ) → parts ≤ 32 → Fits (length t) parts t → occurOrNone parts t ≡ allOrNone (length t) parts t
 unfolding occurOrNone allOrNone
-occur-rule parts t few fits = rw (occur-size parts few t fits, none-tabulated (length t))
+occur-rule parts t few fits = rw (occur-size parts few t fits, replicate-tabulate (length t))
 
 pub table-held : {m : Machine} {s : State} → Holds m s → tableIn (s .fixed) (s .sets) ≡ machineTable m
 unfolding machineTable answerOf problemBy boardLeft chosen
@@ -135,7 +134,7 @@ table-held {m} {s} h =
 
 read-refused : (v : Verdict) (values table before : List ℕ) (x : Refusal) → reply v values .verdict ≡ refuse x → filled v table before ≡ before
 unfolding reply filled
-read-refused accept values table before x q = absurd (never x q)
+read-refused accept values table before x q = absurd (accept-not-refuse q)
 read-refused (refuse y) values table before x q = refl
 
 pub read-promise :

@@ -2,6 +2,9 @@
 use Rattle.base_lists.specs.Kit.{_≡_, _∙_, sym, ap, refl, Bool, false, true, cond, not, List, ℕ, _≤_, _<_, suc, zero, eqb, ltb, length, getD, set, arith, le-ltb, lt-ltb, eqb-true, not-true, ltb-false, eqb-false, ltb-true}
 use Rattle.base_lists.proofs.Below.{leastBelow-at}
 use Rattle.base_lists.proofs.Tests.{T-true, T-false, false-T}
+use Rattle.base_bits.proofs.Counts.{size-less}
+use Rattle.base_bits.specs.Bits.{Words}
+use Rattle.base_bits.proofs.Numbers.{words-set}
 use Rattle.graph.specs.Circuit.{Circuit}
 use Rattle.simulation.specs.Simulation.{Direction}
 use Rattle.table.specs.First.{Begins}
@@ -13,7 +16,7 @@ use Rattle.table_row.proofs.Begin.{begins-fits}
 use Rattle.session_strike.specs.Going.{Follows, Covered}
 use Rattle.session_strike.specs.Moves.{nextOf, markBeside, markBoth, nodeAt, unmark, lookSets, lookMarks, firstWord, lookOn, left, settled, settledFrom}
 use Rattle.session_strike.proofs.Looking.{next-subset, next-lt, next-out, length-look, look-same}
-use Rattle.session_strike.proofs.Marking.{Words, words-set, size-less, pairs-less, length-unmark, words-unmark, unmark-less, unmark-keeps, length-beside, words-beside, length-both, words-both, none-marked}
+use Rattle.session_strike.proofs.Marking.{pairs-less, length-unmark, words-unmark, unmark-less, unmark-keeps, length-beside, words-beside, length-both, words-both, none-marked}
 use Rattle.session_strike.proofs.Striking.{look-begins, look-covered, rest-last}
 
 -- What the loop keeps, whatever its lists hold: 16 words of marks, and sets of 32 bits.

@@ -3,46 +3,21 @@ use Rattle.base_lists.specs.Kit.{_≡_, _∙_, ap, refl, Bool, false, true, con
 use lib.Bits.{bitOr, or-lt}
 use lib.Pow.{pow-lt}
 use Rattle.base_lists.specs.List.{Occurs}
-use Rattle.base_lists.specs.Below.{countBelow, leastBelow}
-use Rattle.base_lists.proofs.Below.{countBelow-mono, countBelow-equal, leastBelow-none}
+use Rattle.base_lists.specs.Below.{leastBelow}
+use Rattle.base_lists.proofs.Below.{leastBelow-none}
 use Rattle.base_lists.proofs.Tests.{both, both-left, both-right, either-left, either-right, true-T, false-T}
-use Rattle.base_bits.specs.Bits.{bit, Subset, sizeOf, firstOf, withoutFirst}
-use Rattle.base_bits.proofs.Digits.{bit-of-zero, bit-or, bit-single, same-bits-below}
+use Rattle.base_bits.specs.Bits.{bit, Subset, sizeOf, firstOf, withoutFirst, Words}
+use Rattle.base_bits.proofs.Digits.{bit-of-zero, bit-or, bit-single}
 use Rattle.base_bits.proofs.Members.{bit-without}
-use Rattle.base_bits.proofs.Numbers.{number-lt}
+use Rattle.base_bits.proofs.Numbers.{number-lt, words-set, words-none}
 use Rattle.simulation.specs.Simulation.{Direction, forwards, backwards}
 use Rattle.table.specs.Row.{pairs}
 use Rattle.table.proofs.Pairs.{pairs-at, pairs-put}
 use Rattle.base_bits.proofs.Members.{first-bit}
+use Rattle.base_bits.proofs.Counts.{size-less}
 use Rattle.session_strike.specs.Moves.{marked, mark, markOne, markAll, markBeside, markBoth, nodeAt, unmark}
 
--- ---- words
-
--- each entry is a number of 32 bits
-abbrev pub Words : List ℕ → Type 0
-Words xs = (i : ℕ) → getD xs i 0 < 2 ^ 32
-
-pub words-set : (xs : List ℕ) (i x : ℕ) → Words xs → x < 2 ^ 32 → Words (set xs i x)
-words-set xs i x w h k = go (eqb k i) refl (ltb i (length xs)) refl
-  where
-    go : (b : Bool) → eqb k i ≡ b → (a : Bool) → ltb i (length xs) ≡ a → getD (set xs i x) k 0 < 2 ^ 32
-    go true e true l = rw (eqb-true k i e, getD-set-same xs i x 0 (ltb-true i (length xs) l)) h
-    go true e false l = rw (set-out xs i x (omega (arith, ltb-false i (length xs) l))) (w k)
-    go false e a l = rw (getD-set-other xs i k x 0 (eqb-false k i e)) (w k)
-
 -- ---- sizes
-
--- a set inside another has fewer parts, or is equal to it
-pub size-less : (y x : ℕ) → y < 2 ^ 32 → x < 2 ^ 32 → Subset y x → (y ≡ x → ⊥) → sizeOf y < sizeOf x
-unfolding sizeOf
-size-less y x h l s other = go (ltb (countBelow 32 (bit y)) (countBelow 32 (bit x))) refl
-  where
-    go : (b : Bool) → ltb (countBelow 32 (bit y)) (countBelow 32 (bit x)) ≡ b → countBelow 32 (bit y) < countBelow 32 (bit x)
-    go true e = ltb-true _ _ e
-    go false e =
-        let less = countBelow-mono 32 (bit y) (bit x) (λ u k. s u) in
-        let more = ltb-false (countBelow 32 (bit y)) (countBelow 32 (bit x)) e in
-        absurd (other (same-bits-below 32 y x h l (countBelow-equal 32 (bit y) (bit x) (λ u k. s u) (omega arith))))
 
 -- so a table with one set made smaller has fewer pairs
 pub pairs-less : (xs : List ℕ) (v y : ℕ) → v < length xs → sizeOf y < sizeOf (getD xs v 0) → pairs (set xs v y) < pairs xs
@@ -171,11 +146,6 @@ both-second n x y few h =
 pub length-both : (n x y : ℕ) → length (markBoth n x y) ≡ 16
 unfolding markBoth
 length-both n x y = length-one n (markOne n (replicate 16 0) x) y ∙ length-one n (replicate 16 0) x ∙ length-replicate {A = ℕ} 16 0
-
-words-none : (n : ℕ) → Words (replicate n 0)
-words-none zero i = omega arith
-words-none (suc n) zero = omega arith
-words-none (suc n) (suc i) = words-none n i
 
 pub words-both : (n x y : ℕ) → Words (markBoth n x y)
 unfolding markBoth

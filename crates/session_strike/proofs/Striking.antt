@@ -1,13 +1,13 @@
 -- Striking node by node leads to the row's last table: the next set of a node by masks and moves is that of the row, a table to begin with stays one,
 -- and a node none of whose neighbours changed keeps its set. Assumes nothing.
-use Rattle.base_lists.specs.Kit.{_≡_, _∙_, sym, ap, refl, subst, ap₂, _↔_, ⊎-elim, _⊎_, inl, inr, Bool, false, true, _&&_, and-true, List, [], _∷_, ℕ, _≤_, _<_, suc, zero, _*_, suc-le-suc, zero-lt-suc, T, eqb, ltb, length, getD, set, length-set, getD-set-other, getD-set-same, set-out, eqb-true, ltb-false, eqb-false, ltb-true}
-use lib.Bits.{bitOr}
-use Rattle.base_lists.specs.List.{Occurs, Below}
+use Rattle.base_lists.specs.Kit.{_≡_, _∙_, sym, ap, refl, subst, ap₂, _↔_, ⊎-elim, _⊎_, inl, inr, Bool, false, true, _&&_, and-true, List, [], _∷_, ℕ, _≤_, _<_, _*_, T, eqb, ltb, length, getD, set, length-set, getD-set-other, getD-set-same, set-out, eqb-true, ltb-false, eqb-false, ltb-true}
+use Rattle.base_lists.specs.List.{Occurs}
 use Rattle.base_lists.proofs.Tables.{is-tabulate, getD-tabulate}
 use Rattle.base_lists.proofs.Tests.{any-at, at-any, same-test, T-false, false-T}
 use Rattle.base_bits.specs.Bits.{bit, subsetOf, unionAt}
 use Rattle.base_bits.proofs.Digits.{same-bits}
 use Rattle.base_bits.proofs.Numbers.{number-same}
+use Rattle.base_bits.proofs.Unions.{unionAt-set}
 use Rattle.graph.specs.Circuit.{Circuit}
 use Rattle.graph.proofs.Groups.{select-mem, select-mem-back}
 use Rattle.simulation.specs.Simulation.{Direction, forwards, backwards}
@@ -24,7 +24,7 @@ use Rattle.table.specs.Host.{everything}
 use Rattle.table.specs.Prepared.{counting, masksOf, succOf, predOf}
 use Rattle.table.specs.Row.{among, neighbours, problemBy, problemOf, lastTable}
 use Rattle.table_strike.specs.Strike.{survivors}
-use Rattle.table.proofs.Masks.{select-within}
+use Rattle.table.proofs.Masks.{neighbours-below}
 use Rattle.table_strike.proofs.Survivors.{survivors-again}
 use Rattle.session_strike.specs.Going.{Follows, Covered}
 use Rattle.session_strike.specs.Moves.{marked, nextOf, markBeside, lookSets, lookMarks}
@@ -32,14 +32,6 @@ use Rattle.session_strike.proofs.Looking.{length-look, next-out, look-s
 use Rattle.session_strike.proofs.Marking.{beside-keeps, beside-marks}
 
 -- ---- unions over neighbours
-
--- a union does not see a node that is not in the list
-union-set : (old : List ℕ) (v y : ℕ) (l : List ℕ) → (Occurs l v → ⊥) → unionAt (set old v y) l ≡ unionAt old l
-unfolding unionAt
-union-set old v y [] out = refl
-union-set old v y (w ∷ l) out =
-    ap₂ (λ (a b : ℕ). bitOr a b) (getD-set-other old v w y 0 (λ e. out (zero, zero-lt-suc _, e)))
-    (union-set old v y l (λ (i, h, e). out (suc i, suc-le-suc h, e)))
 
 -- two lists with the same nodes of the table have the same union
 union-within : (old xs ys : List ℕ) → ((w : ℕ) → w < length old → Occurs xs w → Occurs ys w) → (u : ℕ) → T (bit (unionAt old xs) u) → T (bit (unionAt old ys) u)
@@ -55,11 +47,6 @@ union-same old xs ys same =
     (λ u. same-test (union-within old xs ys (λ w h. same w h .0) u) (union-within old ys xs (λ w h. same w h .1) u))
 
 -- ---- the next set of a node is the row's
-
-neighbours-below : (n : ℕ) (c : Circuit) → Below n (c .starts) → Below n (c .ends) → (d : Direction) (u : ℕ) → Below n (neighbours c d u)
-unfolding neighbours
-neighbours-below n c starts ends forwards u = select-within n (c .starts) (c .ends) u ends
-neighbours-below n c starts ends backwards u = select-within n (c .ends) (c .starts) u starts
 
 module _ (pattern host : Circuit) {masks : List ℕ} {moves : Direction → ℕ → List ℕ} (f : Follows pattern host masks moves) where
   abbrev P : Problem Direction
@@ -174,8 +161,8 @@ module _ (pattern host : Circuit) {masks : List ℕ} {moves : Direction → ℕ 
         ≡ survivors (succOf masks) (predOf masks) (unionAt old (moves forwards w)) (unionAt old (moves backwards w)) (getD (set old v y) w 0)
     unfolding nextOf
     next-apart w y out =
-        ap₂ (λ (a b : ℕ). survivors (succOf masks) (predOf masks) a b (getD (set old v y) w 0)) (union-set old v y (moves forwards w) (out forwards))
-        (union-set old v y (moves backwards w) (out backwards))
+        ap₂ (λ (a b : ℕ). survivors (succOf masks) (predOf masks) a b (getD (set old v y) w 0)) (unionAt-set old v y (moves forwards w) (out forwards))
+        (unionAt-set old v y (moves backwards w) (out backwards))
 
     -- the set stays
     same-covered : nextOf masks moves old v ≡ getD old v 0 → Covered masks moves old marks

@@ -1,6 +1,7 @@
 -- Where each of the byte strings lies that lie one after another. Assumes nothing.
 use Rattle.base_lists.specs.Kit.{_≡_, _∙_, sym, ap, refl, Bool, false, true, List, [], _∷_, _++_, ℕ, _≤_, _<_, _+_, _-_, suc, zero, add-one, leb, length, getD, take, drop, length-drop, List·getD-eq-default, drop-of-length-le, take-all, take-suc, drop-drop, arith, leb-true, leb-false}
 use Rattle.base_lists.specs.List.{sum}
+use Rattle.base_lists.proofs.Rows.{sum-last}
 use Rattle.shelf_strings.specs.Strings.{cutInto, capped}
 
 pub length-cut : (bytes sizes : List ℕ) → length (cutInto bytes sizes) ≡ length sizes
@@ -19,11 +20,6 @@ cut-at bytes [] i h = absurd (omega arith)
 cut-at bytes (k ∷ ks) zero h = refl
 cut-at bytes (k ∷ ks) (suc i) h =
     cut-at (drop k bytes) ks i (omega arith) ∙ ap (take (getD ks i 0)) (drop-drop (sum (take i ks)) k bytes)
-
-sum-last : (xs : List ℕ) (x : ℕ) → sum (xs ++ (x ∷ [])) ≡ sum xs + x
-unfolding sum
-sum-last [] x = omega arith
-sum-last (y ∷ ys) x = omega (arith, sum-last ys x)
 
 -- ---- with the end of the bytes as a bound
 

@@ -14,7 +14,7 @@ R ⊆ S = (u v : ℕ) → R u v → S u v
 -- A set S of pairs (part u, node v) is closed when each pair agrees, and each step of the pattern from u to u′ that bears the label d is
 -- answered by a move with that label from v to some v′ with (u′, v′) in S.
 pub record Closed {D : Type 0} (Agree : Relation) (Step Move : D → Relation) (S : Relation) : Type 0 where
-  pub agree : (u v : ℕ) → S u v → Agree u v
+  pub agree : S ⊆ Agree
   pub partner : (d : D) (u v u′ : ℕ) → S u v → Step d u u′ → (v′ : ℕ) × Move d v v′ × S u′ v′
 
 -- Every part of the pattern occurs in a pair, unless the set is empty.

@@ -2,16 +2,17 @@
 -- nothing.
 use Rattle.base_lists.specs.Kit.{_≡_, _∙_, sym, ap, refl, subst, ap₂, Bool, false, true, cond, _&&_, List, ℕ, _≤_, _<_, T, eqb, length, getD}
 use Rattle.base_lists.proofs.Tables.{getD-tabulate, tabulate-same}
-use Rattle.base_lists.proofs.Tests.{T-true, false-T}
+use Rattle.base_lists.proofs.Tests.{T-true, false-T, cond-test}
 use Rattle.base_bits.specs.Bits.{bit, numberOf}
 use Rattle.base_bits.proofs.Digits.{bit-of-zero}
+use Rattle.base_bits.proofs.Numbers.{number-if}
 use Rattle.graph.specs.Circuit.{Circuit}
 use Rattle.graph.specs.Search.{inside}
 use Rattle.table_row.specs.Problem.{Problem}
 use Rattle.table_row.specs.Row.{tableOf, startOf, startedOf, struckOf}
 use Rattle.table_row.proofs.Counting.{kept-started}
 use Rattle.table_row.specs.Reading.{InTable}
-use Rattle.table_row.proofs.Sets.{number-if, in-node, fits-node}
+use Rattle.table_row.proofs.Sets.{in-node, fits-node}
 use Rattle.table_row.proofs.Begin.{start-begins}
 use Rattle.table.specs.declared.Rest.{Rest}
 use Rattle.table.specs.Fill.{listed, marksOf, tableAt}
@@ -28,11 +29,7 @@ use Rattle.table.proofs.Fill.{length-table, getD-table}
 
 pub inside-marks : (n : ℕ) (nodes : List ℕ) (v : ℕ) → v < n → inside (marksOf n nodes) v ≡ listed nodes v
 unfolding inside marksOf
-inside-marks n nodes v h = ap (λ (x : ℕ). eqb x 1) (getD-tabulate n (λ v. cond (listed nodes v) 1 0) v 0 h) ∙ go (listed nodes v)
-  where
-    go : (b : Bool) → eqb (cond b 1 0) 1 ≡ b
-    go true = refl
-    go false = refl
+inside-marks n nodes v h = ap (λ (x : ℕ). eqb x 1) (getD-tabulate n (λ v. cond (listed nodes v) 1 0) v 0 h) ∙ cond-test (listed nodes v)
 
 pub start-row : (ways : List Direction) (pattern host : Circuit) (nodes : List ℕ)
     → tableAt (length (host .kinds)) (startNode (pattern .kinds) (host .kinds)) nodes ≡ startOf (problemBy ways pattern host (marksOf (length (host .kinds)) nodes))

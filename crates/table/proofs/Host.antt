@@ -20,7 +20,7 @@ use Rattle.table.proofs.Meaning.{last-largest}
 -- the links of a circuit whose starts and ends are below N join its nodes
 pub within-joins : (c : Circuit) → Within (length (c .kinds)) (c .starts) (c .ends) → LinksJoin (circuitGraph c)
 unfolding circuitGraph graphOf
-within-joins c w = record { starts = w .starts; ends = w .ends }
+within-joins c w = record { nodes = λ v n. n; links = λ v w l. l; starts = w .starts; ends = w .ends }
 
 pub everything-taken : (c : Circuit) (v : ℕ) → v < length (c .kinds) → Taken c (everything c) v
 unfolding everything inside

@@ -16,3 +16,4 @@ pub mod Masks
 pub mod Prepare
 pub mod Examples
 pub mod Begun
+pub mod Reply

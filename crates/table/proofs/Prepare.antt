@@ -3,12 +3,12 @@ use Rattle.base_lists.specs.Kit.{_≡_, _∙_, sym, ap, refl, subst, ap₂, Boo
 use Rattle.base_lists.proofs.Parts.{halved, part-first, part-second, length-halved}
 use Rattle.graph.specs.Circuit.{Circuit}
 use Rattle.graph.specs.Net.{NetOf}
-use Rattle.graph.proofs.Groups.{all-below}
 use Rattle.file_format.specs.declared.Role.the-variants.{Pattern}
 use Rattle.file_format.specs.Circuit.{Bounded}
 use Rattle.file_format.proofs.Accepted.{bounded-starts, bounded-ends}
 use Rattle.table.specs.declared.Counts.{Counts}
 use Rattle.base_lists.specs.List.{any, tabulate}
+use Rattle.base_lists.proofs.Entries.{all-below}
 use Rattle.base_bits.specs.Bits.{numberOf}
 use Rattle.graph.specs.Neighbours.{select}
 use Rattle.simulation.specs.Simulation.{Direction, forwards, backwards}

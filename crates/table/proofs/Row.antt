@@ -35,13 +35,13 @@ Moves host taken = Along (hostGraph host taken .Link)
 -- ---- how the problem is read
 
 -- a node's neighbours are those to which a link leads
-neighbours-along : (c : Circuit) (d : Direction) (v w : ℕ) → Occurs (neighbours c d v) w ↔ Along (HasLink (c .starts) (c .ends)) d v w
+pub neighbours-along : (c : Circuit) (d : Direction) (v w : ℕ) → Occurs (neighbours c d v) w ↔ Along (HasLink (c .starts) (c .ends)) d v w
 unfolding neighbours Along
 neighbours-along c forwards v w = select-mem (c .starts) (c .ends) v w
 neighbours-along c backwards v w = select-mem-back (c .starts) (c .ends) v w
 
 -- both ways count
-both-ways : (d : Direction) → Way bothWays d
+pub both-ways : (d : Direction) → Way bothWays d
 unfolding Way
 both-ways forwards = inl refl
 both-ways backwards = inr (inl refl)

@@ -1,9 +1,9 @@
 -- What matching looks up: masks of the pattern and neighbour tables of the circuit, and when they are those of a pattern and a circuit. The
 -- calls above prepare them; how pairs are struck is not said here. One list has 64 masks: for each of 32 parts the parts that it drives, and
 -- then for each those that drive it. The neighbour tables are two lists, as graph/specs/Net has them.
-use Rattle.base_lists.specs.Kit.{_≡_, cond, List, [], ℕ, _≤_, _<_, _^_, length, getD}
+use Rattle.base_lists.specs.Kit.{_≡_, cond, List, [], ℕ, _≤_, _<_, _^_, length}
 use Rattle.base_lists.specs.List.{tabulate, part, Below}
-use Rattle.base_bits.specs.Bits.{numberOf}
+use Rattle.base_bits.specs.Bits.{numberOf, Words}
 use Rattle.graph.specs.Circuit.{Circuit}
 use Rattle.graph.specs.Neighbours.{select}
 use Rattle.graph.specs.Net.{Net, NetOf}
@@ -50,7 +50,7 @@ tables masks offsets links = record { masks = masks; offsets = offsets; links = 
 pub record Ready (t : Tables) (old : List ℕ) : Type 0 where
   pub masks : length (t .masks) ≡ 64
   pub net : Net (length old) (t .offsets) (t .links)
-  pub small : (v : ℕ) → getD old v 0 < 2 ^ 32
+  pub small : Words old
 
 -- The tables are those of a pattern and of a graph: the masks are made of the pattern's links, and a node's two stretches are what it
 -- drives and what drives it.

@@ -1,10 +1,10 @@
 -- Only what may change is looked at: a node none of whose neighbours changed keeps its set. Assumes nothing.
-use Rattle.base_lists.specs.Kit.{_≡_, _∙_, sym, ap, refl, subst, ap₂, _⊎_, inl, inr, Bool, false, true, cond, not, List, [], _∷_, ℕ, _<_, suc, zero, _^_, suc-le-suc, zero-lt-suc, T, eqb, length, getD, eqb-true, eqb-false}
-use lib.Bits.{bitOr}
+use Rattle.base_lists.specs.Kit.{_≡_, _∙_, sym, ap, refl, subst, ap₂, _⊎_, inl, inr, Bool, false, true, cond, not, List, [], _∷_, ℕ, _<_, _^_, T, eqb, length, getD, eqb-true, eqb-false}
 use Rattle.base_lists.specs.List.{Occurs, Below}
 use Rattle.base_lists.proofs.Tests.{true-T, false-T, both-right}
 use Rattle.base_lists.proofs.Tables.{length-tabulate, getD-tabulate, is-tabulate}
 use Rattle.base_bits.specs.Bits.{unionAt}
+use Rattle.base_bits.proofs.Unions.{unionAt-same}
 use Rattle.graph.specs.Net.{driven, driving, NetOf, Net}
 use Rattle.graph.proofs.Net.{driven-below, driving-below, driven-link, driving-link}
 use Rattle.table.specs.Fill.{listed, fillAt}
@@ -29,12 +29,6 @@ module _ (t : Tables) (old : List ℕ) where
   unfolding strikeTable
   strike-at v h = getD-tabulate (length old) (strikeNode t old) v 0 h
 
-union-same : (xs ys l : List ℕ) → ((w : ℕ) → Occurs l w → getD xs w 0 ≡ getD ys w 0) → unionAt xs l ≡ unionAt ys l
-unfolding unionAt
-union-same xs ys [] e = refl
-union-same xs ys (w ∷ l) e =
-    ap₂ (λ (a b : ℕ). bitOr a b) (e w (zero, zero-lt-suc _, refl)) (union-same xs ys l (λ x (i, h, q). e x (suc i, suc-le-suc h, q)))
-
 -- A node none of whose neighbours changed in a round keeps its set in the next.
 pub still :
     (t : Tables) (old : List ℕ) (v : ℕ) → v < length old →
@@ -48,8 +42,8 @@ still t old v h out back =
     let pred : List ℕ = predOf (t .masks) in
     let f : ℕ = unionAt old (driven (t .offsets) (t .links) v) in
     let b : ℕ = unionAt old (driving (t .offsets) (t .links) v) in
-    ap₂ (λ (x y : ℕ). survivors succ pred x y (getD new v 0)) (union-same new old (driven (t .offsets) (t .links) v) out)
-    (union-same new old (driving (t .offsets) (t .links) v) back)
+    ap₂ (λ (x y : ℕ). survivors succ pred x y (getD new v 0)) (unionAt-same new old (driven (t .offsets) (t .links) v) out)
+    (unionAt-same new old (driving (t .offsets) (t .links) v) back)
     ∙ ap (survivors succ pred f b) (strike-at t old v h)
     ∙ survivors-again succ pred f b (getD old v 0)
     ∙ sym (strike-at t old v h)

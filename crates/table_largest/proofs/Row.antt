@@ -1,6 +1,6 @@
 -- Striking over masks, neighbour tables and a list of nodes is the striking of the row. Assumes nothing.
 use Rattle.base_lists.specs.Kit.{_≡_, _∙_, sym, ap, refl, ap₂, Bool, _&&_, List, ℕ, _<_, suc, zero, length, getD}
-use Rattle.base_lists.specs.List.{tabulate, Below}
+use Rattle.base_lists.specs.List.{tabulate}
 use Rattle.base_lists.proofs.Tests.{T-false, false-T}
 use Rattle.base_lists.proofs.Tables.{tabulate-same}
 use Rattle.base_bits.specs.Bits.{bit, subsetOf, unionAt}
@@ -22,16 +22,10 @@ use Rattle.table_strike.specs.Strike.{survivors, strikeNode}
 use Rattle.table_largest.specs.Rounds.{strikeTable, strikeTimes}
 use Rattle.table.proofs.Begun.{inside-marks}
 use Rattle.table.proofs.Row.{Table, start-for}
-use Rattle.table.proofs.Masks.{select-within}
+use Rattle.table.proofs.Masks.{neighbours-below}
 use Rattle.table.proofs.Directions.{counting-covered, every-among}
 
 -- ---- one node, one round
-
--- links lead from parts to parts
-neighbours-below : (n : ℕ) (c : Circuit) → Below n (c .starts) → Below n (c .ends) → (d : Direction) (u : ℕ) → Below n (neighbours c d u)
-unfolding neighbours
-neighbours-below n c starts ends forwards u = select-within n (c .starts) (c .ends) u ends
-neighbours-below n c starts ends backwards u = select-within n (c .ends) (c .starts) u starts
 
 -- the test of two masks, of the directions that count, is that of every way
 survivors-next :

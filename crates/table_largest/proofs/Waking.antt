@@ -1,11 +1,11 @@
 -- The list of the nodes to look at next, made with marks: it has what lies beside the nodes that changed, each once, and without its marks the
 -- table of marks is as it was. Assumes nothing.
-use Rattle.base_lists.specs.Kit.{_≡_, _∙_, sym, ap, refl, Bool, false, true, cond, List, [], ℕ, _<_, suc, zero, zero-le, not-suc-le-zero, zero-lt-suc, T, eqb, length, getD, replicate, length-replicate, getD-replicate, ext-getD, arith, eqb-true, eqb-false}
+use Rattle.base_lists.specs.Kit.{_≡_, _∙_, sym, ap, refl, Bool, false, true, cond, List, [], ℕ, _<_, zero-le, not-suc-le-zero, T, eqb, length, getD, replicate, length-replicate, getD-replicate, ext-getD, arith, eqb-true, eqb-false}
 use Rattle.base_lists.specs.List.{Occurs, Below}
 use Rattle.base_lists.proofs.Tests.{T-true, false-T}
-use Rattle.graph.specs.Bfs.{State, level, start, missing, Ready, stateOf, Searching}
+use Rattle.graph.specs.Bfs.{State, level, Ready, stateOf, Searching}
 use Rattle.graph.specs.Search.{far}
-use Rattle.graph.proofs.BfsSteps.{missing-set, ready-level, ready-start}
+use Rattle.graph.proofs.BfsSteps.{ready-level, missing-all}
 use Rattle.graph.proofs.BfsScan.{elem, occurs-elem, below-elem, targets, targets-from, to-targets, level-scan, after-new, scan-dist}
 use Rattle.graph.proofs.Reached.{Listed, listed-scan}
 use Rattle.table.specs.Fill.{listed, fillAt}
@@ -14,13 +14,6 @@ use Rattle.table.proofs.Fill.{listed-occurs, occurs-listed, length-fill, getD-f
 -- nothing is marked
 unfoldable pub unmarked : ℕ → State
 unmarked n = record { dist = replicate n far; reached = [] }
-
-missing-all : (n : ℕ) → missing (replicate n far) ≡ n
-unfolding start missing
-missing-all zero = refl
-missing-all (suc n) =
-    omega
-    (arith, missing-set (replicate (suc n) far) 0 0 (rw length-replicate (zero-lt-suc n)) refl (omega arith), ready-start (suc n) 0 (zero-lt-suc n) .counted)
 
 unmarked-ready : (n : ℕ) → Ready n (unmarked n)
 unfolding unmarked Below

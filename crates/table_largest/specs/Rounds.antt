@@ -4,6 +4,7 @@ use Rattle.base_lists.specs.Kit.{_≡_, _↔_, false, List, ℕ, _≤_, _<_, su
 use Rattle.base_lists.specs.List.{tabulate, Occurs, Below}
 use Rattle.graph.specs.Net.{driven, driving}
 use Rattle.table.specs.Fill.{listed}
+use Rattle.table_row.specs.Row.{Falls}
 use Rattle.table.specs.Row.{pairs}
 use Rattle.table.specs.Prepared.{Tables, Ready}
 use Rattle.table_strike.specs.Strike.{strikeNode}
@@ -38,12 +39,12 @@ pub record Due (t : Tables) (old todo : List ℕ) : Type 0 where
 -- Where the rounds stand: `old` is the table after some rounds, each of which struck a pair.
 pub record Round (t : Tables) (start old : List ℕ) (kept rounds : ℕ) : Type 0 where
   pub table : old ≡ strikeTimes t start rounds
-  pub falls : (j : ℕ) → j < rounds → pairs (strikeTimes t start (suc j)) < pairs (strikeTimes t start j)
+  pub falls : Falls pairs (strikeTimes t start) rounds
   pub count : kept ≡ pairs old
 
 -- What striking round after round from a table comes to: the table after as many rounds as struck a pair, which one more would not change.
 pub record Settled (t : Tables) (start last : List ℕ) (kept rounds : ℕ) : Type 0 where
   pub table : last ≡ strikeTimes t start rounds
   pub stops : strikeTable t last ≡ last
-  pub falls : (j : ℕ) → j < rounds → pairs (strikeTimes t start (suc j)) < pairs (strikeTimes t start j)
+  pub falls : Falls pairs (strikeTimes t start) rounds
   pub count : kept ≡ pairs last

@@ -1,5 +1,5 @@
 -- Laws of the two halves of a round: listing the nodes that change, and writing their sets. Assumes nothing.
-use Rattle.base_lists.specs.Kit.{_≡_, _∙_, sym, ap, refl, subst, Bool, false, true, cond, _&&_, not, _||_, List, [], _∷_, _++_, append-nil, map, append-assoc, ℕ, _≤_, _<_, _+_, _-_, suc, zero-le, add-one, T, eqb, length, getD, take, drop, set, length-set, drop-of-length-le, drop-cons, take-suc-set, arith, eqb-true}
+use Rattle.base_lists.specs.Kit.{_≡_, _∙_, sym, ap, refl, subst, Bool, false, true, cond, _&&_, not, _||_, List, [], _∷_, _++_, append-nil, map, append-assoc, ℕ, _≤_, _<_, _+_, _-_, suc, zero-le, add-one, T, eqb, length, getD, take, drop, set, length-set, drop-of-length-le, drop-cons, take-suc-set, arith, eqb-true, and-false}
 use Rattle.base_lists.specs.List.{any, Below}
 use Rattle.base_lists.proofs.Tests.{both-left}
 use Rattle.base_bits.specs.Bits.{sizeOf}
@@ -24,11 +24,7 @@ module _ (f : ℕ → ℕ) (old : List ℕ) where
       go : (b : Bool) → eqb (f w) (getD old w 0) ≡ b → (c : Bool) → eqb w v ≡ c →
           listed (changing f old vs) v ≡ listed vs v && not (eqb (f v) (getD old v 0)) →
           listed (cond b (changing f old vs) (w ∷ changing f old vs)) v ≡ (c || listed vs v) && not (eqb (f v) (getD old v 0))
-      go true e true q r = r ∙ rw (at true e (eqb-true w v q)) (none (listed vs v))
-        where
-          none : (b : Bool) → b && false ≡ false
-          none true = refl
-          none false = refl
+      go true e true q r = r ∙ rw (at true e (eqb-true w v q)) (and-false (listed vs v))
       go true e false q r = r
       go false e true q r = rw (q, at false e (eqb-true w v q))
       go false e false q r = rw q r

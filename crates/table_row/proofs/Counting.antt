@@ -5,12 +5,13 @@ use Rattle.base_lists.specs.List.{sum}
 use Rattle.base_lists.specs.Below.{countBelow}
 use Rattle.base_lists.proofs.Tests.{both, both-left, both-right, T-true}
 use Rattle.base_lists.proofs.Rows.{rests, falls-to-rest}
+use Rattle.base_lists.proofs.Below.{countBelow-first}
 use Rattle.table_row.specs.Problem.{Problem}
 use Rattle.table_row.specs.Row.{pairs, same, startOf, strikeOf, rowFrom, rowOf, startedOf, lastOf, keptOf, roundsOf}
 use Rattle.table_row.specs.Reading.{TableOf}
 use Rattle.table_row.proofs.Sets.{fits-word, pairs-progress, pairs-ones}
 use Rattle.table_row.proofs.Row.{start-fits, strike-fits, strike-inside, from-fits, row-fits}
-use Rattle.table_row.proofs.Falling.{FirstRest, falls-count, first-rest, count-first}
+use Rattle.table_row.proofs.Falling.{FirstRest, falls-count, first-rest}
 
 -- ---- the test whether two tables are the same
 
@@ -98,7 +99,7 @@ module _ {D : Type 0} (p : Problem D) {k : ℕ} (first : FirstRest pairs (rowOf 
   first-keeps j l = ap not (T-true {b = same _ _} (equal-same _ _ (repeats (suc j) (omega arith) ∙ sym (repeats j l))))
 
   first-differing : (n : ℕ) → k ≤ n → countBelow n (differs p) ≡ k
-  first-differing n h = count-first n k (differs p) h first-changes first-keeps
+  first-differing n h = countBelow-first n k (differs p) h first-changes first-keeps
 
   -- and the number of steps to it is `rounds`
   pub first-rounds : roundsOf p ≡ k

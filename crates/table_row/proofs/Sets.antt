@@ -1,5 +1,5 @@
 -- Tables of sets of parts: which pairs they hold, when two are equal, and how many pairs they have. Assumes nothing.
-use Rattle.base_lists.specs.Kit.{_≡_, _∙_, sym, ap, refl, subst, ap₂, _↔_, ⊎-elim, _⊎_, inl, inr, Bool, false, true, cond, _&&_, List, [], _∷_, map, ℕ, _≤_, _<_, _+_, suc, zero, _^_, not-suc-le-zero, lt-of-lt-of-le, lt-of-not-le, T, length, getD, List·getD-eq-default, length-map, ext-getD, arith}
+use Rattle.base_lists.specs.Kit.{_≡_, _∙_, sym, ap, refl, subst, ap₂, _↔_, ⊎-elim, _⊎_, inl, inr, Bool, _&&_, List, [], _∷_, map, ℕ, _≤_, _<_, _+_, suc, zero, _^_, not-suc-le-zero, lt-of-lt-of-le, lt-of-not-le, T, length, getD, List·getD-eq-default, length-map, ext-getD, arith}
 use native.Mathlib.Decide.{decLt}
 use lib.Count.{ones}
 use lib.Pow.{pow-pos, pow-mono}
@@ -87,17 +87,6 @@ none-fits n k =
 
 pub none-in : (n u v : ℕ) → InTable (tabulate n (λ v. 0)) u v → ⊥
 none-in n u v m = not-suc-le-zero (fits-part (none-fits n 0) u v m)
-
--- the set of no part
-number-none : (k : ℕ) → numberOf k (λ u. false) ≡ 0
-unfolding numberOf
-number-none zero = refl
-number-none (suc k) = omega (arith, number-none k)
-
--- a set, or none of its parts
-pub number-if : (b : Bool) (k : ℕ) (p : ℕ → Bool) → cond b (numberOf k p) 0 ≡ numberOf k (λ u. b && p u)
-number-if true k p = refl
-number-if false k p = sym (number-none k)
 
 -- ---- how many pairs
 

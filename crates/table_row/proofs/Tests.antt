@@ -1,25 +1,12 @@
--- What the tests over lists mean: of entries, and of labels. Assumes nothing.
+-- What the tests over labels mean, and what supports a pair. Assumes nothing.
 use Rattle.base_lists.specs.Kit.{_≡_, sym, refl, subst, ap₂, _↔_, inl, inr, Bool, _&&_, List, [], _∷_, ℕ, T}
-use Rattle.base_lists.specs.List.{all, any, Occurs}
-use Rattle.base_lists.proofs.Tests.{both, both-left, both-right, all-at, at-all, any-at, at-any}
+use Rattle.base_lists.specs.List.{any}
+use Rattle.base_lists.proofs.Tests.{both, both-left, both-right}
+use Rattle.base_lists.proofs.Entries.{all-occurs, any-occurs}
 use Rattle.simulation.specs.Closed.{Relation}
 use Rattle.table_row.specs.Problem.{Problem, Way, StepOf, MoveOf}
 use Rattle.table_row.specs.Row.{inTable, answered, every, supported}
 use Rattle.table_row.specs.Reading.{InTable}
-
--- ---- entries of a list
-
-pub all-occurs : (test : ℕ → Bool) (xs : List ℕ) → T (all test xs) ↔ ((x : ℕ) → Occurs xs x → T (test x))
-all-occurs test xs = (
-  λ t x (i, h, e). subst (λ y. T (test y)) e (all-at test xs t i h),
-  λ f. at-all test xs (λ i h. f _ (i, h, refl)),
-)
-
-pub any-occurs : (test : ℕ → Bool) (xs : List ℕ) → T (any test xs) ↔ ((x : ℕ) × Occurs xs x × T (test x))
-any-occurs test xs = (
-  λ t. let (i, h, s) = any-at test xs t in (_, (i, h, refl), s),
-  λ (x, (i, h, e), s). at-any test xs i h (subst (λ y. T (test y)) (sym e) s),
-)
 
 -- ---- labels of a list
 

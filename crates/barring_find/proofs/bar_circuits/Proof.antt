@@ -1,11 +1,12 @@
 -- `barring_find::bar_circuits` meets its contract: the tables are prepared, the ball is listed, and in it the kept links are found. Assumes nothing.
 use Rattle.base_lists.specs.Kit.{now, _≡_, _∙_, sym, List, _++_, ℕ, _≤_, length, take, length-take-le, arith, needs}
+use Rattle.base_lists.proofs.Parts.{length-append-le, length-append-room, length-take-append}
 use Rattle.graph.specs.Circuit.{circuit}
 use Rattle.file_format.proofs.Accepted.{bounded-starts, bounded-ends}
 use Rattle.barring_find.specs.Ball.{Netted, Listed}
 use Rattle.barring_find.specs.Trial.{Tried}
 use Rattle.barring_find.proofs.Netted.{bounded-netted}
-use Rattle.barring_find.proofs.Around.{room, cut-room, cut-size, listed-tried}
+use Rattle.barring_find.proofs.Around.{listed-tried}
 use Rattle.barring_find.proofs.bar_circuits.Statement.{statement}
 use Rattle.barring_find.proofs.bar_circuits.Tie as tie
 
@@ -84,10 +85,10 @@ trial : (c : tie.After-first-in-ball) (past after : List ℕ) →
 trial c past after = listed-tried (entry c .pre .0 .0) (entry c .pre .0 .1) (c .before .before .before .before .before .before .before .before .neighbour-tables .ensures) (entry c .pre .1 .0) (listed c) (sized c) past after
 
 array-share-prefix-queue : tie.Need-array-share-prefix-queue
-array-share-prefix-queue c = let d = c .before .before .before in room _ (d .first-in-ball .last .1 .1 .1 .1 .1 .1 .0) _ (listed d .short)
+array-share-prefix-queue c = let d = c .before .before .before in length-append-le _ (d .first-in-ball .last .1 .1 .1 .1 .1 .1 .0) _ (listed d .short)
 
 slice-aggregate-least-in-ball : tie.Need-slice-aggregate-least-in-ball
-slice-aggregate-least-in-ball c = let d = c .before .before .before .before in sym (length-take-le _ _ (room _ (d .first-in-ball .last .1 .1 .1 .1 .1 .1 .0) _ (listed d .short)))
+slice-aggregate-least-in-ball c = let d = c .before .before .before .before in sym (length-take-le _ _ (length-append-le _ (d .first-in-ball .last .1 .1 .1 .1 .1 .1 .0) _ (listed d .short)))
 
 slice-aggregate-least-in-ball-2 : tie.Need-slice-aggregate-least-in-ball-2
 slice-aggregate-least-in-ball-2 c = search needs
@@ -96,10 +97,10 @@ slice-aggregate-least-in-ball-3 : tie.Need-slice-aggregate-least-in-ball-3
 slice-aggregate-least-in-ball-3 c = search needs
 
 array-share-prefix-first : tie.Need-array-share-prefix-first
-array-share-prefix-first c = let d = c .before .before .before .before .before .before in cut-room _ (d .first-in-ball .last .1 .1 .1 .1 .1 .1 .1 .0) _ (sized d)
+array-share-prefix-first c = let d = c .before .before .before .before .before .before in length-append-room _ (d .first-in-ball .last .1 .1 .1 .1 .1 .1 .1 .0) _ (sized d)
 
 slice-aggregate-least-in-ball-4 : tie.Need-slice-aggregate-least-in-ball-4
-slice-aggregate-least-in-ball-4 c = let d = c .before .before .before .before .before .before .before in cut-size _ (d .first-in-ball .last .1 .1 .1 .1 .1 .1 .1 .0) _ (sized d)
+slice-aggregate-least-in-ball-4 c = let d = c .before .before .before .before .before .before .before in length-take-append _ (d .first-in-ball .last .1 .1 .1 .1 .1 .1 .1 .0) _ (sized d)
 
 cast-least-in-ball : tie.Need-cast-least-in-ball
 cast-least-in-ball c = let s = c .before .before .before .before .before .before .before .before .before .before .before .before .before .before .before .before .before .before .before .before .before .before .before .before .before in omega (arith, s .pre .1 .0, most s)

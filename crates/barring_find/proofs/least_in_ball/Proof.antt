@@ -1,9 +1,10 @@
 -- `barring_find::least_in_ball` meets its contract: all links are tried together, and where they bar the kept ones are found and counted. Assumes
 -- nothing.
 use Rattle.base_lists.specs.Kit.{now, _≡_, _∙_, sym, ap, List, _++_, ℕ, length, drop, length-take-le, take-at, needs, not-false, not-true}
+use Rattle.base_lists.proofs.Parts.{length-take-append}
 use Rattle.barring.specs.Least.{keptCount}
 use Rattle.barring.proofs.Outcome.{around-placed, around-kept}
-use Rattle.barring_find.proofs.Around.{cut-size, is-placed, is-none}
+use Rattle.barring_find.proofs.Around.{is-placed, is-none}
 use Rattle.barring_find.proofs.least_in_ball.Statement.{statement}
 use Rattle.barring_find.proofs.least_in_ball.Tie as tie
 
@@ -42,7 +43,7 @@ slice-reshare-prefix-count : tie.Need-slice-reshare-prefix-count
 slice-reshare-prefix-count c = search needs
 
 slice-aggregate-count : tie.Need-slice-aggregate-count
-slice-aggregate-count c = let d = c .before .before .before in cut-size _ (d .drop-links .last .1 .1 .1 .1 .1 .1 .1 .0) _ (long d)
+slice-aggregate-count c = let d = c .before .before .before in length-take-append _ (d .drop-links .last .1 .1 .1 .1 .1 .1 .1 .0) _ (long d)
 
 count-requires : tie.Need-count-requires
 count-requires c κs = search needs

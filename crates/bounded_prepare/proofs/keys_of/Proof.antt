@@ -2,9 +2,8 @@
 -- how many are left. Assumes nothing.
 use Rattle.base_lists.specs.Kit.{now, _≡_, _∙_, ap, refl, List, _++_, ℕ, _≤_, _<_, _-_, length, getD, drop, length-set, arith}
 use Rattle.base_lists.specs.List.{tabulate, Below}
-use Rattle.base_lists.proofs.Tables.{filled-none}
+use Rattle.base_lists.proofs.Tables.{filled-none, filled-all, filled-next}
 use Rattle.bounded_strike.specs.Prepared.{keyAt, keyed}
-use Rattle.bounded_layer.proofs.Fills.{filled-next, filled-all}
 use Rattle.bounded_prepare.proofs.keys_of.Statement.{statement}
 use Rattle.bounded_prepare.proofs.keys_of.Tie as tie
 

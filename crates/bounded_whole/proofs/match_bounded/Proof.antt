@@ -2,8 +2,7 @@
 -- prepared, where every bound is 1 to that of the pattern without bounds. Assumes nothing.
 use Rattle.base_lists.specs.Kit.{now, refl, needs}
 use Rattle.graph.specs.Circuit.{circuit}
-use Rattle.graph.proofs.Below.{below-wider}
-use Rattle.graph.proofs.Groups.{all-below}
+use Rattle.base_lists.proofs.Entries.{below-wider, all-below}
 use Rattle.file_format.proofs.Accepted.{bounded-starts, bounded-ends}
 use Rattle.table.specs.Prepared.{tables}
 use Rattle.table.proofs.Answer.{refined-fits, answered}

@@ -4,8 +4,6 @@ use mathlib.Core.Path.{sym, _∙_}
 use native.Mathlib.Omega.{arith}
 use borrow.Author.Needs.{needs}
 use Rattle.graph.specs.Circuit.{Circuit}
-use Rattle.graph.proofs.Below.{below-wider}
-use Rattle.graph.proofs.Groups.{all-below}
 use Rattle.file_format.specs.Layout.{inEdition}
 use Rattle.file_format.proofs.Accepted.{bounded-starts, bounded-ends}
 use Rattle.file_format.proofs.Reading.{stands-size, stands-room}
@@ -15,6 +13,7 @@ use Rattle.table.proofs.Prepare.{prepared}
 use Rattle.call_prepare.proofs.Ready.{as-pattern, pair-turned, pair-ready}
 use Rattle.call_prepare.proofs.read_prepared.Statement.{statement}
 use Rattle.call_prepare.proofs.read_prepared.Tie as tie
+use Rattle.base_lists.proofs.Entries.{all-below, below-wider}
 
 abbrev entry : tie.After-read-pair → tie.Start
 entry c = c .before .before .before .before .before .before .before .before .before .before .before .before .before .before .before

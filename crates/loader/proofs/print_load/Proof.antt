@@ -1,6 +1,6 @@
 -- `loader::print_load` meets its contract: the front of the buffer that is handed on is the load's file. Assumes nothing.
 use Rattle.base_lists.specs.Kit.{_≡_, _∙_, sym, ap, length, take, needs}
-use Rattle.file_format.proofs.Reading.{front-room}
+use Rattle.base_lists.proofs.Parts.{length-take-room}
 use Rattle.call_load.specs.Call.{loadBytes}
 use Rattle.loader.specs.Printing.{Handed}
 use Rattle.loader.proofs.Printing.{tried-told, made-range, made-front, made-size, refused-outside}
@@ -47,7 +47,7 @@ size c =
     ap length (front c) ∙ sym (made-size (a .seed) (a .n) (a .m) (a .k) _ _ _ (loaded c .load .ensures) _ (c .answer .given .1))
 
 slice-reshare-prefix-hand : tie.Need-slice-reshare-prefix-hand
-slice-reshare-prefix-hand c = front-room _ _ (size (c .before .before))
+slice-reshare-prefix-hand c = length-take-room _ _ (size (c .before .before))
 
 slice-aggregate-hand : tie.Need-slice-aggregate-hand
 slice-aggregate-hand c = sym (size (c .before .before .before))

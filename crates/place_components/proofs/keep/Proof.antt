@@ -2,6 +2,7 @@
 -- i-th on stand where they stood. The measure is how many are left. Assumes nothing.
 use Rattle.base_lists.specs.Kit.{now, _≡_, _∙_, sym, ap, refl, subst, Bool, false, true, cond, List, [], _∷_, _++_, append-nil, ℕ, _≤_, _<_, _+_, _-_, le-refl, add-zero, add-one, eqb, length, getD, take, set, length-set, length-take-le, getD-set-other, getD-take, take-suc, take-suc-set, take-set-le, arith}
 use Rattle.base_lists.specs.List.{Below}
+use Rattle.base_lists.proofs.Tests.{cond-le}
 use Rattle.place_components.specs.Components.{having}
 use Rattle.place_components.proofs.Lists.{having-more}
 use Rattle.place_components.proofs.keep.Statement.{statement}
@@ -89,10 +90,6 @@ add-i c = omega (arith, room (turn c))
 loop-less : tie.Need-loop-less Inv-loop μ-loop
 loop-less c = omega arith
 
-one-le : (b : Bool) → cond b 1 0 ≤ 1
-one-le true = omega arith
-one-le false = omega arith
-
 loop-again : tie.Need-loop-again Inv-loop μ-loop
 loop-again c =
     let here = turn c in
@@ -102,7 +99,7 @@ loop-again c =
     let v = getD (l .queue) (l .i) 0 in
     let p : ℕ → Bool = λ w. eqb (getD (now (a .labels)) w 0) (a .x) in (
       omega (arith, here .loop-test .taken),
-      omega (arith, c .counted .ensures, one-le (p v), l .inv .1),
+      omega (arith, c .counted .ensures, cond-le (p v), l .inv .1),
       length-set (l .queue) (l .kept) v ∙ l .inv .2,
       rw (c .counted .ensures) (keep-next p (l .queue) (now (a .queue)) (l .kept) (l .i) v (omega (arith, l .inv .2)) (r .1) (l .inv .4 (l .i) (le-refl _)) (l .inv .3)),
       λ j h. getD-set-other (l .queue) (l .kept) j v 0 (λ e. omega (arith, l .inv .1)) ∙ l .inv .4 j (omega arith),

@@ -2,10 +2,9 @@
 -- how many are left. Assumes nothing.
 use Rattle.base_lists.specs.Kit.{now, _≡_, _∙_, refl, subst, cond, List, _++_, ℕ, _≤_, _<_, _-_, length, getD, drop, length-set, arith, needs}
 use Rattle.base_lists.specs.List.{tabulate, Below}
-use Rattle.base_lists.proofs.Tables.{filled-none, filled-more, whole}
+use Rattle.base_lists.proofs.Tables.{filled-none, filled-more, whole, filled-rest}
 use Rattle.base_bits.specs.Bits.{intersects}
 use Rattle.place.specs.Bytes.{markedEnds}
-use Rattle.place_mark.proofs.Marks.{filled-rest}
 use Rattle.place_mark.proofs.mark_ends.Statement.{statement}
 use Rattle.place_mark.proofs.mark_ends.Tie as tie
 

@@ -1,7 +1,6 @@
 -- `proposal_check::check_circuits` meets its contract: the tests one after another; what is left of the links is a board of its own. Assumes nothing.
 use Rattle.base_lists.specs.Kit.{_∙_, sym, length-take-le, needs, not-false, not-true}
-use Rattle.graph.proofs.Groups.{all-below}
-use Rattle.graph.proofs.Below.{below-wider}
+use Rattle.base_lists.proofs.Entries.{all-below, below-wider}
 use Rattle.file_format.proofs.Accepted.{bounded-starts, bounded-ends}
 use Rattle.proposal_check.proofs.Marked.{marks-not, near-not, fills-left, left-parallel, left-sizes, left-nodes, left-tabled}
 use Rattle.proposal_check.proofs.check_circuits.Statement.{statement}

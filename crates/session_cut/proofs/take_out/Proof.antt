@@ -1,8 +1,8 @@
 -- `session_cut::take_out` meets its contract. Assumes nothing.
 use Rattle.base_lists.specs.Kit.{now, sym, subst, ap₂, ℕ, _≤_, _<_, _+_, length-set, arith, needs}
+use Rattle.base_lists.proofs.Entries.{getD-any}
 use Rattle.graph.specs.Search.{far}
 use Rattle.session.specs.State.{without}
-use Rattle.session_strike.proofs.Entries.{entry-any}
 use Rattle.session_cut.specs.declared.Taken.{Taken}
 use Rattle.session_cut.specs.declared.Taken.the-variants.{Link}
 use Rattle.session_cut.specs.Cut.{TakenOut}
@@ -28,7 +28,7 @@ returns-2 c =
     let ends = now (start .args .ends) in
     let place = start .args .place in
     let few = c .before .before .if1 .left in
-    gone-end ends (start .args .nodes) place few (subst (λ (x : ℕ). start .args .nodes ≤ x) (entry-any ends place 0 far (omega (arith, start .pre))) (c .if2 .taken))
+    gone-end ends (start .args .nodes) place few (subst (λ (x : ℕ). start .args .nodes ≤ x) (getD-any ends place 0 far (omega (arith, start .pre))) (c .if2 .taken))
 
 add-back : tie.Need-add-back
 add-back c = search needs
@@ -63,8 +63,8 @@ returns-3 c =
     let ends = now (start .args .ends) in
     let place = start .args .place in
     let few = c .before .before .before .if1 .left in
-    let end = entry-any ends place 0 far (omega (arith, start .pre)) in
-    let first = entry-any ends (4096 + place) 0 far (omega (arith, start .pre)) in
+    let end = getD-any ends place 0 far (omega (arith, start .pre)) in
+    let first = getD-any ends (4096 + place) 0 far (omega (arith, start .pre)) in
     subst (λ (x : Taken). TakenOut ends (start .args .nodes) place x (without ends place)) (ap₂ (λ (x y : ℕ). Link x y) (sym first) (sym end))
     (taken-link ends (start .args .nodes) place few (subst (λ (x : ℕ). x < start .args .nodes) end (c .before .if2 .left)))
 

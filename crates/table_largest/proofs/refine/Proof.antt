@@ -1,17 +1,13 @@
 -- `table_largest::refine` meets its contract: the list of nodes has each node that changes, and what the rounds settle at is the end of the row.
 -- Assumes nothing.
-use Rattle.base_lists.specs.Kit.{now, _≡_, sym, ap, refl, List, _∷_, ℕ, _≤_, suc, zero, not-suc-le-zero, le-of-suc-le-suc, length, take, replicate, length-take-le, needs}
+use Rattle.base_lists.specs.Kit.{now, _≡_, sym, _∷_, ℕ, _≤_, length, length-take-le, needs}
+use Rattle.base_lists.proofs.Parts.{take-replicate}
 use Rattle.graph.specs.Search.{far}
 use Rattle.graph.proofs.Net.{net-of, net-few}
 use Rattle.table.specs.Row.{problemBy}
 use Rattle.table_largest.proofs.Rounds.{first-due, settled-rested}
 use Rattle.table_largest.proofs.refine.Statement.{statement}
 use Rattle.table_largest.proofs.refine.Tie as tie
-
-take-replicate : (k n x : ℕ) → k ≤ n → take k (replicate n x) ≡ replicate k x
-take-replicate zero n x h = refl
-take-replicate (suc k) zero x h = absurd (not-suc-le-zero h)
-take-replicate (suc k) (suc n) x h = ap (λ (l : List ℕ). x ∷ l) (take-replicate k n x (le-of-suc-le-suc h))
 
 -- there are no more nodes than the scratch has entries
 few : (s : tie.Start) → length (now (s .args .table)) ≤ 512

@@ -5,14 +5,13 @@ use native.Mathlib.Omega.{arith}
 use borrow.Author.Needs.{needs}
 use denote.Ref.{now}
 use Rattle.graph.specs.Circuit.{circuit}
-use Rattle.graph.proofs.Below.{below-wider}
-use Rattle.graph.proofs.Groups.{all-below}
 use Rattle.file_format.proofs.Accepted.{bounded-starts, bounded-ends}
 use Rattle.table.specs.Prepared.{tables, PreparedBy}
 use Rattle.table.specs.Row.{waysOf}
 use Rattle.table.proofs.Prepare.{prepared}
 use Rattle.table_whole.proofs.match_circuits.Statement.{statement}
 use Rattle.table_whole.proofs.match_circuits.Tie as tie
+use Rattle.base_lists.proofs.Entries.{all-below, below-wider}
 
 abbrev entry : tie.After-links → tie.Start
 entry c = c .before .before .before .before .before .before .before .before .before .before

@@ -1,13 +1,10 @@
 -- `barring_find::trial::chosen_of` meets its contract: the entries are copied, and of the copy the marked ones are moved to the front. Assumes
 -- nothing.
-use Rattle.base_lists.specs.Kit.{now, _≡_, _∙_, sym, ap, List, _++_, ℕ, _≤_, length, take, length-append, length-take-le, take-at, take-append-le, arith, needs}
+use Rattle.base_lists.specs.Kit.{now, _≡_, _∙_, sym, ap, _++_, ℕ, _≤_, length, take, length-take-le, take-at, take-append-le, arith, needs}
+use Rattle.base_lists.proofs.Parts.{length-append-le}
 use Rattle.graph.specs.Chosen.{picked}
 use Rattle.barring_find.proofs.trial.chosen_of.Statement.{statement}
 use Rattle.barring_find.proofs.trial.chosen_of.Tie as tie
-
--- a front that is short enough for a list is short enough for a longer one
-longer : (k : ℕ) (xs ys : List ℕ) → k ≤ length xs → k ≤ length (xs ++ ys)
-longer k xs ys h = omega (arith, length-append xs ys)
 
 copy-requires : tie.Need-copy-requires
 copy-requires c κs = search needs
@@ -44,7 +41,7 @@ returns c =
     let k = chosen .choose .result in
     let list = chosen .choose .last .1 .0 in
     let e = chosen .choose .ensures in
-    (longer k list _ (e .0), take-append-le k list _ (e .0) ∙ e .1 ∙ ap (picked (now (entry copied .args .marks))) (front copied))
+    (length-append-le k list _ (e .0), take-append-le k list _ (e .0) ∙ e .1 ∙ ap (picked (now (entry copied .args .marks))) (front copied))
 
 pub chosen-of-spec : {M : Type 1} → statement M
 chosen-of-spec =

@@ -3,12 +3,11 @@
 use Rattle.base_lists.specs.Kit.{now, _≡_, _∙_, ap, refl, List, _++_, ℕ, _≤_, _-_, length, getD, drop, length-set, arith}
 use lib.Bits.{bitOr}
 use Rattle.base_lists.specs.List.{tabulate}
-use Rattle.base_lists.proofs.Tables.{filled-none}
+use Rattle.base_lists.proofs.Tables.{filled-none, filled-all, filled-next}
 use Rattle.base_bits.specs.Bits.{unionAt}
 use Rattle.graph_neighbours.specs.Lookup.{neighboursIn}
 use Rattle.graph_neighbours.proofs.Lookup.{neighbours-below}
 use Rattle.bounded_layer.specs.Pass.{nextLayer}
-use Rattle.bounded_layer.proofs.Fills.{filled-next, filled-all}
 use Rattle.bounded_layer.proofs.layer.widen.Statement.{statement}
 use Rattle.bounded_layer.proofs.layer.widen.Tie as tie
 

@@ -2,11 +2,10 @@
 -- measure is how many are left. Assumes nothing.
 use Rattle.base_lists.specs.Kit.{now, _≡_, _∙_, ap, refl, List, _++_, ℕ, _≤_, _-_, length, getD, drop, length-set, arith}
 use Rattle.base_lists.specs.List.{tabulate}
-use Rattle.base_lists.proofs.Tables.{filled-none}
+use Rattle.base_lists.proofs.Tables.{filled-none, filled-rest, filled-all, filled-next}
 use Rattle.base_bits.specs.Bits.{unionAt}
 use Rattle.graph_neighbours.specs.Lookup.{neighboursIn}
 use Rattle.bounded_layer.specs.Pass.{keptWithin, passTable}
-use Rattle.bounded_layer.proofs.Fills.{filled-rest, filled-next, filled-all}
 use Rattle.bounded_layer.proofs.pass.pass.Statement.{statement}
 use Rattle.bounded_layer.proofs.pass.pass.Tie as tie
 
@@ -65,7 +64,7 @@ loop-again c =
       filled-next rule (now (a .new)) (loop .loop .new) v _ (omega arith) (inv .2)
           (c .pass-node .ensures
           ∙ ap (keptWithin (now (a .masks)) (unionAt (now (a .layer)) (near v)))
-          (ap (λ (xs : List ℕ). getD xs v 0) (inv .2) ∙ filled-rest v rule (now (a .new)) (omega arith))),
+          (filled-rest v rule (loop .loop .new) (now (a .new)) (inv .2))),
     )
 
 same-length : tie.Need-same-length Inv-loop μ-loop

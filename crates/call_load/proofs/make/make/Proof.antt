@@ -1,9 +1,9 @@
 -- `call_load::make::make` meets its contract: the load is drawn, its links are collected, and writing its circuit is not refused. Assumes nothing.
 use Rattle.base_lists.specs.Kit.{now, _≡_, _∙_, sym, ap, _*_, length, take, arith, needs}
+use Rattle.base_lists.proofs.Parts.{length-take-room}
 use Rattle.graph.specs.Circuit.{Circuit}
 use Rattle.file_format.specs.Reading.{filled}
 use Rattle.file_format.specs.Refusals.{accept}
-use Rattle.file_format.proofs.Reading.{front-room}
 use Rattle.file_write.specs.declared.WriteAnswer.the-variants.{Written}
 use Rattle.file_write.specs.Writing.{WriteOutcome, writeReply}
 use Rattle.load.specs.Load.{load}
@@ -92,13 +92,13 @@ slice-aggregate-write-first : tie.Need-slice-aggregate-write-first
 slice-aggregate-write-first c = sym (sizes (c .before .before .before) .0)
 
 array-share-prefix-starts : tie.Need-array-share-prefix-starts
-array-share-prefix-starts c = front-room _ _ (sizes (c .before .before .before) .1)
+array-share-prefix-starts c = length-take-room _ _ (sizes (c .before .before .before) .1)
 
 slice-aggregate-write-first-2 : tie.Need-slice-aggregate-write-first-2
 slice-aggregate-write-first-2 c = sym (sizes (c .before .before .before .before) .1)
 
 array-share-prefix-ends : tie.Need-array-share-prefix-ends
-array-share-prefix-ends c = front-room _ _ (sizes (c .before .before .before .before) .2)
+array-share-prefix-ends c = length-take-room _ _ (sizes (c .before .before .before .before) .2)
 
 slice-aggregate-write-first-3 : tie.Need-slice-aggregate-write-first-3
 slice-aggregate-write-first-3 c = sym (sizes (c .before .before .before .before .before) .2)

@@ -1,10 +1,10 @@
 -- `call_merge::circuits::merge_circuit` meets its contract: its scratch tables have room for every pattern, the merged pattern is made and
 -- written, and writing it is not refused. Assumes nothing.
 use Rattle.base_lists.specs.Kit.{now, _≡_, _∙_, sym, ap, refl, ap₂, le-trans, le-of-eq, lit≤, length, take, length-take-le, needs}
+use Rattle.base_lists.proofs.Parts.{length-take-room}
 use Rattle.graph.specs.Circuit.{Circuit, circuit}
 use Rattle.file_format.specs.Reading.{filled}
 use Rattle.file_format.specs.Refusals.{accept}
-use Rattle.file_format.proofs.Reading.{front-room}
 use Rattle.file_write.specs.declared.WriteAnswer.the-variants.{Written}
 use Rattle.file_write.specs.Writing.{WriteOutcome, writeReply}
 use Rattle.merge.proofs.Content.{PatternContent, most-parts}
@@ -65,19 +65,19 @@ size :
 size c = quotient-size (content (start (made c .before))) (made c .quotient .ensures)
 
 array-share-prefix-mk : tie.Need-array-share-prefix-mk
-array-share-prefix-mk c = front-room _ _ (size c .0)
+array-share-prefix-mk c = length-take-room _ _ (size c .0)
 
 slice-aggregate-write-circuit : tie.Need-slice-aggregate-write-circuit
 slice-aggregate-write-circuit c = sym (size (c .before) .0)
 
 array-share-prefix-ms : tie.Need-array-share-prefix-ms
-array-share-prefix-ms c = front-room _ _ (size (c .before) .1)
+array-share-prefix-ms c = length-take-room _ _ (size (c .before) .1)
 
 slice-aggregate-write-circuit-2 : tie.Need-slice-aggregate-write-circuit-2
 slice-aggregate-write-circuit-2 c = sym (size (c .before .before) .1)
 
 array-share-prefix-me : tie.Need-array-share-prefix-me
-array-share-prefix-me c = front-room _ _ (size (c .before .before) .2)
+array-share-prefix-me c = length-take-room _ _ (size (c .before .before) .2)
 
 slice-aggregate-write-circuit-3 : tie.Need-slice-aggregate-write-circuit-3
 slice-aggregate-write-circuit-3 c = sym (size (c .before .before .before) .2)

@@ -1,14 +1,11 @@
 -- `graph_extent::ball::fill_ball` meets its contract: the distances are written into the front of the lent table. Assumes nothing.
-use Rattle.base_lists.specs.Kit.{now, _∙_, sym, ap, subst, List, _++_, ℕ, _≤_, _<_, T, ltb, length, take, drop, length-take-le, needs}
+use Rattle.base_lists.specs.Kit.{now, _∙_, sym, ap, List, _++_, ℕ, _≤_, _<_, T, ltb, length, drop, length-take-le, needs}
 use Rattle.base_lists.specs.List.{all}
+use Rattle.base_lists.proofs.Parts.{length-take-for}
 use Rattle.graph.specs.Search.{distances}
 use Rattle.file_format.proofs.Accepted.{bounded-starts, bounded-ends}
 use Rattle.graph_extent.proofs.ball.fill_ball.Statement.{statement}
 use Rattle.graph_extent.proofs.ball.fill_ball.Tie as tie
-
--- what holds of n holds of the length of the n entries that are lent
-lent : (n : ℕ) (table : List ℕ) (P : ℕ → Type 0) → n ≤ length table → P n → P (length (take n table))
-lent n table P h = subst P (sym (length-take-le n table h))
 
 slice-relend-prefix-measure : tie.Need-slice-relend-prefix-measure
 slice-relend-prefix-measure c = c .before .before .before .before .pre .1 .1
@@ -22,7 +19,7 @@ measure-requires c κs =
     let a = s .args in
     let board = s .pre .0 in (
       (board .parallel, board .links),
-      lent (length (now (a .kinds))) (now (a .out))
+      length-take-for (length (now (a .kinds))) (now (a .out))
           (λ k. (T (all (λ v. ltb v k) (now (a .starts))) × T (all (λ v. ltb v k) (now (a .ends)))) × ((a .c < k) × (k ≤ 512)))
           (s .pre .1 .1)
           ((bounded-starts board, bounded-ends board), (s .pre .1 .0, board .nodes)),

@@ -2,11 +2,12 @@
 -- left. Assumes nothing.
 use Rattle.base_lists.specs.Kit.{now, _≡_, ap, List, ℕ, _≤_, _-_, length, arith}
 use Rattle.base_lists.specs.Below.{concatBelow}
+use Rattle.base_lists.proofs.Concat.{concatBelow-next}
 use Rattle.base_text.specs.Text.{Put}
 use Rattle.base_text.proofs.Text.{put-nothing, put-then, put-same, put-length, fits-then}
 use Rattle.table.specs.Prepared.{tables}
 use Rattle.report.specs.Lines.{startText, linksText}
-use Rattle.report.proofs.Concat.{concat-more, fits-piece}
+use Rattle.report.proofs.Concat.{fits-piece}
 use Rattle.report.proofs.lines.put_links.Statement.{statement}
 use Rattle.report.proofs.lines.put_links.Tie as tie
 
@@ -41,7 +42,7 @@ loop-less c = omega arith
 loop-again : tie.Need-loop-again Inv-loop μ-loop
 loop-again c =
     let loop = c .before .before .before .before .before .loop in
-    (omega arith, put-same (concat-more (loop .v) (starting (c .before .before .before .before .before .before .before .before .before .before .before .before .before))) (put-then (loop .inv .1) (c .before .before .put-start .ensures)))
+    (omega arith, put-same (concatBelow-next (loop .v) (starting (c .before .before .before .before .before .before .before .before .before .before .before .before .before))) (put-then (loop .inv .1) (c .before .before .put-start .ensures)))
 
 same-length : tie.Need-same-length Inv-loop μ-loop
 same-length c = put-length (c .before .loop .inv .1)
