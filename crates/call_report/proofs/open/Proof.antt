@@ -38,13 +38,13 @@ start c = reading c .before .before .before .before .before .before .before .bef
 -- ---- a file is refused
 
 same-length : tie.Need-same-length
-same-length c = search needs
+same-length c = reading (c .before .before) .read-prepared .kept .1 .1 .1 .1 .1 .0
 
 same-length-2 : tie.Need-same-length-2
-same-length-2 c = search needs
+same-length-2 c = reading (c .before .before) .read-prepared .kept .1 .1 .1 .1 .1 .1 .0
 
 same-length-3 : tie.Need-same-length-3
-same-length-3 c = search needs
+same-length-3 c = reading (c .before .before) .read-prepared .kept .1 .1 .1 .1 .1 .1 .1 .0
 
 returns : tie.Need-returns
 returns c = opened-refused (reading (c .before .before) .read-prepared .ensures) _ (c .enum-told2 .given .1)
@@ -52,13 +52,13 @@ returns c = opened-refused (reading (c .before .before) .read-prepared .ensures)
 -- ---- no lines are left
 
 same-length-4 : tie.Need-same-length-4
-same-length-4 c = search needs
+same-length-4 c = reading (c .before .before .before) .read-prepared .kept .1 .1 .1 .1 .1 .0
 
 same-length-5 : tie.Need-same-length-5
-same-length-5 c = search needs
+same-length-5 c = reading (c .before .before .before) .read-prepared .kept .1 .1 .1 .1 .1 .1 .0
 
 same-length-6 : tie.Need-same-length-6
-same-length-6 c = search needs
+same-length-6 c = reading (c .before .before .before) .read-prepared .kept .1 .1 .1 .1 .1 .1 .1 .0
 
 returns-2 : tie.Need-returns-2
 returns-2 c =
@@ -145,14 +145,18 @@ components-requires c κs =
       ),
     )
 
+-- what was read, seen from the last return
+abbrev read-last : tie.After-slice-known13 → tie.After-read-prepared
+read-last c = reading (going (matching (c .before .before .before .before .before .before .before .before .before)) .before .before .before)
+
 same-length-7 : tie.Need-same-length-7
-same-length-7 c = search needs
+same-length-7 c = read-last c .read-prepared .kept .1 .1 .1 .1 .1 .0
 
 same-length-8 : tie.Need-same-length-8
-same-length-8 c = search needs
+same-length-8 c = read-last c .read-prepared .kept .1 .1 .1 .1 .1 .1 .0
 
 same-length-9 : tie.Need-same-length-9
-same-length-9 c = search needs
+same-length-9 c = read-last c .read-prepared .kept .1 .1 .1 .1 .1 .1 .1 .0
 
 same-length-10 : tie.Need-same-length-10
 same-length-10 c = search needs
