@@ -6,7 +6,7 @@ use file_format::Board;
 use file_format::File;
 use file_format::Pattern;
 use file_format::Refusal;
-use graph_chosen::count;
+use graph::marked::count;
 use graph_neighbours::tables::LINKS;
 use graph_neighbours::tables::OFFSETS;
 use graph_neighbours::tables::neighbour_tables;

@@ -1,7 +1,7 @@
 // Whether some of a pattern's links bar: the largest set of pairs that meets kinds and those links alone has no pair with the centre.
 use file_format::Board;
 use file_format::Pattern;
-use graph_chosen::choose;
+use graph::marked::choose;
 use table::MASKS;
 use table_first::copy;
 use table_largest::refine;

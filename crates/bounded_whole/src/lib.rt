@@ -10,7 +10,7 @@ use graph_neighbours::tables::neighbour_tables;
 use table::Counts;
 use table::Ways;
 use table::counted;
-use table_answer::all_or_none;
+use table::rule::all_or_none;
 use table_first::start;
 use table_prepare::nodes::list_all;
 ghost use mathlib.Core.Path.{_≡_};

@@ -11,7 +11,9 @@ use file_format::Refusal;
 use file_format::Role;
 use file_format::TOO_SHORT;
 use file_read::load;
-use graph_extent::ball::fill_ball;
+use crate::distances::fill_ball;
+
+pub mod distances;
 
 // A pattern's radius, or why the file was turned away.
 pub enum RadiusAnswer {

@@ -3,10 +3,10 @@
 use Rattle.base_lists.specs.Kit.{_≡_, refl, [], _∷_, ℕ}
 use Rattle.base_lists.specs.Below.{collect}
 use Rattle.base_lists.specs.List.{anyBelow, tabulate}
-use Rattle.graph_pairs.specs.Pairs.{pairTest, pairStarts, pairEnds}
+use Rattle.graph.specs.Pairs.{pairTest, pairStarts, pairEnds}
 use Rattle.file_write.specs.Bytes.{bytesOf, stretchBytes}
-use Rattle.load.specs.Draws.{step, draw, stepped, draws}
-use Rattle.load.specs.Load.{kindsDrawn, pairsDrawn, isPair, load}
+use Rattle.load_draw.specs.Generator.{step, draw, stepped, draws}
+use Rattle.load_draw.specs.Load.{kindsDrawn, pairsDrawn, isPair, load}
 use Rattle.call_load.specs.Call.{loadBytes}
 
 -- seed 7, N = 3, M = 4, K = 10: kinds 8, 6, 0, links 0-1, 0-2, 1-0, 2-2

@@ -3,8 +3,8 @@ use Rattle.base_lists.specs.Kit.{_≡_, _∙_, sym, ap, refl, ap₂, false, tru
 use Rattle.base_lists.proofs.Tests.{T-true, both}
 use Rattle.base_lists.proofs.Below.{anyBelow-same}
 use Rattle.graph.specs.Circuit.{Circuit}
-use Rattle.graph_pairs.specs.Pairs.{pairStarts, pairEnds}
-use Rattle.graph_pairs.proofs.Pairs.{pairs-same}
+use Rattle.graph.specs.Pairs.{pairStarts, pairEnds}
+use Rattle.graph.proofs.Pairs.{pairs-same}
 use Rattle.file_format.specs.declared.Edition.the-variants.{First}
 use Rattle.file_format.specs.declared.File.the-variants.{Neither}
 use Rattle.file_format.specs.declared.Refusal.{Refusal}
@@ -19,11 +19,11 @@ use Rattle.file_write.specs.declared.WriteAnswer.the-variants as write
 use Rattle.file_write.specs.Writing.{circuitConditions, WriteOutcome, writing, writeReply}
 use Rattle.file_write.proofs.FileFields.{length-written}
 use Rattle.file_write.proofs.Writing.{verdict-links, writing-filled}
-use Rattle.load.specs.Draws.{stepped}
-use Rattle.load.specs.Load as load
-use Rattle.load.specs.Load.{InRange, kindsDrawn, pairsDrawn, isPair, load}
-use Rattle.load.proofs.Draws.{length-draws, draws-lt}
-use Rattle.load.proofs.Load.{load-nodes, load-parallel, load-links, load-below, load-rises}
+use Rattle.load_draw.specs.Generator.{stepped}
+use Rattle.load_draw.specs.Load as load
+use Rattle.load_draw.specs.Load.{InRange, kindsDrawn, pairsDrawn, isPair, load}
+use Rattle.load_draw.proofs.Generator.{length-draws, draws-lt}
+use Rattle.load_draw.proofs.Load.{load-nodes, load-parallel, load-links, load-below, load-rises}
 use Rattle.load_draw.specs.Marks.{AllBelow}
 use Rattle.call_load.specs.declared.LoadAnswer.{LoadAnswer}
 use Rattle.call_load.specs.declared.LoadAnswer.the-variants.{Refused}

@@ -18,8 +18,8 @@ use Rattle.file_write.specs.Writing.{WriteOutcome}
 use Rattle.file_write.proofs.FileFields.{nodes-written, kinds-written, packages-written, starts-written, ends-written}
 use Rattle.file_write.proofs.RoundTrip.{same-verdict, written-file, written-reads}
 use Rattle.file_write.proofs.Writing.{sound}
-use Rattle.load.specs.Load.{inRange, InRange, load, Drawn}
-use Rattle.load.proofs.Load.{in-range, range-in, load-nodes, load-parallel, load-link}
+use Rattle.load_draw.specs.Load.{inRange, InRange, load, Drawn}
+use Rattle.load_draw.proofs.Load.{in-range, range-in, load-nodes, load-parallel, load-link}
 use Rattle.call_load.specs.declared.LoadAnswer.the-variants.{Made}
 use Rattle.call_load.specs.Call.{loadBytes, loadConditions, loadReply, LoadOutcome, loading}
 use Rattle.call_load.proofs.Loading.{load-sound, written, loading-outside, loading-short, loading-made}

@@ -6,7 +6,7 @@ use Rattle.file_format.specs.Reading.{filled}
 use Rattle.file_format.specs.Refusals.{Condition, accept, refuse, first, shortTable, numberOutside}
 use Rattle.file_format.specs.Reply.{Reply, reply}
 use Rattle.file_write.specs.Bytes.{fileBytes}
-use Rattle.load.specs.Load.{inRange, load}
+use Rattle.load_draw.specs.Load.{inRange, load}
 use Rattle.call_load.specs.declared.LoadAnswer.{LoadAnswer}
 use Rattle.call_load.specs.declared.LoadAnswer.the-variants.{Made, Refused}
 

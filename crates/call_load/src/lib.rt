@@ -3,7 +3,7 @@ use crate::make::make;
 use file_format::File;
 use file_format::Refusal;
 ghost use mathlib.Core.Path.{_≡_};
-ghost use Rattle.load.specs.Load.{inRange};
+ghost use Rattle.load_draw.specs.Load.{inRange};
 ghost use Rattle.call_load.specs.Call.{loadReply, loading};
 
 mod make;

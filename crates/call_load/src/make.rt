@@ -9,7 +9,7 @@ ghost use Prim.Native.Nat.{_≤_};
 ghost use lib.ListN.{length};
 ghost use Rattle.file_format.specs.declared.Edition.the-variants as editions;
 ghost use Rattle.file_format.specs.Layout.{lengthOf};
-ghost use Rattle.load.specs.Load.{InRange};
+ghost use Rattle.load_draw.specs.Load.{InRange};
 ghost use Rattle.call_load.specs.Call.{MadeFrom};
 
 // Draws a load and writes its file to the front of bytes that have room for the file of as many links as are drawn. A load is a board, so that

@@ -38,8 +38,8 @@ use Rattle.call_check.specs.Call.{checkCall}
 use Rattle.call_barring.proofs.Promise as bar-call
 use Rattle.call_merge.specs.Call.{merging}
 use Rattle.order.specs.declared.Order.{Order}
-use Rattle.order_files.specs.Files.{secondEdition, compareFiles}
-use Rattle.call_compare.specs.Call.{comparedBy, comparing, compareReply}
+use Rattle.order.specs.Files.{secondEdition, compareFiles}
+use Rattle.call_shelf.specs.Compare.{comparedBy, comparing, compareReply}
 use Rattle.call_shelf.specs.Shelf.{shelvingOf, shelving}
 use Rattle.call_report.specs.Call.{reporting, needFor, verdictOf, outcomeFor}
 use Rattle.session.specs.Machine.{Machine, fresh, isLeft, cutReply, machineAfter}

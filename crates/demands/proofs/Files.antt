@@ -17,7 +17,7 @@ use Rattle.table.specs.Fill.{listed}
 use Rattle.table.specs.Reply.{replied}
 use Rattle.place.specs.Match.{radiusOf, ballOf, ballTable, found}
 use Rattle.file_write.specs.Bytes.{bytesOf, stretchBytes}
-use Rattle.load.specs.Load.{inRange}
+use Rattle.load_draw.specs.Load.{inRange}
 use Rattle.barring.specs.Outcome.{barring}
 use Rattle.call_convert.specs.Call.{everyPackage, convertConditions, converting}
 use Rattle.call_load.specs.Call.{loadConditions, loading}

@@ -4,7 +4,7 @@ use Rattle.base_lists.specs.Below.{collect, leastBelow}
 use Rattle.base_lists.specs.List.{allBelow, anyBelow, tabulate}
 use Rattle.base_lists.proofs.Tests.{allBelow-at}
 use Rattle.graph.specs.Circuit.{Circuit, graphOf, circuitGraph}
-use Rattle.graph_pairs.specs.Pairs.{pairTest, pairStarts, pairEnds}
+use Rattle.graph.specs.Pairs.{pairTest, pairStarts, pairEnds}
 use Rattle.file_format.specs.declared.Edition.the-variants.{First}
 use Rattle.file_format.specs.declared.Role.the-variants.{Pattern}
 use Rattle.file_format.specs.Circuit.{circuitOf}

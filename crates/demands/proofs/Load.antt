@@ -7,8 +7,8 @@ use Rattle.file_format.specs.Refusals.{accept, first}
 use Rattle.file_format.specs.Reply.{Reply, reply}
 use Rattle.file_format.proofs.FirstEdition.{first-labels}
 use Rattle.file_format.proofs.Refusals.{accepted, reply-verdict}
-use Rattle.load.specs.Load.{kindsDrawn, load}
-use Rattle.load.proofs.Load.{in-range, range-in}
+use Rattle.load_draw.specs.Load.{kindsDrawn, load}
+use Rattle.load_draw.proofs.Load.{in-range, range-in}
 use Rattle.call_load.specs.Call.{loadBytes, loadConditions, loading}
 use Rattle.call_load.proofs.Promise.{load-replied, load-accepted, load-circuit, load-file-nodes, load-file-link, front-file, rest-stays}
 use Rattle.demands.specs.Load.{madeFile, LoadMade, Ask3}

@@ -10,7 +10,7 @@ use Rattle.file_pair.specs.Pair.{pairConditions}
 use Rattle.file_write.specs.Writing.{circuitConditions, writeConditions}
 use Rattle.file_bounds.specs.Third.{frontOf, boundsOf, thirdConditions}
 use Rattle.place.specs.Match.{found}
-use Rattle.load.specs.Load.{inRange}
+use Rattle.load_draw.specs.Load.{inRange}
 use Rattle.call_convert.specs.Call.{everyPackage, convertConditions}
 use Rattle.call_load.specs.Call.{loadConditions}
 use Rattle.call_distance.specs.Calls.{ballConditions}

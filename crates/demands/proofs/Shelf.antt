@@ -10,11 +10,11 @@ use Rattle.file_format.proofs.Refusals.{accepted, accepted-verdict, reply-verdi
 use Rattle.order.specs.declared.Order.{Order}
 use Rattle.order.specs.declared.Order.the-variants.{Equal}
 use Rattle.order.proofs.Laws.{whole-order, total, antisymmetric, transitive}
-use Rattle.order_files.specs.Files.{secondEdition, compareFiles}
-use Rattle.call_compare.specs.declared.CompareAnswer.the-variants as answer
-use Rattle.call_compare.specs.declared.Which.the-variants as which
-use Rattle.call_compare.specs.Call.{verdictFor, comparedBy, comparing}
-use Rattle.call_compare.proofs.Files.{equal-files, equal-circuits}
+use Rattle.order.specs.Files.{secondEdition, compareFiles}
+use Rattle.call_shelf.specs.declared.compare.CompareAnswer.the-variants as answer
+use Rattle.call_shelf.specs.declared.compare.Which.the-variants as which
+use Rattle.call_shelf.specs.Compare.{verdictFor, comparedBy, comparing}
+use Rattle.call_shelf.proofs.CompareFiles.{equal-files, equal-circuits}
 use Rattle.call_shelf.specs.Shelf.{isAccepted, fileAt, acceptedIn, shelfOf, shelvingOf, shelving}
 use Rattle.call_shelf.proofs.Meaning.{shelf-in-order, shelf-once, shelf-one}
 use Rattle.call_shelf.proofs.Placing.{is-accepted}

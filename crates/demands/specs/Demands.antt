@@ -45,9 +45,9 @@ use Rattle.call_load.specs.Call.{loadConditions, loading}
 use Rattle.call_bounded.specs.Call.{boundedConditions, boundedMatching}
 use Rattle.call_check.specs.Call.{checkConditions, checkCall}
 use Rattle.call_barring.specs.Call.{barInputs, barCall}
-use Rattle.order_files.specs.Files.{secondEdition}
-use Rattle.call_compare.specs.Call.{comparing, compareReply}
-use Rattle.shelf_strings.specs.Strings.{cutInto}
+use Rattle.order.specs.Files.{secondEdition}
+use Rattle.call_shelf.specs.Compare.{comparing, compareReply}
+use Rattle.call_shelf.specs.Strings.{cutInto}
 use Rattle.call_shelf.specs.Shelf.{shelfOf, mostFiles, shelving}
 use Rattle.session.specs.State.{State}
 use Rattle.session.specs.Session.{CutPromise, ReadPromise, Cuts}

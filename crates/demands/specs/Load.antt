@@ -5,8 +5,8 @@ use Rattle.graph.specs.Circuit.{HasLink}
 use Rattle.file_format.specs.declared.Role.the-variants.{Board}
 use Rattle.file_format.specs.Layout.{CircuitFile, firstEdition, nodesOf, kindsOf, startsOf, endsOf}
 use Rattle.file_format.specs.Refusals.{accept, Accepted}
-use Rattle.load.specs.Draws.{draws}
-use Rattle.load.specs.Load.{inRange, InRange, Drawn}
+use Rattle.load_draw.specs.Generator.{draws}
+use Rattle.load_draw.specs.Load.{inRange, InRange, Drawn}
 use Rattle.call_load.specs.Call.{loading}
 
 -- the file made: the front of the bytes lent, of the length replied

@@ -11,11 +11,11 @@ use Rattle.order.specs.declared.Order.{Order}
 use Rattle.order.specs.declared.Order.the-variants.{Less, Equal}
 use Rattle.order.specs.Order.{Whole, Parallel, compareWhole}
 use Rattle.order.specs.Sorting.{In, Sorted, InOrder}
-use Rattle.order_files.specs.Files.{secondEdition, compareFiles}
-use Rattle.shelf_strings.specs.Strings.{cutInto}
-use Rattle.call_compare.specs.declared.CompareAnswer.the-variants as answer
-use Rattle.call_compare.specs.declared.Which.the-variants as which
-use Rattle.call_compare.specs.Call.{comparing}
+use Rattle.order.specs.Files.{secondEdition, compareFiles}
+use Rattle.call_shelf.specs.Strings.{cutInto}
+use Rattle.call_shelf.specs.declared.compare.CompareAnswer.the-variants as answer
+use Rattle.call_shelf.specs.declared.compare.Which.the-variants as which
+use Rattle.call_shelf.specs.Compare.{comparing}
 use Rattle.call_shelf.specs.Shelf.{fileAt, acceptedIn, shelfOf, mostFiles, shelving}
 
 -- a second-edition pattern file that is accepted, as bytes

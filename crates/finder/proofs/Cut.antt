@@ -6,7 +6,7 @@ use Rattle.file_format.specs.declared.Role.the-variants.{Pattern, Board}
 use Rattle.file_format.specs.Layout.{firstEdition}
 use Rattle.file_format.specs.Refusals.{Condition, Verdict, accept, refuse, first, fileConditions}
 use Rattle.file_format.proofs.Refusals.{first-accept, first-refuse}
-use Rattle.file_cut.proofs.Cut.{cut-verdict, accepted-whole}
+use Rattle.file_format.proofs.Cut.{cut-verdict, accepted-whole}
 use Rattle.report.specs.Report.{reportFor, reportOf}
 use Rattle.finder.specs.Cut.{cut}
 

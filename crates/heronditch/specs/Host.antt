@@ -16,8 +16,8 @@ use Rattle.barring.specs.Outcome.{BarOutcome}
 use Rattle.call_merge.specs.Call.{MergeOutcome}
 use Rattle.call_load.specs.Call.{LoadOutcome}
 use Rattle.call_report.specs.Call.{ReportOutcome}
-use Rattle.call_compare.specs.declared.CompareAnswer.{CompareAnswer}
-use Rattle.call_compare.specs.Call.{compareReply}
+use Rattle.call_shelf.specs.declared.compare.CompareAnswer.{CompareAnswer}
+use Rattle.call_shelf.specs.Compare.{compareReply}
 use Rattle.call_shelf.specs.Shelf.{ShelfOutcome}
 use Rattle.heronditch_reply.specs.declared.HostReply.{HostReply}
 use Rattle.heronditch_reply.specs.declared.Counted.{Counted}

@@ -1,7 +1,7 @@
 -- Draws stored one after another at the front of a table. Assumes nothing.
 use Rattle.base_lists.specs.Kit.{_≡_, List, _++_, ℕ, _<_, _+_, length, drop, set}
 use Rattle.base_lists.proofs.Tables.{filled-none, filled-more}
-use Rattle.load.specs.Draws.{step, draw, stepped, draws}
+use Rattle.load_draw.specs.Generator.{step, draw, stepped, draws}
 
 -- none are drawn yet
 pub draws-none : (s k : ℕ) (d : List ℕ) → d ≡ draws s k 0 ++ drop 0 d

@@ -1,1 +1,3 @@
+pub mod Generator
+pub mod Load
 pub mod Marks

@@ -3,8 +3,8 @@ ghost use mathlib.Core.List.{_++_};
 ghost use mathlib.Core.Path.{_≡_};
 ghost use Prim.Native.Nat.{_*_, _/_, _%_, _^_, _<_, _≤_};
 ghost use lib.ListN.{length, drop};
-ghost use Rattle.load.specs.Draws.{step, draw, stepped, draws};
-ghost use Rattle.load.specs.Load.{kindsDrawn, pairsDrawn};
+ghost use Rattle.load_draw.specs.Generator.{step, draw, stepped, draws};
+ghost use Rattle.load_draw.specs.Load.{kindsDrawn, pairsDrawn};
 
 pub mod pairs;
 

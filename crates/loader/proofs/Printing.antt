@@ -5,7 +5,7 @@ use Rattle.file_format.specs.declared.Edition.the-variants.{First}
 use Rattle.file_format.specs.Layout.{lengthOf}
 use Rattle.file_format.specs.Refusals.{accept, refuse}
 use Rattle.file_format.specs.Reply.{Reply}
-use Rattle.load.specs.Load.{InRange}
+use Rattle.load_draw.specs.Load.{InRange}
 use Rattle.call_load.specs.declared.LoadAnswer.{LoadAnswer}
 use Rattle.call_load.specs.declared.LoadAnswer.the-variants.{Made, Refused}
 use Rattle.call_load.specs.Call.{loadBytes, loadReply, LoadOutcome, loading}

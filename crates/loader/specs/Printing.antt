@@ -2,7 +2,7 @@
 use Rattle.base_lists.specs.Kit.{_≡_, cond, List, ℕ, _≤_, eqb, length, take}
 use lib.IntN.{ℤ}
 use Rattle.output.specs.Writing.{isError}
-use Rattle.load.specs.Load.{InRange}
+use Rattle.load_draw.specs.Load.{InRange}
 use Rattle.call_load.specs.Call.{loadBytes}
 use Rattle.loader.specs.declared.words.Word.{Word}
 use Rattle.loader.specs.declared.words.Word.the-variants.{Number, NoNumber}

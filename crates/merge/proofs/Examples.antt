@@ -4,7 +4,7 @@ use Rattle.base_lists.specs.List.{all, allBelow, anyBelow, tabulate, maximum}
 use Rattle.base_lists.specs.Below.{leastBelow, collect}
 use Rattle.base_bits.specs.Bits.{bit}
 use Rattle.graph.specs.Search.{beside, ball, misses, distances, connected, radius}
-use Rattle.graph_pairs.specs.Pairs.{pairTest, pairStarts, pairEnds}
+use Rattle.graph.specs.Pairs.{pairTest, pairStarts, pairEnds}
 use Rattle.table.specs.Examples.{circuitT, rowComputed}
 use Rattle.table.specs.Host.{everything}
 use Rattle.table.specs.Row.{inTable, lastTable, InTable}

@@ -11,7 +11,7 @@ use Rattle.graph.specs.Search.{connected}
 use Rattle.graph.specs.Rising.{LinksRise}
 use Rattle.graph.proofs.Ball.{Within}
 use Rattle.graph.proofs.Distance.{connected-iff, radius-is}
-use Rattle.graph_pairs.proofs.Pairs.{pairCount, length-pair-starts, length-pair-ends, pair-link, pairs-le, pairs-rise, pairs-same}
+use Rattle.graph.proofs.Pairs.{pairCount, length-pair-starts, length-pair-ends, pair-link, pairs-le, pairs-rise, pairs-same}
 use Rattle.simulation.specs.Grouping.{Grouping}
 use Rattle.simulation.specs.Perfect.{SameGraph}
 use Rattle.simulation.specs.Quotient.{QuotientGraph, QuotientAgree}

@@ -4,7 +4,7 @@ use Rattle.base_lists.specs.Kit.{_≡_, Bool, _&&_, List, ℕ, eqb, length, get
 use Rattle.base_lists.specs.Below.{countBelow, leastBelow, collect}
 use Rattle.base_lists.specs.List.{anyBelow, tabulate}
 use Rattle.graph.specs.Circuit.{Circuit}
-use Rattle.graph_pairs.specs.Pairs.{pairStarts, pairEnds}
+use Rattle.graph.specs.Pairs.{pairStarts, pairEnds}
 use Rattle.table.specs.Host.{everything}
 use Rattle.table.specs.Row.{inTable, lastTable}
 

@@ -1,6 +1,6 @@
 // Checking a proposed place on a pattern and a board that were read.
 use file_format::Board;
-use graph_chosen::choose;
+use graph::marked::choose;
 use graph_neighbours::tables::LINKS;
 use graph_neighbours::tables::OFFSETS;
 use graph_neighbours::tables::neighbour_tables;

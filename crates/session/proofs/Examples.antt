@@ -2,7 +2,7 @@
 use Rattle.base_lists.specs.Kit.{_≡_, refl, [], _∷_}
 use Rattle.base_lists.specs.Below.{countBelow}
 use Rattle.base_bits.specs.Bits.{bit, sizeOf}
-use Rattle.table_answer.specs.Union.{unionAll}
+use Rattle.table.specs.Union.{unionAll}
 use Rattle.session.specs.Tables.{occurOrNone}
 
 -- two parts at two nodes, of a pattern of two

@@ -12,7 +12,7 @@ use Rattle.table.specs.Answer.{Fits, allOrNone}
 use Rattle.table.specs.Host.{everything}
 use Rattle.table.specs.Row.{problemBy, lastTable}
 use Rattle.table.proofs.Meaning.{last-fits}
-use Rattle.table_answer.proofs.AllParts.{occur-size}
+use Rattle.table.proofs.AllParts.{occur-size}
 use Rattle.table_row.specs.Answer.{answerOf}
 use Rattle.session.specs.Machine.{Machine, isLeft, takeOut, cutReply, cutMachine, replies, machineAfter, boardLeft, machineTable}
 use Rattle.session.specs.Session.{cutState, CutPromise, ReadPromise}

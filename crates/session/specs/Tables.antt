@@ -8,7 +8,7 @@ use Rattle.file_format.specs.Refusals.{Verdict, first, linkGone, shortTable}
 use Rattle.file_format.specs.Reply.{Reply, reply}
 use Rattle.graph.specs.Search.{far}
 use Rattle.session_strike.specs.Moves.{movesIn, settledFrom}
-use Rattle.table_answer.specs.Union.{unionAll}
+use Rattle.table.specs.Union.{unionAll}
 use Rattle.session.specs.State.{State, takes, without, linkOut}
 
 -- A number of the tables that says how many there are of something: 0 where it is above what there is room for, as in tables that hold no machine.

@@ -6,7 +6,7 @@ use Rattle.file_format.specs.Refusals.{first, shortTable}
 use Rattle.file_format.specs.Reply.{reply}
 use Rattle.file_format.specs.declared.File.the-variants.{Neither}
 use Rattle.session.specs.Tables.{nodesIn, partsIn, occurOrNone, ReadMade}
-use Rattle.table_answer.specs.Union.{unionAll}
+use Rattle.table.specs.Union.{unionAll}
 use Rattle.session_cut.specs.declared.OutAnswer.the-variants as out
 use Rattle.session_cut.specs.Cut.{outReply}
 

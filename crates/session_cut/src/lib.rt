@@ -10,7 +10,7 @@ use graph::UNREACHED;
 use graph_neighbours::tables::FORWARD_LINKS;
 use session_strike::strike_from;
 use table::MASKS;
-use table_answer::occurring;
+use table::rule::occurring;
 ghost use mathlib.Core.Path.{_≡_};
 ghost use lib.ListN.{length};
 ghost use Rattle.session.specs.State.{state, StateRoom};

@@ -9,13 +9,13 @@ use Rattle.file_format.specs.declared.Edition.the-variants.{Second}
 use Rattle.file_format.specs.declared.Role.the-variants.{Pattern}
 use Rattle.file_format.specs.Layout.{inEdition}
 use Rattle.file_format.specs.Refusals.{Verdict, accept, refuse, first, fileConditions}
-use Rattle.file_cut.specs.Cut.{cut}
-use Rattle.file_cut.proofs.Cut.{cut-verdict, accepted-whole}
+use Rattle.file_format.specs.Cut.{cut}
+use Rattle.file_format.proofs.Cut.{cut-verdict, accepted-whole}
 use Rattle.order.specs.Order.{isLess}
 use Rattle.order.specs.Sorting.{sortBelow}
 use Rattle.order.proofs.Sorting.{sort-same}
-use Rattle.order_files.specs.Files.{compareFiles}
-use Rattle.shelf_text.specs.Text.{shelfText}
+use Rattle.order.specs.Files.{compareFiles}
+use Rattle.call_shelf.specs.Text.{shelfText}
 use Rattle.call_shelf.specs.Shelf.{isAccepted, fileAt, acceptedIn, shelfOf}
 use Rattle.shelf.specs.Reading.{cutEach}
 use Rattle.shelf.specs.Printing.{textOf}

@@ -8,8 +8,8 @@ use native.Mathlib.Omega.{arith}
 use lib.ListN.{length, take, drop, length-take}
 use Rattle.file_format.specs.declared.Edition.the-variants.{Second}
 use Rattle.file_format.specs.declared.Role.the-variants.{Pattern}
-use Rattle.file_cut.specs.Cut.{cut}
-use Rattle.shelf_strings.specs.Strings.{cutInto}
+use Rattle.file_format.specs.Cut.{cut}
+use Rattle.call_shelf.specs.Strings.{cutInto}
 use Rattle.input.specs.declared.Found.{Found}
 use Rattle.input.specs.declared.Found.the-variants as found
 use Rattle.shelf.specs.declared.Taken.{Taken}

@@ -13,11 +13,11 @@ use Rattle.file_format.specs.Refusals.{Verdict, accept, refuse, first, shortTab
 use Rattle.file_format.specs.Reply.{Reply, reply}
 use Rattle.order.specs.Order.{isLess}
 use Rattle.order.proofs.Sorting.{length-sort}
-use Rattle.order_files.specs.Files.{compareFiles}
-use Rattle.shelf_strings.specs.Strings.{cutInto}
-use Rattle.shelf_strings.proofs.Cutting.{length-cut}
-use Rattle.shelf_text.specs.Text.{shelfText}
-use Rattle.shelf_text.proofs.Text.{length-text}
+use Rattle.order.specs.Files.{compareFiles}
+use Rattle.call_shelf.specs.Strings.{cutInto}
+use Rattle.call_shelf.proofs.Cutting.{length-cut}
+use Rattle.call_shelf.specs.Text.{shelfText}
+use Rattle.call_shelf.proofs.Text.{length-text}
 use Rattle.call_shelf.specs.declared.ShelfAnswer.{ShelfAnswer}
 use Rattle.call_shelf.specs.declared.ShelfAnswer.the-variants.{Ordered}
 use Rattle.shelf.specs.declared.Taken.the-variants as taken

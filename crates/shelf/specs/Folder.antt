@@ -6,7 +6,7 @@ use Prim.Native.Nat.{ℕ}
 use lib.ListN.{length, take, drop}
 use Rattle.file_format.specs.declared.Edition.the-variants.{Second}
 use Rattle.file_format.specs.declared.Role.the-variants.{Pattern}
-use Rattle.file_cut.specs.Cut.{cut}
+use Rattle.file_format.specs.Cut.{cut}
 use Rattle.input.specs.declared.Found.the-variants as found
 use Rattle.shelf.specs.Reading.{noted}
 use Rattle.shelf.specs.Printing.{textOf}

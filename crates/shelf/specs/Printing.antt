@@ -4,8 +4,8 @@ use mathlib.Core.List.{List, []}
 use mathlib.Core.Path.{_≡_}
 use Prim.Native.Nat.{ℕ}
 use lib.ListN.{length, take}
-use Rattle.shelf_strings.specs.Strings.{cutInto}
-use Rattle.shelf_text.specs.Text.{shelfText}
+use Rattle.call_shelf.specs.Strings.{cutInto}
+use Rattle.call_shelf.specs.Text.{shelfText}
 use Rattle.call_shelf.specs.Shelf.{shelfOf}
 use Rattle.shelf.specs.declared.End.{End}
 use Rattle.shelf.specs.declared.End.the-variants as end

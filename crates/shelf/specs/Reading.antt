@@ -7,7 +7,7 @@ use lib.Dec.{eqb}
 use lib.ListN.{take}
 use Rattle.file_format.specs.declared.Edition.the-variants.{Second}
 use Rattle.file_format.specs.declared.Role.the-variants.{Pattern}
-use Rattle.file_cut.specs.Cut.{most, cut}
+use Rattle.file_format.specs.Cut.{most, cut}
 use Rattle.input.specs.declared.Found.{Found}
 use Rattle.input.specs.declared.Found.the-variants as found
 use Rattle.shelf.specs.declared.Next.{Next}

@@ -173,7 +173,7 @@ fn print_shelf(
     let ShelfAnswer::Ordered(ordered) = answer else {
         return false;
     };
-    let size = shelf_text::put_numbers(&order[..ordered], out);
+    let size = call_shelf::lines::put_numbers(&order[..ordered], out);
     hand(bytes, notes, handed, &out[..size])
 }
 

@@ -6,7 +6,7 @@ use table::Counts;
 use table::MASKS;
 use table::Ways;
 use table::counted;
-use table_answer::all_or_none;
+use table::rule::all_or_none;
 use table_first::start;
 use table_largest::refine;
 use table_prepare::lookups::prepare_along;

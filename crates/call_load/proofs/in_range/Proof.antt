@@ -1,6 +1,6 @@
 -- `call_load::in_range` meets its contract: each return rewrites with the tests that led there. Assumes nothing.
 use Rattle.base_lists.specs.Kit.{sym, ap, Bool, _&&_, leb, le-leb, lt-leb}
-use Rattle.load.specs.Load.{inRange}
+use Rattle.load_draw.specs.Load.{inRange}
 use Rattle.call_load.proofs.in_range.Statement.{statement}
 use Rattle.call_load.proofs.in_range.Tie as tie
 

@@ -1,8 +1,8 @@
 -- `call_load::load` meets its contract: a number is out of its range, or the bytes are too few, or the load is made. Assumes nothing.
 use Rattle.base_lists.specs.Kit.{now, _≡_, _∙_, sym, false, true, not, _≤_, _<_, _+_, _*_, length, arith, needs, not-false, not-true, ltb-false, ltb-true}
 use Rattle.base_lists.proofs.Tests.{true-T}
-use Rattle.load.specs.Load.{inRange}
-use Rattle.load.proofs.Load.{in-range}
+use Rattle.load_draw.specs.Load.{inRange}
+use Rattle.load_draw.proofs.Load.{in-range}
 use Rattle.call_load.proofs.Loading.{loading-outside, loading-short, loading-made}
 use Rattle.call_load.proofs.load.Statement.{statement}
 use Rattle.call_load.proofs.load.Tie as tie

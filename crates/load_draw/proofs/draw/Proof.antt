@@ -1,6 +1,6 @@
 -- `load_draw::draw` meets its contract. Assumes nothing.
 use Rattle.base_lists.specs.Kit.{_∙_, ap, ℕ, _^_, _/_, _%_, mod-le, arith, needs}
-use Rattle.load.specs.Draws.{step, draw}
+use Rattle.load_draw.specs.Generator.{step, draw}
 use Rattle.load_draw.proofs.draw.Statement.{statement}
 use Rattle.load_draw.proofs.draw.Tie as tie
 

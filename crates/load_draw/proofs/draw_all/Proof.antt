@@ -1,8 +1,8 @@
 -- `load_draw::draw_all` meets its contract. The loop's invariant: i numbers are drawn and stored, and the state is i steps on. The measure is how
 -- many are left. Assumes nothing.
 use Rattle.base_lists.specs.Kit.{now, _≡_, _∙_, sym, ap, refl, ap₂, List, _++_, ℕ, _≤_, _+_, _-_, length, drop, set, length-set, arith, needs}
-use Rattle.load.specs.Draws.{step, draw, stepped, draws}
-use Rattle.load.proofs.Draws.{stepped-next}
+use Rattle.load_draw.specs.Generator.{step, draw, stepped, draws}
+use Rattle.load_draw.proofs.Generator.{stepped-next}
 use Rattle.load_draw.proofs.Draws.{draws-none, draws-more}
 use Rattle.load_draw.proofs.draw_all.Statement.{statement}
 use Rattle.load_draw.proofs.draw_all.Tie as tie

@@ -1,7 +1,7 @@
 -- `load_draw::draw_load` meets its contract: the kinds are drawn from the seed on, and the pairs from where they left the state. Assumes nothing.
 use Rattle.base_lists.specs.Kit.{now, _∙_, ap, _++_, ℕ, _*_, drop, needs}
-use Rattle.load.specs.Draws.{draws}
-use Rattle.load.specs.Load.{kindsDrawn, pairsDrawn}
+use Rattle.load_draw.specs.Generator.{draws}
+use Rattle.load_draw.specs.Load.{kindsDrawn, pairsDrawn}
 use Rattle.load_draw.proofs.draw_load.Statement.{statement}
 use Rattle.load_draw.proofs.draw_load.Tie as tie
 

@@ -1,6 +1,6 @@
 -- `load_draw::step` meets its contract: the sum of a product mod 2^32, mod 2^32, is that of the product. Assumes nothing.
 use Rattle.base_lists.specs.Kit.{arith, needs}
-use Rattle.load.specs.Draws.{step}
+use Rattle.load_draw.specs.Generator.{step}
 use Rattle.load_draw.proofs.step.Statement.{statement}
 use Rattle.load_draw.proofs.step.Tie as tie
 

@@ -7,8 +7,8 @@ use denote.Ref.{now}
 use lib.ListN.{length, take}
 use lib.Seq.{length-take-le}
 use Rattle.base_text.specs.Text.{Fits}
-use Rattle.shelf_strings.specs.Strings.{cutInto}
-use Rattle.shelf_text.specs.Text.{shelfText}
+use Rattle.call_shelf.specs.Strings.{cutInto}
+use Rattle.call_shelf.specs.Text.{shelfText}
 use Rattle.call_shelf.specs.Shelf.{shelfOf}
 use Rattle.shelf.specs.declared.Taken.{Taken}
 use Rattle.shelf.specs.Printing.{textOf, printedAt, printedOf, Handed}

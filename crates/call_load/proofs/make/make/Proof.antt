@@ -6,8 +6,8 @@ use Rattle.file_format.specs.Reading.{filled}
 use Rattle.file_format.specs.Refusals.{accept}
 use Rattle.file_write.specs.declared.WriteAnswer.the-variants.{Written}
 use Rattle.file_write.specs.Writing.{WriteOutcome, writeReply}
-use Rattle.load.specs.Load.{load}
-use Rattle.load.proofs.Load.{load-nodes, load-parallel}
+use Rattle.load_draw.specs.Load.{load}
+use Rattle.load_draw.proofs.Load.{load-nodes, load-parallel}
 use Rattle.load_draw.specs.Marks.{AllBelow}
 use Rattle.call_load.specs.declared.LoadAnswer.the-variants.{Made}
 use Rattle.call_load.specs.Call.{loadBytes}

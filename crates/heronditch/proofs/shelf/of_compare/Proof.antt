@@ -1,5 +1,5 @@
 -- `heronditch::shelf::of_compare` meets its contract, case by case. Assumes nothing.
-use Rattle.call_compare.specs.Call.{compareReply}
+use Rattle.call_shelf.specs.Compare.{compareReply}
 use Rattle.heronditch.specs.Host.{hostCompare}
 use Rattle.heronditch_reply.specs.Replies.{numberOf, meantFile}
 use Rattle.base_lists.specs.Kit.{needs}

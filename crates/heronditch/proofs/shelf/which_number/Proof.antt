@@ -1,5 +1,5 @@
 -- `heronditch::shelf::which_number` meets its contract. Assumes nothing.
-use Rattle.call_compare.specs.Call.{whichNumber}
+use Rattle.call_shelf.specs.Compare.{whichNumber}
 use Rattle.base_lists.specs.Kit.{needs}
 use Rattle.heronditch.proofs.shelf.which_number.Statement.{statement}
 use Rattle.heronditch.proofs.shelf.which_number.Tie as tie
