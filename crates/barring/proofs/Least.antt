@@ -119,7 +119,7 @@ module _ {pattern board : Circuit} (a : Admissible pattern board) (w r : ℕ) wh
         b)
 
     -- With a centre that no part agrees with nothing is kept: no link is needed to bar it.
-    pub none-kept : ((u : ℕ) → u < length (pattern .kinds) → KindsMatch pattern board u w → ⊥) → (i : ℕ) → T (inside (least pattern board w r) i) → ⊥
+    pub none-kept : ((u : ℕ) → u < length (pattern .labels) → KindsMatch pattern board u w → ⊥) → (i : ℕ) → T (inside (least pattern board w r) i) → ⊥
     unfolding circuitGraph graphOf
     none-kept unlike i t =
         let here : i < size = rw least-size at (inside-below (least pattern board w r) i t) in
@@ -128,7 +128,7 @@ module _ {pattern board : Circuit} (a : Admissible pattern board) (w r : ℕ) wh
         (bars-none pattern board (a .most) (a .links) w r rest .1
         (λ u m. let c = chosen-largest pattern board (a .most) (a .links) w r rest .closed .agree u w m in unlike u (c .part) (c .kinds)))
 
-    pub none-count : ((u : ℕ) → u < length (pattern .kinds) → KindsMatch pattern board u w → ⊥) → keptCount (least pattern board w r) ≡ 0
+    pub none-count : ((u : ℕ) → u < length (pattern .labels) → KindsMatch pattern board u w → ⊥) → keptCount (least pattern board w r) ≡ 0
     unfolding keptCount
     none-count unlike =
         countBelow-same (length (least pattern board w r)) (inside (least pattern board w r)) (λ i. false) (λ i h. T-false (none-kept unlike i)) ∙ countBelow-none (length (least pattern board w r))

@@ -18,7 +18,7 @@ use Rattle.barring.specs.Barring.{BarsIn}
 use Rattle.barring.specs.Least.{bars}
 use Rattle.barring.proofs.Procedure.{Fewer}
 
-module _ (pattern board : Circuit) (most : length (pattern .kinds) ≤ 32) (links : Within (length (board .kinds)) (board .starts) (board .ends)) (w r : ℕ) where
+module _ (pattern board : Circuit) (most : length (pattern .labels) ≤ 32) (links : Within (length (board .labels)) (board .starts) (board .ends)) (w r : ℕ) where
   -- the pairs of the ball's last table for the chosen links
   abbrev Pairs : List ℕ → Relation
   Pairs marks = BallPairs (chosen pattern marks) board w r

@@ -17,21 +17,21 @@ use Rattle.barring_find.proofs.Drops.{take-ones}
 -- ---- a trial in the ball that was listed, whose list and table are cut from longer ones
 
 pub listed-tried :
-    {pattern board : Circuit} {offsets links : List ℕ} {around : Around} {queue first : List ℕ} {k : ℕ} → Bounded role.Pattern pattern → Bounded role.Board board →
-    NetOf (length (board .kinds)) (board .starts) (board .ends) offsets links → around .centre < length (board .kinds) →
-    Listed (pattern .kinds) board around queue first k → length first ≡ length (board .kinds) → (past after : List ℕ) →
-    Tried pattern board offsets links (around .centre) (around .radius) (take k (queue ++ past)) (take (length (board .kinds)) (first ++ after))
+    {pattern board : Circuit} {offsets targets : List ℕ} {around : Around} {queue first : List ℕ} {k : ℕ} → Bounded role.Pattern pattern → Bounded role.Board board →
+    NetOf (length (board .labels)) (board .starts) (board .ends) offsets targets → around .centre < length (board .labels) →
+    Listed (pattern .labels) board around queue first k → length first ≡ length (board .labels) → (past after : List ℕ) →
+    Tried pattern board offsets targets (around .centre) (around .radius) (take k (queue ++ past)) (take (length (board .labels)) (first ++ after))
 listed-tried {pattern} {board} {around = around} {queue} {first} {k} drawn given net centre l long past after =
     let nodes : take k queue ≡ take k (queue ++ past) = sym (take-append-le k queue past (l .short)) in
-    let table : take (length (board .kinds)) (first ++ after) ≡ first = take-at first after (length (board .kinds)) long in
+    let table : take (length (board .labels)) (first ++ after) ≡ first = take-at first after (length (board .labels)) long in
     record {
       parts = drawn;
       most = given .nodes;
       net = net;
       centre = centre;
-      list = subst (λ (xs : List ℕ). NodeList (length (board .kinds)) xs) nodes (l .list);
-      ball = subst (λ (xs : List ℕ). marksOf (length (board .kinds)) xs ≡ ballOf board (around .centre) (around .radius)) nodes (l .ball);
-      agree = table ∙ l .agree ∙ ap (tableAt (length (board .kinds)) (startNode (pattern .kinds) (board .kinds))) nodes;
+      list = subst (λ (xs : List ℕ). NodeList (length (board .labels)) xs) nodes (l .list);
+      ball = subst (λ (xs : List ℕ). marksOf (length (board .labels)) xs ≡ ballOf board (around .centre) (around .radius)) nodes (l .ball);
+      agree = table ∙ l .agree ∙ ap (tableAt (length (board .labels)) (startNode (pattern .labels) (board .labels))) nodes;
     }
 
 -- ---- all links together

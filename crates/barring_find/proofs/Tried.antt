@@ -10,13 +10,13 @@ use Rattle.file_format.proofs.Accepted.{bounded-starts, bounded-ends}
 use Rattle.table.specs.Fill.{listed, marksOf, tableAt}
 use Rattle.table.specs.First.{startNode, Written, Begins}
 use Rattle.table.specs.Prepared.{Masked, Tables, tables}
-use Rattle.table.specs.Refine.{Known}
+use Rattle.table.specs.Refine.{TablesKnown}
 use Rattle.table.specs.Row.{bothWays, lastTable}
 use Rattle.table.proofs.Begun.{started-begins}
 use Rattle.table.proofs.Fill.{length-table}
 use Rattle.place.specs.Match.{ballTable, found}
 use Rattle.barring.specs.Least.{bars}
-use Rattle.barring_find.specs.Trial.{Begun, Tried}
+use Rattle.barring_find.specs.Trial.{TrialBegun, Tried}
 
 -- ---- the first table, copied
 
@@ -35,31 +35,31 @@ copied-again n f nodes =
     go true x = refl
     go false x = refl
 
-module _ {pattern board : Circuit} {t : Tables} {nodes first : List ℕ} (b : Begun pattern board t nodes first) where
+module _ {pattern board : Circuit} {t : Tables} {nodes first : List ℕ} (b : TrialBegun pattern board t nodes first) where
   -- there is a set for each node
-  pub begun-long : length first ≡ length (board .kinds)
+  pub begun-long : length first ≡ length (board .labels)
   begun-long = ap length (b .agree) ∙ length-table _ _ nodes
 
   module _ {n : ℕ} (long : n ≡ length first) {table : List ℕ} {count : ℕ} (w : Written n (λ v. getD first v 0) nodes table count) where
     -- the copy is the table of the pairs that agree
-    copied : Written n (startNode (pattern .kinds) (board .kinds)) nodes table count
+    copied : Written n (startNode (pattern .labels) (board .labels)) nodes table count
     copied =
         record {
           made =
               w .made
-              ∙ ap (λ (xs : List ℕ). tableAt n (λ v. getD xs v 0) nodes) (b .agree ∙ ap (λ (m : ℕ). tableAt m (startNode (pattern .kinds) (board .kinds)) nodes) (sym (long ∙ begun-long)))
-              ∙ copied-again n (startNode (pattern .kinds) (board .kinds)) nodes;
+              ∙ ap (λ (xs : List ℕ). tableAt n (λ v. getD xs v 0) nodes) (b .agree ∙ ap (λ (m : ℕ). tableAt m (startNode (pattern .labels) (board .labels)) nodes) (sym (long ∙ begun-long)))
+              ∙ copied-again n (startNode (pattern .labels) (board .labels)) nodes;
           size = w .size;
         }
 
     -- with which striking may begin
-    pub copied-begins : Begins pattern board (marksOf (length (board .kinds)) nodes) table
+    pub copied-begins : Begins pattern board (marksOf (length (board .labels)) nodes) table
     copied-begins = started-begins bothWays pattern board nodes (long ∙ begun-long) copied
 
-    pub copied-known : Known t nodes table
+    pub copied-known : TablesKnown t nodes table
     copied-known = record { ways = bothWays; pattern = pattern; host = board; prepared = b .prepared; begins = copied-begins }
 
-    pub copied-long : length table ≡ length (board .kinds)
+    pub copied-long : length table ≡ length (board .labels)
     copied-long = ap length (w .made) ∙ length-table n _ nodes ∙ long ∙ begun-long
 
 -- ---- chosen masks
@@ -70,19 +70,19 @@ masked-same {starts′ = s} {ends = e} {masks = m} p q x = subst (λ (ys : List 
 
 -- ---- a trial
 
-module _ {pattern board : Circuit} {offsets links : List ℕ} {w r : ℕ} {nodes first : List ℕ} (s : Tried pattern board offsets links w r nodes first) where
+module _ {pattern board : Circuit} {offsets targets : List ℕ} {w r : ℕ} {nodes first : List ℕ} (s : Tried pattern board offsets targets w r nodes first) where
   pub tried-starts : Below 32 (pattern .starts)
   tried-starts = below-wider _ 32 _ (s .parts .nodes) (all-below _ _ (bounded-starts (s .parts)))
 
   pub tried-ends : Below 32 (pattern .ends)
   tried-ends = below-wider _ 32 _ (s .parts .nodes) (all-below _ _ (bounded-ends (s .parts)))
 
-  pub tried-long : length first ≡ length (board .kinds)
+  pub tried-long : length first ≡ length (board .labels)
   tried-long = ap length (s .agree) ∙ length-table _ _ nodes
 
   module _ {masks : List ℕ} (marks : List ℕ) (m : Masked (picked marks (pattern .starts)) (picked marks (pattern .ends)) masks) where
     -- with the masks of the chosen links it is the same for the pattern that has these alone
-    pub tried-begun : Begun (chosen pattern marks) board (tables masks offsets links) nodes first
+    pub tried-begun : TrialBegun (chosen pattern marks) board (tables masks offsets targets) nodes first
     unfolding chosen
     tried-begun =
         record {
@@ -99,7 +99,7 @@ module _ {pattern board : Circuit} {offsets links : List ℕ} {w r : ℕ} {nodes
         }
 
   -- and the centre is in no pair that is left exactly where they bar
-  pub tried-bars : (marks : List ℕ) → eqb (getD (lastTable (chosen pattern marks) board (marksOf (length (board .kinds)) nodes)) w 0) 0 ≡ bars pattern board w r marks
+  pub tried-bars : (marks : List ℕ) → eqb (getD (lastTable (chosen pattern marks) board (marksOf (length (board .labels)) nodes)) w 0) 0 ≡ bars pattern board w r marks
   unfolding bars found ballTable
   tried-bars marks =
       ap (λ (taken : List ℕ). eqb (getD (lastTable (chosen pattern marks) board taken) w 0) 0) (s .ball)

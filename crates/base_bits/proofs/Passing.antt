@@ -31,18 +31,18 @@ module _ (q : ℕ → Bool) where
       go false b = refl
 
   -- the first part alone, where it passes
-  abbrev pub here : ℕ → ℕ
-  here x = cond (q (firstOf x)) (2 ^ firstOf x) zero
+  abbrev pub passing-here : ℕ → ℕ
+  passing-here x = cond (q (firstOf x)) (2 ^ firstOf x) zero
 
   module _ (x : ℕ) (p : zero < x) (h : x < 2 ^ 32) where
-    here-lt : here x < 2 ^ 32
+    here-lt : passing-here x < 2 ^ 32
     here-lt = go (q (firstOf x))
       where
         go : (b : Bool) → cond b (2 ^ firstOf x) zero < 2 ^ 32
         go true = pow-lt (first-lt x p h)
         go false = pow-pos 32
 
-    here-bit : (u : ℕ) → bit (here x) u ≡ q (firstOf x) && eqb u (firstOf x)
+    here-bit : (u : ℕ) → bit (passing-here x) u ≡ q (firstOf x) && eqb u (firstOf x)
     here-bit u = go (q (firstOf x))
       where
         go : (b : Bool) → bit (cond b (2 ^ firstOf x) zero) u ≡ b && eqb u (firstOf x)
@@ -50,12 +50,12 @@ module _ (q : ℕ → Bool) where
         go false = bit-of-zero u
 
     -- one turn of a loop over the parts
-    pub passing-next : bitOr (here x) (passing (withoutFirst x)) ≡ passing x
+    pub passing-next : bitOr (passing-here x) (passing (withoutFirst x)) ≡ passing x
     passing-next =
-        same-bits-below 32 (bitOr (here x) (passing (withoutFirst x))) (passing x)
-        (or-lt 32 (here x) (passing (withoutFirst x)) here-lt (number-lt 32 (λ v. bit (withoutFirst x) v && q v))) (number-lt 32 (λ v. bit x v && q v))
+        same-bits-below 32 (bitOr (passing-here x) (passing (withoutFirst x))) (passing x)
+        (or-lt 32 (passing-here x) (passing (withoutFirst x)) here-lt (number-lt 32 (λ v. bit (withoutFirst x) v && q v))) (number-lt 32 (λ v. bit x v && q v))
         (λ u l.
-        bit-or (here x) (passing (withoutFirst x)) u
+        bit-or (passing-here x) (passing (withoutFirst x)) u
         ∙ ap₂ (λ (a b : Bool). a || b) (here-bit u) (passing-bit (withoutFirst x) u l ∙ ap (λ (b : Bool). b && q u) (bit-without x p h u))
         ∙ go u (eqb u (firstOf x)) refl
         ∙ sym (passing-bit x u l))

@@ -13,8 +13,8 @@ abbrev pub halved : ℕ → List ℕ → List ℕ → List ℕ → List ℕ
 halved size xs ys old = take size (xs ++ drop size old) ++ (ys ++ drop size (drop size (xs ++ drop size old)))
 
 module _ (size : ℕ) (xs ys old : List ℕ) (first : length xs ≡ size) where
-  front : take size (xs ++ drop size old) ≡ xs
-  front = take-at xs (drop size old) size first
+  prefix : take size (xs ++ drop size old) ≡ xs
+  prefix = take-at xs (drop size old) size first
 
   abbrev back : List ℕ
   back = ys ++ drop size (drop size (xs ++ drop size old))
@@ -22,17 +22,17 @@ module _ (size : ℕ) (xs ys old : List ℕ) (first : length xs ≡ size) where
   -- these are its stretches
   pub part-first : part 0 size (halved size xs ys old) ≡ xs
   unfolding part
-  part-first = take-at (take size (xs ++ drop size old)) back size (ap length front ∙ first) ∙ front
+  part-first = take-at (take size (xs ++ drop size old)) back size (ap length prefix ∙ first) ∙ prefix
 
   pub part-second : length ys ≡ size → part size size (halved size xs ys old) ≡ ys
   unfolding part
   part-second second =
-      ap (take size) (drop-at (take size (xs ++ drop size old)) back size (ap length front ∙ first))
+      ap (take size) (drop-at (take size (xs ++ drop size old)) back size (ap length prefix ∙ first))
       ∙ take-at ys (drop size (drop size (xs ++ drop size old))) size second
 
   -- and it is as long as it was
   pub length-halved : length ys ≡ size → size + size ≤ length old → length (halved size xs ys old) ≡ length old
-  length-halved second h = ap (λ (l : List ℕ). length (l ++ back)) front ∙ simp (length-append, length-drop) (omega arith)
+  length-halved second h = ap (λ (l : List ℕ). length (l ++ back)) prefix ∙ simp (length-append, length-drop) (omega arith)
 
 -- ---- lengths of parts
 
@@ -67,8 +67,8 @@ part-set from count xs i x (inr h) =
     rw e (ap (take count) (drop-set-add from xs (i - from) x) ∙ take-set-le count (drop from xs) (i - from) x (omega arith))
 
 -- a store at the front of a part
-pub part-front : (from count : ℕ) (xs : List ℕ) (x : ℕ) → from < length xs → take (suc count) (drop from (set xs from x)) ≡ x ∷ take count (drop (suc from) xs)
-part-front from count xs x h =
+pub part-prefix : (from count : ℕ) (xs : List ℕ) (x : ℕ) → from < length xs → take (suc count) (drop from (set xs from x)) ≡ x ∷ take count (drop (suc from) xs)
+part-prefix from count xs x h =
     rw (drop-cons (set xs from x) from 0 (omega (arith, length-set xs from x)), getD-set-same xs from x 0 h, drop-set-lt (suc from) xs from x (le-refl (suc from)))
 
 pub drop-take : (p k : ℕ) (l : List ℕ) → drop p (take (p + k) l) ≡ take k (drop p l)

@@ -60,12 +60,12 @@ filled-more n f d h =
     ∙ ap (λ (l : List ℕ). l ++ drop (n + 1) d) (sym (tabulate-suc n f) ∙ sym (ap (λ (k : ℕ). tabulate k f) (add-one n)))
 
 -- a list that fills another one whole leaves nothing of it
-pub whole : (xs old : List ℕ) (k : ℕ) → length old ≡ k → xs ++ drop k old ≡ xs
-whole xs old k e = ap (λ (l : List ℕ). xs ++ l) (drop-of-length-le old (le-of-eq e)) ∙ append-nil xs
+pub stored-whole : (xs old : List ℕ) (k : ℕ) → length old ≡ k → xs ++ drop k old ≡ xs
+stored-whole xs old k e = ap (λ (l : List ℕ). xs ++ l) (drop-of-length-le old (le-of-eq e)) ∙ append-nil xs
 
 -- what was put at the front of a list that keeps its length
-pub front : (xs old l : List ℕ) (k : ℕ) → l ≡ xs ++ drop k old → length l ≡ length old → k ≤ length old → take k l ≡ xs
-front xs old l k e kept h =
+pub stored-take : (xs old l : List ℕ) (k : ℕ) → l ≡ xs ++ drop k old → length l ≡ length old → k ≤ length old → take k l ≡ xs
+stored-take xs old l k e kept h =
     let size : length l ≡ length xs + length (drop k old) = ap length e ∙ length-append xs (drop k old) in
     ap (take k) e ∙ take-at xs (drop k old) k (omega (arith, length-drop k old))
 

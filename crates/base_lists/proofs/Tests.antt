@@ -4,9 +4,9 @@ use Rattle.base_lists.specs.List.{all, any, allBelow, anyBelow}
 
 -- ---- both, either, not
 
-pub both : (a b : Bool) → T a → T b → T (a && b)
-both true b p q = q
-both false b p q = p
+pub both-true : (a b : Bool) → T a → T b → T (a && b)
+both-true true b p q = q
+both-true false b p q = p
 
 pub both-left : (a b : Bool) → T (a && b) → T a
 both-left true b t = tt
@@ -32,9 +32,9 @@ pub both-false : (a b : Bool) → T a → (a && b) ≡ false → b ≡ false
 both-false true b t e = e
 both-false false b t e = absurd t
 
-pub refuted : (b : Bool) → not b ≡ false → T b
-refuted true e = tt
-refuted false e = subst T e tt
+pub not-true-false : (b : Bool) → not b ≡ false → T b
+not-true-false true e = tt
+not-true-false false e = subst T e tt
 
 pub T-true : {b : Bool} → T b → b ≡ true
 T-true {b = true} t = refl
@@ -73,7 +73,7 @@ all-at p (x ∷ xs) t (suc i) h = all-at p xs (both-right (p x) (all p xs) t) i 
 pub at-all : (p : ℕ → Bool) (xs : List ℕ) → ((i : ℕ) → i < length xs → T (p (getD xs i 0))) → T (all p xs)
 unfolding all
 at-all p [] f = tt
-at-all p (x ∷ xs) f = both (p x) (all p xs) (f zero (zero-lt-suc _)) (at-all p xs (λ i h. f (suc i) (suc-le-suc h)))
+at-all p (x ∷ xs) f = both-true (p x) (all p xs) (f zero (zero-lt-suc _)) (at-all p xs (λ i h. f (suc i) (suc-le-suc h)))
 
 pub any-at : (p : ℕ → Bool) (xs : List ℕ) → T (any p xs) → (i : ℕ) × (i < length xs) × T (p (getD xs i 0))
 unfolding any
@@ -101,7 +101,7 @@ allBelow-at (suc n) p t (suc i) h = allBelow-at n (λ i. p (suc i)) (both-right 
 pub at-allBelow : (n : ℕ) (p : ℕ → Bool) → ((i : ℕ) → i < n → T (p i)) → T (allBelow n p)
 unfolding allBelow
 at-allBelow zero p f = tt
-at-allBelow (suc n) p f = both (p zero) (allBelow n (λ i. p (suc i))) (f zero (zero-lt-suc _)) (at-allBelow n (λ i. p (suc i)) (λ i h. f (suc i) (suc-le-suc h)))
+at-allBelow (suc n) p f = both-true (p zero) (allBelow n (λ i. p (suc i))) (f zero (zero-lt-suc _)) (at-allBelow n (λ i. p (suc i)) (λ i h. f (suc i) (suc-le-suc h)))
 
 pub anyBelow-at : (n : ℕ) (p : ℕ → Bool) → T (anyBelow n p) → (i : ℕ) × (i < n) × T (p i)
 unfolding anyBelow

@@ -3,7 +3,7 @@
 -- Assumes nothing.
 use Rattle.base_lists.specs.Kit.{_≡_, _∙_, sym, ap, refl, Bool, false, true, cond, List, [], _∷_, _++_, ℕ, _≤_, _<_, _+_, suc, zero, _*_, _^_, _/_, _%_, le-of-eq, zero-add, pow-suc, ltb, length, getD, drop, set, length-append, sets-eq, length-sets, arith, le-ltb, lt-ltb, ltb-false, ltb-true}
 use Rattle.base_lists.proofs.Tables.{getD-tabulate, sets-append}
-use Rattle.base_text.specs.Text.{digits, decimal, fourBytes, nameOf, Names, Put, Fits}
+use Rattle.base_text.specs.Text.{digits, decimal, fourBytes, digitsNumber, Names, Put, Fits}
 
 -- ---- writing
 
@@ -127,17 +127,17 @@ four-bytes a b c d ha hb hc =
     rw (e0, q1, e1, q2, e2, q3)
 
 -- a byte added to the name of a number of three digits: the byte and the number
-pub name-bytes : (b x : ℕ) → b < 256 → 100 ≤ x → x < 1000 → fourBytes (nameOf x + b) ≡ b ∷ decimal x
-unfolding nameOf
+pub name-bytes : (b x : ℕ) → b < 256 → 100 ≤ x → x < 1000 → fourBytes (digitsNumber x + b) ≡ b ∷ decimal x
+unfolding digitsNumber
 name-bytes b x small h l =
     four-bytes b (48 + x / 100) (48 + x / 10 % 10) (48 + x % 10) small (omega arith) (omega arith)
     ∙ sym (ap (λ (d : List ℕ). b ∷ d) (decimal-three x h l))
 
 -- such a sum has 32 bits
-pub name-small : (b x : ℕ) → b < 256 → x < 1000 → nameOf x + b < 4294967296
-unfolding nameOf
+pub name-small : (b x : ℕ) → b < 256 → x < 1000 → digitsNumber x + b < 4294967296
+unfolding digitsNumber
 name-small b x small l = omega arith
 
 -- an entry of a table of names
-pub name-at : {names : List ℕ} → Names names → (x : ℕ) → x < length names → getD names x 0 ≡ nameOf x
-name-at {names} t x h = ap (λ (l : List ℕ). getD l x 0) (t .table) ∙ getD-tabulate (length names) nameOf x 0 h
+pub name-at : {names : List ℕ} → Names names → (x : ℕ) → x < length names → getD names x 0 ≡ digitsNumber x
+name-at {names} t x h = ap (λ (l : List ℕ). getD l x 0) (t .table) ∙ getD-tabulate (length names) digitsNumber x 0 h

@@ -121,7 +121,7 @@ module _ (pattern : Circuit) (bounds : List ℕ) (board : Circuit) {S : Relation
       go backwards h u v u′ m l = s .backward u v u′ h m l
 
   closed-bounded :
-      Closed (Candidates pattern board) (Steps pattern bounds) (Moves board) S → Occurring (λ u. u < length (pattern .kinds)) S →
+      Closed (Candidates pattern board) (Steps pattern bounds) (Moves board) S → Occurring (λ u. u < length (pattern .labels)) S →
       BoundedSimulation (boundedGraph pattern bounds) (KindsMatch pattern board) (circuitGraph board) S
   unfolding boundedGraph circuitGraph graphOf Along
   closed-bounded c o =
@@ -136,7 +136,7 @@ module _ (pattern : Circuit) (bounds : List ℕ) (board : Circuit) {S : Relation
 
 -- The table is the largest bounded simulation: "the table is the largest such set (each part occurring, unless empty)".
 pub bounded-largest :
-    (pattern : Circuit) (bounds : List ℕ) (board : Circuit) → Bounds pattern bounds → length (pattern .kinds) ≤ 32 →
+    (pattern : Circuit) (bounds : List ℕ) (board : Circuit) → Bounds pattern bounds → length (pattern .labels) ≤ 32 →
     LargestBounded (boundedGraph pattern bounds) (KindsMatch pattern board) (circuitGraph board) (InTable (boundedTable pattern bounds board))
 unfolding boundedProblem boundedGraph
 bounded-largest pattern bounds board each most =

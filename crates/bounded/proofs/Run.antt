@@ -22,11 +22,11 @@ module _ (pattern : Circuit) (bounds : List ℕ) (board : Circuit) where
   p = boundedProblem pattern bounds board
 
   -- a number per node
-  pub bounded-length : length (boundedTable pattern bounds board) ≡ length (board .kinds)
+  pub bounded-length : length (boundedTable pattern bounds board) ≡ length (board .labels)
   unfolding boundedProblem
   bounded-length = Of.answer-fits p .size
 
-  module _ (most : length (pattern .kinds) ≤ 32) where
+  module _ (most : length (pattern .labels) ≤ 32) where
     -- "So started = kept + struck, and rounds are at most struck."
     pub bounded-sum : boundedCounts pattern bounds board .started ≡ boundedCounts pattern bounds board .kept + boundedCounts pattern bounds board .struck
     unfolding boundedProblem boundedCounts
@@ -68,11 +68,11 @@ module _ (pattern : Circuit) (bounds : List ℕ) (board : Circuit) where
           )
 
   -- the table is the row's last set where every part occurs in that,
-  pub bounded-found : ((u : ℕ) → u < length (pattern .kinds) → (v : ℕ) × InTable (lastOf p) u v) → boundedTable pattern bounds board ≡ lastOf p
+  pub bounded-found : ((u : ℕ) → u < length (pattern .labels) → (v : ℕ) × InTable (lastOf p) u v) → boundedTable pattern bounds board ≡ lastOf p
   unfolding boundedProblem
   bounded-found all = Of.answer-all p (Of.occur-iff p (last-fits p) .1 all)
 
   -- and "If some part is left without a node, the table is all 0"
-  pub bounded-missing : (u : ℕ) → u < length (pattern .kinds) → ((v : ℕ) → InTable (lastOf p) u v → ⊥) → boundedTable pattern bounds board ≡ tabulate (length (board .kinds)) (λ v. 0)
+  pub bounded-missing : (u : ℕ) → u < length (pattern .labels) → ((v : ℕ) → InTable (lastOf p) u v → ⊥) → boundedTable pattern bounds board ≡ tabulate (length (board .labels)) (λ v. 0)
   unfolding boundedProblem
   bounded-missing u h none = Of.answer-none p (T-false (λ t. let (v, m) = Of.occur-iff p (last-fits p) .0 t u h in none v m))

@@ -2,7 +2,7 @@
 -- bounds asks. Assumes nothing.
 use Rattle.base_lists.specs.Kit.{_≡_, sym, ap, refl, subst, ap₂, _↔_, inl, inr, _&&_, List, ℕ, _≤_, _<_, _-_, le-refl, length, getD, arith}
 use Rattle.base_lists.specs.List.{Occurs}
-use Rattle.base_lists.proofs.Tests.{both, both-right}
+use Rattle.base_lists.proofs.Tests.{both-true, both-right}
 use Rattle.graph.specs.Circuit.{Circuit, HasLink, graphOf, circuitGraph}
 use Rattle.graph.specs.Search.{inside}
 use Rattle.simulation.specs.Closed.{_⊆_}
@@ -57,7 +57,7 @@ module _ (pattern : Circuit) {bounds bounds′ : List ℕ} (board : Circuit) (ea
       }
 
   -- "raising a bound never takes a pair away": bit by bit, and with the all-0 rule
-  pub raised-more : length (pattern .kinds) ≤ 32 → InTable (boundedTable pattern bounds board) ⊆ InTable (boundedTable pattern bounds′ board)
+  pub raised-more : length (pattern .labels) ≤ 32 → InTable (boundedTable pattern bounds board) ⊆ InTable (boundedTable pattern bounds′ board)
   unfolding boundedProblem
   raised-more most = answer-wider raised-wider most (le-refl _)
 
@@ -113,7 +113,7 @@ module _ (pattern : Circuit) (bounds : List ℕ) (board : Circuit) (each : Bound
                   record {
                     part = a .part;
                     node = a .node;
-                    agree = both (inside (everything board) v) (agrees pattern board u v) (everything-taken board v (a .node) .marked) (a .agree);
+                    agree = both-true (inside (everything board) v) (agrees pattern board u v) (everything-taken board v (a .node) .marked) (a .agree);
                   };
               step =
                   λ d u u′ s.

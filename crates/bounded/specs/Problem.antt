@@ -27,7 +27,7 @@ pub record Bounds (pattern : Circuit) (bounds : List ℕ) : Type 0 where
 unfoldable pub boundedGraph : Circuit → List ℕ → BoundedGraph
 boundedGraph pattern bounds =
     record {
-      Node = λ u. u < length (pattern .kinds);
+      Node = λ u. u < length (pattern .labels);
       Link = λ u u′ h. (i : ℕ) × LinkAt (pattern .starts) (pattern .ends) u u′ i × (getD bounds i 0 ≡ h);
     }
 
@@ -35,7 +35,7 @@ boundedGraph pattern bounds =
 unfoldable pub ofBound : List ℕ → ℕ → Circuit → Circuit
 ofBound bounds h c =
     record {
-      kinds = c .kinds;
+      labels = c .labels;
       starts = keepFrom zero (λ i. eqb (getD bounds i 0) h) (c .starts);
       ends = keepFrom zero (λ i. eqb (getD bounds i 0) h) (c .ends);
     }
@@ -73,8 +73,8 @@ everyLabel =
 unfoldable pub boundedProblem : Circuit → List ℕ → Circuit → Problem Label
 boundedProblem pattern bounds board =
     record {
-      parts = length (pattern .kinds);
-      nodes = length (board .kinds);
+      parts = length (pattern .labels);
+      nodes = length (board .labels);
       agree = agrees pattern board;
       ways = everyLabel;
       steps = λ l. neighbours (ofBound bounds (l .bound) pattern) (l .way);

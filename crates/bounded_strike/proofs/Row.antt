@@ -120,14 +120,14 @@ module _ (pattern : Circuit) (bounds : List ℕ) (board : Circuit) (t : Tables) 
   problem = boundedProblem pattern bounds board
 
   abbrev near : Direction → ℕ → List ℕ
-  near d = neighboursIn (told d) (t .offsets) (t .links)
+  near d = neighboursIn (told d) (t .offsets) (t .targets)
 
-  near-is : (d : Direction) (v : ℕ) → v < length (board .kinds) → near d v ≡ neighbours board d v
+  near-is : (d : Direction) (v : ℕ) → v < length (board .labels) → near d v ≡ neighbours board d v
   unfolding neighboursIn neighbours told
   near-is forwards v h = r .net .drives v h
   near-is backwards v h = r .net .drivenBy v h
 
-  parts-below : (xs : List ℕ) → Below (length (pattern .kinds)) xs → Below 32 xs
+  parts-below : (xs : List ℕ) → Below (length (pattern .labels)) xs → Below 32 xs
   unfolding Below
   parts-below xs b i h = lt-of-lt-of-le (b i h) (r .parts)
 
@@ -145,14 +145,14 @@ module _ (pattern : Circuit) (bounds : List ℕ) (board : Circuit) (t : Tables) 
   unfolding boundedProblem boundedGraph Along Below
   steps-within = record { below = λ l u h i k. go (l .way) (l .bound) u _ (steps-iff pattern bounds (l .way) (l .bound) u _ .0 (i, k, refl)) }
     where
-      go : (d : Direction) (h u u′ : ℕ) → Along (λ x y. boundedGraph pattern bounds .Link x y h) d u u′ → u′ < length (pattern .kinds)
-      go forwards h u u′ (j, k, e) = subst (λ (x : ℕ). x < length (pattern .kinds)) (k .end) (r .ends j (k .inEnds))
-      go backwards h u u′ (j, k, e) = subst (λ (x : ℕ). x < length (pattern .kinds)) (k .start) (r .starts j (k .inStarts))
+      go : (d : Direction) (h u u′ : ℕ) → Along (λ x y. boundedGraph pattern bounds .Link x y h) d u u′ → u′ < length (pattern .labels)
+      go forwards h u u′ (j, k, e) = subst (λ (x : ℕ). x < length (pattern .labels)) (k .end) (r .ends j (k .inEnds))
+      go backwards h u u′ (j, k, e) = subst (λ (x : ℕ). x < length (pattern .labels)) (k .start) (r .starts j (k .inStarts))
 
-  module _ (old : List ℕ) (long : length old ≡ length (board .kinds)) where
+  module _ (old : List ℕ) (long : length old ≡ length (board .labels)) where
     inside : (d : Direction) (v : ℕ) → v < length old → Below (length old) (neighbours board d v)
     inside d v h =
-        let h′ : v < length (board .kinds) = omega (arith, long) in
+        let h′ : v < length (board .labels) = omega (arith, long) in
         rw (← near-is d v h′, long) (neighbours-below (told d) (net-of (r .net)) v h′)
 
     moves-union : (d : Direction) (h v : ℕ) → v < length old → unionAt (layerOf (near d) old h) (near d v) ≡ unionAt old (within (neighbours board d) (suc h) v)

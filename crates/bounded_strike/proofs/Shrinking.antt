@@ -9,7 +9,7 @@ use Rattle.base_bits.proofs.Digits.{bit-of-zero}
 use Rattle.base_bits.proofs.Numbers.{subset-le}
 use Rattle.table.specs.Prepared.{Tables}
 use Rattle.bounded_layer.specs.Pass.{keptWithin, passTable}
-use Rattle.bounded_strike.specs.Round.{layerOf, passes, roundTable, Ready}
+use Rattle.bounded_strike.specs.Round.{layerOf, passes, roundTable, BoundedReady}
 use Rattle.bounded_layer.proofs.Sets.{kept-subset}
 
 module _ (near : ℕ → List ℕ) (masks layer new : List ℕ) where
@@ -51,7 +51,7 @@ module _ (t : Tables) (top : ℕ) (old : List ℕ) where
   unfolding roundTable
   round-subset v u s = passes-subset _ _ old top old v u (passes-subset _ _ old top _ v u s)
 
-  pub round-ready : Ready t top old → Ready t top (roundTable t top old)
+  pub round-ready : BoundedReady t top old → BoundedReady t top (roundTable t top old)
   round-ready r =
       record {
         masks = r .masks;

@@ -28,11 +28,11 @@ pub record Top (bounds : List ℕ) (top : ℕ) : Type 0 where
   pub each : (i : ℕ) → i < length bounds → getD bounds i 0 ≤ top
 
 pub record BoundPrepared (pattern : Circuit) (bounds : List ℕ) (board : Circuit) (t : Tables) (top : ℕ) : Type 0 where
-  pub parts : length (pattern .kinds) ≤ 32
+  pub parts : length (pattern .labels) ≤ 32
   pub parallel : length (pattern .starts) ≡ length (pattern .ends)
-  pub starts : Below (length (pattern .kinds)) (pattern .starts)
-  pub ends : Below (length (pattern .kinds)) (pattern .ends)
+  pub starts : Below (length (pattern .labels)) (pattern .starts)
+  pub ends : Below (length (pattern .labels)) (pattern .ends)
   pub bounded : Bounds pattern bounds
   pub upto : Top bounds top
   pub masked : BoundMasked bounds (pattern .starts) (pattern .ends) (t .masks)
-  pub net : NetOf (length (board .kinds)) (board .starts) (board .ends) (t .offsets) (t .links)
+  pub net : NetOf (length (board .labels)) (board .starts) (board .ends) (t .offsets) (t .targets)

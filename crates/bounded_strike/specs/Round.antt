@@ -28,8 +28,8 @@ passes near masks old (suc h) new = passTable near (part (32 * h) 32 masks) (lay
 -- both directions, for the bounds 1 to `top`
 unfoldable pub roundTable : Tables → ℕ → List ℕ → List ℕ
 roundTable t top old =
-    let forth = passes (neighboursIn Forward (t .offsets) (t .links)) (part 0 128 (t .masks)) old top old in
-    passes (neighboursIn Backward (t .offsets) (t .links)) (part 128 128 (t .masks)) old top forth
+    let forth = passes (neighboursIn Forward (t .offsets) (t .targets)) (part 0 128 (t .masks)) old top old in
+    passes (neighboursIn Backward (t .offsets) (t .targets)) (part 128 128 (t .masks)) old top forth
 
 -- k rounds
 unfoldable pub roundTimes : Tables → ℕ → List ℕ → ℕ → List ℕ
@@ -37,9 +37,9 @@ roundTimes t top old zero = old
 roundTimes t top old (suc k) = roundTable t top (roundTimes t top old k)
 
 -- What a table of sets needs: 256 masks, neighbour tables over the nodes of the table of sets, and sets of 32 bits.
-pub record Ready (t : Tables) (top : ℕ) (old : List ℕ) : Type 0 where
+pub record BoundedReady (t : Tables) (top : ℕ) (old : List ℕ) : Type 0 where
   pub masks : length (t .masks) ≡ 256
-  pub net : Net (length old) (t .offsets) (t .links)
+  pub net : Net (length old) (t .offsets) (t .targets)
   pub small : Words old
   pub some : 1 ≤ top
   pub most : top ≤ 4
@@ -50,10 +50,10 @@ pub record Turn (t : Tables) (top : ℕ) (start old : List ℕ) (kept rounds : �
   pub table : old ≡ roundTimes t top start rounds
   pub falls : Falls pairs (roundTimes t top start) rounds
   pub count : kept ≡ pairs old
-  pub ready : Ready t top old
+  pub ready : BoundedReady t top old
 
 -- What striking round after round from a table comes to: the table after as many rounds as struck a pair, which one more would not change.
-pub record Settled (t : Tables) (top : ℕ) (start last : List ℕ) (kept rounds : ℕ) : Type 0 where
+pub record BoundedSettled (t : Tables) (top : ℕ) (start last : List ℕ) (kept rounds : ℕ) : Type 0 where
   pub table : last ≡ roundTimes t top start rounds
   pub stops : roundTable t top last ≡ last
   pub falls : Falls pairs (roundTimes t top start) rounds

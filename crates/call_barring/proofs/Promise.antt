@@ -131,8 +131,8 @@ module _ (pattern board : CircuitFile) (w : ℕ) (out : List ℕ) where
     out-is = rw sound
 
     -- the first M bytes are those of the procedure, and the others as they were; the reply is how many of them are 1
-    pub bytes-front : take (linksOf pattern) (result .out) ≡ least P B w r
-    bytes-front = rw out-is (take-at (least P B w r) _ (linksOf pattern) size)
+    pub bytes-prefix : take (linksOf pattern) (result .out) ≡ least P B w r
+    bytes-prefix = rw out-is (take-at (least P B w r) _ (linksOf pattern) size)
 
     pub bytes-rest : drop (linksOf pattern) (result .out) ≡ drop (linksOf pattern) out
     bytes-rest = rw out-is (drop-at (least P B w r) _ (linksOf pattern) size ∙ ap (λ (k : ℕ). drop k out) size)
@@ -142,7 +142,7 @@ module _ (pattern board : CircuitFile) (w : ℕ) (out : List ℕ) where
     values = rw sound
 
     pub values-are : result .reply .values ≡ keptCount (take (linksOf pattern) (result .out)) ∷ []
-    values-are = values ∙ ap (λ (marks : List ℕ). keptCount marks ∷ []) (sym bytes-front)
+    values-are = values ∙ ap (λ (marks : List ℕ). keptCount marks ∷ []) (sym bytes-prefix)
 
     -- the links that the bytes mark
     abbrev pub Kept : Relation
@@ -150,11 +150,11 @@ module _ (pattern board : CircuitFile) (w : ℕ) (out : List ℕ) where
 
     -- "The kept links bar,
     pub kept-bars : Bars (circuitGraph P) (KindsMatch P B) (circuitGraph B) w Kept
-    kept-bars = rw bytes-front (bars-radius P B w r (accepted-radius pattern-accepted) (ChosenLink P (least P B w r)) .0 (least-bars fits w r none))
+    kept-bars = rw bytes-prefix (bars-radius P B w r (accepted-radius pattern-accepted) (ChosenLink P (least P B w r)) .0 (least-bars fits w r none))
 
     -- and with any one or more of them taken away the rest does not."
     pub kept-needed :
         (L : Relation) → L ⊆ Kept → (u u′ : ℕ) → Kept u u′ → (L u u′ → ⊥) → Bars (circuitGraph P) (KindsMatch P B) (circuitGraph B) w L → ⊥
     kept-needed L fewer u u′ k gone d =
-        least-needed fits w r none L (λ x x′ m. rw bytes-front at (fewer x x′ m)) u u′ (rw bytes-front at k) gone
+        least-needed fits w r none L (λ x x′ m. rw bytes-prefix at (fewer x x′ m)) u u′ (rw bytes-prefix at k) gone
         (bars-radius P B w r (accepted-radius pattern-accepted) L .1 d)

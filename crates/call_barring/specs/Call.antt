@@ -28,4 +28,4 @@ barCall pattern board w out =
 -- the call on two circuits that were read, at a radius
 unfoldable pub barOn : ℕ → Circuit → Circuit → ℕ → List ℕ → BarOutcome
 barOn r pattern board w out =
-    barring (first (barConditions (length (board .kinds)) (length (pattern .starts)) w (length out) (found pattern board w r))) pattern board w r out
+    barring (first (barConditions (length (board .labels)) (length (pattern .starts)) w (length out) (found pattern board w r))) pattern board w r out

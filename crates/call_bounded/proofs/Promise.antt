@@ -17,9 +17,9 @@ use Rattle.file_format.proofs.Accepted.{accepted-bounded}
 use Rattle.file_format.proofs.Fields.{length-labels}
 use Rattle.file_format.proofs.Refusals.{accepted-verdict, first-accept, first-parts, first-same}
 use Rattle.file_pair.specs.Pair.{pairConditions}
-use Rattle.file_bounds.specs.Third.{boundedLength, frontOf, boundsOf, thirdConditions}
+use Rattle.file_bounds.specs.Third.{boundedLength, beforeBounds, boundsOf, thirdConditions}
 use Rattle.file_bounds.proofs.Fit.{at-fit}
-use Rattle.file_bounds.proofs.Third.{third-accepted, front-verdicts}
+use Rattle.file_bounds.proofs.Third.{third-accepted, prefix-verdicts}
 use Rattle.bounded.specs.Simulation.{LargestBounded}
 use Rattle.bounded.specs.Problem.{Bounds, boundedGraph, boundedTable, boundedCounts}
 use Rattle.bounded.specs.Raised.{AllOne}
@@ -29,7 +29,7 @@ use Rattle.bounded.proofs.Wider.{ones-table, ones-counts}
 use Rattle.call_match.specs.Call.{matchConditions, matchedBy, matchingBy, matching}
 use Rattle.table.specs.Answer.{answerTable, answerCounts}
 use Rattle.table.specs.Host.{everything, KindsMatch}
-use Rattle.table.specs.Reply.{noCounts, replied}
+use Rattle.table.specs.Reply.{noCounts, countsReply}
 use Rattle.table.specs.Row.{bothWays, InTable}
 use Rattle.table.proofs.Reply.{replied-verdict}
 use Rattle.call_bounded.specs.Call.{boundedConditions, boundedBy, boundedMatching}
@@ -37,7 +37,7 @@ use Rattle.call_bounded.proofs.Matching.{third-bounds}
 
 module _ (pattern : List ℕ) (board : CircuitFile) (table : List ℕ) where
   abbrev P : Circuit
-  P = circuitOf (frontOf pattern)
+  P = circuitOf (beforeBounds pattern)
 
   abbrev B : Circuit
   B = circuitOf board
@@ -50,7 +50,7 @@ module _ (pattern : List ℕ) (board : CircuitFile) (table : List ℕ) where
   pub refused-keeps :
       (x : Refusal) → boundedMatching pattern board table .reply .verdict ≡ refuse x →
       (boundedMatching pattern board table .reply .counts ≡ noCounts) × (boundedMatching pattern board table .table ≡ table)
-  unfolding boundedMatching replied filled
+  unfolding boundedMatching countsReply filled
   refused-keeps x e =
       let v : first (boundedConditions pattern board (length table)) ≡ refuse x = sym verdict-is ∙ e in
       (rw v, rw v)
@@ -74,13 +74,13 @@ module _ (pattern : List ℕ) (board : CircuitFile) (table : List ℕ) where
     unfolding boundedConditions
     third = first-parts (thirdConditions pattern) _ sound .0
 
-    pub pattern-accepted : Accepted AnyPattern (frontOf pattern)
+    pub pattern-accepted : Accepted AnyPattern (beforeBounds pattern)
     pattern-accepted = third-accepted pattern third .0
 
     pub bounds-each : Bounds P (boundsOf pattern)
     bounds-each = third-bounds pattern third
 
-    pub parts-most : length (P .kinds) ≤ 32
+    pub parts-most : length (P .labels) ≤ 32
     parts-most = accepted-bounded pattern-accepted .nodes
 
     length-answer : length (boundedTable P (boundsOf pattern) B) ≡ nodesOf board
@@ -91,20 +91,20 @@ module _ (pattern : List ℕ) (board : CircuitFile) (table : List ℕ) where
     table-is = rw (sound, length-answer)
 
     pub counts-are : boundedMatching pattern board table .reply .counts ≡ boundedCounts P (boundsOf pattern) B
-    unfolding boundedMatching replied
+    unfolding boundedMatching countsReply
     counts-are = rw sound
 
     -- the first N entries are the answer, and the others stay
-    pub front-is : take (nodesOf board) (boundedMatching pattern board table .table) ≡ boundedTable P (boundsOf pattern) B
-    front-is = rw table-is (take-at _ _ (nodesOf board) length-answer)
+    pub prefix-is : take (nodesOf board) (boundedMatching pattern board table .table) ≡ boundedTable P (boundsOf pattern) B
+    prefix-is = rw table-is (take-at _ _ (nodesOf board) length-answer)
 
     pub rest-is : drop (nodesOf board) (boundedMatching pattern board table .table) ≡ drop (nodesOf board) table
     rest-is = rw table-is (drop-at (boundedTable P (boundsOf pattern) B) _ (nodesOf board) length-answer)
 
     -- they are the largest bounded simulation of the pattern in the board
-    pub front-largest :
+    pub prefix-largest :
         LargestBounded (boundedGraph P (boundsOf pattern)) (KindsMatch P B) (circuitGraph B) (InTable (take (nodesOf board) (boundedMatching pattern board table .table)))
-    front-largest = rw front-is (bounded-largest P (boundsOf pattern) B bounds-each parts-most)
+    prefix-largest = rw prefix-is (bounded-largest P (boundsOf pattern) B bounds-each parts-most)
 
     -- "So started = kept + struck, and rounds are at most struck."
     pub counts-sum :
@@ -117,7 +117,7 @@ module _ (pattern : List ℕ) (board : CircuitFile) (table : List ℕ) where
 
     -- "kept is the number of one bits in the whole table"
     pub counts-ones : boundedMatching pattern board table .reply .counts .kept ≡ sum (map ones (take (nodesOf board) (boundedMatching pattern board table .table)))
-    counts-ones = rw (counts-are, front-is) (bounded-ones P (boundsOf pattern) B parts-most)
+    counts-ones = rw (counts-are, prefix-is) (bounded-ones P (boundsOf pattern) B parts-most)
 
 -- ---- all bounds 1
 
@@ -126,20 +126,20 @@ same-outcome :
     (v : Verdict) (p : Circuit) (bounds : List ℕ) (b : Circuit) (table : List ℕ) →
     (v ≡ accept → (boundedTable p bounds b ≡ answerTable p b (everything b)) × (boundedCounts p bounds b ≡ answerCounts p b (everything b))) →
     boundedBy v p bounds b table ≡ matchedBy bothWays v p b table
-unfolding replied filled
+unfolding countsReply filled
 same-outcome accept p bounds b table plain = let (t, c) = plain refl in rw (t, c)
 same-outcome (refuse x) p bounds b table plain = refl
 
 module _ (pattern : List ℕ) (board : CircuitFile) (table : List ℕ) (long : length pattern ≡ boundedLength (field pattern 0) (field pattern 2)) (one : AllOne (boundsOf pattern)) where
   -- a bound of 1 is from 1 to 4, so that what stands before the bounds is refused or accepted alike,
-  ones-verdict : first (thirdConditions pattern) ≡ first (fileConditions AnyPattern (frontOf pattern))
-  ones-verdict = front-verdicts pattern long (true-T (at-fit (boundsOf pattern) (λ i h. (omega (arith, one i h), omega (arith, one i h)))))
+  ones-verdict : first (thirdConditions pattern) ≡ first (fileConditions AnyPattern (beforeBounds pattern))
+  ones-verdict = prefix-verdicts pattern long (true-T (at-fit (boundsOf pattern) (λ i h. (omega (arith, one i h), omega (arith, one i h)))))
 
-  conditions-same : first (boundedConditions pattern board (length table)) ≡ first (matchConditions (frontOf pattern) board (length table))
+  conditions-same : first (boundedConditions pattern board (length table)) ≡ first (matchConditions (beforeBounds pattern) board (length table))
   unfolding boundedConditions matchConditions pairConditions
   conditions-same =
-      rw (append-assoc (fileConditions AnyPattern (frontOf pattern)) (fileConditions Board board) (shortTable (nodesOf board) (length table) ∷ []))
-      (first-same (thirdConditions pattern) (fileConditions AnyPattern (frontOf pattern)) (fileConditions Board board ++ (shortTable (nodesOf board) (length table) ∷ [])) ones-verdict)
+      rw (append-assoc (fileConditions AnyPattern (beforeBounds pattern)) (fileConditions Board board) (shortTable (nodesOf board) (length table) ∷ []))
+      (first-same (thirdConditions pattern) (fileConditions AnyPattern (beforeBounds pattern)) (fileConditions Board board ++ (shortTable (nodesOf board) (length table) ∷ [])) ones-verdict)
 
   drawn : first (boundedConditions pattern board (length table)) ≡ accept → first (thirdConditions pattern) ≡ accept
   unfolding boundedConditions
@@ -147,11 +147,11 @@ module _ (pattern : List ℕ) (board : CircuitFile) (table : List ℕ) (long : l
 
   -- "With all bounds 1 the table and counts are those of the second edition": the whole reply and the table, refusals too, for every byte string of
   -- the third edition's length
-  pub ones-second : boundedMatching pattern board table ≡ matching (frontOf pattern) board table
+  pub ones-second : boundedMatching pattern board table ≡ matching (beforeBounds pattern) board table
   unfolding boundedMatching matchingBy
   ones-second =
       rw (sym conditions-same)
-      (same-outcome (first (boundedConditions pattern board (length table))) (circuitOf (frontOf pattern)) (boundsOf pattern) (circuitOf board) table
+      (same-outcome (first (boundedConditions pattern board (length table))) (circuitOf (beforeBounds pattern)) (boundsOf pattern) (circuitOf board) table
       (λ e.
       let each = third-bounds pattern (drawn e) in
-      (ones-table (circuitOf (frontOf pattern)) (boundsOf pattern) (circuitOf board) each one, ones-counts (circuitOf (frontOf pattern)) (boundsOf pattern) (circuitOf board) each one)))
+      (ones-table (circuitOf (beforeBounds pattern)) (boundsOf pattern) (circuitOf board) each one, ones-counts (circuitOf (beforeBounds pattern)) (boundsOf pattern) (circuitOf board) each one)))

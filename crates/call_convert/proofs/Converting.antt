@@ -106,15 +106,15 @@ module _ (role : Role) (to : Edition) (file : CircuitFile) where
 -- ---- a file that was read into tables for any circuit
 
 -- packages and, where the edition has none, the zeros of the table
-packages-front : (e : Edition) (bytes ps : List ℕ) → Below 1 ps → nodesOf (inEdition e bytes) ≤ length ps
+packages-prefix : (e : Edition) (bytes ps : List ℕ) → Below 1 ps → nodesOf (inEdition e bytes) ≤ length ps
     → take (nodesOf (inEdition e bytes)) (packagesOf (inEdition e bytes) ++ drop (packageCount e (nodesOf (inEdition e bytes))) ps) ≡ everyPackage (inEdition e bytes)
 unfolding everyPackage Below
-packages-front First bytes ps zero room =
+packages-prefix First bytes ps zero room =
     let n = nodesOf (firstEdition bytes) in
     rw (first-packages bytes)
     (is-tabulate n _ (take n ps) (length-take-le n ps room)
     (λ v h. getD-take n ps v 0 h ∙ (let z : getD ps v 0 < 1 = zero v (omega arith) in omega arith)))
-packages-front Second bytes ps zero room =
+packages-prefix Second bytes ps zero room =
     let f = inEdition Second bytes in
     take-at (packagesOf f) _ (nodesOf f) (length-packages f) ∙ is-tabulate (nodesOf f) _ (packagesOf f) (length-packages f) (λ v h. refl)
 
@@ -163,7 +163,7 @@ module _ (role : Role) (e : Edition) (bytes ks ps ss es : List ℕ) (k : 512 ≤
         let (few, _) = range-bounds role (nodesOf file) (linksOf file) (accepted role file (f .sound) .range) in
         ap (λ (o : ReadOutcome). take n (o .packages)) outcome
         ∙ ap (λ (k : ℕ). take k (packagesOf file ++ drop (packageCount e (nodesOf file)) ps)) (f .nodes)
-        ∙ packages-front e bytes ps zero (le-trans few p)
+        ∙ packages-prefix e bytes ps zero (le-trans few p)
 
     pub whole-starts : take m (reading role file ks ps ss es .starts) ≡ startsOf file
     whole-starts = ap (λ (o : ReadOutcome). take m (o .starts)) outcome ∙ take-at (startsOf file) _ m (length-starts file ∙ sym (f .links))

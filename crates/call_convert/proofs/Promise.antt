@@ -115,7 +115,7 @@ module _ (role : Role) (to : Edition) (file : CircuitFile) (sound : first (fileC
     unfolding labelsOf
     converted-circuit =
         rw (converted-kinds, converted-starts, converted-ends)
-        (ap (λ (l : List ℕ). record { kinds = l; starts = startsOf file; ends = endsOf file })
+        (ap (λ (l : List ℕ). record { labels = l; starts = startsOf file; ends = endsOf file })
         (labels-same (kindsOf file) (packagesOf converted) (packagesOf file) (λ v h. package-kept v (rw (← length-kinds file) h))))
 
     -- ---- there and back again
@@ -190,12 +190,12 @@ there-and-back role to file out out′ bytes ok room =
     let s = convert-sound role to file out ok in
     let sound = s .content in
     let size = accepted role file sound .size in
-    let front : take (lengthOf to (nodesOf file) (linksOf file)) (converting role to file out .out) ≡ convertedBytes to file =
+    let prefix : take (lengthOf to (nodesOf file) (linksOf file)) (converting role to file out .out) ≡ convertedBytes to file =
     ap (λ (o : ConvertOutcome). take (lengthOf to (nodesOf file) (linksOf file)) (o .out)) (convert-accepts role to file out s)
     ∙ take-at (convertedBytes to file) _ _ (converted-length role to file sound) in
     let long : lengthOf (file .edition) (nodesOf (converted role to file sound)) (linksOf (converted role to file sound)) ≡ length (file .bytes) =
     ap₂ (lengthOf (file .edition)) (converted-nodes role to file sound) (converted-links role to file sound) ∙ sym size in
-    ap (λ (b : List ℕ). converting role (file .edition) (inEdition to b) out′) front
+    ap (λ (b : List ℕ). converting role (file .edition) (inEdition to b) out′) prefix
     ∙ convert-accepts role (file .edition) (converted role to file sound) out′
     (record {
       content = converted-accepted role to file sound;

@@ -9,7 +9,7 @@ ghost use Rattle.graph.specs.Search.{distances};
 ghost use Rattle.file_format.specs.Circuit.{Bounded};
 ghost use Rattle.file_format.specs.declared.Role.the-variants as role;
 use file_format::Board;
-use graph_neighbours::tables::LINKS;
+use graph_neighbours::tables::TARGETS;
 use graph_neighbours::tables::OFFSETS;
 use graph_neighbours::tables::neighbour_tables;
 use graph_search::search;
@@ -22,19 +22,19 @@ fn measure(starts: &[u16], ends: &[u16], c: u16, r: u16, dist: &mut [u16])
     ensures { λ _. ⌜ now (dist .exit) ≡ distances (length (now (dist .entry))) (now (starts .entry)) (now (ends .entry)) c r ⌝ }
 {
     let mut offsets = [0u16; OFFSETS];
-    let mut links = [0u16; LINKS];
+    let mut targets = [0u16; TARGETS];
     let mut queue = [0u16; Board::MAX_NODES];
     let n = dist.len();
-    neighbour_tables(n, starts, ends, &mut offsets, &mut links);
-    search(&offsets, &links, c, r, dist, &mut queue[..n]);
+    neighbour_tables(n, starts, ends, &mut offsets, &mut targets);
+    search(&offsets, &targets, c, r, dist, &mut queue[..n]);
 }
 
 // The distances in the ball of radius r around node c of a board, first in `out`.
-pub fn fill_ball(kinds: &[u32], starts: &[u16], ends: &[u16], c: u16, r: u16, out: &mut [u16])
-    requires { ⌜ Bounded role.Board (record { kinds = now kinds; starts = now starts; ends = now ends }) ⌝ }
-    requires { ⌜ (c < length (now kinds)) × (length (now kinds) ≤ length (now out)) ⌝ }
-    ensures { λ _. ⌜ now (out .exit) ≡ distances (length (now (kinds .entry))) (now (starts .entry)) (now (ends .entry)) c r ++ drop (length (now (kinds .entry))) (now (out .entry)) ⌝ }
+pub fn fill_ball(labels: &[u32], starts: &[u16], ends: &[u16], c: u16, r: u16, out: &mut [u16])
+    requires { ⌜ Bounded role.Board (record { labels = now labels; starts = now starts; ends = now ends }) ⌝ }
+    requires { ⌜ (c < length (now labels)) × (length (now labels) ≤ length (now out)) ⌝ }
+    ensures { λ _. ⌜ now (out .exit) ≡ distances (length (now (labels .entry))) (now (starts .entry)) (now (ends .entry)) c r ++ drop (length (now (labels .entry))) (now (out .entry)) ⌝ }
 {
-    let n = kinds.len();
+    let n = labels.len();
     measure(starts, ends, c, r, &mut out[..n]);
 }

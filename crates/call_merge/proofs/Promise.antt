@@ -2,7 +2,7 @@
 -- merged file is an accepted pattern file that holds the merged pattern, and the class bytes are the classes of mutual matching, numbered
 -- by their smallest part. Assumes nothing.
 use Rattle.base_lists.specs.Kit.{_≡_, _∙_, sym, ap, refl, _↔_, true, _&&_, List, [], _∷_, _++_, ℕ, _≤_, _<_, le-antisymm, leb, le→leb, length, take, drop, List·getD-append, take-at, drop-at, arith, eq-eqb, le-ltb}
-use Rattle.base_lists.proofs.Tests.{T-true, both}
+use Rattle.base_lists.proofs.Tests.{T-true, both-true}
 use Rattle.graph.specs.Circuit.{Circuit, circuitGraph}
 use Rattle.simulation.specs.Closed.{Relation}
 use Rattle.simulation.specs.Simulation.{Largest}
@@ -96,7 +96,7 @@ board-verdict {file} a =
     let m = linksOf file in
     let (some, parts, links) = range-orders Pattern n m (a .range) in
     let range : inRange Board n m ≡ true =
-    T-true (both (leb 0 n) (leb n 512 && leb m 4096) (le→leb 0 n (omega arith)) (both (leb n 512) (leb m 4096) (le→leb n 512 (omega arith)) (le→leb m 4096 (omega arith)))) in
+    T-true (both-true (leb 0 n) (leb n 512 && leb m 4096) (le→leb 0 n (omega arith)) (both-true (leb n 512) (leb m 4096) (le→leb n 512 (omega arith)) (le→leb m 4096 (omega arith)))) in
     let below : linksBelow n (startsOf file) (endsOf file) ≡ true = T-true (a .below) in
     let rises : rising (startsOf file) (endsOf file) ≡ true = T-true (a .rises) in
     simp (le-ltb _ _ (a .bytes), range, eq-eqb _ _ (a .size), below, rises)
@@ -163,11 +163,11 @@ module _ (file : CircuitFile) (lent out : List ℕ) where
     classes-size = length-classes (circuitOf file) ∙ length-labels file
 
     -- gives "the class of each part, a byte each, and the merged file",
-    pub classes-front : take (nodesOf file) (merging file lent out .classes) ≡ classes (circuitOf file)
-    classes-front = rw classes-are (take-at _ _ (nodesOf file) classes-size)
+    pub classes-prefix : take (nodesOf file) (merging file lent out .classes) ≡ classes (circuitOf file)
+    classes-prefix = rw classes-are (take-at _ _ (nodesOf file) classes-size)
 
-    pub out-front : take (length (mergedBytes (file .edition) (circuitOf file))) (merging file lent out .out) ≡ mergedBytes (file .edition) (circuitOf file)
-    out-front = rw out-is (take-at _ _ _ refl)
+    pub out-prefix : take (length (mergedBytes (file .edition) (circuitOf file))) (merging file lent out .out) ≡ mergedBytes (file .edition) (circuitOf file)
+    out-prefix = rw out-is (take-at _ _ _ refl)
 
     -- and the bytes behind both keep their content.
     pub classes-rest : drop (nodesOf file) (merging file lent out .classes) ≡ drop (nodesOf file) lent
@@ -179,7 +179,7 @@ module _ (file : CircuitFile) (lent out : List ℕ) where
 
     -- ---- the class bytes
 
-    below-parts : (u : ℕ) → u < nodesOf file → u < length (circuitOf file .kinds)
+    below-parts : (u : ℕ) → u < nodesOf file → u < length (circuitOf file .labels)
     below-parts u h = rw (length-labels file) h
 
     -- each is the class of its part

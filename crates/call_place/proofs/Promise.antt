@@ -178,17 +178,17 @@ module _ (pattern board : CircuitFile) (w r : ℕ) (nodes links table distances 
       distances-size = length-ballDistances B w r ∙ length-labels board
 
       -- the first N node bytes, M link bytes and N sets are the place's, and the first N distances the ball's
-      pub nodes-front : take (nodesOf board) (result .nodes) ≡ placeNodes P B w r
-      nodes-front = rw nodes-are (take-at (placeNodes P B w r) _ (nodesOf board) (nodes-marks P B w r .size ∙ length-labels board))
+      pub nodes-prefix : take (nodesOf board) (result .nodes) ≡ placeNodes P B w r
+      nodes-prefix = rw nodes-are (take-at (placeNodes P B w r) _ (nodesOf board) (nodes-marks P B w r .size ∙ length-labels board))
 
-      pub links-front : take (linksOf board) (result .links) ≡ placeLinks P B w r
-      links-front = rw links-are (take-at (placeLinks P B w r) _ (linksOf board) (links-marks P B w r .size ∙ length-starts board))
+      pub links-prefix : take (linksOf board) (result .links) ≡ placeLinks P B w r
+      links-prefix = rw links-are (take-at (placeLinks P B w r) _ (linksOf board) (links-marks P B w r .size ∙ length-starts board))
 
-      pub table-front : take (nodesOf board) (result .table) ≡ placeTable P B w r
-      table-front = rw table-is (take-at (placeTable P B w r) _ (nodesOf board) (length-table P B w r ∙ length-labels board))
+      pub table-prefix : take (nodesOf board) (result .table) ≡ placeTable P B w r
+      table-prefix = rw table-is (take-at (placeTable P B w r) _ (nodesOf board) (length-table P B w r ∙ length-labels board))
 
-      pub distances-front : take (nodesOf board) (result .distances) ≡ distancesOf B w r
-      distances-front = rw distances-are (take-at (distancesOf B w r) _ (nodesOf board) distances-size)
+      pub distances-prefix : take (nodesOf board) (result .distances) ≡ distancesOf B w r
+      distances-prefix = rw distances-are (take-at (distancesOf B w r) _ (nodesOf board) distances-size)
 
       -- "Accepted calls leave entries past those needed."
       pub nodes-rest : drop (nodesOf board) (result .nodes) ≡ drop (nodesOf board) nodes
@@ -228,8 +228,8 @@ module _ (pattern board : CircuitFile) (w r : ℕ) (nodes links table distances 
 
       -- It is the place: perfect, and it contains every other perfect subgraph.
       pub marked-place : Place (circuitGraph P) (KindsMatch P B) (circuitGraph B) w r marked
-      marked-place = rw (nodes-front, links-front) (place-found admissible w r is-found)
+      marked-place = rw (nodes-prefix, links-prefix) (place-found admissible w r is-found)
 
       -- The table is the largest dual simulation of the pattern in it.
       pub marked-largest : Largest (circuitGraph P) (KindsMatch P B) marked (InTable (take (nodesOf board) (result .table)))
-      marked-largest = rw (nodes-front, links-front, table-front) (place-table admissible w r is-found)
+      marked-largest = rw (nodes-prefix, links-prefix, table-prefix) (place-table admissible w r is-found)

@@ -50,5 +50,5 @@ radiusFor (Given r) own = r
 -- the call on two circuits that were read, at a radius
 unfoldable pub placeOn : ℕ → Circuit → Circuit → ℕ → List ℕ → List ℕ → List ℕ → List ℕ → PlaceOutcome
 placeOn r pattern board w nodes links table distances =
-    let own = placeConditions (length (board .kinds)) (length (board .starts)) w (length nodes) (length links) (length table) (length distances) in
+    let own = placeConditions (length (board .labels)) (length (board .starts)) w (length nodes) (length links) (length table) (length distances) in
     decided (first own) nodes links table distances (placeAround pattern board w r nodes links table distances)

@@ -25,8 +25,8 @@ refusalPiece x from found =
     cond (eqb from 0) (record { text = refusalLine x; next = 1; found = found }) (record { text = []; next = from; found = found })
 
 -- whether a file is refused; "the pattern's 1 to 6 before the board's"
-abbrev pub verdictOf : CircuitFile → CircuitFile → Verdict
-verdictOf pattern board = first (pairConditions Pattern pattern board)
+abbrev pub filesVerdict : CircuitFile → CircuitFile → Verdict
+filesVerdict pattern board = first (pairConditions Pattern pattern board)
 
 -- the piece of two files, by that
 unfoldable pub pieceFor : Verdict → Circuit → Circuit → ℕ → ℕ → ℕ → Piece
@@ -34,7 +34,7 @@ pieceFor accept pattern board from found room = linesPiece pattern board from fo
 pieceFor (refuse x) pattern board from found room = refusalPiece x from found
 
 unfoldable pub pieceOf : CircuitFile → CircuitFile → ℕ → ℕ → ℕ → Piece
-pieceOf pattern board from found room = pieceFor (verdictOf pattern board) (circuitOf pattern) (circuitOf board) from found room
+pieceOf pattern board from found room = pieceFor (filesVerdict pattern board) (circuitOf pattern) (circuitOf board) from found room
 
 -- ---- the call
 
@@ -68,4 +68,4 @@ outcomeBy (told.Refused x) from found out = outcomeFor longestRefusal (refusalPi
 -- lines the room needed is a bound, as merging needs the first pattern's file length: 8 is then known without matching, and what does for
 -- one piece does for every later one, so that no report is refused half-way. Bytes after the piece keep their content.
 unfoldable pub reporting : CircuitFile → CircuitFile → ℕ → ℕ → List ℕ → ReportOutcome
-reporting pattern board from found out = outcomeFor (needFor (verdictOf pattern board)) (pieceOf pattern board from found (length out)) out
+reporting pattern board from found out = outcomeFor (needFor (filesVerdict pattern board)) (pieceOf pattern board from found (length out)) out

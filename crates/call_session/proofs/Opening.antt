@@ -8,7 +8,7 @@ use Rattle.graph.specs.Search.{far}
 use Rattle.graph.proofs.Chosen.{chosen-all}
 use Rattle.file_format.specs.Circuit.{Bounded}
 use Rattle.file_format.specs.Layout.{CircuitFile}
-use Rattle.file_format.specs.Reading.{front}
+use Rattle.file_format.specs.Reading.{prefix}
 use Rattle.file_format.specs.Refusals.{refuse, first}
 use Rattle.file_format.specs.declared.Refusal.{Refusal}
 use Rattle.file_format.specs.declared.Role.the-variants as role
@@ -21,7 +21,7 @@ use Rattle.table.specs.Row.{lastTable}
 use Rattle.session.specs.Machine.{Machine, fresh, boardLeft}
 use Rattle.session.specs.State.{State, state, Linked, Holds, endLeft}
 use Rattle.session.proofs.Left.{fresh-inside, fresh-left}
-use Rattle.session_open.specs.Open.{padded, Numbered, Ended, Fixed}
+use Rattle.session_open.specs.Open.{padded, LinksNumbered, Ended, Fixed}
 use Rattle.call_session.specs.declared.OpenAnswer.the-variants as answer
 use Rattle.call_session.specs.Call.{openVerdict, openState, OpenPromise}
 
@@ -68,7 +68,7 @@ module _ (pattern board : Circuit) (b : Bounded role.Board board) where
   board-fresh = chosen-all board _ (b .parallel) (fresh-inside pattern board)
 
   linked-fresh :
-      {before held offsets numbers stored : List ℕ} → Numbered (length (board .kinds)) (board .starts) (board .ends) before held offsets numbers → Ended (board .starts) (board .ends) stored →
+      {before held offsets numbers stored : List ℕ} → LinksNumbered (length (board .labels)) (board .starts) (board .ends) before held offsets numbers → Ended (board .starts) (board .ends) stored →
       Linked m offsets numbers stored
   unfolding fresh
   linked-fresh numbered ended =
@@ -80,9 +80,9 @@ module _ (pattern board : Circuit) (b : Bounded role.Board board) where
       }
 
   -- So these tables hold a fresh machine, and are those that opening is to fill.
-  module _ (p : Bounded role.Pattern pattern) {fixed offsets numbers stored table : List ℕ} (s : State) {parts nodes : ℕ} (ep : parts ≡ length (pattern .kinds))
-      (en : nodes ≡ length (board .kinds)) (stays : Fixed (pattern .starts) (pattern .ends) parts nodes fixed)
-      (numbered : Numbered nodes (board .starts) (board .ends) (s .offsets) (s .numbers) offsets numbers) (ended : Ended (board .starts) (board .ends) stored)
+  module _ (p : Bounded role.Pattern pattern) {fixed offsets numbers stored table : List ℕ} (s : State) {parts nodes : ℕ} (ep : parts ≡ length (pattern .labels))
+      (en : nodes ≡ length (board .labels)) (stays : Fixed (pattern .starts) (pattern .ends) parts nodes fixed)
+      (numbered : LinksNumbered nodes (board .starts) (board .ends) (s .offsets) (s .numbers) offsets numbers) (ended : Ended (board .starts) (board .ends) stored)
       (last : table ≡ lastTable pattern board (everything board)) (long : length table ≡ nodes) where
     pub fresh-holds : Holds m (state fixed offsets numbers stored (table ++ drop nodes (s .sets)))
     unfolding fresh
@@ -109,8 +109,8 @@ module _ (pattern board : Circuit) (b : Bounded role.Board board) where
 -- what the pattern's links need of it
 pub pattern-below : {c : Circuit} → Bounded role.Pattern c → Below 32 (c .starts) × Below 32 (c .ends)
 pattern-below {c} b = (
-  all-below 32 (c .starts) (all-below-wider (length (c .kinds)) 32 (c .starts) (b .nodes) (bounded-starts b)),
-  all-below 32 (c .ends) (all-below-wider (length (c .kinds)) 32 (c .ends) (b .nodes) (bounded-ends b)),
+  all-below 32 (c .starts) (all-below-wider (length (c .labels)) 32 (c .starts) (b .nodes) (bounded-starts b)),
+  all-below 32 (c .ends) (all-below-wider (length (c .labels)) 32 (c .ends) (b .nodes) (bounded-ends b)),
 )
 
 -- ---- the two answers
@@ -122,8 +122,8 @@ module _ {pattern board : CircuitFile} {before : State} where
 
   pub open-held :
       {read : Pair} {parts nodes : Circuit} → BothRead role.AnyPattern pattern board read parts nodes → {after : State} →
-      Holds (fresh (front (read .parts) (read .joins) parts) (front (read .nodes) (read .links) nodes)) after →
-      after ≡ openState (front (read .parts) (read .joins) parts) (front (read .nodes) (read .links) nodes) before → OpenPromise pattern board before (openVerdict answer.Open) after
+      Holds (fresh (prefix (read .parts) (read .joins) parts) (prefix (read .nodes) (read .links) nodes)) after →
+      after ≡ openState (prefix (read .parts) (read .joins) parts) (prefix (read .nodes) (read .links) nodes) before → OpenPromise pattern board before (openVerdict answer.Open) after
   unfolding openVerdict
   open-held both h e =
       record {

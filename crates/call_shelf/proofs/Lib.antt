@@ -1,6 +1,6 @@
 pub mod CompareAnswer
 pub mod CompareFiles
 pub mod Cutting
+pub mod Inserting
 pub mod Meaning
-pub mod Placing
 pub mod Text

@@ -64,7 +64,7 @@ ask-14 =
           Iff·trans (bars-iff (circuitOf pattern) (circuitOf board) (accepted-bounded a .nodes) (accepted-within b) w r marks)
           (bars-radius (circuitOf pattern) (circuitOf board) w r is (ChosenLink (circuitOf pattern) marks));
       bytes = λ pattern board w out ok r is.
-          call.bytes-front pattern board w out ok
+          call.bytes-prefix pattern board w out ok
           ∙ ap (λ (k : ℕ). least (circuitOf pattern) (circuitOf board) w k) (radius-unique (accepted-radius (call.pattern-accepted pattern board w out ok)) is);
       rest = λ pattern board w out. rest-by pattern board w out (barCall pattern board w out .reply .verdict) refl;
       kept = call.values-are;

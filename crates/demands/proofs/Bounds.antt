@@ -10,9 +10,9 @@ use Rattle.file_format.proofs.Fields.{length-labels}
 use Rattle.file_format.proofs.Refusals.{accepted-verdict}
 use Rattle.table.specs.declared.Counts.{Counts}
 use Rattle.table.specs.Row.{InTable}
-use Rattle.file_bounds.specs.Third.{frontOf, boundsOf, thirdConditions}
+use Rattle.file_bounds.specs.Third.{beforeBounds, boundsOf, thirdConditions}
 use Rattle.file_bounds.proofs.Fit.{at-fit}
-use Rattle.file_bounds.proofs.Third.{third-accepted, third-long, front-verdicts}
+use Rattle.file_bounds.proofs.Third.{third-accepted, third-long, prefix-verdicts}
 use Rattle.bounded.specs.Run.{BoundedSets, BoundedRun}
 use Rattle.bounded.proofs.Run.{bounded-run, bounded-found, bounded-missing}
 use Rattle.bounded.specs.Problem.{boundedTable}
@@ -29,7 +29,7 @@ read pattern e = record { long = third-long pattern e; drawn = third-accepted pa
 
 taken : (pattern : List ℕ) → ThirdEdition pattern → first (thirdConditions pattern) ≡ accept
 taken pattern t =
-    front-verdicts pattern (t .long) (true-T (at-fit (boundsOf pattern) (λ i h. (t .bounds .inside .some i h, t .bounds .inside .most i h)))) ∙ accepted-verdict (t .drawn)
+    prefix-verdicts pattern (t .long) (true-T (at-fit (boundsOf pattern) (λ i h. (t .bounds .inside .some i h, t .bounds .inside .most i h)))) ∙ accepted-verdict (t .drawn)
 
 -- ---- the table and the counts
 
@@ -45,27 +45,27 @@ ask-12 =
     record {
       reads = λ pattern. (read pattern, taken pattern);
       matches = λ pattern board table t b room.
-          let P = circuitOf (frontOf pattern) in
+          let P = circuitOf (beforeBounds pattern) in
           let B = circuitOf board in
           let bounds = boundsOf pattern in
           let ok = call.accepts pattern board table (taken pattern t) b room in
           let counted = call.counts-are pattern board table ok in
-          let front = call.front-is pattern board table ok in
+          let prefix = call.prefix-is pattern board table ok in
           let (run, ends) = run-by P bounds B _ counted (bounded-run P bounds B (call.parts-most pattern board table ok) (t .bounds)) in
           record {
             accepted = ok;
-            largest = call.front-largest pattern board table ok;
+            largest = call.prefix-largest pattern board table ok;
             run = run;
             kept = call.counts-ones pattern board table ok;
             struck = omega (arith, call.counts-sum pattern board table ok);
-            found = λ all. front ∙ bounded-found P bounds B (λ u h. rw ends at (all u (rw (length-labels (frontOf pattern)) at h))) ∙ sym ends;
-            missing = λ u h none. front ∙ bounded-missing P bounds B u (rw (length-labels (frontOf pattern)) h) (λ v m. none v (rw ends m)) ∙ rw (length-labels board) (sym (replicate-tabulate (nodesOf board)));
+            found = λ all. prefix ∙ bounded-found P bounds B (λ u h. rw ends at (all u (rw (length-labels (beforeBounds pattern)) at h))) ∙ sym ends;
+            missing = λ u h none. prefix ∙ bounded-missing P bounds B u (rw (length-labels (beforeBounds pattern)) h) (λ v m. none v (rw ends m)) ∙ rw (length-labels board) (sym (replicate-tabulate (nodesOf board)));
             rest = call.rest-is pattern board table ok;
           };
       second = call.ones-second;
       raised = λ pattern pattern′ board table table′ same r ok ok′ u v m.
-          let more = raised-more (circuitOf (frontOf pattern)) (circuitOf board) (call.bounds-each pattern board table ok) r (call.parts-most pattern board table ok) u v in
-          let back = subst (λ (t : List ℕ). InTable t u v) (call.front-is pattern board table ok) m in
+          let more = raised-more (circuitOf (beforeBounds pattern)) (circuitOf board) (call.bounds-each pattern board table ok) r (call.parts-most pattern board table ok) u v in
+          let back = subst (λ (t : List ℕ). InTable t u v) (call.prefix-is pattern board table ok) m in
           let there = subst (λ (f : CircuitFile). InTable (boundedTable (circuitOf f) (boundsOf pattern′) (circuitOf board)) u v) same (more back) in
-          subst (λ (t : List ℕ). InTable t u v) (sym (call.front-is pattern′ board table′ ok′)) there;
+          subst (λ (t : List ℕ). InTable t u v) (sym (call.prefix-is pattern′ board table′ ok′)) there;
     }

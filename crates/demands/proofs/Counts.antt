@@ -56,7 +56,7 @@ module _ (pattern host : Circuit) (taken : List ℕ) {H : Graph} (same : SameGra
   both-is k u v = Iff·trans (set-is bothWays pattern host taken same k u v) (sets-both (circuitGraph pattern) (KindsMatch pattern host) H k u v)
 
 -- sets that the tables of the row hold
-module _ (ways : List Direction) (pattern host : Circuit) (taken : List ℕ) (most : length (pattern .kinds) ≤ 32) {R : ℕ → Relation}
+module _ (ways : List Direction) (pattern host : Circuit) (taken : List ℕ) (most : length (pattern .labels) ≤ 32) {R : ℕ → Relation}
     (is : (k u v : ℕ) → InTable (rowBy ways pattern host taken k) u v ↔ R k u v) where
   -- a set that the next one has whole is the next one
   repeats : (k : ℕ) → R k ⊆ R (suc k) → rowBy ways pattern host taken (suc k) ≡ rowBy ways pattern host taken k
@@ -85,7 +85,7 @@ module _ (ways : List Direction) (pattern host : Circuit) (taken : List ℕ) (mo
         last _ (le-of-eq (sym r)),
       )
 
-module _ (pattern host : Circuit) (taken : List ℕ) (most : length (pattern .kinds) ≤ 32) {H : Graph} (same : SameGraph (hostGraph host taken) H) where
+module _ (pattern host : Circuit) (taken : List ℕ) (most : length (pattern .labels) ≤ 32) {H : Graph} (same : SameGraph (hostGraph host taken) H) where
   -- along both directions the four counts are those of the row, and its last set is the last table
   pub row-counts :
       {counts : Counts} → counts ≡ countsOf pattern host taken →

@@ -1,7 +1,7 @@
 -- Each call is decided by its conditions, and a refusal leaves every lent table as it was. Assumes nothing.
 use Rattle.base_lists.specs.Kit.{_≡_, _∙_, sym, ap, refl, _↔_, ⊎-elim, Bool, false, true, cond, _&&_, not, List, [], _∷_, _++_, ℕ, le-of-eq, ltb, length, arith}
 use Rattle.base_lists.specs.List.{all}
-use Rattle.base_lists.proofs.Tests.{both, both-left, both-right}
+use Rattle.base_lists.proofs.Tests.{both-true, both-left, both-right}
 use Rattle.base_lists.proofs.Entries.{all-below, below-all}
 use Rattle.graph.specs.Circuit.{Circuit}
 use Rattle.graph.proofs.Distance.{connected-iff, radius-is}
@@ -22,13 +22,13 @@ use Rattle.file_format.proofs.Refusals.{accepted, accepted-verdict, accept-not-
 use Rattle.file_format.proofs.Rising.{rising-links, rise-test}
 use Rattle.table.specs.declared.Counts.{Counts}
 use Rattle.table.specs.Fill.{listed}
-use Rattle.table.specs.Reply.{noCounts, replied}
+use Rattle.table.specs.Reply.{noCounts, countsReply}
 use Rattle.table.proofs.Reply.{replied-verdict}
 use Rattle.place.specs.Match.{found}
 use Rattle.place.specs.Outcome.{placeVerdict}
 use Rattle.file_write.specs.Writing.{writing}
 use Rattle.call_convert.specs.Call.{converting}
-use Rattle.call_load.specs.Call.{loading}
+use Rattle.call_test_board.specs.Call.{makingTestBoard}
 use Rattle.call_distance.specs.Calls.{radiusCall, ballCall}
 use Rattle.call_match.specs.Call.{matchingBy}
 use Rattle.call_bounded.specs.Call.{boundedMatching}
@@ -41,7 +41,7 @@ use Rattle.order.specs.declared.Order.{Order}
 use Rattle.order.specs.Files.{secondEdition, compareFiles}
 use Rattle.call_shelf.specs.Compare.{comparedBy, comparing, compareReply}
 use Rattle.call_shelf.specs.Shelf.{shelvingOf, shelving}
-use Rattle.call_report.specs.Call.{reporting, needFor, verdictOf, outcomeFor}
+use Rattle.call_report.specs.Call.{reporting, needFor, filesVerdict, outcomeFor}
 use Rattle.session.specs.Machine.{Machine, fresh, isLeft, cutReply, machineAfter}
 use Rattle.session.specs.Session.{CutPromise, ReadPromise}
 use Rattle.session.specs.State.{State, Holds}
@@ -71,8 +71,8 @@ pub no-values : {v : Verdict} {x : Refusal} (values : List ℕ) → v ≡ refuse
 unfolding reply
 no-values values e = rw e
 
-no-counts : {v : Verdict} {x : Refusal} (counts : Counts) → v ≡ refuse x → replied v counts .counts ≡ noCounts
-unfolding replied
+no-counts : {v : Verdict} {x : Refusal} (counts : Counts) → v ≡ refuse x → countsReply v counts .counts ≡ noCounts
+unfolding countsReply
 no-counts counts e = rw e
 
 -- a refused call keeps what was lent
@@ -179,9 +179,9 @@ module _ (pattern board : CircuitFile) (places : List ℕ) (s : State) (running 
       let e = p .machine m holds .0 ∙ ap (λ (b : Bool). first (linkGone b ∷ [])) (is-left place) in
       by-first (number.fourteen (ltb place (linksOf board) && not (listed places place)), tt) e (λ x r. p .refused x (e ∙ r))
 
-  nodes-are : length (m .board .kinds) ≡ nodesOf board
+  nodes-are : length (m .board .labels) ≡ nodesOf board
   unfolding fresh
-  nodes-are = ap (λ (c : Circuit). length (c .kinds)) (after-same places (fresh (circuitOf pattern) (circuitOf board)) .1) ∙ length-labels board
+  nodes-are = ap (λ (c : Circuit). length (c .labels)) (after-same places (fresh (circuitOf pattern) (circuitOf board)) .1) ∙ length-labels board
 
   tables :
       (lent later : List ℕ) (answer : Reply) → ReadPromise s lent answer later →
@@ -208,7 +208,7 @@ reads-accepted role file f =
 -- ---- each call, in the order of specs/Demands
 
 pub decided-1 : Demand1
-unfolding reading Unread writing converting loading radiusCall ballCall matchingBy boundedMatching checkCall merging comparing shelving shelvingOf reporting outcomeFor linksBelow
+unfolding reading Unread writing converting makingTestBoard radiusCall ballCall matchingBy boundedMatching checkCall merging comparing shelving shelvingOf reporting outcomeFor linksBelow
 decided-1 =
     record {
       reads = λ role file kinds packages starts ends.
@@ -232,11 +232,11 @@ decided-1 =
       merges = λ pattern classes out.
           by-first (merge-numbered pattern (length classes) (length out)) (reply-verdict _ _) (λ x e. (no-values _ e, (keeps _ classes e, keeps _ out e)));
       compares = λ a b.
-          let both = compared-by (fileConditions Pattern (secondEdition a)) (fileConditions Pattern (secondEdition b)) (compareFiles a b) in
-          by-first (file-then Pattern (secondEdition a) _ (file-numbered Pattern (secondEdition b))) (both .0) (both .1);
+          let both-true = compared-by (fileConditions Pattern (secondEdition a)) (fileConditions Pattern (secondEdition b)) (compareFiles a b) in
+          by-first (file-then Pattern (secondEdition a) _ (file-numbered Pattern (secondEdition b))) (both-true .0) (both-true .1);
       shelves = λ bytes lengths order. by-first (short-numbered _ (length order)) (reply-verdict _ _) (λ x e. (no-values _ e, keeps _ order e));
       reports = λ pattern board from before out.
-          by-first (short-numbered (needFor (verdictOf pattern board)) (length out)) (reply-verdict _ _) (λ x e. (no-values _ e, keeps _ out e));
+          by-first (short-numbered (needFor (filesVerdict pattern board)) (length out)) (reply-verdict _ _) (λ x e. (no-values _ e, keeps _ out e));
       opens = λ pattern board before after said p. by-first (pair-numbered AnyPattern pattern board) (p .replied) (λ x e. p .refused x (p .replied ∙ e));
       cuts = λ pattern board places s after place said running. cuts pattern board places s running after place said;
       tables = λ pattern board places s lent later answer running. tables pattern board places s running lent later answer;
@@ -245,7 +245,7 @@ decided-1 =
           let s = all (λ v. ltb v n) starts in
           let e = all (λ v. ltb v n) ends in (
             λ t. (all-below n starts (both-left s e t), all-below n ends (both-right s e t)),
-            λ (a, b). both s e (below-all n starts a) (below-all n ends b),
+            λ (a, b). both-true s e (below-all n starts a) (below-all n ends b),
           );
       rises = λ starts ends. (rising-links starts ends, rise-test starts ends);
       joins = λ n starts ends t. connected-iff (links-within n starts ends t);

@@ -38,7 +38,7 @@ use Rattle.file_write.proofs.RoundTrip.{written-reads, read-writes}
 use Rattle.call_match.specs.Call.{matchingBy}
 use Rattle.call_match.proofs.Promise as match-call
 use Rattle.call_place.specs.Call.{inputConditions}
-use Rattle.call_place.proofs.Promise.{counts-are, accept-or-nine, nine-iff, marked-place, nodes-front, links-front}
+use Rattle.call_place.proofs.Promise.{counts-are, accept-or-nine, nine-iff, marked-place, nodes-prefix, links-prefix}
 use Rattle.call_merge.specs.Call.{merging}
 use Rattle.call_merge.proofs.Promise as merge-call
 use Rattle.demands.specs.Demands.{Lent, Enough, placed, placedOwn, graph, Demand1, Matched, Demand2, nine, FoundAt, Demand3}
@@ -71,7 +71,7 @@ matched-by ways pattern board table a b room is largest =
     let counted = match-call.counts-are ways pattern board table ok in
     let begun = ap (λ (c : Counts). c .started) counted in
     let rounds = ap (λ (c : Counts). c .rounds) counted in
-    let front = match-call.front-is ways pattern board table ok in
+    let prefix = match-call.prefix-is ways pattern board table ok in
     let (run, ends) = row-run ways P B (everything B) (accepted-bounded a .nodes) is begun rounds in
     record {
       accepted = ok;
@@ -79,8 +79,8 @@ matched-by ways pattern board table a b room is largest =
       run = run;
       kept = match-call.counts-ones ways pattern board table ok;
       struck = match-call.counts-struck ways pattern board table ok;
-      found = λ all. front ∙ sym (answer-found ways P B (everything B) (λ u h. rw ends at (all u (rw (length-labels pattern) at h))) .last) ∙ sym ends;
-      missing = λ u h none. front ∙ sym (answer-missing ways P B (everything B) u (rw (length-labels pattern) h) (λ v m. none v (rw ends m)) .last) ∙ rw (length-labels board) (sym (replicate-tabulate (nodesOf board)));
+      found = λ all. prefix ∙ sym (answer-found ways P B (everything B) (λ u h. rw ends at (all u (rw (length-labels pattern) at h))) .last) ∙ sym ends;
+      missing = λ u h none. prefix ∙ sym (answer-missing ways P B (everything B) u (rw (length-labels pattern) h) (λ v m. none v (rw ends m)) .last) ∙ rw (length-labels board) (sym (replicate-tabulate (nodesOf board)));
       rest = match-call.rest-is ways pattern board table ok;
     }
 
@@ -114,7 +114,7 @@ demand-2 =
     record {
       table = λ pattern board table a b room.
           matched-by bothWays pattern board table a b room (both-is (circuitOf pattern) (circuitOf board) (everything (circuitOf board)) (whole b))
-          (along-dual (match-call.front-along bothWays pattern board table (match-call.accepts bothWays pattern board table a b room)));
+          (along-dual (match-call.prefix-along bothWays pattern board table (match-call.accepts bothWays pattern board table a b room)));
       connected = λ pattern board table c b room.
           let P = circuitOf pattern in
           let B = circuitOf board in
@@ -122,7 +122,7 @@ demand-2 =
           let most = accepted-bounded c .nodes in
           let plain = answer-connected P B (everything B) most (accepted-connected c) in
           let (counts, last) = row-counts P B (everything B) most (whole b) (match-call.counts-are bothWays pattern board table ok ∙ sym (plain .counted)) in
-          (counts, match-call.front-connected pattern board table c ok ∙ sym last);
+          (counts, match-call.prefix-connected pattern board table c ok ∙ sym last);
       ball = λ pattern board w r lent x.
           row-counts (circuitOf pattern) (circuitOf board) (ballOf (circuitOf board) w r) (accepted-bounded (x .drawn) .nodes)
           (ball-host (accepted-admissible (x .drawn) (x .given)) w r)
@@ -166,8 +166,8 @@ found-at pattern board w r lent sound =
       accepted = λ other. ⊎-elim (λ ok. ok) (λ e. absurd (other e)) (accept-or-nine pattern board w r (lent .nodes) (lent .links) (lent .table) (lent .distances) sound);
       place = marked-place pattern board w r (lent .nodes) (lent .links) (lent .table) (lent .distances) sound;
       bytes = λ ok. (
-        rw (nodes-front pattern board w r (lent .nodes) (lent .links) (lent .table) (lent .distances) sound ok) (marks-below (nodes-marks (circuitOf pattern) (circuitOf board) w r)),
-        rw (links-front pattern board w r (lent .nodes) (lent .links) (lent .table) (lent .distances) sound ok) (marks-below (links-marks (circuitOf pattern) (circuitOf board) w r)),
+        rw (nodes-prefix pattern board w r (lent .nodes) (lent .links) (lent .table) (lent .distances) sound ok) (marks-below (nodes-marks (circuitOf pattern) (circuitOf board) w r)),
+        rw (links-prefix pattern board w r (lent .nodes) (lent .links) (lent .table) (lent .distances) sound ok) (marks-below (links-marks (circuitOf pattern) (circuitOf board) w r)),
       );
     }
 

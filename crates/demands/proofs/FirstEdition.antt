@@ -18,7 +18,7 @@ use Rattle.demands.specs.FirstEdition.{circuitBefore, fileBefore, readin
 -- ---- what a file holds
 
 module _ (file : List ℕ) where
-  kinds-before : labelsOf (firstEdition file) ≡ circuitBefore file .kinds
+  kinds-before : labelsOf (firstEdition file) ≡ circuitBefore file .labels
   unfolding circuitBefore kindsOf nodesOf
   kinds-before = first-labels file
 
@@ -81,7 +81,7 @@ module _ (role : Role) (kinds packages starts ends : List ℕ) where
   unfolding circuitConditions packagesGiven
   circuit-before = rw (and-true (eqb (length starts) (length ends)))
 
-  writes-before : (out : List ℕ) → writing role First kinds packages starts ends out ≡ writingBefore role (record { kinds = kinds; starts = starts; ends = ends }) out
+  writes-before : (out : List ℕ) → writing role First kinds packages starts ends out ≡ writingBefore role (record { labels = kinds; starts = starts; ends = ends }) out
   unfolding writing writingBefore writeConditions bytesBefore stretchBytes
   writes-before out = rw (circuit-before, first-length (length kinds) (length starts))
 

@@ -72,10 +72,10 @@ module _ {pattern : CircuitFile} (a : Accepted Pattern pattern) where
   content : PatternContent (circuitOf pattern)
   content = accepted-content a
 
-  part-below : (u : ℕ) → u < nodesOf pattern → u < length (circuitOf pattern .kinds)
+  part-below : (u : ℕ) → u < nodesOf pattern → u < length (circuitOf pattern .labels)
   part-below u h = rw (length-labels pattern) h
 
-  below-part : (u : ℕ) → u < length (circuitOf pattern .kinds) → u < nodesOf pattern
+  below-part : (u : ℕ) → u < length (circuitOf pattern .labels) → u < nodesOf pattern
   below-part u h = rw (← length-labels pattern) h
 
   module _ {group : ℕ → ℕ} {k : ℕ} (g : Groups pattern group k) where
@@ -92,7 +92,7 @@ module _ {pattern : CircuitFile} (a : Accepted Pattern pattern) where
         record {
           accepted = grouped-accepted;
           quotient = rw grouped-circuit (grouped-graph content g);
-          kinds = λ u h. ap (λ (q : Circuit). getD (q .kinds) (group u) 0) grouped-circuit ∙ grouped-kind content g u (part-below u h);
+          kinds = λ u h. ap (λ (q : Circuit). getD (q .labels) (group u) 0) grouped-circuit ∙ grouped-kind content g u (part-below u h);
         }
 
   -- ---- nothing more could be joined
@@ -119,7 +119,7 @@ module _ {pattern : CircuitFile} (a : Accepted Pattern pattern) where
     unfolding replied
     replied-is = ap (λ (xs : List ℕ). getD xs 0 0) (merge-call.values-are pattern classes out ok)
 
-    byte-is : (u : ℕ) → u < length (circuitOf pattern .kinds) → classByte pattern classes out u ≡ classOf (circuitOf pattern) u
+    byte-is : (u : ℕ) → u < length (circuitOf pattern .labels) → classByte pattern classes out u ≡ classOf (circuitOf pattern) u
     byte-is u h = merge-call.byte-is pattern classes out ok u (below-part u h)
 
     our-groups : Groups pattern (classByte pattern classes out) (replied pattern classes out)

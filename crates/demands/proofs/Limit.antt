@@ -1,6 +1,6 @@
 -- Ask 5 holds: the limit on a pattern's radius. Assumes nothing.
 use Rattle.base_lists.specs.Kit.{_≡_, _∙_, sym, ap, refl, subst₂, _↔_, Bool, false, true, cond, List, [], _∷_, _++_, ℕ, _≤_, _<_, ltb, length, arith}
-use Rattle.base_lists.proofs.Tests.{refuted}
+use Rattle.base_lists.proofs.Tests.{not-true-false}
 use Rattle.base_text.specs.Text.{bytes, digits, decimal}
 use Rattle.graph.specs.Circuit.{graphOf}
 use Rattle.graph.specs.Graph.{Radius}
@@ -65,9 +65,9 @@ module _ (e : Edition) (kinds packages starts ends : List ℕ) where
       let h4 = first-holds _ _ (h3 .1) in
       let h5 = first-holds _ _ (h4 .1) in
       let h6 = first-holds _ _ (h5 .1) in
-      let some = range-orders Pattern n (length starts) (refuted (inRange Pattern n (length starts)) (h2 .0)) .0 in
-      let below = refuted (linksBelow n starts ends) (h4 .0) in
-      radius-is (links-within n starts ends below) some (refuted (connected n starts ends) (h6 .0))
+      let some = range-orders Pattern n (length starts) (not-true-false (inRange Pattern n (length starts)) (h2 .0)) .0 in
+      let below = not-true-false (linksBelow n starts ends) (h4 .0) in
+      radius-is (links-within n starts ends below) some (not-true-false (connected n starts ends) (h6 .0))
 
   -- where a list of conditions, and then 8, come to 11, it is the list that does
   by-circuit : (out : List ℕ) → first (writeConditions Pattern e kinds packages starts ends (length out)) ≡ refuse eleven → first (circuitConditions Pattern e kinds packages starts ends) ≡ refuse eleven

@@ -14,7 +14,7 @@ ask-8 =
     record {
       along = λ ways pattern board table a b room.
           matched-by ways pattern board table a b room (set-is ways (circuitOf pattern) (circuitOf board) (everything (circuitOf board)) (whole b))
-          (match-call.front-along ways pattern board table (match-call.accepts ways pattern board table a b room));
+          (match-call.prefix-along ways pattern board table (match-call.accepts ways pattern board table a b room));
       twoWays = λ pattern board S m. along-dual m;
       oneWays = λ pattern board S m. along-graph m;
       refusals = λ pattern board table. match-call.verdict-is oneWay pattern board table ∙ sym (match-call.verdict-is bothWays pattern board table);

@@ -54,11 +54,11 @@ ask-6 =
           let s = convert-sound role to file out ok in
           let o = convert-accepts role to file out s in
           let size : getD (converting role to file out .reply .values) 0 0 ≡ lengthOf to (nodesOf file) (linksOf file) = ap (λ (o : ConvertOutcome). getD (o .reply .values) 0 0) o in
-          let front : take (lengthOf to (nodesOf file) (linksOf file)) (converting role to file out .out) ≡ convertedBytes to file =
+          let prefix : take (lengthOf to (nodesOf file) (linksOf file)) (converting role to file out .out) ≡ convertedBytes to file =
           ap (λ (o : ConvertOutcome). take (lengthOf to (nodesOf file) (linksOf file)) (o .out)) o
           ∙ take-at (convertedBytes to file) _ _ (converted-length role to file (s .content)) in
           rw size (
-            ap (λ (b : List ℕ). circuitOf (inEdition to b)) front ∙ converted-circuit role to file (s .content) (s .kept),
+            ap (λ (b : List ℕ). circuitOf (inEdition to b)) prefix ∙ converted-circuit role to file (s .content) (s .kept),
             ap (λ (o : ConvertOutcome). take (length (file .bytes)) (o .out)) (there-and-back role to file out out′ (below-all 256 (file .bytes) bytes) ok room)
                 ∙ take-at (file .bytes) _ (length (file .bytes)) refl,
           );

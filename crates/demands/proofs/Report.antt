@@ -11,9 +11,9 @@ use Rattle.file_format.proofs.Fields.{length-labels}
 use Rattle.file_pair.specs.Pair.{pairConditions}
 use Rattle.place.specs.Match.{radiusOf, found}
 use Rattle.place.specs.Outcome.{PlaceOutcome, placeVerdict}
-use Rattle.call_place.proofs.Promise.{verdict-is, found-verdict, none-verdict, nodes-front, links-front}
+use Rattle.call_place.proofs.Promise.{verdict-is, found-verdict, none-verdict, nodes-prefix, links-prefix}
 use Rattle.report.specs.Report.{nodeItems, linkItems, placeLine, hasPlace, centreLine, endLine, refusalLine, linesOf, reportFor, reportOf}
-use Rattle.call_report.specs.Call.{verdictOf}
+use Rattle.call_report.specs.Call.{filesVerdict}
 use Rattle.call_report.proofs.Promise.{items-few, report-whole}
 use Rattle.demands.specs.Demands.{Lent, Ready, placed, placedOwn, nine}
 use Rattle.demands.specs.Report.{Reported}
@@ -35,8 +35,8 @@ module _ (pattern board : CircuitFile) (w : ℕ) (lent : Lent) (x : Ready patter
   line-place e =
       let is-found = found-verdict (circuitOf pattern) (circuitOf board) w r (sym (verdict-is pattern board w r (lent .nodes) (lent .links) (lent .table) (lent .distances) (ready-sound x)) ∙ e) in
       rw (
-        nodes-front pattern board w r (lent .nodes) (lent .links) (lent .table) (lent .distances) (ready-sound x) e,
-        links-front pattern board w r (lent .nodes) (lent .links) (lent .table) (lent .distances) (ready-sound x) e,
+        nodes-prefix pattern board w r (lent .nodes) (lent .links) (lent .table) (lent .distances) (ready-sound x) e,
+        links-prefix pattern board w r (lent .nodes) (lent .links) (lent .table) (lent .distances) (ready-sound x) e,
         T-true {b = found (circuitOf pattern) (circuitOf board) w r} is-found,
       )
 
@@ -57,11 +57,11 @@ module _ (pattern board : CircuitFile) (w : ℕ) (lent : Lent) (x : Ready patter
 
 -- by whether a file is refused
 module _ (pattern board : CircuitFile) where
-  one-line : (x : Refusal) → verdictOf pattern board ≡ refuse x → reportOf pattern board ≡ refusalLine x
+  one-line : (x : Refusal) → filesVerdict pattern board ≡ refuse x → reportOf pattern board ≡ refusalLine x
   unfolding reportOf reportFor pairConditions
   one-line x e = rw e
 
-  all-lines : verdictOf pattern board ≡ accept → let P = circuitOf pattern in let B = circuitOf board in
+  all-lines : filesVerdict pattern board ≡ accept → let P = circuitOf pattern in let B = circuitOf board in
       reportOf pattern board ≡ concatBelow (nodesOf board) (centreLine P B) ++ endLine (countBelow (nodesOf board) (hasPlace P B)) (nodesOf board)
   unfolding reportOf reportFor linesOf pairConditions
   all-lines e = rw (e, length-labels board)

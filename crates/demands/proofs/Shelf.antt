@@ -17,7 +17,7 @@ use Rattle.call_shelf.specs.Compare.{verdictFor, comparedBy, comparing}
 use Rattle.call_shelf.proofs.CompareFiles.{equal-files, equal-circuits}
 use Rattle.call_shelf.specs.Shelf.{isAccepted, fileAt, acceptedIn, shelfOf, shelvingOf, shelving}
 use Rattle.call_shelf.proofs.Meaning.{shelf-in-order, shelf-once, shelf-one}
-use Rattle.call_shelf.proofs.Placing.{is-accepted}
+use Rattle.call_shelf.proofs.Inserting.{is-accepted}
 use Rattle.demands.specs.Shelf.{PatternFile, filesIn, Ask10}
 
 -- ---- the comparison

@@ -40,8 +40,8 @@ use Rattle.call_match.specs.Call.{TableOutcome, matchConditions, matchingBy, ma
 use Rattle.call_place.specs.Call.{inputConditions, placeAt}
 use Rattle.call_merge.specs.Call.{MergeOutcome, mergeConditions, merging}
 use Rattle.call_merge.specs.Classes.{classByte, Smallest}
-use Rattle.call_report.specs.Call.{reporting, needFor, verdictOf}
-use Rattle.call_load.specs.Call.{loadConditions, loading}
+use Rattle.call_report.specs.Call.{reporting, needFor, filesVerdict}
+use Rattle.call_test_board.specs.Call.{testBoardConditions, makingTestBoard}
 use Rattle.call_bounded.specs.Call.{boundedConditions, boundedMatching}
 use Rattle.call_check.specs.Call.{checkConditions, checkCall}
 use Rattle.call_barring.specs.Call.{barInputs, barCall}
@@ -151,8 +151,8 @@ pub record Demand1 : Type 0 where
       Replies (writeConditions role e kinds packages starts ends (length out)) (result .reply) (result .out ≡ out)
   pub converts : (role : Role) (to : Edition) (file : CircuitFile) (out : List ℕ) → let result = converting role to file out in
       Replies (convertConditions role to file (length out)) (result .reply) (result .out ≡ out)
-  pub loads : (seed n m k : ℕ) (out : List ℕ) → let result = loading seed n m k out in
-      Replies (loadConditions n m k (length out)) (result .reply) (result .out ≡ out)
+  pub loads : (seed n m k : ℕ) (out : List ℕ) → let result = makingTestBoard seed n m k out in
+      Replies (testBoardConditions n m k (length out)) (result .reply) (result .out ≡ out)
   pub measures : (file : CircuitFile) → Replies (fileConditions Pattern file) (radiusCall file) (Unit {0})
   pub balls : (file : CircuitFile) (w r : ℕ) (out : List ℕ) → let result = ballCall file w r out in
       Replies (ballConditions file w (length out)) (result .reply) (result .out ≡ out)
@@ -175,7 +175,7 @@ pub record Demand1 : Type 0 where
   pub shelves : (bytes lengths order : List ℕ) → let result = shelving bytes lengths order in
       Replies (shortTable (length (shelfOf (cutInto bytes (take mostFiles lengths)))) (length order) ∷ []) (result .reply) (result .order ≡ order)
   pub reports : (pattern board : CircuitFile) (from before : ℕ) (out : List ℕ) → let result = reporting pattern board from before out in
-      Replies (shortTable (needFor (verdictOf pattern board)) (length out) ∷ []) (result .reply) (result .out ≡ out)
+      Replies (shortTable (needFor (filesVerdict pattern board)) (length out) ∷ []) (result .reply) (result .out ≡ out)
   -- opening, cutting and reading out
   pub opens : (pattern board : CircuitFile) (before after : State) (said : Verdict) → OpenPromise pattern board before said after →
       Decided (openConditions pattern board) said (after ≡ before)

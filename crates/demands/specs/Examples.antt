@@ -24,10 +24,10 @@ NoPlace pattern board w = placeVerdict pattern board w (radiusOf pattern) ≡ re
 
 -- one part of a kind, without a link or with a link to itself
 unfoldable pub onePart : ℕ → Circuit
-onePart kind = record { kinds = kind ∷ []; starts = []; ends = [] }
+onePart kind = record { labels = kind ∷ []; starts = []; ends = [] }
 
 unfoldable pub onePartLooped : ℕ → Circuit
-onePartLooped kind = record { kinds = kind ∷ []; starts = 0 ∷ []; ends = 0 ∷ [] }
+onePartLooped kind = record { labels = kind ∷ []; starts = 0 ∷ []; ends = 0 ∷ [] }
 
 -- "T has radius 2; one part has 0."
 unfoldable pub E1 : Type 0

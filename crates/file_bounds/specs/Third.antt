@@ -21,8 +21,8 @@ abbrev pub boundedLength : ℕ → ℕ → ℕ
 boundedLength n m = boundsAt n m + 2 * m
 
 -- what stands before the bounds: a file of the second edition
-unfoldable pub frontOf : List ℕ → CircuitFile
-frontOf bytes = inEdition Second (take (boundsAt (field bytes 0) (field bytes 2)) bytes)
+unfoldable pub beforeBounds : List ℕ → CircuitFile
+beforeBounds bytes = inEdition Second (take (boundsAt (field bytes 0) (field bytes 2)) bytes)
 
 unfoldable pub boundsOf : List ℕ → List ℕ
 boundsOf bytes = fields (drop (boundsAt (field bytes 0) (field bytes 2)) bytes) (field bytes 2)
@@ -45,7 +45,7 @@ thirdConditions bytes =
     record { number = 1; file = fileOf AnyPattern; holds = ltb (length bytes) 4 } ∷
     record { number = 2; file = fileOf AnyPattern; holds = not (inRange AnyPattern n m) } ∷
     record { number = 3; file = fileOf AnyPattern; holds = not (eqb (length bytes) (boundedLength n m)) } ∷
-    (linkConditions AnyPattern n (startsOf (frontOf bytes)) (endsOf (frontOf bytes)) ++ (boundOutside (boundsOf bytes) ∷ []))
+    (linkConditions AnyPattern n (startsOf (beforeBounds bytes)) (endsOf (beforeBounds bytes)) ++ (boundOutside (boundsOf bytes) ∷ []))
 
 -- the number of the first condition on the size that holds, 1, 2 or 3, and 0 where none does
 unfoldable pub thirdSize : List ℕ → ℕ
@@ -58,7 +58,7 @@ thirdSize bytes =
 
 -- its circuit stands at the front of three tables, and its bounds at the front of a fourth
 pub record BoundsHeld (bytes : List ℕ) (read : FileRead) (tables : Circuit) (bounds : List ℕ) : Type 0 where
-  pub stands : Stands (frontOf bytes) (read .nodes) (read .links) tables
+  pub stands : Stands (beforeBounds bytes) (read .nodes) (read .links) tables
   pub bounded : take (read .links) bounds ≡ boundsOf bytes
 
 pub record BoundsLoaded (bytes : List ℕ) (read : FileRead) (tables : Circuit) (bounds : List ℕ) : Type 0 where

@@ -32,11 +32,11 @@ module _ (n : ℕ) (starts ends : List ℕ) (below : T (linksBelow n starts ends
 
 -- the same of a bounded circuit
 module _ {role : Role} {c : Circuit} (b : Bounded role c) where
-  pub bounded-starts : T (all (λ v. ltb v (length (c .kinds))) (c .starts))
-  bounded-starts = starts-below (length (c .kinds)) (c .starts) (c .ends) (b .below)
+  pub bounded-starts : T (all (λ v. ltb v (length (c .labels))) (c .starts))
+  bounded-starts = starts-below (length (c .labels)) (c .starts) (c .ends) (b .below)
 
-  pub bounded-ends : T (all (λ v. ltb v (length (c .kinds))) (c .ends))
-  bounded-ends = ends-below (length (c .kinds)) (c .starts) (c .ends) (b .below)
+  pub bounded-ends : T (all (λ v. ltb v (length (c .labels))) (c .ends))
+  bounded-ends = ends-below (length (c .labels)) (c .starts) (c .ends) (b .below)
 
 -- ---- an accepted file
 

@@ -26,48 +26,48 @@ module _ (e : Edition) (r : Role) (file : List ℕ) where
   abbrev whole : CircuitFile
   whole = inEdition e file
 
-  abbrev front : CircuitFile
-  front = inEdition e (cut e r file)
+  abbrev prefix : CircuitFile
+  prefix = inEdition e (cut e r file)
 
   same-field : (at : ℕ) → at + 1 < most e r → field file at ≡ field (cut e r file) at
   unfolding field
   same-field at h = sym (ap₂ (λ (a b : ℕ). a + 256 * b) (getD-take (most e r) file at 0 (omega arith)) (getD-take (most e r) file (at + 1) 0 h))
 
   -- two files that are refused for their size by the same number have one verdict
-  by-size : (k : ℕ) → (k ≡ 0 → ⊥) → sizeNumber r front ≡ k → sizeNumber r whole ≡ k → first (fileConditions r front) ≡ first (fileConditions r whole)
+  by-size : (k : ℕ) → (k ≡ 0 → ⊥) → sizeNumber r prefix ≡ k → sizeNumber r whole ≡ k → first (fileConditions r prefix) ≡ first (fileConditions r whole)
   by-size k some a b =
-      verdict-turned r front (λ z. some (sym a ∙ z)) ∙ ap (turned r) (a ∙ sym b) ∙ sym (verdict-turned r whole (λ z. some (sym b ∙ z)))
+      verdict-turned r prefix (λ z. some (sym a ∙ z)) ∙ ap (turned r) (a ∙ sym b) ∙ sym (verdict-turned r whole (λ z. some (sym b ∙ z)))
 
   -- so a file that is cut is refused by it, or by a length that is too long for it
-  long-verdict : most e r < length file → first (fileConditions r front) ≡ first (fileConditions r whole)
+  long-verdict : most e r < length file → first (fileConditions r prefix) ≡ first (fileConditions r whole)
   unfolding nodesOf linksOf
   long-verdict h = go (inRange r (nodesOf whole) (linksOf whole)) refl
     where
       size : length (cut e r file) ≡ most e r
       size = length-take-le (most e r) file (omega arith)
 
-      nodes : nodesOf whole ≡ nodesOf front
+      nodes : nodesOf whole ≡ nodesOf prefix
       nodes = same-field 0 (omega (arith, header-read e r))
 
-      links : linksOf whole ≡ linksOf front
+      links : linksOf whole ≡ linksOf prefix
       links = same-field 2 (omega (arith, header-read e r))
 
-      go : (b : Bool) → inRange r (nodesOf whole) (linksOf whole) ≡ b → first (fileConditions r front) ≡ first (fileConditions r whole)
+      go : (b : Bool) → inRange r (nodesOf whole) (linksOf whole) ≡ b → first (fileConditions r prefix) ≡ first (fileConditions r whole)
       go false q =
-          by-size 2 (λ z. omega arith) (size-2 r front _ _ nodes links (omega (arith, size, header-read e r)) q)
+          by-size 2 (λ z. omega arith) (size-2 r prefix _ _ nodes links (omega (arith, size, header-read e r)) q)
           (size-2 r whole _ _ refl refl (omega (arith, header-read e r)) q)
       go true q =
           let (_, fewNodes, fewLinks) = range-orders r (nodesOf whole) (linksOf whole) (true-T q) in
           let short = not-longer e (nodesOf whole) (maxNodes r) (linksOf whole) (maxLinks r) fewNodes fewLinks in
           by-size 3 (λ z. omega arith)
-          (size-3 r front _ _ nodes links (omega (arith, size, header-read e r)) q (λ z. omega (arith, size, short)))
+          (size-3 r prefix _ _ nodes links (omega (arith, size, header-read e r)) q (λ z. omega (arith, size, short)))
           (size-3 r whole _ _ refl refl (omega (arith, header-read e r)) q (λ z. omega (arith, short)))
 
   -- A file is refused as what is read of it is.
   pub cut-verdict : first (fileConditions r (inEdition e (cut e r file))) ≡ first (fileConditions r (inEdition e file))
   cut-verdict = go (decLt (most e r) (length file))
     where
-      go : Dec (most e r < length file) → first (fileConditions r front) ≡ first (fileConditions r whole)
+      go : Dec (most e r < length file) → first (fileConditions r prefix) ≡ first (fileConditions r whole)
       go (yes h) = long-verdict h
       go (no h) = ap (λ (f : List ℕ). first (fileConditions r (inEdition e f))) (take-all (most e r) file (omega arith))
 

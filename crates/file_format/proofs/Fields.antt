@@ -70,8 +70,8 @@ unfolding fields
 stored-more s d i h = filled-more i (λ j. field s (2 * j)) d h
 
 -- what was stored stands at the front
-pub stored-front : (s d l : List ℕ) (k : ℕ) → l ≡ fields s k ++ drop k d → take k l ≡ fields s k
-stored-front s d l k e = ap (take k) e ∙ take-at (fields s k) (drop k d) k (length-fields s k)
+pub stored-prefix : (s d l : List ℕ) (k : ℕ) → l ≡ fields s k ++ drop k d → take k l ≡ fields s k
+stored-prefix s d l k e = ap (take k) e ∙ take-at (fields s k) (drop k d) k (length-fields s k)
 
 -- ---- fields of bytes are of 16 bits
 

@@ -1,7 +1,7 @@
 -- What the reading call comes to, by cases of the verdict, and what its caller knows of it, by cases of the answer. Assumes nothing.
 use Rattle.base_lists.specs.Kit.{_≡_, _∙_, sym, ap, refl, _⊎_, List, [], _∷_, _++_, ℕ, _≤_, _<_, lit≤, length, take, drop, take-at, ltb-false}
 use Rattle.base_lists.proofs.Parts.{length-take-room}
-use Rattle.file_format.proofs.Fields.{length-kinds, length-packages, length-labels, length-labels-from, length-starts, length-ends, stored-front}
+use Rattle.file_format.proofs.Fields.{length-kinds, length-packages, length-labels, length-labels-from, length-starts, length-ends, stored-prefix}
 use Rattle.graph.specs.Circuit.{Circuit, circuit}
 use Rattle.graph.specs.Search.{radius}
 use Rattle.file_format.specs.declared.File.the-variants.{Neither}
@@ -12,7 +12,7 @@ use Rattle.file_format.specs.declared.ReadAnswer.the-variants.{Read, Ref
 use Rattle.file_format.specs.declared.Role.{Role}
 use Rattle.file_format.specs.declared.Role.the-variants as role
 use Rattle.file_format.specs.Circuit.{Bounded}
-use Rattle.file_format.specs.Reading.{reading, readConditions, readAnswer, filled, verdictOf, front, Stands, Held, Loaded, LinksTested}
+use Rattle.file_format.specs.Reading.{reading, readConditions, readAnswer, filled, verdictOf, prefix, Stands, Held, Loaded, LinksTested}
 use Rattle.file_format.specs.Reply.{reply, readReply}
 use Rattle.file_format.specs.Layout.{CircuitFile, fields, packageCount, startsAt, endsAt, nodesOf, linksOf, kindsOf, packagesOf, startsOf, endsOf, labelsOf, labelsFrom}
 use Rattle.file_format.specs.Refusals.{Verdict, accept, refuse, first, fileConditions, sizeNumber, linkNumber, shortTable}
@@ -120,9 +120,9 @@ held-loaded r file read tables e v h = record { verdict = rw e (sym v); held = �
 
 -- the fronts of the tables are as long as the counts say, and the tables have room for them
 module _ {file : CircuitFile} {n m : ℕ} {t : Circuit} (s : Stands file n m t) where
-  pub stands-size : (length (take n (t .kinds)) ≡ n) × (length (take m (t .starts)) ≡ m) × (length (take m (t .ends)) ≡ m)
+  pub stands-size : (length (take n (t .labels)) ≡ n) × (length (take m (t .starts)) ≡ m) × (length (take m (t .ends)) ≡ m)
   stands-size = (
-    ap (λ (c : Circuit). length (c .kinds)) (s .content) ∙ length-labels file ∙ sym (s .nodes),
+    ap (λ (c : Circuit). length (c .labels)) (s .content) ∙ length-labels file ∙ sym (s .nodes),
     ap (λ (c : Circuit). length (c .starts)) (s .content) ∙ length-starts file ∙ sym (s .links),
     ap (λ (c : Circuit). length (c .ends)) (s .content) ∙ length-ends file ∙ sym (s .links),
   )
@@ -133,12 +133,12 @@ module _ {file : CircuitFile} {n m : ℕ} {t : Circuit} (s : Stands file n m t) 
       let e = s .content in
       rw (s .nodes, ap (λ (c : Circuit). c .starts) e, ap (λ (c : Circuit). c .ends) e)
 
-  pub stands-room : (n ≤ length (t .kinds)) × (m ≤ length (t .starts)) × (m ≤ length (t .ends))
+  pub stands-room : (n ≤ length (t .labels)) × (m ≤ length (t .starts)) × (m ≤ length (t .ends))
   stands-room = let (k, a, b) = stands-size in (length-take-room n _ k, length-take-room m _ a, length-take-room m _ b)
 
   -- the circuit of an accepted file is within the role's maxima
   module _ (r : Role) (e : first (fileConditions r file) ≡ accept) where
-    pub stands-bounded : Bounded r (front n m t)
+    pub stands-bounded : Bounded r (prefix n m t)
     stands-bounded = rw (s .content) (accepted-bounded (accepted r file e))
 
     pub stands-range : (minNodes r ≤ n) × (n ≤ maxNodes r) × (m ≤ maxLinks r)
@@ -156,7 +156,7 @@ filled-stands file marks starts ends ls ss es n m isN isM k s e =
       nodes = isN;
       links = isM;
       content =
-          rw (ap (take n) k ∙ take-at (labelsFrom (file .edition) (file .bytes) n) (drop n marks) n (length-labels-from (file .edition) (file .bytes) n), stored-front _ starts ss m s, stored-front _ ends es m e, isN, isM);
+          rw (ap (take n) k ∙ take-at (labelsFrom (file .edition) (file .bytes) n) (drop n marks) n (length-labels-from (file .edition) (file .bytes) n), stored-prefix _ starts ss m s, stored-prefix _ ends es m e, isN, isM);
     }
 
 -- the links, tested where they stand

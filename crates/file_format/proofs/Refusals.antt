@@ -1,7 +1,7 @@
 -- Laws of lists of conditions, and what it says of a file that none of its conditions holds. Assumes nothing.
 use Rattle.base_lists.specs.Kit.{_≡_, _∙_, sym, ap, refl, _↔_, ⊎-elim, _⊎_, inl, inr, Bool, false, true, cond, _&&_, not, List, [], _∷_, _++_, List·Memᴰ, List·Memᴰ·cases-cons, List·Memᴰ·head, List·Memᴰ·not-nil, List·Memᴰ·tail, ℕ, _≤_, _<_, T, eqb, ltb, leb, leb→le, length, arith, eq-eqb, ne-eqb, le-ltb, lt-ltb, eqb-true, not-false, ltb-false}
 use Rattle.base_lists.specs.List.{all}
-use Rattle.base_lists.proofs.Tests.{refuted, both-false, both-left, both-right, true-T, false-T, T-true, T-false}
+use Rattle.base_lists.proofs.Tests.{not-true-false, both-false, both-left, both-right, true-T, false-T, T-true, T-false}
 use Rattle.graph.specs.Search.{connected, radius}
 use Rattle.file_format.specs.declared.File.the-variants.{Neither}
 use Rattle.file_format.specs.declared.Refusal.{Refusal}
@@ -9,7 +9,7 @@ use Rattle.file_format.specs.declared.Role.{Role}
 use Rattle.file_format.specs.declared.Role.the-variants.{Pattern, Board, AnyPattern}
 use Rattle.file_format.specs.Layout.{CircuitFile, nodesOf, linksOf, lengthOf, startsOf, endsOf}
 use Rattle.file_format.specs.Links.{linksBelow, rising}
-use Rattle.file_format.specs.Refusals.{Accepted, Condition, Verdict, accept, refuse, NoneHolds, first, FirstHolding, linkConditions, fileConditions, widest, asksConnected, sizeNumber, orderNumber, linkNumber, shortTable}
+use Rattle.file_format.specs.Refusals.{Accepted, Condition, Verdict, accept, refuse, NoneHolds, first, FirstHolding, linkConditions, fileConditions, widest, asksConnected, sizeNumber, linkOrderNumber, linkNumber, shortTable}
 use Rattle.file_format.specs.Role.{minNodes, maxNodes, maxLinks, inRange, fileOf}
 use Rattle.file_format.specs.Reply.{reply}
 
@@ -143,27 +143,27 @@ tables-fit-4 a p b d k q s e x w y z = rw (le-ltb _ _ x) (tables-fit p b d q s e
 -- ---- the links' number, as the tests come out in their order
 
 module _ (n : ℕ) (starts ends : List ℕ) where
-  pub order-starts : all (λ v. ltb v n) starts ≡ false → orderNumber n starts ends ≡ 4
-  unfolding orderNumber linksBelow
+  pub order-starts : all (λ v. ltb v n) starts ≡ false → linkOrderNumber n starts ends ≡ 4
+  unfolding linkOrderNumber linksBelow
   order-starts a = simp a
 
   module _ (a : all (λ v. ltb v n) starts ≡ true) where
-    pub order-ends : all (λ v. ltb v n) ends ≡ false → orderNumber n starts ends ≡ 4
-    unfolding orderNumber linksBelow
+    pub order-ends : all (λ v. ltb v n) ends ≡ false → linkOrderNumber n starts ends ≡ 4
+    unfolding linkOrderNumber linksBelow
     order-ends b = simp (a, b)
 
     module _ (b : all (λ v. ltb v n) ends ≡ true) where
-      pub order-falls : rising starts ends ≡ false → orderNumber n starts ends ≡ 5
-      unfolding orderNumber linksBelow
+      pub order-falls : rising starts ends ≡ false → linkOrderNumber n starts ends ≡ 5
+      unfolding linkOrderNumber linksBelow
       order-falls e = simp (a, b, e)
 
-      pub order-rises : rising starts ends ≡ true → orderNumber n starts ends ≡ 0
-      unfolding orderNumber linksBelow
+      pub order-rises : rising starts ends ≡ true → linkOrderNumber n starts ends ≡ 0
+      unfolding linkOrderNumber linksBelow
       order-rises e = simp (a, b, e)
 
   -- links in order
-  pub ordered : orderNumber n starts ends ≡ 0 → T (linksBelow n starts ends) × T (rising starts ends)
-  unfolding orderNumber
+  pub ordered : linkOrderNumber n starts ends ≡ 0 → T (linksBelow n starts ends) × T (rising starts ends)
+  unfolding linkOrderNumber
   ordered = go (linksBelow n starts ends) (rising starts ends)
     where
       go : (x y : Bool) → _≡_ {A = ℕ} (cond x (cond y 0 5) 4) 0 → T x × T y
@@ -172,8 +172,8 @@ module _ (n : ℕ) (starts ends : List ℕ) where
       go false y e = absurd (omega arith)
 
   -- the links' number, from that of their order
-  pub number-order : (r : Role) → (orderNumber n starts ends ≡ 0 → ⊥) → linkNumber r n starts ends ≡ orderNumber n starts ends
-  unfolding orderNumber linkNumber
+  pub number-order : (r : Role) → (linkOrderNumber n starts ends ≡ 0 → ⊥) → linkNumber r n starts ends ≡ linkOrderNumber n starts ends
+  unfolding linkOrderNumber linkNumber
   number-order r = go (linksBelow n starts ends) (rising starts ends)
     where
       go : (x y : Bool) → (_≡_ {A = ℕ} (cond x (cond y 0 5) 4) 0 → ⊥)
@@ -183,7 +183,7 @@ module _ (n : ℕ) (starts ends : List ℕ) where
       go false y f = refl
 
   -- and of links in order, by what is asked of a pattern's alone
-  pub number-joined : (r : Role) → orderNumber n starts ends ≡ 0
+  pub number-joined : (r : Role) → linkOrderNumber n starts ends ≡ 0
       → linkNumber r n starts ends ≡ cond (asksConnected r && not (connected n starts ends)) 6 (cond (asksConnected r && ltb widest (radius n starts ends)) 11 0)
   unfolding linkNumber
   number-joined r e =
@@ -295,11 +295,11 @@ accepted r file e =
     let h11 = first-holds _ _ (h6 .1) in
     record {
       bytes = ltb-false _ _ (h1 .0);
-      range = refuted (inRange r (nodesOf file) (linksOf file)) (h2 .0);
+      range = not-true-false (inRange r (nodesOf file) (linksOf file)) (h2 .0);
       size = eqb-true _ _ (not-false _ (h3 .0));
-      below = refuted (linksBelow (nodesOf file) (startsOf file) (endsOf file)) (h4 .0);
-      rises = refuted (rising (startsOf file) (endsOf file)) (h5 .0);
-      joined = λ t. refuted (connected (nodesOf file) (startsOf file) (endsOf file)) (both-false (asksConnected r) _ t (h6 .0));
+      below = not-true-false (linksBelow (nodesOf file) (startsOf file) (endsOf file)) (h4 .0);
+      rises = not-true-false (rising (startsOf file) (endsOf file)) (h5 .0);
+      joined = λ t. not-true-false (connected (nodesOf file) (startsOf file) (endsOf file)) (both-false (asksConnected r) _ t (h6 .0));
       narrow = λ t. ltb-false _ _ (both-false (asksConnected r) _ t (h11 .0));
     }
 

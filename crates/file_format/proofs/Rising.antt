@@ -1,6 +1,6 @@
 -- What the test on the links' order means: each link comes before every later one. Assumes nothing.
 use Rattle.base_lists.specs.Kit.{_≡_, _∙_, subst, _↔_, ⊎-elim, _⊎_, inl, inr, _&&_, List, ℕ, _≤_, _<_, _+_, _-_, suc, zero, not-suc-le-zero, add-one, T, eqb, ltb, eqb→eq, ltb→lt, lt→ltb, length, getD, arith, eq-eqb, ltb-false}
-use Rattle.base_lists.proofs.Tests.{both, both-left, both-right, either-left, either-right, either-cases, allBelow-at, at-allBelow, true-T, T-false, decide}
+use Rattle.base_lists.proofs.Tests.{both-true, both-left, both-right, either-left, either-right, either-cases, allBelow-at, at-allBelow, true-T, T-false, decide}
 use Rattle.graph.specs.Rising.{LinksRise}
 use Rattle.graph.proofs.RisingLinks.{Before}
 use Rattle.file_format.specs.Links.{earlier, rising}
@@ -16,7 +16,7 @@ unfolding earlier
 before-earlier s e s′ e′ b =
     ⊎-elim
     (λ l. either-left (ltb s s′) (eqb s s′ && ltb e e′) (lt→ltb s s′ l))
-    (λ (q, l). either-right (ltb s s′) (eqb s s′ && ltb e e′) (both (eqb s s′) (ltb e e′) (true-T (eq-eqb s s′ q)) (lt→ltb e e′ l)))
+    (λ (q, l). either-right (ltb s s′) (eqb s s′ && ltb e e′) (both-true (eqb s s′) (ltb e e′) (true-T (eq-eqb s s′ q)) (lt→ltb e e′ l)))
     b
 
 -- what the test of two links means

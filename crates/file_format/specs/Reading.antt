@@ -60,18 +60,18 @@ verdictOf verdict.Accepted = accept
 verdictOf (verdict.Refused x) = refuse x
 
 -- n labels and m links at the front of three tables
-abbrev pub front : ℕ → ℕ → Circuit → Circuit
-front n m tables = record { kinds = take n (tables .kinds); starts = take m (tables .starts); ends = take m (tables .ends) }
+abbrev pub prefix : ℕ → ℕ → Circuit → Circuit
+prefix n m tables = record { labels = take n (tables .labels); starts = take m (tables .starts); ends = take m (tables .ends) }
 
 -- n and m are a file's N and M, and its circuit stands at the front of three tables
 pub record Stands (file : CircuitFile) (n m : ℕ) (tables : Circuit) : Type 0 where
   pub nodes : n ≡ nodesOf file
   pub links : m ≡ linksOf file
-  pub content : front n m tables ≡ circuitOf file
+  pub content : prefix n m tables ≡ circuitOf file
 
 -- tables that have room for every file of a role
-pub record Room (r : Role) (tables : Circuit) : Type 0 where
-  pub forKinds : maxNodes r ≤ length (tables .kinds)
+pub record TablesRoom (r : Role) (tables : Circuit) : Type 0 where
+  pub forKinds : maxNodes r ≤ length (tables .labels)
   pub forStarts : maxLinks r ≤ length (tables .starts)
   pub forEnds : maxLinks r ≤ length (tables .ends)
 

@@ -100,8 +100,8 @@ sizeNumber r file =
     cond (ltb (length (file .bytes)) 4) 1 (cond (inRange r n m) (cond (eqb (length (file .bytes)) (lengthOf (file .edition) n m)) 0 3) 2)
 
 -- the number of the first condition on the order of the links that holds, 4 or 5, and 0 where none does
-unfoldable pub orderNumber : ℕ → List ℕ → List ℕ → ℕ
-orderNumber n starts ends = cond (linksBelow n starts ends) (cond (rising starts ends) 0 5) 4
+unfoldable pub linkOrderNumber : ℕ → List ℕ → List ℕ → ℕ
+linkOrderNumber n starts ends = cond (linksBelow n starts ends) (cond (rising starts ends) 0 5) 4
 
 -- the number of the first condition on the links that holds, 4, 5, 6 or 11, and 0 where none does
 unfoldable pub linkNumber : Role → ℕ → List ℕ → List ℕ → ℕ

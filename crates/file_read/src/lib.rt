@@ -5,7 +5,7 @@ ghost use Prim.Native.Nat.{_≤_};
 ghost use lib.ListN.{length, drop};
 ghost use Rattle.graph.specs.Circuit.{circuit};
 ghost use Rattle.file_format.specs.Layout.{inEdition, nodesOf, linksOf, fields, kindsAt, packagesAt, packageCount, startsAt, endsAt, lengthOf, labelsFrom};
-ghost use Rattle.file_format.specs.Reading.{reading, Room, Loaded};
+ghost use Rattle.file_format.specs.Reading.{reading, TablesRoom, Loaded};
 ghost use Rattle.file_format.specs.Refusals.{accept, first, fileConditions};
 ghost use Rattle.file_format.specs.Reply.{readReply};
 ghost use Rattle.file_format.specs.Role.{fileOf};
@@ -80,7 +80,7 @@ fn fill_nodes(
 }
 
 // The answer that turns a file away.
-fn turned_away(role: Role, number: u8) -> FileRead
+fn refused_read(role: Role, number: u8) -> FileRead
     ensures { λ r. ⌜ r .verdict ≡ FileVerdict.Refused (record { number = number; file = fileOf role }) ⌝ }
 {
     FileRead {
@@ -102,12 +102,12 @@ pub fn load(
     starts: &mut [u16],
     ends: &mut [u16],
 ) -> FileRead
-    requires { ⌜ Room role (circuit (now labels) (now starts) (now ends)) ⌝ }
+    requires { ⌜ TablesRoom role (circuit (now labels) (now starts) (now ends)) ⌝ }
     ensures { λ r. ⌜ Loaded role (inEdition edition (now (file .entry))) r (circuit (now (labels .exit)) (now (starts .exit)) (now (ends .exit))) ⌝ }
 {
     let number = size_number(role, edition, file);
     if number != 0 {
-        return turned_away(role, number);
+        return refused_read(role, number);
     }
     let n = field_at(file, 0) as usize;
     let m = field_at(file, 1) as usize;
@@ -115,7 +115,7 @@ pub fn load(
     fill_links(edition, file, n, m, starts, ends);
     let tested = test_links(role, n, &starts[..m], &ends[..m]);
     if tested.number != 0 {
-        return turned_away(role, tested.number);
+        return refused_read(role, tested.number);
     }
     FileRead {
         verdict: FileVerdict::Accepted,

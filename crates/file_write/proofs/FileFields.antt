@@ -79,10 +79,10 @@ module _ (e : Edition) (kinds packages starts ends : List ℕ) where
     starts-stretch : fields (drop (startsAt e (length kinds)) (file .bytes)) (length starts) ≡ starts
     unfolding stretchBytes
     starts-stretch =
-        let front : List ℕ = length kinds ∷ length starts ∷ kinds in
-        ap (λ (l : List ℕ). fields (drop (startsAt e (length kinds)) (bytesOf l)) (length starts)) (sym (append-assoc front packs (starts ++ ends)))
-        ∙ fields-behind (front ++ packs) starts ends (startsAt e (length kinds)) (length starts)
-        (omega (arith, length-append front packs, packs-length e kinds packages given)) refl
+        let prefix : List ℕ = length kinds ∷ length starts ∷ kinds in
+        ap (λ (l : List ℕ). fields (drop (startsAt e (length kinds)) (bytesOf l)) (length starts)) (sym (append-assoc prefix packs (starts ++ ends)))
+        ∙ fields-behind (prefix ++ packs) starts ends (startsAt e (length kinds)) (length starts)
+        (omega (arith, length-append prefix packs, packs-length e kinds packages given)) refl
 
     pub starts-written : startsOf file ≡ starts
     unfolding startsOf
@@ -92,11 +92,11 @@ module _ (e : Edition) (kinds packages starts ends : List ℕ) where
       ends-stretch : fields (drop (endsAt e (length kinds) (length starts)) (file .bytes)) (length starts) ≡ ends
       unfolding stretchBytes
       ends-stretch =
-          let front : List ℕ = length kinds ∷ length starts ∷ kinds in
+          let prefix : List ℕ = length kinds ∷ length starts ∷ kinds in
           ap (λ (l : List ℕ). fields (drop (endsAt e (length kinds) (length starts)) (bytesOf l)) (length starts))
-          (sym (append-assoc front packs (starts ++ ends)) ∙ sym (append-assoc (front ++ packs) starts ends) ∙ ap (λ (l : List ℕ). ((front ++ packs) ++ starts) ++ l) (sym (append-nil ends)))
-          ∙ fields-behind ((front ++ packs) ++ starts) ends [] (endsAt e (length kinds) (length starts)) (length starts)
-          (omega (arith, length-append (front ++ packs) starts, length-append front packs, packs-length e kinds packages given)) pairs
+          (sym (append-assoc prefix packs (starts ++ ends)) ∙ sym (append-assoc (prefix ++ packs) starts ends) ∙ ap (λ (l : List ℕ). ((prefix ++ packs) ++ starts) ++ l) (sym (append-nil ends)))
+          ∙ fields-behind ((prefix ++ packs) ++ starts) ends [] (endsAt e (length kinds) (length starts)) (length starts)
+          (omega (arith, length-append (prefix ++ packs) starts, length-append prefix packs, packs-length e kinds packages given)) pairs
 
       pub ends-written : endsOf file ≡ ends
       unfolding endsOf

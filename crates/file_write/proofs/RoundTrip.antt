@@ -187,14 +187,14 @@ labels-for Second ls =
     ap (labels (kindsIn ls)) (take-all _ (packagesIn ls) (le-of-eq (length-packages-in ls ∙ sym (length-kinds-in ls)))) ∙ labels-again ls
 
 module _ (e : Edition) (c : Circuit) where
-  pub packages-in-given : packageCount e (length (packagesIn (c .kinds))) ≡ packageCount e (length (kindsFor e (c .kinds)))
-  packages-in-given = ap (packageCount e) (length-packages-in (c .kinds) ∙ sym (length-kinds-for e (c .kinds)))
+  pub packages-in-given : packageCount e (length (packagesIn (c .labels))) ≡ packageCount e (length (kindsFor e (c .labels)))
+  packages-in-given = ap (packageCount e) (length-packages-in (c .labels) ∙ sym (length-kinds-for e (c .labels)))
 
   -- what is read of it is the circuit
   pub circuit-again : length (c .starts) ≡ length (c .ends) → circuitOf (inEdition e (circuitBytes e c)) ≡ c
   unfolding circuitBytes labelsOf
   circuit-again pairs =
-      let ks = kindsFor e (c .kinds) in
-      let ps = packagesIn (c .kinds) in
+      let ks = kindsFor e (c .labels) in
+      let ps = packagesIn (c .labels) in
       rw (kinds-written e ks ps (c .starts) (c .ends), packages-written e ks ps (c .starts) (c .ends) packages-in-given, starts-written e ks ps (c .starts) (c .ends) packages-in-given, ends-written e ks ps (c .starts) (c .ends) packages-in-given pairs)
-      (ap (λ (l : List ℕ). record { kinds = l; starts = c .starts; ends = c .ends }) (labels-for e (c .kinds)))
+      (ap (λ (l : List ℕ). record { labels = l; starts = c .starts; ends = c .ends }) (labels-for e (c .labels)))

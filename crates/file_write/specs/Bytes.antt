@@ -28,7 +28,7 @@ kindsFor Second ls = kindsIn ls
 
 -- the file of a circuit, whose labels have both the kinds and the packages
 unfoldable pub circuitBytes : Edition → Circuit → List ℕ
-circuitBytes e c = fileBytes e (kindsFor e (c .kinds)) (packagesIn (c .kinds)) (c .starts) (c .ends)
+circuitBytes e c = fileBytes e (kindsFor e (c .labels)) (packagesIn (c .labels)) (c .starts) (c .ends)
 
 -- labels that an edition can hold: in the first all packages are 0
 unfoldable pub LabelsFit : Edition → List ℕ → Type 0

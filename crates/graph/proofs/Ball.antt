@@ -1,13 +1,13 @@
 -- The rows of specs/Search mean walks: a ball's row marks the nodes that a walk of at most r links joins to the centre. Assumes nothing.
 use Rattle.base_lists.specs.Kit.{_≡_, _∙_, sym, ap, refl, subst, _↔_, ⊎-elim, _⊎_, inl, inr, ⊎-swap, Bool, cond, _&&_, _||_, List, [], _∷_, ℕ, _≤_, _<_, _+_, suc, zero, zero-le, suc-le-suc, not-suc-le-zero, le-of-suc-le-suc, zero-lt-suc, eq-or-lt-of-le, le-antisymm, le-step, T, eqb, ltb, eqb→eq, ltb→lt, length, getD, arith, eq-eqb}
 use Rattle.base_lists.specs.List.{tabulate, sum, all}
-use Rattle.base_lists.proofs.Tests.{both, both-left, both-right, either-left, either-right, either-cases, true-T, all-at, cond-test, cond-le, is-cond, cond-mono}
+use Rattle.base_lists.proofs.Tests.{both-true, both-left, both-right, either-left, either-right, either-cases, true-T, all-at, cond-test, cond-le, is-cond, cond-mono}
 use Rattle.base_lists.proofs.Tables.{length-tabulate, getD-tabulate}
 use Rattle.base_lists.proofs.Rows.{rises-to-rest, getD-le-sum, sum-bits, sum-progress}
 use Rattle.graph.specs.Graph.{Walk, stay, step}
 use Rattle.graph.specs.Circuit.{LinkAt, HasLink}
 use Rattle.graph.specs.Search.{beside, inside, ball}
-use Rattle.graph.proofs.Walks.{along, retarget, reverse}
+use Rattle.graph.proofs.Walks.{walk-along, walk-retarget, walk-reverse}
 
 -- ---- links
 
@@ -47,17 +47,17 @@ abbrev pub Beside : List ℕ → List ℕ → (ℕ → Bool) → ℕ → Type 0
 Beside ss es p v = (w : ℕ) × (HasLink ss es v w ⊎ HasLink ss es w v) × T (p w)
 
 -- the link from s to e is such a link
-abbrev joins : ℕ → ℕ → (ℕ → Bool) → ℕ → Bool
-joins s e p v = (eqb s v && p e) || (eqb e v && p s)
+abbrev linkPasses : ℕ → ℕ → (ℕ → Bool) → ℕ → Bool
+linkPasses s e p v = (eqb s v && p e) || (eqb e v && p s)
 
 -- what is found is such a link
 beside-link : (ss es : List ℕ) (p : ℕ → Bool) (v : ℕ) → T (beside ss es p v) → Beside ss es p v
 unfolding beside HasLink
 beside-link [] es p v t = absurd t
 beside-link (s ∷ ss) [] p v t = absurd t
-beside-link (s ∷ ss) (e ∷ es) p v t = ⊎-elim first (λ b. later (beside-link ss es p v b)) (either-cases (joins s e p v) (beside ss es p v) t)
+beside-link (s ∷ ss) (e ∷ es) p v t = ⊎-elim first (λ b. later (beside-link ss es p v b)) (either-cases (linkPasses s e p v) (beside ss es p v) t)
   where
-    first : T (joins s e p v) → Beside (s ∷ ss) (e ∷ es) p v
+    first : T (linkPasses s e p v) → Beside (s ∷ ss) (e ∷ es) p v
     first j =
         ⊎-elim
         (λ a. (e, inl (zero, link-first ss es (eqb→eq s v (both-left (eqb s v) (p e) a)) refl), both-right (eqb s v) (p e) a))
@@ -72,14 +72,14 @@ link-beside : (ss es : List ℕ) (p : ℕ → Bool) (v w i : ℕ) → LinkAt ss 
 unfolding beside
 link-beside [] es p v w i l q = absurd (not-suc-le-zero (⊎-elim (λ a. a .inStarts) (λ a. a .inStarts) l))
 link-beside (s ∷ ss) [] p v w i l q = absurd (not-suc-le-zero (⊎-elim (λ a. a .inEnds) (λ a. a .inEnds) l))
-link-beside (s ∷ ss) (e ∷ es) p v w zero l q = either-left (joins s e p v) (beside ss es p v) (⊎-elim forward backward l)
+link-beside (s ∷ ss) (e ∷ es) p v w zero l q = either-left (linkPasses s e p v) (beside ss es p v) (⊎-elim forward backward l)
   where
-    forward : LinkAt (s ∷ ss) (e ∷ es) v w zero → T (joins s e p v)
-    forward a = either-left (eqb s v && p e) (eqb e v && p s) (both (eqb s v) (p e) (true-T (eq-eqb s v (a .start))) (subst (λ x. T (p x)) (sym (a .end)) q))
+    forward : LinkAt (s ∷ ss) (e ∷ es) v w zero → T (linkPasses s e p v)
+    forward a = either-left (eqb s v && p e) (eqb e v && p s) (both-true (eqb s v) (p e) (true-T (eq-eqb s v (a .start))) (subst (λ x. T (p x)) (sym (a .end)) q))
 
-    backward : LinkAt (s ∷ ss) (e ∷ es) w v zero → T (joins s e p v)
-    backward a = either-right (eqb s v && p e) (eqb e v && p s) (both (eqb e v) (p s) (true-T (eq-eqb e v (a .end))) (subst (λ x. T (p x)) (sym (a .start)) q))
-link-beside (s ∷ ss) (e ∷ es) p v w (suc i) l q = either-right (joins s e p v) (beside ss es p v) (link-beside ss es p v w i (⊎-elim (λ a. inl (link-earlier a)) (λ a. inr (link-earlier a)) l) q)
+    backward : LinkAt (s ∷ ss) (e ∷ es) w v zero → T (linkPasses s e p v)
+    backward a = either-right (eqb s v && p e) (eqb e v && p s) (both-true (eqb e v) (p s) (true-T (eq-eqb e v (a .end))) (subst (λ x. T (p x)) (sym (a .start)) q))
+link-beside (s ∷ ss) (e ∷ es) p v w (suc i) l q = either-right (linkPasses s e p v) (beside ss es p v) (link-beside ss es p v w i (⊎-elim (λ a. inl (link-earlier a)) (λ a. inr (link-earlier a)) l) q)
 
 pub beside-iff : (ss es : List ℕ) (p : ℕ → Bool) (v : ℕ) → T (beside ss es p v) ↔ Beside ss es p v
 unfolding HasLink
@@ -178,7 +178,7 @@ module _ (n : ℕ) (ss es : List ℕ) (c : ℕ) where
 
   -- What a ball has, a walk of at most r links joins to the centre.
   pub ball-walk : (r v : ℕ) → T (inside (ball n ss es c r) v) → (k : ℕ) × (k ≤ r) × Walk (HasLink ss es) c v k
-  ball-walk zero v t = (zero, zero-le, retarget (sym (inside-zero v .0 t .1)) stay)
+  ball-walk zero v t = (zero, zero-le, walk-retarget (sym (inside-zero v .0 t .1)) stay)
   ball-walk (suc r) v t = ⊎-elim (λ a. later (ball-walk r v a)) (λ (w, l, a). onward w l (ball-walk r w a)) (inside-suc r v .0 t .1)
     where
       later : (k : ℕ) × (k ≤ r) × Walk (HasLink ss es) c v k → (k : ℕ) × (k ≤ suc r) × Walk (HasLink ss es) c v k
@@ -229,7 +229,7 @@ module _ (n : ℕ) (ss es : List ℕ) (c : ℕ) where
 module _ {n : ℕ} {ss es : List ℕ} (links : Within n ss es) where
   -- a walk from a node ends at a node
   pub walk-node : {v w k : ℕ} → Walk (HasLink ss es) v w k → v < n → w < n
-  walk-node p h = along (λ v. v < n) (λ v w l _. ⊎-elim (links .ends v w) (links .starts w v) l) p h
+  walk-node p h = walk-along (λ v. v < n) (λ v w l _. ⊎-elim (links .ends v w) (links .starts w v) l) p h
 
   -- A walk of k links from the centre leads into the ball at radius k,
   walk-inside : (c : ℕ) → c < n → {v k : ℕ} → Walk (HasLink ss es) c v k → T (inside (ball n ss es c k) v)
@@ -242,7 +242,7 @@ module _ {n : ℕ} {ss es : List ℕ} (links : Within n ss es) where
 
   -- so the ball at radius r has the nodes that a walk of at most r links joins to the centre;
   pub ball-iff : (c r v : ℕ) → T (inside (ball n ss es c r) v) ↔ ((v < n) × ((k : ℕ) × (k ≤ r) × Walk (HasLink ss es) c v k))
-  ball-iff c r v = (λ t. (inside-node n ss es c r v t, ball-walk n ss es c r v t), λ (h, (k, l, p)). walk-ball c (walk-node (reverse p) h) p r l)
+  ball-iff c r v = (λ t. (inside-node n ss es c r v t, ball-walk n ss es c r v t), λ (h, (k, l, p)). walk-ball c (walk-node (walk-reverse p) h) p r l)
 
   -- and, however long it is, into the ball at radius n - 1,
   pub walk-final : (c : ℕ) → c < n → {v k : ℕ} → Walk (HasLink ss es) c v k → (m : ℕ) → n ≤ suc m → T (inside (ball n ss es c m) v)
@@ -252,5 +252,5 @@ module _ {n : ℕ} {ss es : List ℕ} (links : Within n ss es) where
   pub component-iff : (c m : ℕ) → n ≤ suc m → (v : ℕ) → T (inside (ball n ss es c m) v) ↔ ((v < n) × ((k : ℕ) × Walk (HasLink ss es) c v k))
   component-iff c m l v = (
     λ t. let (k, _, p) = ball-walk n ss es c m v t in (inside-node n ss es c m v t, (k, p)),
-    λ (h, (k, p)). walk-final c (walk-node (reverse p) h) p m l,
+    λ (h, (k, p)). walk-final c (walk-node (walk-reverse p) h) p m l,
   )

@@ -36,7 +36,7 @@ pub record ChosenTo (marks xs : List ℕ) (i k : ℕ) (l : List ℕ) : Type 0 wh
   pub within : i ≤ length marks
   pub long : length l ≡ length xs
   pub behind : k ≤ i
-  pub front : take k l ≡ picked marks (take i xs)
+  pub prefix : take k l ≡ picked marks (take i xs)
   pub rest : (j : ℕ) → i ≤ j → getD l j 0 ≡ getD xs j 0
 
 none-picked : (marks : List ℕ) → [] ≡ picked marks []
@@ -44,7 +44,7 @@ unfolding picked keepFrom
 none-picked marks = refl
 
 pub chosen-none : (marks xs : List ℕ) → ChosenTo marks xs 0 0 xs
-chosen-none marks xs = record { within = omega arith; long = refl; behind = omega arith; front = none-picked marks; rest = λ j h. refl }
+chosen-none marks xs = record { within = omega arith; long = refl; behind = omega arith; prefix = none-picked marks; rest = λ j h. refl }
 
 module _ {marks xs l : List ℕ} {i k : ℕ} (same : length marks ≡ length xs) (c : ChosenTo marks xs i k l) (h : i < length marks) where
   pub chosen-one : getD marks i 0 ≡ 1 → ChosenTo marks xs (i + 1) (k + 1) (set l k (getD l i 0))
@@ -54,10 +54,10 @@ module _ {marks xs l : List ℕ} {i k : ℕ} (same : length marks ≡ length xs)
         within = omega arith;
         long = length-set l k (getD l i 0) ∙ c .long;
         behind = omega (arith, c .behind);
-        front =
+        prefix =
             ap (λ (m : ℕ). take m (set l k (getD l i 0))) (add-one k)
             ∙ take-suc-set l k (getD l i 0) (omega (arith, c .behind, c .long))
-            ∙ ap₂ (λ (f : List ℕ) (x : ℕ). f ++ (x ∷ [])) (c .front) (c .rest i (omega arith))
+            ∙ ap₂ (λ (f : List ℕ) (x : ℕ). f ++ (x ∷ [])) (c .prefix) (c .rest i (omega arith))
             ∙ sym (rw (add-one i, picked-more marks xs i (omega arith), eq-eqb (getD marks i 0) 1 e));
         rest = λ j b. getD-set-other l k j (getD l i 0) 0 (omega (arith, c .behind)) ∙ c .rest j (omega arith);
       }
@@ -69,10 +69,10 @@ module _ {marks xs l : List ℕ} {i k : ℕ} (same : length marks ≡ length xs)
         within = omega arith;
         long = c .long;
         behind = omega (arith, c .behind);
-        front = c .front ∙ sym (rw (add-one i, picked-more marks xs i (omega arith), ne-eqb (getD marks i 0) 1 e, append-nil));
+        prefix = c .prefix ∙ sym (rw (add-one i, picked-more marks xs i (omega arith), ne-eqb (getD marks i 0) 1 e, append-nil));
         rest = λ j b. c .rest j (omega arith);
       }
 
 -- all are passed
 pub chosen-all : {marks xs l : List ℕ} {i k : ℕ} → length marks ≡ length xs → ChosenTo marks xs i k l → length marks ≤ i → take k l ≡ picked marks xs
-chosen-all {marks} {xs} {i = i} same c h = c .front ∙ ap (picked marks) (take-all i xs (omega arith))
+chosen-all {marks} {xs} {i = i} same c h = c .prefix ∙ ap (picked marks) (take-all i xs (omega arith))

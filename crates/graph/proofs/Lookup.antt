@@ -1,6 +1,6 @@
 -- Laws of the stretch of a neighbour table. Assumes nothing.
 use Rattle.base_lists.specs.Kit.{_≡_, Bool, _&&_, List, [], ℕ, _≤_, _<_, _-_, suc, T, ltb, leb, ltb→lt, lt→ltb, le→leb, leb→le, length, getD, take, drop}
-use Rattle.base_lists.proofs.Tests.{both, both-left, both-right, T-true, T-false}
+use Rattle.base_lists.proofs.Tests.{both-true, both-left, both-right, T-true, T-false}
 use Rattle.graph.specs.Neighbours.{stretch}
 
 module _ (offsets table : List ℕ) (v : ℕ) where
@@ -18,7 +18,7 @@ module _ (offsets table : List ℕ) (v : ℕ) where
   within = leb (getD offsets (suc v) 0) (length table)
 
   sound-tested : Sound → T (held && (rising && within))
-  sound-tested s = both held (rising && within) (lt→ltb _ _ (s .0)) (both rising within (le→leb _ _ (s .1)) (le→leb _ _ (s .2)))
+  sound-tested s = both-true held (rising && within) (lt→ltb _ _ (s .0)) (both-true rising within (le→leb _ _ (s .1)) (le→leb _ _ (s .2)))
 
   tested-sound : T (held && (rising && within)) → Sound
   tested-sound t =

@@ -4,7 +4,7 @@ use Rattle.base_lists.specs.Kit.{_≡_, _∙_, sym, ap, refl, _↔_, ⊎-elim, 
 use Rattle.base_lists.specs.List.{Below}
 use Rattle.base_lists.proofs.Tests.{true-T, false-T}
 use Rattle.graph.specs.Neighbours.{select, below, stretch}
-use Rattle.graph.specs.Net.{forwardOffsets, forwardLinks, driven, NetOf}
+use Rattle.graph.specs.Net.{forwardOffsets, forwardTargets, driven, NetOf}
 use Rattle.graph.specs.Rising.{LinksRise}
 use Rattle.graph.proofs.Lookup.{stretch-part}
 use Rattle.graph.proofs.Net.{stretch-sound}
@@ -95,13 +95,13 @@ sorted-select (x ∷ xs) (y ∷ ys) s e v i h q = go (eqb x v) refl i h q (sorte
 
 -- in neighbour tables of such links the forward link table has the ends in their order
 pub link-at : {n : ℕ} {starts ends offsets links : List ℕ} → NetOf n starts ends offsets links → Sorted starts → length starts ≡ length ends → Below n starts
-    → (i : ℕ) → i < length starts → getD (forwardLinks links) i 0 ≡ getD ends i 0
+    → (i : ℕ) → i < length starts → getD (forwardTargets links) i 0 ≡ getD ends i 0
 unfolding driven Below
 link-at {n} {starts} {ends} {offsets} {links} t s e b i h =
     let v = getD starts i 0 in
     let l : v < n = b i h in
     let fo = forwardOffsets offsets in
-    let fl = forwardLinks links in
+    let fl = forwardTargets links in
     let (low, high) = sorted-at starts s v i h .1 refl in
     let from : getD fo v 0 ≡ below starts v = t .begins v (omega arith) in
     let to : getD fo (suc v) 0 ≡ below starts (suc v) = t .begins (suc v) l in

@@ -6,34 +6,34 @@ use Rattle.graph.specs.Graph.{Graph, Walk, stay, step, Distance, Radius}
 
 module _ {Link : ℕ → ℕ → Type 0} where
   -- a walk of one link
-  pub single : {v w : ℕ} → Link v w ⊎ Link w v → Walk Link v w 1
-  single l = step stay l
+  pub walk-single : {v w : ℕ} → Link v w ⊎ Link w v → Walk Link v w 1
+  walk-single l = step stay l
 
   -- a walk with its length, or its last node, named otherwise
-  pub recount : {v w m k : ℕ} → m ≡ k → Walk Link v w m → Walk Link v w k
-  recount {v} {w} e p = subst (Walk Link v w) e p
+  pub walk-recount : {v w m k : ℕ} → m ≡ k → Walk Link v w m → Walk Link v w k
+  walk-recount {v} {w} e p = subst (Walk Link v w) e p
 
-  pub retarget : {v w x k : ℕ} → w ≡ x → Walk Link v w k → Walk Link v x k
-  retarget {v} {k = k} e p = subst (λ y. Walk Link v y k) e p
+  pub walk-retarget : {v w x k : ℕ} → w ≡ x → Walk Link v w k → Walk Link v x k
+  walk-retarget {v} {k = k} e p = subst (λ y. Walk Link v y k) e p
 
   -- a link before a walk
-  pub cons : {v w x k : ℕ} → Link v w ⊎ Link w v → Walk Link w x k → Walk Link v x (suc k)
-  cons l stay = step stay l
-  cons l (step p m) = step (cons l p) m
+  pub walk-cons : {v w x k : ℕ} → Link v w ⊎ Link w v → Walk Link w x k → Walk Link v x (suc k)
+  walk-cons l stay = step stay l
+  walk-cons l (step p m) = step (walk-cons l p) m
 
-  pub reverse : {v w k : ℕ} → Walk Link v w k → Walk Link w v k
-  reverse stay = stay
-  reverse (step p l) = cons (⊎-swap l) (reverse p)
+  pub walk-reverse : {v w k : ℕ} → Walk Link v w k → Walk Link w v k
+  walk-reverse stay = stay
+  walk-reverse (step p l) = walk-cons (⊎-swap l) (walk-reverse p)
 
   -- one walk after another
-  pub append : {v w x m k : ℕ} → Walk Link v w m → Walk Link w x k → Walk Link v x (k + m)
-  append p stay = recount (sym (zero-add _)) p
-  append p (step q l) = recount (sym (suc-add _ _)) (step (append p q) l)
+  pub walk-append : {v w x m k : ℕ} → Walk Link v w m → Walk Link w x k → Walk Link v x (k + m)
+  walk-append p stay = walk-recount (sym (zero-add _)) p
+  walk-append p (step q l) = walk-recount (sym (suc-add _ _)) (step (walk-append p q) l)
 
   -- what a link hands from either of its nodes to the other, a walk hands from its first node to its last
-  pub along : (P : ℕ → Type 0) → ((v w : ℕ) → Link v w ⊎ Link w v → P v → P w) → {v w k : ℕ} → Walk Link v w k → P v → P w
-  along P f stay h = h
-  along P f (step {w} {x} p l) h = f w x l (along P f p h)
+  pub walk-along : (P : ℕ → Type 0) → ((v w : ℕ) → Link v w ⊎ Link w v → P v → P w) → {v w k : ℕ} → Walk Link v w k → P v → P w
+  walk-along P f stay h = h
+  walk-along P f (step {w} {x} p l) h = f w x l (walk-along P f p h)
 
 -- ---- distances
 

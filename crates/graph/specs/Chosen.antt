@@ -10,7 +10,7 @@ picked marks xs = keepFrom zero (inside marks) xs
 
 -- the circuit with the chosen links alone: all its nodes stay
 unfoldable pub chosen : Circuit → List ℕ → Circuit
-chosen c marks = record { kinds = c .kinds; starts = picked marks (c .starts); ends = picked marks (c .ends) }
+chosen c marks = record { labels = c .labels; starts = picked marks (c .starts); ends = picked marks (c .ends) }
 
 -- the circuit has a link from v to w that is chosen
 unfoldable pub ChosenLink : Circuit → List ℕ → ℕ → ℕ → Type 0

@@ -20,12 +20,12 @@ graphOf n starts ends = record { Node = λ v. v < n; Link = HasLink starts ends 
 -- A circuit's content: the label of each node, and the links. "A pattern and a board are both circuits." A label is a node's kind and, where it has a package, 65,536
 -- times that besides; the field has the name that document 01 gives to a file's first list.
 pub record Circuit : Type 0 where
-  pub kinds : List ℕ
+  pub labels : List ℕ
   pub starts : List ℕ
   pub ends : List ℕ
 
 unfoldable pub circuitGraph : Circuit → Graph
-circuitGraph c = graphOf (length (c .kinds)) (c .starts) (c .ends)
+circuitGraph c = graphOf (length (c .labels)) (c .starts) (c .ends)
 
 abbrev pub circuit : List ℕ → List ℕ → List ℕ → Circuit
-circuit kinds starts ends = record { kinds = kinds; starts = starts; ends = ends }
+circuit labels starts ends = record { labels = labels; starts = starts; ends = ends }

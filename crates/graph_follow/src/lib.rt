@@ -9,7 +9,7 @@ ghost use Rattle.base_lists.specs.List.{Below};
 ghost use Rattle.graph.specs.Bfs.{scan, level, stateOf, Searching, Searched};
 ghost use Rattle.graph.specs.Net.{Net};
 ghost use Rattle.graph.specs.Search.{far};
-ghost use Rattle.graph_follow.specs.Follow.{meeting, look, beside};
+ghost use Rattle.graph_follow.specs.Follow.{meeting, look, nodesBeside};
 
 // Every number: a set meets it unless it is empty.
 const ANY: u32 = 4294967295;
@@ -65,7 +65,7 @@ pub fn follow(
 // Lists the nodes beside v, either way, whose sets are not empty.
 fn wake_beside(
     offsets: &[u16],
-    links: &[u16],
+    targets: &[u16],
     sets: &[u32],
     v: usize,
     marks: &mut [u16],
@@ -73,13 +73,13 @@ fn wake_beside(
     from: usize,
 ) -> usize
     requires { ⌜ Searching (now marks) (now todo) from ⌝ }
-    requires { ⌜ Net (length (now sets)) (now offsets) (now links) ⌝ }
+    requires { ⌜ Net (length (now sets)) (now offsets) (now targets) ⌝ }
     requires { ⌜ length (now sets) ≡ length (now marks) ⌝ }
     requires { ⌜ v < length (now sets) ⌝ }
-    ensures { λ r. ⌜ Searched (now (marks .exit)) (now (todo .exit)) r (scan 0 (stateOf (now (marks .entry)) (now (todo .entry)) from) (beside (now (offsets .entry)) (now (links .entry)) (now (sets .entry)) v)) ⌝ }
+    ensures { λ r. ⌜ Searched (now (marks .exit)) (now (todo .exit)) r (scan 0 (stateOf (now (marks .entry)) (now (todo .entry)) from) (nodesBeside (now (offsets .entry)) (now (targets .entry)) (now (sets .entry)) v)) ⌝ }
 {
     let tail = follow(
-        neighbours_in(Direction::Forward, offsets, links, v),
+        neighbours_in(Direction::Forward, offsets, targets, v),
         ANY,
         sets,
         0,
@@ -88,7 +88,7 @@ fn wake_beside(
         from,
     );
     follow(
-        neighbours_in(Direction::Backward, offsets, links, v),
+        neighbours_in(Direction::Backward, offsets, targets, v),
         ANY,
         sets,
         0,
@@ -99,25 +99,25 @@ fn wake_beside(
 }
 
 // Lists the nodes beside those of a list whose sets are not empty, each once, and returns how many they are.
-pub fn wake(
+pub fn list_beside(
     changed: &[u16],
     offsets: &[u16],
-    links: &[u16],
+    targets: &[u16],
     sets: &[u32],
     marks: &mut [u16],
     todo: &mut [u16],
 ) -> usize
     requires { ⌜ Searching (now marks) (now todo) 0 ⌝ }
-    requires { ⌜ Net (length (now sets)) (now offsets) (now links) ⌝ }
+    requires { ⌜ Net (length (now sets)) (now offsets) (now targets) ⌝ }
     requires { ⌜ length (now sets) ≡ length (now marks) ⌝ }
     requires { ⌜ Below (length (now sets)) (now changed) ⌝ }
-    ensures { λ r. ⌜ Searched (now (marks .exit)) (now (todo .exit)) r (level (beside (now (offsets .entry)) (now (links .entry)) (now (sets .entry))) 0 (stateOf (now (marks .entry)) (now (todo .entry)) 0) (now (changed .entry))) ⌝ }
+    ensures { λ r. ⌜ Searched (now (marks .exit)) (now (todo .exit)) r (level (nodesBeside (now (offsets .entry)) (now (targets .entry)) (now (sets .entry))) 0 (stateOf (now (marks .entry)) (now (todo .entry)) 0) (now (changed .entry))) ⌝ }
 {
     let mut tail = 0;
     let mut i = 0;
     while i < changed.len() {
         let v = changed[i] as usize;
-        tail = wake_beside(offsets, links, sets, v, marks, todo, tail);
+        tail = wake_beside(offsets, targets, sets, v, marks, todo, tail);
         i += 1;
     }
     tail

@@ -8,7 +8,7 @@ use Rattle.graph_neighbours.specs.declared.neighbours.Direction.{Directi
 use Rattle.graph_neighbours.specs.declared.neighbours.Direction.the-variants.{Forward, Backward}
 
 -- a node's neighbours in either direction are nodes
-pub neighbours-below : (direction : Direction) {n : ℕ} {offsets links : List ℕ} → Net n offsets links → (v : ℕ) → v < n → Below n (neighboursIn direction offsets links v)
+pub neighbours-below : (direction : Direction) {n : ℕ} {offsets targets : List ℕ} → Net n offsets targets → (v : ℕ) → v < n → Below n (neighboursIn direction offsets targets v)
 unfolding neighboursIn
 neighbours-below Forward t v h = driven-below t v h
 neighbours-below Backward t v h = driving-below t v h

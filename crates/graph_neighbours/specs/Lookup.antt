@@ -12,5 +12,5 @@ neighboursOf Backward fo ft bo bt v = stretch bo bt v
 
 -- the same of tables that are handed on as two lists
 unfoldable pub neighboursIn : Direction → List ℕ → List ℕ → ℕ → List ℕ
-neighboursIn Forward offsets links v = driven offsets links v
-neighboursIn Backward offsets links v = driving offsets links v
+neighboursIn Forward offsets targets v = driven offsets targets v
+neighboursIn Backward offsets targets v = driving offsets targets v

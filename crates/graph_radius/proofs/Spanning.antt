@@ -13,7 +13,7 @@ use Rattle.graph.specs.Search.{far, inside, ball, connected, radius}
 use Rattle.graph.proofs.Ball.{Within, within-all, ball-walk}
 use Rattle.graph.proofs.Distance.{distances-spec, inside-distance, distance-inside, distance-near, connected-iff, radius-is, entry-le-radius, entry-radius}
 use Rattle.graph.proofs.Walks.{distance-unique}
-use Rattle.graph_radius.specs.Balls.{balls, everyNode, spanning, grown, Begun, Finds}
+use Rattle.graph_radius.specs.Balls.{balls, everyNode, spanning, grown, BallsBegun, FindsRadius}
 use Rattle.graph_radius.proofs.Balls.{length-balls, ball-below, bit-balls, balls-zero, grown-balls}
 
 -- ---- the set of all nodes, and tables of it
@@ -134,7 +134,7 @@ module _ {n : ℕ} {ss es : List ℕ} (links : Within n ss es) (few : n ≤ far)
 -- after k rounds the table has the balls at radius k, and at no smaller radius has every ball every node
 unfoldable pub Reached : List ℕ → List ℕ → List ℕ → ℕ → Type 0
 Reached near first sets k =
-    (ss es : List ℕ) → Begun ss es near first
+    (ss es : List ℕ) → BallsBegun ss es near first
     → (sets ≡ balls (length near) ss es k) × ((j : ℕ) → j < k → T (spanning (everyNode (length near)) (balls (length near) ss es j)) → ⊥)
 
 module _ (near first : List ℕ) where
@@ -151,21 +151,21 @@ module _ (near first : List ℕ) where
           λ j h t. ⊎-elim (λ s. false-T e (subst (λ (x : List ℕ). T (spanning (everyNode (length near)) x)) (ap (balls (length near) ss es) s ∙ sym q) t)) (λ l. none j l t) (eq-or-lt-of-le (le-of-suc-le-suc (rw add-one at h))),
         )
 
-    pub reached-found : (sets : List ℕ) (k : ℕ) → Reached near first sets k → spanning (everyNode (length near)) sets ≡ true → Finds near first k
-    unfolding Reached Finds
+    pub reached-found : (sets : List ℕ) (k : ℕ) → Reached near first sets k → spanning (everyNode (length near)) sets ≡ true → FindsRadius near first k
+    unfolding Reached FindsRadius
     reached-found sets k r e ss es b =
         let (q, none) = r ss es b in
         radius-found (within-all (length near) ss es (b .inStarts) (b .inEnds)) (omega arith) k (true-T (ap (spanning (everyNode (length near))) (sym q) ∙ e)) none
 
-    pub reached-far : (sets : List ℕ) (k : ℕ) → Reached near first sets k → length near < k → Finds near first far
-    unfolding Reached Finds
+    pub reached-far : (sets : List ℕ) (k : ℕ) → Reached near first sets k → length near < k → FindsRadius near first far
+    unfolding Reached FindsRadius
     reached-far sets k r h ss es b =
         radius-far (within-all (length near) ss es (b .inStarts) (b .inEnds)) (omega arith) (r ss es b .1 (length near) h)
 
 -- what is found is the radius of the circuit that the tables were made for
 pub finds-radius : (n m r : ℕ) (ss es near sets : List ℕ) → T (all (λ v. ltb v n) ss) → T (all (λ v. ltb v n) es) → near ≡ balls n ss es 1
-    → sets ≡ tabulate m (λ u. 2 ^ u) → m ≡ n → Finds near sets r → r ≡ radius n ss es
-unfolding Finds
+    → sets ≡ tabulate m (λ u. 2 ^ u) → m ≡ n → FindsRadius near sets r → r ≡ radius n ss es
+unfolding FindsRadius
 finds-radius n m r ss es near sets s e p q same f =
     let size : length near ≡ n = ap length p ∙ length-balls n ss es 1 in
     subst (λ (k : ℕ). r ≡ radius k ss es) size

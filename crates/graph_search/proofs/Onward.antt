@@ -3,7 +3,7 @@
 use Rattle.base_lists.specs.Kit.{_≡_, _∙_, sym, ap, refl, subst, ⊎-elim, _⊎_, inl, inr, Bool, false, true, _||_, List, _++_, ℕ, _≤_, _<_, _+_, _-_, le-refl, le-trans, lt-of-not-le, not-suc-le-zero, sub-zero, eqb, length, getD, take, drop, take-append-drop, min-le-right, length-take, length-take-le, take-take, getD-take, take-length, arith, eqb-true, eqb-false}
 use Rattle.base_lists.specs.List.{Occurs, Below}
 use Rattle.base_lists.proofs.Tests.{false-T}
-use Rattle.graph.specs.Bfs.{State, scan, level, levels, start, bfs, Adjacency}
+use Rattle.graph.specs.Bfs.{SearchState, scan, level, levels, start, bfs, Adjacency}
 use Rattle.graph.specs.Graph.{Walk}
 use Rattle.graph.specs.Search.{far}
 use Rattle.graph.proofs.Bfs.{bfs-measured, bfs-ready}
@@ -35,7 +35,7 @@ neither a b d r = go (eqb a b) refl (eqb d r) refl
 
 -- ---- one step of what is left
 
-module _ (adj : ℕ → List ℕ) (f : Frontier) (s : State) where
+module _ (adj : ℕ → List ℕ) (f : Frontier) (s : SearchState) where
   -- the rest of the level, one node further
   onward-next : (v tail : ℕ) → f .looked < f .level → f .level ≤ length (s .reached) → v ≡ getD (s .reached) (f .looked) 0 → (m : ℕ)
       → onward adj m (record { looked = f .looked + 1; level = f .level; tail = tail; depth = f .depth }) (scan (f .depth) s (adj v)) ≡ onward adj m f s
@@ -80,12 +80,12 @@ first-le xs ys e = subst (λ (k : ℕ). k ≤ length ys) (sym (length-take (leng
 first-more : (xs ys zs : List ℕ) → take (length xs) ys ≡ xs → take (length ys) zs ≡ ys → take (length xs) zs ≡ xs
 first-more xs ys zs a b = sym (take-take (length xs) (length ys) zs (first-le xs ys a)) ∙ ap (take (length xs)) b ∙ a
 
-module _ {adj : ℕ → List ℕ} {r : ℕ} {f : Frontier} {s : State} where
+module _ {adj : ℕ → List ℕ} {r : ℕ} {f : Frontier} {s : SearchState} where
   -- it has not moved
   pub advanced-none : Standing r f → Advanced adj r 0 f s f s
   advanced-none k = record { standing = k; further = le-refl _; longer = take-length (s .reached); same = λ m h. refl; all = λ h. absurd (not-suc-le-zero h) }
 
-  module _ {g : Frontier} {t : State} (a : Advanced adj r 0 f s g t) (size : g .tail ≡ length (t .reached)) where
+  module _ {g : Frontier} {t : SearchState} (a : Advanced adj r 0 f s g t) (size : g .tail ≡ length (t .reached)) where
     listed : g .level ≤ length (t .reached)
     listed = omega (arith, a .standing .reached)
 
@@ -136,7 +136,7 @@ module _ {adj : ℕ → List ℕ} {r : ℕ} {f : Frontier} {s : State} where
     advanced-enough n h = record { standing = a .standing; further = a .further; longer = a .longer; same = a .same; all = λ b. absurd (omega arith) }
 
 -- once more
-pub advanced-more : {adj : ℕ → List ℕ} {r k m : ℕ} {f g h : Frontier} {s t u : State} → Advanced adj r k f s g t → Advanced adj r m g t h u → Advanced adj r m f s h u
+pub advanced-more : {adj : ℕ → List ℕ} {r k m : ℕ} {f g h : Frontier} {s t u : SearchState} → Advanced adj r k f s g t → Advanced adj r m g t h u → Advanced adj r m f s h u
 advanced-more {s = s} {t = t} {u = u} a b =
     record {
       standing = b .standing;
@@ -162,7 +162,7 @@ centre-onward adj n c m =
     ap (levels adj (m - 0) 0 0) (level-end adj 0 (start n c) (take 0 (start n c .reached)) 0 (omega (arith, length-take-le 0 (start n c .reached) (omega arith))))
     ∙ ap (λ (k : ℕ). levels adj k 0 0 (start n c)) (sub-zero m)
 
-module _ (n c : ℕ) {adj : ℕ → List ℕ} {r size : ℕ} {g : Frontier} {s t : State} (e : s ≡ start n c) (a : Advanced adj r size centre s g t) where
+module _ (n c : ℕ) {adj : ℕ → List ℕ} {r size : ℕ} {g : Frontier} {s t : SearchState} (e : s ≡ start n c) (a : Advanced adj r size centre s g t) where
   from-centre : (m : ℕ) → onward adj m centre s ≡ bfs adj n c m
   from-centre m = ap (onward adj m centre) e ∙ centre-onward adj n c m
 
@@ -183,7 +183,7 @@ module _ (n c : ℕ) {adj : ℕ → List ℕ} {r size : ℕ} {g : Frontier} {s t
         within = a .standing .within;
         first =
             ap (λ (ns : List ℕ). ns ++ drop m (end .reached)) (sym same) ∙ take-append-drop m (end .reached)
-            ∙ ap (λ (u : State). u .reached)
+            ∙ ap (λ (u : SearchState). u .reached)
             (sym (levels-none adj (g .depth - g .depth) (g .depth) (g .level) end (omega arith)) ∙ a .same (g .depth) (le-refl _) ∙ from-centre (g .depth));
         all = λ few. advanced-all (lt-of-not-le few);
       }
@@ -192,7 +192,7 @@ module _ (n c : ℕ) {adj : ℕ → List ℕ} {r size : ℕ} {g : Frontier} {s t
 
 -- a walk of at most r links leads to each node that such a search has reached
 pub until-walk :
-    {n c r : ℕ} {adj : ℕ → List ℕ} {Link : ℕ → ℕ → Type 0} {Enough : Type 0} {s : State} → n < far → c < n → Adjacency n adj Link → Until adj n c r Enough s →
+    {n c r : ℕ} {adj : ℕ → List ℕ} {Link : ℕ → ℕ → Type 0} {Enough : Type 0} {s : SearchState} → n < far → c < n → Adjacency n adj Link → Until adj n c r Enough s →
     (v : ℕ) → Occurs (s .reached) v → (v < n) × ((k : ℕ) × Walk Link c v k × (k ≤ r))
 unfolding Below
 until-walk {n} {c} {r} {adj} {Link} {s = s} few h a u v o =

@@ -1,11 +1,11 @@
 -- A breadth-first search that goes on from where it stands, and one that stops where it has reached enough, over any adjacency function: what the contracts of
 -- the searches cite. Both say what they find by `bfs`.
 use Rattle.base_lists.specs.Kit.{_≡_, List, _++_, ℕ, _≤_, _<_, _-_, length, take, drop}
-use Rattle.graph.specs.Bfs.{State, level, levels, bfs}
+use Rattle.graph.specs.Bfs.{SearchState, level, levels, bfs}
 use Rattle.graph_search.specs.declared.Frontier.{Frontier}
 
 -- what is left of a search up to distance m: to look at the neighbours of the rest of a level, and the levels after it
-unfoldable pub onward : (ℕ → List ℕ) → ℕ → Frontier → State → State
+unfoldable pub onward : (ℕ → List ℕ) → ℕ → Frontier → SearchState → SearchState
 onward adj m f s = levels adj (m - f .depth) (f .depth) (f .level) (level adj (f .depth) s (drop (f .looked) (take (f .level) (s .reached))))
 
 -- a search up to distance r stands there: each level so far has reached a node
@@ -17,7 +17,7 @@ pub record Standing (r : ℕ) (f : Frontier) : Type 0 where
 
 -- From f and the state s a search has come to g and the state t, with the same nodes first: the same is left, however far it goes; and where it has reached less than so many nodes, nothing
 -- is left up to distance r.
-pub record Advanced (adj : ℕ → List ℕ) (r size : ℕ) (f : Frontier) (s : State) (g : Frontier) (t : State) : Type 0 where
+pub record Advanced (adj : ℕ → List ℕ) (r size : ℕ) (f : Frontier) (s : SearchState) (g : Frontier) (t : SearchState) : Type 0 where
   pub standing : Standing r g
   pub further : f .depth ≤ g .depth
   pub longer : take (length (s .reached)) (t .reached) ≡ s .reached
@@ -26,7 +26,7 @@ pub record Advanced (adj : ℕ → List ℕ) (r size : ℕ) (f : Frontier) (s : 
 
 -- A search from c among n nodes up to distance r that may stop where there is enough: it has reached the first of the nodes up to some distance, which is at most
 -- r; and all that there is to reach, where there was not enough.
-pub record Until (adj : ℕ → List ℕ) (n c r : ℕ) (Enough : Type 0) (s : State) : Type 0 where
+pub record Until (adj : ℕ → List ℕ) (n c r : ℕ) (Enough : Type 0) (s : SearchState) : Type 0 where
   pub depth : ℕ
   pub rest : List ℕ
   pub within : depth ≤ r

@@ -51,22 +51,22 @@ fn scan(part: &[u16], d: u16, dist: &mut [u16], queue: &mut [u16], from: usize) 
 // Looks at the neighbours of node v: what it drives, then what drives it.
 pub fn expand(
     offsets: &[u16],
-    links: &[u16],
+    targets: &[u16],
     v: usize,
     d: u16,
     dist: &mut [u16],
     queue: &mut [u16],
     from: usize,
 ) -> usize
-    requires { ⌜ Net (length (now dist)) (now offsets) (now links) ⌝ }
+    requires { ⌜ Net (length (now dist)) (now offsets) (now targets) ⌝ }
     requires { ⌜ Searching (now dist) (now queue) from ⌝ }
     requires { ⌜ v < length (now dist) ⌝ }
     requires { ⌜ d < far ⌝ }
-    ensures { λ r. ⌜ Searched (now (dist .exit)) (now (queue .exit)) r (scan d (stateOf (now (dist .entry)) (now (queue .entry)) from) (adjacent (now (offsets .entry)) (now (links .entry)) v)) ⌝ }
+    ensures { λ r. ⌜ Searched (now (dist .exit)) (now (queue .exit)) r (scan d (stateOf (now (dist .entry)) (now (queue .entry)) from) (adjacent (now (offsets .entry)) (now (targets .entry)) v)) ⌝ }
 {
-    let driven = neighbours_in(Direction::Forward, offsets, links, v);
+    let driven = neighbours_in(Direction::Forward, offsets, targets, v);
     let tail = scan(driven, d, dist, queue, from);
-    let driving = neighbours_in(Direction::Backward, offsets, links, v);
+    let driving = neighbours_in(Direction::Backward, offsets, targets, v);
     scan(driving, d, dist, queue, tail)
 }
 
@@ -103,18 +103,18 @@ pub fn ended(level: usize, tail: usize, depth: u16, r: u16) -> bool
 // Goes on with a search as far as distance r, level by level, and stops as soon as it has reached `size` nodes.
 pub fn advance(
     offsets: &[u16],
-    links: &[u16],
+    targets: &[u16],
     from: Frontier,
     r: u16,
     size: usize,
     dist: &mut [u16],
     queue: &mut [u16],
 ) -> Frontier
-    requires { ⌜ Net (length (now dist)) (now offsets) (now links) ⌝ }
+    requires { ⌜ Net (length (now dist)) (now offsets) (now targets) ⌝ }
     requires { ⌜ Searching (now dist) (now queue) (from .tail) ⌝ }
     requires { ⌜ Standing r from ⌝ }
     ensures { λ f. ⌜ Searching (now (dist .exit)) (now (queue .exit)) (f .tail) ⌝ }
-    ensures { λ f. ⌜ Advanced (adjacent (now (offsets .entry)) (now (links .entry))) r size from (stateOf (now (dist .entry)) (now (queue .entry)) (from .tail)) f (stateOf (now (dist .exit)) (now (queue .exit)) (f .tail)) ⌝ }
+    ensures { λ f. ⌜ Advanced (adjacent (now (offsets .entry)) (now (targets .entry))) r size from (stateOf (now (dist .entry)) (now (queue .entry)) (from .tail)) f (stateOf (now (dist .exit)) (now (queue .exit)) (f .tail)) ⌝ }
 {
     let mut looked = from.looked;
     let mut level = from.level;
@@ -134,7 +134,7 @@ pub fn advance(
             depth += 1;
         } else {
             let v = queue[looked] as usize;
-            tail = expand(offsets, links, v, depth, dist, queue, tail);
+            tail = expand(offsets, targets, v, depth, dist, queue, tail);
             looked += 1;
         }
     }
@@ -173,18 +173,18 @@ pub fn begin(c: u16, dist: &mut [u16], queue: &mut [u16])
 // Returns how many nodes it reached; they stand first in the queue, nearest first.
 pub fn search(
     offsets: &[u16],
-    links: &[u16],
+    targets: &[u16],
     c: u16,
     r: u16,
     dist: &mut [u16],
     queue: &mut [u16],
 ) -> usize
-    requires { ⌜ Net (length (now dist)) (now offsets) (now links) ⌝ }
+    requires { ⌜ Net (length (now dist)) (now offsets) (now targets) ⌝ }
     requires { ⌜ c < length (now dist) ⌝ }
     requires { ⌜ length (now dist) ≡ length (now queue) ⌝ }
-    ensures { λ k. ⌜ Found k (now (dist .exit)) (now (queue .exit)) (bfs (adjacent (now (offsets .entry)) (now (links .entry))) (length (now (dist .entry))) c r) ⌝ }
+    ensures { λ k. ⌜ Found k (now (dist .exit)) (now (queue .exit)) (bfs (adjacent (now (offsets .entry)) (now (targets .entry))) (length (now (dist .entry))) c r) ⌝ }
 {
     begin(c, dist, queue);
-    let end = advance(offsets, links, CENTRE, r, ALL, dist, queue);
+    let end = advance(offsets, targets, CENTRE, r, ALL, dist, queue);
     end.tail
 }

@@ -20,8 +20,8 @@ use Rattle.session.specs.Tables.{CutMade, cutsAnswered, cutsTables, ReadMade}
 use Rattle.session.proofs.Run.{machine-largest}
 use Rattle.session.proofs.Tables.{nodes-held, cuts-held, table-held}
 use Rattle.heronditch_reply.specs.declared.HostReply.{HostReply}
-use Rattle.heronditch_reply.specs.Replies.{slots, numberOf}
-use Rattle.heronditch.specs.Session.{HostOpen, HostCut, HostTable, HostCuts, hostReplies}
+use Rattle.heronditch_reply.specs.Replies.{slots, verdictNumber}
+use Rattle.heronditch.specs.Session.{HostOpen, HostCut, HostReadOut, HostCuts, hostReplies}
 
 pub host-open :
     {pattern board : CircuitFile} {before after : State} (answer : OpenAnswer) {r : HostReply} → OpenPromise pattern board before (openVerdict answer) after →
@@ -40,7 +40,7 @@ never-zero pattern board x = without-never 0 (openConditions pattern board) x
 
 -- no condition has number 0: a reply of number 0 is acceptance
 opened-zero : {pattern board : CircuitFile} {before after : State} {r : HostReply} → HostOpen pattern board before r after → r .number ≡ 0 → first (openConditions pattern board) ≡ accept
-unfolding slots numberOf files.reply
+unfolding slots verdictNumber files.reply
 opened-zero {pattern} {board} {before} {after} {r} p e = go (first (openConditions pattern board)) refl
   where
     go : (v : Verdict) → first (openConditions pattern board) ≡ v → v ≡ accept
@@ -53,16 +53,16 @@ pub host-cut :
 host-cut p e = record { replied = e ∙ ap (λ (v : Verdict). slots (files.reply v [])) (p .replied); tables = p .tables }
 
 pub host-table :
-    {fixed sets before after : List ℕ} {a : files.Reply} {r : HostReply} → ReadMade fixed sets before a after → r ≡ slots a → HostTable fixed sets before r after
+    {fixed sets before after : List ℕ} {a : files.Reply} {r : HostReply} → ReadMade fixed sets before a after → r ≡ slots a → HostReadOut fixed sets before r after
 host-table p e = record { replied = e ∙ ap slots (p .replied); table = p .table }
 
 -- ---- what reading out comes to where the tables hold a machine
 
-module _ {fixed sets before after : List ℕ} {r : HostReply} (c : HostTable fixed sets before r after) where
+module _ {fixed sets before after : List ℕ} {r : HostReply} (c : HostReadOut fixed sets before r after) where
   pub table-machine :
       (m : Machine) (offsets numbers ends : List ℕ) → Holds m (state fixed offsets numbers ends sets) →
-      let verdict = first (shortTable (length (m .board .kinds)) (length before) ∷ []) in
-      (r ≡ slots (files.reply verdict (length (m .board .kinds) ∷ []))) × (after ≡ filled verdict (machineTable m) before)
+      let verdict = first (shortTable (length (m .board .labels)) (length before) ∷ []) in
+      (r ≡ slots (files.reply verdict (length (m .board .labels) ∷ []))) × (after ≡ filled verdict (machineTable m) before)
   table-machine m offsets numbers ends h =
       let nodes = nodes-held h in (
         c .replied ∙ ap (λ (n : ℕ). slots (files.reply (first (shortTable n (length before) ∷ [])) (n ∷ []))) nodes,
@@ -100,9 +100,9 @@ module _ {pattern board : CircuitFile} {before opened : State} {r : HostReply} (
       (es ∙ ap hostReplies said, rw end holds)
 
   pub host-read :
-      {lent later : List ℕ} {t : HostReply} → HostTable (after .fixed) (after .sets) lent t later →
-      let verdict = first (shortTable (length (machine .board .kinds)) (length lent) ∷ []) in
-      (t ≡ slots (files.reply verdict (length (machine .board .kinds) ∷ []))) × (later ≡ filled verdict (machineTable machine) lent)
+      {lent later : List ℕ} {t : HostReply} → HostReadOut (after .fixed) (after .sets) lent t later →
+      let verdict = first (shortTable (length (machine .board .labels)) (length lent) ∷ []) in
+      (t ≡ slots (files.reply verdict (length (machine .board .labels) ∷ []))) × (later ≡ filled verdict (machineTable machine) lent)
   host-read read = table-machine read machine (after .offsets) (after .numbers) (after .ends) (host-run .1)
 
   pub host-largest :

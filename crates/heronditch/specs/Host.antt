@@ -5,7 +5,7 @@ use Rattle.file_format.specs.Layout.{CircuitFile}
 use Rattle.file_format.specs.Reading.{ReadOutcome, filled}
 use Rattle.file_format.specs.Refusals.{first, shortTable}
 use Rattle.file_format.specs.Reply as files
-use Rattle.heronditch_reply.specs.Replies.{numberOf, meantFile, slots, counted, pieced}
+use Rattle.heronditch_reply.specs.Replies.{verdictNumber, meantFile, slots, counted, pieced}
 use Rattle.call_convert.specs.Call.{ConvertOutcome}
 use Rattle.call_distance.specs.Calls.{BallOutcome}
 use Rattle.file_write.specs.Writing.{WriteOutcome}
@@ -14,7 +14,7 @@ use Rattle.call_bounded.specs.Call.{boundedMatching}
 use Rattle.place.specs.Outcome.{PlaceOutcome}
 use Rattle.barring.specs.Outcome.{BarOutcome}
 use Rattle.call_merge.specs.Call.{MergeOutcome}
-use Rattle.call_load.specs.Call.{LoadOutcome}
+use Rattle.call_test_board.specs.Call.{TestBoardOutcome}
 use Rattle.call_report.specs.Call.{ReportOutcome}
 use Rattle.call_shelf.specs.declared.compare.CompareAnswer.{CompareAnswer}
 use Rattle.call_shelf.specs.Compare.{compareReply}
@@ -80,8 +80,8 @@ pub record HostMerge : Type 0 where
 unfoldable pub hostMerge : MergeOutcome → HostMerge
 hostMerge o = record { reply = slots (o .reply); classes = o .classes; out = o .out }
 
-unfoldable pub hostLoad : LoadOutcome → HostOut
-hostLoad o = record { reply = slots (o .reply); out = o .out }
+unfoldable pub hostTestBoard : TestBoardOutcome → HostOut
+hostTestBoard o = record { reply = slots (o .reply); out = o .out }
 
 pub record HostReport : Type 0 where
   pub reply : Piece
@@ -94,7 +94,7 @@ hostReport o = record { reply = pieced (o .reply); out = o .out }
 unfoldable pub hostCompare : CompareAnswer → Comparison
 hostCompare answer =
     let c = compareReply answer in
-    record { number = numberOf (c .verdict); file = meantFile (c .verdict); which = c .which; order = c .order }
+    record { number = verdictNumber (c .verdict); file = meantFile (c .verdict); which = c .which; order = c .order }
 
 unfoldable pub hostShelf : ShelfOutcome → HostOut
 hostShelf o = record { reply = slots (o .reply); out = o .order }

@@ -26,7 +26,7 @@ pub record HostCut (before : State) (link : ℕ) (r : HostReply) (after : State)
   pub tables : after ≡ cutTables before link
 
 -- reading out, whatever the tables hold: the reply, and the lent table after it
-pub record HostTable (fixed sets before : List ℕ) (r : HostReply) (after : List ℕ) : Type 0 where
+pub record HostReadOut (fixed sets before : List ℕ) (r : HostReply) (after : List ℕ) : Type 0 where
   pub replied : r ≡ slots (reply (readVerdict fixed before) (nodesIn fixed ∷ []))
   pub table : after ≡ filled (readVerdict fixed before) (tableIn fixed sets) before
 

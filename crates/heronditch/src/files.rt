@@ -6,9 +6,9 @@ ghost use Rattle.graph_neighbours.specs.Lookup.{neighboursOf};
 ghost use Rattle.call_convert.specs.Call.{converting};
 ghost use Rattle.call_file.specs.Told.{asRole};
 ghost use Rattle.call_distance.specs.Calls.{radiusCall, ballCall};
-ghost use Rattle.call_load.specs.Call.{loading};
+ghost use Rattle.call_test_board.specs.Call.{makingTestBoard};
 ghost use Rattle.call_merge.specs.Call.{merging};
-ghost use Rattle.heronditch.specs.Host.{hostRead, hostWrite, hostConvert, hostBall, hostMerge, hostLoad, hostNeighbours};
+ghost use Rattle.heronditch.specs.Host.{hostRead, hostWrite, hostConvert, hostBall, hostMerge, hostTestBoard, hostNeighbours};
 ghost use Rattle.heronditch_reply.specs.Replies.{slots};
 ghost use Rattle.heronditch_told.specs.Told.{told, editionOf, roleOf, directionOf};
 use call_file::as_role;
@@ -19,7 +19,7 @@ use heronditch_reply::HostReply;
 use heronditch_reply::accepted;
 use heronditch_reply::of_ball;
 use heronditch_reply::of_convert;
-use heronditch_reply::of_load;
+use heronditch_reply::of_test_board;
 use heronditch_reply::of_merge;
 use heronditch_reply::of_radius;
 use heronditch_reply::of_read;
@@ -109,9 +109,9 @@ pub extern "C" fn heronditch_test_board(
     k: u32,
     out: &mut [u8],
 ) -> HostReply
-    ensures { λ r. ⌜ record { reply = r; out = now (out .exit) } ≡ hostLoad (loading seed n m k (now (out .entry))) ⌝ }
+    ensures { λ r. ⌜ record { reply = r; out = now (out .exit) } ≡ hostTestBoard (makingTestBoard seed n m k (now (out .entry))) ⌝ }
 {
-    of_load(call_load::load(seed, n, m, k, out))
+    of_test_board(call_test_board::test_board(seed, n, m, k, out))
 }
 
 // A stretch of a table, copied out.

@@ -9,7 +9,7 @@ ghost use Rattle.call_match.specs.Call.{replyOf};
 ghost use Rattle.place.specs.Outcome.{placeReply};
 ghost use Rattle.barring.specs.Outcome.{barReply};
 ghost use Rattle.call_merge.specs.Call.{mergeReply};
-ghost use Rattle.call_load.specs.Call.{loadReply};
+ghost use Rattle.call_test_board.specs.Call.{testBoardReply};
 ghost use Rattle.call_report.specs.Call.{reportReply};
 ghost use Rattle.heronditch_reply.specs.Replies.{fileNumber, slots, counted, pieced};
 use barring::BarAnswer;
@@ -17,7 +17,7 @@ use call_check::CheckAnswer;
 use call_convert::ConvertAnswer;
 use call_distance::BallAnswer;
 use call_distance::RadiusAnswer;
-use call_load::LoadAnswer;
+use call_test_board::TestBoardAnswer;
 use call_match::TableAnswer;
 use call_merge::MergeAnswer;
 use call_report::ReportAnswer;
@@ -26,7 +26,7 @@ use file_format::ReadAnswer;
 use file_format::Refusal;
 use file_write::WriteAnswer;
 use place::PlaceAnswer;
-use report_centres::Part;
+use report_centres::PutPiece;
 use table::Counts;
 
 // Number 0 for acceptance or the refusal's number; the file that it means (0 neither, 1 pattern, 2 board); the values replied with.
@@ -214,16 +214,16 @@ pub fn of_merge(answer: MergeAnswer) -> HostReply
     }
 }
 
-pub fn of_load(answer: LoadAnswer) -> HostReply
-    ensures { λ r. ⌜ r ≡ slots (loadReply answer) ⌝ }
+pub fn of_test_board(answer: TestBoardAnswer) -> HostReply
+    ensures { λ r. ⌜ r ≡ slots (testBoardReply answer) ⌝ }
 {
     match answer {
-        LoadAnswer::Made(size) => accepted(size, 0),
-        LoadAnswer::Refused(x) => refused(x),
+        TestBoardAnswer::Made(size) => accepted(size, 0),
+        TestBoardAnswer::Refused(x) => refused(x),
     }
 }
 
-fn put_piece(part: Part) -> Piece
+fn put_piece(part: PutPiece) -> Piece
     ensures { λ r. ⌜ r ≡ record { number = 0; file = 0; next = part .next; found = part .found; size = part .size } ⌝ }
 {
     Piece {

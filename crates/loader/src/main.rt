@@ -1,8 +1,8 @@
-// The program that makes a test load: takes the four numbers as words, seed, N, M and K, and writes the board's file to standard output. Where a
+// The program that makes a test board: takes the four numbers as words, seed, N, M and K, and writes the board's file to standard output. Where a
 // word is no number, or a number is out of its range, it says so on standard error and writes nothing to standard output.
 use crate::words::Word;
 use crate::words::number;
-use call_load::LoadAnswer;
+use call_test_board::TestBoardAnswer;
 use file_format::Board;
 use output::Output;
 ghost use mathlib.Core.Path.{_≡_};
@@ -11,15 +11,15 @@ ghost use lib.Dec.{eqb};
 ghost use lib.ListN.{length};
 ghost use Rattle.file_format.specs.declared.Edition.the-variants as editions;
 ghost use Rattle.file_format.specs.Layout.{lengthOf};
-ghost use Rattle.call_load.specs.Call.{loadBytes};
-ghost use Rattle.loader.specs.Printing.{heardOf, Heard, WordsHeard, askedBy, Tried, Handed, Ran};
+ghost use Rattle.call_test_board.specs.Call.{testBoardBytes};
+ghost use Rattle.loader.specs.Printing.{heardOf, Heard, WordsHeard, askedBy, WriteTried, Handed, TestBoardRan};
 
 mod words;
 
-// The longest file of a load.
+// The longest file of a test board.
 const BYTES: usize = 4 + 2 * Board::MAX_NODES + 4 * Board::MAX_LINKS;
 
-// The four words that ask for a load.
+// The four words that ask for a test board.
 struct Asked {
     seed: Word,
     n: Word,
@@ -27,7 +27,7 @@ struct Asked {
     k: Word,
 }
 
-// What came of the words: the load's file was handed whole to standard output; or that failed; or a number was out of its range; or a word was none.
+// What came of the words: the test board's file was handed whole to standard output; or that failed; or a number was out of its range; or a word was none.
 enum Printed {
     Whole,
     Failed,
@@ -58,10 +58,10 @@ struct Run {
     printed: Printed,
 }
 
-// Hands the file of a load to standard output, and notes how many bytes it has. Nothing was handed over before.
+// Hands the file of a test board to standard output, and notes how many bytes it has. Nothing was handed over before.
 fn hand(seed: u32, n: u32, m: u32, k: u32, handed: &mut usize, bytes: &[u8]) -> Printed
-    requires { ⌜ (now handed ≡ 0) × (now bytes ≡ loadBytes seed n m k) ⌝ }
-    ensures { λ r. ⌜ Tried (length (now (bytes .entry))) (now (handed .exit)) r ⌝ }
+    requires { ⌜ (now handed ≡ 0) × (now bytes ≡ testBoardBytes seed n m k) ⌝ }
+    ensures { λ r. ⌜ WriteTried (length (now (bytes .entry))) (now (handed .exit)) r ⌝ }
 {
     let answer = output::write_whole(bytes);
     let Output::Written(size) = answer else {
@@ -71,13 +71,13 @@ fn hand(seed: u32, n: u32, m: u32, k: u32, handed: &mut usize, bytes: &[u8]) -> 
     Printed::Whole
 }
 
-// Makes the load in a buffer that is long enough for each, and hands it on.
-fn print_load(seed: u32, n: u32, m: u32, k: u32, out: &mut [u8], handed: &mut usize) -> Printed
+// Makes the test board in a buffer that is long enough for each, and hands it on.
+fn print_test_board(seed: u32, n: u32, m: u32, k: u32, out: &mut [u8], handed: &mut usize) -> Printed
     requires { ⌜ (lengthOf editions.First 512 4096 ≤ length (now out)) × (now handed ≡ 0) ⌝ }
     ensures { λ r. ⌜ Handed seed n m k (now (out .exit)) (now (handed .exit)) r ⌝ }
 {
-    let answer = call_load::load(seed, n, m, k, out);
-    let LoadAnswer::Made(size) = answer else {
+    let answer = call_test_board::test_board(seed, n, m, k, out);
+    let TestBoardAnswer::Made(size) = answer else {
         return Printed::OutOfRange;
     };
     hand(seed, n, m, k, handed, &out[..size])
@@ -133,7 +133,7 @@ fn read_words(seed: &mut [u8], n: &mut [u8], m: &mut [u8], k: &mut [u8]) -> Told
     }
 }
 
-// The four words that ask for a load: none are numbers where they are not four.
+// The four words that ask for a test board: none are numbers where they are not four.
 fn asked_by(told: Told) -> Asked
     ensures { λ r. ⌜ r ≡ askedBy told ⌝ }
 {
@@ -156,10 +156,10 @@ fn asked_by(told: Told) -> Asked
     Asked { seed, n, m, k }
 }
 
-// The load that four words ask for.
-fn load_words(words: Asked, out: &mut [u8], handed: &mut usize) -> Printed
+// The test board that four words ask for.
+fn print_words(words: Asked, out: &mut [u8], handed: &mut usize) -> Printed
     requires { ⌜ (lengthOf editions.First 512 4096 ≤ length (now out)) × (now handed ≡ 0) ⌝ }
-    ensures { λ r. ⌜ Ran words (now (out .exit)) (now (handed .exit)) r ⌝ }
+    ensures { λ r. ⌜ TestBoardRan words (now (out .exit)) (now (handed .exit)) r ⌝ }
 {
     let first = words.seed;
     let Word::Number(seed) = first else {
@@ -177,10 +177,10 @@ fn load_words(words: Asked, out: &mut [u8], handed: &mut usize) -> Printed
     let Word::Number(k) = fourth else {
         return Printed::NoNumbers;
     };
-    print_load(seed, n, m, k, out, handed)
+    print_test_board(seed, n, m, k, out, handed)
 }
 
-// Tells on standard error where there is no load.
+// Tells on standard error where there is no test board.
 fn tell(printed: Printed) {
     match printed {
         Printed::Whole => {}
@@ -200,8 +200,8 @@ fn tell(printed: Printed) {
     }
 }
 
-// The load that the arguments ask for, by way of buffers that are lent whole.
-fn load_asked_for(
+// The test board that the arguments ask for, by way of buffers that are lent whole.
+fn print_asked_for(
     seed: &mut [u8],
     n: &mut [u8],
     m: &mut [u8],
@@ -211,11 +211,11 @@ fn load_asked_for(
 ) -> Run
     requires { ⌜ (lengthOf editions.First 512 4096 ≤ length (now out)) × (now handed ≡ 0) ⌝ }
     ensures { λ r. ⌜ WordsHeard (now (seed .exit)) (now (n .exit)) (now (m .exit)) (now (k .exit)) (r .told) ⌝ }
-    ensures { λ r. ⌜ Ran (askedBy (r .told)) (now (out .exit)) (now (handed .exit)) (r .printed) ⌝ }
+    ensures { λ r. ⌜ TestBoardRan (askedBy (r .told)) (now (out .exit)) (now (handed .exit)) (r .printed) ⌝ }
 {
     let told = read_words(seed, n, m, k);
     let words = asked_by(told);
-    let printed = load_words(words, out, handed);
+    let printed = print_words(words, out, handed);
     Run { told, printed }
 }
 
@@ -226,7 +226,7 @@ fn main() {
     let mut k = [0u8; 32];
     let mut out = [0u8; BYTES];
     let mut handed: usize = 0;
-    let run = load_asked_for(&mut seed, &mut n, &mut m, &mut k, &mut out, &mut handed);
+    let run = print_asked_for(&mut seed, &mut n, &mut m, &mut k, &mut out, &mut handed);
     let printed = run.printed;
     tell(printed);
 }

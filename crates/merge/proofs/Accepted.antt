@@ -20,7 +20,7 @@ module _ {p : Circuit} (c : PatternContent p) where
   merged-links-le = grouped-links-le c (classes-grouping c)
 
   -- the merged file is no longer than the pattern's, in either edition
-  pub merged-length-le : (e : Edition) → lengthOf e (length (merged p .kinds)) (length (merged p .starts)) ≤ lengthOf e (length (p .kinds)) (length (p .starts))
+  pub merged-length-le : (e : Edition) → lengthOf e (length (merged p .labels)) (length (merged p .starts)) ≤ lengthOf e (length (p .labels)) (length (p .starts))
   unfolding merged
   merged-length-le = grouped-length-le c (classes-grouping c)
 

@@ -38,7 +38,7 @@ module _ {p board : Circuit} (c : PatternContent p) (admissible : Admissible p b
       largest-same (merged-graph c) (same-refl _) (record { agree = λ u v m n. Iff·rfl }) (ball-largest merged-admissible w r)
 
   -- In the ball a part matches exactly what its class matches:
-  pub pairs-iff : (u v : ℕ) → u < length (p .kinds) → BallPairs p board w r u v ↔ BallPairs (merged p) board w r (classOf p u) v
+  pub pairs-iff : (u v : ℕ) → u < length (p .labels) → BallPairs p board w r u v ↔ BallPairs (merged p) board w r (classOf p u) v
   unfolding circuitGraph graphOf
   pairs-iff u v h = same-pairs (merging c board) (ball-largest admissible w r) merged-largest u v h
 
@@ -48,7 +48,7 @@ module _ {p board : Circuit} (c : PatternContent p) (admissible : Admissible p b
   up u v s = pairs-iff u v (ball-largest admissible w r .holds .part u v s) .0 s
 
   -- and each member has those of its class.
-  down : (u a v : ℕ) → u < length (p .kinds) → classOf p u ≡ a → BallPairs (merged p) board w r a v → BallPairs p board w r u v
+  down : (u a v : ℕ) → u < length (p .labels) → classOf p u ≡ a → BallPairs (merged p) board w r a v → BallPairs p board w r u v
   down u a v h e m = pairs-iff u v h .1 (subst (λ x. BallPairs (merged p) board w r x v) (sym e) m)
 
   -- ---- the bytes
@@ -85,7 +85,7 @@ module _ {p board : Circuit} (c : PatternContent p) (admissible : Admissible p b
   nodes-same : placeNodes p board w r ≡ placeNodes (merged p) board w r
   unfolding placeNodes component matchStarts matchEnds
   nodes-same =
-      let n = length (board .kinds) in
+      let n = length (board .labels) in
       ap (λ (match : ℕ → Bool). ball n (keepFrom zero match (board .starts)) (keepFrom zero match (board .ends)) w n) links-same
 
   -- Merging keeps what is found.

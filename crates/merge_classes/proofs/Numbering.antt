@@ -3,11 +3,11 @@ use Rattle.base_lists.specs.Kit.{_≡_, _∙_, sym, ap, refl, Bool, false, true
 use Rattle.base_lists.specs.Below.{countBelow, collect}
 use Rattle.base_lists.specs.List.{tabulate}
 use Rattle.base_lists.proofs.Below.{countBelow-suc, collect-suc, length-collect}
-use Rattle.base_lists.proofs.Tables.{length-tabulate, getD-tabulate, filled-more, whole, sets-append}
+use Rattle.base_lists.proofs.Tables.{length-tabulate, getD-tabulate, filled-more, stored-whole, sets-append}
 use Rattle.merge.specs.Merged.{leader, isLeader, classIn}
 use Rattle.merge.specs.Steps.{Led}
 use Rattle.merge.proofs.Steps.{class-leader, class-follower}
-use Rattle.merge_classes.specs.Passes.{classNumbers, leaderCount, leaderKinds}
+use Rattle.merge_classes.specs.Passes.{classNumbers, leaderCount, leaderLabels}
 
 module _ (t : List ℕ) where
   -- the parts that lead their class
@@ -65,7 +65,7 @@ module _ (t : List ℕ) where
 
   pub numbered-all : (old : List ℕ) (u : ℕ) → u ≡ length t → length old ≡ length t → numbered u old ≡ classNumbers t
   unfolding numbered classNumbers
-  numbered-all old u e l = rw e (whole _ old (length t) l)
+  numbered-all old u e l = rw e (stored-whole _ old (length t) l)
 
   -- ---- the kinds of those that lead, class by class
 
@@ -92,6 +92,6 @@ module _ (t : List ℕ) where
     unfolding kindsBefore
     kinds-follower u e = rw (add-one u, collect-suc u leads (λ v. getD kinds v 0), e) (sym (append-nil _))
 
-    pub kinds-all : (u : ℕ) → u ≡ length t → kindsBefore u ≡ leaderKinds t kinds
-    unfolding kindsBefore leaderKinds
+    pub kinds-all : (u : ℕ) → u ≡ length t → kindsBefore u ≡ leaderLabels t kinds
+    unfolding kindsBefore leaderLabels
     kinds-all u e = rw e

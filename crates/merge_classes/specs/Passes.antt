@@ -23,8 +23,8 @@ unfoldable pub classNumbers : List ℕ → List ℕ
 classNumbers t = tabulate (length t) (classIn (length t) t)
 
 -- the kind of the smallest part of each class, class by class
-unfoldable pub leaderKinds : List ℕ → List ℕ → List ℕ
-leaderKinds t kinds = collect (length t) (isLeader (length t) t) (λ u. getD kinds u 0)
+unfoldable pub leaderLabels : List ℕ → List ℕ → List ℕ
+leaderLabels t kinds = collect (length t) (isLeader (length t) t) (λ u. getD kinds u 0)
 
 -- a pattern's classes, and its quotient by them, the merged pattern, at the front of three tables, of the size told
 pub record Quotient (p : Circuit) (bytes kinds starts ends : List ℕ) (size : Pattern) : Type 0 where

@@ -23,10 +23,10 @@ use Rattle.place.specs.Match.{ballOf, ballTable, found}
 -- All that the laws of the place ask of a pattern and a board: the pattern has at most 32 parts, so that a set of parts is a 32-bit number,
 -- has as many starts as ends and is connected; the board's links join its nodes. The circuits of two accepted files have it (Accepted).
 pub record Admissible (pattern board : Circuit) : Type 0 where
-  pub most : length (pattern .kinds) ≤ 32
+  pub most : length (pattern .labels) ≤ 32
   pub parallel : length (pattern .starts) ≡ length (pattern .ends)
   pub connected : Connected (circuitGraph pattern)
-  pub links : Within (length (board .kinds)) (board .starts) (board .ends)
+  pub links : Within (length (board .labels)) (board .starts) (board .ends)
 
 -- the ball as a graph, and the set of pairs of its table
 abbrev pub ballGraph : Circuit → ℕ → ℕ → Graph
@@ -40,7 +40,7 @@ pub ball-fits : (pattern board : Circuit) (w r : ℕ) → Table pattern board (b
 unfolding ballTable
 ball-fits pattern board w r = last-fits pattern board (ballOf board w r)
 
-module _ (board : Circuit) (links : Within (length (board .kinds)) (board .starts) (board .ends)) (w r : ℕ) where
+module _ (board : Circuit) (links : Within (length (board .labels)) (board .starts) (board .ends)) (w r : ℕ) where
   -- a byte of the ball is 1 exactly at a node in the ball
   ball-taken : (v : ℕ) → Taken board (ballOf board w r) v ↔ ballGraph board w r .Node v
   unfolding ballOf Ball circuitGraph
@@ -49,7 +49,7 @@ module _ (board : Circuit) (links : Within (length (board .kinds)) (board .start
         λ t. same .0 (t .marked),
         λ b.
             let t = same .1 b in
-            record { below = inside-node (length (board .kinds)) (board .starts) (board .ends) w r v t; marked = t },
+            record { below = inside-node (length (board .labels)) (board .starts) (board .ends) w r v t; marked = t },
       )
 
   -- the nodes that the bytes take, and the links between them, are the ball
@@ -64,7 +64,7 @@ module _ (board : Circuit) (links : Within (length (board .kinds)) (board .start
         );
       }
 
-module _ (pattern board : Circuit) (most : length (pattern .kinds) ≤ 32) (w r : ℕ) where
+module _ (pattern board : Circuit) (most : length (pattern .labels) ≤ 32) (w r : ℕ) where
   -- the centre's entry is a 32-bit number, so that the test of the whole entry is a test of each part
   found-any : found pattern board w r ≡ anyBelow 32 (bit (getD (ballTable pattern board w r) w 0))
   unfolding found

@@ -19,10 +19,10 @@ both-chosen false false = refl
 
 -- The entries of a search that reaches the place's nodes.
 module _
-    (pattern board : Circuit) (w r : ℕ) (dist : List ℕ) (size : length dist ≡ length (board .kinds))
-    (reached : (v : ℕ) → v < length (board .kinds) → inside (placeNodes pattern board w r) v ≡ not (eqb (getD dist v 0) far))
+    (pattern board : Circuit) (w r : ℕ) (dist : List ℕ) (size : length dist ≡ length (board .labels))
+    (reached : (v : ℕ) → v < length (board .labels) → inside (placeNodes pattern board w r) v ≡ not (eqb (getD dist v 0) far))
   where
-    node-below : (v : ℕ) → v < length dist → v < length (board .kinds)
+    node-below : (v : ℕ) → v < length dist → v < length (board .labels)
     node-below v h = subst (λ m. v < m) size h
 
     pub bytes-nodes : nodeBytes dist ≡ placeNodes pattern board w r
@@ -43,7 +43,7 @@ module _
         ∙ ap (λ (m : ℕ). tabulate m (λ v. cond (inside (placeNodes pattern board w r) v) (getD (ballTable pattern board w r) v 0) 0)) size
 
     pub bytes-links :
-        (succ : List ℕ) → Below (length (board .kinds)) (board .starts) →
+        (succ : List ℕ) → Below (length (board .labels)) (board .starts) →
         ((v v′ : ℕ) → intersects (unionOver succ (getD (ballTable pattern board w r) v 0)) (getD (ballTable pattern board w r) v′ 0) ≡ matches pattern (ballTable pattern board w r) v v′) →
         linkBytes (board .starts) (board .ends) succ dist (ballTable pattern board w r) ≡ placeLinks pattern board w r
     unfolding linkBytes linkByte placeLinks linkMatches drivenBy Below

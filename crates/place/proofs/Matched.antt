@@ -35,10 +35,10 @@ masks-hold n keys values masks few e below =
 
 -- ---- the ball: the neighbour tables are enough, whatever the pattern
 
-module _ (board : Circuit) {offsets stretches : List ℕ} (net : NetOf (length (board .kinds)) (board .starts) (board .ends) offsets stretches)
-    (links : Within (length (board .kinds)) (board .starts) (board .ends)) where
+module _ (board : Circuit) {offsets stretches : List ℕ} (net : NetOf (length (board .labels)) (board .starts) (board .ends) offsets stretches)
+    (links : Within (length (board .labels)) (board .starts) (board .ends)) where
   abbrev n : ℕ
-  n = length (board .kinds)
+  n = length (board .labels)
 
   few : n < far
   few = omega (arith, net-few (net-of net))
@@ -104,9 +104,9 @@ module _ (board : Circuit) {offsets stretches : List ℕ} (net : NetOf (length (
 
 -- ---- the component
 
-module _ {pattern board : Circuit} {t : Tables} (p : Prepared pattern board t) (links : Within (length (board .kinds)) (board .starts) (board .ends)) where
+module _ {pattern board : Circuit} {t : Tables} (p : Prepared pattern board t) (links : Within (length (board .labels)) (board .starts) (board .ends)) where
   abbrev size : ℕ
-  size = length (board .kinds)
+  size = length (board .labels)
 
   module _ (parallel : length (pattern .starts) ≡ length (pattern .ends)) (sets : List ℕ) (small : (v : ℕ) → getD sets v 0 < 2 ^ 32) where
     -- a node is looked at along a link exactly where the link matches
@@ -121,18 +121,18 @@ module _ {pattern board : Circuit} {t : Tables} (p : Prepared pattern board t) (
     abbrev Linked : ℕ → ℕ → Type 0
     Linked = HasLink (matchStarts pattern board sets) (matchEnds pattern board sets)
 
-    forward-matched : (v w : ℕ) → v < size → Occurs (meeting (unionOver (succOf (t .masks)) (getD sets v 0)) sets (driven (t .offsets) (t .links) v)) w ↔ Linked v w
+    forward-matched : (v w : ℕ) → v < size → Occurs (meeting (unionOver (succOf (t .masks)) (getD sets v 0)) sets (driven (t .offsets) (t .targets) v)) w ↔ Linked v w
     forward-matched v w h =
         let kept = match-kept pattern board sets v w in
-        let looked = meeting-occurs (unionOver (succOf (t .masks)) (getD sets v 0)) sets (driven (t .offsets) (t .links) v) w in (
+        let looked = meeting-occurs (unionOver (succOf (t .masks)) (getD sets v 0)) sets (driven (t .offsets) (t .targets) v) w in (
           λ o. let (l, m) = looked .0 o in kept .1 (driven-link (p .net) v w h .0 l, subst T (forward-test v w) m),
           λ k. let (l, m) = kept .0 k in looked .1 (driven-link (p .net) v w h .1 l, subst T (sym (forward-test v w)) m),
         )
 
-    backward-matched : (v w : ℕ) → v < size → Occurs (meeting (unionOver (predOf (t .masks)) (getD sets v 0)) sets (driving (t .offsets) (t .links) v)) w ↔ Linked w v
+    backward-matched : (v w : ℕ) → v < size → Occurs (meeting (unionOver (predOf (t .masks)) (getD sets v 0)) sets (driving (t .offsets) (t .targets) v)) w ↔ Linked w v
     backward-matched v w h =
         let kept = match-kept pattern board sets w v in
-        let looked = meeting-occurs (unionOver (predOf (t .masks)) (getD sets v 0)) sets (driving (t .offsets) (t .links) v) w in (
+        let looked = meeting-occurs (unionOver (predOf (t .masks)) (getD sets v 0)) sets (driving (t .offsets) (t .targets) v) w in (
           λ o. let (l, m) = looked .0 o in kept .1 (driving-link (p .net) v w h .0 l, subst T (backward-test v w) m),
           λ k. let (l, m) = kept .0 k in looked .1 (driving-link (p .net) v w h .1 l, subst T (sym (backward-test v w)) m),
         )
@@ -144,8 +144,8 @@ module _ {pattern board : Circuit} {t : Tables} (p : Prepared pattern board t) (
         record {
           inside = matched-below t sets (net-of (p .net));
           joined = λ v w h.
-              let both = occurs-append w (meeting (unionOver (succOf (t .masks)) (getD sets v 0)) sets (driven (t .offsets) (t .links) v))
-              (meeting (unionOver (predOf (t .masks)) (getD sets v 0)) sets (driving (t .offsets) (t .links) v)) in (
+              let both = occurs-append w (meeting (unionOver (succOf (t .masks)) (getD sets v 0)) sets (driven (t .offsets) (t .targets) v))
+              (meeting (unionOver (predOf (t .masks)) (getD sets v 0)) sets (driving (t .offsets) (t .targets) v)) in (
                 λ o. ⊎-elim (λ a. inl (forward-matched v w h .0 a)) (λ a. inr (backward-matched v w h .0 a)) (both .0 o),
                 λ l. both .1 (⊎-elim (λ a. inl (forward-matched v w h .1 a)) (λ a. inr (backward-matched v w h .1 a)) l),
               );

@@ -47,8 +47,8 @@ module _ {pattern board : Circuit} (a : Admissible pattern board) (w r : ℕ) wh
   unfolding placeNodes component Component
   component-iff (u, m) v =
       let t = ballTable pattern board w r in
-      let links : Within (length (board .kinds)) (matchStarts pattern board t) (matchEnds pattern board t) = match-within pattern board t (a .links) in
-      let same = ball.component-iff links w (length (board .kinds)) (le-step (le-refl _)) v in (
+      let links : Within (length (board .labels)) (matchStarts pattern board t) (matchEnds pattern board t) = match-within pattern board t (a .links) in
+      let same = ball.component-iff links w (length (board .labels)) (le-step (le-refl _)) v in (
         λ b. let (h, (k, p)) = same .0 b in (k, wider-walk (λ x y. kept-links x y .0) p),
         λ (k, p).
             let q = wider-walk (λ x y. kept-links x y .1) p in

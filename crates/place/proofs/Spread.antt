@@ -1,9 +1,9 @@
 -- The search for the component: its steps on tables, and that what it reaches is what walks join to the centre. Assumes nothing.
 use Rattle.base_lists.specs.Kit.{_≡_, _∙_, sym, ap, refl, subst, _↔_, ⊎-elim, inl, inr, Bool, false, true, _&&_, not, List, ℕ, _≤_, _<_, _+_, suc, zero, suc-le-suc, le-refl, le-of-suc-le-suc, le-step, eq-or-lt-of-le, not-le-of-lt, min-le-right, T, length, getD, take, drop, length-take, arith}
 use Rattle.base_lists.specs.List.{Occurs, Below}
-use Rattle.base_lists.proofs.Tests.{both, both-left, both-right, true-T, lt-or-le}
+use Rattle.base_lists.proofs.Tests.{both-true, both-left, both-right, true-T, lt-or-le}
 use Rattle.base_bits.specs.Bits.{unionOver}
-use Rattle.graph.specs.Bfs.{State, scan, level, levels, start, bfs, Ready, Adjacency, Found}
+use Rattle.graph.specs.Bfs.{SearchState, scan, level, levels, start, bfs, SearchReady, Adjacency, Found}
 use Rattle.graph.specs.Circuit.{HasLink}
 use Rattle.graph.specs.Graph.{Walk, stay, step}
 use Rattle.graph.specs.Net.{driven, driving, Net}
@@ -22,19 +22,19 @@ use Rattle.place.specs.Spread.{matched, Reached, ClosedSet, Spread, List
 
 -- the looks along a node's two stretches are visits of the nodes that matching links join to it
 pub matched-scan :
-    (t : Tables) (sets : List ℕ) (v d : ℕ) (s s₁ s₂ : State) (out back : ℕ) (p₁ p₂ : List ℕ) →
+    (t : Tables) (sets : List ℕ) (v d : ℕ) (s s₁ s₂ : SearchState) (out back : ℕ) (p₁ p₂ : List ℕ) →
     out ≡ unionOver (succOf (t .masks)) (getD sets v 0) → back ≡ unionOver (predOf (t .masks)) (getD sets v 0) →
-    p₁ ≡ driven (t .offsets) (t .links) v → p₂ ≡ driving (t .offsets) (t .links) v →
+    p₁ ≡ driven (t .offsets) (t .targets) v → p₂ ≡ driving (t .offsets) (t .targets) v →
     s₁ ≡ scan d s (meeting out sets p₁) → s₂ ≡ scan d s₁ (meeting back sets p₂) → s₂ ≡ scan d s (matched t sets v)
 unfolding matched
 matched-scan t sets v d s s₁ s₂ out back p₁ p₂ d₁ d₂ e₁ e₂ f₁ f₂ =
     rw (f₂, f₁, d₁, d₂, e₁, e₂)
     (sym
-    (scan-append d s (meeting (unionOver (succOf (t .masks)) (getD sets v 0)) sets (driven (t .offsets) (t .links) v))
-    (meeting (unionOver (predOf (t .masks)) (getD sets v 0)) sets (driving (t .offsets) (t .links) v))))
+    (scan-append d s (meeting (unionOver (succOf (t .masks)) (getD sets v 0)) sets (driven (t .offsets) (t .targets) v))
+    (meeting (unionOver (predOf (t .masks)) (getD sets v 0)) sets (driving (t .offsets) (t .targets) v))))
 
 -- which are nodes
-pub matched-below : {n : ℕ} (t : Tables) (sets : List ℕ) → Net n (t .offsets) (t .links) → (v : ℕ) → v < n → Below n (matched t sets v)
+pub matched-below : {n : ℕ} (t : Tables) (sets : List ℕ) → Net n (t .offsets) (t .targets) → (v : ℕ) → v < n → Below n (matched t sets v)
 unfolding matched
 matched-below {n} t sets net v h =
     below-append n _ _ (meeting-below _ sets n _ (driven-below net v h)) (meeting-below _ sets n _ (driving-below net v h))
@@ -56,7 +56,7 @@ walk-closed {n} h a P t closed (step {w = f} {x = w} q l) e =
 
 -- as many levels as there are nodes are all: each that is not the last has reached a node
 levels-all :
-    (n : ℕ) (adj : ℕ → List ℕ) → n < far → ((v : ℕ) → v < n → Below n (adj v)) → (r d lo : ℕ) (s : State) → Ready n s → d ≤ lo → lo ≤ length (s .reached) → n ≤ d + r
+    (n : ℕ) (adj : ℕ → List ℕ) → n < far → ((v : ℕ) → v < n → Below n (adj v)) → (r d lo : ℕ) (s : SearchState) → SearchReady n s → d ≤ lo → lo ≤ length (s .reached) → n ≤ d + r
     → levels adj (suc r) d lo s ≡ levels adj r d lo s
 unfolding levels
 levels-all n adj few a zero d lo s k early within many = levels-end adj 1 d lo s (omega (arith, k .counted))
@@ -89,7 +89,7 @@ module _ (n c : ℕ) (adj : ℕ → List ℕ) (Link : ℕ → ℕ → Type 0) (f
   walk-near v k m l p e =
       ⊎-elim
       (λ q. not-le-of-lt (q .1 k p) l)
-      (λ q. omega (arith, q .2, ap (λ (s : State). getD (s .dist) v 0) (bfs-more n (le-refl n))))
+      (λ q. omega (arith, q .2, ap (λ (s : SearchState). getD (s .dist) v 0) (bfs-more n (le-refl n))))
       (bfs-measured n c adj Link (omega arith) h a (suc n) v m)
 
   -- what it has reached a walk leads to
@@ -175,10 +175,10 @@ spread-agree {n} {c} {adj} {adj′} {dist} p t closed same h g =
       least =
           λ q s closed′ v m r.
           both-left (q v) (p v)
-          (g .least (λ x. q x && p x) (both (q c) (p c) s t)
+          (g .least (λ x. q x && p x) (both-true (q c) (p c) s t)
           (λ x y l a o.
           let b = both-right (q x) (p x) a in
-          both (q y) (p y) (closed′ x y l (both-left (q x) (p x) a) (same x y l b .0 o)) (closed x y l b o))
+          both-true (q y) (p y) (closed′ x y l (both-left (q x) (p x) a) (same x y l b .0 o)) (closed x y l b o))
           v m r);
     }
 

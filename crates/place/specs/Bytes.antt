@@ -4,7 +4,7 @@
 use Rattle.base_lists.specs.Kit.{Bool, cond, _&&_, List, [], _∷_, ℕ, _≤_, _<_, suc, eqb, ltb, leb, length, getD}
 use Rattle.base_lists.specs.List.{any, tabulate}
 use Rattle.base_bits.specs.Bits.{intersects, unionOver}
-use Rattle.graph.specs.Net.{forwardOffsets, forwardLinks}
+use Rattle.graph.specs.Net.{forwardOffsets, forwardTargets}
 use Rattle.graph.specs.Search.{far}
 use Rattle.table.specs.Prepared.{succOf, Tables}
 
@@ -40,7 +40,7 @@ linkBytes starts ends succ dist sets = tabulate (length starts) (linkByte starts
 unfoldable pub marksLink : Tables → List ℕ → ℕ → ℕ → Bool
 marksLink t sets i v =
     (leb (getD (forwardOffsets (t .offsets)) v 0) i && ltb i (getD (forwardOffsets (t .offsets)) (suc v) 0))
-    && intersects (drivenBy (succOf (t .masks)) sets v) (getD sets (getD (forwardLinks (t .links)) i 0) 0)
+    && intersects (drivenBy (succOf (t .masks)) sets v) (getD sets (getD (forwardTargets (t .targets)) i 0) 0)
 
 -- the bytes of a node's links, where those whose ends have a part of the set are marked
 unfoldable pub markedEnds : ℕ → List ℕ → List ℕ → List ℕ → List ℕ

@@ -10,15 +10,15 @@ use Rattle.table.specs.Row.{inTable, lastTable}
 
 -- "One call uses the pattern's radius, one a radius given."
 unfoldable pub radiusOf : Circuit → ℕ
-radiusOf pattern = radius (length (pattern .kinds)) (pattern .starts) (pattern .ends)
+radiusOf pattern = radius (length (pattern .labels)) (pattern .starts) (pattern .ends)
 
 -- the ball around the centre, a byte per node
 unfoldable pub ballOf : Circuit → ℕ → ℕ → List ℕ
-ballOf board w r = ball (length (board .kinds)) (board .starts) (board .ends) w r
+ballOf board w r = ball (length (board .labels)) (board .starts) (board .ends) w r
 
 -- the distances in the ball, and 65,535 for a node outside it (document 02, Ask 2)
 unfoldable pub distancesOf : Circuit → ℕ → ℕ → List ℕ
-distancesOf board w r = distances (length (board .kinds)) (board .starts) (board .ends) w r
+distancesOf board w r = distances (length (board .labels)) (board .starts) (board .ends) w r
 
 -- the largest dual simulation of the pattern in the ball
 unfoldable pub ballTable : Circuit → Circuit → ℕ → ℕ → List ℕ
@@ -47,7 +47,7 @@ matchEnds pattern board t = keepFrom zero (linkMatches pattern board t) (board .
 -- the nodes that the match graph's links, directions ignored, join to the centre: a byte per node
 unfoldable pub component : Circuit → Circuit → List ℕ → ℕ → List ℕ
 component pattern board t w =
-    ball (length (board .kinds)) (matchStarts pattern board t) (matchEnds pattern board t) w (length (board .kinds))
+    ball (length (board .labels)) (matchStarts pattern board t) (matchEnds pattern board t) w (length (board .labels))
 
 -- the place's nodes and links, "a byte per board node and one per board link (1 in the place, else 0)"
 unfoldable pub placeNodes : Circuit → Circuit → ℕ → ℕ → List ℕ
@@ -61,7 +61,7 @@ placeLinks pattern board w r =
 -- "and a table as above, over the place's nodes only, 0 elsewhere"
 unfoldable pub placeTable : Circuit → Circuit → ℕ → ℕ → List ℕ
 placeTable pattern board w r =
-    tabulate (length (board .kinds)) (λ v. cond (inside (placeNodes pattern board w r) v) (getD (ballTable pattern board w r) v 0) 0)
+    tabulate (length (board .labels)) (λ v. cond (inside (placeNodes pattern board w r) v) (getD (ballTable pattern board w r) v 0) 0)
 
 -- the subgraph of a board that node bytes and link bytes mark
 unfoldable pub markedGraph : Circuit → List ℕ → List ℕ → Graph

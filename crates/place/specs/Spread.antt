@@ -12,8 +12,8 @@ use Rattle.table.specs.Prepared.{succOf, predOf, Tables}
 -- The nodes that a matching link joins to node v, directions ignored. What the parts of v's set drive is one union, what drives them another.
 unfoldable pub matched : Tables → List ℕ → ℕ → List ℕ
 matched t sets v =
-    meeting (unionOver (succOf (t .masks)) (getD sets v 0)) sets (driven (t .offsets) (t .links) v)
-    ++ meeting (unionOver (predOf (t .masks)) (getD sets v 0)) sets (driving (t .offsets) (t .links) v)
+    meeting (unionOver (succOf (t .masks)) (getD sets v 0)) sets (driven (t .offsets) (t .targets) v)
+    ++ meeting (unionOver (predOf (t .masks)) (getD sets v 0)) sets (driving (t .offsets) (t .targets) v)
 
 -- the entry of node v is not `far`: the search has reached it
 abbrev pub Reached : List ℕ → ℕ → Type 0

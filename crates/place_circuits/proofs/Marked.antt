@@ -21,7 +21,7 @@ module _ {pattern board : Circuit} {t : Tables} {around : Around} {dist queue se
     (after past : List ℕ)
   where
     abbrev n : ℕ
-    n = length (board .kinds)
+    n = length (board .labels)
 
     abbrev here : Located pattern board t (around .centre) (around .radius) (b .there f .0) sets (take (a .size) queue)
     here = b .there f .1

@@ -22,7 +22,7 @@ ghost use Rattle.place.specs.Spread.{matched};
 pub fn expand(
     masks: &[u32],
     offsets: &[u16],
-    links: &[u16],
+    targets: &[u16],
     sets: &[u32],
     v: usize,
     d: u16,
@@ -31,17 +31,17 @@ pub fn expand(
     from: usize,
 ) -> usize
     requires { ⌜ Searching (now dist) (now queue) from ⌝ }
-    requires { ⌜ Ready (tables (now masks) (now offsets) (now links)) (now sets) ⌝ }
+    requires { ⌜ Ready (tables (now masks) (now offsets) (now targets)) (now sets) ⌝ }
     requires { ⌜ length (now sets) ≡ length (now dist) ⌝ }
     requires { ⌜ v < length (now dist) ⌝ }
     requires { ⌜ d < far ⌝ }
-    ensures { λ r. ⌜ Searched (now (dist .exit)) (now (queue .exit)) r (scan d (stateOf (now (dist .entry)) (now (queue .entry)) from) (matched (tables (now (masks .entry)) (now (offsets .entry)) (now (links .entry))) (now (sets .entry)) v)) ⌝ }
+    ensures { λ r. ⌜ Searched (now (dist .exit)) (now (queue .exit)) r (scan d (stateOf (now (dist .entry)) (now (queue .entry)) from) (matched (tables (now (masks .entry)) (now (offsets .entry)) (now (targets .entry))) (now (sets .entry)) v)) ⌝ }
 {
     let set = sets[v];
     let driven = driven_parts(masks, set);
     let driving = driving_parts(masks, set);
     let tail = follow(
-        neighbours_in(Direction::Forward, offsets, links, v),
+        neighbours_in(Direction::Forward, offsets, targets, v),
         driven,
         sets,
         d,
@@ -50,7 +50,7 @@ pub fn expand(
         from,
     );
     follow(
-        neighbours_in(Direction::Backward, offsets, links, v),
+        neighbours_in(Direction::Backward, offsets, targets, v),
         driving,
         sets,
         d,
@@ -65,7 +65,7 @@ pub fn expand(
 pub fn reach(
     masks: &[u32],
     offsets: &[u16],
-    links: &[u16],
+    targets: &[u16],
     sets: &[u32],
     c: u16,
     r: u16,
@@ -73,11 +73,11 @@ pub fn reach(
     dist: &mut [u16],
     queue: &mut [u16],
 ) -> usize
-    requires { ⌜ Ready (tables (now masks) (now offsets) (now links)) (now sets) ⌝ }
+    requires { ⌜ Ready (tables (now masks) (now offsets) (now targets)) (now sets) ⌝ }
     requires { ⌜ c < length (now dist) ⌝ }
     requires { ⌜ (length (now sets) ≡ length (now dist)) × (length (now dist) ≡ length (now queue)) ⌝ }
     ensures { λ k. ⌜ Searching (now (dist .exit)) (now (queue .exit)) k ⌝ }
-    ensures { λ k. ⌜ Until (matched (tables (now (masks .entry)) (now (offsets .entry)) (now (links .entry))) (now (sets .entry))) (length (now (dist .entry))) c r (size ≤ k) (stateOf (now (dist .exit)) (now (queue .exit)) k) ⌝ }
+    ensures { λ k. ⌜ Until (matched (tables (now (masks .entry)) (now (offsets .entry)) (now (targets .entry))) (now (sets .entry))) (length (now (dist .entry))) c r (size ≤ k) (stateOf (now (dist .exit)) (now (queue .exit)) k) ⌝ }
 {
     begin(c, dist, queue);
     let mut looked = 0;
@@ -93,7 +93,7 @@ pub fn reach(
             depth += 1;
         } else {
             let v = queue[looked] as usize;
-            tail = expand(masks, offsets, links, sets, v, depth, dist, queue, tail);
+            tail = expand(masks, offsets, targets, sets, v, depth, dist, queue, tail);
             looked += 1;
         }
     }
@@ -105,16 +105,16 @@ pub fn reach(
 pub fn component(
     masks: &[u32],
     offsets: &[u16],
-    links: &[u16],
+    targets: &[u16],
     sets: &[u32],
     c: u16,
     dist: &mut [u16],
     queue: &mut [u16],
 ) -> usize
-    requires { ⌜ Ready (tables (now masks) (now offsets) (now links)) (now sets) ⌝ }
+    requires { ⌜ Ready (tables (now masks) (now offsets) (now targets)) (now sets) ⌝ }
     requires { ⌜ c < length (now dist) ⌝ }
     requires { ⌜ (length (now sets) ≡ length (now dist)) × (length (now dist) ≡ length (now queue)) ⌝ }
-    ensures { λ k. ⌜ Found k (now (dist .exit)) (now (queue .exit)) (bfs (matched (tables (now (masks .entry)) (now (offsets .entry)) (now (links .entry))) (now (sets .entry))) (length (now (dist .entry))) c far) ⌝ }
+    ensures { λ k. ⌜ Found k (now (dist .exit)) (now (queue .exit)) (bfs (matched (tables (now (masks .entry)) (now (offsets .entry)) (now (targets .entry))) (now (sets .entry))) (length (now (dist .entry))) c far) ⌝ }
 {
-    reach(masks, offsets, links, sets, c, UNREACHED, ALL, dist, queue)
+    reach(masks, offsets, targets, sets, c, UNREACHED, ALL, dist, queue)
 }

@@ -1,2 +1,2 @@
+pub mod ComponentNumbers
 pub mod Lists
-pub mod Labels

@@ -4,7 +4,7 @@ use Rattle.base_lists.specs.List.{any, part}
 use Rattle.base_lists.proofs.Tables.{length-tabulate, getD-tabulate, is-tabulate}
 use Rattle.base_lists.proofs.Tests.{lt-or-le}
 use Rattle.base_bits.specs.Bits.{intersects, unionOver}
-use Rattle.graph.specs.Net.{forwardOffsets, forwardLinks, driven, Net}
+use Rattle.graph.specs.Net.{forwardOffsets, forwardTargets, driven, Net}
 use Rattle.graph.proofs.Lookup.{stretch-part}
 use Rattle.graph.proofs.Net.{stretch-sound, net-few}
 use Rattle.table.specs.Fill.{marksOf, fillAt, tableAt}
@@ -91,21 +91,21 @@ module _ {n : ℕ} {offsets links : List ℕ} (net : Net n offsets links) (v : �
   unfolding part
   start-at = sym (getD-take 513 offsets v 0 (omega (arith, net-few net)))
 
-  ends-part : ends ≡ take (getD (forwardOffsets offsets) (suc v) 0 - start) (drop start (forwardLinks links))
+  ends-part : ends ≡ take (getD (forwardOffsets offsets) (suc v) 0 - start) (drop start (forwardTargets links))
   unfolding driven
-  ends-part = stretch-part (forwardOffsets offsets) (forwardLinks links) v (stretch-sound (net .forward) v h)
+  ends-part = stretch-part (forwardOffsets offsets) (forwardTargets links) v (stretch-sound (net .forward) v h)
 
   -- its links are those between its two offsets
   pub ends-length : start + length ends ≡ getD (forwardOffsets offsets) (suc v) 0
   ends-length =
-      let e : length ends ≡ min (getD (forwardOffsets offsets) (suc v) 0 - start) (length (forwardLinks links) - start) = ap length ends-part ∙ simp (length-take, length-drop) in
+      let e : length ends ≡ min (getD (forwardOffsets offsets) (suc v) 0 - start) (length (forwardTargets links) - start) = ap length ends-part ∙ simp (length-take, length-drop) in
       omega (arith, net .forward .rising v h, net .forward .within v h)
 
-  ends-at : (k : ℕ) → k < length ends → getD ends k 0 ≡ getD (forwardLinks links) (start + k) 0
+  ends-at : (k : ℕ) → k < length ends → getD ends k 0 ≡ getD (forwardTargets links) (start + k) 0
   ends-at k l =
       ap (λ (xs : List ℕ). getD xs k 0) ends-part
-      ∙ getD-take (getD (forwardOffsets offsets) (suc v) 0 - start) (drop start (forwardLinks links)) k 0 (omega (arith, ends-length))
-      ∙ getD-drop start (forwardLinks links) k 0
+      ∙ getD-take (getD (forwardOffsets offsets) (suc v) 0 - start) (drop start (forwardTargets links)) k 0 (omega (arith, ends-length))
+      ∙ getD-drop start (forwardTargets links) k 0
 
 -- Marking the links of a node in the stretch of the bytes that is theirs.
 module _ (a k : ℕ) (bytes ys : List ℕ) (fits : a + k ≤ length bytes) (long : length ys ≡ k) where
@@ -135,7 +135,7 @@ module _ (a k : ℕ) (bytes ys : List ℕ) (fits : a + k ≤ length bytes) (long
       ∙ getD-drop k (drop a bytes) j 0
       ∙ getD-drop a bytes (k + j) 0
 
-module _ (t : Tables) {n : ℕ} (net : Net n (t .offsets) (t .links)) (v : ℕ) (h : v < n) (sets bytes : List ℕ)
+module _ (t : Tables) {n : ℕ} (net : Net n (t .offsets) (t .targets)) (v : ℕ) (h : v < n) (sets bytes : List ℕ)
     (room : getD (forwardOffsets (t .offsets)) (suc v) 0 ≤ length bytes)
   where
     abbrev from : ℕ
@@ -145,13 +145,13 @@ module _ (t : Tables) {n : ℕ} (net : Net n (t .offsets) (t .links)) (v : ℕ) 
     to = getD (forwardOffsets (t .offsets)) (suc v) 0
 
     abbrev stretch : List ℕ
-    stretch = driven (t .offsets) (t .links) v
+    stretch = driven (t .offsets) (t .targets) v
 
     abbrev parts : ℕ
     parts = drivenBy (succOf (t .masks)) sets v
 
     abbrev meets : ℕ → Bool
-    meets i = intersects parts (getD sets (getD (forwardLinks (t .links)) i 0) 0)
+    meets i = intersects parts (getD sets (getD (forwardTargets (t .targets)) i 0) 0)
 
     abbrev middle : List ℕ
     middle = take (length stretch) (drop from bytes)

@@ -1,7 +1,7 @@
 -- The check says yes exactly when the bytes mark a perfect subgraph around the centre: the marked links make a board of their own, in which a
 -- perfect subgraph that has them all is the place. Assumes nothing.
 use Rattle.base_lists.specs.Kit.{_≡_, sym, refl, subst, _↔_, ⊎-elim, Iff·rfl, Iff·symm, Bool, _&&_, not, _||_, List, ℕ, _≤_, _<_, le-refl, le-step, T, leb, length, getD, le-leb, leb-true}
-use Rattle.base_lists.proofs.Tests.{both, both-left, both-right, decide, T-true, true-T, allBelow-at, at-allBelow, all-at, at-all, unless-at, at-unless}
+use Rattle.base_lists.proofs.Tests.{both-true, both-left, both-right, decide, T-true, true-T, allBelow-at, at-allBelow, all-at, at-all, unless-at, at-unless}
 use Rattle.base_lists.specs.List.{allBelow}
 use Rattle.graph.specs.Chosen.{chosen, ChosenLink}
 use Rattle.graph.specs.Circuit.{Circuit, LinkAt, HasLink, graphOf, circuitGraph}
@@ -82,7 +82,7 @@ module _ {pattern board : Circuit} (a : Admissible pattern board) (w r : ℕ) (n
   H = chosen board links
 
   abbrev n : ℕ
-  n = length (H .kinds)
+  n = length (H .labels)
 
   -- the two boards have the same nodes, of the same kinds
   kinds-same : (u v : ℕ) → KindsMatch pattern H u v ↔ KindsMatch pattern board u v
@@ -223,7 +223,7 @@ module _ {pattern board : Circuit} (a : Admissible pattern board) (w r : ℕ) (n
       (λ i h.
       let s = inside nodes (getD (board .starts) i 0) in
       let e = inside nodes (getD (board .ends) i 0) in
-      at-unless (inside links i) (s && e) (λ m. both s e (f i m .0) (f i m .1)))
+      at-unless (inside links i) (s && e) (λ m. both-true s e (f i m .0) (f i m .1)))
 
   -- what is tested, part by part
   abbrev bytes : Bool
@@ -269,12 +269,12 @@ module _ {pattern board : Circuit} (a : Admissible pattern board) (w r : ℕ) (n
   unfolding checks marksSubgraph fills markedGraph Ball
   perfect-yes parallel m =
       let p = m .perfect in
-      let b = both (bits nodes) (bits links) (at-bits nodes (m .nodeBytes)) (at-bits links (m .linkBytes)) in
-      let j = both (inside nodes w) (endsMarked (board .starts) (board .ends) nodes links) (p .centre) (at-ends (m .ends)) in
+      let b = both-true (bits nodes) (bits links) (at-bits nodes (m .nodeBytes)) (at-bits links (m .linkBytes)) in
+      let j = both-true (inside nodes w) (endsMarked (board .starts) (board .ends) nodes links) (p .centre) (at-ends (m .ends)) in
       let e = at-allBelow (length (H .starts)) (inside (placeLinks pattern H w n)) (λ i h. link-placed p i h (rw (← with-parallel board links parallel) h)) in
-      let all = both (inRow (placeNodes pattern H w n) nodes) every-link (at-row (placeNodes pattern H w n) nodes (node-placed p)) e in
-      both (bytes && joins) (near && placed) (both bytes joins b j)
-      (both near placed (at-row (ballOf board w r) nodes (λ v t. near-iff v .1 (p .subgraph .nodes v t))) (both (found pattern H w n) whole (is-found p) all))
+      let all = both-true (inRow (placeNodes pattern H w n) nodes) every-link (at-row (placeNodes pattern H w n) nodes (node-placed p)) e in
+      both-true (bytes && joins) (near && placed) (both-true bytes joins b j)
+      (both-true near placed (at-row (ballOf board w r) nodes (λ v t. near-iff v .1 (p .subgraph .nodes v t))) (both-true (found pattern H w n) whole (is-found p) all))
 
   -- The check says yes exactly when every byte is 0 or 1, every marked link has both its ends marked, and what is marked is a perfect subgraph
   -- around the centre at the radius, largest or not.

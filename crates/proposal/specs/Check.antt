@@ -28,7 +28,7 @@ inRow row nodes = allBelow (length nodes) (λ v. not (inside nodes v) || inside 
 -- The place around w in a board, at a radius that leaves out nothing that links join to w, has all the marked nodes and all links.
 unfoldable pub fills : Circuit → Circuit → ℕ → List ℕ → Bool
 fills pattern board w nodes =
-    let r = length (board .kinds) in
+    let r = length (board .labels) in
     found pattern board w r && (inRow (placeNodes pattern board w r) nodes && allBelow (length (board .starts)) (inside (placeLinks pattern board w r)))
 
 -- "say yes exactly when these are a perfect subgraph around the centre at the pattern's radius, largest or not": w is the centre, r the radius

@@ -16,4 +16,4 @@ checkComputed = tt
 
 -- two copies of the link 10 to 20, joined by links that match nothing: 0:10, 1:20, 2:10, 3:20, links 0-1, 0-2, 2-3, 3-0
 unfoldable pub joinedCopies : Circuit
-joinedCopies = record { kinds = 10 ∷ 20 ∷ 10 ∷ 20 ∷ []; starts = 0 ∷ 0 ∷ 2 ∷ 3 ∷ []; ends = 1 ∷ 2 ∷ 3 ∷ 0 ∷ [] }
+joinedCopies = record { labels = 10 ∷ 20 ∷ 10 ∷ 20 ∷ []; starts = 0 ∷ 0 ∷ 2 ∷ 3 ∷ []; ends = 1 ∷ 2 ∷ 3 ∷ 0 ∷ [] }

@@ -12,11 +12,11 @@ use Rattle.place.specs.Bytes.{nodeBytes, linkBytes}
 use Rattle.proposal.specs.Check.{inRow}
 
 pub near-row :
-    {n : ℕ} {ss es offsets links : List ℕ} → NetOf n ss es offsets links → Within n ss es → (w : ℕ) → w < n → (r : ℕ) {m k : ℕ} {dist queue : List ℕ} →
-    m ≡ n → Found k dist queue (bfs (adjacent offsets links) m w r) → nodeBytes dist ≡ ball n ss es w r
+    {n : ℕ} {ss es offsets targets : List ℕ} → NetOf n ss es offsets targets → Within n ss es → (w : ℕ) → w < n → (r : ℕ) {m k : ℕ} {dist queue : List ℕ} →
+    m ≡ n → Found k dist queue (bfs (adjacent offsets targets) m w r) → nodeBytes dist ≡ ball n ss es w r
 unfolding nodeBytes
-near-row {n} {ss} {es} {offsets} {links} t within w h r e f =
-    ap nodeBytes (f .distances ∙ ap (λ (m : ℕ). bfs (adjacent offsets links) m w r .dist) e ∙ net-distances t within w h r)
+near-row {n} {ss} {es} {offsets} {targets} t within w h r e f =
+    ap nodeBytes (f .distances ∙ ap (λ (m : ℕ). bfs (adjacent offsets targets) m w r .dist) e ∙ net-distances t within w h r)
     ∙ rw (length-distances n ss es w r) (sym (ball-distances within w r (let few = net-few (net-of t) in omega arith)))
 
 -- ---- n entries, cut from more

@@ -8,7 +8,7 @@ use Rattle.base_bits.specs.Bits.{intersects}
 use Rattle.graph.specs.Search.{far, inside}
 use Rattle.graph.proofs.Ball.{inside-below}
 use Rattle.place.specs.Bytes.{unlessFar, nodeBytes, drivenBy, linkByte, linkBytes}
-use Rattle.proposal_marks.specs.Link.{placed}
+use Rattle.proposal_marks.specs.Link.{linkPlaced}
 use Rattle.proposal.specs.Check.{bits, endsMarked, inRow}
 use Rattle.proposal.proofs.Perfect.{bits-at, at-bits, row-at, at-row}
 
@@ -82,11 +82,11 @@ module _ (dist nodes : List ℕ) (long : length nodes ≡ length dist) where
 
 module _ (starts ends succ dist sets : List ℕ) where
   abbrev pub placed-at : ℕ → Bool
-  placed-at i = placed succ dist sets (getD starts i 0) (getD ends i 0)
+  placed-at i = linkPlaced succ dist sets (getD starts i 0) (getD ends i 0)
 
   -- the byte of a link is made from the test
   byte : (i : ℕ) → i < length starts → inside (linkBytes starts ends succ dist sets) i ≡ placed-at i
-  unfolding linkBytes linkByte placed inside
+  unfolding linkBytes linkByte linkPlaced inside
   byte i h =
       ap (λ (b : ℕ). eqb b 1) (getD-tabulate (length starts) (linkByte starts ends succ dist sets) i 0 h)
       ∙ go (eqb (getD dist (getD starts i 0) 0) far) (intersects (drivenBy succ sets (getD starts i 0)) (getD sets (getD ends i 0) 0))

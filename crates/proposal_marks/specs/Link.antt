@@ -5,5 +5,5 @@ use Rattle.graph.specs.Search.{reached}
 use Rattle.place.specs.Bytes.{drivenBy}
 
 -- the link from v to w is in the place: v was reached, and what its parts drive has a part of w's set
-unfoldable pub placed : List ℕ → List ℕ → List ℕ → ℕ → ℕ → Bool
-placed succ dist sets v w = reached (getD dist v 0) && intersects (drivenBy succ sets v) (getD sets w 0)
+unfoldable pub linkPlaced : List ℕ → List ℕ → List ℕ → ℕ → ℕ → Bool
+linkPlaced succ dist sets v w = reached (getD dist v 0) && intersects (drivenBy succ sets v) (getD sets w 0)

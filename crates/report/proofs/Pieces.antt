@@ -43,7 +43,7 @@ module _ (t : Tables) (dist sets : List ℕ) (v : ℕ) where
   start-missed e = rw e
 
   pub start-reached : (parts : ℕ) (nodes : List ℕ) → reached (getD dist v 0) ≡ true → parts ≡ unionOver (succOf (t .masks)) (getD sets v 0) →
-      nodes ≡ driven (t .offsets) (t .links) v → startText t dist sets v ≡ drivenText parts sets v nodes
+      nodes ≡ driven (t .offsets) (t .targets) v → startText t dist sets v ≡ drivenText parts sets v nodes
   unfolding startText drivenBy
   start-reached parts nodes e d p = rw (e, d, p)
 

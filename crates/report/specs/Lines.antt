@@ -29,7 +29,7 @@ drivenText driven sets v nodes = concatBelow (length nodes) (λ i. linkText driv
 -- the links that start at v
 unfoldable pub startText : Tables → List ℕ → List ℕ → ℕ → List ℕ
 startText t dist sets v =
-    cond (reached (getD dist v 0)) (drivenText (drivenBy (succOf (t .masks)) sets v) sets v (driven (t .offsets) (t .links) v)) []
+    cond (reached (getD dist v 0)) (drivenText (drivenBy (succOf (t .masks)) sets v) sets v (driven (t .offsets) (t .targets) v)) []
 
 -- each link, by its start
 unfoldable pub linksText : Tables → List ℕ → List ℕ → List ℕ

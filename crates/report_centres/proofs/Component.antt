@@ -1,11 +1,11 @@
 -- The centre's component in the whole board's match graph. Where walks of r matching links lead to all of it, or the board's links
--- to as many nodes with its label as it has, the ball holds it, and the place is the component with its matching links; else the place comes from those nodes
--- of the ball that have its label. Assumes nothing.
+-- to as many nodes with its number as it has, the ball holds it, and the place is the component with its matching links; else the place comes from those nodes
+-- of the ball that have its number. Assumes nothing.
 use Rattle.base_lists.specs.Kit.{_≡_, _∙_, sym, ap, refl, subst, ⊎-elim, inl, inr, Bool, false, true, cond, List, _++_, ℕ, _≤_, _<_, suc, _^_, le-antisymm, T, eqb, eqb→eq, length, getD, take-length, arith, eq-eqb}
 use Rattle.base_lists.specs.List.{Occurs, Below}
 use Rattle.base_lists.proofs.Tests.{true-T, any-at, at-any}
 use Rattle.base_lists.proofs.Tables.{getD-tabulate}
-use Rattle.graph.specs.Bfs.{State, bfs, adjacent, Found as Searched}
+use Rattle.graph.specs.Bfs.{SearchState, bfs, adjacent, Found as Searched}
 use Rattle.graph.specs.Circuit.{Circuit, HasLink}
 use Rattle.graph.specs.Graph.{Walk, stay, step}
 use Rattle.graph.specs.Search.{far, inside}
@@ -27,15 +27,15 @@ use Rattle.place.specs.Find.{Sought, Located}
 use Rattle.place.specs.Spread.{matched, Reached, Spread, Lists}
 use Rattle.place.proofs.Find.{tabled-joins, ball-list, ball-marks, whole-located, whole-found, cut-seen}
 use Rattle.place.proofs.Links.{match-kept}
-use Rattle.place_components.specs.Components.{MatchTable, sameLabel, Gathered}
+use Rattle.place_components.specs.Components.{MatchTable, sameComponent, Gathered}
 use Rattle.place_components.proofs.Lists.{first-list, having-from, having-to, having-list}
-use Rattle.place_components.proofs.Labels.{match-adjacency, spread-same, some-few, some-lists, until-lists}
+use Rattle.place_components.proofs.ComponentNumbers.{match-adjacency, spread-same, some-few, some-lists, until-lists}
 use Rattle.report_centres.specs.Pieces.{Source, CentreLabelled, Cut}
 use Rattle.report_centres.proofs.Centre.{source-tabled, source-long, source-few}
 
 module _ {pattern board : Circuit} {t : Tables} {table : List ℕ} {r : ℕ} (s : Source pattern board t table r) where
   abbrev n : ℕ
-  n = length (board .kinds)
+  n = length (board .labels)
 
   -- the whole board's table is one of sets
   pub source-match : MatchTable t table
@@ -67,7 +67,7 @@ module _ {pattern board : Circuit} {t : Tables} {table : List ℕ} {r : ℕ} (s 
         step (kept-walk p) (⊎-elim (λ q. inl (match-kept pattern board table v w .0 q .0)) (λ q. inr (match-kept pattern board table w v .0 q .0)) l)
 
     -- the search along matching links reaches the component: the ball holds it,
-    module _ {labels : List ℕ} {size : ℕ} (l : CentreLabelled t table labels size c) {Enough : Type 0} {reached : State}
+    module _ {componentOf : List ℕ} {size : ℕ} (l : CentreLabelled t table componentOf size c) {Enough : Type 0} {reached : SearchState}
         (u : Until (matched t table) (length table) c r Enough reached) (count : length (reached .reached) ≡ size) where
       -- and it is what is reached
       pub reached-lists : Lists (reached .reached) (l .comp)
@@ -98,9 +98,9 @@ module _ {pattern board : Circuit} {t : Tables} {table : List ℕ} {r : ℕ} (s 
 
     -- what such a search reaches up to distance d is the ball
     abbrev reachedAt : ℕ → List ℕ
-    reachedAt d = bfs (adjacent (t .offsets) (t .links)) n c d .reached
+    reachedAt d = bfs (adjacent (t .offsets) (t .targets)) n c d .reached
 
-    searched : (d : ℕ) → Searched (length (reachedAt d)) (bfs (adjacent (t .offsets) (t .links)) n c d .dist) (reachedAt d) (bfs (adjacent (t .offsets) (t .links)) n c d)
+    searched : (d : ℕ) → Searched (length (reachedAt d)) (bfs (adjacent (t .offsets) (t .targets)) n c d .dist) (reachedAt d) (bfs (adjacent (t .offsets) (t .targets)) n c d)
     searched d = record { distances = refl; count = refl; nodes = take-length (reachedAt d) }
 
     ball : (d : ℕ) → marksOf n (reachedAt d) ≡ ballOf board c d
@@ -117,8 +117,8 @@ module _ {pattern board : Circuit} {t : Tables} {table : List ℕ} {r : ℕ} (s 
         let (i, b, e) = any-at (λ w. eqb w v) nodes (subst T (inside-marks n nodes v (m .below)) (m .marked)) in
         (i, b, eqb→eq _ _ e)
 
-    module _ {labels : List ℕ} {size : ℕ} (l : CentreLabelled t table labels size c) {nodes : List ℕ}
-        (g : Gathered (adjacent (t .offsets) (t .links)) (length table) c r (sameLabel labels c) size nodes) where
+    module _ {componentOf : List ℕ} {size : ℕ} (l : CentreLabelled t table componentOf size c) {nodes : List ℕ}
+        (g : Gathered (adjacent (t .offsets) (t .targets)) (length table) c r (sameComponent componentOf c) size nodes) where
       abbrev d : ℕ
       d = g .until .depth
 
@@ -126,7 +126,7 @@ module _ {pattern board : Circuit} {t : Tables} {table : List ℕ} {r : ℕ} (s 
       all = g .all .reached
 
       abbrev test : ℕ → Bool
-      test = sameLabel labels c
+      test = sameComponent componentOf c
 
       -- what it has reached is the first of the ball of some radius, which is at most r
       first : all ++ g .until .rest ≡ reachedAt d
@@ -166,7 +166,7 @@ module _ {pattern board : Circuit} {t : Tables} {table : List ℕ} {r : ℕ} (s 
         full : all ≡ reachedAt r
         full =
             rw (source-long s) at
-            (ap (λ (s : State). s .reached)
+            (ap (λ (s : SearchState). s .reached)
             (g .until .all (λ h. f (le-antisymm most (rw (g .passed) h)))))
 
         keeps : (v : ℕ) → Taken board (ballOf board c r) v → Reached (l .comp) v → Taken board (marksOf n nodes) v

@@ -17,7 +17,7 @@ use Rattle.report_centres.proofs.Centre.{line-counts}
 
 pub record Progress (pattern board : Circuit) (from found : ℕ) (before : List ℕ) (c count at : ℕ) (after : List ℕ) : Type 0 where
   pub begun : from ≤ c
-  pub within : c - from ≤ length (board .kinds) - from
+  pub within : c - from ≤ length (board .labels) - from
   pub put : Put before 0 (linesFrom pattern board from (c - from)) after at
   pub counted : count ≡ found + placesFrom pattern board from (c - from)
   pub room : (j : ℕ) → j < c - from → roomy (length before) (length (linesFrom pattern board from j)) ≡ true
@@ -28,7 +28,7 @@ module _ (pattern board : Circuit) (from found : ℕ) where
   lines = linesFrom pattern board from
 
   abbrev n : ℕ
-  n = length (board .kinds)
+  n = length (board .labels)
 
   -- one line more
   lines-more : (j c : ℕ) → from + j ≡ c → lines j ++ centreLine pattern board c ≡ lines (suc j)

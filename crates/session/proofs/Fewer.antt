@@ -25,7 +25,7 @@ module _ (board : Circuit) (left left′ : List ℕ) (fewer : (i : ℕ) → T (i
 
   -- The last table of the pattern on more links is one to begin with on fewer.
   pub fewer-begins :
-      (pattern : Circuit) → length (pattern .kinds) ≤ 32 →
+      (pattern : Circuit) → length (pattern .labels) ≤ 32 →
       Begins pattern (chosen board left′) (everything (chosen board left′)) (lastTable pattern (chosen board left) (everything (chosen board left)))
   unfolding problemBy withMoves agrees everything chosen
   fewer-begins pattern most =

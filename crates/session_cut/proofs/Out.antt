@@ -31,10 +31,10 @@ module _ (fixed sets before : List ℕ) where
   unfolding outReply first shortTable reply filled
   copied-made {n} {parts} {mid} {after} en ep h room copied ruled =
       let long : length (take n sets) ≡ n = length-take-le n sets room in
-      let front : take n mid ≡ take n sets = ap (take n) copied ∙ take-at (take n sets) _ n long in
+      let prefix : take n mid ≡ take n sets = ap (take n) copied ∙ take-at (take n sets) _ n long in
       let rest : drop n mid ≡ drop n before = ap (drop n) copied ∙ drop-at (take n sets) _ n long ∙ ap (λ (k : ℕ). drop k before) long in
       let fits = le-ltb (length before) n h in
       record {
         replied = rw (← en, fits);
-        table = rw (← en, ← ep, fits, length-occur parts (take n sets), long, ruled, front, rest);
+        table = rw (← en, ← ep, fits, length-occur parts (take n sets), long, ruled, prefix, rest);
       }

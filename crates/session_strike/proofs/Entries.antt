@@ -3,7 +3,7 @@ use Rattle.base_lists.specs.Kit.{_≡_, _∙_, sym, ap, refl, List, [], _∷_, 
 use lib.Bits.{bitOr, or-zero-r}
 use Rattle.base_bits.specs.Bits.{unionAt}
 use Rattle.base_bits.proofs.Tests.{bitOr-assoc}
-use Rattle.graph.specs.Net.{forwardOffsets, backwardOffsets, forwardLinks, backwardLinks, driven, driving}
+use Rattle.graph.specs.Net.{forwardOffsets, backwardOffsets, forwardTargets, backwardTargets, driven, driving}
 use Rattle.graph.specs.Search.{far}
 use Rattle.graph_neighbours.specs.Lookup.{neighboursOf, neighboursIn}
 use Rattle.graph_neighbours.specs.declared.neighbours.Direction.{Direction}
@@ -12,7 +12,7 @@ use Rattle.session_strike.specs.Moves.{beyond, markOne, markAll}
 
 -- the stretches of the halves of two lists are those of the lists
 pub halves-neighbours : (direction : Direction) (offsets links : List ℕ) (v : ℕ)
-    → neighboursOf direction (forwardOffsets offsets) (forwardLinks links) (backwardOffsets offsets) (backwardLinks links) v ≡ neighboursIn direction offsets links v
+    → neighboursOf direction (forwardOffsets offsets) (forwardTargets links) (backwardOffsets offsets) (backwardTargets links) v ≡ neighboursIn direction offsets links v
 unfolding neighboursIn driven driving
 halves-neighbours Forward offsets links v = refl
 halves-neighbours Backward offsets links v = refl

@@ -6,11 +6,11 @@ use Rattle.base_bits.specs.Bits.{bit, numberOf, subsetOf, firstOf, withoutFirst
 use Rattle.simulation.specs.Simulation.{Direction, forwards, backwards}
 use Rattle.table.specs.Row.{pairs}
 use Rattle.table_strike.specs.Strike.{survivors}
-use Rattle.session_strike.specs.Moves.{nextOf, mark, markOne, markAll, markBeside, markBoth, nodeAt, unmark, lookSets, lookMarks, lookOn, settled, settledFrom}
+use Rattle.session_strike.specs.Moves.{nextSetAt, mark, markOne, markAll, markBeside, markBoth, nodeAt, unmark, lookSets, lookMarks, lookOn, settled, settledFrom}
 
 -- `unfolding settledComputed` opens what is computed
 unfoldable pub settledComputed : Unit {0}
-unfolding allBelow part sum countBelow leastBelow bit numberOf subsetOf firstOf withoutFirst sizeOf unionAt pairs survivors nextOf mark markOne markAll markBeside markBoth nodeAt unmark lookSets lookMarks lookOn settled settledFrom
+unfolding allBelow part sum countBelow leastBelow bit numberOf subsetOf firstOf withoutFirst sizeOf unionAt pairs survivors nextSetAt mark markOne markAll markBeside markBoth nodeAt unmark lookSets lookMarks lookOn settled settledFrom
 settledComputed = tt
 
 -- the masks of one part that drives itself, and asks for nothing that drives it

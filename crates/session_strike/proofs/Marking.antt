@@ -5,7 +5,7 @@ use lib.Pow.{pow-lt}
 use Rattle.base_lists.specs.List.{Occurs}
 use Rattle.base_lists.specs.Below.{leastBelow}
 use Rattle.base_lists.proofs.Below.{leastBelow-none}
-use Rattle.base_lists.proofs.Tests.{both, both-left, both-right, either-left, either-right, true-T, false-T}
+use Rattle.base_lists.proofs.Tests.{both-true, both-left, both-right, either-left, either-right, true-T, false-T}
 use Rattle.base_bits.specs.Bits.{bit, Subset, sizeOf, firstOf, withoutFirst, Words}
 use Rattle.base_bits.proofs.Digits.{bit-of-zero, bit-or, bit-single}
 use Rattle.base_bits.proofs.Members.{bit-without}
@@ -15,7 +15,7 @@ use Rattle.table.specs.Row.{pairs}
 use Rattle.table.proofs.Pairs.{pairs-at, pairs-put}
 use Rattle.base_bits.proofs.Members.{first-bit}
 use Rattle.base_bits.proofs.Counts.{size-less}
-use Rattle.session_strike.specs.Moves.{marked, mark, markOne, markAll, markBeside, markBoth, nodeAt, unmark}
+use Rattle.session_strike.specs.Moves.{nodeMarked, mark, markOne, markAll, markBeside, markBoth, nodeAt, unmark}
 
 -- ---- sizes
 
@@ -37,8 +37,8 @@ module _ (marks : List ℕ) (v : ℕ) where
       words-set marks (v / 32) _ w (or-lt 32 _ _ (w (v / 32)) (pow-lt low))
 
   -- the others stay
-  pub mark-keeps : (w : ℕ) → T (marked marks w) → T (marked (mark marks v) w)
-  unfolding mark marked
+  pub mark-keeps : (w : ℕ) → T (nodeMarked marks w) → T (nodeMarked (mark marks v) w)
+  unfolding mark nodeMarked
   mark-keeps w t = go (eqb (w / 32) (v / 32)) refl (ltb (v / 32) (length marks)) refl
     where
       word : ℕ
@@ -52,8 +52,8 @@ module _ (marks : List ℕ) (v : ℕ) where
       go true e false l = rw (set-out marks (v / 32) word (ltb-false _ _ l)) t
       go false e a l = rw (getD-set-other marks (v / 32) (w / 32) word 0 (eqb-false _ _ e)) t
 
-  pub mark-marks : v / 32 < length marks → T (marked (mark marks v) v)
-  unfolding mark marked
+  pub mark-marks : v / 32 < length marks → T (nodeMarked (mark marks v) v)
+  unfolding mark nodeMarked
   mark-marks h =
       rw (getD-set-same marks (v / 32) (bitOr (getD marks (v / 32) 0) (2 ^ (v % 32))) 0 h, bit-or)
       (either-right (bit (getD marks (v / 32) 0) (v % 32)) _ (true-T (bit-single (v % 32) (v % 32) ∙ eq-eqb (v % 32) (v % 32) refl)))
@@ -87,25 +87,25 @@ module _ (n : ℕ) where
   words-all marks [] k = k
   words-all marks (w ∷ ws) k = words-all (markOne n marks w) ws (words-one marks w k)
 
-  one-keeps : (marks : List ℕ) (w x : ℕ) → T (marked marks x) → T (marked (markOne n marks w) x)
+  one-keeps : (marks : List ℕ) (w x : ℕ) → T (nodeMarked marks x) → T (nodeMarked (markOne n marks w) x)
   unfolding markOne
   one-keeps marks w x t = go (ltb w n)
     where
-      go : (b : Bool) → T (marked (cond b (mark marks w) marks) x)
+      go : (b : Bool) → T (nodeMarked (cond b (mark marks w) marks) x)
       go true = mark-keeps marks w x t
       go false = t
 
-  pub all-keeps : (marks ws : List ℕ) (x : ℕ) → T (marked marks x) → T (marked (markAll n marks ws) x)
+  pub all-keeps : (marks ws : List ℕ) (x : ℕ) → T (nodeMarked marks x) → T (nodeMarked (markAll n marks ws) x)
   unfolding markAll
   all-keeps marks [] x t = t
   all-keeps marks (w ∷ ws) x t = all-keeps (markOne n marks w) ws x (one-keeps marks w x t)
 
-  one-marks : (marks : List ℕ) (w x : ℕ) → n ≤ 32 * length marks → x < n → w ≡ x → T (marked (markOne n marks w) x)
+  one-marks : (marks : List ℕ) (w x : ℕ) → n ≤ 32 * length marks → x < n → w ≡ x → T (nodeMarked (markOne n marks w) x)
   unfolding markOne
   one-marks marks w x room h e = rw (e, lt-ltb x n h) (mark-marks marks x (omega arith))
 
   -- each node of the list is marked
-  pub all-marks : (marks ws : List ℕ) (x : ℕ) → n ≤ 32 * length marks → x < n → Occurs ws x → T (marked (markAll n marks ws) x)
+  pub all-marks : (marks ws : List ℕ) (x : ℕ) → n ≤ 32 * length marks → x < n → Occurs ws x → T (nodeMarked (markAll n marks ws) x)
   unfolding markAll
   all-marks marks [] x room h (i, l, e) = absurd (not-suc-le-zero l)
   all-marks marks (w ∷ ws) x room h (zero, l, e) = all-keeps (markOne n marks w) ws x (one-marks marks w x room h e)
@@ -123,22 +123,22 @@ module _ (n : ℕ) where
     unfolding markBeside
     words-beside w = words-all (markAll n marks (moves forwards v)) (moves backwards v) (words-all marks (moves forwards v) w)
 
-    pub beside-keeps : (x : ℕ) → T (marked marks x) → T (marked (markBeside n moves marks v) x)
+    pub beside-keeps : (x : ℕ) → T (nodeMarked marks x) → T (nodeMarked (markBeside n moves marks v) x)
     unfolding markBeside
     beside-keeps x t = all-keeps (markAll n marks (moves forwards v)) (moves backwards v) x (all-keeps marks (moves forwards v) x t)
 
-    pub beside-marks : (d : Direction) (x : ℕ) → n ≤ 32 * length marks → x < n → Occurs (moves d v) x → T (marked (markBeside n moves marks v) x)
+    pub beside-marks : (d : Direction) (x : ℕ) → n ≤ 32 * length marks → x < n → Occurs (moves d v) x → T (nodeMarked (markBeside n moves marks v) x)
     unfolding markBeside
     beside-marks forwards x room h o = all-keeps (markAll n marks (moves forwards v)) (moves backwards v) x (all-marks marks (moves forwards v) x room h o)
     beside-marks backwards x room h o =
         all-marks (markAll n marks (moves forwards v)) (moves backwards v) x (omega (arith, length-all marks (moves forwards v))) h o
 
 -- two nodes marked
-pub both-first : (n x y : ℕ) → n ≤ 512 → x < n → T (marked (markBoth n x y) x)
+pub both-first : (n x y : ℕ) → n ≤ 512 → x < n → T (nodeMarked (markBoth n x y) x)
 unfolding markBoth
 both-first n x y few h = one-keeps n (markOne n (replicate 16 0) x) y x (one-marks n (replicate 16 0) x x (omega (arith, length-replicate {A = ℕ} 16 0)) h refl)
 
-pub both-second : (n x y : ℕ) → n ≤ 512 → y < n → T (marked (markBoth n x y) y)
+pub both-second : (n x y : ℕ) → n ≤ 512 → y < n → T (nodeMarked (markBoth n x y) y)
 unfolding markBoth
 both-second n x y few h =
     one-marks n (markOne n (replicate 16 0) x) y y (omega (arith, length-one n (replicate 16 0) x, length-replicate {A = ℕ} 16 0)) h refl
@@ -182,8 +182,8 @@ module _ (marks : List ℕ) (j : ℕ) (inside : j < length marks) (some : zero <
   unmark-less = pairs-less marks j _ inside (size-less _ _ without-word word without-subset without-other)
 
   -- the marks of the other nodes stay
-  pub unmark-keeps : (w : ℕ) → (w ≡ nodeAt marks j → ⊥) → T (marked marks w) → T (marked (unmark marks j) w)
-  unfolding unmark marked nodeAt
+  pub unmark-keeps : (w : ℕ) → (w ≡ nodeAt marks j → ⊥) → T (nodeMarked marks w) → T (nodeMarked (unmark marks j) w)
+  unfolding unmark nodeMarked nodeAt
   unmark-keeps w other t = go (eqb (w / 32) j) refl
     where
       x : ℕ
@@ -193,13 +193,13 @@ module _ (marks : List ℕ) (j : ℕ) (inside : j < length marks) (some : zero <
       go true e =
           let q : w / 32 ≡ j = eqb-true _ _ e in
           rw (q, getD-set-same marks j (withoutFirst x) 0 inside, bit-without x some word (w % 32))
-          (both (bit x (w % 32)) _ (rw q at t) (true-T (ap not (ne-eqb (w % 32) (firstOf x) (λ p. other (omega arith))))))
+          (both-true (bit x (w % 32)) _ (rw q at t) (true-T (ap not (ne-eqb (w % 32) (firstOf x) (λ p. other (omega arith))))))
       go false e = rw (getD-set-other marks j (w / 32) (withoutFirst x) 0 (eqb-false _ _ e)) t
 
 -- ---- no mark left
 
-pub none-marked : (marks : List ℕ) → length marks ≤ leastBelow (length marks) (λ j. not (eqb (getD marks j 0) 0)) → (w : ℕ) → marked marks w ≡ false
-unfolding marked
+pub none-marked : (marks : List ℕ) → length marks ≤ leastBelow (length marks) (λ j. not (eqb (getD marks j 0) 0)) → (w : ℕ) → nodeMarked marks w ≡ false
+unfolding nodeMarked
 none-marked marks h w = ap (λ (x : ℕ). bit x (w % 32)) (go (ltb (w / 32) (length marks)) refl) ∙ bit-of-zero (w % 32)
   where
     go : (b : Bool) → ltb (w / 32) (length marks) ≡ b → getD marks (w / 32) 0 ≡ 0

@@ -18,7 +18,7 @@ use Rattle.order.specs.Files.{compareFiles}
 use Rattle.call_shelf.specs.Text.{shelfText}
 use Rattle.call_shelf.specs.Shelf.{isAccepted, fileAt, acceptedIn, shelfOf}
 use Rattle.shelf.specs.Reading.{cutEach}
-use Rattle.shelf.specs.Printing.{textOf}
+use Rattle.shelf.specs.Printing.{shelfTextOf}
 
 -- what reading a file as a second-edition pattern finds
 abbrev verdictFor : List ℕ → Verdict
@@ -55,6 +55,6 @@ module _ (files : List (List ℕ)) where
       ∙ ap (sortBelow (acceptedIn files) (λ i j. isLess (compareFiles (fileAt files i) (fileAt files j)))) (length-map files (cut Second Pattern))
 
   -- so its text is
-  pub cut-text : textOf (cutEach files) ≡ textOf files
-  unfolding textOf
+  pub cut-text : shelfTextOf (cutEach files) ≡ shelfTextOf files
+  unfolding shelfTextOf
   cut-text = ap shelfText cut-shelf

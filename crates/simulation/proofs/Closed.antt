@@ -20,11 +20,11 @@ restrict-closed N agrees answers c =
 
 -- A closed set stays closed for a wider agreement and weaker requirements: each new step is an old one, perhaps with another label, whose
 -- moves are all moves of the new label.
-pub weaken :
+pub closed-weaken :
     {D D′ : Type 0} {Agree Agree′ : Relation} {Step Move : D → Relation} {Step′ Move′ : D′ → Relation} {S : Relation} →
     Agree ⊆ Agree′ → ((d′ : D′) (u u′ : ℕ) → Step′ d′ u u′ → (d : D) × Step d u u′ × (Move d ⊆ Move′ d′)) →
     Closed Agree Step Move S → Closed Agree′ Step′ Move′ S
-weaken wider weaker c =
+closed-weaken wider weaker c =
     record {
       agree = λ u v s. wider u v (c .agree u v s);
       partner = λ d′ u v u′ s p′.
@@ -36,7 +36,7 @@ weaken wider weaker c =
 pub fewer-steps :
     {D : Type 0} {Agree : Relation} {Step Step′ Move : D → Relation} {S : Relation} →
     ((d : D) → Step′ d ⊆ Step d) → Closed Agree Step Move S → Closed Agree Step′ Move S
-fewer-steps fewer = weaken (λ u v a. a) (λ d u u′ p. (d, fewer d u u′ p, λ v v′ l. l))
+fewer-steps fewer = closed-weaken (λ u v a. a) (λ d u u′ p. (d, fewer d u u′ p, λ v v′ l. l))
 
 -- The same set, said in another way.
 pub closed-same-set :
@@ -93,6 +93,6 @@ pub largest-closed-same :
     LargestClosed Agree Step Move S → LargestClosed Agree′ Step′ Move′ S
 largest-closed-same wider narrower more fewer moves back l =
     record {
-      closed = weaken wider (λ d u u′ p. (d, fewer d u u′ p, moves d)) (l .closed);
-      contains = λ R c. l .contains R (weaken narrower (λ d u u′ p. (d, more d u u′ p, back d)) c);
+      closed = closed-weaken wider (λ d u u′ p. (d, fewer d u u′ p, moves d)) (l .closed);
+      contains = λ R c. l .contains R (closed-weaken narrower (λ d u u′ p. (d, more d u u′ p, back d)) c);
     }

@@ -5,7 +5,7 @@ use Rattle.graph.specs.Graph.{Graph, Subgraph, Contains, Connected, Distance, R
 use Rattle.simulation.specs.Closed.{Relation, _⊆_}
 use Rattle.simulation.specs.Simulation.{DualSimulation, Largest}
 use Rattle.simulation.specs.Perfect.{MatchGraph, PerfectIn, PlaceIn, SameGraph, SameAgree}
-use Rattle.simulation.proofs.Closed.{weaken, closed-same-set, occurring-same-set}
+use Rattle.simulation.proofs.Closed.{closed-weaken, closed-same-set, occurring-same-set}
 use Rattle.simulation.proofs.Simulation.{along-wider, dual-closed, dual-occurring, closed-dual}
 use Rattle.simulation.proofs.Walks.{wider-walk}
 
@@ -74,7 +74,7 @@ pub dual-same :
     DualSimulation P Agree H S → DualSimulation P′ Agree′ H′ S
 dual-same p h a s =
     closed-dual
-    (weaken
+    (closed-weaken
     (λ u v c.
     record {
       part = p .nodes u .0 (c .part);

@@ -3,7 +3,7 @@ use Rattle.base_lists.specs.Kit.{_↔_, _⊎_, inl, inr, ℕ}
 use Rattle.graph.specs.Graph.{Graph, Subgraph, Connected, Walk, stay, step}
 use Rattle.simulation.specs.Closed.{Relation, _⊆_, Closed, Occurring, LargestClosed, Compose}
 use Rattle.simulation.specs.Simulation.{DualSimulation, Largest, Candidate, Direction, forwards, backwards, Along}
-use Rattle.simulation.proofs.Closed.{compose-closed, compose-occurring, weaken}
+use Rattle.simulation.proofs.Closed.{compose-closed, compose-occurring, closed-weaken}
 
 -- a wider relation is wider in each direction
 pub along-wider : {R S : Relation} → R ⊆ S → (d : Direction) → Along R d ⊆ Along S d
@@ -101,7 +101,7 @@ pub dual-subgraph :
     DualSimulation P Agree G S → DualSimulation P Agree H S
 dual-subgraph g s =
     closed-dual
-    (weaken (λ u v c. record { part = c .part; node = g .nodes v (c .node); kinds = c .kinds })
+    (closed-weaken (λ u v c. record { part = c .part; node = g .nodes v (c .node); kinds = c .kinds })
     (λ d u u′ p. (d, p, along-wider (g .links) d)) (dual-closed s))
     (dual-occurring s)
 

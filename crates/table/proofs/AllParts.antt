@@ -9,7 +9,7 @@ use Rattle.base_bits.specs.Bits.{bit, sizeOf}
 use Rattle.base_bits.proofs.Counts.{ones-count}
 use Rattle.base_bits.proofs.Digits.{bit-of-zero, bit-or}
 use Rattle.table.specs.declared.Counts.{Counts}
-use Rattle.table.specs.Answer.{Fits, allOccur, allOrNone, countsWhere, Ruled}
+use Rattle.table.specs.Answer.{SetsFit, allOccur, allOrNone, countsWhere, Ruled}
 use Rattle.table.proofs.Sets.{fits-word}
 use Rattle.table.specs.Row.{inTable}
 use Rattle.table.specs.Union.{unionAll}
@@ -26,7 +26,7 @@ unfolding unionAll
 union-lt k [] h = pow-pos k
 union-lt k (x ∷ xs) h = or-lt k x (unionAll xs) (h zero) (union-lt k xs (λ v. h (suc v)))
 
-module _ (k : ℕ) (few : k ≤ 32) (t : List ℕ) (fits : Fits (length t) k t) where
+module _ (k : ℕ) (few : k ≤ 32) (t : List ℕ) (fits : SetsFit (length t) k t) where
   pub occur-size : eqb (sizeOf (unionAll t)) k ≡ allOccur (length t) k t
   unfolding sizeOf allOccur
   occur-size =

@@ -15,7 +15,7 @@ pub struck-minus : (ways : List Direction) (pattern host : Circuit) (taken : Lis
 unfolding struckOf
 struck-minus ways pattern host taken = refl
 
-module _ (ways : List Direction) (pattern host : Circuit) (taken : List ℕ) (most : length (pattern .kinds) ≤ 32) where
+module _ (ways : List Direction) (pattern host : Circuit) (taken : List ℕ) (most : length (pattern .labels) ≤ 32) where
   -- "rounds, how many sets differ from the one before": each set up to there does, and there the row has come to its last
   pub rounds-differ : (j : ℕ) → j < roundsBy ways pattern host taken → rowBy ways pattern host taken (suc j) ≢ rowBy ways pattern host taken j
   unfolding problemBy

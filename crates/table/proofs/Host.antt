@@ -18,13 +18,13 @@ use Rattle.table.proofs.Meaning.{last-largest}
 -- ---- the whole board
 
 -- the links of a circuit whose starts and ends are below N join its nodes
-pub within-joins : (c : Circuit) → Within (length (c .kinds)) (c .starts) (c .ends) → LinksJoin (circuitGraph c)
+pub within-joins : (c : Circuit) → Within (length (c .labels)) (c .starts) (c .ends) → LinksJoin (circuitGraph c)
 unfolding circuitGraph graphOf
 within-joins c w = record { nodes = λ v n. n; links = λ v w l. l; starts = w .starts; ends = w .ends }
 
-pub everything-taken : (c : Circuit) (v : ℕ) → v < length (c .kinds) → Taken c (everything c) v
+pub everything-taken : (c : Circuit) (v : ℕ) → v < length (c .labels) → Taken c (everything c) v
 unfolding everything inside
-everything-taken c v h = record { below = h; marked = rw (getD-tabulate (length (c .kinds)) (λ v. 1) v 0 h) tt }
+everything-taken c v h = record { below = h; marked = rw (getD-tabulate (length (c .labels)) (λ v. 1) v 0 h) tt }
 
 -- with every node taken H is the board
 pub everything-same : (c : Circuit) → LinksJoin (circuitGraph c) → SameGraph (hostGraph c (everything c)) (circuitGraph c)
@@ -37,7 +37,7 @@ everything-same c j =
 
 -- so there the last table is the largest dual simulation in the board
 pub board-largest :
-    (pattern board : Circuit) → length (pattern .kinds) ≤ 32 → Connected (circuitGraph pattern) → LinksJoin (circuitGraph board) →
+    (pattern board : Circuit) → length (pattern .labels) ≤ 32 → Connected (circuitGraph pattern) → LinksJoin (circuitGraph board) →
     Largest (circuitGraph pattern) (KindsMatch pattern board) (circuitGraph board) (InTable (lastTable pattern board (everything board)))
 board-largest pattern board most connected j =
     largest-same (same-refl (circuitGraph pattern)) (everything-same board j) (record { agree = λ u v p n. Iff·rfl })

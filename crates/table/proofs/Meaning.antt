@@ -21,7 +21,7 @@ module _ (pattern host : Circuit) (taken : List ℕ) where
   pub last-candidate : InTable (lastTable pattern host taken) ⊆ Candidates pattern host taken
   last-candidate u v m = agreeing-iff pattern host taken u v .0 (Of.last-agrees (problemOf pattern host taken) u v m)
 
-module _ (pattern host : Circuit) (taken : List ℕ) (most : length (pattern .kinds) ≤ 32) where
+module _ (pattern host : Circuit) (taken : List ℕ) (most : length (pattern .labels) ≤ 32) where
   pub last-closed : LargestClosed (Candidates pattern host taken) (Steps pattern) (Moves host taken) (InTable (lastTable pattern host taken))
   unfolding problemBy
   last-closed = Of.last-closed (problemOf pattern host taken) most (reading pattern host taken)

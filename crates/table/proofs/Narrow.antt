@@ -24,7 +24,7 @@ more-nodes pattern host taken taken′ more =
 
 -- what lies in the largest set of H lies in that of a graph with more nodes of the same circuit
 pub last-wider :
-    (pattern host : Circuit) (taken taken′ : List ℕ) → length (pattern .kinds) ≤ 32 →
+    (pattern host : Circuit) (taken taken′ : List ℕ) → length (pattern .labels) ≤ 32 →
     ((v : ℕ) → Taken host taken v → Taken host taken′ v) →
     InTable (lastTable pattern host taken) ⊆ InTable (lastTable pattern host taken′)
 unfolding problemBy

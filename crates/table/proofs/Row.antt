@@ -2,7 +2,7 @@
 -- both ways it contains every dual simulation. Assumes nothing.
 use Rattle.base_lists.specs.Kit.{_≡_, refl, _↔_, inl, inr, Iff·trans, List, ℕ, suc, length}
 use Rattle.base_lists.specs.List.{Occurs}
-use Rattle.base_lists.proofs.Tests.{both, both-left, both-right}
+use Rattle.base_lists.proofs.Tests.{both-true, both-left, both-right}
 use Rattle.graph.specs.Circuit.{Circuit, HasLink, graphOf, circuitGraph}
 use Rattle.graph.specs.Search.{inside}
 use Rattle.graph.proofs.Groups.{select-mem, select-mem-back}
@@ -11,7 +11,7 @@ use Rattle.simulation.specs.Simulation.{Candidate, Direction, forwards, backwar
 use Rattle.simulation.proofs.Simulation.{along-wider}
 use Rattle.table_row.specs.Problem.{Way, Agreeing}
 use Rattle.table_row.specs.Row.{rowFrom, rowOf}
-use Rattle.table_row.specs.Reading.{InTable, Fits, Reading, Chosen, Wider}
+use Rattle.table_row.specs.Reading.{InTable, SetsFit, Reading, Chosen, Wider}
 use Rattle.table_row.proofs.Row as Of
 use Rattle.table.specs.Host.{hostGraph, KindsMatch}
 use Rattle.table.specs.Row.{agrees, neighbours, bothWays, problemBy, problemOf, startBy, rowBy, startTable}
@@ -19,7 +19,7 @@ use Rattle.table.proofs.Agreement.{agrees-kinds}
 
 -- A table of a pattern on a circuit has a number per node, of as many digits as there are parts.
 abbrev pub Table : Circuit → Circuit → List ℕ → Type 0
-Table pattern host t = Fits (length (host .kinds)) (length (pattern .kinds)) t
+Table pattern host t = SetsFit (length (host .labels)) (length (pattern .labels)) t
 
 -- "R0 is the set of pairs with equal kinds": the pairs of a part and a node of H.
 abbrev pub Candidates : Circuit → Circuit → List ℕ → Relation
@@ -68,7 +68,7 @@ module _ (ways : List Direction) (pattern host : Circuit) (taken : List ℕ) whe
         record {
           part = c .part;
           node = c .node .below;
-          agree = both (inside taken v) (agrees pattern host u v) (c .node .marked) (agrees-kinds pattern host u v .1 (c .kinds));
+          agree = both-true (inside taken v) (agrees pattern host u v) (c .node .marked) (agrees-kinds pattern host u v .1 (c .kinds));
         },
   )
 

@@ -4,7 +4,7 @@ use Rattle.base_lists.specs.Kit.{_≡_, Bool, false, true, List, ℕ}
 use Rattle.graph.specs.Circuit.{Circuit}
 use Rattle.table_row.specs.Answer.{answerOf, answerKept, answerStruck}
 unfoldable pub use Rattle.table_row.specs.Answer.{allOccur, allOrNone}
-pub use Rattle.table_row.specs.Reading.{Fits}
+pub use Rattle.table_row.specs.Reading.{SetsFit}
 use Rattle.table.specs.Host.{everything}
 use Rattle.simulation.specs.Simulation.{Direction}
 use Rattle.table.specs.Row.{bothWays, problemBy, startedBy, roundsBy}

@@ -16,7 +16,7 @@ Begins pattern host taken first = BeginsBy bothWays pattern host taken first
 
 -- the set of the parts that agree with a node, by their kinds
 unfoldable pub startNode : List ℕ → List ℕ → ℕ → ℕ
-startNode partKinds nodeKinds v = numberOf (length partKinds) (λ u. kindsAgree (getD partKinds u 0) (getD nodeKinds v 0))
+startNode partLabels nodeLabels v = numberOf (length partLabels) (λ u. kindsAgree (getD partLabels u 0) (getD nodeLabels v 0))
 
 -- The table of n sets that a rule makes, empty outside the list, and how many pairs it has.
 pub record Written (n : ℕ) (f : ℕ → ℕ) (nodes table : List ℕ) (count : ℕ) : Type 0 where

@@ -5,7 +5,7 @@ use crate::Counts;
 ghost use mathlib.Core.Path.{_≡_};
 ghost use Prim.Native.Nat.{_≤_};
 ghost use lib.ListN.{length};
-ghost use Rattle.table.specs.Answer.{Fits, Ruled};
+ghost use Rattle.table.specs.Answer.{SetsFit, Ruled};
 ghost use Rattle.table.specs.Union.{unionAll};
 
 // The parts that occur in a table: the union of all its sets.
@@ -37,7 +37,7 @@ fn none_kept(counts: Counts) -> Counts
 // parts has them all when the union of its sets has as many.
 pub fn all_or_none(parts: usize, table: &mut [u32], counts: Counts) -> Counts
     requires { ⌜ parts ≤ 32 ⌝ }
-    requires { ⌜ Fits (length (now table)) parts (now table) ⌝ }
+    requires { ⌜ SetsFit (length (now table)) parts (now table) ⌝ }
     ensures { λ r. ⌜ Ruled parts (length (now (table .entry))) (now (table .entry)) counts (now (table .exit)) r ⌝ }
 {
     if size(occurring(table)) as usize == parts {

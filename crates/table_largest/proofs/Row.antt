@@ -53,9 +53,9 @@ module _ (ways : List Direction) (pattern host : Circuit) (t : Tables) (p : Prep
 
   steps-within : StepsWithin problem
   unfolding problemBy
-  steps-within = record { below = λ d u h. neighbours-below (length (pattern .kinds)) pattern (p .starts) (p .ends) d u }
+  steps-within = record { below = λ d u h. neighbours-below (length (pattern .labels)) pattern (p .starts) (p .ends) d u }
 
-  node-next : (old : List ℕ) (v : ℕ) → v < length (host .kinds) → strikeNode t old v ≡ nextSet problem old v
+  node-next : (old : List ℕ) (v : ℕ) → v < length (host .labels) → strikeNode t old v ≡ nextSet problem old v
   unfolding strikeNode problemBy neighbours maskOf masksOf
   node-next old v l = rw (p .masked .succ, p .masked .pred, p .net .drives v l, p .net .drivenBy v l) (survivors-next ways pattern host taken old v)
 
@@ -64,30 +64,30 @@ module _ (ways : List Direction) (pattern host : Circuit) (t : Tables) (p : Prep
   unfolding strikeTable problemBy
   strike-row old fits =
       ap (λ (m : ℕ). tabulate m (strikeNode t old)) (fits .size)
-      ∙ tabulate-same (length (host .kinds)) (strikeNode t old) (nextSet problem old) (node-next old)
+      ∙ tabulate-same (length (host .labels)) (strikeNode t old) (nextSet problem old) (node-next old)
       ∙ masks-strike problem (p .parts) steps-within fits
 
 -- ---- the first table
 
 -- a table to begin with is empty outside the list
 pub begins-cleared :
-    (ways : List Direction) (pattern host : Circuit) (nodes : List ℕ) {first : List ℕ} → BeginsBy ways pattern host (marksOf (length (host .kinds)) nodes) first → Cleared nodes first
+    (ways : List Direction) (pattern host : Circuit) (nodes : List ℕ) {first : List ℕ} → BeginsBy ways pattern host (marksOf (length (host .labels)) nodes) first → Cleared nodes first
 unfolding Cleared inTable hostGraph problemBy
 begins-cleared ways pattern host nodes {first} b v h e =
-    let marks : List ℕ = marksOf (length (host .kinds)) nodes in
+    let marks : List ℕ = marksOf (length (host .labels)) nodes in
     same-bits (getD first v 0) 0
     (λ u.
     T-false
     (λ m.
-    false-T (inside-marks (length (host .kinds)) nodes v (rw (b .long) at h) ∙ e) (start-for ways pattern host marks u v .0 (b .within u v m) .node .marked))
+    false-T (inside-marks (length (host .labels)) nodes v (rw (b .long) at h) ∙ e) (start-for ways pattern host marks u v .0 (b .within u v m) .node .marked))
     ∙ sym (bit-of-zero u))
 
 -- ---- the row
 
 module _ (ways : List Direction) (pattern host : Circuit) (t : Tables) (p : PreparedBy ways pattern host t) (nodes : List ℕ) {first : List ℕ}
-    (b : BeginsBy ways pattern host (marksOf (length (host .kinds)) nodes) first) where
+    (b : BeginsBy ways pattern host (marksOf (length (host .labels)) nodes) first) where
   abbrev marks : List ℕ
-  marks = marksOf (length (host .kinds)) nodes
+  marks = marksOf (length (host .labels)) nodes
 
   -- k rounds from a table to begin with are k steps of the row from it
   pub times-row : (k : ℕ) → strikeTimes t first k ≡ rowFrom (problemBy ways pattern host marks) first k

@@ -3,7 +3,7 @@
 use Rattle.base_lists.specs.Kit.{_≡_, _∙_, sym, ap, refl, Bool, false, true, cond, List, [], ℕ, _<_, zero-le, not-suc-le-zero, T, eqb, length, getD, replicate, length-replicate, getD-replicate, ext-getD, arith, eqb-true, eqb-false}
 use Rattle.base_lists.specs.List.{Occurs, Below}
 use Rattle.base_lists.proofs.Tests.{T-true, false-T}
-use Rattle.graph.specs.Bfs.{State, level, Ready, stateOf, Searching}
+use Rattle.graph.specs.Bfs.{SearchState, level, SearchReady, stateOf, Searching}
 use Rattle.graph.specs.Search.{far}
 use Rattle.graph.proofs.BfsSteps.{ready-level, missing-all}
 use Rattle.graph.proofs.BfsScan.{elem, occurs-elem, below-elem, targets, targets-from, to-targets, level-scan, after-new, scan-dist}
@@ -12,10 +12,10 @@ use Rattle.table.specs.Fill.{listed, fillAt}
 use Rattle.table.proofs.Fill.{listed-occurs, occurs-listed, length-fill, getD-fill}
 
 -- nothing is marked
-unfoldable pub unmarked : ℕ → State
+unfoldable pub unmarked : ℕ → SearchState
 unmarked n = record { dist = replicate n far; reached = [] }
 
-unmarked-ready : (n : ℕ) → Ready n (unmarked n)
+unmarked-ready : (n : ℕ) → SearchReady n (unmarked n)
 unfolding unmarked Below
 unmarked-ready n = record { size = length-replicate n far; counted = omega (arith, missing-all n); inside = λ i h. absurd (not-suc-le-zero h) }
 
@@ -42,7 +42,7 @@ marks-searching {n} {marks} {todo} e l =
 -- ---- what is listed
 
 module _ {n : ℕ} (adj : ℕ → List ℕ) (inside : (v : ℕ) → v < n → Below n (adj v)) (changed : List ℕ) (b : Below n changed) where
-  abbrev woken : State
+  abbrev woken : SearchState
   woken = level adj 0 (unmarked n) changed
 
   targets-below : Below n (targets adj changed)
@@ -63,7 +63,7 @@ module _ {n : ℕ} (adj : ℕ → List ℕ) (inside : (v : ℕ) → v < n → Be
       let t : T (elem v (targets adj changed)) = to-targets adj w v changed (occurs-elem w changed (listed-occurs changed w m)) (occurs-elem v (adj w) o) in
       let h : v < n = below-elem n v (targets adj changed) targets-below t in
       let marked : getD (woken .dist) v 0 ≡ 0 =
-      ap (λ (s : State). getD (s .dist) v 0) (level-scan adj 0 (unmarked n) changed) ∙ scan-dist 0 (unmarked n) (targets adj changed) v
+      ap (λ (s : SearchState). getD (s .dist) v 0) (level-scan adj 0 (unmarked n) changed) ∙ scan-dist 0 (unmarked n) (targets adj changed) v
       ∙ after-new 0 (getD (replicate n far) v 0) (elem v (targets adj changed)) (getD-replicate n v far 0 h) (T-true t) in
       occurs-listed (woken .reached) v (woken-listed .complete v h (λ q. omega (arith, marked)))
 

@@ -21,8 +21,8 @@ strikeTimes t old (suc k) = strikeTable t (strikeTimes t old k)
 -- ---- only what may change is looked at
 
 -- what a node drives it is driven by, in the two neighbour tables
-unfoldable pub Mutual : Tables → ℕ → Type 0
-Mutual t n = (v w : ℕ) → v < n → w < n → Occurs (driven (t .offsets) (t .links) v) w ↔ Occurs (driving (t .offsets) (t .links) w) v
+unfoldable pub MutualTables : Tables → ℕ → Type 0
+MutualTables t n = (v w : ℕ) → v < n → w < n → Occurs (driven (t .offsets) (t .targets) v) w ↔ Occurs (driving (t .offsets) (t .targets) w) v
 
 -- a node that is not in the list keeps its set in the next round
 unfoldable pub Covers : Tables → List ℕ → List ℕ → Type 0
@@ -31,7 +31,7 @@ Covers t old todo = (v : ℕ) → v < length old → listed todo v ≡ false →
 -- A list of nodes to look at: it has each node that changes.
 pub record Due (t : Tables) (old todo : List ℕ) : Type 0 where
   pub ready : Ready t old
-  pub both : Mutual t (length old)
+  pub both : MutualTables t (length old)
   pub covers : Covers t old todo
   pub below : Below (length old) todo
   pub few : length todo ≤ length old

@@ -7,7 +7,7 @@ use Rattle.table.specs.Row.{pairs}
 use Rattle.table.specs.Fill.{listed, fillAt}
 use Rattle.table.proofs.Fill.{listed-occurs, occurs-listed}
 use Rattle.table.proofs.Pairs.{pairs-put}
-use Rattle.table_round.specs.Pending.{changing, Pending, Noted, putAt, Put}
+use Rattle.table_round.specs.Pending.{changing, Pending, ChangeNoted, putAt, SetsPut}
 
 -- ---- the nodes that change
 
@@ -51,7 +51,7 @@ module _ (f : ℕ → ℕ) (old : List ℕ) where
 
   module _ {todo changed next : List ℕ} {k i : ℕ} (g : Listing todo changed next k i) where
     pub listing-next : {v x y k′ : ℕ} {changed′ next′ : List ℕ} → i < length todo → k < length changed → k < length next →
-        v ≡ getD todo i 0 → x ≡ f v → y ≡ getD old v 0 → Noted v x y k changed next changed′ next′ k′ → Listing todo changed′ next′ k′ (i + 1)
+        v ≡ getD todo i 0 → x ≡ f v → y ≡ getD old v 0 → ChangeNoted v x y k changed next changed′ next′ k′ → Listing todo changed′ next′ k′ (i + 1)
     unfolding changing
     listing-next {v} {x} {y} {k′} {changed′} {next′} h room room′ ev ex ey noted = go (eqb x y) refl
       where
@@ -128,6 +128,6 @@ module _ {nodes sets before after : List ℕ} {count i : ℕ} (g : Putting nodes
         size = rw (g .size, ea, eb) (pairs-put after v x inside);
       }
 
-  pub putting-end : length nodes ≤ i → Put nodes sets before after count
+  pub putting-end : length nodes ≤ i → SetsPut nodes sets before after count
   unfolding putAt
   putting-end h = record { table = rw (drop-of-length-le nodes h) at (g .table); size = g .size }

@@ -14,7 +14,7 @@ pub record Pending (f : ℕ → ℕ) (old todo changed next : List ℕ) (k : ℕ
   pub sets : take k next ≡ map f (changing f old todo)
 
 -- one node more: it is listed with its next set where that is not the set that it has
-pub record Noted (v x y k : ℕ) (changed next changed′ next′ : List ℕ) (k′ : ℕ) : Type 0 where
+pub record ChangeNoted (v x y k : ℕ) (changed next changed′ next′ : List ℕ) (k′ : ℕ) : Type 0 where
   pub count : k′ ≡ k + cond (eqb x y) 0 1
   pub nodes : changed′ ≡ cond (eqb x y) changed (set changed k v)
   pub sets : next′ ≡ cond (eqb x y) next (set next k x)
@@ -26,6 +26,6 @@ putAt (v ∷ vs) [] table = table
 putAt (v ∷ vs) (x ∷ xs) table = putAt vs xs (set table v x)
 
 -- that table, and how many pairs it has
-pub record Put (nodes sets before after : List ℕ) (count : ℕ) : Type 0 where
+pub record SetsPut (nodes sets before after : List ℕ) (count : ℕ) : Type 0 where
   pub table : after ≡ putAt nodes sets before
   pub size : count ≡ pairs after

@@ -8,7 +8,7 @@ use Rattle.graph.specs.Graph.{Graph}
 use Rattle.simulation.specs.Closed.{Relation, _⊆_, Closed, Occurring}
 use Rattle.simulation.specs.Perfect.{SameGraph}
 use Rattle.simulation.specs.Simulation.{Candidate, Direction, forwards, backwards, Along, Largest, LargestGraphSimulation}
-use Rattle.simulation.proofs.Closed.{weaken}
+use Rattle.simulation.proofs.Closed.{closed-weaken}
 use Rattle.simulation.proofs.Same.{same-symm}
 use Rattle.simulation.proofs.Simulation.{along-wider, dual-closed, dual-occurring, closed-dual}
 use Rattle.table_row.specs.Problem.{Problem, Way}
@@ -158,7 +158,7 @@ module _ {P : Graph} {Agree : Relation} {Step : Direction → Relation} where
       {H H′ : Graph} {R : Relation} → SameGraph H H′ → Closed (Candidate P Agree H) Step (Along (H .Link)) R →
       Closed (Candidate P Agree H′) Step (Along (H′ .Link)) R
   closed-on same =
-      weaken (λ u v c. record { part = c .part; node = same .nodes v .0 (c .node); kinds = c .kinds })
+      closed-weaken (λ u v c. record { part = c .part; node = same .nodes v .0 (c .node); kinds = c .kinds })
       (λ d u u′ p. (d, p, along-wider (λ x y. same .links x y .0) d))
 
   pub occurring-same :

@@ -3,7 +3,7 @@ use Rattle.base_lists.specs.Kit.{_≡_, _∙_, sym, ap, refl, subst, ap₂, _�
 use lib.Count.{ones}
 use Rattle.base_lists.specs.List.{sum}
 use Rattle.base_lists.specs.Below.{countBelow}
-use Rattle.base_lists.proofs.Tests.{both, both-left, both-right, T-true}
+use Rattle.base_lists.proofs.Tests.{both-true, both-left, both-right, T-true}
 use Rattle.base_lists.proofs.Rows.{rests, falls-to-rest}
 use Rattle.base_lists.proofs.Below.{countBelow-first}
 use Rattle.table_row.specs.Problem.{Problem}
@@ -26,14 +26,14 @@ same-equal (x ∷ xs) (y ∷ ys) t =
 same-self : (xs : List ℕ) → T (same xs xs)
 unfolding same
 same-self [] = tt
-same-self (x ∷ xs) = both (eqb x x) (same xs xs) (eqb-refl x) (same-self xs)
+same-self (x ∷ xs) = both-true (eqb x x) (same xs xs) (eqb-refl x) (same-self xs)
 
 pub equal-same : (xs ys : List ℕ) → xs ≡ ys → T (same xs ys)
 equal-same xs ys e = subst (λ zs. T (same xs zs)) e (same-self xs)
 
 -- the set after the k-th differs from it
-abbrev pub differs : {D : Type 0} → Problem D → ℕ → Bool
-differs p k = not (same (rowOf p (suc k)) (rowOf p k))
+abbrev pub rows-differ : {D : Type 0} → Problem D → ℕ → Bool
+rows-differ p k = not (same (rowOf p (suc k)) (rowOf p k))
 
 -- ---- coming to rest
 
@@ -92,14 +92,14 @@ module _ {D : Type 0} (p : Problem D) {k : ℕ} (first : FirstRest pairs (rowOf 
   first-last = repeats (startedOf p) (omega (arith, first-count))
 
   -- the steps before it change the set, and the others do not
-  first-changes : (j : ℕ) → j < k → T (differs p j)
+  first-changes : (j : ℕ) → j < k → T (rows-differ p j)
   first-changes j l = not-T (same _ _) (λ t. absurd (omega (arith, first .falls j l, ap pairs (same-equal _ _ t))))
 
-  first-keeps : (j : ℕ) → k ≤ j → differs p j ≡ false
+  first-keeps : (j : ℕ) → k ≤ j → rows-differ p j ≡ false
   first-keeps j l = ap not (T-true {b = same _ _} (equal-same _ _ (repeats (suc j) (omega arith) ∙ sym (repeats j l))))
 
-  first-differing : (n : ℕ) → k ≤ n → countBelow n (differs p) ≡ k
-  first-differing n h = countBelow-first n k (differs p) h first-changes first-keeps
+  first-differing : (n : ℕ) → k ≤ n → countBelow n (rows-differ p) ≡ k
+  first-differing n h = countBelow-first n k (rows-differ p) h first-changes first-keeps
 
   -- and the number of steps to it is `rounds`
   pub first-rounds : roundsOf p ≡ k

@@ -1,7 +1,7 @@
 -- The tables of the row, pair by pair: the first holds the pairs that agree, and each further one the pairs of the last whose steps have
 -- partners in it. So they are the row of sets of the theory, which contains every closed set. Assumes nothing.
 use Rattle.base_lists.specs.Kit.{_↔_, _&&_, List, ℕ, suc, zero}
-use Rattle.base_lists.proofs.Tests.{both, both-left, both-right}
+use Rattle.base_lists.proofs.Tests.{both-true, both-left, both-right}
 use Rattle.simulation.specs.Closed.{Relation, _⊆_, Refine, Row}
 use Rattle.simulation.proofs.Row.{row-falls}
 use Rattle.table_row.specs.Problem.{Problem, Agreeing, StepOf, MoveOf}
@@ -59,7 +59,7 @@ module _ {D : Type 0} (p : Problem D) where
         λ m.
             let (h, l, b) = all .0 m in
             (both-left (inTable t u v) (supported p t u v) b, answers .0 (both-right (inTable t u v) (supported p t u v) b)),
-        λ (m, s). all .1 (fits-part f u v m, fits-node f u v m, both (inTable t u v) (supported p t u v) m (answers .1 s)),
+        λ (m, s). all .1 (fits-part f u v m, fits-node f u v m, both-true (inTable t u v) (supported p t u v) m (answers .1 s)),
       )
 
   -- the sets fall

@@ -15,7 +15,7 @@ use Rattle.base_bits.proofs.Numbers.{number-lt, bit-number}
 use Rattle.base_bits.proofs.Counts.{ones-count}
 use Rattle.simulation.specs.Closed.{_⊆_}
 use Rattle.table_row.specs.Row.{inTable, tableOf, pairs}
-use Rattle.table_row.specs.Reading.{InTable, Fits}
+use Rattle.table_row.specs.Reading.{InTable, SetsFit}
 
 -- ---- the pairs of a table
 
@@ -26,10 +26,10 @@ in-node t u v m = lt-of-not-le (λ l. false-T (ap (λ x. bit x u) (List·getD-eq
 
 module _ {n k : ℕ} where
   -- the node and the part of a pair are in range
-  pub fits-node : {t : List ℕ} (f : Fits n k t) (u v : ℕ) → InTable t u v → v < n
+  pub fits-node : {t : List ℕ} (f : SetsFit n k t) (u v : ℕ) → InTable t u v → v < n
   fits-node {t} f u v m = subst (λ x. v < x) (f .size) (in-node t u v m)
 
-  pub fits-part : {t : List ℕ} (f : Fits n k t) (u v : ℕ) → InTable t u v → u < k
+  pub fits-part : {t : List ℕ} (f : SetsFit n k t) (u v : ℕ) → InTable t u v → u < k
   unfolding inTable
   fits-part {t} f u v m = bit-below k (getD t v 0) u (f .small v) m
 
@@ -50,7 +50,7 @@ module _ (n k : ℕ) (test : ℕ → ℕ → Bool) where
   unfolding tableOf
   size = length-tabulate n (λ v. numberOf k (λ u. test u v))
 
-  pub table-fits : Fits n k (tableOf n k test)
+  pub table-fits : SetsFit n k (tableOf n k test)
   table-fits = record { size = size; small = λ v. go v (decLt v n) }
     where
       go : (v : ℕ) → Dec (v < n) → getD (tableOf n k test) v 0 < 2 ^ k
@@ -72,7 +72,7 @@ module _ (n k : ℕ) (test : ℕ → ℕ → Bool) where
 
 -- ---- the table of no pair
 
-pub none-fits : (n k : ℕ) → Fits n k (tabulate n (λ v. 0))
+pub none-fits : (n k : ℕ) → SetsFit n k (tabulate n (λ v. 0))
 none-fits n k =
     record {
       size = length-tabulate n (λ v. 0);
@@ -91,7 +91,7 @@ none-in n u v m = not-suc-le-zero (fits-part (none-fits n 0) u v m)
 -- ---- how many pairs
 
 -- the entries are 32-bit numbers, where there are at most 32 parts
-pub fits-word : {n k : ℕ} → k ≤ 32 → {t : List ℕ} → Fits n k t → (v : ℕ) → getD t v 0 < 2 ^ 32
+pub fits-word : {n k : ℕ} → k ≤ 32 → {t : List ℕ} → SetsFit n k t → (v : ℕ) → getD t v 0 < 2 ^ 32
 fits-word most f v = lt-of-lt-of-le (f .small v) (pow-mono most)
 
 -- the size of an entry
@@ -101,7 +101,7 @@ size-entry [] v = refl
 size-entry (x ∷ xs) zero = refl
 size-entry (x ∷ xs) (suc v) = size-entry xs v
 
-module _ {n k : ℕ} (most : k ≤ 32) {s t : List ℕ} (f : Fits n k s) (g : Fits n k t) (inside : InTable s ⊆ InTable t) where
+module _ {n k : ℕ} (most : k ≤ 32) {s t : List ℕ} (f : SetsFit n k s) (g : SetsFit n k t) (inside : InTable s ⊆ InTable t) where
   size-le : (v : ℕ) → sizeOf (getD s v 0) ≤ sizeOf (getD t v 0)
   unfolding sizeOf inTable
   size-le v = countBelow-mono 32 (bit (getD s v 0)) (bit (getD t v 0)) (λ u h. inside u v)

@@ -1,7 +1,7 @@
 -- What the tests over labels mean, and what supports a pair. Assumes nothing.
 use Rattle.base_lists.specs.Kit.{_≡_, sym, refl, subst, ap₂, _↔_, inl, inr, Bool, _&&_, List, [], _∷_, ℕ, T}
 use Rattle.base_lists.specs.List.{any}
-use Rattle.base_lists.proofs.Tests.{both, both-left, both-right}
+use Rattle.base_lists.proofs.Tests.{both-true, both-left, both-right}
 use Rattle.base_lists.proofs.Entries.{all-occurs, any-occurs}
 use Rattle.simulation.specs.Closed.{Relation}
 use Rattle.table_row.specs.Problem.{Problem, Way, StepOf, MoveOf}
@@ -19,7 +19,7 @@ every-at test (e ∷ es) t d (inr w) = every-at test es (both-right (test e) (ev
 pub at-every : {D : Type 0} (test : D → Bool) (ds : List D) → ((d : D) → Way ds d → T (test d)) → T (every test ds)
 unfolding every Way
 at-every test [] f = tt
-at-every test (e ∷ es) f = both (test e) (every test es) (f e (inl refl)) (at-every test es (λ d w. f d (inr w)))
+at-every test (e ∷ es) f = both-true (test e) (every test es) (f e (inl refl)) (at-every test es (λ d w. f d (inr w)))
 
 -- two tests that say the same of each label
 pub every-same : {D : Type 0} (f g : D → Bool) (ds : List D) → ((d : D) → f d ≡ g d) → every f ds ≡ every g ds

@@ -12,13 +12,13 @@ abbrev pub InTable : List ℕ → Relation
 InTable t u v = T (inTable t u v)
 
 -- a table of n sets of the parts below k
-pub record Fits (n k : ℕ) (t : List ℕ) : Type 0 where
+pub record SetsFit (n k : ℕ) (t : List ℕ) : Type 0 where
   pub size : length t ≡ n
   pub small : (v : ℕ) → getD t v 0 < 2 ^ k
 
 -- a table of a problem: a number per node, of as many digits as there are parts
 abbrev pub TableOf : {D : Type 0} → Problem D → List ℕ → Type 0
-TableOf p t = Fits (p .nodes) (p .parts) t
+TableOf p t = SetsFit (p .nodes) (p .parts) t
 
 -- ---- how a problem is read
 

@@ -63,8 +63,8 @@ module _ (succ pred : List ℕ) (f b : ℕ) where
 pub strike-none : (t : Tables) (old : List ℕ) (v : ℕ) → getD old v 0 ≡ zero → strikeNode t old v ≡ zero
 unfolding strikeNode
 strike-none t old v e =
-    let f = unionAt old (driven (t .offsets) (t .links) v) in
-    let b = unionAt old (driving (t .offsets) (t .links) v) in
+    let f = unionAt old (driven (t .offsets) (t .targets) v) in
+    let b = unionAt old (driving (t .offsets) (t .targets) v) in
     ap (survivors (succOf (t .masks)) (predOf (t .masks)) f b) e ∙ survivors-none (succOf (t .masks)) (predOf (t .masks)) f b
 
 -- ---- masks that ask for nothing
@@ -113,7 +113,7 @@ survivors-alone succ pred e f b b′ x =
 
 -- the next set of a node, from the two unions over its neighbours, of which the second is left out where nothing is asked for of what drives it
 pub strike-unions : (t : Tables) (old : List ℕ) (v : ℕ) {alone : Bool} {f b r : ℕ} → alone ≡ allEmpty (predOf (t .masks))
-    → f ≡ unionAt old (driven (t .offsets) (t .links) v) → b ≡ cond alone 0 (unionAt old (driving (t .offsets) (t .links) v))
+    → f ≡ unionAt old (driven (t .offsets) (t .targets) v) → b ≡ cond alone 0 (unionAt old (driving (t .offsets) (t .targets) v))
     → r ≡ survivors (succOf (t .masks)) (predOf (t .masks)) f b (getD old v 0) → r ≡ strikeNode t old v
 unfolding strikeNode
 strike-unions t old v {alone} a d e q = q ∙ ap₂ next d e ∙ go alone a
@@ -122,7 +122,7 @@ strike-unions t old v {alone} a d e q = q ∙ ap₂ next d e ∙ go alone a
     next f b = survivors (succOf (t .masks)) (predOf (t .masks)) f b (getD old v 0)
 
     go : (alone : Bool) → alone ≡ allEmpty (predOf (t .masks)) →
-        next (unionAt old (driven (t .offsets) (t .links) v)) (cond alone 0 (unionAt old (driving (t .offsets) (t .links) v)))
-        ≡ next (unionAt old (driven (t .offsets) (t .links) v)) (unionAt old (driving (t .offsets) (t .links) v))
-    go true h = survivors-alone (succOf (t .masks)) (predOf (t .masks)) h (unionAt old (driven (t .offsets) (t .links) v)) 0 (unionAt old (driving (t .offsets) (t .links) v)) (getD old v 0)
+        next (unionAt old (driven (t .offsets) (t .targets) v)) (cond alone 0 (unionAt old (driving (t .offsets) (t .targets) v)))
+        ≡ next (unionAt old (driven (t .offsets) (t .targets) v)) (unionAt old (driving (t .offsets) (t .targets) v))
+    go true h = survivors-alone (succOf (t .masks)) (predOf (t .masks)) h (unionAt old (driven (t .offsets) (t .targets) v)) 0 (unionAt old (driving (t .offsets) (t .targets) v)) (getD old v 0)
     go false h = refl

@@ -17,5 +17,5 @@ allEmpty masks = all (λ m. eqb m 0) masks
 -- union, those at some node that drives v another.
 unfoldable pub strikeNode : Tables → List ℕ → ℕ → ℕ
 strikeNode t old v =
-    survivors (succOf (t .masks)) (predOf (t .masks)) (unionAt old (driven (t .offsets) (t .links) v))
-    (unionAt old (driving (t .offsets) (t .links) v)) (getD old v 0)
+    survivors (succOf (t .masks)) (predOf (t .masks)) (unionAt old (driven (t .offsets) (t .targets) v))
+    (unionAt old (driving (t .offsets) (t .targets) v)) (getD old v 0)

@@ -22,7 +22,7 @@ neighbour-tables-requires c κs =
     (search needs, (board .nodes, ((board .parallel, board .links), (bounded-starts board, bounded-ends board))))
 
 -- no more nodes than the tables have room for
-most : (s : tie.Start) → length (now (s .args .node-kinds)) ≤ 512
+most : (s : tie.Start) → length (now (s .args .node-labels)) ≤ 512
 most s = s .pre .0 .1 .nodes
 
 slice-aggregate-first-in-ball : tie.Need-slice-aggregate-first-in-ball
@@ -53,7 +53,7 @@ slice-aggregate-first-in-ball-5 c = sym (length-take-le _ _ (most (c .before .be
 made : (c : tie.After-neighbour-tables) →
     let a = c .before .before .before .before .before .before .before .before .before .before .args in
     let l = c .neighbour-tables .last .1 .1 .1 in
-    Netted (circuit (now (a .node-kinds)) (now (a .node-starts)) (now (a .node-ends))) (l .0) (l .1 .0)
+    Netted (circuit (now (a .node-labels)) (now (a .node-starts)) (now (a .node-ends))) (l .0) (l .1 .0)
 made c = bounded-netted (c .before .before .before .before .before .before .before .before .before .before .pre .0 .1) (c .neighbour-tables .ensures)
 
 first-in-ball-requires : tie.Need-first-in-ball-requires
@@ -69,19 +69,19 @@ entry c = c .before .before .before .before .before .before .before .before .bef
 
 listed : (c : tie.After-first-in-ball) →
     let a = entry c .args in
-    Listed (now (a .part-kinds)) (circuit (now (a .node-kinds)) (now (a .node-starts)) (now (a .node-ends))) (a .around) (c .first-in-ball .last .1 .1 .1 .1 .1 .1 .0)
+    Listed (now (a .part-labels)) (circuit (now (a .node-labels)) (now (a .node-starts)) (now (a .node-ends))) (a .around) (c .first-in-ball .last .1 .1 .1 .1 .1 .1 .0)
     (c .first-in-ball .last .1 .1 .1 .1 .1 .1 .1 .0) (c .first-in-ball .result)
 listed c = c .first-in-ball .ensures _ _ (made (c .before .before .before .before .before .before .before .before))
 
-sized : (c : tie.After-first-in-ball) → length (c .first-in-ball .last .1 .1 .1 .1 .1 .1 .1 .0) ≡ length (now (entry c .args .node-kinds))
+sized : (c : tie.After-first-in-ball) → length (c .first-in-ball .last .1 .1 .1 .1 .1 .1 .1 .0) ≡ length (now (entry c .args .node-labels))
 sized c = c .first-in-ball .kept .1 .1 .1 .1 .1 .1 .1 .0 ∙ length-take-le _ _ (most (entry c))
 
 trial : (c : tie.After-first-in-ball) (past after : List ℕ) →
     let a = entry c .args in
     let l = c .before .before .before .before .before .before .before .before .neighbour-tables .last .1 .1 .1 in
-    Tried (circuit (now (a .part-kinds)) (now (a .part-starts)) (now (a .part-ends))) (circuit (now (a .node-kinds)) (now (a .node-starts)) (now (a .node-ends)))
+    Tried (circuit (now (a .part-labels)) (now (a .part-starts)) (now (a .part-ends))) (circuit (now (a .node-labels)) (now (a .node-starts)) (now (a .node-ends)))
     (l .0) (l .1 .0) (a .around .centre) (a .around .radius) (take (c .first-in-ball .result) (c .first-in-ball .last .1 .1 .1 .1 .1 .1 .0 ++ past))
-    (take (length (now (a .node-kinds))) (c .first-in-ball .last .1 .1 .1 .1 .1 .1 .1 .0 ++ after))
+    (take (length (now (a .node-labels))) (c .first-in-ball .last .1 .1 .1 .1 .1 .1 .1 .0 ++ after))
 trial c past after = listed-tried (entry c .pre .0 .0) (entry c .pre .0 .1) (c .before .before .before .before .before .before .before .before .neighbour-tables .ensures) (entry c .pre .1 .0) (listed c) (sized c) past after
 
 array-share-prefix-queue : tie.Need-array-share-prefix-queue

@@ -19,8 +19,8 @@ bars-requires c κs = let p = c .before .before .before .before .before .before 
 
 returns : tie.Need-returns
 returns c =
-    λ partKinds board r t.
-    around-placed _ board _ r _ (is-placed _ board (t .parts .parallel) (t .parts .links) _ r (c .before .bars .ensures partKinds board r t) (not-true _ (c .if1 .taken)))
+    λ partLabels board r t.
+    around-placed _ board _ r _ (is-placed _ board (t .parts .parallel) (t .parts .links) _ r (c .before .bars .ensures partLabels board r t) (not-true _ (c .if1 .taken)))
 
 -- there are as many bytes as links
 long : (c : tie.After-drop-links) → length (c .drop-links .last .1 .1 .1 .1 .1 .1 .1 .0) ≡ length (now (c .before .before .before .before .before .before .before .before .before .before .before .before .args .starts))
@@ -57,10 +57,10 @@ returns-2 c =
     let dropped = c .before .before .before .before in
     let s = c .before .before .before .before .before .before .before .before .before .before .before .before .before .before .before .before in
     let l = long dropped in
-    λ partKinds board r t.
-    let kept = dropped .drop-links .ensures partKinds board r t in
+    λ partLabels board r t.
+    let kept = dropped .drop-links .ensures partLabels board r t in
     around-kept _ board _ r _
-    (is-none _ board (t .parts .parallel) (t .parts .links) _ r (c .before .before .before .before .before .before .before .bars .ensures partKinds board r t) (not-false _ (c .before .before .before .before .before .before .if1 .left)))
+    (is-none _ board (t .parts .parallel) (t .parts .links) _ r (c .before .before .before .before .before .before .before .bars .ensures partLabels board r t) (not-false _ (c .before .before .before .before .before .before .if1 .left)))
     (c .count .ensures ∙ ap keptCount (take-at _ _ _ l ∙ kept))
     (kept-after (now (s .args .out)) l kept)
 

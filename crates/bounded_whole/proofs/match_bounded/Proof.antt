@@ -64,7 +64,7 @@ slice-aggregate-neighbour-tables-2 c = search needs
 neighbour-tables-requires : tie.Need-neighbour-tables-requires
 neighbour-tables-requires c κs =
     let board = start (c .before .before .before .before .before .before) .pre .1 .1 .0 in
-    (record { inOffsets = refl; inLinks = refl }, (board .nodes, ((board .parallel, board .links), (bounded-starts board, bounded-ends board))))
+    (record { inOffsets = refl; inTargets = refl }, (board .nodes, ((board .parallel, board .links), (bounded-starts board, bounded-ends board))))
 
 slice-aggregate-match-prepared : tie.Need-slice-aggregate-match-prepared
 slice-aggregate-match-prepared c = search needs
@@ -79,8 +79,8 @@ slice-aggregate-match-prepared-3 c = search needs
 made : (c : tie.After-neighbour-tables) →
     let measured = c .before .before .before .before .before .before .before in
     let a = start measured .args in
-    BoundPrepared (circuit (now (a .part-kinds)) (now (a .part-starts)) (now (a .part-ends))) (now (a .bounds))
-    (circuit (now (a .node-kinds)) (now (a .node-starts)) (now (a .node-ends)))
+    BoundPrepared (circuit (now (a .part-labels)) (now (a .part-starts)) (now (a .part-ends))) (now (a .bounds))
+    (circuit (now (a .node-labels)) (now (a .node-starts)) (now (a .node-ends)))
     (tables (c .before .before .before .before .bound-masks .last .1 .1 .1 .0) (c .neighbour-tables .last .1 .1 .1 .0) (c .neighbour-tables .last .1 .1 .1 .1 .0)) (measured .largest-bound .result)
 made c =
     let measured = c .before .before .before .before .before .before .before in

@@ -21,7 +21,7 @@ abbrev pattern : tie.After-load-bounded → List ℕ
 pattern c = now (entry c .args .pattern)
 
 abbrev parts : tie.After-load-bounded → Circuit
-parts c = let l = c .load-bounded .last .1 in record { kinds = l .0; starts = l .1 .0; ends = l .1 .1 .0 }
+parts c = let l = c .load-bounded .last .1 in record { labels = l .0; starts = l .1 .0; ends = l .1 .1 .0 }
 
 abbrev bounds : tie.After-load-bounded → List ℕ
 bounds c = c .load-bounded .last .1 .1 .1 .1 .0
@@ -41,7 +41,7 @@ abbrev board : tie.After-load → CircuitFile
 board c = let a = entry (drawn c) .args in inEdition (a .edition) (now (a .board))
 
 abbrev nodes : tie.After-load → Circuit
-nodes c = let l = c .load .last .1 .1 .1 in record { kinds = l .0; starts = l .1 .0; ends = l .1 .1 .0 }
+nodes c = let l = c .load .last .1 .1 .1 in record { labels = l .0; starts = l .1 .0; ends = l .1 .1 .0 }
 
 -- both were read
 abbrev reading : tie.After-enum-told2 → tie.After-load

@@ -29,7 +29,7 @@ slice-aggregate-read-prepared-5 c = search needs
 
 read-prepared-requires : tie.Need-read-prepared-requires
 read-prepared-requires c κs =
-    (record { nodes = refl; links = refl }, ((refl, refl), (refl, record { inOffsets = refl; inLinks = refl })))
+    (record { nodes = refl; links = refl }, ((refl, refl), (refl, record { inOffsets = refl; inTargets = refl })))
 
 enum-known-verdict : tie.Need-enum-known-verdict
 enum-known-verdict c = search needs

@@ -6,7 +6,7 @@ use Rattle.file_format.specs.Layout.{CircuitFile, inEdition}
 use Rattle.file_format.specs.Reading.{Stands}
 use Rattle.file_format.specs.Refusals.{accept, first, fileConditions}
 use Rattle.file_format.proofs.Reading.{loaded-accepted, loaded-refused, stands-size, stands-room}
-use Rattle.call_merge.proofs.Merging.{front-sound, front-length, front-fits, merging-file, merging-classes, merging-out, merging-merged}
+use Rattle.call_merge.proofs.Merging.{prefix-sound, prefix-length, prefix-fits, merging-file, merging-classes, merging-out, merging-merged}
 use Rattle.call_merge.proofs.merge.Statement.{statement}
 use Rattle.call_merge.proofs.merge.Tie as tie
 
@@ -101,13 +101,13 @@ merge-circuit-requires : tie.Need-merge-circuit-requires
 merge-circuit-requires c κs =
     let here = enough c in
     let l = held (read here) in (
-      front-sound (sound (read here)) l,
+      prefix-sound (sound (read here)) l,
       (
         (
           length-take-le _ _ (here .before .if1 .left) ∙ sym (stands-size l .0),
-          le-trans (le-of-eq (front-length (sound (read here)) l)) (here .if2 .left),
+          le-trans (le-of-eq (prefix-length (sound (read here)) l)) (here .if2 .left),
         ),
-        front-fits _ _ l (λ i. omega (arith, reading (read here) .before .before .before .before .before .before .shared-slice-known .given i)),
+        prefix-fits _ _ l (λ i. omega (arith, reading (read here) .before .before .before .before .before .before .shared-slice-known .given i)),
       ),
     )
 

@@ -14,8 +14,8 @@ no-counts-requires c κs = search needs
 enum-known-verdict : tie.Need-enum-known-verdict
 enum-known-verdict c = search needs
 
-turned-away-requires : tie.Need-turned-away-requires
-turned-away-requires c κs = search needs
+refused-place-requires : tie.Need-refused-place-requires
+refused-place-requires c κs = search needs
 
 returns : tie.Need-returns
 unfolding verdictOf placeReply
@@ -23,7 +23,7 @@ returns c = rw (c .no-counts .ensures, c .before .enum-told .given .1)
 
 returns-2 : tie.Need-returns-2
 unfolding verdictOf placeReply
-returns-2 c = rw (c .turned-away .ensures, c .before .before .verdict .given .1)
+returns-2 c = rw (c .refused-place .ensures, c .before .before .verdict .given .1)
 
 pub answer-by-spec : {M : Type 1} → statement M
-answer-by-spec = tie.close (tie.spec enum-told no-counts-requires enum-known-verdict turned-away-requires returns returns-2)
+answer-by-spec = tie.close (tie.spec enum-told no-counts-requires enum-known-verdict refused-place-requires returns returns-2)

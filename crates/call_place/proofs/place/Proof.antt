@@ -29,7 +29,7 @@ slice-aggregate-read-prepared-5 : tie.Need-slice-aggregate-read-prepared-5
 slice-aggregate-read-prepared-5 c = search needs
 
 read-prepared-requires : tie.Need-read-prepared-requires
-read-prepared-requires c κs = (record { nodes = refl; links = refl }, ((refl, refl), (refl, record { inOffsets = refl; inLinks = refl })))
+read-prepared-requires c κs = (record { nodes = refl; links = refl }, ((refl, refl), (refl, record { inOffsets = refl; inTargets = refl })))
 
 enum-told : tie.Need-enum-told
 enum-told c = search needs

@@ -20,10 +20,10 @@ entry c = c .before .before .before .before .before .before .before .before .bef
 
 -- what reading the two files left
 abbrev parts : tie.After-read-pair → Circuit
-parts c = let l = c .read-pair .last .1 .1 .1 .1 in record { kinds = l .0; starts = l .1 .0; ends = l .1 .1 .0 }
+parts c = let l = c .read-pair .last .1 .1 .1 .1 in record { labels = l .0; starts = l .1 .0; ends = l .1 .1 .0 }
 
 abbrev nodes : tie.After-read-pair → Circuit
-nodes c = let l = c .read-pair .last .1 .1 .1 .1 .1 .1 .1 in record { kinds = l .0; starts = l .1 .0; ends = l .1 .1 .0 }
+nodes c = let l = c .read-pair .last .1 .1 .1 .1 .1 .1 .1 in record { labels = l .0; starts = l .1 .0; ends = l .1 .1 .0 }
 
 -- the files as they were read
 abbrev reading : tie.After-ne2 → tie.After-read-pair

@@ -79,7 +79,7 @@ ready c = ready-both (reading (c .before .before .before) .read-prepared .ensure
 room : (c : tie.Else1) →
     let a = start (c .before .before .before) .args in
     let n = reading (c .before .before .before) .read-prepared .result .nodes in
-    (n ≤ length (now (a .whole))) × (n ≤ length (now (a .labels))) × (n ≤ length (now (a .sizes)))
+    (n ≤ length (now (a .whole))) × (n ≤ length (now (a .component-of))) × (n ≤ length (now (a .sizes)))
 room c =
     let few = opened-few (ready c) in
     let long = start (c .before .before .before) .pre .1 in

@@ -41,8 +41,8 @@ start c = c .before .before .before .before .before .before .before .before .bef
 both : (c : tie.After-enum-told) →
     let s = start c in
     let a = s .args in
-    OpenedBoth (a .from) (circuitOf (s .pre .pattern)) (circuitOf (s .pre .board)) (a .read) (tables (now (a .masks)) (now (a .offsets)) (now (a .links)))
-    (now (a .whole)) (now (a .labels)) (now (a .sizes))
+    OpenedBoth (a .from) (circuitOf (s .pre .pattern)) (circuitOf (s .pre .board)) (a .read) (tables (now (a .masks)) (now (a .offsets)) (now (a .targets)))
+    (now (a .whole)) (now (a .component-of)) (now (a .sizes))
 both c = opened-both (start c .pre .opened) (c .enum-told .given .1)
 
 too-short-requires : tie.Need-too-short-requires

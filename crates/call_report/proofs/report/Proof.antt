@@ -22,7 +22,7 @@ slice-aggregate-open-6 : tie.Need-slice-aggregate-open-6
 slice-aggregate-open-6 c = search needs
 
 open-requires : tie.Need-open-requires
-open-requires c κs = ((refl, record { inOffsets = refl; inLinks = refl }), (refl, refl, refl))
+open-requires c κs = ((refl, record { inOffsets = refl; inTargets = refl }), (refl, refl, refl))
 
 slice-aggregate-put : tie.Need-slice-aggregate-put
 slice-aggregate-put c = search needs

@@ -19,10 +19,10 @@ entry c = c .before .before .before .before .before .before .before .before .bef
 
 -- what reading them left
 abbrev parts : tie.After-read-pair → Circuit
-parts c = let l = c .read-pair .last .1 .1 .1 .1 in record { kinds = l .0; starts = l .1 .0; ends = l .1 .1 .0 }
+parts c = let l = c .read-pair .last .1 .1 .1 .1 in record { labels = l .0; starts = l .1 .0; ends = l .1 .1 .0 }
 
 abbrev nodes : tie.After-read-pair → Circuit
-nodes c = let l = c .read-pair .last .1 .1 .1 .1 .1 .1 .1 in record { kinds = l .0; starts = l .1 .0; ends = l .1 .1 .0 }
+nodes c = let l = c .read-pair .last .1 .1 .1 .1 .1 .1 .1 in record { labels = l .0; starts = l .1 .0; ends = l .1 .1 .0 }
 
 -- both were read
 abbrev reading : tie.After-enum-told → tie.After-read-pair
@@ -112,7 +112,7 @@ store-links-requires c κs =
     let n = board-bounded read in
     let size = stands-size (read .given) .0 in
     let s = entry (reading told) .pre in
-    ((record { inOffsets = s .inOffsets; inLinks = s .inNumbers }, s .inEnds), (omega (arith, n .nodes, size), ((n .parallel, n .links), (rw size at (bounded-starts n), rw size at (bounded-ends n)))))
+    ((record { inOffsets = s .inOffsets; inTargets = s .inNumbers }, s .inEnds), (omega (arith, n .nodes, size), ((n .parallel, n .links), (rw size at (bounded-starts n), rw size at (bounded-ends n)))))
 
 array-share-prefix-pk : tie.Need-array-share-prefix-pk
 array-share-prefix-pk c = stands-room (both (c .before .before .before .before .before .before .before .before .before .before .before .before .before .before .before .before .before .before) .drawn) .0

@@ -1,14 +1,14 @@
 -- `finder::load` meets its contract: no more bytes are held than the buffer has. Assumes nothing.
 use Rattle.base_lists.specs.Kit.{_≡_, sym, List, ℕ, _≤_, length, length-take-le, arith, needs}
 use Rattle.io.specs.Counts.{Counts}
-use Rattle.input.specs.declared.Found.{Found}
-use Rattle.input.specs.declared.Found.the-variants as found
+use Rattle.input.specs.declared.FileFound.{FileFound}
+use Rattle.input.specs.declared.FileFound.the-variants as found
 use Rattle.input.specs.Reading.{Within}
 use Rattle.finder.specs.Printing.{heldOf}
 use Rattle.finder.proofs.load.Statement.{statement}
 use Rattle.finder.proofs.load.Tie as tie
 
-holds : (x : Found) (bytes : List ℕ) → Within (length bytes) x → Counts (heldOf x .size) bytes
+holds : (x : FileFound) (bytes : List ℕ) → Within (length bytes) x → Counts (heldOf x .size) bytes
 unfolding heldOf
 holds (found.Bytes size) bytes h = (h, sym (length-take-le size bytes h))
 holds found.Absent bytes h = (omega arith, sym (length-take-le 0 bytes (omega arith)))

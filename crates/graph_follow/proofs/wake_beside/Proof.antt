@@ -38,7 +38,7 @@ returns c =
     let second = c .before .before .before .before .follow2 .ensures in
     record {
       state =
-          beside-scan (now (a .offsets)) (now (a .links)) (now (a .sets)) (a .v) _ _ _ _ _ (c .before .before .before .before .before .before .before .before .before .before .before .before .before .before .before .neighbours-in .ensures) (c .before .before .before .before .before .before .before .neighbours-in2 .ensures)
+          beside-scan (now (a .offsets)) (now (a .targets)) (now (a .sets)) (a .v) _ _ _ _ _ (c .before .before .before .before .before .before .before .before .before .before .before .before .before .before .before .neighbours-in .ensures) (c .before .before .before .before .before .before .before .neighbours-in2 .ensures)
           (c .before .before .before .before .before .before .before .before .before .before .before .before .follow .ensures .state) (second .state);
       kept = second .kept;
     }

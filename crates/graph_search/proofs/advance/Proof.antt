@@ -1,7 +1,7 @@
 -- `graph_search::advance` meets its contract. The loop's invariant: the search has gone on (proofs/Onward) to the state that the tables stand for. The measure is how
 -- many levels and how many nodes are left. Assumes nothing.
 use Rattle.base_lists.specs.Kit.{now, _≡_, _∙_, sym, ap, refl, ℕ, _≤_, _<_, _+_, _-_, length, getD-take, arith, needs}
-use Rattle.graph.specs.Bfs.{State, adjacent, stateOf, Searching}
+use Rattle.graph.specs.Bfs.{SearchState, adjacent, stateOf, Searching}
 use Rattle.graph.proofs.BfsSteps.{tail-le, reached-length, queue-node}
 use Rattle.graph.proofs.Net.{net-few}
 use Rattle.graph_search.specs.Until.{Advanced}
@@ -10,15 +10,15 @@ use Rattle.graph_search.proofs.advance.Statement.{statement}
 use Rattle.graph_search.proofs.advance.Tie as tie
 
 abbrev Inv-loop : tie.InvT-loop
-Inv-loop offsets links r size dist₀ queue₀ looked₀ level₀ tail₀ depth₀ dist queue looked level tail depth =
+Inv-loop offsets targets r size dist₀ queue₀ looked₀ level₀ tail₀ depth₀ dist queue looked level tail depth =
     (length dist ≡ length dist₀)
     × (length queue ≡ length queue₀)
     × Searching dist queue tail
-    × Advanced (adjacent offsets links) r 0 (record { looked = looked₀; level = level₀; tail = tail₀; depth = depth₀ }) (stateOf dist₀ queue₀ tail₀)
+    × Advanced (adjacent offsets targets) r 0 (record { looked = looked₀; level = level₀; tail = tail₀; depth = depth₀ }) (stateOf dist₀ queue₀ tail₀)
     (record { looked = looked; level = level; tail = tail; depth = depth }) (stateOf dist queue tail)
 
 abbrev μ-loop : tie.MeasureT-loop
-μ-loop offsets links r size dist₀ queue₀ looked₀ level₀ tail₀ depth₀ dist queue looked level tail depth = (r - depth) + (length dist₀ - looked)
+μ-loop offsets targets r size dist₀ queue₀ looked₀ level₀ tail₀ depth₀ dist queue looked level tail depth = (r - depth) + (length dist₀ - looked)
 
 abbrev begun : tie.At-loop Inv-loop μ-loop → tie.Start Inv-loop μ-loop
 begun c = c .before .before .before .before .before
@@ -122,7 +122,7 @@ loop-again-2 c =
       call .kept .1 .1 .1 .1 .1 .0 ∙ l .inv .1,
       call .ensures .kept,
       rw (call .ensures .state)
-          (advanced-next (l .inv .3) (sym (reached-length _ _ _ k)) _ (next here) entry (call .result) (size ∙ ap (λ (t : State). length (t .reached)) (call .ensures .state))),
+          (advanced-next (l .inv .3) (sym (reached-length _ _ _ k)) _ (next here) entry (call .result) (size ∙ ap (λ (t : SearchState). length (t .reached)) (call .ensures .state))),
     )
 
 -- ---- the end

@@ -22,7 +22,7 @@ driving-parts-requires : tie.Need-driving-parts-requires
 driving-parts-requires c κs = search needs
 
 -- the tables are over the nodes of the search
-net : (s : tie.Start) → Net (length (now (s .args .dist))) (now (s .args .offsets)) (now (s .args .links))
+net : (s : tie.Start) → Net (length (now (s .args .dist))) (now (s .args .offsets)) (now (s .args .targets))
 net s = rw (← s .pre .1 .1 .0) (s .pre .1 .0 .net)
 
 neighbours-in-requires : tie.Need-neighbours-in-requires
@@ -56,7 +56,7 @@ returns c =
     let second = c .before .before .before .before .follow2 .ensures in
     record {
       state =
-          matched-scan (tables (now (a .masks)) (now (a .offsets)) (now (a .links))) (now (a .sets)) (a .v) (a .d) _ _ _ _ _ _ _
+          matched-scan (tables (now (a .masks)) (now (a .offsets)) (now (a .targets))) (now (a .sets)) (a .v) (a .d) _ _ _ _ _ _ _
           (c .before .before .before .before .before .before .before .before .before .before .before .before .before .before .before .before .before .driven-parts .ensures) (c .before .before .before .before .before .before .before .before .before .before .before .before .before .before .before .before .driving-parts .ensures) (c .before .before .before .before .before .before .before .before .before .before .before .before .before .before .before .neighbours-in .ensures) (c .before .before .before .before .before .before .before .neighbours-in2 .ensures)
           (c .before .before .before .before .before .before .before .before .before .before .before .before .follow .ensures .state) (second .state);
       kept = second .kept;

@@ -1,7 +1,7 @@
 -- `place_component::reach` meets its contract. It begins with the state in which only the centre is reached. The loop's invariant: the search has gone on from there to
 -- the state that the tables stand for. The measure is how many levels and how many nodes are left. Assumes nothing.
 use Rattle.base_lists.specs.Kit.{now, _≡_, _∙_, sym, ap, refl, ℕ, _≤_, _<_, _+_, _-_, length, getD-take, arith, needs}
-use Rattle.graph.specs.Bfs.{State, start, stateOf, Searching}
+use Rattle.graph.specs.Bfs.{SearchState, start, stateOf, Searching}
 use Rattle.graph.proofs.BfsSteps.{tail-le, reached-length, queue-node}
 use Rattle.graph.proofs.Net.{net-few}
 use Rattle.graph_search.specs.Until.{Advanced}
@@ -12,15 +12,15 @@ use Rattle.place_component.proofs.reach.Statement.{statement}
 use Rattle.place_component.proofs.reach.Tie as tie
 
 abbrev Inv-loop : tie.InvT-loop
-Inv-loop masks offsets links sets c r size dist₀ queue₀ looked₀ level₀ tail₀ depth₀ dist queue looked level tail depth =
+Inv-loop masks offsets targets sets c r size dist₀ queue₀ looked₀ level₀ tail₀ depth₀ dist queue looked level tail depth =
     (length dist ≡ length sets)
     × (length queue ≡ length sets)
     × Searching dist queue tail
-    × Advanced (matched (tables masks offsets links) sets) r 0 centre (start (length sets) c)
+    × Advanced (matched (tables masks offsets targets) sets) r 0 centre (start (length sets) c)
     (record { looked = looked; level = level; tail = tail; depth = depth }) (stateOf dist queue tail)
 
 abbrev μ-loop : tie.MeasureT-loop
-μ-loop masks offsets links sets c r size dist₀ queue₀ looked₀ level₀ tail₀ depth₀ dist queue looked level tail depth = (r - depth) + (length sets - looked)
+μ-loop masks offsets targets sets c r size dist₀ queue₀ looked₀ level₀ tail₀ depth₀ dist queue looked level tail depth = (r - depth) + (length sets - looked)
 
 begin-requires : tie.Need-begin-requires Inv-loop μ-loop
 begin-requires c κs = search needs
@@ -139,7 +139,7 @@ loop-again-2 c =
       call .kept .1 .1 .1 .1 .1 .1 .1 .0 ∙ l .inv .1,
       call .ensures .kept,
       rw (call .ensures .state)
-          (advanced-next (l .inv .3) (sym (reached-length _ _ _ k)) _ (next here) entry (call .result) (size ∙ ap (λ (t : State). length (t .reached)) (call .ensures .state))),
+          (advanced-next (l .inv .3) (sym (reached-length _ _ _ k)) _ (next here) entry (call .result) (size ∙ ap (λ (t : SearchState). length (t .reached)) (call .ensures .state))),
     )
 
 -- ---- the end

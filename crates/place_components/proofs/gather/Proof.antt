@@ -1,4 +1,4 @@
--- `place_components::gather` meets its contract: those with the centre's label are kept of what the search reaches. Assumes nothing.
+-- `place_components::gather` meets its contract: those with the centre's number are kept of what the search reaches. Assumes nothing.
 use Rattle.base_lists.specs.Kit.{_∙_, sym, arith, needs}
 use Rattle.graph.specs.Bfs.{stateOf}
 use Rattle.graph.proofs.Net.{net-few}

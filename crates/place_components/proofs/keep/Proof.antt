@@ -1,4 +1,4 @@
--- `place_components::keep` meets its contract. The loop's invariant: of the first i nodes those with the label stand in front, and the nodes from the
+-- `place_components::keep` meets its contract. The loop's invariant: of the first i nodes those with the number stand in front, and the nodes from the
 -- i-th on stand where they stood. The measure is how many are left. Assumes nothing.
 use Rattle.base_lists.specs.Kit.{now, _≡_, _∙_, sym, ap, refl, subst, Bool, false, true, cond, List, [], _∷_, _++_, append-nil, ℕ, _≤_, _<_, _+_, _-_, le-refl, add-zero, add-one, eqb, length, getD, take, set, length-set, length-take-le, getD-set-other, getD-take, take-suc, take-suc-set, take-set-le, arith}
 use Rattle.base_lists.specs.List.{Below}
@@ -24,15 +24,15 @@ keep-next p queue queue₀ kept i v h k e q = go (p v) ∙ sym more
     go false = rw add-zero (take-set-le kept queue kept v (le-refl kept) ∙ sym (append-nil (take kept queue)))
 
 abbrev Inv-loop : tie.InvT-loop
-Inv-loop labels x k queue₀ kept₀ i₀ queue kept i =
+Inv-loop componentOf x k queue₀ kept₀ i₀ queue kept i =
     (i ≤ k)
     × (kept ≤ i)
     × (length queue ≡ length queue₀)
-    × (take kept queue ≡ having (λ v. eqb (getD labels v 0) x) (take i queue₀))
+    × (take kept queue ≡ having (λ v. eqb (getD componentOf v 0) x) (take i queue₀))
     × ((j : ℕ) → i ≤ j → getD queue j 0 ≡ getD queue₀ j 0)
 
 abbrev μ-loop : tie.MeasureT-loop
-μ-loop labels x k queue₀ kept₀ i₀ queue kept i = k - i
+μ-loop componentOf x k queue₀ kept₀ i₀ queue kept i = k - i
 
 loop-holds : tie.Need-loop-holds Inv-loop μ-loop
 unfolding having
@@ -57,13 +57,13 @@ slice-read-v c = omega (arith, room (c .before))
 cast-at : tie.Need-cast-at Inv-loop μ-loop
 cast-at c = omega (arith, c .slice-known2 .given (c .before .before .loop .i))
 
--- it has a label
-node : (c : tie.In-loop Inv-loop μ-loop) → getD (c .before .loop .queue) (c .before .loop .i) 0 < length (now (begun (c .before) .args .labels))
+-- it has a number
+node : (c : tie.In-loop Inv-loop μ-loop) → getD (c .before .loop .queue) (c .before .loop .i) 0 < length (now (begun (c .before) .args .component-of))
 unfolding Below
 node c =
     let l = c .before .loop in
     let s = begun (c .before) in
-    subst (λ (v : ℕ). v < length (now (s .args .labels))) (getD-take (s .args .k) (now (s .args .queue)) (l .i) 0 (c .loop-test .taken) ∙ sym (l .inv .4 (l .i) (le-refl _)))
+    subst (λ (v : ℕ). v < length (now (s .args .component-of))) (getD-take (s .args .k) (now (s .args .queue)) (l .i) 0 (c .loop-test .taken) ∙ sym (l .inv .4 (l .i) (le-refl _)))
     (s .pre .2 (l .i) (rw (length-take-le (s .args .k) (now (s .args .queue)) (s .pre .0)) (c .loop-test .taken)))
 
 mul-queue : tie.Need-mul-queue Inv-loop μ-loop
@@ -97,7 +97,7 @@ loop-again c =
     let a = begun (here .before) .args in
     let r = room here in
     let v = getD (l .queue) (l .i) 0 in
-    let p : ℕ → Bool = λ w. eqb (getD (now (a .labels)) w 0) (a .x) in (
+    let p : ℕ → Bool = λ w. eqb (getD (now (a .component-of)) w 0) (a .x) in (
       omega (arith, here .loop-test .taken),
       omega (arith, c .counted .ensures, cond-le (p v), l .inv .1),
       length-set (l .queue) (l .kept) v ∙ l .inv .2,
@@ -113,7 +113,7 @@ returns c =
     let l = c .before .loop in
     let s = begun (c .before) in
     let e : l .i ≡ s .args .k = omega (arith, c .loop-test .left, l .inv .0) in
-    (omega (arith, l .inv .1, l .inv .0, l .inv .2, s .pre .0), l .inv .3 ∙ ap (λ (m : ℕ). having (λ v. eqb (getD (now (s .args .labels)) v 0) (s .args .x)) (take m (now (s .args .queue)))) e)
+    (omega (arith, l .inv .1, l .inv .0, l .inv .2, s .pre .0), l .inv .3 ∙ ap (λ (m : ℕ). having (λ v. eqb (getD (now (s .args .component-of)) v 0) (s .args .x)) (take m (now (s .args .queue)))) e)
 
 pub keep-spec : {M : Type 1} → statement M
 keep-spec =

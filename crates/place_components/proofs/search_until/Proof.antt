@@ -1,25 +1,25 @@
 -- `place_components::search_until` meets its contract. The loop's invariant: the search has gone on from the centre to the state that the tables stand for, and so many
--- of the nodes reached have the centre's label. The measure is how many nodes are not reached. Assumes nothing.
+-- of the nodes reached have the centre's number. The measure is how many nodes are not reached. Assumes nothing.
 use Rattle.base_lists.specs.Kit.{now, _≡_, _∙_, sym, ap, refl, List, ℕ, _≤_, _<_, _+_, _-_, not-suc-le-zero, length, getD, take, length-take-le, take-take, arith, needs, eq-eqb}
-use Rattle.graph.specs.Bfs.{State, start, adjacent, stateOf, Searching}
+use Rattle.graph.specs.Bfs.{SearchState, start, adjacent, stateOf, Searching}
 use Rattle.graph.proofs.BfsSteps.{tail-le, reached-length}
 use Rattle.graph.proofs.Net.{net-few}
 use Rattle.graph_search.specs.Until.{Advanced}
 use Rattle.graph_search.proofs.Onward.{centre, centre-standing, first-le, advanced-none, advanced-more, advanced-all, advanced-until}
-use Rattle.place_components.specs.Components.{having, sameLabel}
+use Rattle.place_components.specs.Components.{having, sameComponent}
 use Rattle.place_components.proofs.search_until.Statement.{statement}
 use Rattle.place_components.proofs.search_until.Tie as tie
 
 abbrev Inv-loop : tie.InvT-loop
-Inv-loop offsets links labels size c r dist₀ queue₀ at x from₀ count₀ dist queue from count =
-    (length dist ≡ length labels)
-    × (length queue ≡ length labels)
+Inv-loop offsets targets componentOf size c r dist₀ queue₀ at x from₀ count₀ dist queue from count =
+    (length dist ≡ length componentOf)
+    × (length queue ≡ length componentOf)
     × Searching dist queue (from .tail)
-    × Advanced (adjacent offsets links) r 0 centre (start (length labels) c) from (stateOf dist queue (from .tail))
-    × (count ≡ length (having (sameLabel labels c) (take (from .tail) queue)))
+    × Advanced (adjacent offsets targets) r 0 centre (start (length componentOf) c) from (stateOf dist queue (from .tail))
+    × (count ≡ length (having (sameComponent componentOf c) (take (from .tail) queue)))
 
 abbrev μ-loop : tie.MeasureT-loop
-μ-loop offsets links labels size c r dist₀ queue₀ at x from₀ count₀ dist queue from count = length labels - from .tail
+μ-loop offsets targets componentOf size c r dist₀ queue₀ at x from₀ count₀ dist queue from count = length componentOf - from .tail
 
 begin-requires : tie.Need-begin-requires Inv-loop μ-loop
 begin-requires c κs = search needs
@@ -30,11 +30,11 @@ mul-x c = search needs
 shared-slice-read-x : tie.Need-shared-slice-read-x Inv-loop μ-loop
 shared-slice-read-x c = search needs
 
--- the centre, which alone is reached, has its own label
-one : (n c : ℕ) (labels dist queue : List ℕ) → stateOf dist queue 1 ≡ start n c → _≡_ {A = ℕ} 1 (length (having (sameLabel labels c) (take 1 queue)))
+-- the centre, which alone is reached, has its own number
+one : (n c : ℕ) (componentOf dist queue : List ℕ) → stateOf dist queue 1 ≡ start n c → _≡_ {A = ℕ} 1 (length (having (sameComponent componentOf c) (take 1 queue)))
 unfolding having start stateOf
-one n c labels dist queue e =
-    rw (ap (λ (s : State). s .reached) e, eq-eqb (getD labels c 0) (getD labels c 0) refl)
+one n c componentOf dist queue e =
+    rw (ap (λ (s : SearchState). s .reached) e, eq-eqb (getD componentOf c 0) (getD componentOf c 0) refl)
 
 loop-holds : tie.Need-loop-holds Inv-loop μ-loop
 loop-holds c =
@@ -46,7 +46,7 @@ loop-holds c =
       first .kept .1 .1 .0 ∙ sym (s .pre .1 .1 .0 .0) ∙ sym long,
       first .ensures .kept,
       rw (e, long) (advanced-none (centre-standing (s .args .r))),
-      one _ _ (now (s .args .labels)) _ _ e,
+      one _ _ (now (s .args .component-of)) _ _ e,
     )
 
 abbrev begun : tie.At-loop Inv-loop μ-loop → tie.Start Inv-loop μ-loop
@@ -57,12 +57,12 @@ long : (c : tie.At-loop Inv-loop μ-loop) → (length (c .loop .dist) ≡ length
 long c = let p = begun c .pre .1 .1 .0 in (c .loop .inv .0 ∙ p .1, c .loop .inv .1 ∙ p .1 ∙ p .0)
 
 -- there are not too many nodes, and not too many are wanted
-few : (c : tie.At-loop Inv-loop μ-loop) → (c .loop .from .tail ≤ length (now (begun c .args .labels))) × (length (now (begun c .args .labels)) ≤ 512) × (begun c .args .size ≤ 65536)
+few : (c : tie.At-loop Inv-loop μ-loop) → (c .loop .from .tail ≤ length (now (begun c .args .component-of))) × (length (now (begun c .args .component-of)) ≤ 512) × (begun c .args .size ≤ 65536)
 few c =
     let p = begun c .pre in
     (omega (arith, tail-le _ _ _ (c .loop .inv .2), c .loop .inv .0), omega (arith, p .1 .1 .0 .1, net-few (p .0)), p .1 .1 .1)
 
--- ---- a turn: more nodes with the label are wanted
+-- ---- a turn: more nodes with the number are wanted
 
 sub-wanted : tie.Need-sub-wanted Inv-loop μ-loop
 sub-wanted c = omega (arith, c .loop-test .taken)
@@ -112,7 +112,7 @@ count-from-requires c κs =
     let (more, same) = longer done in
     let e = call .kept .1 .1 .1 .1 .1 .0 ∙ l .inv .0 in (
       (omega (arith, size, more), omega (arith, size, tail-le _ _ _ k, e, few at), rw e at (k .ready .inside)),
-      l .inv .4 ∙ ap (λ (ns : List ℕ). length (having (sameLabel (now (a .labels)) (a .c)) ns)) (sym same ∙ sym (take-take (l .from .tail) (call .result .tail) queue more)),
+      l .inv .4 ∙ ap (λ (ns : List ℕ). length (having (sameComponent (now (a .component-of)) (a .c)) ns)) (sym same ∙ sym (take-take (l .from .tail) (call .result .tail) queue more)),
     )
 
 -- ---- fewer nodes are reached than could be enough: nothing is left
@@ -172,7 +172,7 @@ returns-2 c =
     let l = at .loop in
     let a = begun at .args in
     let u = advanced-until _ _ refl (l .inv .3) in
-    let enough : a .size ≤ length (having (sameLabel (now (a .labels)) (a .c)) (take (l .from .tail) (l .queue))) = omega (arith, l .inv .4, c .loop-test .left) in (
+    let enough : a .size ≤ length (having (sameComponent (now (a .component-of)) (a .c)) (take (l .from .tail) (l .queue))) = omega (arith, l .inv .4, c .loop-test .left) in (
       l .inv .2,
       rw (← begun at .pre .1 .1 .0 .1) (record { depth = u .depth; rest = u .rest; within = u .within; first = u .first; all = λ none. absurd (none enough) }),
     )

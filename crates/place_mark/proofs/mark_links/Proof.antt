@@ -17,7 +17,7 @@ abbrev μ-loop : tie.MeasureT-loop
 μ-loop masks offsets links sets list bytes₀ i₀ bytes i = length list - i
 
 abbrev tablesOf : tie.Start Inv-loop μ-loop → Tables
-tablesOf s = tables (now (s .args .masks)) (now (s .args .offsets)) (now (s .args .links))
+tablesOf s = tables (now (s .args .masks)) (now (s .args .offsets)) (now (s .args .targets))
 
 clear-requires : tie.Need-clear-requires Inv-loop μ-loop
 clear-requires c κs = search needs

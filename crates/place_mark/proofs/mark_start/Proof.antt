@@ -9,7 +9,7 @@ use Rattle.place_mark.proofs.mark_start.Statement.{statement}
 use Rattle.place_mark.proofs.mark_start.Tie as tie
 
 abbrev tablesOf : tie.Start → Tables
-tablesOf s = tables (now (s .args .masks)) (now (s .args .offsets)) (now (s .args .links))
+tablesOf s = tables (now (s .args .masks)) (now (s .args .offsets)) (now (s .args .targets))
 
 neighbours-in-requires : tie.Need-neighbours-in-requires
 neighbours-in-requires c κs = let s = c .before .before .before .before .before in record { nodes = _; net = s .pre .0 .net; node = s .pre .1 .0 }

@@ -50,10 +50,10 @@ returns : tie.Need-returns
 returns c = λ ps pe d. found-not _ _ _ _ (sym (c .before .before .before .before .before .find-joined .ensures ps pe _ _ d .answer) ∙ not-true _ (c .if1 .taken))
 
 -- an entry and a set are left for each node
-dist-long : (c : tie.After-find-joined) → length (c .find-joined .last .1 .1 .1 .1 .1 .1 .0) ≡ length (now (c .before .before .before .before .before .before .before .before .before .before .before .before .before .args .node-kinds))
+dist-long : (c : tie.After-find-joined) → length (c .find-joined .last .1 .1 .1 .1 .1 .1 .0) ≡ length (now (c .before .before .before .before .before .before .before .before .before .before .before .before .before .args .node-labels))
 dist-long c = c .find-joined .kept .1 .1 .1 .1 .1 .1 .0 ∙ length-take-le _ _ (c .before .before .before .before .before .before .before .before .before .before .before .before .before .pre .1 .1 .0)
 
-sets-long : (c : tie.After-find-joined) → length (c .find-joined .last .1 .1 .1 .1 .1 .1 .1 .1 .0) ≡ length (now (c .before .before .before .before .before .before .before .before .before .before .before .before .before .args .node-kinds))
+sets-long : (c : tie.After-find-joined) → length (c .find-joined .last .1 .1 .1 .1 .1 .1 .1 .1 .0) ≡ length (now (c .before .before .before .before .before .before .before .before .before .before .before .before .before .args .node-labels))
 sets-long c = c .find-joined .kept .1 .1 .1 .1 .1 .1 .1 .1 .0 ∙ length-take-le _ _ (c .before .before .before .before .before .before .before .before .before .before .before .before .before .pre .1 .1 .0)
 
 array-share-prefix-dist : tie.Need-array-share-prefix-dist

@@ -3,7 +3,7 @@
 use Rattle.base_lists.specs.Kit.{now, _≡_, _∙_, sym, ap, ⊎-elim, length, length-take-le, arith, needs, eqb-true, eqb-false}
 use Rattle.base_lists.proofs.Tests.{false-T}
 use Rattle.graph.specs.Bfs.{stateOf}
-use Rattle.place_components.proofs.Labels.{match-ready}
+use Rattle.place_components.proofs.ComponentNumbers.{match-ready}
 use Rattle.report_centres.proofs.Centre.{source-net}
 use Rattle.report_centres.proofs.Component.{source-match, reached-lists, reached-held, gathered-cut, gathered-held, gathered-lists}
 use Rattle.report_centres.proofs.holds.Statement.{statement}

@@ -29,7 +29,7 @@ mul-texts-2 c = search needs
 slice-write-texts-2 : tie.Need-slice-write-texts-2
 slice-write-texts-2 c =
     let s = c .before .before .before .before in
-    omega (arith, s .pre, length-set (now (s .args .texts)) (s .args .label) (s .args .text .from))
+    omega (arith, s .pre, length-set (now (s .args .texts)) (s .args .number) (s .args .text .from))
 
 same-length : tie.Need-same-length
 same-length c = search needs

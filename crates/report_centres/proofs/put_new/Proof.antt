@@ -49,7 +49,7 @@ returns c =
 abbrev placed : tie.Else1 → tie.After-locate
 placed c = c .before .before .before .before .before .before .before
 
-line : (c : tie.Else1) → let a = entry (placed c) .args in let t = tables (now (a .masks)) (now (a .offsets)) (now (a .links)) in
+line : (c : tie.Else1) → let a = entry (placed c) .args in let t = tables (now (a .masks)) (now (a .offsets)) (now (a .targets)) in
     (pattern board : Circuit) → Source pattern board t (now (a .whole)) (a .line .around .radius)
     → lineText t (placed c .locate .last .1 .1 .1 .1 .1 .1 .0) (placed c .locate .last .1 .1 .1 .1 .1 .1 .1 .1 .0) (a .line .around .centre)
     ≡ centreLine pattern board (a .line .around .centre)

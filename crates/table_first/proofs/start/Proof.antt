@@ -33,7 +33,7 @@ known : (c : tie.In-loop Inv-loop μ-loop) →
     let loop = c .before in
     let a = loop .before .before .before .before .before .before .before .before .before .args in
     let v = getD (now (a .nodes)) (loop .loop .i) 0 in
-    (v < length (loop .loop .table)) × (v < length (now (a .node-kinds)))
+    (v < length (loop .loop .table)) × (v < length (now (a .node-labels)))
 unfolding Below
 known c =
     let loop = c .before in
@@ -56,7 +56,7 @@ alike-requires c κs = search needs
 made : (c : tie.After-alike Inv-loop μ-loop) →
     let loop = c .before .before .before .before in
     let a = loop .before .before .before .before .before .before .before .before .before .args in
-    c .alike .result ≡ startNode (now (a .part-kinds)) (now (a .node-kinds)) (getD (now (a .nodes)) (loop .loop .i) 0)
+    c .alike .result ≡ startNode (now (a .part-labels)) (now (a .node-labels)) (getD (now (a .nodes)) (loop .loop .i) 0)
 unfolding startNode
 made c = c .alike .ensures
 

@@ -9,10 +9,10 @@ use Rattle.table_round.proofs.changes.Statement.{statement}
 use Rattle.table_round.proofs.changes.Tie as tie
 
 abbrev Inv-loop : tie.InvT-loop
-Inv-loop alone todo masks offsets links old changed₀ next₀ k₀ i₀ changed next k i = (length changed ≡ length changed₀) × (length next ≡ length next₀) × Listing (strikeNode (tables masks offsets links) old) old todo changed next k i
+Inv-loop alone todo masks offsets targets old changed₀ next₀ k₀ i₀ changed next k i = (length changed ≡ length changed₀) × (length next ≡ length next₀) × Listing (strikeNode (tables masks offsets targets) old) old todo changed next k i
 
 abbrev μ-loop : tie.MeasureT-loop
-μ-loop alone todo masks offsets links old changed₀ next₀ k₀ i₀ changed next k i = length todo - i
+μ-loop alone todo masks offsets targets old changed₀ next₀ k₀ i₀ changed next k i = length todo - i
 
 abbrev entry : tie.At-loop Inv-loop μ-loop → tie.Start Inv-loop μ-loop
 entry loop = loop .before .before .before .before .before .before .before .before

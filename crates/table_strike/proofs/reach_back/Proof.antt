@@ -11,7 +11,7 @@ use Rattle.table_strike.proofs.reach_back.Tie as tie
 returns : tie.Need-returns
 returns c =
     let a = c .before .before .before .before .args in
-    ap (λ (b : Bool). cond b 0 (unionAt (now (a .sets)) (driving (now (a .offsets)) (now (a .links)) (a .v)))) (sym (c .if1 .taken))
+    ap (λ (b : Bool). cond b 0 (unionAt (now (a .sets)) (driving (now (a .offsets)) (now (a .targets)) (a .v)))) (sym (c .if1 .taken))
 
 abbrev entry : tie.Else1 → tie.Start
 entry c = c .before .before .before .before
@@ -31,7 +31,7 @@ returns-2 c =
     let left = c .before .before in
     let a = entry left .args in
     c .union-at .ensures ∙ ap (unionAt (now (a .sets))) (found .ensures)
-    ∙ ap (λ (b : Bool). cond b 0 (unionAt (now (a .sets)) (driving (now (a .offsets)) (now (a .links)) (a .v)))) (sym (left .if1 .left))
+    ∙ ap (λ (b : Bool). cond b 0 (unionAt (now (a .sets)) (driving (now (a .offsets)) (now (a .targets)) (a .v)))) (sym (left .if1 .left))
 
 pub reach-back-spec : {M : Type 1} → statement M
 reach-back-spec = tie.close (tie.spec returns neighbours-in-requires union-at-requires returns-2)

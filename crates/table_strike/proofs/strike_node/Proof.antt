@@ -11,7 +11,7 @@ use Rattle.table_strike.proofs.strike_node.Statement.{statement}
 use Rattle.table_strike.proofs.strike_node.Tie as tie
 
 abbrev tablesOf : tie.Start → Tables
-tablesOf start = tables (now (start .args .masks)) (now (start .args .offsets)) (now (start .args .links))
+tablesOf start = tables (now (start .args .masks)) (now (start .args .offsets)) (now (start .args .targets))
 
 mul-set : tie.Need-mul-set
 mul-set c = search needs

@@ -19,7 +19,7 @@ use Rattle.table_whole.proofs.match_tables.Tie as tie
 abbrev entry : tie.After-slice-known → tie.Start
 entry c = c .before .before .before .before .before .before
 
-few : (start : tie.Start) → length (now (start .args .node-kinds)) ≤ 512
+few : (start : tie.Start) → length (now (start .args .node-labels)) ≤ 512
 few start = net-few (net-of (start .pre .0 .prepared .net))
 
 array-borrow-prefix-listed : tie.Need-array-borrow-prefix-listed
@@ -44,7 +44,7 @@ list-all-requires c κs =
 abbrev begin : tie.After-list-all → tie.Start
 begin c = entry (c .before .before .before .before)
 
-list : (c : tie.After-list-all) → NodeList (length (now (begin c .args .node-kinds))) (c .list-all .last .0)
+list : (c : tie.After-list-all) → NodeList (length (now (begin c .args .node-labels))) (c .list-all .last .0)
 list c =
     let start = begin c in
     rw (listed-all (length-take-le _ _ (few start)) (c .list-all .ensures)) (all-list _ (le-trans (few start) (lit≤ tt)))

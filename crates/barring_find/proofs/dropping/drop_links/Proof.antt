@@ -6,10 +6,10 @@ use Rattle.barring_find.proofs.dropping.drop_links.Statement.{statement
 use Rattle.barring_find.proofs.dropping.drop_links.Tie as tie
 
 abbrev Inv-loop : tie.InvT-loop
-Inv-loop nodes starts ends offsets links first w marks₀ i₀ marks i = Dropping starts ends offsets links w nodes first marks i × (length marks ≡ length marks₀)
+Inv-loop nodes starts ends offsets targets first w marks₀ i₀ marks i = Dropping starts ends offsets targets w nodes first marks i × (length marks ≡ length marks₀)
 
 abbrev μ-loop : tie.MeasureT-loop
-μ-loop nodes starts ends offsets links first w marks₀ i₀ marks i = length marks₀ - i
+μ-loop nodes starts ends offsets targets first w marks₀ i₀ marks i = length marks₀ - i
 
 choose-all-requires : tie.Need-choose-all-requires Inv-loop μ-loop
 choose-all-requires c κs = search needs

@@ -44,7 +44,7 @@ empty-at-requires c κs =
 returns : tie.Need-returns
 returns c =
     let s = c .before .before .before .before .before .before .before .before .before .before .before .before .before .before .before .before in
-    λ partKinds board r t.
+    λ partLabels board r t.
     c .before .before .empty-at .ensures _ _ (tried-begun t _ (c .before .before .before .before .before .before .before .chosen-masks .ensures)) ∙ tried-bars t (now (s .args .marks))
 
 pub bars-spec : {M : Type 1} → statement M

@@ -17,8 +17,8 @@ entry c = c .before .before .before .before .before
 room : (c : tie.After-copy) → length (now (entry c .args .marks)) ≤ length (c .copy .last .1 .0)
 room c = omega (arith, c .copy .kept .1 .0, entry c .pre .0, entry c .pre .1)
 
-front : (c : tie.After-copy) → take (length (now (entry c .args .marks))) (c .copy .last .1 .0) ≡ now (entry c .args .xs)
-front c = ap (take (length (now (entry c .args .marks)))) (c .copy .ensures) ∙ take-at (now (entry c .args .xs)) _ _ (entry c .pre .0)
+prefix : (c : tie.After-copy) → take (length (now (entry c .args .marks))) (c .copy .last .1 .0) ≡ now (entry c .args .xs)
+prefix c = ap (take (length (now (entry c .args .marks)))) (c .copy .ensures) ∙ take-at (now (entry c .args .xs)) _ _ (entry c .pre .0)
 
 -- ---- of which the marked ones are moved to the front
 
@@ -41,7 +41,7 @@ returns c =
     let k = chosen .choose .result in
     let list = chosen .choose .last .1 .0 in
     let e = chosen .choose .ensures in
-    (length-append-le k list _ (e .0), take-append-le k list _ (e .0) ∙ e .1 ∙ ap (picked (now (entry copied .args .marks))) (front copied))
+    (length-append-le k list _ (e .0), take-append-le k list _ (e .0) ∙ e .1 ∙ ap (picked (now (entry copied .args .marks))) (prefix copied))
 
 pub chosen-of-spec : {M : Type 1} → statement M
 chosen-of-spec =

@@ -66,7 +66,7 @@ loop-again c =
     let inv = loop .loop .inv in
     let a = entry loop .args in
     let v = loop .loop .v in
-    let rule : ℕ → ℕ = further (neighboursIn (a .direction) (now (a .offsets)) (now (a .links))) (now (a .old)) (now (a .layer)) in (
+    let rule : ℕ → ℕ = further (neighboursIn (a .direction) (now (a .offsets)) (now (a .targets))) (now (a .old)) (now (a .layer)) in (
       omega arith,
       simp length-set (inv .1),
       filled-next rule (now (a .next)) (loop .loop .next) v _ (omega arith) (inv .2)
@@ -82,7 +82,7 @@ returns c =
     let loop = c .before in
     let start = entry loop in
     let a = start .args in
-    let rule : ℕ → ℕ = further (neighboursIn (a .direction) (now (a .offsets)) (now (a .links))) (now (a .old)) (now (a .layer)) in
+    let rule : ℕ → ℕ = further (neighboursIn (a .direction) (now (a .offsets)) (now (a .targets))) (now (a .old)) (now (a .layer)) in
     loop .loop .inv .2 ∙ filled-all (loop .loop .v) rule (now (a .next)) (omega arith) ∙ ap (λ (n : ℕ). tabulate n rule) (start .pre .1 .1)
 
 pub widen-spec : {M : Type 1} → statement M

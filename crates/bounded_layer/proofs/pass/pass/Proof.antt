@@ -57,7 +57,7 @@ loop-again c =
     let inv = loop .loop .inv in
     let a = entry loop .args in
     let v = loop .loop .v in
-    let near = neighboursIn (a .direction) (now (a .offsets)) (now (a .links)) in
+    let near = neighboursIn (a .direction) (now (a .offsets)) (now (a .targets)) in
     let rule : ℕ → ℕ = left near (now (a .masks)) (now (a .layer)) (now (a .new)) in (
       omega arith,
       simp length-set (inv .1),

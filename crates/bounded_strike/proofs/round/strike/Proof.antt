@@ -47,7 +47,7 @@ same k =
 
 made : (s : tie.After-strike-way2) →
     let a = entry (copied (forth s)) .args in
-    s .strike-way2 .last .1 .1 .1 .1 .1 .1 .1 .1 .0 ≡ roundTable (tables (now (a .masks)) (now (a .offsets)) (now (a .links))) (a .top) (now (a .old))
+    s .strike-way2 .last .1 .1 .1 .1 .1 .1 .1 .1 .0 ≡ roundTable (tables (now (a .masks)) (now (a .offsets)) (now (a .targets))) (a .top) (now (a .old))
 unfolding roundTable part
 made s =
     let f = forth s in
@@ -55,9 +55,9 @@ made s =
     let a = entry k .args in
     let old = now (a .old) in
     s .strike-way2 .ensures
-    ∙ ap (λ (new : List ℕ). passes (neighboursIn Backward (now (a .offsets)) (now (a .links))) (take 128 (drop 128 (now (a .masks)))) old (a .top) new)
+    ∙ ap (λ (new : List ℕ). passes (neighboursIn Backward (now (a .offsets)) (now (a .targets))) (take 128 (drop 128 (now (a .masks)))) old (a .top) new)
     (f .strike-way .ensures
-    ∙ ap (λ (new : List ℕ). passes (neighboursIn Forward (now (a .offsets)) (now (a .links))) (take 128 (now (a .masks))) old (a .top) new) (same k))
+    ∙ ap (λ (new : List ℕ). passes (neighboursIn Forward (now (a .offsets)) (now (a .targets))) (take 128 (now (a .masks))) old (a .top) new) (same k))
 
 -- ---- the needs
 

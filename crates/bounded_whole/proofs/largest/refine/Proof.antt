@@ -71,7 +71,7 @@ fewer : (c : tie.Else1 Inv-loop μ-loop) → once c .strike .result < came (once
 fewer c = turn-less (came (once c) .loop .inv .0) (once c .strike .ensures .0) (once c .strike .ensures .1) (c .if1 .left)
 
 abbrev tablesOf : tie.Start Inv-loop μ-loop → Tables
-tablesOf start = tables (now (start .args .masks)) (now (start .args .offsets)) (now (start .args .links))
+tablesOf start = tables (now (start .args .masks)) (now (start .args .offsets)) (now (start .args .targets))
 
 turn : (c : tie.Else1 Inv-loop μ-loop) →
     let start = entry (came (once c)) in

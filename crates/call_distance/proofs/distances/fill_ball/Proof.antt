@@ -19,7 +19,7 @@ measure-requires c κs =
     let a = s .args in
     let board = s .pre .0 in (
       (board .parallel, board .links),
-      length-take-for (length (now (a .kinds))) (now (a .out))
+      length-take-for (length (now (a .labels))) (now (a .out))
           (λ k. (T (all (λ v. ltb v k) (now (a .starts))) × T (all (λ v. ltb v k) (now (a .ends)))) × ((a .c < k) × (k ≤ 512)))
           (s .pre .1 .1)
           ((bounded-starts board, bounded-ends board), (s .pre .1 .0, board .nodes)),
@@ -32,9 +32,9 @@ returns : tie.Need-returns
 returns c =
     let s = c .before .before .before .before .before .before .before .before in
     let a = s .args in
-    ap (λ (xs : List ℕ). xs ++ drop (length (now (a .kinds))) (now (a .out)))
+    ap (λ (xs : List ℕ). xs ++ drop (length (now (a .labels))) (now (a .out)))
     (c .before .before .measure .ensures
-    ∙ ap (λ (k : ℕ). distances k (now (a .starts)) (now (a .ends)) (a .c) (a .r)) (length-take-le (length (now (a .kinds))) (now (a .out)) (s .pre .1 .1)))
+    ∙ ap (λ (k : ℕ). distances k (now (a .starts)) (now (a .ends)) (a .c) (a .r)) (length-take-le (length (now (a .labels))) (now (a .out)) (s .pre .1 .1)))
 
 pub fill-ball-spec : {M : Type 1} → statement M
 fill-ball-spec =

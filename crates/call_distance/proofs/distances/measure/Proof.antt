@@ -15,7 +15,7 @@ slice-aggregate-neighbour-tables-2 c = search needs
 neighbour-tables-requires : tie.Need-neighbour-tables-requires
 neighbour-tables-requires c κs =
     let p = c .before .before .before .before .before .pre in
-    (record { inOffsets = refl; inLinks = refl }, (p .1 .1 .1, (p .0, p .1 .0)))
+    (record { inOffsets = refl; inTargets = refl }, (p .1 .1 .1, (p .0, p .1 .0)))
 
 slice-aggregate-search : tie.Need-slice-aggregate-search
 slice-aggregate-search c = search needs

@@ -20,7 +20,7 @@ abbrev entry : tie.After-quotient-arg → tie.Start
 entry c = c .before .before .before .before .before .before
 
 abbrev pattern : tie.Start → Circuit
-pattern c = circuit (now (c .args .kinds)) (now (c .args .starts)) (now (c .args .ends))
+pattern c = circuit (now (c .args .labels)) (now (c .args .starts)) (now (c .args .ends))
 
 content : (c : tie.Start) → PatternContent (pattern c)
 content c = sound-content _ _ _ (c .pre .0)
@@ -86,7 +86,7 @@ write-circuit-requires : tie.Need-write-circuit-requires
 write-circuit-requires c κs =
     let here = c .before .before .before .before in
     let first = start (made here .before) in
-    let is = ap (λ (q : Circuit). q .kinds) (made here .quotient .ensures .content) in
+    let is = ap (λ (q : Circuit). q .labels) (made here .quotient .ensures .content) in
     let few = le-trans (le-of-eq (size here .0 ∙ made here .quotient .ensures .counted)) (classes-few (content first)) in
     (le-trans few (lit≤ tt), rw is (merged-fits (content first) (first .args .edition) (first .pre .1 .1)))
 

@@ -14,10 +14,10 @@ abbrev nodes : tie.Start → List ℕ
 nodes s = nodesText (now (s .args .dist))
 
 abbrev links : tie.Start → List ℕ
-links s = let a = s .args in linksText (tables (now (a .masks)) (now (a .offsets)) (now (a .links))) (now (a .dist)) (now (a .sets))
+links s = let a = s .args in linksText (tables (now (a .masks)) (now (a .offsets)) (now (a .targets))) (now (a .dist)) (now (a .sets))
 
 pieces : (s : tie.Start) → let a = s .args in
-    lineText (tables (now (a .masks)) (now (a .offsets)) (now (a .links))) (now (a .dist)) (now (a .sets)) (a .c)
+    lineText (tables (now (a .masks)) (now (a .offsets)) (now (a .targets))) (now (a .dist)) (now (a .sets)) (a .c)
     ≡ bytes "place " ++ (decimal (a .c) ++ (bytes ":" ++ (nodes s ++ (bytes " /" ++ (links s ++ bytes "\n")))))
 unfolding lineText
 pieces s = line-pieces (s .args .c) (nodes s) (links s)

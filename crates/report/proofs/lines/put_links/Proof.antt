@@ -19,7 +19,7 @@ abbrev μ-loop : tie.MeasureT-loop
 
 -- the links that start at a node
 abbrev starting : tie.Start Inv-loop μ-loop → ℕ → List ℕ
-starting s = let a = s .args in startText (tables (now (a .masks)) (now (a .offsets)) (now (a .links))) (now (a .dist)) (now (a .sets))
+starting s = let a = s .args in startText (tables (now (a .masks)) (now (a .offsets)) (now (a .targets))) (now (a .dist)) (now (a .sets))
 
 loop-holds : tie.Need-loop-holds Inv-loop μ-loop
 unfolding concatBelow

@@ -10,7 +10,7 @@ use Rattle.report.proofs.lines.put_start.Statement.{statement}
 use Rattle.report.proofs.lines.put_start.Tie as tie
 
 abbrev tablesOf : tie.Start → Tables
-tablesOf s = tables (now (s .args .masks)) (now (s .args .offsets)) (now (s .args .links))
+tablesOf s = tables (now (s .args .masks)) (now (s .args .offsets)) (now (s .args .targets))
 
 mul-is-reached : tie.Need-mul-is-reached
 mul-is-reached c = search needs

@@ -1,3 +1,0 @@
-pub mod Generator
-pub mod Load
-pub mod Marks
