@@ -1,6 +1,6 @@
 -- The kept links bar, and with any one or more of them taken away the rest does not. Where there is no place all links together bar, which is
 -- why the procedure can begin. Assumes nothing.
-use Rattle.base_lists.specs.Kit.{_≡_, _∙_, sym, ap, subst, _↔_, false, not, List, ℕ, _≤_, _<_, zero-le, T, length, getD, set, length-replicate, getD-replicate, arith, eq-eqb, T-not, not-T}
+use Rattle.base_lists.specs.Kit.{_≡_, _∙_, sym, ap, subst, _↔_, false, not, List, ℕ, _<_, zero-le, T, length, getD, set, length-replicate, getD-replicate, arith, eq-eqb, T-not, not-T}
 use Rattle.base_lists.proofs.Below.{countBelow-same, countBelow-none}
 use Rattle.base_lists.proofs.Tests.{true-T, T-false}
 use Rattle.graph.specs.Chosen.{ChosenLink}

@@ -1,6 +1,6 @@
 -- The test of chosen links means barring: it says whether the largest set of pairs that meets kinds and those links alone has a pair with the
 -- centre. Assumes nothing.
-use Rattle.base_lists.specs.Kit.{_≡_, _∙_, _↔_, List, ℕ, _≤_, _<_, T, length, T-not, not-T}
+use Rattle.base_lists.specs.Kit.{_↔_, List, ℕ, _≤_, T, length, T-not, not-T}
 use Rattle.graph.specs.Chosen.{chosen, ChosenLink}
 use Rattle.graph.specs.Circuit.{Circuit, graphOf, circuitGraph}
 use Rattle.graph.proofs.Ball.{Within}

@@ -1,5 +1,5 @@
 -- What the outcome comes to, by cases of whether the centre is found. Assumes nothing.
-use Rattle.base_lists.specs.Kit.{_≡_, _∙_, false, true, List, _++_, ℕ, length, drop}
+use Rattle.base_lists.specs.Kit.{_≡_, false, true, List, _++_, ℕ, length, drop}
 use Rattle.graph.specs.Circuit.{Circuit}
 use Rattle.file_format.specs.declared.File.the-variants.{Neither}
 use Rattle.file_format.specs.Reading.{filled}

@@ -1,5 +1,5 @@
 -- Where the dropping of links stands. Assumes nothing.
-use Rattle.base_lists.specs.Kit.{_≡_, _∙_, sym, ap, refl, subst, Bool, false, true, cond, List, _∷_, _++_, ℕ, _≤_, _<_, _+_, _-_, suc, zero, add-one, length, getD, take, set, length-set, length-replicate, getD-replicate, getD-set-other, set-getD, set-set, arith}
+use Rattle.base_lists.specs.Kit.{_≡_, _∙_, sym, ap, refl, subst, Bool, false, true, cond, List, _∷_, ℕ, _≤_, _<_, _+_, _-_, suc, zero, add-one, length, getD, take, set, length-set, length-replicate, getD-replicate, getD-set-other, set-getD, set-set, arith}
 use Rattle.graph.specs.Circuit.{Circuit, circuit}
 use Rattle.barring.specs.Least.{bars, dropFrom, allLinks, least}
 use Rattle.barring_find.specs.Trial.{Tried, EveryBars}

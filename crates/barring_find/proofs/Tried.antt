@@ -1,5 +1,5 @@
 -- From what a trial starts from to what it says. Assumes nothing.
-use Rattle.base_lists.specs.Kit.{_≡_, _∙_, sym, ap, refl, subst, Bool, false, true, cond, Bool·not-not, List, _++_, ℕ, _≤_, _<_, eqb, length, getD}
+use Rattle.base_lists.specs.Kit.{_≡_, _∙_, sym, ap, refl, subst, Bool, false, true, cond, Bool·not-not, List, ℕ, eqb, length, getD}
 use Rattle.base_lists.specs.List.{Below}
 use Rattle.base_lists.proofs.Tables.{getD-tabulate, tabulate-same}
 use Rattle.base_lists.proofs.Entries.{all-below, below-wider}

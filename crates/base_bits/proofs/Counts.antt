@@ -1,5 +1,5 @@
 -- How many digits of a number are set. Assumes nothing.
-use Rattle.base_lists.specs.Kit.{_≡_, _∙_, sym, ap, ap₂, ℕ, _<_, _+_, _-_, suc, zero, _*_, _^_, _/_, _%_, false, _≤_, refl, Bool, true, ltb, arith, ltb-false, ltb-true}
+use Rattle.base_lists.specs.Kit.{_≡_, _∙_, sym, ap, ap₂, ℕ, _<_, _+_, _-_, suc, zero, _^_, _/_, false, _≤_, refl, Bool, true, ltb, arith, ltb-false, ltb-true}
 use lib.Arith.{lt-one}
 use lib.Count.{ones, ones-step}
 use Rattle.base_lists.specs.Below.{countBelow}

@@ -4,7 +4,7 @@ use Rattle.base_lists.specs.Kit.{_≡_, refl, _↔_, inl, inr, Iff·rfl, Iff·t
 use Rattle.base_lists.specs.List.{Occurs}
 use Rattle.base_lists.proofs.Tests.{true-T}
 use Rattle.graph.specs.Circuit.{Circuit, HasLink, graphOf, circuitGraph}
-use Rattle.simulation.specs.Closed.{Relation, _⊆_, Closed, Occurring}
+use Rattle.simulation.specs.Closed.{Relation, Closed, Occurring}
 use Rattle.simulation.specs.Simulation.{Direction, forwards, backwards, Along}
 use Rattle.simulation.proofs.Simulation.{along-wider}
 use Rattle.table_row.specs.Problem.{Way, Agreeing}

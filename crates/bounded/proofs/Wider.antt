@@ -1,6 +1,6 @@
 -- Patterns that differ in their bounds alone: larger bounds ask no more; and where every bound is 1, what is asked is what the pattern without
 -- bounds asks. Assumes nothing.
-use Rattle.base_lists.specs.Kit.{_≡_, sym, ap, refl, subst, ap₂, _↔_, inl, inr, _&&_, List, ℕ, _≤_, _<_, _-_, le-refl, length, getD, arith}
+use Rattle.base_lists.specs.Kit.{_≡_, sym, ap, refl, subst, ap₂, inl, inr, List, ℕ, _≤_, _-_, le-refl, length, getD, arith}
 use Rattle.base_lists.specs.List.{Occurs}
 use Rattle.base_lists.proofs.Tests.{both-true, both-right}
 use Rattle.graph.specs.Circuit.{Circuit, HasLink, graphOf, circuitGraph}

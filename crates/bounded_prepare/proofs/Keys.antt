@@ -1,5 +1,5 @@
 -- The numbers of bound and part fit 128 masks. Assumes nothing.
-use Rattle.base_lists.specs.Kit.{_≡_, List, ℕ, _≤_, _<_, _+_, _-_, _*_, length, getD, arith}
+use Rattle.base_lists.specs.Kit.{_≡_, List, ℕ, _<_, _-_, length, getD, arith}
 use Rattle.base_lists.specs.List.{Below}
 use Rattle.base_lists.proofs.Tables.{length-tabulate, getD-tabulate}
 use Rattle.bounded_strike.specs.Prepared.{keyAt, keyed}

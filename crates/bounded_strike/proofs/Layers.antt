@@ -1,5 +1,5 @@
 -- A layer has, at each node, the parts that occur at the ends of paths from there. Assumes nothing.
-use Rattle.base_lists.specs.Kit.{_≡_, _∙_, sym, ap, refl, ap₂, List, [], _∷_, _++_, ℕ, _<_, suc, zero, suc-le-suc, zero-lt-suc, length, getD}
+use Rattle.base_lists.specs.Kit.{_≡_, _∙_, sym, ap, refl, ap₂, List, [], _∷_, ℕ, _<_, suc, zero, suc-le-suc, zero-lt-suc, length, getD}
 use lib.Bits.{bitOr, or-zero-r}
 use Rattle.base_lists.specs.List.{Below}
 use Rattle.base_lists.proofs.Tables.{getD-tabulate, tabulate-same}

@@ -1,5 +1,5 @@
 -- How many pairs a table has, counted from the front. Assumes nothing.
-use Rattle.base_lists.specs.Kit.{_≡_, ap, List, [], _∷_, ℕ, _≤_, _<_, _+_, _*_, add-one, length, getD, drop, drop-of-length-le, drop-cons}
+use Rattle.base_lists.specs.Kit.{_≡_, ap, List, ℕ, _≤_, _<_, _+_, add-one, length, getD, drop, drop-of-length-le, drop-cons}
 use Rattle.base_lists.specs.List.{sum}
 use Rattle.base_bits.specs.Bits.{sizeOf}
 use Rattle.table_row.specs.Row.{pairs}

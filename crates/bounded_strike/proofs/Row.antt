@@ -1,5 +1,5 @@
 -- A round of passes is the striking of the row, where the tables are those of a pattern, its bounds and a board. Assumes nothing.
-use Rattle.base_lists.specs.Kit.{_≡_, _∙_, sym, ap, refl, subst, ap₂, Bool, true, _&&_, _||_, and-true, and-assoc, List, [], _∷_, ℕ, _≤_, _<_, _+_, _-_, suc, zero, _*_, _^_, lt-of-lt-of-le, eqb, eqb→eq, length, getD, List·getD-eq-default, arith}
+use Rattle.base_lists.specs.Kit.{_≡_, _∙_, sym, ap, refl, subst, ap₂, Bool, true, _&&_, and-true, and-assoc, List, [], _∷_, ℕ, _≤_, _<_, _+_, _-_, suc, zero, _*_, _^_, lt-of-lt-of-le, eqb, eqb→eq, length, getD, List·getD-eq-default, arith}
 use native.Mathlib.Decide.{decLt}
 use lib.Pow.{pow-pos}
 use Rattle.base_lists.specs.List.{tabulate, part, Below, Occurs}

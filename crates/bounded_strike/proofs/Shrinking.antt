@@ -1,5 +1,5 @@
 -- A round takes pairs away and adds none. Assumes nothing.
-use Rattle.base_lists.specs.Kit.{_≡_, _∙_, refl, subst, List, ℕ, _<_, suc, zero, _*_, _^_, lt-of-le-of-lt, T, length, getD, List·getD-eq-default, arith}
+use Rattle.base_lists.specs.Kit.{_≡_, _∙_, refl, subst, List, ℕ, _<_, suc, zero, _*_, lt-of-le-of-lt, T, length, getD, List·getD-eq-default, arith}
 use native.Mathlib.Decide.{decLt}
 use Rattle.base_lists.specs.List.{part}
 use Rattle.base_lists.proofs.Tests.{false-T}

@@ -1,6 +1,6 @@
 -- One round of striking as the program does it, over neighbour tables and masks: what the contracts of the inner functions cite. proofs/Row
 -- ties it to the row of sets.
-use Rattle.base_lists.specs.Kit.{_≡_, List, ℕ, _≤_, _<_, suc, zero, _*_, _^_, length}
+use Rattle.base_lists.specs.Kit.{_≡_, List, ℕ, _≤_, suc, zero, _*_, length}
 use Rattle.base_lists.specs.List.{part}
 use Rattle.base_bits.specs.Bits.{Words}
 use Rattle.graph.specs.Net.{Net}

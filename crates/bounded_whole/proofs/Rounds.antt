@@ -1,5 +1,5 @@
 -- The loop of rounds: from one table to the next, until a round strikes nothing. Assumes nothing.
-use Rattle.base_lists.specs.Kit.{_≡_, _∙_, sym, ap, refl, ⊎-elim, _⊎_, List, ℕ, _≤_, _<_, _+_, suc, _*_, _^_, not-suc-le-zero, le-refl, add-one, arith}
+use Rattle.base_lists.specs.Kit.{_≡_, _∙_, sym, ap, refl, ⊎-elim, _⊎_, List, ℕ, _≤_, _<_, _+_, suc, not-suc-le-zero, le-refl, add-one, arith}
 use borrow.Author.Count.{below-more}
 use Rattle.table_row.specs.Row.{inTable}
 use Rattle.table_row.proofs.Sets.{pairs-progress}

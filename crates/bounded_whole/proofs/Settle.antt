@@ -1,5 +1,5 @@
 -- Where the rounds settle is the end of the row: its last set and its counts; and with the all-0 rule the answer. Assumes nothing.
-use Rattle.base_lists.specs.Kit.{_≡_, _∙_, sym, ap, refl, subst, Bool, false, true, cond, _&&_, List, _++_, ℕ, _≤_, _<_, _-_, suc, _^_, T, length, take, length-append, take-at, arith}
+use Rattle.base_lists.specs.Kit.{_≡_, _∙_, sym, ap, refl, subst, Bool, false, true, cond, _&&_, List, _++_, ℕ, _≤_, _<_, _-_, suc, T, length, take, length-append, take-at, arith}
 use Rattle.base_lists.specs.List.{tabulate}
 use Rattle.base_lists.proofs.Tests.{T-true, true-T}
 use Rattle.base_lists.proofs.Tables.{tabulate-same}

@@ -6,7 +6,6 @@ use lib.Count.{ones}
 use Rattle.base_lists.specs.List.{sum}
 use Rattle.base_lists.proofs.Tests.{true-T}
 use Rattle.graph.specs.Circuit.{Circuit, circuitGraph}
-use Rattle.simulation.specs.Closed.{_⊆_}
 use Rattle.file_format.specs.declared.Refusal.{Refusal}
 use Rattle.file_format.specs.declared.Role.the-variants.{Board, AnyPattern}
 use Rattle.file_format.specs.Circuit.{circuitOf}

@@ -1,5 +1,5 @@
 -- What the converter comes to, by cases: a refused file, a package that would be lost, too few bytes lent, or the new file. Assumes nothing.
-use Rattle.base_lists.specs.Kit.{_≡_, _∙_, sym, ap, refl, false, true, List, [], _∷_, _++_, ℕ, _≤_, _<_, le-trans, length, getD, take, drop, length-take-le, take-at, getD-take, arith, le-ltb, lt-ltb}
+use Rattle.base_lists.specs.Kit.{_≡_, _∙_, sym, ap, refl, false, true, List, _++_, ℕ, _≤_, _<_, le-trans, length, getD, take, drop, length-take-le, take-at, getD-take, arith, le-ltb, lt-ltb}
 use native.Mathlib.Decide.{decLt}
 use Rattle.base_lists.specs.List.{Below}
 use Rattle.base_lists.proofs.Tables.{length-tabulate, is-tabulate}

@@ -1,5 +1,5 @@
 -- From a pattern's table on itself the passes make its classes and its quotient by them, the merged pattern, which writing does not refuse. Assumes nothing.
-use Rattle.base_lists.specs.Kit.{_≡_, _∙_, sym, ap, refl, subst, true, List, [], ℕ, _≤_, _<_, _+_, le-trans, lt-of-lt-of-le, T, length, getD, take, List·getD-eq-default, sets, arith, le-ltb, ltb-false}
+use Rattle.base_lists.specs.Kit.{_≡_, _∙_, sym, ap, refl, subst, true, List, [], ℕ, _≤_, _<_, le-trans, lt-of-lt-of-le, T, length, getD, take, List·getD-eq-default, sets, arith, le-ltb, ltb-false}
 use native.Mathlib.Decide.{decLt}
 use Rattle.base_lists.proofs.Tests.{T-true, not-true-false}
 use Rattle.base_lists.specs.List.{Below}

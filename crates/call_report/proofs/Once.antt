@@ -1,5 +1,5 @@
 -- A buffer that has room for the longest line 513 times takes every report in one piece. Assumes nothing.
-use Rattle.base_lists.specs.Kit.{_≡_, _∙_, sym, ap, refl, not, List, [], _++_, ℕ, _≤_, _<_, _+_, _-_, suc, zero, _*_, zero-le, le-refl, zero-add, length, length-append, arith, eq-eqb, le-leb}
+use Rattle.base_lists.specs.Kit.{_≡_, _∙_, sym, ap, refl, not, List, _++_, ℕ, _≤_, _+_, _-_, suc, zero, _*_, zero-le, le-refl, zero-add, length, length-append, arith, eq-eqb, le-leb}
 use Rattle.base_lists.specs.Below.{concatBelow}
 use Rattle.base_lists.proofs.Below.{leastBelow-all}
 use Rattle.graph.specs.Circuit.{Circuit}

@@ -1,6 +1,6 @@
 -- The order on circuits and their second-edition files: a file's numbers are its circuit's, and circuits rank equal exactly when their files are the same
 -- bytes. Assumes nothing.
-use Rattle.base_lists.specs.Kit.{_≡_, _∙_, sym, ap, refl, ap₂, _↔_, List, [], _∷_, _++_, ℕ, _+_, _*_, _/_, _%_, le-of-eq, T, ltb, length, take-all, arith}
+use Rattle.base_lists.specs.Kit.{_≡_, _∙_, sym, ap, refl, ap₂, _↔_, List, [], _∷_, _++_, ℕ, _+_, _/_, _%_, le-of-eq, T, ltb, length, take-all, arith}
 use Rattle.base_lists.specs.List.{all}
 use Rattle.file_format.specs.declared.Edition.the-variants.{Second}
 use Rattle.file_format.specs.declared.Role.{Role}

@@ -1,5 +1,5 @@
 -- Where each of the byte strings lies that lie one after another. Assumes nothing.
-use Rattle.base_lists.specs.Kit.{_≡_, _∙_, sym, ap, refl, Bool, false, true, List, [], _∷_, _++_, ℕ, _≤_, _<_, _+_, _-_, suc, zero, add-one, leb, length, getD, take, drop, length-drop, List·getD-eq-default, drop-of-length-le, take-all, take-suc, drop-drop, arith, leb-true, leb-false}
+use Rattle.base_lists.specs.Kit.{_≡_, _∙_, sym, ap, refl, Bool, false, true, List, [], _∷_, ℕ, _≤_, _<_, _+_, _-_, suc, zero, add-one, leb, length, getD, take, drop, length-drop, List·getD-eq-default, drop-of-length-le, take-all, take-suc, drop-drop, arith, leb-true, leb-false}
 use Rattle.base_lists.specs.List.{sum}
 use Rattle.base_lists.proofs.Rows.{sum-last}
 use Rattle.call_shelf.specs.Strings.{cutInto, capped}

@@ -1,5 +1,5 @@
 -- Laws of the shelf's text. Assumes nothing.
-use Rattle.base_lists.specs.Kit.{_≡_, _∙_, sym, ap, refl, List, [], _∷_, _++_, append-nil, append-assoc, ℕ, _≤_, _<_, _+_, _*_, add-one, length, getD, take, length-append, length-take, take-suc, arith}
+use Rattle.base_lists.specs.Kit.{_≡_, _∙_, sym, ap, refl, List, [], _∷_, _++_, append-nil, append-assoc, ℕ, _<_, _+_, _*_, add-one, length, getD, take, length-append, length-take, take-suc, arith}
 use Rattle.base_text.specs.Text.{Fits}
 use Rattle.base_text.proofs.Text.{fits-less}
 use Rattle.call_shelf.specs.Text.{lineOf, shelfText}

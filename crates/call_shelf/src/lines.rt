@@ -1,5 +1,4 @@
 // The shelf's text: a line for each number.
-ghost use mathlib.Core.Path.{_≡_};
 ghost use Rattle.base_text.specs.Text.{Put, Fits};
 ghost use Rattle.call_shelf.specs.Text.{lineOf, shelfText};
 use base_text::put_byte;

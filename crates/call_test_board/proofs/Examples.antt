@@ -1,6 +1,6 @@
 -- Two loads from their four numbers to their bytes: one that tells start from end and every draw from another, and one in which the same pair is drawn
 -- five times. Assumes nothing.
-use Rattle.base_lists.specs.Kit.{_≡_, refl, [], _∷_, ℕ}
+use Rattle.base_lists.specs.Kit.{_≡_, refl, [], _∷_}
 use Rattle.base_lists.specs.Below.{collect}
 use Rattle.base_lists.specs.List.{anyBelow, tabulate}
 use Rattle.graph.specs.Pairs.{pairTest, pairStarts, pairEnds}

@@ -1,5 +1,5 @@
 -- Each call is decided by its conditions, and a refusal leaves every lent table as it was. Assumes nothing.
-use Rattle.base_lists.specs.Kit.{_≡_, _∙_, sym, ap, refl, _↔_, ⊎-elim, Bool, false, true, cond, _&&_, not, List, [], _∷_, _++_, ℕ, le-of-eq, ltb, length, arith}
+use Rattle.base_lists.specs.Kit.{_≡_, _∙_, sym, ap, refl, ⊎-elim, Bool, false, true, cond, _&&_, not, List, [], _∷_, _++_, ℕ, le-of-eq, ltb, length, arith}
 use Rattle.base_lists.specs.List.{all}
 use Rattle.base_lists.proofs.Tests.{both-true, both-left, both-right}
 use Rattle.base_lists.proofs.Entries.{all-below, below-all}

@@ -1,5 +1,5 @@
 -- For files of the first edition all is as it was before there were packages: `first-edition`. Assumes nothing.
-use Rattle.base_lists.specs.Kit.{_≡_, _∙_, ap, refl, false, _&&_, not, and-true, List, [], _∷_, _++_, ℕ, _+_, _*_, eqb, length, drop, arith, le-ltb}
+use Rattle.base_lists.specs.Kit.{_≡_, _∙_, ap, refl, false, not, and-true, List, [], _∷_, _++_, ℕ, _+_, _*_, eqb, length, drop, arith, le-ltb}
 use Rattle.graph.specs.Circuit.{Circuit}
 use Rattle.file_format.specs.declared.Edition.the-variants.{First}
 use Rattle.file_format.specs.declared.Role.{Role}

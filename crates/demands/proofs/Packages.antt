@@ -1,5 +1,5 @@
 -- Ask 6: what equal is, and the converter. Assumes nothing.
-use Rattle.base_lists.specs.Kit.{_≡_, _∙_, ap, refl, _↔_, Bool, false, true, List, ℕ, _≤_, _<_, ltb, length, getD, take, List·getD-eq-default, take-at, arith, ltb-false, ltb-true}
+use Rattle.base_lists.specs.Kit.{_≡_, _∙_, ap, refl, Bool, false, true, List, ℕ, _≤_, _<_, ltb, length, getD, take, List·getD-eq-default, take-at, arith, ltb-false, ltb-true}
 use Rattle.base_lists.specs.List.{Below}
 use Rattle.base_lists.proofs.Tables.{getD-tabulate}
 use Rattle.base_lists.proofs.Entries.{below-getD, below-all}

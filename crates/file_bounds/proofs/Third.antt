@@ -1,6 +1,6 @@
 -- The conditions on a file of the third edition, one after another; and what they say of the file of the second edition before the bounds.
 -- Assumes nothing.
-use Rattle.base_lists.specs.Kit.{_≡_, _∙_, sym, ap, refl, subst, ap₂, Bool, false, true, cond, _&&_, not, List, [], _∷_, _++_, ℕ, _≤_, _<_, _+_, _*_, T, eqb, ltb, length, take, drop, length-take-le, getD-take, arith, eq-eqb, ne-eqb, le-ltb, lt-ltb, eqb-true, ltb-false, eqb-false}
+use Rattle.base_lists.specs.Kit.{_≡_, _∙_, sym, ap, refl, subst, ap₂, Bool, false, true, cond, not, List, [], _∷_, _++_, ℕ, _≤_, _<_, _+_, _*_, T, eqb, ltb, length, take, drop, length-take-le, getD-take, arith, eq-eqb, ne-eqb, le-ltb, lt-ltb, eqb-true, ltb-false, eqb-false}
 use Rattle.base_lists.proofs.Tests.{true-T, T-true, not-true-false}
 use Rattle.file_format.specs.declared.Edition.the-variants.{Second}
 use Rattle.graph.specs.Circuit.{Circuit}

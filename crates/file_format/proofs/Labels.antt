@@ -1,5 +1,5 @@
 -- A label is a kind and a package, and only that. Assumes nothing.
-use Rattle.base_lists.specs.Kit.{_≡_, _∙_, sym, refl, ap₂, List, [], ℕ, _<_, _+_, _*_, _/_, _%_, length, getD, arith}
+use Rattle.base_lists.specs.Kit.{_≡_, _∙_, sym, refl, ap₂, List, [], ℕ, _<_, length, getD, arith}
 use Rattle.base_lists.proofs.Tables.{length-tabulate, getD-tabulate, is-tabulate}
 use Rattle.file_format.specs.Label.{label, kindIn, packageIn, labels, kindsIn, packagesIn}
 

@@ -1,5 +1,5 @@
 -- The circuit that a file holds, and what an accepted file says of it.
-use Rattle.base_lists.specs.Kit.{_≡_, ℕ, _≤_, T, length}
+use Rattle.base_lists.specs.Kit.{_≡_, _≤_, T, length}
 use Rattle.graph.specs.Circuit.{Circuit}
 use Rattle.graph.specs.Rising.{LinksRise}
 use Rattle.file_format.specs.declared.Role.{Role}

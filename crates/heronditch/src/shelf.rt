@@ -4,16 +4,16 @@ ghost use Rattle.call_shelf.specs.Compare.{whichNumber, orderNumber, comparing}
 ghost use Rattle.call_shelf.specs.Shelf.{shelfReply, shelving};
 ghost use Rattle.heronditch.specs.Host.{hostCompare, hostShelf};
 ghost use Rattle.heronditch_reply.specs.Replies.{slots};
+use call_shelf::ShelfAnswer;
 use call_shelf::compare::CompareAnswer;
 use call_shelf::compare::Which;
-use call_shelf::ShelfAnswer;
 use heronditch_reply::HostReply;
 use heronditch_reply::accepted;
 use heronditch_reply::refused;
 use order::Order;
 
-// The same as a reply without values, with which of the two files is meant (1 the first, 2 the second) and the order found (1 less, 2 equal,
-// 3 greater).
+// The same as a reply without values, with which of the two files is meant (1 the first, 2 the second) and the order
+// found (1 less, 2 equal, 3 greater).
 #[repr(C)]
 pub struct Comparison {
     pub number: u32,
@@ -82,10 +82,12 @@ pub extern "C" fn heronditch_compare(first: &[u8], second: &[u8]) -> Comparison
     of_compare(call_shelf::compare::compare(first, second))
 }
 
-// Puts a shelf of second-edition patterns in order, by their numbers; those that are refused are passed over. Replies with how many are accepted.
+// Puts a shelf of second-edition patterns in order, by their numbers; those that are refused are passed over. Replies
+// with how many are accepted.
 #[no_mangle]
 pub extern "C" fn heronditch_shelf(bytes: &[u8], lengths: &[u32], order: &mut [u8]) -> HostReply
-    ensures { λ r. ⌜ record { reply = r; out = now (order .exit) } ≡ hostShelf (shelving (now (bytes .entry)) (now (lengths .entry)) (now (order .entry))) ⌝ }
+    ensures { λ r. ⌜ record { reply = r; out = now (order .exit) }
+        ≡ hostShelf (shelving (now (bytes .entry)) (now (lengths .entry)) (now (order .entry))) ⌝ }
 {
     of_shelf(call_shelf::shelf(bytes, lengths, order))
 }

@@ -17,10 +17,10 @@ use call_check::CheckAnswer;
 use call_convert::ConvertAnswer;
 use call_distance::BallAnswer;
 use call_distance::RadiusAnswer;
-use call_test_board::TestBoardAnswer;
 use call_match::TableAnswer;
 use call_merge::MergeAnswer;
 use call_report::ReportAnswer;
+use call_test_board::TestBoardAnswer;
 use file_format::File;
 use file_format::ReadAnswer;
 use file_format::Refusal;
@@ -29,7 +29,8 @@ use place::PlaceAnswer;
 use report_centres::PutPiece;
 use table::Counts;
 
-// Number 0 for acceptance or the refusal's number; the file that it means (0 neither, 1 pattern, 2 board); the values replied with.
+// Number 0 for acceptance or the refusal's number; the file that it means (0 neither, 1 pattern, 2 board); the values
+// replied with.
 #[repr(C)]
 pub struct HostReply {
     pub number: u32,
@@ -49,7 +50,8 @@ pub struct Counted {
     pub rounds: u32,
 }
 
-// The same with where the report goes on after a piece, how many centres before that have a place, and how many bytes were put.
+// The same with where the report goes on after a piece, how many centres before that have a place, and how many bytes
+// were put.
 #[repr(C)]
 pub struct Piece {
     pub number: u32,
@@ -150,7 +152,15 @@ pub fn of_check(answer: CheckAnswer) -> HostReply
 
 // Four counts, with a number and a file.
 fn with_counts(number: u32, file: u32, k: Counts) -> Counted
-    ensures { λ r. ⌜ r ≡ record { number = number; file = file; started = k .started; kept = k .kept; struck = k .struck; rounds = k .rounds } ⌝ }
+    ensures { λ r. ⌜ r ≡ record {
+      number = number;
+      file = file;
+      started = k .started;
+      kept = k .kept;
+      struck = k
+          .struck;
+      rounds = k .rounds;
+    } ⌝ }
 {
     Counted {
         number,
@@ -164,7 +174,15 @@ fn with_counts(number: u32, file: u32, k: Counts) -> Counted
 
 // A refusal with counts, as number 9 has them.
 fn refused_with(x: Refusal, k: Counts) -> Counted
-    ensures { λ r. ⌜ r ≡ record { number = x .number; file = fileNumber (x .file); started = k .started; kept = k .kept; struck = k .struck; rounds = k .rounds } ⌝ }
+    ensures { λ r. ⌜ r ≡ record {
+      number = x .number;
+      file = fileNumber (x .file);
+      started = k .started;
+      kept = k
+          .kept;
+      struck = k .struck;
+      rounds = k .rounds;
+    } ⌝ }
 {
     let file = x.file;
     with_counts(x.number as u32, file_number(file), k)

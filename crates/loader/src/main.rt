@@ -1,5 +1,6 @@
-// The program that makes a test board: takes the four numbers as words, seed, N, M and K, and writes the board's file to standard output. Where a
-// word is no number, or a number is out of its range, it says so on standard error and writes nothing to standard output.
+// The program that makes a test board: takes the four numbers as words, seed, N, M and K, and writes the board's file
+// to standard output. Where a word is no number, or a number is out of its range, it says so on standard error and
+// writes nothing to standard output.
 use crate::words::Word;
 use crate::words::number;
 use call_test_board::TestBoardAnswer;
@@ -27,7 +28,8 @@ struct Asked {
     k: Word,
 }
 
-// What came of the words: the test board's file was handed whole to standard output; or that failed; or a number was out of its range; or a word was none.
+// What came of the words: the test board's file was handed whole to standard output; or that failed; or a number was
+// out of its range; or a word was none.
 enum Printed {
     Whole,
     Failed,
@@ -35,7 +37,8 @@ enum Printed {
     NoNumbers,
 }
 
-// An argument: its index, what the system answered when it was asked for, C's errno and a length, and the number that it is.
+// An argument: its index, what the system answered when it was asked for, C's errno and a length, and the number that
+// it is.
 struct Argument {
     index: usize,
     error: i32,
@@ -72,7 +75,14 @@ fn hand(seed: u32, n: u32, m: u32, k: u32, handed: &mut usize, bytes: &[u8]) -> 
 }
 
 // Makes the test board in a buffer that is long enough for each, and hands it on.
-fn print_test_board(seed: u32, n: u32, m: u32, k: u32, out: &mut [u8], handed: &mut usize) -> Printed
+fn print_test_board(
+    seed: u32,
+    n: u32,
+    m: u32,
+    k: u32,
+    out: &mut [u8],
+    handed: &mut usize,
+) -> Printed
     requires { ⌜ (lengthOf editions.First 512 4096 ≤ length (now out)) × (now handed ≡ 0) ⌝ }
     ensures { λ r. ⌜ Handed seed n m k (now (out .exit)) (now (handed .exit)) r ⌝ }
 {

@@ -1,5 +1,5 @@
 -- A circuit that can be the content of a pattern file. Assumes nothing.
-use Rattle.base_lists.specs.Kit.{_≡_, _∙_, sym, ℕ, _≤_, _<_, le-trans, T, ltb, lit≤, length}
+use Rattle.base_lists.specs.Kit.{_≡_, _∙_, sym, _≤_, _<_, le-trans, T, ltb, lit≤, length}
 use Rattle.base_lists.specs.List.{all}
 use Rattle.base_lists.proofs.Tests.{both-left, both-right}
 use Rattle.graph.specs.Circuit.{Circuit, circuitGraph}

@@ -1,6 +1,6 @@
 -- What is marked from the list of the nodes that the search reached is what its entries say: a byte and a set for each node, and a byte for
 -- each link of a board whose links come by their starts. Assumes nothing.
-use Rattle.base_lists.specs.Kit.{_≡_, _∙_, ap, refl, subst, Bool, false, true, cond, _&&_, not, List, ℕ, _≤_, _<_, suc, T, eqb, ltb, eqb→eq, leb, ltb→lt, lt→ltb, le→leb, leb→le, length, getD, arith, eq-eqb, ne-eqb}
+use Rattle.base_lists.specs.Kit.{_≡_, _∙_, ap, refl, subst, Bool, false, true, cond, _&&_, not, List, ℕ, _<_, suc, T, eqb, ltb, eqb→eq, leb, ltb→lt, lt→ltb, le→leb, leb→le, length, getD, arith, eq-eqb, ne-eqb}
 use Rattle.base_lists.specs.List.{any, Below}
 use Rattle.base_lists.proofs.Tests.{same-test, true-T, both-true, both-left, both-right, any-at, at-any, cond-not}
 use Rattle.base_lists.proofs.Tables.{tabulate-same}

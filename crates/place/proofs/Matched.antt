@@ -1,6 +1,6 @@
 -- Over prepared tables the search follows the match graph's links, so that what it reaches is the centre's component; and the ball's list
 -- is the list of the first search. Assumes nothing.
-use Rattle.base_lists.specs.Kit.{_≡_, _∙_, sym, ap, refl, subst, _↔_, ⊎-elim, _⊎_, inl, inr, Bool, false, true, cond, not, List, [], ℕ, _≤_, _<_, _^_, le-of-lt, T, eqb, eqb→eq, length, getD, take, arith, eq-eqb, ne-eqb}
+use Rattle.base_lists.specs.Kit.{_≡_, _∙_, sym, ap, refl, subst, _↔_, ⊎-elim, _⊎_, inl, inr, Bool, false, true, cond, not, List, ℕ, _≤_, _<_, _^_, le-of-lt, T, eqb, eqb→eq, length, getD, take, arith, eq-eqb, ne-eqb}
 use Rattle.base_lists.specs.List.{Occurs, any, Below}
 use Rattle.base_lists.proofs.Tests.{same-test, true-T, any-at, at-any}
 use Rattle.base_lists.proofs.Tables.{tabulate-same}

@@ -1,6 +1,6 @@
 -- The place around a centre, computed: the ball, the largest dual simulation in it, the links that match, and what they join to the
 -- centre. proofs/ shows that this is the perfect subgraph that contains every other.
-use Rattle.base_lists.specs.Kit.{Bool, cond, _&&_, not, List, [], _∷_, ℕ, zero, T, eqb, length, getD}
+use Rattle.base_lists.specs.Kit.{Bool, cond, _&&_, not, List, ℕ, zero, T, eqb, length, getD}
 use Rattle.base_lists.specs.List.{anyBelow, tabulate}
 use Rattle.base_lists.specs.Below.{keepFrom}
 use Rattle.graph.specs.Circuit.{Circuit, LinkAt}

@@ -1,6 +1,6 @@
 -- Laws of lists one after another: one more, none, the first apart, how long they are together; and the room for a text that is put piece by
 -- piece. Assumes nothing.
-use Rattle.base_lists.specs.Kit.{_≡_, _∙_, _⊎_, List, [], _++_, ℕ, _≤_, _<_, _+_, suc, _*_, length, length-append, arith}
+use Rattle.base_lists.specs.Kit.{List, _++_, ℕ, _≤_, _<_, _+_, suc, length, length-append, arith}
 use Rattle.base_lists.specs.Below.{concatBelow}
 use Rattle.base_lists.proofs.Concat.{concatBelow-le}
 use Rattle.base_text.specs.Text.{Put, Fits, decimal}

@@ -1,6 +1,6 @@
 -- The file's order of links is node by node: where starts do not fall, the texts of all links one after another are those of the links that
 -- start at node 0, then at node 1, and so on. Assumes nothing.
-use Rattle.base_lists.specs.Kit.{_≡_, _∙_, sym, ap, refl, _⊎_, cond, List, [], _∷_, _++_, ℕ, _≤_, _<_, suc, zero, suc-le-suc, not-suc-le-zero, zero-lt-suc, suc-inj, suc-ne-zero, eqb, length, getD, arith, eq-eqb, ne-eqb}
+use Rattle.base_lists.specs.Kit.{_≡_, _∙_, sym, ap, refl, cond, List, [], _∷_, _++_, ℕ, _≤_, _<_, suc, zero, suc-le-suc, not-suc-le-zero, zero-lt-suc, suc-inj, suc-ne-zero, eqb, length, getD, arith, eq-eqb, ne-eqb}
 use Rattle.base_lists.specs.Below.{concatBelow}
 use Rattle.base_lists.specs.List.{Below}
 use Rattle.base_lists.proofs.Concat.{concatBelow-none, concatBelow-first, concatBelow-insert}

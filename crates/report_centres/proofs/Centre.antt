@@ -1,6 +1,6 @@
 -- The line of one centre: none where the whole board's table leaves the centre empty, else from the place that was
 -- found; and what the line adds to the count. Assumes nothing.
-use Rattle.base_lists.specs.Kit.{_≡_, _∙_, sym, ap, refl, Bool, false, true, cond, List, [], ℕ, _≤_, _<_, eqb, length, getD, arith, eq-eqb, ne-eqb}
+use Rattle.base_lists.specs.Kit.{_≡_, _∙_, sym, ap, refl, Bool, false, true, cond, List, [], ℕ, _≤_, eqb, length, getD, arith, eq-eqb, ne-eqb}
 use Rattle.base_lists.proofs.Tests.{T-false, false-T}
 use Rattle.base_bits.specs.Bits.{bit}
 use Rattle.base_bits.proofs.Digits.{bit-of-zero, no-bits}

@@ -1,10 +1,9 @@
 -- The centre's component in the whole board's match graph. Where walks of r matching links lead to all of it, or the board's links
 -- to as many nodes with its number as it has, the ball holds it, and the place is the component with its matching links; else the place comes from those nodes
 -- of the ball that have its number. Assumes nothing.
-use Rattle.base_lists.specs.Kit.{_≡_, _∙_, sym, ap, refl, subst, ⊎-elim, inl, inr, Bool, false, true, cond, List, _++_, ℕ, _≤_, _<_, suc, _^_, le-antisymm, T, eqb, eqb→eq, length, getD, take-length, arith, eq-eqb}
+use Rattle.base_lists.specs.Kit.{_≡_, _∙_, sym, ap, refl, subst, ⊎-elim, inl, inr, Bool, true, List, _++_, ℕ, _≤_, _<_, suc, le-antisymm, T, eqb, eqb→eq, length, getD, take-length, arith, eq-eqb}
 use Rattle.base_lists.specs.List.{Occurs, Below}
 use Rattle.base_lists.proofs.Tests.{true-T, any-at, at-any}
-use Rattle.base_lists.proofs.Tables.{getD-tabulate}
 use Rattle.graph.specs.Bfs.{SearchState, bfs, adjacent, Found as Searched}
 use Rattle.graph.specs.Circuit.{Circuit, HasLink}
 use Rattle.graph.specs.Graph.{Walk, stay, step}

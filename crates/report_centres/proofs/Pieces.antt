@@ -1,5 +1,5 @@
 -- The last line after the lines of the centres, and nothing after that. Assumes nothing.
-use Rattle.base_lists.specs.Kit.{_≡_, _∙_, refl, Bool, false, true, cond, _&&_, List, [], _++_, append-nil, ℕ, _≤_, _<_, _+_, _-_, suc, zero-add, add-one, eqb, leb, le→leb, leb→le, length, length-append, arith, eq-eqb, ne-eqb, le-ltb, leb-true, and-false}
+use Rattle.base_lists.specs.Kit.{_≡_, _∙_, refl, Bool, false, true, cond, List, [], _++_, append-nil, ℕ, _≤_, _<_, _+_, _-_, suc, zero-add, add-one, eqb, leb, le→leb, leb→le, length, length-append, arith, eq-eqb, ne-eqb, le-ltb, leb-true, and-false}
 use Rattle.base_lists.proofs.Tests.{both-right, true-T, same-test}
 use Rattle.base_text.specs.Text.{Put}
 use Rattle.base_text.proofs.Text.{put-nothing, put-then, put-same, put-length}

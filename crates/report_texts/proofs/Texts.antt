@@ -1,6 +1,6 @@
 -- Laws of a line's two parts, and of text that stands in a buffer: it stays where later text is put after it, and what was put is found there again. Assumes
 -- nothing.
-use Rattle.base_lists.specs.Kit.{_≡_, _∙_, sym, ap, refl, ap₂, List, [], _∷_, _++_, append-assoc, ℕ, _≤_, _<_, _+_, _-_, length, getD, length-append, sets, arith, getD-append-add}
+use Rattle.base_lists.specs.Kit.{_≡_, _∙_, sym, ap, refl, ap₂, List, _++_, append-assoc, ℕ, _≤_, _<_, _+_, _-_, length, getD, length-append, sets, arith, getD-append-add}
 use Rattle.base_lists.specs.List.{part}
 use Rattle.base_lists.proofs.Tables.{is-tabulate, tabulate-same, getD-sets-before, getD-sets}
 use Rattle.base_lists.proofs.Concat.{concatBelow-same}

@@ -1,6 +1,6 @@
 -- Striking node by node leads to the row's last table: the next set of a node by masks and moves is that of the row, a table to begin with stays one,
 -- and a node none of whose neighbours changed keeps its set. Assumes nothing.
-use Rattle.base_lists.specs.Kit.{_≡_, _∙_, sym, ap, refl, subst, ap₂, _↔_, ⊎-elim, _⊎_, inl, inr, Bool, false, true, _&&_, and-true, List, [], _∷_, ℕ, _≤_, _<_, _*_, T, eqb, ltb, length, getD, set, length-set, getD-set-other, getD-set-same, set-out, eqb-true, ltb-false, eqb-false, ltb-true}
+use Rattle.base_lists.specs.Kit.{_≡_, _∙_, sym, ap, refl, subst, ap₂, _↔_, ⊎-elim, _⊎_, inl, inr, Bool, false, true, _&&_, and-true, List, ℕ, _≤_, _<_, _*_, T, eqb, ltb, length, getD, set, length-set, getD-set-other, getD-set-same, set-out, eqb-true, ltb-false, eqb-false, ltb-true}
 use Rattle.base_lists.specs.List.{Occurs}
 use Rattle.base_lists.proofs.Tables.{is-tabulate, getD-tabulate}
 use Rattle.base_lists.proofs.Tests.{any-at, at-any, same-test, T-false, false-T}

@@ -1,5 +1,5 @@
 -- A table has each of its parts at some node exactly when the union of its sets has as many parts. Assumes nothing.
-use Rattle.base_lists.specs.Kit.{_≡_, _∙_, sym, ap, Bool, _&&_, _||_, List, [], _∷_, ℕ, _≤_, _<_, _+_, suc, zero, _^_, eqb, length, getD, replicate, eq-eqb, ne-eqb}
+use Rattle.base_lists.specs.Kit.{_≡_, _∙_, sym, ap, Bool, _||_, List, [], _∷_, ℕ, _≤_, _<_, suc, zero, _^_, eqb, length, getD, replicate, eq-eqb, ne-eqb}
 use lib.Bits.{or-lt}
 use lib.Pow.{pow-pos}
 use Rattle.base_lists.specs.List.{anyBelow}

@@ -1,11 +1,10 @@
 -- The graph H presented in different ways: a board is itself with every node taken, and the row depends on H alone. Assumes nothing.
-use Rattle.base_lists.specs.Kit.{_≡_, Iff·rfl, ℕ, _≤_, _<_, length}
+use Rattle.base_lists.specs.Kit.{Iff·rfl, ℕ, _≤_, _<_, length}
 use Rattle.base_lists.proofs.Tables.{getD-tabulate}
 use Rattle.graph.specs.Circuit.{Circuit, graphOf, circuitGraph}
 use Rattle.graph.specs.Graph.{Connected}
 use Rattle.graph.specs.Search.{inside}
 use Rattle.graph.proofs.Ball.{Within}
-use Rattle.simulation.specs.Closed.{_⊆_}
 use Rattle.simulation.specs.Simulation.{Largest}
 use Rattle.simulation.specs.Perfect.{SameGraph}
 use Rattle.simulation.specs.Quotient.{LinksJoin}

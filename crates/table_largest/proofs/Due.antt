@@ -1,5 +1,5 @@
 -- Only what may change is looked at: a node none of whose neighbours changed keeps its set. Assumes nothing.
-use Rattle.base_lists.specs.Kit.{_≡_, _∙_, sym, ap, refl, subst, ap₂, _⊎_, inl, inr, Bool, false, true, cond, not, List, [], _∷_, ℕ, _<_, _^_, T, eqb, length, getD, eqb-true, eqb-false}
+use Rattle.base_lists.specs.Kit.{_≡_, _∙_, sym, ap, refl, subst, ap₂, _⊎_, inl, inr, Bool, false, true, cond, not, List, ℕ, _<_, _^_, T, eqb, length, getD, eqb-true, eqb-false}
 use Rattle.base_lists.specs.List.{Occurs, Below}
 use Rattle.base_lists.proofs.Tests.{true-T, false-T, both-right}
 use Rattle.base_lists.proofs.Tables.{length-tabulate, getD-tabulate, is-tabulate}

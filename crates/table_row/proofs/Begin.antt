@@ -1,6 +1,6 @@
 -- Striking may begin with any table between the last one and the agreement: it comes to the same last set. Such a table is had from the
 -- last one of a problem that asks no more. Assumes nothing.
-use Rattle.base_lists.specs.Kit.{_≡_, _∙_, sym, _&&_, List, ℕ, _≤_, suc, zero, lt-of-le-of-lt, length, getD, arith}
+use Rattle.base_lists.specs.Kit.{_≡_, _∙_, sym, List, ℕ, _≤_, suc, zero, lt-of-le-of-lt, length, getD, arith}
 use Rattle.base_bits.proofs.Numbers.{subset-le}
 use Rattle.simulation.specs.Closed.{_⊆_, Refine}
 use Rattle.table_row.specs.Problem.{Problem, Agreeing, MoveOf, withMoves}

@@ -1,5 +1,5 @@
 -- Tables of sets of parts: which pairs they hold, when two are equal, and how many pairs they have. Assumes nothing.
-use Rattle.base_lists.specs.Kit.{_≡_, _∙_, sym, ap, refl, subst, ap₂, _↔_, ⊎-elim, _⊎_, inl, inr, Bool, _&&_, List, [], _∷_, map, ℕ, _≤_, _<_, _+_, suc, zero, _^_, not-suc-le-zero, lt-of-lt-of-le, lt-of-not-le, T, length, getD, List·getD-eq-default, length-map, ext-getD, arith}
+use Rattle.base_lists.specs.Kit.{_≡_, _∙_, sym, ap, refl, subst, ap₂, _↔_, ⊎-elim, _⊎_, inl, inr, Bool, List, [], _∷_, map, ℕ, _≤_, _<_, _+_, suc, zero, _^_, not-suc-le-zero, lt-of-lt-of-le, lt-of-not-le, T, length, getD, List·getD-eq-default, length-map, ext-getD, arith}
 use native.Mathlib.Decide.{decLt}
 use lib.Count.{ones}
 use lib.Pow.{pow-pos, pow-mono}

@@ -1,6 +1,6 @@
 -- What a problem and its tables say: how a problem is read as an agreement, steps and moves of any kind; when one problem asks no more
 -- than another; and with which tables striking may begin.
-use Rattle.base_lists.specs.Kit.{_≡_, _↔_, _&&_, List, ℕ, _<_, _^_, T, length, getD}
+use Rattle.base_lists.specs.Kit.{_≡_, _↔_, List, ℕ, _<_, _^_, T, length, getD}
 use Rattle.simulation.specs.Closed.{Relation, _⊆_, Closed, Occurring}
 use Rattle.table_row.specs.Problem.{Problem, Way, Agreeing, StepOf, MoveOf}
 use Rattle.table_row.specs.Row.{inTable, startOf, lastOf}

@@ -1,5 +1,5 @@
 -- Laws of the parts of a set whose links all have partners: what `surviving` keeps, and the next set of a node. Assumes nothing.
-use Rattle.base_lists.specs.Kit.{_≡_, _∙_, sym, ap, refl, ap₂, Bool, false, true, cond, _&&_, _||_, and-false, List, [], _∷_, ℕ, _≤_, _<_, _+_, suc, zero, _^_, not-suc-le-zero, T, eqb, length, getD, arith, eq-eqb, eqb-true}
+use Rattle.base_lists.specs.Kit.{_≡_, _∙_, sym, ap, refl, ap₂, Bool, false, true, cond, _&&_, and-false, List, [], _∷_, ℕ, _≤_, _<_, _+_, suc, zero, _^_, not-suc-le-zero, T, eqb, length, getD, arith, eq-eqb, eqb-true}
 use lib.Bits.{bitOr, or-zero-r}
 use borrow.Author.Count.{below-more}
 use Rattle.base_lists.specs.List.{all}

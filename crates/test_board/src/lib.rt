@@ -69,7 +69,14 @@ fn draw_all(s: u32, k: usize, count: usize, out: &mut [u16]) -> u32
 }
 
 // The kinds of a test board's n nodes, below k, and then m times a start and an end, below n.
-pub fn draw_test_board(seed: u32, n: usize, m: usize, k: usize, kinds: &mut [u16], pairs: &mut [u16])
+pub fn draw_test_board(
+    seed: u32,
+    n: usize,
+    m: usize,
+    k: usize,
+    kinds: &mut [u16],
+    pairs: &mut [u16],
+)
     requires { ⌜ (0 < n) × (0 < k) × (n ≤ length (now kinds)) × (2 * m ≤ length (now pairs)) ⌝ }
     ensures { λ r. ⌜ now (kinds .exit) ≡ kindsDrawn seed n k ++ drop n (now (kinds .entry)) ⌝ }
     ensures { λ r. ⌜ now (pairs .exit) ≡ pairsDrawn seed n m ++ drop (2 * m) (now (pairs .entry)) ⌝ }

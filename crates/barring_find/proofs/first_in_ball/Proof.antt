@@ -1,6 +1,6 @@
 -- `barring_find::first_in_ball` meets its contract: the nodes that the search lists are the ball, and the table has the pairs that agree at them.
 -- Assumes nothing.
-use Rattle.base_lists.specs.Kit.{_∙_, sym, ℕ, _≤_, length, length-take-le, needs}
+use Rattle.base_lists.specs.Kit.{_∙_, sym, _≤_, length, length-take-le, needs}
 use Rattle.barring_find.proofs.Tried.{written-at}
 use Rattle.barring_find.proofs.Netted.{netted-net, netted-short, netted-list, netted-ball}
 use Rattle.barring_find.proofs.first_in_ball.Statement.{statement}

@@ -1,5 +1,5 @@
 -- `bounded_prepare::bound_masks` meets its contract: the two halves of the masks. Assumes nothing.
-use Rattle.base_lists.specs.Kit.{now, _≡_, _∙_, sym, _++_, ℕ, length, length-take-le, needs}
+use Rattle.base_lists.specs.Kit.{now, _≡_, _∙_, sym, length, length-take-le, needs}
 use Rattle.bounded_prepare.proofs.Halves.{bound-masked, half, half-2}
 use Rattle.bounded_prepare.proofs.bound_masks.Statement.{statement}
 use Rattle.bounded_prepare.proofs.bound_masks.Tie as tie

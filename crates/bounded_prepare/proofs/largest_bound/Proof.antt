@@ -1,6 +1,6 @@
 -- `bounded_prepare::largest_bound` meets its contract. The loop's invariant: no bound so far is larger than `top`, which is from 1 to 4. The
 -- measure is how many are left. Assumes nothing.
-use Rattle.base_lists.specs.Kit.{now, _≡_, ⊎-elim, ℕ, _≤_, _<_, _-_, not-suc-le-zero, length, getD, arith, needs}
+use Rattle.base_lists.specs.Kit.{now, ⊎-elim, ℕ, _≤_, _<_, _-_, not-suc-le-zero, length, getD, arith, needs}
 use borrow.Author.Count.{below-more}
 use Rattle.bounded_prepare.proofs.largest_bound.Statement.{statement}
 use Rattle.bounded_prepare.proofs.largest_bound.Tie as tie

@@ -1,5 +1,5 @@
 -- `bounded_prepare::way_masks` meets its contract. Assumes nothing.
-use Rattle.base_lists.specs.Kit.{now, _≡_, _∙_, ap₂, List, ℕ, needs}
+use Rattle.base_lists.specs.Kit.{now, _∙_, ap₂, List, ℕ, needs}
 use Rattle.table.specs.Prepared.{masksOf}
 use Rattle.bounded_prepare.proofs.Keys.{keyed-below}
 use Rattle.bounded_prepare.proofs.way_masks.Statement.{statement}

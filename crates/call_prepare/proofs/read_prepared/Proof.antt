@@ -1,6 +1,6 @@
 -- `call_prepare::read_prepared` meets its contract: a file is refused, or what is prepared is of the two circuits that were read. Assumes nothing.
 use denote.Ref.{now}
-use mathlib.Core.Path.{sym, _∙_}
+use mathlib.Core.Path.{sym}
 use native.Mathlib.Omega.{arith}
 use borrow.Author.Needs.{needs}
 use Rattle.graph.specs.Circuit.{Circuit}

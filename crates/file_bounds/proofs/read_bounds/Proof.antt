@@ -1,5 +1,5 @@
 -- `file_bounds::read_bounds` meets its contract: what is stored is what is tested. Assumes nothing.
-use Rattle.base_lists.specs.Kit.{_≡_, _∙_, sym, ap, length-take-le, arith, needs}
+use Rattle.base_lists.specs.Kit.{_∙_, sym, ap, length-take-le, arith, needs}
 use Rattle.file_format.proofs.Fields.{stored-prefix}
 use Rattle.file_bounds.specs.Third.{boundsFit}
 use Rattle.file_bounds.proofs.read_bounds.Statement.{statement}

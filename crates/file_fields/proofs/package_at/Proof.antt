@@ -1,5 +1,5 @@
 -- `file_fields::package_at` meets its contract: there is no such field, or it is the i-th. Assumes nothing.
-use Rattle.base_lists.specs.Kit.{now, _≡_, _∙_, sym, ℕ, _≤_, length, List·getD-eq-default, arith, needs}
+use Rattle.base_lists.specs.Kit.{now, _∙_, sym, _≤_, length, List·getD-eq-default, arith, needs}
 use Rattle.file_format.specs.Layout.{fields}
 use Rattle.file_format.proofs.Fields.{length-fields, getD-fields}
 use Rattle.file_fields.proofs.package_at.Statement.{statement}

@@ -1,5 +1,5 @@
 -- `finder::load` meets its contract: no more bytes are held than the buffer has. Assumes nothing.
-use Rattle.base_lists.specs.Kit.{_≡_, sym, List, ℕ, _≤_, length, length-take-le, arith, needs}
+use Rattle.base_lists.specs.Kit.{sym, List, ℕ, length, length-take-le, arith, needs}
 use Rattle.io.specs.Counts.{Counts}
 use Rattle.input.specs.declared.FileFound.{FileFound}
 use Rattle.input.specs.declared.FileFound.the-variants as found

@@ -1,6 +1,6 @@
 -- `graph_search::advance` meets its contract. The loop's invariant: the search has gone on (proofs/Onward) to the state that the tables stand for. The measure is how
 -- many levels and how many nodes are left. Assumes nothing.
-use Rattle.base_lists.specs.Kit.{now, _≡_, _∙_, sym, ap, refl, ℕ, _≤_, _<_, _+_, _-_, length, getD-take, arith, needs}
+use Rattle.base_lists.specs.Kit.{now, _≡_, _∙_, sym, ap, refl, _≤_, _<_, _+_, _-_, length, getD-take, arith, needs}
 use Rattle.graph.specs.Bfs.{SearchState, adjacent, stateOf, Searching}
 use Rattle.graph.proofs.BfsSteps.{tail-le, reached-length, queue-node}
 use Rattle.graph.proofs.Net.{net-few}

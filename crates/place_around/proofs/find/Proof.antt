@@ -1,6 +1,6 @@
 -- `place_around::find` meets its contract: the rounds end with the ball's table, and where the centre is left in it the search finds its
 -- component. Assumes nothing.
-use Rattle.base_lists.specs.Kit.{_≡_, _∙_, sym, _<_, length, length-take-le, arith, needs}
+use Rattle.base_lists.specs.Kit.{_∙_, sym, _<_, length, length-take-le, arith, needs}
 use Rattle.table.specs.Row.{bothWays}
 use Rattle.graph.proofs.Net.{net-few}
 use Rattle.place.proofs.Find.{tabled-joins, tabled-net, sought-known, sought-long, sets-ready, found-nothing, found-place}

@@ -1,5 +1,5 @@
 -- `place_mark::mark` meets its contract: each table by its own function. Assumes nothing.
-use Rattle.base_lists.specs.Kit.{now, _≡_, _∙_, ap, ℕ, getD, needs}
+use Rattle.base_lists.specs.Kit.{now, _∙_, ap, ℕ, getD, needs}
 use Rattle.table.specs.Fill.{marksOf, tableAt}
 use Rattle.place_mark.proofs.mark.Statement.{statement}
 use Rattle.place_mark.proofs.mark.Tie as tie

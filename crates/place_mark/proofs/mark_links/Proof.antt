@@ -1,6 +1,6 @@
 -- `place_mark::mark_links` meets its contract. The loop's invariant: marking the links of the nodes that are left leads to the bytes with all of
 -- them. The measure is how many are left. Assumes nothing.
-use Rattle.base_lists.specs.Kit.{now, _≡_, _∙_, sym, ap, refl, _≤_, _<_, _-_, length, drop, arith, needs}
+use Rattle.base_lists.specs.Kit.{now, _≡_, _∙_, sym, ap, refl, _≤_, _-_, length, drop, arith, needs}
 use Rattle.base_lists.specs.List.{Below}
 use Rattle.table.specs.Prepared.{tables, Tables}
 use Rattle.place.specs.Bytes.{markStarts}

@@ -1,6 +1,6 @@
 -- `place_mark::mark_nodes` meets its contract. The loop's invariant: writing at the nodes that are left leads to the table with all of them. The
 -- measure is how many are left. Assumes nothing.
-use Rattle.base_lists.specs.Kit.{now, _≡_, _∙_, sym, refl, _≤_, _<_, _-_, length, drop, length-set, arith, needs}
+use Rattle.base_lists.specs.Kit.{now, _≡_, _∙_, sym, refl, _≤_, _-_, length, drop, length-set, arith, needs}
 use Rattle.base_lists.specs.List.{Below}
 use Rattle.table.specs.Fill.{fillAt}
 use Rattle.place_mark.proofs.Marks.{fill-next, fill-end, ones-marks}

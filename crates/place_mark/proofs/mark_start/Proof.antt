@@ -1,5 +1,5 @@
 -- `place_mark::mark_start` meets its contract: the node's links are the stretch of the bytes between its two offsets. Assumes nothing.
-use Rattle.base_lists.specs.Kit.{now, _≡_, _∙_, sym, _≤_, _+_, _-_, length, getD, drop, length-drop, length-take-le, arith, needs}
+use Rattle.base_lists.specs.Kit.{now, _≡_, sym, _≤_, _+_, _-_, length, getD, drop, length-drop, length-take-le, arith, needs}
 use Rattle.graph_neighbours.specs.Lookup.{neighboursIn}
 use Rattle.graph_neighbours.proofs.Lookup.{neighbours-below}
 use Rattle.graph.proofs.Net.{net-few}

@@ -1,5 +1,5 @@
 -- `report_centres::put_new` meets its contract: nothing where there is no place around the centre, else the line of the place. Assumes nothing.
-use Rattle.base_lists.specs.Kit.{now, _≡_, _∙_, sym, ℕ, _≤_, length, length-take-le, arith, needs, not-false, not-true}
+use Rattle.base_lists.specs.Kit.{now, _≡_, _∙_, sym, _≤_, length, length-take-le, arith, needs, not-false, not-true}
 use Rattle.base_text.proofs.Text.{put-nothing, put-same, fits-same}
 use Rattle.graph.specs.Circuit.{Circuit}
 use Rattle.table.specs.Prepared.{tables}

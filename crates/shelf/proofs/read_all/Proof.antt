@@ -1,6 +1,6 @@
 -- `shelf::read_all` meets its contract. The loop's invariant: the files before the i-th are there, and their bytes end at the place. Assumes nothing.
 use mathlib.Core.Path.{_≡_, refl, sym, ap, _∙_}
-use Prim.Native.Nat.{_+_, _*_, _-_, _<_, _≤_}
+use Prim.Native.Nat.{_*_, _-_, _<_, _≤_}
 use native.Mathlib.Omega.{arith}
 use lib.ListN.{length}
 use Rattle.shelf.specs.declared.Next.{Next}

@@ -1,6 +1,6 @@
 -- `table_largest::refine` meets its contract: the list of nodes has each node that changes, and what the rounds settle at is the end of the row.
 -- Assumes nothing.
-use Rattle.base_lists.specs.Kit.{now, _≡_, sym, _∷_, ℕ, _≤_, length, length-take-le, needs}
+use Rattle.base_lists.specs.Kit.{now, sym, _≤_, length, length-take-le, needs}
 use Rattle.base_lists.proofs.Parts.{take-replicate}
 use Rattle.graph.specs.Search.{far}
 use Rattle.graph.proofs.Net.{net-of, net-few}

@@ -1,6 +1,6 @@
 -- `barring_find::dropping::drop_links` meets its contract. The loop's invariant: the links before i are gone through, and what is left to do comes to
 -- the kept links. The measure is how many are left. Assumes nothing.
-use Rattle.base_lists.specs.Kit.{_≡_, _∙_, refl, ⊎-elim, ℕ, _-_, length, length-set, arith, needs, not-false, not-true}
+use Rattle.base_lists.specs.Kit.{_≡_, _∙_, refl, ⊎-elim, _-_, length, length-set, arith, needs, not-false, not-true}
 use Rattle.barring_find.proofs.Drops.{Dropping, dropping-all, dropping-drop, dropping-keep, dropping-end}
 use Rattle.barring_find.proofs.dropping.drop_links.Statement.{statement}
 use Rattle.barring_find.proofs.dropping.drop_links.Tie as tie

@@ -1,6 +1,6 @@
 -- `barring_find::trial::bars` meets its contract: with the masks of the chosen links the centre is in no pair that is left exactly where they
 -- bar. Assumes nothing.
-use Rattle.base_lists.specs.Kit.{now, _≡_, _∙_, sym, refl, subst, ℕ, _≤_, _<_, length, length-take-le, needs}
+use Rattle.base_lists.specs.Kit.{now, _∙_, sym, refl, subst, ℕ, _≤_, _<_, length, length-take-le, needs}
 use Rattle.barring_find.proofs.Tried.{tried-starts, tried-ends, tried-long, tried-begun, tried-bars}
 use Rattle.barring_find.proofs.trial.bars.Statement.{statement}
 use Rattle.barring_find.proofs.trial.bars.Tie as tie

@@ -1,6 +1,6 @@
 -- `barring_find::trial::chosen_masks` meets its contract: the chosen starts and ends stand at the front of two lists, and the masks are made of
 -- these. Assumes nothing.
-use Rattle.base_lists.specs.Kit.{now, _≡_, _∙_, sym, ap, subst, ℕ, _≤_, length, take, length-take-le, needs}
+use Rattle.base_lists.specs.Kit.{now, _≡_, _∙_, sym, ap, subst, _≤_, length, take, length-take-le, needs}
 use Rattle.base_lists.specs.List.{Below}
 use Rattle.graph.specs.Chosen.{picked}
 use Rattle.graph.proofs.Chosen.{picked-parallel, picked-below}

@@ -1,6 +1,6 @@
 -- `barring_find::trial::chosen_of` meets its contract: the entries are copied, and of the copy the marked ones are moved to the front. Assumes
 -- nothing.
-use Rattle.base_lists.specs.Kit.{now, _≡_, _∙_, sym, ap, _++_, ℕ, _≤_, length, take, length-take-le, take-at, take-append-le, arith, needs}
+use Rattle.base_lists.specs.Kit.{now, _≡_, _∙_, sym, ap, _≤_, length, take, length-take-le, take-at, take-append-le, arith, needs}
 use Rattle.base_lists.proofs.Parts.{length-append-le}
 use Rattle.graph.specs.Chosen.{picked}
 use Rattle.barring_find.proofs.trial.chosen_of.Statement.{statement}

@@ -1,6 +1,6 @@
 -- `bounded_strike::round::count` meets its contract. The loop's invariant: the sum so far, with the pairs of the sets that are left, is the
 -- number of pairs. The measure is how many are left. Assumes nothing.
-use Rattle.base_lists.specs.Kit.{now, _≡_, _∙_, ℕ, _≤_, _<_, _+_, _-_, _*_, length, getD, drop, arith, needs}
+use Rattle.base_lists.specs.Kit.{now, _≡_, _≤_, _+_, _-_, length, getD, drop, arith, needs}
 use Rattle.base_bits.proofs.Counts.{size-le}
 use Rattle.table.specs.Row.{pairs}
 use Rattle.table.proofs.Pairs.{pairs-le}

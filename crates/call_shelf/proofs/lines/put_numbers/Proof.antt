@@ -1,5 +1,5 @@
 -- `call_shelf::lines::put_numbers` meets its contract. The loop's invariant: the lines of the first i numbers are written. Assumes nothing.
-use Rattle.base_lists.specs.Kit.{now, _≡_, ap, _≤_, _+_, _-_, length, take, take-all, arith}
+use Rattle.base_lists.specs.Kit.{now, ap, _≤_, _-_, length, take, take-all, arith}
 use Rattle.base_text.specs.Text.{Put}
 use Rattle.base_text.proofs.Text.{put-nothing, put-then, put-same, put-length, fits-then}
 use Rattle.call_shelf.specs.Text.{shelfText}

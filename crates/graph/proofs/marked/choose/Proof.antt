@@ -1,5 +1,5 @@
 -- `graph::marked::choose` meets its contract: the chosen ones of the entries passed stand in front. Assumes nothing.
-use Rattle.base_lists.specs.Kit.{⊎-elim, ℕ, _≤_, _<_, _-_, length, arith, needs}
+use Rattle.base_lists.specs.Kit.{⊎-elim, _-_, length, arith, needs}
 use Rattle.graph.proofs.Choosing.{ChosenTo, chosen-none, chosen-one, chosen-other, chosen-all}
 use Rattle.graph.proofs.marked.choose.Statement.{statement}
 use Rattle.graph.proofs.marked.choose.Tie as tie

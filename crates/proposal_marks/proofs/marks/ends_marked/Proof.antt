@@ -1,5 +1,5 @@
 -- `proposal_marks::marks::ends_marked` meets its contract: the links passed have both ends marked, where they are marked. Assumes nothing.
-use Rattle.base_lists.specs.Kit.{_≡_, _∙_, sym, ⊎-elim, ℕ, _≤_, _<_, _-_, length, arith, needs, not-false, not-true}
+use Rattle.base_lists.specs.Kit.{_∙_, sym, ⊎-elim, ℕ, _≤_, _<_, _-_, length, arith, needs, not-false, not-true}
 use borrow.Author.Count.{below-more}
 use Rattle.base_lists.specs.List.{Below}
 use Rattle.proposal_marks.proofs.Tests.{EndsAt, ends-true, ends-false}
