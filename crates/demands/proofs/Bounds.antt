@@ -4,7 +4,7 @@ use Rattle.base_lists.proofs.Tests.{true-T}
 use Rattle.base_lists.proofs.Tables.{replicate-tabulate}
 use Rattle.graph.specs.Circuit.{Circuit}
 use Rattle.file_format.specs.Circuit.{circuitOf}
-use Rattle.file_format.specs.Layout.{nodesOf}
+use Rattle.file_format.specs.Layout.{CircuitFile, nodesOf}
 use Rattle.file_format.specs.Refusals.{accept, first}
 use Rattle.file_format.proofs.Fields.{length-labels}
 use Rattle.file_format.proofs.Refusals.{accepted-verdict}

@@ -1,5 +1,5 @@
 -- The search for the component: its steps on tables, and that what it reaches is what walks join to the centre. Assumes nothing.
-use Rattle.base_lists.specs.Kit.{_≡_, _∙_, sym, ap, refl, subst, _↔_, ⊎-elim, inl, inr, Bool, false, true, _&&_, not, List, ℕ, _≤_, _<_, _+_, suc, zero, suc-le-suc, le-refl, le-of-suc-le-suc, le-step, eq-or-lt-of-le, not-le-of-lt, min-le-right, T, length, getD, take, drop, length-take, arith}
+use Rattle.base_lists.specs.Kit.{_≡_, _∙_, sym, ap, refl, subst, _↔_, ⊎-elim, inl, inr, Bool, false, true, _&&_, not, List, ℕ, _≤_, _<_, _+_, suc, zero, suc-le-suc, le-refl, le-of-suc-le-suc, le-step, eq-or-lt-of-le, not-le-of-lt, min-le-right, T, T-not, length, getD, take, drop, length-take, arith}
 use Rattle.base_lists.specs.List.{Occurs, Below}
 use Rattle.base_lists.proofs.Tests.{both-true, both-left, both-right, true-T, lt-or-le}
 use Rattle.base_bits.specs.Bits.{unionOver}

@@ -48,7 +48,7 @@ bound-masks-requires c κs =
     let pattern = p .0 in
     let each = p .1 .0 in (
       (
-        record { some = each .some; most = each .most },
+        each .inside,
         below-wider _ 32 _ (pattern .nodes) (all-below _ _ (bounded-starts pattern)),
         below-wider _ 32 _ (pattern .nodes) (all-below _ _ (bounded-ends pattern)),
       ),
