@@ -1,15 +1,13 @@
 -- The kept links bar, and with any one or more of them taken away the rest does not. Where there is no place all links together bar, which is
 -- why the procedure can begin. Assumes nothing.
-use Rattle.base_lists.specs.Kit.{_≡_, _∙_, sym, ap, subst, _↔_, false, not, List, ℕ, _<_, zero-le, T, length, getD, set, length-replicate, getD-replicate, arith, eq-eqb, T-not, not-T}
-use Rattle.base_lists.proofs.Below.{countBelow-same, countBelow-none}
-use Rattle.base_lists.proofs.Tests.{true-T, T-false}
+use Rattle.base_lists.specs.Kit.{_≡_, _∙_, sym, ap, subst, _↔_, not, List, ℕ, _<_, zero-le, T, length, getD, set, length-replicate, getD-replicate, arith, eq-eqb, T-not, not-T}
+use Rattle.base_lists.proofs.Tests.{true-T}
 use Rattle.graph.specs.Chosen.{ChosenLink}
 use Rattle.graph.specs.Circuit.{Circuit, LinkAt, HasLink, graphOf, circuitGraph}
 use Rattle.graph.specs.Graph.{Graph, Radius}
 use Rattle.graph.specs.Search.{inside}
 use Rattle.graph.proofs.Chosen.{chosen-has, chosen-all}
 use Rattle.graph.proofs.Walks.{radius-unique}
-use Rattle.graph.proofs.Ball.{inside-below}
 use Rattle.simulation.specs.Closed.{Relation, _⊆_}
 use Rattle.simulation.proofs.Closed.{largest-closed-same}
 use Rattle.simulation.proofs.Simulation.{along-wider}
@@ -17,8 +15,8 @@ use Rattle.table.specs.Host.{KindsMatch}
 use Rattle.place.specs.Match.{found}
 use Rattle.place.proofs.Ball.{Admissible, ballGraph}
 use Rattle.barring.specs.Barring.{BarsIn, Bars}
-use Rattle.barring.specs.Least.{bars, allLinks, least, keptCount}
-use Rattle.barring.proofs.Meaning.{chosen-largest, bars-none, barring-more, bars-iff, bars-upward}
+use Rattle.barring.specs.Least.{bars, allLinks, least}
+use Rattle.barring.proofs.Meaning.{barring-more, bars-iff, bars-upward}
 use Rattle.barring.proofs.Procedure.{length-drop, drop-passes, drop-needed, without-other}
 
 -- the same links, said in another way
@@ -117,21 +115,6 @@ module _ {pattern board : Circuit} (a : Admissible pattern board) (w r : ℕ) wh
         (λ (p, q). gone (subst (λ (y : ℕ). L y u′) p (subst (λ (y : ℕ). L x y) q m)))
         (fewer x x′ m))
         b)
-
-    -- With a centre that no part agrees with nothing is kept: no link is needed to bar it.
-    pub none-kept : ((u : ℕ) → u < length (pattern .labels) → KindsMatch pattern board u w → ⊥) → (i : ℕ) → T (inside (least pattern board w r) i) → ⊥
-    unfolding circuitGraph graphOf
-    none-kept unlike i t =
-        let here : i < size = rw least-size at (inside-below (least pattern board w r) i t) in
-        let rest = set (least pattern board w r) i 0 in
-        without-one i here t
-        (bars-none pattern board (a .most) (a .links) w r rest .1
-        (λ u m. let c = chosen-largest pattern board (a .most) (a .links) w r rest .closed .agree u w m in unlike u (c .part) (c .kinds)))
-
-    pub none-count : ((u : ℕ) → u < length (pattern .labels) → KindsMatch pattern board u w → ⊥) → keptCount (least pattern board w r) ≡ 0
-    unfolding keptCount
-    none-count unlike =
-        countBelow-same (length (least pattern board w r)) (inside (least pattern board w r)) (λ i. false) (λ i h. T-false (none-kept unlike i)) ∙ countBelow-none (length (least pattern board w r))
 
 -- ---- at the full pattern's radius
 

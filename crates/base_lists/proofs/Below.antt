@@ -215,11 +215,6 @@ unfolding countBelow
 countBelow-all zero = refl
 countBelow-all (suc n) = omega (arith, countBelow-all n)
 
-pub countBelow-none : (n : ℕ) → countBelow n (λ i. false) ≡ 0
-unfolding countBelow
-countBelow-none zero = refl
-countBelow-none (suc n) = omega (arith, countBelow-none n)
-
 -- a test that passes below m and nowhere from m on counts m
 pub countBelow-first : (n m : ℕ) (p : ℕ → Bool) → m ≤ n → ((i : ℕ) → i < m → T (p i)) → ((i : ℕ) → m ≤ i → p i ≡ false) → countBelow n p ≡ m
 unfolding countBelow

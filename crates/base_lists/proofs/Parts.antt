@@ -94,10 +94,6 @@ part-tabulate at size n f h =
 
 -- ---- fronts
 
--- lists with the same first entries have the same entry there
-pub getD-take-same : (hi : ℕ) (xs ys : List ℕ) (i : ℕ) → take hi xs ≡ take hi ys → i < hi → getD xs i 0 ≡ getD (take hi ys) i 0
-getD-take-same hi xs ys i e h = sym (getD-take hi xs i 0 h) ∙ ap (λ (l : List ℕ). getD l i 0) e
-
 -- the front of a longer list that has the entries of a list
 pub length-append-room : (n : ℕ) (xs ys : List ℕ) → length xs ≡ n → n ≤ length (xs ++ ys)
 length-append-room n xs ys e = omega (arith, length-append xs ys)

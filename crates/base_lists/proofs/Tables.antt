@@ -1,5 +1,5 @@
 -- Laws of lists made from a rule. Assumes nothing.
-use Rattle.base_lists.specs.Kit.{_≡_, _∙_, sym, ap, refl, List, [], _∷_, _++_, append-nil, ℕ, _≤_, _<_, _+_, suc, zero, not-suc-le-zero, le-of-suc-le-suc, le-of-eq, zero-add, suc-add, add-one, length, getD, take, drop, set, length-append, length-drop, drop-of-length-le, take-at, drop-cons, ext-getD, set-at, append-snoc, arith, getD-drop, getD-append-add, drop-length, ap₂, subst, Bool, false, true, eqb, length-set, getD-set-other, getD-set-same, eqb-true, eqb-false, add-zero, add-suc, sets, replicate}
+use Rattle.base_lists.specs.Kit.{_≡_, _∙_, sym, ap, refl, List, [], _∷_, _++_, append-nil, ℕ, _≤_, _<_, _+_, suc, zero, not-suc-le-zero, le-of-suc-le-suc, le-of-eq, zero-add, suc-add, add-one, length, getD, drop, set, drop-of-length-le, drop-cons, ext-getD, set-at, append-snoc, arith, getD-drop, getD-append-add, drop-length, ap₂, subst, Bool, false, true, eqb, length-set, getD-set-other, getD-set-same, eqb-true, eqb-false, add-zero, add-suc, sets, replicate}
 use Rattle.base_lists.specs.List.{tabulate}
 
 pub length-tabulate : (n : ℕ) (f : ℕ → ℕ) → length (tabulate n f) ≡ n
@@ -62,12 +62,6 @@ filled-more n f d h =
 -- a list that fills another one whole leaves nothing of it
 pub stored-whole : (xs old : List ℕ) (k : ℕ) → length old ≡ k → xs ++ drop k old ≡ xs
 stored-whole xs old k e = ap (λ (l : List ℕ). xs ++ l) (drop-of-length-le old (le-of-eq e)) ∙ append-nil xs
-
--- what was put at the front of a list that keeps its length
-pub stored-take : (xs old l : List ℕ) (k : ℕ) → l ≡ xs ++ drop k old → length l ≡ length old → k ≤ length old → take k l ≡ xs
-stored-take xs old l k e kept h =
-    let size : length l ≡ length xs + length (drop k old) = ap length e ∙ length-append xs (drop k old) in
-    ap (take k) e ∙ take-at xs (drop k old) k (omega (arith, length-drop k old))
 
 -- ---- the next entry, and the end
 

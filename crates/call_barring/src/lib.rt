@@ -1,5 +1,5 @@
-// The call that finds the least of a pattern's links that still says that there is no place around a centre: a pattern
-// file, the board of another file and a centre.
+// The call that finds the least of a pattern's links that still says that there is no place around a centre: a pattern file, the board of another
+// file and a centre.
 use barring::BarAnswer;
 use barring_find::bar_circuits;
 use file_format::Board;
@@ -32,14 +32,9 @@ fn bar_on(
     out: &mut [u8],
 ) -> BarAnswer
     ghost { Circuit × Circuit }
-    requires { λ α. ⌜ (
-      circuit (now «part_labels») (now «part_starts») (now «part_ends»),
-      circuit (now «node_labels»)
-          (now «node_starts») (now «node_ends»),
-    ) ≡ α ⌝ }
+    requires { λ α. ⌜ (circuit (now «part_labels») (now «part_starts») (now «part_ends»), circuit (now «node_labels») (now «node_starts») (now «node_ends»)) ≡ α ⌝ }
     requires { λ α. ⌜ Bounded role.Pattern (α .0) × Bounded role.Board (α .1) ⌝ }
-    ensures { λ α a. ⌜ record { reply = barReply a; out = now (out .exit) }
-        ≡ barOn (asked .radius) (α .0) (α .1) (asked .centre) (now (out .entry)) ⌝ }
+    ensures { λ α a. ⌜ record { reply = barReply a; out = now (out .exit) } ≡ barOn (asked .radius) (α .0) (α .1) (asked .centre) (now (out .entry)) ⌝ }
 {
     let centre = asked.centre;
     if node_labels.len() <= centre {
@@ -63,8 +58,8 @@ fn bar_on(
     )
 }
 
-// The least of the pattern's links that still says that there is no place around the centre at the pattern's radius: a
-// byte per pattern link, 1 for kept, first in `out`, and how many are 1; or the refusal, which leaves `out` as it was.
+// The least of the pattern's links that still says that there is no place around the centre at the pattern's radius: a byte per pattern link, 1 for
+// kept, first in `out`, and how many are 1; or the refusal, which leaves `out` as it was.
 pub fn bar(
     editions: Editions,
     pattern: &[u8],
@@ -73,8 +68,7 @@ pub fn bar(
     out: &mut [u8],
 ) -> BarAnswer
     ensures { λ a. ⌜ record { reply = barReply a; out = now (out .exit) }
-        ≡ barCall (inEdition (editions .pattern) (now (pattern .entry)))
-        (inEdition (editions .board) (now (board .entry))) centre (now (out .entry)) ⌝ }
+        ≡ barCall (inEdition (editions .pattern) (now (pattern .entry))) (inEdition (editions .board) (now (board .entry))) centre (now (out .entry)) ⌝ }
 {
     let mut pk = [0u32; Pattern::MAX_NODES];
     let mut ps = [0u16; Pattern::MAX_LINKS];

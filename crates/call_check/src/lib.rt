@@ -1,5 +1,4 @@
-// The call that checks a place from elsewhere: a pattern file, a board file, a centre, a byte per node and a byte per
-// link.
+// The call that checks a place from elsewhere: a pattern file, a board file, a centre, a byte per node and a byte per link.
 use file_format::Board;
 use file_format::Editions;
 use file_format::File;
@@ -58,14 +57,9 @@ fn check_on(
     link_bytes: &[u8],
 ) -> CheckAnswer
     ghost { Circuit × Circuit }
-    requires { λ α. ⌜ (
-      circuit (now «part_labels») (now «part_starts») (now «part_ends»),
-      circuit (now «node_labels»)
-          (now «node_starts») (now «node_ends»),
-    ) ≡ α ⌝ }
+    requires { λ α. ⌜ (circuit (now «part_labels») (now «part_starts») (now «part_ends»), circuit (now «node_labels») (now «node_starts») (now «node_ends»)) ≡ α ⌝ }
     requires { λ α. ⌜ Drawn (α .0) (α .1) ⌝ }
-    ensures { λ α a. ⌜ checkReply a
-        ≡ checkOn (asked .radius) (α .0) (α .1) (asked .centre) (now (nodes .entry)) (now («link_bytes» .entry)) ⌝ }
+    ensures { λ α a. ⌜ checkReply a ≡ checkOn (asked .radius) (α .0) (α .1) (asked .centre) (now (nodes .entry)) (now («link_bytes» .entry)) ⌝ }
 {
     let n = node_labels.len();
     let centre = asked.centre;
@@ -104,9 +98,7 @@ pub fn check(
     nodes: &[u8],
     link_bytes: &[u8],
 ) -> CheckAnswer
-    ensures { λ a. ⌜ checkReply a
-        ≡ checkCall (inEdition (editions .pattern) (now (pattern .entry)))
-        (inEdition (editions .board) (now (board .entry))) centre (now (nodes .entry)) (now («link_bytes» .entry)) ⌝ }
+    ensures { λ a. ⌜ checkReply a ≡ checkCall (inEdition (editions .pattern) (now (pattern .entry))) (inEdition (editions .board) (now (board .entry))) centre (now (nodes .entry)) (now («link_bytes» .entry)) ⌝ }
 {
     let mut pk = [0u32; Pattern::MAX_NODES];
     let mut ps = [0u16; Pattern::MAX_LINKS];

@@ -1,5 +1,5 @@
-// What a file is told to be by who asks for it to be read, written or converted: a pattern or a board. That a pattern
-// need not be connected is a role of the calls on a whole board alone, and cannot be told.
+// What a file is told to be by who asks for it to be read, written or converted: a pattern or a board. That a pattern need not be connected is a role
+// of the calls on a whole board alone, and cannot be told.
 ghost use mathlib.Core.Path.{_≡_};
 ghost use Rattle.call_file.specs.Told.{asRole};
 use file_format::Role;

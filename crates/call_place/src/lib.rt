@@ -1,5 +1,4 @@
-// The place calls: a pattern file, the board of another file and a centre, at the pattern's radius or at a radius
-// given.
+// The place calls: a pattern file, the board of another file and a centre, at the pattern's radius or at a radius given.
 use call_prepare::Reading;
 use call_prepare::read_prepared;
 use file_format::Board;
@@ -94,8 +93,7 @@ struct Lengths {
 
 // Whether all four have what a board of n nodes and m links needs.
 fn roomy(n: usize, m: usize, lent: Lengths) -> bool
-    ensures { λ r. ⌜ first (roomConditions n m (lent .nodes) (lent .links) (lent .table) (lent .distances))
-        ≡ cond r accept (refuse tooShort) ⌝ }
+    ensures { λ r. ⌜ first (roomConditions n m (lent .nodes) (lent .links) (lent .table) (lent .distances)) ≡ cond r accept (refuse tooShort) ⌝ }
 {
     if lent.nodes < n {
         return false;
@@ -112,8 +110,8 @@ fn roomy(n: usize, m: usize, lent: Lengths) -> bool
     true
 }
 
-// The call on two circuits that were read and prepared. Everything is tested, and the place found, before anything is
-// written to the lent tables. The last offset is how many links the board has.
+// The call on two circuits that were read and prepared. Everything is tested, and the place found, before anything is written to the lent
+// tables. The last offset is how many links the board has.
 fn find_on(
     part_labels: &[u32],
     node_labels: &[u32],
@@ -127,18 +125,9 @@ fn find_on(
     distances: &mut [u16],
 ) -> PlaceAnswer
     requires { ⌜ SomeDrawn (now «part_labels») (now «node_labels») (tables (now masks) (now offsets) (now targets)) ⌝ }
-    ensures { λ a. ⌜ EveryDrawn (now («part_labels» .entry)) (now («node_labels» .entry))
-        (tables (now (masks .entry)) (now (offsets .entry)) (now (targets .entry)))
-        (record {
-          reply = placeReply a;
-          nodes = now (nodes .exit);
-          links = now («link_bytes» .exit);
-          table = now
-              (table .exit);
-          distances = now (distances .exit);
-        })
-        (λ pattern board. placeOn (asked .radius) pattern board (asked .centre) (now (nodes .entry))
-        (now («link_bytes» .entry)) (now (table .entry)) (now (distances .entry))) ⌝ }
+    ensures { λ a. ⌜ EveryDrawn (now («part_labels» .entry)) (now («node_labels» .entry)) (tables (now (masks .entry)) (now (offsets .entry)) (now (targets .entry)))
+        (record { reply = placeReply a; nodes = now (nodes .exit); links = now («link_bytes» .exit); table = now (table .exit); distances = now (distances .exit) })
+        (λ pattern board. placeOn (asked .radius) pattern board (asked .centre) (now (nodes .entry)) (now («link_bytes» .entry)) (now (table .entry)) (now (distances .entry))) ⌝ }
 {
     let n = node_labels.len();
     let m = offsets[n] as usize;
@@ -174,9 +163,9 @@ fn find_on(
     )
 }
 
-// The place around the centre, at the pattern's radius or at one given: the ball's four counts, with a byte per board
-// node and one per board link, 1 in the place and else 0, a set of parts per node, and each node's distance from the
-// centre, 65,535 outside the ball, at the front of the four tables; or the refusal, which leaves them as they were.
+// The place around the centre, at the pattern's radius or at one given: the ball's four counts, with a byte per board node and one per board link, 1 in
+// the place and else 0, a set of parts per node, and each node's distance from the centre, 65,535 outside the ball, at the front of the four
+// tables; or the refusal, which leaves them as they were.
 pub fn place(
     question: Question,
     pattern: &[u8],
@@ -186,18 +175,9 @@ pub fn place(
     table: &mut [u32],
     distances: &mut [u16],
 ) -> PlaceAnswer
-    ensures { λ a. ⌜ record {
-      reply = placeReply a;
-      nodes = now (nodes .exit);
-      links = now («link_bytes» .exit);
-      table =
-          now (table .exit);
-      distances = now (distances .exit);
-    }
-        ≡ placeAt (inEdition (question .editions .pattern) (now (pattern .entry)))
-        (inEdition (question .editions .board) (now (board .entry))) (question .centre)
-        (radiusFor (question .reach) (radiusOf (circuitOf (inEdition (question .editions .pattern)
-        (now (pattern .entry))))))
+    ensures { λ a. ⌜ record { reply = placeReply a; nodes = now (nodes .exit); links = now («link_bytes» .exit); table = now (table .exit); distances = now (distances .exit) }
+        ≡ placeAt (inEdition (question .editions .pattern) (now (pattern .entry))) (inEdition (question .editions .board) (now (board .entry))) (question .centre)
+        (radiusFor (question .reach) (radiusOf (circuitOf (inEdition (question .editions .pattern) (now (pattern .entry))))))
         (now (nodes .entry)) (now («link_bytes» .entry)) (now (table .entry)) (now (distances .entry)) ⌝ }
 {
     let mut pk = [0u32; Pattern::MAX_NODES];

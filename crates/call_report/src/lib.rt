@@ -81,8 +81,7 @@ fn put_refused(x: Refusal, from: usize, found: u16, out: &mut [u8]) -> PutPiece
 
 // What the call comes to where a file is refused.
 fn answer_refused(x: Refusal, from: usize, found: u16, out: &mut [u8]) -> ReportAnswer
-    ensures { λ a. ⌜ record { reply = reportReply a; out = now (out .exit) }
-        ≡ outcomeFor longestRefusal (refusalPiece x from found) (now (out .entry)) ⌝ }
+    ensures { λ a. ⌜ record { reply = reportReply a; out = now (out .exit) } ≡ outcomeFor longestRefusal (refusalPiece x from found) (now (out .entry)) ⌝ }
 {
     if out.len() < LONGEST_REFUSAL {
         return too_short();
@@ -92,8 +91,7 @@ fn answer_refused(x: Refusal, from: usize, found: u16, out: &mut [u8]) -> Report
 
 // What the call comes to by the verdict on the two files alone.
 fn answer_by(verdict: FileVerdict, from: usize, found: u16, out: &mut [u8]) -> ReportAnswer
-    ensures { λ a. ⌜ record { reply = reportReply a; out = now (out .exit) }
-        ≡ outcomeBy verdict from found (now (out .entry)) ⌝ }
+    ensures { λ a. ⌜ record { reply = reportReply a; out = now (out .exit) } ≡ outcomeBy verdict from found (now (out .entry)) ⌝ }
 {
     match verdict {
         FileVerdict::Accepted => ReportAnswer::Put(put_nothing(from, found)),
@@ -113,11 +111,8 @@ fn put_lines(
     out: &mut [u8],
 ) -> PutPiece
     requires { ⌜ SourceOfSome (tables (now masks) (now offsets) (now targets)) (now whole) (resume .radius) ⌝ }
-    requires { ⌜ Components (length (now whole)) (matched (tables (now masks) (now offsets) (now targets)) (now whole))
-        (now whole) (now «component_of») (now sizes) ⌝ }
-    ensures { λ p. ⌜ EveryWrote (tables (now (masks .entry)) (now (offsets .entry)) (now (targets .entry)))
-        (now (whole .entry)) (resume .radius) (λ pattern board. linesPiece pattern board (resume .from) (resume .found)
-        (length (now (out .entry)))) (now (out .entry)) (now (out .exit)) p ⌝ }
+    requires { ⌜ Components (length (now whole)) (matched (tables (now masks) (now offsets) (now targets)) (now whole)) (now whole) (now «component_of») (now sizes) ⌝ }
+    ensures { λ p. ⌜ EveryWrote (tables (now (masks .entry)) (now (offsets .entry)) (now (targets .entry))) (now (whole .entry)) (resume .radius) (λ pattern board. linesPiece pattern board (resume .from) (resume .found) (length (now (out .entry)))) (now (out .entry)) (now (out .exit)) p ⌝ }
 {
     let part = put_centres(
         masks,
@@ -132,9 +127,8 @@ fn put_lines(
     put_last(part, whole.len(), out)
 }
 
-// Opens two files for the pieces of their report from the centre `from` on: reads them, and leaves what the lines are
-// put from, the whole board's match table and its components among it, at the fronts of the tables. Past the last line
-// nothing is left to put, and nothing is matched.
+// Opens two files for the pieces of their report from the centre `from` on: reads them, and leaves what the lines are put from, the whole board's match
+// table and its components among it, at the fronts of the tables. Past the last line nothing is left to put, and nothing is matched.
 pub fn open(
     from: usize,
     editions: Editions,
@@ -149,9 +143,7 @@ pub fn open(
 ) -> Pair
     requires { ⌜ (length (now masks) ≡ 64) × NetRoom (now offsets) (now targets) ⌝ }
     requires { ⌜ (length (now whole) ≡ 512) × (length (now «component_of») ≡ 512) × (length (now sizes) ≡ 512) ⌝ }
-    ensures { λ r. ⌜ Opened from (inEdition (editions .pattern) (now (pattern .entry)))
-        (inEdition (editions .board) (now (board .entry))) r (tables (now (masks .exit)) (now (offsets .exit))
-        (now (targets .exit))) (now (whole .exit)) (now («component_of» .exit)) (now (sizes .exit)) ⌝ }
+    ensures { λ r. ⌜ Opened from (inEdition (editions .pattern) (now (pattern .entry))) (inEdition (editions .board) (now (board .entry))) r (tables (now (masks .exit)) (now (offsets .exit)) (now (targets .exit))) (now (whole .exit)) (now («component_of» .exit)) (now (sizes .exit)) ⌝ }
 {
     let mut pk = [0u32; Pattern::MAX_NODES];
     let mut nk = [0u32; Board::MAX_NODES];
@@ -205,11 +197,8 @@ pub fn put(
     found: u16,
     out: &mut [u8],
 ) -> ReportAnswer
-    requires { ⌜ SomeOpened from read (tables (now masks) (now offsets) (now targets)) (now whole) (now «component_of»)
-        (now sizes) ⌝ }
-    ensures { λ a. ⌜ EveryReported from found read (tables (now (masks .entry)) (now (offsets .entry))
-        (now (targets .entry))) (now (whole .entry)) (now («component_of» .entry)) (now (sizes .entry))
-        (now (out .entry)) (record { reply = reportReply a; out = now (out .exit) }) ⌝ }
+    requires { ⌜ SomeOpened from read (tables (now masks) (now offsets) (now targets)) (now whole) (now «component_of») (now sizes) ⌝ }
+    ensures { λ a. ⌜ EveryReported from found read (tables (now (masks .entry)) (now (offsets .entry)) (now (targets .entry))) (now (whole .entry)) (now («component_of» .entry)) (now (sizes .entry)) (now (out .entry)) (record { reply = reportReply a; out = now (out .exit) }) ⌝ }
 {
     let verdict = read.verdict;
     let FileVerdict::Accepted = verdict else {
@@ -239,10 +228,10 @@ pub fn put(
     ))
 }
 
-// A piece of the report, from the centre `from` on, before which `found` centres had a place, at the front of the
-// buffer: the lines of as many centres as there is room for, and the last line where the centres are done; the first
-// piece is from 0 with 0 found. Nothing is put exactly when the report is at its end. A buffer that is too short, for
-// the line of a refused file or for the longest line, is refused and left as it was.
+// A piece of the report, from the centre `from` on, before which `found` centres had a place, at the front of the buffer: the lines of as
+// many centres as there is room for, and the last line where the centres are done; the first piece is from 0 with 0 found. Nothing is put
+// exactly when the report is at its end. A buffer that is too short, for the line of a refused file or for the longest line, is refused and
+// left as it was.
 pub fn report(
     editions: Editions,
     pattern: &[u8],
@@ -252,8 +241,7 @@ pub fn report(
     out: &mut [u8],
 ) -> ReportAnswer
     ensures { λ a. ⌜ record { reply = reportReply a; out = now (out .exit) }
-        ≡ reporting (inEdition (editions .pattern) (now (pattern .entry)))
-        (inEdition (editions .board) (now (board .entry))) from found (now (out .entry)) ⌝ }
+        ≡ reporting (inEdition (editions .pattern) (now (pattern .entry))) (inEdition (editions .board) (now (board .entry))) from found (now (out .entry)) ⌝ }
 {
     let mut masks = [0u32; MASKS];
     let mut offsets = [0u16; OFFSETS];

@@ -76,8 +76,8 @@ fn refused_bounded(number: u8) -> FileRead
     }
 }
 
-// Reads a pattern file of the third edition, connected or not, into tables that have room for every one: the verdict;
-// and of an accepted file N and M, with the labels, the starts, the ends and the bounds at the front of the tables.
+// Reads a pattern file of the third edition, connected or not, into tables that have room for every one: the verdict; and of an accepted file
+// N and M, with the labels, the starts, the ends and the bounds at the front of the tables.
 pub fn load_bounded(
     file: &[u8],
     labels: &mut [u32],
@@ -87,8 +87,7 @@ pub fn load_bounded(
 ) -> FileRead
     requires { ⌜ TablesRoom role.AnyPattern (circuit (now labels) (now starts) (now ends)) ⌝ }
     requires { ⌜ 256 ≤ length (now bounds) ⌝ }
-    ensures { λ r. ⌜ BoundsLoaded (now (file .entry)) r (circuit (now (labels .exit)) (now (starts .exit))
-        (now (ends .exit))) (now (bounds .exit)) ⌝ }
+    ensures { λ r. ⌜ BoundsLoaded (now (file .entry)) r (circuit (now (labels .exit)) (now (starts .exit)) (now (ends .exit))) (now (bounds .exit)) ⌝ }
 {
     let number = size_number(file);
     if number != 0 {

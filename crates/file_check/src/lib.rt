@@ -77,8 +77,7 @@ pub fn size_number(role: Role, edition: Edition, file: &[u8]) -> u8
     0
 }
 
-// Each number is below n: the greatest is. There is one way out of the loop, so that the compiler looks at several
-// numbers at a time.
+// Each number is below n: the greatest is. There is one way out of the loop, so that the compiler looks at several numbers at a time.
 fn all_below(numbers: &[u16], n: usize) -> bool
     ensures { λ r. ⌜ r ≡ all (λ v. ltb v n) (now (numbers .entry)) ⌝ }
 {
@@ -104,8 +103,7 @@ fn number_of(start: u16, end: u16) -> u32
     start as u32 * 65536 + end as u32
 }
 
-// The links rise strictly: the number of each is below that of the next. Each is made once, and compared once with the
-// one before.
+// The links rise strictly: the number of each is below that of the next. Each is made once, and compared once with the one before.
 fn links_rise(starts: &[u16], ends: &[u16]) -> bool
     requires { ⌜ length (now starts) ≡ length (now ends) ⌝ }
     ensures { λ r. ⌜ r ≡ numbersRise (now (starts .entry)) (now (ends .entry)) ⌝ }
@@ -162,8 +160,8 @@ pub struct Links {
     pub radius: u16,
 }
 
-// The links of a circuit in a role, tested. One search finds whether a pattern is connected, and its radius, which
-// decides 11. Reading and writing both call it.
+// The links of a circuit in a role, tested. One search finds whether a pattern is connected, and its radius, which decides 11. Reading and
+// writing both call it.
 pub fn test_links(role: Role, n: usize, starts: &[u16], ends: &[u16]) -> Links
     requires { ⌜ T (inRange role n (length (now starts))) × (length (now starts) ≡ length (now ends)) ⌝ }
     ensures { λ r. ⌜ LinksTested role n (now (starts .entry)) (now (ends .entry)) (r .number) (r .radius) ⌝ }

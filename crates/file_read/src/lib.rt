@@ -37,10 +37,8 @@ fn fill_links(
 )
     requires { ⌜ length (now file) ≡ lengthOf edition n m ⌝ }
     requires { ⌜ (m ≤ length (now starts)) × (m ≤ length (now ends)) ⌝ }
-    ensures { λ r. ⌜ now (starts .exit)
-        ≡ fields (drop (startsAt edition n) (now (file .entry))) m ++ drop m (now (starts .entry)) ⌝ }
-    ensures { λ r. ⌜ now (ends .exit)
-        ≡ fields (drop (endsAt edition n m) (now (file .entry))) m ++ drop m (now (ends .entry)) ⌝ }
+    ensures { λ r. ⌜ now (starts .exit) ≡ fields (drop (startsAt edition n) (now (file .entry))) m ++ drop m (now (starts .entry)) ⌝ }
+    ensures { λ r. ⌜ now (ends .exit) ≡ fields (drop (endsAt edition n m) (now (file .entry))) m ++ drop m (now (ends .entry)) ⌝ }
 {
     let at = 4 + 2 * n + 2 * package_count(edition, n);
     store_at(file, at, m, starts);
@@ -74,9 +72,7 @@ fn fill_nodes(
     requires { ⌜ length (now file) ≡ lengthOf edition n m ⌝ }
     requires { ⌜ (n ≤ length (now kinds)) × (packageCount edition n ≤ length (now packages)) ⌝ }
     ensures { λ r. ⌜ now (kinds .exit) ≡ fields (drop kindsAt (now (file .entry))) n ++ drop n (now (kinds .entry)) ⌝ }
-    ensures { λ r. ⌜ now (packages .exit)
-        ≡ fields (drop (packagesAt n) (now (file .entry))) (packageCount edition n) ++ drop (packageCount edition n)
-        (now (packages .entry)) ⌝ }
+    ensures { λ r. ⌜ now (packages .exit) ≡ fields (drop (packagesAt n) (now (file .entry))) (packageCount edition n) ++ drop (packageCount edition n) (now (packages .entry)) ⌝ }
 {
     let p = package_count(edition, n);
     store_at(file, 4, n, kinds);
@@ -95,9 +91,9 @@ fn refused_read(role: Role, number: u8) -> FileRead
     }
 }
 
-// Reads a file for a call that goes on with its circuit, into tables that have room for every file of the role: the
-// verdict; and of an accepted file N and M, with the labels, the starts and the ends at the front of the tables, and a
-// pattern's radius. The links are stored once, and tested where they stand.
+// Reads a file for a call that goes on with its circuit, into tables that have room for every file of the role: the verdict; and of an
+// accepted file N and M, with the labels, the starts and the ends at the front of the tables, and a pattern's radius. The links are stored
+// once, and tested where they stand.
 pub fn load(
     role: Role,
     edition: Edition,
@@ -107,8 +103,7 @@ pub fn load(
     ends: &mut [u16],
 ) -> FileRead
     requires { ⌜ TablesRoom role (circuit (now labels) (now starts) (now ends)) ⌝ }
-    ensures { λ r. ⌜ Loaded role (inEdition edition (now (file .entry))) r
-        (circuit (now (labels .exit)) (now (starts .exit)) (now (ends .exit))) ⌝ }
+    ensures { λ r. ⌜ Loaded role (inEdition edition (now (file .entry))) r (circuit (now (labels .exit)) (now (starts .exit)) (now (ends .exit))) ⌝ }
 {
     let number = size_number(role, edition, file);
     if number != 0 {
@@ -130,9 +125,8 @@ pub fn load(
     }
 }
 
-// The answer on an accepted file of n nodes and m links: 8 where a table is too short, and then no table is changed;
-// else N and M, with the stretches at the front of the tables. A first-edition file has no packages, so that their
-// table is left as it is, however short.
+// The answer on an accepted file of n nodes and m links: 8 where a table is too short, and then no table is changed; else N and M, with the
+// stretches at the front of the tables. A first-edition file has no packages, so that their table is left as it is, however short.
 fn fill_fitting(
     edition: Edition,
     file: &[u8],
@@ -143,20 +137,10 @@ fn fill_fitting(
     starts: &mut [u16],
     ends: &mut [u16],
 ) -> ReadAnswer
-    requires { ⌜ (n ≡ nodesOf (inEdition edition (now file))) × (m ≡ linksOf (inEdition edition (now file)))
-        × (length (now file) ≡ lengthOf edition n m) ⌝ }
+    requires { ⌜ (n ≡ nodesOf (inEdition edition (now file))) × (m ≡ linksOf (inEdition edition (now file))) × (length (now file) ≡ lengthOf edition n m) ⌝ }
     ensures { λ r. ⌜ ((role : Role) → first (fileConditions role (inEdition edition (now (file .entry)))) ≡ accept
-        → record {
-          answer = r;
-          reply = readReply r;
-          kinds = now (kinds .exit);
-          packages = now (packages .exit);
-          starts =
-              now (starts .exit);
-          ends = now (ends .exit);
-        }
-        ≡ reading role (inEdition edition (now (file .entry))) (now (kinds .entry)) (now (packages .entry))
-        (now (starts .entry)) (now (ends .entry))) ⌝ }
+        → record { answer = r; reply = readReply r; kinds = now (kinds .exit); packages = now (packages .exit); starts = now (starts .exit); ends = now (ends .exit) }
+        ≡ reading role (inEdition edition (now (file .entry))) (now (kinds .entry)) (now (packages .entry)) (now (starts .entry)) (now (ends .entry))) ⌝ }
 {
     let short = ReadAnswer::Refused(TOO_SHORT);
     if kinds.len() < n {
@@ -176,9 +160,8 @@ fn fill_fitting(
     ReadAnswer::Read(n, m)
 }
 
-// Reads a file of an edition in a role: N and M, with the kinds, the packages where the edition has them, the starts
-// and the ends at the front of the four tables; or the refusal, which leaves every table as it was. The file is read
-// into tables of the call's own first.
+// Reads a file of an edition in a role: N and M, with the kinds, the packages where the edition has them, the starts and the ends at the
+// front of the four tables; or the refusal, which leaves every table as it was. The file is read into tables of the call's own first.
 pub fn read(
     role: Role,
     edition: Edition,
@@ -188,17 +171,8 @@ pub fn read(
     starts: &mut [u16],
     ends: &mut [u16],
 ) -> ReadAnswer
-    ensures { λ r. ⌜ record {
-      answer = r;
-      reply = readReply r;
-      kinds = now (kinds .exit);
-      packages = now
-          (packages .exit);
-      starts = now (starts .exit);
-      ends = now (ends .exit);
-    }
-        ≡ reading role (inEdition edition (now (file .entry))) (now (kinds .entry)) (now (packages .entry))
-        (now (starts .entry)) (now (ends .entry)) ⌝ }
+    ensures { λ r. ⌜ record { answer = r; reply = readReply r; kinds = now (kinds .exit); packages = now (packages .exit); starts = now (starts .exit); ends = now (ends .exit) }
+        ≡ reading role (inEdition edition (now (file .entry))) (now (kinds .entry)) (now (packages .entry)) (now (starts .entry)) (now (ends .entry)) ⌝ }
 {
     let mut l = [0u32; Board::MAX_NODES];
     let mut s = [0u16; Board::MAX_LINKS];

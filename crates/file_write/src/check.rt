@@ -21,9 +21,7 @@ pub fn check(
     starts: &[u16],
     ends: &[u16],
 ) -> WriteAnswer
-    ensures { λ r. ⌜ r ≡ writeAnswer (first (circuitConditions role edition (now (kinds .entry)) (now (packages .entry))
-        (now (starts .entry)) (now (ends .entry)))) (lengthOf edition (length (now (kinds .entry)))
-        (length (now (starts .entry)))) ⌝ }
+    ensures { λ r. ⌜ r ≡ writeAnswer (first (circuitConditions role edition (now (kinds .entry)) (now (packages .entry)) (now (starts .entry)) (now (ends .entry)))) (lengthOf edition (length (now (kinds .entry))) (length (now (starts .entry)))) ⌝ }
 {
     let n = kinds.len();
     let m = starts.len();

@@ -33,12 +33,9 @@ pub enum WriteAnswer {
 
 // The circuit's file, at the front of bytes that have room for it. `packages` are those that the edition has.
 fn put_fields(kinds: &[u16], packages: &[u16], starts: &[u16], ends: &[u16], out: &mut [u8])
-    requires { ⌜ (length (now kinds) < 65536) × (length (now packages) ≤ length (now kinds))
-        × (length (now starts) < 65536) × (length (now starts) ≡ length (now ends)) ⌝ }
+    requires { ⌜ (length (now kinds) < 65536) × (length (now packages) ≤ length (now kinds)) × (length (now starts) < 65536) × (length (now starts) ≡ length (now ends)) ⌝ }
     requires { ⌜ 4 + 2 * length (now kinds) + 2 * length (now packages) + 4 * length (now starts) ≤ length (now out) ⌝ }
-    ensures { λ r. ⌜ now (out .exit)
-        ≡ filled Verdict.accept (stretchBytes (now (kinds .entry)) (now (packages .entry)) (now (starts .entry))
-        (now (ends .entry))) (now (out .entry)) ⌝ }
+    ensures { λ r. ⌜ now (out .exit) ≡ filled Verdict.accept (stretchBytes (now (kinds .entry)) (now (packages .entry)) (now (starts .entry)) (now (ends .entry))) (now (out .entry)) ⌝ }
 {
     let n = kinds.len();
     let p = packages.len();
@@ -52,8 +49,8 @@ fn put_fields(kinds: &[u16], packages: &[u16], starts: &[u16], ends: &[u16], out
     store(ends, at + 2 * m, out);
 }
 
-// Writes a circuit's file of an edition in a role to the front of the bytes lent: the file's length; or the refusal,
-// which leaves every byte as it was.
+// Writes a circuit's file of an edition in a role to the front of the bytes lent: the file's length; or the refusal, which leaves every byte
+// as it was.
 pub fn write(
     role: Role,
     edition: Edition,
@@ -64,8 +61,7 @@ pub fn write(
     out: &mut [u8],
 ) -> WriteAnswer
     ensures { λ r. ⌜ record { answer = r; reply = writeReply r; out = now (out .exit) }
-        ≡ writing role edition (now (kinds .entry)) (now (packages .entry)) (now (starts .entry)) (now (ends .entry))
-        (now (out .entry)) ⌝ }
+        ≡ writing role edition (now (kinds .entry)) (now (packages .entry)) (now (starts .entry)) (now (ends .entry)) (now (out .entry)) ⌝ }
 {
     let answer = check(role, edition, kinds, packages, starts, ends);
     let WriteAnswer::Written(size) = answer else {
@@ -88,8 +84,7 @@ pub fn write_first(
     out: &mut [u8],
 ) -> WriteAnswer
     ensures { λ r. ⌜ record { answer = r; reply = writeReply r; out = now (out .exit) }
-        ≡ writing role editions.First (now (kinds .entry)) [] (now (starts .entry)) (now (ends .entry))
-        (now (out .entry)) ⌝ }
+        ≡ writing role editions.First (now (kinds .entry)) [] (now (starts .entry)) (now (ends .entry)) (now (out .entry)) ⌝ }
 {
     write(role, Edition::First, kinds, &kinds[0..0], starts, ends, out)
 }
@@ -105,11 +100,9 @@ fn write_parts(
     ends: &[u16],
     out: &mut [u8],
 ) -> WriteAnswer
-    requires { ⌜ (length (now kinds) ≡ length (now labels)) × (length (now packages) ≡ length (now labels))
-        × LabelsFit edition (now labels) ⌝ }
+    requires { ⌜ (length (now kinds) ≡ length (now labels)) × (length (now packages) ≡ length (now labels)) × LabelsFit edition (now labels) ⌝ }
     ensures { λ r. ⌜ record { answer = r; reply = writeReply r; out = now (out .exit) }
-        ≡ writing role edition (kindsFor edition (now (labels .entry))) (packagesIn (now (labels .entry)))
-        (now (starts .entry)) (now (ends .entry)) (now (out .entry)) ⌝ }
+        ≡ writing role edition (kindsFor edition (now (labels .entry))) (packagesIn (now (labels .entry))) (now (starts .entry)) (now (ends .entry)) (now (out .entry)) ⌝ }
 {
     split(labels, kinds, packages);
     write(role, edition, kinds, packages, starts, ends, out)
@@ -126,8 +119,7 @@ pub fn write_circuit(
 ) -> WriteAnswer
     requires { ⌜ (length (now labels) ≤ 512) × LabelsFit edition (now labels) ⌝ }
     ensures { λ r. ⌜ record { answer = r; reply = writeReply r; out = now (out .exit) }
-        ≡ writing role edition (kindsFor edition (now (labels .entry))) (packagesIn (now (labels .entry)))
-        (now (starts .entry)) (now (ends .entry)) (now (out .entry)) ⌝ }
+        ≡ writing role edition (kindsFor edition (now (labels .entry))) (packagesIn (now (labels .entry))) (now (starts .entry)) (now (ends .entry)) (now (out .entry)) ⌝ }
 {
     let mut kinds = [0u16; Board::MAX_NODES];
     let mut packages = [0u16; Board::MAX_NODES];

@@ -1,7 +1,6 @@
-// The report program: reads `pattern.cir` and `board.cir` in the folder it is run in, an absent file as an empty one,
-// and prints the report. Standard output has the report's lines and nothing else. Where a file is there and cannot be
-// read, or the report cannot be written whole, a line on standard error says so; what was printed is then a front of
-// the report.
+// The report program: reads `pattern.cir` and `board.cir` in the folder it is run in, an absent file as an empty one, and prints the report.
+// Standard output has the report's lines and nothing else. Where a file is there and cannot be read, or the report cannot be written whole, a
+// line on standard error says so; what was printed is then a front of the report.
 use call_report::ReportAnswer;
 use call_report::open;
 use call_report::put;
@@ -29,8 +28,7 @@ ghost use Rattle.call_report.specs.Opened.{Opened};
 ghost use Rattle.finder.specs.Cut.{most};
 ghost use Rattle.finder.specs.Printing.{fileNameOf, heldOf, GoesOn, ReportHanded, reportEnd, ReportRan};
 
-// A byte more than the longest file that is accepted in each role: the report of what is read so is the report of the
-// files (proofs/Cut).
+// A byte more than the longest file that is accepted in each role: the report of what is read so is the report of the files (proofs/Cut).
 const PATTERN_BYTES: usize = 4 + 2 * Pattern::MAX_NODES + 4 * Pattern::MAX_LINKS + 1;
 
 const BOARD_BYTES: usize = 4 + 2 * Board::MAX_NODES + 4 * Board::MAX_LINKS + 1;
@@ -38,8 +36,7 @@ const BOARD_BYTES: usize = 4 + 2 * Board::MAX_NODES + 4 * Board::MAX_LINKS + 1;
 // What is put at a time; a longer report takes further pieces.
 const PIECE_BYTES: usize = 524288;
 
-// What is held of a file: whether it could be read, or counts as empty, and how many of its bytes stand at the front of
-// the buffer.
+// What is held of a file: whether it could be read, or counts as empty, and how many of its bytes stand at the front of the buffer.
 struct FileHeld {
     there: bool,
     size: usize,
@@ -82,8 +79,7 @@ fn as_read(found: FileFound) -> FileHeld
     }
 }
 
-// The bytes of the file in a role, by its name, none where it is absent, in a buffer of a byte more than the longest
-// that is accepted.
+// The bytes of the file in a role, by its name, none where it is absent, in a buffer of a byte more than the longest that is accepted.
 fn load(role: Role, name: &[u8], buf: &mut [u8]) -> FileHeld
     requires { ⌜ (now name ≡ fileNameOf role) × (length (now buf) ≡ most role) ⌝ }
     ensures { λ r. ⌜ Counts (r .size) (now (buf .exit)) ⌝ }
@@ -104,9 +100,9 @@ fn read_files(pattern: &mut [u8], board: &mut [u8]) -> Files
     }
 }
 
-// Hands the bytes that come next to standard output: those of the report's items after the ones that were handed over
-// up to another, and notes how far that is. (An item is a line for each centre, which may be empty, or the last line.)
-// The answer says whether they were taken; where they were not, nothing is handed over any more.
+// Hands the bytes that come next to standard output: those of the report's items after the ones that were handed over up to another, and notes how
+// far that is. (An item is a line for each centre, which may be empty, or the last line.) The answer says whether they were taken; where they were
+// not, nothing is handed over any more.
 fn hand(pattern: &[u8], board: &[u8], handed: &mut usize, next: usize, bytes: &[u8]) -> bool
     requires { ⌜ GoesOn (firstEdition (now pattern)) (firstEdition (now board)) (now handed) next (now bytes) ⌝ }
     ensures { λ r. ⌜ now (handed .exit) ≡ cond r next (now (handed .entry)) ⌝ }
@@ -119,8 +115,8 @@ fn hand(pattern: &[u8], board: &[u8], handed: &mut usize, next: usize, bytes: &[
     true
 }
 
-// Prints the report of two files that were opened piece by piece, by way of the buffer, until nothing is left of it or
-// a write fails. The answer says whether all of it was handed over.
+// Prints the report of two files that were opened piece by piece, by way of the buffer, until nothing is left of it or a write fails. The answer says
+// whether all of it was handed over.
 fn print_pieces(
     pattern: &[u8],
     board: &[u8],
@@ -134,11 +130,9 @@ fn print_pieces(
     out: &mut [u8],
     handed: &mut usize,
 ) -> bool
-    requires { ⌜ Opened 0 (firstEdition (now pattern)) (firstEdition (now board)) read
-        (tables (now masks) (now offsets) (now targets)) (now whole) (now «component_of») (now sizes) ⌝ }
+    requires { ⌜ Opened 0 (firstEdition (now pattern)) (firstEdition (now board)) read (tables (now masks) (now offsets) (now targets)) (now whole) (now «component_of») (now sizes) ⌝ }
     requires { ⌜ (longestLine ≤ length (now out)) × (now handed ≡ 0) ⌝ }
-    ensures { λ r. ⌜ ReportHanded (firstEdition (now (pattern .entry))) (firstEdition (now (board .entry)))
-        (now (handed .exit)) r ⌝ }
+    ensures { λ r. ⌜ ReportHanded (firstEdition (now (pattern .entry))) (firstEdition (now (board .entry))) (now (handed .exit)) r ⌝ }
 {
     let mut found: u16 = 0;
     loop {
@@ -173,8 +167,7 @@ fn print_pieces(
 // Opens the two files, of the first edition both, and prints their report.
 fn print_report(pattern: &[u8], board: &[u8], out: &mut [u8], handed: &mut usize) -> bool
     requires { ⌜ (longestLine ≤ length (now out)) × (now handed ≡ 0) ⌝ }
-    ensures { λ r. ⌜ ReportHanded (firstEdition (now (pattern .entry))) (firstEdition (now (board .entry)))
-        (now (handed .exit)) r ⌝ }
+    ensures { λ r. ⌜ ReportHanded (firstEdition (now (pattern .entry))) (firstEdition (now (board .entry))) (now (handed .exit)) r ⌝ }
 {
     let mut masks = [0u32; MASKS];
     let mut offsets = [0u16; OFFSETS];
@@ -248,8 +241,8 @@ fn report_held(
     ended(print_report(&pattern[..parts], &board[..nodes], out, handed))
 }
 
-// Reads the two files and prints their report, by way of buffers that are lent as arrays: so their lengths are known by
-// their types, and no proof counts their bytes.
+// Reads the two files and prints their report, by way of buffers that are lent as arrays: so their lengths are known by their types, and no proof counts
+// their bytes.
 fn report_files(
     pattern: &mut [u8; PATTERN_BYTES],
     board: &mut [u8; BOARD_BYTES],

@@ -1,5 +1,5 @@
 -- Each step of a breadth-first search keeps a state of a search, on lists and on the tables that stand for it. Assumes nothing.
-use Rattle.base_lists.specs.Kit.{_≡_, _∙_, sym, ap, refl, subst, Bool, false, true, cond, List, [], _∷_, _++_, append-nil, append-assoc, ℕ, _≤_, _<_, _+_, _-_, suc, zero, suc-le-suc, not-suc-le-zero, le-refl, le-of-suc-le-suc, zero-lt-suc, add-one, eqb, length, getD, take, drop, set, length-set, length-append, replicate, drop-of-length-le, length-replicate, getD-replicate, length-take-le, drop-cons, getD-take, take-append-le, take-suc-set, take-take, arith, eq-eqb, ne-eqb, eqb-true, eqb-false, List·getD-append}
+use Rattle.base_lists.specs.Kit.{_≡_, _∙_, sym, ap, refl, subst, Bool, false, true, cond, List, [], _∷_, _++_, append-nil, append-assoc, ℕ, _≤_, _<_, _+_, _-_, suc, zero, suc-le-suc, not-suc-le-zero, le-refl, le-of-suc-le-suc, zero-lt-suc, add-one, eqb, length, getD, take, drop, set, length-set, length-append, replicate, drop-of-length-le, length-replicate, getD-replicate, length-take-le, drop-cons, getD-take, take-append-le, take-suc-set, arith, eq-eqb, ne-eqb, eqb-true, eqb-false}
 use Rattle.graph.specs.Net.{driven, driving}
 use Rattle.graph.specs.Bfs.{SearchState, visit, scan, level, levels, start, adjacent, missing, SearchReady, stateOf, Searching, Searched, Found}
 use Rattle.base_lists.specs.List.{Below}
@@ -137,11 +137,6 @@ pub extends-take : (m : ℕ) (s s′ : SearchState) → Extends s s′ → m ≤
 unfolding Extends
 extends-take m s s′ a h = rw (a .1) (take-append-le m (s .reached) (a .0) h)
 
--- the nodes reached before stand where they stood
-pub extends-entry : (s s′ : SearchState) → Extends s s′ → (j : ℕ) → j < length (s .reached) → getD (s′ .reached) j 0 ≡ getD (s .reached) j 0
-unfolding Extends
-extends-entry s s′ a j h = rw (a .1) (List·getD-append (s .reached) (a .0) 0 j h)
-
 -- ---- each step keeps a state of a search
 
 module _ (n : ℕ) where
@@ -260,19 +255,6 @@ started n c queue h l =
         ready = rw (same, d) k;
       };
     }
-
--- where one state of the tables extends another, the first nodes of the queue are the same
-pub tables-extend : (hi : ℕ) (dist queue : List ℕ) (tail : ℕ) (dist′ queue′ : List ℕ) (tail′ : ℕ) (s : SearchState)
-    → Searching dist queue tail → Searched dist′ queue′ tail′ s → Extends (stateOf dist queue tail) s
-    → hi ≤ tail → (hi ≤ tail′) × (take hi queue′ ≡ take hi queue)
-unfolding stateOf
-tables-extend hi dist queue tail dist′ queue′ tail′ s k k′ y h =
-    let x : Extends (stateOf dist queue tail) (stateOf dist′ queue′ tail′) = rw (k′ .state) y in
-    let l = extends-length _ _ x in
-    let r = reached-length dist queue tail k in
-    let r′ = reached-length dist′ queue′ tail′ (k′ .kept) in
-    let h′ : hi ≤ tail′ = omega arith in
-    (h′, sym (take-take hi tail′ queue′ h′) ∙ extends-take hi _ _ x (omega arith) ∙ take-take hi tail queue h)
 
 -- what the tables hold of a search
 pub found : (k : ℕ) (dist queue : List ℕ) (s : SearchState) → Searched dist queue k s → Found k dist queue s

@@ -24,8 +24,8 @@ use heronditch_told::editions_of;
 // The number of the first edition, which document 02's C call and report still read.
 const FIRST: u32 = 1;
 
-// Finds the pattern around a node of the board, at the pattern's radius: the place's nodes and links, its table, and
-// each node's distance from the centre. The counts are those of the whole ball.
+// Finds the pattern around a node of the board, at the pattern's radius: the place's nodes and links, its table, and each node's distance from the
+// centre. The counts are those of the whole ball.
 #[no_mangle]
 pub extern "C" fn heronditch_place_editions(
     pattern: &[u8],
@@ -38,16 +38,8 @@ pub extern "C" fn heronditch_place_editions(
     table: &mut [u32],
     distances: &mut [u16],
 ) -> Counted
-    ensures { λ r. ⌜ record {
-      reply = r;
-      nodes = now (nodes .exit);
-      links = now (links .exit);
-      table = now
-          (table .exit);
-      distances = now (distances .exit);
-    }
-        ≡ hostPlace (placeAt (told (now (pattern .entry)) «pattern_edition») (told (now (board .entry)) «board_edition»)
-        centre
+    ensures { λ r. ⌜ record { reply = r; nodes = now (nodes .exit); links = now (links .exit); table = now (table .exit); distances = now (distances .exit) }
+        ≡ hostPlace (placeAt (told (now (pattern .entry)) «pattern_edition») (told (now (board .entry)) «board_edition») centre
         (radiusOf (circuitOf (told (now (pattern .entry)) «pattern_edition»)))
         (now (nodes .entry)) (now (links .entry)) (now (table .entry)) (now (distances .entry))) ⌝ }
 {
@@ -73,16 +65,8 @@ pub extern "C" fn heronditch_place_within_editions(
     table: &mut [u32],
     distances: &mut [u16],
 ) -> Counted
-    ensures { λ r. ⌜ record {
-      reply = r;
-      nodes = now (nodes .exit);
-      links = now (links .exit);
-      table = now
-          (table .exit);
-      distances = now (distances .exit);
-    }
-        ≡ hostPlace (placeAt (told (now (pattern .entry)) «pattern_edition») (told (now (board .entry)) «board_edition»)
-        centre radius
+    ensures { λ r. ⌜ record { reply = r; nodes = now (nodes .exit); links = now (links .exit); table = now (table .exit); distances = now (distances .exit) }
+        ≡ hostPlace (placeAt (told (now (pattern .entry)) «pattern_edition») (told (now (board .entry)) «board_edition») centre radius
         (now (nodes .entry)) (now (links .entry)) (now (table .entry)) (now (distances .entry))) ⌝ }
 {
     let question = Question {
@@ -93,8 +77,7 @@ pub extern "C" fn heronditch_place_within_editions(
     of_place(call_place::place(question, pattern, board, nodes, links, table, distances))
 }
 
-// Finds the pattern around a node of the board, at the pattern's radius, in files of the first edition: "the C call
-// still read[s] the first".
+// Finds the pattern around a node of the board, at the pattern's radius, in files of the first edition: "the C call still read[s] the first".
 #[no_mangle]
 pub extern "C" fn heronditch_place(
     pattern: &[u8],
@@ -105,14 +88,7 @@ pub extern "C" fn heronditch_place(
     table: &mut [u32],
     distances: &mut [u16],
 ) -> Counted
-    ensures { λ r. ⌜ record {
-      reply = r;
-      nodes = now (nodes .exit);
-      links = now (links .exit);
-      table = now
-          (table .exit);
-      distances = now (distances .exit);
-    }
+    ensures { λ r. ⌜ record { reply = r; nodes = now (nodes .exit); links = now (links .exit); table = now (table .exit); distances = now (distances .exit) }
         ≡ hostPlace (placeAt (firstEdition (now (pattern .entry))) (firstEdition (now (board .entry))) centre
         (radiusOf (circuitOf (firstEdition (now (pattern .entry)))))
         (now (nodes .entry)) (now (links .entry)) (now (table .entry)) (now (distances .entry))) ⌝ }
@@ -142,14 +118,7 @@ pub extern "C" fn heronditch_place_within(
     table: &mut [u32],
     distances: &mut [u16],
 ) -> Counted
-    ensures { λ r. ⌜ record {
-      reply = r;
-      nodes = now (nodes .exit);
-      links = now (links .exit);
-      table = now
-          (table .exit);
-      distances = now (distances .exit);
-    }
+    ensures { λ r. ⌜ record { reply = r; nodes = now (nodes .exit); links = now (links .exit); table = now (table .exit); distances = now (distances .exit) }
         ≡ hostPlace (placeAt (firstEdition (now (pattern .entry))) (firstEdition (now (board .entry))) centre radius
         (now (nodes .entry)) (now (links .entry)) (now (table .entry)) (now (distances .entry))) ⌝ }
 {
@@ -167,8 +136,8 @@ pub extern "C" fn heronditch_place_within(
     )
 }
 
-// Checks a place from elsewhere: replies with 1 where the marked nodes and links are a perfect subgraph around the
-// centre at the pattern's radius, largest or not, and else with 0.
+// Checks a place from elsewhere: replies with 1 where the marked nodes and links are a perfect subgraph around the centre at the pattern's radius,
+// largest or not, and else with 0.
 #[no_mangle]
 pub extern "C" fn heronditch_check(
     pattern: &[u8],
@@ -179,8 +148,7 @@ pub extern "C" fn heronditch_check(
     nodes: &[u8],
     links: &[u8],
 ) -> HostReply
-    ensures { λ r. ⌜ r ≡ slots (checkCall (told (now (pattern .entry)) «pattern_edition»)
-        (told (now (board .entry)) «board_edition») centre
+    ensures { λ r. ⌜ r ≡ slots (checkCall (told (now (pattern .entry)) «pattern_edition») (told (now (board .entry)) «board_edition») centre
         (now (nodes .entry)) (now (links .entry))) ⌝ }
 {
     of_check(call_check::check(
@@ -193,8 +161,7 @@ pub extern "C" fn heronditch_check(
     ))
 }
 
-// Says why there is no place around a node of the board, by few of the pattern's links: a byte for each, 1 for kept.
-// Replies with how many are 1.
+// Says why there is no place around a node of the board, by few of the pattern's links: a byte for each, 1 for kept. Replies with how many are 1.
 #[no_mangle]
 pub extern "C" fn heronditch_bar(
     pattern: &[u8],
@@ -205,8 +172,7 @@ pub extern "C" fn heronditch_bar(
     out: &mut [u8],
 ) -> HostReply
     ensures { λ r. ⌜ record { reply = r; out = now (out .exit) }
-        ≡ hostBar (barCall (told (now (pattern .entry)) «pattern_edition») (told (now (board .entry)) «board_edition»)
-        centre (now (out .entry))) ⌝ }
+        ≡ hostBar (barCall (told (now (pattern .entry)) «pattern_edition») (told (now (board .entry)) «board_edition») centre (now (out .entry))) ⌝ }
 {
     of_bar(call_barring::bar(
         editions_of(pattern_edition, board_edition),
@@ -216,8 +182,7 @@ pub extern "C" fn heronditch_bar(
         out,
     ))
 }
-// Puts a piece of the report of a pattern on a board: the lines of the centres from a node on, and the last line where
-// the centres are done.
+// Puts a piece of the report of a pattern on a board: the lines of the centres from a node on, and the last line where the centres are done.
 #[no_mangle]
 pub extern "C" fn heronditch_report_editions(
     pattern: &[u8],
@@ -229,8 +194,7 @@ pub extern "C" fn heronditch_report_editions(
     out: &mut [u8],
 ) -> Piece
     ensures { λ r. ⌜ record { reply = r; out = now (out .exit) }
-        ≡ hostReport (reporting (told (now (pattern .entry)) «pattern_edition»)
-        (told (now (board .entry)) «board_edition») from found (now (out .entry))) ⌝ }
+        ≡ hostReport (reporting (told (now (pattern .entry)) «pattern_edition») (told (now (board .entry)) «board_edition») from found (now (out .entry))) ⌝ }
 {
     of_report(call_report::report(
         editions_of(pattern_edition, board_edition),
@@ -252,8 +216,7 @@ pub extern "C" fn heronditch_report(
     out: &mut [u8],
 ) -> Piece
     ensures { λ r. ⌜ record { reply = r; out = now (out .exit) }
-        ≡ hostReport (reporting (firstEdition (now (pattern .entry))) (firstEdition (now (board .entry))) from found
-        (now (out .entry))) ⌝ }
+        ≡ hostReport (reporting (firstEdition (now (pattern .entry))) (firstEdition (now (board .entry))) from found (now (out .entry))) ⌝ }
 {
     heronditch_report_editions(pattern, FIRST, board, FIRST, from, found, out)
 }

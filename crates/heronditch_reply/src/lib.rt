@@ -29,8 +29,7 @@ use place::PlaceAnswer;
 use report_centres::PutPiece;
 use table::Counts;
 
-// Number 0 for acceptance or the refusal's number; the file that it means (0 neither, 1 pattern, 2 board); the values
-// replied with.
+// Number 0 for acceptance or the refusal's number; the file that it means (0 neither, 1 pattern, 2 board); the values replied with.
 #[repr(C)]
 pub struct HostReply {
     pub number: u32,
@@ -50,8 +49,7 @@ pub struct Counted {
     pub rounds: u32,
 }
 
-// The same with where the report goes on after a piece, how many centres before that have a place, and how many bytes
-// were put.
+// The same with where the report goes on after a piece, how many centres before that have a place, and how many bytes were put.
 #[repr(C)]
 pub struct Piece {
     pub number: u32,
@@ -152,15 +150,7 @@ pub fn of_check(answer: CheckAnswer) -> HostReply
 
 // Four counts, with a number and a file.
 fn with_counts(number: u32, file: u32, k: Counts) -> Counted
-    ensures { λ r. ⌜ r ≡ record {
-      number = number;
-      file = file;
-      started = k .started;
-      kept = k .kept;
-      struck = k
-          .struck;
-      rounds = k .rounds;
-    } ⌝ }
+    ensures { λ r. ⌜ r ≡ record { number = number; file = file; started = k .started; kept = k .kept; struck = k .struck; rounds = k .rounds } ⌝ }
 {
     Counted {
         number,
@@ -174,15 +164,7 @@ fn with_counts(number: u32, file: u32, k: Counts) -> Counted
 
 // A refusal with counts, as number 9 has them.
 fn refused_with(x: Refusal, k: Counts) -> Counted
-    ensures { λ r. ⌜ r ≡ record {
-      number = x .number;
-      file = fileNumber (x .file);
-      started = k .started;
-      kept = k
-          .kept;
-      struck = k .struck;
-      rounds = k .rounds;
-    } ⌝ }
+    ensures { λ r. ⌜ r ≡ record { number = x .number; file = fileNumber (x .file); started = k .started; kept = k .kept; struck = k .struck; rounds = k .rounds } ⌝ }
 {
     let file = x.file;
     with_counts(x.number as u32, file_number(file), k)

@@ -1,6 +1,5 @@
-// The program that makes a test board: takes the four numbers as words, seed, N, M and K, and writes the board's file
-// to standard output. Where a word is no number, or a number is out of its range, it says so on standard error and
-// writes nothing to standard output.
+// The program that makes a test board: takes the four numbers as words, seed, N, M and K, and writes the board's file to standard output. Where a
+// word is no number, or a number is out of its range, it says so on standard error and writes nothing to standard output.
 use crate::words::Word;
 use crate::words::number;
 use call_test_board::TestBoardAnswer;
@@ -28,8 +27,7 @@ struct Asked {
     k: Word,
 }
 
-// What came of the words: the test board's file was handed whole to standard output; or that failed; or a number was
-// out of its range; or a word was none.
+// What came of the words: the test board's file was handed whole to standard output; or that failed; or a number was out of its range; or a word was none.
 enum Printed {
     Whole,
     Failed,
@@ -37,8 +35,7 @@ enum Printed {
     NoNumbers,
 }
 
-// An argument: its index, what the system answered when it was asked for, C's errno and a length, and the number that
-// it is.
+// An argument: its index, what the system answered when it was asked for, C's errno and a length, and the number that it is.
 struct Argument {
     index: usize,
     error: i32,

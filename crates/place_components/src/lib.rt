@@ -1,5 +1,4 @@
-// The components of a match graph: each node gets the number of its component, once for all; and those nodes of a
-// centre's component that its ball has.
+// The components of a match graph: each node gets the number of its component, once for all; and those nodes of a centre's component that its ball has.
 use file_format::Board;
 use graph::UNREACHED;
 use graph_search::CENTRE;
@@ -38,8 +37,7 @@ fn store_each(nodes: &[u16], x: u16, table: &mut [u16])
 // Sets the entry of each node of a list to 0, and every other entry to `UNREACHED`.
 pub fn mark(nodes: &[u16], dist: &mut [u16])
     requires { ⌜ Below (length (now dist)) (now nodes) ⌝ }
-    ensures { λ _. ⌜ now (dist .exit)
-        ≡ fillAt (λ v. 0) (now (nodes .entry)) (replicate (length (now (dist .entry))) far) ⌝ }
+    ensures { λ _. ⌜ now (dist .exit) ≡ fillAt (λ v. 0) (now (nodes .entry)) (replicate (length (now (dist .entry))) far) ⌝ }
 {
     fill(dist, UNREACHED);
     store_each(nodes, 0, dist);
@@ -55,8 +53,7 @@ fn begins(set: u32, number: u16) -> bool
     number == UNREACHED
 }
 
-// Where a component begins with node f, its nodes get the number f, and under f stands how many they are. `dist` and
-// `queue` are scratch.
+// Where a component begins with node f, its nodes get the number f, and under f stands how many they are. `dist` and `queue` are scratch.
 fn number_from(
     masks: &[u32],
     offsets: &[u16],
@@ -71,11 +68,8 @@ fn number_from(
     requires { ⌜ MatchTable (tables (now masks) (now offsets) (now targets)) (now sets) ⌝ }
     requires { ⌜ f < length (now sets) ⌝ }
     requires { ⌜ (length (now dist) ≡ length (now sets)) × (length (now queue) ≡ length (now sets)) ⌝ }
-    requires { ⌜ ComponentsBefore (length (now sets)) (matched (tables (now masks) (now offsets) (now targets))
-        (now sets)) (now sets) f (now «component_of») (now sizes) ⌝ }
-    ensures { λ _. ⌜ ComponentsBefore (length (now (sets .entry)))
-        (matched (tables (now (masks .entry)) (now (offsets .entry)) (now (targets .entry))) (now (sets .entry)))
-        (now (sets .entry)) (f + 1) (now («component_of» .exit)) (now (sizes .exit)) ⌝ }
+    requires { ⌜ ComponentsBefore (length (now sets)) (matched (tables (now masks) (now offsets) (now targets)) (now sets)) (now sets) f (now «component_of») (now sizes) ⌝ }
+    ensures { λ _. ⌜ ComponentsBefore (length (now (sets .entry))) (matched (tables (now (masks .entry)) (now (offsets .entry)) (now (targets .entry))) (now (sets .entry))) (now (sets .entry)) (f + 1) (now («component_of» .exit)) (now (sizes .exit)) ⌝ }
 {
     if !begins(sets[f], component_of[f]) {
         return;
@@ -86,8 +80,7 @@ fn number_from(
     sizes[f] = k as u16;
 }
 
-// Leaves in `component_of` for each node whose set is not empty the number of its component, and in `sizes` under the
-// number how many nodes that has.
+// Leaves in `component_of` for each node whose set is not empty the number of its component, and in `sizes` under the number how many nodes that has.
 pub fn components(
     masks: &[u32],
     offsets: &[u16],
@@ -99,9 +92,7 @@ pub fn components(
     requires { ⌜ MatchTable (tables (now masks) (now offsets) (now targets)) (now sets) ⌝ }
     requires { ⌜ length (now sets) ≤ 512 ⌝ }
     requires { ⌜ (length (now «component_of») ≡ length (now sets)) × (length (now sizes) ≡ length (now sets)) ⌝ }
-    ensures { λ _. ⌜ Components (length (now (sets .entry))) (matched
-        (tables (now (masks .entry)) (now (offsets .entry)) (now (targets .entry))) (now (sets .entry)))
-        (now (sets .entry)) (now («component_of» .exit)) (now (sizes .exit)) ⌝ }
+    ensures { λ _. ⌜ Components (length (now (sets .entry))) (matched (tables (now (masks .entry)) (now (offsets .entry)) (now (targets .entry))) (now (sets .entry))) (now (sets .entry)) (now («component_of» .exit)) (now (sizes .exit)) ⌝ }
 {
     let mut distances = [0u16; Board::MAX_NODES];
     let mut nodes = [0u16; Board::MAX_NODES];
@@ -137,14 +128,10 @@ fn counted(number: u16, x: u16, count: usize) -> usize
     count
 }
 
-// Moves those of the first k nodes that have the number x to the front of the queue, in their order. Returns how many
-// they are.
+// Moves those of the first k nodes that have the number x to the front of the queue, in their order. Returns how many they are.
 fn keep(component_of: &[u16], x: u16, k: usize, queue: &mut [u16]) -> usize
-    requires { ⌜ (k ≤ length (now queue)) × (length (now queue) ≤ 65536)
-        × Below (length (now «component_of»)) (take k (now queue)) ⌝ }
-    ensures { λ j. ⌜ (j ≤ length (now (queue .exit)))
-        × (take j (now (queue .exit))
-        ≡ having (λ v. eqb (getD (now («component_of» .entry)) v 0) x) (take k (now (queue .entry)))) ⌝ }
+    requires { ⌜ (k ≤ length (now queue)) × (length (now queue) ≤ 65536) × Below (length (now «component_of»)) (take k (now queue)) ⌝ }
+    ensures { λ j. ⌜ (j ≤ length (now (queue .exit))) × (take j (now (queue .exit)) ≡ having (λ v. eqb (getD (now («component_of» .entry)) v 0) x) (take k (now (queue .entry)))) ⌝ }
 {
     let mut kept = 0;
     let mut i = 0;
@@ -160,8 +147,7 @@ fn keep(component_of: &[u16], x: u16, k: usize, queue: &mut [u16]) -> usize
 
 // How many nodes of a list have the number x, where `count` of the first `from` have it.
 fn count_from(component_of: &[u16], x: u16, from: usize, count: usize, nodes: &[u16]) -> usize
-    requires { ⌜ (from ≤ length (now nodes)) × (length (now nodes) ≤ 65536)
-        × Below (length (now «component_of»)) (now nodes) ⌝ }
+    requires { ⌜ (from ≤ length (now nodes)) × (length (now nodes) ≤ 65536) × Below (length (now «component_of»)) (now nodes) ⌝ }
     requires { ⌜ count ≡ length (having (λ v. eqb (getD (now «component_of») v 0) x) (take from (now nodes))) ⌝ }
     ensures { λ k. ⌜ k ≡ length (having (λ v. eqb (getD (now («component_of» .entry)) v 0) x) (now (nodes .entry))) ⌝ }
 {
@@ -175,9 +161,8 @@ fn count_from(component_of: &[u16], x: u16, from: usize, count: usize, nodes: &[
     found
 }
 
-// Searches the board's links from c as far as distance r, and stops as soon as `size` nodes that have c's number are
-// reached. Returns how many nodes are reached; they stand first in the queue. Labels are looked at where the search has
-// reached as many nodes more as are still wanted.
+// Searches the board's links from c as far as distance r, and stops as soon as `size` nodes that have c's number are reached. Returns how many nodes are
+// reached; they stand first in the queue. Labels are looked at where the search has reached as many nodes more as are still wanted.
 fn search_until(
     offsets: &[u16],
     targets: &[u16],
@@ -193,9 +178,7 @@ fn search_until(
     requires { ⌜ (length (now dist) ≡ length (now queue)) × (length (now «component_of») ≡ length (now dist)) ⌝ }
     requires { ⌜ size ≤ 65536 ⌝ }
     ensures { λ k. ⌜ Searching (now (dist .exit)) (now (queue .exit)) k ⌝ }
-    ensures { λ k. ⌜ Until (adjacent (now (offsets .entry)) (now (targets .entry))) (length (now (dist .entry))) c r
-        (size ≤ length (having (sameComponent (now («component_of» .entry)) c) (take k (now (queue .exit)))))
-        (stateOf (now (dist .exit)) (now (queue .exit)) k) ⌝ }
+    ensures { λ k. ⌜ Until (adjacent (now (offsets .entry)) (now (targets .entry))) (length (now (dist .entry))) c r (size ≤ length (having (sameComponent (now («component_of» .entry)) c) (take k (now (queue .exit))))) (stateOf (now (dist .exit)) (now (queue .exit)) k) ⌝ }
 {
     begin(c, dist, queue);
     let at = c as usize;
@@ -214,8 +197,8 @@ fn search_until(
     from.tail
 }
 
-// Leaves first in the queue those nodes with c's number that are at most r of the board's links away, or all `size`
-// nodes that have it, which may be found nearer; and returns how many they are. `dist` is scratch.
+// Leaves first in the queue those nodes with c's number that are at most r of the board's links away, or all `size` nodes that have it, which may be found
+// nearer; and returns how many they are. `dist` is scratch.
 pub fn gather(
     offsets: &[u16],
     targets: &[u16],
@@ -230,9 +213,7 @@ pub fn gather(
     requires { ⌜ c < length (now dist) ⌝ }
     requires { ⌜ (length (now dist) ≡ length (now queue)) × (length (now «component_of») ≡ length (now dist)) ⌝ }
     requires { ⌜ size ≤ 65536 ⌝ }
-    ensures { λ k. ⌜ (k ≤ length (now (queue .exit)))
-        × Gathered (adjacent (now (offsets .entry)) (now (targets .entry))) (length (now (dist .entry))) c r
-        (sameComponent (now («component_of» .entry)) c) size (take k (now (queue .exit))) ⌝ }
+    ensures { λ k. ⌜ (k ≤ length (now (queue .exit))) × Gathered (adjacent (now (offsets .entry)) (now (targets .entry))) (length (now (dist .entry))) c r (sameComponent (now («component_of» .entry)) c) size (take k (now (queue .exit))) ⌝ }
 {
     let k = search_until(offsets, targets, component_of, size, c, r, dist, queue);
     let at = c as usize;

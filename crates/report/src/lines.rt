@@ -1,5 +1,5 @@
-// The report's lines, each put into a table of bytes from an offset on; the offset after the line is returned. `names`
-// has a name for each node.
+// The report's lines, each put into a table of bytes from an offset on; the offset after the line is returned. `names` has a name for each
+// node.
 ghost use mathlib.Core.Path.{_≡_};
 ghost use Prim.Native.Nat.{_+_, _≤_, _<_};
 ghost use lib.ListN.{length, getD};
@@ -89,8 +89,7 @@ fn put_driven(
     requires { ⌜ Names (now names) × (length (now sets) ≤ length (now names)) × (v < length (now names)) ⌝ }
     requires { ⌜ Below (length (now sets)) (now nodes) ⌝ }
     requires { ⌜ Fits (now out) at (drivenText driven (now sets) v (now nodes)) ⌝ }
-    ensures { λ r. ⌜ Put (now (out .entry)) at (drivenText driven (now (sets .entry)) v (now (nodes .entry)))
-        (now (out .exit)) r ⌝ }
+    ensures { λ r. ⌜ Put (now (out .entry)) at (drivenText driven (now (sets .entry)) v (now (nodes .entry))) (now (out .exit)) r ⌝ }
 {
     let mut end = at;
     let mut i = 0;
@@ -118,10 +117,8 @@ fn put_start(
     requires { ⌜ length (now sets) ≡ length (now dist) ⌝ }
     requires { ⌜ Ready (tables (now masks) (now offsets) (now targets)) (now sets) ⌝ }
     requires { ⌜ v < length (now dist) ⌝ }
-    requires { ⌜ Fits (now out) at (startText (tables (now masks) (now offsets) (now targets)) (now dist) (now sets) v)
-        ⌝ }
-    ensures { λ r. ⌜ Put (now (out .entry)) at (startText (tables (now (masks .entry)) (now (offsets .entry))
-        (now (targets .entry))) (now (dist .entry)) (now (sets .entry)) v) (now (out .exit)) r ⌝ }
+    requires { ⌜ Fits (now out) at (startText (tables (now masks) (now offsets) (now targets)) (now dist) (now sets) v) ⌝ }
+    ensures { λ r. ⌜ Put (now (out .entry)) at (startText (tables (now (masks .entry)) (now (offsets .entry)) (now (targets .entry))) (now (dist .entry)) (now (sets .entry)) v) (now (out .exit)) r ⌝ }
 {
     let there = is_reached(dist[v]);
     if !there {
@@ -147,8 +144,7 @@ fn put_links(
     requires { ⌜ length (now sets) ≡ length (now dist) ⌝ }
     requires { ⌜ Ready (tables (now masks) (now offsets) (now targets)) (now sets) ⌝ }
     requires { ⌜ Fits (now out) at (linksText (tables (now masks) (now offsets) (now targets)) (now dist) (now sets)) ⌝ }
-    ensures { λ r. ⌜ Put (now (out .entry)) at (linksText (tables (now (masks .entry)) (now (offsets .entry))
-        (now (targets .entry))) (now (dist .entry)) (now (sets .entry))) (now (out .exit)) r ⌝ }
+    ensures { λ r. ⌜ Put (now (out .entry)) at (linksText (tables (now (masks .entry)) (now (offsets .entry)) (now (targets .entry))) (now (dist .entry)) (now (sets .entry))) (now (out .exit)) r ⌝ }
 {
     let mut end = at;
     let mut v = 0;
@@ -175,8 +171,7 @@ pub fn put_line(
     requires { ⌜ length (now sets) ≡ length (now dist) ⌝ }
     requires { ⌜ Ready (tables (now masks) (now offsets) (now targets)) (now sets) ⌝ }
     requires { ⌜ Fits (now out) at (lineText (tables (now masks) (now offsets) (now targets)) (now dist) (now sets) c) ⌝ }
-    ensures { λ r. ⌜ Put (now (out .entry)) at (lineText (tables (now (masks .entry)) (now (offsets .entry))
-        (now (targets .entry))) (now (dist .entry)) (now (sets .entry)) c) (now (out .exit)) r ⌝ }
+    ensures { λ r. ⌜ Put (now (out .entry)) at (lineText (tables (now (masks .entry)) (now (offsets .entry)) (now (targets .entry))) (now (dist .entry)) (now (sets .entry)) c) (now (out .exit)) r ⌝ }
 {
     let centre = put_bytes(b"place ", out, at);
     let colon = put_number(c, out, centre);

@@ -30,15 +30,13 @@ ghost use Rattle.report_centres.specs.Pieces.{roomy, centresPiece, Sourc
 // No line of a report is longer: a buffer has to be as long, and a line is put where so many bytes are left.
 pub const LONGEST: usize = 34829;
 
-// Components of at most so many nodes are searched along their matching links first, and not along all links of the
-// board.
+// Components of at most so many nodes are searched along their matching links first, and not along all links of the board.
 const FEW: usize = 64;
 
 // The largest number of 32 bits.
 const FURTHEST: usize = 4294967295;
 
-// A piece that was put: where to go on, how many centres before that one have a place, and how many bytes the piece
-// has.
+// A piece that was put: where to go on, how many centres before that one have a place, and how many bytes the piece has.
 pub struct PutPiece {
     pub next: usize,
     pub found: usize,
@@ -82,15 +80,14 @@ fn counted(count: usize, at: usize, next: usize) -> usize
     count + 1
 }
 
-// How much of the centre's component on the whole board its ball has: all of it or not, and how many nodes, which stand
-// first in a queue.
+// How much of the centre's component on the whole board its ball has: all of it or not, and how many nodes, which stand first in a queue.
 struct ComponentHeld {
     all: bool,
     kept: usize,
 }
 
-// Whether the ball around a centre holds the whole of the centre's component, which has `size` nodes, and those of its
-// nodes that the ball has: they are left first in the queue. `dist` is scratch.
+// Whether the ball around a centre holds the whole of the centre's component, which has `size` nodes, and those of its nodes that the ball has: they are left
+// first in the queue. `dist` is scratch.
 fn holds(
     masks: &[u32],
     offsets: &[u16],
@@ -103,11 +100,9 @@ fn holds(
     queue: &mut [u16],
 ) -> ComponentHeld
     requires { ⌜ SourceOfSome (tables (now masks) (now offsets) (now targets)) (now whole) (around .radius) ⌝ }
-    requires { ⌜ CentreLabelled (tables (now masks) (now offsets) (now targets)) (now whole) (now «component_of») size
-        (around .centre) ⌝ }
+    requires { ⌜ CentreLabelled (tables (now masks) (now offsets) (now targets)) (now whole) (now «component_of») size (around .centre) ⌝ }
     requires { ⌜ (length (now dist) ≡ length (now whole)) × (length (now queue) ≡ length (now whole)) ⌝ }
-    ensures { λ h. ⌜ BallHolds (tables (now (masks .entry)) (now (offsets .entry)) (now (targets .entry)))
-        (now (whole .entry)) around (now (queue .exit)) h ⌝ }
+    ensures { λ h. ⌜ BallHolds (tables (now (masks .entry)) (now (offsets .entry)) (now (targets .entry))) (now (whole .entry)) around (now (queue .exit)) h ⌝ }
 {
     let c = around.centre;
     let r = around.radius;
@@ -127,10 +122,9 @@ fn holds(
     }
 }
 
-// Whether there is a place around a centre, of whose ball it is known how much of the centre's component it has. Where
-// it has all, the place is the component with its matching links; else striking goes on in ball and component alone,
-// from the whole board's sets: what lies outside the component supports nothing inside it. Where there is a place,
-// `dist` is left with `UNREACHED` outside it, and `sets` with its sets. `queue` is scratch.
+// Whether there is a place around a centre, of whose ball it is known how much of the centre's component it has. Where it has all, the place is the component with
+// its matching links; else striking goes on in ball and component alone, from the whole board's sets: what lies outside the component supports nothing inside
+// it. Where there is a place, `dist` is left with `UNREACHED` outside it, and `sets` with its sets. `queue` is scratch.
 fn locate(
     masks: &[u32],
     offsets: &[u16],
@@ -145,10 +139,8 @@ fn locate(
     requires { ⌜ SourceOfSome (tables (now masks) (now offsets) (now targets)) (now whole) (around .radius) ⌝ }
     requires { ⌜ (around .centre < length (now whole)) × (getD (now whole) (around .centre) 0 ≡ 0 → ⊥) ⌝ }
     requires { ⌜ BallHolds (tables (now masks) (now offsets) (now targets)) (now whole) around (now queue) ball ⌝ }
-    requires { ⌜ (length (now dist) ≡ length (now whole)) × (length (now queue) ≡ length (now whole))
-        × (length (now sets) ≡ length (now whole)) ⌝ }
-    ensures { λ b. ⌜ EveryKnown (tables (now (masks .entry)) (now (offsets .entry)) (now (targets .entry)))
-        (now (whole .entry)) around (now (dist .exit)) (now (sets .exit)) b ⌝ }
+    requires { ⌜ (length (now dist) ≡ length (now whole)) × (length (now queue) ≡ length (now whole)) × (length (now sets) ≡ length (now whole)) ⌝ }
+    ensures { λ b. ⌜ EveryKnown (tables (now (masks .entry)) (now (offsets .entry)) (now (targets .entry))) (now (whole .entry)) around (now (dist .exit)) (now (sets .exit)) b ⌝ }
 {
     let kept = ball.kept;
     if ball.all {
@@ -180,8 +172,7 @@ struct Span {
     to: usize,
 }
 
-// The text that a centre's line has after its colon, as far as it is known: where the ball holds the centre's
-// component, that which is noted under its number.
+// The text that a centre's line has after its colon, as far as it is known: where the ball holds the centre's component, that which is noted under its number.
 fn known(all: bool, number: usize, texts: &[u32]) -> Span
     requires { ⌜ (number < 512) × (length (now texts) ≡ 1024) ⌝ }
     ensures { λ r. ⌜ r ≡ cond all (under (now (texts .entry)) number) (record { from = 0; to = 0 }) ⌝ }
@@ -198,8 +189,7 @@ fn known(all: bool, number: usize, texts: &[u32]) -> Span
 fn put_again(c: usize, text: Span, out: &mut [u8], at: usize) -> usize
     requires { ⌜ (text .from ≤ text .to) × (text .to ≤ at) ⌝ }
     requires { ⌜ Fits (now out) at (headText c ++ part (text .from) (text .to - text .from) (now out)) ⌝ }
-    ensures { λ r. ⌜ Put (now (out .entry)) at (headText c ++ part (text .from) (text .to - text .from)
-        (now (out .entry))) (now (out .exit)) r ⌝ }
+    ensures { λ r. ⌜ Put (now (out .entry)) at (headText c ++ part (text .from) (text .to - text .from) (now (out .entry))) (now (out .exit)) r ⌝ }
 {
     let body = put_head(c, out, at);
     put_copy(text.from, text.to, out, body)
@@ -223,8 +213,7 @@ struct Line {
     at: usize,
 }
 
-// The line of a centre whose ball is known, nothing where there is no place around it. `dist` and `queue` are as that
-// was found out with them, and scratch.
+// The line of a centre whose ball is known, nothing where there is no place around it. `dist` and `queue` are as that was found out with them, and scratch.
 fn put_new(
     names: &[u32],
     masks: &[u32],
@@ -239,13 +228,11 @@ fn put_new(
 ) -> usize
     requires { ⌜ SourceOfSome (tables (now masks) (now offsets) (now targets)) (now whole) (line .around .radius) ⌝ }
     requires { ⌜ (line .around .centre < length (now whole)) × (getD (now whole) (line .around .centre) 0 ≡ 0 → ⊥) ⌝ }
-    requires { ⌜ BallHolds (tables (now masks) (now offsets) (now targets)) (now whole) (line .around) (now queue) ball
-        ⌝ }
+    requires { ⌜ BallHolds (tables (now masks) (now offsets) (now targets)) (now whole) (line .around) (now queue) ball ⌝ }
     requires { ⌜ (length (now dist) ≡ length (now whole)) × (length (now queue) ≡ length (now whole)) ⌝ }
     requires { ⌜ Names (now names) × (length (now whole) ≤ length (now names)) ⌝ }
     requires { ⌜ line .at + longestLine ≤ length (now out) ⌝ }
-    ensures { λ r. ⌜ EveryLine (tables (now (masks .entry)) (now (offsets .entry)) (now (targets .entry)))
-        (now (whole .entry)) (line .around) (now (out .entry)) (line .at) (now (out .exit)) r ⌝ }
+    ensures { λ r. ⌜ EveryLine (tables (now (masks .entry)) (now (offsets .entry)) (now (targets .entry))) (now (whole .entry)) (line .around) (now (out .entry)) (line .at) (now (out .exit)) r ⌝ }
 {
     let mut table = [0u32; Board::MAX_NODES];
     let sets = &mut table[..whole.len()];
@@ -267,9 +254,8 @@ fn put_new(
     put_line(names, masks, offsets, targets, dist, sets, c, out, line.at)
 }
 
-// A centre's line, nothing where there is no place around it. A centre that the whole board's table leaves empty has
-// none. The text of a component is made once, and noted: `texts` has under a number where it begins, and
-// `Board::MAX_NODES` further on where it ends.
+// A centre's line, nothing where there is no place around it. A centre that the whole board's table leaves empty has none. The text of a component is made
+// once, and noted: `texts` has under a number where it begins, and `Board::MAX_NODES` further on where it ends.
 fn put_centre(
     names: &[u32],
     masks: &[u32],
@@ -283,17 +269,13 @@ fn put_centre(
     out: &mut [u8],
 ) -> usize
     requires { ⌜ SourceOfSome (tables (now masks) (now offsets) (now targets)) (now whole) (line .around .radius) ⌝ }
-    requires { ⌜ Components (length (now whole)) (matched (tables (now masks) (now offsets) (now targets)) (now whole))
-        (now whole) (now «component_of») (now sizes) ⌝ }
+    requires { ⌜ Components (length (now whole)) (matched (tables (now masks) (now offsets) (now targets)) (now whole)) (now whole) (now «component_of») (now sizes) ⌝ }
     requires { ⌜ line .around .centre < length (now whole) ⌝ }
     requires { ⌜ Names (now names) × (length (now whole) ≤ length (now names)) ⌝ }
     requires { ⌜ line .at + longestLine ≤ length (now out) ⌝ }
-    requires { ⌜ Kept (tables (now masks) (now offsets) (now targets)) (now whole) (now «component_of») (now out)
-        (line .at) (now texts) ⌝ }
-    ensures { λ r. ⌜ EveryLine (tables (now (masks .entry)) (now (offsets .entry)) (now (targets .entry)))
-        (now (whole .entry)) (line .around) (now (out .entry)) (line .at) (now (out .exit)) r ⌝ }
-    ensures { λ r. ⌜ Kept (tables (now (masks .entry)) (now (offsets .entry)) (now (targets .entry)))
-        (now (whole .entry)) (now («component_of» .entry)) (now (out .exit)) r (now (texts .exit)) ⌝ }
+    requires { ⌜ Kept (tables (now masks) (now offsets) (now targets)) (now whole) (now «component_of») (now out) (line .at) (now texts) ⌝ }
+    ensures { λ r. ⌜ EveryLine (tables (now (masks .entry)) (now (offsets .entry)) (now (targets .entry))) (now (whole .entry)) (line .around) (now (out .entry)) (line .at) (now (out .exit)) r ⌝ }
+    ensures { λ r. ⌜ Kept (tables (now (masks .entry)) (now (offsets .entry)) (now (targets .entry))) (now (whole .entry)) (now («component_of» .entry)) (now (out .exit)) r (now (texts .exit)) ⌝ }
 {
     let c = line.around.centre as usize;
     if whole[c] == 0 {
@@ -352,11 +334,8 @@ pub fn put_centres(
     out: &mut [u8],
 ) -> PutPiece
     requires { ⌜ SourceOfSome (tables (now masks) (now offsets) (now targets)) (now whole) (resume .radius) ⌝ }
-    requires { ⌜ Components (length (now whole)) (matched (tables (now masks) (now offsets) (now targets)) (now whole))
-        (now whole) (now «component_of») (now sizes) ⌝ }
-    ensures { λ p. ⌜ EveryWrote (tables (now (masks .entry)) (now (offsets .entry)) (now (targets .entry)))
-        (now (whole .entry)) (resume .radius) (λ pattern board. centresPiece pattern board (resume .from)
-        (resume .found) (length (now (out .entry)))) (now (out .entry)) (now (out .exit)) p ⌝ }
+    requires { ⌜ Components (length (now whole)) (matched (tables (now masks) (now offsets) (now targets)) (now whole)) (now whole) (now «component_of») (now sizes) ⌝ }
+    ensures { λ p. ⌜ EveryWrote (tables (now (masks .entry)) (now (offsets .entry)) (now (targets .entry))) (now (whole .entry)) (resume .radius) (λ pattern board. centresPiece pattern board (resume .from) (resume .found) (length (now (out .entry)))) (now (out .entry)) (now (out .exit)) p ⌝ }
 {
     let mut names = [0u32; Board::MAX_NODES];
     make_names(&mut names);

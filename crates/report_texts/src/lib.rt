@@ -1,5 +1,4 @@
-// A line's text once more, for another centre: its head is put anew, and what follows is copied from where it stands in
-// the buffer.
+// A line's text once more, for another centre: its head is put anew, and what follows is copied from where it stands in the buffer.
 ghost use mathlib.Core.Path.{_≡_};
 ghost use Prim.Native.Nat.{_+_, _-_, _≤_, _<_};
 ghost use lib.ListN.{length};

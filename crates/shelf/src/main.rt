@@ -1,8 +1,7 @@
-// The shelf program: reads `p00.cir` to `p15.cir` in the folder it is run in, second-edition pattern files, up to the
-// first that is absent, and prints the numbers of those that are accepted in the order of their circuits. Standard
-// output has these lines and nothing else. Where a file is there and cannot be read, nothing is printed, and a line on
-// standard error says so; so it does where the lines cannot be written whole, and what was printed is then a front of
-// them.
+// The shelf program: reads `p00.cir` to `p15.cir` in the folder it is run in, second-edition pattern files, up to the first that is absent, and prints
+// the numbers of those that are accepted in the order of their circuits. Standard output has these lines and nothing else. Where a file is there
+// and cannot be read, nothing is printed, and a line on standard error says so; so it does where the lines cannot be written whole, and what was
+// printed is then a front of them.
 use call_shelf::FILES;
 use call_shelf::ShelfAnswer;
 use file_format::Pattern;
@@ -28,8 +27,7 @@ const ABSENT: u32 = 65536;
 
 const UNREADABLE: u32 = 65537;
 
-// How the reading goes on after a file: with the next one, whose bytes go to this place; or the shelf ends here; or the
-// program gives up.
+// How the reading goes on after a file: with the next one, whose bytes go to this place; or the shelf ends here; or the program gives up.
 enum Next {
     Further(usize),
     Ends,
@@ -42,8 +40,8 @@ enum Taken {
     Unreadable(usize),
 }
 
-// How a run ended: so many files were read and their lines handed whole to standard output; or a write failed; or the
-// file of this number cannot be read.
+// How a run ended: so many files were read and their lines handed whole to standard output; or a write failed; or the file of this number cannot be
+// read.
 enum End {
     Whole(usize),
     Broken(usize),
@@ -95,8 +93,8 @@ fn note(found: FileFound) -> u32
     }
 }
 
-// Reads the i-th file to a place of the bytes, behind those of the files before it, and notes what became of it. All of
-// those are there, and their bytes stay.
+// Reads the i-th file to a place of the bytes, behind those of the files before it, and notes what became of it. All of those are there, and their
+// bytes stay.
 fn read_one(i: usize, at: usize, bytes: &mut [u8], notes: &mut [u32]) -> FileFound
     requires { ⌜ (i < length (now notes)) × (i < 100) × (at ≤ 65536) × (at + mostBytes ≤ length (now bytes)) ⌝ }
     requires { ⌜ FileReached (now notes) i at ⌝ }
@@ -143,8 +141,8 @@ fn read_all(bytes: &mut [u8], notes: &mut [u32]) -> Taken
     Taken::Files(i)
 }
 
-// Hands the lines to standard output, which are the text of the files that were read, and notes how many bytes they
-// are. The answer says whether they were taken. Nothing was handed over before.
+// Hands the lines to standard output, which are the text of the files that were read, and notes how many bytes they are. The answer says whether they
+// were taken. Nothing was handed over before.
 fn hand(bytes: &[u8], notes: &[u32], handed: &mut usize, text: &[u8]) -> bool
     requires { ⌜ (now handed ≡ 0) × (now text ≡ printedOf (now bytes) (now notes)) ⌝ }
     ensures { λ r. ⌜ now (handed .exit) ≡ cond r (length (now (text .entry))) 0 ⌝ }
@@ -157,8 +155,8 @@ fn hand(bytes: &[u8], notes: &[u32], handed: &mut usize, text: &[u8]) -> bool
     true
 }
 
-// Puts the files in order and hands their lines on, by way of a table for their numbers and a buffer for the lines. The
-// answer says whether they were taken whole.
+// Puts the files in order and hands their lines on, by way of a table for their numbers and a buffer for the lines. The answer says whether they were
+// taken whole.
 fn print_shelf(
     bytes: &[u8],
     notes: &[u32],
@@ -169,8 +167,7 @@ fn print_shelf(
 ) -> bool
     requires { ⌜ (length (now notes) ≡ mostFiles) × (shelfEnd (now notes) ≡ taken.Files count) ⌝ }
     requires { ⌜ (mostFiles ≤ length (now order)) × (3 * mostFiles ≤ length (now out)) × (now handed ≡ 0) ⌝ }
-    ensures { λ r. ⌜ ShelfHanded (printedOf (now (bytes .entry)) (now (notes .entry))) (now (out .exit))
-        (now (handed .exit)) r ⌝ }
+    ensures { λ r. ⌜ ShelfHanded (printedOf (now (bytes .entry)) (now (notes .entry))) (now (out .exit)) (now (handed .exit)) r ⌝ }
 {
     let answer = call_shelf::shelf(bytes, &notes[..count], order);
     let ShelfAnswer::Ordered(ordered) = answer else {

@@ -28,7 +28,7 @@ module _ (ways : List Direction) (pattern host : Circuit) (taken : List ℕ) (mo
   -- "kept is the number of one bits in the whole table"; started likewise, of the first
   pub kept-ones : keptBy ways pattern host taken ≡ sum (map ones (lastBy ways pattern host taken))
   unfolding problemBy
-  kept-ones = Of.kept-ones (problemBy ways pattern host taken) most
+  kept-ones = Of.keptOf-ones (problemBy ways pattern host taken) most
 
   pub started-ones : startedBy ways pattern host taken ≡ sum (map ones (startBy ways pattern host taken))
   unfolding problemBy

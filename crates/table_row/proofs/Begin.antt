@@ -1,14 +1,13 @@
 -- Striking may begin with any table between the last one and the agreement: it comes to the same last set. Such a table is had from the
 -- last one of a problem that asks no more. Assumes nothing.
-use Rattle.base_lists.specs.Kit.{_≡_, _∙_, sym, List, ℕ, _≤_, suc, zero, lt-of-le-of-lt, length, getD, arith}
+use Rattle.base_lists.specs.Kit.{_≡_, _∙_, sym, List, ℕ, _≤_, suc, zero, lt-of-le-of-lt, length, getD}
 use Rattle.base_bits.proofs.Numbers.{subset-le}
 use Rattle.simulation.specs.Closed.{_⊆_, Refine}
 use Rattle.table_row.specs.Problem.{Problem, Agreeing, MoveOf, withMoves}
-use Rattle.table_row.specs.Row.{inTable, pairs, startOf, strikeOf, rowFrom, lastOf}
+use Rattle.table_row.specs.Row.{inTable, startOf, strikeOf, rowFrom, lastOf}
 use Rattle.table_row.specs.Reading.{InTable, TableOf, Wider, Begins}
 use Rattle.table_row.proofs.Sets.{same-pairs}
 use Rattle.table_row.proofs.Row.{start-fits, start-in, strike-fits, strike-in, strike-inside}
-use Rattle.table_row.proofs.Counting.{from-last}
 use Rattle.table_row.proofs.Meaning.{last-fits, last-agrees, last-own}
 use Rattle.table_row.proofs.Wider.{last-wider, fewer-moves}
 
@@ -74,11 +73,6 @@ module _ {D : Type 0} (p : Problem D) (most : p .parts ≤ 32) where
   unfolding rowFrom
   begins-times b zero = b
   begins-times b (suc k) = begins-next (begins-times b k)
-
-  -- So the row that begins with it ends with the last set, after at most as many rounds as it has pairs.
-  pub begins-last : {t : List ℕ} → Begins p t → (k : ℕ) → pairs t ≤ k → rowFrom p t k ≡ lastOf p
-  unfolding rowFrom
-  begins-last {t} b k h = begins-rest (begins-times b k) (from-last p most (begins-fits p b) k (suc k) h (omega arith))
 
 -- ---- the last table of a problem that asks no more
 

@@ -130,9 +130,9 @@ module _ {D : Type 0} (p : Problem D) (most : p .parts ≤ 32) where
   kept-started = omega (arith, kept-rounds)
 
   -- "kept is the number of one bits in the whole table"
-  pub kept-ones : keptOf p ≡ sum (map ones (lastOf p))
+  pub keptOf-ones : keptOf p ≡ sum (map ones (lastOf p))
   unfolding keptOf lastOf
-  kept-ones = pairs-ones (lastOf p) (fits-word most (row-fits p (startedOf p)))
+  keptOf-ones = pairs-ones (lastOf p) (fits-word most (row-fits p (startedOf p)))
 
   -- "started, the pairs of R0": so counted too
   pub started-ones : startedOf p ≡ sum (map ones (startOf p))

@@ -108,7 +108,7 @@ cast-least-in-ball c = let s = c .before .before .before .before .before .before
 least-in-ball-requires : tie.Need-least-in-ball-requires
 least-in-ball-requires c κs =
     let s = c .before .before .before .before .before .before .before .before .before .before .before .before .before .before .before .before .before .before .before .before .before .before .before .before .before .before in
-    (record { partKinds = _; board = _; radius = _; tried = trial (c .before .before .before .before .before .before .before .before) _ _ }, s .pre .1 .1)
+    (record { partLabels = _; board = _; radius = _; tried = trial (c .before .before .before .before .before .before .before .before) _ _ }, s .pre .1 .1)
 
 same-length : tie.Need-same-length
 same-length c = search needs
