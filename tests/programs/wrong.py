@@ -69,7 +69,7 @@ SHELF = [
 ]
 LOADER = [
     Wrong("silent", "loader", "    let run = print_asked_for(", "    return;\n    let run = print_asked_for("),
-    Wrong("two words swapped", "loader", "    let n = argument(2);", "    let n = argument(3);"),
+    Wrong("a word read twice", "loader", "    let second = hear(2, n);", "    let second = hear(3, n);"),
     Wrong("nothing printed", "loader", "output::write_whole(bytes)", "Output::Written(bytes.len())"),
     Wrong("the file twice", "loader", "output::write_whole(bytes)", "output::write_whole(bytes);\n    output::write_whole(bytes)"),
 ]

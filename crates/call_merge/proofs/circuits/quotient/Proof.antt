@@ -43,7 +43,7 @@ number-classes-requires c κs =
 
 -- ---- the classes
 
-abbrev numbered : tie.After-leader-kinds-arg2 → tie.After-number-classes
+abbrev numbered : tie.After-leader-labels-arg2 → tie.After-number-classes
 numbered c = c .before .before .before .before
 
 classed :
