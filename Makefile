@@ -1,14 +1,14 @@
-# Builds, tests and installs the library, the programs and the manual pages; README.md, "Installing", says how. What is
-# proved is made by the Rattle kit (rt) where it is not there yet; all else needs a C compiler and Python 3, and an
-# archive of what is built needs neither.
+# Builds, tests and installs the library, the programs and the manual pages; README.md, "Installing", says how. The
+# Rattle kit (rt) proves and builds the proved files if they are missing. The rest needs a C compiler and Python 3; an
+# archive of built files needs neither.
 #
-#     make                      what is to be installed, in target/install
-#     make check                installs it into a scratch folder, tries it there and takes it away again
-#     make install              into PREFIX; with PYTHON=yes the Python package too
-#     make uninstall            takes away what install put there
-#     make dist                 a source archive, and an archive of what is built, in target/dist
-#     make deb MAINTAINER=..    Debian packages, in target/deb
-#     make clean                takes away what this file made; `rm -r target` takes away what was proved too
+#     make                      builds what is to be installed, in target/install
+#     make check                installs into a scratch folder, tests what was installed and uninstalls it
+#     make install              installs into PREFIX; with PYTHON=yes the Python package too
+#     make uninstall            removes what install put there
+#     make dist                 makes a source archive and an archive of built files, in target/dist
+#     make deb MAINTAINER=..    makes Debian packages, in target/deb
+#     make clean                removes what this file made; `rm -r target` removes the proved files too
 
 VERSION = 3.0.0
 SONAME = libheronditch.so.3
@@ -36,7 +36,8 @@ PAGES = $(OUT)/man/heronditch.3
 PROVED = $(if $(wildcard crates),$(OUT)/PROVED.txt,docs/PROVED.txt)
 WHEEL = $(OUT)/wheel/made
 HEADERS = include/heronditch.h include/heronditch.hpp
-DOCS = README.md $(addprefix docs/,BENCH.md CHANGES.md LOADS.md PROMISES.md TEXT-FORM.md)
+GUIDES = $(patsubst %,docs/%.md,AUDIT BENCH CHANGES COST GLOSSARY IMPORT LOADS PROMISES SCALE SPECIFICATION TEXT-FORM)
+DOCS = README.md $(GUIDES)
 
 all: $(OUT)/libheronditch.a $(SHARED) $(PROGRAMS) $(PAGES) $(PROVED) $(if $(filter yes,$(PYTHON)),$(WHEEL))
 
@@ -126,7 +127,7 @@ ifeq ($(PYTHON),yes)
 endif
 
 dist: all $(WHEEL)
-	install/dist $(VERSION)
+	install/dist $(VERSION) $(GUIDES)
 
 deb: dist
 	install/deb $(VERSION) '$(MAINTAINER)'

@@ -1,4 +1,5 @@
-"""What docs/SCALE.md has worked through is run as it stands there, but for the cluster, which test_cluster.py has."""
+"""The job array of docs/SCALE.md, run as Slurm would run it. tools/documents runs the page's other commands, but for those of a cluster,
+which test_cluster.py has."""
 
 from __future__ import annotations
 
@@ -13,13 +14,7 @@ import pytest
 from batches import PATIENCE, boards_in, load  # noqa: F401
 from conftest import ROOT, write
 
-BLOCKS = re.findall(r"^```\n(.*?)^```$", (ROOT / "docs/SCALE.md").read_text(encoding="utf-8"), re.M | re.S)
-
-
-def block(words: str) -> str:
-    """The one block of the document with some words in it."""
-    (found,) = [text for text in BLOCKS if words in text]
-    return str(found)
+SCRIPTS = re.findall(r"^```sh\n(.*?)^```$", (ROOT / "docs/SCALE.md").read_text(encoding="utf-8"), re.M | re.S)
 
 
 @pytest.fixture
@@ -34,31 +29,18 @@ def shop(load: pathlib.Path, tmp_path: pathlib.Path) -> pathlib.Path:  # noqa: F
     return tmp_path
 
 
-def bash(shop: pathlib.Path, text: str, **further: str) -> subprocess.CompletedProcess[bytes]:
-    """Runs a block in the shop."""
+def bash(shop: pathlib.Path, text: str, **further: str) -> int:
+    """Runs a script in the shop, and gives its status."""
     path = f"{shop}/bin:{os.environ['PATH']}"
     env = {**os.environ, "PATH": path, **further}
-    return subprocess.run(["bash", "-c", text], cwd=shop, env=env, capture_output=True, timeout=PATIENCE, check=False)
+    return subprocess.run(["bash", "-c", text], cwd=shop, env=env, capture_output=True, timeout=PATIENCE, check=False).returncode
 
 
-def test_worked_through(shop: pathlib.Path) -> None:
-    """One machine, GNU parallel and a job array come to the same lines."""
-    file = shop / "receipts.jsonl"
-    done = bash(shop, block("verify receipts.jsonl"))
-    assert (done.returncode, done.stdout) == (0, b"400 receipts, all of them so\n")
-    lines = file.read_bytes()
-    assert bash(shop, block("--resume receipts.jsonl")).returncode == 0 and file.read_bytes() == lines
-    table = bash(shop, block("--summary"))
-    assert table.returncode == 0 and table.stdout.count(b"boards/b") == 25
-
-    file.unlink()
-    parallel = bash(shop, block("parallel"))
-    assert parallel.returncode == 0 and file.read_bytes() == lines
-    assert {line.split("\t")[6] for line in (shop / "shares.log").read_text().splitlines()[1:]} <= {"0", "1"}
-    for part in shop.glob("part-*.jsonl"):
-        part.unlink()
-
-    script = block("#SBATCH").replace("100", "4")
+def test_job_array(shop: pathlib.Path) -> None:
+    """The tasks' lines, one after another, are those of one machine."""
+    assert bash(shop, "heronditch batch --patterns shelf --boards boards -o receipts.jsonl") == 0
+    (script,) = [text for text in SCRIPTS if "#SBATCH" in text]
     for task in "1234":
-        assert bash(shop, script, SLURM_ARRAY_TASK_ID=task).returncode == 0
-    assert b"".join((shop / f"part-{task}.jsonl").read_bytes() for task in "1234") == lines
+        assert bash(shop, script.replace("100", "4"), SLURM_ARRAY_TASK_ID=task) == 0
+    parts = b"".join((shop / f"part-{task}.jsonl").read_bytes() for task in "1234")
+    assert parts == (shop / "receipts.jsonl").read_bytes() and parts.count(b"\n") == 400

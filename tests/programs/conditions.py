@@ -1,5 +1,5 @@
 #!/usr/bin/env python3
-"""Runs the programs under conditions that decide how they read: conditions.py FINDER SHELF LOADER
+"""Runs the programs under conditions that affect how they read: conditions.py FINDER SHELF LOADER
 
 Standard input closed, so that a file opens as 0; a file that fails half-way; one of just the buffer's length, and one longer than the buffer; words
 that a program does not take. Exits 1 and says what went wrong otherwise.

@@ -33,14 +33,14 @@ class Wrong(NamedTuple):
 
 GAP_READ_OVER = """    let loaded = load(i, &mut bytes[at..end]);
     let found = match loaded {
-        Found::Bytes(size) => Found::Bytes(size),
-        Found::Absent => Found::Bytes(0),
-        Found::Unreadable => Found::Unreadable,
+        FileFound::Bytes(size) => FileFound::Bytes(size),
+        FileFound::Absent => FileFound::Bytes(0),
+        FileFound::Unreadable => FileFound::Unreadable,
     };"""
 EMPTY_FOR_A_GAP = """    if size == 0 {
-        return Found::Absent;
+        return FileFound::Absent;
     }
-    Found::Bytes(size)
+    FileFound::Bytes(size)
 """
 READS = """    let first = load(Role::Pattern, b"pattern.cir", pattern);
     let second = load(Role::Board, b"board.cir", board);
@@ -52,7 +52,7 @@ FINDER = [
     Wrong("the two names swapped", "finder", READS, NAMES_SWAPPED),
     Wrong("a line more", "finder", "    ended(print_report(", '    output::write_whole(b"hello\\n");\n    ended(print_report('),
     Wrong("silent", "finder", "    let run = report_files(", "    return;\n    let run = report_files("),
-    Wrong("nothing opened", "finder", "    as_read(input::load(name, buf))", "    as_read(Found::Absent)"),
+    Wrong("nothing opened", "finder", "    as_read(input::load(name, buf))", "    as_read(FileFound::Absent)"),
     Wrong("nothing printed", "finder", "output::write_whole(bytes)", "Output::Written(bytes.len())"),
     Wrong("a piece twice", "finder", "output::write_whole(bytes)", "output::write_whole(bytes);\n    output::write_whole(bytes)"),
 ]
@@ -60,16 +60,16 @@ SHELF = [
     Wrong("the other standard stream", "shelf", "libc::write(fd, rest)", "libc::write(2, rest)", "output"),
     Wrong("a file that opens taken for one that does not", "shelf", "    fd >= 0", "    fd >= 64", "input"),
     Wrong("silent", "shelf", "    shelve(&mut", "    return;\n    shelve(&mut"),
-    Wrong("nothing opened", "shelf", "    input::load(name, buf)", "    Found::Absent"),
+    Wrong("nothing opened", "shelf", "    input::load(name, buf)", "    FileFound::Absent"),
     Wrong("nothing printed", "shelf", "output::write_whole(text)", "Output::Written(text.len())"),
     Wrong("the lines twice", "shelf", "output::write_whole(text)", "output::write_whole(text);\n    output::write_whole(text)"),
     Wrong("a line more", "shelf", "    let answer = output::write_whole(text)", '    output::write_whole(b"99\\n");\n    let answer = output::write_whole(text)'),
     Wrong("a gap read over", "shelf", "    let found = load(i, &mut bytes[at..end]);", GAP_READ_OVER),
-    Wrong("an empty file taken for a gap", "shelf", "    Found::Bytes(size)\n", EMPTY_FOR_A_GAP, "input"),
+    Wrong("an empty file taken for a gap", "shelf", "    FileFound::Bytes(size)\n", EMPTY_FOR_A_GAP, "input"),
 ]
 LOADER = [
-    Wrong("silent", "loader", "    let run = load_asked_for(", "    return;\n    let run = load_asked_for("),
-    Wrong("two words swapped", "loader", "    let n = argument(2);", "    let n = argument(3);"),
+    Wrong("silent", "loader", "    let run = print_asked_for(", "    return;\n    let run = print_asked_for("),
+    Wrong("a word read twice", "loader", "    let second = hear(2, n);", "    let second = hear(3, n);"),
     Wrong("nothing printed", "loader", "output::write_whole(bytes)", "Output::Written(bytes.len())"),
     Wrong("the file twice", "loader", "output::write_whole(bytes)", "output::write_whole(bytes);\n    output::write_whole(bytes)"),
 ]

@@ -2,7 +2,7 @@
 """Tries outputs that fail: output.py FINDER RUN PROGRAM
 
 FINDER is the report program, RUN the script that runs it, PROGRAM the report program in C. Each prints a report of many megabytes to an output
-that is full, closed, cut short, does not block, or whose reader goes away. What comes out is always a front of the report; where it is not the
+that is full, closed, cut short, does not block, or whose reader goes away. The output is always the beginning of the report; if it is not the
 whole report, a line on standard error says so, and RUN and PROGRAM give status 2. Exits 1 and says what went wrong otherwise.
 """
 import fcntl
@@ -41,7 +41,7 @@ class Program:
         return subprocess.Popen(self.command, cwd=self.cwd, stdout=stdout, stderr=subprocess.PIPE, **options)
 
     def judge(self, what, whole, got, process, status):
-        """What came out is a front of the report; where it is not the report, that is said, with the status given."""
+        """The output is the beginning of the report; if it is not all of it, an error is reported with the status given."""
         error = process.stderr.read()
         process.wait()
         check(whole.startswith(got), self.name, what, "no front of the report,", len(got), "bytes")

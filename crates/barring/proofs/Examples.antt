@@ -1,8 +1,5 @@
 -- Examples of the least that still says none, by computation. Assumes nothing.
-use mathlib.Core.Bool.{not}
-use mathlib.Core.List.{List, [], _∷_}
-use mathlib.Core.Path.{_≡_, refl}
-use Prim.Native.Nat.{ℕ}
+use Rattle.base_lists.specs.Kit.{_≡_, refl, List, [], _∷_, ℕ}
 use Rattle.base_lists.specs.List.{maximum}
 use Rattle.base_lists.specs.Below.{keepFrom}
 use Rattle.graph.specs.Chosen.{picked, chosen}
@@ -34,7 +31,7 @@ every-link = (refl, refl)
 
 -- a board of one node, of kind 40
 unfoldable pub stranger : Circuit
-stranger = record { kinds = 40 ∷ []; starts = []; ends = [] }
+stranger = record { labels = 40 ∷ []; starts = []; ends = [] }
 
 -- T around a centre whose kind no part has: the empty set bars, nothing is kept, and the reply is 0.
 pub no-link : Keeps circuitT stranger 0 (0 ∷ 0 ∷ []) 0
@@ -42,20 +39,20 @@ unfolding opened circuitT stranger
 no-link = (refl, refl)
 
 -- a board of one node, of kind 20
-unfoldable pub alone : Circuit
-alone = record { kinds = 20 ∷ []; starts = []; ends = [] }
+unfoldable pub oneNode : Circuit
+oneNode = record { labels = 20 ∷ []; starts = []; ends = [] }
 
 -- T around it: either link bars by itself, and of the two the one that comes first in the file is dropped.
-pub either-link : Keeps circuitT alone 0 (0 ∷ 1 ∷ []) 1
-unfolding opened circuitT alone
+pub either-link : Keeps circuitT oneNode 0 (0 ∷ 1 ∷ []) 1
+unfolding opened circuitT oneNode
 either-link = (refl, refl)
 
 -- a ring of three parts of one kind, whose radius is 1, and a board on which the centre 1 has at its end a node that drives itself
 unfoldable pub ring : Circuit
-ring = record { kinds = 10 ∷ 10 ∷ 10 ∷ []; starts = 0 ∷ 1 ∷ 2 ∷ []; ends = 1 ∷ 2 ∷ 0 ∷ [] }
+ring = record { labels = 10 ∷ 10 ∷ 10 ∷ []; starts = 0 ∷ 1 ∷ 2 ∷ []; ends = 1 ∷ 2 ∷ 0 ∷ [] }
 
 unfoldable pub branch : Circuit
-branch = record { kinds = 10 ∷ 10 ∷ 10 ∷ 10 ∷ []; starts = 2 ∷ 2 ∷ 3 ∷ []; ends = 2 ∷ 3 ∷ 1 ∷ [] }
+branch = record { labels = 10 ∷ 10 ∷ 10 ∷ 10 ∷ []; starts = 2 ∷ 2 ∷ 3 ∷ []; ends = 2 ∷ 3 ∷ 1 ∷ [] }
 
 -- In the ball at the ring's radius, the nodes 1 and 3, two of its links bar. Without the first link the radius would be 2, and the ball would have the
 -- node that drives itself: it is the full pattern's radius that counts.

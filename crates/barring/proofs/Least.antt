@@ -1,19 +1,8 @@
 -- The kept links bar, and with any one or more of them taken away the rest does not. Where there is no place all links together bar, which is
 -- why the procedure can begin. Assumes nothing.
-use mathlib.Core.Bool.{false, not}
-use mathlib.Core.List.{List}
-use mathlib.Core.Logic.{_↔_}
-use mathlib.Core.Path.{_≡_, refl, sym, ap, subst, _∙_}
-use Prim.Native.Nat.{ℕ, zero, suc, _≤_, _<_, zero-le}
-use native.Mathlib.Decide.{decLt}
-use native.Mathlib.Omega.{arith}
-use lib.Dec.{T}
-use lib.ListN.{length, getD, set, length-replicate, getD-replicate, List·getD-eq-default}
-use borrow.Author.Tests.{eq-eqb, ne-eqb}
-use Rattle.base_lists.specs.Below.{countBelow}
-use Rattle.base_lists.proofs.Below.{countBelow-same}
-use Rattle.base_lists.proofs.Tests.{true-T, T-false, false-T}
-use Rattle.graph.specs.Chosen.{chosen, ChosenLink}
+use Rattle.base_lists.specs.Kit.{_≡_, _∙_, sym, ap, subst, _↔_, not, List, ℕ, _<_, zero-le, T, length, getD, set, length-replicate, getD-replicate, arith, eq-eqb, T-not, not-T}
+use Rattle.base_lists.proofs.Tests.{true-T}
+use Rattle.graph.specs.Chosen.{ChosenLink}
 use Rattle.graph.specs.Circuit.{Circuit, LinkAt, HasLink, graphOf, circuitGraph}
 use Rattle.graph.specs.Graph.{Graph, Radius}
 use Rattle.graph.specs.Search.{inside}
@@ -26,9 +15,9 @@ use Rattle.table.specs.Host.{KindsMatch}
 use Rattle.place.specs.Match.{found}
 use Rattle.place.proofs.Ball.{Admissible, ballGraph}
 use Rattle.barring.specs.Barring.{BarsIn, Bars}
-use Rattle.barring.specs.Least.{bars, dropFrom, allLinks, least, keptCount}
-use Rattle.barring.proofs.Meaning.{not-both, none-not, chosen-largest, bars-none, barring-more, bars-iff, bars-upward}
-use Rattle.barring.proofs.Procedure.{length-drop, drop-passes, drop-needed, without-it, without-other}
+use Rattle.barring.specs.Least.{bars, allLinks, least}
+use Rattle.barring.proofs.Meaning.{barring-more, bars-iff, bars-upward}
+use Rattle.barring.proofs.Procedure.{length-drop, drop-passes, drop-needed, without-other}
 
 -- the same links, said in another way
 bars-same : {P : Graph} {Agree : Relation} {H : Graph} {w : ℕ} {L L′ : Relation} → L ⊆ L′ → L′ ⊆ L → BarsIn P Agree H w L → BarsIn P Agree H w L′
@@ -52,20 +41,6 @@ chosen-without c marks {i} l x x′ other (j, k, t) = (j, k, subst T (sym (witho
           sym (k .start) ∙ ap (λ (n : ℕ). getD (c .starts) n 0) e ∙ l .start,
           sym (k .end) ∙ ap (λ (n : ℕ). getD (c .ends) n 0) e ∙ l .end,
         )
-
--- a byte that is 1 stands in the list
-marked-below : (marks : List ℕ) (i : ℕ) → T (inside marks i) → i < length marks
-unfolding inside
-marked-below marks i t = go (decLt i (length marks))
-  where
-    go : Dec (i < length marks) → i < length marks
-    go (yes h) = h
-    go (no h) = absurd (false-T (ne-eqb (getD marks i 0) 1 (λ e. absurd (omega (arith, e, List·getD-eq-default marks 0 {n = i} (omega arith))))) t)
-
-count-none : (n : ℕ) → countBelow n (λ i. false) ≡ 0
-unfolding countBelow
-count-none zero = refl
-count-none (suc n) = omega (arith, count-none n)
 
 -- the byte of each link is 1 at first
 all-marked : (m i : ℕ) → i < m → T (inside (allLinks m) i)
@@ -100,9 +75,9 @@ module _ {pattern board : Circuit} (a : Admissible pattern board) (w r : ℕ) wh
   all-bar = (
     λ none.
         bars-same (chosen-has pattern (allLinks size)) all-chosen
-        (bars-iff pattern board (a .most) (a .links) w r (allLinks size) .0 (rw (all-test pattern board (a .parallel) w r) (none-not (found pattern board w r) none))),
+        (bars-iff pattern board (a .most) (a .links) w r (allLinks size) .0 (rw (all-test pattern board (a .parallel) w r) (not-T (found pattern board w r) none))),
     λ b t.
-        not-both (found pattern board w r)
+        T-not (found pattern board w r)
         (rw (all-test pattern board (a .parallel) w r) at (barring-more pattern board (a .most) (a .links) w r (circuitGraph pattern .Link) (allLinks size) all-chosen b)) t,
   )
 
@@ -122,7 +97,7 @@ module _ {pattern board : Circuit} (a : Admissible pattern board) (w r : ℕ) wh
     unfolding least
     least-bars =
         bars-iff pattern board (a .most) (a .links) w r (least pattern board w r) .0
-        (drop-passes (bars pattern board w r) 0 size (allLinks size) (rw (all-test pattern board (a .parallel) w r) (none-not (found pattern board w r) none)))
+        (drop-passes (bars pattern board w r) 0 size (allLinks size) (rw (all-test pattern board (a .parallel) w r) (not-T (found pattern board w r) none)))
 
     -- the rest without the i-th, where that is one of them, does not
     without-one : (i : ℕ) → i < size → T (inside (least pattern board w r) i) → T (bars pattern board w r (set (least pattern board w r) i 0)) → ⊥
@@ -140,21 +115,6 @@ module _ {pattern board : Circuit} (a : Admissible pattern board) (w r : ℕ) wh
         (λ (p, q). gone (subst (λ (y : ℕ). L y u′) p (subst (λ (y : ℕ). L x y) q m)))
         (fewer x x′ m))
         b)
-
-    -- With a centre that no part agrees with nothing is kept: no link is needed to bar it.
-    pub none-kept : ((u : ℕ) → u < length (pattern .kinds) → KindsMatch pattern board u w → ⊥) → (i : ℕ) → T (inside (least pattern board w r) i) → ⊥
-    unfolding circuitGraph graphOf
-    none-kept unlike i t =
-        let here : i < size = rw least-size at (marked-below (least pattern board w r) i t) in
-        let rest = set (least pattern board w r) i 0 in
-        without-one i here t
-        (bars-none pattern board (a .most) (a .links) w r rest .1
-        (λ u m. let c = chosen-largest pattern board (a .most) (a .links) w r rest .closed .agree u w m in unlike u (c .part) (c .kinds)))
-
-    pub none-count : ((u : ℕ) → u < length (pattern .kinds) → KindsMatch pattern board u w → ⊥) → keptCount (least pattern board w r) ≡ 0
-    unfolding keptCount
-    none-count unlike =
-        countBelow-same (length (least pattern board w r)) (inside (least pattern board w r)) (λ i. false) (λ i h. T-false (none-kept unlike i)) ∙ count-none (length (least pattern board w r))
 
 -- ---- at the full pattern's radius
 

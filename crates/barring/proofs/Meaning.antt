@@ -1,16 +1,8 @@
 -- The test of chosen links means barring: it says whether the largest set of pairs that meets kinds and those links alone has a pair with the
 -- centre. Assumes nothing.
-use mathlib.Core.Bool.{Bool, true, false, not}
-use mathlib.Core.List.{List}
-use mathlib.Core.Logic.{_↔_}
-use mathlib.Core.Path.{_≡_, refl, sym, ap, _∙_}
-use Prim.Native.Nat.{ℕ, _≤_, _<_}
-use lib.Dec.{T}
-use lib.ListN.{length}
-use Rattle.base_lists.proofs.Tests.{T-false, true-T, false-T, T-true}
+use Rattle.base_lists.specs.Kit.{_↔_, List, ℕ, _≤_, T, length, T-not, not-T}
 use Rattle.graph.specs.Chosen.{chosen, ChosenLink}
-use Rattle.graph.specs.Circuit.{Circuit, HasLink, graphOf, circuitGraph}
-use Rattle.graph.specs.Search.{inside}
+use Rattle.graph.specs.Circuit.{Circuit, graphOf, circuitGraph}
 use Rattle.graph.proofs.Ball.{Within}
 use Rattle.graph.proofs.Chosen.{chosen-iff}
 use Rattle.simulation.specs.Closed.{Relation, _⊆_, LargestClosed}
@@ -26,15 +18,7 @@ use Rattle.barring.specs.Barring.{BarsIn}
 use Rattle.barring.specs.Least.{bars}
 use Rattle.barring.proofs.Procedure.{Fewer}
 
-pub not-both : (b : Bool) → T (not b) → T b → ⊥
-not-both true t f = t
-not-both false t f = f
-
-pub none-not : (b : Bool) → (T b → ⊥) → T (not b)
-none-not true f = absurd (f tt)
-none-not false f = tt
-
-module _ (pattern board : Circuit) (most : length (pattern .kinds) ≤ 32) (links : Within (length (board .kinds)) (board .starts) (board .ends)) (w r : ℕ) where
+module _ (pattern board : Circuit) (most : length (pattern .labels) ≤ 32) (links : Within (length (board .labels)) (board .starts) (board .ends)) (w r : ℕ) where
   -- the pairs of the ball's last table for the chosen links
   abbrev Pairs : List ℕ → Relation
   Pairs marks = BallPairs (chosen pattern marks) board w r
@@ -63,8 +47,8 @@ module _ (pattern board : Circuit) (most : length (pattern .kinds) ≤ 32) (link
   unfolding bars chosen
   bars-none marks =
       let occurs = found-occurs (chosen pattern marks) board most w r in (
-        λ t u m. not-both (found (chosen pattern marks) board w r) t (occurs .1 (u, m)),
-        λ none. none-not (found (chosen pattern marks) board w r) (λ f. let (u, m) = occurs .0 f in none u m),
+        λ t u m. T-not (found (chosen pattern marks) board w r) t (occurs .1 (u, m)),
+        λ none. not-T (found (chosen pattern marks) board w r) (λ f. let (u, m) = occurs .0 f in none u m),
       )
 
   -- A set of links that bars is barring still with more: so says the test of any choice that has them all.

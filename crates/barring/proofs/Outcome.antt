@@ -1,9 +1,5 @@
 -- What the outcome comes to, by cases of whether the centre is found. Assumes nothing.
-use mathlib.Core.Bool.{true, false}
-use mathlib.Core.List.{List, _++_}
-use mathlib.Core.Path.{_≡_, refl, sym, ap, _∙_}
-use Prim.Native.Nat.{ℕ}
-use lib.ListN.{length, drop}
+use Rattle.base_lists.specs.Kit.{_≡_, false, true, List, _++_, ℕ, length, drop}
 use Rattle.graph.specs.Circuit.{Circuit}
 use Rattle.file_format.specs.declared.File.the-variants.{Neither}
 use Rattle.file_format.specs.Reading.{filled}
@@ -11,7 +7,7 @@ use Rattle.file_format.specs.Refusals.{first, centrePlaced}
 use Rattle.file_format.specs.Reply.{reply}
 use Rattle.place.specs.Match.{found}
 use Rattle.barring.specs.declared.BarAnswer.the-variants.{Kept, Refused}
-use Rattle.barring.specs.Least.{bars, least, keptCount, allLinks}
+use Rattle.barring.specs.Least.{least, keptCount}
 use Rattle.barring.specs.Outcome.{barReply, barring, barAround}
 
 module _ (pattern board : Circuit) (w r : ℕ) (out : List ℕ) where

@@ -1,17 +1,7 @@
 -- Dropping one after another, by a test that more links pass if fewer do: what is left passes, and without any one of what is left it would
 -- not. Assumes nothing.
-use mathlib.Core.Bool.{Bool, true, false, cond}
-use mathlib.Core.List.{List}
-use mathlib.Core.Logic.{_⊎_, inl, inr}
-use mathlib.Core.Path.{_≡_, refl, sym, ap, subst, _∙_}
-use Prim.Native.Nat.{ℕ, zero, suc, _+_, _≤_, _<_}
+use Rattle.base_lists.specs.Kit.{_≡_, _∙_, sym, ap, refl, subst, _⊎_, inl, inr, Bool, false, true, cond, List, ℕ, _≤_, _<_, _+_, suc, zero, eq-or-lt-of-le, T, eqb, length, getD, set, length-set, List·getD-eq-default, getD-set-other, getD-set-same, arith, ne-eqb}
 use native.Mathlib.Decide.{decLt, ℕ-discrete}
-use native.Mathlib.Nat.{eq-or-lt-of-le}
-use native.Mathlib.Omega.{arith}
-use borrow.Author.Tests.{ne-eqb}
-use lib.Dec.{T, eqb}
-use lib.ListN.{length, getD, set, length-set, List·getD-eq-default}
-use lib.Seq.{getD-set-same, getD-set-other}
 use Rattle.base_lists.proofs.Tests.{false-T, true-T}
 use Rattle.graph.specs.Search.{inside}
 use Rattle.barring.specs.Least.{dropFrom}

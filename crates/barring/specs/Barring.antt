@@ -1,5 +1,5 @@
 -- Barring, over arbitrary sets of links: those links alone already say that the centre has no place. Document 02, Ask 14.
-use Prim.Native.Nat.{ℕ}
+use Rattle.base_lists.specs.Kit.{ℕ}
 use Rattle.graph.specs.Graph.{Graph, Ball, Radius}
 use Rattle.simulation.specs.Closed.{Relation, LargestClosed}
 use Rattle.simulation.specs.Simulation.{Candidate, Along}

@@ -1,9 +1,6 @@
 -- The links that are left, computed: 02's procedure, on a byte for each link of the pattern, 1 for kept. proofs/ shows that the kept links
 -- bar, and that no fewer of them do.
-use mathlib.Core.Bool.{Bool, not, cond}
-use mathlib.Core.List.{List}
-use Prim.Native.Nat.{ℕ, zero, suc}
-use lib.ListN.{length, set, replicate}
+use Rattle.base_lists.specs.Kit.{Bool, cond, not, List, ℕ, suc, zero, length, set, replicate}
 use Rattle.base_lists.specs.Below.{countBelow}
 use Rattle.graph.specs.Chosen.{chosen}
 use Rattle.graph.specs.Circuit.{Circuit}

@@ -1,6 +1,5 @@
 -- What looking for the least that still bars comes to: the reply, and the lent bytes' later content, from the inputs alone.
-use mathlib.Core.List.{List, [], _∷_}
-use Prim.Native.Nat.{ℕ}
+use Rattle.base_lists.specs.Kit.{List, [], _∷_, ℕ}
 use Rattle.graph.specs.Circuit.{Circuit}
 use Rattle.file_format.specs.Reading.{filled}
 use Rattle.file_format.specs.Refusals.{Verdict, accept, refuse, first, centrePlaced}

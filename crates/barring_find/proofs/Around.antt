@@ -1,12 +1,5 @@
 -- From the ball's list and first table to the trials, and from the trial of all links to whether the centre has a place. Assumes nothing.
-use mathlib.Core.Bool.{Bool, true, false, not}
-use mathlib.Core.List.{List, _++_}
-use mathlib.Core.Path.{_≡_, sym, ap, subst, _∙_}
-use Prim.Native.Nat.{ℕ, _≤_, _<_}
-use native.Mathlib.Omega.{arith}
-use borrow.Author.Tests.{not-true, not-false}
-use lib.ListN.{length, take, length-append}
-use lib.Seq.{take-at, take-append-le}
+use Rattle.base_lists.specs.Kit.{_≡_, _∙_, sym, ap, subst, Bool, false, true, not, List, _++_, ℕ, _≤_, _<_, length, take, take-at, take-append-le, not-false, not-true}
 use Rattle.graph.specs.Circuit.{Circuit}
 use Rattle.graph.specs.Net.{NetOf}
 use Rattle.file_format.specs.declared.Role.the-variants as role
@@ -21,35 +14,24 @@ use Rattle.barring_find.specs.Ball.{Listed}
 use Rattle.barring_find.specs.Trial.{Tried}
 use Rattle.barring_find.proofs.Drops.{take-ones}
 
--- a front that is short enough for a list is short enough for a longer one
-pub room : (k : ℕ) (xs ys : List ℕ) → k ≤ length xs → k ≤ length (xs ++ ys)
-room k xs ys h = omega (arith, length-append xs ys)
-
--- the front of a longer list that has the entries of a list
-pub cut-room : (n : ℕ) (xs ys : List ℕ) → length xs ≡ n → n ≤ length (xs ++ ys)
-cut-room n xs ys e = omega (arith, length-append xs ys)
-
-pub cut-size : (n : ℕ) (xs ys : List ℕ) → length xs ≡ n → n ≡ length (take n (xs ++ ys))
-cut-size n xs ys e = sym (ap length (take-at xs ys n e) ∙ e)
-
 -- ---- a trial in the ball that was listed, whose list and table are cut from longer ones
 
 pub listed-tried :
-    {pattern board : Circuit} {offsets links : List ℕ} {around : Around} {queue first : List ℕ} {k : ℕ} → Bounded role.Pattern pattern → Bounded role.Board board →
-    NetOf (length (board .kinds)) (board .starts) (board .ends) offsets links → around .centre < length (board .kinds) →
-    Listed (pattern .kinds) board around queue first k → length first ≡ length (board .kinds) → (past after : List ℕ) →
-    Tried pattern board offsets links (around .centre) (around .radius) (take k (queue ++ past)) (take (length (board .kinds)) (first ++ after))
+    {pattern board : Circuit} {offsets targets : List ℕ} {around : Around} {queue first : List ℕ} {k : ℕ} → Bounded role.Pattern pattern → Bounded role.Board board →
+    NetOf (length (board .labels)) (board .starts) (board .ends) offsets targets → around .centre < length (board .labels) →
+    Listed (pattern .labels) board around queue first k → length first ≡ length (board .labels) → (past after : List ℕ) →
+    Tried pattern board offsets targets (around .centre) (around .radius) (take k (queue ++ past)) (take (length (board .labels)) (first ++ after))
 listed-tried {pattern} {board} {around = around} {queue} {first} {k} drawn given net centre l long past after =
     let nodes : take k queue ≡ take k (queue ++ past) = sym (take-append-le k queue past (l .short)) in
-    let table : take (length (board .kinds)) (first ++ after) ≡ first = take-at first after (length (board .kinds)) long in
+    let table : take (length (board .labels)) (first ++ after) ≡ first = take-at first after (length (board .labels)) long in
     record {
       parts = drawn;
       most = given .nodes;
       net = net;
       centre = centre;
-      list = subst (λ (xs : List ℕ). NodeList (length (board .kinds)) xs) nodes (l .list);
-      ball = subst (λ (xs : List ℕ). marksOf (length (board .kinds)) xs ≡ ballOf board (around .centre) (around .radius)) nodes (l .ball);
-      agree = table ∙ l .agree ∙ ap (tableAt (length (board .kinds)) (startNode (pattern .kinds) (board .kinds))) nodes;
+      list = subst (λ (xs : List ℕ). NodeList (length (board .labels)) xs) nodes (l .list);
+      ball = subst (λ (xs : List ℕ). marksOf (length (board .labels)) xs ≡ ballOf board (around .centre) (around .radius)) nodes (l .ball);
+      agree = table ∙ l .agree ∙ ap (tableAt (length (board .labels)) (startNode (pattern .labels) (board .labels))) nodes;
     }
 
 -- ---- all links together

@@ -1,14 +1,11 @@
 -- Over a board's neighbour tables the search lists the ball. Assumes nothing.
-use mathlib.Core.List.{List}
-use mathlib.Core.Path.{_≡_}
-use Prim.Native.Nat.{ℕ, _≤_, _<_}
-use lib.ListN.{length, take}
+use Rattle.base_lists.specs.Kit.{_≡_, List, ℕ, _≤_, _<_, length, take}
 use Rattle.base_lists.specs.List.{Below}
+use Rattle.base_lists.proofs.Entries.{all-below}
 use Rattle.graph.specs.Bfs.{bfs, adjacent, Found}
 use Rattle.graph.specs.Circuit.{Circuit}
 use Rattle.graph.specs.Net.{Net, NetOf}
 use Rattle.graph.proofs.Ball.{Within, within}
-use Rattle.graph.proofs.Groups.{all-below}
 use Rattle.graph.proofs.Net.{net-of}
 use Rattle.file_format.specs.declared.Role.the-variants as role
 use Rattle.file_format.specs.Circuit.{Bounded}
@@ -19,21 +16,21 @@ use Rattle.place.proofs.Matched.{found-short, found-list, found-marks}
 use Rattle.barring_find.specs.Ball.{Netted}
 
 -- the tables of a board that was read
-pub bounded-netted : {board : Circuit} {offsets links : List ℕ} → Bounded role.Board board → NetOf (length (board .kinds)) (board .starts) (board .ends) offsets links → Netted board offsets links
+pub bounded-netted : {board : Circuit} {offsets targets : List ℕ} → Bounded role.Board board → NetOf (length (board .labels)) (board .starts) (board .ends) offsets targets → Netted board offsets targets
 bounded-netted b net = record { net = net; starts = all-below _ _ (bounded-starts b); ends = all-below _ _ (bounded-ends b) }
 
-module _ {board : Circuit} {offsets links : List ℕ} (d : Netted board offsets links) where
+module _ {board : Circuit} {offsets targets : List ℕ} (d : Netted board offsets targets) where
   abbrev size : ℕ
-  size = length (board .kinds)
+  size = length (board .labels)
 
   joins : Within size (board .starts) (board .ends)
   unfolding Below
   joins = within size (board .starts) (board .ends) (d .starts) (d .ends)
 
-  pub netted-net : Net size offsets links
+  pub netted-net : Net size offsets targets
   netted-net = net-of (d .net)
 
-  module _ (w r : ℕ) (h : w < size) {k : ℕ} {dist queue : List ℕ} (f : Found k dist queue (bfs (adjacent offsets links) size w r)) where
+  module _ (w r : ℕ) (h : w < size) {k : ℕ} {dist queue : List ℕ} (f : Found k dist queue (bfs (adjacent offsets targets) size w r)) where
     pub netted-short : k ≤ size
     netted-short = found-short board (d .net) joins w r h k dist queue f
 

@@ -22,20 +22,20 @@ pub fn drop_links(
     starts: &[u16],
     ends: &[u16],
     offsets: &[u16],
-    links: &[u16],
+    targets: &[u16],
     first: &[u32],
     w: usize,
     marks: &mut [u8],
 )
-    requires { ⌜ SomeTried (now starts) (now ends) (now offsets) (now links) w (now nodes) (now first) ⌝ }
+    requires { ⌜ SomeTried (now starts) (now ends) (now offsets) (now targets) w (now nodes) (now first) ⌝ }
     requires { ⌜ length (now starts) ≡ length (now marks) ⌝ }
-    ensures { λ _. ⌜ EveryLeast (now (starts .entry)) (now (ends .entry)) (now (offsets .entry)) (now (links .entry)) w (now (nodes .entry)) (now (first .entry)) (now (marks .exit)) ⌝ }
+    ensures { λ _. ⌜ EveryLeast (now (starts .entry)) (now (ends .entry)) (now (offsets .entry)) (now (targets .entry)) w (now (nodes .entry)) (now (first .entry)) (now (marks .exit)) ⌝ }
 {
     choose_all(marks);
     let mut i = 0;
     while i < marks.len() {
         marks[i] = 0;
-        if !bars(nodes, starts, ends, offsets, links, first, w, marks) {
+        if !bars(nodes, starts, ends, offsets, targets, first, w, marks) {
             marks[i] = 1;
         }
         i += 1;

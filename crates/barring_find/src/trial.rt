@@ -1,7 +1,7 @@
 // Whether some of a pattern's links bar: the largest set of pairs that meets kinds and those links alone has no pair with the centre.
 use file_format::Board;
 use file_format::Pattern;
-use graph_chosen::choose;
+use graph::marked::choose;
 use table::MASKS;
 use table_first::copy;
 use table_largest::refine;
@@ -43,19 +43,19 @@ fn empty_at(
     nodes: &[u16],
     masks: &[u32],
     offsets: &[u16],
-    links: &[u16],
+    targets: &[u16],
     first: &[u32],
     w: usize,
     sets: &mut [u32],
     spare: &mut [u32],
 ) -> bool
-    requires { ⌜ SomeBegun (tables (now masks) (now offsets) (now links)) (now nodes) (now first) ⌝ }
+    requires { ⌜ SomeBegun (tables (now masks) (now offsets) (now targets)) (now nodes) (now first) ⌝ }
     requires { ⌜ w < length (now first) ⌝ }
     requires { ⌜ (length (now sets) ≡ length (now first)) × (length (now spare) ≡ length (now first)) ⌝ }
-    ensures { λ r. ⌜ EveryEmpty (tables (now (masks .entry)) (now (offsets .entry)) (now (links .entry))) (now (nodes .entry)) (now (first .entry)) w r ⌝ }
+    ensures { λ r. ⌜ EveryEmpty (tables (now (masks .entry)) (now (offsets .entry)) (now (targets .entry))) (now (nodes .entry)) (now (first .entry)) w r ⌝ }
 {
     let started = copy(nodes, first, sets);
-    refine(nodes, masks, offsets, links, sets, spare, started);
+    refine(nodes, masks, offsets, targets, sets, spare, started);
     sets[w] == 0
 }
 
@@ -65,14 +65,14 @@ pub fn bars(
     starts: &[u16],
     ends: &[u16],
     offsets: &[u16],
-    links: &[u16],
+    targets: &[u16],
     first: &[u32],
     w: usize,
     marks: &[u8],
 ) -> bool
-    requires { ⌜ SomeTried (now starts) (now ends) (now offsets) (now links) w (now nodes) (now first) ⌝ }
+    requires { ⌜ SomeTried (now starts) (now ends) (now offsets) (now targets) w (now nodes) (now first) ⌝ }
     requires { ⌜ length (now starts) ≡ length (now marks) ⌝ }
-    ensures { λ r. ⌜ EveryBars (now (starts .entry)) (now (ends .entry)) (now (offsets .entry)) (now (links .entry)) w (now (nodes .entry)) (now (first .entry)) (now (marks .entry)) r ⌝ }
+    ensures { λ r. ⌜ EveryBars (now (starts .entry)) (now (ends .entry)) (now (offsets .entry)) (now (targets .entry)) w (now (nodes .entry)) (now (first .entry)) (now (marks .entry)) r ⌝ }
 {
     let mut masks = [0u32; MASKS];
     let mut sets = [0u32; Board::MAX_NODES];
@@ -83,7 +83,7 @@ pub fn bars(
         nodes,
         &masks,
         offsets,
-        links,
+        targets,
         first,
         w,
         &mut sets[..n],

@@ -1,13 +1,7 @@
 -- The binary digits of a number, one by one. Assumes nothing.
-use mathlib.Core.Bool.{Bool, true, false, _&&_, _||_, not, xor, cond}
-use mathlib.Core.Path.{_≡_, refl, sym, ap, ap₂, _∙_}
-use Prim.Native.Nat.{ℕ, zero, suc, _+_, _-_, _*_, _/_, _%_, _^_, _≤_, _<_, suc-le-suc}
-use native.Mathlib.Nat.{one-mul, mod-eq-of-lt, le-add-right, le-add-left, lt-of-not-le, le-of-suc-le-suc, not-suc-le-zero, zero-lt-suc, lt-of-lt-of-le, div-one, zero-div, div-eq-of-lt, mod-lt, div-add-mod', pow-suc, mul-div-cancel, mul-mod-left}
-use native.Mathlib.Numerals.{one-add, add-one}
-use native.Mathlib.Omega.{arith}
+use Rattle.base_lists.specs.Kit.{_≡_, _∙_, sym, ap, refl, ap₂, Bool, false, true, cond, _&&_, _||_, ℕ, _≤_, _<_, _+_, _-_, suc, zero, _*_, _^_, _/_, _%_, suc-le-suc, zero-lt-suc, lt-of-lt-of-le, lt-of-not-le, div-add-mod', pow-suc, mod-lt, mod-eq-of-lt, div-eq-of-lt, le-add-left, div-one, le-add-right, mul-div-cancel, mul-mod-left, one-mul, zero-div, add-one, one-add, T, eqb, eqb·suc-suc, eqb·suc-zero, eqb·zero-suc, arith}
 use lib.Arith.{lt-one}
-use lib.Bits.{bitAnd, bitOr, bitXor, and-shr, or-shr, and-mod, or-mod}
-use lib.Dec.{T, eqb, eqb·zero-suc, eqb·suc-zero, eqb·suc-suc}
+use lib.Bits.{bitAnd, bitOr, and-shr, or-shr, and-mod, or-mod}
 use lib.Pow.{pow-pos, pow-lt, pow-mono, shr-shr, shr-lt}
 use Rattle.base_lists.proofs.Tests.{false-T}
 use Rattle.base_bits.specs.Bits.{bit}
@@ -103,37 +97,11 @@ or-table false true = refl
 or-table true false = refl
 or-table true true = refl
 
-xor-table : (d e : Bool) → eqb (bitXor (cond d 1 0) (cond e 1 0)) 1 ≡ xor d e
-unfolding xor
-xor-table false false = refl
-xor-table false true = refl
-xor-table true false = refl
-xor-table true true = refl
-
 pub bit-and : (a b u : ℕ) → bit (bitAnd a b) u ≡ bit a u && bit b u
 bit-and = bit-op bitAnd (λ x y. x && y) and-shr and-mod and-table
 
 pub bit-or : (a b u : ℕ) → bit (bitOr a b) u ≡ bit a u || bit b u
 bit-or = bit-op bitOr (λ x y. x || y) or-shr or-mod or-table
-
-complement-low : (m a : ℕ) → a < m * 2 → ((m * 2 - 1) - a) % 2 ≡ 1 - a % 2
-complement-low m a h = omega arith
-
-complement-half : (m a : ℕ) → a < m * 2 → ((m * 2 - 1) - a) / 2 ≡ (m - 1) - a / 2
-complement-half m a h = omega arith
-
-flip : (d : Bool) → eqb (1 - cond d 1 0) 1 ≡ not d
-flip false = refl
-flip true = refl
-
--- the digits of `!a`, for an a of k digits
-pub bit-complement : (k a u : ℕ) → a < 2 ^ k → u < k → bit ((2 ^ k - 1) - a) u ≡ not (bit a u)
-bit-complement zero a u h l = absurd (not-suc-le-zero l)
-bit-complement (suc k) a zero h l =
-    bit-low ((2 ^ suc k - 1) - a) ∙ rw (pow-suc, complement-low (2 ^ k) a (rw pow-suc at h), low-digit) (flip (bit a zero))
-bit-complement (suc k) a (suc u) h l =
-    bit-high ((2 ^ suc k - 1) - a) u
-    ∙ rw (pow-suc, complement-half (2 ^ k) a (rw pow-suc at h), bit-high a u) (bit-complement k (a / 2) u (half-lt k h) (le-of-suc-le-suc l))
 
 -- ---- one digit
 

@@ -1,15 +1,8 @@
 -- The lowest digit that is set, the number without it, and the members of a set in rising order. Assumes nothing.
-use mathlib.Core.Bool.{Bool, true, false, _&&_, not, cond}
-use mathlib.Core.List.{[], _∷_}
-use mathlib.Core.Path.{_≡_, refl, sym, ap, ap₂, _∙_}
-use Prim.Native.Nat.{ℕ, zero, suc, _+_, _-_, _/_, _%_, _^_, _<_}
-use native.Mathlib.Nat.{lt-of-not-le, lt-of-lt-of-le, lt-of-le-of-lt, ne-of-gt, eq-sub-of-add-eq, pow-suc, min-zero, zero-min}
-use native.Mathlib.Omega.{arith}
+use Rattle.base_lists.specs.Kit.{_≡_, _∙_, sym, ap, refl, ap₂, Bool, false, true, cond, _&&_, not, [], _∷_, ℕ, _<_, _+_, _-_, suc, zero, _^_, _/_, _%_, lt-of-lt-of-le, lt-of-le-of-lt, lt-of-not-le, pow-suc, eq-sub-of-add-eq, min-zero, ne-of-gt, zero-min, T, eqb, length, arith}
 use lib.Arith.{lt-one}
 use lib.Bits.{bitAnd, and-step, and-le-l, and-le-r}
 use lib.Count.{trailingZeros, under}
-use lib.Dec.{T, eqb}
-use lib.ListN.{length}
 use Rattle.base_lists.specs.List.{any, anyBelow}
 use Rattle.base_lists.specs.Below.{leastBelow, collect}
 use Rattle.base_lists.proofs.Below.{leastBelow-same, leastBelow-none, leastBelow-at, collect-none, collect-first, any-collect, length-collect}

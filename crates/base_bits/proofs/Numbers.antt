@@ -1,17 +1,9 @@
 -- A number by its digits: sums and differences of sets, and the number whose digits are those that pass a test. Assumes nothing.
-use mathlib.Core.Bool.{Bool, true, false, _&&_, _||_, not, cond, and-true, and-false, or-false}
-use mathlib.Core.Logic.{_⊎_, inl, inr}
-use mathlib.Core.Path.{_≡_, refl, sym, ap, _∙_, subst}
-use Prim.Native.Nat.{ℕ, zero, suc, _+_, _-_, _*_, _^_, _≤_, _<_}
-use native.Mathlib.Nat.{le-of-suc-le-suc, not-suc-le-zero, le-refl, le-trans, le-add-left, le-of-eq, add-zero, eq-or-lt-of-le, eq-sub-of-add-eq, lt-of-lt-of-le, ne-of-lt, pow-suc}
-use native.Mathlib.Numerals.{add-one}
+use Rattle.base_lists.specs.Kit.{_≡_, _∙_, sym, ap, refl, subst, _⊎_, inl, inr, Bool, false, true, cond, _&&_, not, _||_, and-true, or-false, and-false, ℕ, _≤_, _<_, _+_, _-_, suc, zero, _*_, _^_, not-suc-le-zero, le-refl, le-of-suc-le-suc, le-trans, le-of-eq, eq-or-lt-of-le, add-zero, lt-of-lt-of-le, pow-suc, eq-sub-of-add-eq, le-add-left, ne-of-lt, add-one, T, eqb, eqb→eq, arith, eq-eqb, ne-eqb, eqb-true, List, ltb, length, getD, set, getD-set-other, getD-set-same, set-out, ltb-false, eqb-false, ltb-true, replicate}
 use native.Mathlib.Decide.{decLt}
-use native.Mathlib.Omega.{arith}
 use lib.Bits.{bitAnd, bitOr, or-disjoint}
-use lib.Dec.{T, eqb, eqb→eq}
 use lib.Pow.{pow-pos, pow-mono}
-use borrow.Author.Tests.{eqb-true, eq-eqb, ne-eqb}
-use Rattle.base_bits.specs.Bits.{bit, numberOf, Subset}
+use Rattle.base_bits.specs.Bits.{bit, numberOf, Subset, Words}
 use Rattle.base_bits.proofs.Digits.{bit-of-zero, bit-above, same-bits, same-bits-below, lt-pow, bit-and, bit-or, bit-single}
 
 -- ---- a sum of two numbers with no digit in common, and of a number and one digit more
@@ -142,8 +134,33 @@ bit-minus a b s u = ap (λ (x : ℕ). bit x u) (sym (eq-sub-of-add-eq (rest a b)
 single-subset : (a u : ℕ) → T (bit a u) → Subset (2 ^ u) a
 single-subset a u t v s = subst (λ (w : ℕ). T (bit a w)) (sym (eqb→eq v u (rw bit-single at s))) t
 
-pub bit-le : (a u : ℕ) → T (bit a u) → 2 ^ u ≤ a
-bit-le a u t = subset-le a (2 ^ u) (single-subset a u t)
-
 pub bit-sub : (a u v : ℕ) → T (bit a u) → bit (a - 2 ^ u) v ≡ bit a v && not (eqb v u)
 bit-sub a u v t = bit-minus a (2 ^ u) (single-subset a u t) v ∙ rw bit-single
+
+-- ---- the number of no digit
+
+-- the set of no part
+pub number-none : (k : ℕ) → numberOf k (λ u. false) ≡ 0
+unfolding numberOf
+number-none zero = refl
+number-none (suc k) = omega (arith, number-none k)
+
+-- a set, or none of its parts
+pub number-if : (b : Bool) (k : ℕ) (p : ℕ → Bool) → cond b (numberOf k p) 0 ≡ numberOf k (λ u. b && p u)
+number-if true k p = refl
+number-if false k p = sym (number-none k)
+
+-- ---- tables of words
+
+pub words-set : (xs : List ℕ) (i x : ℕ) → Words xs → x < 2 ^ 32 → Words (set xs i x)
+words-set xs i x w h k = go (eqb k i) refl (ltb i (length xs)) refl
+  where
+    go : (b : Bool) → eqb k i ≡ b → (a : Bool) → ltb i (length xs) ≡ a → getD (set xs i x) k 0 < 2 ^ 32
+    go true e true l = rw (eqb-true k i e, getD-set-same xs i x 0 (ltb-true i (length xs) l)) h
+    go true e false l = rw (set-out xs i x (omega (arith, ltb-false i (length xs) l))) (w k)
+    go false e a l = rw (getD-set-other xs i k x 0 (eqb-false k i e)) (w k)
+
+pub words-none : (n : ℕ) → Words (replicate n 0)
+words-none zero i = omega arith
+words-none (suc n) zero = omega arith
+words-none (suc n) (suc i) = words-none n i

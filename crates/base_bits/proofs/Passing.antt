@@ -1,11 +1,7 @@
 -- The parts of a set that pass a test, taken one after another. Assumes nothing.
-use mathlib.Core.Bool.{Bool, true, false, _&&_, _||_, not, cond, and-true, and-false, or-false}
-use mathlib.Core.Path.{_≡_, refl, sym, ap, ap₂, _∙_}
-use Prim.Native.Nat.{ℕ, zero, _^_, _<_}
+use Rattle.base_lists.specs.Kit.{_≡_, _∙_, sym, ap, refl, ap₂, Bool, false, true, cond, _&&_, not, _||_, and-true, or-false, and-false, ℕ, _<_, zero, _^_, eqb, eqb-true}
 use lib.Bits.{bitOr, or-lt}
-use lib.Dec.{eqb}
 use lib.Pow.{pow-pos, pow-lt}
-use borrow.Author.Tests.{eqb-true}
 use Rattle.base_lists.proofs.Tests.{both-left, T-true}
 use Rattle.base_bits.specs.Bits.{bit, numberOf, Subset, firstOf, withoutFirst}
 use Rattle.base_bits.proofs.Digits.{bit-of-zero, bit-below, bit-or, bit-single, same-bits-below}
@@ -35,18 +31,18 @@ module _ (q : ℕ → Bool) where
       go false b = refl
 
   -- the first part alone, where it passes
-  abbrev pub here : ℕ → ℕ
-  here x = cond (q (firstOf x)) (2 ^ firstOf x) zero
+  abbrev pub passing-here : ℕ → ℕ
+  passing-here x = cond (q (firstOf x)) (2 ^ firstOf x) zero
 
   module _ (x : ℕ) (p : zero < x) (h : x < 2 ^ 32) where
-    here-lt : here x < 2 ^ 32
+    here-lt : passing-here x < 2 ^ 32
     here-lt = go (q (firstOf x))
       where
         go : (b : Bool) → cond b (2 ^ firstOf x) zero < 2 ^ 32
         go true = pow-lt (first-lt x p h)
         go false = pow-pos 32
 
-    here-bit : (u : ℕ) → bit (here x) u ≡ q (firstOf x) && eqb u (firstOf x)
+    here-bit : (u : ℕ) → bit (passing-here x) u ≡ q (firstOf x) && eqb u (firstOf x)
     here-bit u = go (q (firstOf x))
       where
         go : (b : Bool) → bit (cond b (2 ^ firstOf x) zero) u ≡ b && eqb u (firstOf x)
@@ -54,12 +50,12 @@ module _ (q : ℕ → Bool) where
         go false = bit-of-zero u
 
     -- one turn of a loop over the parts
-    pub passing-next : bitOr (here x) (passing (withoutFirst x)) ≡ passing x
+    pub passing-next : bitOr (passing-here x) (passing (withoutFirst x)) ≡ passing x
     passing-next =
-        same-bits-below 32 (bitOr (here x) (passing (withoutFirst x))) (passing x)
-        (or-lt 32 (here x) (passing (withoutFirst x)) here-lt (number-lt 32 (λ v. bit (withoutFirst x) v && q v))) (number-lt 32 (λ v. bit x v && q v))
+        same-bits-below 32 (bitOr (passing-here x) (passing (withoutFirst x))) (passing x)
+        (or-lt 32 (passing-here x) (passing (withoutFirst x)) here-lt (number-lt 32 (λ v. bit (withoutFirst x) v && q v))) (number-lt 32 (λ v. bit x v && q v))
         (λ u l.
-        bit-or (here x) (passing (withoutFirst x)) u
+        bit-or (passing-here x) (passing (withoutFirst x)) u
         ∙ ap₂ (λ (a b : Bool). a || b) (here-bit u) (passing-bit (withoutFirst x) u l ∙ ap (λ (b : Bool). b && q u) (bit-without x p h u))
         ∙ go u (eqb u (firstOf x)) refl
         ∙ sym (passing-bit x u l))

@@ -1,14 +1,10 @@
 -- Tests of whole sets by one operation on numbers: empty, included, with a common part. Assumes nothing.
-use mathlib.Core.Bool.{Bool, true, false, _&&_, _||_, not, Bool·not-not, and-self, or-assoc}
-use mathlib.Core.Path.{_≡_, refl, sym, ap, _∙_, subst}
-use Prim.Native.Nat.{ℕ, zero, _^_, _<_}
-use lib.Bits.{bitAnd, bitOr, and-lt}
-use lib.Dec.{T, eqb, eqb→eq, not-T, T-not}
-use borrow.Author.Tests.{eq-eqb}
+use Rattle.base_lists.specs.Kit.{_≡_, _∙_, sym, ap, refl, subst, Bool, false, true, _&&_, not, _||_, Bool·not-not, or-assoc, and-self, ℕ, _<_, zero, _^_, T, eqb, eqb→eq, not-T, T-not, eq-eqb, _≤_, arith}
+use lib.Bits.{bitAnd, bitOr, and-lt, or-add-and, and-le-r, and-le-l}
 use Rattle.base_lists.specs.List.{allBelow, anyBelow}
-use Rattle.base_lists.proofs.Tests.{both-left, both-right, T-true, T-false, true-T, false-T, same-test, at-allBelow, allBelow-at, at-anyBelow, anyBelow-at}
+use Rattle.base_lists.proofs.Tests.{both-left, both-right, T-true, T-false, true-T, false-T, same-test, at-allBelow, allBelow-at, at-anyBelow, anyBelow-at, unless-at, at-unless}
 use Rattle.base_lists.proofs.Below.{anyBelow-same}
-use Rattle.base_bits.specs.Bits.{bit, Subset, intersects}
+use Rattle.base_bits.specs.Bits.{bit, Subset, intersects, subsetOf}
 use Rattle.base_bits.proofs.Digits.{bit-of-zero, bit-below, no-bits, same-bits, bit-and, bit-or}
 
 -- ---- the operations' laws, from those of each digit
@@ -49,18 +45,10 @@ subset-and a b e u t = both-right (bit a u) (bit b u) (true-T (sym (bit-and a b 
 
 -- the test at each digit below k is inclusion, for an a of k digits
 pub subset-each : (k a b : ℕ) → Subset a b → T (allBelow k (λ u. not (bit a u) || bit b u))
-subset-each k a b s = at-allBelow k (λ u. not (bit a u) || bit b u) (λ u l. go (bit a u) (bit b u) (s u))
-  where
-    go : (x y : Bool) → (T x → T y) → T (not x || y)
-    go true y f = f tt
-    go false y f = tt
+subset-each k a b s = at-allBelow k (λ u. not (bit a u) || bit b u) (λ u l. at-unless (bit a u) (bit b u) (s u))
 
 pub each-subset : (k a b : ℕ) → a < 2 ^ k → T (allBelow k (λ u. not (bit a u) || bit b u)) → Subset a b
-each-subset k a b h t u s = go (bit a u) (bit b u) (allBelow-at k (λ v. not (bit a v) || bit b v) t u (bit-below k a u h s)) s
-  where
-    go : (x y : Bool) → T (not x || y) → T x → T y
-    go true y t s = t
-    go false y t s = absurd s
+each-subset k a b h t u s = unless-at (bit a u) (bit b u) (allBelow-at k (λ v. not (bit a v) || bit b v) t u (bit-below k a u h s)) s
 
 pub subset-test : (k a b : ℕ) → a < 2 ^ k → eqb (bitAnd a b) a ≡ allBelow k (λ u. not (bit a u) || bit b u)
 subset-test k a b h =
@@ -80,3 +68,15 @@ unfolding intersects
 intersects-at a b t =
     let w = anyBelow-at 32 (λ u. bit a u && bit b u) t in
     (w .0, both-left (bit a (w .0)) (bit b (w .0)) (w .2), both-right (bit a (w .0)) (bit b (w .0)) (w .2))
+
+-- ---- the empty set lies in every set, and a set in its union with another
+
+pub subset-none : (b : ℕ) → subsetOf 0 b ≡ true
+unfolding subsetOf
+subset-none b = T-true (at-allBelow 32 (λ v. not (bit 0 v) || bit b v) (λ v k. rw (bit-of-zero v) tt))
+
+pub bitOr-left : (a b : ℕ) → a ≤ bitOr a b
+bitOr-left a b = omega (arith, or-add-and a b, and-le-r a b)
+
+pub bitOr-right : (a b : ℕ) → b ≤ bitOr a b
+bitOr-right a b = omega (arith, or-add-and a b, and-le-l a b)

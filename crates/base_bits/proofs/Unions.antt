@@ -1,13 +1,8 @@
 -- The union of the sets that a table gives to the parts of a set. Assumes nothing.
-use mathlib.Core.Bool.{Bool, _&&_, _||_}
-use mathlib.Core.List.{List, [], _∷_}
-use mathlib.Core.Path.{_≡_, sym, ap, _∙_}
-use Prim.Native.Nat.{ℕ, zero, _-_, _^_, _<_}
-use lib.Bits.{bitAnd, bitOr, or-lt}
+use Rattle.base_lists.specs.Kit.{_≡_, _∙_, sym, ap, Bool, _&&_, _||_, List, [], _∷_, ℕ, _<_, _-_, zero, _^_, getD, _++_, refl, ap₂, suc, suc-le-suc, zero-lt-suc, set, getD-set-other}
+use lib.Bits.{bitAnd, bitOr, or-zero-l}
 use lib.Count.{trailingZeros}
-use lib.ListN.{getD}
-use lib.Pow.{pow-pos}
-use Rattle.base_lists.specs.List.{any, anyBelow}
+use Rattle.base_lists.specs.List.{any, anyBelow, Occurs}
 use Rattle.base_bits.specs.Bits.{bit, members, unionAt, unionOver}
 use Rattle.base_bits.proofs.Digits.{bit-of-zero, bit-or}
 use Rattle.base_bits.proofs.Tests.{bitOr-assoc}
@@ -24,11 +19,6 @@ pub bit-unionOver : (masks : List ℕ) (x v : ℕ) → bit (unionOver masks x) v
 unfolding unionOver
 bit-unionOver masks x v = bit-unionAt masks (members x) v ∙ any-members (λ u. bit (getD masks u 0) v) x
 
-unionAt-lt : (n : ℕ) (masks us : List ℕ) → ((u : ℕ) → getD masks u 0 < 2 ^ n) → unionAt masks us < 2 ^ n
-unfolding unionAt
-unionAt-lt n masks [] h = pow-pos n
-unionAt-lt n masks (u ∷ us) h = or-lt n (getD masks u 0) (unionAt masks us) (h u) (unionAt-lt n masks us h)
-
 pub unionOver-none : (masks : List ℕ) → unionOver masks zero ≡ zero
 unfolding unionOver unionAt
 unionOver-none masks = ap (unionAt masks) members-none
@@ -43,3 +33,25 @@ pub unionOver-turn : (masks : List ℕ) (union x : ℕ) → zero < x → x < 2 ^
     → bitOr (bitOr union (getD masks (trailingZeros 32 x) 0)) (unionOver masks (bitAnd x (x - 1))) ≡ bitOr union (unionOver masks x)
 unionOver-turn masks union x p h =
     bitOr-assoc union (getD masks (trailingZeros 32 x) 0) (unionOver masks (bitAnd x (x - 1))) ∙ ap (bitOr union) (sym (unionOver-next masks x p h))
+
+-- ---- unions over two lists, and of two tables
+
+pub unionAt-append : (t xs ys : List ℕ) → unionAt t (xs ++ ys) ≡ bitOr (unionAt t xs) (unionAt t ys)
+unfolding unionAt
+unionAt-append t [] ys = sym (or-zero-l (unionAt t ys))
+unionAt-append t (x ∷ xs) ys = ap (bitOr (getD t x 0)) (unionAt-append t xs ys) ∙ sym (bitOr-assoc (getD t x 0) (unionAt t xs) (unionAt t ys))
+
+-- a union does not see a node that is not in the list
+pub unionAt-set : (old : List ℕ) (v y : ℕ) (l : List ℕ) → (Occurs l v → ⊥) → unionAt (set old v y) l ≡ unionAt old l
+unfolding unionAt
+unionAt-set old v y [] out = refl
+unionAt-set old v y (w ∷ l) out =
+    ap₂ (λ (a b : ℕ). bitOr a b) (getD-set-other old v w y 0 (λ e. out (zero, zero-lt-suc _, e)))
+    (unionAt-set old v y l (λ (i, h, e). out (suc i, suc-le-suc h, e)))
+
+-- two tables that agree at the entries of the list
+pub unionAt-same : (xs ys l : List ℕ) → ((w : ℕ) → Occurs l w → getD xs w 0 ≡ getD ys w 0) → unionAt xs l ≡ unionAt ys l
+unfolding unionAt
+unionAt-same xs ys [] e = refl
+unionAt-same xs ys (w ∷ l) e =
+    ap₂ (λ (a b : ℕ). bitOr a b) (e w (zero, zero-lt-suc _, refl)) (unionAt-same xs ys l (λ x (i, h, q). e x (suc i, suc-le-suc h, q)))

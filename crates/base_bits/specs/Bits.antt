@@ -1,10 +1,6 @@
 -- A set of pattern parts as a number: "a 32-bit number per node, the sum of 2^u over its parts u".
-use mathlib.Core.Bool.{Bool, _&&_, _||_, not, cond}
-use mathlib.Core.List.{List, [], _∷_}
-use Prim.Native.Nat.{ℕ, zero, suc, _+_, _/_, _%_, _^_}
+use Rattle.base_lists.specs.Kit.{Bool, cond, _&&_, not, _||_, List, [], _∷_, ℕ, _+_, suc, zero, _^_, _/_, _%_, T, eqb, getD, _<_}
 use lib.Bits.{bitOr}
-use lib.Dec.{T, eqb}
-use lib.ListN.{getD}
 use Rattle.base_lists.specs.List.{allBelow, anyBelow}
 use Rattle.base_lists.specs.Below.{countBelow, leastBelow, collect}
 
@@ -52,3 +48,7 @@ unionAt masks (u ∷ us) = bitOr (getD masks u 0) (unionAt masks us)
 -- the union of the sets masks[u] over the parts u of a set
 unfoldable pub unionOver : List ℕ → ℕ → ℕ
 unionOver masks x = unionAt masks (members x)
+
+-- every entry of a table is a set of 32 parts: a number of 32 bits
+abbrev pub Words : List ℕ → Type 0
+Words table = (i : ℕ) → getD table i 0 < 2 ^ 32

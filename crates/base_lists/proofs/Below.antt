@@ -1,13 +1,5 @@
 -- Laws of the numbers below a bound that pass a test. Assumes nothing.
-use mathlib.Core.Bool.{Bool, true, false, _&&_, _||_, not, cond, and-true, or-false, or-assoc}
-use mathlib.Core.List.{List, [], _∷_, _++_}
-use mathlib.Core.Path.{_≡_, refl, sym, ap, ap₂, _∙_}
-use Prim.Native.Nat.{ℕ, zero, suc, _+_, _≤_, _<_, zero-le, suc-le-suc}
-use native.Mathlib.Nat.{le-of-suc-le-suc, not-suc-le-zero, zero-lt-suc, zero-add, add-zero, add-suc, le-antisymm, lt-of-not-le, lt-of-le-of-lt}
-use native.Mathlib.Numerals.{one-add}
-use native.Mathlib.Omega.{arith}
-use lib.Dec.{T, eqb, eqb·suc-zero, eqb·suc-suc}
-use lib.ListN.{length}
+use Rattle.base_lists.specs.Kit.{_≡_, _∙_, sym, ap, refl, ap₂, Bool, false, true, cond, _&&_, not, _||_, and-true, or-false, or-assoc, List, [], _∷_, _++_, ℕ, _≤_, _<_, _+_, suc, zero, zero-le, suc-le-suc, not-suc-le-zero, le-of-suc-le-suc, zero-lt-suc, add-zero, zero-add, le-antisymm, add-suc, lt-of-le-of-lt, lt-of-not-le, one-add, T, eqb, eqb·suc-suc, eqb·suc-zero, length, arith, eq-eqb, ne-eqb, eqb-true, eqb-false}
 use Rattle.base_lists.specs.List.{any, allBelow, anyBelow}
 use Rattle.base_lists.specs.Below.{countBelow, leastBelow, collect}
 use Rattle.base_lists.proofs.Tests.{T-true, true-T, false-T}
@@ -215,3 +207,41 @@ collect-first (suc n) p q f (suc t) h here none e =
     simp (none zero (zero-lt-suc t), e zero (zero-lt-suc n))
     (collect-first n (λ i. p (suc i)) (λ i. q (suc i)) (λ i. f (suc i)) t (le-of-suc-le-suc h) here (λ i l. none (suc i) (suc-le-suc l))
     (λ i l. e (suc i) (suc-le-suc l) ∙ ap (λ (b : Bool). p (suc i) && not b) (eqb·suc-suc i t)))
+
+-- ---- all, none, the first
+
+pub countBelow-all : (n : ℕ) → countBelow n (λ i. true) ≡ n
+unfolding countBelow
+countBelow-all zero = refl
+countBelow-all (suc n) = omega (arith, countBelow-all n)
+
+-- a test that passes below m and nowhere from m on counts m
+pub countBelow-first : (n m : ℕ) (p : ℕ → Bool) → m ≤ n → ((i : ℕ) → i < m → T (p i)) → ((i : ℕ) → m ≤ i → p i ≡ false) → countBelow n p ≡ m
+unfolding countBelow
+countBelow-first zero zero p h below from = refl
+countBelow-first zero (suc m) p h below from = absurd (not-suc-le-zero h)
+countBelow-first (suc n) zero p h below from =
+    rw (from zero zero-le)
+    (omega (arith, countBelow-first n zero (λ i. p (suc i)) zero-le (λ i l. absurd (not-suc-le-zero l)) (λ i l. from (suc i) zero-le)))
+countBelow-first (suc n) (suc m) p h below from =
+    rw (T-true {b = p zero} (below zero (zero-lt-suc m)))
+    (omega (arith, countBelow-first n m (λ i. p (suc i)) (le-of-suc-le-suc h) (λ i l. below (suc i) (suc-le-suc l)) (λ i l. from (suc i) (suc-le-suc l))))
+
+-- as many numbers below k pass a test as there are, exactly when all do
+eqb-suc : (c k : ℕ) → eqb (1 + c) (suc k) ≡ eqb c k
+eqb-suc c k = go (eqb c k) refl
+  where
+    go : (b : Bool) → eqb c k ≡ b → eqb (1 + c) (suc k) ≡ b
+    go true e = eq-eqb (1 + c) (suc k) (omega (arith, eqb-true c k e))
+    go false e = ne-eqb (1 + c) (suc k) (λ q. eqb-false c k e (omega arith))
+
+pub countBelow-allBelow : (k : ℕ) (p : ℕ → Bool) → eqb (countBelow k p) k ≡ allBelow k p
+unfolding countBelow allBelow
+countBelow-allBelow zero p = refl
+countBelow-allBelow (suc k) p = go (countBelow k (λ i. p (suc i))) (p zero) (countBelow-le k (λ i. p (suc i))) (countBelow-allBelow k (λ i. p (suc i)))
+  where
+    go :
+        (c : ℕ) (b : Bool) → c ≤ k → eqb c k ≡ allBelow k (λ i. p (suc i)) →
+        eqb (cond b 1 0 + c) (suc k) ≡ (b && allBelow k (λ i. p (suc i)))
+    go c true l e = eqb-suc c k ∙ e
+    go c false l e = ne-eqb (0 + c) (suc k) (λ q. omega arith)

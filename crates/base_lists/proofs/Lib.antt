@@ -4,3 +4,5 @@ pub mod Rows
 pub mod Below
 pub mod Ranks
 pub mod Parts
+pub mod Entries
+pub mod Concat

@@ -1,16 +1,6 @@
 -- The rank of a number that passes a test is how many numbers before it pass. The collected list has at each rank the number of that
 -- rank, and a list of lists collected row by row is one collected list. Assumes nothing.
-use mathlib.Core.Bool.{Bool, true, false, _||_, cond}
-use mathlib.Core.List.{List, _∷_, _++_, append-assoc, append-nil}
-use mathlib.Core.Logic.{_⊎_, inl, inr, ⊎-elim}
-use mathlib.Core.Path.{_≡_, refl, sym, ap, ap₂, _∙_}
-use Prim.Native.Nat.{ℕ, zero, suc, _+_, _*_, _-_, _/_, _%_, _≤_, _<_, zero-le, suc-le-suc}
-use native.Mathlib.Nat.{le-of-suc-le-suc, not-suc-le-zero, zero-lt-suc, lt-of-not-le, le-antisymm, zero-add, add-zero, add-suc, zero-mul, suc-mul, mul-add-div-right, div-eq-of-lt, mul-add-mod-self-right, mod-eq-of-lt, div-lt-iff-lt-mul, div-mul-le-self, div-add-mod', le-div-iff-mul-le, eq-or-lt-of-le, add-sub-of-le}
-use native.Mathlib.Numerals.{one-add}
-use native.Mathlib.Omega.{arith}
-use borrow.Author.Tests.{eq-eqb}
-use lib.Dec.{T, eqb, eqb→eq}
-use lib.ListN.{getD}
+use Rattle.base_lists.specs.Kit.{_≡_, _∙_, sym, ap, refl, ap₂, ⊎-elim, _⊎_, inl, inr, Bool, false, true, cond, _||_, List, _∷_, _++_, append-nil, append-assoc, ℕ, _≤_, _<_, _+_, _-_, suc, zero, _*_, _/_, zero-le, _%_, suc-le-suc, not-suc-le-zero, le-of-suc-le-suc, zero-lt-suc, eq-or-lt-of-le, add-zero, zero-add, le-antisymm, add-suc, lt-of-not-le, div-add-mod', add-sub-of-le, div-lt-iff-lt-mul, mod-eq-of-lt, div-eq-of-lt, le-div-iff-mul-le, suc-mul, div-mul-le-self, mul-add-div-right, mul-add-mod-self-right, zero-mul, one-add, T, eqb, eqb→eq, getD, arith, eq-eqb}
 use Rattle.base_lists.specs.List.{anyBelow}
 use Rattle.base_lists.specs.Below.{countBelow, collect, concatBelow}
 use Rattle.base_lists.proofs.Tests.{T-true, true-T, either-left, either-right, anyBelow-at, at-anyBelow}
@@ -158,14 +148,6 @@ collect-agree (suc n) p q f g d e =
       collect-agree n (λ i. p (suc i)) (λ i. q (suc i)) (λ i. f (suc i)) (λ i. g (suc i))
           (λ i h. d (suc i) (suc-le-suc h)) (λ i h. e (suc i) (suc-le-suc h)),
     )
-
--- ---- lists one after another
-
-pub concatBelow-same : (n : ℕ) (g h : ℕ → List ℕ) → ((a : ℕ) → a < n → g a ≡ h a) → concatBelow n g ≡ concatBelow n h
-unfolding concatBelow
-concatBelow-same zero g h e = refl
-concatBelow-same (suc n) g h e =
-    ap₂ (λ (xs ys : List ℕ). xs ++ ys) (concatBelow-same n g h (λ a l. e a (omega arith))) (e n (omega arith))
 
 -- ---- rows of k pairs: pair number a k + b is (a, b)
 

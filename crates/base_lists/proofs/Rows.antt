@@ -1,11 +1,5 @@
 -- Rows of numbers: their sum and their largest entry, and sequences of rows (or of anything) that come to rest. Assumes nothing.
-use mathlib.Core.List.{List, [], _∷_}
-use mathlib.Core.Logic.{_⊎_, inl, inr, ⊎-elim}
-use mathlib.Core.Path.{_≡_, refl, sym, ap, subst, _∙_}
-use Prim.Native.Nat.{ℕ, zero, suc, _+_, _≤_, _<_, max, zero-le, suc-le-suc}
-use native.Mathlib.Nat.{le-of-suc-le-suc, not-suc-le-zero, zero-lt-suc, eq-or-lt-of-le, le-antisymm, suc-inj, le-max-left}
-use native.Mathlib.Omega.{arith}
-use lib.ListN.{length, getD}
+use Rattle.base_lists.specs.Kit.{_≡_, _∙_, sym, ap, refl, subst, ⊎-elim, _⊎_, inl, inr, List, [], _∷_, ℕ, _≤_, _<_, _+_, suc, zero, zero-le, suc-le-suc, max, not-suc-le-zero, le-of-suc-le-suc, zero-lt-suc, eq-or-lt-of-le, le-antisymm, suc-inj, le-max-left, length, getD, arith, _++_, zero-add, add-assoc, add-zero, take, take-suc, drop, take-append-drop}
 use Rattle.base_lists.specs.List.{tabulate, sum, maximum}
 use Rattle.base_lists.proofs.Tables.{length-tabulate, getD-tabulate}
 
@@ -109,3 +103,22 @@ rule-maximum-attained n f h =
     let (i, b, e) = maximum-attained (tabulate n f) (subst (λ x. zero < x) (sym (length-tabulate n f)) h) in
     let c : i < n = subst (λ x. i < x) (length-tabulate n f) b in
     (i, c, sym (getD-tabulate n f i 0 c) ∙ e)
+
+-- ---- sums of lists one after another
+
+pub sum-append : (xs ys : List ℕ) → sum (xs ++ ys) ≡ sum xs + sum ys
+unfolding sum
+sum-append [] ys = sym (zero-add (sum ys))
+sum-append (x ∷ xs) ys = ap (λ (t : ℕ). x + t) (sum-append xs ys) ∙ sym (add-assoc x (sum xs) (sum ys))
+
+pub sum-take-suc : (xs : List ℕ) (i : ℕ) → i < length xs → sum (take (suc i) xs) ≡ sum (take i xs) + getD xs i 0
+unfolding sum
+sum-take-suc xs i h = ap sum (take-suc xs i 0 h) ∙ sum-append (take i xs) (getD xs i 0 ∷ []) ∙ ap (λ (t : ℕ). sum (take i xs) + t) (add-zero (getD xs i 0))
+
+pub sum-take-le : (xs : List ℕ) (i : ℕ) → sum (take i xs) ≤ sum xs
+sum-take-le xs i = omega (arith, sum-append (take i xs) (drop i xs), ap sum (take-append-drop i xs))
+
+pub sum-last : (xs : List ℕ) (x : ℕ) → sum (xs ++ (x ∷ [])) ≡ sum xs + x
+unfolding sum
+sum-last [] x = omega arith
+sum-last (y ∷ ys) x = omega (arith, sum-last ys x)

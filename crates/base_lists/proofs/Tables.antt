@@ -1,12 +1,5 @@
 -- Laws of lists made from a rule. Assumes nothing.
-use mathlib.Core.List.{List, [], _∷_, _++_, append-nil}
-use mathlib.Core.Path.{_≡_, refl, sym, ap, _∙_}
-use Prim.Native.Nat.{ℕ, zero, suc, _+_, _≤_, _<_}
-use native.Mathlib.Nat.{zero-add, suc-add, le-of-suc-le-suc, not-suc-le-zero, le-of-eq}
-use native.Mathlib.Numerals.{add-one}
-use native.Mathlib.Omega.{arith}
-use lib.ListN.{length, getD, take, drop, set, length-append, length-drop, drop-of-length-le}
-use lib.Seq.{ext-getD, drop-cons, set-at, append-snoc, take-at}
+use Rattle.base_lists.specs.Kit.{_≡_, _∙_, sym, ap, refl, List, [], _∷_, _++_, append-nil, ℕ, _≤_, _<_, _+_, suc, zero, not-suc-le-zero, le-of-suc-le-suc, le-of-eq, zero-add, suc-add, add-one, length, getD, drop, set, drop-of-length-le, drop-cons, ext-getD, set-at, append-snoc, arith, getD-drop, getD-append-add, drop-length, ap₂, subst, Bool, false, true, eqb, length-set, getD-set-other, getD-set-same, eqb-true, eqb-false, add-zero, add-suc, sets, replicate}
 use Rattle.base_lists.specs.List.{tabulate}
 
 pub length-tabulate : (n : ℕ) (f : ℕ → ℕ) → length (tabulate n f) ≡ n
@@ -67,11 +60,65 @@ filled-more n f d h =
     ∙ ap (λ (l : List ℕ). l ++ drop (n + 1) d) (sym (tabulate-suc n f) ∙ sym (ap (λ (k : ℕ). tabulate k f) (add-one n)))
 
 -- a list that fills another one whole leaves nothing of it
-pub whole : (xs old : List ℕ) (k : ℕ) → length old ≡ k → xs ++ drop k old ≡ xs
-whole xs old k e = ap (λ (l : List ℕ). xs ++ l) (drop-of-length-le old (le-of-eq e)) ∙ append-nil xs
+pub stored-whole : (xs old : List ℕ) (k : ℕ) → length old ≡ k → xs ++ drop k old ≡ xs
+stored-whole xs old k e = ap (λ (l : List ℕ). xs ++ l) (drop-of-length-le old (le-of-eq e)) ∙ append-nil xs
 
--- what was put at the front of a list that keeps its length
-pub front : (xs old l : List ℕ) (k : ℕ) → l ≡ xs ++ drop k old → length l ≡ length old → k ≤ length old → take k l ≡ xs
-front xs old l k e kept h =
-    let size : length l ≡ length xs + length (drop k old) = ap length e ∙ length-append xs (drop k old) in
-    ap (take k) e ∙ take-at xs (drop k old) k (omega (arith, length-drop k old))
+-- ---- the next entry, and the end
+
+-- the next entry is still as it was
+pub filled-rest : (k : ℕ) (f : ℕ → ℕ) (xs old : List ℕ) → xs ≡ tabulate k f ++ drop k old → getD xs k 0 ≡ getD old k 0
+filled-rest k f xs old e =
+    let here : length (tabulate k f) + 0 ≡ k = omega (arith, length-tabulate k f) in
+    let there : k + 0 ≡ k = omega arith in
+    ap (λ (l : List ℕ). getD l k 0) e ∙ ap (λ (j : ℕ). getD (tabulate k f ++ drop k old) j 0) (sym here)
+    ∙ getD-append-add (tabulate k f) (drop k old) 0 0 ∙ getD-drop k old 0 0 ∙ ap (λ (j : ℕ). getD old j 0) there
+
+-- past the last entry all are made
+pub filled-all : (n : ℕ) (f : ℕ → ℕ) (d : List ℕ) → n ≡ length d → tabulate n f ++ drop n d ≡ tabulate (length d) f
+filled-all n f d e = rw (e, drop-length) (append-nil _)
+
+-- one entry more
+pub filled-next :
+    (f : ℕ → ℕ) (d xs : List ℕ) (n x : ℕ) → n < length d → xs ≡ tabulate n f ++ drop n d → x ≡ f n →
+    set xs n x ≡ tabulate (n + 1) f ++ drop (n + 1) d
+filled-next f d xs n x h e q = ap₂ (λ (ys : List ℕ) (y : ℕ). set ys n y) e q ∙ filled-more n f d h
+
+-- ---- stores
+
+-- a store makes a table one of another rule, which differs at one place
+pub set-tabulate : (n : ℕ) (f g : ℕ → ℕ) (i x : ℕ) → x ≡ g i → ((j : ℕ) → j < n → (j ≡ i → ⊥) → f j ≡ g j) → i < n
+    → set (tabulate n f) i x ≡ tabulate n g
+set-tabulate n f g i x e same h =
+    is-tabulate n g (set (tabulate n f) i x) (length-set (tabulate n f) i x ∙ length-tabulate n f) (λ j l. go j l (eqb j i) refl)
+  where
+    go : (j : ℕ) → j < n → (b : Bool) → eqb j i ≡ b → getD (set (tabulate n f) i x) j 0 ≡ g j
+    go j l true q =
+        let p : j ≡ i = eqb-true j i q in
+        subst (λ (k : ℕ). getD (set (tabulate n f) i x) k 0 ≡ g k) (sym p) (getD-set-same (tabulate n f) i x 0 (omega (arith, length-tabulate n f)) ∙ e)
+    go j l false q = getD-set-other (tabulate n f) i j x 0 (eqb-false j i q) ∙ getD-tabulate n f j 0 l ∙ same j l (eqb-false j i q)
+
+-- values stored behind others are stored with them
+pub sets-append : (old : List ℕ) (at : ℕ) (xs ys : List ℕ) → sets (sets old at xs) (at + length xs) ys ≡ sets old at (xs ++ ys)
+sets-append old at [] ys = rw add-zero
+sets-append old at (x ∷ xs) ys = rw (add-suc, ← suc-add) (sets-append (set old at x) (suc at) xs ys)
+
+-- ---- the table of 0 alone
+
+pub replicate-tabulate : (n : ℕ) → replicate n 0 ≡ tabulate n (λ v. 0)
+unfolding tabulate
+replicate-tabulate zero = refl
+replicate-tabulate (suc n) = ap (λ (l : List ℕ). 0 ∷ l) (replicate-tabulate n)
+
+-- ---- entries before and among those stored
+
+pub getD-sets-before : (xs l : List ℕ) (i j : ℕ) → j < i → getD (sets l i xs) j 0 ≡ getD l j 0
+getD-sets-before [] l i j h = refl
+getD-sets-before (a ∷ xs) l i j h = getD-sets-before xs (set l i a) (suc i) j (omega arith) ∙ getD-set-other l i j a 0 (λ e. omega arith)
+
+pub getD-sets : (xs l : List ℕ) (i k : ℕ) → k < length xs → i + length xs ≤ length l → getD (sets l i xs) (i + k) 0 ≡ getD xs k 0
+getD-sets [] l i k h room = absurd (not-suc-le-zero h)
+getD-sets (a ∷ xs) l i zero h room =
+    ap (λ (j : ℕ). getD (sets (set l i a) (suc i) xs) j 0) (omega arith) ∙ getD-sets-before xs (set l i a) (suc i) i (omega arith) ∙ getD-set-same l i a 0 (omega arith)
+getD-sets (a ∷ xs) l i (suc k) h room =
+    ap (λ (j : ℕ). getD (sets (set l i a) (suc i) xs) j 0) (omega arith)
+    ∙ getD-sets xs (set l i a) (suc i) k (le-of-suc-le-suc h) (rw (length-set l i a) (omega arith))

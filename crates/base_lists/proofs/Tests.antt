@@ -1,19 +1,12 @@
 -- What the Boolean tests of specs/List mean, and how they are taken apart and put together. Assumes nothing.
-use mathlib.Core.Bool.{Bool, true, false, _&&_, _||_, not}
-use mathlib.Core.List.{List, [], _∷_}
-use mathlib.Core.Logic.{_⊎_, inl, inr}
-use mathlib.Core.Path.{_≡_, refl, sym, subst}
-use Prim.Native.Nat.{ℕ, zero, suc, _<_, suc-le-suc}
-use native.Mathlib.Nat.{le-of-suc-le-suc, not-suc-le-zero, zero-lt-suc}
-use lib.Dec.{T}
-use lib.ListN.{length, getD}
+use Rattle.base_lists.specs.Kit.{_≡_, sym, refl, subst, _⊎_, inl, inr, Bool, false, true, _&&_, not, _||_, List, [], _∷_, ℕ, _<_, suc, zero, suc-le-suc, not-suc-le-zero, le-of-suc-le-suc, zero-lt-suc, T, length, getD, cond, eqb, _≤_, arith, zero-le, eqb→eq, ltb, ltb-false, ltb-true, eqb-true, eqb-false, eq-eqb}
 use Rattle.base_lists.specs.List.{all, any, allBelow, anyBelow}
 
 -- ---- both, either, not
 
-pub both : (a b : Bool) → T a → T b → T (a && b)
-both true b p q = q
-both false b p q = p
+pub both-true : (a b : Bool) → T a → T b → T (a && b)
+both-true true b p q = q
+both-true false b p q = p
 
 pub both-left : (a b : Bool) → T (a && b) → T a
 both-left true b t = tt
@@ -39,9 +32,9 @@ pub both-false : (a b : Bool) → T a → (a && b) ≡ false → b ≡ false
 both-false true b t e = e
 both-false false b t e = absurd t
 
-pub refuted : (b : Bool) → not b ≡ false → T b
-refuted true e = tt
-refuted false e = subst T e tt
+pub not-true-false : (b : Bool) → not b ≡ false → T b
+not-true-false true e = tt
+not-true-false false e = subst T e tt
 
 pub T-true : {b : Bool} → T b → b ≡ true
 T-true {b = true} t = refl
@@ -80,7 +73,7 @@ all-at p (x ∷ xs) t (suc i) h = all-at p xs (both-right (p x) (all p xs) t) i 
 pub at-all : (p : ℕ → Bool) (xs : List ℕ) → ((i : ℕ) → i < length xs → T (p (getD xs i 0))) → T (all p xs)
 unfolding all
 at-all p [] f = tt
-at-all p (x ∷ xs) f = both (p x) (all p xs) (f zero (zero-lt-suc _)) (at-all p xs (λ i h. f (suc i) (suc-le-suc h)))
+at-all p (x ∷ xs) f = both-true (p x) (all p xs) (f zero (zero-lt-suc _)) (at-all p xs (λ i h. f (suc i) (suc-le-suc h)))
 
 pub any-at : (p : ℕ → Bool) (xs : List ℕ) → T (any p xs) → (i : ℕ) × (i < length xs) × T (p (getD xs i 0))
 unfolding any
@@ -108,7 +101,7 @@ allBelow-at (suc n) p t (suc i) h = allBelow-at n (λ i. p (suc i)) (both-right 
 pub at-allBelow : (n : ℕ) (p : ℕ → Bool) → ((i : ℕ) → i < n → T (p i)) → T (allBelow n p)
 unfolding allBelow
 at-allBelow zero p f = tt
-at-allBelow (suc n) p f = both (p zero) (allBelow n (λ i. p (suc i))) (f zero (zero-lt-suc _)) (at-allBelow n (λ i. p (suc i)) (λ i h. f (suc i) (suc-le-suc h)))
+at-allBelow (suc n) p f = both-true (p zero) (allBelow n (λ i. p (suc i))) (f zero (zero-lt-suc _)) (at-allBelow n (λ i. p (suc i)) (λ i h. f (suc i) (suc-le-suc h)))
 
 pub anyBelow-at : (n : ℕ) (p : ℕ → Bool) → T (anyBelow n p) → (i : ℕ) × (i < n) × T (p i)
 unfolding anyBelow
@@ -124,3 +117,62 @@ unfolding anyBelow
 at-anyBelow zero p i h t = absurd (not-suc-le-zero h)
 at-anyBelow (suc n) p zero h t = either-left (p zero) (anyBelow n (λ i. p (suc i))) t
 at-anyBelow (suc n) p (suc i) h t = either-right (p zero) (anyBelow n (λ i. p (suc i))) (at-anyBelow n (λ i. p (suc i)) i (le-of-suc-le-suc h) t)
+
+-- ---- where one test holds, another does
+
+pub unless-at : (b c : Bool) → T (not b || c) → T b → T c
+unless-at true c t s = t
+unless-at false c t s = absurd s
+
+pub at-unless : (b c : Bool) → (T b → T c) → T (not b || c)
+at-unless true c f = f tt
+at-unless false c f = tt
+
+-- ---- a test as a number, 1 or 0
+
+-- it is 1 where the test holds, and at most 1
+pub cond-test : (b : Bool) → eqb (cond b 1 0) 1 ≡ b
+cond-test true = refl
+cond-test false = refl
+
+pub cond-le : (b : Bool) → cond b 1 0 ≤ 1
+cond-le true = omega arith
+cond-le false = omega arith
+
+-- a number that is at most 1 is such a one
+pub is-cond : (x : ℕ) → x ≤ 1 → x ≡ cond (eqb x 1) 1 0
+is-cond zero h = refl
+is-cond (suc zero) h = refl
+is-cond (suc (suc x)) h = absurd (omega arith)
+
+-- and is at most another number that is 1 where it is
+pub cond-mono : (x y : ℕ) → x ≤ 1 → (T (eqb x 1) → T (eqb y 1)) → x ≤ y
+cond-mono zero y h f = zero-le
+cond-mono (suc zero) y h f = omega (arith, eqb→eq y 1 (f tt))
+cond-mono (suc (suc x)) y h f = absurd (omega arith)
+
+-- ---- two numbers
+
+pub lt-or-le : (a b : ℕ) → (a < b) ⊎ (b ≤ a)
+lt-or-le a b = go (ltb a b) refl
+  where
+    go : (t : Bool) → ltb a b ≡ t → (a < b) ⊎ (b ≤ a)
+    go true e = inl (ltb-true a b e)
+    go false e = inr (ltb-false a b e)
+
+pub eq-or-not : (v w : ℕ) → (v ≡ w) ⊎ (v ≡ w → ⊥)
+eq-or-not v w = go (eqb v w) refl
+  where
+    go : (b : Bool) → eqb v w ≡ b → (v ≡ w) ⊎ (v ≡ w → ⊥)
+    go true e = inl (eqb-true v w e)
+    go false e = inr (eqb-false v w e)
+
+pub eqb-sym : (a b : ℕ) → eqb a b ≡ eqb b a
+eqb-sym a b = same-test (λ t. true-T (eq-eqb b a (sym (eqb→eq a b t)))) (λ t. true-T (eq-eqb a b (sym (eqb→eq b a t))))
+
+-- ---- a choice, turned round
+
+-- choosing by the opposite of a test
+pub cond-not : (b : Bool) (x : ℕ) → cond (not b) x 0 ≡ cond b 0 x
+cond-not true x = refl
+cond-not false x = refl

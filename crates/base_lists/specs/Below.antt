@@ -1,7 +1,5 @@
 -- The numbers below a bound that pass a test: how many, which is the least, and their list; and lists one after another.
-use mathlib.Core.Bool.{Bool, cond}
-use mathlib.Core.List.{List, [], _∷_, _++_}
-use Prim.Native.Nat.{ℕ, zero, suc, _+_}
+use Rattle.base_lists.specs.Kit.{Bool, cond, List, [], _∷_, _++_, ℕ, _+_, suc, zero}
 
 -- how many numbers below n pass the test
 unfoldable pub countBelow : ℕ → (ℕ → Bool) → ℕ

@@ -1,2 +1,3 @@
+pub mod Kit
 pub mod List
 pub mod Below

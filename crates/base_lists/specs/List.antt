@@ -1,9 +1,5 @@
 -- Tests over lists and below a bound, and lists made from a rule: the few list functions that definitions of every layer use.
-use mathlib.Core.Bool.{Bool, true, false, _&&_, _||_}
-use mathlib.Core.List.{List, [], _∷_}
-use mathlib.Core.Path.{_≡_}
-use Prim.Native.Nat.{ℕ, zero, suc, _+_, _<_, max}
-use lib.ListN.{length, getD, take, drop}
+use Rattle.base_lists.specs.Kit.{_≡_, Bool, false, true, _&&_, _||_, List, [], _∷_, ℕ, _<_, _+_, suc, zero, max, length, getD, take, drop}
 
 -- every element passes the test
 unfoldable pub all : (ℕ → Bool) → List ℕ → Bool

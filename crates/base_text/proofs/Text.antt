@@ -1,25 +1,11 @@
 -- Laws of text written into a table, pieces one after another, the room that they need, and the whole table; of decimal numerals; and of
 -- names.
 -- Assumes nothing.
-use mathlib.Core.Bool.{Bool, true, false, cond}
-use mathlib.Core.List.{List, [], _∷_, _++_}
-use mathlib.Core.Path.{_≡_, refl, sym, ap, _∙_}
-use Prim.Native.Nat.{ℕ, zero, suc, _+_, _*_, _/_, _%_, _^_, _≤_, _<_}
-use native.Mathlib.Nat.{le-of-eq, zero-add, pow-suc}
-use native.Mathlib.Omega.{arith}
-use borrow.Author.Tests.{ltb-true, ltb-false, lt-ltb, le-ltb}
-use lib.Dec.{ltb}
-use lib.ListN.{length, getD, set, drop, length-append}
-use lib.Seq.{sets, length-sets, sets-eq}
-use Rattle.base_lists.proofs.Tables.{getD-tabulate}
-use Rattle.base_text.specs.Text.{bytes, digits, decimal, fourBytes, nameOf, Names, Put, Fits}
+use Rattle.base_lists.specs.Kit.{_≡_, _∙_, sym, ap, refl, Bool, false, true, cond, List, [], _∷_, _++_, ℕ, _≤_, _<_, _+_, suc, zero, _*_, _^_, _/_, _%_, le-of-eq, zero-add, pow-suc, ltb, length, getD, drop, set, length-append, sets-eq, length-sets, arith, le-ltb, lt-ltb, ltb-false, ltb-true}
+use Rattle.base_lists.proofs.Tables.{getD-tabulate, sets-append}
+use Rattle.base_text.specs.Text.{digits, decimal, fourBytes, digitsNumber, Names, Put, Fits}
 
 -- ---- writing
-
-stores-append : (out : List ℕ) (at : ℕ) (xs ys : List ℕ) → sets (sets out at xs) (at + length xs) ys ≡ sets out at (xs ++ ys)
-stores-append out at [] ys = ap (λ (n : ℕ). sets out n ys) (omega arith)
-stores-append out at (b ∷ bs) ys =
-    ap (λ (n : ℕ). sets (sets (set out at b) (suc at) bs) n ys) (omega arith) ∙ stores-append (set out at b) (suc at) bs ys
 
 -- one byte
 pub put-one : (o : List ℕ) (at b : ℕ) → Put o at (b ∷ []) (set o at b) (at + 1)
@@ -42,7 +28,7 @@ put-four-bytes o at a b c d =
 pub put-then : {o o1 o2 xs ys : List ℕ} {at p q : ℕ} → Put o at xs o1 p → Put o1 p ys o2 q → Put o at (xs ++ ys) o2 q
 put-then {o} {o1} {o2} {xs} {ys} {at} {p} {q} f g =
     record {
-      table = g .table ∙ rw (f .table, f .end) (stores-append o at xs ys);
+      table = g .table ∙ rw (f .table, f .end) (sets-append o at xs ys);
       end = g .end ∙ rw (f .end, length-append xs ys) (omega arith);
     }
 
@@ -111,7 +97,7 @@ decimal-three x h l =
 length-more : (x : ℕ) → 10 ≤ x → length (decimal x) ≡ length (decimal (x / 10)) + 1
 length-more x h = ap length (decimal-more x h) ∙ length-append (decimal (x / 10)) _
 
-length-digit : (x : ℕ) → x < 10 → length (decimal x) ≡ 1
+pub length-digit : (x : ℕ) → x < 10 → length (decimal x) ≡ 1
 length-digit x h = ap length (decimal-digit x h)
 
 -- a number below 10 ^ k has at most k digits, k being 1 or more
@@ -124,11 +110,6 @@ length-decimal (suc k) x h = go (ltb x 10) refl (length-decimal k (x / 10))
     go false p r =
         let most : x < 10 ^ suc k * 10 = rw (pow-suc 10 (suc k)) at h in
         omega (arith, length-more x (ltb-false x 10 p), r (omega arith))
-
--- numerals as one writes them
-pub numerals : (decimal 0 ≡ bytes "0") × (decimal 10 ≡ bytes "10") × (decimal 512 ≡ bytes "512")
-unfolding decimal digits bytes
-numerals = (refl, refl, refl)
 
 -- ---- names
 
@@ -146,17 +127,17 @@ four-bytes a b c d ha hb hc =
     rw (e0, q1, e1, q2, e2, q3)
 
 -- a byte added to the name of a number of three digits: the byte and the number
-pub name-bytes : (b x : ℕ) → b < 256 → 100 ≤ x → x < 1000 → fourBytes (nameOf x + b) ≡ b ∷ decimal x
-unfolding nameOf
+pub name-bytes : (b x : ℕ) → b < 256 → 100 ≤ x → x < 1000 → fourBytes (digitsNumber x + b) ≡ b ∷ decimal x
+unfolding digitsNumber
 name-bytes b x small h l =
     four-bytes b (48 + x / 100) (48 + x / 10 % 10) (48 + x % 10) small (omega arith) (omega arith)
     ∙ sym (ap (λ (d : List ℕ). b ∷ d) (decimal-three x h l))
 
 -- such a sum has 32 bits
-pub name-small : (b x : ℕ) → b < 256 → x < 1000 → nameOf x + b < 4294967296
-unfolding nameOf
+pub name-small : (b x : ℕ) → b < 256 → x < 1000 → digitsNumber x + b < 4294967296
+unfolding digitsNumber
 name-small b x small l = omega arith
 
 -- an entry of a table of names
-pub name-at : {names : List ℕ} → Names names → (x : ℕ) → x < length names → getD names x 0 ≡ nameOf x
-name-at {names} t x h = ap (λ (l : List ℕ). getD l x 0) (t .table) ∙ getD-tabulate (length names) nameOf x 0 h
+pub name-at : {names : List ℕ} → Names names → (x : ℕ) → x < length names → getD names x 0 ≡ digitsNumber x
+name-at {names} t x h = ap (λ (l : List ℕ). getD l x 0) (t .table) ∙ getD-tabulate (length names) digitsNumber x 0 h

@@ -1,14 +1,8 @@
 -- Text as bytes: words and decimal numerals; and text written into a table from an offset on.
-use mathlib.Core.Bool.{cond}
-use mathlib.Core.List.{List, [], _∷_, _++_}
-use mathlib.Core.Path.{_≡_}
+use Rattle.base_lists.specs.Kit.{_≡_, cond, List, [], _∷_, _++_, ℕ, _≤_, _+_, suc, zero, _*_, _/_, _%_, ltb, length, sets}
 use Prim.Native.Char.{code}
-use Prim.Native.Nat.{ℕ, zero, suc, _+_, _*_, _/_, _%_, _≤_}
 use Prim.Native.String.{String}
 use Prim.Native.String as string
-use lib.Dec.{ltb}
-use lib.ListN.{length}
-use lib.Seq.{sets}
 use Rattle.base_lists.specs.List.{tabulate}
 
 -- A word's bytes: the number of each character, which is its byte where the characters are ASCII's.
@@ -31,12 +25,12 @@ fourBytes x = (x % 256) ∷ (x / 256 % 256) ∷ (x / 65536 % 256) ∷ (x / 16777
 
 -- The name of a number of three digits: the 32-bit number that has them as its bytes, after a low byte of 0. A byte added to it stands before
 -- the digits.
-unfoldable pub nameOf : ℕ → ℕ
-nameOf x = 256 * (48 + x / 100) + 65536 * (48 + x / 10 % 10) + 16777216 * (48 + x % 10)
+unfoldable pub digitsNumber : ℕ → ℕ
+digitsNumber x = 256 * (48 + x / 100) + 65536 * (48 + x / 10 % 10) + 16777216 * (48 + x % 10)
 
 -- a table of the names of the numbers 0, 1, 2, .., none with more than three digits; the entries of those with fewer are of no use
 pub record Names (names : List ℕ) : Type 0 where
-  pub table : names ≡ tabulate (length names) nameOf
+  pub table : names ≡ tabulate (length names) digitsNumber
   pub few : length names ≤ 1000
 
 -- what writing a text from an offset on leaves: the table with the text's bytes stored one after another, and the offset after the text

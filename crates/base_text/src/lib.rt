@@ -3,7 +3,7 @@ ghost use mathlib.Core.List.{List};
 ghost use mathlib.Core.Path.{_≡_};
 ghost use Prim.Native.Nat.{_+_, _≤_, _<_};
 ghost use lib.ListN.{length};
-ghost use Rattle.base_text.specs.Text.{Put, Fits, decimal, fourBytes, nameOf, Names};
+ghost use Rattle.base_text.specs.Text.{Put, Fits, decimal, fourBytes, digitsNumber, Names};
 
 // One byte.
 pub fn put_byte(b: u8, out: &mut [u8], at: usize) -> usize
@@ -77,7 +77,7 @@ fn put_four(x: u32, out: &mut [u8], at: usize) -> usize
 // The digits of a number, as a number of four bytes.
 fn name_of(x: u32) -> u32
     requires { ⌜ x < 1000 ⌝ }
-    ensures { λ r. ⌜ r ≡ nameOf x ⌝ }
+    ensures { λ r. ⌜ r ≡ digitsNumber x ⌝ }
 {
     256 * (48 + x / 100) + 65536 * (48 + x / 10 % 10) + 16777216 * (48 + x % 10)
 }

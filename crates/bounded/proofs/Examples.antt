@@ -1,6 +1,5 @@
 -- Small patterns with bounds, by computation. Assumes nothing.
-use mathlib.Core.List.{[], _∷_}
-use mathlib.Core.Path.{_≡_, refl}
+use Rattle.base_lists.specs.Kit.{_≡_, refl, [], _∷_}
 use Rattle.base_lists.specs.Below.{keepFrom}
 use Rattle.graph.specs.Circuit.{circuit}
 use Rattle.table.specs.Examples.{rowComputed, answerComputed}

@@ -1,42 +1,26 @@
 -- The row of a pattern with bounds is that of closed sets whose labels are a direction and a bound; so its answer is the largest bounded
 -- simulation. Assumes nothing.
-use mathlib.Core.List.{List}
-use mathlib.Core.Logic.{_↔_, inl, inr, Iff·rfl, Iff·trans}
-use mathlib.Core.Path.{_≡_, refl, sym, subst}
-use Prim.Native.Nat.{ℕ, zero, suc, _≤_, _<_}
-use native.Mathlib.Omega.{arith}
-use lib.Dec.{T, eqb, eqb→eq}
-use lib.ListN.{length, getD}
-use borrow.Author.Tests.{eq-eqb}
+use Rattle.base_lists.specs.Kit.{_≡_, refl, _↔_, inl, inr, Iff·rfl, Iff·trans, List, ℕ, _≤_, _<_, suc, zero, eqb, eqb→eq, length, getD, arith, eq-eqb}
 use Rattle.base_lists.specs.List.{Occurs}
-use Rattle.base_lists.specs.Below.{keepFrom}
 use Rattle.base_lists.proofs.Tests.{true-T}
-use Rattle.graph.specs.Graph.{Graph}
-use Rattle.graph.specs.Circuit.{Circuit, LinkAt, HasLink, graphOf, circuitGraph}
-use Rattle.graph.proofs.Groups.{select-mem, select-mem-back}
-use Rattle.simulation.specs.Closed.{Relation, _⊆_, Closed, Occurring}
-use Rattle.simulation.specs.Simulation.{Candidate, Direction, forwards, backwards, Along}
+use Rattle.graph.specs.Circuit.{Circuit, HasLink, graphOf, circuitGraph}
+use Rattle.simulation.specs.Closed.{Relation, Closed, Occurring}
+use Rattle.simulation.specs.Simulation.{Direction, forwards, backwards, Along}
 use Rattle.simulation.proofs.Simulation.{along-wider}
-use Rattle.table_row.specs.Problem.{Problem, Way, Agreeing, StepOf, MoveOf}
-use Rattle.table_row.specs.Reading.{InTable, Reading, LargestOccurring}
+use Rattle.table_row.specs.Problem.{Way, Agreeing}
+use Rattle.table_row.specs.Reading.{InTable, Reading}
 use Rattle.table_row.proofs.Answer as Of
 use Rattle.table.specs.Host.{KindsMatch}
-use Rattle.table.specs.Row.{agrees, neighbours}
+use Rattle.table.specs.Row.{neighbours}
 use Rattle.table.proofs.Agreement.{agrees-kinds}
-use Rattle.bounded.specs.Path.{PathWithin}
-use Rattle.bounded.specs.Simulation.{BoundedGraph, BoundedSimulation, LargestBounded}
-use Rattle.bounded.specs.Problem.{Bounds, boundedGraph, ofBound, within, Label, labelled, everyLabel, boundedProblem, boundedTable}
+use Rattle.table.proofs.Row.{neighbours-along}
+use Rattle.bounded.specs.Simulation.{BoundedSimulation, LargestBounded}
+use Rattle.bounded.specs.Problem.{Bounds, boundedGraph, ofBound, within, labelled, everyLabel, boundedProblem, boundedTable}
 use Rattle.bounded.specs.Run.{Steps, Moves, Candidates}
 use Rattle.graph.proofs.Chosen.{kept-iff}
-use Rattle.bounded.proofs.Paths.{Near, within-wider, within-along, within-iff}
+use Rattle.bounded.proofs.Paths.{within-wider, within-along, within-iff}
 
 -- ---- links and moves
-
--- a node's neighbours are those to which a link leads
-pub neighbours-along : (c : Circuit) (d : Direction) (v w : ℕ) → Occurs (neighbours c d v) w ↔ Along (HasLink (c .starts) (c .ends)) d v w
-unfolding neighbours Along
-neighbours-along c forwards v w = select-mem (c .starts) (c .ends) v w
-neighbours-along c backwards v w = select-mem-back (c .starts) (c .ends) v w
 
 -- two relations that say the same say the same in each direction
 along-same : {R S : Relation} → ((v w : ℕ) → R v w ↔ S v w) → (d : Direction) (v w : ℕ) → Along R d v w ↔ Along S d v w
@@ -96,7 +80,7 @@ module _ (pattern : Circuit) (bounds : List ℕ) (board : Circuit) where
     known-label : (d : Direction) (h i : ℕ) → i < length (pattern .starts) → getD bounds i 0 ≡ h → Way everyLabel (labelled d h)
     known-label d h i b e =
         let b′ : i < length bounds = omega (arith, each .each, b) in
-        has-label d h (omega (arith, each .some i b′, e)) (omega (arith, each .most i b′, e))
+        has-label d h (omega (arith, each .inside .some i b′, e)) (omega (arith, each .inside .most i b′, e))
 
     pub step-way : (d : Direction) (h u u′ : ℕ) → Steps pattern bounds (labelled d h) u u′ → Way everyLabel (labelled d h)
     unfolding boundedGraph Along
@@ -137,7 +121,7 @@ module _ (pattern : Circuit) (bounds : List ℕ) (board : Circuit) {S : Relation
       go backwards h u v u′ m l = s .backward u v u′ h m l
 
   closed-bounded :
-      Closed (Candidates pattern board) (Steps pattern bounds) (Moves board) S → Occurring (λ u. u < length (pattern .kinds)) S →
+      Closed (Candidates pattern board) (Steps pattern bounds) (Moves board) S → Occurring (λ u. u < length (pattern .labels)) S →
       BoundedSimulation (boundedGraph pattern bounds) (KindsMatch pattern board) (circuitGraph board) S
   unfolding boundedGraph circuitGraph graphOf Along
   closed-bounded c o =
@@ -152,7 +136,7 @@ module _ (pattern : Circuit) (bounds : List ℕ) (board : Circuit) {S : Relation
 
 -- The table is the largest bounded simulation: "the table is the largest such set (each part occurring, unless empty)".
 pub bounded-largest :
-    (pattern : Circuit) (bounds : List ℕ) (board : Circuit) → Bounds pattern bounds → length (pattern .kinds) ≤ 32 →
+    (pattern : Circuit) (bounds : List ℕ) (board : Circuit) → Bounds pattern bounds → length (pattern .labels) ≤ 32 →
     LargestBounded (boundedGraph pattern bounds) (KindsMatch pattern board) (circuitGraph board) (InTable (boundedTable pattern bounds board))
 unfolding boundedProblem boundedGraph
 bounded-largest pattern bounds board each most =

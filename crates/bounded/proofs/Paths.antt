@@ -1,11 +1,5 @@
 -- Directed paths: followed backwards, and the ends of those of 1 to h links as a list. Assumes nothing.
-use mathlib.Core.List.{List, [], _∷_, _++_}
-use mathlib.Core.Logic.{_⊎_, inl, inr, ⊎-elim, _↔_}
-use mathlib.Core.Path.{_≡_, refl, sym, subst}
-use Prim.Native.Nat.{ℕ, zero, suc, _≤_, _<_, zero-le, suc-le-suc}
-use native.Mathlib.Nat.{le-of-suc-le-suc, not-suc-le-zero, zero-lt-suc, le-trans}
-use native.Mathlib.Omega.{arith}
-use lib.ListN.{length, getD}
+use Rattle.base_lists.specs.Kit.{_≡_, sym, refl, subst, _↔_, ⊎-elim, _⊎_, inl, inr, List, [], _∷_, ℕ, _≤_, _<_, suc, zero, suc-le-suc, not-suc-le-zero, le-of-suc-le-suc, zero-lt-suc, le-trans, length, getD, arith}
 use Rattle.base_lists.specs.List.{Occurs}
 use Rattle.graph.proofs.BfsScan.{occurs-append}
 use Rattle.simulation.specs.Closed.{Relation, _⊆_}

@@ -1,19 +1,13 @@
 -- The counts of a pattern with bounds are those of its row of sets, and the table is the row's last set, or all 0. Assumes nothing.
-use mathlib.Core.Bool.{false}
-use mathlib.Core.List.{List, map}
-use mathlib.Core.Path.{_≡_, refl, sym, subst, _∙_}
-use Prim.Native.Nat.{ℕ, suc, _+_, _≤_, _<_}
-use native.Mathlib.Nat.{le-refl}
-use native.Mathlib.Omega.{arith}
+use Rattle.base_lists.specs.Kit.{_≡_, _∙_, sym, subst, List, map, ℕ, _≤_, _<_, _+_, suc, le-refl, length, arith}
 use lib.Count.{ones}
-use lib.ListN.{length}
 use Rattle.base_lists.specs.List.{sum, tabulate}
 use Rattle.base_lists.proofs.Tests.{T-false}
 use Rattle.graph.specs.Circuit.{Circuit}
 use Rattle.simulation.specs.Closed.{_⊆_}
 use Rattle.table_row.specs.Problem.{Problem}
 use Rattle.table_row.specs.Reading.{InTable}
-use Rattle.table_row.specs.Row.{rowOf, startOf, rowFrom, startedOf, lastOf, roundsOf}
+use Rattle.table_row.specs.Row.{rowOf, rowFrom, lastOf}
 use Rattle.table_row.proofs.Answer as Of
 use Rattle.table_row.proofs.Counting.{started-ones, rounds-differ, rounds-last}
 use Rattle.table_row.proofs.Meaning.{last-fits}
@@ -28,11 +22,11 @@ module _ (pattern : Circuit) (bounds : List ℕ) (board : Circuit) where
   p = boundedProblem pattern bounds board
 
   -- a number per node
-  pub bounded-length : length (boundedTable pattern bounds board) ≡ length (board .kinds)
+  pub bounded-length : length (boundedTable pattern bounds board) ≡ length (board .labels)
   unfolding boundedProblem
   bounded-length = Of.answer-fits p .size
 
-  module _ (most : length (pattern .kinds) ≤ 32) where
+  module _ (most : length (pattern .labels) ≤ 32) where
     -- "So started = kept + struck, and rounds are at most struck."
     pub bounded-sum : boundedCounts pattern bounds board .started ≡ boundedCounts pattern bounds board .kept + boundedCounts pattern bounds board .struck
     unfolding boundedProblem boundedCounts
@@ -74,11 +68,11 @@ module _ (pattern : Circuit) (bounds : List ℕ) (board : Circuit) where
           )
 
   -- the table is the row's last set where every part occurs in that,
-  pub bounded-found : ((u : ℕ) → u < length (pattern .kinds) → (v : ℕ) × InTable (lastOf p) u v) → boundedTable pattern bounds board ≡ lastOf p
+  pub bounded-found : ((u : ℕ) → u < length (pattern .labels) → (v : ℕ) × InTable (lastOf p) u v) → boundedTable pattern bounds board ≡ lastOf p
   unfolding boundedProblem
   bounded-found all = Of.answer-all p (Of.occur-iff p (last-fits p) .1 all)
 
   -- and "If some part is left without a node, the table is all 0"
-  pub bounded-missing : (u : ℕ) → u < length (pattern .kinds) → ((v : ℕ) → InTable (lastOf p) u v → ⊥) → boundedTable pattern bounds board ≡ tabulate (length (board .kinds)) (λ v. 0)
+  pub bounded-missing : (u : ℕ) → u < length (pattern .labels) → ((v : ℕ) → InTable (lastOf p) u v → ⊥) → boundedTable pattern bounds board ≡ tabulate (length (board .labels)) (λ v. 0)
   unfolding boundedProblem
   bounded-missing u h none = Of.answer-none p (T-false (λ t. let (v, m) = Of.occur-iff p (last-fits p) .0 t u h in none v m))

@@ -1,37 +1,29 @@
 -- Patterns that differ in their bounds alone: larger bounds ask no more; and where every bound is 1, what is asked is what the pattern without
 -- bounds asks. Assumes nothing.
-use mathlib.Core.Bool.{Bool, _&&_}
-use mathlib.Core.List.{List}
-use mathlib.Core.Logic.{_↔_, inl, inr}
-use mathlib.Core.Path.{_≡_, refl, sym, ap, ap₂, subst}
-use Prim.Native.Nat.{ℕ, _≤_, _<_, _-_}
-use native.Mathlib.Nat.{le-refl}
-use native.Mathlib.Omega.{arith}
-use lib.Dec.{T}
-use lib.ListN.{length, getD}
+use Rattle.base_lists.specs.Kit.{_≡_, sym, ap, refl, subst, ap₂, inl, inr, List, ℕ, _≤_, _-_, le-refl, length, getD, arith}
 use Rattle.base_lists.specs.List.{Occurs}
-use Rattle.base_lists.proofs.Tests.{both, both-right}
-use Rattle.graph.specs.Circuit.{Circuit, LinkAt, HasLink, graphOf, circuitGraph}
+use Rattle.base_lists.proofs.Tests.{both-true, both-right}
+use Rattle.graph.specs.Circuit.{Circuit, HasLink, graphOf, circuitGraph}
 use Rattle.graph.specs.Search.{inside}
-use Rattle.simulation.specs.Closed.{Relation, _⊆_}
+use Rattle.simulation.specs.Closed.{_⊆_}
 use Rattle.simulation.specs.Simulation.{Direction, forwards, backwards, Along}
 use Rattle.simulation.proofs.Simulation.{along-wider}
-use Rattle.table_row.specs.Problem.{Problem, Way, Agreeing, StepOf, MoveOf}
+use Rattle.table_row.specs.Problem.{Problem, Way}
 use Rattle.table_row.specs.Reading.{InTable, Wider, Equivalent}
 use Rattle.table_row.proofs.Wider.{started-same, rounds-same}
-use Rattle.table_row.specs.Row.{pairs, startedOf}
+use Rattle.table_row.specs.Row.{pairs}
 use Rattle.table_row.specs.Answer.{answerKept, answerStruck}
 use Rattle.table_row.proofs.Answer.{answer-wider, answer-same}
 use Rattle.table.specs.Answer.{answerTable, answerCounts, answerCountsBy}
 use Rattle.table.specs.Host.{everything}
 use Rattle.table.specs.Row.{agrees, neighbours, problemBy, problemOf}
 use Rattle.table.proofs.Host.{everything-taken}
-use Rattle.bounded.specs.Path.{PathWithin}
+use Rattle.table.proofs.Row.{neighbours-along}
 use Rattle.bounded.specs.Raised.{Raised, AllOne}
-use Rattle.bounded.specs.Problem.{Bounds, boundedGraph, Label, labelled, everyLabel, boundedProblem, boundedTable, boundedCounts}
+use Rattle.bounded.specs.Problem.{Bounds, boundedGraph, labelled, boundedProblem, boundedTable, boundedCounts}
 use Rattle.bounded.proofs.Paths.{within-wider, one-path, path-one}
 use Rattle.bounded.specs.Run.{Steps, Moves}
-use Rattle.bounded.proofs.Meaning.{neighbours-along, steps-iff, moves-iff, step-way}
+use Rattle.bounded.proofs.Meaning.{steps-iff, moves-iff, step-way}
 
 -- ---- larger bounds
 
@@ -65,7 +57,7 @@ module _ (pattern : Circuit) {bounds bounds′ : List ℕ} (board : Circuit) (ea
       }
 
   -- "raising a bound never takes a pair away": bit by bit, and with the all-0 rule
-  pub raised-more : length (pattern .kinds) ≤ 32 → InTable (boundedTable pattern bounds board) ⊆ InTable (boundedTable pattern bounds′ board)
+  pub raised-more : length (pattern .labels) ≤ 32 → InTable (boundedTable pattern bounds board) ⊆ InTable (boundedTable pattern bounds′ board)
   unfolding boundedProblem
   raised-more most = answer-wider raised-wider most (le-refl _)
 
@@ -121,7 +113,7 @@ module _ (pattern : Circuit) (bounds : List ℕ) (board : Circuit) (each : Bound
                   record {
                     part = a .part;
                     node = a .node;
-                    agree = both (inside (everything board) v) (agrees pattern board u v) (everything-taken board v (a .node) .marked) (a .agree);
+                    agree = both-true (inside (everything board) v) (agrees pattern board u v) (everything-taken board v (a .node) .marked) (a .agree);
                   };
               step =
                   λ d u u′ s.

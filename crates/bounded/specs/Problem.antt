@@ -1,10 +1,6 @@
 -- The row of sets of a pattern with bounds on a whole board, and its answer: what the contracts cite. It is that of a problem as table_row has
 -- it. A label is a direction and a bound; a board's moves are the ends of directed paths of 1 to h links.
-use mathlib.Core.List.{List, [], _∷_, _++_}
-use mathlib.Core.Path.{_≡_}
-use Prim.Native.Nat.{ℕ, zero, suc, _≤_, _<_}
-use lib.Dec.{eqb}
-use lib.ListN.{length, getD}
+use Rattle.base_lists.specs.Kit.{_≡_, List, [], _∷_, _++_, ℕ, _≤_, _<_, suc, zero, eqb, length, getD}
 use Rattle.base_lists.specs.Below.{keepFrom}
 use Rattle.graph.specs.Circuit.{Circuit, LinkAt}
 use Rattle.simulation.specs.Simulation.{Direction, forwards, backwards}
@@ -17,21 +13,21 @@ use Rattle.bounded.specs.Simulation.{BoundedGraph}
 
 -- ---- the pattern
 
--- "a bound for each link, 1 to 4"
-abbrev pub widestBound : ℕ
-widestBound = 4
+-- "a bound for each link, 1 to 4": every bound of a list is from 1 to 4
+pub record InBounds (bounds : List ℕ) : Type 0 where
+  pub some : (i : ℕ) → i < length bounds → 1 ≤ getD bounds i 0
+  pub most : (i : ℕ) → i < length bounds → getD bounds i 0 ≤ 4
 
--- a list of bounds for the links of a pattern
+-- and a pattern has one for each link
 pub record Bounds (pattern : Circuit) (bounds : List ℕ) : Type 0 where
   pub each : length bounds ≡ length (pattern .starts)
-  pub some : (i : ℕ) → i < length bounds → 1 ≤ getD bounds i 0
-  pub most : (i : ℕ) → i < length bounds → getD bounds i 0 ≤ widestBound
+  pub inside : InBounds bounds
 
 -- the pattern's i-th link has the i-th bound
 unfoldable pub boundedGraph : Circuit → List ℕ → BoundedGraph
 boundedGraph pattern bounds =
     record {
-      Node = λ u. u < length (pattern .kinds);
+      Node = λ u. u < length (pattern .labels);
       Link = λ u u′ h. (i : ℕ) × LinkAt (pattern .starts) (pattern .ends) u u′ i × (getD bounds i 0 ≡ h);
     }
 
@@ -39,7 +35,7 @@ boundedGraph pattern bounds =
 unfoldable pub ofBound : List ℕ → ℕ → Circuit → Circuit
 ofBound bounds h c =
     record {
-      kinds = c .kinds;
+      labels = c .labels;
       starts = keepFrom zero (λ i. eqb (getD bounds i 0) h) (c .starts);
       ends = keepFrom zero (λ i. eqb (getD bounds i 0) h) (c .ends);
     }
@@ -77,8 +73,8 @@ everyLabel =
 unfoldable pub boundedProblem : Circuit → List ℕ → Circuit → Problem Label
 boundedProblem pattern bounds board =
     record {
-      parts = length (pattern .kinds);
-      nodes = length (board .kinds);
+      parts = length (pattern .labels);
+      nodes = length (board .labels);
       agree = agrees pattern board;
       ways = everyLabel;
       steps = λ l. neighbours (ofBound bounds (l .bound) pattern) (l .way);

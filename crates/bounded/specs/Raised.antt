@@ -1,8 +1,5 @@
 -- Patterns that differ in their bounds alone, and patterns of which every bound is 1.
-use mathlib.Core.List.{List}
-use mathlib.Core.Path.{_≡_}
-use Prim.Native.Nat.{ℕ, _≤_, _<_}
-use lib.ListN.{length, getD}
+use Rattle.base_lists.specs.Kit.{_≡_, List, ℕ, _≤_, _<_, length, getD}
 
 -- "raising a bound": as many bounds, each at least as large
 pub record Raised (bounds bounds′ : List ℕ) : Type 0 where

@@ -1,8 +1,5 @@
 -- The row of sets of a pattern with bounds on a board, on arbitrary sets, and how it is run: document 01's row with these steps and moves.
-use mathlib.Core.List.{List, map}
-use mathlib.Core.Logic.{_↔_}
-use mathlib.Core.Path.{_≡_}
-use Prim.Native.Nat.{ℕ, suc, _≤_, _<_}
+use Rattle.base_lists.specs.Kit.{_≡_, _↔_, List, map, ℕ, _≤_, _<_, suc}
 use lib.Count.{ones}
 use Rattle.base_lists.specs.List.{sum}
 use Rattle.graph.specs.Circuit.{Circuit, circuitGraph}

@@ -1,5 +1,5 @@
 -- Bounded simulation: dual simulation, with a bound on each link of the pattern. Sets are arbitrary, so that "largest" is over every one.
-use Prim.Native.Nat.{ℕ}
+use Rattle.base_lists.specs.Kit.{ℕ}
 use Rattle.graph.specs.Graph.{Graph}
 use Rattle.simulation.specs.Closed.{Relation, _⊆_}
 use Rattle.bounded.specs.Path.{PathWithin}
@@ -15,7 +15,7 @@ pub record BoundedGraph : Type 1 where
 pub record BoundedSimulation (P : BoundedGraph) (Agree : Relation) (H : Graph) (S : Relation) : Type 0 where
   pub part : (u v : ℕ) → S u v → P .Node u
   pub node : (u v : ℕ) → S u v → H .Node v
-  pub kinds : (u v : ℕ) → S u v → Agree u v
+  pub kinds : S ⊆ Agree
   pub forward : (u v u′ h : ℕ) → S u v → P .Link u u′ h → (v′ : ℕ) × PathWithin (H .Link) h v v′ × S u′ v′
   pub backward : (u v u′ h : ℕ) → S u v → P .Link u′ u h → (v′ : ℕ) × PathWithin (H .Link) h v′ v × S u′ v′
   pub occurs : (u v : ℕ) → S u v → (x : ℕ) → P .Node x → (y : ℕ) × S x y

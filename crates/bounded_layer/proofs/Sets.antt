@@ -1,10 +1,6 @@
 -- The parts of a set whose mask lies within a union. Assumes nothing.
-use mathlib.Core.Bool.{Bool, true, false, cond}
-use mathlib.Core.List.{List}
-use mathlib.Core.Path.{_≡_, sym, ap, _∙_}
-use Prim.Native.Nat.{ℕ, zero, _^_, _<_}
+use Rattle.base_lists.specs.Kit.{_≡_, _∙_, sym, ap, Bool, false, true, cond, List, ℕ, _<_, zero, _^_, getD}
 use lib.Bits.{bitOr, or-zero-r}
-use lib.ListN.{getD}
 use Rattle.base_bits.specs.Bits.{Subset, subsetOf, firstOf, withoutFirst}
 use Rattle.base_bits.proofs.Passing.{passing-none, passing-subset, passing-next}
 use Rattle.base_bits.proofs.Tests.{bitOr-assoc}

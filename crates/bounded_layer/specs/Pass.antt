@@ -1,9 +1,6 @@
 -- One pass over the nodes, and one layer after another: what the contracts of this crate cite.
-use mathlib.Core.Bool.{_&&_}
-use mathlib.Core.List.{List}
-use Prim.Native.Nat.{ℕ}
+use Rattle.base_lists.specs.Kit.{_&&_, List, ℕ, length, getD}
 use lib.Bits.{bitOr}
-use lib.ListN.{length, getD}
 use Rattle.base_lists.specs.List.{tabulate}
 use Rattle.base_bits.specs.Bits.{bit, numberOf, subsetOf, unionAt}
 

@@ -13,18 +13,18 @@ ghost use Rattle.bounded_layer.specs.Pass.{nextLayer};
 pub fn widen(
     direction: Direction,
     offsets: &[u16],
-    links: &[u16],
+    targets: &[u16],
     old: &[u32],
     layer: &[u32],
     next: &mut [u32],
 )
-    requires { ⌜ Net (length (now old)) (now offsets) (now links) ⌝ }
+    requires { ⌜ Net (length (now old)) (now offsets) (now targets) ⌝ }
     requires { ⌜ (length (now layer) ≡ length (now old)) × (length (now next) ≡ length (now old)) ⌝ }
-    ensures { λ _. ⌜ now (next .exit) ≡ nextLayer (neighboursIn direction (now (offsets .entry)) (now (links .entry))) (now (old .entry)) (now (layer .entry)) ⌝ }
+    ensures { λ _. ⌜ now (next .exit) ≡ nextLayer (neighboursIn direction (now (offsets .entry)) (now (targets .entry))) (now (old .entry)) (now (layer .entry)) ⌝ }
 {
     let mut v = 0;
     while v < next.len() {
-        let near = neighbours_in(direction, offsets, links, v);
+        let near = neighbours_in(direction, offsets, targets, v);
         next[v] = old[v] | union_at(layer, near);
         v += 1;
     }

@@ -33,18 +33,18 @@ fn pass_node(
     direction: Direction,
     masks: &[u32],
     offsets: &[u16],
-    links: &[u16],
+    targets: &[u16],
     layer: &[u32],
     v: usize,
     set: u32,
 ) -> u32
-    requires { ⌜ (length (now masks) ≡ 32) × Net (length (now layer)) (now offsets) (now links) × (v < length (now layer)) ⌝ }
-    ensures { λ r. ⌜ r ≡ keptWithin (now (masks .entry)) (unionAt (now (layer .entry)) (neighboursIn direction (now (offsets .entry)) (now (links .entry)) v)) set ⌝ }
+    requires { ⌜ (length (now masks) ≡ 32) × Net (length (now layer)) (now offsets) (now targets) × (v < length (now layer)) ⌝ }
+    ensures { λ r. ⌜ r ≡ keptWithin (now (masks .entry)) (unionAt (now (layer .entry)) (neighboursIn direction (now (offsets .entry)) (now (targets .entry)) v)) set ⌝ }
 {
     if set == 0 {
         return 0;
     }
-    let f = union_at(layer, neighbours_in(direction, offsets, links, v));
+    let f = union_at(layer, neighbours_in(direction, offsets, targets, v));
     covered(set, masks, f)
 }
 
@@ -53,17 +53,17 @@ pub fn pass(
     direction: Direction,
     masks: &[u32],
     offsets: &[u16],
-    links: &[u16],
+    targets: &[u16],
     layer: &[u32],
     new: &mut [u32],
 )
-    requires { ⌜ (length (now masks) ≡ 32) × Net (length (now layer)) (now offsets) (now links) × (length (now new) ≡ length (now layer)) ⌝ }
-    ensures { λ _. ⌜ now (new .exit) ≡ passTable (neighboursIn direction (now (offsets .entry)) (now (links .entry))) (now (masks .entry)) (now (layer .entry)) (now (new .entry)) ⌝ }
+    requires { ⌜ (length (now masks) ≡ 32) × Net (length (now layer)) (now offsets) (now targets) × (length (now new) ≡ length (now layer)) ⌝ }
+    ensures { λ _. ⌜ now (new .exit) ≡ passTable (neighboursIn direction (now (offsets .entry)) (now (targets .entry))) (now (masks .entry)) (now (layer .entry)) (now (new .entry)) ⌝ }
 {
     let mut v = 0;
     while v < new.len() {
         let set = new[v];
-        new[v] = pass_node(direction, masks, offsets, links, layer, v, set);
+        new[v] = pass_node(direction, masks, offsets, targets, layer, v, set);
         v += 1;
     }
 }

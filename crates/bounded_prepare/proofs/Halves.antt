@@ -1,10 +1,5 @@
 -- The two halves of the masks. Assumes nothing.
-use mathlib.Core.List.{List, _++_}
-use mathlib.Core.Path.{_≡_, ap, _∙_}
-use Prim.Native.Nat.{ℕ}
-use native.Mathlib.Omega.{arith}
-use lib.ListN.{length, take, drop, length-take, length-drop, length-append}
-use lib.Seq.{length-take-le}
+use Rattle.base_lists.specs.Kit.{_≡_, _∙_, ap, List, _++_, ℕ, length, take, drop, length-append, length-drop, length-take, length-take-le, arith}
 use Rattle.base_lists.proofs.Parts.{halved, part-first, part-second, length-halved}
 use Rattle.table.specs.Prepared.{masksOf}
 use Rattle.table.proofs.PreparedMasks.{length-masks}

@@ -1,13 +1,9 @@
 -- The numbers of bound and part fit 128 masks. Assumes nothing.
-use mathlib.Core.List.{List}
-use mathlib.Core.Path.{_≡_, subst}
-use Prim.Native.Nat.{ℕ, _+_, _*_, _-_, _≤_, _<_}
-use native.Mathlib.Omega.{arith}
-use lib.ListN.{length, getD}
-use Rattle.base_lists.specs.List.{tabulate, Below}
+use Rattle.base_lists.specs.Kit.{_≡_, List, ℕ, _<_, _-_, length, getD, arith}
+use Rattle.base_lists.specs.List.{Below}
 use Rattle.base_lists.proofs.Tables.{length-tabulate, getD-tabulate}
 use Rattle.bounded_strike.specs.Prepared.{keyAt, keyed}
-use Rattle.bounded_prepare.specs.InBounds.{InBounds}
+use Rattle.bounded.specs.Problem.{InBounds}
 
 pub length-keyed : (bounds keys : List ℕ) → length (keyed bounds keys) ≡ length keys
 unfolding keyed

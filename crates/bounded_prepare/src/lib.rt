@@ -5,11 +5,11 @@ use file_format::Pattern;
 use table_prepare::masks::masks_of;
 ghost use mathlib.Core.Path.{_≡_};
 ghost use Prim.Native.Nat.{_≤_, _<_};
-ghost use lib.ListN.{length, getD};
+ghost use lib.ListN.{length};
 ghost use Rattle.base_lists.specs.List.{Below};
 ghost use Rattle.table.specs.Prepared.{masksOf};
 ghost use Rattle.bounded_strike.specs.Prepared.{keyed, BoundMasked, Top};
-ghost use Rattle.bounded_prepare.specs.InBounds.{InBounds};
+ghost use Rattle.bounded.specs.Problem.{InBounds};
 
 // For each link its bound and a part as one number: 32 numbers for each bound.
 fn keys_of(bounds: &[u16], parts: &[u16], keys: &mut [u16])

@@ -1,16 +1,7 @@
 -- Masks by bound and part as one number are the masks of the links of each bound. Assumes nothing.
-use mathlib.Core.Bool.{Bool, true, false, cond}
-use mathlib.Core.List.{List, [], _∷_}
-use mathlib.Core.Path.{_≡_, refl, sym, ap, ap₂, _∙_}
-use Prim.Native.Nat.{ℕ, zero, suc, _+_, _*_, _-_, _≤_, _<_, suc-le-suc}
-use native.Mathlib.Nat.{zero-lt-suc}
-use native.Mathlib.Omega.{arith}
-use lib.Dec.{eqb}
-use lib.ListN.{length, getD, take, drop}
-use borrow.Author.Tests.{eqb-true, eqb-false, eq-eqb, ne-eqb}
-use Rattle.base_lists.specs.List.{tabulate, part, Below}
+use Rattle.base_lists.specs.Kit.{_≡_, _∙_, sym, ap, refl, Bool, false, true, cond, List, [], _∷_, ℕ, _≤_, _<_, _+_, _-_, suc, zero, _*_, suc-le-suc, zero-lt-suc, eqb, length, getD, arith, eq-eqb, ne-eqb, eqb-true, eqb-false}
+use Rattle.base_lists.specs.List.{tabulate, Below}
 use Rattle.base_lists.specs.Below.{keepFrom}
-use Rattle.base_lists.proofs.Tables.{length-tabulate, getD-tabulate, tabulate-same, is-tabulate}
 use Rattle.graph.specs.Neighbours.{select}
 use Rattle.bounded_strike.specs.Prepared.{keyAt, keyed}
 

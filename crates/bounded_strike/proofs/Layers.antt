@@ -1,22 +1,13 @@
 -- A layer has, at each node, the parts that occur at the ends of paths from there. Assumes nothing.
-use mathlib.Core.List.{List, [], _∷_, _++_}
-use mathlib.Core.Path.{_≡_, refl, sym, ap, ap₂, _∙_}
-use Prim.Native.Nat.{ℕ, zero, suc, _<_, suc-le-suc}
-use native.Mathlib.Nat.{zero-lt-suc}
-use lib.Bits.{bitOr, or-zero-l, or-zero-r}
-use lib.ListN.{length, getD}
-use Rattle.base_lists.specs.List.{tabulate, Below}
-use Rattle.base_lists.proofs.Tables.{length-tabulate, getD-tabulate, tabulate-same}
+use Rattle.base_lists.specs.Kit.{_≡_, _∙_, sym, ap, refl, ap₂, List, [], _∷_, ℕ, _<_, suc, zero, suc-le-suc, zero-lt-suc, length, getD}
+use lib.Bits.{bitOr, or-zero-r}
+use Rattle.base_lists.specs.List.{Below}
+use Rattle.base_lists.proofs.Tables.{getD-tabulate, tabulate-same}
 use Rattle.base_bits.specs.Bits.{unionAt}
-use Rattle.base_bits.proofs.Tests.{bitOr-assoc}
+use Rattle.base_bits.proofs.Unions.{unionAt-append}
 use Rattle.bounded.specs.Problem.{gather, within}
 use Rattle.bounded_layer.specs.Pass.{nextLayer}
 use Rattle.bounded_strike.specs.Round.{layerOf}
-
-union-append : (t xs ys : List ℕ) → unionAt t (xs ++ ys) ≡ bitOr (unionAt t xs) (unionAt t ys)
-unfolding unionAt
-union-append t [] ys = sym (or-zero-l (unionAt t ys))
-union-append t (x ∷ xs) ys = ap (bitOr (getD t x 0)) (union-append t xs ys) ∙ sym (bitOr-assoc (getD t x 0) (unionAt t xs) (unionAt t ys))
 
 -- a table whose sets are unions over lists of another's nodes
 union-gather :
@@ -26,14 +17,9 @@ unfolding unionAt gather Below
 union-gather layer old f n e [] b = refl
 union-gather layer old f n e (w ∷ ws) b =
     ap₂ (λ (x y : ℕ). bitOr x y) (e w (b zero (zero-lt-suc _))) (union-gather layer old f n e ws (λ i h. b (suc i) (suc-le-suc h)))
-    ∙ sym (union-append old (f w) (gather f ws))
+    ∙ sym (unionAt-append old (f w) (gather f ws))
 
 module _ (near : ℕ → List ℕ) (old : List ℕ) where
-  pub length-layer : (h : ℕ) → length (layerOf near old h) ≡ length old
-  unfolding layerOf nextLayer
-  length-layer zero = refl
-  length-layer (suc h) = length-tabulate (length old) (λ v. bitOr (getD old v 0) (unionAt (layerOf near old h) (near v)))
-
   module _ (inside : (v : ℕ) → v < length old → Below (length old) (near v)) where
     layer-at : (h w : ℕ) → w < length old → getD (layerOf near old h) w 0 ≡ unionAt old (w ∷ within near h w)
     unfolding layerOf nextLayer unionAt within

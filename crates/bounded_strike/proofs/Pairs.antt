@@ -1,24 +1,8 @@
 -- How many pairs a table has, counted from the front. Assumes nothing.
-use mathlib.Core.List.{List, [], _∷_}
-use mathlib.Core.Path.{_≡_, refl, ap}
-use Prim.Native.Nat.{ℕ, zero, _+_, _*_, _≤_, _<_, zero-le}
-use native.Mathlib.Numerals.{add-one}
-use native.Mathlib.Omega.{arith}
-use lib.ListN.{length, getD, drop, drop-of-length-le}
-use lib.Seq.{drop-cons}
+use Rattle.base_lists.specs.Kit.{_≡_, ap, List, ℕ, _≤_, _<_, _+_, add-one, length, getD, drop, drop-of-length-le, drop-cons}
 use Rattle.base_lists.specs.List.{sum}
-use Rattle.base_bits.specs.Bits.{bit, sizeOf}
-use Rattle.base_lists.proofs.Below.{countBelow-le}
+use Rattle.base_bits.specs.Bits.{sizeOf}
 use Rattle.table_row.specs.Row.{pairs}
-
-pub size-le : (x : ℕ) → sizeOf x ≤ 32
-unfolding sizeOf
-size-le x = countBelow-le 32 (bit x)
-
-pub pairs-le : (t : List ℕ) → pairs t ≤ 32 * length t
-unfolding pairs sum
-pairs-le [] = zero-le
-pairs-le (x ∷ xs) = omega (arith, size-le x, pairs-le xs)
 
 -- the next set, and the rest
 pub pairs-next : (t : List ℕ) (v : ℕ) → v < length t → pairs (drop v t) ≡ sizeOf (getD t v 0) + pairs (drop (v + 1) t)

@@ -1,23 +1,16 @@
 -- A round of passes is the striking of the row, where the tables are those of a pattern, its bounds and a board. Assumes nothing.
-use mathlib.Core.Bool.{Bool, true, false, _&&_, _||_, not, and-true, and-assoc}
-use mathlib.Core.List.{List, [], _∷_}
-use mathlib.Core.Path.{_≡_, refl, sym, ap, ap₂, subst, _∙_}
-use Prim.Native.Nat.{ℕ, zero, suc, _+_, _*_, _-_, _^_, _≤_, _<_}
-use native.Mathlib.Nat.{lt-of-lt-of-le}
+use Rattle.base_lists.specs.Kit.{_≡_, _∙_, sym, ap, refl, subst, ap₂, Bool, true, _&&_, and-true, and-assoc, List, [], _∷_, ℕ, _≤_, _<_, _+_, _-_, suc, zero, _*_, _^_, lt-of-lt-of-le, eqb, eqb→eq, length, getD, List·getD-eq-default, arith}
 use native.Mathlib.Decide.{decLt}
-use native.Mathlib.Omega.{arith}
-use lib.Dec.{T, eqb, eqb→eq}
-use lib.ListN.{length, getD, take, drop, length-drop, List·getD-eq-default}
 use lib.Pow.{pow-pos}
-use lib.Seq.{getD-take, getD-drop, length-take-le}
-use Rattle.base_lists.specs.List.{any, tabulate, part, Below, Occurs}
+use Rattle.base_lists.specs.List.{tabulate, part, Below, Occurs}
 use Rattle.base_lists.specs.Below.{keepFrom}
-use Rattle.base_lists.proofs.Tests.{T-true, T-false, false-T, any-at}
+use Rattle.base_lists.proofs.Tests.{T-false, any-at}
 use Rattle.base_lists.proofs.Tables.{length-tabulate, getD-tabulate, tabulate-same, is-tabulate}
-use Rattle.base_bits.specs.Bits.{bit, numberOf, subsetOf, unionAt}
+use Rattle.base_lists.proofs.Parts.{part-tabulate}
+use Rattle.base_bits.specs.Bits.{bit, numberOf, subsetOf, unionAt, Words}
 use Rattle.base_bits.proofs.Digits.{bit-of-zero}
 use Rattle.base_bits.proofs.Numbers.{number-lt, bit-number, number-same, number-bit}
-use Rattle.base_bits.proofs.Tests.{subset-each}
+use Rattle.base_bits.proofs.Tests.{subset-none}
 use Rattle.graph.specs.Circuit.{Circuit}
 use Rattle.graph.specs.Neighbours.{select}
 use Rattle.graph.proofs.Net.{net-of}
@@ -45,10 +38,6 @@ use Rattle.bounded_strike.proofs.Keys.{select-bound}
 
 -- ---- passes for labels, as a problem has its masks and moves
 
--- sets of 32 bits
-abbrev Small : List ℕ → Type 0
-Small new = (v : ℕ) → getD new v 0 < 2 ^ 32
-
 -- a part is kept when it is in the set and its mask within the union
 kept-bit : (masks : List ℕ) (f x u : ℕ) → u < 32 → bit (keptWithin masks f x) u ≡ bit x u && subsetOf (getD masks u 0) f
 unfolding keptWithin
@@ -70,7 +59,7 @@ module _ (p : Problem Label) (old : List ℕ) where
   unfolding labelPass
   label-at l new v h = getD-tabulate (length new) (λ w. keptWithin (maskOf p l) (unionAt old (p .moves l w)) (getD new w 0)) v 0 h
 
-  label-small : (l : Label) (new : List ℕ) → Small (labelPass l new)
+  label-small : (l : Label) (new : List ℕ) → Words (labelPass l new)
   unfolding keptWithin
   label-small l new v = go (decLt v (length new))
     where
@@ -85,7 +74,7 @@ module _ (p : Problem Label) (old : List ℕ) where
 
   -- the passes of a list keep the parts that are covered for every label of it
   list-at :
-      (ls : List Label) (new : List ℕ) → Small new → (v : ℕ) → v < length new →
+      (ls : List Label) (new : List ℕ) → Words new → (v : ℕ) → v < length new →
       getD (passList ls new) v 0 ≡ numberOf 32 (λ u. bit (getD new v 0) u && every (covered p old u v) ls)
   unfolding passList every covered
   list-at [] new small v h =
@@ -99,7 +88,7 @@ module _ (p : Problem Label) (old : List ℕ) where
       one u k = ap (λ (x : ℕ). bit x u) (label-at l new v h) ∙ kept-bit (maskOf p l) (unionAt old (p .moves l v)) (getD new v 0) u k
 
 -- the row of passes for every label is the next table
-list-next : (p : Problem Label) (old : List ℕ) → Small old → length old ≡ p .nodes → passList p old (p .ways) old ≡ tabulate (p .nodes) (nextSet p old)
+list-next : (p : Problem Label) (old : List ℕ) → Words old → length old ≡ p .nodes → passList p old (p .ways) old ≡ tabulate (p .nodes) (nextSet p old)
 unfolding nextSet
 list-next p old small long =
     is-tabulate (p .nodes) (nextSet p old) (passList p old (p .ways) old) (length-list p old (p .ways) old ∙ long)
@@ -116,13 +105,6 @@ wayMasks : List ℕ → Direction → List ℕ
 wayMasks masks forwards = part 0 128 masks
 wayMasks masks backwards = part 128 128 masks
 
-part-tabulate : (at size n : ℕ) (f : ℕ → ℕ) → at + size ≤ n → part at size (tabulate n f) ≡ tabulate size (λ u. f (at + u))
-unfolding part
-part-tabulate at size n f h =
-    is-tabulate size (λ u. f (at + u)) (take size (drop at (tabulate n f)))
-    (length-take-le size (drop at (tabulate n f)) (omega (arith, length-drop at (tabulate n f), length-tabulate n f)))
-    (λ u l. getD-take size (drop at (tabulate n f)) u 0 l ∙ getD-drop at (tabulate n f) u 0 ∙ getD-tabulate n f (at + u) 0 (omega arith))
-
 -- the masks of one bound, of links with these keys and values
 masks-bound :
     (bounds keys values : List ℕ) (h : ℕ) → h < 4 → length bounds ≡ length keys → ((j : ℕ) → j < length bounds → 1 ≤ getD bounds j 0) → Below 32 keys →
@@ -138,14 +120,14 @@ module _ (pattern : Circuit) (bounds : List ℕ) (board : Circuit) (t : Tables) 
   problem = boundedProblem pattern bounds board
 
   abbrev near : Direction → ℕ → List ℕ
-  near d = neighboursIn (told d) (t .offsets) (t .links)
+  near d = neighboursIn (told d) (t .offsets) (t .targets)
 
-  near-is : (d : Direction) (v : ℕ) → v < length (board .kinds) → near d v ≡ neighbours board d v
+  near-is : (d : Direction) (v : ℕ) → v < length (board .labels) → near d v ≡ neighbours board d v
   unfolding neighboursIn neighbours told
   near-is forwards v h = r .net .drives v h
   near-is backwards v h = r .net .drivenBy v h
 
-  parts-below : (xs : List ℕ) → Below (length (pattern .kinds)) xs → Below 32 xs
+  parts-below : (xs : List ℕ) → Below (length (pattern .labels)) xs → Below 32 xs
   unfolding Below
   parts-below xs b i h = lt-of-lt-of-le (b i h) (r .parts)
 
@@ -153,24 +135,24 @@ module _ (pattern : Circuit) (bounds : List ℕ) (board : Circuit) (t : Tables) 
   unfolding maskOf boundedProblem ofBound neighbours wayMasks
   bound-mask forwards h l =
       ap (part (32 * h) 32) (r .masked .succ)
-      ∙ masks-bound bounds (pattern .starts) (pattern .ends) h l (r .bounded .each) (r .bounded .some) (parts-below (pattern .starts) (r .starts))
+      ∙ masks-bound bounds (pattern .starts) (pattern .ends) h l (r .bounded .each) (r .bounded .inside .some) (parts-below (pattern .starts) (r .starts))
   bound-mask backwards h l =
       ap (part (32 * h) 32) (r .masked .pred)
-      ∙ masks-bound bounds (pattern .ends) (pattern .starts) h l (r .bounded .each ∙ r .parallel) (r .bounded .some) (parts-below (pattern .ends) (r .ends))
+      ∙ masks-bound bounds (pattern .ends) (pattern .starts) h l (r .bounded .each ∙ r .parallel) (r .bounded .inside .some) (parts-below (pattern .ends) (r .ends))
 
   -- steps lead from parts to parts
   steps-within : StepsWithin problem
   unfolding boundedProblem boundedGraph Along Below
   steps-within = record { below = λ l u h i k. go (l .way) (l .bound) u _ (steps-iff pattern bounds (l .way) (l .bound) u _ .0 (i, k, refl)) }
     where
-      go : (d : Direction) (h u u′ : ℕ) → Along (λ x y. boundedGraph pattern bounds .Link x y h) d u u′ → u′ < length (pattern .kinds)
-      go forwards h u u′ (j, k, e) = subst (λ (x : ℕ). x < length (pattern .kinds)) (k .end) (r .ends j (k .inEnds))
-      go backwards h u u′ (j, k, e) = subst (λ (x : ℕ). x < length (pattern .kinds)) (k .start) (r .starts j (k .inStarts))
+      go : (d : Direction) (h u u′ : ℕ) → Along (λ x y. boundedGraph pattern bounds .Link x y h) d u u′ → u′ < length (pattern .labels)
+      go forwards h u u′ (j, k, e) = subst (λ (x : ℕ). x < length (pattern .labels)) (k .end) (r .ends j (k .inEnds))
+      go backwards h u u′ (j, k, e) = subst (λ (x : ℕ). x < length (pattern .labels)) (k .start) (r .starts j (k .inStarts))
 
-  module _ (old : List ℕ) (long : length old ≡ length (board .kinds)) where
+  module _ (old : List ℕ) (long : length old ≡ length (board .labels)) where
     inside : (d : Direction) (v : ℕ) → v < length old → Below (length old) (neighbours board d v)
     inside d v h =
-        let h′ : v < length (board .kinds) = omega (arith, long) in
+        let h′ : v < length (board .labels) = omega (arith, long) in
         rw (← near-is d v h′, long) (neighbours-below (told d) (net-of (r .net)) v h′)
 
     moves-union : (d : Direction) (h v : ℕ) → v < length old → unionAt (layerOf (near d) old h) (near d v) ≡ unionAt old (within (neighbours board d) (suc h) v)
@@ -223,11 +205,7 @@ module _ (pattern : Circuit) (bounds : List ℕ) (board : Circuit) (t : Tables) 
         (λ y k. T-false (λ s. let (i, b, q) = any-at (λ w. eqb w y) (neighbours (ofBound bounds (suc h) pattern) d u) s in no-step d h u y m (i, b, eqb→eq _ _ q)) ∙ sym (bit-of-zero y))
         ∙ number-bit 32 0 (pow-pos 32)
 
-    none-within : (f : ℕ) → subsetOf 0 f ≡ true
-    unfolding subsetOf
-    none-within f = T-true {b = subsetOf 0 f} (subset-each 32 0 f (λ u s. absurd (false-T (bit-of-zero u) s)))
-
-    no-pass : (d : Direction) (h : ℕ) → top ≤ h → (new : List ℕ) → Small new → labelPass problem old (labelled d (suc h)) new ≡ new
+    no-pass : (d : Direction) (h : ℕ) → top ≤ h → (new : List ℕ) → Words new → labelPass problem old (labelled d (suc h)) new ≡ new
     unfolding labelPass keptWithin
     no-pass d h m new small =
         sym
@@ -235,15 +213,15 @@ module _ (pattern : Circuit) (bounds : List ℕ) (board : Circuit) (t : Tables) 
         (λ v k.
         sym
         (number-same 32 _ (bit (getD new v 0))
-        (λ u l. ap (λ (x : ℕ). bit (getD new v 0) u && subsetOf x (unionAt old (problem .moves (labelled d (suc h)) v))) (no-mask d h u m l) ∙ ap (λ (b : Bool). bit (getD new v 0) u && b) (none-within _) ∙ and-true _)
+        (λ u l. ap (λ (x : ℕ). bit (getD new v 0) u && subsetOf x (unionAt old (problem .moves (labelled d (suc h)) v))) (no-mask d h u m l) ∙ ap (λ (b : Bool). bit (getD new v 0) u && b) (subset-none _) ∙ and-true _)
         ∙ number-bit 32 (getD new v 0) (small v))))
 
-    labels-small : (d : Direction) (h : ℕ) (new : List ℕ) → Small new → Small (passLabels d h new)
+    labels-small : (d : Direction) (h : ℕ) (new : List ℕ) → Words new → Words (passLabels d h new)
     unfolding passLabels
     labels-small d zero new small = small
     labels-small d (suc h) new small = label-small problem old (labelled d (suc h)) (passLabels d h new)
 
-    more-labels : (d : Direction) (k h : ℕ) (new : List ℕ) → Small new → h ≡ k + top → passLabels d h new ≡ passLabels d top new
+    more-labels : (d : Direction) (k h : ℕ) (new : List ℕ) → Words new → h ≡ k + top → passLabels d h new ≡ passLabels d top new
     unfolding passLabels
     more-labels d zero h new small e =
         let e′ : h ≡ top = omega (arith, e) in
@@ -252,12 +230,12 @@ module _ (pattern : Circuit) (bounds : List ℕ) (board : Circuit) (t : Tables) 
     more-labels d (suc k) (suc h) new small e =
         no-pass d h (omega (arith, e)) (passLabels d h new) (labels-small d h new small) ∙ more-labels d k h new small (omega (arith, e))
 
-    all-labels : (d : Direction) (new : List ℕ) → Small new → passLabels d top new ≡ passLabels d 4 new
+    all-labels : (d : Direction) (new : List ℕ) → Words new → passLabels d top new ≡ passLabels d 4 new
     all-labels d new small = sym (more-labels d (4 - top) 4 new small (omega (arith, r .upto .most)))
 
     -- ---- the round
 
-    round-list : Small old → roundTable t top old ≡ passList problem old everyLabel old
+    round-list : Words old → roundTable t top old ≡ passList problem old everyLabel old
     unfolding roundTable passList everyLabel passLabels wayMasks told
     round-list small =
         let one = passes-labels forwards top (r .upto .most) old refl ∙ all-labels forwards old small in

@@ -1,13 +1,7 @@
 -- A round takes pairs away and adds none. Assumes nothing.
-use mathlib.Core.List.{List}
-use mathlib.Core.Path.{_≡_, refl, subst, _∙_}
-use Prim.Native.Nat.{ℕ, zero, suc, _*_, _^_, _<_}
-use native.Mathlib.Nat.{lt-of-le-of-lt}
+use Rattle.base_lists.specs.Kit.{_≡_, _∙_, refl, subst, List, ℕ, _<_, suc, zero, _*_, lt-of-le-of-lt, T, length, getD, List·getD-eq-default, arith}
 use native.Mathlib.Decide.{decLt}
-use native.Mathlib.Omega.{arith}
-use lib.Dec.{T}
-use lib.ListN.{length, getD, List·getD-eq-default}
-use Rattle.base_lists.specs.List.{tabulate, part}
+use Rattle.base_lists.specs.List.{part}
 use Rattle.base_lists.proofs.Tests.{false-T}
 use Rattle.base_lists.proofs.Tables.{length-tabulate, getD-tabulate}
 use Rattle.base_bits.specs.Bits.{bit, Subset, unionAt}
@@ -15,7 +9,7 @@ use Rattle.base_bits.proofs.Digits.{bit-of-zero}
 use Rattle.base_bits.proofs.Numbers.{subset-le}
 use Rattle.table.specs.Prepared.{Tables}
 use Rattle.bounded_layer.specs.Pass.{keptWithin, passTable}
-use Rattle.bounded_strike.specs.Round.{layerOf, passes, roundTable, Ready}
+use Rattle.bounded_strike.specs.Round.{layerOf, passes, roundTable, BoundedReady}
 use Rattle.bounded_layer.proofs.Sets.{kept-subset}
 
 module _ (near : ℕ → List ℕ) (masks layer new : List ℕ) where
@@ -57,7 +51,7 @@ module _ (t : Tables) (top : ℕ) (old : List ℕ) where
   unfolding roundTable
   round-subset v u s = passes-subset _ _ old top old v u (passes-subset _ _ old top _ v u s)
 
-  pub round-ready : Ready t top old → Ready t top (roundTable t top old)
+  pub round-ready : BoundedReady t top old → BoundedReady t top (roundTable t top old)
   round-ready r =
       record {
         masks = r .masks;

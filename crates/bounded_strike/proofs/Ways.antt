@@ -1,7 +1,5 @@
 -- The passes of one direction, one bound after another. Assumes nothing.
-use mathlib.Core.List.{List}
-use mathlib.Core.Path.{_≡_, ap, ap₂, _∙_}
-use Prim.Native.Nat.{ℕ, suc, _*_}
+use Rattle.base_lists.specs.Kit.{_≡_, _∙_, ap, ap₂, List, ℕ, suc, _*_}
 use Rattle.base_lists.specs.List.{part}
 use Rattle.bounded_layer.specs.Pass.{passTable, nextLayer}
 use Rattle.bounded_strike.specs.Round.{layerOf, passes}

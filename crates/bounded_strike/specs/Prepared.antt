@@ -1,9 +1,6 @@
 -- What striking with bounds looks up: when masks and neighbour tables are those of a pattern, its bounds and a board. One list has 256 masks:
 -- for each bound from 1 to 4, for each of 32 parts, the parts that it drives by a link of that bound; and then for each those that drive it so.
-use mathlib.Core.List.{List}
-use mathlib.Core.Path.{_≡_}
-use Prim.Native.Nat.{ℕ, _+_, _*_, _-_, _≤_, _<_}
-use lib.ListN.{length, getD}
+use Rattle.base_lists.specs.Kit.{_≡_, List, ℕ, _≤_, _<_, _+_, _-_, _*_, length, getD}
 use Rattle.base_lists.specs.List.{tabulate, part, Below}
 use Rattle.graph.specs.Circuit.{Circuit}
 use Rattle.graph.specs.Net.{NetOf}
@@ -31,11 +28,11 @@ pub record Top (bounds : List ℕ) (top : ℕ) : Type 0 where
   pub each : (i : ℕ) → i < length bounds → getD bounds i 0 ≤ top
 
 pub record BoundPrepared (pattern : Circuit) (bounds : List ℕ) (board : Circuit) (t : Tables) (top : ℕ) : Type 0 where
-  pub parts : length (pattern .kinds) ≤ 32
+  pub parts : length (pattern .labels) ≤ 32
   pub parallel : length (pattern .starts) ≡ length (pattern .ends)
-  pub starts : Below (length (pattern .kinds)) (pattern .starts)
-  pub ends : Below (length (pattern .kinds)) (pattern .ends)
+  pub starts : Below (length (pattern .labels)) (pattern .starts)
+  pub ends : Below (length (pattern .labels)) (pattern .ends)
   pub bounded : Bounds pattern bounds
   pub upto : Top bounds top
   pub masked : BoundMasked bounds (pattern .starts) (pattern .ends) (t .masks)
-  pub net : NetOf (length (board .kinds)) (board .starts) (board .ends) (t .offsets) (t .links)
+  pub net : NetOf (length (board .labels)) (board .starts) (board .ends) (t .offsets) (t .targets)

@@ -13,26 +13,26 @@ ghost use Rattle.graph_neighbours.specs.Lookup.{neighboursIn};
 ghost use Rattle.table.specs.Prepared.{tables};
 ghost use Rattle.table.specs.Row.{pairs};
 ghost use Rattle.bounded_layer.specs.Pass.{passTable, nextLayer};
-ghost use Rattle.bounded_strike.specs.Round.{passes, roundTable, Ready};
+ghost use Rattle.bounded_strike.specs.Round.{passes, roundTable, BoundedReady};
 
 // One bound more in one direction: the layer that reaches one link further, and the pass over it.
 fn further(
     direction: Direction,
     masks: &[u32],
     offsets: &[u16],
-    links: &[u16],
+    targets: &[u16],
     old: &[u32],
     layer: &[u32],
     next: &mut [u32],
     new: &mut [u32],
 )
-    requires { ⌜ Net (length (now old)) (now offsets) (now links) ⌝ }
+    requires { ⌜ Net (length (now old)) (now offsets) (now targets) ⌝ }
     requires { ⌜ (length (now masks) ≡ 32) × (length (now layer) ≡ length (now old)) × (length (now next) ≡ length (now old)) × (length (now new) ≡ length (now old)) ⌝ }
-    ensures { λ _. ⌜ now (next .exit) ≡ nextLayer (neighboursIn direction (now (offsets .entry)) (now (links .entry))) (now (old .entry)) (now (layer .entry)) ⌝ }
-    ensures { λ _. ⌜ now (new .exit) ≡ passTable (neighboursIn direction (now (offsets .entry)) (now (links .entry))) (now (masks .entry)) (now (next .exit)) (now (new .entry)) ⌝ }
+    ensures { λ _. ⌜ now (next .exit) ≡ nextLayer (neighboursIn direction (now (offsets .entry)) (now (targets .entry))) (now (old .entry)) (now (layer .entry)) ⌝ }
+    ensures { λ _. ⌜ now (new .exit) ≡ passTable (neighboursIn direction (now (offsets .entry)) (now (targets .entry))) (now (masks .entry)) (now (next .exit)) (now (new .entry)) ⌝ }
 {
-    widen(direction, offsets, links, old, layer, next);
-    pass(direction, masks, offsets, links, next, new);
+    widen(direction, offsets, targets, old, layer, next);
+    pass(direction, masks, offsets, targets, next, new);
 }
 
 // The passes of one direction, for the bounds up to `top`. For bound 1 the ends of paths are the neighbours; for each further bound they are
@@ -41,18 +41,18 @@ fn strike_way(
     direction: Direction,
     masks: &[u32],
     offsets: &[u16],
-    links: &[u16],
+    targets: &[u16],
     top: usize,
     old: &[u32],
     layer: &mut [u32],
     next: &mut [u32],
     new: &mut [u32],
 )
-    requires { ⌜ (length (now masks) ≡ 128) × Net (length (now old)) (now offsets) (now links) × (1 ≤ top) × (top ≤ 4) ⌝ }
+    requires { ⌜ (length (now masks) ≡ 128) × Net (length (now old)) (now offsets) (now targets) × (1 ≤ top) × (top ≤ 4) ⌝ }
     requires { ⌜ (length (now layer) ≡ length (now old)) × (length (now next) ≡ length (now old)) × (length (now new) ≡ length (now old)) ⌝ }
-    ensures { λ _. ⌜ now (new .exit) ≡ passes (neighboursIn direction (now (offsets .entry)) (now (links .entry))) (now (masks .entry)) (now (old .entry)) top (now (new .entry)) ⌝ }
+    ensures { λ _. ⌜ now (new .exit) ≡ passes (neighboursIn direction (now (offsets .entry)) (now (targets .entry))) (now (masks .entry)) (now (old .entry)) top (now (new .entry)) ⌝ }
 {
-    pass(direction, &masks[0..32], offsets, links, old, new);
+    pass(direction, &masks[0..32], offsets, targets, old, new);
     if top < 2 {
         return;
     }
@@ -60,7 +60,7 @@ fn strike_way(
         direction,
         &masks[32..64],
         offsets,
-        links,
+        targets,
         old,
         old,
         layer,
@@ -73,7 +73,7 @@ fn strike_way(
         direction,
         &masks[64..96],
         offsets,
-        links,
+        targets,
         old,
         layer,
         next,
@@ -86,7 +86,7 @@ fn strike_way(
         direction,
         &masks[96..128],
         offsets,
-        links,
+        targets,
         old,
         next,
         layer,
@@ -112,23 +112,23 @@ fn count(table: &[u32]) -> u32
 pub fn strike(
     masks: &[u32],
     offsets: &[u16],
-    links: &[u16],
+    targets: &[u16],
     top: usize,
     old: &[u32],
     layer: &mut [u32],
     next: &mut [u32],
     new: &mut [u32],
 ) -> u32
-    requires { ⌜ Ready (tables (now masks) (now offsets) (now links)) top (now old) ⌝ }
+    requires { ⌜ BoundedReady (tables (now masks) (now offsets) (now targets)) top (now old) ⌝ }
     requires { ⌜ (length (now layer) ≡ length (now old)) × (length (now next) ≡ length (now old)) × (length (now new) ≡ length (now old)) ⌝ }
-    ensures { λ r. ⌜ (now (new .exit) ≡ roundTable (tables (now (masks .entry)) (now (offsets .entry)) (now (links .entry))) top (now (old .entry))) × (r ≡ pairs (now (new .exit))) ⌝ }
+    ensures { λ r. ⌜ (now (new .exit) ≡ roundTable (tables (now (masks .entry)) (now (offsets .entry)) (now (targets .entry))) top (now (old .entry))) × (r ≡ pairs (now (new .exit))) ⌝ }
 {
     copy(old, new);
     strike_way(
         Direction::Forward,
         &masks[..WAY_MASKS],
         offsets,
-        links,
+        targets,
         top,
         old,
         layer,
@@ -139,7 +139,7 @@ pub fn strike(
         Direction::Backward,
         &masks[WAY_MASKS..BOUND_MASKS],
         offsets,
-        links,
+        targets,
         top,
         old,
         layer,

@@ -1,25 +1,16 @@
 -- The loop of rounds: from one table to the next, until a round strikes nothing. Assumes nothing.
-use mathlib.Core.List.{List}
-use mathlib.Core.Logic.{_⊎_, ⊎-elim}
-use mathlib.Core.Path.{_≡_, refl, sym, ap, subst, _∙_}
-use Prim.Native.Nat.{ℕ, suc, _+_, _*_, _^_, _≤_, _<_}
-use native.Mathlib.Nat.{le-refl, not-suc-le-zero, lt-of-le-of-lt}
-use native.Mathlib.Numerals.{add-one}
-use native.Mathlib.Omega.{arith}
+use Rattle.base_lists.specs.Kit.{_≡_, _∙_, sym, ap, refl, ⊎-elim, _⊎_, List, ℕ, _≤_, _<_, _+_, suc, not-suc-le-zero, le-refl, add-one, arith}
 use borrow.Author.Count.{below-more}
-use lib.ListN.{length, getD}
-use Rattle.table_row.specs.Reading.{Fits, InTable}
 use Rattle.table_row.specs.Row.{inTable}
 use Rattle.table_row.proofs.Sets.{pairs-progress}
 use Rattle.table_row.proofs.Falling.{falls-count}
-use Rattle.base_bits.proofs.Numbers.{subset-le}
 use Rattle.table.specs.Row.{pairs}
 use Rattle.table.specs.Prepared.{Tables}
-use Rattle.bounded_strike.specs.Round.{roundTable, roundTimes, Ready, Turn, Settled}
+use Rattle.bounded_strike.specs.Round.{roundTable, roundTimes, BoundedReady, Turn, BoundedSettled}
 use Rattle.bounded_strike.proofs.Shrinking.{length-round, round-subset, round-ready}
 
 -- it leaves fewer pairs, or the same table
-progress : (t : Tables) (top : ℕ) (old : List ℕ) → Ready t top old → (pairs (roundTable t top old) < pairs old) ⊎ (roundTable t top old ≡ old)
+progress : (t : Tables) (top : ℕ) (old : List ℕ) → BoundedReady t top old → (pairs (roundTable t top old) < pairs old) ⊎ (roundTable t top old ≡ old)
 unfolding inTable
 progress t top old r =
     pairs-progress (le-refl 32) (record { size = length-round t top old; small = round-ready t top old r .small }) (record { size = refl; small = r .small })
@@ -31,7 +22,7 @@ unfolding roundTimes
 turn-count {t} {top} {start} {rounds = rounds} r =
     omega (arith, falls-count pairs (roundTimes t top start) rounds (r .falls), r .count ∙ ap pairs (r .table))
 
-pub first-turn : {t : Tables} {top : ℕ} {start : List ℕ} {started : ℕ} → Ready t top start → started ≡ pairs start → Turn t top start start started 0
+pub first-turn : {t : Tables} {top : ℕ} {start : List ℕ} {started : ℕ} → BoundedReady t top start → started ≡ pairs start → Turn t top start start started 0
 unfolding roundTimes
 first-turn ready count = record { table = refl; falls = λ j h. absurd (not-suc-le-zero h); count = count; ready = ready }
 
@@ -65,7 +56,7 @@ module _ {t : Tables} {top : ℕ} {start old : List ℕ} {kept rounds : ℕ} (r 
   same e = struck ∙ stopped e
 
   -- said of the new table
-  pub turn-end : next ≡ kept → Settled t top start new next rounds
+  pub turn-end : next ≡ kept → BoundedSettled t top start new next rounds
   turn-end e =
       record {
         table = same e ∙ r .table;
@@ -74,5 +65,5 @@ module _ {t : Tables} {top : ℕ} {start old : List ℕ} {kept rounds : ℕ} (r 
         count = count;
       }
 
-  pub turn-last : next ≡ kept → Settled t top start old kept rounds
+  pub turn-last : next ≡ kept → BoundedSettled t top start old kept rounds
   turn-last e = record { table = r .table; stops = stopped e; falls = r .falls; count = r .count }

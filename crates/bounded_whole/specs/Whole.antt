@@ -1,7 +1,5 @@
 -- The row of a pattern with bounds on a whole board: what the functions below the answer promise.
-use mathlib.Core.List.{List}
-use mathlib.Core.Path.{_≡_}
-use Prim.Native.Nat.{ℕ}
+use Rattle.base_lists.specs.Kit.{_≡_, List, ℕ}
 use Rattle.graph.specs.Circuit.{Circuit, circuit}
 use Rattle.table_row.specs.Row.{startedOf, lastOf, keptOf, struckOf, roundsOf}
 use Rattle.table.specs.declared.Counts.{Counts}
@@ -21,17 +19,17 @@ pub record BoundedRow (pattern : Circuit) (bounds : List ℕ) (board : Circuit) 
   pub last : table ≡ lastOf (boundedProblem pattern bounds board)
 
 -- the tables are those of a pattern and a board that have these kinds, and some links and bounds
-pub record SomePattern (partKinds nodeKinds : List ℕ) (t : Tables) (top : ℕ) : Type 0 where
+pub record SomeBoundedPattern (partLabels nodeLabels : List ℕ) (t : Tables) (top : ℕ) : Type 0 where
   pub partStarts : List ℕ
   pub partEnds : List ℕ
   pub bounds : List ℕ
   pub nodeStarts : List ℕ
   pub nodeEnds : List ℕ
-  pub prepared : BoundPrepared (circuit partKinds partStarts partEnds) bounds (circuit nodeKinds nodeStarts nodeEnds) t top
+  pub prepared : BoundPrepared (circuit partLabels partStarts partEnds) bounds (circuit nodeLabels nodeStarts nodeEnds) t top
 
 -- the row's end, for every pattern and board with these kinds that the tables are of
 abbrev pub EveryRow : List ℕ → List ℕ → Tables → ℕ → List ℕ → Counts → Type 0
-EveryRow partKinds nodeKinds t top table counts =
+EveryRow partLabels nodeLabels t top table counts =
     (partStarts partEnds bounds nodeStarts nodeEnds : List ℕ) →
-    BoundPrepared (circuit partKinds partStarts partEnds) bounds (circuit nodeKinds nodeStarts nodeEnds) t top →
-    BoundedRow (circuit partKinds partStarts partEnds) bounds (circuit nodeKinds nodeStarts nodeEnds) table counts
+    BoundPrepared (circuit partLabels partStarts partEnds) bounds (circuit nodeLabels nodeStarts nodeEnds) t top →
+    BoundedRow (circuit partLabels partStarts partEnds) bounds (circuit nodeLabels nodeStarts nodeEnds) table counts

@@ -5,14 +5,14 @@ ghost use mathlib.Core.Path.{_≡_};
 ghost use lib.ListN.{length};
 ghost use Rattle.table.specs.Prepared.{tables};
 ghost use Rattle.table.specs.Row.{pairs};
-ghost use Rattle.bounded_strike.specs.Round.{Ready, Settled};
+ghost use Rattle.bounded_strike.specs.Round.{BoundedReady, BoundedSettled};
 
 // The last table of the row that begins with `table`, which has `started` pairs. The two tables take turns: each round reads one whole and
 // writes the other. At the end they are equal, so that nothing is copied. `spare` and the tables for layers are scratch.
 pub fn refine(
     masks: &[u32],
     offsets: &[u16],
-    links: &[u16],
+    targets: &[u16],
     top: usize,
     table: &mut [u32],
     spare: &mut [u32],
@@ -20,20 +20,20 @@ pub fn refine(
     next: &mut [u32],
     started: u32,
 ) -> Rest
-    requires { ⌜ Ready (tables (now masks) (now offsets) (now links)) top (now table) ⌝ }
+    requires { ⌜ BoundedReady (tables (now masks) (now offsets) (now targets)) top (now table) ⌝ }
     requires { ⌜ (length (now spare) ≡ length (now table)) × (length (now layer) ≡ length (now table)) × (length (now next) ≡ length (now table)) ⌝ }
     requires { ⌜ started ≡ pairs (now table) ⌝ }
-    ensures { λ r. ⌜ Settled (tables (now (masks .entry)) (now (offsets .entry)) (now (links .entry))) top (now (table .entry)) (now (table .exit)) (r .kept) (r .rounds) ⌝ }
+    ensures { λ r. ⌜ BoundedSettled (tables (now (masks .entry)) (now (offsets .entry)) (now (targets .entry))) top (now (table .entry)) (now (table .exit)) (r .kept) (r .rounds) ⌝ }
 {
     let mut kept = started;
     let mut rounds: u32 = 0;
     loop {
-        let left = strike(masks, offsets, links, top, table, layer, next, spare);
+        let left = strike(masks, offsets, targets, top, table, layer, next, spare);
         if left == kept {
             return Rest { kept, rounds };
         }
         rounds += 1;
-        kept = strike(masks, offsets, links, top, spare, layer, next, table);
+        kept = strike(masks, offsets, targets, top, spare, layer, next, table);
         if kept == left {
             return Rest { kept, rounds };
         }

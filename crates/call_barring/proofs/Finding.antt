@@ -1,9 +1,5 @@
 -- What the call comes to, by cases: a refused file, a centre outside, too few bytes, or what is found. Assumes nothing.
-use mathlib.Core.List.{List}
-use mathlib.Core.Path.{_≡_, sym, ap, _∙_}
-use Prim.Native.Nat.{ℕ, _≤_, _<_}
-use borrow.Author.Tests.{lt-ltb, le-ltb}
-use lib.ListN.{length}
+use Rattle.base_lists.specs.Kit.{_≡_, _∙_, sym, ap, List, ℕ, _≤_, _<_, length, le-ltb, lt-ltb}
 use Rattle.graph.specs.Circuit.{Circuit}
 use Rattle.graph.specs.Search.{radius}
 use Rattle.file_format.specs.declared.File.the-variants.{Neither}
@@ -11,7 +7,7 @@ use Rattle.file_format.specs.declared.Role.the-variants.{Pattern}
 use Rattle.file_format.specs.declared.Refusal.{Refusal}
 use Rattle.file_format.specs.Circuit.{circuitOf}
 use Rattle.file_format.specs.Layout.{CircuitFile, startsOf, endsOf}
-use Rattle.file_format.specs.Reading.{front, filled}
+use Rattle.file_format.specs.Reading.{prefix, filled}
 use Rattle.file_format.specs.Refusals.{accept, refuse, first, centreOutside, shortTable}
 use Rattle.file_format.specs.Reply.{reply}
 use Rattle.file_format.proofs.Fields.{length-labels, length-starts}
@@ -31,11 +27,11 @@ untouched x out = record { reply = barReply (Refused x); out = out }
 -- ---- two circuits
 
 module _ (r : ℕ) (p b : Circuit) (w : ℕ) (out : List ℕ) where
-  pub on-centre : length (b .kinds) ≤ w → untouched (record { number = 7; file = Neither }) out ≡ barOn r p b w out
+  pub on-centre : length (b .labels) ≤ w → untouched (record { number = 7; file = Neither }) out ≡ barOn r p b w out
   unfolding barOn barring barReply first centreOutside reply filled
   on-centre h = rw (le-ltb _ _ h)
 
-  module _ (inside : w < length (b .kinds)) where
+  module _ (inside : w < length (b .labels)) where
     pub on-short : length out < length (p .starts) → untouched (record { number = 8; file = Neither }) out ≡ barOn r p b w out
     unfolding barOn barring barReply first centreOutside shortTable reply filled
     on-short h = rw (lt-ltb _ _ inside, lt-ltb _ _ h)
@@ -56,7 +52,7 @@ module _ (pattern board : CircuitFile) (w : ℕ) (out : List ℕ) where
   bar-accepted e = rw (first-accept _ _ e, length-labels board, length-starts pattern)
 
   pub bar-read : {p : Pair} {parts host : Circuit} → BothRead Pattern pattern board p parts host → {o : BarOutcome}
-      → o ≡ barOn (p .radius) (front (p .parts) (p .joins) parts) (front (p .nodes) (p .links) host) w out → o ≡ barCall pattern board w out
+      → o ≡ barOn (p .radius) (prefix (p .parts) (p .joins) parts) (prefix (p .nodes) (p .links) host) w out → o ≡ barCall pattern board w out
   unfolding radiusOf
   bar-read read e =
       let own = pair-radius read ∙ sym (ap (λ (n : ℕ). radius n (startsOf pattern) (endsOf pattern)) (length-labels pattern)) in

@@ -1,14 +1,6 @@
 -- What the promise of the call means: 15 exactly where the centre has a place; else the bytes mark links that bar, of which none can be spared.
 -- Assumes nothing.
-use mathlib.Core.Bool.{true, false}
-use mathlib.Core.List.{List, [], _∷_, _++_}
-use mathlib.Core.Logic.{_↔_, ⊎-elim}
-use mathlib.Core.Path.{_≡_, refl, sym, ap, _∙_}
-use Prim.Native.Nat.{ℕ, _≤_, _<_}
-use borrow.Author.Tests.{lt-ltb, le-ltb, ltb-true, ltb-false, not-false}
-use lib.Dec.{T, ltb}
-use lib.ListN.{length, take, drop}
-use lib.Seq.{take-at, drop-at}
+use Rattle.base_lists.specs.Kit.{_≡_, _∙_, sym, ap, _↔_, ⊎-elim, List, [], _∷_, _++_, ℕ, _≤_, _<_, T, length, take, drop, take-at, drop-at, le-ltb, lt-ltb}
 use Rattle.base_lists.proofs.Tests.{T-true, T-false, false-T, decide}
 use Rattle.graph.specs.Chosen.{ChosenLink}
 use Rattle.graph.specs.Circuit.{Circuit, circuitGraph}
@@ -21,10 +13,10 @@ use Rattle.file_format.specs.declared.Role.the-variants.{Pattern, Board}
 use Rattle.file_format.specs.Circuit.{circuitOf}
 use Rattle.file_format.specs.Layout.{CircuitFile, nodesOf, linksOf}
 use Rattle.file_format.specs.Reading.{filled}
-use Rattle.file_format.specs.Refusals.{Verdict, accept, refuse, first, centreOutside, shortTable, centrePlaced, Accepted}
+use Rattle.file_format.specs.Refusals.{accept, refuse, first, centreOutside, shortTable, centrePlaced, Accepted}
 use Rattle.file_format.specs.Reply.{reply}
 use Rattle.file_format.proofs.Fields.{length-starts}
-use Rattle.file_format.proofs.Refusals.{accepted, accept-not-refuse, first-accept, first-holds, first-parts}
+use Rattle.file_format.proofs.Refusals.{accepted, accept-not-refuse, first-accept, first-holds, first-parts, reply-verdict}
 use Rattle.file_pair.specs.Pair.{pairConditions}
 use Rattle.file_pair.proofs.Both.{pair-accept, pair-parts}
 use Rattle.table.specs.Host.{KindsMatch}
@@ -41,11 +33,6 @@ use Rattle.call_barring.specs.Call.{hasPlace, barInputs, barCall}
 -- number 15, of neither file
 abbrev pub fifteen : Refusal
 fifteen = record { number = 15; file = Neither }
-
-reply-verdict : (v : Verdict) (values : List ℕ) → reply v values .verdict ≡ v
-unfolding reply
-reply-verdict accept values = refl
-reply-verdict (refuse x) values = refl
 
 module _ (pattern board : CircuitFile) (w : ℕ) (out : List ℕ) where
   abbrev P : Circuit
@@ -144,8 +131,8 @@ module _ (pattern board : CircuitFile) (w : ℕ) (out : List ℕ) where
     out-is = rw sound
 
     -- the first M bytes are those of the procedure, and the others as they were; the reply is how many of them are 1
-    pub bytes-front : take (linksOf pattern) (result .out) ≡ least P B w r
-    bytes-front = rw out-is (take-at (least P B w r) _ (linksOf pattern) size)
+    pub bytes-prefix : take (linksOf pattern) (result .out) ≡ least P B w r
+    bytes-prefix = rw out-is (take-at (least P B w r) _ (linksOf pattern) size)
 
     pub bytes-rest : drop (linksOf pattern) (result .out) ≡ drop (linksOf pattern) out
     bytes-rest = rw out-is (drop-at (least P B w r) _ (linksOf pattern) size ∙ ap (λ (k : ℕ). drop k out) size)
@@ -155,7 +142,7 @@ module _ (pattern board : CircuitFile) (w : ℕ) (out : List ℕ) where
     values = rw sound
 
     pub values-are : result .reply .values ≡ keptCount (take (linksOf pattern) (result .out)) ∷ []
-    values-are = values ∙ ap (λ (marks : List ℕ). keptCount marks ∷ []) (sym bytes-front)
+    values-are = values ∙ ap (λ (marks : List ℕ). keptCount marks ∷ []) (sym bytes-prefix)
 
     -- the links that the bytes mark
     abbrev pub Kept : Relation
@@ -163,11 +150,11 @@ module _ (pattern board : CircuitFile) (w : ℕ) (out : List ℕ) where
 
     -- "The kept links bar,
     pub kept-bars : Bars (circuitGraph P) (KindsMatch P B) (circuitGraph B) w Kept
-    kept-bars = rw bytes-front (bars-radius P B w r (accepted-radius pattern-accepted) (ChosenLink P (least P B w r)) .0 (least-bars fits w r none))
+    kept-bars = rw bytes-prefix (bars-radius P B w r (accepted-radius pattern-accepted) (ChosenLink P (least P B w r)) .0 (least-bars fits w r none))
 
     -- and with any one or more of them taken away the rest does not."
     pub kept-needed :
         (L : Relation) → L ⊆ Kept → (u u′ : ℕ) → Kept u u′ → (L u u′ → ⊥) → Bars (circuitGraph P) (KindsMatch P B) (circuitGraph B) w L → ⊥
     kept-needed L fewer u u′ k gone d =
-        least-needed fits w r none L (λ x x′ m. rw bytes-front at (fewer x x′ m)) u u′ (rw bytes-front at k) gone
+        least-needed fits w r none L (λ x x′ m. rw bytes-prefix at (fewer x x′ m)) u u′ (rw bytes-prefix at k) gone
         (bars-radius P B w r (accepted-radius pattern-accepted) L .1 d)

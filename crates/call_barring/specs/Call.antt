@@ -1,8 +1,5 @@
 -- The call that finds the least that still says none, whole: the reply, and the lent bytes' later content, from the inputs alone.
-use mathlib.Core.Bool.{Bool}
-use mathlib.Core.List.{List, [], _∷_, _++_}
-use Prim.Native.Nat.{ℕ}
-use lib.ListN.{length}
+use Rattle.base_lists.specs.Kit.{Bool, List, [], _∷_, _++_, ℕ, length}
 use Rattle.graph.specs.Circuit.{Circuit}
 use Rattle.file_format.specs.Circuit.{circuitOf}
 use Rattle.file_format.specs.declared.Role.the-variants.{Pattern}
@@ -31,4 +28,4 @@ barCall pattern board w out =
 -- the call on two circuits that were read, at a radius
 unfoldable pub barOn : ℕ → Circuit → Circuit → ℕ → List ℕ → BarOutcome
 barOn r pattern board w out =
-    barring (first (barConditions (length (board .kinds)) (length (pattern .starts)) w (length out) (found pattern board w r))) pattern board w r out
+    barring (first (barConditions (length (board .labels)) (length (pattern .starts)) w (length out) (found pattern board w r))) pattern board w r out

@@ -4,11 +4,11 @@ use barring::BarAnswer;
 use barring_find::bar_circuits;
 use file_format::Board;
 use file_format::Editions;
-use file_format::File;
 use file_format::FileVerdict;
+use file_format::OUTSIDE;
 use file_format::Pattern;
-use file_format::Refusal;
 use file_format::Role;
+use file_format::TOO_SHORT;
 use file_pair::read_pair;
 use place::Around;
 use place::Asked;
@@ -22,38 +22,32 @@ ghost use Rattle.call_barring.specs.Call.{barOn, barCall};
 
 // The call on two circuits that were read. Everything is tested before anything is written to the lent bytes.
 fn bar_on(
-    part_kinds: &[u32],
+    part_labels: &[u32],
     part_starts: &[u16],
     part_ends: &[u16],
-    node_kinds: &[u32],
+    node_labels: &[u32],
     node_starts: &[u16],
     node_ends: &[u16],
     asked: Asked,
     out: &mut [u8],
 ) -> BarAnswer
     ghost { Circuit × Circuit }
-    requires { λ α. ⌜ (circuit (now «part_kinds») (now «part_starts») (now «part_ends»), circuit (now «node_kinds») (now «node_starts») (now «node_ends»)) ≡ α ⌝ }
+    requires { λ α. ⌜ (circuit (now «part_labels») (now «part_starts») (now «part_ends»), circuit (now «node_labels») (now «node_starts») (now «node_ends»)) ≡ α ⌝ }
     requires { λ α. ⌜ Bounded role.Pattern (α .0) × Bounded role.Board (α .1) ⌝ }
     ensures { λ α a. ⌜ record { reply = barReply a; out = now (out .exit) } ≡ barOn (asked .radius) (α .0) (α .1) (asked .centre) (now (out .entry)) ⌝ }
 {
     let centre = asked.centre;
-    if node_kinds.len() <= centre {
-        return BarAnswer::Refused(Refusal {
-            number: 7,
-            file: File::Neither,
-        });
+    if node_labels.len() <= centre {
+        return BarAnswer::Refused(OUTSIDE);
     }
     if out.len() < part_starts.len() {
-        return BarAnswer::Refused(Refusal {
-            number: 8,
-            file: File::Neither,
-        });
+        return BarAnswer::Refused(TOO_SHORT);
     }
     bar_circuits(
-        part_kinds,
+        part_labels,
         part_starts,
         part_ends,
-        node_kinds,
+        node_labels,
         node_starts,
         node_ends,
         Around {

@@ -1,56 +1,42 @@
 -- What the exported call's promise means: a refusal is one of the conditions; else the table holds the largest bounded simulation of the pattern
--- in the board, and the counts are those of the row. All bounds 1 give what the second edition gives, and raising a bound takes no pair away.
+-- in the board, and the counts are those of the row. All bounds 1 give what the second edition gives.
 -- Assumes nothing.
-use mathlib.Core.Bool.{Bool, true, false}
-use mathlib.Core.List.{List, [], _∷_, _++_, map, append-assoc}
-use mathlib.Core.Path.{_≡_, refl, sym, ap, ap₂, subst, _∙_}
-use Prim.Native.Nat.{ℕ, _+_, _≤_}
-use native.Mathlib.Omega.{arith}
-use borrow.Author.Tests.{le-ltb}
+use Rattle.base_lists.specs.Kit.{_≡_, _∙_, sym, refl, List, [], _∷_, _++_, map, append-assoc, ℕ, _≤_, _+_, length, take, drop, take-at, drop-at, arith, le-ltb}
 use lib.Count.{ones}
-use lib.Dec.{T}
-use lib.ListN.{length, getD, take, drop}
-use lib.Seq.{take-at, drop-at}
 use Rattle.base_lists.specs.List.{sum}
 use Rattle.base_lists.proofs.Tests.{true-T}
 use Rattle.graph.specs.Circuit.{Circuit, circuitGraph}
-use Rattle.simulation.specs.Closed.{_⊆_}
 use Rattle.file_format.specs.declared.Refusal.{Refusal}
 use Rattle.file_format.specs.declared.Role.the-variants.{Board, AnyPattern}
 use Rattle.file_format.specs.Circuit.{circuitOf}
 use Rattle.file_format.specs.Layout.{CircuitFile, field, nodesOf}
 use Rattle.file_format.specs.Reading.{filled}
-use Rattle.file_format.specs.Refusals.{Condition, Verdict, accept, refuse, first, fileConditions, Accepted, shortTable}
+use Rattle.file_format.specs.Refusals.{Verdict, accept, refuse, first, fileConditions, Accepted, shortTable}
 use Rattle.file_format.proofs.Accepted.{accepted-bounded}
 use Rattle.file_format.proofs.Fields.{length-labels}
-use Rattle.file_format.proofs.Refusals.{accepted, accepted-verdict, first-accept, first-refuse, first-parts}
+use Rattle.file_format.proofs.Refusals.{accepted-verdict, first-accept, first-parts, first-same}
 use Rattle.file_pair.specs.Pair.{pairConditions}
-use Rattle.file_bounds.specs.Third.{boundedLength, frontOf, boundsOf, thirdConditions}
+use Rattle.file_bounds.specs.Third.{boundedLength, beforeBounds, boundsOf, thirdConditions}
 use Rattle.file_bounds.proofs.Fit.{at-fit}
-use Rattle.file_bounds.proofs.Third.{third-accepted, front-verdicts}
+use Rattle.file_bounds.proofs.Third.{third-accepted, prefix-verdicts}
 use Rattle.bounded.specs.Simulation.{LargestBounded}
 use Rattle.bounded.specs.Problem.{Bounds, boundedGraph, boundedTable, boundedCounts}
-use Rattle.bounded.specs.Raised.{Raised, AllOne}
+use Rattle.bounded.specs.Raised.{AllOne}
 use Rattle.bounded.proofs.Meaning.{bounded-largest}
 use Rattle.bounded.proofs.Run.{bounded-length, bounded-sum, bounded-rounds, bounded-ones}
-use Rattle.bounded.proofs.Wider.{raised-more, ones-table, ones-counts}
-use Rattle.call_match.specs.Call.{TableOutcome, matchConditions, matchedBy, matchingBy, matching}
-use Rattle.table.specs.declared.Counts.{Counts}
+use Rattle.bounded.proofs.Wider.{ones-table, ones-counts}
+use Rattle.call_match.specs.Call.{matchConditions, matchedBy, matchingBy, matching}
 use Rattle.table.specs.Answer.{answerTable, answerCounts}
 use Rattle.table.specs.Host.{everything, KindsMatch}
-use Rattle.table.specs.Reply.{noCounts, replied}
+use Rattle.table.specs.Reply.{noCounts, countsReply}
 use Rattle.table.specs.Row.{bothWays, InTable}
+use Rattle.table.proofs.Reply.{replied-verdict}
 use Rattle.call_bounded.specs.Call.{boundedConditions, boundedBy, boundedMatching}
 use Rattle.call_bounded.proofs.Matching.{third-bounds}
 
-replied-verdict : (v : Verdict) (counts : Counts) → replied v counts .verdict ≡ v
-unfolding replied
-replied-verdict accept counts = refl
-replied-verdict (refuse x) counts = refl
-
 module _ (pattern : List ℕ) (board : CircuitFile) (table : List ℕ) where
   abbrev P : Circuit
-  P = circuitOf (frontOf pattern)
+  P = circuitOf (beforeBounds pattern)
 
   abbrev B : Circuit
   B = circuitOf board
@@ -63,7 +49,7 @@ module _ (pattern : List ℕ) (board : CircuitFile) (table : List ℕ) where
   pub refused-keeps :
       (x : Refusal) → boundedMatching pattern board table .reply .verdict ≡ refuse x →
       (boundedMatching pattern board table .reply .counts ≡ noCounts) × (boundedMatching pattern board table .table ≡ table)
-  unfolding boundedMatching replied filled
+  unfolding boundedMatching countsReply filled
   refused-keeps x e =
       let v : first (boundedConditions pattern board (length table)) ≡ refuse x = sym verdict-is ∙ e in
       (rw v, rw v)
@@ -87,13 +73,13 @@ module _ (pattern : List ℕ) (board : CircuitFile) (table : List ℕ) where
     unfolding boundedConditions
     third = first-parts (thirdConditions pattern) _ sound .0
 
-    pub pattern-accepted : Accepted AnyPattern (frontOf pattern)
+    pub pattern-accepted : Accepted AnyPattern (beforeBounds pattern)
     pattern-accepted = third-accepted pattern third .0
 
     pub bounds-each : Bounds P (boundsOf pattern)
     bounds-each = third-bounds pattern third
 
-    pub parts-most : length (P .kinds) ≤ 32
+    pub parts-most : length (P .labels) ≤ 32
     parts-most = accepted-bounded pattern-accepted .nodes
 
     length-answer : length (boundedTable P (boundsOf pattern) B) ≡ nodesOf board
@@ -104,20 +90,20 @@ module _ (pattern : List ℕ) (board : CircuitFile) (table : List ℕ) where
     table-is = rw (sound, length-answer)
 
     pub counts-are : boundedMatching pattern board table .reply .counts ≡ boundedCounts P (boundsOf pattern) B
-    unfolding boundedMatching replied
+    unfolding boundedMatching countsReply
     counts-are = rw sound
 
     -- the first N entries are the answer, and the others stay
-    pub front-is : take (nodesOf board) (boundedMatching pattern board table .table) ≡ boundedTable P (boundsOf pattern) B
-    front-is = rw table-is (take-at _ _ (nodesOf board) length-answer)
+    pub prefix-is : take (nodesOf board) (boundedMatching pattern board table .table) ≡ boundedTable P (boundsOf pattern) B
+    prefix-is = rw table-is (take-at _ _ (nodesOf board) length-answer)
 
     pub rest-is : drop (nodesOf board) (boundedMatching pattern board table .table) ≡ drop (nodesOf board) table
     rest-is = rw table-is (drop-at (boundedTable P (boundsOf pattern) B) _ (nodesOf board) length-answer)
 
     -- they are the largest bounded simulation of the pattern in the board
-    pub front-largest :
+    pub prefix-largest :
         LargestBounded (boundedGraph P (boundsOf pattern)) (KindsMatch P B) (circuitGraph B) (InTable (take (nodesOf board) (boundedMatching pattern board table .table)))
-    front-largest = rw front-is (bounded-largest P (boundsOf pattern) B bounds-each parts-most)
+    prefix-largest = rw prefix-is (bounded-largest P (boundsOf pattern) B bounds-each parts-most)
 
     -- "So started = kept + struck, and rounds are at most struck."
     pub counts-sum :
@@ -130,20 +116,7 @@ module _ (pattern : List ℕ) (board : CircuitFile) (table : List ℕ) where
 
     -- "kept is the number of one bits in the whole table"
     pub counts-ones : boundedMatching pattern board table .reply .counts .kept ≡ sum (map ones (take (nodesOf board) (boundedMatching pattern board table .table)))
-    counts-ones = rw (counts-are, front-is) (bounded-ones P (boundsOf pattern) B parts-most)
-
--- ---- raised bounds
-
--- "raising a bound never takes a pair away": of two patterns that differ in their bounds alone, on one board, with any two tables
-pub raised-keeps :
-    (pattern pattern′ : List ℕ) (board : CircuitFile) (table table′ : List ℕ) → frontOf pattern ≡ frontOf pattern′ → Raised (boundsOf pattern) (boundsOf pattern′) →
-    boundedMatching pattern board table .reply .verdict ≡ accept → boundedMatching pattern′ board table′ .reply .verdict ≡ accept →
-    InTable (take (nodesOf board) (boundedMatching pattern board table .table)) ⊆ InTable (take (nodesOf board) (boundedMatching pattern′ board table′ .table))
-raised-keeps pattern pattern′ board table table′ same r ok ok′ u v m =
-    let more = raised-more (circuitOf (frontOf pattern)) (circuitOf board) (bounds-each pattern board table ok) r (parts-most pattern board table ok) u v in
-    let back = subst (λ (t : List ℕ). InTable t u v) (front-is pattern board table ok) m in
-    let there = subst (λ (f : CircuitFile). InTable (boundedTable (circuitOf f) (boundsOf pattern′) (circuitOf board)) u v) same (more back) in
-    subst (λ (t : List ℕ). InTable t u v) (sym (front-is pattern′ board table′ ok′)) there
+    counts-ones = rw (counts-are, prefix-is) (bounded-ones P (boundsOf pattern) B parts-most)
 
 -- ---- all bounds 1
 
@@ -152,28 +125,20 @@ same-outcome :
     (v : Verdict) (p : Circuit) (bounds : List ℕ) (b : Circuit) (table : List ℕ) →
     (v ≡ accept → (boundedTable p bounds b ≡ answerTable p b (everything b)) × (boundedCounts p bounds b ≡ answerCounts p b (everything b))) →
     boundedBy v p bounds b table ≡ matchedBy bothWays v p b table
-unfolding replied filled
+unfolding countsReply filled
 same-outcome accept p bounds b table plain = let (t, c) = plain refl in rw (t, c)
 same-outcome (refuse x) p bounds b table plain = refl
 
--- the first of two lists of conditions of which the first parts come to the same
-first-same : (xs ys zs : List Condition) → first xs ≡ first ys → first (xs ++ zs) ≡ first (ys ++ zs)
-first-same xs ys zs e = go (first ys) refl
-  where
-    go : (v : Verdict) → first ys ≡ v → first (xs ++ zs) ≡ first (ys ++ zs)
-    go accept f = first-accept xs zs (e ∙ f) ∙ sym (first-accept ys zs f)
-    go (refuse x) f = first-refuse xs zs x (e ∙ f) ∙ sym (first-refuse ys zs x f)
-
 module _ (pattern : List ℕ) (board : CircuitFile) (table : List ℕ) (long : length pattern ≡ boundedLength (field pattern 0) (field pattern 2)) (one : AllOne (boundsOf pattern)) where
   -- a bound of 1 is from 1 to 4, so that what stands before the bounds is refused or accepted alike,
-  ones-verdict : first (thirdConditions pattern) ≡ first (fileConditions AnyPattern (frontOf pattern))
-  ones-verdict = front-verdicts pattern long (true-T (at-fit (boundsOf pattern) (λ i h. (omega (arith, one i h), omega (arith, one i h)))))
+  ones-verdict : first (thirdConditions pattern) ≡ first (fileConditions AnyPattern (beforeBounds pattern))
+  ones-verdict = prefix-verdicts pattern long (true-T (at-fit (boundsOf pattern) (λ i h. (omega (arith, one i h), omega (arith, one i h)))))
 
-  conditions-same : first (boundedConditions pattern board (length table)) ≡ first (matchConditions (frontOf pattern) board (length table))
+  conditions-same : first (boundedConditions pattern board (length table)) ≡ first (matchConditions (beforeBounds pattern) board (length table))
   unfolding boundedConditions matchConditions pairConditions
   conditions-same =
-      rw (append-assoc (fileConditions AnyPattern (frontOf pattern)) (fileConditions Board board) (shortTable (nodesOf board) (length table) ∷ []))
-      (first-same (thirdConditions pattern) (fileConditions AnyPattern (frontOf pattern)) (fileConditions Board board ++ (shortTable (nodesOf board) (length table) ∷ [])) ones-verdict)
+      rw (append-assoc (fileConditions AnyPattern (beforeBounds pattern)) (fileConditions Board board) (shortTable (nodesOf board) (length table) ∷ []))
+      (first-same (thirdConditions pattern) (fileConditions AnyPattern (beforeBounds pattern)) (fileConditions Board board ++ (shortTable (nodesOf board) (length table) ∷ [])) ones-verdict)
 
   drawn : first (boundedConditions pattern board (length table)) ≡ accept → first (thirdConditions pattern) ≡ accept
   unfolding boundedConditions
@@ -181,11 +146,11 @@ module _ (pattern : List ℕ) (board : CircuitFile) (table : List ℕ) (long : l
 
   -- "With all bounds 1 the table and counts are those of the second edition": the whole reply and the table, refusals too, for every byte string of
   -- the third edition's length
-  pub ones-second : boundedMatching pattern board table ≡ matching (frontOf pattern) board table
+  pub ones-second : boundedMatching pattern board table ≡ matching (beforeBounds pattern) board table
   unfolding boundedMatching matchingBy
   ones-second =
       rw (sym conditions-same)
-      (same-outcome (first (boundedConditions pattern board (length table))) (circuitOf (frontOf pattern)) (boundsOf pattern) (circuitOf board) table
+      (same-outcome (first (boundedConditions pattern board (length table))) (circuitOf (beforeBounds pattern)) (boundsOf pattern) (circuitOf board) table
       (λ e.
       let each = third-bounds pattern (drawn e) in
-      (ones-table (circuitOf (frontOf pattern)) (boundsOf pattern) (circuitOf board) each one, ones-counts (circuitOf (frontOf pattern)) (boundsOf pattern) (circuitOf board) each one)))
+      (ones-table (circuitOf (beforeBounds pattern)) (boundsOf pattern) (circuitOf board) each one, ones-counts (circuitOf (beforeBounds pattern)) (boundsOf pattern) (circuitOf board) each one)))

@@ -4,11 +4,10 @@ use call_match::TableAnswer;
 use file_bounds::load_bounded;
 use file_format::Board;
 use file_format::Edition;
-use file_format::File;
 use file_format::FileVerdict;
 use file_format::Pattern;
-use file_format::Refusal;
 use file_format::Role;
+use file_format::TOO_SHORT;
 use file_read::load;
 ghost use mathlib.Core.Path.{_≡_};
 ghost use Rattle.file_format.specs.Circuit.{Bounded};
@@ -21,34 +20,31 @@ ghost use Rattle.call_bounded.specs.Call.{boundedOn, boundedMatching};
 
 // The call on a pattern with bounds and a board that were read. The table's length is tested before anything is written to it.
 fn match_on(
-    part_kinds: &[u32],
+    part_labels: &[u32],
     part_starts: &[u16],
     part_ends: &[u16],
     bounds: &[u16],
-    node_kinds: &[u32],
+    node_labels: &[u32],
     node_starts: &[u16],
     node_ends: &[u16],
     table: &mut [u32],
 ) -> TableAnswer
-    requires { ⌜ Bounded role.Pattern (circuit (now «part_kinds») (now «part_starts») (now «part_ends»)) ⌝ }
-    requires { ⌜ Bounds (circuit (now «part_kinds») (now «part_starts») (now «part_ends»)) (now bounds) ⌝ }
-    requires { ⌜ Bounded role.Board (circuit (now «node_kinds») (now «node_starts») (now «node_ends»)) ⌝ }
+    requires { ⌜ Bounded role.Pattern (circuit (now «part_labels») (now «part_starts») (now «part_ends»)) ⌝ }
+    requires { ⌜ Bounds (circuit (now «part_labels») (now «part_starts») (now «part_ends»)) (now bounds) ⌝ }
+    requires { ⌜ Bounded role.Board (circuit (now «node_labels») (now «node_starts») (now «node_ends»)) ⌝ }
     ensures { λ r. ⌜ record { reply = replyOf r; table = now (table .exit) }
-        ≡ boundedOn (circuit (now («part_kinds» .entry)) (now («part_starts» .entry)) (now («part_ends» .entry))) (now (bounds .entry)) (circuit (now («node_kinds» .entry)) (now («node_starts» .entry)) (now («node_ends» .entry))) (now (table .entry)) ⌝ }
+        ≡ boundedOn (circuit (now («part_labels» .entry)) (now («part_starts» .entry)) (now («part_ends» .entry))) (now (bounds .entry)) (circuit (now («node_labels» .entry)) (now («node_starts» .entry)) (now («node_ends» .entry))) (now (table .entry)) ⌝ }
 {
-    let n = node_kinds.len();
+    let n = node_labels.len();
     if table.len() < n {
-        return TableAnswer::Refused(Refusal {
-            number: 8,
-            file: File::Neither,
-        });
+        return TableAnswer::Refused(TOO_SHORT);
     }
     TableAnswer::Matched(match_bounded(
-        part_kinds,
+        part_labels,
         part_starts,
         part_ends,
         bounds,
-        node_kinds,
+        node_labels,
         node_starts,
         node_ends,
         &mut table[..n],

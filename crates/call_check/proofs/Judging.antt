@@ -1,10 +1,5 @@
 -- What the call comes to, by cases: a refused file, a centre outside, bytes of another length, or yes or no. Assumes nothing.
-use mathlib.Core.Bool.{Bool, true, false}
-use mathlib.Core.List.{List, [], _∷_}
-use mathlib.Core.Path.{_≡_, refl, sym, ap, _∙_}
-use Prim.Native.Nat.{ℕ, _≤_, _<_}
-use borrow.Author.Tests.{lt-ltb, le-ltb, eq-eqb, ne-eqb}
-use lib.ListN.{length}
+use Rattle.base_lists.specs.Kit.{_≡_, _∙_, sym, ap, refl, Bool, false, true, List, [], _∷_, ℕ, _≤_, _<_, length, eq-eqb, ne-eqb, le-ltb, lt-ltb}
 use Rattle.graph.specs.Circuit.{Circuit}
 use Rattle.graph.specs.Search.{radius}
 use Rattle.file_format.specs.declared.File.the-variants.{Neither}
@@ -12,7 +7,7 @@ use Rattle.file_format.specs.declared.Role.the-variants.{Pattern}
 use Rattle.file_format.specs.declared.Refusal.{Refusal}
 use Rattle.file_format.specs.Circuit.{circuitOf}
 use Rattle.file_format.specs.Layout.{CircuitFile, startsOf, endsOf}
-use Rattle.file_format.specs.Reading.{front}
+use Rattle.file_format.specs.Reading.{prefix}
 use Rattle.file_format.specs.Refusals.{accept, refuse, first, centreOutside, otherLength}
 use Rattle.file_format.specs.Reply.{Reply, reply}
 use Rattle.file_format.proofs.Fields.{length-labels, length-starts}
@@ -24,31 +19,31 @@ use Rattle.place.specs.Match.{radiusOf}
 use Rattle.proposal.specs.Check.{checks}
 use Rattle.call_check.specs.declared.CheckAnswer.{CheckAnswer}
 use Rattle.call_check.specs.declared.CheckAnswer.the-variants.{Refused}
-use Rattle.call_check.specs.Call.{yesValue, answered, checkReply, checkConditions, checkCall, checkOn}
+use Rattle.call_check.specs.Call.{yesValue, checkAnswered, checkReply, checkConditions, checkCall, checkOn}
 
 -- ---- two circuits
 
 module _ (r : ℕ) (p b : Circuit) (w : ℕ) (nodes links : List ℕ) where
-  pub on-centre : length (b .kinds) ≤ w → checkReply (Refused (record { number = 7; file = Neither })) ≡ checkOn r p b w nodes links
+  pub on-centre : length (b .labels) ≤ w → checkReply (Refused (record { number = 7; file = Neither })) ≡ checkOn r p b w nodes links
   unfolding checkReply checkOn first centreOutside reply
   on-centre h = rw (le-ltb _ _ h)
 
-  module _ (inside : w < length (b .kinds)) where
-    pub on-nodes : (length nodes ≡ length (b .kinds) → ⊥) → checkReply (Refused (record { number = 3; file = Neither })) ≡ checkOn r p b w nodes links
+  module _ (inside : w < length (b .labels)) where
+    pub on-nodes : (length nodes ≡ length (b .labels) → ⊥) → checkReply (Refused (record { number = 3; file = Neither })) ≡ checkOn r p b w nodes links
     unfolding checkReply checkOn first centreOutside otherLength reply
     on-nodes f = rw (lt-ltb _ _ inside, ne-eqb _ _ f)
 
-    module _ (same : length nodes ≡ length (b .kinds)) where
+    module _ (same : length nodes ≡ length (b .labels)) where
       pub on-links : (length links ≡ length (b .starts) → ⊥) → checkReply (Refused (record { number = 3; file = Neither })) ≡ checkOn r p b w nodes links
       unfolding checkReply checkOn first centreOutside otherLength reply
       on-links f = rw (lt-ltb _ _ inside, eq-eqb _ _ same, ne-eqb _ _ f)
 
-      pub on-judged : length links ≡ length (b .starts) → {a : CheckAnswer} {t : Bool} → a ≡ answered t → t ≡ checks p b w r nodes links →
+      pub on-judged : length links ≡ length (b .starts) → {a : CheckAnswer} {t : Bool} → a ≡ checkAnswered t → t ≡ checks p b w r nodes links →
           checkReply a ≡ checkOn r p b w nodes links
-      unfolding checkOn first centreOutside otherLength reply checkReply answered
+      unfolding checkOn first centreOutside otherLength reply checkReply checkAnswered
       on-judged e {t = t} q s = ap checkReply q ∙ value t ∙ rw (lt-ltb _ _ inside, eq-eqb _ _ same, eq-eqb _ _ e, s)
         where
-          value : (t : Bool) → checkReply (answered t) ≡ reply accept (yesValue t ∷ [])
+          value : (t : Bool) → checkReply (checkAnswered t) ≡ reply accept (yesValue t ∷ [])
           value true = refl
           value false = refl
 
@@ -65,7 +60,7 @@ module _ (pattern board : CircuitFile) (w : ℕ) (nodes links : List ℕ) where
   check-accepted e = rw (first-accept _ _ e, length-labels board, length-starts board)
 
   pub check-read : {p : Pair} {parts host : Circuit} → BothRead Pattern pattern board p parts host → {o : Reply} →
-      o ≡ checkOn (p .radius) (front (p .parts) (p .joins) parts) (front (p .nodes) (p .links) host) w nodes links → o ≡ checkCall pattern board w nodes links
+      o ≡ checkOn (p .radius) (prefix (p .parts) (p .joins) parts) (prefix (p .nodes) (p .links) host) w nodes links → o ≡ checkCall pattern board w nodes links
   unfolding radiusOf
   check-read read e =
       let own = pair-radius read ∙ sym (ap (λ (n : ℕ). radius n (startsOf pattern) (endsOf pattern)) (length-labels pattern)) in

@@ -1,15 +1,7 @@
 -- What the promise of the exported call means: a refusal is a condition on the inputs; else yes exactly when the bytes mark a perfect subgraph
 -- around the centre at the pattern's radius. Assumes nothing.
-use mathlib.Core.Bool.{Bool, true, false}
-use mathlib.Core.List.{List, [], _∷_}
-use mathlib.Core.Logic.{_↔_, _⊎_, inl, inr, ⊎-elim, Iff·trans}
-use mathlib.Core.Path.{_≡_, refl, sym, ap, _∙_}
-use Prim.Native.Nat.{ℕ, _<_}
-use native.Mathlib.Omega.{arith}
-use borrow.Author.Tests.{ltb-true, eqb-true, not-false, lt-ltb, eq-eqb}
-use lib.Dec.{T, eqb, ltb}
-use lib.ListN.{length, getD}
-use Rattle.base_lists.proofs.Tests.{T-true, T-false, true-T, decide}
+use Rattle.base_lists.specs.Kit.{_≡_, _∙_, sym, ap, _↔_, ⊎-elim, _⊎_, inl, inr, Iff·trans, Bool, false, true, List, [], _∷_, ℕ, _<_, T, eqb, ltb, length, getD, arith, eq-eqb, lt-ltb, eqb-true, not-false, ltb-true}
+use Rattle.base_lists.proofs.Tests.{T-true, T-false, decide}
 use Rattle.graph.specs.Circuit.{Circuit, circuitGraph}
 use Rattle.graph.specs.Graph.{Radius}
 use Rattle.file_format.specs.declared.Refusal.{Refusal}

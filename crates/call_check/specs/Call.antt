@@ -1,8 +1,5 @@
 -- The call that checks a place from elsewhere, whole: the reply, from the inputs alone. Nothing is lent.
-use mathlib.Core.Bool.{Bool, true, false, cond}
-use mathlib.Core.List.{List, [], _∷_, _++_}
-use Prim.Native.Nat.{ℕ}
-use lib.ListN.{length}
+use Rattle.base_lists.specs.Kit.{Bool, false, true, cond, List, [], _∷_, _++_, ℕ, length}
 use Rattle.graph.specs.Circuit.{Circuit}
 use Rattle.file_format.specs.declared.Role.the-variants.{Pattern}
 use Rattle.file_format.specs.Circuit.{circuitOf}
@@ -25,9 +22,9 @@ checkReply Yes = record { verdict = accept; values = yesValue true ∷ [] }
 checkReply No = record { verdict = accept; values = yesValue false ∷ [] }
 checkReply (Refused x) = record { verdict = refuse x; values = [] }
 
-unfoldable pub answered : Bool → CheckAnswer
-answered true = Yes
-answered false = No
+unfoldable pub checkAnswered : Bool → CheckAnswer
+checkAnswered true = Yes
+checkAnswered false = No
 
 -- 7 for the centre; "Node or link bytes of another length than N and M are 3 with neither file named, checked after 7."
 abbrev pub bytesConditions : ℕ → ℕ → ℕ → ℕ → ℕ → List Condition
@@ -46,5 +43,5 @@ checkCall pattern board w nodes links =
 -- the call on two circuits that were read, at a radius
 unfoldable pub checkOn : ℕ → Circuit → Circuit → ℕ → List ℕ → List ℕ → Reply
 checkOn r pattern board w nodes links =
-    reply (first (bytesConditions (length (board .kinds)) (length (board .starts)) w (length nodes) (length links)))
+    reply (first (bytesConditions (length (board .labels)) (length (board .starts)) w (length nodes) (length links)))
     (yesValue (checks pattern board w r nodes links) ∷ [])

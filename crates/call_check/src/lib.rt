@@ -15,7 +15,7 @@ ghost use Rattle.file_format.specs.Circuit.{Drawn};
 ghost use Rattle.file_format.specs.Layout.{inEdition};
 ghost use Rattle.file_format.specs.declared.File.the-variants.{Neither};
 ghost use Rattle.graph.specs.Circuit.{Circuit, circuit};
-ghost use Rattle.call_check.specs.Call.{answered, checkReply, checkOn, checkCall};
+ghost use Rattle.call_check.specs.Call.{checkAnswered, checkReply, checkOn, checkCall};
 
 // Yes or no, or why the call was turned away.
 pub enum CheckAnswer {
@@ -36,7 +36,7 @@ fn refused(number: u8) -> CheckAnswer
 
 // The answer to a question that was put.
 fn judged(is: bool) -> CheckAnswer
-    ensures { λ a. ⌜ a ≡ answered is ⌝ }
+    ensures { λ a. ⌜ a ≡ checkAnswered is ⌝ }
 {
     if is {
         return CheckAnswer::Yes;
@@ -46,22 +46,22 @@ fn judged(is: bool) -> CheckAnswer
 
 // The call on two circuits that were read.
 fn check_on(
-    part_kinds: &[u32],
+    part_labels: &[u32],
     part_starts: &[u16],
     part_ends: &[u16],
-    node_kinds: &[u32],
+    node_labels: &[u32],
     node_starts: &mut [u16],
     node_ends: &mut [u16],
     asked: Asked,
     nodes: &[u8],
-    links: &[u8],
+    link_bytes: &[u8],
 ) -> CheckAnswer
     ghost { Circuit × Circuit }
-    requires { λ α. ⌜ (circuit (now «part_kinds») (now «part_starts») (now «part_ends»), circuit (now «node_kinds») (now «node_starts») (now «node_ends»)) ≡ α ⌝ }
+    requires { λ α. ⌜ (circuit (now «part_labels») (now «part_starts») (now «part_ends»), circuit (now «node_labels») (now «node_starts») (now «node_ends»)) ≡ α ⌝ }
     requires { λ α. ⌜ Drawn (α .0) (α .1) ⌝ }
-    ensures { λ α a. ⌜ checkReply a ≡ checkOn (asked .radius) (α .0) (α .1) (asked .centre) (now (nodes .entry)) (now (links .entry)) ⌝ }
+    ensures { λ α a. ⌜ checkReply a ≡ checkOn (asked .radius) (α .0) (α .1) (asked .centre) (now (nodes .entry)) (now («link_bytes» .entry)) ⌝ }
 {
-    let n = node_kinds.len();
+    let n = node_labels.len();
     let centre = asked.centre;
     if n <= centre {
         return refused(7);
@@ -69,14 +69,14 @@ fn check_on(
     if nodes.len() != n {
         return refused(3);
     }
-    if links.len() != node_starts.len() {
+    if link_bytes.len() != node_starts.len() {
         return refused(3);
     }
     judged(check_circuits(
-        part_kinds,
+        part_labels,
         part_starts,
         part_ends,
-        node_kinds,
+        node_labels,
         node_starts,
         node_ends,
         Around {
@@ -84,7 +84,7 @@ fn check_on(
             radius: asked.radius,
         },
         nodes,
-        links,
+        link_bytes,
     ))
 }
 
@@ -96,9 +96,9 @@ pub fn check(
     board: &[u8],
     centre: usize,
     nodes: &[u8],
-    links: &[u8],
+    link_bytes: &[u8],
 ) -> CheckAnswer
-    ensures { λ a. ⌜ checkReply a ≡ checkCall (inEdition (editions .pattern) (now (pattern .entry))) (inEdition (editions .board) (now (board .entry))) centre (now (nodes .entry)) (now (links .entry)) ⌝ }
+    ensures { λ a. ⌜ checkReply a ≡ checkCall (inEdition (editions .pattern) (now (pattern .entry))) (inEdition (editions .board) (now (board .entry))) centre (now (nodes .entry)) (now («link_bytes» .entry)) ⌝ }
 {
     let mut pk = [0u32; Pattern::MAX_NODES];
     let mut ps = [0u16; Pattern::MAX_LINKS];
@@ -136,6 +136,6 @@ pub fn check(
         &mut ne[..m],
         Asked { centre, radius },
         nodes,
-        links,
+        link_bytes,
     )
 }

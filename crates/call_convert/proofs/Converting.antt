@@ -1,14 +1,6 @@
 -- What the converter comes to, by cases: a refused file, a package that would be lost, too few bytes lent, or the new file. Assumes nothing.
-use mathlib.Core.Bool.{true, false}
-use mathlib.Core.List.{List, [], _∷_, _++_}
-use mathlib.Core.Path.{_≡_, refl, sym, ap, subst, _∙_}
-use Prim.Native.Nat.{ℕ, _≤_, _<_}
+use Rattle.base_lists.specs.Kit.{_≡_, _∙_, sym, ap, refl, false, true, List, _++_, ℕ, _≤_, _<_, le-trans, length, getD, take, drop, length-take-le, take-at, getD-take, arith, le-ltb, lt-ltb}
 use native.Mathlib.Decide.{decLt}
-use native.Mathlib.Nat.{le-trans}
-use native.Mathlib.Omega.{arith}
-use borrow.Author.Tests.{lt-ltb, le-ltb}
-use lib.ListN.{length, getD, take, drop, replicate, length-replicate, getD-replicate}
-use lib.Seq.{take-at, getD-take, length-take-le}
 use Rattle.base_lists.specs.List.{Below}
 use Rattle.base_lists.proofs.Tables.{length-tabulate, is-tabulate}
 use Rattle.base_lists.proofs.Tests.{T-true}
@@ -114,15 +106,15 @@ module _ (role : Role) (to : Edition) (file : CircuitFile) where
 -- ---- a file that was read into tables for any circuit
 
 -- packages and, where the edition has none, the zeros of the table
-packages-front : (e : Edition) (bytes ps : List ℕ) → Below 1 ps → nodesOf (inEdition e bytes) ≤ length ps
+packages-prefix : (e : Edition) (bytes ps : List ℕ) → Below 1 ps → nodesOf (inEdition e bytes) ≤ length ps
     → take (nodesOf (inEdition e bytes)) (packagesOf (inEdition e bytes) ++ drop (packageCount e (nodesOf (inEdition e bytes))) ps) ≡ everyPackage (inEdition e bytes)
 unfolding everyPackage Below
-packages-front First bytes ps zero room =
+packages-prefix First bytes ps zero room =
     let n = nodesOf (firstEdition bytes) in
     rw (first-packages bytes)
     (is-tabulate n _ (take n ps) (length-take-le n ps room)
     (λ v h. getD-take n ps v 0 h ∙ (let z : getD ps v 0 < 1 = zero v (omega arith) in omega arith)))
-packages-front Second bytes ps zero room =
+packages-prefix Second bytes ps zero room =
     let f = inEdition Second bytes in
     take-at (packagesOf f) _ (nodesOf f) (length-packages f) ∙ is-tabulate (nodesOf f) _ (packagesOf f) (length-packages f) (λ v h. refl)
 
@@ -153,9 +145,6 @@ module _ (role : Role) (e : Edition) (bytes ks ps ss es : List ℕ) (k : 512 ≤
     f : Filled role file ks ps ss es n m
     f = reading-accepted role file ks ps ss es n m q
 
-    pub whole-sound : first (fileConditions role file) ≡ accept
-    whole-sound = f .sound
-
     outcome : reading role file ks ps ss es ≡ record {
       answer = read.Read (nodesOf file) (linksOf file);
       reply = readReply (read.Read (nodesOf file) (linksOf file));
@@ -174,7 +163,7 @@ module _ (role : Role) (e : Edition) (bytes ks ps ss es : List ℕ) (k : 512 ≤
         let (few, _) = range-bounds role (nodesOf file) (linksOf file) (accepted role file (f .sound) .range) in
         ap (λ (o : ReadOutcome). take n (o .packages)) outcome
         ∙ ap (λ (k : ℕ). take k (packagesOf file ++ drop (packageCount e (nodesOf file)) ps)) (f .nodes)
-        ∙ packages-front e bytes ps zero (le-trans few p)
+        ∙ packages-prefix e bytes ps zero (le-trans few p)
 
     pub whole-starts : take m (reading role file ks ps ss es .starts) ≡ startsOf file
     whole-starts = ap (λ (o : ReadOutcome). take m (o .starts)) outcome ∙ take-at (startsOf file) _ m (length-starts file ∙ sym (f .links))
@@ -229,8 +218,3 @@ module _ {role : Role} {e : Edition} {bytes : List ℕ} {n m : ℕ} {k p s t : L
   pub whole-converted : (to : Edition) (out : List ℕ) {o : ConvertOutcome} → o ≡ convertOn role to (take n k) (take n p) (take m s) (take m t) out
       → o ≡ converting role to (inEdition e bytes) out
   whole-converted to out q = (rw (w .kinds, w .packages, w .starts, w .ends) at q) ∙ converting-on role to (inEdition e bytes) out (w .sound)
-
--- a table of zeros
-pub zeros : (n : ℕ) → Below 1 (replicate n 0)
-unfolding Below
-zeros n i h = rw (getD-replicate {A = ℕ} n i 0 0 (subst (λ (k : ℕ). i < k) (length-replicate {A = ℕ} n 0) h)) (omega arith)

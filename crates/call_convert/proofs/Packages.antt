@@ -1,22 +1,10 @@
 -- Packages other than 0, and whether an edition loses them. Assumes nothing.
-use mathlib.Core.Bool.{Bool, true, false, not}
-use mathlib.Core.List.{List}
-use mathlib.Core.Logic.{⊎-elim}
-use mathlib.Core.Path.{_≡_, refl, subst}
-use Prim.Native.Nat.{ℕ, _<_}
+use Rattle.base_lists.specs.Kit.{_≡_, refl, subst, ⊎-elim, false, true, not, List, ℕ, _<_, T, eqb, eqb→eq, length, getD, List·getD-eq-default, arith, not-T}
 use native.Mathlib.Decide.{decLt}
-use native.Mathlib.Omega.{arith}
-use lib.Dec.{T, eqb, eqb→eq}
-use lib.ListN.{length, getD, List·getD-eq-default}
-use Rattle.base_lists.specs.List.{any}
 use Rattle.base_lists.proofs.Tests.{T-true, T-false, false-T, decide, any-at, at-any}
 use Rattle.file_format.specs.declared.Edition.{Edition}
 use Rattle.file_format.specs.declared.Edition.the-variants.{First, Second}
 use Rattle.file_format.specs.Refusals.{lostPackage}
-
-not-T : (b : Bool) → (T b → ⊥) → T (not b)
-not-T true f = absurd (f tt)
-not-T false f = tt
 
 -- the first edition loses one that is other than 0
 pub lost-some : (ps : List ℕ) (v : ℕ) → v < length ps → (getD ps v 0 ≡ 0 → ⊥) → lostPackage First ps ≡ true

@@ -1,15 +1,6 @@
 -- What the converter's promise means: the new file is accepted, holds the circuit of the old one, and there and back again gives the same
 -- bytes. Assumes nothing.
-use mathlib.Core.Bool.{false}
-use mathlib.Core.List.{List, [], _∷_, _++_}
-use mathlib.Core.Path.{_≡_, refl, sym, ap, ap₂, _∙_}
-use Prim.Native.Nat.{ℕ, _≤_, _<_}
-use native.Mathlib.Nat.{le-of-eq}
-use native.Mathlib.Omega.{arith}
-use borrow.Author.Tests.{le-ltb, ltb-false}
-use lib.Dec.{T, ltb}
-use lib.ListN.{length, getD, take, drop}
-use lib.Seq.{take-at, take-all}
+use Rattle.base_lists.specs.Kit.{_≡_, _∙_, sym, ap, refl, ap₂, false, List, [], _∷_, _++_, ℕ, _≤_, _<_, le-of-eq, T, ltb, length, getD, take, drop, take-at, take-all, arith, le-ltb, ltb-false}
 use Rattle.base_lists.specs.List.{all, tabulate}
 use Rattle.base_lists.proofs.Tables.{getD-tabulate, is-tabulate, tabulate-same}
 use Rattle.file_format.specs.declared.Edition.{Edition}
@@ -18,13 +9,13 @@ use Rattle.file_format.specs.declared.Role.{Role}
 use Rattle.file_format.specs.Circuit.{circuitOf}
 use Rattle.file_format.specs.Layout.{CircuitFile, inEdition, firstEdition, packageCount, lengthOf, nodesOf, linksOf, kindsOf, packagesOf, startsOf, endsOf, labelsOf}
 use Rattle.file_format.specs.Reading.{filled}
-use Rattle.file_format.specs.Refusals.{Verdict, accept, refuse, first, fileConditions, lostPackage, packageLost, shortTable}
+use Rattle.file_format.specs.Refusals.{accept, first, fileConditions, lostPackage, packageLost, shortTable}
 use Rattle.file_format.specs.Reply.{reply}
 use Rattle.file_format.specs.Role.{inRange}
 use Rattle.file_format.proofs.FirstEdition.{labels-same, first-packages}
 use Rattle.file_format.proofs.Fields.{length-kinds, length-packages, length-starts, length-ends}
-use Rattle.file_format.proofs.Refusals.{accepted, first-accept, first-parts, first-holds}
-use Rattle.file_write.specs.Bytes.{stretchBytes, fileBytes}
+use Rattle.file_format.proofs.Refusals.{accepted, first-accept, first-parts, first-holds, reply-verdict}
+use Rattle.file_write.specs.Bytes.{stretchBytes}
 use Rattle.file_write.proofs.FileFields.{nodes-written, links-written, kinds-written, packages-written, starts-written, ends-written, length-written}
 use Rattle.file_write.proofs.RoundTrip.{same-verdict, accepted-file}
 use Rattle.call_convert.specs.Call.{everyPackage, convertedBytes, convertConditions, ConvertOutcome, converting}
@@ -124,7 +115,7 @@ module _ (role : Role) (to : Edition) (file : CircuitFile) (sound : first (fileC
     unfolding labelsOf
     converted-circuit =
         rw (converted-kinds, converted-starts, converted-ends)
-        (ap (λ (l : List ℕ). record { kinds = l; starts = startsOf file; ends = endsOf file })
+        (ap (λ (l : List ℕ). record { labels = l; starts = startsOf file; ends = endsOf file })
         (labels-same (kindsOf file) (packagesOf converted) (packagesOf file) (λ v h. package-kept v (rw (← length-kinds file) h))))
 
     -- ---- there and back again
@@ -169,11 +160,6 @@ module _ (role : Role) (to : Edition) (file : CircuitFile) (out : List ℕ) wher
     pub kept : lostPackage to (everyPackage file) ≡ false
     pub room : lengthOf to (nodesOf file) (linksOf file) ≤ length out
 
-  reply-verdict : (v : Verdict) (values : List ℕ) → reply v values .verdict ≡ v
-  unfolding reply
-  reply-verdict accept values = refl
-  reply-verdict (refuse x) values = refl
-
   pub convert-sound : converting role to file out .reply .verdict ≡ accept → Sound
   unfolding converting convertConditions packageLost shortTable
   convert-sound e =
@@ -204,12 +190,12 @@ there-and-back role to file out out′ bytes ok room =
     let s = convert-sound role to file out ok in
     let sound = s .content in
     let size = accepted role file sound .size in
-    let front : take (lengthOf to (nodesOf file) (linksOf file)) (converting role to file out .out) ≡ convertedBytes to file =
+    let prefix : take (lengthOf to (nodesOf file) (linksOf file)) (converting role to file out .out) ≡ convertedBytes to file =
     ap (λ (o : ConvertOutcome). take (lengthOf to (nodesOf file) (linksOf file)) (o .out)) (convert-accepts role to file out s)
     ∙ take-at (convertedBytes to file) _ _ (converted-length role to file sound) in
     let long : lengthOf (file .edition) (nodesOf (converted role to file sound)) (linksOf (converted role to file sound)) ≡ length (file .bytes) =
     ap₂ (lengthOf (file .edition)) (converted-nodes role to file sound) (converted-links role to file sound) ∙ sym size in
-    ap (λ (b : List ℕ). converting role (file .edition) (inEdition to b) out′) front
+    ap (λ (b : List ℕ). converting role (file .edition) (inEdition to b) out′) prefix
     ∙ convert-accepts role (file .edition) (converted role to file sound) out′
     (record {
       content = converted-accepted role to file sound;

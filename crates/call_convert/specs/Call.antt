@@ -1,7 +1,5 @@
 -- The converter, whole: its reply and the later content of the bytes lent, from the inputs alone.
-use mathlib.Core.List.{List, [], _∷_, _++_}
-use Prim.Native.Nat.{ℕ}
-use lib.ListN.{length, getD}
+use Rattle.base_lists.specs.Kit.{List, [], _∷_, _++_, ℕ, length, getD}
 use Rattle.base_lists.specs.List.{tabulate}
 use Rattle.file_format.specs.declared.Edition.{Edition}
 use Rattle.file_format.specs.declared.Role.{Role}

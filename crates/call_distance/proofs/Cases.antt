@@ -1,9 +1,5 @@
 -- What the two calls come to, by cases of the conditions. Assumes nothing.
-use mathlib.Core.List.{List, [], _∷_, _++_}
-use mathlib.Core.Path.{_≡_, sym, ap}
-use Prim.Native.Nat.{ℕ, _≤_, _<_}
-use borrow.Author.Tests.{lt-ltb, le-ltb}
-use lib.ListN.{length, take, drop}
+use Rattle.base_lists.specs.Kit.{_≡_, sym, ap, List, [], _∷_, _++_, ℕ, _≤_, _<_, length, take, drop, le-ltb, lt-ltb}
 use Rattle.graph.specs.Circuit.{Circuit}
 use Rattle.graph.specs.Search.{distances, radius}
 use Rattle.graph.proofs.Distance.{length-distances}
@@ -62,9 +58,9 @@ module _ (file : CircuitFile) (centre r : ℕ) (out : List ℕ) where
 
 pub ball-read : (file : CircuitFile) (centre r : ℕ) (out : List ℕ) {n m : ℕ} {t : Circuit} → first (fileConditions Board file) ≡ accept → Stands file n m t
     → centre < n → n ≤ length out → {after : List ℕ}
-    → after ≡ distances (length (take n (t .kinds))) (take m (t .starts)) (take m (t .ends)) centre r ++ drop (length (take n (t .kinds))) out
+    → after ≡ distances (length (take n (t .labels))) (take m (t .starts)) (take m (t .ends)) centre r ++ drop (length (take n (t .labels))) out
     → record { reply = record { verdict = accept; values = n ∷ [] }; out = after } ≡ ballCall file centre r out
 ball-read file centre r out sound s inside room e =
     let held = s .content in
-    rw (e, ap (λ (c : Circuit). c .kinds) held, ap (λ (c : Circuit). c .starts) held, ap (λ (c : Circuit). c .ends) held, length-labels, s .nodes)
+    rw (e, ap (λ (c : Circuit). c .labels) held, ap (λ (c : Circuit). c .starts) held, ap (λ (c : Circuit). c .ends) held, length-labels, s .nodes)
     (sym (ball-filled file centre r out sound (rw (← s .nodes) inside) (rw (← s .nodes) room)))

@@ -1,7 +1,5 @@
 -- Document 01's examples of the two calls, from the bytes of their files. Assumes nothing.
-use mathlib.Core.List.{List, [], _∷_}
-use mathlib.Core.Path.{_≡_, refl}
-use Prim.Native.Nat.{ℕ}
+use Rattle.base_lists.specs.Kit.{_≡_, refl, List, [], _∷_, ℕ}
 use Rattle.base_lists.specs.List.{all, allBelow, tabulate, maximum}
 use Rattle.graph.specs.Search.{beside, inside, ball, misses, distances, connected, radius}
 use Rattle.file_format.specs.declared.Edition.the-variants.{First}

@@ -1,3 +1,3 @@
 pub mod Cases
-pub mod Meaning
 pub mod Examples
+pub mod Meaning

@@ -1,29 +1,19 @@
 -- What the replies and the entries of the two calls mean, in the terms of the graph's definitions. Assumes nothing.
-use mathlib.Core.List.{List, [], _∷_}
-use mathlib.Core.Logic.{_↔_, _≢_, ⊎-elim}
-use mathlib.Core.Path.{_≡_, sym, ap, subst, _∙_}
-use Prim.Native.Nat.{ℕ, _≤_, _<_}
-use native.Mathlib.Omega.{arith}
-use lib.ListN.{length, getD, drop, List·getD-append}
+use Rattle.base_lists.specs.Kit.{_≡_, _∙_, sym, ap, subst, _↔_, ⊎-elim, _≢_, List, [], _∷_, ℕ, _≤_, _<_, length, getD, drop, List·getD-append, arith}
 use Rattle.base_lists.proofs.Tests.{decide}
 use Rattle.graph.specs.Circuit.{HasLink, graphOf}
-use Rattle.graph.specs.Graph.{Graph, Radius, Distance, DistanceEntry, InBall, Ball}
+use Rattle.graph.specs.Graph.{Radius, Distance, DistanceEntry, InBall, Ball}
 use Rattle.graph.specs.Search.{inside, ball, distances, radius}
 use Rattle.graph.proofs.Ball.{Within, within-all}
 use Rattle.graph.proofs.Distance.{inBall-iff, radius-is, length-distances, distances-entry, distance-below}
-use Rattle.file_format.specs.declared.Refusal.{Refusal}
 use Rattle.file_format.specs.declared.Role.{Role}
 use Rattle.file_format.specs.declared.Role.the-variants.{Pattern, Board}
 use Rattle.file_format.specs.Layout.{CircuitFile, nodesOf, linksOf, startsOf, endsOf}
-use Rattle.file_format.specs.Reading.{filled}
-use Rattle.file_format.specs.Refusals.{accept, refuse, first, fileConditions, asksConnected}
-use Rattle.file_format.specs.Reply.{Reply}
+use Rattle.file_format.specs.Refusals.{accept, first, fileConditions, asksConnected}
 use Rattle.file_format.proofs.Refusals.{accepted, accepted-links, range-orders, range-bounds}
-use Rattle.call_distance.specs.declared.RadiusAnswer.{RadiusAnswer}
 use Rattle.call_distance.specs.declared.RadiusAnswer.the-variants as radius-answer
-use Rattle.call_distance.specs.declared.BallAnswer.{BallAnswer}
 use Rattle.call_distance.specs.declared.BallAnswer.the-variants as ball-answer
-use Rattle.call_distance.specs.Calls.{radiusReply, ballReply, radiusCall, ballConditions, ballCall, BallOutcome, fileGraph}
+use Rattle.call_distance.specs.Calls.{radiusCall, ballCall, BallOutcome, fileGraph}
 use Rattle.call_distance.proofs.Cases.{radius-replied, ball-filled}
 
 -- the links of an accepted file join its nodes
@@ -31,22 +21,6 @@ pub accepted-within : (r : Role) (file : CircuitFile) → first (fileConditions 
 accepted-within r file e =
     let (s, d) = accepted-links r file (accepted r file e) in
     within-all (nodesOf file) (startsOf file) (endsOf file) s d
-
--- ---- a reply says which answer it was
-
-pub radiusReply-injective : (a b : RadiusAnswer) → radiusReply a ≡ radiusReply b → a ≡ b
-unfolding radiusReply
-radiusReply-injective (radius-answer.Radius d) (radius-answer.Radius d′) e = let v = ap (λ (r : Reply). r .values) e in cc
-radiusReply-injective (radius-answer.Radius d) (radius-answer.Refused x) e = let v = ap (λ (r : Reply). r .verdict) e in cc
-radiusReply-injective (radius-answer.Refused x) (radius-answer.Radius d) e = let v = ap (λ (r : Reply). r .verdict) e in cc
-radiusReply-injective (radius-answer.Refused x) (radius-answer.Refused y) e = let v = ap (λ (r : Reply). r .verdict) e in cc
-
-pub ballReply-injective : (a b : BallAnswer) → ballReply a ≡ ballReply b → a ≡ b
-unfolding ballReply
-ballReply-injective (ball-answer.Ball n) (ball-answer.Ball n′) e = let v = ap (λ (r : Reply). r .values) e in cc
-ballReply-injective (ball-answer.Ball n) (ball-answer.Refused x) e = let v = ap (λ (r : Reply). r .verdict) e in cc
-ballReply-injective (ball-answer.Refused x) (ball-answer.Ball n) e = let v = ap (λ (r : Reply). r .verdict) e in cc
-ballReply-injective (ball-answer.Refused x) (ball-answer.Refused y) e = let v = ap (λ (r : Reply). r .verdict) e in cc
 
 -- ---- the radius
 
@@ -60,12 +34,6 @@ radius-means file e =
     (radius (nodesOf file) (startsOf file) (endsOf file), radius-replied file e, radius-is (accepted-within Pattern file e) n (a .joined tt))
 
 -- ---- the ball
-
--- a refused call leaves the table as it was
-pub ball-refused-keeps : (file : CircuitFile) (centre r : ℕ) (out : List ℕ) (x : Refusal) → first (ballConditions file centre (length out)) ≡ refuse x
-    → ballCall file centre r out .out ≡ out
-unfolding ballCall filled
-ball-refused-keeps file centre r out x e = rw e
 
 -- no distance on a board is 65,535: its nodes are at most 512
 pub distance-few : (file : CircuitFile) → first (fileConditions Board file) ≡ accept → (centre v d : ℕ) → centre < nodesOf file

@@ -1,7 +1,5 @@
 -- The radius call and the ball lookup, whole: the reply, and the lent table's later content, from the inputs alone.
-use mathlib.Core.List.{List, [], _∷_, _++_}
-use Prim.Native.Nat.{ℕ}
-use lib.ListN.{length}
+use Rattle.base_lists.specs.Kit.{List, [], _∷_, _++_, ℕ, length}
 use Rattle.graph.specs.Circuit.{graphOf}
 use Rattle.graph.specs.Graph.{Graph}
 use Rattle.graph.specs.Search.{distances, radius}

@@ -2,15 +2,18 @@
 ghost use mathlib.Core.Path.{_≡_};
 ghost use Rattle.file_format.specs.Layout.{inEdition};
 ghost use Rattle.call_distance.specs.Calls.{radiusReply, radiusCall, ballReply, ballCall};
+use crate::distances::fill_ball;
 use file_format::Board;
 use file_format::Edition;
-use file_format::File;
 use file_format::FileVerdict;
+use file_format::OUTSIDE;
 use file_format::Pattern;
 use file_format::Refusal;
 use file_format::Role;
+use file_format::TOO_SHORT;
 use file_read::load;
-use graph_extent::ball::fill_ball;
+
+pub mod distances;
 
 // A pattern's radius, or why the file was turned away.
 pub enum RadiusAnswer {
@@ -28,17 +31,10 @@ pub enum BallAnswer {
 pub fn radius(edition: Edition, file: &[u8]) -> RadiusAnswer
     ensures { λ r. ⌜ radiusReply r ≡ radiusCall (inEdition edition (now (file .entry))) ⌝ }
 {
-    let mut labels = [0u32; Pattern::MAX_NODES];
-    let mut starts = [0u16; Pattern::MAX_LINKS];
-    let mut ends = [0u16; Pattern::MAX_LINKS];
-    let read = load(
-        Role::Pattern,
-        edition,
-        file,
-        &mut labels,
-        &mut starts,
-        &mut ends,
-    );
+    let mut pk = [0u32; Pattern::MAX_NODES];
+    let mut ps = [0u16; Pattern::MAX_LINKS];
+    let mut pe = [0u16; Pattern::MAX_LINKS];
+    let read = load(Role::Pattern, edition, file, &mut pk, &mut ps, &mut pe);
     let verdict = read.verdict;
     if let FileVerdict::Refused(x) = verdict {
         return RadiusAnswer::Refused(x);
@@ -58,17 +54,10 @@ pub fn ball(
 ) -> BallAnswer
     ensures { λ r. ⌜ record { reply = ballReply r; out = now (out .exit) } ≡ ballCall (inEdition edition (now (file .entry))) centre radius (now (out .entry)) ⌝ }
 {
-    let mut labels = [0u32; Board::MAX_NODES];
-    let mut starts = [0u16; Board::MAX_LINKS];
-    let mut ends = [0u16; Board::MAX_LINKS];
-    let read = load(
-        Role::Board,
-        edition,
-        file,
-        &mut labels,
-        &mut starts,
-        &mut ends,
-    );
+    let mut nk = [0u32; Board::MAX_NODES];
+    let mut ns = [0u16; Board::MAX_LINKS];
+    let mut ne = [0u16; Board::MAX_LINKS];
+    let read = load(Role::Board, edition, file, &mut nk, &mut ns, &mut ne);
     let verdict = read.verdict;
     if let FileVerdict::Refused(x) = verdict {
         return BallAnswer::Refused(x);
@@ -76,25 +65,11 @@ pub fn ball(
     let n = read.nodes;
     let m = read.links;
     if n <= centre {
-        return BallAnswer::Refused(Refusal {
-            number: 7,
-            file: File::Neither,
-        });
+        return BallAnswer::Refused(OUTSIDE);
     }
-    let short = Refusal {
-        number: 8,
-        file: File::Neither,
-    };
     if out.len() < n {
-        return BallAnswer::Refused(short);
+        return BallAnswer::Refused(TOO_SHORT);
     }
-    fill_ball(
-        &labels[..n],
-        &starts[..m],
-        &ends[..m],
-        centre as u16,
-        radius,
-        out,
-    );
+    fill_ball(&nk[..n], &ns[..m], &ne[..m], centre as u16, radius, out);
     BallAnswer::Ball(n)
 }

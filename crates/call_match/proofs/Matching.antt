@@ -1,9 +1,5 @@
 -- What the call comes to, by cases: a refused file, a short table, or the match. Assumes nothing.
-use mathlib.Core.List.{List, [], _∷_, _++_}
-use mathlib.Core.Path.{_≡_, sym, ap, ap₂, _∙_}
-use Prim.Native.Nat.{ℕ, _≤_, _<_}
-use borrow.Author.Tests.{lt-ltb, le-ltb}
-use lib.ListN.{length, take, drop}
+use Rattle.base_lists.specs.Kit.{_≡_, _∙_, sym, ap, ap₂, List, [], _∷_, _++_, ℕ, _≤_, _<_, length, take, drop, le-ltb, lt-ltb}
 use Rattle.graph.specs.Circuit.{Circuit}
 use Rattle.file_format.specs.declared.Role.{Role}
 use Rattle.file_format.specs.declared.Role.the-variants.{AnyPattern}
@@ -24,7 +20,7 @@ use Rattle.simulation.specs.Simulation.{Direction}
 use Rattle.table.specs.Host.{everything}
 use Rattle.table.specs.Answer.{answerBy, answerCountsBy, AnsweredOn}
 use Rattle.table.specs.Prepared.{Tables}
-use Rattle.table.specs.Reply.{MatchReply, replied}
+use Rattle.table.specs.Reply.{MatchReply, countsReply}
 use Rattle.table.proofs.Answer.{answer-fits}
 use Rattle.table_whole.specs.Kinds.{SomeLinks}
 use Rattle.call_prepare.specs.Read.{BothPrepared}
@@ -38,32 +34,32 @@ length-answer ways pattern board = answer-fits ways (circuitOf pattern) (circuit
 -- ---- two circuits
 
 module _ (ways : List Direction) (p b : Circuit) (table : List ℕ) where
-  pub on-short : length table < length (b .kinds)
+  pub on-short : length table < length (b .labels)
       → record { reply = replyOf (Refused (record { number = 8; file = Neither })); table = table } ≡ matchOn ways p b table
-  unfolding matchOn first shortTable replied replyOf filled
+  unfolding matchOn first shortTable countsReply replyOf filled
   on-short h = rw (lt-ltb _ _ h)
 
   -- the table is long enough: the call is accepted
-  fits-verdict : length (b .kinds) ≤ length table → first (shortTable (length (b .kinds)) (length table) ∷ []) ≡ accept
+  fits-verdict : length (b .labels) ≤ length table → first (shortTable (length (b .labels)) (length table) ∷ []) ≡ accept
   unfolding first shortTable
   fits-verdict h = rw (le-ltb _ _ h)
 
   -- the counts are replied with,
-  fits-reply : length (b .kinds) ≤ length table → {counts : Counts} → counts ≡ answerCountsBy ways p b (everything b)
+  fits-reply : length (b .labels) ≤ length table → {counts : Counts} → counts ≡ answerCountsBy ways p b (everything b)
       → replyOf (Matched counts) ≡ matchOn ways p b table .reply
-  unfolding matchOn replied replyOf
-  fits-reply h e = rw e (ap (λ (v : Verdict). replied v (answerCountsBy ways p b (everything b))) (sym (fits-verdict h)))
+  unfolding matchOn countsReply replyOf
+  fits-reply h e = rw e (ap (λ (v : Verdict). countsReply v (answerCountsBy ways p b (everything b))) (sym (fits-verdict h)))
 
   -- and the answer stands at the table's front, before the entries that stay
-  fits-table : length (b .kinds) ≤ length table → {last : List ℕ} → last ≡ answerBy ways p b (everything b)
-      → last ++ drop (length (b .kinds)) table ≡ matchOn ways p b table .table
+  fits-table : length (b .labels) ≤ length table → {last : List ℕ} → last ≡ answerBy ways p b (everything b)
+      → last ++ drop (length (b .labels)) table ≡ matchOn ways p b table .table
   unfolding matchOn filled
   fits-table h {last} e =
-      let front : last ++ drop (length (b .kinds)) table ≡ filled accept (answerBy ways p b (everything b)) table = rw (e, answer-fits ways p b (everything b) .size) in
-      front ∙ ap (λ (v : Verdict). filled v (answerBy ways p b (everything b)) table) (sym (fits-verdict h))
+      let prefix : last ++ drop (length (b .labels)) table ≡ filled accept (answerBy ways p b (everything b)) table = rw (e, answer-fits ways p b (everything b) .size) in
+      prefix ∙ ap (λ (v : Verdict). filled v (answerBy ways p b (everything b)) table) (sym (fits-verdict h))
 
-  pub on-matched : length (b .kinds) ≤ length table → {counts : Counts} {last : List ℕ} → AnsweredOn ways p b last counts
-      → record { reply = replyOf (Matched counts); table = last ++ drop (length (b .kinds)) table } ≡ matchOn ways p b table
+  pub on-matched : length (b .labels) ≤ length table → {counts : Counts} {last : List ℕ} → AnsweredOn ways p b last counts
+      → record { reply = replyOf (Matched counts); table = last ++ drop (length (b .labels)) table } ≡ matchOn ways p b table
   on-matched h m = ap₂ (λ (r : MatchReply) (t : List ℕ). record { reply = r; table = t }) (fits-reply h (m .counted)) (fits-table h (m .last))
 
 -- ---- two files
@@ -81,7 +77,7 @@ module _ (ways : List Direction) (pattern board : CircuitFile) (table : List ℕ
 
   pub matching-refused : {x : Refusal} → first (pairConditions AnyPattern pattern board) ≡ refuse x
       → record { reply = replyOf (Refused x); table = table } ≡ matchingBy ways pattern board table
-  unfolding matchingBy replied replyOf filled
+  unfolding matchingBy countsReply replyOf filled
   matching-refused e = rw (files-first e)
 
   matching-accepted : first (pairConditions AnyPattern pattern board) ≡ accept
@@ -89,12 +85,12 @@ module _ (ways : List Direction) (pattern board : CircuitFile) (table : List ℕ
   unfolding matchOn matchingBy
   matching-accepted e = rw (then-table e, length-labels board)
 
-  pub matching-read : {read : Pair} {partKinds nodeKinds : List ℕ} {t : Tables} → first (pairConditions AnyPattern pattern board) ≡ accept
-      → BothPrepared AnyPattern ways pattern board read partKinds nodeKinds t → {o : TableOutcome}
-      → EveryMatch (take (read .parts) partKinds) (take (read .nodes) nodeKinds) t table o → o ≡ matchingBy ways pattern board table
+  pub matching-read : {read : Pair} {partLabels nodeLabels : List ℕ} {t : Tables} → first (pairConditions AnyPattern pattern board) ≡ accept
+      → BothPrepared AnyPattern ways pattern board read partLabels nodeLabels t → {o : TableOutcome}
+      → EveryMatch (take (read .parts) partLabels) (take (read .nodes) nodeLabels) t table o → o ≡ matchingBy ways pattern board table
   matching-read ok b every = (rw (b .parts .content, b .nodes .content) at (every _ _ _ _ _ (ready-prepared b))) ∙ matching-accepted ok
 
 -- what matching starts from
-pub ready-links : {r : Role} {ways : List Direction} {pattern board : CircuitFile} {read : Pair} {partKinds nodeKinds : List ℕ} {t : Tables}
-    → BothPrepared r ways pattern board read partKinds nodeKinds t → SomeLinks (take (read .parts) partKinds) (take (read .nodes) nodeKinds) t
+pub ready-links : {r : Role} {ways : List Direction} {pattern board : CircuitFile} {read : Pair} {partLabels nodeLabels : List ℕ} {t : Tables}
+    → BothPrepared r ways pattern board read partLabels nodeLabels t → SomeLinks (take (read .parts) partLabels) (take (read .nodes) nodeLabels) t
 ready-links b = record { ways = _; partStarts = _; partEnds = _; nodeStarts = _; nodeEnds = _; prepared = ready-prepared b }

@@ -1,26 +1,16 @@
 -- What the exported call's promise means: a refusal is one of the conditions; else the table holds the largest dual simulation of the
 -- pattern in the board, and the counts are those of the row. Assumes nothing.
-use mathlib.Core.Bool.{Bool, true, false, not, cond}
-use mathlib.Core.List.{List, _++_, map, List·Memᴰ}
-use mathlib.Core.Logic.{_↔_, ⊎-elim}
-use mathlib.Core.Path.{_≡_, refl, sym, ap, subst, _∙_}
-use Prim.Native.Nat.{ℕ, _+_, _-_, _≤_, _<_}
-use native.Mathlib.Omega.{arith}
-use borrow.Author.Tests.{le-ltb}
+use Rattle.base_lists.specs.Kit.{_≡_, _∙_, sym, ap, refl, subst, _↔_, ⊎-elim, Bool, false, true, cond, not, List, _++_, map, ℕ, _≤_, _<_, _+_, _-_, T, eqb, ltb, length, getD, take, drop, List·getD-append, take-at, drop-at, getD-take, getD-append-add, arith, le-ltb}
 use lib.Count.{ones}
-use lib.Dec.{T, eqb, ltb}
-use lib.ListN.{length, getD, take, drop, List·getD-append}
-use lib.Seq.{take-at, drop-at, getD-take, getD-append-add}
 use Rattle.base_lists.specs.List.{sum}
-use Rattle.base_lists.proofs.Tests.{refuted}
+use Rattle.base_lists.proofs.Tests.{not-true-false, lt-or-le}
 use Rattle.base_bits.specs.Bits.{bit}
 use Rattle.graph.specs.Circuit.{Circuit, circuitGraph}
 use Rattle.graph.specs.Graph.{Connected}
 use Rattle.graph.specs.Search.{connected}
-use Rattle.graph.proofs.BfsScan.{lt-or-le}
 use Rattle.graph.proofs.Distance.{connected-iff}
 use Rattle.simulation.specs.Closed.{Relation, _⊆_}
-use Rattle.simulation.specs.Simulation.{Direction, Candidate, Along, Largest, LargestGraphSimulation}
+use Rattle.simulation.specs.Simulation.{Direction, Candidate, Along, Largest}
 use Rattle.simulation.proofs.Simulation.{largest-unique}
 use Rattle.file_format.specs.declared.Refusal.{Refusal}
 use Rattle.file_format.specs.declared.Role.the-variants.{Pattern, Board, AnyPattern}
@@ -28,24 +18,25 @@ use Rattle.file_format.specs.Circuit.{circuitOf}
 use Rattle.file_format.specs.Layout.{CircuitFile, nodesOf, linksOf, lengthOf, startsOf, endsOf}
 use Rattle.file_format.specs.Links.{linksBelow, rising}
 use Rattle.file_format.specs.Reading.{filled}
-use Rattle.file_format.specs.Refusals.{Condition, Verdict, accept, refuse, first, without, asksConnected, linkConditions, fileConditions, Accepted, shortTable}
+use Rattle.file_format.specs.Refusals.{Verdict, accept, refuse, first, without, asksConnected, linkConditions, fileConditions, Accepted, shortTable}
 use Rattle.file_format.specs.Role.{inRange}
 use Rattle.file_format.proofs.Accepted.{accepted-bounded, accepted-below, accepted-within, accepted-connected}
 use Rattle.file_format.proofs.Fields.{length-labels}
-use Rattle.file_format.proofs.Refusals.{accepted, first-accept, first-refuse, first-holds, first-parts, refuses-iff, turned, turned-accept}
+use Rattle.file_format.proofs.Refusals.{accepted, first-accept, first-refuse, first-holds, first-parts, turned, turned-accept, first-same}
 use Rattle.file_pair.specs.Pair.{pairConditions}
 use Rattle.file_pair.proofs.Both.{pair-accept, pair-parts}
 use Rattle.call_match.specs.declared.TableAnswer.{TableAnswer}
 use Rattle.call_match.specs.declared.TableAnswer.the-variants.{Matched, Refused}
 use Rattle.table.specs.declared.Counts.{Counts}
-use Rattle.call_match.specs.Call.{matchConditions, replyOf, matchedBy, matchingBy, matching, oneWayMatching, connectedConditions, rowBy, connectedMatching}
+use Rattle.call_match.specs.Call.{matchConditions, replyOf, matchedBy, matchingBy, matching, connectedConditions, rowOutcome, connectedMatching}
 use Rattle.table.specs.Answer.{answerBy, answerCountsBy, AnsweredBy}
 use Rattle.table.specs.Host.{everything, KindsMatch}
-use Rattle.table.specs.Reply.{MatchReply, noCounts, replied}
+use Rattle.table.specs.Reply.{MatchReply, noCounts, countsReply}
 use Rattle.table.specs.Refine.{countsOf}
-use Rattle.table.specs.Row.{inTable, bothWays, oneWay, startBy, lastTable, InTable, Chosen, LargestOccurring}
-use Rattle.table.proofs.Answer.{answer-sum, answer-rounds, answer-ones, answer-started, answer-fewer, answer-connected, board-along, along-dual, along-graph}
+use Rattle.table.specs.Row.{inTable, bothWays, startBy, lastTable, InTable, Chosen, LargestOccurring}
+use Rattle.table.proofs.Answer.{answer-sum, answer-rounds, answer-ones, answer-started, answer-fewer, answer-connected, board-along, along-dual}
 use Rattle.table.proofs.Host.{within-joins}
+use Rattle.table.proofs.Reply.{replied-verdict}
 use Rattle.call_match.proofs.Matching.{length-answer}
 
 -- ---- the two cases of the answer, told apart by what document 01 says of them
@@ -60,15 +51,10 @@ unfolding replyOf
 reply-refused (Matched k) x e = cc
 reply-refused (Refused y) x e = cc
 
-replied-verdict : (v : Verdict) (counts : Counts) → replied v counts .verdict ≡ v
-unfolding replied
-replied-verdict accept counts = refl
-replied-verdict (refuse x) counts = refl
-
 -- the first n entries of a table hold what it holds at the nodes below n
-in-front : (n : ℕ) (t : List ℕ) (u v : ℕ) → v < n → inTable (take n t) u v ≡ inTable t u v
+in-prefix : (n : ℕ) (t : List ℕ) (u v : ℕ) → v < n → inTable (take n t) u v ≡ inTable t u v
 unfolding inTable
-in-front n t u v h = ap (λ (x : ℕ). bit x u) (getD-take n t v 0 h)
+in-prefix n t u v h = ap (λ (x : ℕ). bit x u) (getD-take n t v 0 h)
 
 module _ (ways : List Direction) (pattern board : CircuitFile) (table : List ℕ) where
   pub verdict-is : matchingBy ways pattern board table .reply .verdict ≡ first (matchConditions pattern board (length table))
@@ -77,17 +63,11 @@ module _ (ways : List Direction) (pattern board : CircuitFile) (table : List ℕ
 
   -- ---- refusals
 
-  -- the call is refused exactly when one of the conditions holds,
-  pub refused-iff :
-      ((x : Refusal) × (matchingBy ways pattern board table .reply .verdict ≡ refuse x)) ↔
-      ((c : Condition) × List·Memᴰ c (matchConditions pattern board (length table)) × T (c .holds))
-  refused-iff = rw verdict-is (refuses-iff (matchConditions pattern board (length table)))
-
   -- and then "All lent tables keep their content; counts are 0".
   pub refused-keeps :
       (x : Refusal) → matchingBy ways pattern board table .reply .verdict ≡ refuse x →
       (matchingBy ways pattern board table .reply .counts ≡ noCounts) × (matchingBy ways pattern board table .table ≡ table)
-  unfolding matchingBy replied filled
+  unfolding matchingBy countsReply filled
   refused-keeps x e =
       let v : first (matchConditions pattern board (length table)) ≡ refuse x = sym verdict-is ∙ e in
       (rw v, rw v)
@@ -121,19 +101,19 @@ module _ (ways : List Direction) (pattern board : CircuitFile) (table : List ℕ
     table-is = rw (sound, length-answer)
 
     pub counts-are : matchingBy ways pattern board table .reply .counts ≡ answerCountsBy ways (circuitOf pattern) (circuitOf board) (everything (circuitOf board))
-    unfolding matchingBy replied
+    unfolding matchingBy countsReply
     counts-are = rw sound
 
     -- the first N entries are the answer, and the others stay
-    pub front-is : take (nodesOf board) (matchingBy ways pattern board table .table) ≡ answerBy ways (circuitOf pattern) (circuitOf board) (everything (circuitOf board))
-    front-is = rw table-is (take-at _ _ (nodesOf board) (length-answer ways pattern board))
+    pub prefix-is : take (nodesOf board) (matchingBy ways pattern board table .table) ≡ answerBy ways (circuitOf pattern) (circuitOf board) (everything (circuitOf board))
+    prefix-is = rw table-is (take-at _ _ (nodesOf board) (length-answer ways pattern board))
 
     pub rest-is : drop (nodesOf board) (matchingBy ways pattern board table .table) ≡ drop (nodesOf board) table
     rest-is =
         rw table-is
         (drop-at (answerBy ways (circuitOf pattern) (circuitOf board) (everything (circuitOf board))) _ (nodesOf board) (length-answer ways pattern board))
 
-    most : length (circuitOf pattern .kinds) ≤ 32
+    most : length (circuitOf pattern .labels) ≤ 32
     most = accepted-bounded pattern-accepted .nodes
 
     -- "So started = kept + struck, and rounds are at most struck."
@@ -162,53 +142,46 @@ module _ (ways : List Direction) (pattern board : CircuitFile) (table : List ℕ
     -- "kept is the number of one bits in the whole table"
     pub counts-ones : matchingBy ways pattern board table .reply .counts .kept ≡ sum (map ones (take (nodesOf board) (matchingBy ways pattern board table .table)))
     unfolding answerCountsBy
-    counts-ones = rw (counts-are, front-is) (answer-ones ways (circuitOf pattern) (circuitOf board) (everything (circuitOf board)) most)
+    counts-ones = rw (counts-are, prefix-is) (answer-ones ways (circuitOf pattern) (circuitOf board) (everything (circuitOf board)) most)
 
     -- The first N entries are the largest set that is closed along the directions chosen and in which each part occurs, unless it is empty.
-    pub front-along :
+    pub prefix-along :
         LargestOccurring (circuitGraph (circuitOf pattern) .Node)
         (Candidate (circuitGraph (circuitOf pattern)) (KindsMatch (circuitOf pattern) (circuitOf board)) (circuitGraph (circuitOf board)))
         (Chosen ways (Along (circuitGraph (circuitOf pattern) .Link))) (Along (circuitGraph (circuitOf board) .Link))
         (InTable (take (nodesOf board) (matchingBy ways pattern board table .table)))
-    front-along =
-        rw front-is (board-along ways (circuitOf pattern) (circuitOf board) most (within-joins (circuitOf board) (accepted-within board-accepted)))
+    prefix-along =
+        rw prefix-is (board-along ways (circuitOf pattern) (circuitOf board) most (within-joins (circuitOf board) (accepted-within board-accepted)))
 
 -- ---- both directions
 
 module _ (pattern board : CircuitFile) (table : List ℕ) (ok : matching pattern board table .reply .verdict ≡ accept) where
   -- along both directions that is the largest dual simulation of the pattern in the board, whether the pattern is connected or not:
-  pub front-largest :
+  pub prefix-largest :
       Largest (circuitGraph (circuitOf pattern)) (KindsMatch (circuitOf pattern) (circuitOf board)) (circuitGraph (circuitOf board))
       (InTable (take (nodesOf board) (matching pattern board table .table)))
-  front-largest = along-dual (front-along bothWays pattern board table ok)
+  prefix-largest = along-dual (prefix-along bothWays pattern board table ok)
 
   -- bit u of entry v is set exactly when (u, v) is in it.
   pub entry-bit :
       {S : Relation} → Largest (circuitGraph (circuitOf pattern)) (KindsMatch (circuitOf pattern) (circuitOf board)) (circuitGraph (circuitOf board)) S →
       (u v : ℕ) → v < nodesOf board → InTable (matching pattern board table .table) u v ↔ S u v
   entry-bit l u v h =
-      let same = in-front (nodesOf board) (matching pattern board table .table) u v h in (
-        λ m. largest-unique front-largest l u v (subst T (sym same) m),
-        λ s. subst T same (largest-unique l front-largest u v s),
+      let same = in-prefix (nodesOf board) (matching pattern board table .table) u v h in (
+        λ m. largest-unique prefix-largest l u v (subst T (sym same) m),
+        λ s. subst T same (largest-unique l prefix-largest u v s),
       )
 
 -- ---- one way
-
--- along forward links alone it is the largest graph simulation
-pub front-graph :
-    (pattern board : CircuitFile) (table : List ℕ) → oneWayMatching pattern board table .reply .verdict ≡ accept →
-    LargestGraphSimulation (circuitGraph (circuitOf pattern)) (KindsMatch (circuitOf pattern) (circuitOf board)) (circuitGraph (circuitOf board))
-    (InTable (take (nodesOf board) (oneWayMatching pattern board table .table)))
-front-graph pattern board table ok = along-graph (front-along oneWay pattern board table ok)
 
 -- tables of the same length, one in the other, and the same entries after them
 within-more :
     (xs ys zs : List ℕ) → length xs ≡ length ys → InTable xs ⊆ InTable ys → InTable (xs ++ zs) ⊆ InTable (ys ++ zs)
 unfolding inTable
-within-more xs ys zs same inside u v m = ⊎-elim front past (lt-or-le v (length xs))
+within-more xs ys zs same inside u v m = ⊎-elim prefix past (lt-or-le v (length xs))
   where
-    front : v < length xs → T (bit (getD (ys ++ zs) v 0) u)
-    front h =
+    prefix : v < length xs → T (bit (getD (ys ++ zs) v 0) u)
+    prefix h =
         rw (List·getD-append ys zs 0 v (rw (← same) h)) (inside u v (rw (List·getD-append xs zs 0 v h) at m))
 
     past : length xs ≤ v → T (bit (getD (ys ++ zs) v 0) u)
@@ -242,14 +215,6 @@ contains-two-way ways pattern board table = go (first (matchConditions pattern b
     go (refuse x) e u v m = m
 
 -- ---- connected patterns
-
--- The first of two lists of conditions, of which the first parts come to the same.
-first-same : (xs ys zs : List Condition) → first xs ≡ first ys → first (xs ++ zs) ≡ first (ys ++ zs)
-first-same xs ys zs e = go (first ys) refl
-  where
-    go : (v : Verdict) → first ys ≡ v → first (xs ++ zs) ≡ first (ys ++ zs)
-    go accept f = first-accept xs zs (e ∙ f) ∙ sym (first-accept ys zs f)
-    go (refuse x) f = first-refuse xs zs x (e ∙ f) ∙ sym (first-refuse ys zs x f)
 
 -- the first five tests on a pattern, and what the others come to
 abbrev asked : (a b c d e : Bool) → Verdict → Verdict
@@ -288,7 +253,7 @@ module _ (file : CircuitFile) where
       let h3 = first-holds _ _ (h2 .1) in
       let h4 = first-holds _ _ (h3 .1) in
       let h5 = first-holds _ _ (h4 .1) in
-      refuted (connected (nodesOf file) (startsOf file) (endsOf file)) (first-holds _ _ (h5 .1) .0)
+      not-true-false (connected (nodesOf file) (startsOf file) (endsOf file)) (first-holds _ _ (h5 .1) .0)
 
   before-connected : Accepted AnyPattern file → before ≡ accept → Connected (circuitGraph (circuitOf file))
   unfolding circuitGraph
@@ -306,8 +271,8 @@ same-verdict pattern board lent other =
 
 -- where the answer is the row's, the outcome is
 same-outcome : (v : Verdict) (p b : Circuit) (table : List ℕ)
-    → (v ≡ accept → AnsweredBy bothWays p b (everything b) (lastTable p b (everything b)) (countsOf p b (everything b))) → matchedBy bothWays v p b table ≡ rowBy v p b table
-unfolding replied filled
+    → (v ≡ accept → AnsweredBy bothWays p b (everything b) (lastTable p b (everything b)) (countsOf p b (everything b))) → matchedBy bothWays v p b table ≡ rowOutcome v p b table
+unfolding countsReply filled
 same-outcome accept p b table plain = let a = plain refl in rw (sym (a .counted), sym (a .last))
 same-outcome (refuse x) p b table plain = refl
 
@@ -327,10 +292,10 @@ as-before pattern board table other =
     answer-connected (circuitOf pattern) (circuitOf board) (everything (circuitOf board)) (accepted-bounded read .nodes) (before-connected pattern read drawn)))
 
 -- So the first N entries are the last set of the row,
-pub front-connected :
+pub prefix-connected :
     (pattern board : CircuitFile) (table : List ℕ) → Accepted Pattern pattern → matching pattern board table .reply .verdict ≡ accept →
     take (nodesOf board) (matching pattern board table .table) ≡ lastTable (circuitOf pattern) (circuitOf board) (everything (circuitOf board))
-front-connected pattern board table drawn ok =
-    front-is bothWays pattern board table ok
+prefix-connected pattern board table drawn ok =
+    prefix-is bothWays pattern board table ok
     ∙ sym
     (answer-connected (circuitOf pattern) (circuitOf board) (everything (circuitOf board)) (accepted-bounded drawn .nodes) (accepted-connected drawn) .last)

@@ -1,8 +1,5 @@
 -- The exported call on two files, whole: its reply and the table's later content, from the inputs alone.
-use mathlib.Core.List.{List, [], _∷_, _++_}
-use mathlib.Core.Path.{_≡_}
-use Prim.Native.Nat.{ℕ}
-use lib.ListN.{length}
+use Rattle.base_lists.specs.Kit.{_≡_, List, [], _∷_, _++_, ℕ, length}
 use Rattle.graph.specs.Circuit.{Circuit, circuit}
 use Rattle.simulation.specs.Simulation.{Direction}
 use Rattle.file_format.specs.declared.Role.the-variants.{Pattern, Board, AnyPattern}
@@ -17,7 +14,7 @@ use Rattle.table.specs.Answer.{answerBy, answerCountsBy}
 use Rattle.table.specs.Host.{everything}
 use Rattle.table.specs.Prepared.{Tables, PreparedBy}
 use Rattle.table.specs.Refine.{countsOf}
-use Rattle.table.specs.Reply.{MatchReply, noCounts, replied}
+use Rattle.table.specs.Reply.{MatchReply, noCounts, countsReply}
 use Rattle.table.specs.Row.{bothWays, oneWay, lastTable}
 
 -- "Rising numbers are the order, the pattern's .. before the board's. Needed: .. match table N". "the whole-board call applies neither 6 nor
@@ -39,18 +36,18 @@ pub record TableOutcome : Type 0 where
 -- 0 where some part is left without a node. On a refusal the whole table stays.
 abbrev pub matchedBy : List Direction → Verdict → Circuit → Circuit → List ℕ → TableOutcome
 matchedBy ways verdict p b table =
-    record { reply = replied verdict (answerCountsBy ways p b (everything b)); table = filled verdict (answerBy ways p b (everything b)) table }
+    record { reply = countsReply verdict (answerCountsBy ways p b (everything b)); table = filled verdict (answerBy ways p b (everything b)) table }
 
 -- the call on two circuits that were read: the table may be short
 unfoldable pub matchOn : List Direction → Circuit → Circuit → List ℕ → TableOutcome
-matchOn ways p b table = matchedBy ways (first (shortTable (length (b .kinds)) (length table) ∷ [])) p b table
+matchOn ways p b table = matchedBy ways (first (shortTable (length (b .labels)) (length table) ∷ [])) p b table
 
 -- this of every pattern and board with these kinds, and every choice of directions, that tables are of
 abbrev pub EveryMatch : List ℕ → List ℕ → Tables → List ℕ → TableOutcome → Type 0
-EveryMatch partKinds nodeKinds t table o =
+EveryMatch partLabels nodeLabels t table o =
     (ways : List Direction) (partStarts partEnds nodeStarts nodeEnds : List ℕ) →
-    PreparedBy ways (circuit partKinds partStarts partEnds) (circuit nodeKinds nodeStarts nodeEnds) t →
-    o ≡ matchOn ways (circuit partKinds partStarts partEnds) (circuit nodeKinds nodeStarts nodeEnds) table
+    PreparedBy ways (circuit partLabels partStarts partEnds) (circuit nodeLabels nodeStarts nodeEnds) t →
+    o ≡ matchOn ways (circuit partLabels partStarts partEnds) (circuit nodeLabels nodeStarts nodeEnds) table
 
 -- the call on two files, in the directions chosen
 unfoldable pub matchingBy : List Direction → CircuitFile → CircuitFile → List ℕ → TableOutcome
@@ -71,9 +68,9 @@ connectedConditions pattern board lent =
     (without 11 (fileConditions Pattern pattern) ++ fileConditions Board board) ++ (shortTable (nodesOf board) lent ∷ [])
 
 -- the last set of the row, with its counts. proofs/Promise: "Connected patterns get the table and counts they always got."
-abbrev pub rowBy : Verdict → Circuit → Circuit → List ℕ → TableOutcome
-rowBy verdict p b table =
-    record { reply = replied verdict (countsOf p b (everything b)); table = filled verdict (lastTable p b (everything b)) table }
+abbrev pub rowOutcome : Verdict → Circuit → Circuit → List ℕ → TableOutcome
+rowOutcome verdict p b table =
+    record { reply = countsReply verdict (countsOf p b (everything b)); table = filled verdict (lastTable p b (everything b)) table }
 
 unfoldable pub connectedMatching : CircuitFile → CircuitFile → List ℕ → TableOutcome
-connectedMatching pattern board table = rowBy (first (connectedConditions pattern board (length table))) (circuitOf pattern) (circuitOf board) table
+connectedMatching pattern board table = rowOutcome (first (connectedConditions pattern board (length table))) (circuitOf pattern) (circuitOf board) table

@@ -3,13 +3,13 @@ use call_prepare::Reading;
 use call_prepare::read_prepared;
 use file_format::Board;
 use file_format::Editions;
-use file_format::File;
 use file_format::FileVerdict;
 use file_format::Pattern;
 use file_format::Refusal;
 use file_format::Role;
-use graph_neighbours::tables::LINKS;
+use file_format::TOO_SHORT;
 use graph_neighbours::tables::OFFSETS;
+use graph_neighbours::tables::TARGETS;
 use table::Counts;
 use table::MASKS;
 use table::Ways;
@@ -29,29 +29,26 @@ pub enum TableAnswer {
 
 // The call on two circuits that were read and prepared. The table's length is tested before anything is written to it.
 fn match_on(
-    part_kinds: &[u32],
-    node_kinds: &[u32],
+    part_labels: &[u32],
+    node_labels: &[u32],
     masks: &[u32],
     offsets: &[u16],
-    links: &[u16],
+    targets: &[u16],
     table: &mut [u32],
 ) -> TableAnswer
-    requires { ⌜ SomeLinks (now «part_kinds») (now «node_kinds») (tables (now masks) (now offsets) (now links)) ⌝ }
-    ensures { λ r. ⌜ EveryMatch (now («part_kinds» .entry)) (now («node_kinds» .entry)) (tables (now (masks .entry)) (now (offsets .entry)) (now (links .entry))) (now (table .entry)) (record { reply = replyOf r; table = now (table .exit) }) ⌝ }
+    requires { ⌜ SomeLinks (now «part_labels») (now «node_labels») (tables (now masks) (now offsets) (now targets)) ⌝ }
+    ensures { λ r. ⌜ EveryMatch (now («part_labels» .entry)) (now («node_labels» .entry)) (tables (now (masks .entry)) (now (offsets .entry)) (now (targets .entry))) (now (table .entry)) (record { reply = replyOf r; table = now (table .exit) }) ⌝ }
 {
-    let n = node_kinds.len();
+    let n = node_labels.len();
     if table.len() < n {
-        return TableAnswer::Refused(Refusal {
-            number: 8,
-            file: File::Neither,
-        });
+        return TableAnswer::Refused(TOO_SHORT);
     }
     TableAnswer::Matched(match_whole(
-        part_kinds,
-        node_kinds,
+        part_labels,
+        node_labels,
         masks,
         offsets,
-        links,
+        targets,
         &mut table[..n],
     ))
 }
@@ -71,7 +68,7 @@ fn match_files(
     let mut nk = [0u32; Board::MAX_NODES];
     let mut masks = [0u32; MASKS];
     let mut offsets = [0u16; OFFSETS];
-    let mut links = [0u16; LINKS];
+    let mut targets = [0u16; TARGETS];
     let read = read_prepared(
         Reading {
             role: Role::AnyPattern,
@@ -84,7 +81,7 @@ fn match_files(
         &mut nk,
         &mut masks,
         &mut offsets,
-        &mut links,
+        &mut targets,
     );
     let verdict = read.verdict;
     if let FileVerdict::Refused(x) = verdict {
@@ -92,7 +89,7 @@ fn match_files(
     }
     let parts = read.parts;
     let n = read.nodes;
-    match_on(&pk[..parts], &nk[..n], &masks, &offsets, &links, table)
+    match_on(&pk[..parts], &nk[..n], &masks, &offsets, &targets, table)
 }
 
 // Matches the pattern of one file, connected or not, on the whole board of another: the four counts, with the largest dual simulation at the

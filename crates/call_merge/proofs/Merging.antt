@@ -1,10 +1,6 @@
 -- What the merging call comes to, by cases: a refused pattern, a short table of classes, too few bytes for the file, or the merged pattern.
 -- Assumes nothing.
-use mathlib.Core.List.{List, [], _++_}
-use mathlib.Core.Path.{_≡_, sym, ap, subst, _∙_}
-use Prim.Native.Nat.{ℕ, _≤_, _<_}
-use borrow.Author.Tests.{lt-ltb, le-ltb}
-use lib.ListN.{length, getD, take, drop}
+use Rattle.base_lists.specs.Kit.{_≡_, _∙_, sym, ap, subst, List, [], _++_, ℕ, _≤_, _<_, length, getD, take, drop, le-ltb, lt-ltb}
 use Rattle.graph.specs.Circuit.{Circuit}
 use Rattle.file_format.specs.declared.Edition.{Edition}
 use Rattle.file_format.specs.declared.Edition.the-variants.{First, Second}
@@ -13,11 +9,11 @@ use Rattle.file_format.specs.declared.Refusal.{Refusal}
 use Rattle.file_format.specs.declared.Role.the-variants.{Pattern}
 use Rattle.file_format.specs.Circuit.{circuitOf}
 use Rattle.file_format.specs.Layout.{CircuitFile, inEdition, nodesOf, lengthOf, labelsOf}
-use Rattle.file_format.specs.Reading.{filled, front, Stands}
-use Rattle.file_format.specs.Refusals.{accept, refuse, first, fileConditions, shortTable, Accepted}
+use Rattle.file_format.specs.Reading.{filled, prefix, Stands}
+use Rattle.file_format.specs.Refusals.{accept, refuse, first, fileConditions, shortTable}
 use Rattle.file_format.specs.Reply.{reply}
 use Rattle.file_format.proofs.FirstEdition.{first-labels-low}
-use Rattle.file_format.proofs.Fields.{length-labels, length-starts}
+use Rattle.file_format.proofs.Fields.{length-labels}
 use Rattle.file_format.proofs.Refusals.{accepted, first-accept, first-refuse}
 use Rattle.file_format.proofs.Reading.{stands-size}
 use Rattle.file_write.specs.Bytes.{LabelsFit}
@@ -34,14 +30,14 @@ use Rattle.call_merge.proofs.Quotient.{content-sound}
 
 module _ {file : CircuitFile} {n m : ℕ} {t : Circuit} (sound : first (fileConditions Pattern file) ≡ accept) (s : Stands file n m t) where
   -- writing it as a pattern would not be refused,
-  pub front-sound : first (circuitConditions Pattern First (take n (t .kinds)) [] (take m (t .starts)) (take m (t .ends))) ≡ accept
-  front-sound =
-      subst (λ (c : Circuit). first (circuitConditions Pattern First (c .kinds) [] (c .starts) (c .ends)) ≡ accept) (sym (s .content))
+  pub prefix-sound : first (circuitConditions Pattern First (take n (t .labels)) [] (take m (t .starts)) (take m (t .ends))) ≡ accept
+  prefix-sound =
+      subst (λ (c : Circuit). first (circuitConditions Pattern First (c .labels) [] (c .starts) (c .ends)) ≡ accept) (sym (s .content))
       (content-sound (accepted-content (accepted Pattern file sound)))
 
   -- and its file has the length of the one that was read
-  pub front-length : lengthOf (file .edition) (length (take n (t .kinds))) (length (take m (t .starts))) ≡ length (file .bytes)
-  front-length =
+  pub prefix-length : lengthOf (file .edition) (length (take n (t .labels))) (length (take m (t .starts))) ≡ length (file .bytes)
+  prefix-length =
       let (k, a, _) = stands-size s in
       rw (k, a, s .nodes, s .links) (sym (accepted Pattern file sound .size))
 
@@ -51,8 +47,8 @@ unfolding LabelsFit
 fit-edition First bytes low = first-labels-low bytes low
 fit-edition Second bytes low = tt
 
-pub front-fits : (e : Edition) (bytes : List ℕ) {n m : ℕ} {t : Circuit} → Stands (inEdition e bytes) n m t → ((i : ℕ) → getD bytes i 0 < 256) → LabelsFit e (take n (t .kinds))
-front-fits e bytes s low = rw (ap (λ (c : Circuit). c .kinds) (s .content)) (fit-edition e bytes low)
+pub prefix-fits : (e : Edition) (bytes : List ℕ) {n m : ℕ} {t : Circuit} → Stands (inEdition e bytes) n m t → ((i : ℕ) → getD bytes i 0 < 256) → LabelsFit e (take n (t .labels))
+prefix-fits e bytes s low = rw (ap (λ (c : Circuit). c .labels) (s .content)) (fit-edition e bytes low)
 
 -- ---- the verdict
 
@@ -114,7 +110,7 @@ module _ (file : CircuitFile) (lent out : List ℕ) where
       merging-out h = refused _ (verdict-out sound (rw (← drawn .nodes) enough) h)
 
       pub merging-merged :
-          length (file .bytes) ≤ length out → {answer : MergeAnswer} {bytes after : List ℕ} → MergedFrom (file .edition) (front n m t) answer bytes out after →
+          length (file .bytes) ≤ length out → {answer : MergeAnswer} {bytes after : List ℕ} → MergedFrom (file .edition) (prefix n m t) answer bytes out after →
           record { reply = mergeReply answer; classes = bytes ++ drop n lent; out = after } ≡ merging file lent out
       merging-merged h made =
           rw (drawn .nodes)

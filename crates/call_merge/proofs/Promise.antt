@@ -1,18 +1,8 @@
 -- What the merging call's promise means, of its own reply and bytes: a refusal is one of the conditions and keeps both tables; else the
 -- merged file is an accepted pattern file that holds the merged pattern, and the class bytes are the classes of mutual matching, numbered
 -- by their smallest part. Assumes nothing.
-use mathlib.Core.Bool.{true, _&&_}
-use mathlib.Core.List.{List, [], _∷_, _++_, List·Memᴰ}
-use mathlib.Core.Logic.{_↔_}
-use mathlib.Core.Path.{_≡_, refl, sym, ap, _∙_}
-use Prim.Native.Nat.{ℕ, _≤_, _<_}
-use native.Mathlib.Nat.{le-antisymm, le-trans, le-of-eq}
-use native.Mathlib.Omega.{arith}
-use borrow.Author.Tests.{le-ltb, eq-eqb}
-use lib.Dec.{T, leb, le→leb}
-use lib.ListN.{length, getD, take, drop, List·getD-append}
-use lib.Seq.{take-at, drop-at}
-use Rattle.base_lists.proofs.Tests.{T-true, both}
+use Rattle.base_lists.specs.Kit.{_≡_, _∙_, sym, ap, refl, _↔_, true, _&&_, List, [], _∷_, _++_, ℕ, _≤_, _<_, le-antisymm, leb, le→leb, length, take, drop, List·getD-append, take-at, drop-at, arith, eq-eqb, le-ltb}
+use Rattle.base_lists.proofs.Tests.{T-true, both-true}
 use Rattle.graph.specs.Circuit.{Circuit, circuitGraph}
 use Rattle.simulation.specs.Closed.{Relation}
 use Rattle.simulation.specs.Simulation.{Largest}
@@ -25,24 +15,24 @@ use Rattle.file_format.specs.Circuit.{circuitOf}
 use Rattle.file_format.specs.Layout.{CircuitFile, inEdition, nodesOf, linksOf, startsOf, endsOf}
 use Rattle.file_format.specs.Links.{linksBelow, rising}
 use Rattle.file_format.specs.Reading.{filled}
-use Rattle.file_format.specs.Refusals.{Condition, Verdict, accept, refuse, first, fileConditions, linkConditions, asksConnected, Accepted}
+use Rattle.file_format.specs.Refusals.{accept, refuse, first, fileConditions, linkConditions, asksConnected, Accepted}
 use Rattle.file_format.specs.Reply.{Reply, reply}
 use Rattle.file_format.specs.Role.{inRange}
-use Rattle.file_format.proofs.Fields.{length-labels, length-starts}
-use Rattle.file_format.proofs.Refusals.{accepted, accepted-any, first-parts, refuses-iff, range-orders}
+use Rattle.file_format.proofs.Fields.{length-labels}
+use Rattle.file_format.proofs.Refusals.{accepted, accepted-any, first-parts, range-orders, reply-verdict}
 use Rattle.table.specs.Host.{KindsMatch}
 use Rattle.table.specs.Row.{bothWays, InTable}
 use Rattle.call_match.specs.Call.{matching}
 use Rattle.call_match.proofs.Promise as matched
 use Rattle.file_write.specs.Bytes.{circuitBytes}
-use Rattle.file_write.proofs.RoundTrip.{same-verdict, packages-in-given, circuit-again, circuit-length}
+use Rattle.file_write.proofs.RoundTrip.{same-verdict, packages-in-given, circuit-again}
 use Rattle.merge.specs.Merged.{classOf, classCount, classes, merged}
 use Rattle.merge.proofs.Content.{PatternContent, accepted-content}
 use Rattle.merge.proofs.Classes.{leaderOf, self-largest, length-classes, class-at, class-iff, class-lt, class-rises, class-onto, equivalent-iff, leader-lt, leader-member, leader-min}
-use Rattle.merge.proofs.Accepted.{merged-content, merged-length-le}
+use Rattle.merge.proofs.Accepted.{merged-content}
 use Rattle.call_merge.specs.declared.MergeAnswer.{MergeAnswer}
 use Rattle.call_merge.specs.declared.MergeAnswer.the-variants.{Merged, Refused}
-use Rattle.call_merge.specs.Call.{mergeConditions, mergeReply, mergedBytes, MergeOutcome, merging}
+use Rattle.call_merge.specs.Call.{mergeConditions, mergeReply, mergedBytes, merging}
 use Rattle.call_merge.specs.Classes.{classByte, Smallest}
 use Rattle.call_merge.proofs.Quotient.{content-range, content-sound-in}
 use Rattle.call_merge.proofs.Merging.{verdict-accept}
@@ -58,11 +48,6 @@ pub reply-refused : (r : MergeAnswer) (x : Refusal) → mergeReply r .verdict �
 unfolding mergeReply
 reply-refused (Merged k n) x e = cc
 reply-refused (Refused y) x e = cc
-
-reply-verdict : (v : Verdict) (values : List ℕ) → reply v values .verdict ≡ v
-unfolding reply
-reply-verdict accept values = refl
-reply-verdict (refuse x) values = refl
 
 -- ---- the file of a circuit that can be the content of a pattern file, in either edition
 
@@ -102,13 +87,6 @@ module _ {file : CircuitFile} (a : Accepted Pattern file) where
   unfolding mergedBytes
   merged-circuit = content-circuit (file .edition) (merged-content content)
 
-  -- and is no longer than the first
-  pub merged-size : length (mergedBytes (file .edition) (circuitOf file)) ≤ length (file .bytes)
-  unfolding mergedBytes
-  merged-size =
-      le-trans (le-of-eq (circuit-length (file .edition) (merged (circuitOf file)) (merged-content content .parallel)))
-      (le-trans (merged-length-le content (file .edition)) (le-of-eq (rw (length-labels file, length-starts file) (sym (a .size)))))
-
 -- ---- an accepted pattern file is accepted as a board too, so that it can be matched on itself
 
 board-verdict : {file : CircuitFile} → Accepted Pattern file → first (fileConditions Board file) ≡ accept
@@ -118,7 +96,7 @@ board-verdict {file} a =
     let m = linksOf file in
     let (some, parts, links) = range-orders Pattern n m (a .range) in
     let range : inRange Board n m ≡ true =
-    T-true (both (leb 0 n) (leb n 512 && leb m 4096) (le→leb 0 n (omega arith)) (both (leb n 512) (leb m 4096) (le→leb n 512 (omega arith)) (le→leb m 4096 (omega arith)))) in
+    T-true (both-true (leb 0 n) (leb n 512 && leb m 4096) (le→leb 0 n (omega arith)) (both-true (leb n 512) (leb m 4096) (le→leb n 512 (omega arith)) (le→leb m 4096 (omega arith)))) in
     let below : linksBelow n (startsOf file) (endsOf file) ≡ true = T-true (a .below) in
     let rises : rising (startsOf file) (endsOf file) ≡ true = T-true (a .rises) in
     simp (le-ltb _ _ (a .bytes), range, eq-eqb _ _ (a .size), below, rises)
@@ -139,12 +117,6 @@ module _ (file : CircuitFile) (lent out : List ℕ) where
   verdict-is = reply-verdict _ _
 
   -- ---- refusals
-
-  -- the call is refused exactly when one of the conditions holds,
-  pub refused-iff :
-      ((x : Refusal) × (merging file lent out .reply .verdict ≡ refuse x)) ↔
-      ((c : Condition) × List·Memᴰ c (mergeConditions file (length lent) (length out)) × T (c .holds))
-  refused-iff = rw verdict-is (refuses-iff (mergeConditions file (length lent) (length out)))
 
   -- and then "All lent tables keep their content", and it replies with no values.
   pub refused-keeps :
@@ -191,11 +163,11 @@ module _ (file : CircuitFile) (lent out : List ℕ) where
     classes-size = length-classes (circuitOf file) ∙ length-labels file
 
     -- gives "the class of each part, a byte each, and the merged file",
-    pub classes-front : take (nodesOf file) (merging file lent out .classes) ≡ classes (circuitOf file)
-    classes-front = rw classes-are (take-at _ _ (nodesOf file) classes-size)
+    pub classes-prefix : take (nodesOf file) (merging file lent out .classes) ≡ classes (circuitOf file)
+    classes-prefix = rw classes-are (take-at _ _ (nodesOf file) classes-size)
 
-    pub out-front : take (length (mergedBytes (file .edition) (circuitOf file))) (merging file lent out .out) ≡ mergedBytes (file .edition) (circuitOf file)
-    out-front = rw out-is (take-at _ _ _ refl)
+    pub out-prefix : take (length (mergedBytes (file .edition) (circuitOf file))) (merging file lent out .out) ≡ mergedBytes (file .edition) (circuitOf file)
+    out-prefix = rw out-is (take-at _ _ _ refl)
 
     -- and the bytes behind both keep their content.
     pub classes-rest : drop (nodesOf file) (merging file lent out .classes) ≡ drop (nodesOf file) lent
@@ -207,7 +179,7 @@ module _ (file : CircuitFile) (lent out : List ℕ) where
 
     -- ---- the class bytes
 
-    below-parts : (u : ℕ) → u < nodesOf file → u < length (circuitOf file .kinds)
+    below-parts : (u : ℕ) → u < nodesOf file → u < length (circuitOf file .labels)
     below-parts u h = rw (length-labels file) h
 
     -- each is the class of its part
@@ -280,62 +252,3 @@ module _ (file : CircuitFile) (lent out : List ℕ) where
         let (u, l, _, e) = class-onto (content pattern-accepted) a h in
         let k : u < nodesOf file = rw (← length-labels file) l in
         (u, k, byte-is u k ∙ e)
-
--- ---- what a caller knows of the answer and of the two tables, by cases of the answer
-
--- Merged: `before` are the bytes lent for the file, `after` what they are then.
-pub record MergedFile (file : CircuitFile) (lent before bytes after : List ℕ) (count size : ℕ) : Type 0 where
-  pub pattern : first (fileConditions Pattern file) ≡ accept
-  pub counted : count ≡ classCount (circuitOf file)
-  pub numbered : take (nodesOf file) bytes ≡ classes (circuitOf file)
-  pub verdict : first (fileConditions Pattern (inEdition (file .edition) (take size after))) ≡ accept
-  pub accepted : Accepted Pattern (inEdition (file .edition) (take size after))
-  pub circuit : circuitOf (inEdition (file .edition) (take size after)) ≡ merged (circuitOf file)
-  pub shorter : size ≤ length (file .bytes)
-  pub classesKept : drop (nodesOf file) bytes ≡ drop (nodesOf file) lent
-  pub outKept : drop size after ≡ drop size before
-
-module _ (file : CircuitFile) (lent before bytes after : List ℕ) (r : MergeAnswer)
-    (e : record { reply = mergeReply r; classes = bytes; out = after } ≡ merging file lent before) where
-  reply-is : mergeReply r ≡ merging file lent before .reply
-  reply-is = ap (λ (o : MergeOutcome). o .reply) e
-
-  pub merged-file : (count size : ℕ) → r ≡ Merged count size → MergedFile file lent before bytes after count size
-  unfolding mergeReply
-  merged-file count size m =
-      let p = circuitOf file in
-      let said : merging file lent before .reply ≡ record { verdict = accept; values = count ∷ size ∷ [] } = sym reply-is ∙ ap mergeReply m in
-      let ok : merging file lent before .reply .verdict ≡ accept = ap (λ (x : Reply). x .verdict) said in
-      let values : count ∷ size ∷ [] ≡ classCount p ∷ length (mergedBytes (file .edition) p) ∷ [] =
-      sym (ap (λ (x : Reply). x .values) said) ∙ values-are file lent before ok in
-      let counted : count ≡ classCount p = cc in
-      let sized : size ≡ length (mergedBytes (file .edition) p) = cc in
-      let a = pattern-accepted file lent before ok in
-      let isBytes : bytes ≡ merging file lent before .classes = ap (λ (o : MergeOutcome). o .classes) e in
-      let isAfter : after ≡ merging file lent before .out = ap (λ (o : MergeOutcome). o .out) e in
-      let front : take size after ≡ mergedBytes (file .edition) p = rw (isAfter, sized) (out-front file lent before ok) in
-      record {
-        pattern = pattern-sound file lent before ok;
-        counted = counted;
-        numbered = rw isBytes (classes-front file lent before ok);
-        verdict = rw front (merged-verdict a);
-        accepted = rw front (merged-accepted a);
-        circuit = rw front (merged-circuit a);
-        shorter = rw sized (merged-size a);
-        classesKept = rw isBytes (classes-rest file lent before ok);
-        outKept = rw (isAfter, sized) (out-rest file lent before ok);
-      }
-
-  -- Refused: nothing has changed.
-  pub merge-refused :
-      (x : Refusal) → r ≡ Refused x →
-      (first (mergeConditions file (length lent) (length before)) ≡ refuse x) × (bytes ≡ lent) × (after ≡ before)
-  unfolding mergeReply
-  merge-refused x m =
-      let said : merging file lent before .reply .verdict ≡ refuse x =
-      ap (λ (y : Reply). y .verdict) (sym reply-is ∙ ap mergeReply m) in
-      let (_, keptClasses, keptOut) = refused-keeps file lent before x said in (
-        sym (verdict-is file lent before) ∙ said,
-        ap (λ (o : MergeOutcome). o .classes) e ∙ keptClasses,
-        ap (λ (o : MergeOutcome). o .out) e ∙ keptOut,
-      )

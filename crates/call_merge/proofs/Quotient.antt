@@ -1,18 +1,11 @@
 -- From a pattern's table on itself the passes make its classes and its quotient by them, the merged pattern, which writing does not refuse. Assumes nothing.
-use mathlib.Core.Bool.{true}
-use mathlib.Core.List.{List, []}
-use mathlib.Core.Path.{_≡_, refl, sym, ap, subst, _∙_}
-use Prim.Native.Nat.{ℕ, _+_, _≤_, _<_}
-use native.Mathlib.Nat.{le-trans, lt-of-lt-of-le}
-use native.Mathlib.Omega.{arith}
-use borrow.Author.Tests.{le-ltb, ltb-false}
-use lib.Dec.{T}
-use lib.ListN.{length, getD, take, List·getD-eq-default}
+use Rattle.base_lists.specs.Kit.{_≡_, _∙_, sym, ap, refl, subst, true, List, [], ℕ, _≤_, _<_, le-trans, lt-of-lt-of-le, T, length, getD, take, List·getD-eq-default, sets, arith, le-ltb, ltb-false}
 use native.Mathlib.Decide.{decLt}
-use lib.Seq.{sets, sets-eq, take-at}
-use Rattle.base_lists.proofs.Tests.{T-true, refuted}
+use Rattle.base_lists.proofs.Tests.{T-true, not-true-false}
 use Rattle.base_lists.specs.List.{Below}
 use Rattle.base_lists.proofs.Tables.{length-tabulate, getD-tabulate}
+use Rattle.base_lists.proofs.Entries.{all-below}
+use Rattle.base_lists.proofs.Parts.{take-sets}
 use Rattle.graph.specs.Circuit.{Circuit, circuit}
 use Rattle.graph.specs.Search.{connected, radius}
 use Rattle.file_format.specs.declared.Edition.{Edition}
@@ -29,7 +22,6 @@ use Rattle.file_format.specs.Refusals.{accept, first, widest, linkConditions, a
 use Rattle.file_format.proofs.Refusals.{first-holds}
 use Rattle.table.specs.declared.Counts.{Counts}
 use Rattle.table.specs.Refine.{MatchedOn}
-use Rattle.graph.proofs.Groups.{all-below}
 use Rattle.file_format.proofs.Accepted.{bounded-starts, bounded-ends}
 use Rattle.file_write.specs.declared.WriteAnswer.the-variants.{Written, Refused}
 use Rattle.file_write.specs.Bytes.{kindsFor, circuitBytes, LabelsFit}
@@ -45,7 +37,7 @@ use Rattle.merge.proofs.Merging.{length-merged-kinds, merged-kinds}
 use Rattle.merge.proofs.Accepted.{merged-content, merged-links-le, merged-length-le}
 use Rattle.merge.proofs.Steps.{self-led, marks-classes, merged-starts, merged-ends}
 use Rattle.call_merge.specs.Call.{mergedBytes}
-use Rattle.merge_classes.specs.Passes.{SelfTable, Quotient, leaderCount, classNumbers, leaderKinds}
+use Rattle.merge_classes.specs.Passes.{SelfTable, Quotient, leaderCount, classNumbers, leaderLabels}
 
 -- ---- a circuit that writing does not refuse as a pattern is a pattern's content, and the other way round
 
@@ -62,34 +54,34 @@ sound-content kinds starts ends ok =
     record {
       range = s .range;
       parallel = s .pairs;
-      below = refuted (linksBelow n starts ends) (h4 .0);
-      rises = refuted (rising starts ends) (h5 .0);
-      joined = refuted (connected n starts ends) (h6 .0);
+      below = not-true-false (linksBelow n starts ends) (h4 .0);
+      rises = not-true-false (rising starts ends) (h5 .0);
+      joined = not-true-false (connected n starts ends) (h6 .0);
       narrow = ltb-false _ _ (h11 .0);
     }
 
 -- no condition on the links holds
-content-links : {p : Circuit} → PatternContent p → first (linkConditions Pattern (length (p .kinds)) (p .starts) (p .ends)) ≡ accept
+content-links : {p : Circuit} → PatternContent p → first (linkConditions Pattern (length (p .labels)) (p .starts) (p .ends)) ≡ accept
 unfolding first linkConditions asksConnected
 content-links {p} c =
-    let n = length (p .kinds) in
+    let n = length (p .labels) in
     let below : linksBelow n (p .starts) (p .ends) ≡ true = T-true (c .below) in
     let rises : rising (p .starts) (p .ends) ≡ true = T-true (c .rises) in
     let joined : connected n (p .starts) (p .ends) ≡ true = T-true (c .joined) in
     simp (below, rises, joined, le-ltb widest (radius n (p .starts) (p .ends)) (c .narrow))
 
-pub content-sound : {p : Circuit} → PatternContent p → first (circuitConditions Pattern First (p .kinds) [] (p .starts) (p .ends)) ≡ accept
-content-sound {p} c = verdict-links Pattern First (p .kinds) [] (p .starts) (p .ends) (T-true (c .range)) (c .parallel) refl ∙ content-links c
+pub content-sound : {p : Circuit} → PatternContent p → first (circuitConditions Pattern First (p .labels) [] (p .starts) (p .ends)) ≡ accept
+content-sound {p} c = verdict-links Pattern First (p .labels) [] (p .starts) (p .ends) (T-true (c .range)) (c .parallel) refl ∙ content-links c
 
 -- the same of its kinds and packages, in either edition
-pub content-range : (e : Edition) {p : Circuit} → PatternContent p → T (inRange Pattern (length (kindsFor e (p .kinds))) (length (p .starts)))
-content-range e {p} c = rw (length-kinds-for e (p .kinds)) (c .range)
+pub content-range : (e : Edition) {p : Circuit} → PatternContent p → T (inRange Pattern (length (kindsFor e (p .labels))) (length (p .starts)))
+content-range e {p} c = rw (length-kinds-for e (p .labels)) (c .range)
 
 pub content-sound-in : (e : Edition) {p : Circuit} → PatternContent p
-    → first (circuitConditions Pattern e (kindsFor e (p .kinds)) (packagesIn (p .kinds)) (p .starts) (p .ends)) ≡ accept
+    → first (circuitConditions Pattern e (kindsFor e (p .labels)) (packagesIn (p .labels)) (p .starts) (p .ends)) ≡ accept
 content-sound-in e {p} c =
-    verdict-links Pattern e (kindsFor e (p .kinds)) (packagesIn (p .kinds)) (p .starts) (p .ends) (T-true (content-range e c)) (c .parallel) (packages-in-given e p)
-    ∙ rw (length-kinds-for e (p .kinds)) (content-links c)
+    verdict-links Pattern e (kindsFor e (p .labels)) (packagesIn (p .labels)) (p .starts) (p .ends) (T-true (content-range e c)) (c .parallel) (packages-in-given e p)
+    ∙ rw (length-kinds-for e (p .labels)) (content-links c)
 
 -- an entry of a list whose entries are of 16 bits, or 0 past its end
 label-low : (ls : List ℕ) → ((i : ℕ) → i < length ls → getD ls i 0 < 65536) → (i : ℕ) → getD ls i 0 < 65536
@@ -101,12 +93,7 @@ label-low ls low i = go (decLt i (length ls))
 
 -- ---- what was stored at the front
 
-front-set : (old values : List ℕ) (k : ℕ) → length values ≡ k → k ≤ length old → take k (sets old 0 values) ≡ values
-front-set old values k e h =
-    let room : 0 + length values ≤ length old = omega arith in
-    ap (take k) (sets-eq values old 0 room) ∙ take-at values _ k e
-
-same-circuit : (q : Circuit) {kinds starts ends : List ℕ} → kinds ≡ q .kinds → starts ≡ q .starts → ends ≡ q .ends → circuit kinds starts ends ≡ q
+same-circuit : (q : Circuit) {kinds starts ends : List ℕ} → kinds ≡ q .labels → starts ≡ q .starts → ends ≡ q .ends → circuit kinds starts ends ≡ q
 same-circuit q k s e = rw (k, s, e)
 
 -- 32 rows in which all links between classes are marked
@@ -121,7 +108,7 @@ module _ {p : Circuit} (c : PatternContent p) where
   matched-self t counts m = m .last
 
   module _ (t : List ℕ) (self : t ≡ selfTable p) where
-    pub table-size : length t ≡ length (p .kinds)
+    pub table-size : length t ≡ length (p .labels)
     table-size = ap length self ∙ self-fits p .size
 
     pub table-ready : SelfTable t
@@ -141,8 +128,8 @@ module _ {p : Circuit} (c : PatternContent p) where
     unfolding classNumbers classes classOf
     numbers-are = rw (table-size, self)
 
-    pub kinds-are : leaderKinds t (p .kinds) ≡ merged p .kinds
-    unfolding leaderKinds
+    pub kinds-are : leaderLabels t (p .labels) ≡ merged p .labels
+    unfolding leaderLabels
     kinds-are = rw (table-size, self) (sym (merged-kinds c))
 
   -- ---- the rows
@@ -150,13 +137,13 @@ module _ {p : Circuit} (c : PatternContent p) where
   -- what the marking of rows asks
   pub starts-classed : (bytes : List ℕ) → bytes ≡ classes p → Below (length bytes) (p .starts) × Below (length bytes) (p .ends)
   starts-classed bytes e =
-      let n = length (p .kinds) in
+      let n = length (p .labels) in
       rw (e, length-classes p) (all-below n (p .starts) (bounded-starts (content-bounded c)), all-below n (p .ends) (bounded-ends (content-bounded c)))
 
   pub classes-below : (bytes : List ℕ) → bytes ≡ classes p → Below 32 bytes
   unfolding Below
   classes-below bytes e u h =
-      let below : u < length (p .kinds) = omega (arith, ap length e, length-classes p) in
+      let below : u < length (p .labels) = omega (arith, ap length e, length-classes p) in
       rw (e, class-at p u below) (lt-of-lt-of-le (class-lt c u below) (le-trans (classCount-le c) (most-parts c)))
 
   -- what it leaves
@@ -187,7 +174,7 @@ module _ {p : Circuit} (c : PatternContent p) where
 
   pub tables-merged :
       (k m : ℕ) (mk ms me mk₀ ms₀ me₀ t rows : List ℕ) → k ≡ classCount p → m ≡ length (scannedEnds k rows) → t ≡ selfTable p → Rows p rows →
-      mk ≡ sets mk₀ 0 (leaderKinds t (p .kinds)) → ms ≡ sets ms₀ 0 (scannedStarts k rows) → me ≡ sets me₀ 0 (scannedEnds k rows) →
+      mk ≡ sets mk₀ 0 (leaderLabels t (p .labels)) → ms ≡ sets ms₀ 0 (scannedStarts k rows) → me ≡ sets me₀ 0 (scannedEnds k rows) →
       32 ≤ length mk₀ → 256 ≤ length ms₀ → 256 ≤ length me₀ → circuit (take k mk) (take m ms) (take m me) ≡ merged p
   tables-merged k m mk ms me mk₀ ms₀ me₀ t rows isK isM self marked ek es ee hk hs he =
       let kinds = kinds-are t self in
@@ -196,48 +183,48 @@ module _ {p : Circuit} (c : PatternContent p) where
       let few : k ≤ 32 = rw isK classes-few in
       let short : m ≤ 256 = rw isM (links-fit rows k marked isK) in
       same-circuit (merged p)
-      (ap (take k) ek ∙ front-set mk₀ _ k (ap length kinds ∙ length-merged-kinds p ∙ sym isK) (le-trans few hk) ∙ kinds)
-      (ap (take m) es ∙ front-set ms₀ _ m (ap length starts ∙ sym (isM ∙ links-count rows k marked isK)) (le-trans short hs) ∙ starts)
-      (ap (take m) ee ∙ front-set me₀ _ m (sym isM) (le-trans short he) ∙ ends)
+      (ap (take k) ek ∙ take-sets mk₀ _ k (ap length kinds ∙ length-merged-kinds p ∙ sym isK) (le-trans few hk) ∙ kinds)
+      (ap (take m) es ∙ take-sets ms₀ _ m (ap length starts ∙ sym (isM ∙ links-count rows k marked isK)) (le-trans short hs) ∙ starts)
+      (ap (take m) ee ∙ take-sets me₀ _ m (sym isM) (le-trans short he) ∙ ends)
 
   -- each front has the size that was counted
   pub quotient-size :
       {bytes kinds starts ends : List ℕ} {size : pattern.Pattern} → Quotient p bytes kinds starts ends size →
       (length (take (size .nodes) kinds) ≡ size .nodes) × (length (take (size .links) starts) ≡ size .links) × (length (take (size .links) ends) ≡ size .links)
   quotient-size q = (
-    ap (λ (x : Circuit). length (x .kinds)) (q .content) ∙ length-merged-kinds p ∙ sym (q .counted),
+    ap (λ (x : Circuit). length (x .labels)) (q .content) ∙ length-merged-kinds p ∙ sym (q .counted),
     ap (λ (x : Circuit). length (x .starts)) (q .content) ∙ sym (q .linked),
     ap (λ (x : Circuit). length (x .ends)) (q .content) ∙ sym (merged-content c .parallel) ∙ sym (q .linked),
   )
 
   -- ---- its labels are among the pattern's
 
-  labels-fit : (e : Edition) → LabelsFit e (p .kinds) → LabelsFit e (merged p .kinds)
+  labels-fit : (e : Edition) → LabelsFit e (p .labels) → LabelsFit e (merged p .labels)
   unfolding LabelsFit Below merged grouped
   labels-fit Second fit = tt
   labels-fit First fit = λ a h.
-      rw (getD-tabulate (classCount p) _ a 0 (subst (λ (k : ℕ). a < k) (length-tabulate (classCount p) _) h)) (label-low (p .kinds) fit (firstMember p (classOf p) a))
+      rw (getD-tabulate (classCount p) _ a 0 (subst (λ (k : ℕ). a < k) (length-tabulate (classCount p) _) h)) (label-low (p .labels) fit (firstMember p (classOf p) a))
 
   -- ---- written, it is the merged file
 
   module _ (e : Edition) where
     pub written :
-        (kinds starts ends out : List ℕ) → circuit kinds starts ends ≡ merged p → lengthOf e (length (p .kinds)) (length (p .starts)) ≤ length out →
+        (kinds starts ends out : List ℕ) → circuit kinds starts ends ≡ merged p → lengthOf e (length (p .labels)) (length (p .starts)) ≤ length out →
         writing Pattern e (kindsFor e kinds) (packagesIn kinds) starts ends out
         ≡ record { answer = Written (length (mergedBytes e p)); reply = writeReply (Written (length (mergedBytes e p))); out = filled accept (mergedBytes e p) out }
     unfolding mergedBytes circuitBytes
     written kinds starts ends out is room =
         let q = merged p in
-        let k : kinds ≡ q .kinds = ap (λ (x : Circuit). x .kinds) is in
+        let k : kinds ≡ q .labels = ap (λ (x : Circuit). x .labels) is in
         let s : starts ≡ q .starts = ap (λ (x : Circuit). x .starts) is in
         let t : ends ≡ q .ends = ap (λ (x : Circuit). x .ends) is in
-        let long : lengthOf e (length (kindsFor e (q .kinds))) (length (q .starts)) ≤ length out = rw (length-kinds-for e (q .kinds)) (le-trans (merged-length-le c e) room) in
+        let long : lengthOf e (length (kindsFor e (q .labels))) (length (q .starts)) ≤ length out = rw (length-kinds-for e (q .labels)) (le-trans (merged-length-le c e) room) in
         rw (k, s, t)
-        (writing-filled Pattern e (kindsFor e (q .kinds)) (packagesIn (q .kinds)) (q .starts) (q .ends) out (content-sound-in e (merged-content c)) long
-        ∙ rw (sym (length-written e (kindsFor e (q .kinds)) (packagesIn (q .kinds)) (q .starts) (q .ends) (packages-in-given e q) (merged-content c .parallel))))
+        (writing-filled Pattern e (kindsFor e (q .labels)) (packagesIn (q .labels)) (q .starts) (q .ends) out (content-sound-in e (merged-content c)) long
+        ∙ rw (sym (length-written e (kindsFor e (q .labels)) (packagesIn (q .labels)) (q .starts) (q .ends) (packages-in-given e q) (merged-content c .parallel))))
 
     -- its labels are among the pattern's, so that what holds these holds them
-    pub merged-fits : LabelsFit e (p .kinds) → LabelsFit e (merged p .kinds)
+    pub merged-fits : LabelsFit e (p .labels) → LabelsFit e (merged p .labels)
     merged-fits = labels-fit e
 
 -- what the answer of writing says then: the length is the merged file's, and it is no refusal

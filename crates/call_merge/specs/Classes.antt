@@ -1,8 +1,5 @@
 -- The classes that the merging call gives, in terms of the bytes that it leaves.
-use mathlib.Core.List.{List}
-use mathlib.Core.Path.{_≡_}
-use Prim.Native.Nat.{ℕ, _≤_, _<_}
-use lib.ListN.{getD}
+use Rattle.base_lists.specs.Kit.{_≡_, List, ℕ, _≤_, _<_, getD}
 use Rattle.file_format.specs.Layout.{CircuitFile, nodesOf}
 use Rattle.call_merge.specs.Call.{merging}
 

@@ -4,7 +4,7 @@ use file_format::Edition;
 use file_format::Pattern;
 use file_format::Role;
 use file_write::WriteAnswer;
-use merge_classes::leader_kinds;
+use merge_classes::leader_labels;
 use merge_classes::links::mark_rows;
 use merge_classes::links::scan;
 use merge_classes::number_classes;
@@ -27,7 +27,7 @@ ghost use Rattle.merge_classes.specs.Passes.{Quotient};
 // The class of each part, and the merged pattern at the front of three tables; returns its size. The pattern's table on itself and the
 // rows of linked classes are scratch.
 fn quotient(
-    kinds: &[u32],
+    labels: &[u32],
     starts: &[u16],
     ends: &[u16],
     classes: &mut [u8],
@@ -37,14 +37,23 @@ fn quotient(
     ms: &mut [u16],
     me: &mut [u16],
 ) -> Pattern
-    requires { ⌜ first (circuitConditions role.Pattern editions.First (now kinds) [] (now starts) (now ends)) ≡ Verdict.accept ⌝ }
-    requires { ⌜ (length (now classes) ≡ length (now kinds)) × (length (now table) ≡ length (now kinds)) × (length (now rows) ≡ 32) ⌝ }
+    requires { ⌜ first (circuitConditions role.Pattern editions.First (now labels) [] (now starts) (now ends)) ≡ Verdict.accept ⌝ }
+    requires { ⌜ (length (now classes) ≡ length (now labels)) × (length (now table) ≡ length (now labels)) × (length (now rows) ≡ 32) ⌝ }
     requires { ⌜ (32 ≤ length (now mk)) × (256 ≤ length (now ms)) × (256 ≤ length (now me)) ⌝ }
-    ensures { λ r. ⌜ Quotient (circuit (now (kinds .entry)) (now (starts .entry)) (now (ends .entry))) (now (classes .exit)) (now (mk .exit)) (now (ms .exit)) (now (me .exit)) r ⌝ }
+    ensures { λ r. ⌜ Quotient (circuit (now (labels .entry)) (now (starts .entry)) (now (ends .entry))) (now (classes .exit)) (now (mk .exit)) (now (ms .exit)) (now (me .exit)) r ⌝ }
 {
-    match_circuits(Ways::Both, kinds, starts, ends, kinds, starts, ends, table);
+    match_circuits(
+        Ways::Both,
+        labels,
+        starts,
+        ends,
+        labels,
+        starts,
+        ends,
+        table,
+    );
     let count = number_classes(table, classes);
-    leader_kinds(table, kinds, mk);
+    leader_labels(table, labels, mk);
     mark_rows(classes, starts, ends, rows);
     let links = scan(rows, count, ms, me);
     Pattern::new(count, links)
@@ -54,25 +63,25 @@ fn quotient(
 // pattern, so that writing it is not refused.
 pub fn merge_circuit(
     edition: Edition,
-    kinds: &[u32],
+    labels: &[u32],
     starts: &[u16],
     ends: &[u16],
     classes: &mut [u8],
     out: &mut [u8],
 ) -> MergeAnswer
-    requires { ⌜ first (circuitConditions role.Pattern editions.First (now kinds) [] (now starts) (now ends)) ≡ Verdict.accept ⌝ }
-    requires { ⌜ (length (now classes) ≡ length (now kinds)) × (lengthOf edition (length (now kinds)) (length (now starts)) ≤ length (now out)) ⌝ }
-    requires { ⌜ LabelsFit edition (now kinds) ⌝ }
-    ensures { λ r. ⌜ MergedFrom edition (circuit (now (kinds .entry)) (now (starts .entry)) (now (ends .entry))) r (now (classes .exit)) (now (out .entry)) (now (out .exit)) ⌝ }
+    requires { ⌜ first (circuitConditions role.Pattern editions.First (now labels) [] (now starts) (now ends)) ≡ Verdict.accept ⌝ }
+    requires { ⌜ (length (now classes) ≡ length (now labels)) × (lengthOf edition (length (now labels)) (length (now starts)) ≤ length (now out)) ⌝ }
+    requires { ⌜ LabelsFit edition (now labels) ⌝ }
+    ensures { λ r. ⌜ MergedFrom edition (circuit (now (labels .entry)) (now (starts .entry)) (now (ends .entry))) r (now (classes .exit)) (now (out .entry)) (now (out .exit)) ⌝ }
 {
     let mut table = [0u32; Pattern::MAX_NODES];
     let mut rows = [0u32; Pattern::MAX_NODES];
     let mut mk = [0u32; Pattern::MAX_NODES];
     let mut ms = [0u16; Pattern::MAX_LINKS];
     let mut me = [0u16; Pattern::MAX_LINKS];
-    let n = kinds.len();
+    let n = labels.len();
     let size = quotient(
-        kinds,
+        labels,
         starts,
         ends,
         classes,

@@ -1,11 +1,11 @@
 // The merging call: the merged pattern of a pattern file.
 use crate::circuits::merge_circuit;
 use file_format::Edition;
-use file_format::File;
 use file_format::FileVerdict;
 use file_format::Pattern;
 use file_format::Refusal;
 use file_format::Role;
+use file_format::TOO_SHORT;
 use file_read::load;
 ghost use mathlib.Core.Path.{_≡_};
 ghost use Rattle.file_format.specs.Layout.{inEdition};
@@ -35,15 +35,11 @@ pub fn merge(edition: Edition, pattern: &[u8], classes: &mut [u8], out: &mut [u8
     }
     let n = read.nodes;
     let m = read.links;
-    let short = Refusal {
-        number: 8,
-        file: File::Neither,
-    };
     if classes.len() < n {
-        return MergeAnswer::Refused(short);
+        return MergeAnswer::Refused(TOO_SHORT);
     }
     if out.len() < pattern.len() {
-        return MergeAnswer::Refused(short);
+        return MergeAnswer::Refused(TOO_SHORT);
     }
     merge_circuit(
         edition,

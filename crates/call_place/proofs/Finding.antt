@@ -1,9 +1,5 @@
 -- What the call comes to, by cases: a refused file, a centre outside, a short table, or what is found. Assumes nothing.
-use mathlib.Core.List.{List}
-use mathlib.Core.Path.{_≡_, sym, ap, _∙_}
-use Prim.Native.Nat.{ℕ, _≤_, _<_}
-use borrow.Author.Tests.{lt-ltb, le-ltb}
-use lib.ListN.{length, take}
+use Rattle.base_lists.specs.Kit.{_≡_, _∙_, ap, List, ℕ, _≤_, _<_, length, take, le-ltb, lt-ltb}
 use Rattle.graph.specs.Circuit.{Circuit}
 use Rattle.file_format.specs.declared.Role.the-variants.{Pattern}
 use Rattle.file_format.specs.declared.File.the-variants.{Neither}
@@ -39,11 +35,11 @@ module _ (r : ℕ) (p b : Circuit) (w : ℕ) (nodes links table distances : List
   result = placeOn r p b w nodes links table distances
 
   abbrev own : Verdict
-  own = first (placeConditions (length (b .kinds)) (length (b .starts)) w (length nodes) (length links) (length table) (length distances))
+  own = first (placeConditions (length (b .labels)) (length (b .starts)) w (length nodes) (length links) (length table) (length distances))
 
   -- what the test of the tables' lengths says, for a board of m links
   abbrev room : ℕ → Verdict
-  room m = first (roomConditions (length (b .kinds)) m (length nodes) (length links) (length table) (length distances))
+  room m = first (roomConditions (length (b .labels)) m (length nodes) (length links) (length table) (length distances))
 
   refused : {x : Refusal} → own ≡ refuse x → untouched x nodes links table distances ≡ result
   unfolding placeOn decided placeReply
@@ -53,11 +49,11 @@ module _ (r : ℕ) (p b : Circuit) (w : ℕ) (nodes links table distances : List
   unfolding placeOn decided
   searched e q = q ∙ rw e
 
-  pub on-centre : length (b .kinds) ≤ w → untouched (record { number = 7; file = Neither }) nodes links table distances ≡ result
+  pub on-centre : length (b .labels) ≤ w → untouched (record { number = 7; file = Neither }) nodes links table distances ≡ result
   unfolding first centreOutside
   on-centre h = refused (rw (le-ltb _ _ h))
 
-  module _ (inside : w < length (b .kinds)) {m : ℕ} (last : m ≡ length (b .starts)) where
+  module _ (inside : w < length (b .labels)) {m : ℕ} (last : m ≡ length (b .starts)) where
     -- the centre is a node: the tables decide
     by-room : {v : Verdict} → room m ≡ v → own ≡ v
     unfolding first centreOutside
@@ -72,8 +68,8 @@ module _ (r : ℕ) (p b : Circuit) (w : ℕ) (nodes links table distances : List
 -- ---- two files that were read
 
 -- what the search starts from
-pub ready-drawn : {pattern board : CircuitFile} {read : Pair} {partKinds nodeKinds : List ℕ} {t : Tables} → BothPrepared Pattern bothWays pattern board read partKinds nodeKinds t
-    → SomeDrawn (take (read .parts) partKinds) (take (read .nodes) nodeKinds) t
+pub ready-drawn : {pattern board : CircuitFile} {read : Pair} {partLabels nodeLabels : List ℕ} {t : Tables} → BothPrepared Pattern bothWays pattern board read partLabels nodeLabels t
+    → SomeDrawn (take (read .parts) partLabels) (take (read .nodes) nodeLabels) t
 ready-drawn {pattern} {board} b =
     record {
       partStarts = startsOf pattern;
@@ -112,9 +108,9 @@ module _ (reach : Reach) (pattern board : CircuitFile) (w : ℕ) (nodes links ta
   unfolding placeOn placeAt
   find-accepted e = rw (inputs-go-on e, length-labels board, length-starts board)
 
-  pub find-read : {p : Pair} {partKinds nodeKinds : List ℕ} {t : Tables} {r : ℕ} → first (pairConditions Pattern pattern board) ≡ accept
-      → BothPrepared Pattern bothWays pattern board p partKinds nodeKinds t → r ≡ radiusFor reach (p .radius) → {o : PlaceOutcome}
-      → EveryDrawn (take (p .parts) partKinds) (take (p .nodes) nodeKinds) t o (λ pattern board. placeOn r pattern board w nodes links table distances)
+  pub find-read : {p : Pair} {partLabels nodeLabels : List ℕ} {t : Tables} {r : ℕ} → first (pairConditions Pattern pattern board) ≡ accept
+      → BothPrepared Pattern bothWays pattern board p partLabels nodeLabels t → r ≡ radiusFor reach (p .radius) → {o : PlaceOutcome}
+      → EveryDrawn (take (p .parts) partLabels) (take (p .nodes) nodeLabels) t o (λ pattern board. placeOn r pattern board w nodes links table distances)
       → o ≡ outcome
   unfolding ready-drawn radiusOf
   find-read {r = r} ok both reached {o} every =

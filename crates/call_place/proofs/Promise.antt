@@ -1,14 +1,6 @@
 -- What the promise of the exported calls means: a refusal is a condition on the inputs, or there is no perfect subgraph; else what the
 -- tables mark is the place, and the table is the largest dual simulation in it. Assumes nothing.
-use mathlib.Core.List.{List, _++_, List·Memᴰ}
-use mathlib.Core.Logic.{_↔_, _⊎_, inl, inr, ⊎-elim}
-use mathlib.Core.Path.{_≡_, sym, ap, _∙_}
-use Prim.Native.Nat.{ℕ, _≤_, _<_}
-use native.Mathlib.Omega.{arith}
-use borrow.Author.Tests.{ltb-true, not-false, lt-ltb}
-use lib.Dec.{T, ltb}
-use lib.ListN.{length, getD, take, drop, List·getD-append}
-use lib.Seq.{take-at, drop-at}
+use Rattle.base_lists.specs.Kit.{_≡_, _∙_, sym, ap, _↔_, ⊎-elim, _⊎_, inl, inr, List, _++_, ℕ, _≤_, _<_, T, ltb, length, getD, take, drop, List·getD-append, take-at, drop-at, arith, lt-ltb, not-false, ltb-true}
 use Rattle.base_lists.proofs.Tests.{T-true, T-false, decide}
 use Rattle.graph.specs.Circuit.{Circuit, circuitGraph}
 use Rattle.graph.specs.Graph.{Graph, DistanceEntry}
@@ -25,7 +17,7 @@ use Rattle.file_format.specs.Reading.{filled}
 use Rattle.file_format.specs.Refusals.{Condition, accept, refuse, first, fileConditions, centreOutside, Accepted}
 use Rattle.file_format.proofs.Accepted.{accepted-bounded}
 use Rattle.file_format.proofs.Fields.{length-labels, length-starts}
-use Rattle.file_format.proofs.Refusals.{accepted, first-accept, first-parts, first-holds, refuses-iff}
+use Rattle.file_format.proofs.Refusals.{accepted, first-accept, first-parts, first-holds}
 use Rattle.file_pair.specs.Pair.{pairConditions}
 use Rattle.file_pair.proofs.Both.{pair-accept, pair-parts}
 use Rattle.table.specs.Reply.{noCounts}
@@ -87,10 +79,6 @@ module _ (pattern board : CircuitFile) (w r : ℕ) (nodes links table distances 
       (result .reply .verdict ≡ refuse x) × (result .reply .counts ≡ noCounts) × (result .nodes ≡ nodes) × (result .links ≡ links) × (result .table ≡ table) × (result .distances ≡ distances)
   unfolding placeAt decided
   input-refused x e = (rw e, rw e, rw e, rw e, rw e, rw e)
-
-  -- there is such a condition exactly when some condition on the inputs holds
-  pub inputs-iff : ((x : Refusal) × (first inputs ≡ refuse x)) ↔ ((c : Condition) × List·Memᴰ c inputs × T (c .holds))
-  inputs-iff = refuses-iff inputs
 
   -- None holds where both files are accepted, the centre is a node and the tables are long enough,
   pub inputs-accept :
@@ -190,17 +178,17 @@ module _ (pattern board : CircuitFile) (w r : ℕ) (nodes links table distances 
       distances-size = length-ballDistances B w r ∙ length-labels board
 
       -- the first N node bytes, M link bytes and N sets are the place's, and the first N distances the ball's
-      pub nodes-front : take (nodesOf board) (result .nodes) ≡ placeNodes P B w r
-      nodes-front = rw nodes-are (take-at (placeNodes P B w r) _ (nodesOf board) (nodes-marks P B w r .size ∙ length-labels board))
+      pub nodes-prefix : take (nodesOf board) (result .nodes) ≡ placeNodes P B w r
+      nodes-prefix = rw nodes-are (take-at (placeNodes P B w r) _ (nodesOf board) (nodes-marks P B w r .size ∙ length-labels board))
 
-      pub links-front : take (linksOf board) (result .links) ≡ placeLinks P B w r
-      links-front = rw links-are (take-at (placeLinks P B w r) _ (linksOf board) (links-marks P B w r .size ∙ length-starts board))
+      pub links-prefix : take (linksOf board) (result .links) ≡ placeLinks P B w r
+      links-prefix = rw links-are (take-at (placeLinks P B w r) _ (linksOf board) (links-marks P B w r .size ∙ length-starts board))
 
-      pub table-front : take (nodesOf board) (result .table) ≡ placeTable P B w r
-      table-front = rw table-is (take-at (placeTable P B w r) _ (nodesOf board) (length-table P B w r ∙ length-labels board))
+      pub table-prefix : take (nodesOf board) (result .table) ≡ placeTable P B w r
+      table-prefix = rw table-is (take-at (placeTable P B w r) _ (nodesOf board) (length-table P B w r ∙ length-labels board))
 
-      pub distances-front : take (nodesOf board) (result .distances) ≡ distancesOf B w r
-      distances-front = rw distances-are (take-at (distancesOf B w r) _ (nodesOf board) distances-size)
+      pub distances-prefix : take (nodesOf board) (result .distances) ≡ distancesOf B w r
+      distances-prefix = rw distances-are (take-at (distancesOf B w r) _ (nodesOf board) distances-size)
 
       -- "Accepted calls leave entries past those needed."
       pub nodes-rest : drop (nodesOf board) (result .nodes) ≡ drop (nodesOf board) nodes
@@ -240,8 +228,8 @@ module _ (pattern board : CircuitFile) (w r : ℕ) (nodes links table distances 
 
       -- It is the place: perfect, and it contains every other perfect subgraph.
       pub marked-place : Place (circuitGraph P) (KindsMatch P B) (circuitGraph B) w r marked
-      marked-place = rw (nodes-front, links-front) (place-found admissible w r is-found)
+      marked-place = rw (nodes-prefix, links-prefix) (place-found admissible w r is-found)
 
       -- The table is the largest dual simulation of the pattern in it.
       pub marked-largest : Largest (circuitGraph P) (KindsMatch P B) marked (InTable (take (nodesOf board) (result .table)))
-      marked-largest = rw (nodes-front, links-front, table-front) (place-table admissible w r is-found)
+      marked-largest = rw (nodes-prefix, links-prefix, table-prefix) (place-table admissible w r is-found)

@@ -1,8 +1,5 @@
 -- What the conditions on the lengths of the lent tables say. Assumes nothing.
-use mathlib.Core.Path.{_≡_}
-use Prim.Native.Nat.{ℕ, _≤_}
-use borrow.Author.Tests.{le-ltb, ltb-false, not-false}
-use lib.Dec.{ltb}
+use Rattle.base_lists.specs.Kit.{_≡_, ℕ, _≤_, le-ltb, ltb-false}
 use Rattle.file_format.specs.Refusals.{accept, first, shortTable}
 use Rattle.file_format.proofs.Refusals.{first-holds}
 use Rattle.call_place.specs.Call.{roomConditions}

@@ -1,7 +1,5 @@
 -- The calls that find a place, whole: the reply, and each lent table's later content, from the inputs alone.
-use mathlib.Core.List.{List, [], _∷_, _++_}
-use Prim.Native.Nat.{ℕ}
-use lib.ListN.{length}
+use Rattle.base_lists.specs.Kit.{List, [], _∷_, _++_, ℕ, length}
 use Rattle.graph.specs.Circuit.{Circuit}
 use Rattle.file_format.specs.declared.Role.the-variants.{Pattern}
 use Rattle.file_format.specs.declared.File.the-variants.{Neither}
@@ -52,5 +50,5 @@ radiusFor (Given r) own = r
 -- the call on two circuits that were read, at a radius
 unfoldable pub placeOn : ℕ → Circuit → Circuit → ℕ → List ℕ → List ℕ → List ℕ → List ℕ → PlaceOutcome
 placeOn r pattern board w nodes links table distances =
-    let own = placeConditions (length (board .kinds)) (length (board .starts)) w (length nodes) (length links) (length table) (length distances) in
+    let own = placeConditions (length (board .labels)) (length (board .starts)) w (length nodes) (length links) (length table) (length distances) in
     decided (first own) nodes links table distances (placeAround pattern board w r nodes links table distances)

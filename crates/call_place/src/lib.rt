@@ -3,13 +3,14 @@ use call_prepare::Reading;
 use call_prepare::read_prepared;
 use file_format::Board;
 use file_format::Editions;
-use file_format::File;
 use file_format::FileVerdict;
+use file_format::OUTSIDE;
 use file_format::Pattern;
 use file_format::Refusal;
 use file_format::Role;
-use graph_neighbours::tables::LINKS;
+use file_format::TOO_SHORT;
 use graph_neighbours::tables::OFFSETS;
+use graph_neighbours::tables::TARGETS;
 use place::Around;
 use place::Asked;
 use place::PlaceAnswer;
@@ -36,6 +37,13 @@ pub enum Reach {
     Given(u16),
 }
 
+// What is asked of two files: around which node of the board, in which editions, and at which radius.
+pub struct Question {
+    pub centre: usize,
+    pub editions: Editions,
+    pub reach: Reach,
+}
+
 // The radius that is asked for, where the pattern's own is known.
 fn radius_for(reach: Reach, own: u16) -> u16
     ensures { λ r. ⌜ r ≡ radiusFor reach own ⌝ }
@@ -59,7 +67,7 @@ fn no_counts() -> Counts
 }
 
 // The answer that turns a call away before anything is searched.
-fn turned_away(x: Refusal) -> PlaceAnswer
+fn refused_place(x: Refusal) -> PlaceAnswer
     ensures { λ r. ⌜ r ≡ PlaceAnswer.Refused x noCounts ⌝ }
 {
     PlaceAnswer::Refused(x, no_counts())
@@ -71,7 +79,7 @@ fn answer_by(verdict: FileVerdict) -> PlaceAnswer
 {
     match verdict {
         FileVerdict::Accepted => PlaceAnswer::Placed(no_counts()),
-        FileVerdict::Refused(x) => turned_away(x),
+        FileVerdict::Refused(x) => refused_place(x),
     }
 }
 
@@ -105,58 +113,51 @@ fn roomy(n: usize, m: usize, lent: Lengths) -> bool
 // The call on two circuits that were read and prepared. Everything is tested, and the place found, before anything is written to the lent
 // tables. The last offset is how many links the board has.
 fn find_on(
-    part_kinds: &[u32],
-    node_kinds: &[u32],
+    part_labels: &[u32],
+    node_labels: &[u32],
     masks: &[u32],
     offsets: &[u16],
-    stretches: &[u16],
+    targets: &[u16],
     asked: Asked,
     nodes: &mut [u8],
-    links: &mut [u8],
+    link_bytes: &mut [u8],
     table: &mut [u32],
     distances: &mut [u16],
 ) -> PlaceAnswer
-    requires { ⌜ SomeDrawn (now «part_kinds») (now «node_kinds») (tables (now masks) (now offsets) (now stretches)) ⌝ }
-    ensures { λ a. ⌜ EveryDrawn (now («part_kinds» .entry)) (now («node_kinds» .entry)) (tables (now (masks .entry)) (now (offsets .entry)) (now (stretches .entry)))
-        (record { reply = placeReply a; nodes = now (nodes .exit); links = now (links .exit); table = now (table .exit); distances = now (distances .exit) })
-        (λ pattern board. placeOn (asked .radius) pattern board (asked .centre) (now (nodes .entry)) (now (links .entry)) (now (table .entry)) (now (distances .entry))) ⌝ }
+    requires { ⌜ SomeDrawn (now «part_labels») (now «node_labels») (tables (now masks) (now offsets) (now targets)) ⌝ }
+    ensures { λ a. ⌜ EveryDrawn (now («part_labels» .entry)) (now («node_labels» .entry)) (tables (now (masks .entry)) (now (offsets .entry)) (now (targets .entry)))
+        (record { reply = placeReply a; nodes = now (nodes .exit); links = now («link_bytes» .exit); table = now (table .exit); distances = now (distances .exit) })
+        (λ pattern board. placeOn (asked .radius) pattern board (asked .centre) (now (nodes .entry)) (now («link_bytes» .entry)) (now (table .entry)) (now (distances .entry))) ⌝ }
 {
-    let n = node_kinds.len();
+    let n = node_labels.len();
     let m = offsets[n] as usize;
     let lent = Lengths {
         nodes: nodes.len(),
-        links: links.len(),
+        links: link_bytes.len(),
         table: table.len(),
         distances: distances.len(),
     };
     let room = roomy(n, m, lent);
     let centre = asked.centre;
     if n <= centre {
-        return turned_away(Refusal {
-            number: 7,
-            file: File::Neither,
-        });
+        return refused_place(OUTSIDE);
     }
-    let short = Refusal {
-        number: 8,
-        file: File::Neither,
-    };
     if !room {
-        return turned_away(short);
+        return refused_place(TOO_SHORT);
     }
     let around = Around {
         centre: centre as u16,
         radius: asked.radius,
     };
     place_circuits(
-        part_kinds,
-        node_kinds,
+        part_labels,
+        node_labels,
         masks,
         offsets,
-        stretches,
+        targets,
         around,
         nodes,
-        links,
+        link_bytes,
         table,
         distances,
     )
@@ -166,24 +167,25 @@ fn find_on(
 // the place and else 0, a set of parts per node, and each node's distance from the centre, 65,535 outside the ball, at the front of the four
 // tables; or the refusal, which leaves them as they were.
 pub fn place(
-    reach: Reach,
-    editions: Editions,
+    question: Question,
     pattern: &[u8],
     board: &[u8],
-    centre: usize,
     nodes: &mut [u8],
-    links: &mut [u8],
+    link_bytes: &mut [u8],
     table: &mut [u32],
     distances: &mut [u16],
 ) -> PlaceAnswer
-    ensures { λ a. ⌜ record { reply = placeReply a; nodes = now (nodes .exit); links = now (links .exit); table = now (table .exit); distances = now (distances .exit) }
-        ≡ placeAt (inEdition (editions .pattern) (now (pattern .entry))) (inEdition (editions .board) (now (board .entry))) centre (radiusFor reach (radiusOf (circuitOf (inEdition (editions .pattern) (now (pattern .entry)))))) (now (nodes .entry)) (now (links .entry)) (now (table .entry)) (now (distances .entry)) ⌝ }
+    ensures { λ a. ⌜ record { reply = placeReply a; nodes = now (nodes .exit); links = now («link_bytes» .exit); table = now (table .exit); distances = now (distances .exit) }
+        ≡ placeAt (inEdition (question .editions .pattern) (now (pattern .entry))) (inEdition (question .editions .board) (now (board .entry))) (question .centre)
+        (radiusFor (question .reach) (radiusOf (circuitOf (inEdition (question .editions .pattern) (now (pattern .entry))))))
+        (now (nodes .entry)) (now («link_bytes» .entry)) (now (table .entry)) (now (distances .entry)) ⌝ }
 {
     let mut pk = [0u32; Pattern::MAX_NODES];
     let mut nk = [0u32; Board::MAX_NODES];
     let mut masks = [0u32; MASKS];
     let mut offsets = [0u16; OFFSETS];
-    let mut stretches = [0u16; LINKS];
+    let mut targets = [0u16; TARGETS];
+    let editions = question.editions;
     let read = read_prepared(
         Reading {
             role: Role::Pattern,
@@ -196,13 +198,17 @@ pub fn place(
         &mut nk,
         &mut masks,
         &mut offsets,
-        &mut stretches,
+        &mut targets,
     );
     let verdict = read.verdict;
     let FileVerdict::Accepted = verdict else {
         return answer_by(verdict);
     };
-    let radius = radius_for(reach, read.radius);
+    let reach = question.reach;
+    let asked = Asked {
+        centre: question.centre,
+        radius: radius_for(reach, read.radius),
+    };
     let parts = read.parts;
     let n = read.nodes;
     find_on(
@@ -210,10 +216,10 @@ pub fn place(
         &nk[..n],
         &masks,
         &offsets,
-        &stretches,
-        Asked { centre, radius },
+        &targets,
+        asked,
         nodes,
-        links,
+        link_bytes,
         table,
         distances,
     )

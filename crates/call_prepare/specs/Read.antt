@@ -29,14 +29,14 @@ pub record AsPattern (r : Role) : Type 0 where
 
 -- Both files are accepted, their labels stand in the tables, their links are prepared along the directions that count, and the radius of a pattern that is
 -- connected is known.
-pub record BothPrepared (r : Role) (ways : List Direction) (pattern board : CircuitFile) (read : Pair) (partKinds nodeKinds : List ℕ) (t : Tables) : Type 0 where
-  pub parts : LabelsStand pattern (read .parts) partKinds
-  pub nodes : LabelsStand board (read .nodes) nodeKinds
+pub record BothPrepared (r : Role) (ways : List Direction) (pattern board : CircuitFile) (read : Pair) (partLabels nodeLabels : List ℕ) (t : Tables) : Type 0 where
+  pub parts : LabelsStand pattern (read .parts) partLabels
+  pub nodes : LabelsStand board (read .nodes) nodeLabels
   pub measured : T (asksConnected r) → read .radius ≡ radius (nodesOf pattern) (startsOf pattern) (endsOf pattern)
   pub drawn : Drawn (circuitOf pattern) (circuitOf board)
   pub prepared : PreparedBy ways (circuitOf pattern) (circuitOf board) t
 
 -- the two files were read: the verdict is that of the first condition on them that holds
-pub record PairPrepared (r : Role) (ways : List Direction) (pattern board : CircuitFile) (read : Pair) (partKinds nodeKinds : List ℕ) (t : Tables) : Type 0 where
+pub record PairPrepared (r : Role) (ways : List Direction) (pattern board : CircuitFile) (read : Pair) (partLabels nodeLabels : List ℕ) (t : Tables) : Type 0 where
   pub verdict : verdictOf (read .verdict) ≡ first (pairConditions r pattern board)
-  pub both : first (pairConditions r pattern board) ≡ accept → BothPrepared r ways pattern board read partKinds nodeKinds t
+  pub both : first (pairConditions r pattern board) ≡ accept → BothPrepared r ways pattern board read partLabels nodeLabels t

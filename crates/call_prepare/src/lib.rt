@@ -32,12 +32,12 @@ pub fn read_prepared(
     nk: &mut [u32],
     masks: &mut [u32],
     offsets: &mut [u16],
-    links: &mut [u16],
+    targets: &mut [u16],
 ) -> Pair
     requires { ⌜ AsPattern (reading .role) ⌝ }
     requires { ⌜ (length (now pk) ≡ 32) × (length (now nk) ≡ 512) ⌝ }
-    requires { ⌜ (length (now masks) ≡ 64) × NetRoom (now offsets) (now links) ⌝ }
-    ensures { λ r. ⌜ PairPrepared (reading .role) (waysOf (reading .ways)) (inEdition (reading .editions .pattern) (now (pattern .entry))) (inEdition (reading .editions .board) (now (board .entry))) r (now (pk .exit)) (now (nk .exit)) (tables (now (masks .exit)) (now (offsets .exit)) (now (links .exit))) ⌝ }
+    requires { ⌜ (length (now masks) ≡ 64) × NetRoom (now offsets) (now targets) ⌝ }
+    ensures { λ r. ⌜ PairPrepared (reading .role) (waysOf (reading .ways)) (inEdition (reading .editions .pattern) (now (pattern .entry))) (inEdition (reading .editions .board) (now (board .entry))) r (now (pk .exit)) (now (nk .exit)) (tables (now (masks .exit)) (now (offsets .exit)) (now (targets .exit))) ⌝ }
 {
     let role = reading.role;
     let editions = reading.editions;
@@ -73,7 +73,7 @@ pub fn read_prepared(
         &ne[..m],
         masks,
         offsets,
-        links,
+        targets,
     );
     read
 }

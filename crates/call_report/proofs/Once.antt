@@ -1,12 +1,5 @@
 -- A buffer that has room for the longest line 513 times takes every report in one piece. Assumes nothing.
-use mathlib.Core.Bool.{not}
-use mathlib.Core.List.{List, [], _++_}
-use mathlib.Core.Path.{_≡_, refl, sym, ap, _∙_}
-use Prim.Native.Nat.{ℕ, zero, suc, _+_, _-_, _*_, _≤_, _<_, zero-le}
-use native.Mathlib.Nat.{le-refl, zero-add}
-use native.Mathlib.Omega.{arith}
-use borrow.Author.Tests.{eq-eqb, le-leb}
-use lib.ListN.{length, length-append}
+use Rattle.base_lists.specs.Kit.{_≡_, _∙_, sym, ap, refl, not, List, _++_, ℕ, _≤_, _+_, _-_, suc, zero, _*_, zero-le, le-refl, zero-add, length, length-append, arith, eq-eqb, le-leb}
 use Rattle.base_lists.specs.Below.{concatBelow}
 use Rattle.base_lists.proofs.Below.{leastBelow-all}
 use Rattle.graph.specs.Circuit.{Circuit}
@@ -18,8 +11,8 @@ use Rattle.report.specs.Lines.{longestLine}
 use Rattle.report.specs.Report.{centreLine, reportOf}
 use Rattle.report.proofs.Lengths.{centre-length}
 use Rattle.report_centres.specs.Pieces.{Piece, roomy, ends, closed, linesFrom, linesTaken, centresPiece, linesPiece}
-use Rattle.call_report.specs.Call.{verdictOf, refusalPiece, pieceFor, pieceOf, reporting}
-use Rattle.call_report.specs.Whole.{itemsFor, itemsOf, prefixOf, nextOf, textOf}
+use Rattle.call_report.specs.Call.{filesVerdict, refusalPiece, pieceFor, pieceOf, reporting}
+use Rattle.call_report.specs.Whole.{itemsFor, itemsOf, pieceNext, pieceText}
 use Rattle.call_report.proofs.Promise.{board-bounded, call-follows, next-is, items-whole}
 use Rattle.call_report.proofs.Whole.{prefix-start, places-start}
 
@@ -30,7 +23,7 @@ closed-next n room p e h = rw (eq-eqb (p .next) n e, le-leb (length (p .text) + 
 
 module _ (pattern board : Circuit) (b : Bounded Board board) (room : ℕ) (enough : 513 * longestLine ≤ room) where
   abbrev n : ℕ
-  n = length (board .kinds)
+  n = length (board .labels)
 
   lines-short : (j : ℕ) → j ≤ n → length (linesFrom pattern board 0 j) ≤ j * longestLine
   unfolding linesFrom concatBelow
@@ -69,19 +62,19 @@ module _ (pattern board : CircuitFile) (out : List ℕ) (enough : 513 * longestL
   room : longestLine ≤ length out
   room = omega (arith, enough)
 
-  piece-once : (v : Verdict) → verdictOf pattern board ≡ v → pieceFor v parts nodes 0 0 (length out) .next ≡ itemsFor v nodes
+  piece-once : (v : Verdict) → filesVerdict pattern board ≡ v → pieceFor v parts nodes 0 0 (length out) .next ≡ itemsFor v nodes
   unfolding pieceFor itemsFor refusalPiece
   piece-once accept e = lines-once parts nodes (board-bounded pattern board e) (length out) enough
   piece-once (refuse x) e = refl
 
   -- The first call says that the report is at its end,
-  pub ends-once : nextOf (reporting pattern board 0 0 out) ≡ itemsOf pattern board
+  pub ends-once : pieceNext (reporting pattern board 0 0 out) ≡ itemsOf pattern board
   unfolding pieceOf
-  ends-once = next-is pattern board 0 0 out room ∙ piece-once (verdictOf pattern board) refl
+  ends-once = next-is pattern board 0 0 out room ∙ piece-once (filesVerdict pattern board) refl
 
   -- and what it puts is the report, whole.
-  pub one-piece : textOf (reporting pattern board 0 0 out) ≡ reportOf pattern board
+  pub one-piece : pieceText (reporting pattern board 0 0 out) ≡ reportOf pattern board
   one-piece =
-      let (text, _, within, _, _) = call-follows pattern board 0 0 out room zero-le (sym (places-start (verdictOf pattern board) parts nodes)) in
-      ap (λ (xs : List ℕ). xs ++ textOf (reporting pattern board 0 0 out)) (sym (prefix-start (verdictOf pattern board) parts nodes))
+      let (text, _, within, _, _) = call-follows pattern board 0 0 out room zero-le (sym (places-start (filesVerdict pattern board) parts nodes)) in
+      ap (λ (xs : List ℕ). xs ++ pieceText (reporting pattern board 0 0 out)) (sym (prefix-start (filesVerdict pattern board) parts nodes))
       ∙ text ∙ items-whole pattern board _ within (omega (arith, ends-once))

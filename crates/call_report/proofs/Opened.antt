@@ -1,11 +1,5 @@
 -- What opening two files comes to, by cases, and what a piece knows of files that were opened. Assumes nothing.
-use mathlib.Core.List.{List, _++_}
-use mathlib.Core.Path.{_≡_, sym, ap, _∙_}
-use Prim.Native.Nat.{ℕ, _≤_, _<_}
-use native.Mathlib.Nat.{le-trans}
-use native.Mathlib.Omega.{arith}
-use lib.ListN.{length, take, drop, length-append, length-drop}
-use lib.Seq.{length-take-le, take-at}
+use Rattle.base_lists.specs.Kit.{_≡_, _∙_, sym, ap, List, _++_, ℕ, _≤_, _<_, le-trans, length, take, drop, length-append, length-drop, length-take-le, take-at, arith}
 use Rattle.file_format.specs.declared.FileVerdict.the-variants as told
 use Rattle.file_format.specs.declared.Refusal.{Refusal}
 use Rattle.file_format.specs.declared.Role.the-variants.{Pattern}
@@ -25,14 +19,14 @@ use Rattle.place_components.specs.Components.{Components}
 use Rattle.report_centres.specs.Pieces.{Source}
 use Rattle.call_prepare.specs.Read.{BothPrepared, PairPrepared}
 use Rattle.call_prepare.proofs.Ready.{turned-pair, ready-both, ready-prepared, ready-radius}
-use Rattle.call_report.specs.Call.{verdictOf}
+use Rattle.call_report.specs.Call.{filesVerdict}
 use Rattle.call_report.specs.Opened.{Lines, OpenedBoth, Opened}
 
 -- ---- two files that were read and prepared
 
-module _ {pattern board : CircuitFile} {read : Pair} {partKinds nodeKinds : List ℕ} {t : Tables} (b : BothPrepared Pattern bothWays pattern board read partKinds nodeKinds t) where
+module _ {pattern board : CircuitFile} {read : Pair} {partLabels nodeLabels : List ℕ} {t : Tables} (b : BothPrepared Pattern bothWays pattern board read partLabels nodeLabels t) where
   -- what matching starts from
-  pub opened-links : SomeLinks (take (read .parts) partKinds) (take (read .nodes) nodeKinds) t
+  pub opened-links : SomeLinks (take (read .parts) partLabels) (take (read .nodes) nodeLabels) t
   opened-links = record { ways = bothWays; partStarts = _; partEnds = _; nodeStarts = _; nodeEnds = _; prepared = ready-prepared b }
 
   -- the board's N
@@ -43,7 +37,7 @@ module _ {pattern board : CircuitFile} {read : Pair} {partKinds nodeKinds : List
   opened-few = rw opened-count (b .drawn .nodes .nodes)
 
   -- lines can be put from the whole board's table
-  pub opened-source : {whole : List ℕ} {counts : Counts} → EveryMatched (take (read .parts) partKinds) (take (read .nodes) nodeKinds) t whole counts
+  pub opened-source : {whole : List ℕ} {counts : Counts} → EveryMatched (take (read .parts) partLabels) (take (read .nodes) nodeLabels) t whole counts
       → Source (circuitOf pattern) (circuitOf board) t whole (read .radius)
   unfolding radiusOf
   opened-source every =
@@ -56,11 +50,11 @@ module _ {pattern board : CircuitFile} {read : Pair} {partKinds nodeKinds : List
 
   -- ---- the tables that have it at their fronts
 
-  module _ (from : ℕ) (whole labels sizes : List ℕ) where
-    both-opened : (length whole ≡ 512) × (length labels ≡ 512) × (length sizes ≡ 512)
+  module _ (from : ℕ) (whole componentOf sizes : List ℕ) where
+    both-opened : (length whole ≡ 512) × (length componentOf ≡ 512) × (length sizes ≡ 512)
         → (from ≤ read .nodes
-        → Lines (circuitOf pattern) (circuitOf board) (read .radius) t (take (read .nodes) whole) (take (read .nodes) labels) (take (read .nodes) sizes))
-        → OpenedBoth from (circuitOf pattern) (circuitOf board) read t whole labels sizes
+        → Lines (circuitOf pattern) (circuitOf board) (read .radius) t (take (read .nodes) whole) (take (read .nodes) componentOf) (take (read .nodes) sizes))
+        → OpenedBoth from (circuitOf pattern) (circuitOf board) read t whole componentOf sizes
     both-opened long lines =
         record {
           drawn = b .drawn;
@@ -69,31 +63,31 @@ module _ {pattern board : CircuitFile} {read : Pair} {partKinds nodeKinds : List
           lines = lines;
         }
 
-module _ {pattern board : CircuitFile} {read : Pair} {partKinds nodeKinds : List ℕ} {t : Tables} (p : PairPrepared Pattern bothWays pattern board read partKinds nodeKinds t) (from : ℕ) where
+module _ {pattern board : CircuitFile} {read : Pair} {partLabels nodeLabels : List ℕ} {t : Tables} (p : PairPrepared Pattern bothWays pattern board read partLabels nodeLabels t) (from : ℕ) where
   -- a file is refused,
-  pub opened-refused : {whole labels sizes : List ℕ} {x : Refusal} → read .verdict ≡ told.Refused x → Opened from pattern board read t whole labels sizes
+  pub opened-refused : {whole componentOf sizes : List ℕ} {x : Refusal} → read .verdict ≡ told.Refused x → Opened from pattern board read t whole componentOf sizes
   opened-refused e = record { verdict = p .verdict; both = λ a. absurd (accept-not-refuse (sym a ∙ turned-pair p e)) }
 
   module _ (ok : read .verdict ≡ told.Accepted) where
     -- no lines are left,
-    pub opened-past : {whole labels sizes : List ℕ} → read .nodes < from → (length whole ≡ 512) × (length labels ≡ 512) × (length sizes ≡ 512)
-        → Opened from pattern board read t whole labels sizes
+    pub opened-past : {whole componentOf sizes : List ℕ} → read .nodes < from → (length whole ≡ 512) × (length componentOf ≡ 512) × (length sizes ≡ 512)
+        → Opened from pattern board read t whole componentOf sizes
     opened-past past long = record { verdict = p .verdict; both = λ a. both-opened (ready-both p ok) _ _ _ _ long (λ h. absurd (omega arith)) }
 
     -- or what they are put from was made
-    pub opened-lines : {whole labels sizes : List ℕ} (ws ls ss : List ℕ) {counts : Counts} → (length ws ≡ 512) × (length ls ≡ 512) × (length ss ≡ 512)
-        → (length whole ≡ read .nodes) × (length labels ≡ read .nodes) × (length sizes ≡ read .nodes)
-        → EveryMatched (take (read .parts) partKinds) (take (read .nodes) nodeKinds) t whole counts → Components (length whole) (matched t whole) whole labels sizes
-        → Opened from pattern board read t (whole ++ drop (read .nodes) ws) (labels ++ drop (read .nodes) ls) (sizes ++ drop (read .nodes) ss)
-    opened-lines {whole} {labels} {sizes} ws ls ss long size every components =
+    pub opened-lines : {whole componentOf sizes : List ℕ} (ws ls ss : List ℕ) {counts : Counts} → (length ws ≡ 512) × (length ls ≡ 512) × (length ss ≡ 512)
+        → (length whole ≡ read .nodes) × (length componentOf ≡ read .nodes) × (length sizes ≡ read .nodes)
+        → EveryMatched (take (read .parts) partLabels) (take (read .nodes) nodeLabels) t whole counts → Components (length whole) (matched t whole) whole componentOf sizes
+        → Opened from pattern board read t (whole ++ drop (read .nodes) ws) (componentOf ++ drop (read .nodes) ls) (sizes ++ drop (read .nodes) ss)
+    opened-lines {whole} {componentOf} {sizes} ws ls ss long size every components =
         let b = ready-both p ok in
         record {
           verdict = p .verdict;
           both =
               λ a.
-              both-opened b _ _ _ _ (longer whole ws (size .0) (long .0), longer labels ls (size .1) (long .1), longer sizes ss (size .2) (long .2))
+              both-opened b _ _ _ _ (longer whole ws (size .0) (long .0), longer componentOf ls (size .1) (long .1), longer sizes ss (size .2) (long .2))
               (λ h.
-              rw (take-at whole (drop (read .nodes) ws) _ (size .0), take-at labels (drop (read .nodes) ls) _ (size .1), take-at sizes (drop (read .nodes) ss) _ (size .2))
+              rw (take-at whole (drop (read .nodes) ws) _ (size .0), take-at componentOf (drop (read .nodes) ls) _ (size .1), take-at sizes (drop (read .nodes) ss) _ (size .2))
               (record { source = opened-source b every; components = components }));
         }
       where
@@ -103,22 +97,22 @@ module _ {pattern board : CircuitFile} {read : Pair} {partKinds nodeKinds : List
 -- ---- what a piece knows
 
 -- files that were opened from a centre on are opened from a later one on
-pub opened-later : {from later : ℕ} {pattern board : CircuitFile} {read : Pair} {t : Tables} {whole labels sizes : List ℕ} → from ≤ later
-    → Opened from pattern board read t whole labels sizes → Opened later pattern board read t whole labels sizes
+pub opened-later : {from later : ℕ} {pattern board : CircuitFile} {read : Pair} {t : Tables} {whole componentOf sizes : List ℕ} → from ≤ later
+    → Opened from pattern board read t whole componentOf sizes → Opened later pattern board read t whole componentOf sizes
 opened-later h o =
     record {
       verdict = o .verdict;
       both = λ a. let b = o .both a in record { drawn = b .drawn; nodes = b .nodes; room = b .room; lines = λ l. b .lines (le-trans h l) };
     }
 
-module _ {from : ℕ} {pattern board : CircuitFile} {read : Pair} {t : Tables} {whole labels sizes : List ℕ} (o : Opened from pattern board read t whole labels sizes) where
-  pub opened-turned : {x : Refusal} → read .verdict ≡ told.Refused x → verdictOf pattern board ≡ refuse x
+module _ {from : ℕ} {pattern board : CircuitFile} {read : Pair} {t : Tables} {whole componentOf sizes : List ℕ} (o : Opened from pattern board read t whole componentOf sizes) where
+  pub opened-turned : {x : Refusal} → read .verdict ≡ told.Refused x → filesVerdict pattern board ≡ refuse x
   unfolding Reading.verdictOf
   opened-turned e = sym (o .verdict) ∙ ap Reading.verdictOf e
 
-  pub opened-accepted : read .verdict ≡ told.Accepted → verdictOf pattern board ≡ accept
+  pub opened-accepted : read .verdict ≡ told.Accepted → filesVerdict pattern board ≡ accept
   unfolding Reading.verdictOf
   opened-accepted e = sym (o .verdict) ∙ ap Reading.verdictOf e
 
-  pub opened-both : read .verdict ≡ told.Accepted → OpenedBoth from (circuitOf pattern) (circuitOf board) read t whole labels sizes
+  pub opened-both : read .verdict ≡ told.Accepted → OpenedBoth from (circuitOf pattern) (circuitOf board) read t whole componentOf sizes
   opened-both e = o .both (opened-accepted e)

@@ -1,10 +1,5 @@
 -- What the call on two files comes to, by cases: a piece that is put, a buffer that is too short; a refused file, or the lines. Assumes nothing.
-use mathlib.Core.List.{List}
-use mathlib.Core.Path.{_≡_}
-use Prim.Native.Nat.{ℕ, _≤_, _<_}
-use native.Mathlib.Nat.{zero-add}
-use borrow.Author.Tests.{lt-ltb, le-ltb}
-use lib.ListN.{length}
+use Rattle.base_lists.specs.Kit.{_≡_, List, ℕ, _≤_, _<_, zero-add, length, le-ltb, lt-ltb}
 use Rattle.base_text.proofs.Text.{put-whole}
 use Rattle.file_format.specs.declared.File.the-variants.{Neither}
 use Rattle.file_format.specs.declared.Refusal.{Refusal}
@@ -14,10 +9,10 @@ use Rattle.file_format.specs.Reading.{filled}
 use Rattle.file_format.specs.Refusals.{accept, refuse, first, shortTable}
 use Rattle.file_format.specs.Reply.{reply}
 use Rattle.report.specs.Lines.{longestLine, longestRefusal}
-use Rattle.report_centres.specs.declared.Part.{Part}
+use Rattle.report_centres.specs.declared.PutPiece.{PutPiece}
 use Rattle.call_report.specs.declared.ReportAnswer.{ReportAnswer}
 use Rattle.call_report.specs.declared.ReportAnswer.the-variants as answer
-use Rattle.call_report.specs.Call.{refusalPiece, verdictOf, pieceFor, pieceOf, reportReply, needFor, outcomeFor, reporting}
+use Rattle.call_report.specs.Call.{refusalPiece, filesVerdict, pieceFor, pieceOf, reportReply, needFor, outcomeFor, reporting}
 use Rattle.report_centres.specs.Pieces.{Piece, linesPiece, Wrote}
 
 -- ---- a piece
@@ -28,7 +23,7 @@ module _ (need : ℕ) (p : Piece) (out : List ℕ) where
   unfolding outcomeFor reportReply reply filled first shortTable
   outcome-short e h = rw (e, lt-ltb (length out) need h)
 
-  pub outcome-put : {after : List ℕ} {part : Part} → need ≤ length out → Wrote out p after part
+  pub outcome-put : {after : List ℕ} {part : PutPiece} → need ≤ length out → Wrote out p after part
       → record { reply = reportReply (answer.Put part); out = after } ≡ outcomeFor need p out
   unfolding outcomeFor reportReply reply filled first shortTable
   outcome-put h w =
@@ -37,12 +32,12 @@ module _ (need : ℕ) (p : Piece) (out : List ℕ) where
 -- ---- two files
 
 module _ (pattern board : CircuitFile) (from found : ℕ) (out : List ℕ) where
-  pub reporting-refused : {x : Refusal} → verdictOf pattern board ≡ refuse x
+  pub reporting-refused : {x : Refusal} → filesVerdict pattern board ≡ refuse x
       → outcomeFor longestRefusal (refusalPiece x from found) out ≡ reporting pattern board from found out
   unfolding reporting needFor pieceOf pieceFor
   reporting-refused e = rw e
 
-  pub reporting-lines : verdictOf pattern board ≡ accept
+  pub reporting-lines : filesVerdict pattern board ≡ accept
       → outcomeFor longestLine (linesPiece (circuitOf pattern) (circuitOf board) from found (length out)) out
       ≡ reporting pattern board from found out
   unfolding reporting needFor pieceOf pieceFor

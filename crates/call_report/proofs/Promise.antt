@@ -1,15 +1,6 @@
 -- What the report call's promise means: calls one after another, each with a buffer of any length that holds the longest line, put the report,
 -- whole and once, and then nothing; only a shorter buffer is refused. Assumes nothing.
-use mathlib.Core.List.{List, [], _∷_, _++_}
-use mathlib.Core.Logic.{_↔_}
-use mathlib.Core.Path.{_≡_, refl, sym, ap, ap₂, _∙_}
-use Prim.Native.Nat.{ℕ, zero, suc, _≤_, _<_, zero-le}
-use native.Mathlib.Nat.{le-refl, le-trans, le-antisymm, lt-of-not-le, le-of-suc-le-suc}
-use native.Mathlib.Omega.{arith}
-use borrow.Author.Tests.{lt-ltb, le-ltb}
-use lib.Dec.{lit≤}
-use lib.ListN.{length, take, drop, length-append}
-use lib.Seq.{take-at, drop-at}
+use Rattle.base_lists.specs.Kit.{_≡_, _∙_, sym, ap, refl, ap₂, _↔_, List, [], _∷_, _++_, ℕ, _≤_, _<_, suc, zero, zero-le, le-refl, le-of-suc-le-suc, le-trans, le-antisymm, lt-of-not-le, lit≤, length, take, drop, length-append, take-at, drop-at, arith, le-ltb}
 use Rattle.file_format.specs.declared.File.the-variants.{Neither}
 use Rattle.file_format.specs.declared.Refusal.{Refusal}
 use Rattle.file_format.specs.declared.Role.the-variants.{Pattern, Board}
@@ -23,12 +14,12 @@ use Rattle.file_format.proofs.Refusals.{accepted, first-parts}
 use Rattle.file_pair.specs.Pair.{pairConditions}
 use Rattle.report.specs.Lines.{longestLine}
 use Rattle.report.specs.Report.{reportOf}
-use Rattle.report_centres.specs.declared.Part.{Part}
+use Rattle.report_centres.specs.declared.PutPiece.{PutPiece}
 use Rattle.call_report.specs.declared.ReportAnswer.{ReportAnswer}
 use Rattle.call_report.specs.declared.ReportAnswer.the-variants as answer
-use Rattle.call_report.specs.Call.{verdictOf, pieceOf, reportReply, ReportOutcome, needFor, outcomeFor, reporting}
+use Rattle.call_report.specs.Call.{filesVerdict, pieceOf, reportReply, ReportOutcome, needFor, outcomeFor, reporting}
 use Rattle.report_centres.specs.Pieces.{Piece}
-use Rattle.call_report.specs.Whole.{itemsFor, placesFor, itemsOf, prefixOf, placesOf, Follows, nextOf, foundOf, sizeOf, textOf, Stage, called}
+use Rattle.call_report.specs.Whole.{itemsFor, placesFor, itemsOf, prefixOf, placesOf, PieceFollows, pieceNext, foundOf, pieceSize, pieceText, Stage, called}
 use Rattle.call_report.proofs.Whole.{piece-follows, piece-none, prefix-start, places-start, prefix-all, places-small}
 
 -- ---- the two cases of the answer, told apart by what document 01 says of them
@@ -72,12 +63,7 @@ module _ (pattern board : CircuitFile) (from found : ℕ) (out : List ℕ) where
 
   -- the room needed
   abbrev need : ℕ
-  need = needFor (verdictOf pattern board)
-
-  -- A buffer that is too short is refused, and keeps its content.
-  pub short-refused : length out < need → result ≡ record { reply = record { verdict = refuse eight; values = [] }; out = out }
-  unfolding reporting outcomeFor reply filled first shortTable
-  short-refused h = rw (lt-ltb (length out) need h)
+  need = needFor (filesVerdict pattern board)
 
   -- One that has room for the longest line is taken, whatever the files hold.
   module _ (room : longestLine ≤ length out) where
@@ -87,46 +73,46 @@ module _ (pattern board : CircuitFile) (from found : ℕ) (out : List ℕ) where
           out = piece .text ++ drop (length (piece .text)) out;
         }
     unfolding reporting outcomeFor reply filled first shortTable
-    result-is = rw (le-ltb (length out) need (le-trans (need-most (verdictOf pattern board)) room))
+    result-is = rw (le-ltb (length out) need (le-trans (need-most (filesVerdict pattern board)) room))
 
     pub accepts : result .reply .verdict ≡ accept
     accepts = ap (λ (r : ReportOutcome). r .reply .verdict) result-is
 
-    pub next-is : nextOf result ≡ piece .next
-    next-is = ap nextOf result-is
+    pub next-is : pieceNext result ≡ piece .next
+    next-is = ap pieceNext result-is
 
     found-is : foundOf result ≡ piece .found
     found-is = ap foundOf result-is
 
-    size-is : sizeOf result ≡ length (piece .text)
-    size-is = ap sizeOf result-is
+    size-is : pieceSize result ≡ length (piece .text)
+    size-is = ap pieceSize result-is
 
-    text-is : textOf result ≡ piece .text
-    text-is = ap textOf result-is ∙ take-at (piece .text) (drop (length (piece .text)) out) (length (piece .text)) refl
+    text-is : pieceText result ≡ piece .text
+    text-is = ap pieceText result-is ∙ take-at (piece .text) (drop (length (piece .text)) out) (length (piece .text)) refl
 
     -- the bytes after those that were put keep their content
-    pub rest-kept : drop (sizeOf result) (result .out) ≡ drop (sizeOf result) out
+    pub rest-kept : drop (pieceSize result) (result .out) ≡ drop (pieceSize result) out
     rest-kept =
         ap₂ drop size-is (ap (λ (r : ReportOutcome). r .out) result-is)
         ∙ drop-at (piece .text) (drop (length (piece .text)) out) (length (piece .text)) refl
         ∙ ap (λ (k : ℕ). drop k out) (sym size-is)
 
     -- Nothing is put exactly when the report is at its end.
-    pub none-iff : (sizeOf result ≡ 0) ↔ (itemsOf pattern board ≤ from)
+    pub none-iff : (pieceSize result ≡ 0) ↔ (itemsOf pattern board ≤ from)
     unfolding pieceOf
-    none-iff = rw size-is (piece-none (circuitOf pattern) (circuitOf board) from found (length out) room (verdictOf pattern board))
+    none-iff = rw size-is (piece-none (circuitOf pattern) (circuitOf board) from found (length out) room (filesVerdict pattern board))
 
     -- From an item on, told how many centres before it have a place, the call puts the items up to the one where it says to go on, and
     -- says how many centres before that one have a place.
-    follows : from ≤ itemsOf pattern board → found ≡ placesOf pattern board from → Follows (verdictOf pattern board) (circuitOf pattern) (circuitOf board) from piece
+    follows : from ≤ itemsOf pattern board → found ≡ placesOf pattern board from → PieceFollows (filesVerdict pattern board) (circuitOf pattern) (circuitOf board) from piece
     unfolding pieceOf
-    follows h e = piece-follows (circuitOf pattern) (circuitOf board) from found (length out) room (verdictOf pattern board) h e
+    follows h e = piece-follows (circuitOf pattern) (circuitOf board) from found (length out) room (filesVerdict pattern board) h e
 
     pub call-follows :
         from ≤ itemsOf pattern board → found ≡ placesOf pattern board from →
-        (prefixOf pattern board from ++ textOf result ≡ prefixOf pattern board (nextOf result))
-        × (foundOf result ≡ placesOf pattern board (nextOf result)) × (nextOf result ≤ itemsOf pattern board) × (from ≤ nextOf result)
-        × (from < itemsOf pattern board → from < nextOf result)
+        (prefixOf pattern board from ++ pieceText result ≡ prefixOf pattern board (pieceNext result))
+        × (foundOf result ≡ placesOf pattern board (pieceNext result)) × (pieceNext result ≤ itemsOf pattern board) × (from ≤ pieceNext result)
+        × (from < itemsOf pattern board → from < pieceNext result)
     call-follows h e =
         let f = follows h e in
         (rw (text-is, next-is) (f .text), rw (found-is, next-is) (f .found), rw next-is (f .within), rw next-is (f .forth), rw next-is (f .more))
@@ -136,28 +122,28 @@ module _ (pattern board : CircuitFile) (from found : ℕ) (out : List ℕ) where
 -- what two files' circuits have at most
 module _ (pattern board : CircuitFile) where
   -- the board of two accepted files
-  pub board-bounded : verdictOf pattern board ≡ accept → Bounded Board (circuitOf board)
+  pub board-bounded : filesVerdict pattern board ≡ accept → Bounded Board (circuitOf board)
   unfolding pairConditions
   board-bounded e = accepted-bounded (accepted Board board (first-parts (fileConditions Pattern pattern) (fileConditions Board board) e .1))
 
-  few : verdictOf pattern board ≡ accept → length (circuitOf board .kinds) ≤ 512
+  few : filesVerdict pattern board ≡ accept → length (circuitOf board .labels) ≤ 512
   few e = board-bounded e .nodes
 
   -- There are at most 513 items: so many calls are enough.
   pub items-few : itemsOf pattern board ≤ 513
   unfolding itemsFor
-  items-few = go (verdictOf pattern board) refl
+  items-few = go (filesVerdict pattern board) refl
     where
-      go : (v : Verdict) → verdictOf pattern board ≡ v → itemsFor v (circuitOf board) ≤ 513
+      go : (v : Verdict) → filesVerdict pattern board ≡ v → itemsFor v (circuitOf board) ≤ 513
       go accept e = omega (arith, few e)
       go (refuse x) e = omega arith
 
   -- There are no more places than a board has nodes.
   pub places-few : (k : ℕ) → placesOf pattern board k ≤ 512
   unfolding placesFor
-  places-few k = go (verdictOf pattern board) refl
+  places-few k = go (filesVerdict pattern board) refl
     where
-      go : (v : Verdict) → verdictOf pattern board ≡ v → placesFor v (circuitOf pattern) (circuitOf board) k ≤ 512
+      go : (v : Verdict) → filesVerdict pattern board ≡ v → placesFor v (circuitOf pattern) (circuitOf board) k ≤ 512
       go accept e = le-trans (places-small accept (circuitOf pattern) (circuitOf board) k) (few e)
       go (refuse x) e = zero-le
 
@@ -165,7 +151,7 @@ module _ (pattern board : CircuitFile) where
 pub items-whole : (pattern board : CircuitFile) (k : ℕ) → k ≤ itemsOf pattern board → itemsOf pattern board ≤ k → prefixOf pattern board k ≡ reportOf pattern board
 unfolding reportOf pairConditions
 items-whole pattern board k h l =
-    ap (prefixOf pattern board) (le-antisymm h l) ∙ prefix-all (verdictOf pattern board) (circuitOf pattern) (circuitOf board)
+    ap (prefixOf pattern board) (le-antisymm h l) ∙ prefix-all (filesVerdict pattern board) (circuitOf pattern) (circuitOf board)
 
 module _ (pattern board : CircuitFile) (buffers : ℕ → List ℕ) (rooms : (k : ℕ) → longestLine ≤ length (buffers k)) where
   -- where k calls have come to
@@ -182,8 +168,8 @@ module _ (pattern board : CircuitFile) (buffers : ℕ → List ℕ) (rooms : (k 
   unfolding called
   reached zero =
       record {
-        text = sym (prefix-start (verdictOf pattern board) (circuitOf pattern) (circuitOf board));
-        found = sym (places-start (verdictOf pattern board) (circuitOf pattern) (circuitOf board));
+        text = sym (prefix-start (filesVerdict pattern board) (circuitOf pattern) (circuitOf board));
+        found = sym (places-start (filesVerdict pattern board) (circuitOf pattern) (circuitOf board));
         within = zero-le;
         far = λ l. zero-le;
       }
@@ -191,7 +177,7 @@ module _ (pattern board : CircuitFile) (buffers : ℕ → List ℕ) (rooms : (k 
       let s = reached k in
       let (text, found, within, forth, more) = call-follows pattern board (stage k .next) (stage k .found) (buffers k) (rooms k) (s .within) (s .found) in
       record {
-        text = ap (λ (xs : List ℕ). xs ++ textOf (reporting pattern board (stage k .next) (stage k .found) (buffers k))) (s .text) ∙ text;
+        text = ap (λ (xs : List ℕ). xs ++ pieceText (reporting pattern board (stage k .next) (stage k .found) (buffers k))) (s .text) ∙ text;
         found = found;
         within = within;
         far = λ l. omega (arith, more (omega arith), s .far (omega arith));
@@ -206,17 +192,13 @@ module _ (pattern board : CircuitFile) (buffers : ℕ → List ℕ) (rooms : (k 
   report-whole k h = whole k (le-of-suc-le-suc (lt-of-not-le (λ l. omega (arith, reached k .far l))))
 
   -- and it is whole as soon as a call puts nothing.
-  pub report-done : (k : ℕ) → sizeOf (reporting pattern board (stage k .next) (stage k .found) (buffers k)) ≡ 0 → stage k .text ≡ reportOf pattern board
+  pub report-done : (k : ℕ) → pieceSize (reporting pattern board (stage k .next) (stage k .found) (buffers k)) ≡ 0 → stage k .text ≡ reportOf pattern board
   report-done k e = whole k (none-iff pattern board (stage k .next) (stage k .found) (buffers k) (rooms k) .0 e)
-
-  -- The count that is passed on stays a 16-bit number.
-  pub found-small : (k : ℕ) → stage k .found ≤ 512
-  found-small k = rw (reached k .found) (places-few pattern board (stage k .next))
 
 -- ---- what a caller knows of an answer, and passes on
 
 module _
-    (pattern board : CircuitFile) (from found : ℕ) (out : List ℕ) {after : List ℕ} (part : Part)
+    (pattern board : CircuitFile) (from found : ℕ) (out : List ℕ) {after : List ℕ} (part : PutPiece)
     (room : longestLine ≤ length out)
     (e : _≡_ {A = ReportOutcome} (record { reply = reportReply (answer.Put part); out = after }) (reporting pattern board from found out))
   where
@@ -226,7 +208,7 @@ module _
     put-within =
         let p = pieceOf pattern board from found (length out) in
         let same = e ∙ result-is pattern board from found out room in
-        omega (arith, ap sizeOf same, ap (λ (r : ReportOutcome). length (r .out)) same, length-append (p .text) (drop (length (p .text)) out))
+        omega (arith, ap pieceSize same, ap (λ (r : ReportOutcome). length (r .out)) same, length-append (p .text) (drop (length (p .text)) out))
 
     -- and where to go on and the count are again those of an item: of a later one, where bytes were put.
     pub put-follows :
@@ -234,11 +216,11 @@ module _
         (part .next ≤ itemsOf pattern board) × (part .found ≡ placesOf pattern board (part .next)) × ((part .size ≡ 0 → ⊥) → from < part .next)
     unfolding reportReply
     put-follows h f =
-        let next : part .next ≡ nextOf (reporting pattern board from found out) = ap nextOf e in
+        let next : part .next ≡ pieceNext (reporting pattern board from found out) = ap pieceNext e in
         let (_, places, within, _, more) = call-follows pattern board from found out room h f in (
           rw next within,
           rw next (ap foundOf e ∙ places),
-          λ some. rw next (more (lt-of-not-le (λ l. some (ap sizeOf e ∙ none-iff pattern board from found out room .1 l)))),
+          λ some. rw next (more (lt-of-not-le (λ l. some (ap pieceSize e ∙ none-iff pattern board from found out room .1 l)))),
         )
 
     -- The bytes that were put go on with the report, from the item `from` up to the one where to go on,
@@ -247,11 +229,11 @@ module _
         prefixOf pattern board from ++ take (part .size) after ≡ prefixOf pattern board (part .next)
     unfolding reportReply
     put-text h f =
-        ap (λ (xs : List ℕ). prefixOf pattern board from ++ xs) (ap textOf e)
+        ap (λ (xs : List ℕ). prefixOf pattern board from ++ xs) (ap pieceText e)
         ∙ call-follows pattern board from found out room h f .0
-        ∙ ap (prefixOf pattern board) (sym (ap nextOf e))
+        ∙ ap (prefixOf pattern board) (sym (ap pieceNext e))
 
     -- and where none were put, the items before `from` are the report.
     pub put-none : from ≤ itemsOf pattern board → part .size ≡ 0 → prefixOf pattern board from ≡ reportOf pattern board
     unfolding reportReply
-    put-none h z = items-whole pattern board from h (none-iff pattern board from found out room .0 (sym (ap sizeOf e) ∙ z))
+    put-none h z = items-whole pattern board from h (none-iff pattern board from found out room .0 (sym (ap pieceSize e) ∙ z))

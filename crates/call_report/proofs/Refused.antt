@@ -1,10 +1,5 @@
 -- The one line of a refused file, and nothing after it. Assumes nothing.
-use mathlib.Core.List.{List}
-use mathlib.Core.Path.{_≡_, refl}
-use Prim.Native.Nat.{ℕ, _≤_, _<_}
-use native.Mathlib.Omega.{arith}
-use borrow.Author.Tests.{eq-eqb, ne-eqb}
-use lib.ListN.{length}
+use Rattle.base_lists.specs.Kit.{_≡_, refl, List, ℕ, _≤_, _<_, length, arith, eq-eqb, ne-eqb}
 use Rattle.base_text.specs.Text.{Put, Fits}
 use Rattle.base_text.proofs.Text.{put-nothing}
 use Rattle.file_format.specs.declared.Refusal.{Refusal}

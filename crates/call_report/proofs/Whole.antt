@@ -1,30 +1,20 @@
 -- A piece puts the items of the report from where it starts up to where it says to go on, and puts nothing exactly past the last item. Assumes
 -- nothing.
-use mathlib.Core.Bool.{Bool, true, false, _&&_, not, cond}
-use mathlib.Core.List.{List, [], _++_, append-nil, append-assoc}
-use mathlib.Core.Logic.{_↔_, _⊎_, inl, inr}
-use mathlib.Core.Path.{_≡_, refl, sym, ap, ap₂, _∙_}
-use Prim.Native.Nat.{ℕ, zero, suc, _+_, _-_, _≤_, _<_, zero-le}
-use native.Mathlib.Nat.{le-refl, le-trans, lt-of-not-le, add-zero, zero-lt-suc, eq-or-lt-of-le}
+use Rattle.base_lists.specs.Kit.{_≡_, _∙_, sym, ap, refl, ap₂, _↔_, _⊎_, inl, inr, Bool, false, true, cond, _&&_, not, List, [], _++_, append-nil, append-assoc, ℕ, _≤_, _<_, _+_, _-_, suc, zero, zero-le, le-refl, zero-lt-suc, le-trans, eq-or-lt-of-le, add-zero, lt-of-not-le, eqb, eqb→eq, leb, length, length-append, arith, eqb-true, not-true, eqb-false, le-leb, lt-leb, leb-true, leb-false}
 use native.Mathlib.Decide.{decLt}
-use native.Mathlib.Omega.{arith}
-use borrow.Author.Tests.{le-leb, lt-leb, leb-true, leb-false, eqb-true, eqb-false, not-true}
-use lib.Dec.{eqb, leb, eqb→eq}
-use lib.ListN.{length, length-append}
 use Rattle.base_lists.specs.Below.{countBelow, concatBelow}
 use Rattle.base_lists.proofs.Below.{countBelow-le, leastBelow-le, leastBelow-at, countBelow-add}
 use Rattle.base_lists.proofs.Tests.{both-left, true-T, T-true}
+use Rattle.base_lists.proofs.Concat.{concatBelow-add}
 use Rattle.base_text.specs.Text.{bytes}
 use Rattle.graph.specs.Circuit.{Circuit}
 use Rattle.file_format.specs.declared.Refusal.{Refusal}
 use Rattle.file_format.specs.Refusals.{Verdict, accept, refuse}
 use Rattle.report.specs.Lines.{longestLine}
 use Rattle.report.specs.Report.{hasPlace, centreLine, endLine, refusalLine, linesOf, reportFor}
-use Rattle.report.proofs.Concat.{concat-add}
 use Rattle.call_report.specs.Call.{refusalPiece, pieceFor}
 use Rattle.report_centres.specs.Pieces.{linesFrom, placesFrom, roomy, linesTaken, Piece, centresPiece, ends, closed, linesPiece}
-use Rattle.call_report.specs.Whole.{itemsFor, prefixFor, placesFor, Follows}
-use Rattle.report_centres.proofs.Pieces.{ends-elsewhere}
+use Rattle.call_report.specs.Whole.{itemsFor, prefixFor, placesFor, PieceFollows}
 
 -- the lines that end a report are not empty
 end-some : (k n : ℕ) → 0 < length (endLine k n)
@@ -39,7 +29,7 @@ refusal-some x = zero-lt-suc _
 
 module _ (pattern board : Circuit) where
   abbrev n : ℕ
-  n = length (board .kinds)
+  n = length (board .labels)
 
   abbrev lines : ℕ → List ℕ
   lines k = concatBelow k (centreLine pattern board)
@@ -66,7 +56,7 @@ module _ (pattern board : Circuit) where
   -- the lines of the first centres and those of further ones; and their places
   lines-join : (from j : ℕ) → lines from ++ linesFrom pattern board from j ≡ lines (from + j)
   unfolding linesFrom
-  lines-join from j = sym (concat-add from j (centreLine pattern board))
+  lines-join from j = sym (concatBelow-add from j (centreLine pattern board))
 
   places-join : (from j : ℕ) → count from + placesFrom pattern board from j ≡ count (from + j)
   unfolding placesFrom
@@ -147,14 +137,11 @@ module _ (pattern board : Circuit) where
       past-text : text ≡ []
       past-text = ap (linesFrom pattern board from) past-none ∙ no-lines from
 
-      past-lined : last ≡ false
-      past-lined = ends-elsewhere n room (from + j) (length text) (λ q. omega arith)
-
       past-places : placesFrom pattern board from j ≡ 0
       unfolding placesFrom
       past-places = omega (arith, countBelow-le j (λ i. hasPlace pattern board (from + i)), past-none)
 
-      follows-past : from ≤ suc n → found ≡ placesFor accept pattern board from → Follows accept pattern board from lined
+      follows-past : from ≤ suc n → found ≡ placesFor accept pattern board from → PieceFollows accept pattern board from lined
       unfolding itemsFor
       follows-past h e =
           let here : from + j ≡ from = omega (arith, past-none) in
@@ -172,7 +159,7 @@ module _ (pattern board : Circuit) where
       lined-some : from ≤ n → last ≡ false → 0 < length text
       lined-some h e = omega (arith, leb-false (length text + longestLine) room (lined-full h e))
 
-      follows-lined : from ≤ n → last ≡ false → found ≡ placesFor accept pattern board from → Follows accept pattern board from lined
+      follows-lined : from ≤ n → last ≡ false → found ≡ placesFor accept pattern board from → PieceFollows accept pattern board from lined
       unfolding itemsFor
       follows-lined h e f =
           let some : 0 < j = some-lines from j (lined-some h e) in
@@ -185,7 +172,7 @@ module _ (pattern board : Circuit) where
             more = λ l. omega arith;
           }
 
-      follows-whole : last ≡ true → found ≡ placesFor accept pattern board from → Follows accept pattern board from whole
+      follows-whole : last ≡ true → found ≡ placesFor accept pattern board from → PieceFollows accept pattern board from whole
       unfolding itemsFor linesOf
       follows-whole e f =
           let here : from + j ≡ n = last-next e in
@@ -202,10 +189,10 @@ module _ (pattern board : Circuit) where
             more = λ l. omega arith;
           }
 
-      lines-follow : from ≤ suc n → found ≡ placesFor accept pattern board from → Follows accept pattern board from (linesPiece pattern board from found room)
+      lines-follow : from ≤ suc n → found ≡ placesFor accept pattern board from → PieceFollows accept pattern board from (linesPiece pattern board from found room)
       lines-follow h e = rw piece-is (go last refl (decLt n from))
         where
-          go : (b : Bool) → last ≡ b → Dec (n < from) → Follows accept pattern board from (cond b whole lined)
+          go : (b : Bool) → last ≡ b → Dec (n < from) → PieceFollows accept pattern board from (cond b whole lined)
           go true q d = follows-whole q e
           go false q (yes past) = follows-past past h e
           go false q (no inside) = follows-lined (omega arith) q e
@@ -223,12 +210,12 @@ module _ (pattern board : Circuit) where
 -- ---- a refused file
 
 module _ (x : Refusal) (pattern board : Circuit) (from found : ℕ) where
-  refusal-follows : from ≤ 1 → found ≡ placesFor (refuse x) pattern board from → Follows (refuse x) pattern board from (refusalPiece x from found)
+  refusal-follows : from ≤ 1 → found ≡ placesFor (refuse x) pattern board from → PieceFollows (refuse x) pattern board from (refusalPiece x from found)
   unfolding refusalPiece itemsFor prefixFor placesFor
   refusal-follows h e = go (eqb from 0) refl
     where
       go : (b : Bool) → eqb from 0 ≡ b
-          → Follows (refuse x) pattern board from (cond b (record { text = refusalLine x; next = 1; found = found }) (record { text = []; next = from; found = found }))
+          → PieceFollows (refuse x) pattern board from (cond b (record { text = refusalLine x; next = 1; found = found }) (record { text = []; next = from; found = found }))
       go true q = record { text = rw q; found = e; within = le-refl 1; forth = h; more = λ l. l }
       go false q =
           record { text = append-nil _; found = e; within = h; forth = le-refl from; more = λ l. absurd (eqb-false from 0 q (omega arith)) }
@@ -245,7 +232,7 @@ module _ (x : Refusal) (pattern board : Circuit) (from found : ℕ) where
 -- ---- the two together
 
 module _ (pattern board : Circuit) (from found room : ℕ) (enough : longestLine ≤ room) where
-  pub piece-follows : (v : Verdict) → from ≤ itemsFor v board → found ≡ placesFor v pattern board from → Follows v pattern board from (pieceFor v pattern board from found room)
+  pub piece-follows : (v : Verdict) → from ≤ itemsFor v board → found ≡ placesFor v pattern board from → PieceFollows v pattern board from (pieceFor v pattern board from found room)
   unfolding pieceFor itemsFor
   piece-follows accept h e = lines-follow pattern board from found room enough h e
   piece-follows (refuse x) h e = refusal-follows x pattern board from found h e
@@ -258,25 +245,25 @@ module _ (pattern board : Circuit) (from found room : ℕ) (enough : longestLine
 -- no items are no text and no places; all of them are the report
 pub prefix-start : (v : Verdict) (pattern board : Circuit) → prefixFor v pattern board 0 ≡ []
 unfolding prefixFor concatBelow
-prefix-start accept pattern board = rw (le-leb 0 (length (board .kinds)) zero-le)
+prefix-start accept pattern board = rw (le-leb 0 (length (board .labels)) zero-le)
 prefix-start (refuse x) pattern board = refl
 
 pub places-start : (v : Verdict) (pattern board : Circuit) → placesFor v pattern board 0 ≡ 0
 unfolding placesFor countBelow
-places-start accept pattern board = rw (le-leb 0 (length (board .kinds)) zero-le)
+places-start accept pattern board = rw (le-leb 0 (length (board .labels)) zero-le)
 places-start (refuse x) pattern board = refl
 
 pub prefix-all : (v : Verdict) (pattern board : Circuit) → prefixFor v pattern board (itemsFor v board) ≡ reportFor v pattern board
 unfolding prefixFor itemsFor reportFor
-prefix-all accept pattern board = rw (lt-leb (suc (length (board .kinds))) (length (board .kinds)) (le-refl _))
+prefix-all accept pattern board = rw (lt-leb (suc (length (board .labels))) (length (board .labels)) (le-refl _))
 prefix-all (refuse x) pattern board = refl
 
 -- there are no more places than nodes
-pub places-small : (v : Verdict) (pattern board : Circuit) (k : ℕ) → placesFor v pattern board k ≤ length (board .kinds)
+pub places-small : (v : Verdict) (pattern board : Circuit) (k : ℕ) → placesFor v pattern board k ≤ length (board .labels)
 unfolding placesFor
-places-small accept pattern board k = go (leb k (length (board .kinds))) refl
+places-small accept pattern board k = go (leb k (length (board .labels))) refl
   where
-    go : (b : Bool) → leb k (length (board .kinds)) ≡ b → countBelow (cond b k (length (board .kinds))) (hasPlace pattern board) ≤ length (board .kinds)
-    go true q = le-trans (countBelow-le k (hasPlace pattern board)) (leb-true k (length (board .kinds)) q)
-    go false q = countBelow-le (length (board .kinds)) (hasPlace pattern board)
+    go : (b : Bool) → leb k (length (board .labels)) ≡ b → countBelow (cond b k (length (board .labels))) (hasPlace pattern board) ≤ length (board .labels)
+    go true q = le-trans (countBelow-le k (hasPlace pattern board)) (leb-true k (length (board .labels)) q)
+    go false q = countBelow-le (length (board .labels)) (hasPlace pattern board)
 places-small (refuse x) pattern board k = zero-le

@@ -1,11 +1,7 @@
 -- The report call, whole: its reply and the buffer's later content, from the inputs alone. A report may be far longer than a buffer, so it is
 -- put piece by piece: a call puts the lines of the centres from a centre on, as long as there is room for the longest line, and answers
 -- where to go on. proofs/Promise shows that the pieces, one after another, are the report.
-use mathlib.Core.Bool.{cond}
-use mathlib.Core.List.{List, [], _∷_}
-use Prim.Native.Nat.{ℕ}
-use lib.Dec.{eqb}
-use lib.ListN.{length}
+use Rattle.base_lists.specs.Kit.{cond, List, [], _∷_, ℕ, eqb, length}
 use Rattle.graph.specs.Circuit.{Circuit}
 use Rattle.file_format.specs.declared.Role.the-variants.{Pattern}
 use Rattle.file_format.specs.declared.FileVerdict.{FileVerdict}
@@ -29,8 +25,8 @@ refusalPiece x from found =
     cond (eqb from 0) (record { text = refusalLine x; next = 1; found = found }) (record { text = []; next = from; found = found })
 
 -- whether a file is refused; "the pattern's 1 to 6 before the board's"
-abbrev pub verdictOf : CircuitFile → CircuitFile → Verdict
-verdictOf pattern board = first (pairConditions Pattern pattern board)
+abbrev pub filesVerdict : CircuitFile → CircuitFile → Verdict
+filesVerdict pattern board = first (pairConditions Pattern pattern board)
 
 -- the piece of two files, by that
 unfoldable pub pieceFor : Verdict → Circuit → Circuit → ℕ → ℕ → ℕ → Piece
@@ -38,7 +34,7 @@ pieceFor accept pattern board from found room = linesPiece pattern board from fo
 pieceFor (refuse x) pattern board from found room = refusalPiece x from found
 
 unfoldable pub pieceOf : CircuitFile → CircuitFile → ℕ → ℕ → ℕ → Piece
-pieceOf pattern board from found room = pieceFor (verdictOf pattern board) (circuitOf pattern) (circuitOf board) from found room
+pieceOf pattern board from found room = pieceFor (filesVerdict pattern board) (circuitOf pattern) (circuitOf board) from found room
 
 -- ---- the call
 
@@ -72,4 +68,4 @@ outcomeBy (told.Refused x) from found out = outcomeFor longestRefusal (refusalPi
 -- lines the room needed is a bound, as merging needs the first pattern's file length: 8 is then known without matching, and what does for
 -- one piece does for every later one, so that no report is refused half-way. Bytes after the piece keep their content.
 unfoldable pub reporting : CircuitFile → CircuitFile → ℕ → ℕ → List ℕ → ReportOutcome
-reporting pattern board from found out = outcomeFor (needFor (verdictOf pattern board)) (pieceOf pattern board from found (length out)) out
+reporting pattern board from found out = outcomeFor (needFor (filesVerdict pattern board)) (pieceOf pattern board from found (length out)) out

@@ -3,18 +3,18 @@ use call_prepare::Reading;
 use call_prepare::read_prepared;
 use file_format::Board;
 use file_format::Editions;
-use file_format::File;
 use file_format::FileVerdict;
 use file_format::Pattern;
 use file_format::Refusal;
 use file_format::Role;
+use file_format::TOO_SHORT;
 use file_pair::Pair;
-use graph_neighbours::tables::LINKS;
 use graph_neighbours::tables::OFFSETS;
+use graph_neighbours::tables::TARGETS;
 use place_components::components;
 use report::lines::put_refusal;
 use report_centres::LONGEST;
-use report_centres::Part;
+use report_centres::PutPiece;
 use report_centres::Resume;
 use report_centres::put_centres;
 use report_centres::put_last;
@@ -38,7 +38,7 @@ ghost use Rattle.call_report.specs.declared.ReportAnswer.the-variants as
 
 // What the call comes to: a piece of the report, or why it was turned away.
 pub enum ReportAnswer {
-    Put(Part),
+    Put(PutPiece),
     Refused(Refusal),
 }
 
@@ -49,17 +49,14 @@ const LONGEST_REFUSAL: usize = 20;
 fn too_short() -> ReportAnswer
     ensures { λ a. ⌜ a ≡ answer.Refused (record { number = 8; file = file.Neither }) ⌝ }
 {
-    ReportAnswer::Refused(Refusal {
-        number: 8,
-        file: File::Neither,
-    })
+    ReportAnswer::Refused(TOO_SHORT)
 }
 
 // Nothing: the report is at its end.
-fn put_nothing(from: usize, found: u16) -> Part
+fn put_nothing(from: usize, found: u16) -> PutPiece
     ensures { λ r. ⌜ r ≡ record { next = from; found = found; size = 0 } ⌝ }
 {
-    Part {
+    PutPiece {
         next: from,
         found: found as usize,
         size: 0,
@@ -67,7 +64,7 @@ fn put_nothing(from: usize, found: u16) -> Part
 }
 
 // The line of a refused file, which is the whole report.
-fn put_refused(x: Refusal, from: usize, found: u16, out: &mut [u8]) -> Part
+fn put_refused(x: Refusal, from: usize, found: u16, out: &mut [u8]) -> PutPiece
     requires { ⌜ longestRefusal ≤ length (now out) ⌝ }
     ensures { λ r. ⌜ Wrote (now (out .entry)) (refusalPiece x from found) (now (out .exit)) r ⌝ }
 {
@@ -75,7 +72,7 @@ fn put_refused(x: Refusal, from: usize, found: u16, out: &mut [u8]) -> Part
         return put_nothing(from, found);
     }
     let size = put_refusal(x, out, 0);
-    Part {
+    PutPiece {
         next: 1,
         found: found as usize,
         size,
@@ -106,18 +103,27 @@ fn answer_by(verdict: FileVerdict, from: usize, found: u16, out: &mut [u8]) -> R
 fn put_lines(
     masks: &[u32],
     offsets: &[u16],
-    links: &[u16],
+    targets: &[u16],
     whole: &[u32],
-    labels: &[u16],
+    component_of: &[u16],
     sizes: &[u16],
     resume: Resume,
     out: &mut [u8],
-) -> Part
-    requires { ⌜ SourceOfSome (tables (now masks) (now offsets) (now links)) (now whole) (resume .radius) ⌝ }
-    requires { ⌜ Components (length (now whole)) (matched (tables (now masks) (now offsets) (now links)) (now whole)) (now whole) (now labels) (now sizes) ⌝ }
-    ensures { λ p. ⌜ EveryWrote (tables (now (masks .entry)) (now (offsets .entry)) (now (links .entry))) (now (whole .entry)) (resume .radius) (λ pattern board. linesPiece pattern board (resume .from) (resume .found) (length (now (out .entry)))) (now (out .entry)) (now (out .exit)) p ⌝ }
+) -> PutPiece
+    requires { ⌜ SourceOfSome (tables (now masks) (now offsets) (now targets)) (now whole) (resume .radius) ⌝ }
+    requires { ⌜ Components (length (now whole)) (matched (tables (now masks) (now offsets) (now targets)) (now whole)) (now whole) (now «component_of») (now sizes) ⌝ }
+    ensures { λ p. ⌜ EveryWrote (tables (now (masks .entry)) (now (offsets .entry)) (now (targets .entry))) (now (whole .entry)) (resume .radius) (λ pattern board. linesPiece pattern board (resume .from) (resume .found) (length (now (out .entry)))) (now (out .entry)) (now (out .exit)) p ⌝ }
 {
-    let part = put_centres(masks, offsets, links, whole, labels, sizes, resume, out);
+    let part = put_centres(
+        masks,
+        offsets,
+        targets,
+        whole,
+        component_of,
+        sizes,
+        resume,
+        out,
+    );
     put_last(part, whole.len(), out)
 }
 
@@ -130,14 +136,14 @@ pub fn open(
     board: &[u8],
     masks: &mut [u32],
     offsets: &mut [u16],
-    links: &mut [u16],
+    targets: &mut [u16],
     whole: &mut [u32],
-    labels: &mut [u16],
+    component_of: &mut [u16],
     sizes: &mut [u16],
 ) -> Pair
-    requires { ⌜ (length (now masks) ≡ 64) × NetRoom (now offsets) (now links) ⌝ }
-    requires { ⌜ (length (now whole) ≡ 512) × (length (now labels) ≡ 512) × (length (now sizes) ≡ 512) ⌝ }
-    ensures { λ r. ⌜ Opened from (inEdition (editions .pattern) (now (pattern .entry))) (inEdition (editions .board) (now (board .entry))) r (tables (now (masks .exit)) (now (offsets .exit)) (now (links .exit))) (now (whole .exit)) (now (labels .exit)) (now (sizes .exit)) ⌝ }
+    requires { ⌜ (length (now masks) ≡ 64) × NetRoom (now offsets) (now targets) ⌝ }
+    requires { ⌜ (length (now whole) ≡ 512) × (length (now «component_of») ≡ 512) × (length (now sizes) ≡ 512) ⌝ }
+    ensures { λ r. ⌜ Opened from (inEdition (editions .pattern) (now (pattern .entry))) (inEdition (editions .board) (now (board .entry))) r (tables (now (masks .exit)) (now (offsets .exit)) (now (targets .exit))) (now (whole .exit)) (now («component_of» .exit)) (now (sizes .exit)) ⌝ }
 {
     let mut pk = [0u32; Pattern::MAX_NODES];
     let mut nk = [0u32; Board::MAX_NODES];
@@ -154,7 +160,7 @@ pub fn open(
         &mut nk,
         masks,
         offsets,
-        links,
+        targets,
     );
     let verdict = read.verdict;
     let FileVerdict::Accepted = verdict else {
@@ -166,13 +172,13 @@ pub fn open(
     }
     let parts = read.parts;
     let table = &mut whole[..n];
-    match_tables(&pk[..parts], &nk[..n], masks, offsets, links, table);
+    match_tables(&pk[..parts], &nk[..n], masks, offsets, targets, table);
     components(
         masks,
         offsets,
-        links,
+        targets,
         table,
-        &mut labels[..n],
+        &mut component_of[..n],
         &mut sizes[..n],
     );
     read
@@ -183,16 +189,16 @@ pub fn put(
     read: Pair,
     masks: &[u32],
     offsets: &[u16],
-    links: &[u16],
+    targets: &[u16],
     whole: &[u32],
-    labels: &[u16],
+    component_of: &[u16],
     sizes: &[u16],
     from: usize,
     found: u16,
     out: &mut [u8],
 ) -> ReportAnswer
-    requires { ⌜ SomeOpened from read (tables (now masks) (now offsets) (now links)) (now whole) (now labels) (now sizes) ⌝ }
-    ensures { λ a. ⌜ EveryReported from found read (tables (now (masks .entry)) (now (offsets .entry)) (now (links .entry))) (now (whole .entry)) (now (labels .entry)) (now (sizes .entry)) (now (out .entry)) (record { reply = reportReply a; out = now (out .exit) }) ⌝ }
+    requires { ⌜ SomeOpened from read (tables (now masks) (now offsets) (now targets)) (now whole) (now «component_of») (now sizes) ⌝ }
+    ensures { λ a. ⌜ EveryReported from found read (tables (now (masks .entry)) (now (offsets .entry)) (now (targets .entry))) (now (whole .entry)) (now («component_of» .entry)) (now (sizes .entry)) (now (out .entry)) (record { reply = reportReply a; out = now (out .exit) }) ⌝ }
 {
     let verdict = read.verdict;
     let FileVerdict::Accepted = verdict else {
@@ -213,9 +219,9 @@ pub fn put(
     ReportAnswer::Put(put_lines(
         masks,
         offsets,
-        links,
+        targets,
         &whole[..nodes],
-        &labels[..nodes],
+        &component_of[..nodes],
         &sizes[..nodes],
         resume,
         out,
@@ -239,9 +245,9 @@ pub fn report(
 {
     let mut masks = [0u32; MASKS];
     let mut offsets = [0u16; OFFSETS];
-    let mut links = [0u16; LINKS];
+    let mut targets = [0u16; TARGETS];
     let mut whole = [0u32; Board::MAX_NODES];
-    let mut labels = [0u16; Board::MAX_NODES];
+    let mut component_of = [0u16; Board::MAX_NODES];
     let mut sizes = [0u16; Board::MAX_NODES];
     let read = open(
         from,
@@ -250,18 +256,18 @@ pub fn report(
         board,
         &mut masks,
         &mut offsets,
-        &mut links,
+        &mut targets,
         &mut whole,
-        &mut labels,
+        &mut component_of,
         &mut sizes,
     );
     put(
         read,
         &masks,
         &offsets,
-        &links,
+        &targets,
         &whole,
-        &labels,
+        &component_of,
         &sizes,
         from,
         found,

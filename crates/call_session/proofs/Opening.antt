@@ -1,26 +1,19 @@
 -- The tables that opening fills hold a fresh machine. Assumes nothing.
-use mathlib.Core.Bool.{Bool, true, false, cond}
-use mathlib.Core.List.{List, _++_}
-use mathlib.Core.Path.{_≡_, refl, sym, ap, _∙_}
-use Prim.Native.Nat.{ℕ, _+_, _-_, _<_}
-use native.Mathlib.Omega.{arith}
-use borrow.Author.Tests.{ltb-true, ltb-false}
-use lib.Dec.{ltb}
-use lib.ListN.{length, getD, take, drop, replicate, length-replicate, getD-replicate, List·getD-eq-default, List·getD-append}
-use lib.Seq.{take-at, getD-append-add, getD-drop}
+use Rattle.base_lists.specs.Kit.{_≡_, _∙_, sym, ap, refl, Bool, false, true, cond, List, _++_, ℕ, _<_, _+_, _-_, ltb, length, getD, take, drop, replicate, List·getD-eq-default, length-replicate, getD-replicate, List·getD-append, take-at, getD-drop, getD-append-add, arith, ltb-false, ltb-true}
 use Rattle.base_lists.specs.List.{Below}
 use Rattle.base_lists.proofs.Tables.{length-tabulate}
+use Rattle.base_lists.proofs.Entries.{all-below, getD-any, all-below-wider}
 use Rattle.graph.specs.Circuit.{Circuit}
 use Rattle.graph.specs.Search.{far}
 use Rattle.graph.proofs.Chosen.{chosen-all}
-use Rattle.graph.proofs.Groups.{all-below, keys-wider}
 use Rattle.file_format.specs.Circuit.{Bounded}
 use Rattle.file_format.specs.Layout.{CircuitFile}
-use Rattle.file_format.specs.Reading.{front}
-use Rattle.file_format.specs.Refusals.{accept, refuse, first}
+use Rattle.file_format.specs.Reading.{prefix}
+use Rattle.file_format.specs.Refusals.{refuse, first}
 use Rattle.file_format.specs.declared.Refusal.{Refusal}
 use Rattle.file_format.specs.declared.Role.the-variants as role
 use Rattle.file_format.proofs.Accepted.{bounded-starts, bounded-ends}
+use Rattle.file_format.proofs.Refusals.{accept-not-refuse}
 use Rattle.file_pair.specs.declared.Pair.{Pair}
 use Rattle.file_pair.specs.Pair.{pairConditions, BothRead}
 use Rattle.table.specs.Host.{everything}
@@ -28,8 +21,7 @@ use Rattle.table.specs.Row.{lastTable}
 use Rattle.session.specs.Machine.{Machine, fresh, boardLeft}
 use Rattle.session.specs.State.{State, state, Linked, Holds, endLeft}
 use Rattle.session.proofs.Left.{fresh-inside, fresh-left}
-use Rattle.session_open.specs.Open.{padded, Numbered, Ended, Fixed}
-use Rattle.session_strike.proofs.Entries.{entry-any}
+use Rattle.session_open.specs.Open.{padded, LinksNumbered, Ended, Fixed}
 use Rattle.call_session.specs.declared.OpenAnswer.the-variants as answer
 use Rattle.call_session.specs.Call.{openVerdict, openState, OpenPromise}
 
@@ -52,7 +44,7 @@ pad-entry k xs i = go (ltb i (length xs)) refl
     go : (b : Bool) → ltb i (length xs) ≡ b → getD (xs ++ drop (length xs) (replicate k far)) i far ≡ cond b (getD xs i 0) far
     go true e =
         let h : i < length xs = ltb-true i (length xs) e in
-        List·getD-append xs (drop (length xs) (replicate k far)) far i h ∙ entry-any xs i far 0 h
+        List·getD-append xs (drop (length xs) (replicate k far)) far i h ∙ getD-any xs i far 0 h
     go false e =
         let out = ltb-false i (length xs) e in
         let q : i ≡ length xs + (i - length xs) = omega arith in
@@ -76,7 +68,7 @@ module _ (pattern board : Circuit) (b : Bounded role.Board board) where
   board-fresh = chosen-all board _ (b .parallel) (fresh-inside pattern board)
 
   linked-fresh :
-      {before held offsets numbers stored : List ℕ} → Numbered (length (board .kinds)) (board .starts) (board .ends) before held offsets numbers → Ended (board .starts) (board .ends) stored →
+      {before held offsets numbers stored : List ℕ} → LinksNumbered (length (board .labels)) (board .starts) (board .ends) before held offsets numbers → Ended (board .starts) (board .ends) stored →
       Linked m offsets numbers stored
   unfolding fresh
   linked-fresh numbered ended =
@@ -88,9 +80,9 @@ module _ (pattern board : Circuit) (b : Bounded role.Board board) where
       }
 
   -- So these tables hold a fresh machine, and are those that opening is to fill.
-  module _ (p : Bounded role.Pattern pattern) {fixed offsets numbers stored table : List ℕ} (s : State) {parts nodes : ℕ} (ep : parts ≡ length (pattern .kinds))
-      (en : nodes ≡ length (board .kinds)) (stays : Fixed (pattern .starts) (pattern .ends) parts nodes fixed)
-      (numbered : Numbered nodes (board .starts) (board .ends) (s .offsets) (s .numbers) offsets numbers) (ended : Ended (board .starts) (board .ends) stored)
+  module _ (p : Bounded role.Pattern pattern) {fixed offsets numbers stored table : List ℕ} (s : State) {parts nodes : ℕ} (ep : parts ≡ length (pattern .labels))
+      (en : nodes ≡ length (board .labels)) (stays : Fixed (pattern .starts) (pattern .ends) parts nodes fixed)
+      (numbered : LinksNumbered nodes (board .starts) (board .ends) (s .offsets) (s .numbers) offsets numbers) (ended : Ended (board .starts) (board .ends) stored)
       (last : table ≡ lastTable pattern board (everything board)) (long : length table ≡ nodes) where
     pub fresh-holds : Holds m (state fixed offsets numbers stored (table ++ drop nodes (s .sets)))
     unfolding fresh
@@ -117,29 +109,26 @@ module _ (pattern board : Circuit) (b : Bounded role.Board board) where
 -- what the pattern's links need of it
 pub pattern-below : {c : Circuit} → Bounded role.Pattern c → Below 32 (c .starts) × Below 32 (c .ends)
 pattern-below {c} b = (
-  all-below 32 (c .starts) (keys-wider (length (c .kinds)) 32 (c .starts) (b .nodes) (bounded-starts b)),
-  all-below 32 (c .ends) (keys-wider (length (c .kinds)) 32 (c .ends) (b .nodes) (bounded-ends b)),
+  all-below 32 (c .starts) (all-below-wider (length (c .labels)) 32 (c .starts) (b .nodes) (bounded-starts b)),
+  all-below 32 (c .ends) (all-below-wider (length (c .labels)) 32 (c .ends) (b .nodes) (bounded-ends b)),
 )
 
 -- ---- the two answers
 
-never : (x : Refusal) → accept ≡ refuse x → ⊥
-never x q = let e : _≡_ {A = ℕ} 0 1 = cc in omega arith
-
 module _ {pattern board : CircuitFile} {before : State} where
   pub open-refused : {x : Refusal} → first (pairConditions role.AnyPattern pattern board) ≡ refuse x → OpenPromise pattern board before (openVerdict (answer.Refused x)) before
   unfolding openVerdict
-  open-refused {x} e = record { replied = sym e; opened = λ q. absurd (never x (sym q)); content = λ q. absurd (never x (sym q)); refused = λ y q. refl }
+  open-refused {x} e = record { replied = sym e; opened = λ q. absurd (accept-not-refuse (sym q)); content = λ q. absurd (accept-not-refuse (sym q)); refused = λ y q. refl }
 
   pub open-held :
       {read : Pair} {parts nodes : Circuit} → BothRead role.AnyPattern pattern board read parts nodes → {after : State} →
-      Holds (fresh (front (read .parts) (read .joins) parts) (front (read .nodes) (read .links) nodes)) after →
-      after ≡ openState (front (read .parts) (read .joins) parts) (front (read .nodes) (read .links) nodes) before → OpenPromise pattern board before (openVerdict answer.Open) after
+      Holds (fresh (prefix (read .parts) (read .joins) parts) (prefix (read .nodes) (read .links) nodes)) after →
+      after ≡ openState (prefix (read .parts) (read .joins) parts) (prefix (read .nodes) (read .links) nodes) before → OpenPromise pattern board before (openVerdict answer.Open) after
   unfolding openVerdict
   open-held both h e =
       record {
         replied = sym (both .verdict);
         opened = λ q. rw (both .drawn .content, both .given .content) at h;
         content = λ q. rw (both .drawn .content, both .given .content) at e;
-        refused = λ x q. absurd (never x q);
+        refused = λ x q. absurd (accept-not-refuse q);
       }

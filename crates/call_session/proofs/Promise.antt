@@ -1,9 +1,5 @@
 -- What the calls of a session promise together, for every list of cuts from a fresh one. Assumes nothing.
-use mathlib.Core.List.{List, [], _∷_, _++_}
-use mathlib.Core.Path.{_≡_, refl}
-use Prim.Native.Nat.{ℕ, _≤_}
-use borrow.Author.Tests.{le-ltb}
-use lib.ListN.{length, drop}
+use Rattle.base_lists.specs.Kit.{_≡_, refl, List, [], _∷_, _++_, ℕ, _≤_, length, drop, le-ltb}
 use Rattle.file_format.specs.Circuit.{circuitOf}
 use Rattle.file_format.specs.Layout.{CircuitFile}
 use Rattle.file_format.specs.Reading.{filled}
@@ -20,23 +16,23 @@ use Rattle.session.proofs.Run.{run-holds, machine-largest}
 use Rattle.call_session.specs.Call.{OpenPromise}
 
 module _ {pattern board : CircuitFile} {before opened : State} (begun : OpenPromise pattern board before accept opened)
-    (places : List ℕ) (rs : List Verdict) (after : State) (cuts : Cuts opened places rs after) where
+    (linkIndices : List ℕ) (rs : List Verdict) (after : State) (cuts : Cuts opened linkIndices rs after) where
   -- the machine after the list
   abbrev machine : Machine
-  machine = machineAfter (fresh (circuitOf pattern) (circuitOf board)) places
+  machine = machineAfter (fresh (circuitOf pattern) (circuitOf board)) linkIndices
 
   -- "For every list of cuts from a fresh session, after it .. each reply in the list is the machine's": and the tables hold the machine.
-  pub session-run : (rs ≡ replies (fresh (circuitOf pattern) (circuitOf board)) places) × Holds machine after
-  session-run = run-holds places rs (fresh (circuitOf pattern) (circuitOf board)) (begun .opened refl) cuts
+  pub session-run : (rs ≡ replies (fresh (circuitOf pattern) (circuitOf board)) linkIndices) × Holds machine after
+  session-run = run-holds linkIndices rs (fresh (circuitOf pattern) (circuitOf board)) (begun .opened refl) cuts
 
   -- Reading out a table with an entry for each node replies with N and leaves the machine's table at its front,
   pub session-table :
-      {lent later : List ℕ} {answer : Reply} → ReadPromise after lent answer later → length (machine .board .kinds) ≤ length lent →
-      (answer ≡ reply accept (length (machine .board .kinds) ∷ [])) × (later ≡ machineTable machine ++ drop (length (machineTable machine)) lent)
+      {lent later : List ℕ} {answer : Reply} → ReadPromise after lent answer later → length (machine .board .labels) ≤ length lent →
+      (answer ≡ reply accept (length (machine .board .labels) ∷ [])) × (later ≡ machineTable machine ++ drop (length (machineTable machine)) lent)
   unfolding first shortTable filled
   session-table {lent} read room =
       let said = read .machine machine (session-run .1) in
-      let fits = le-ltb (length lent) (length (machine .board .kinds)) room in
+      let fits = le-ltb (length lent) (length (machine .board .labels)) room in
       (rw fits at (said .0), rw fits at (said .1))
 
   -- which is "the largest dual simulation of the pattern in the nodes with the machine's links".

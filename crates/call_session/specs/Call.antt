@@ -1,9 +1,7 @@
 -- Opening a session on two files, whole: its reply, and what the lent tables hold then.
-use mathlib.Core.List.{List, [], _∷_, _++_}
-use mathlib.Core.Path.{_≡_}
-use lib.ListN.{length, drop}
+use Rattle.base_lists.specs.Kit.{_≡_, List, [], _∷_, _++_, length, drop}
 use Rattle.graph.specs.Circuit.{Circuit}
-use Rattle.graph.specs.Neighbours.{offsetsOf, grouped}
+use Rattle.graph.specs.Neighbours.{offsetsOf, groupedValues}
 use Rattle.file_format.specs.declared.Refusal.{Refusal}
 use Rattle.file_format.specs.declared.Role.the-variants.{AnyPattern}
 use Rattle.file_format.specs.Circuit.{circuitOf}
@@ -32,13 +30,13 @@ openVerdict (Refused x) = refuse x
 -- the tables as opening fills them; entries past those needed stay
 unfoldable pub openState : Circuit → Circuit → State → State
 openState pattern board s =
-    let n = length (board .kinds) in
+    let n = length (board .labels) in
     let order = allNodes (length (board .starts)) in
     record {
       fixed =
-          (masksOf 32 (pattern .starts) (pattern .ends) ++ masksOf 32 (pattern .ends) (pattern .starts)) ++ (length (pattern .kinds) ∷ n ∷ []);
+          (masksOf 32 (pattern .starts) (pattern .ends) ++ masksOf 32 (pattern .ends) (pattern .starts)) ++ (length (pattern .labels) ∷ n ∷ []);
       offsets = halvesFilled 513 (offsetsOf n (board .starts)) (offsetsOf n (board .ends)) (s .offsets);
-      numbers = halvesFilled 4096 (grouped n (board .starts) order) (grouped n (board .ends) order) (s .numbers);
+      numbers = halvesFilled 4096 (groupedValues n (board .starts) order) (groupedValues n (board .ends) order) (s .numbers);
       ends = padded 4096 (board .ends) ++ padded 4096 (board .starts);
       sets = lastTable pattern board (everything board) ++ drop n (s .sets);
     }

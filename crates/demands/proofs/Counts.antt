@@ -1,26 +1,20 @@
 -- The four counts are those of the row of sets in a graph H, of which a circuit with some nodes taken is a presentation. Assumes nothing.
-use mathlib.Core.List.{List, map}
-use mathlib.Core.Logic.{_↔_, inl, inr, Iff·rfl, Iff·trans}
-use mathlib.Core.Path.{_≡_, refl, sym, ap, subst, _∙_}
-use Prim.Native.Nat.{ℕ, zero, suc, _≤_}
-use native.Mathlib.Nat.{le-of-eq}
-use native.Mathlib.Omega.{arith}
+use Rattle.base_lists.specs.Kit.{_≡_, _∙_, sym, ap, subst, _↔_, Iff·rfl, Iff·trans, List, map, ℕ, _≤_, suc, zero, le-of-eq, length, arith}
 use lib.Count.{ones}
-use lib.ListN.{length}
 use Rattle.base_lists.specs.List.{sum}
 use Rattle.graph.specs.Circuit.{Circuit, circuitGraph}
 use Rattle.graph.specs.Graph.{Graph}
 use Rattle.simulation.specs.Closed.{Relation, _⊆_, Refine, Row}
 use Rattle.simulation.specs.Perfect.{SameGraph}
-use Rattle.simulation.specs.Simulation.{Direction, forwards, backwards}
+use Rattle.simulation.specs.Simulation.{Direction}
 use Rattle.simulation.proofs.Same.{same-symm}
 use Rattle.simulation.proofs.Simulation.{along-wider}
 use Rattle.table.specs.declared.Counts.{Counts}
 use Rattle.table.specs.Host.{hostGraph, KindsMatch}
 use Rattle.table.specs.Refine.{countsBy, countsOf}
-use Rattle.table.specs.Row.{Way, InTable, bothWays, rowBy, lastBy, lastTable, startedBy, roundsBy}
+use Rattle.table.specs.Row.{InTable, bothWays, rowBy, lastBy, lastTable, startedBy, roundsBy}
 use Rattle.table.proofs.Counting.{struck-minus, started-ones, kept-ones, rounds-differ, rounds-last}
-use Rattle.table.proofs.Row.{row-for, row-first, row-fits, row-inside}
+use Rattle.table.proofs.Row.{row-for, row-first, row-fits, row-inside, both-ways}
 use Rattle.table.proofs.Sets.{same-pairs}
 use Rattle.demands.specs.Demands.{Sets, RowRun, RowCounts}
 use Rattle.demands.specs.OneWay.{SetsAlong}
@@ -36,18 +30,13 @@ sets-same ways P Agree s (suc k) u v r = (
       (v′, along-wider (λ x y. s .links x y .0) d v v′ m, sets-same ways P Agree s k u′ v′ q),
 )
 
-each-way : (d : Direction) → Way bothWays d
-unfolding Way
-each-way forwards = inl refl
-each-way backwards = inr (inl refl)
-
 sets-both : (P : Graph) (Agree : Relation) (H : Graph) (k u v : ℕ) → SetsAlong bothWays P Agree H k u v ↔ Sets P Agree H k u v
 unfolding Row Refine
 sets-both P Agree H zero u v = Iff·rfl
 sets-both P Agree H (suc k) u v = (
   λ r. (
     sets-both P Agree H k u v .0 (r .0),
-    λ d u′ p. let (v′, m, q) = r .1 d u′ (each-way d, p) in (v′, m, sets-both P Agree H k u′ v′ .0 q),
+    λ d u′ p. let (v′, m, q) = r .1 d u′ (both-ways d, p) in (v′, m, sets-both P Agree H k u′ v′ .0 q),
   ),
   λ r. (
     sets-both P Agree H k u v .1 (r .0),
@@ -67,7 +56,7 @@ module _ (pattern host : Circuit) (taken : List ℕ) {H : Graph} (same : SameGra
   both-is k u v = Iff·trans (set-is bothWays pattern host taken same k u v) (sets-both (circuitGraph pattern) (KindsMatch pattern host) H k u v)
 
 -- sets that the tables of the row hold
-module _ (ways : List Direction) (pattern host : Circuit) (taken : List ℕ) (most : length (pattern .kinds) ≤ 32) {R : ℕ → Relation}
+module _ (ways : List Direction) (pattern host : Circuit) (taken : List ℕ) (most : length (pattern .labels) ≤ 32) {R : ℕ → Relation}
     (is : (k u v : ℕ) → InTable (rowBy ways pattern host taken k) u v ↔ R k u v) where
   -- a set that the next one has whole is the next one
   repeats : (k : ℕ) → R k ⊆ R (suc k) → rowBy ways pattern host taken (suc k) ≡ rowBy ways pattern host taken k
@@ -96,7 +85,7 @@ module _ (ways : List Direction) (pattern host : Circuit) (taken : List ℕ) (mo
         last _ (le-of-eq (sym r)),
       )
 
-module _ (pattern host : Circuit) (taken : List ℕ) (most : length (pattern .kinds) ≤ 32) {H : Graph} (same : SameGraph (hostGraph host taken) H) where
+module _ (pattern host : Circuit) (taken : List ℕ) (most : length (pattern .labels) ≤ 32) {H : Graph} (same : SameGraph (hostGraph host taken) H) where
   -- along both directions the four counts are those of the row, and its last set is the last table
   pub row-counts :
       {counts : Counts} → counts ≡ countsOf pattern host taken →

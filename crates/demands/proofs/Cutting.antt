@@ -1,15 +1,7 @@
 -- Ask 13: what a list of cuts comes to, without the machine. Assumes nothing.
-use mathlib.Core.Bool.{Bool, true, false, _&&_, _||_, not, cond, and-true}
-use mathlib.Core.List.{List, [], _∷_}
-use mathlib.Core.Logic.{_↔_, Iff·rfl, Iff·trans}
-use mathlib.Core.Path.{_≡_, refl, sym, ap, ap₂, subst, _∙_}
-use Prim.Native.Nat.{ℕ, _≤_, _<_}
-use borrow.Author.Tests.{lt-ltb, not-true}
-use lib.Dec.{T, eqb, ltb}
-use lib.ListN.{length, take, drop}
-use lib.Seq.{take-at, drop-at}
+use Rattle.base_lists.specs.Kit.{_≡_, _∙_, sym, ap, refl, subst, ap₂, _↔_, Iff·rfl, Iff·trans, Bool, false, true, cond, _&&_, not, _||_, and-true, List, [], _∷_, ℕ, _≤_, _<_, T, eqb, ltb, length, take, drop, take-at, drop-at, lt-ltb, not-true}
 use Rattle.base_lists.specs.List.{any}
-use Rattle.base_lists.proofs.Tests.{both, both-right, T-true, true-T}
+use Rattle.base_lists.proofs.Tests.{both-true, both-right, T-true, true-T}
 use Rattle.graph.specs.Chosen.{chosen, ChosenLink}
 use Rattle.graph.specs.Circuit.{Circuit, LinkAt, HasLink, circuitGraph, graphOf}
 use Rattle.graph.specs.Search.{inside}
@@ -40,24 +32,24 @@ use Rattle.demands.specs.Demands.{graph, equal}
 -- ---- the replies
 
 -- by whether the link is left
-cut-reply : (m : Machine) (place : ℕ) (b : Bool) → isLeft m place ≡ b → cutReply m place ≡ cond b accept (refuse fourteen)
+cut-reply : (m : Machine) (linkIndex : ℕ) (b : Bool) → isLeft m linkIndex ≡ b → cutReply m linkIndex ≡ cond b accept (refuse fourteen)
 unfolding cutReply first linkGone
-cut-reply m place true e = rw e
-cut-reply m place false e = rw e
+cut-reply m linkIndex true e = rw e
+cut-reply m linkIndex false e = rw e
 
 -- from a machine of which those links are left whose places were not named
 replies-from :
-    (places : List ℕ) (m : Machine) (k : ℕ) (earlier : List ℕ) → ((i : ℕ) → isLeft m i ≡ ltb i k && not (listed earlier i)) →
-    of.replies m places ≡ cutReplies k earlier places
+    (linkIndices : List ℕ) (m : Machine) (k : ℕ) (earlier : List ℕ) → ((i : ℕ) → isLeft m i ≡ ltb i k && not (listed earlier i)) →
+    of.replies m linkIndices ≡ cutReplies k earlier linkIndices
 unfolding of.replies cutReplies listed any
 replies-from [] m k earlier left = refl
-replies-from (place ∷ places) m k earlier left =
-    ap₂ (λ (x : Verdict) (xs : List Verdict). x ∷ xs) (said (isLeft m place) refl)
-    (replies-from places (cutMachine m place) k (place ∷ earlier)
-    (λ i. cut-keeps m place i ∙ ap (λ (b : Bool). b && not (eqb place i)) (left i) ∙ go (ltb i k) (any (λ w. eqb w i) earlier) (eqb place i)))
+replies-from (linkIndex ∷ linkIndices) m k earlier left =
+    ap₂ (λ (x : Verdict) (xs : List Verdict). x ∷ xs) (said (isLeft m linkIndex) refl)
+    (replies-from linkIndices (cutMachine m linkIndex) k (linkIndex ∷ earlier)
+    (λ i. cut-keeps m linkIndex i ∙ ap (λ (b : Bool). b && not (eqb linkIndex i)) (left i) ∙ go (ltb i k) (any (λ w. eqb w i) earlier) (eqb linkIndex i)))
   where
-    said : (b : Bool) → isLeft m place ≡ b → cutReply m place ≡ cond (ltb place k && not (any (λ w. eqb w place) earlier)) accept (refuse fourteen)
-    said b e = cut-reply m place b e ∙ ap (λ (c : Bool). cond c accept (refuse fourteen)) (sym e ∙ left place)
+    said : (b : Bool) → isLeft m linkIndex ≡ b → cutReply m linkIndex ≡ cond (ltb linkIndex k && not (any (λ w. eqb w linkIndex) earlier)) accept (refuse fourteen)
+    said b e = cut-reply m linkIndex b e ∙ ap (λ (c : Bool). cond c accept (refuse fourteen)) (sym e ∙ left linkIndex)
 
     go : (a b c : Bool) → (a && not b) && not c ≡ a && not (c || b)
     go true true true = refl
@@ -68,27 +60,27 @@ replies-from (place ∷ places) m k earlier left =
 
 -- ---- the links left
 
-module _ (m : Machine) (P B : Circuit) (samePattern : m .pattern ≡ P) (sameBoard : m .board ≡ B) (places : List ℕ)
-    (left : (i : ℕ) → isLeft m i ≡ ltb i (length (B .starts)) && not (listed places i)) where
+module _ (m : Machine) (P B : Circuit) (samePattern : m .pattern ≡ P) (sameBoard : m .board ≡ B) (linkIndices : List ℕ)
+    (left : (i : ℕ) → isLeft m i ≡ ltb i (length (B .starts)) && not (listed linkIndices i)) where
   kept-link : (v w : ℕ) →
-      HasLink (boardLeft m .starts) (boardLeft m .ends) v w ↔ ((i : ℕ) × LinkAt (B .starts) (B .ends) v w i × (listed places i ≡ false))
+      HasLink (boardLeft m .starts) (boardLeft m .ends) v w ↔ ((i : ℕ) × LinkAt (B .starts) (B .ends) v w i × (listed linkIndices i ≡ false))
   unfolding boardLeft ChosenLink
   kept-link v w = Iff·trans (chosen-iff (m .board) (m .left) v w) (to, from)
     where
-      to : (i : ℕ) × LinkAt (m .board .starts) (m .board .ends) v w i × T (inside (m .left) i) → (i : ℕ) × LinkAt (B .starts) (B .ends) v w i × (listed places i ≡ false)
+      to : (i : ℕ) × LinkAt (m .board .starts) (m .board .ends) v w i × T (inside (m .left) i) → (i : ℕ) × LinkAt (B .starts) (B .ends) v w i × (listed linkIndices i ≡ false)
       to (i, l, t) =
           let here : T (isLeft m i) = below-left m i (l .inStarts) t in
-          (i, rw sameBoard at l, not-true _ (T-true (both-right (ltb i (length (B .starts))) (not (listed places i)) (rw (left i) at here))))
+          (i, rw sameBoard at l, not-true _ (T-true (both-right (ltb i (length (B .starts))) (not (listed linkIndices i)) (rw (left i) at here))))
 
-      from : (i : ℕ) × LinkAt (B .starts) (B .ends) v w i × (listed places i ≡ false) → (i : ℕ) × LinkAt (m .board .starts) (m .board .ends) v w i × T (inside (m .left) i)
+      from : (i : ℕ) × LinkAt (B .starts) (B .ends) v w i × (listed linkIndices i ≡ false) → (i : ℕ) × LinkAt (m .board .starts) (m .board .ends) v w i × T (inside (m .left) i)
       from (i, l, e) =
-          let here : T (isLeft m i) = rw (left i) (both (ltb i (length (B .starts))) (not (listed places i)) (true-T (lt-ltb i _ (l .inStarts))) (true-T (ap not e))) in
+          let here : T (isLeft m i) = rw (left i) (both-true (ltb i (length (B .starts))) (not (listed linkIndices i)) (true-T (lt-ltb i _ (l .inStarts))) (true-T (ap not e))) in
           (i, rw sameBoard l, left-inside m i here)
 
 -- ---- every list of cuts
 
-module _ (pattern board : CircuitFile) (before opened after : State) (places : List ℕ) (said : List Verdict)
-    (begun : OpenPromise pattern board before accept opened) (cuts : Cuts opened places said after) where
+module _ (pattern board : CircuitFile) (before opened after : State) (linkIndices : List ℕ) (said : List Verdict)
+    (begun : OpenPromise pattern board before accept opened) (cuts : Cuts opened linkIndices said after) where
   abbrev P : Circuit
   P = circuitOf pattern
 
@@ -96,48 +88,48 @@ module _ (pattern board : CircuitFile) (before opened after : State) (places : L
   B = circuitOf board
 
   abbrev m : Machine
-  m = machineAfter (fresh P B) places
+  m = machineAfter (fresh P B) linkIndices
 
   first-left : (i : ℕ) → isLeft (fresh P B) i ≡ ltb i (linksOf board)
   first-left i = fresh-left P B i ∙ ap (ltb i) (length-starts board)
 
-  replies : said ≡ cutReplies (linksOf board) [] places
+  replies : said ≡ cutReplies (linksOf board) [] linkIndices
   unfolding listed any
-  replies = call.session-run begun places said after cuts .0 ∙ replies-from places (fresh P B) (linksOf board) [] (λ i. first-left i ∙ sym (and-true (ltb i (linksOf board))))
+  replies = call.session-run begun linkIndices said after cuts .0 ∙ replies-from linkIndices (fresh P B) (linksOf board) [] (λ i. first-left i ∙ sym (and-true (ltb i (linksOf board))))
 
   same : (m .pattern ≡ P) × (m .board ≡ B)
   unfolding fresh
-  same = after-same places (fresh P B)
+  same = after-same linkIndices (fresh P B)
 
-  largest : Largest (graph pattern) (equal pattern board) (leftOf board places) (InTable (machineTable m))
+  largest : Largest (graph pattern) (equal pattern board) (leftOf board linkIndices) (InTable (machineTable m))
   unfolding leftOf circuitGraph graphOf boardLeft chosen KindsMatch
   largest =
       largest-same
       (subst (λ (c : Circuit). SameGraph (circuitGraph (m .pattern)) (circuitGraph c)) (same .0) (same-refl (circuitGraph (m .pattern))))
       (record {
-        nodes = λ v. subst (λ (c : Circuit). (v < length (m .board .kinds)) ↔ (v < length (c .kinds))) (same .1) Iff·rfl;
-        links = kept-link m P B (same .0) (same .1) places (λ i. left-after places (fresh P B) i ∙ ap (λ (b : Bool). b && not (listed places i)) (fresh-left P B i));
+        nodes = λ v. subst (λ (c : Circuit). (v < length (m .board .labels)) ↔ (v < length (c .labels))) (same .1) Iff·rfl;
+        links = kept-link m P B (same .0) (same .1) linkIndices (λ i. left-after linkIndices (fresh P B) i ∙ ap (λ (b : Bool). b && not (listed linkIndices i)) (fresh-left P B i));
       })
       (record { agree = λ u v h k. agreeing u v })
-      (call.session-largest begun places said after cuts)
+      (call.session-largest begun linkIndices said after cuts)
     where
       agreeing : (u v : ℕ) → KindsMatch (m .pattern) (boardLeft m) u v ↔ KindsMatch P B u v
       agreeing u v =
           subst (λ (c : Circuit). KindsMatch (m .pattern) (boardLeft m) u v ↔ KindsMatch c B u v) (same .0)
           (subst (λ (c : Circuit). KindsMatch (m .pattern) (boardLeft m) u v ↔ KindsMatch (m .pattern) c u v) (same .1) Iff·rfl)
 
-  nodes : length (m .board .kinds) ≡ nodesOf board
-  nodes = ap (λ (c : Circuit). length (c .kinds)) (same .1) ∙ length-labels board
+  nodes : length (m .board .labels) ≡ nodesOf board
+  nodes = ap (λ (c : Circuit). length (c .labels)) (same .1) ∙ length-labels board
 
   table : (lent later : List ℕ) (answer : Reply) → ReadPromise after lent answer later → nodesOf board ≤ length lent →
       (answer ≡ reply accept (nodesOf board ∷ []))
-      × Largest (graph pattern) (equal pattern board) (leftOf board places) (InTable (take (nodesOf board) later))
+      × Largest (graph pattern) (equal pattern board) (leftOf board linkIndices) (InTable (take (nodesOf board) later))
       × (drop (nodesOf board) later ≡ drop (nodesOf board) lent)
   table lent later answer read room =
-      let (a, t) = call.session-table begun places said after cuts read (rw nodes room) in
+      let (a, t) = call.session-table begun linkIndices said after cuts read (rw nodes room) in
       let long : length (machineTable m) ≡ nodesOf board = length-table m ∙ nodes in (
         a ∙ ap (λ (n : ℕ). reply accept (n ∷ [])) nodes,
-        subst (λ (x : List ℕ). Largest (graph pattern) (equal pattern board) (leftOf board places) (InTable x))
+        subst (λ (x : List ℕ). Largest (graph pattern) (equal pattern board) (leftOf board linkIndices) (InTable x))
             (sym (ap (take (nodesOf board)) t ∙ take-at (machineTable m) _ (nodesOf board) long)) largest,
         ap (drop (nodesOf board)) t ∙ drop-at (machineTable m) _ (nodesOf board) long ∙ ap (λ (n : ℕ). drop n lent) long,
       )

@@ -1,18 +1,10 @@
 -- Each call is decided by its conditions, and a refusal leaves every lent table as it was. Assumes nothing.
-use mathlib.Core.Bool.{Bool, true, false, _&&_, not, cond}
-use mathlib.Core.List.{List, [], _∷_, _++_}
-use mathlib.Core.Logic.{_↔_, ⊎-elim}
-use mathlib.Core.Path.{_≡_, refl, sym, ap, _∙_}
-use Prim.Native.Nat.{ℕ}
-use native.Mathlib.Nat.{le-of-eq}
-use native.Mathlib.Omega.{arith}
-use lib.Dec.{T, ltb, ltb→lt, lt→ltb}
-use lib.ListN.{length, take}
-use Rattle.base_lists.specs.List.{all, Below}
-use Rattle.base_lists.proofs.Tests.{both, both-left, both-right, all-at, at-all}
+use Rattle.base_lists.specs.Kit.{_≡_, _∙_, sym, ap, refl, ⊎-elim, Bool, false, true, cond, _&&_, not, List, [], _∷_, _++_, ℕ, le-of-eq, ltb, length, arith}
+use Rattle.base_lists.specs.List.{all}
+use Rattle.base_lists.proofs.Tests.{both-true, both-left, both-right}
+use Rattle.base_lists.proofs.Entries.{all-below, below-all}
 use Rattle.graph.specs.Circuit.{Circuit}
 use Rattle.graph.proofs.Distance.{connected-iff, radius-is}
-use Rattle.file_format.specs.declared.Edition.{Edition}
 use Rattle.file_format.specs.declared.File.the-variants.{Neither}
 use Rattle.file_format.specs.declared.Refusal.{Refusal}
 use Rattle.file_format.specs.declared.Role.{Role}
@@ -26,42 +18,39 @@ use Rattle.file_format.specs.Reply.{Reply, readReply, reply}
 use Rattle.file_format.proofs.Accepted.{links-within}
 use Rattle.file_format.proofs.Fields.{length-kinds, length-packages, length-starts, length-ends, length-labels}
 use Rattle.file_format.proofs.Reading.{reading-filled}
-use Rattle.file_format.proofs.Refusals.{accepted, accepted-verdict, accept-not-refuse, first-accept, first-parts, first-refuse, accepts-iff, refuses-by}
-use Rattle.file_format.proofs.Rising.{rising-iff}
+use Rattle.file_format.proofs.Refusals.{accepted, accepted-verdict, accept-not-refuse, first-accept, first-parts, first-refuse, accepts-iff, refuses-by, reply-verdict}
+use Rattle.file_format.proofs.Rising.{rising-links, rise-test}
 use Rattle.table.specs.declared.Counts.{Counts}
 use Rattle.table.specs.Fill.{listed}
-use Rattle.table.specs.Reply.{noCounts, replied}
+use Rattle.table.specs.Reply.{noCounts, countsReply}
+use Rattle.table.proofs.Reply.{replied-verdict}
 use Rattle.place.specs.Match.{found}
 use Rattle.place.specs.Outcome.{placeVerdict}
-use Rattle.file_write.specs.Writing.{writeConditions, writing}
-use Rattle.call_convert.specs.Call.{convertConditions, converting}
-use Rattle.call_load.specs.Call.{loadConditions, loading}
-use Rattle.call_distance.specs.Calls.{radiusCall, ballConditions, ballCall}
-use Rattle.simulation.specs.Simulation.{Direction}
-use Rattle.call_match.specs.Call.{matchConditions, matchingBy}
-use Rattle.call_bounded.specs.Call.{boundedConditions, boundedMatching}
+use Rattle.file_write.specs.Writing.{writing}
+use Rattle.call_convert.specs.Call.{converting}
+use Rattle.call_test_board.specs.Call.{makingTestBoard}
+use Rattle.call_distance.specs.Calls.{radiusCall, ballCall}
+use Rattle.call_match.specs.Call.{matchingBy}
+use Rattle.call_bounded.specs.Call.{boundedMatching}
 use Rattle.call_place.specs.Call.{inputConditions}
 use Rattle.call_place.proofs.Promise.{input-refused, verdict-is, accept-or-nine, nine-keeps}
-use Rattle.call_check.specs.Call.{checkConditions, checkCall}
-use Rattle.call_barring.specs.Call.{barInputs, barCall}
+use Rattle.call_check.specs.Call.{checkCall}
 use Rattle.call_barring.proofs.Promise as bar-call
-use Rattle.call_merge.specs.Call.{mergeConditions, merging}
+use Rattle.call_merge.specs.Call.{merging}
 use Rattle.order.specs.declared.Order.{Order}
-use Rattle.order_files.specs.Files.{secondEdition, compareFiles}
-use Rattle.call_compare.specs.Call.{comparedBy, comparing, compareReply}
-use Rattle.shelf_strings.specs.Strings.{cutInto}
-use Rattle.call_shelf.specs.Shelf.{shelfOf, mostFiles, shelvingOf, shelving}
-use Rattle.call_report.specs.Call.{reporting, needFor, verdictOf, outcomeFor}
+use Rattle.order.specs.Files.{secondEdition, compareFiles}
+use Rattle.call_shelf.specs.Compare.{comparedBy, comparing, compareReply}
+use Rattle.call_shelf.specs.Shelf.{shelvingOf, shelving}
+use Rattle.call_report.specs.Call.{reporting, needFor, filesVerdict, outcomeFor}
 use Rattle.session.specs.Machine.{Machine, fresh, isLeft, cutReply, machineAfter}
 use Rattle.session.specs.Session.{CutPromise, ReadPromise}
 use Rattle.session.specs.State.{State, Holds}
 use Rattle.session.proofs.Left.{fresh-left}
 use Rattle.session.proofs.Run.{left-after, after-same}
-use Rattle.call_session.specs.Call.{openConditions, OpenPromise}
 use Rattle.call_session.proofs.Promise as session
 use Rattle.demands.specs.Numbers as number
 use Rattle.demands.specs.Numbers.{EachNumbered}
-use Rattle.demands.specs.Demands.{Lent, placed, Decided, Replies, Counting, nine, placedConditions, Untouched, Unread, ReadsAs, Running, Demand1}
+use Rattle.demands.specs.Demands.{Lent, placed, Decided, Replies, nine, placedConditions, Untouched, Unread, ReadsAs, Running, Demand1}
 use Rattle.demands.proofs.Numbers.{file-numbered, file-then, read-numbered, write-numbered, convert-numbered, load-numbered, ball-numbered, match-numbered, bounds-numbered, place-numbered, check-numbered, bar-numbered, merge-numbered, pair-numbered, short-numbered}
 
 -- ---- a verdict that is the first of a list of conditions
@@ -77,25 +66,14 @@ by-first {conditions} each e keeps =
       kept = λ x r. keeps x (sym e ∙ r);
     }
 
--- the verdict of a reply is the one that it was made from
-pub reply-verdict : (v : Verdict) (values : List ℕ) → reply v values .verdict ≡ v
-unfolding reply
-reply-verdict accept values = refl
-reply-verdict (refuse x) values = refl
-
 -- a refusal has no values
 pub no-values : {v : Verdict} {x : Refusal} (values : List ℕ) → v ≡ refuse x → reply v values .values ≡ []
 unfolding reply
 no-values values e = rw e
 
-no-counts : {v : Verdict} {x : Refusal} (counts : Counts) → v ≡ refuse x → replied v counts .counts ≡ noCounts
-unfolding replied
+no-counts : {v : Verdict} {x : Refusal} (counts : Counts) → v ≡ refuse x → countsReply v counts .counts ≡ noCounts
+unfolding countsReply
 no-counts counts e = rw e
-
-replied-verdict : (v : Verdict) (counts : Counts) → replied v counts .verdict ≡ v
-unfolding replied
-replied-verdict accept counts = refl
-replied-verdict (refuse x) counts = refl
 
 -- a refused call keeps what was lent
 pub keeps : {v : Verdict} {x : Refusal} (values old : List ℕ) → v ≡ refuse x → filled v values old ≡ old
@@ -110,89 +88,6 @@ verdict-read :
 unfolding reading
 verdict-read role file kinds packages starts ends = reply-verdict _ _
 
-reads :
-    (role : Role) (file : CircuitFile) (kinds packages starts ends : List ℕ) → let result = reading role file kinds packages starts ends in
-    Replies (readConditions role file (length kinds) (length packages) (length starts) (length ends)) (result .reply) (Unread kinds packages starts ends result)
-unfolding reading Unread
-reads role file kinds packages starts ends =
-    by-first (read-numbered role file (length kinds) (length packages) (length starts) (length ends)) (verdict-read role file kinds packages starts ends)
-    (λ x e. (no-values _ e, (keeps _ kinds e, keeps _ packages e, keeps _ starts e, keeps _ ends e)))
-
-writes :
-    (role : Role) (e : Edition) (kinds packages starts ends out : List ℕ) → let result = writing role e kinds packages starts ends out in
-    Replies (writeConditions role e kinds packages starts ends (length out)) (result .reply) (result .out ≡ out)
-unfolding writing
-writes role e kinds packages starts ends out =
-    by-first (write-numbered role e kinds packages starts ends (length out)) (reply-verdict _ _) (λ x e. (no-values _ e, keeps _ out e))
-
-converts :
-    (role : Role) (to : Edition) (file : CircuitFile) (out : List ℕ) → let result = converting role to file out in
-    Replies (convertConditions role to file (length out)) (result .reply) (result .out ≡ out)
-unfolding converting
-converts role to file out = by-first (convert-numbered role to file (length out)) (reply-verdict _ _) (λ x e. (no-values _ e, keeps _ out e))
-
-loads :
-    (seed n m k : ℕ) (out : List ℕ) → let result = loading seed n m k out in Replies (loadConditions n m k (length out)) (result .reply) (result .out ≡ out)
-unfolding loading
-loads seed n m k out = by-first (load-numbered n m k (length out)) (reply-verdict _ _) (λ x e. (no-values _ e, keeps _ out e))
-
-measures : (file : CircuitFile) → Replies (fileConditions Pattern file) (radiusCall file) (Unit {0})
-unfolding radiusCall
-measures file = by-first (file-numbered Pattern file) (reply-verdict _ _) (λ x e. (no-values _ e, tt))
-
-balls :
-    (file : CircuitFile) (w r : ℕ) (out : List ℕ) → let result = ballCall file w r out in
-    Replies (ballConditions file w (length out)) (result .reply) (result .out ≡ out)
-unfolding ballCall
-balls file w r out = by-first (ball-numbered file w (length out)) (reply-verdict _ _) (λ x e. (no-values _ e, keeps _ out e))
-
-matches :
-    (ways : List Direction) (pattern board : CircuitFile) (table : List ℕ) → let result = matchingBy ways pattern board table in
-    Counting (matchConditions pattern board (length table)) (result .reply) (result .table ≡ table)
-unfolding matchingBy
-matches ways pattern board table =
-    by-first (match-numbered pattern board (length table)) (replied-verdict _ _) (λ x e. (no-counts _ e, keeps _ table e))
-
-bounds :
-    (pattern : List ℕ) (board : CircuitFile) (table : List ℕ) → let result = boundedMatching pattern board table in
-    Counting (boundedConditions pattern board (length table)) (result .reply) (result .table ≡ table)
-unfolding boundedMatching
-bounds pattern board table =
-    by-first (bounds-numbered pattern board (length table)) (replied-verdict _ _) (λ x e. (no-counts _ e, keeps _ table e))
-
-checks :
-    (pattern board : CircuitFile) (w : ℕ) (nodes links : List ℕ) →
-    Replies (checkConditions pattern board w (length nodes) (length links)) (checkCall pattern board w nodes links) (Unit {0})
-unfolding checkCall
-checks pattern board w nodes links =
-    by-first (check-numbered pattern board w (length nodes) (length links)) (reply-verdict _ _) (λ x e. (no-values _ e, tt))
-
-bars :
-    (pattern board : CircuitFile) (w : ℕ) (out : List ℕ) → let result = barCall pattern board w out in
-    Replies (barInputs pattern board w (length out)) (result .reply) (result .out ≡ out)
-bars pattern board w out =
-    by-first (bar-numbered pattern board w (length out)) (bar-call.verdict-is pattern board w out) (bar-call.refused-keeps pattern board w out)
-
-merges :
-    (pattern : CircuitFile) (classes out : List ℕ) → let result = merging pattern classes out in
-    Replies (mergeConditions pattern (length classes) (length out)) (result .reply) ((result .classes ≡ classes) × (result .out ≡ out))
-unfolding merging
-merges pattern classes out =
-    by-first (merge-numbered pattern (length classes) (length out)) (reply-verdict _ _) (λ x e. (no-values _ e, (keeps _ classes e, keeps _ out e)))
-
-shelves :
-    (bytes lengths order : List ℕ) → let result = shelving bytes lengths order in
-    Replies (shortTable (length (shelfOf (cutInto bytes (take mostFiles lengths)))) (length order) ∷ []) (result .reply) (result .order ≡ order)
-unfolding shelving shelvingOf
-shelves bytes lengths order = by-first (short-numbered _ (length order)) (reply-verdict _ _) (λ x e. (no-values _ e, keeps _ order e))
-
-reports :
-    (pattern board : CircuitFile) (from before : ℕ) (out : List ℕ) → let result = reporting pattern board from before out in
-    Replies (shortTable (needFor (verdictOf pattern board)) (length out) ∷ []) (result .reply) (result .out ≡ out)
-unfolding reporting outcomeFor
-reports pattern board from before out =
-    by-first (short-numbered (needFor (verdictOf pattern board)) (length out)) (reply-verdict _ _) (λ x e. (no-values _ e, keeps _ out e))
-
 -- the comparison: the first file's conditions, then the second's
 compared-by :
     (cs ds : List Condition) (o : Order) → let result = compareReply (comparedBy (first cs) (first ds) o) in
@@ -206,14 +101,6 @@ compared-by cs ds o = go (first cs) (first ds) refl refl
     go accept accept e f = (sym (first-accept cs ds e ∙ f), λ x r. absurd (accept-not-refuse (sym (first-accept cs ds e ∙ f) ∙ r)))
     go accept (refuse y) e f = (sym (first-accept cs ds e ∙ f), λ x r. refl)
     go (refuse y) w e f = (sym (first-refuse cs ds y e), λ x r. refl)
-
-compares :
-    (a b : List ℕ) → let result = compareReply (comparing a b) in
-    Decided (fileConditions Pattern (secondEdition a) ++ fileConditions Pattern (secondEdition b)) (result .verdict) (result .order ≡ 0)
-unfolding comparing
-compares a b =
-    let both = compared-by (fileConditions Pattern (secondEdition a)) (fileConditions Pattern (secondEdition b)) (compareFiles a b) in
-    by-first (file-then Pattern (secondEdition a) _ (file-numbered Pattern (secondEdition b))) (both .0) (both .1)
 
 -- ---- the place calls: the conditions on the inputs, and then 9
 
@@ -271,9 +158,6 @@ module _ (pattern board : CircuitFile) (w r : ℕ) (lent : Lent) where
 
 -- ---- a session
 
-opens : (pattern board : CircuitFile) (before after : State) (said : Verdict) → OpenPromise pattern board before said after → Decided (openConditions pattern board) said (after ≡ before)
-opens pattern board before after said p = by-first (pair-numbered AnyPattern pattern board) (p .replied) (λ x e. p .refused x (p .replied ∙ e))
-
 module _ (pattern board : CircuitFile) (places : List ℕ) (s : State) (running : Running pattern board places s) where
   abbrev m : Machine
   m = machineAfter (fresh (circuitOf pattern) (circuitOf board)) places
@@ -295,9 +179,9 @@ module _ (pattern board : CircuitFile) (places : List ℕ) (s : State) (running 
       let e = p .machine m holds .0 ∙ ap (λ (b : Bool). first (linkGone b ∷ [])) (is-left place) in
       by-first (number.fourteen (ltb place (linksOf board) && not (listed places place)), tt) e (λ x r. p .refused x (e ∙ r))
 
-  nodes-are : length (m .board .kinds) ≡ nodesOf board
+  nodes-are : length (m .board .labels) ≡ nodesOf board
   unfolding fresh
-  nodes-are = ap (λ (c : Circuit). length (c .kinds)) (after-same places (fresh (circuitOf pattern) (circuitOf board)) .1) ∙ length-labels board
+  nodes-are = ap (λ (c : Circuit). length (c .labels)) (after-same places (fresh (circuitOf pattern) (circuitOf board)) .1) ∙ length-labels board
 
   tables :
       (lent later : List ℕ) (answer : Reply) → ReadPromise s lent answer later →
@@ -310,55 +194,60 @@ module _ (pattern board : CircuitFile) (places : List ℕ) (s : State) (running 
 
 -- ---- what is accepted, and what the conditions 4, 5, 6 and 11 test
 
-reads-as : (role : Role) (file : CircuitFile) → Accepted role file ↔ ReadsAs role file
-unfolding ReadsAs readReply readConditions
-reads-as role file = (
-  λ a kinds packages starts ends k p s t. ap (λ (o : ReadOutcome). o .reply .verdict) (reading-filled role file kinds packages starts ends (accepted-verdict a) k p s t),
-  λ f.
-      let ok = f (kindsOf file) (packagesOf file) (startsOf file) (endsOf file) (le-of-eq (sym (length-kinds file))) (le-of-eq (sym (length-packages file))) (le-of-eq (sym (length-starts file))) (le-of-eq (sym (length-ends file))) in
-      accepted role file (first-parts (fileConditions role file) _ (sym (verdict-read role file (kindsOf file) (packagesOf file) (startsOf file) (endsOf file)) ∙ ok) .0),
-)
+accepted-reads : (role : Role) (file : CircuitFile) → Accepted role file → ReadsAs role file
+unfolding ReadsAs readReply
+accepted-reads role file a kinds packages starts ends k p s t =
+    ap (λ (o : ReadOutcome). o .reply .verdict) (reading-filled role file kinds packages starts ends (accepted-verdict a) k p s t)
 
-all-below : (n : ℕ) (xs : List ℕ) → T (all (λ v. ltb v n) xs) ↔ Below n xs
-unfolding Below
-all-below n xs = (
-  λ t i h. ltb→lt _ _ (all-at (λ v. ltb v n) xs t i h),
-  λ b. at-all (λ v. ltb v n) xs (λ i h. lt→ltb _ _ (b i h)),
-)
+reads-accepted : (role : Role) (file : CircuitFile) → ReadsAs role file → Accepted role file
+unfolding ReadsAs readConditions
+reads-accepted role file f =
+    let ok = f (kindsOf file) (packagesOf file) (startsOf file) (endsOf file) (le-of-eq (sym (length-kinds file))) (le-of-eq (sym (length-packages file))) (le-of-eq (sym (length-starts file))) (le-of-eq (sym (length-ends file))) in
+    accepted role file (first-parts (fileConditions role file) _ (sym (verdict-read role file (kindsOf file) (packagesOf file) (startsOf file) (endsOf file)) ∙ ok) .0)
 
-below-iff : (n : ℕ) (starts ends : List ℕ) → T (linksBelow n starts ends) ↔ (Below n starts × Below n ends)
-unfolding linksBelow
-below-iff n starts ends =
-    let s = all (λ v. ltb v n) starts in
-    let e = all (λ v. ltb v n) ends in (
-      λ t. (all-below n starts .0 (both-left s e t), all-below n ends .0 (both-right s e t)),
-      λ (a, b). both s e (all-below n starts .1 a) (all-below n ends .1 b),
-    )
+-- ---- each call, in the order of specs/Demands
 
 pub decided-1 : Demand1
+unfolding reading Unread writing converting makingTestBoard radiusCall ballCall matchingBy boundedMatching checkCall merging comparing shelving shelvingOf reporting outcomeFor linksBelow
 decided-1 =
     record {
-      reads = reads;
-      writes = writes;
-      converts = converts;
-      loads = loads;
-      measures = measures;
-      balls = balls;
-      matches = matches;
-      bounds = bounds;
+      reads = λ role file kinds packages starts ends.
+          by-first (read-numbered role file (length kinds) (length packages) (length starts) (length ends)) (reply-verdict _ _)
+          (λ x e. (no-values _ e, (keeps _ kinds e, keeps _ packages e, keeps _ starts e, keeps _ ends e)));
+      writes = λ role e kinds packages starts ends out.
+          by-first (write-numbered role e kinds packages starts ends (length out)) (reply-verdict _ _) (λ x e. (no-values _ e, keeps _ out e));
+      converts = λ role to file out. by-first (convert-numbered role to file (length out)) (reply-verdict _ _) (λ x e. (no-values _ e, keeps _ out e));
+      loads = λ seed n m k out. by-first (load-numbered n m k (length out)) (reply-verdict _ _) (λ x e. (no-values _ e, keeps _ out e));
+      measures = λ file. by-first (file-numbered Pattern file) (reply-verdict _ _) (λ x e. (no-values _ e, tt));
+      balls = λ file w r out. by-first (ball-numbered file w (length out)) (reply-verdict _ _) (λ x e. (no-values _ e, keeps _ out e));
+      matches = λ ways pattern board table.
+          by-first (match-numbered pattern board (length table)) (replied-verdict _ _) (λ x e. (no-counts _ e, keeps _ table e));
+      bounds = λ pattern board table.
+          by-first (bounds-numbered pattern board (length table)) (replied-verdict _ _) (λ x e. (no-counts _ e, keeps _ table e));
       places = places;
-      checks = checks;
-      bars = bars;
-      merges = merges;
-      compares = compares;
-      shelves = shelves;
-      reports = reports;
-      opens = opens;
+      checks = λ pattern board w nodes links.
+          by-first (check-numbered pattern board w (length nodes) (length links)) (reply-verdict _ _) (λ x e. (no-values _ e, tt));
+      bars = λ pattern board w out.
+          by-first (bar-numbered pattern board w (length out)) (bar-call.verdict-is pattern board w out) (bar-call.refused-keeps pattern board w out);
+      merges = λ pattern classes out.
+          by-first (merge-numbered pattern (length classes) (length out)) (reply-verdict _ _) (λ x e. (no-values _ e, (keeps _ classes e, keeps _ out e)));
+      compares = λ a b.
+          let both-true = compared-by (fileConditions Pattern (secondEdition a)) (fileConditions Pattern (secondEdition b)) (compareFiles a b) in
+          by-first (file-then Pattern (secondEdition a) _ (file-numbered Pattern (secondEdition b))) (both-true .0) (both-true .1);
+      shelves = λ bytes lengths order. by-first (short-numbered _ (length order)) (reply-verdict _ _) (λ x e. (no-values _ e, keeps _ order e));
+      reports = λ pattern board from before out.
+          by-first (short-numbered (needFor (filesVerdict pattern board)) (length out)) (reply-verdict _ _) (λ x e. (no-values _ e, keeps _ out e));
+      opens = λ pattern board before after said p. by-first (pair-numbered AnyPattern pattern board) (p .replied) (λ x e. p .refused x (p .replied ∙ e));
       cuts = λ pattern board places s after place said running. cuts pattern board places s running after place said;
       tables = λ pattern board places s lent later answer running. tables pattern board places s running lent later answer;
-      accepts = reads-as;
-      below = below-iff;
-      rises = rising-iff;
+      accepts = λ role file. (accepted-reads role file, reads-accepted role file);
+      below = λ n starts ends.
+          let s = all (λ v. ltb v n) starts in
+          let e = all (λ v. ltb v n) ends in (
+            λ t. (all-below n starts (both-left s e t), all-below n ends (both-right s e t)),
+            λ (a, b). both-true s e (below-all n starts a) (below-all n ends b),
+          );
+      rises = λ starts ends. (rising-links starts ends, rise-test starts ends);
       joins = λ n starts ends t. connected-iff (links-within n starts ends t);
       spans = λ n starts ends some t joined. radius-is (links-within n starts ends t) some joined;
     }

@@ -1,18 +1,13 @@
 -- Document 02, Ask 2, holds: each entry is a distance or 65,535, in the ball lookup and in both place calls. Assumes nothing.
-use mathlib.Core.List.{List}
-use mathlib.Core.Path.{_≡_, refl, sym, ap, subst, _∙_}
-use Prim.Native.Nat.{ℕ, _≤_, _<_}
-use lib.ListN.{length, getD, drop}
-use lib.Seq.{drop-at}
+use Rattle.base_lists.specs.Kit.{_≡_, _∙_, sym, ap, refl, subst, List, ℕ, length, getD, drop, drop-at}
 use Rattle.graph.specs.Circuit.{circuitGraph, graphOf}
-use Rattle.graph.specs.Graph.{Graph, Distance, DistanceEntry, Radius}
+use Rattle.graph.specs.Graph.{Graph, Distance, DistanceEntry}
 use Rattle.graph.proofs.Distance.{length-distances}
 use Rattle.graph.proofs.Walks.{radius-unique}
-use Rattle.file_format.specs.declared.Role.the-variants.{Board}
 use Rattle.file_format.specs.Circuit.{circuitOf}
 use Rattle.file_format.specs.Layout.{CircuitFile, nodesOf, startsOf, endsOf}
 use Rattle.file_format.specs.Reading.{filled}
-use Rattle.file_format.specs.Refusals.{Verdict, accept, refuse, first, Accepted}
+use Rattle.file_format.specs.Refusals.{Verdict, accept, refuse, first}
 use Rattle.file_format.proofs.Fields.{length-labels}
 use Rattle.file_format.proofs.Refusals.{accepted-verdict, accept-not-refuse}
 use Rattle.place.specs.Match.{radiusOf}
@@ -30,24 +25,13 @@ same-graph : (file : CircuitFile) → fileGraph file ≡ graph file
 unfolding circuitGraph
 same-graph file = ap (λ (n : ℕ). graphOf n (startsOf file) (endsOf file)) (sym (length-labels file))
 
-ball : (board : CircuitFile) (w r : ℕ) (out : List ℕ) → Accepted Board board → w < nodesOf board → nodesOf board ≤ length out →
-    (v : ℕ) → v < nodesOf board → DistanceEntry (graph board) w r v (getD (ballCall board w r out .out) v 0)
-ball board w r out a h room v below =
-    subst (λ (G : Graph). DistanceEntry G w r v (getD (ballCall board w r out .out) v 0)) (same-graph board) (ball-means board w r out (accepted-verdict a) h room v below)
-
-rest : (board : CircuitFile) (w r : ℕ) (out : List ℕ) → drop (nodesOf board) (ballCall board w r out .out) ≡ drop (nodesOf board) out
-unfolding ballCall ballEntries filled
-rest board w r out = go (first (ballConditions board w (length out)))
-  where
-    size : length (ballEntries board w r) ≡ nodesOf board
-    size = length-distances (nodesOf board) (startsOf board) (endsOf board) w r
-
-    go : (v : Verdict) → drop (nodesOf board) (filled v (ballEntries board w r) out) ≡ drop (nodesOf board) out
-    go accept = drop-at (ballEntries board w r) _ (nodesOf board) size ∙ ap (λ (k : ℕ). drop k out) size
-    go (refuse x) = refl
-
-near : (board : CircuitFile) (w v d : ℕ) → Accepted Board board → w < nodesOf board → Distance (graph board) w v d → d < 512
-near board w v d a h p = distance-few board (accepted-verdict a) w v d h (subst (λ (G : Graph). Distance G w v d) (sym (same-graph board)) p)
+-- what is past the board's N entries stays, refused or not
+rest-by : (board : CircuitFile) (w r : ℕ) (out : List ℕ) (v : Verdict) → drop (nodesOf board) (filled v (ballEntries board w r) out) ≡ drop (nodesOf board) out
+unfolding ballEntries filled
+rest-by board w r out accept =
+    let size = length-distances (nodesOf board) (startsOf board) (endsOf board) w r in
+    drop-at (ballEntries board w r) _ (nodesOf board) size ∙ ap (λ (k : ℕ). drop k out) size
+rest-by board w r out (refuse x) = refl
 
 -- an accepted call has conditions that all fail
 module _ (pattern board : CircuitFile) (w r : ℕ) (lent : Lent) (ok : placed pattern board w r lent .reply .verdict ≡ accept) where
@@ -72,13 +56,17 @@ module _ (pattern board : CircuitFile) (w r : ℕ) (lent : Lent) (ok : placed pa
       distances-ball pattern board w r (lent .nodes) (lent .links) (lent .table) (lent .distances) sound ok
       ∙ sym (ap (λ (o : BallOutcome). o .out) (ball-filled board w r (lent .distances) board-ok inside room))
 
-own : (pattern board : CircuitFile) (w : ℕ) (lent : Lent) → placedOwn pattern board w lent .reply .verdict ≡ accept →
-    (r : ℕ) → Radius (graph pattern) r → placedOwn pattern board w lent .distances ≡ ballCall board w r (lent .distances) .out
-unfolding placedOwn
-own pattern board w lent ok r is =
-    let a = pattern-accepted pattern board w (radiusOf (circuitOf pattern)) (lent .nodes) (lent .links) (lent .table) (lent .distances) (sound pattern board w _ lent ok) in
-    given pattern board w _ lent ok ∙ ap (λ (k : ℕ). ballCall board w k (lent .distances) .out) (radius-unique (accepted-radius a) is)
-
 -- "How far from the probe": the ball lookup's entries, and those of both place calls.
 pub ask-2 : Ask2
-ask-2 = record { ball = ball; rest = rest; near = near; given = given; own = own }
+unfolding ballCall placedOwn
+ask-2 =
+    record {
+      ball = λ board w r out a h room v below.
+          subst (λ (G : Graph). DistanceEntry G w r v (getD (ballCall board w r out .out) v 0)) (same-graph board) (ball-means board w r out (accepted-verdict a) h room v below);
+      rest = λ board w r out. rest-by board w r out (first (ballConditions board w (length out)));
+      near = λ board w v d a h p. distance-few board (accepted-verdict a) w v d h (subst (λ (G : Graph). Distance G w v d) (sym (same-graph board)) p);
+      given = given;
+      own = λ pattern board w lent ok r is.
+          let a = pattern-accepted pattern board w (radiusOf (circuitOf pattern)) (lent .nodes) (lent .links) (lent .table) (lent .distances) (sound pattern board w _ lent ok) in
+          given pattern board w _ lent ok ∙ ap (λ (k : ℕ). ballCall board w k (lent .distances) .out) (radius-unique (accepted-radius a) is);
+    }

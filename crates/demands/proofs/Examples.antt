@@ -1,7 +1,5 @@
 -- Document 01's examples, all of them. Assumes nothing.
-use mathlib.Core.Path.{refl}
-use Prim.Native.Nat.{ℕ}
-use lib.Dec.{T}
+use Rattle.base_lists.specs.Kit.{refl, ℕ, T}
 use Rattle.base_lists.specs.List.{tabulate, maximum}
 use Rattle.base_lists.proofs.Tests.{T-false}
 use Rattle.graph.specs.Search.{distances, misses, ball, beside, inside, radius}

@@ -1,5 +1,5 @@
 -- Document 01's examples of files and its table of refusals, by computation. Assumes nothing.
-use mathlib.Core.Path.{refl}
+use Rattle.base_lists.specs.Kit.{refl}
 use Rattle.base_lists.specs.List.{all, any, allBelow, tabulate, maximum}
 use Rattle.graph.specs.Neighbours.{stretch}
 use Rattle.graph.specs.Search.{beside, inside, ball, misses, distances, connected, radius}
@@ -11,16 +11,16 @@ use Rattle.file_format.specs.Reading.{reading, readConditions}
 use Rattle.file_format.specs.Refusals.{first, linkConditions, fileConditions, asksConnected, centreOutside, shortTable, numberOutside, lostPackage, packageLost, centrePlaced}
 use Rattle.file_format.specs.Reply.{reply}
 use Rattle.file_pair.specs.Pair.{pairConditions}
-use Rattle.file_bounds.specs.Third.{frontOf, boundsOf, boundsFit, boundOutside, thirdConditions}
+use Rattle.file_bounds.specs.Third.{beforeBounds, boundsOf, boundsFit, boundOutside, thirdConditions}
 use Rattle.table.specs.Examples.{rowComputed, circuitT, circuitB}
 use Rattle.table.specs.Fill.{listed}
-use Rattle.table.specs.Reply.{replied}
+use Rattle.table.specs.Reply.{countsReply}
 use Rattle.place.specs.Match.{radiusOf, ballOf, ballTable, found}
 use Rattle.file_write.specs.Bytes.{bytesOf, stretchBytes}
-use Rattle.load.specs.Load.{inRange}
+use Rattle.test_board.specs.Board.{sizesInRange}
 use Rattle.barring.specs.Outcome.{barring}
 use Rattle.call_convert.specs.Call.{everyPackage, convertConditions, converting}
-use Rattle.call_load.specs.Call.{loadConditions, loading}
+use Rattle.call_test_board.specs.Call.{testBoardConditions, makingTestBoard}
 use Rattle.call_distance.specs.Calls.{ballConditions}
 use Rattle.call_bounded.specs.Call.{boundedConditions, boundedMatching}
 use Rattle.call_barring.specs.Call.{hasPlace, barInputs, barCall}
@@ -28,7 +28,7 @@ use Rattle.call_file.specs.Told.{asRole}
 use Rattle.heronditch_told.specs.Told.{editionOf, isThird, roleOf, directionOf}
 use Rattle.demands.specs.Cutting.{cutReplies}
 use Rattle.demands.specs.Examples.{AllHold}
-use Rattle.demands.specs.Files.{refused, ReadT, ReadB, R1, R2, R3, R4, R5, R6, R7, R8, secondT, ReadSecond, thirdT, ReadThird, packed, looped, R3Editions, R10, rowOf14, R11, R12, R13, R14, R15, byEdition, ToldEdition, ToldThird, ToldRole, ToldDirection, fileExamples}
+use Rattle.demands.specs.Files.{refused, ReadT, ReadB, R1, R2, R3, R4, R5, R6, R7, R8, secondT, ReadSecond, thirdT, ReadThird, packedFile, looped, R3Editions, R10, rowOf14, R11, R12, R13, R14, R15, byEdition, ToldEdition, ToldThird, ToldRole, ToldDirection, fileExamples}
 
 -- all that is opened where a file is read and its conditions are tried
 opened : Unit {0}
@@ -80,7 +80,7 @@ unfolding ReadSecond opened secondT circuitT stretchBytes bytesOf
 readSecond = (refl, refl, refl, refl, refl, refl)
 
 readThird : ReadThird
-unfolding ReadThird opened secondT thirdT frontOf boundsOf thirdConditions boundOutside boundsFit
+unfolding ReadThird opened secondT thirdT beforeBounds boundsOf thirdConditions boundOutside boundsFit
 readThird = (refl, refl, refl)
 
 r3-editions : R3Editions
@@ -88,7 +88,7 @@ unfolding R3Editions opened fileOne looped thirdConditions
 r3-editions = (refl, refl)
 
 r10 : R10
-unfolding R10 refused loading loadConditions inRange numberOutside first reply
+unfolding R10 refused makingTestBoard testBoardConditions sizesInRange numberOutside first reply
 r10 seed = refl
 
 r11 : R11
@@ -96,11 +96,11 @@ unfolding R11 opened rowOf14
 r11 = refl
 
 r12 : R12
-unfolding R12 opened packed converting convertConditions packageLost lostPackage everyPackage any reply
+unfolding R12 opened packedFile converting convertConditions packageLost lostPackage everyPackage any reply
 r12 = refl
 
 r13 : R13
-unfolding R13 opened looped boundedMatching boundedConditions thirdConditions frontOf boundsOf boundOutside boundsFit replied
+unfolding R13 opened looped boundedMatching boundedConditions thirdConditions beforeBounds boundsOf boundOutside boundsFit countsReply
 r13 = refl
 
 r14 : R14

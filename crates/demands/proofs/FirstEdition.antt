@@ -1,12 +1,5 @@
 -- For files of the first edition all is as it was before there were packages: `first-edition`. Assumes nothing.
-use mathlib.Core.Bool.{Bool, true, false, _&&_, not}
-use mathlib.Core.List.{List, [], _∷_, _++_}
-use mathlib.Core.Path.{_≡_, refl, ap, _∙_}
-use Prim.Native.Nat.{ℕ, _+_, _*_}
-use native.Mathlib.Omega.{arith}
-use lib.Dec.{eqb}
-use borrow.Author.Tests.{le-ltb}
-use lib.ListN.{length, drop}
+use Rattle.base_lists.specs.Kit.{_≡_, _∙_, ap, refl, false, not, and-true, List, [], _∷_, _++_, ℕ, _+_, _*_, eqb, length, drop, arith, le-ltb}
 use Rattle.graph.specs.Circuit.{Circuit}
 use Rattle.file_format.specs.declared.Edition.the-variants.{First}
 use Rattle.file_format.specs.declared.Role.{Role}
@@ -25,7 +18,7 @@ use Rattle.demands.specs.FirstEdition.{circuitBefore, fileBefore, readin
 -- ---- what a file holds
 
 module _ (file : List ℕ) where
-  kinds-before : labelsOf (firstEdition file) ≡ circuitBefore file .kinds
+  kinds-before : labelsOf (firstEdition file) ≡ circuitBefore file .labels
   unfolding circuitBefore kindsOf nodesOf
   kinds-before = first-labels file
 
@@ -77,17 +70,7 @@ verdict-before role file k p s e =
     ap (λ (cs : List Condition). first (cs ++ (shortTable n k ∷ shortTable 0 p ∷ shortTable m s ∷ shortTable m e ∷ []))) (asked-before file role)
     ∙ left-out (fileBefore role file) (shortTable n k) (shortTable 0 p) (shortTable m s ∷ shortTable m e ∷ []) (none-asked p)
 
-reads-before : (role : Role) (file kinds packages starts ends : List ℕ)
-    → reading role (firstEdition file) kinds packages starts ends ≡ readingBefore role file kinds packages starts ends
-unfolding reading readingBefore nodesOf linksOf kindsOf circuitBefore
-reads-before role file kinds packages starts ends =
-    rw (verdict-before role file (length kinds) (length packages) (length starts) (length ends), first-packages file, filled-none, starts-before file, ends-before file)
-
 -- ---- writing
-
-and-true : (b : Bool) → (b && true) ≡ b
-and-true true = refl
-and-true false = refl
 
 module _ (role : Role) (kinds packages starts ends : List ℕ) where
   circuit-before :
@@ -98,21 +81,19 @@ module _ (role : Role) (kinds packages starts ends : List ℕ) where
   unfolding circuitConditions packagesGiven
   circuit-before = rw (and-true (eqb (length starts) (length ends)))
 
-  writes-before : (out : List ℕ) → writing role First kinds packages starts ends out ≡ writingBefore role (record { kinds = kinds; starts = starts; ends = ends }) out
+  writes-before : (out : List ℕ) → writing role First kinds packages starts ends out ≡ writingBefore role (record { labels = kinds; starts = starts; ends = ends }) out
   unfolding writing writingBefore writeConditions bytesBefore stretchBytes
   writes-before out = rw (circuit-before, first-length (length kinds) (length starts))
 
-merges-before : (file : List ℕ) → mergedBytes First (circuitOf (firstEdition file)) ≡ bytesBefore (merged (circuitBefore file))
-unfolding mergedBytes circuitBytes kindsFor stretchBytes bytesBefore
-merges-before file = ap (λ (c : Circuit). bytesBefore (merged c)) (held-before file)
-
 -- "a first-edition file counts as having all packages 0": nothing moved for it
 pub first-edition : FirstEdition
+unfolding reading readingBefore nodesOf linksOf kindsOf circuitBefore mergedBytes circuitBytes kindsFor stretchBytes bytesBefore
 first-edition =
     record {
       asked = λ role file. asked-before file role;
       held = held-before;
-      reads = reads-before;
+      reads = λ role file kinds packages starts ends.
+          rw (verdict-before role file (length kinds) (length packages) (length starts) (length ends), first-packages file, filled-none, starts-before file, ends-before file);
       writes = writes-before;
-      merges = merges-before;
+      merges = λ file. ap (λ (c : Circuit). bytesBefore (merged c)) (held-before file);
     }

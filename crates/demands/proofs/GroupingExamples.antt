@@ -1,15 +1,10 @@
 -- The two groupings of specs/Groupings: one that meets the supposition, and one that does not. Assumes nothing.
-use mathlib.Core.List.{[], _∷_}
-use mathlib.Core.Logic.{Iff·rfl}
-use mathlib.Core.Path.{_≡_, refl, sym, ap, subst, _∙_}
-use Prim.Native.Nat.{ℕ, _<_}
-use lib.Dec.{eqb, ltb, eqb→eq, ltb→lt, lit≤}
-use lib.ListN.{length, getD}
+use Rattle.base_lists.specs.Kit.{_≡_, _∙_, sym, ap, refl, subst, Iff·rfl, [], _∷_, ℕ, _<_, eqb, ltb, eqb→eq, ltb→lt, lit≤, length, getD}
 use Rattle.base_lists.specs.Below.{collect, leastBelow}
 use Rattle.base_lists.specs.List.{allBelow, anyBelow, tabulate}
 use Rattle.base_lists.proofs.Tests.{allBelow-at}
 use Rattle.graph.specs.Circuit.{Circuit, graphOf, circuitGraph}
-use Rattle.graph_pairs.specs.Pairs.{pairTest, pairStarts, pairEnds}
+use Rattle.graph.specs.Pairs.{pairTest, pairStarts, pairEnds}
 use Rattle.file_format.specs.declared.Edition.the-variants.{First}
 use Rattle.file_format.specs.declared.Role.the-variants.{Pattern}
 use Rattle.file_format.specs.Circuit.{circuitOf}
@@ -55,14 +50,14 @@ groups-Y : Groups fileY (λ u. u) 3
 unfolding opened fileY SameKind
 groups-Y =
     let each = finest (circuitOf fileY) in
-    record { below = each .below; onto = each .onto; alike = λ u v _ _ e. ap (λ (x : ℕ). getD (circuitOf fileY .kinds) x 0) e }
+    record { below = each .below; onto = each .onto; alike = λ u v _ _ e. ap (λ (x : ℕ). getD (circuitOf fileY .labels) x 0) e }
 
 supposed-Y : Supposed fileY (λ u. u) 3
 supposed-Y = record { on = λ board b. rw finest-Y (record { exactly = λ a u v n e h. rw e Iff·rfl }) }
 
 classes-Y : classCount circuitY ≡ 2
 unfolding oneLink
-classes-Y = sym (length-merged-kinds circuitY) ∙ ap (λ (q : Circuit). length (q .kinds)) E6-merged
+classes-Y = sym (length-merged-kinds circuitY) ∙ ap (λ (q : Circuit). length (q .labels)) E6-merged
 
 pub finest-Y-holds : FinestY
 finest-Y-holds =
@@ -95,9 +90,9 @@ kind a = getD (10 ∷ 20 ∷ 30 ∷ []) a 0
 member : ℕ → ℕ
 member a = getD (0 ∷ 1 ∷ 3 ∷ []) a 0
 
-kinds-E8 : (u : ℕ) → u < 4 → getD (circuitOf fileE8 .kinds) u 0 ≡ kind (joined u)
+kinds-E8 : (u : ℕ) → u < 4 → getD (circuitOf fileE8 .labels) u 0 ≡ kind (joined u)
 unfolding opened fileE8 joined kind allBelow
-kinds-E8 u h = eqb→eq _ _ (allBelow-at 4 (λ u. eqb (getD (circuitOf fileE8 .kinds) u 0) (kind (joined u))) tt u h)
+kinds-E8 u h = eqb→eq _ _ (allBelow-at 4 (λ u. eqb (getD (circuitOf fileE8 .labels) u 0) (kind (joined u))) tt u h)
 
 groups-E8 : Groups fileE8 joined 3
 unfolding opened fileE8 joined member allBelow circuitGraph graphOf SameKind

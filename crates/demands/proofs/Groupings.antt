@@ -1,10 +1,5 @@
 -- Ask 11 holds: nothing more could be joined. Assumes nothing.
-use mathlib.Core.List.{List}
-use mathlib.Core.Logic.{_↔_, Iff·rfl, Iff·symm, Iff·trans}
-use mathlib.Core.Path.{_≡_, sym, ap, subst, _∙_}
-use Prim.Native.Nat.{ℕ, _≤_, _<_}
-use native.Mathlib.Nat.{le-of-eq}
-use lib.ListN.{length, getD, replicate, length-replicate}
+use Rattle.base_lists.specs.Kit.{_≡_, _∙_, sym, ap, subst, _↔_, Iff·rfl, Iff·trans, Iff·symm, List, ℕ, _≤_, _<_, le-of-eq, length, getD, replicate, length-replicate}
 use Rattle.graph.specs.Circuit.{Circuit, graphOf, circuitGraph}
 use Rattle.simulation.specs.Closed.{Relation}
 use Rattle.simulation.specs.Grouping.{AsEachMember}
@@ -77,10 +72,10 @@ module _ {pattern : CircuitFile} (a : Accepted Pattern pattern) where
   content : PatternContent (circuitOf pattern)
   content = accepted-content a
 
-  part-below : (u : ℕ) → u < nodesOf pattern → u < length (circuitOf pattern .kinds)
+  part-below : (u : ℕ) → u < nodesOf pattern → u < length (circuitOf pattern .labels)
   part-below u h = rw (length-labels pattern) h
 
-  below-part : (u : ℕ) → u < length (circuitOf pattern .kinds) → u < nodesOf pattern
+  below-part : (u : ℕ) → u < length (circuitOf pattern .labels) → u < nodesOf pattern
   below-part u h = rw (← length-labels pattern) h
 
   module _ {group : ℕ → ℕ} {k : ℕ} (g : Groups pattern group k) where
@@ -97,7 +92,7 @@ module _ {pattern : CircuitFile} (a : Accepted Pattern pattern) where
         record {
           accepted = grouped-accepted;
           quotient = rw grouped-circuit (grouped-graph content g);
-          kinds = λ u h. ap (λ (q : Circuit). getD (q .kinds) (group u) 0) grouped-circuit ∙ grouped-kind content g u (part-below u h);
+          kinds = λ u h. ap (λ (q : Circuit). getD (q .labels) (group u) 0) grouped-circuit ∙ grouped-kind content g u (part-below u h);
         }
 
   -- ---- nothing more could be joined
@@ -124,7 +119,7 @@ module _ {pattern : CircuitFile} (a : Accepted Pattern pattern) where
     unfolding replied
     replied-is = ap (λ (xs : List ℕ). getD xs 0 0) (merge-call.values-are pattern classes out ok)
 
-    byte-is : (u : ℕ) → u < length (circuitOf pattern .kinds) → classByte pattern classes out u ≡ classOf (circuitOf pattern) u
+    byte-is : (u : ℕ) → u < length (circuitOf pattern .labels) → classByte pattern classes out u ≡ classOf (circuitOf pattern) u
     byte-is u h = merge-call.byte-is pattern classes out ok u (below-part u h)
 
     our-groups : Groups pattern (classByte pattern classes out) (replied pattern classes out)

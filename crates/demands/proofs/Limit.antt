@@ -1,13 +1,6 @@
 -- Ask 5 holds: the limit on a pattern's radius. Assumes nothing.
-use mathlib.Core.Bool.{Bool, true, false, cond}
-use mathlib.Core.List.{List, [], _∷_, _++_}
-use mathlib.Core.Logic.{_↔_}
-use mathlib.Core.Path.{_≡_, refl, sym, ap, subst₂, _∙_}
-use Prim.Native.Nat.{ℕ, _≤_, _<_}
-use native.Mathlib.Omega.{arith}
-use lib.Dec.{ltb}
-use lib.ListN.{length}
-use Rattle.base_lists.proofs.Tests.{refuted}
+use Rattle.base_lists.specs.Kit.{_≡_, _∙_, sym, ap, refl, subst₂, _↔_, Bool, false, true, cond, List, [], _∷_, _++_, ℕ, _≤_, _<_, ltb, length, arith}
+use Rattle.base_lists.proofs.Tests.{not-true-false}
 use Rattle.base_text.specs.Text.{bytes, digits, decimal}
 use Rattle.graph.specs.Circuit.{graphOf}
 use Rattle.graph.specs.Graph.{Radius}
@@ -20,13 +13,13 @@ use Rattle.file_format.specs.declared.Role.the-variants.{Pattern, Board}
 use Rattle.file_format.specs.Layout.{CircuitFile, lengthOf}
 use Rattle.file_format.specs.Links.{linksBelow}
 use Rattle.file_format.specs.Reading.{ReadOutcome, readConditions, reading}
-use Rattle.file_format.specs.Refusals.{Verdict, accept, refuse, first, tooWide, eleven, without, asksConnected, linkConditions, fileConditions, centreOutside, shortTable, Accepted}
+use Rattle.file_format.specs.Refusals.{Condition, Verdict, accept, refuse, first, tooWide, eleven, without, asksConnected, linkConditions, fileConditions, centreOutside, shortTable, Accepted}
 use Rattle.file_format.specs.Reply.{readReply}
 use Rattle.file_format.specs.Role.{inRange}
 use Rattle.file_format.proofs.Accepted.{links-within}
 use Rattle.file_format.proofs.Limit.{wide-iff, wide-file, narrow-file, accepted-before, unasked-before, without-both}
 use Rattle.file_format.proofs.Reading.{reading-refused}
-use Rattle.file_format.proofs.Refusals.{accept-not-refuse, first-accept, first-refuse, first-holds, range-orders, accepted, accepted-verdict}
+use Rattle.file_format.proofs.Refusals.{accept-not-refuse, first-accept, first-refuse, first-holds, range-orders, accepted, accepted-verdict, reply-verdict}
 use Rattle.file_pair.specs.Pair.{pairConditions}
 use Rattle.file_write.specs.Writing.{WriteOutcome, circuitConditions, writeConditions, writing, writeReply}
 use Rattle.file_write.proofs.Writing.{writing-refused}
@@ -38,13 +31,12 @@ use Rattle.call_distance.specs.Calls.{radiusCall}
 use Rattle.call_place.specs.Call.{roomConditions, inputConditions, placeAt}
 use Rattle.call_place.proofs.Promise.{input-refused}
 use Rattle.call_check.specs.Call.{checkConditions, checkCall}
-use Rattle.call_barring.specs.Call.{barInputs, barCall}
+use Rattle.call_barring.specs.Call.{barInputs}
 use Rattle.call_barring.proofs.Promise as bar-call
 use Rattle.call_merge.specs.Call.{mergeConditions, merging}
 use Rattle.call_merge.proofs.Promise.{pattern-accepted, merged-accepted, merged-circuit}
-use Rattle.demands.specs.Demands.{graph, Lent, placed, mergedFile}
+use Rattle.demands.specs.Demands.{graph, placed, mergedFile}
 use Rattle.demands.specs.Limit.{before, readingBefore, radiusBefore, placedBefore, mergingBefore, reportBefore, TurnedAway, AsBefore, Limit}
-use Rattle.demands.proofs.Decided.{reply-verdict}
 use Rattle.demands.proofs.Merged.{file-is}
 
 -- ---- which patterns
@@ -57,9 +49,6 @@ eight-not : (b : Bool) → cond b (refuse (record { number = 8; file = Neither }
 unfolding number
 eight-not true e = let z : _≡_ {A = ℕ} 8 11 = ap number e in omega arith
 eight-not false e = accept-not-refuse e
-
-narrow-accepted : (file : CircuitFile) → Accepted Pattern file ↔ ((before (fileConditions Pattern file) ≡ accept) × ((r : ℕ) → Radius (graph file) r → r ≤ 12))
-narrow-accepted file = (λ a. narrow-file file .0 (accepted-verdict a), λ h. accepted Pattern file (narrow-file file .1 h))
 
 module _ (e : Edition) (kinds packages starts ends : List ℕ) where
   split-circuit : circuitConditions Pattern e kinds packages starts ends
@@ -76,9 +65,9 @@ module _ (e : Edition) (kinds packages starts ends : List ℕ) where
       let h4 = first-holds _ _ (h3 .1) in
       let h5 = first-holds _ _ (h4 .1) in
       let h6 = first-holds _ _ (h5 .1) in
-      let some = range-orders Pattern n (length starts) (refuted (inRange Pattern n (length starts)) (h2 .0)) .0 in
-      let below = refuted (linksBelow n starts ends) (h4 .0) in
-      radius-is (links-within n starts ends below) some (refuted (connected n starts ends) (h6 .0))
+      let some = range-orders Pattern n (length starts) (not-true-false (inRange Pattern n (length starts)) (h2 .0)) .0 in
+      let below = not-true-false (linksBelow n starts ends) (h4 .0) in
+      radius-is (links-within n starts ends below) some (not-true-false (connected n starts ends) (h6 .0))
 
   -- where a list of conditions, and then 8, come to 11, it is the list that does
   by-circuit : (out : List ℕ) → first (writeConditions Pattern e kinds packages starts ends (length out)) ≡ refuse eleven → first (circuitConditions Pattern e kinds packages starts ends) ≡ refuse eleven
@@ -103,54 +92,25 @@ module _ (e : Edition) (kinds packages starts ends : List ℕ) where
 -- ---- turned away
 
 module _ (pattern : CircuitFile) (e : first (fileConditions Pattern pattern) ≡ refuse eleven) where
-  pair-turned : (board : CircuitFile) → first (pairConditions Pattern pattern board) ≡ refuse eleven
+  by-pattern : (cs : List Condition) → first (fileConditions Pattern pattern ++ cs) ≡ refuse eleven
+  by-pattern cs = first-refuse (fileConditions Pattern pattern) cs eleven e
+
+  by-pair : (board : CircuitFile) (cs : List Condition) → first (pairConditions Pattern pattern board ++ cs) ≡ refuse eleven
   unfolding pairConditions
-  pair-turned board = first-refuse (fileConditions Pattern pattern) _ eleven e
-
-  turned-places : (board : CircuitFile) (w r : ℕ) (lent : Lent) → placed pattern board w r lent .reply .verdict ≡ refuse eleven
-  unfolding placed inputConditions
-  turned-places board w r lent =
-      input-refused pattern board w r (lent .nodes) (lent .links) (lent .table) (lent .distances) eleven (first-refuse (pairConditions Pattern pattern board) _ eleven (pair-turned board)) .0
-
-  turned-reads : (kinds packages starts ends : List ℕ) → reading Pattern pattern kinds packages starts ends .reply .verdict ≡ refuse eleven
-  unfolding readReply
-  turned-reads kinds packages starts ends = ap (λ (o : ReadOutcome). o .reply .verdict) (reading-refused Pattern pattern kinds packages starts ends eleven e)
-
-  turned-measures : radiusCall pattern .verdict ≡ refuse eleven
-  unfolding radiusCall
-  turned-measures = reply-verdict _ _ ∙ e
-
-  turned-merges : (lent out : List ℕ) → merging pattern lent out .reply .verdict ≡ refuse eleven
-  unfolding merging mergeConditions
-  turned-merges lent out = reply-verdict _ _ ∙ first-refuse (fileConditions Pattern pattern) _ eleven e
-
-  turned-converts : (to : Edition) (out : List ℕ) → converting Pattern to pattern out .reply .verdict ≡ refuse eleven
-  unfolding converting convertConditions
-  turned-converts to out = reply-verdict _ _ ∙ first-refuse (fileConditions Pattern pattern) _ eleven e
-
-  turned-checks : (board : CircuitFile) (w : ℕ) (nodes links : List ℕ) → checkCall pattern board w nodes links .verdict ≡ refuse eleven
-  unfolding checkCall checkConditions
-  turned-checks board w nodes links = reply-verdict _ _ ∙ first-refuse (pairConditions Pattern pattern board) _ eleven (pair-turned board)
-
-  turned-bars : (board : CircuitFile) (w : ℕ) (out : List ℕ) → barCall pattern board w out .reply .verdict ≡ refuse eleven
-  unfolding barInputs
-  turned-bars board w out = bar-call.verdict-is pattern board w out ∙ first-refuse (pairConditions Pattern pattern board) _ eleven (pair-turned board)
-
-  turned-reports : (board : CircuitFile) → reportOf pattern board ≡ bytes "refused 11 pattern\n"
-  unfolding reportOf reportFor refusalLine fileWord bytes decimal digits
-  turned-reports board = rw (first-refuse (fileConditions Pattern pattern) (fileConditions Board board) eleven e)
+  by-pair board cs = first-refuse (pairConditions Pattern pattern board) cs eleven (by-pattern (fileConditions Board board))
 
   turned-away : TurnedAway pattern
+  unfolding placed inputConditions readReply radiusCall merging mergeConditions converting convertConditions checkCall checkConditions barInputs reportOf reportFor refusalLine fileWord bytes decimal digits
   turned-away =
       record {
-        reads = turned-reads;
-        measures = turned-measures;
-        places = turned-places;
-        merges = turned-merges;
-        converts = turned-converts;
-        checks = turned-checks;
-        bars = turned-bars;
-        reports = turned-reports;
+        reads = λ kinds packages starts ends. ap (λ (o : ReadOutcome). o .reply .verdict) (reading-refused Pattern pattern kinds packages starts ends eleven e);
+        measures = reply-verdict _ _ ∙ e;
+        places = λ board w r lent. input-refused pattern board w r (lent .nodes) (lent .links) (lent .table) (lent .distances) eleven (by-pair board _) .0;
+        merges = λ lent out. reply-verdict _ _ ∙ by-pattern _;
+        converts = λ to out. reply-verdict _ _ ∙ by-pattern _;
+        checks = λ board w nodes links. reply-verdict _ _ ∙ by-pair board _;
+        bars = λ board w out. bar-call.verdict-is pattern board w out ∙ by-pair board _;
+        reports = λ board. rw (by-pattern (fileConditions Board board));
       }
 
 -- ---- as before
@@ -176,34 +136,15 @@ module _ (pattern : CircuitFile) (a : Accepted Pattern pattern) where
   unfolding mergeConditions shortTable without
   same-merge k s = without-both 11 (fileConditions Pattern pattern) _ same-file refl
 
-  same-reads : (kinds packages starts ends : List ℕ) → reading Pattern pattern kinds packages starts ends ≡ readingBefore Pattern pattern kinds packages starts ends
-  unfolding reading readingBefore
-  same-reads kinds packages starts ends = rw (same-read (length kinds) (length packages) (length starts) (length ends))
-
-  same-measures : radiusCall pattern ≡ radiusBefore pattern
-  unfolding radiusCall radiusBefore
-  same-measures = rw same-file
-
-  same-places : (board : CircuitFile) (w r : ℕ) (lent : Lent) → placed pattern board w r lent ≡ placedBefore pattern board w r lent
-  unfolding placed placeAt placedBefore
-  same-places board w r lent = rw (same-input board w (length (lent .nodes)) (length (lent .links)) (length (lent .table)) (length (lent .distances)))
-
-  same-merges : (lent out : List ℕ) → merging pattern lent out ≡ mergingBefore pattern lent out
-  unfolding merging mergingBefore
-  same-merges lent out = rw (same-merge (length lent) (length out))
-
-  same-reports : (board : CircuitFile) → reportOf pattern board ≡ reportBefore pattern board
-  unfolding reportOf reportBefore pairConditions
-  same-reports board = rw (same-pair board)
-
   as-before : AsBefore pattern
+  unfolding reading readingBefore radiusCall radiusBefore placed placeAt placedBefore merging mergingBefore reportOf reportBefore pairConditions
   as-before =
       record {
-        reads = same-reads;
-        measures = same-measures;
-        places = same-places;
-        merges = same-merges;
-        reports = same-reports;
+        reads = λ kinds packages starts ends. rw (same-read (length kinds) (length packages) (length starts) (length ends));
+        measures = rw same-file;
+        places = λ board w r lent. rw (same-input board w (length (lent .nodes)) (length (lent .links)) (length (lent .table)) (length (lent .distances)));
+        merges = λ lent out. rw (same-merge (length lent) (length out));
+        reports = λ board. rw (same-pair board);
       }
 
 -- ---- merging
@@ -226,7 +167,7 @@ pub radius-twelve : Limit
 radius-twelve =
     record {
       wide = wide-file;
-      narrow = narrow-accepted;
+      narrow = λ file. (λ a. narrow-file file .0 (accepted-verdict a), λ h. accepted Pattern file (narrow-file file .1 h));
       written = wide-written;
       turned = turned-away;
       same = as-before;

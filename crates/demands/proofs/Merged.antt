@@ -1,12 +1,6 @@
 -- Demand 3 on merging: what the merging call writes, handed to the place call with a radius given, is refused with 9 exactly when the first
 -- pattern is at that radius, and else marks the same nodes and links. Assumes nothing.
-use mathlib.Core.Bool.{Bool, cond}
-use mathlib.Core.List.{List, [], _∷_}
-use mathlib.Core.Logic.{⊎-elim}
-use mathlib.Core.Path.{_≡_, sym, ap, _∙_}
-use Prim.Native.Nat.{ℕ, _<_}
-use native.Mathlib.Omega.{arith}
-use lib.ListN.{length}
+use Rattle.base_lists.specs.Kit.{_≡_, _∙_, sym, ap, ⊎-elim, Bool, cond, List, [], _∷_, ℕ, _<_, length, arith}
 use Rattle.graph.specs.Circuit.{circuitGraph, graphOf}
 use Rattle.graph.proofs.Distance.{distance-below}
 use Rattle.file_format.specs.declared.Role.the-variants.{Pattern}
@@ -18,13 +12,13 @@ use Rattle.file_format.proofs.Fields.{length-labels}
 use Rattle.place.specs.Match.{radiusOf}
 use Rattle.place.specs.Outcome.{placeVerdict}
 use Rattle.place.proofs.Accepted.{accepted-admissible}
-use Rattle.call_place.proofs.Promise.{inputs-accept, verdict-is, accept-or-nine, nodes-front, links-front}
+use Rattle.call_place.proofs.Promise.{inputs-accept, verdict-is, accept-or-nine, nodes-prefix, links-prefix}
 use Rattle.call_place.specs.Call.{inputConditions}
 use Rattle.call_distance.specs.Calls.{radiusCall}
 use Rattle.merge.proofs.Content.{accepted-content, content-within, content-radius, most-parts}
 use Rattle.merge.proofs.Places.{SameAnswer, merged-answer}
 use Rattle.call_merge.specs.Call.{mergedBytes, merging}
-use Rattle.call_merge.proofs.Promise.{merged-accepted, merged-circuit, values-are, out-front}
+use Rattle.call_merge.proofs.Promise.{merged-accepted, merged-circuit, values-are, out-prefix}
 use Rattle.demands.specs.Demands.{Lent, Room, Ready, placed, nine, mergedFile, SameFound}
 
 -- no condition on the inputs holds
@@ -42,7 +36,7 @@ module _ (file : CircuitFile) (lent out : List ℕ) (ok : merging file lent out 
   -- the merged file is what the definition of the merged pattern says
   pub file-is : second ≡ inEdition (file .edition) (mergedBytes (file .edition) (circuitOf file))
   unfolding mergedFile
-  file-is = rw (values-are file lent out ok) (ap (λ (bytes : List ℕ). inEdition (file .edition) bytes) (out-front file lent out ok))
+  file-is = rw (values-are file lent out ok) (ap (λ (bytes : List ℕ). inEdition (file .edition) bytes) (out-prefix file lent out ok))
 
   module _ (board : CircuitFile) (w r : ℕ) (tables tables′ : Lent) (x : Ready file board w tables) (room : Room board tables′) where
     -- it is accepted as a pattern too
@@ -75,13 +69,13 @@ module _ (file : CircuitFile) (lent out : List ℕ) (ok : merging file lent out 
           nodes =
               λ other.
               let e = not-nine other in
-              nodes-front second board w r (tables′ .nodes) (tables′ .links) (tables′ .table) (tables′ .distances) (ready-sound merged-ready) e ∙ sym (same .nodes)
-              ∙ sym (nodes-front file board w r (tables .nodes) (tables .links) (tables .table) (tables .distances) (ready-sound x) (sym verdicts ∙ e));
+              nodes-prefix second board w r (tables′ .nodes) (tables′ .links) (tables′ .table) (tables′ .distances) (ready-sound merged-ready) e ∙ sym (same .nodes)
+              ∙ sym (nodes-prefix file board w r (tables .nodes) (tables .links) (tables .table) (tables .distances) (ready-sound x) (sym verdicts ∙ e));
           links =
               λ other.
               let e = not-nine other in
-              links-front second board w r (tables′ .nodes) (tables′ .links) (tables′ .table) (tables′ .distances) (ready-sound merged-ready) e ∙ sym (same .links)
-              ∙ sym (links-front file board w r (tables .nodes) (tables .links) (tables .table) (tables .distances) (ready-sound x) (sym verdicts ∙ e));
+              links-prefix second board w r (tables′ .nodes) (tables′ .links) (tables′ .table) (tables′ .distances) (ready-sound merged-ready) e ∙ sym (same .links)
+              ∙ sym (links-prefix file board w r (tables .nodes) (tables .links) (tables .table) (tables .distances) (ready-sound x) (sym verdicts ∙ e));
         }
 
 -- ---- the first pattern's radius

@@ -1,7 +1,5 @@
 -- Every condition of every call is one of the fifteen. Assumes nothing.
-use mathlib.Core.List.{List, [], _∷_, _++_}
-use Prim.Native.Nat.{ℕ}
-use lib.ListN.{length}
+use Rattle.base_lists.specs.Kit.{List, [], _∷_, _++_, ℕ, length}
 use Rattle.file_format.specs.declared.Edition.{Edition}
 use Rattle.file_format.specs.declared.Role.{Role}
 use Rattle.file_format.specs.declared.Role.the-variants.{Pattern, Board, AnyPattern}
@@ -10,11 +8,11 @@ use Rattle.file_format.specs.Reading.{readConditions}
 use Rattle.file_format.specs.Refusals.{Condition, linkConditions, fileConditions, shortTable}
 use Rattle.file_pair.specs.Pair.{pairConditions}
 use Rattle.file_write.specs.Writing.{circuitConditions, writeConditions}
-use Rattle.file_bounds.specs.Third.{frontOf, boundsOf, thirdConditions}
+use Rattle.file_bounds.specs.Third.{beforeBounds, boundsOf, thirdConditions}
 use Rattle.place.specs.Match.{found}
-use Rattle.load.specs.Load.{inRange}
+use Rattle.test_board.specs.Board.{sizesInRange}
 use Rattle.call_convert.specs.Call.{everyPackage, convertConditions}
-use Rattle.call_load.specs.Call.{loadConditions}
+use Rattle.call_test_board.specs.Call.{testBoardConditions}
 use Rattle.call_distance.specs.Calls.{ballConditions}
 use Rattle.call_match.specs.Call.{matchConditions}
 use Rattle.call_bounded.specs.Call.{boundedConditions}
@@ -75,9 +73,9 @@ unfolding EachNumbered convertConditions
 convert-numbered role to file lent =
     file-then role file _ (number.twelve role to (everyPackage file), (number.eight (lengthOf to (nodesOf file) (linksOf file)) lent, tt))
 
-pub load-numbered : (n m k lent : ℕ) → EachNumbered (loadConditions n m k lent)
-unfolding EachNumbered loadConditions
-load-numbered n m k lent = (number.ten (inRange n m k), (number.eight _ lent, tt))
+pub load-numbered : (n m k lent : ℕ) → EachNumbered (testBoardConditions n m k lent)
+unfolding EachNumbered testBoardConditions
+load-numbered n m k lent = (number.ten (sizesInRange n m k), (number.eight _ lent, tt))
 
 pub ball-numbered : (file : CircuitFile) (w lent : ℕ) → EachNumbered (ballConditions file w lent)
 unfolding EachNumbered ballConditions
@@ -95,8 +93,8 @@ third-numbered bytes = (
     number.two AnyPattern (field bytes 0) (field bytes 2),
     (
       number.three-third AnyPattern bytes,
-      joined (linkConditions AnyPattern (field bytes 0) (startsOf (frontOf bytes)) (endsOf (frontOf bytes))) _
-          (links-numbered AnyPattern (field bytes 0) (startsOf (frontOf bytes)) (endsOf (frontOf bytes))) (number.thirteen (boundsOf bytes), tt),
+      joined (linkConditions AnyPattern (field bytes 0) (startsOf (beforeBounds bytes)) (endsOf (beforeBounds bytes))) _
+          (links-numbered AnyPattern (field bytes 0) (startsOf (beforeBounds bytes)) (endsOf (beforeBounds bytes))) (number.thirteen (boundsOf bytes), tt),
     ),
   ),
 )

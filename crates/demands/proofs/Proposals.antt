@@ -1,8 +1,5 @@
 -- Ask 9: what the check says, and how it stands to the place call. Assumes nothing.
-use mathlib.Core.List.{List}
-use mathlib.Core.Path.{_≡_, sym, _∙_}
-use Prim.Native.Nat.{ℕ}
-use lib.ListN.{length, take}
+use Rattle.base_lists.specs.Kit.{_≡_, _∙_, sym, List, ℕ, length, take}
 use Rattle.graph.specs.Graph.{Contains}
 use Rattle.graph.proofs.Walks.{radius-unique}
 use Rattle.file_format.specs.Circuit.{circuitOf}
@@ -14,7 +11,7 @@ use Rattle.place.specs.Match.{radiusOf, placeNodes, placeLinks, markedGraph}
 use Rattle.place.proofs.Accepted.{accepted-admissible, accepted-radius}
 use Rattle.place.proofs.Marks.{nodes-marks, links-marks}
 use Rattle.proposal.proofs.Finder.{place-checks}
-use Rattle.call_place.proofs.Promise.{found-verdict, verdict-is, nodes-front, links-front}
+use Rattle.call_place.proofs.Promise.{found-verdict, verdict-is, nodes-prefix, links-prefix}
 use Rattle.call_check.specs.Call.{checkConditions, checkCall}
 use Rattle.call_check.proofs.Promise.{inputs-accept, yes-or-no, yes-iff, yes-test}
 use Rattle.demands.specs.Demands.{Lent, Ready, placed, placedOwn, marked}
@@ -44,7 +41,7 @@ module _ (pattern board : CircuitFile) (w : ℕ) (lent : Lent) (x : Ready patter
       let l = placeLinks P B w r in
       let f = found-verdict P B w r (sym (verdict-is pattern board w r (lent .nodes) (lent .links) (lent .table) (lent .distances) (ready-sound x)) ∙ ok) in
       let s = inputs-accept pattern board w n l (x .drawn) (x .given) (x .centre) (nodes-marks P B w r .size ∙ length-labels board) (links-marks P B w r .size ∙ length-starts board) in
-      rw (nodes-front pattern board w r (lent .nodes) (lent .links) (lent .table) (lent .distances) (ready-sound x) ok, links-front pattern board w r (lent .nodes) (lent .links) (lent .table) (lent .distances) (ready-sound x) ok)
+      rw (nodes-prefix pattern board w r (lent .nodes) (lent .links) (lent .table) (lent .distances) (ready-sound x) ok, links-prefix pattern board w r (lent .nodes) (lent .links) (lent .table) (lent .distances) (ready-sound x) ok)
       (yes-test pattern board w n l s .1 (place-checks (accepted-admissible (x .drawn) (x .given)) (accepted-bounded (x .given) .parallel) w r f))
 
   -- what a yes says of them

@@ -1,12 +1,6 @@
 -- What a line of the report means, by the place call at the pattern's radius: where the call accepts, the centre has a line, with the nodes and
 -- the links that the call marks; where it gives 9, it has none. call_place/proofs/Promise says what the call's answers mean. Assumes nothing.
-use mathlib.Core.List.{List, [], _++_}
-use mathlib.Core.Logic.{_↔_}
-use mathlib.Core.Path.{_≡_, sym, _∙_}
-use Prim.Native.Nat.{ℕ}
-use native.Mathlib.Nat.{le-trans}
-use lib.Dec.{T}
-use lib.ListN.{take}
+use Rattle.base_lists.specs.Kit.{_≡_, _∙_, sym, _↔_, List, [], _++_, ℕ, le-trans, T, take}
 use Rattle.base_lists.specs.Below.{countBelow, concatBelow}
 use Rattle.base_lists.proofs.Tests.{T-true, T-false}
 use Rattle.file_format.specs.declared.Refusal.{Refusal}
@@ -17,9 +11,9 @@ use Rattle.file_format.proofs.Fields.{length-labels}
 use Rattle.file_pair.specs.Pair.{pairConditions}
 use Rattle.place.specs.Match.{radiusOf, found}
 use Rattle.place.specs.Outcome.{PlaceOutcome, placeVerdict}
-use Rattle.call_place.proofs.Promise.{verdict-is, found-verdict, none-verdict, nodes-front, links-front}
+use Rattle.call_place.proofs.Promise.{verdict-is, found-verdict, none-verdict, nodes-prefix, links-prefix}
 use Rattle.report.specs.Report.{nodeItems, linkItems, placeLine, hasPlace, centreLine, endLine, refusalLine, linesOf, reportFor, reportOf}
-use Rattle.call_report.specs.Call.{verdictOf}
+use Rattle.call_report.specs.Call.{filesVerdict}
 use Rattle.call_report.proofs.Promise.{items-few, report-whole}
 use Rattle.demands.specs.Demands.{Lent, Ready, placed, placedOwn, nine}
 use Rattle.demands.specs.Report.{Reported}
@@ -41,8 +35,8 @@ module _ (pattern board : CircuitFile) (w : ℕ) (lent : Lent) (x : Ready patter
   line-place e =
       let is-found = found-verdict (circuitOf pattern) (circuitOf board) w r (sym (verdict-is pattern board w r (lent .nodes) (lent .links) (lent .table) (lent .distances) (ready-sound x)) ∙ e) in
       rw (
-        nodes-front pattern board w r (lent .nodes) (lent .links) (lent .table) (lent .distances) (ready-sound x) e,
-        links-front pattern board w r (lent .nodes) (lent .links) (lent .table) (lent .distances) (ready-sound x) e,
+        nodes-prefix pattern board w r (lent .nodes) (lent .links) (lent .table) (lent .distances) (ready-sound x) e,
+        links-prefix pattern board w r (lent .nodes) (lent .links) (lent .table) (lent .distances) (ready-sound x) e,
         T-true {b = found (circuitOf pattern) (circuitOf board) w r} is-found,
       )
 
@@ -63,11 +57,11 @@ module _ (pattern board : CircuitFile) (w : ℕ) (lent : Lent) (x : Ready patter
 
 -- by whether a file is refused
 module _ (pattern board : CircuitFile) where
-  one-line : (x : Refusal) → verdictOf pattern board ≡ refuse x → reportOf pattern board ≡ refusalLine x
+  one-line : (x : Refusal) → filesVerdict pattern board ≡ refuse x → reportOf pattern board ≡ refusalLine x
   unfolding reportOf reportFor pairConditions
   one-line x e = rw e
 
-  all-lines : verdictOf pattern board ≡ accept → let P = circuitOf pattern in let B = circuitOf board in
+  all-lines : filesVerdict pattern board ≡ accept → let P = circuitOf pattern in let B = circuitOf board in
       reportOf pattern board ≡ concatBelow (nodesOf board) (centreLine P B) ++ endLine (countBelow (nodesOf board) (hasPlace P B)) (nodesOf board)
   unfolding reportOf reportFor linesOf pairConditions
   all-lines e = rw (e, length-labels board)

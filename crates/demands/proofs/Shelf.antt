@@ -1,31 +1,24 @@
 -- Ask 10: the order on circuits, the comparison of two files and the shelf. Assumes nothing.
-use mathlib.Core.List.{List, [], _∷_}
-use mathlib.Core.Logic.{_↔_}
-use mathlib.Core.Path.{_≡_, refl, sym, ap, _∙_}
-use Prim.Native.Nat.{ℕ}
-use native.Mathlib.Omega.{arith}
-use lib.Dec.{T}
-use lib.ListN.{length, take, drop}
-use lib.Seq.{take-at, drop-at}
+use Rattle.base_lists.specs.Kit.{_≡_, _∙_, sym, ap, refl, _↔_, List, [], _∷_, ℕ, length, take, drop, take-at, drop-at, arith}
+use Rattle.base_lists.proofs.Entries.{below-all}
 use Rattle.file_format.specs.declared.Refusal.{Refusal}
 use Rattle.file_format.specs.declared.Role.the-variants.{Pattern}
 use Rattle.file_format.specs.Reading.{filled}
 use Rattle.file_format.specs.Refusals.{Verdict, accept, refuse, Accepted, fileConditions, first, shortTable}
 use Rattle.file_format.specs.Reply.{reply}
-use Rattle.file_format.proofs.Refusals.{accepted, accepted-verdict}
+use Rattle.file_format.proofs.Refusals.{accepted, accepted-verdict, reply-verdict}
 use Rattle.order.specs.declared.Order.{Order}
 use Rattle.order.specs.declared.Order.the-variants.{Equal}
 use Rattle.order.proofs.Laws.{whole-order, total, antisymmetric, transitive}
-use Rattle.order_files.specs.Files.{secondEdition, compareFiles}
-use Rattle.call_compare.specs.declared.CompareAnswer.the-variants as answer
-use Rattle.call_compare.specs.declared.Which.the-variants as which
-use Rattle.call_compare.specs.Call.{verdictFor, comparedBy, comparing}
-use Rattle.call_compare.proofs.Files.{equal-files, equal-circuits}
+use Rattle.order.specs.Files.{secondEdition, compareFiles}
+use Rattle.call_shelf.specs.declared.compare.CompareAnswer.the-variants as answer
+use Rattle.call_shelf.specs.declared.compare.Which.the-variants as which
+use Rattle.call_shelf.specs.Compare.{verdictFor, comparedBy, comparing}
+use Rattle.call_shelf.proofs.CompareFiles.{equal-files, equal-circuits}
 use Rattle.call_shelf.specs.Shelf.{isAccepted, fileAt, acceptedIn, shelfOf, shelvingOf, shelving}
 use Rattle.call_shelf.proofs.Meaning.{shelf-in-order, shelf-once, shelf-one}
+use Rattle.call_shelf.proofs.Inserting.{is-accepted}
 use Rattle.demands.specs.Shelf.{PatternFile, filesIn, Ask10}
-use Rattle.demands.proofs.Decided.{reply-verdict}
-use Rattle.demands.proofs.Demands.{of-bytes}
 
 -- ---- the comparison
 
@@ -36,7 +29,7 @@ module _ (a b : List ℕ) where
 
   same-bytes : PatternFile a → PatternFile b → (compareFiles a b ≡ Equal) ↔ (a ≡ b)
   same-bytes x y =
-      equal-files Pattern Pattern a b (of-bytes (secondEdition a) (x .bytes)) (of-bytes (secondEdition b) (y .bytes)) (accepted-verdict (x .drawn)) (accepted-verdict (y .drawn))
+      equal-files Pattern Pattern a b (below-all 256 a (x .bytes)) (below-all 256 b (y .bytes)) (accepted-verdict (x .drawn)) (accepted-verdict (y .drawn))
 
   equal : PatternFile a → PatternFile b → (comparing a b ≡ answer.Compared Equal) ↔ (a ≡ b)
   equal x y =
@@ -76,14 +69,6 @@ module _ (a b : List ℕ) where
 
 -- ---- the shelf
 
-accepts : (files : List (List ℕ)) (i : ℕ) → T (acceptedIn files i) ↔ Accepted Pattern (secondEdition (fileAt files i))
-unfolding acceptedIn isAccepted
-accepts files i = (λ t. accepted Pattern (secondEdition (fileAt files i)) (go (verdictFor (fileAt files i)) t), λ a. rw (accepted-verdict a) tt)
-  where
-    go : (v : Verdict) → T (isAccepted v) → v ≡ accept
-    go accept t = refl
-    go (refuse x) t = absurd t
-
 module _ (bytes lengths order : List ℕ) where
   abbrev numbers : List ℕ
   numbers = shelfOf (filesIn bytes lengths)
@@ -103,6 +88,7 @@ module _ (bytes lengths order : List ℕ) where
 
 -- "A shelf in order": the order, the comparison and the shelf.
 pub ask-10 : Ask10
+unfolding acceptedIn isAccepted
 ask-10 =
     record {
       total = total whole-order;
@@ -114,7 +100,10 @@ ask-10 =
       equal = equal;
       refusedFirst = refused-first;
       refusedSecond = refused-second;
-      accepts = accepts;
+      accepts = λ files i. (
+        λ t. accepted Pattern (secondEdition (fileAt files i)) (is-accepted (verdictFor (fileAt files i)) t),
+        λ a. rw (accepted-verdict a) tt,
+      );
       ordered = shelf-in-order;
       once = shelf-once;
       only = λ files numbers h. shelf-one files h;

@@ -1,11 +1,6 @@
 -- Ask 14, "The least that still says none", quoted over what is proved of it: `Ask14`. proofs/Barring proves it. The contract of the call equates its
 -- reply and what it leaves with `barCall` of the inputs alone.
-use mathlib.Core.List.{List, [], _∷_}
-use mathlib.Core.Logic.{_↔_}
-use mathlib.Core.Path.{_≡_}
-use Prim.Native.Nat.{ℕ, _≤_}
-use lib.Dec.{T}
-use lib.ListN.{length, take, drop}
+use Rattle.base_lists.specs.Kit.{_≡_, _↔_, List, [], _∷_, ℕ, _≤_, T, length, take, drop}
 use Rattle.graph.specs.Chosen.{ChosenLink}
 use Rattle.graph.specs.Graph.{Radius}
 use Rattle.simulation.specs.Closed.{Relation, _⊆_}

@@ -1,11 +1,6 @@
 -- Ask 13, "Cutting tracks while searching", quoted over what is proved of it: `Ask13`. proofs/Cutting proves it. What the calls promise of the lent
 -- tables is OpenPromise, CutPromise and ReadPromise; here a list of cuts is spoken of without the machine: by the places that it names.
-use mathlib.Core.Bool.{_&&_, not, cond, false}
-use mathlib.Core.List.{List, [], _∷_, _++_}
-use mathlib.Core.Path.{_≡_}
-use Prim.Native.Nat.{ℕ, _≤_}
-use lib.Dec.{ltb}
-use lib.ListN.{length, take, drop}
+use Rattle.base_lists.specs.Kit.{_≡_, false, cond, _&&_, not, List, [], _∷_, _++_, ℕ, _≤_, ltb, length, take, drop}
 use Rattle.graph.specs.Circuit.{LinkAt}
 use Rattle.graph.specs.Graph.{Graph}
 use Rattle.simulation.specs.Simulation.{Largest}
@@ -30,15 +25,15 @@ fourteen = record { number = 14; file = Neither }
 -- before, and else 14.
 unfoldable pub cutReplies : ℕ → List ℕ → List ℕ → List Verdict
 cutReplies m earlier [] = []
-cutReplies m earlier (place ∷ places) =
-    cond (ltb place m && not (listed earlier place)) accept (refuse fourteen) ∷ cutReplies m (place ∷ earlier) places
+cutReplies m earlier (linkIndex ∷ linkIndices) =
+    cond (ltb linkIndex m && not (listed earlier linkIndex)) accept (refuse fourteen) ∷ cutReplies m (linkIndex ∷ earlier) linkIndices
 
 -- the board's nodes, with those of its links whose places are not in a list
 unfoldable pub leftOf : CircuitFile → List ℕ → Graph
-leftOf board places =
+leftOf board linkIndices =
     record {
       Node = graph board .Node;
-      Link = λ v w. (i : ℕ) × LinkAt (startsOf board) (endsOf board) v w i × (listed places i ≡ false);
+      Link = λ v w. (i : ℕ) × LinkAt (startsOf board) (endsOf board) v w i × (listed linkIndices i ≡ false);
     }
 
 pub record Ask13 : Type 1 where
@@ -47,13 +42,13 @@ pub record Ask13 : Type 1 where
       matchConditions pattern board lent ≡ openConditions pattern board ++ (shortTable (nodesOf board) lent ∷ [])
   -- "For every list of cuts from a fresh session, .. each reply in the list is the machine's": 'cut' for a link that is left, and "A cut of a link already
   -- out, or of a place not below M, changes nothing and its reply is 14."
-  pub replies : (pattern board : CircuitFile) (before opened after : State) (places : List ℕ) (said : List Verdict) →
-      OpenPromise pattern board before accept opened → Cuts opened places said after → said ≡ cutReplies (linksOf board) [] places
+  pub replies : (pattern board : CircuitFile) (before opened after : State) (linkIndices : List ℕ) (said : List Verdict) →
+      OpenPromise pattern board before accept opened → Cuts opened linkIndices said after → said ≡ cutReplies (linksOf board) [] linkIndices
   -- "after it the table is the largest dual simulation of the pattern in the nodes with the machine's links": those whose places are not in the list. Reading
   -- it out replies with N, and leaves entries past N.
-  pub table : (pattern board : CircuitFile) (before opened after : State) (places : List ℕ) (said : List Verdict) →
-      OpenPromise pattern board before accept opened → Cuts opened places said after →
+  pub table : (pattern board : CircuitFile) (before opened after : State) (linkIndices : List ℕ) (said : List Verdict) →
+      OpenPromise pattern board before accept opened → Cuts opened linkIndices said after →
       (lent later : List ℕ) (answer : Reply) → ReadPromise after lent answer later → nodesOf board ≤ length lent →
       (answer ≡ reply accept (nodesOf board ∷ []))
-      × Largest (graph pattern) (equal pattern board) (leftOf board places) (InTable (take (nodesOf board) later))
+      × Largest (graph pattern) (equal pattern board) (leftOf board linkIndices) (InTable (take (nodesOf board) later))
       × (drop (nodesOf board) later ≡ drop (nodesOf board) lent)

@@ -4,14 +4,8 @@
 -- A call's contract is an equation that asks nothing of its inputs: its reply and each lent table at exit are those of a definition applied to
 -- the inputs alone (`reading`, `writing`, `radiusCall`, `ballCall`, `matching`, `placeAt`, `merging`, `reporting`). That a call ends, and with a
 -- fixed reply, is that contract, proved of the code. The demands here are about the replies and tables themselves.
-use mathlib.Core.Bool.{_&&_, not}
-use mathlib.Core.List.{List, [], _∷_, _++_, map}
-use mathlib.Core.Logic.{_↔_}
-use mathlib.Core.Path.{_≡_}
-use Prim.Native.Nat.{ℕ, suc, _-_, _≤_, _<_}
+use Rattle.base_lists.specs.Kit.{_≡_, _↔_, _&&_, not, List, [], _∷_, _++_, map, ℕ, _≤_, _<_, _-_, suc, T, ltb, length, getD, take, drop, replicate}
 use lib.Count.{ones}
-use lib.Dec.{T, ltb}
-use lib.ListN.{length, getD, take, drop, replicate}
 use Rattle.base_lists.specs.List.{Below, sum}
 use Rattle.graph.specs.Circuit.{graphOf, circuitGraph}
 use Rattle.graph.specs.Graph.{Graph, Ball, Connected, Radius}
@@ -46,14 +40,14 @@ use Rattle.call_match.specs.Call.{TableOutcome, matchConditions, matchingBy, ma
 use Rattle.call_place.specs.Call.{inputConditions, placeAt}
 use Rattle.call_merge.specs.Call.{MergeOutcome, mergeConditions, merging}
 use Rattle.call_merge.specs.Classes.{classByte, Smallest}
-use Rattle.call_report.specs.Call.{reporting, needFor, verdictOf}
-use Rattle.call_load.specs.Call.{loadConditions, loading}
+use Rattle.call_report.specs.Call.{reporting, needFor, filesVerdict}
+use Rattle.call_test_board.specs.Call.{testBoardConditions, makingTestBoard}
 use Rattle.call_bounded.specs.Call.{boundedConditions, boundedMatching}
 use Rattle.call_check.specs.Call.{checkConditions, checkCall}
 use Rattle.call_barring.specs.Call.{barInputs, barCall}
-use Rattle.order_files.specs.Files.{secondEdition}
-use Rattle.call_compare.specs.Call.{comparing, compareReply}
-use Rattle.shelf_strings.specs.Strings.{cutInto}
+use Rattle.order.specs.Files.{secondEdition}
+use Rattle.call_shelf.specs.Compare.{comparing, compareReply}
+use Rattle.call_shelf.specs.Strings.{cutInto}
 use Rattle.call_shelf.specs.Shelf.{shelfOf, mostFiles, shelving}
 use Rattle.session.specs.State.{State}
 use Rattle.session.specs.Session.{CutPromise, ReadPromise, Cuts}
@@ -157,8 +151,8 @@ pub record Demand1 : Type 0 where
       Replies (writeConditions role e kinds packages starts ends (length out)) (result .reply) (result .out ≡ out)
   pub converts : (role : Role) (to : Edition) (file : CircuitFile) (out : List ℕ) → let result = converting role to file out in
       Replies (convertConditions role to file (length out)) (result .reply) (result .out ≡ out)
-  pub loads : (seed n m k : ℕ) (out : List ℕ) → let result = loading seed n m k out in
-      Replies (loadConditions n m k (length out)) (result .reply) (result .out ≡ out)
+  pub loads : (seed n m k : ℕ) (out : List ℕ) → let result = makingTestBoard seed n m k out in
+      Replies (testBoardConditions n m k (length out)) (result .reply) (result .out ≡ out)
   pub measures : (file : CircuitFile) → Replies (fileConditions Pattern file) (radiusCall file) (Unit {0})
   pub balls : (file : CircuitFile) (w r : ℕ) (out : List ℕ) → let result = ballCall file w r out in
       Replies (ballConditions file w (length out)) (result .reply) (result .out ≡ out)
@@ -181,7 +175,7 @@ pub record Demand1 : Type 0 where
   pub shelves : (bytes lengths order : List ℕ) → let result = shelving bytes lengths order in
       Replies (shortTable (length (shelfOf (cutInto bytes (take mostFiles lengths)))) (length order) ∷ []) (result .reply) (result .order ≡ order)
   pub reports : (pattern board : CircuitFile) (from before : ℕ) (out : List ℕ) → let result = reporting pattern board from before out in
-      Replies (shortTable (needFor (verdictOf pattern board)) (length out) ∷ []) (result .reply) (result .out ≡ out)
+      Replies (shortTable (needFor (filesVerdict pattern board)) (length out) ∷ []) (result .reply) (result .out ≡ out)
   -- opening, cutting and reading out
   pub opens : (pattern board : CircuitFile) (before after : State) (said : Verdict) → OpenPromise pattern board before said after →
       Decided (openConditions pattern board) said (after ≡ before)

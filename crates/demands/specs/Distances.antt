@@ -1,9 +1,6 @@
 -- Document 02, Ask 2, "How far from the probe": what the entries mean, of the ball lookup and of both place calls. proofs/Distances proves it. That
 -- the lengths count under 8, and that a refusal touches no table, is demand 1 (Demands `placedConditions`, `Untouched`).
-use mathlib.Core.List.{List}
-use mathlib.Core.Path.{_≡_}
-use Prim.Native.Nat.{ℕ, _≤_, _<_}
-use lib.ListN.{length, getD, drop}
+use Rattle.base_lists.specs.Kit.{_≡_, List, ℕ, _≤_, _<_, length, getD, drop}
 use Rattle.graph.specs.Graph.{Distance, DistanceEntry, Radius}
 use Rattle.file_format.specs.declared.Role.the-variants.{Board}
 use Rattle.file_format.specs.Layout.{CircuitFile, nodesOf}

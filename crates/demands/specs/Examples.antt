@@ -1,8 +1,5 @@
 -- Document 01's examples E1 to E9, and those of the requests that came after, as statements about the definitions, in a single list. proofs/Examples proves the list.
-use mathlib.Core.List.{List, [], _∷_}
-use mathlib.Core.Path.{_≡_}
-use Prim.Native.Nat.{ℕ, _<_}
-use lib.Dec.{T}
+use Rattle.base_lists.specs.Kit.{_≡_, List, [], _∷_, ℕ, _<_, T}
 use Rattle.graph.specs.Circuit.{Circuit}
 use Rattle.file_format.specs.declared.File.the-variants.{Neither}
 use Rattle.file_format.specs.Refusals.{refuse}
@@ -27,10 +24,10 @@ NoPlace pattern board w = placeVerdict pattern board w (radiusOf pattern) ≡ re
 
 -- one part of a kind, without a link or with a link to itself
 unfoldable pub onePart : ℕ → Circuit
-onePart kind = record { kinds = kind ∷ []; starts = []; ends = [] }
+onePart kind = record { labels = kind ∷ []; starts = []; ends = [] }
 
 unfoldable pub onePartLooped : ℕ → Circuit
-onePartLooped kind = record { kinds = kind ∷ []; starts = 0 ∷ []; ends = 0 ∷ [] }
+onePartLooped kind = record { labels = kind ∷ []; starts = 0 ∷ []; ends = 0 ∷ [] }
 
 -- "T has radius 2; one part has 0."
 unfoldable pub E1 : Type 0

@@ -1,9 +1,6 @@
 -- Document 01's examples of files, T and B as bytes, and the table of refusals; T in the editions that document 02 adds, an example of each number that it
 -- adds, and of the numbers that a host program tells. As statements about the definitions, in a single list: proofs/Files proves the list.
-use mathlib.Core.Bool.{true, false}
-use mathlib.Core.List.{List, [], _∷_, _++_}
-use mathlib.Core.Path.{_≡_}
-use Prim.Native.Nat.{ℕ}
+use Rattle.base_lists.specs.Kit.{_≡_, false, true, List, [], _∷_, _++_, ℕ}
 use Rattle.file_format.specs.declared.Edition.the-variants.{First, Second}
 use Rattle.file_format.specs.declared.File.{File}
 use Rattle.file_format.specs.declared.File.the-variants as file
@@ -15,10 +12,10 @@ use Rattle.file_format.specs.Reading.{reading}
 use Rattle.file_format.specs.Refusals.{Verdict, accept, refuse, first, fileConditions}
 use Rattle.table.specs.Examples.{circuitT, circuitB}
 use Rattle.file_write.specs.Bytes.{fileBytes}
-use Rattle.file_bounds.specs.Third.{frontOf, boundsOf, thirdConditions}
+use Rattle.file_bounds.specs.Third.{beforeBounds, boundsOf, thirdConditions}
 use Rattle.graph_neighbours.specs.Lookup.{neighboursOf}
 use Rattle.call_convert.specs.Call.{converting}
-use Rattle.call_load.specs.Call.{loading}
+use Rattle.call_test_board.specs.Call.{makingTestBoard}
 use Rattle.call_distance.specs.Calls.{ballConditions}
 use Rattle.call_bounded.specs.Call.{boundedMatching}
 use Rattle.call_barring.specs.Call.{barCall}
@@ -33,10 +30,10 @@ refused k f = refuse (record { number = k; file = f })
 
 -- the bytes of T and of B are those of their circuits, and their circuits those of the bytes
 unfoldable pub ReadT : Type 0
-ReadT = (circuitOf (firstEdition fileT) ≡ circuitT) × (fileBytes First (circuitT .kinds) [] (circuitT .starts) (circuitT .ends) ≡ fileT)
+ReadT = (circuitOf (firstEdition fileT) ≡ circuitT) × (fileBytes First (circuitT .labels) [] (circuitT .starts) (circuitT .ends) ≡ fileT)
 
 unfoldable pub ReadB : Type 0
-ReadB = (circuitOf (firstEdition fileB) ≡ circuitB) × (fileBytes First (circuitB .kinds) [] (circuitB .starts) (circuitB .ends) ≡ fileB)
+ReadB = (circuitOf (firstEdition fileB) ≡ circuitB) × (fileBytes First (circuitB .labels) [] (circuitB .starts) (circuitB .ends) ≡ fileB)
 
 -- 1 "file under 4 bytes": `02 00 01`
 unfoldable pub R1 : Type 0
@@ -81,21 +78,21 @@ secondT = 3 ∷ 0 ∷ 2 ∷ 0 ∷ 10 ∷ 0 ∷ 20 ∷ 0 ∷ 30 ∷ 0 ∷ 1 ∷ 0
 unfoldable pub ReadSecond : Type 0
 ReadSecond =
     let file = inEdition Second secondT in
-    (kindsOf file ≡ circuitT .kinds) × (packagesOf file ≡ 1 ∷ 2 ∷ 3 ∷ []) × (startsOf file ≡ circuitT .starts) × (endsOf file ≡ circuitT .ends)
-    × (fileBytes Second (circuitT .kinds) (1 ∷ 2 ∷ 3 ∷ []) (circuitT .starts) (circuitT .ends) ≡ secondT) × (first (fileConditions Pattern file) ≡ accept)
+    (kindsOf file ≡ circuitT .labels) × (packagesOf file ≡ 1 ∷ 2 ∷ 3 ∷ []) × (startsOf file ≡ circuitT .starts) × (endsOf file ≡ circuitT .ends)
+    × (fileBytes Second (circuitT .labels) (1 ∷ 2 ∷ 3 ∷ []) (circuitT .starts) (circuitT .ends) ≡ secondT) × (first (fileConditions Pattern file) ≡ accept)
 
 -- "of a third edition": the bounds 1 and 4 "after the ends"
 unfoldable pub thirdT : List ℕ
 thirdT = 3 ∷ 0 ∷ 2 ∷ 0 ∷ 10 ∷ 0 ∷ 20 ∷ 0 ∷ 30 ∷ 0 ∷ 1 ∷ 0 ∷ 2 ∷ 0 ∷ 3 ∷ 0 ∷ 0 ∷ 0 ∷ 1 ∷ 0 ∷ 1 ∷ 0 ∷ 2 ∷ 0 ∷ 1 ∷ 0 ∷ 4 ∷ 0 ∷ []
 
 unfoldable pub ReadThird : Type 0
-ReadThird = (frontOf thirdT ≡ inEdition Second secondT) × (boundsOf thirdT ≡ 1 ∷ 4 ∷ []) × (first (thirdConditions thirdT) ≡ accept)
+ReadThird = (beforeBounds thirdT ≡ inEdition Second secondT) × (boundsOf thirdT ≡ 1 ∷ 4 ∷ []) × (first (thirdConditions thirdT) ≡ accept)
 
 -- ---- the numbers that document 02 adds
 
 -- one part of kind 10 and package 1, and the same with a link to itself
-unfoldable pub packed : List ℕ
-packed = 1 ∷ 0 ∷ 0 ∷ 0 ∷ 10 ∷ 0 ∷ 1 ∷ 0 ∷ []
+unfoldable pub packedFile : List ℕ
+packedFile = 1 ∷ 0 ∷ 0 ∷ 0 ∷ 10 ∷ 0 ∷ 1 ∷ 0 ∷ []
 
 unfoldable pub looped : List ℕ
 looped = 1 ∷ 0 ∷ 1 ∷ 0 ∷ 10 ∷ 0 ∷ 1 ∷ 0 ∷ 0 ∷ 0 ∷ 0 ∷ 0 ∷ []
@@ -106,7 +103,7 @@ R3Editions = (first (fileConditions Board (inEdition Second fileOne)) ≡ refuse
 
 -- 10 "one of the four numbers out of its range, checked ahead of 8": N = 513, and no byte lent
 unfoldable pub R10 : Type 0
-R10 = (seed : ℕ) → loading seed 513 0 1 [] .reply .verdict ≡ refused 10 file.Neither
+R10 = (seed : ℕ) → makingTestBoard seed 513 0 1 [] .reply .verdict ≡ refused 10 file.Neither
 
 -- 11 "pattern radius above 12": 14 parts in a row
 unfoldable pub rowOf14 : List ℕ
@@ -120,7 +117,7 @@ R11 = first (fileConditions Pattern (firstEdition rowOf14)) ≡ refused 11 file.
 
 -- 12 "converting to the first edition a file with a package other than 0, .. ahead of 8": no byte lent
 unfoldable pub R12 : Type 0
-R12 = converting Board First (inEdition Second packed) [] .reply .verdict ≡ refused 12 file.Board
+R12 = converting Board First (inEdition Second packedFile) [] .reply .verdict ≡ refused 12 file.Board
 
 -- 13 "a bound outside 1 to 4, .. before the board's 1": 5, and a board of no byte
 unfoldable pub R13 : Type 0

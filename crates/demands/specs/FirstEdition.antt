@@ -1,12 +1,7 @@
 -- What files of the first edition get, said in the layout of document 01 alone, which knows of no packages: `FirstEdition`. proofs/FirstEdition
 -- proves it. Every call is made of what stands here, what a file is asked for, the circuit that it holds and the bytes that are written, and of which part
 -- and node are equal (specs/Packages). "a first-edition file counts as having all packages 0"
-use mathlib.Core.Bool.{not}
-use mathlib.Core.List.{List, [], _∷_, _++_}
-use mathlib.Core.Path.{_≡_}
-use Prim.Native.Nat.{ℕ, _+_, _*_}
-use lib.Dec.{eqb, ltb}
-use lib.ListN.{length, drop}
+use Rattle.base_lists.specs.Kit.{_≡_, not, List, [], _∷_, _++_, ℕ, _+_, _*_, eqb, ltb, length, drop}
 use Rattle.graph.specs.Circuit.{Circuit}
 use Rattle.file_format.specs.declared.Edition.the-variants.{First}
 use Rattle.file_format.specs.declared.Role.{Role}
@@ -28,7 +23,7 @@ unfoldable pub circuitBefore : List ℕ → Circuit
 circuitBefore file =
     let n = field file 0 in
     let m = field file 2 in
-    record { kinds = fields (drop 4 file) n; starts = fields (drop (4 + 2 * n) file) m; ends = fields (drop (4 + 2 * n + 2 * m) file) m }
+    record { labels = fields (drop 4 file) n; starts = fields (drop (4 + 2 * n) file) m; ends = fields (drop (4 + 2 * n + 2 * m) file) m }
 
 -- "The length is 4 + 2N + 4M bytes."
 unfoldable pub fileBefore : Role → List ℕ → List Condition
@@ -50,18 +45,18 @@ readingBefore role file kinds packages starts ends =
     record {
       answer = readAnswer verdict n m;
       reply = reply verdict (n ∷ m ∷ []);
-      kinds = filled verdict (c .kinds) kinds;
+      kinds = filled verdict (c .labels) kinds;
       packages = packages;
       starts = filled verdict (c .starts) starts;
       ends = filled verdict (c .ends) ends;
     }
 
 unfoldable pub bytesBefore : Circuit → List ℕ
-bytesBefore c = bytesOf (length (c .kinds) ∷ length (c .starts) ∷ c .kinds ++ (c .starts ++ c .ends))
+bytesBefore c = bytesOf (length (c .labels) ∷ length (c .starts) ∷ c .labels ++ (c .starts ++ c .ends))
 
 unfoldable pub writingBefore : Role → Circuit → List ℕ → WriteOutcome
 writingBefore role c out =
-    let n = length (c .kinds) in
+    let n = length (c .labels) in
     let m = length (c .starts) in
     let size = 4 + 2 * n + 4 * m in
     let verdict =
@@ -82,5 +77,5 @@ pub record FirstEdition : Type 0 where
       reading role (firstEdition file) kinds packages starts ends ≡ readingBefore role file kinds packages starts ends
   -- whatever packages are given, of whatever number
   pub writes : (role : Role) (kinds packages starts ends out : List ℕ) →
-      writing role First kinds packages starts ends out ≡ writingBefore role (record { kinds = kinds; starts = starts; ends = ends }) out
+      writing role First kinds packages starts ends out ≡ writingBefore role (record { labels = kinds; starts = starts; ends = ends }) out
   pub merges : (file : List ℕ) → mergedBytes First (circuitOf (firstEdition file)) ≡ bytesBefore (merged (circuitBefore file))

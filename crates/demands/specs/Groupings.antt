@@ -1,10 +1,7 @@
 -- Ask 11 of document 02, quoted over what is proved of it: "Users of the merged pattern want to know that nothing more could be joined."
 -- proofs/Groupings proves `NothingMore`, proofs/GroupingExamples the two examples at the end. Of `grouped` only what `makes` says of it has to be
 -- known: one definition, of which the merged pattern is the instance for the classes (merge/specs/Merged).
-use mathlib.Core.List.{List, [], _∷_}
-use mathlib.Core.Path.{_≡_}
-use Prim.Native.Nat.{ℕ, _≤_}
-use lib.ListN.{length, getD}
+use Rattle.base_lists.specs.Kit.{_≡_, List, [], _∷_, ℕ, _≤_, length, getD}
 use Rattle.simulation.specs.Grouping.{Grouping, AsEachMember}
 use Rattle.file_format.specs.declared.Role.the-variants.{Pattern, Board}
 use Rattle.file_format.specs.Circuit.{circuitOf}

@@ -1,11 +1,7 @@
 -- Ask 5 of document 02, radius twelve, of what the calls reply: `Limit`. proofs/Limit proves it. "Twelve becomes the limit. Users keep every
 -- guarantee about places and merging for patterns up to it; a merged pattern never has the larger radius. Turned away: 11, pattern radius
 -- above 12, checked in every call that checks 6, after it and before the board's 1."
-use mathlib.Core.List.{List, [], _∷_}
-use mathlib.Core.Logic.{_↔_}
-use mathlib.Core.Path.{_≡_}
-use Prim.Native.Nat.{ℕ, _≤_, _<_}
-use lib.ListN.{length}
+use Rattle.base_lists.specs.Kit.{_≡_, _↔_, List, [], _∷_, ℕ, _≤_, _<_, length}
 use Rattle.base_text.specs.Text.{bytes}
 use Rattle.graph.specs.Circuit.{graphOf}
 use Rattle.graph.specs.Graph.{Radius}

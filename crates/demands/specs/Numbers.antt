@@ -2,11 +2,7 @@
 -- demand 1's conditions and document 01's table." Each line is a condition that some call is asked for: its number, the file that it means (that of the
 -- role in which a file is read or written, or neither) and when it holds. What the tests of 4, 5, 6 and 11 mean, and whether there is a place (9 and 15), the
 -- demands say (specs/Demands). In which order a call tries them is its list.
-use mathlib.Core.Bool.{Bool, _&&_, not}
-use mathlib.Core.List.{List, [], _∷_}
-use Prim.Native.Nat.{ℕ}
-use lib.Dec.{eqb, ltb}
-use lib.ListN.{length}
+use Rattle.base_lists.specs.Kit.{Bool, _&&_, not, List, [], _∷_, ℕ, eqb, ltb, length}
 use Rattle.graph.specs.Search.{connected}
 use Rattle.file_format.specs.declared.Edition.{Edition}
 use Rattle.file_format.specs.declared.File.the-variants.{Neither}

@@ -1,9 +1,6 @@
 -- Ask 8, each of its sentences quoted over what is proved of it: `Ask8`. proofs/OneWay proves it. What the whole-board call comes to is specs/Demands
 -- `Matched`; here links are followed in the directions chosen.
-use mathlib.Core.List.{List}
-use mathlib.Core.Path.{_≡_}
-use Prim.Native.Nat.{ℕ, _≤_}
-use lib.ListN.{length}
+use Rattle.base_lists.specs.Kit.{_≡_, List, ℕ, _≤_, length}
 use Rattle.graph.specs.Graph.{Graph}
 use Rattle.simulation.specs.Closed.{Relation, _⊆_, Row}
 use Rattle.simulation.specs.Simulation.{Candidate, Direction, Along, Largest, LargestGraphSimulation}

@@ -2,11 +2,7 @@
 -- both editions, shown over the finer equality": the demands are over circuit files of either edition, in every mixture. "The merged part takes its class's
 -- package, and the merged file has the pattern's edition.": specs/Demands `Made`, `mergedFile`. The numbers 3 and 12: `writes`, `converts` there. That nothing
 -- moved for the first edition: specs/FirstEdition. The layout as bytes: specs/Files.
-use mathlib.Core.List.{List, []}
-use mathlib.Core.Logic.{_↔_}
-use mathlib.Core.Path.{_≡_}
-use Prim.Native.Nat.{ℕ, _+_, _*_, _≤_}
-use lib.ListN.{length, getD, take}
+use Rattle.base_lists.specs.Kit.{_≡_, _↔_, List, [], ℕ, _≤_, _+_, _*_, length, getD, take}
 use Rattle.base_lists.specs.List.{Below}
 use Rattle.file_format.specs.declared.Edition.{Edition}
 use Rattle.file_format.specs.declared.Edition.the-variants.{Second}

@@ -1,10 +1,6 @@
 -- Ask 9, "Check a place from elsewhere", quoted over what is proved of it: `Ask9`. proofs/Proposals proves it. The contract of the call equates
 -- its reply with `checkCall` of the inputs alone.
-use mathlib.Core.List.{List, [], _∷_}
-use mathlib.Core.Logic.{_↔_, _⊎_}
-use mathlib.Core.Path.{_≡_}
-use Prim.Native.Nat.{ℕ, _<_}
-use lib.ListN.{length, take}
+use Rattle.base_lists.specs.Kit.{_≡_, _↔_, _⊎_, List, [], _∷_, ℕ, _<_, length, take}
 use Rattle.graph.specs.Graph.{Contains, Radius}
 use Rattle.file_format.specs.declared.Role.the-variants.{Pattern, Board}
 use Rattle.file_format.specs.Circuit.{circuitOf}

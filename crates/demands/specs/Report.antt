@@ -1,11 +1,6 @@
 -- The report, quoted over what is proved of its text: `Reported`. proofs/Report proves it. The contract of the call equates its reply and what it leaves with
 -- `reporting` of the inputs alone; it is refused by 8 alone (specs/Demands `reports`). The program that reads the files: crate finder.
-use mathlib.Core.List.{List, [], _++_}
-use mathlib.Core.Logic.{_↔_}
-use mathlib.Core.Path.{_≡_}
-use Prim.Native.Nat.{ℕ, _≤_}
-use lib.Dec.{T}
-use lib.ListN.{length, take}
+use Rattle.base_lists.specs.Kit.{_≡_, _↔_, List, [], _++_, ℕ, _≤_, T, length, take}
 use Rattle.base_lists.specs.Below.{countBelow, concatBelow}
 use Rattle.file_format.specs.declared.Refusal.{Refusal}
 use Rattle.file_format.specs.Circuit.{circuitOf}
@@ -13,7 +8,7 @@ use Rattle.file_format.specs.Layout.{CircuitFile, nodesOf, linksOf, startsOf, e
 use Rattle.file_format.specs.Refusals.{accept, refuse}
 use Rattle.report.specs.Lines.{longestLine}
 use Rattle.report.specs.Report.{nodeItems, linkItems, placeLine, hasPlace, centreLine, endLine, refusalLine, reportOf}
-use Rattle.call_report.specs.Call.{verdictOf}
+use Rattle.call_report.specs.Call.{filesVerdict}
 use Rattle.call_report.specs.Whole.{called}
 use Rattle.demands.specs.Demands.{Lent, Ready, placedOwn, nine}
 
@@ -22,9 +17,9 @@ pub record Reported : Type 0 where
   pub whole : (pattern board : CircuitFile) (buffers : ℕ → List ℕ) → ((k : ℕ) → longestLine ≤ length (buffers k)) → (k : ℕ) → 513 ≤ k →
       called pattern board buffers k .text ≡ reportOf pattern board
   -- "A refused file gives one line, as `refused 3 pattern`."
-  pub refused : (pattern board : CircuitFile) (x : Refusal) → verdictOf pattern board ≡ refuse x → reportOf pattern board ≡ refusalLine x
+  pub refused : (pattern board : CircuitFile) (x : Refusal) → filesVerdict pattern board ≡ refuse x → reportOf pattern board ≡ refusalLine x
   -- "Per centre with a place, rising: .. Last: `end`, how many centres have a place, `of`, N."
-  pub lines : (pattern board : CircuitFile) → verdictOf pattern board ≡ accept → let P = circuitOf pattern in let B = circuitOf board in
+  pub lines : (pattern board : CircuitFile) → filesVerdict pattern board ≡ accept → let P = circuitOf pattern in let B = circuitOf board in
       reportOf pattern board ≡ concatBelow (nodesOf board) (centreLine P B) ++ endLine (countBelow (nodesOf board) (hasPlace P B)) (nodesOf board)
   -- The line of a centre, by the place call at the pattern's radius: "`place`, the centre, a colon, each node, a slash, each link ..; nodes rise, links are
   -- in file order", those that the call marks;

@@ -1,11 +1,6 @@
 -- Ask 10, "A shelf in order", quoted over what is proved of it: `Ask10`. proofs/Shelf proves it. The contracts of the two calls equate their replies, and
 -- what they leave, with `comparing` and `shelving` of the inputs alone. (The program that reads the files: crate shelf.)
-use mathlib.Core.List.{List, [], _∷_}
-use mathlib.Core.Logic.{_↔_, _⊎_}
-use mathlib.Core.Path.{_≡_}
-use Prim.Native.Nat.{ℕ}
-use lib.Dec.{T}
-use lib.ListN.{length, take, drop}
+use Rattle.base_lists.specs.Kit.{_≡_, _↔_, _⊎_, List, [], _∷_, ℕ, T, length, take, drop}
 use Rattle.base_lists.specs.List.{Below}
 use Rattle.file_format.specs.declared.Edition.the-variants.{Second}
 use Rattle.file_format.specs.declared.Refusal.{Refusal}
@@ -16,11 +11,11 @@ use Rattle.order.specs.declared.Order.{Order}
 use Rattle.order.specs.declared.Order.the-variants.{Less, Equal}
 use Rattle.order.specs.Order.{Whole, Parallel, compareWhole}
 use Rattle.order.specs.Sorting.{In, Sorted, InOrder}
-use Rattle.order_files.specs.Files.{secondEdition, compareFiles}
-use Rattle.shelf_strings.specs.Strings.{cutInto}
-use Rattle.call_compare.specs.declared.CompareAnswer.the-variants as answer
-use Rattle.call_compare.specs.declared.Which.the-variants as which
-use Rattle.call_compare.specs.Call.{comparing}
+use Rattle.order.specs.Files.{secondEdition, compareFiles}
+use Rattle.call_shelf.specs.Strings.{cutInto}
+use Rattle.call_shelf.specs.declared.compare.CompareAnswer.the-variants as answer
+use Rattle.call_shelf.specs.declared.compare.Which.the-variants as which
+use Rattle.call_shelf.specs.Compare.{comparing}
 use Rattle.call_shelf.specs.Shelf.{fileAt, acceptedIn, shelfOf, mostFiles, shelving}
 
 -- a second-edition pattern file that is accepted, as bytes

@@ -1,12 +1,7 @@
 -- The test whether every bound is from 1 to 4. Assumes nothing.
-use mathlib.Core.Bool.{Bool, true, false, _&&_}
-use mathlib.Core.List.{List}
-use mathlib.Core.Path.{_≡_}
-use Prim.Native.Nat.{ℕ, _≤_, _<_}
-use lib.Dec.{T, leb, leb→le, le→leb}
-use lib.ListN.{length, getD}
+use Rattle.base_lists.specs.Kit.{_≡_, false, true, _&&_, List, ℕ, _≤_, _<_, T, leb, le→leb, leb→le, length, getD}
 use Rattle.base_lists.specs.List.{all}
-use Rattle.base_lists.proofs.Tests.{both, both-left, both-right, all-at, at-all, T-true, T-false}
+use Rattle.base_lists.proofs.Tests.{both-true, both-left, both-right, all-at, at-all, T-true, T-false}
 use Rattle.file_bounds.specs.Third.{boundsFit}
 
 -- from 1 to 4
@@ -25,7 +20,7 @@ unfolding boundsFit
 at-fit bounds f =
     T-true {b = all (λ x. leb 1 x && leb x 4) bounds}
     (at-all (λ x. leb 1 x && leb x 4) bounds
-    (λ i h. let (a, b) = f i h in both (leb 1 (getD bounds i 0)) (leb (getD bounds i 0) 4) (le→leb 1 (getD bounds i 0) a) (le→leb (getD bounds i 0) 4 b)))
+    (λ i h. let (a, b) = f i h in both-true (leb 1 (getD bounds i 0)) (leb (getD bounds i 0) 4) (le→leb 1 (getD bounds i 0) a) (le→leb (getD bounds i 0) 4 b)))
 
 pub not-fit : (bounds : List ℕ) (i : ℕ) → i < length bounds → (Fits bounds i → ⊥) → boundsFit bounds ≡ false
 not-fit bounds i h outside = T-false (λ t. outside (fit-at bounds t i h))

@@ -1,30 +1,21 @@
 -- The conditions on a file of the third edition, one after another; and what they say of the file of the second edition before the bounds.
 -- Assumes nothing.
-use mathlib.Core.Bool.{Bool, true, false, _&&_, not, cond}
-use mathlib.Core.List.{List, [], _∷_, _++_}
-use mathlib.Core.Path.{_≡_, refl, sym, ap, ap₂, subst, _∙_}
-use Prim.Native.Nat.{ℕ, _+_, _*_, _≤_, _<_}
-use native.Mathlib.Omega.{arith}
-use lib.Dec.{T, eqb, leb, ltb}
-use lib.ListN.{length, getD, take, drop}
-use lib.Seq.{getD-take, length-take-le}
-use borrow.Author.Tests.{lt-ltb, le-ltb, eq-eqb, ne-eqb, eqb-true, eqb-false, ltb-false}
-use Rattle.base_lists.specs.List.{all}
-use Rattle.base_lists.proofs.Tests.{true-T, T-true, refuted}
+use Rattle.base_lists.specs.Kit.{_≡_, _∙_, sym, ap, refl, subst, ap₂, Bool, false, true, cond, not, List, [], _∷_, _++_, ℕ, _≤_, _<_, _+_, _*_, T, eqb, ltb, length, take, drop, length-take-le, getD-take, arith, eq-eqb, ne-eqb, le-ltb, lt-ltb, eqb-true, ltb-false, eqb-false}
+use Rattle.base_lists.proofs.Tests.{true-T, T-true, not-true-false}
 use Rattle.file_format.specs.declared.Edition.the-variants.{Second}
 use Rattle.graph.specs.Circuit.{Circuit}
 use Rattle.file_format.specs.declared.FileRead.{FileRead}
 use Rattle.file_format.specs.declared.FileVerdict.the-variants as verdict
 use Rattle.file_format.specs.declared.Refusal.{Refusal}
 use Rattle.file_format.specs.declared.Role.the-variants.{AnyPattern}
-use Rattle.file_format.specs.Layout.{CircuitFile, inEdition, field, fields, lengthOf, nodesOf, linksOf, startsOf, endsOf}
+use Rattle.file_format.specs.Layout.{CircuitFile, inEdition, field, fields, nodesOf, linksOf, startsOf, endsOf}
 use Rattle.file_format.specs.Refusals.{Condition, Verdict, accept, refuse, first, linkConditions, fileConditions, sizeNumber, Accepted}
 use Rattle.file_format.specs.Reading.{verdictOf, Loaded}
 use Rattle.file_format.specs.Role.{inRange, fileOf}
 use Rattle.file_format.proofs.Reading.{loaded-accepted, loaded-refused}
 use Rattle.file_format.proofs.Refusals.{turned, turned-accept, accept-not-refuse, verdict-number, verdict-links, verdict-turned, size-0, first-accept, first-refuse, first-parts, first-holds, accepted}
 use Rattle.file_format.proofs.Fields.{length-fields}
-use Rattle.file_bounds.specs.Third.{boundsAt, boundedLength, frontOf, boundsOf, boundsFit, boundOutside, thirdConditions, thirdSize, BoundsLoaded}
+use Rattle.file_bounds.specs.Third.{boundsAt, boundedLength, beforeBounds, boundsOf, boundsFit, boundOutside, thirdConditions, thirdSize, BoundsLoaded}
 
 module _ (bytes : List ℕ) where
   -- ---- the size, as the code tests it
@@ -49,7 +40,7 @@ module _ (bytes : List ℕ) where
   -- ---- the verdict
 
   abbrev rest : List Condition
-  rest = linkConditions AnyPattern (field bytes 0) (startsOf (frontOf bytes)) (endsOf (frontOf bytes)) ++ (boundOutside (boundsOf bytes) ∷ [])
+  rest = linkConditions AnyPattern (field bytes 0) (startsOf (beforeBounds bytes)) (endsOf (beforeBounds bytes)) ++ (boundOutside (boundsOf bytes) ∷ [])
 
   verdict-size : first (thirdConditions bytes) ≡ cond (eqb (thirdSize bytes) 0) (first rest) (turned AnyPattern (thirdSize bytes))
   unfolding first thirdConditions thirdSize turned
@@ -83,71 +74,71 @@ module _ (bytes : List ℕ) where
 
   -- ---- the file of the second edition before the bounds
 
-  pub nodes-front : nodesOf (frontOf bytes) ≡ field bytes 0
-  unfolding nodesOf frontOf field
-  nodes-front = ap₂ (λ (a b : ℕ). a + 256 * b) (getD-take (boundsAt (field bytes 0) (field bytes 2)) bytes 0 0 (omega arith)) (getD-take (boundsAt (field bytes 0) (field bytes 2)) bytes 1 0 (omega arith))
+  pub nodes-prefix : nodesOf (beforeBounds bytes) ≡ field bytes 0
+  unfolding nodesOf beforeBounds field
+  nodes-prefix = ap₂ (λ (a b : ℕ). a + 256 * b) (getD-take (boundsAt (field bytes 0) (field bytes 2)) bytes 0 0 (omega arith)) (getD-take (boundsAt (field bytes 0) (field bytes 2)) bytes 1 0 (omega arith))
 
-  pub links-front : linksOf (frontOf bytes) ≡ field bytes 2
-  unfolding linksOf frontOf field
-  links-front = ap₂ (λ (a b : ℕ). a + 256 * b) (getD-take (boundsAt (field bytes 0) (field bytes 2)) bytes 2 0 (omega arith)) (getD-take (boundsAt (field bytes 0) (field bytes 2)) bytes 3 0 (omega arith))
+  pub links-prefix : linksOf (beforeBounds bytes) ≡ field bytes 2
+  unfolding linksOf beforeBounds field
+  links-prefix = ap₂ (λ (a b : ℕ). a + 256 * b) (getD-take (boundsAt (field bytes 0) (field bytes 2)) bytes 2 0 (omega arith)) (getD-take (boundsAt (field bytes 0) (field bytes 2)) bytes 3 0 (omega arith))
 
   module _ (h : thirdSize bytes ≡ 0) where
-    pub length-front : length (frontOf bytes .bytes) ≡ boundsAt (field bytes 0) (field bytes 2)
-    unfolding frontOf
-    length-front = length-take-le _ bytes (omega (arith, third-sized h .2))
+    pub length-prefix : length (beforeBounds bytes .bytes) ≡ boundsAt (field bytes 0) (field bytes 2)
+    unfolding beforeBounds
+    length-prefix = length-take-le _ bytes (omega (arith, third-sized h .2))
 
-    pub front-size : sizeNumber AnyPattern (frontOf bytes) ≡ 0
-    unfolding frontOf
-    front-size =
-        size-0 AnyPattern (frontOf bytes) (field bytes 0) (field bytes 2) (sym nodes-front) (sym links-front) (omega (arith, length-front))
-        (T-true {b = inRange AnyPattern (field bytes 0) (field bytes 2)} (third-sized h .1)) length-front
+    pub prefix-size : sizeNumber AnyPattern (beforeBounds bytes) ≡ 0
+    unfolding beforeBounds
+    prefix-size =
+        size-0 AnyPattern (beforeBounds bytes) (field bytes 0) (field bytes 2) (sym nodes-prefix) (sym links-prefix) (omega (arith, length-prefix))
+        (T-true {b = inRange AnyPattern (field bytes 0) (field bytes 2)} (third-sized h .1)) length-prefix
 
     -- its verdict is that of the links
-    front-verdict : first (fileConditions AnyPattern (frontOf bytes)) ≡ first (linkConditions AnyPattern (field bytes 0) (startsOf (frontOf bytes)) (endsOf (frontOf bytes)))
-    front-verdict =
-        verdict-links AnyPattern (frontOf bytes) front-size
-        ∙ sym (verdict-number AnyPattern (nodesOf (frontOf bytes)) (startsOf (frontOf bytes)) (endsOf (frontOf bytes)))
-        ∙ ap (λ (n : ℕ). first (linkConditions AnyPattern n (startsOf (frontOf bytes)) (endsOf (frontOf bytes)))) nodes-front
+    prefix-verdict : first (fileConditions AnyPattern (beforeBounds bytes)) ≡ first (linkConditions AnyPattern (field bytes 0) (startsOf (beforeBounds bytes)) (endsOf (beforeBounds bytes)))
+    prefix-verdict =
+        verdict-links AnyPattern (beforeBounds bytes) prefix-size
+        ∙ sym (verdict-number AnyPattern (nodesOf (beforeBounds bytes)) (startsOf (beforeBounds bytes)) (endsOf (beforeBounds bytes)))
+        ∙ ap (λ (n : ℕ). first (linkConditions AnyPattern n (startsOf (beforeBounds bytes)) (endsOf (beforeBounds bytes)))) nodes-prefix
 
     -- The one law that ties the third edition to the second: a file of the right size is refused as the file before the bounds is, and then by 13.
-    pub third-second : first (thirdConditions bytes) ≡ first (fileConditions AnyPattern (frontOf bytes) ++ (boundOutside (boundsOf bytes) ∷ []))
-    third-second = third-links h ∙ go (first (fileConditions AnyPattern (frontOf bytes))) refl front-verdict
+    pub third-second : first (thirdConditions bytes) ≡ first (fileConditions AnyPattern (beforeBounds bytes) ++ (boundOutside (boundsOf bytes) ∷ []))
+    third-second = third-links h ∙ go (first (fileConditions AnyPattern (beforeBounds bytes))) refl prefix-verdict
       where
         links : List Condition
-        links = linkConditions AnyPattern (field bytes 0) (startsOf (frontOf bytes)) (endsOf (frontOf bytes))
+        links = linkConditions AnyPattern (field bytes 0) (startsOf (beforeBounds bytes)) (endsOf (beforeBounds bytes))
 
-        go : (v : Verdict) → first (fileConditions AnyPattern (frontOf bytes)) ≡ v → v ≡ first links → first rest ≡ first (fileConditions AnyPattern (frontOf bytes) ++ (boundOutside (boundsOf bytes) ∷ []))
-        go accept e q = first-accept links _ (sym q) ∙ sym (first-accept (fileConditions AnyPattern (frontOf bytes)) _ e)
-        go (refuse x) e q = first-refuse links _ x (sym q) ∙ sym (first-refuse (fileConditions AnyPattern (frontOf bytes)) _ x e)
+        go : (v : Verdict) → first (fileConditions AnyPattern (beforeBounds bytes)) ≡ v → v ≡ first links → first rest ≡ first (fileConditions AnyPattern (beforeBounds bytes) ++ (boundOutside (boundsOf bytes) ∷ []))
+        go accept e q = first-accept links _ (sym q) ∙ sym (first-accept (fileConditions AnyPattern (beforeBounds bytes)) _ e)
+        go (refuse x) e q = first-refuse links _ x (sym q) ∙ sym (first-refuse (fileConditions AnyPattern (beforeBounds bytes)) _ x e)
 
     -- what turns the front away turns the file away,
-    pub front-refused : {x : Refusal} → first (fileConditions AnyPattern (frontOf bytes)) ≡ refuse x → first (thirdConditions bytes) ≡ refuse x
-    front-refused e = third-second ∙ first-refuse _ _ _ e
+    pub prefix-refused : {x : Refusal} → first (fileConditions AnyPattern (beforeBounds bytes)) ≡ refuse x → first (thirdConditions bytes) ≡ refuse x
+    prefix-refused e = third-second ∙ first-refuse _ _ _ e
 
     -- and where nothing does, the bounds decide
-    module _ (e : first (fileConditions AnyPattern (frontOf bytes)) ≡ accept) where
+    module _ (e : first (fileConditions AnyPattern (beforeBounds bytes)) ≡ accept) where
       pub bounds-refused : boundsFit (boundsOf bytes) ≡ false → first (thirdConditions bytes) ≡ turned AnyPattern 13
       unfolding first boundOutside turned
-      bounds-refused b = third-second ∙ first-accept (fileConditions AnyPattern (frontOf bytes)) (boundOutside (boundsOf bytes) ∷ []) e ∙ rw b
+      bounds-refused b = third-second ∙ first-accept (fileConditions AnyPattern (beforeBounds bytes)) (boundOutside (boundsOf bytes) ∷ []) e ∙ rw b
 
       pub bounds-accepted : boundsFit (boundsOf bytes) ≡ true → first (thirdConditions bytes) ≡ accept
       unfolding first boundOutside
-      bounds-accepted b = third-second ∙ first-accept (fileConditions AnyPattern (frontOf bytes)) (boundOutside (boundsOf bytes) ∷ []) e ∙ rw b
+      bounds-accepted b = third-second ∙ first-accept (fileConditions AnyPattern (beforeBounds bytes)) (boundOutside (boundsOf bytes) ∷ []) e ∙ rw b
 
   -- as many bounds as links
-  pub bounds-count : length (boundsOf bytes) ≡ linksOf (frontOf bytes)
+  pub bounds-count : length (boundsOf bytes) ≡ linksOf (beforeBounds bytes)
   unfolding boundsOf
-  bounds-count = length-fields _ _ ∙ sym links-front
+  bounds-count = length-fields _ _ ∙ sym links-prefix
 
   -- An accepted file: what stands before the bounds is a file of any pattern that is accepted, and every bound is from 1 to 4.
-  pub third-accepted : first (thirdConditions bytes) ≡ accept → Accepted AnyPattern (frontOf bytes) × T (boundsFit (boundsOf bytes))
+  pub third-accepted : first (thirdConditions bytes) ≡ accept → Accepted AnyPattern (beforeBounds bytes) × T (boundsFit (boundsOf bytes))
   unfolding boundOutside
   third-accepted e = go (eqb (thirdSize bytes) 0) refl
     where
-      go : (b : Bool) → eqb (thirdSize bytes) 0 ≡ b → Accepted AnyPattern (frontOf bytes) × T (boundsFit (boundsOf bytes))
+      go : (b : Bool) → eqb (thirdSize bytes) 0 ≡ b → Accepted AnyPattern (beforeBounds bytes) × T (boundsFit (boundsOf bytes))
       go true z =
-          let (front, bounds) = first-parts (fileConditions AnyPattern (frontOf bytes)) _ (sym (third-second (eqb-true _ _ z)) ∙ e) in
-          (accepted AnyPattern (frontOf bytes) front, refuted (boundsFit (boundsOf bytes)) (first-holds _ _ bounds .0))
+          let (prefix, bounds) = first-parts (fileConditions AnyPattern (beforeBounds bytes)) _ (sym (third-second (eqb-true _ _ z)) ∙ e) in
+          (accepted AnyPattern (beforeBounds bytes) prefix, not-true-false (boundsFit (boundsOf bytes)) (first-holds _ _ bounds .0))
       go false z = absurd (turned-accept AnyPattern _ _ (third-turned (eqb-false _ _ z)) e)
 
   pub third-long : first (thirdConditions bytes) ≡ accept → length bytes ≡ boundedLength (field bytes 0) (field bytes 2)
@@ -159,29 +150,29 @@ module _ (bytes : List ℕ) where
 
   -- A file of the third edition's length, of which every bound is from 1 to 4, is refused or accepted as what stands before the bounds.
   module _ (long : length bytes ≡ boundedLength (field bytes 0) (field bytes 2)) where
-    front-long : length (frontOf bytes .bytes) ≡ boundsAt (field bytes 0) (field bytes 2)
-    unfolding frontOf
-    front-long = length-take-le _ bytes (omega (arith, long))
+    prefix-long : length (beforeBounds bytes .bytes) ≡ boundsAt (field bytes 0) (field bytes 2)
+    unfolding beforeBounds
+    prefix-long = length-take-le _ bytes (omega (arith, long))
 
-    size-same : sizeNumber AnyPattern (frontOf bytes) ≡ thirdSize bytes
-    unfolding sizeNumber thirdSize frontOf
+    size-same : sizeNumber AnyPattern (beforeBounds bytes) ≡ thirdSize bytes
+    unfolding sizeNumber thirdSize beforeBounds
     size-same =
         simp
-        (le-ltb (length bytes) 4 (omega (arith, long)), eq-eqb _ _ long, le-ltb (length (frontOf bytes .bytes)) 4 (omega (arith, front-long)), nodes-front, links-front, eq-eqb _ _ front-long)
+        (le-ltb (length bytes) 4 (omega (arith, long)), eq-eqb _ _ long, le-ltb (length (beforeBounds bytes .bytes)) 4 (omega (arith, prefix-long)), nodes-prefix, links-prefix, eq-eqb _ _ prefix-long)
 
-    pub front-verdicts : T (boundsFit (boundsOf bytes)) → first (thirdConditions bytes) ≡ first (fileConditions AnyPattern (frontOf bytes))
+    pub prefix-verdicts : T (boundsFit (boundsOf bytes)) → first (thirdConditions bytes) ≡ first (fileConditions AnyPattern (beforeBounds bytes))
     unfolding first boundOutside
-    front-verdicts fits = sized (eqb (thirdSize bytes) 0) refl
+    prefix-verdicts fits = sized (eqb (thirdSize bytes) 0) refl
       where
-        links : (v : Verdict) → first (fileConditions AnyPattern (frontOf bytes)) ≡ v → first (fileConditions AnyPattern (frontOf bytes) ++ (boundOutside (boundsOf bytes) ∷ [])) ≡ v
-        links accept e = first-accept (fileConditions AnyPattern (frontOf bytes)) (boundOutside (boundsOf bytes) ∷ []) e ∙ rw (T-true {b = boundsFit (boundsOf bytes)} fits)
-        links (refuse x) e = first-refuse (fileConditions AnyPattern (frontOf bytes)) (boundOutside (boundsOf bytes) ∷ []) x e
+        links : (v : Verdict) → first (fileConditions AnyPattern (beforeBounds bytes)) ≡ v → first (fileConditions AnyPattern (beforeBounds bytes) ++ (boundOutside (boundsOf bytes) ∷ [])) ≡ v
+        links accept e = first-accept (fileConditions AnyPattern (beforeBounds bytes)) (boundOutside (boundsOf bytes) ∷ []) e ∙ rw (T-true {b = boundsFit (boundsOf bytes)} fits)
+        links (refuse x) e = first-refuse (fileConditions AnyPattern (beforeBounds bytes)) (boundOutside (boundsOf bytes) ∷ []) x e
 
-        sized : (b : Bool) → eqb (thirdSize bytes) 0 ≡ b → first (thirdConditions bytes) ≡ first (fileConditions AnyPattern (frontOf bytes))
+        sized : (b : Bool) → eqb (thirdSize bytes) 0 ≡ b → first (thirdConditions bytes) ≡ first (fileConditions AnyPattern (beforeBounds bytes))
         sized true z = third-second (eqb-true _ _ z) ∙ links _ refl
         sized false z =
             third-turned (eqb-false _ _ z) ∙ ap (turned AnyPattern) (sym size-same)
-            ∙ sym (verdict-turned AnyPattern (frontOf bytes) (λ e. eqb-false _ _ z (sym size-same ∙ e)))
+            ∙ sym (verdict-turned AnyPattern (beforeBounds bytes) (λ e. eqb-false _ _ z (sym size-same ∙ e)))
 
 -- ---- as the reader answers
 
@@ -204,9 +195,9 @@ module _ (bytes : List ℕ) (n m : ℕ) (isN : n ≡ field bytes 0) (isM : m ≡
   at-is : 4 + 4 * n + 4 * m ≡ boundsAt (field bytes 0) (field bytes 2)
   at-is = omega (arith, isN, isM)
 
-  pub front-is : inEdition Second (take (4 + 4 * n + 4 * m) bytes) ≡ frontOf bytes
-  unfolding frontOf
-  front-is = ap (λ (k : ℕ). inEdition Second (take k bytes)) at-is
+  pub prefix-is : inEdition Second (take (4 + 4 * n + 4 * m) bytes) ≡ beforeBounds bytes
+  unfolding beforeBounds
+  prefix-is = ap (λ (k : ℕ). inEdition Second (take k bytes)) at-is
 
   pub bounds-are : fields (drop (4 + 4 * n + 4 * m) bytes) m ≡ boundsOf bytes
   unfolding boundsOf
@@ -215,27 +206,27 @@ module _ (bytes : List ℕ) (n m : ℕ) (isN : n ≡ field bytes 0) (isM : m ≡
   -- the front was read, and then the bounds
   module _ (h : thirdSize bytes ≡ 0) {read : FileRead} {tables : Circuit}
       (l : Loaded AnyPattern (inEdition Second (take (4 + 4 * n + 4 * m) bytes)) read tables) where
-    front-loaded : Loaded AnyPattern (frontOf bytes) read tables
-    front-loaded = subst (λ (f : CircuitFile). Loaded AnyPattern f read tables) front-is l
+    prefix-loaded : Loaded AnyPattern (beforeBounds bytes) read tables
+    prefix-loaded = subst (λ (f : CircuitFile). Loaded AnyPattern f read tables) prefix-is l
 
-    pub loaded-front-refused : {bounds : List ℕ} {x : Refusal} → read .verdict ≡ verdict.Refused x → BoundsLoaded bytes read tables bounds
+    pub loaded-prefix-refused : {bounds : List ℕ} {x : Refusal} → read .verdict ≡ verdict.Refused x → BoundsLoaded bytes read tables bounds
     unfolding verdictOf
-    loaded-front-refused e =
-        let away = front-refused bytes h (loaded-refused front-loaded e) in
+    loaded-prefix-refused e =
+        let away = prefix-refused bytes h (loaded-refused prefix-loaded e) in
         record { verdict = ap verdictOf e ∙ sym away; held = λ a. absurd (accept-not-refuse (sym a ∙ away)) }
 
     module _ (e : read .verdict ≡ verdict.Accepted) {fits : Bool} (f : fits ≡ boundsFit (fields (drop (4 + 4 * n + 4 * m) bytes) m)) where
       pub loaded-bounds-refused : fits ≡ false → {bounds : List ℕ} {answer : FileRead} → answer .verdict ≡ verdict.Refused (record { number = 13; file = fileOf AnyPattern })
           → BoundsLoaded bytes answer tables bounds
       loaded-bounds-refused b q =
-          turned-loaded bytes _ tables _ 13 q (bounds-refused bytes h (loaded-accepted front-loaded e) (ap boundsFit (sym bounds-are) ∙ sym f ∙ b))
+          turned-loaded bytes _ tables _ 13 q (bounds-refused bytes h (loaded-accepted prefix-loaded e) (ap boundsFit (sym bounds-are) ∙ sym f ∙ b))
 
       pub loaded-bounds : fits ≡ true → {bounds : List ℕ} → take m bounds ≡ fields (drop (4 + 4 * n + 4 * m) bytes) m → BoundsLoaded bytes read tables bounds
       unfolding verdictOf
       loaded-bounds b {bounds} t =
-          let sound = loaded-accepted front-loaded e in
-          let stands = front-loaded .held sound .stands in
+          let sound = loaded-accepted prefix-loaded e in
+          let stands = prefix-loaded .held sound .stands in
           record {
             verdict = ap verdictOf e ∙ sym (bounds-accepted bytes h sound (ap boundsFit (sym bounds-are) ∙ sym f ∙ b));
-            held = λ _. record { stands = stands; bounded = ap (λ (k : ℕ). take k bounds) (stands .links ∙ links-front bytes ∙ sym isM) ∙ t ∙ bounds-are };
+            held = λ _. record { stands = stands; bounded = ap (λ (k : ℕ). take k bounds) (stands .links ∙ links-prefix bytes ∙ sym isM) ∙ t ∙ bounds-are };
           }

@@ -1,16 +1,11 @@
 -- The third edition of a pattern file: a file of the second edition, and a bound for each link after it.
-use mathlib.Core.Bool.{Bool, _&&_, not, cond}
-use mathlib.Core.List.{List, [], _∷_, _++_}
-use mathlib.Core.Path.{_≡_}
-use Prim.Native.Nat.{ℕ, _+_, _*_}
-use lib.Dec.{eqb, leb, ltb}
-use lib.ListN.{length, take, drop}
+use Rattle.base_lists.specs.Kit.{_≡_, Bool, cond, _&&_, not, List, [], _∷_, _++_, ℕ, _+_, _*_, eqb, ltb, leb, length, take, drop}
 use Rattle.base_lists.specs.List.{all}
 use Rattle.graph.specs.Circuit.{Circuit}
 use Rattle.file_format.specs.declared.Edition.the-variants.{Second}
 use Rattle.file_format.specs.declared.FileRead.{FileRead}
 use Rattle.file_format.specs.declared.Role.the-variants.{AnyPattern}
-use Rattle.file_format.specs.Layout.{CircuitFile, inEdition, field, fields, lengthOf, nodesOf, linksOf, startsOf, endsOf}
+use Rattle.file_format.specs.Layout.{CircuitFile, inEdition, field, fields, lengthOf, startsOf, endsOf}
 use Rattle.file_format.specs.Reading.{verdictOf, Stands}
 use Rattle.file_format.specs.Refusals.{Condition, accept, first, linkConditions}
 use Rattle.file_format.specs.Role.{inRange, fileOf}
@@ -26,8 +21,8 @@ abbrev pub boundedLength : ℕ → ℕ → ℕ
 boundedLength n m = boundsAt n m + 2 * m
 
 -- what stands before the bounds: a file of the second edition
-unfoldable pub frontOf : List ℕ → CircuitFile
-frontOf bytes = inEdition Second (take (boundsAt (field bytes 0) (field bytes 2)) bytes)
+unfoldable pub beforeBounds : List ℕ → CircuitFile
+beforeBounds bytes = inEdition Second (take (boundsAt (field bytes 0) (field bytes 2)) bytes)
 
 unfoldable pub boundsOf : List ℕ → List ℕ
 boundsOf bytes = fields (drop (boundsAt (field bytes 0) (field bytes 2)) bytes) (field bytes 2)
@@ -50,7 +45,7 @@ thirdConditions bytes =
     record { number = 1; file = fileOf AnyPattern; holds = ltb (length bytes) 4 } ∷
     record { number = 2; file = fileOf AnyPattern; holds = not (inRange AnyPattern n m) } ∷
     record { number = 3; file = fileOf AnyPattern; holds = not (eqb (length bytes) (boundedLength n m)) } ∷
-    (linkConditions AnyPattern n (startsOf (frontOf bytes)) (endsOf (frontOf bytes)) ++ (boundOutside (boundsOf bytes) ∷ []))
+    (linkConditions AnyPattern n (startsOf (beforeBounds bytes)) (endsOf (beforeBounds bytes)) ++ (boundOutside (boundsOf bytes) ∷ []))
 
 -- the number of the first condition on the size that holds, 1, 2 or 3, and 0 where none does
 unfoldable pub thirdSize : List ℕ → ℕ
@@ -63,7 +58,7 @@ thirdSize bytes =
 
 -- its circuit stands at the front of three tables, and its bounds at the front of a fourth
 pub record BoundsHeld (bytes : List ℕ) (read : FileRead) (tables : Circuit) (bounds : List ℕ) : Type 0 where
-  pub stands : Stands (frontOf bytes) (read .nodes) (read .links) tables
+  pub stands : Stands (beforeBounds bytes) (read .nodes) (read .links) tables
   pub bounded : take (read .links) bounds ≡ boundsOf bytes
 
 pub record BoundsLoaded (bytes : List ℕ) (read : FileRead) (tables : Circuit) (bounds : List ℕ) : Type 0 where

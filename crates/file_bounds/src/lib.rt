@@ -13,7 +13,7 @@ ghost use Prim.Native.Nat.{_+_, _*_, _≤_};
 ghost use lib.ListN.{length, take, drop};
 ghost use Rattle.graph.specs.Circuit.{circuit};
 ghost use Rattle.file_format.specs.Layout.{fields};
-ghost use Rattle.file_format.specs.Reading.{Room};
+ghost use Rattle.file_format.specs.Reading.{TablesRoom};
 ghost use Rattle.file_format.specs.Role.{fileOf};
 ghost use Rattle.file_format.specs.declared.Role.the-variants as role;
 ghost use Rattle.file_bounds.specs.Third.{boundsFit, thirdSize, BoundsLoaded};
@@ -65,7 +65,7 @@ fn read_bounds(file: &[u8], at: usize, m: usize, bounds: &mut [u16]) -> bool
 }
 
 // The answer that turns a file away.
-fn turned_away(number: u8) -> FileRead
+fn refused_bounded(number: u8) -> FileRead
     ensures { λ r. ⌜ r .verdict ≡ FileVerdict.Refused (record { number = number; file = fileOf role.AnyPattern }) ⌝ }
 {
     FileRead {
@@ -85,13 +85,13 @@ pub fn load_bounded(
     ends: &mut [u16],
     bounds: &mut [u16],
 ) -> FileRead
-    requires { ⌜ Room role.AnyPattern (circuit (now labels) (now starts) (now ends)) ⌝ }
+    requires { ⌜ TablesRoom role.AnyPattern (circuit (now labels) (now starts) (now ends)) ⌝ }
     requires { ⌜ 256 ≤ length (now bounds) ⌝ }
     ensures { λ r. ⌜ BoundsLoaded (now (file .entry)) r (circuit (now (labels .exit)) (now (starts .exit)) (now (ends .exit))) (now (bounds .exit)) ⌝ }
 {
     let number = size_number(file);
     if number != 0 {
-        return turned_away(number);
+        return refused_bounded(number);
     }
     let n = field_at(file, 0) as usize;
     let m = field_at(file, 1) as usize;
@@ -109,7 +109,7 @@ pub fn load_bounded(
         return read;
     };
     if !read_bounds(file, at, m, bounds) {
-        return turned_away(13);
+        return refused_bounded(13);
     }
     read
 }

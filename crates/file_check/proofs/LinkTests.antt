@@ -1,22 +1,13 @@
 -- Laws of the tests on links, for the loops that go through them. Assumes nothing.
-use mathlib.Core.Bool.{Bool, true, false, cond, Bool·not-not}
-use mathlib.Core.List.{List}
-use mathlib.Core.Logic.{_⊎_, inl, inr}
-use mathlib.Core.Path.{_≡_, refl, sym, ap, _∙_}
-use Prim.Native.Nat.{ℕ, _+_, _-_, _≤_, _<_}
+use Rattle.base_lists.specs.Kit.{_≡_, _∙_, sym, ap, refl, _⊎_, inl, inr, Bool, false, true, Bool·not-not, List, ℕ, _≤_, _<_, _+_, _-_, le-trans, le-of-eq, eq-or-lt-of-le, T, eqb, ltb, ltb→lt, lt→ltb, length, getD, arith, ltb-false, ltb-true}
 use native.Mathlib.Decide.{decLt}
-use native.Mathlib.Nat.{eq-or-lt-of-le, le-trans, le-of-eq}
-use native.Mathlib.Omega.{arith}
-use lib.Dec.{T, eqb, ltb, lt→ltb, ltb→lt}
-use lib.ListN.{length, getD}
-use borrow.Author.Tests.{ltb-true, ltb-false}
 use Rattle.base_lists.specs.List.{all}
 use Rattle.base_lists.proofs.Tests.{all-at, at-all, allBelow-at, at-allBelow, T-true, T-false, true-T}
 use Rattle.graph.specs.Search.{far, radius}
 use Rattle.graph_radius.proofs.Spanning.{connected-radius}
 use Rattle.file_format.specs.declared.Role.{Role}
 use Rattle.file_format.specs.Links.{packed, numbersRise}
-use Rattle.file_format.specs.Refusals.{asksConnected, orderNumber, linkNumber, widthNumber}
+use Rattle.file_format.specs.Refusals.{asksConnected, linkOrderNumber, linkNumber, widthNumber}
 use Rattle.file_format.specs.Role.{inRange}
 use Rattle.file_format.proofs.Accepted.{links-within}
 use Rattle.file_format.proofs.Refusals.{ordered, number-joined, range-asked}
@@ -142,7 +133,7 @@ module _ (starts ends : List ℕ) where
 -- ---- one search for a pattern's links
 
 -- a pattern's links that are in order give what their radius does: 6 where it is `far`, 11 where it is above 12
-pub pattern-number : (r : Role) (n w : ℕ) (starts ends : List ℕ) → asksConnected r ≡ true → T (inRange r n (length starts)) → orderNumber n starts ends ≡ 0
+pub pattern-number : (r : Role) (n w : ℕ) (starts ends : List ℕ) → asksConnected r ≡ true → T (inRange r n (length starts)) → linkOrderNumber n starts ends ≡ 0
     → w ≡ radius n starts ends → linkNumber r n starts ends ≡ widthNumber w
 unfolding widthNumber
 pattern-number r n w starts ends e t o q =
@@ -151,5 +142,5 @@ pattern-number r n w starts ends e t o q =
     number-joined n starts ends r o ∙ rw (e, one, q) (simp (Bool·not-not (eqb (radius n starts ends) far)))
 
 -- the links of a role that need not be connected give nothing
-pub unasked-number : (r : Role) (n : ℕ) (starts ends : List ℕ) → asksConnected r ≡ false → orderNumber n starts ends ≡ 0 → linkNumber r n starts ends ≡ 0
+pub unasked-number : (r : Role) (n : ℕ) (starts ends : List ℕ) → asksConnected r ≡ false → linkOrderNumber n starts ends ≡ 0 → linkNumber r n starts ends ≡ 0
 unasked-number r n starts ends e o = number-joined n starts ends r o ∙ rw e

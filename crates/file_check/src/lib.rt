@@ -6,7 +6,7 @@ ghost use Rattle.base_lists.specs.List.{all};
 ghost use Rattle.file_format.specs.Layout.{inEdition};
 ghost use Rattle.file_format.specs.Links.{packed, numbersRise};
 ghost use Rattle.file_format.specs.Reading.{LinksTested};
-ghost use Rattle.file_format.specs.Refusals.{asksConnected, sizeNumber, orderNumber, widthNumber};
+ghost use Rattle.file_format.specs.Refusals.{asksConnected, sizeNumber, linkOrderNumber, widthNumber};
 ghost use Rattle.file_format.specs.Role.{inRange, fileOf};
 use file_fields::field_at;
 use file_format::Board;
@@ -127,7 +127,7 @@ fn links_rise(starts: &[u16], ends: &[u16]) -> bool
 // 4 or 5, the first that the links give, or 0.
 fn order_number(n: usize, starts: &[u16], ends: &[u16]) -> u8
     requires { ⌜ length (now starts) ≡ length (now ends) ⌝ }
-    ensures { λ r. ⌜ r ≡ orderNumber n (now (starts .entry)) (now (ends .entry)) ⌝ }
+    ensures { λ r. ⌜ r ≡ linkOrderNumber n (now (starts .entry)) (now (ends .entry)) ⌝ }
 {
     if !all_below(starts, n) {
         return 4;

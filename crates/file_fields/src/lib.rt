@@ -3,7 +3,7 @@ ghost use mathlib.Core.Path.{_≡_};
 ghost use mathlib.Core.List.{_++_};
 ghost use Prim.Native.Nat.{_+_, _*_, _<_, _≤_};
 ghost use lib.ListN.{length, getD, drop};
-ghost use Rattle.file_format.specs.Label.{label, labels};
+ghost use Rattle.file_format.specs.Label.{labels};
 ghost use Rattle.file_format.specs.Layout.{field, fields};
 
 // The i-th field of a stretch.

@@ -1,9 +1,5 @@
 -- What an accepted file says of the circuit that it holds. Assumes nothing.
-use mathlib.Core.List.{List}
-use mathlib.Core.Path.{sym, _∙_}
-use Prim.Native.Nat.{ℕ}
-use lib.Dec.{T, ltb}
-use lib.ListN.{length}
+use Rattle.base_lists.specs.Kit.{_∙_, sym, List, ℕ, T, ltb, length}
 use Rattle.base_lists.specs.List.{all}
 use Rattle.base_lists.proofs.Tests.{both-left, both-right}
 use Rattle.graph.specs.Circuit.{Circuit, circuitGraph}
@@ -36,11 +32,11 @@ module _ (n : ℕ) (starts ends : List ℕ) (below : T (linksBelow n starts ends
 
 -- the same of a bounded circuit
 module _ {role : Role} {c : Circuit} (b : Bounded role c) where
-  pub bounded-starts : T (all (λ v. ltb v (length (c .kinds))) (c .starts))
-  bounded-starts = starts-below (length (c .kinds)) (c .starts) (c .ends) (b .below)
+  pub bounded-starts : T (all (λ v. ltb v (length (c .labels))) (c .starts))
+  bounded-starts = starts-below (length (c .labels)) (c .starts) (c .ends) (b .below)
 
-  pub bounded-ends : T (all (λ v. ltb v (length (c .kinds))) (c .ends))
-  bounded-ends = ends-below (length (c .kinds)) (c .starts) (c .ends) (b .below)
+  pub bounded-ends : T (all (λ v. ltb v (length (c .labels))) (c .ends))
+  bounded-ends = ends-below (length (c .labels)) (c .starts) (c .ends) (b .below)
 
 -- ---- an accepted file
 

@@ -1,11 +1,5 @@
 -- Laws of the fields of a stretch, for the loops that go through them. Assumes nothing.
-use mathlib.Core.List.{List, _++_}
-use mathlib.Core.Path.{_≡_, refl, ap, ap₂, _∙_}
-use Prim.Native.Nat.{ℕ, _+_, _*_, _-_, _≤_, _<_}
-use native.Mathlib.Nat.{add-sub-cancel-left}
-use native.Mathlib.Omega.{arith}
-use lib.ListN.{length, getD, take, drop, set}
-use lib.Seq.{getD-take, take-at}
+use Rattle.base_lists.specs.Kit.{_≡_, _∙_, ap, refl, ap₂, List, _++_, ℕ, _≤_, _<_, _+_, _-_, _*_, add-sub-cancel-left, length, getD, take, drop, set, take-at, getD-take, arith}
 use Rattle.file_format.specs.declared.Edition.{Edition}
 use Rattle.file_format.specs.declared.Edition.the-variants.{First, Second}
 use Rattle.file_format.specs.Label.{labels}
@@ -76,5 +70,11 @@ unfolding fields
 stored-more s d i h = filled-more i (λ j. field s (2 * j)) d h
 
 -- what was stored stands at the front
-pub stored-front : (s d l : List ℕ) (k : ℕ) → l ≡ fields s k ++ drop k d → take k l ≡ fields s k
-stored-front s d l k e = ap (take k) e ∙ take-at (fields s k) (drop k d) k (length-fields s k)
+pub stored-prefix : (s d l : List ℕ) (k : ℕ) → l ≡ fields s k ++ drop k d → take k l ≡ fields s k
+stored-prefix s d l k e = ap (take k) e ∙ take-at (fields s k) (drop k d) k (length-fields s k)
+
+-- ---- fields of bytes are of 16 bits
+
+pub field-low : (s : List ℕ) → ((i : ℕ) → getD s i 0 < 256) → (at : ℕ) → field s at < 65536
+unfolding field
+field-low s low at = omega (arith, low at, low (at + 1))

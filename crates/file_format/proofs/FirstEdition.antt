@@ -1,17 +1,12 @@
 -- What the editions have to do with each other: a first-edition file "counts as having all packages 0", so that its labels are its kinds.
 -- Assumes nothing.
-use mathlib.Core.List.{List, []}
-use mathlib.Core.Path.{_≡_, refl, ap, subst, _∙_}
-use Prim.Native.Nat.{ℕ, _+_, _*_, _<_}
-use native.Mathlib.Omega.{arith}
-use lib.ListN.{length, getD, drop}
-use lib.Seq.{getD-drop}
+use Rattle.base_lists.specs.Kit.{_≡_, _∙_, ap, refl, subst, List, [], ℕ, _<_, _+_, _*_, length, getD, drop, getD-drop, arith}
 use Rattle.base_lists.specs.List.{Below, tabulate}
 use Rattle.base_lists.proofs.Tables.{tabulate-same}
 use Rattle.file_format.specs.Label.{label, labels}
-use Rattle.file_format.specs.Layout.{CircuitFile, firstEdition, field, fields, lengthOf, nodesOf, kindsOf, packagesOf, labelsOf}
-use Rattle.file_format.specs.declared.Edition.the-variants.{First, Second}
-use Rattle.file_format.proofs.Fields.{length-fields, getD-fields}
+use Rattle.file_format.specs.Layout.{CircuitFile, firstEdition, fields, lengthOf, nodesOf, kindsOf, packagesOf, labelsOf}
+use Rattle.file_format.specs.declared.Edition.the-variants.{First}
+use Rattle.file_format.proofs.Fields.{length-fields, getD-fields, field-low}
 use Rattle.file_format.proofs.Labels.{labels-kinds}
 
 -- ---- the first edition
@@ -28,17 +23,10 @@ first-labels bytes = ap (labels (kindsOf (firstEdition bytes))) (first-packages 
 pub first-length : (n m : ℕ) → lengthOf First n m ≡ 4 + 2 * n + 4 * m
 first-length n m = omega arith
 
-pub second-length : (n m : ℕ) → lengthOf Second n m ≡ 4 + 4 * n + 4 * m
-second-length n m = omega arith
-
 -- ---- fields of bytes are of 16 bits
 
 drop-low : (k : ℕ) (s : List ℕ) → ((i : ℕ) → getD s i 0 < 256) → (i : ℕ) → getD (drop k s) i 0 < 256
 drop-low k s low i = rw getD-drop (low _)
-
-field-low : (s : List ℕ) → ((i : ℕ) → getD s i 0 < 256) → (at : ℕ) → field s at < 65536
-unfolding field
-field-low s low at = omega (arith, low at, low (at + 1))
 
 pub kinds-low : (file : CircuitFile) → ((i : ℕ) → getD (file .bytes) i 0 < 256) → Below 65536 (kindsOf file)
 unfolding Below kindsOf

@@ -1,9 +1,5 @@
 -- A label is a kind and a package, and only that. Assumes nothing.
-use mathlib.Core.List.{List, []}
-use mathlib.Core.Path.{_≡_, refl, sym, ap₂, _∙_}
-use Prim.Native.Nat.{ℕ, _+_, _*_, _/_, _%_, _<_}
-use native.Mathlib.Omega.{arith}
-use lib.ListN.{length, getD}
+use Rattle.base_lists.specs.Kit.{_≡_, _∙_, sym, refl, ap₂, List, [], ℕ, _<_, length, getD, arith}
 use Rattle.base_lists.proofs.Tables.{length-tabulate, getD-tabulate, is-tabulate}
 use Rattle.file_format.specs.Label.{label, kindIn, packageIn, labels, kindsIn, packagesIn}
 

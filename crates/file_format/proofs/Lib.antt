@@ -1,9 +1,10 @@
-pub mod Labels
-pub mod Fields
-pub mod Refusals
 pub mod Accepted
-pub mod Reading
-pub mod Rising
-pub mod Packed
+pub mod Cut
+pub mod Fields
 pub mod FirstEdition
+pub mod Labels
 pub mod Limit
+pub mod Packed
+pub mod Reading
+pub mod Refusals
+pub mod Rising

@@ -1,14 +1,7 @@
 -- The limit on a pattern's radius: which patterns are refused with 11, and what a list of conditions came to before the number came in. Assumes
 -- nothing.
-use mathlib.Core.Bool.{Bool, true, false, cond}
-use mathlib.Core.List.{List, [], _∷_, _++_}
-use mathlib.Core.Logic.{_↔_}
-use mathlib.Core.Path.{_≡_, refl, sym, ap, subst, _∙_}
-use Prim.Native.Nat.{ℕ, _≤_, _<_}
-use native.Mathlib.Omega.{arith}
-use borrow.Author.Tests.{lt-ltb, le-ltb, ltb-true, ltb-false, eqb-true, eqb-false}
-use lib.Dec.{T, eqb, ltb}
-use Rattle.base_lists.proofs.Tests.{refuted}
+use Rattle.base_lists.specs.Kit.{_≡_, _∙_, sym, ap, refl, subst, _↔_, Bool, false, true, cond, List, [], _∷_, _++_, ℕ, _≤_, _<_, eqb, ltb, arith, le-ltb, lt-ltb, eqb-true, ltb-false, eqb-false, ltb-true}
+use Rattle.base_lists.proofs.Tests.{not-true-false}
 use Rattle.graph.specs.Circuit.{graphOf, circuitGraph}
 use Rattle.graph.specs.Graph.{Graph, Radius}
 use Rattle.graph.specs.Search.{connected, radius}
@@ -172,9 +165,9 @@ module _ (file : CircuitFile) where
       let h4 = first-holds _ _ (h3 .1) in
       let h5 = first-holds _ _ (h4 .1) in
       let h6 = first-holds _ _ (h5 .1) in
-      let some = range-orders Pattern n (linksOf file) (refuted (inRange Pattern n (linksOf file)) (h2 .0)) .0 in
-      let below = refuted (linksBelow n (startsOf file) (endsOf file)) (h4 .0) in
-      radius-is (links-within n (startsOf file) (endsOf file) below) some (refuted (connected n (startsOf file) (endsOf file)) (h6 .0))
+      let some = range-orders Pattern n (linksOf file) (not-true-false (inRange Pattern n (linksOf file)) (h2 .0)) .0 in
+      let below = not-true-false (linksBelow n (startsOf file) (endsOf file)) (h4 .0) in
+      radius-is (links-within n (startsOf file) (endsOf file) below) some (not-true-false (connected n (startsOf file) (endsOf file)) (h6 .0))
 
   pub wide-file :
       (first (fileConditions Pattern file) ≡ refuse eleven) ↔

@@ -1,23 +1,17 @@
 -- One number per link, start times 65,536 plus end: which of two is the smaller, and when they are the same; and the condition 5 by these
 -- numbers is the condition 5 by start, then by end. Assumes nothing.
-use mathlib.Core.List.{List, _∷_, _++_}
-use mathlib.Core.Logic.{inl, inr, _↔_}
-use mathlib.Core.Path.{_≡_, ap, subst}
-use Prim.Native.Nat.{ℕ, _+_, _*_, _-_, _<_}
+use Rattle.base_lists.specs.Kit.{_≡_, ap, subst, _↔_, inl, inr, List, _∷_, _++_, ℕ, _<_, _+_, _-_, _*_, ltb, ltb→lt, lt→ltb, length, getD, getD-drop, arith}
 use native.Mathlib.Decide.{decLt}
-use native.Mathlib.Omega.{arith}
-use lib.Dec.{ltb, lt→ltb, ltb→lt}
-use lib.ListN.{length, getD, List·getD-eq-default}
-use lib.Seq.{getD-drop}
 use Rattle.base_lists.specs.List.{Below}
 use Rattle.base_lists.proofs.Below.{allBelow-same}
 use Rattle.base_lists.proofs.Tests.{same-test}
+use Rattle.base_lists.proofs.Entries.{below-getD}
 use Rattle.graph.proofs.RisingLinks.{Before}
 use Rattle.file_format.specs.declared.Role.{Role}
-use Rattle.file_format.specs.Layout.{CircuitFile, field, linksOf, startsOf, endsOf}
+use Rattle.file_format.specs.Layout.{CircuitFile, linksOf, startsOf, endsOf}
 use Rattle.file_format.specs.Links.{earlier, rising, packed, numbersRise}
 use Rattle.file_format.specs.Refusals.{Condition, first, fallsByNumbers, fallsByLinks}
-use Rattle.file_format.proofs.Fields.{length-fields, getD-fields}
+use Rattle.file_format.proofs.Fields.{length-fields, getD-fields, field-low}
 use Rattle.file_format.proofs.Rising.{earlier-iff}
 
 -- ---- two links
@@ -55,29 +49,15 @@ pub numbers-rise : (starts ends : List ℕ) → ((i : ℕ) → getD ends i 0 < 6
 unfolding numbersRise rising
 numbers-rise starts ends low = allBelow-same (length starts - 1) _ _ (λ i h. packed-test _ _ _ _ (low i) (low (i + 1)))
 
--- an entry, and 0 past the last
-entry-low : (n : ℕ) (xs : List ℕ) → 0 < n → Below n xs → (i : ℕ) → getD xs i 0 < n
-unfolding Below
-entry-low n xs some b i = go (decLt i (length xs))
-  where
-    go : Dec (i < length xs) → getD xs i 0 < n
-    go (yes h) = b i h
-    go (no h) = rw (List·getD-eq-default xs 0 {n = i} (omega arith)) some
-
 -- for any 16-bit starts and ends, as writing is lent them,
 pub numbers-lists : (starts ends : List ℕ) → Below 65536 ends → numbersRise starts ends ≡ rising starts ends
-numbers-lists starts ends b = numbers-rise starts ends (entry-low 65536 ends (omega arith) b)
-
--- and for those of any string of bytes, whose fields are of 16 bits.
-field-low : (s : List ℕ) → ((i : ℕ) → getD s i 0 < 256) → (at : ℕ) → field s at < 65536
-unfolding field
-field-low s low at = omega (arith, low at, low (at + 1))
+numbers-lists starts ends b = numbers-rise starts ends (below-getD 65536 ends (omega arith) b)
 
 ends-low : (file : CircuitFile) → Below 256 (file .bytes) → Below 65536 (endsOf file)
 unfolding Below endsOf
 ends-low file b i h =
     rw (getD-fields _ (linksOf file) i (subst (λ (k : ℕ). i < k) (length-fields _ (linksOf file)) h))
-    (field-low _ (λ j. rw getD-drop (entry-low 256 (file .bytes) (omega arith) b _)) (2 * i))
+    (field-low _ (λ j. rw getD-drop (below-getD 256 (file .bytes) (omega arith) b _)) (2 * i))
 
 pub numbers-file : (file : CircuitFile) → Below 256 (file .bytes) → numbersRise (startsOf file) (endsOf file) ≡ rising (startsOf file) (endsOf file)
 numbers-file file b = numbers-lists (startsOf file) (endsOf file) (ends-low file b)

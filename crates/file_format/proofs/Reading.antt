@@ -1,46 +1,24 @@
 -- What the reading call comes to, by cases of the verdict, and what its caller knows of it, by cases of the answer. Assumes nothing.
-use mathlib.Core.List.{List, [], _∷_, _++_}
-use mathlib.Core.Logic.{_⊎_}
-use mathlib.Core.Path.{_≡_, refl, sym, ap, _∙_}
-use Prim.Native.Nat.{ℕ, _≤_, _<_}
-use native.Mathlib.Omega.{arith}
-use borrow.Author.Tests.{ltb-false}
-use Rattle.file_format.proofs.Fields.{length-fields, length-kinds, length-packages, length-labels, length-labels-from, length-starts, length-ends, stored-front}
-use lib.Dec.{lit≤}
-use lib.ListN.{length, take, drop, length-take}
-use lib.Seq.{take-at}
+use Rattle.base_lists.specs.Kit.{_≡_, _∙_, sym, ap, refl, _⊎_, List, [], _∷_, _++_, ℕ, _≤_, _<_, lit≤, length, take, drop, take-at, ltb-false}
+use Rattle.base_lists.proofs.Parts.{length-take-room}
+use Rattle.file_format.proofs.Fields.{length-kinds, length-packages, length-labels, length-labels-from, length-starts, length-ends, stored-prefix}
 use Rattle.graph.specs.Circuit.{Circuit, circuit}
 use Rattle.graph.specs.Search.{radius}
 use Rattle.file_format.specs.declared.File.the-variants.{Neither}
 use Rattle.file_format.specs.declared.FileRead.{FileRead}
 use Rattle.file_format.specs.declared.FileVerdict.the-variants as verdict
 use Rattle.file_format.specs.declared.Refusal.{Refusal}
-use Rattle.file_format.specs.declared.ReadAnswer.{ReadAnswer}
 use Rattle.file_format.specs.declared.ReadAnswer.the-variants.{Read, Refused}
 use Rattle.file_format.specs.declared.Role.{Role}
 use Rattle.file_format.specs.declared.Role.the-variants as role
 use Rattle.file_format.specs.Circuit.{Bounded}
-use Rattle.file_format.specs.Reading.{reading, readConditions, readAnswer, filled, verdictOf, front, Stands, Held, Loaded, LinksTested}
-use Rattle.file_format.specs.Reply.{Reply, reply, readReply}
-use Rattle.file_format.specs.Layout.{CircuitFile, fields, kindsAt, packageCount, startsAt, endsAt, nodesOf, linksOf, kindsOf, packagesOf, startsOf, endsOf, labelsOf, labelsFrom}
+use Rattle.file_format.specs.Reading.{reading, readConditions, readAnswer, filled, verdictOf, prefix, Stands, Held, Loaded, LinksTested}
+use Rattle.file_format.specs.Reply.{reply, readReply}
+use Rattle.file_format.specs.Layout.{CircuitFile, fields, packageCount, startsAt, endsAt, nodesOf, linksOf, kindsOf, packagesOf, startsOf, endsOf, labelsOf, labelsFrom}
 use Rattle.file_format.specs.Refusals.{Verdict, accept, refuse, first, fileConditions, sizeNumber, linkNumber, shortTable}
 use Rattle.file_format.specs.Role.{minNodes, maxNodes, maxLinks, fileOf}
 use Rattle.file_format.proofs.Refusals.{turned, turned-accept, byNumber, number-turned, number-accept, verdict-links, first-accept, first-refuse, first-parts, first-holds, tables-short-4, tables-fit-4, accepted, range-orders}
 use Rattle.file_format.proofs.Accepted.{accepted-bounded}
-
-pub answer-turned : (r : Role) (k n m : ℕ) (v : Verdict) → v ≡ turned r k → readAnswer v n m ≡ Refused (record { number = k; file = fileOf r })
-unfolding readAnswer turned
-answer-turned r k n m v e = rw e
-
-pub answer-accept : (n m : ℕ) (v : Verdict) → v ≡ accept → readAnswer v n m ≡ Read n m
-unfolding readAnswer
-answer-accept n m v e = rw e
-
--- what an answer says of its verdict
-pub answer-refused : (n m : ℕ) (v : Verdict) (x : Refusal) → readAnswer v n m ≡ Refused x → v ≡ refuse x
-unfolding readAnswer
-answer-refused n m accept x e = cc
-answer-refused n m (refuse y) x e = cc
 
 pub answer-read : (n m : ℕ) (v : Verdict) (k l : ℕ) → readAnswer v n m ≡ Read k l → (v ≡ accept) × (k ≡ n) × (l ≡ m)
 unfolding readAnswer
@@ -52,14 +30,6 @@ answer-reply : (v : Verdict) (n m : ℕ) → readReply (readAnswer v n m) ≡ re
 unfolding readAnswer readReply reply
 answer-reply accept n m = refl
 answer-reply (refuse x) n m = refl
-
--- a reply says which answer it was
-pub readReply-injective : (a b : ReadAnswer) → readReply a ≡ readReply b → a ≡ b
-unfolding readReply
-readReply-injective (Read n m) (Read n′ m′) e = let v = ap (λ (r : Reply). r .values) e in cc
-readReply-injective (Read n m) (Refused x) e = let v = ap (λ (r : Reply). r .verdict) e in cc
-readReply-injective (Refused x) (Read n m) e = let v = ap (λ (r : Reply). r .verdict) e in cc
-readReply-injective (Refused x) (Refused y) e = let v = ap (λ (r : Reply). r .verdict) e in cc
 
 -- ---- the call, by cases
 
@@ -148,15 +118,11 @@ pub held-loaded : (r : Role) (file : CircuitFile) (read : FileRead) (tables : Ci
 unfolding verdictOf
 held-loaded r file read tables e v h = record { verdict = rw e (sym v); held = λ _. h }
 
--- a front as long as it should be has room
-pub front-room : (k : ℕ) (l : List ℕ) → length (take k l) ≡ k → k ≤ length l
-front-room k l e = omega (arith, rw length-take at e)
-
 -- the fronts of the tables are as long as the counts say, and the tables have room for them
 module _ {file : CircuitFile} {n m : ℕ} {t : Circuit} (s : Stands file n m t) where
-  pub stands-size : (length (take n (t .kinds)) ≡ n) × (length (take m (t .starts)) ≡ m) × (length (take m (t .ends)) ≡ m)
+  pub stands-size : (length (take n (t .labels)) ≡ n) × (length (take m (t .starts)) ≡ m) × (length (take m (t .ends)) ≡ m)
   stands-size = (
-    ap (λ (c : Circuit). length (c .kinds)) (s .content) ∙ length-labels file ∙ sym (s .nodes),
+    ap (λ (c : Circuit). length (c .labels)) (s .content) ∙ length-labels file ∙ sym (s .nodes),
     ap (λ (c : Circuit). length (c .starts)) (s .content) ∙ length-starts file ∙ sym (s .links),
     ap (λ (c : Circuit). length (c .ends)) (s .content) ∙ length-ends file ∙ sym (s .links),
   )
@@ -167,12 +133,12 @@ module _ {file : CircuitFile} {n m : ℕ} {t : Circuit} (s : Stands file n m t) 
       let e = s .content in
       rw (s .nodes, ap (λ (c : Circuit). c .starts) e, ap (λ (c : Circuit). c .ends) e)
 
-  pub stands-room : (n ≤ length (t .kinds)) × (m ≤ length (t .starts)) × (m ≤ length (t .ends))
-  stands-room = let (k, a, b) = stands-size in (front-room n _ k, front-room m _ a, front-room m _ b)
+  pub stands-room : (n ≤ length (t .labels)) × (m ≤ length (t .starts)) × (m ≤ length (t .ends))
+  stands-room = let (k, a, b) = stands-size in (length-take-room n _ k, length-take-room m _ a, length-take-room m _ b)
 
   -- the circuit of an accepted file is within the role's maxima
   module _ (r : Role) (e : first (fileConditions r file) ≡ accept) where
-    pub stands-bounded : Bounded r (front n m t)
+    pub stands-bounded : Bounded r (prefix n m t)
     stands-bounded = rw (s .content) (accepted-bounded (accepted r file e))
 
     pub stands-range : (minNodes r ≤ n) × (n ≤ maxNodes r) × (m ≤ maxLinks r)
@@ -190,7 +156,7 @@ filled-stands file marks starts ends ls ss es n m isN isM k s e =
       nodes = isN;
       links = isM;
       content =
-          rw (ap (take n) k ∙ take-at (labelsFrom (file .edition) (file .bytes) n) (drop n marks) n (length-labels-from (file .edition) (file .bytes) n), stored-front _ starts ss m s, stored-front _ ends es m e, isN, isM);
+          rw (ap (take n) k ∙ take-at (labelsFrom (file .edition) (file .bytes) n) (drop n marks) n (length-labels-from (file .edition) (file .bytes) n), stored-prefix _ starts ss m s, stored-prefix _ ends es m e, isN, isM);
     }
 
 -- the links, tested where they stand

@@ -1,15 +1,7 @@
 -- Laws of lists of conditions, and what it says of a file that none of its conditions holds. Assumes nothing.
-use mathlib.Core.Bool.{Bool, true, false, _&&_, not, cond}
-use mathlib.Core.List.{List, [], _∷_, _++_, List·Memᴰ, List·Memᴰ·head, List·Memᴰ·tail, List·Memᴰ·not-nil, List·Memᴰ·cases-cons}
-use mathlib.Core.Logic.{_⊎_, inl, inr, _↔_, ⊎-elim}
-use mathlib.Core.Path.{_≡_, refl, sym, ap, _∙_, subst}
-use Prim.Native.Nat.{ℕ, _≤_, _<_}
-use native.Mathlib.Omega.{arith}
-use borrow.Author.Tests.{lt-ltb, le-ltb, eq-eqb, ne-eqb, ltb-false, eqb-true, not-false}
-use lib.Dec.{T, eqb, ltb, leb, leb→le}
-use lib.ListN.{length}
+use Rattle.base_lists.specs.Kit.{_≡_, _∙_, sym, ap, refl, _↔_, ⊎-elim, _⊎_, inl, inr, Bool, false, true, cond, _&&_, not, List, [], _∷_, _++_, List·Memᴰ, List·Memᴰ·cases-cons, List·Memᴰ·head, List·Memᴰ·not-nil, List·Memᴰ·tail, ℕ, _≤_, _<_, T, eqb, ltb, leb, leb→le, length, arith, eq-eqb, ne-eqb, le-ltb, lt-ltb, eqb-true, not-false, ltb-false}
 use Rattle.base_lists.specs.List.{all}
-use Rattle.base_lists.proofs.Tests.{refuted, both-false, both-left, both-right, true-T, false-T, T-true, T-false}
+use Rattle.base_lists.proofs.Tests.{not-true-false, both-false, both-left, both-right, true-T, false-T, T-true, T-false}
 use Rattle.graph.specs.Search.{connected, radius}
 use Rattle.file_format.specs.declared.File.the-variants.{Neither}
 use Rattle.file_format.specs.declared.Refusal.{Refusal}
@@ -17,8 +9,9 @@ use Rattle.file_format.specs.declared.Role.{Role}
 use Rattle.file_format.specs.declared.Role.the-variants.{Pattern, Board, AnyPattern}
 use Rattle.file_format.specs.Layout.{CircuitFile, nodesOf, linksOf, lengthOf, startsOf, endsOf}
 use Rattle.file_format.specs.Links.{linksBelow, rising}
-use Rattle.file_format.specs.Refusals.{Accepted, Condition, Verdict, accept, refuse, NoneHolds, first, FirstHolding, linkConditions, fileConditions, widest, tooWide, asksConnected, sizeNumber, orderNumber, linkNumber, without, shortTable}
+use Rattle.file_format.specs.Refusals.{Accepted, Condition, Verdict, accept, refuse, NoneHolds, first, FirstHolding, linkConditions, fileConditions, widest, asksConnected, sizeNumber, linkOrderNumber, linkNumber, shortTable}
 use Rattle.file_format.specs.Role.{minNodes, maxNodes, maxLinks, inRange, fileOf}
+use Rattle.file_format.specs.Reply.{reply}
 
 -- ---- the first of a list of conditions
 
@@ -67,28 +60,6 @@ none-holds [] e c m t = absurd (List·Memᴰ·not-nil m)
 none-holds (d ∷ ds) e c m t =
     let (fails, rest) = first-holds d ds e in
     ⊎-elim (λ same. false-T (ap (λ (k : Condition). k .holds) same ∙ fails) t) (λ later. none-holds ds rest c later t) (List·Memᴰ·cases-cons m)
-
-refuses-some : (cs : List Condition) (x : Refusal) → first cs ≡ refuse x → (c : Condition) × List·Memᴰ c cs × T (c .holds)
-unfolding first
-refuses-some [] x e = absurd (accept-not-refuse e)
-refuses-some (c ∷ cs) x e = go (c .holds) refl e (refuses-some cs x)
-  where
-    go : (b : Bool) → c .holds ≡ b → cond b (refuse (record { number = c .number; file = c .file })) (first cs) ≡ refuse x
-        → (first cs ≡ refuse x → (d : Condition) × List·Memᴰ d cs × T (d .holds)) → (d : Condition) × List·Memᴰ d (c ∷ cs) × T (d .holds)
-    go true h e rest = (c, List·Memᴰ·head refl, true-T h)
-    go false h e rest = let (d, m, t) = rest e in (d, List·Memᴰ·tail m, t)
-
-some-refuses : (cs : List Condition) (c : Condition) → List·Memᴰ c cs → T (c .holds) → (x : Refusal) × (first cs ≡ refuse x)
-some-refuses [] c m t = absurd (List·Memᴰ·not-nil m)
-some-refuses (d ∷ ds) c m t = go (first (d ∷ ds)) refl
-  where
-    go : (v : Verdict) → first (d ∷ ds) ≡ v → (x : Refusal) × (first (d ∷ ds) ≡ refuse x)
-    go (refuse x) e = (x, e)
-    go accept e = absurd (none-holds (d ∷ ds) e c m t)
-
--- a list of conditions refuses exactly when one of them holds
-pub refuses-iff : (cs : List Condition) → ((x : Refusal) × (first cs ≡ refuse x)) ↔ ((c : Condition) × List·Memᴰ c cs × T (c .holds))
-refuses-iff cs = (λ (x, e). refuses-some cs x e, λ (c, m, t). some-refuses cs c m t)
 
 -- ---- what the first of a list of conditions means
 
@@ -172,27 +143,27 @@ tables-fit-4 a p b d k q s e x w y z = rw (le-ltb _ _ x) (tables-fit p b d q s e
 -- ---- the links' number, as the tests come out in their order
 
 module _ (n : ℕ) (starts ends : List ℕ) where
-  pub order-starts : all (λ v. ltb v n) starts ≡ false → orderNumber n starts ends ≡ 4
-  unfolding orderNumber linksBelow
+  pub order-starts : all (λ v. ltb v n) starts ≡ false → linkOrderNumber n starts ends ≡ 4
+  unfolding linkOrderNumber linksBelow
   order-starts a = simp a
 
   module _ (a : all (λ v. ltb v n) starts ≡ true) where
-    pub order-ends : all (λ v. ltb v n) ends ≡ false → orderNumber n starts ends ≡ 4
-    unfolding orderNumber linksBelow
+    pub order-ends : all (λ v. ltb v n) ends ≡ false → linkOrderNumber n starts ends ≡ 4
+    unfolding linkOrderNumber linksBelow
     order-ends b = simp (a, b)
 
     module _ (b : all (λ v. ltb v n) ends ≡ true) where
-      pub order-falls : rising starts ends ≡ false → orderNumber n starts ends ≡ 5
-      unfolding orderNumber linksBelow
+      pub order-falls : rising starts ends ≡ false → linkOrderNumber n starts ends ≡ 5
+      unfolding linkOrderNumber linksBelow
       order-falls e = simp (a, b, e)
 
-      pub order-rises : rising starts ends ≡ true → orderNumber n starts ends ≡ 0
-      unfolding orderNumber linksBelow
+      pub order-rises : rising starts ends ≡ true → linkOrderNumber n starts ends ≡ 0
+      unfolding linkOrderNumber linksBelow
       order-rises e = simp (a, b, e)
 
   -- links in order
-  pub ordered : orderNumber n starts ends ≡ 0 → T (linksBelow n starts ends) × T (rising starts ends)
-  unfolding orderNumber
+  pub ordered : linkOrderNumber n starts ends ≡ 0 → T (linksBelow n starts ends) × T (rising starts ends)
+  unfolding linkOrderNumber
   ordered = go (linksBelow n starts ends) (rising starts ends)
     where
       go : (x y : Bool) → _≡_ {A = ℕ} (cond x (cond y 0 5) 4) 0 → T x × T y
@@ -201,8 +172,8 @@ module _ (n : ℕ) (starts ends : List ℕ) where
       go false y e = absurd (omega arith)
 
   -- the links' number, from that of their order
-  pub number-order : (r : Role) → (orderNumber n starts ends ≡ 0 → ⊥) → linkNumber r n starts ends ≡ orderNumber n starts ends
-  unfolding orderNumber linkNumber
+  pub number-order : (r : Role) → (linkOrderNumber n starts ends ≡ 0 → ⊥) → linkNumber r n starts ends ≡ linkOrderNumber n starts ends
+  unfolding linkOrderNumber linkNumber
   number-order r = go (linksBelow n starts ends) (rising starts ends)
     where
       go : (x y : Bool) → (_≡_ {A = ℕ} (cond x (cond y 0 5) 4) 0 → ⊥)
@@ -212,7 +183,7 @@ module _ (n : ℕ) (starts ends : List ℕ) where
       go false y f = refl
 
   -- and of links in order, by what is asked of a pattern's alone
-  pub number-joined : (r : Role) → orderNumber n starts ends ≡ 0
+  pub number-joined : (r : Role) → linkOrderNumber n starts ends ≡ 0
       → linkNumber r n starts ends ≡ cond (asksConnected r && not (connected n starts ends)) 6 (cond (asksConnected r && ltb widest (radius n starts ends)) 11 0)
   unfolding linkNumber
   number-joined r e =
@@ -324,11 +295,11 @@ accepted r file e =
     let h11 = first-holds _ _ (h6 .1) in
     record {
       bytes = ltb-false _ _ (h1 .0);
-      range = refuted (inRange r (nodesOf file) (linksOf file)) (h2 .0);
+      range = not-true-false (inRange r (nodesOf file) (linksOf file)) (h2 .0);
       size = eqb-true _ _ (not-false _ (h3 .0));
-      below = refuted (linksBelow (nodesOf file) (startsOf file) (endsOf file)) (h4 .0);
-      rises = refuted (rising (startsOf file) (endsOf file)) (h5 .0);
-      joined = λ t. refuted (connected (nodesOf file) (startsOf file) (endsOf file)) (both-false (asksConnected r) _ t (h6 .0));
+      below = not-true-false (linksBelow (nodesOf file) (startsOf file) (endsOf file)) (h4 .0);
+      rises = not-true-false (rising (startsOf file) (endsOf file)) (h5 .0);
+      joined = λ t. not-true-false (connected (nodesOf file) (startsOf file) (endsOf file)) (both-false (asksConnected r) _ t (h6 .0));
       narrow = λ t. ltb-false _ _ (both-false (asksConnected r) _ t (h11 .0));
     }
 
@@ -395,3 +366,20 @@ range-bounds AnyPattern n m t =
 pub accepted-any : {file : CircuitFile} → Accepted Pattern file → Accepted AnyPattern file
 unfolding asksConnected
 accepted-any a = record { bytes = a .bytes; range = a .range; size = a .size; below = a .below; rises = a .rises; joined = λ t. absurd t; narrow = λ t. absurd t }
+
+-- ---- replies
+
+-- the verdict of a reply is the one that it was made from
+pub reply-verdict : (v : Verdict) (values : List ℕ) → reply v values .verdict ≡ v
+unfolding reply
+reply-verdict accept values = refl
+reply-verdict (refuse x) values = refl
+
+-- ---- lists of conditions of which the first parts come to the same
+
+pub first-same : (xs ys zs : List Condition) → first xs ≡ first ys → first (xs ++ zs) ≡ first (ys ++ zs)
+first-same xs ys zs e = go (first ys) refl
+  where
+    go : (v : Verdict) → first ys ≡ v → first (xs ++ zs) ≡ first (ys ++ zs)
+    go accept f = first-accept xs zs (e ∙ f) ∙ sym (first-accept ys zs f)
+    go (refuse x) f = first-refuse xs zs x (e ∙ f) ∙ sym (first-refuse ys zs x f)

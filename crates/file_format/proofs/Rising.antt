@@ -1,16 +1,6 @@
 -- What the test on the links' order means: each link comes before every later one. Assumes nothing.
-use mathlib.Core.List.{List}
-use mathlib.Core.Bool.{_&&_}
-use mathlib.Core.Logic.{_⊎_, inl, inr, ⊎-elim, _↔_}
-use mathlib.Core.Path.{_≡_, subst, _∙_}
-use Prim.Native.Nat.{ℕ, zero, suc, _+_, _-_, _≤_, _<_}
-use borrow.Author.Tests.{ltb-false, eq-eqb}
-use native.Mathlib.Nat.{not-suc-le-zero}
-use native.Mathlib.Numerals.{add-one}
-use native.Mathlib.Omega.{arith}
-use lib.Dec.{T, eqb, ltb, lt→ltb, ltb→lt, eqb→eq}
-use lib.ListN.{length, getD}
-use Rattle.base_lists.proofs.Tests.{both, both-left, both-right, either-left, either-right, either-cases, allBelow-at, at-allBelow, true-T, T-false, decide}
+use Rattle.base_lists.specs.Kit.{_≡_, _∙_, subst, _↔_, ⊎-elim, _⊎_, inl, inr, _&&_, List, ℕ, _≤_, _<_, _+_, _-_, suc, zero, not-suc-le-zero, add-one, T, eqb, ltb, eqb→eq, ltb→lt, lt→ltb, length, getD, arith, eq-eqb, ltb-false}
+use Rattle.base_lists.proofs.Tests.{both-true, both-left, both-right, either-left, either-right, either-cases, allBelow-at, at-allBelow, true-T, T-false, decide}
 use Rattle.graph.specs.Rising.{LinksRise}
 use Rattle.graph.proofs.RisingLinks.{Before}
 use Rattle.file_format.specs.Links.{earlier, rising}
@@ -26,7 +16,7 @@ unfolding earlier
 before-earlier s e s′ e′ b =
     ⊎-elim
     (λ l. either-left (ltb s s′) (eqb s s′ && ltb e e′) (lt→ltb s s′ l))
-    (λ (q, l). either-right (ltb s s′) (eqb s s′ && ltb e e′) (both (eqb s s′) (ltb e e′) (true-T (eq-eqb s s′ q)) (lt→ltb e e′ l)))
+    (λ (q, l). either-right (ltb s s′) (eqb s s′ && ltb e e′) (both-true (eqb s s′) (ltb e e′) (true-T (eq-eqb s s′ q)) (lt→ltb e e′ l)))
     b
 
 -- what the test of two links means
@@ -68,7 +58,3 @@ pub rise-test : (starts ends : List ℕ) → LinksRise starts ends → T (rising
 unfolding rising LinksRise
 rise-test starts ends rise =
     at-allBelow (length starts - 1) _ (λ i h. before-earlier _ _ _ _ (rise i (i + 1) (omega arith) (omega arith)))
-
--- "links not strictly rising" is that, and no more
-pub rising-iff : (starts ends : List ℕ) → T (rising starts ends) ↔ LinksRise starts ends
-rising-iff starts ends = (rising-links starts ends, rise-test starts ends)

@@ -1,8 +1,5 @@
 -- The circuit that a file holds, and what an accepted file says of it.
-use mathlib.Core.Path.{_≡_}
-use Prim.Native.Nat.{ℕ, _≤_}
-use lib.Dec.{T}
-use lib.ListN.{length}
+use Rattle.base_lists.specs.Kit.{_≡_, _≤_, T, length}
 use Rattle.graph.specs.Circuit.{Circuit}
 use Rattle.graph.specs.Rising.{LinksRise}
 use Rattle.file_format.specs.declared.Role.{Role}
@@ -13,14 +10,14 @@ use Rattle.file_format.specs.Role.{maxNodes, maxLinks}
 
 -- the circuit that a file holds
 abbrev pub circuitOf : CircuitFile → Circuit
-circuitOf file = record { kinds = labelsOf file; starts = startsOf file; ends = endsOf file }
+circuitOf file = record { labels = labelsOf file; starts = startsOf file; ends = endsOf file }
 
 -- A circuit within a role's maxima that has as many starts as ends, each of them a node. The circuit of an accepted file is one.
 pub record Bounded (role : Role) (c : Circuit) : Type 0 where
-  pub nodes : length (c .kinds) ≤ maxNodes role
+  pub nodes : length (c .labels) ≤ maxNodes role
   pub links : length (c .starts) ≤ maxLinks role
   pub parallel : length (c .starts) ≡ length (c .ends)
-  pub below : T (linksBelow (length (c .kinds)) (c .starts) (c .ends))
+  pub below : T (linksBelow (length (c .labels)) (c .starts) (c .ends))
 
 -- two circuits that were read: each within its role's maxima, and the board's links in the file's order
 pub record Drawn (pattern board : Circuit) : Type 0 where

@@ -1,6 +1,5 @@
 -- Files of document 01's examples, as bytes.
-use mathlib.Core.List.{List, [], _∷_}
-use Prim.Native.Nat.{ℕ}
+use Rattle.base_lists.specs.Kit.{List, [], _∷_, ℕ}
 
 -- T: "0:10, 1:20, 2:30, links 0-1, 1-2."
 unfoldable pub fileT : List ℕ

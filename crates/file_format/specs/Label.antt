@@ -1,7 +1,5 @@
 -- A node's label: its kind and its package as one number, 32 bits. A match needs both, so that a circuit has one list of labels.
-use mathlib.Core.List.{List}
-use Prim.Native.Nat.{ℕ, _+_, _*_, _/_, _%_}
-use lib.ListN.{length, getD}
+use Rattle.base_lists.specs.Kit.{List, ℕ, _+_, _*_, _/_, _%_, length, getD}
 use Rattle.base_lists.specs.List.{tabulate}
 
 -- the kind, and 65,536 times the package: a node of package 0 has its kind for a label

@@ -1,7 +1,5 @@
 -- The layout of a circuit file: its fields, and where each stretch begins, in every edition. Reading and writing both cite this.
-use mathlib.Core.List.{List}
-use Prim.Native.Nat.{ℕ, _+_, _*_}
-use lib.ListN.{getD, drop}
+use Rattle.base_lists.specs.Kit.{List, ℕ, _+_, _*_, getD, drop}
 use Rattle.base_lists.specs.List.{tabulate}
 use Rattle.file_format.specs.declared.Edition.{Edition}
 use Rattle.file_format.specs.declared.Edition.the-variants.{First, Second}

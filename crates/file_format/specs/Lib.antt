@@ -1,9 +1,10 @@
-pub mod Role
+pub mod Circuit
+pub mod Cut
+pub mod Examples
 pub mod Label
 pub mod Layout
 pub mod Links
-pub mod Circuit
-pub mod Refusals
 pub mod Reading
+pub mod Refusals
 pub mod Reply
-pub mod Examples
+pub mod Role

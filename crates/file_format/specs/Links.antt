@@ -1,9 +1,5 @@
 -- What is asked of a circuit's links.
-use mathlib.Core.Bool.{Bool, _&&_, _||_}
-use mathlib.Core.List.{List}
-use Prim.Native.Nat.{ℕ, _+_, _*_, _-_}
-use lib.Dec.{eqb, ltb}
-use lib.ListN.{length, getD}
+use Rattle.base_lists.specs.Kit.{Bool, _&&_, _||_, List, ℕ, _+_, _-_, _*_, eqb, ltb, length, getD}
 use Rattle.base_lists.specs.List.{all, allBelow}
 
 -- every start and every end is a node

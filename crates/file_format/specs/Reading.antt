@@ -1,10 +1,6 @@
 -- The call that reads a circuit file, whole: its reply and each table's later content, from the inputs alone; and what a call that goes on
 -- with the circuit knows of a file that was read.
-use mathlib.Core.List.{List, [], _∷_, _++_}
-use mathlib.Core.Path.{_≡_}
-use Prim.Native.Nat.{ℕ, _≤_}
-use lib.Dec.{T}
-use lib.ListN.{length, take, drop}
+use Rattle.base_lists.specs.Kit.{_≡_, List, [], _∷_, _++_, ℕ, _≤_, T, length, take, drop}
 use Rattle.graph.specs.Circuit.{Circuit}
 use Rattle.graph.specs.Search.{radius}
 use Rattle.file_format.specs.declared.FileRead.{FileRead}
@@ -64,18 +60,18 @@ verdictOf verdict.Accepted = accept
 verdictOf (verdict.Refused x) = refuse x
 
 -- n labels and m links at the front of three tables
-abbrev pub front : ℕ → ℕ → Circuit → Circuit
-front n m tables = record { kinds = take n (tables .kinds); starts = take m (tables .starts); ends = take m (tables .ends) }
+abbrev pub prefix : ℕ → ℕ → Circuit → Circuit
+prefix n m tables = record { labels = take n (tables .labels); starts = take m (tables .starts); ends = take m (tables .ends) }
 
 -- n and m are a file's N and M, and its circuit stands at the front of three tables
 pub record Stands (file : CircuitFile) (n m : ℕ) (tables : Circuit) : Type 0 where
   pub nodes : n ≡ nodesOf file
   pub links : m ≡ linksOf file
-  pub content : front n m tables ≡ circuitOf file
+  pub content : prefix n m tables ≡ circuitOf file
 
 -- tables that have room for every file of a role
-pub record Room (r : Role) (tables : Circuit) : Type 0 where
-  pub forKinds : maxNodes r ≤ length (tables .kinds)
+pub record TablesRoom (r : Role) (tables : Circuit) : Type 0 where
+  pub forKinds : maxNodes r ≤ length (tables .labels)
   pub forStarts : maxLinks r ≤ length (tables .starts)
   pub forEnds : maxLinks r ≤ length (tables .ends)
 

@@ -1,11 +1,6 @@
 -- The numbers of refusal, as document 01's table has them, and those of document 02: each condition with its number and the file that it
 -- means. A call's list has them in the order in which they are tried.
-use mathlib.Core.Bool.{Bool, true, false, _&&_, not, cond}
-use mathlib.Core.List.{List, [], _∷_, _++_, List·Memᴰ}
-use mathlib.Core.Path.{_≡_}
-use Prim.Native.Nat.{ℕ, _≤_}
-use lib.Dec.{T, eqb, ltb}
-use lib.ListN.{length}
+use Rattle.base_lists.specs.Kit.{_≡_, Bool, false, true, cond, _&&_, not, List, [], _∷_, _++_, List·Memᴰ, ℕ, _≤_, T, eqb, ltb, length}
 use Rattle.graph.specs.Search.{far, connected, radius}
 use Rattle.base_lists.specs.List.{any}
 use Rattle.file_format.specs.declared.Edition.{Edition}
@@ -105,8 +100,8 @@ sizeNumber r file =
     cond (ltb (length (file .bytes)) 4) 1 (cond (inRange r n m) (cond (eqb (length (file .bytes)) (lengthOf (file .edition) n m)) 0 3) 2)
 
 -- the number of the first condition on the order of the links that holds, 4 or 5, and 0 where none does
-unfoldable pub orderNumber : ℕ → List ℕ → List ℕ → ℕ
-orderNumber n starts ends = cond (linksBelow n starts ends) (cond (rising starts ends) 0 5) 4
+unfoldable pub linkOrderNumber : ℕ → List ℕ → List ℕ → ℕ
+linkOrderNumber n starts ends = cond (linksBelow n starts ends) (cond (rising starts ends) 0 5) 4
 
 -- the number of the first condition on the links that holds, 4, 5, 6 or 11, and 0 where none does
 unfoldable pub linkNumber : Role → ℕ → List ℕ → List ℕ → ℕ

@@ -1,7 +1,6 @@
 -- What a call answers, in document 01's terms: "The answer is either a result or a refusal that holds its number and, inside it, which
 -- file was meant". Each answer enum has a definition that gives this for each of its cases.
-use mathlib.Core.List.{List, [], _∷_}
-use Prim.Native.Nat.{ℕ}
+use Rattle.base_lists.specs.Kit.{List, [], _∷_, ℕ}
 use Rattle.file_format.specs.declared.ReadAnswer.{ReadAnswer}
 use Rattle.file_format.specs.declared.ReadAnswer.the-variants.{Read, Refused}
 use Rattle.file_format.specs.Refusals.{Verdict, accept, refuse}

@@ -1,7 +1,5 @@
 -- Roles: "Each role carries its own maxima".
-use mathlib.Core.Bool.{Bool, _&&_}
-use Prim.Native.Nat.{ℕ}
-use lib.Dec.{leb}
+use Rattle.base_lists.specs.Kit.{Bool, _&&_, ℕ, leb}
 use Rattle.file_format.specs.declared.Role.{Role}
 use Rattle.file_format.specs.declared.Role.the-variants.{Pattern, Board, AnyPattern}
 use Rattle.file_format.specs.declared.File.{File}

@@ -19,6 +19,18 @@ pub struct Refusal {
     pub file: File,
 }
 
+// A centre that is no node of the board.
+pub const OUTSIDE: Refusal = Refusal {
+    number: 7,
+    file: File::Neither,
+};
+
+// A lent table or buffer that is too short.
+pub const TOO_SHORT: Refusal = Refusal {
+    number: 8,
+    file: File::Neither,
+};
+
 // What a file is read or written as. A pattern is connected; the whole-board match tables take any pattern, connected or not.
 pub enum Role {
     Pattern,

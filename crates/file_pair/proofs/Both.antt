@@ -1,6 +1,5 @@
 -- What reading a pattern file and a board file comes to, by cases, and what a call on both knows of it. Assumes nothing.
 use mathlib.Core.Path.{_≡_, sym, ap, _∙_}
-use Prim.Native.Nat.{ℕ}
 use Rattle.graph.specs.Circuit.{Circuit}
 use Rattle.graph.specs.Rising.{LinksRise}
 use Rattle.graph.specs.Search.{radius}
@@ -11,7 +10,7 @@ use Rattle.file_format.specs.declared.Role.{Role}
 use Rattle.file_format.specs.declared.Role.the-variants as role
 use Rattle.file_format.specs.Circuit.{Bounded, Drawn}
 use Rattle.file_format.specs.Layout.{CircuitFile, nodesOf, startsOf, endsOf}
-use Rattle.file_format.specs.Reading.{verdictOf, front, Loaded}
+use Rattle.file_format.specs.Reading.{verdictOf, prefix, Loaded}
 use Rattle.file_format.specs.Refusals as File
 use Rattle.file_format.specs.Refusals.{accept, refuse, first, fileConditions, asksConnected}
 use Rattle.file_format.proofs.Reading.{loaded-accepted, loaded-refused, stands-bounded}
@@ -79,13 +78,13 @@ module _ {r : Role} {pattern board : CircuitFile} {read : Pair} {parts nodes : C
   pub both-accepted : (first (fileConditions r pattern) ≡ accept) × (first (fileConditions role.Board board) ≡ accept)
   both-accepted = pair-parts r pattern board (both .verdict)
 
-  pub pattern-bounded : Bounded r (front (read .parts) (read .joins) parts)
+  pub pattern-bounded : Bounded r (prefix (read .parts) (read .joins) parts)
   pattern-bounded = stands-bounded (both .drawn) r (both-accepted .0)
 
-  pub board-bounded : Bounded role.Board (front (read .nodes) (read .links) nodes)
+  pub board-bounded : Bounded role.Board (prefix (read .nodes) (read .links) nodes)
   board-bounded = stands-bounded (both .given) role.Board (both-accepted .1)
 
-  pub board-rises : let b = front (read .nodes) (read .links) nodes in LinksRise (b .starts) (b .ends)
+  pub board-rises : let b = prefix (read .nodes) (read .links) nodes in LinksRise (b .starts) (b .ends)
   board-rises =
       rw (ap (λ (c : Circuit). c .starts) (both .given .content), ap (λ (c : Circuit). c .ends) (both .given .content))
       (rising-links (startsOf board) (endsOf board) (accepted role.Board board (both-accepted .1) .rises))
@@ -97,5 +96,5 @@ module _ {pattern board : CircuitFile} {read : Pair} {parts nodes : Circuit} (bo
   pair-radius = both .measured tt
 
   -- so a call draws from the two
-  pub both-drawn : Drawn (front (read .parts) (read .joins) parts) (front (read .nodes) (read .links) nodes)
+  pub both-drawn : Drawn (prefix (read .parts) (read .joins) parts) (prefix (read .nodes) (read .links) nodes)
   both-drawn = record { parts = pattern-bounded both; nodes = board-bounded both; rise = board-rises both }

@@ -6,7 +6,7 @@ use file_read::load;
 ghost use mathlib.Core.Path.{_≡_};
 ghost use Rattle.graph.specs.Circuit.{circuit};
 ghost use Rattle.file_format.specs.Layout.{inEdition};
-ghost use Rattle.file_format.specs.Reading.{Room};
+ghost use Rattle.file_format.specs.Reading.{TablesRoom};
 ghost use Rattle.file_format.specs.declared.Role.the-variants as roles;
 ghost use Rattle.file_pair.specs.Pair.{PairRead};
 
@@ -22,7 +22,7 @@ pub struct Pair {
 }
 
 // A pair of which the pattern was turned away.
-fn turned_away(verdict: FileVerdict) -> Pair
+fn refused_pair(verdict: FileVerdict) -> Pair
     ensures { λ r. ⌜ r .verdict ≡ verdict ⌝ }
 {
     Pair {
@@ -48,7 +48,7 @@ pub fn read_pair(
     ns: &mut [u16],
     ne: &mut [u16],
 ) -> Pair
-    requires { ⌜ Room role (circuit (now pk) (now ps) (now pe)) × Room roles.Board (circuit (now nk) (now ns) (now ne)) ⌝ }
+    requires { ⌜ TablesRoom role (circuit (now pk) (now ps) (now pe)) × TablesRoom roles.Board (circuit (now nk) (now ns) (now ne)) ⌝ }
     ensures { λ r. ⌜ PairRead role (inEdition (editions .pattern) (now (pattern .entry))) (inEdition (editions .board) (now (board .entry))) r
         (circuit (now (pk .exit)) (now (ps .exit)) (now (pe .exit))) (circuit (now (nk .exit)) (now (ns .exit)) (now (ne .exit))) ⌝ }
 {
@@ -56,7 +56,7 @@ pub fn read_pair(
     let drawn = load(role, edition, pattern, pk, ps, pe);
     let first = drawn.verdict;
     let FileVerdict::Accepted = first else {
-        return turned_away(first);
+        return refused_pair(first);
     };
     let edition = editions.board;
     let given = load(Role::Board, edition, board, nk, ns, ne);

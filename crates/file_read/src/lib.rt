@@ -1,11 +1,11 @@
 // Reading a circuit file in a role, or refusing it by number.
 ghost use mathlib.Core.Path.{_≡_};
-ghost use mathlib.Core.List.{[], _++_};
+ghost use mathlib.Core.List.{_++_};
 ghost use Prim.Native.Nat.{_≤_};
 ghost use lib.ListN.{length, drop};
 ghost use Rattle.graph.specs.Circuit.{circuit};
-ghost use Rattle.file_format.specs.Layout.{inEdition, firstEdition, nodesOf, linksOf, fields, kindsAt, packagesAt, packageCount, startsAt, endsAt, lengthOf, labelsFrom};
-ghost use Rattle.file_format.specs.Reading.{reading, Room, Loaded};
+ghost use Rattle.file_format.specs.Layout.{inEdition, nodesOf, linksOf, fields, kindsAt, packagesAt, packageCount, startsAt, endsAt, lengthOf, labelsFrom};
+ghost use Rattle.file_format.specs.Reading.{reading, TablesRoom, Loaded};
 ghost use Rattle.file_format.specs.Refusals.{accept, first, fileConditions};
 ghost use Rattle.file_format.specs.Reply.{readReply};
 ghost use Rattle.file_format.specs.Role.{fileOf};
@@ -19,12 +19,11 @@ use file_fields::store_labels;
 use file_fields::stretch;
 use file_format::Board;
 use file_format::Edition;
-use file_format::File;
 use file_format::FileRead;
 use file_format::FileVerdict;
 use file_format::ReadAnswer;
-use file_format::Refusal;
 use file_format::Role;
+use file_format::TOO_SHORT;
 use file_format::package_count;
 
 // The starts and the ends of a file of n nodes and m links, each stored in its table.
@@ -81,7 +80,7 @@ fn fill_nodes(
 }
 
 // The answer that turns a file away.
-fn turned_away(role: Role, number: u8) -> FileRead
+fn refused_read(role: Role, number: u8) -> FileRead
     ensures { λ r. ⌜ r .verdict ≡ FileVerdict.Refused (record { number = number; file = fileOf role }) ⌝ }
 {
     FileRead {
@@ -103,12 +102,12 @@ pub fn load(
     starts: &mut [u16],
     ends: &mut [u16],
 ) -> FileRead
-    requires { ⌜ Room role (circuit (now labels) (now starts) (now ends)) ⌝ }
+    requires { ⌜ TablesRoom role (circuit (now labels) (now starts) (now ends)) ⌝ }
     ensures { λ r. ⌜ Loaded role (inEdition edition (now (file .entry))) r (circuit (now (labels .exit)) (now (starts .exit)) (now (ends .exit))) ⌝ }
 {
     let number = size_number(role, edition, file);
     if number != 0 {
-        return turned_away(role, number);
+        return refused_read(role, number);
     }
     let n = field_at(file, 0) as usize;
     let m = field_at(file, 1) as usize;
@@ -116,7 +115,7 @@ pub fn load(
     fill_links(edition, file, n, m, starts, ends);
     let tested = test_links(role, n, &starts[..m], &ends[..m]);
     if tested.number != 0 {
-        return turned_away(role, tested.number);
+        return refused_read(role, tested.number);
     }
     FileRead {
         verdict: FileVerdict::Accepted,
@@ -143,10 +142,7 @@ fn fill_fitting(
         → record { answer = r; reply = readReply r; kinds = now (kinds .exit); packages = now (packages .exit); starts = now (starts .exit); ends = now (ends .exit) }
         ≡ reading role (inEdition edition (now (file .entry))) (now (kinds .entry)) (now (packages .entry)) (now (starts .entry)) (now (ends .entry))) ⌝ }
 {
-    let short = ReadAnswer::Refused(Refusal {
-        number: 8,
-        file: File::Neither,
-    });
+    let short = ReadAnswer::Refused(TOO_SHORT);
     if kinds.len() < n {
         return short;
     }
@@ -196,19 +192,4 @@ pub fn read(
         );
     };
     ReadAnswer::Refused(x)
-}
-
-// Reads a first-edition file: there are no packages, so that no table is lent for them.
-pub fn read_first(
-    role: Role,
-    file: &[u8],
-    kinds: &mut [u16],
-    starts: &mut [u16],
-    ends: &mut [u16],
-) -> ReadAnswer
-    ensures { λ r. ⌜ record { answer = r; reply = readReply r; kinds = now (kinds .exit); packages = []; starts = now (starts .exit); ends = now (ends .exit) }
-        ≡ reading role (firstEdition (now (file .entry))) (now (kinds .entry)) [] (now (starts .entry)) (now (ends .entry)) ⌝ }
-{
-    let mut none = [0u16; 0];
-    read(role, Edition::First, file, kinds, &mut none, starts, ends)
 }

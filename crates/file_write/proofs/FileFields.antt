@@ -1,16 +1,8 @@
 -- The fields of a written file, and the bytes of a file's fields: writing and reading undo each other. Assumes nothing.
-use mathlib.Core.Bool.{Bool}
-use mathlib.Core.List.{List, [], _∷_, _++_, append-assoc, append-nil}
-use mathlib.Core.Path.{_≡_, refl, sym, ap, ap₂, subst, _∙_}
-use Prim.Native.Nat.{ℕ, zero, suc, _+_, _*_, _/_, _%_, _<_}
-use native.Mathlib.Nat.{le-of-eq}
-use native.Mathlib.Omega.{arith}
-use lib.Dec.{T, ltb, lt→ltb, ltb→lt}
-use lib.ListN.{length, getD, take, drop, length-append, length-take}
-use lib.Seq.{drop-at, getD-drop, getD-take, take-all, length-take-le}
+use Rattle.base_lists.specs.Kit.{_≡_, _∙_, sym, ap, refl, ap₂, List, [], _∷_, _++_, append-nil, append-assoc, ℕ, _<_, _+_, suc, zero, _*_, _/_, _%_, le-of-eq, T, ltb, ltb→lt, length, getD, take, drop, length-append, length-take-le, take-all, drop-at, getD-drop, arith}
 use Rattle.base_lists.specs.List.{all, tabulate}
 use Rattle.base_lists.proofs.Tables.{tabulate-same, tabulate-append}
-use Rattle.base_lists.proofs.Tests.{both, both-left, both-right, all-at, at-all}
+use Rattle.base_lists.proofs.Tests.{both-left, both-right}
 use Rattle.file_format.specs.declared.Edition.{Edition}
 use Rattle.file_format.specs.Layout.{CircuitFile, inEdition, field, fields, nodesOf, linksOf, kindsOf, packagesOf, startsOf, endsOf, lengthOf, packagesAt, packageCount, startsAt, endsAt}
 use Rattle.file_format.proofs.Fields.{length-kinds, length-packages, length-starts, package-count-le}
@@ -87,10 +79,10 @@ module _ (e : Edition) (kinds packages starts ends : List ℕ) where
     starts-stretch : fields (drop (startsAt e (length kinds)) (file .bytes)) (length starts) ≡ starts
     unfolding stretchBytes
     starts-stretch =
-        let front : List ℕ = length kinds ∷ length starts ∷ kinds in
-        ap (λ (l : List ℕ). fields (drop (startsAt e (length kinds)) (bytesOf l)) (length starts)) (sym (append-assoc front packs (starts ++ ends)))
-        ∙ fields-behind (front ++ packs) starts ends (startsAt e (length kinds)) (length starts)
-        (omega (arith, length-append front packs, packs-length e kinds packages given)) refl
+        let prefix : List ℕ = length kinds ∷ length starts ∷ kinds in
+        ap (λ (l : List ℕ). fields (drop (startsAt e (length kinds)) (bytesOf l)) (length starts)) (sym (append-assoc prefix packs (starts ++ ends)))
+        ∙ fields-behind (prefix ++ packs) starts ends (startsAt e (length kinds)) (length starts)
+        (omega (arith, length-append prefix packs, packs-length e kinds packages given)) refl
 
     pub starts-written : startsOf file ≡ starts
     unfolding startsOf
@@ -100,11 +92,11 @@ module _ (e : Edition) (kinds packages starts ends : List ℕ) where
       ends-stretch : fields (drop (endsAt e (length kinds) (length starts)) (file .bytes)) (length starts) ≡ ends
       unfolding stretchBytes
       ends-stretch =
-          let front : List ℕ = length kinds ∷ length starts ∷ kinds in
+          let prefix : List ℕ = length kinds ∷ length starts ∷ kinds in
           ap (λ (l : List ℕ). fields (drop (endsAt e (length kinds) (length starts)) (bytesOf l)) (length starts))
-          (sym (append-assoc front packs (starts ++ ends)) ∙ sym (append-assoc (front ++ packs) starts ends) ∙ ap (λ (l : List ℕ). ((front ++ packs) ++ starts) ++ l) (sym (append-nil ends)))
-          ∙ fields-behind ((front ++ packs) ++ starts) ends [] (endsAt e (length kinds) (length starts)) (length starts)
-          (omega (arith, length-append (front ++ packs) starts, length-append front packs, packs-length e kinds packages given)) pairs
+          (sym (append-assoc prefix packs (starts ++ ends)) ∙ sym (append-assoc (prefix ++ packs) starts ends) ∙ ap (λ (l : List ℕ). ((prefix ++ packs) ++ starts) ++ l) (sym (append-nil ends)))
+          ∙ fields-behind ((prefix ++ packs) ++ starts) ends [] (endsAt e (length kinds) (length starts)) (length starts)
+          (omega (arith, length-append (prefix ++ packs) starts, length-append prefix packs, packs-length e kinds packages given)) pairs
 
       pub ends-written : endsOf file ≡ ends
       unfolding endsOf
@@ -115,40 +107,6 @@ module _ (e : Edition) (kinds packages starts ends : List ℕ) where
       length-written =
           omega
           (arith, length-bytes (length kinds ∷ length starts ∷ kinds ++ (packs ++ (starts ++ ends))), length-append kinds (packs ++ (starts ++ ends)), length-append packs (starts ++ ends), length-append starts ends, packs-length e kinds packages given)
-
--- ---- the bytes of numbers of 16 bits are of 8 bits
-
-bytes-below : (xs : List ℕ) → T (all (λ x. ltb x 65536) xs) → T (all (λ b. ltb b 256) (bytesOf xs))
-unfolding bytesOf all
-bytes-below [] t = tt
-bytes-below (x ∷ xs) t =
-    let h : x < 65536 = ltb→lt x 65536 (both-left (ltb x 65536) _ t) in
-    both (ltb (x % 256) 256) _ (lt→ltb (x % 256) 256 (omega arith))
-    (both (ltb (x / 256) 256) _ (lt→ltb (x / 256) 256 (omega arith)) (bytes-below xs (both-right (ltb x 65536) _ t)))
-
-all-append : (p : ℕ → Bool) (xs ys : List ℕ) → T (all p xs) → T (all p ys) → T (all p (xs ++ ys))
-unfolding all
-all-append p [] ys t u = u
-all-append p (x ∷ xs) ys t u = both (p x) _ (both-left (p x) _ t) (all-append p xs ys (both-right (p x) _ t) u)
-
-all-take : (p : ℕ → Bool) (k : ℕ) (xs : List ℕ) → T (all p xs) → T (all p (take k xs))
-all-take p k xs t =
-    at-all p (take k xs)
-    (λ i h.
-    let below : i < length xs = omega (arith, length-take k xs) in
-    let front : i < k = omega (arith, length-take k xs) in
-    subst (λ (x : ℕ). T (p x)) (sym (getD-take k xs i 0 front)) (all-at p xs t i below))
-
-pub file-below : (e : Edition) (kinds packages starts ends : List ℕ) → length kinds < 65536 → length starts < 65536
-    → T (all (λ x. ltb x 65536) kinds) → T (all (λ x. ltb x 65536) packages) → T (all (λ x. ltb x 65536) starts) → T (all (λ x. ltb x 65536) ends)
-    → T (all (λ b. ltb b 256) (fileBytes e kinds packages starts ends))
-unfolding stretchBytes all
-file-below e kinds packages starts ends n m k p s t =
-    let packs = take (packageCount e (length kinds)) packages in
-    bytes-below (length kinds ∷ length starts ∷ kinds ++ (packs ++ (starts ++ ends)))
-    (both (ltb (length kinds) 65536) _ (lt→ltb _ _ n)
-    (both (ltb (length starts) 65536) _ (lt→ltb _ _ m)
-    (all-append _ kinds (packs ++ (starts ++ ends)) k (all-append _ packs (starts ++ ends) (all-take _ (packageCount e (length kinds)) packages p) (all-append _ starts ends s t)))))
 
 -- ---- the bytes of a file's fields
 

@@ -1,14 +1,6 @@
 -- Reading and writing undo each other, over all inputs: what was written reads back as the same circuit, what was read writes back to
 -- the same bytes, and a circuit has one file. Assumes nothing.
-use mathlib.Core.List.{List, _++_}
-use mathlib.Core.Logic.{_↔_}
-use mathlib.Core.Path.{_≡_, refl, sym, ap, ap₂, _∙_}
-use Prim.Native.Nat.{ℕ, _≤_}
-use native.Mathlib.Nat.{le-of-eq}
-use native.Mathlib.Omega.{arith}
-use lib.Dec.{T, ltb}
-use lib.ListN.{length, getD, take, drop}
-use lib.Seq.{take-at, take-all}
+use Rattle.base_lists.specs.Kit.{_≡_, _∙_, sym, ap, refl, ap₂, _↔_, List, _++_, ℕ, _≤_, le-of-eq, T, ltb, length, getD, take, drop, take-at, take-all, arith}
 use Rattle.base_lists.specs.List.{all, Below}
 use Rattle.base_lists.proofs.Tests.{T-true}
 use Rattle.graph.specs.Circuit.{Circuit, HasLink}
@@ -19,23 +11,22 @@ use Rattle.graph.proofs.RisingLinks.{rising-determined}
 use Rattle.file_format.specs.declared.Edition.{Edition}
 use Rattle.file_format.specs.declared.Edition.the-variants.{First, Second}
 use Rattle.file_format.specs.declared.ReadAnswer.the-variants as read
-use Rattle.file_format.specs.declared.Refusal.{Refusal}
 use Rattle.file_format.specs.declared.Role.{Role}
 use Rattle.file_format.specs.Layout.{CircuitFile, inEdition, packageCount, kindsOf, packagesOf, startsOf, endsOf, labelsOf, lengthOf}
 use Rattle.file_format.specs.Reading.{ReadOutcome, reading, filled}
-use Rattle.file_format.specs.Refusals.{accept, refuse, first, fileConditions}
+use Rattle.file_format.specs.Refusals.{accept, first, fileConditions}
 use Rattle.file_format.specs.Reply.{readReply}
 use Rattle.file_format.specs.Role.{inRange}
 use Rattle.file_format.proofs.Fields.{length-kinds, length-packages, length-starts, length-ends, count-again}
-use Rattle.file_format.proofs.Reading.{reading-refused, reading-filled, reading-accepted}
+use Rattle.file_format.proofs.Reading.{reading-filled, reading-accepted}
 use Rattle.file_format.proofs.Refusals.{accepted}
 use Rattle.file_format.proofs.Refusals as file
 use Rattle.file_format.proofs.Rising.{rising-links}
-use Rattle.file_write.specs.declared.WriteAnswer.the-variants.{Written, Refused}
+use Rattle.file_write.specs.declared.WriteAnswer.the-variants.{Written}
 use Rattle.file_write.specs.Bytes.{fileBytes, kindsFor, circuitBytes, LabelsFit}
 use Rattle.file_write.specs.Writing.{circuitConditions, WriteOutcome, writing, writeReply}
-use Rattle.file_write.proofs.FileFields.{nodes-written, links-written, kinds-written, packages-written, starts-written, ends-written, length-written, file-below, file-again}
-use Rattle.file_write.proofs.Writing.{verdict-links, sound, writing-refused, writing-filled, writing-accepted}
+use Rattle.file_write.proofs.FileFields.{nodes-written, links-written, kinds-written, packages-written, starts-written, ends-written, length-written, file-again}
+use Rattle.file_write.proofs.Writing.{verdict-links, sound, writing-filled, writing-accepted}
 
 -- ---- one verdict
 
@@ -55,15 +46,6 @@ same-verdict r e kinds packages starts ends t pairs given =
     ∙ ap (file.byNumber r) (rw (n, starts-written e kinds packages starts ends given, ends-written e kinds packages starts ends given pairs))
     ∙ sym (file.verdict-links r written size)
 
--- So the two calls refuse alike, whatever is lent: the writing call the circuit, the reading call its file.
-pub refused-alike : (r : Role) (e : Edition) (kinds packages starts ends out ks ps ss es : List ℕ) → T (inRange r (length kinds) (length starts)) → length starts ≡ length ends
-    → packageCount e (length packages) ≡ packageCount e (length kinds)
-    → (x : Refusal) → first (circuitConditions r e kinds packages starts ends) ≡ refuse x
-    → (writing r e kinds packages starts ends out ≡ record { answer = Refused x; reply = writeReply (Refused x); out = out })
-    × (reading r (inEdition e (fileBytes e kinds packages starts ends)) ks ps ss es ≡ record { answer = read.Refused x; reply = readReply (read.Refused x); kinds = ks; packages = ps; starts = ss; ends = es })
-refused-alike r e kinds packages starts ends out ks ps ss es t pairs given x a =
-    (writing-refused r e kinds packages starts ends out x a, reading-refused r _ ks ps ss es x (sym (same-verdict r e kinds packages starts ends t pairs given) ∙ a))
-
 -- ---- what was written reads back
 
 module _ (r : Role) (e : Edition) (kinds packages starts ends out : List ℕ) (size : ℕ) (w : writing r e kinds packages starts ends out .answer ≡ Written size) where
@@ -81,13 +63,6 @@ module _ (r : Role) (e : Edition) (kinds packages starts ends out : List ℕ) (s
       let h = sound r e kinds packages starts ends ok in
       ap (λ (o : WriteOutcome). take size (o .out)) o
       ∙ take-at (fileBytes e kinds packages starts ends) _ size (length-written e kinds packages starts ends (h .given) (h .pairs) ∙ is)
-
-  -- which are bytes, where the numbers given are of 16 bits
-  pub written-bytes : T (all (λ x. ltb x 65536) kinds) → T (all (λ x. ltb x 65536) packages) → T (all (λ x. ltb x 65536) starts) → T (all (λ x. ltb x 65536) ends)
-      → T (all (λ b. ltb b 256) (take size (writing r e kinds packages starts ends out .out)))
-  written-bytes k p s t =
-      let h = file.range-bounds r _ _ (sound r e kinds packages starts ends ok .range) in
-      rw written-file (file-below e kinds packages starts ends (omega arith) (omega arith) k p s t)
 
   -- which reading in the same role and edition accepts
   pub written-accepted : first (fileConditions r (inEdition e (take size (writing r e kinds packages starts ends out .out)))) ≡ accept
@@ -212,21 +187,14 @@ labels-for Second ls =
     ap (labels (kindsIn ls)) (take-all _ (packagesIn ls) (le-of-eq (length-packages-in ls ∙ sym (length-kinds-in ls)))) ∙ labels-again ls
 
 module _ (e : Edition) (c : Circuit) where
-  pub packages-in-given : packageCount e (length (packagesIn (c .kinds))) ≡ packageCount e (length (kindsFor e (c .kinds)))
-  packages-in-given = ap (packageCount e) (length-packages-in (c .kinds) ∙ sym (length-kinds-for e (c .kinds)))
+  pub packages-in-given : packageCount e (length (packagesIn (c .labels))) ≡ packageCount e (length (kindsFor e (c .labels)))
+  packages-in-given = ap (packageCount e) (length-packages-in (c .labels) ∙ sym (length-kinds-for e (c .labels)))
 
   -- what is read of it is the circuit
   pub circuit-again : length (c .starts) ≡ length (c .ends) → circuitOf (inEdition e (circuitBytes e c)) ≡ c
   unfolding circuitBytes labelsOf
   circuit-again pairs =
-      let ks = kindsFor e (c .kinds) in
-      let ps = packagesIn (c .kinds) in
+      let ks = kindsFor e (c .labels) in
+      let ps = packagesIn (c .labels) in
       rw (kinds-written e ks ps (c .starts) (c .ends), packages-written e ks ps (c .starts) (c .ends) packages-in-given, starts-written e ks ps (c .starts) (c .ends) packages-in-given, ends-written e ks ps (c .starts) (c .ends) packages-in-given pairs)
-      (ap (λ (l : List ℕ). record { kinds = l; starts = c .starts; ends = c .ends }) (labels-for e (c .kinds)))
-
-  -- and it is as long as it should be
-  pub circuit-length : length (c .starts) ≡ length (c .ends) → length (circuitBytes e c) ≡ lengthOf e (length (c .kinds)) (length (c .starts))
-  unfolding circuitBytes
-  circuit-length pairs =
-      length-written e (kindsFor e (c .kinds)) (packagesIn (c .kinds)) (c .starts) (c .ends) packages-in-given pairs
-      ∙ ap (λ (n : ℕ). lengthOf e n (length (c .starts))) (length-kinds-for e (c .kinds))
+      (ap (λ (l : List ℕ). record { labels = l; starts = c .starts; ends = c .ends }) (labels-for e (c .labels)))

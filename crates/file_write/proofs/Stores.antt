@@ -1,12 +1,5 @@
 -- Laws of numbers stored as bytes. Assumes nothing.
-use mathlib.Core.List.{List, [], _∷_, _++_, append-assoc}
-use mathlib.Core.Path.{_≡_, refl, sym, ap, ap₂, _∙_}
-use Prim.Native.Nat.{ℕ, _+_, _*_, _/_, _%_, _≤_, _<_}
-use native.Mathlib.Nat.{add-zero}
-use native.Mathlib.Numerals.{add-one}
-use native.Mathlib.Omega.{arith}
-use lib.ListN.{length, getD, take, drop, set, take-append-drop, length-append}
-use lib.Seq.{sets-eq, take-at, drop-at, drop-drop, take-suc, take-all, length-take-le}
+use Rattle.base_lists.specs.Kit.{_≡_, _∙_, sym, ap, refl, ap₂, List, [], _∷_, _++_, append-assoc, ℕ, _≤_, _<_, _+_, _*_, _/_, _%_, add-zero, add-one, length, getD, take, drop, set, length-append, take-append-drop, length-take-le, take-at, take-all, drop-at, take-suc, sets-eq, drop-drop, arith}
 use Rattle.file_format.specs.Reading.{filled}
 use Rattle.file_format.specs.Refusals.{accept}
 use Rattle.file_write.specs.Bytes.{bytesOf, stretchBytes, stored}
@@ -38,18 +31,18 @@ pub stored-append : (old : List ℕ) (at : ℕ) (xs : List ℕ) (next : ℕ) (ys
     → stored (stored old at xs) next ys ≡ stored old at (xs ++ ys)
 unfolding stored
 stored-append old at xs next ys e h =
-    let front = take at old ++ bytesOf xs in
+    let prefix = take at old ++ bytesOf xs in
     let rest = drop (at + 2 * length xs) old in
-    let long : length front ≡ next = length-append (take at old) (bytesOf xs) ∙ ap₂ (λ (a b : ℕ). a + b) (length-take-le at old (omega arith)) (length-bytes xs) ∙ sym e in
-    let split : take at old ++ (bytesOf xs ++ rest) ≡ front ++ rest = sym (append-assoc (take at old) (bytesOf xs) rest) in
+    let long : length prefix ≡ next = length-append (take at old) (bytesOf xs) ∙ ap₂ (λ (a b : ℕ). a + b) (length-take-le at old (omega arith)) (length-bytes xs) ∙ sym e in
+    let split : take at old ++ (bytesOf xs ++ rest) ≡ prefix ++ rest = sym (append-assoc (take at old) (bytesOf xs) rest) in
     let end : at + 2 * length xs + 2 * length ys ≡ at + 2 * length (xs ++ ys) = omega (arith, length-append xs ys) in
-    let kept : drop (next + 2 * length ys) (front ++ rest) ≡ drop (at + 2 * length (xs ++ ys)) old =
-    sym (drop-drop (2 * length ys) next (front ++ rest))
-    ∙ ap (drop (2 * length ys)) (drop-at front rest next long)
+    let kept : drop (next + 2 * length ys) (prefix ++ rest) ≡ drop (at + 2 * length (xs ++ ys)) old =
+    sym (drop-drop (2 * length ys) next (prefix ++ rest))
+    ∙ ap (drop (2 * length ys)) (drop-at prefix rest next long)
     ∙ drop-drop (2 * length ys) (at + 2 * length xs) old
     ∙ ap (λ (k : ℕ). drop k old) end in
     ap (λ (l : List ℕ). take next l ++ (bytesOf ys ++ drop (next + 2 * length ys) l)) split
-    ∙ ap₂ (λ (a b : List ℕ). a ++ (bytesOf ys ++ b)) (take-at front rest next long) kept
+    ∙ ap₂ (λ (a b : List ℕ). a ++ (bytesOf ys ++ b)) (take-at prefix rest next long) kept
     ∙ append-assoc (take at old) (bytesOf xs) _
     ∙ ap (λ (l : List ℕ). take at old ++ l) (sym (append-assoc (bytesOf xs) (bytesOf ys) _) ∙ ap (λ (l : List ℕ). l ++ drop (at + 2 * length (xs ++ ys)) old) (sym (bytes-append xs ys)))
 
@@ -66,9 +59,9 @@ stored-all old at xs i h = ap (stored old at) (take-all i xs h)
 
 -- ---- the file, stored stretch by stretch
 
-stored-front : (old xs : List ℕ) → stored old 0 xs ≡ filled accept (bytesOf xs) old
+stored-prefix : (old xs : List ℕ) → stored old 0 xs ≡ filled accept (bytesOf xs) old
 unfolding stored filled
-stored-front old xs =
+stored-prefix old xs =
     let e : 0 + 2 * length xs ≡ length (bytesOf xs) = omega (arith, length-bytes xs) in
     ap (λ (k : ℕ). bytesOf xs ++ drop k old) e
 
@@ -86,13 +79,13 @@ module _ (old kinds packages starts ends : List ℕ) (pairs : length starts ≡ 
       ≡ filled accept (stretchBytes kinds packages starts ends) old
   unfolding stretchBytes
   file-stored =
-      let front : List ℕ = length kinds ∷ length starts ∷ kinds in
-      let nodes : length (front ++ packages) ≡ 2 + length kinds + length packages = length-append front packages ∙ omega arith in
-      let most : length ((front ++ packages) ++ starts) ≡ 2 + length kinds + length packages + length starts = length-append (front ++ packages) starts ∙ omega arith in
+      let prefix : List ℕ = length kinds ∷ length starts ∷ kinds in
+      let nodes : length (prefix ++ packages) ≡ 2 + length kinds + length packages = length-append prefix packages ∙ omega arith in
+      let most : length ((prefix ++ packages) ++ starts) ≡ 2 + length kinds + length packages + length starts = length-append (prefix ++ packages) starts ∙ omega arith in
       ap (λ (l : List ℕ). stored (stored (stored (stored l 4 kinds) packs packages) links starts) (links + 2 * length starts) ends) (stored-append old 0 (length kinds ∷ []) 2 (length starts ∷ []) refl (omega arith))
       ∙ ap (λ (l : List ℕ). stored (stored (stored l packs packages) links starts) (links + 2 * length starts) ends) (stored-append old 0 (length kinds ∷ length starts ∷ []) 4 kinds refl (omega arith))
-      ∙ ap (λ (l : List ℕ). stored (stored l links starts) (links + 2 * length starts) ends) (stored-append old 0 front packs packages (omega arith) (omega arith))
-      ∙ ap (λ (l : List ℕ). stored l (links + 2 * length starts) ends) (stored-append old 0 (front ++ packages) links starts (omega arith) (omega arith))
-      ∙ stored-append old 0 ((front ++ packages) ++ starts) (links + 2 * length starts) ends (omega arith) (omega arith)
-      ∙ ap (stored old 0) (append-assoc (front ++ packages) starts ends ∙ append-assoc front packages (starts ++ ends))
-      ∙ stored-front old (front ++ (packages ++ (starts ++ ends)))
+      ∙ ap (λ (l : List ℕ). stored (stored l links starts) (links + 2 * length starts) ends) (stored-append old 0 prefix packs packages (omega arith) (omega arith))
+      ∙ ap (λ (l : List ℕ). stored l (links + 2 * length starts) ends) (stored-append old 0 (prefix ++ packages) links starts (omega arith) (omega arith))
+      ∙ stored-append old 0 ((prefix ++ packages) ++ starts) (links + 2 * length starts) ends (omega arith) (omega arith)
+      ∙ ap (stored old 0) (append-assoc (prefix ++ packages) starts ends ∙ append-assoc prefix packages (starts ++ ends))
+      ∙ stored-prefix old (prefix ++ (packages ++ (starts ++ ends)))

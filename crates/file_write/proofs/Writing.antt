@@ -1,12 +1,6 @@
 -- What the writing call comes to, by cases of the verdict. Assumes nothing.
-use mathlib.Core.Bool.{true, false, _&&_}
-use mathlib.Core.List.{List}
-use mathlib.Core.Path.{_≡_, refl}
-use Prim.Native.Nat.{ℕ, _≤_, _<_}
-use borrow.Author.Tests.{lt-ltb, le-ltb, eq-eqb, ne-eqb, ltb-false}
-use lib.Dec.{T, eqb, eqb→eq}
-use lib.ListN.{length}
-use Rattle.base_lists.proofs.Tests.{refuted, both-left, both-right}
+use Rattle.base_lists.specs.Kit.{_≡_, refl, false, true, _&&_, List, ℕ, _≤_, _<_, T, eqb, eqb→eq, length, eq-eqb, ne-eqb, le-ltb, lt-ltb, ltb-false}
+use Rattle.base_lists.proofs.Tests.{not-true-false, both-left, both-right}
 use Rattle.file_format.specs.declared.File.the-variants.{Neither}
 use Rattle.file_format.specs.declared.Refusal.{Refusal}
 use Rattle.file_format.specs.declared.Edition.{Edition}
@@ -77,9 +71,9 @@ sound r e kinds packages starts ends a =
     let h3 = first-holds _ _ (h2 .1) in
     let links = eqb (length starts) (length ends) in
     let boxes = eqb (packageCount e (length packages)) (packageCount e (length kinds)) in
-    let many = refuted (links && boxes) (h3 .0) in
+    let many = not-true-false (links && boxes) (h3 .0) in
     record {
-      range = refuted (inRange r (length kinds) (length starts)) (h2 .0);
+      range = not-true-false (inRange r (length kinds) (length starts)) (h2 .0);
       pairs = eqb→eq _ _ (both-left links boxes many);
       given = eqb→eq _ _ (both-right links boxes many);
       links = h3 .1;

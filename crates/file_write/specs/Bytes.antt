@@ -1,7 +1,5 @@
 -- The bytes of a circuit's file, in every edition.
-use mathlib.Core.List.{List, [], _∷_, _++_}
-use Prim.Native.Nat.{ℕ, _+_, _*_, _/_, _%_}
-use lib.ListN.{length, take, drop}
+use Rattle.base_lists.specs.Kit.{List, [], _∷_, _++_, ℕ, _+_, _*_, _/_, _%_, length, take, drop}
 use Rattle.graph.specs.Circuit.{Circuit}
 use Rattle.base_lists.specs.List.{Below}
 use Rattle.file_format.specs.declared.Edition.{Edition}
@@ -30,7 +28,7 @@ kindsFor Second ls = kindsIn ls
 
 -- the file of a circuit, whose labels have both the kinds and the packages
 unfoldable pub circuitBytes : Edition → Circuit → List ℕ
-circuitBytes e c = fileBytes e (kindsFor e (c .kinds)) (packagesIn (c .kinds)) (c .starts) (c .ends)
+circuitBytes e c = fileBytes e (kindsFor e (c .labels)) (packagesIn (c .labels)) (c .starts) (c .ends)
 
 -- labels that an edition can hold: in the first all packages are 0
 unfoldable pub LabelsFit : Edition → List ℕ → Type 0

@@ -1,9 +1,5 @@
 -- The call that writes a circuit file, whole: its reply and the later content of the bytes lent, from the inputs alone.
-use mathlib.Core.Bool.{Bool, _&&_, not}
-use mathlib.Core.List.{List, [], _∷_, _++_}
-use Prim.Native.Nat.{ℕ}
-use lib.Dec.{eqb}
-use lib.ListN.{length}
+use Rattle.base_lists.specs.Kit.{Bool, _&&_, not, List, [], _∷_, _++_, ℕ, eqb, length}
 use Rattle.file_format.specs.declared.Edition.{Edition}
 use Rattle.file_format.specs.declared.Role.{Role}
 use Rattle.file_format.specs.Layout.{packageCount, lengthOf}

@@ -20,9 +20,9 @@ use crate::check::check;
 use crate::parts::split;
 use file_format::Board;
 use file_format::Edition;
-use file_format::File;
 use file_format::Refusal;
 use file_format::Role;
+use file_format::TOO_SHORT;
 use file_format::package_count;
 
 // What writing a circuit comes to: the file's length, or why it was turned away.
@@ -68,10 +68,7 @@ pub fn write(
         return answer;
     };
     if out.len() < size {
-        return WriteAnswer::Refused(Refusal {
-            number: 8,
-            file: File::Neither,
-        });
+        return WriteAnswer::Refused(TOO_SHORT);
     }
     let p = package_count(edition, kinds.len());
     put_fields(kinds, &packages[..p], starts, ends, out);

@@ -1,14 +1,12 @@
 -- Of a file the program reads at most a byte more than the longest that its role accepts: the report of what is read so is the report of
 -- the whole files. Assumes nothing.
-use mathlib.Core.List.{List}
-use mathlib.Core.Path.{_≡_, refl, ap₂, _∙_}
-use Prim.Native.Nat.{ℕ}
+use Rattle.base_lists.specs.Kit.{_≡_, _∙_, refl, ap₂, List, ℕ}
 use Rattle.file_format.specs.declared.Edition.the-variants.{First}
 use Rattle.file_format.specs.declared.Role.the-variants.{Pattern, Board}
 use Rattle.file_format.specs.Layout.{firstEdition}
 use Rattle.file_format.specs.Refusals.{Condition, Verdict, accept, refuse, first, fileConditions}
 use Rattle.file_format.proofs.Refusals.{first-accept, first-refuse}
-use Rattle.file_cut.proofs.Cut.{cut-verdict, accepted-whole}
+use Rattle.file_format.proofs.Cut.{cut-verdict, accepted-whole}
 use Rattle.report.specs.Report.{reportFor, reportOf}
 use Rattle.finder.specs.Cut.{cut}
 

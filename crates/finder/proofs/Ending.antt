@@ -1,17 +1,13 @@
 -- How a run ends. Assumes nothing.
-use mathlib.Core.Bool.{Bool, true, false}
-use mathlib.Core.List.{List}
-use mathlib.Core.Path.{_≡_}
-use Prim.Native.Nat.{ℕ}
-use lib.ListN.{take}
+use Rattle.base_lists.specs.Kit.{_≡_, Bool, false, true, List, ℕ, take}
 use Rattle.file_format.specs.Layout.{firstEdition}
 use Rattle.finder.specs.declared.Files.{Files}
-use Rattle.finder.specs.Printing.{Handed, endOf, Ran}
+use Rattle.finder.specs.Printing.{ReportHanded, reportEnd, ReportRan}
 
 -- one in which both files could be read, and so many items were handed over
 pub ran-begun : (pattern board : List ℕ) (k : ℕ) (files : Files) (whole : Bool) → files .pattern .there ≡ true → files .board .there ≡ true
-    → Handed (firstEdition (take (files .pattern .size) pattern)) (firstEdition (take (files .board .size) board)) k whole
-    → Ran pattern board k files (endOf whole)
-unfolding Ran endOf
+    → ReportHanded (firstEdition (take (files .pattern .size) pattern)) (firstEdition (take (files .board .size) board)) k whole
+    → ReportRan pattern board k files (reportEnd whole)
+unfolding ReportRan reportEnd
 ran-begun pattern board k files true p b h = (p, b, h)
 ran-begun pattern board k files false p b h = (p, b, h)

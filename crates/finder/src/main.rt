@@ -10,9 +10,9 @@ use file_format::Editions;
 use file_format::Pattern;
 use file_format::Role;
 use file_pair::Pair;
-use graph_neighbours::tables::LINKS;
 use graph_neighbours::tables::OFFSETS;
-use input::Found;
+use graph_neighbours::tables::TARGETS;
+use input::FileFound;
 use output::Output;
 use table::MASKS;
 ghost use mathlib.Core.Bool.{cond};
@@ -26,7 +26,7 @@ ghost use Rattle.table.specs.Prepared.{tables};
 ghost use Rattle.report.specs.Lines.{longestLine};
 ghost use Rattle.call_report.specs.Opened.{Opened};
 ghost use Rattle.finder.specs.Cut.{most};
-ghost use Rattle.finder.specs.Printing.{nameOf, heldOf, GoesOn, Handed, endOf, Ran};
+ghost use Rattle.finder.specs.Printing.{fileNameOf, heldOf, GoesOn, ReportHanded, reportEnd, ReportRan};
 
 // A byte more than the longest file that is accepted in each role: the report of what is read so is the report of the files (proofs/Cut).
 const PATTERN_BYTES: usize = 4 + 2 * Pattern::MAX_NODES + 4 * Pattern::MAX_LINKS + 1;
@@ -37,15 +37,15 @@ const BOARD_BYTES: usize = 4 + 2 * Board::MAX_NODES + 4 * Board::MAX_LINKS + 1;
 const PIECE_BYTES: usize = 524288;
 
 // What is held of a file: whether it could be read, or counts as empty, and how many of its bytes stand at the front of the buffer.
-struct Held {
+struct FileHeld {
     there: bool,
     size: usize,
 }
 
 // What is held of both files.
 struct Files {
-    pattern: Held,
-    board: Held,
+    pattern: FileHeld,
+    board: FileHeld,
 }
 
 // How a run ended: the report was handed whole to standard output; or a write failed; or a file cannot be read.
@@ -63,16 +63,16 @@ struct Run {
 }
 
 // What was read, where an absent file counts as an empty one.
-fn as_read(found: Found) -> Held
+fn as_read(found: FileFound) -> FileHeld
     ensures { λ r. ⌜ r ≡ heldOf found ⌝ }
 {
     match found {
-        Found::Bytes(size) => Held { there: true, size },
-        Found::Absent => Held {
+        FileFound::Bytes(size) => FileHeld { there: true, size },
+        FileFound::Absent => FileHeld {
             there: true,
             size: 0,
         },
-        Found::Unreadable => Held {
+        FileFound::Unreadable => FileHeld {
             there: false,
             size: 0,
         },
@@ -80,8 +80,8 @@ fn as_read(found: Found) -> Held
 }
 
 // The bytes of the file in a role, by its name, none where it is absent, in a buffer of a byte more than the longest that is accepted.
-fn load(role: Role, name: &[u8], buf: &mut [u8]) -> Held
-    requires { ⌜ (now name ≡ nameOf role) × (length (now buf) ≡ most role) ⌝ }
+fn load(role: Role, name: &[u8], buf: &mut [u8]) -> FileHeld
+    requires { ⌜ (now name ≡ fileNameOf role) × (length (now buf) ≡ most role) ⌝ }
     ensures { λ r. ⌜ Counts (r .size) (now (buf .exit)) ⌝ }
 {
     as_read(input::load(name, buf))
@@ -123,16 +123,16 @@ fn print_pieces(
     read: Pair,
     masks: &[u32],
     offsets: &[u16],
-    links: &[u16],
+    targets: &[u16],
     whole: &[u32],
-    labels: &[u16],
+    component_of: &[u16],
     sizes: &[u16],
     out: &mut [u8],
     handed: &mut usize,
 ) -> bool
-    requires { ⌜ Opened 0 (firstEdition (now pattern)) (firstEdition (now board)) read (tables (now masks) (now offsets) (now links)) (now whole) (now labels) (now sizes) ⌝ }
+    requires { ⌜ Opened 0 (firstEdition (now pattern)) (firstEdition (now board)) read (tables (now masks) (now offsets) (now targets)) (now whole) (now «component_of») (now sizes) ⌝ }
     requires { ⌜ (longestLine ≤ length (now out)) × (now handed ≡ 0) ⌝ }
-    ensures { λ r. ⌜ Handed (firstEdition (now (pattern .entry))) (firstEdition (now (board .entry))) (now (handed .exit)) r ⌝ }
+    ensures { λ r. ⌜ ReportHanded (firstEdition (now (pattern .entry))) (firstEdition (now (board .entry))) (now (handed .exit)) r ⌝ }
 {
     let mut found: u16 = 0;
     loop {
@@ -141,9 +141,9 @@ fn print_pieces(
             read,
             masks,
             offsets,
-            links,
+            targets,
             whole,
-            labels,
+            component_of,
             sizes,
             from,
             found,
@@ -167,13 +167,13 @@ fn print_pieces(
 // Opens the two files, of the first edition both, and prints their report.
 fn print_report(pattern: &[u8], board: &[u8], out: &mut [u8], handed: &mut usize) -> bool
     requires { ⌜ (longestLine ≤ length (now out)) × (now handed ≡ 0) ⌝ }
-    ensures { λ r. ⌜ Handed (firstEdition (now (pattern .entry))) (firstEdition (now (board .entry))) (now (handed .exit)) r ⌝ }
+    ensures { λ r. ⌜ ReportHanded (firstEdition (now (pattern .entry))) (firstEdition (now (board .entry))) (now (handed .exit)) r ⌝ }
 {
     let mut masks = [0u32; MASKS];
     let mut offsets = [0u16; OFFSETS];
-    let mut links = [0u16; LINKS];
+    let mut targets = [0u16; TARGETS];
     let mut whole = [0u32; Board::MAX_NODES];
-    let mut labels = [0u16; Board::MAX_NODES];
+    let mut component_of = [0u16; Board::MAX_NODES];
     let mut sizes = [0u16; Board::MAX_NODES];
     let editions = Editions {
         pattern: Edition::First,
@@ -186,9 +186,9 @@ fn print_report(pattern: &[u8], board: &[u8], out: &mut [u8], handed: &mut usize
         board,
         &mut masks,
         &mut offsets,
-        &mut links,
+        &mut targets,
         &mut whole,
-        &mut labels,
+        &mut component_of,
         &mut sizes,
     );
     print_pieces(
@@ -197,9 +197,9 @@ fn print_report(pattern: &[u8], board: &[u8], out: &mut [u8], handed: &mut usize
         read,
         &masks,
         &offsets,
-        &links,
+        &targets,
         &whole,
-        &labels,
+        &component_of,
         &sizes,
         out,
         handed,
@@ -208,7 +208,7 @@ fn print_report(pattern: &[u8], board: &[u8], out: &mut [u8], handed: &mut usize
 
 // How a run ends in which the report was begun.
 fn ended(whole: bool) -> End
-    ensures { λ r. ⌜ r ≡ endOf whole ⌝ }
+    ensures { λ r. ⌜ r ≡ reportEnd whole ⌝ }
 {
     if whole {
         return End::Whole;
@@ -226,7 +226,7 @@ fn report_held(
 ) -> End
     requires { ⌜ Counts (files .pattern .size) (now pattern) × Counts (files .board .size) (now board) ⌝ }
     requires { ⌜ (longestLine ≤ length (now out)) × (now handed ≡ 0) ⌝ }
-    ensures { λ r. ⌜ Ran (now (pattern .entry)) (now (board .entry)) (now (handed .exit)) files r ⌝ }
+    ensures { λ r. ⌜ ReportRan (now (pattern .entry)) (now (board .entry)) (now (handed .exit)) files r ⌝ }
 {
     let first = files.pattern;
     let second = files.board;
@@ -241,14 +241,19 @@ fn report_held(
     ended(print_report(&pattern[..parts], &board[..nodes], out, handed))
 }
 
-// Reads the two files and prints their report, by way of buffers that are lent whole, so that their bytes are not looked at one by one in the proof.
-fn report_files(pattern: &mut [u8], board: &mut [u8], out: &mut [u8], handed: &mut usize) -> Run
-    requires { ⌜ (length (now pattern) ≡ most role.Pattern) × (length (now board) ≡ most role.Board) ⌝ }
-    requires { ⌜ (longestLine ≤ length (now out)) × (now handed ≡ 0) ⌝ }
-    ensures { λ r. ⌜ Ran (now (pattern .exit)) (now (board .exit)) (now (handed .exit)) (r .files) (r .end) ⌝ }
+// Reads the two files and prints their report, by way of buffers that are lent as arrays: so their lengths are known by their types, and no proof counts
+// their bytes.
+fn report_files(
+    pattern: &mut [u8; PATTERN_BYTES],
+    board: &mut [u8; BOARD_BYTES],
+    out: &mut [u8; PIECE_BYTES],
+    handed: &mut usize,
+) -> Run
+    requires { ⌜ now handed ≡ 0 ⌝ }
+    ensures { λ r. ⌜ ReportRan (now (pattern .exit)) (now (board .exit)) (now (handed .exit)) (r .files) (r .end) ⌝ }
 {
-    let files = read_files(pattern, board);
-    let end = report_held(files, pattern, board, out, handed);
+    let files = read_files(&mut pattern[..], &mut board[..]);
+    let end = report_held(files, &pattern[..], &board[..], &mut out[..], handed);
     Run { files, end }
 }
 

@@ -1,22 +1,13 @@
 -- The rows of specs/Search mean walks: a ball's row marks the nodes that a walk of at most r links joins to the centre. Assumes nothing.
-use mathlib.Core.Bool.{Bool, true, false, _&&_, _||_, cond}
-use mathlib.Core.List.{List, [], _∷_}
-use mathlib.Core.Logic.{_⊎_, inl, inr, _↔_, ⊎-elim, ⊎-swap}
-use mathlib.Core.Path.{_≡_, refl, sym, ap, subst, _∙_}
-use Prim.Native.Nat.{ℕ, zero, suc, _+_, _≤_, _<_, zero-le, suc-le-suc}
-use native.Mathlib.Nat.{le-step, le-of-suc-le-suc, not-suc-le-zero, zero-lt-suc, eq-or-lt-of-le, le-antisymm}
-use native.Mathlib.Omega.{arith}
-use lib.Dec.{T, eqb, ltb, eqb→eq, ltb→lt}
-use borrow.Author.Tests.{eq-eqb}
-use lib.ListN.{length, getD}
+use Rattle.base_lists.specs.Kit.{_≡_, _∙_, sym, ap, refl, subst, _↔_, ⊎-elim, _⊎_, inl, inr, ⊎-swap, Bool, cond, _&&_, _||_, List, [], _∷_, ℕ, _≤_, _<_, _+_, suc, zero, zero-le, suc-le-suc, not-suc-le-zero, le-of-suc-le-suc, zero-lt-suc, eq-or-lt-of-le, le-antisymm, le-step, T, eqb, ltb, eqb→eq, ltb→lt, length, getD, arith, eq-eqb}
 use Rattle.base_lists.specs.List.{tabulate, sum, all}
-use Rattle.base_lists.proofs.Tests.{both, both-left, both-right, either-left, either-right, either-cases, true-T, all-at}
+use Rattle.base_lists.proofs.Tests.{both-true, both-left, both-right, either-left, either-right, either-cases, true-T, all-at, cond-test, cond-le, is-cond, cond-mono}
 use Rattle.base_lists.proofs.Tables.{length-tabulate, getD-tabulate}
 use Rattle.base_lists.proofs.Rows.{rises-to-rest, getD-le-sum, sum-bits, sum-progress}
 use Rattle.graph.specs.Graph.{Walk, stay, step}
 use Rattle.graph.specs.Circuit.{LinkAt, HasLink}
 use Rattle.graph.specs.Search.{beside, inside, ball}
-use Rattle.graph.proofs.Walks.{along, retarget, reverse}
+use Rattle.graph.proofs.Walks.{walk-along, walk-retarget, walk-reverse}
 
 -- ---- links
 
@@ -56,17 +47,17 @@ abbrev pub Beside : List ℕ → List ℕ → (ℕ → Bool) → ℕ → Type 0
 Beside ss es p v = (w : ℕ) × (HasLink ss es v w ⊎ HasLink ss es w v) × T (p w)
 
 -- the link from s to e is such a link
-abbrev joins : ℕ → ℕ → (ℕ → Bool) → ℕ → Bool
-joins s e p v = (eqb s v && p e) || (eqb e v && p s)
+abbrev linkPasses : ℕ → ℕ → (ℕ → Bool) → ℕ → Bool
+linkPasses s e p v = (eqb s v && p e) || (eqb e v && p s)
 
 -- what is found is such a link
 beside-link : (ss es : List ℕ) (p : ℕ → Bool) (v : ℕ) → T (beside ss es p v) → Beside ss es p v
 unfolding beside HasLink
 beside-link [] es p v t = absurd t
 beside-link (s ∷ ss) [] p v t = absurd t
-beside-link (s ∷ ss) (e ∷ es) p v t = ⊎-elim first (λ b. later (beside-link ss es p v b)) (either-cases (joins s e p v) (beside ss es p v) t)
+beside-link (s ∷ ss) (e ∷ es) p v t = ⊎-elim first (λ b. later (beside-link ss es p v b)) (either-cases (linkPasses s e p v) (beside ss es p v) t)
   where
-    first : T (joins s e p v) → Beside (s ∷ ss) (e ∷ es) p v
+    first : T (linkPasses s e p v) → Beside (s ∷ ss) (e ∷ es) p v
     first j =
         ⊎-elim
         (λ a. (e, inl (zero, link-first ss es (eqb→eq s v (both-left (eqb s v) (p e) a)) refl), both-right (eqb s v) (p e) a))
@@ -81,14 +72,14 @@ link-beside : (ss es : List ℕ) (p : ℕ → Bool) (v w i : ℕ) → LinkAt ss 
 unfolding beside
 link-beside [] es p v w i l q = absurd (not-suc-le-zero (⊎-elim (λ a. a .inStarts) (λ a. a .inStarts) l))
 link-beside (s ∷ ss) [] p v w i l q = absurd (not-suc-le-zero (⊎-elim (λ a. a .inEnds) (λ a. a .inEnds) l))
-link-beside (s ∷ ss) (e ∷ es) p v w zero l q = either-left (joins s e p v) (beside ss es p v) (⊎-elim forward backward l)
+link-beside (s ∷ ss) (e ∷ es) p v w zero l q = either-left (linkPasses s e p v) (beside ss es p v) (⊎-elim forward backward l)
   where
-    forward : LinkAt (s ∷ ss) (e ∷ es) v w zero → T (joins s e p v)
-    forward a = either-left (eqb s v && p e) (eqb e v && p s) (both (eqb s v) (p e) (true-T (eq-eqb s v (a .start))) (subst (λ x. T (p x)) (sym (a .end)) q))
+    forward : LinkAt (s ∷ ss) (e ∷ es) v w zero → T (linkPasses s e p v)
+    forward a = either-left (eqb s v && p e) (eqb e v && p s) (both-true (eqb s v) (p e) (true-T (eq-eqb s v (a .start))) (subst (λ x. T (p x)) (sym (a .end)) q))
 
-    backward : LinkAt (s ∷ ss) (e ∷ es) w v zero → T (joins s e p v)
-    backward a = either-right (eqb s v && p e) (eqb e v && p s) (both (eqb e v) (p s) (true-T (eq-eqb e v (a .end))) (subst (λ x. T (p x)) (sym (a .start)) q))
-link-beside (s ∷ ss) (e ∷ es) p v w (suc i) l q = either-right (joins s e p v) (beside ss es p v) (link-beside ss es p v w i (⊎-elim (λ a. inl (link-earlier a)) (λ a. inr (link-earlier a)) l) q)
+    backward : LinkAt (s ∷ ss) (e ∷ es) w v zero → T (linkPasses s e p v)
+    backward a = either-right (eqb s v && p e) (eqb e v && p s) (both-true (eqb e v) (p s) (true-T (eq-eqb e v (a .end))) (subst (λ x. T (p x)) (sym (a .start)) q))
+link-beside (s ∷ ss) (e ∷ es) p v w (suc i) l q = either-right (linkPasses s e p v) (beside ss es p v) (link-beside ss es p v w i (⊎-elim (λ a. inl (link-earlier a)) (λ a. inr (link-earlier a)) l) q)
 
 pub beside-iff : (ss es : List ℕ) (p : ℕ → Bool) (v : ℕ) → T (beside ss es p v) ↔ Beside ss es p v
 unfolding HasLink
@@ -106,22 +97,13 @@ inside-below [] v t = absurd t
 inside-below (x ∷ xs) zero t = zero-lt-suc _
 inside-below (x ∷ xs) (suc v) t = suc-le-suc (inside-below xs v t)
 
--- a bit made from a test is 1 when the test passes, and at most 1
-bit-test : (b : Bool) → eqb (cond b 1 0) 1 ≡ b
-bit-test true = refl
-bit-test false = refl
-
-bit-le : (b : Bool) → cond b 1 0 ≤ 1
-bit-le true = omega arith
-bit-le false = omega arith
-
 -- the row of bits made from a test
 abbrev pub bits : ℕ → (ℕ → Bool) → List ℕ
 bits n p = tabulate n (λ v. cond (p v) 1 0)
 
 inside-at : (n : ℕ) (p : ℕ → Bool) (v : ℕ) → v < n → inside (bits n p) v ≡ p v
 unfolding inside
-inside-at n p v h = ap (λ x. eqb x 1) (getD-tabulate n (λ i. cond (p i) 1 0) v 0 h) ∙ bit-test (p v)
+inside-at n p v h = ap (λ x. eqb x 1) (getD-tabulate n (λ i. cond (p i) 1 0) v 0 h) ∙ cond-test (p v)
 
 -- it marks the numbers below n that pass the test
 pub inside-bits : (n : ℕ) (p : ℕ → Bool) (v : ℕ) → T (inside (bits n p) v) ↔ ((v < n) × T (p v))
@@ -132,19 +114,7 @@ inside-bits n p v = (
 
 -- its entries are bits
 pub bits-le : (n : ℕ) (p : ℕ → Bool) (v : ℕ) → v < n → getD (bits n p) v 0 ≤ 1
-bits-le n p v h = subst (λ x. x ≤ 1) (sym (getD-tabulate n (λ i. cond (p i) 1 0) v 0 h)) (bit-le (p v))
-
--- a bit is what its test says
-pub bit-entry : (x : ℕ) → x ≤ 1 → x ≡ cond (eqb x 1) 1 0
-bit-entry zero h = refl
-bit-entry (suc zero) h = refl
-bit-entry (suc (suc x)) h = absurd (omega arith)
-
--- a bit is at most another number that is 1 where the bit is
-pub bit-mono : (x y : ℕ) → x ≤ 1 → (T (eqb x 1) → T (eqb y 1)) → x ≤ y
-bit-mono zero y h f = zero-le
-bit-mono (suc zero) y h f = omega (arith, eqb→eq y 1 (f tt))
-bit-mono (suc (suc x)) y h f = absurd (omega arith)
+bits-le n p v h = subst (λ x. x ≤ 1) (sym (getD-tabulate n (λ i. cond (p i) 1 0) v 0 h)) (cond-le (p v))
 
 -- ---- balls
 
@@ -170,7 +140,7 @@ module _ (n : ℕ) (ss es : List ℕ) (c : ℕ) where
 
   pub ball-entry : (r v : ℕ) → v < n → getD (ball n ss es c r) v 0 ≡ cond (inside (ball n ss es c r) v) 1 0
   unfolding inside
-  ball-entry r v h = bit-entry _ (ball-bits r v h)
+  ball-entry r v h = is-cond _ (ball-bits r v h)
 
   -- at radius 0 the centre alone
   pub inside-zero : (v : ℕ) → T (inside (ball n ss es c zero) v) ↔ ((v < n) × (v ≡ c))
@@ -208,7 +178,7 @@ module _ (n : ℕ) (ss es : List ℕ) (c : ℕ) where
 
   -- What a ball has, a walk of at most r links joins to the centre.
   pub ball-walk : (r v : ℕ) → T (inside (ball n ss es c r) v) → (k : ℕ) × (k ≤ r) × Walk (HasLink ss es) c v k
-  ball-walk zero v t = (zero, zero-le, retarget (sym (inside-zero v .0 t .1)) stay)
+  ball-walk zero v t = (zero, zero-le, walk-retarget (sym (inside-zero v .0 t .1)) stay)
   ball-walk (suc r) v t = ⊎-elim (λ a. later (ball-walk r v a)) (λ (w, l, a). onward w l (ball-walk r w a)) (inside-suc r v .0 t .1)
     where
       later : (k : ℕ) × (k ≤ r) × Walk (HasLink ss es) c v k → (k : ℕ) × (k ≤ suc r) × Walk (HasLink ss es) c v k
@@ -228,7 +198,7 @@ module _ (n : ℕ) (ss es : List ℕ) (c : ℕ) where
   unfolding inside
   ball-progress r =
       sum-progress (ball n ss es c r) (ball n ss es c (suc r)) (length-ball r ∙ sym (length-ball (suc r)))
-      (λ v h. bit-mono _ _ (ball-bits r v (subst (λ x. v < x) (length-ball r) h)) (inside-grows r v))
+      (λ v h. cond-mono _ _ (ball-bits r v (subst (λ x. v < x) (length-ball r) h)) (inside-grows r v))
 
   -- there are at most n ones
   sum-ball-le : (r : ℕ) → sum (ball n ss es c r) ≤ n
@@ -259,7 +229,7 @@ module _ (n : ℕ) (ss es : List ℕ) (c : ℕ) where
 module _ {n : ℕ} {ss es : List ℕ} (links : Within n ss es) where
   -- a walk from a node ends at a node
   pub walk-node : {v w k : ℕ} → Walk (HasLink ss es) v w k → v < n → w < n
-  walk-node p h = along (λ v. v < n) (λ v w l _. ⊎-elim (links .ends v w) (links .starts w v) l) p h
+  walk-node p h = walk-along (λ v. v < n) (λ v w l _. ⊎-elim (links .ends v w) (links .starts w v) l) p h
 
   -- A walk of k links from the centre leads into the ball at radius k,
   walk-inside : (c : ℕ) → c < n → {v k : ℕ} → Walk (HasLink ss es) c v k → T (inside (ball n ss es c k) v)
@@ -272,7 +242,7 @@ module _ {n : ℕ} {ss es : List ℕ} (links : Within n ss es) where
 
   -- so the ball at radius r has the nodes that a walk of at most r links joins to the centre;
   pub ball-iff : (c r v : ℕ) → T (inside (ball n ss es c r) v) ↔ ((v < n) × ((k : ℕ) × (k ≤ r) × Walk (HasLink ss es) c v k))
-  ball-iff c r v = (λ t. (inside-node n ss es c r v t, ball-walk n ss es c r v t), λ (h, (k, l, p)). walk-ball c (walk-node (reverse p) h) p r l)
+  ball-iff c r v = (λ t. (inside-node n ss es c r v t, ball-walk n ss es c r v t), λ (h, (k, l, p)). walk-ball c (walk-node (walk-reverse p) h) p r l)
 
   -- and, however long it is, into the ball at radius n - 1,
   pub walk-final : (c : ℕ) → c < n → {v k : ℕ} → Walk (HasLink ss es) c v k → (m : ℕ) → n ≤ suc m → T (inside (ball n ss es c m) v)
@@ -282,5 +252,5 @@ module _ {n : ℕ} {ss es : List ℕ} (links : Within n ss es) where
   pub component-iff : (c m : ℕ) → n ≤ suc m → (v : ℕ) → T (inside (ball n ss es c m) v) ↔ ((v < n) × ((k : ℕ) × Walk (HasLink ss es) c v k))
   component-iff c m l v = (
     λ t. let (k, _, p) = ball-walk n ss es c m v t in (inside-node n ss es c m v t, (k, p)),
-    λ (h, (k, p)). walk-final c (walk-node (reverse p) h) p m l,
+    λ (h, (k, p)). walk-final c (walk-node (walk-reverse p) h) p m l,
   )

@@ -1,25 +1,15 @@
 -- Breadth-first search finds the distances: what it leaves for each node is `far`, where every walk to the node is longer than the radius,
 -- and else the length of a shortest walk. The nodes are any n numbers, and the links any relation that the adjacency function lists.
 -- Assumes nothing.
-use mathlib.Core.Bool.{Bool, true, false, _||_}
-use mathlib.Core.List.{List, []}
-use mathlib.Core.Logic.{_⊎_, inl, inr, ⊎-elim}
-use mathlib.Core.Path.{_≡_, refl, sym, ap, _∙_, subst}
-use Prim.Native.Nat.{ℕ, zero, suc, _+_, _≤_, _<_, zero-le}
-use native.Mathlib.Nat.{le-refl, eq-or-lt-of-le, le-suc-iff, add-zero, add-suc, suc-add, zero-add}
-use native.Mathlib.Omega.{arith}
-use borrow.Author.Tests.{eq-eqb, ne-eqb, eqb-true, eqb-false}
-use lib.Dec.{T, eqb}
-use lib.ListN.{length, getD, drop, replicate, getD-replicate, length-replicate}
-use lib.Seq.{getD-set-same, getD-set-other}
-use Rattle.base_lists.proofs.Tests.{T-true, true-T}
+use Rattle.base_lists.specs.Kit.{_≡_, _∙_, sym, ap, refl, subst, ⊎-elim, _⊎_, inl, inr, Bool, false, true, _||_, List, [], ℕ, _≤_, _<_, _+_, suc, zero, zero-le, le-refl, eq-or-lt-of-le, add-zero, zero-add, add-suc, suc-add, le-suc-iff, T, eqb, length, getD, drop, replicate, length-replicate, getD-replicate, getD-set-other, getD-set-same, arith, eq-eqb, ne-eqb, eqb-true, eqb-false}
+use Rattle.base_lists.proofs.Tests.{T-true, true-T, lt-or-le}
 use Rattle.graph.specs.Graph.{Walk, stay, step}
 use Rattle.graph.specs.Search.{far}
 use Rattle.base_lists.specs.List.{Below}
-use Rattle.graph.specs.Bfs.{State, level, levels, start, bfs, Ready, Adjacency, Measured}
-use Rattle.graph.proofs.Below.{below-drop}
+use Rattle.base_lists.proofs.Entries.{below-drop}
+use Rattle.graph.specs.Bfs.{SearchState, level, levels, start, bfs, SearchReady, Adjacency, Measured}
 use Rattle.graph.proofs.BfsSteps.{levels-end, ready-level, ready-start}
-use Rattle.graph.proofs.BfsScan.{lt-or-le, elem, elem-nil, elem-snoc, elem-occurs, occurs-elem, below-elem, targets, targets-from, to-targets, level-scan, after, after-cases, after-new, after-old, scan-dist, Frontier, frontier-none, frontier-empty, frontier-scan}
+use Rattle.graph.proofs.BfsScan.{elem, elem-nil, elem-snoc, elem-occurs, occurs-elem, below-elem, targets, targets-from, to-targets, level-scan, after, after-cases, after-new, after-old, scan-dist, Frontier, frontier-none, frontier-empty, frontier-scan}
 
 -- ---- walks
 
@@ -34,19 +24,19 @@ walk-none (step p l) e = absurd (let z = e in omega arith)
 
 -- ---- the invariant of the levels: what is known when the nodes within distance d are reached, and those at distance d are the frontier
 
-record Inv (n c : ℕ) (Link : ℕ → ℕ → Type 0) (d lo : ℕ) (s : State) : Type 0 where
-  ready : Ready n s
+record Inv (n c : ℕ) (Link : ℕ → ℕ → Type 0) (d lo : ℕ) (s : SearchState) : Type 0 where
+  ready : SearchReady n s
   -- each level so far has reached a node
   early : d ≤ lo
-  front : Frontier n lo d s
+  prefix : Frontier n lo d s
   -- each entry is a walk's length, at most d
   sound : (w : ℕ) → w < n → (getD (s .dist) w 0 ≡ far) ⊎ (Walk Link c w (getD (s .dist) w 0) × (getD (s .dist) w 0 ≤ d))
   -- and no walk of at most d links is shorter
   least : (w k : ℕ) → k ≤ d → Walk Link c w k → getD (s .dist) w 0 ≤ k
 
 -- what a search up to distance r leaves
-record Done (n c : ℕ) (Link : ℕ → ℕ → Type 0) (r : ℕ) (s : State) : Type 0 where
-  ready : Ready n s
+record Done (n c : ℕ) (Link : ℕ → ℕ → Type 0) (r : ℕ) (s : SearchState) : Type 0 where
+  ready : SearchReady n s
   measured : (w : ℕ) → w < n → Measured Link c r w (getD (s .dist) w 0)
 
 module _ (n c : ℕ) (adj : ℕ → List ℕ) (Link : ℕ → ℕ → Type 0) (small : n < far) (centre : c < n) (A : Adjacency n adj Link) where
@@ -63,7 +53,7 @@ module _ (n c : ℕ) (adj : ℕ → List ℕ) (Link : ℕ → ℕ → Type 0) (s
 
   -- ---- one level
 
-  module _ (d lo : ℕ) (s : State) (I : Inv n c Link d lo s) where
+  module _ (d lo : ℕ) (s : SearchState) (I : Inv n c Link d lo s) where
     -- the entries and the frontier before the level, the nodes that it visits, and the state after it
     abbrev D : ℕ → ℕ
     D w = getD (s .dist) w 0
@@ -74,14 +64,14 @@ module _ (n c : ℕ) (adj : ℕ → List ℕ) (Link : ℕ → ℕ → Type 0) (s
     abbrev xs : List ℕ
     xs = targets adj F
 
-    abbrev next : State
+    abbrev next : SearchState
     next = level adj (suc d) s F
 
     -- d is the distance of a node, and no distance is `far`
     d-small : d < far
     d-small =
         let a = I .early in
-        let b = I .front .within in
+        let b = I .prefix .within in
         let e = I .ready .counted in
         omega arith
 
@@ -90,7 +80,7 @@ module _ (n c : ℕ) (adj : ℕ → List ℕ) (Link : ℕ → ℕ → Type 0) (s
 
     -- the entries after the level
     next-dist : (w : ℕ) → getD (next .dist) w 0 ≡ after (suc d) (D w) (elem w xs)
-    next-dist w = ap (λ (t : State). getD (t .dist) w 0) (level-scan adj (suc d) s F) ∙ scan-dist (suc d) s xs w
+    next-dist w = ap (λ (t : SearchState). getD (t .dist) w 0) (level-scan adj (suc d) s F) ∙ scan-dist (suc d) s xs w
 
     -- a node that has been reached has a walk as long as its entry says
     walk-to : (f : ℕ) → f < n → D f ≤ d → Walk Link c f (D f)
@@ -102,7 +92,7 @@ module _ (n c : ℕ) (adj : ℕ → List ℕ) (Link : ℕ → ℕ → Type 0) (s
         let o = targets-from adj w F t in
         let f = o .0 in
         let h : f < n = below-elem n f F F-inside (o .1) in
-        let e : D f ≡ d = eqb-true (D f) d (sym (I .front .exact f h) ∙ T-true (o .1)) in
+        let e : D f ≡ d = eqb-true (D f) d (sym (I .prefix .exact f h) ∙ T-true (o .1)) in
         let p : Walk Link c f d = subst (λ (k : ℕ). Walk Link c f k) e (walk-to f h (omega arith)) in
         step p (A .joined f w h .0 (elem-occurs w (adj f) (o .2)))
 
@@ -117,11 +107,11 @@ module _ (n c : ℕ) (adj : ℕ → List ℕ) (Link : ℕ → ℕ → Type 0) (s
         P x = (x ≡ far) ⊎ (Walk Link c w x × (x ≤ suc d))
 
     -- a walk to a node that is not reached comes from the frontier
-    from-front : (w f : ℕ) → D w ≡ far → Walk Link c f d → Link f w ⊎ Link w f → T (elem w xs)
-    from-front w f e p l =
+    from-prefix : (w f : ℕ) → D w ≡ far → Walk Link c f d → Link f w ⊎ Link w f → T (elem w xs)
+    from-prefix w f e p l =
         let h : f < n = walk-inside p centre in
         to-targets adj f w F
-        (true-T (I .front .exact f h ∙ eq-eqb (D f) d (at-d h (I .least f d (le-refl d) p))))
+        (true-T (I .prefix .exact f h ∙ eq-eqb (D f) d (at-d h (I .least f d (le-refl d) p))))
         (beside f w h l)
       where
         at-d : f < n → D f ≤ d → D f ≡ d
@@ -144,7 +134,7 @@ module _ (n c : ℕ) (adj : ℕ → List ℕ) (Link : ℕ → ℕ → Type 0) (s
         last : k ≡ suc d → (f : ℕ) × Walk Link c f d × (Link f w ⊎ Link w f) → getD (next .dist) w 0 ≤ k
         last q o =
             ⊎-elim
-            (λ e. rw (next-dist w, after-new (suc d) (D w) (elem w xs) e (T-true (from-front w (o .0) e (o .1) (o .2)))) (omega arith))
+            (λ e. rw (next-dist w, after-new (suc d) (D w) (elem w xs) e (T-true (from-prefix w (o .0) e (o .1) (o .2)))) (omega arith))
             (λ a. rw (next-kept w (a .1)) (let b = a .1 in omega arith))
             (I .sound w (walk-inside p centre))
 
@@ -153,7 +143,7 @@ module _ (n c : ℕ) (adj : ℕ → List ℕ) (Link : ℕ → ℕ → Type 0) (s
     next-inv more = record {
       ready = ready-level n adj (suc d) s F (A .inside) (I .ready) F-inside suc-small;
       early = let a = I .early in omega arith;
-      front = subst (Frontier n (length (s .reached)) (suc d)) (sym (level-scan adj (suc d) s F)) (frontier-scan n (length (s .reached)) (suc d) s xs (frontier-none n (suc d) s unused));
+      prefix = subst (Frontier n (length (s .reached)) (suc d)) (sym (level-scan adj (suc d) s F)) (frontier-scan n (length (s .reached)) (suc d) s xs (frontier-none n (suc d) s unused));
       sound = next-sound;
       least = next-least;
     }
@@ -186,7 +176,7 @@ module _ (n c : ℕ) (adj : ℕ → List ℕ) (Link : ℕ → ℕ → Type 0) (s
         (rw q centre, omega arith, a)
     closed none (step {w = f} {x = w} p l) q =
         let i = closed none p q in
-        let ne = frontier-empty n lo d s (I .front) none f (i .0) in
+        let ne = frontier-empty n lo d s (I .prefix) none f (i .0) in
         let lt : D f < d = omega arith in
         let a = I .least w (suc (D f)) lt (step (walk-to f (i .0) (i .1)) l) in
         (beside-inside f w (i .0) l, omega arith, omega arith)
@@ -201,7 +191,7 @@ module _ (n c : ℕ) (adj : ℕ → List ℕ) (Link : ℕ → ℕ → Type 0) (s
   -- ---- all levels
 
   -- by induction on the levels that are left
-  levels-done : (r d lo : ℕ) (s : State) → Inv n c Link d lo s → Done n c Link (d + r) (levels adj r d lo s)
+  levels-done : (r d lo : ℕ) (s : SearchState) → Inv n c Link d lo s → Done n c Link (d + r) (levels adj r d lo s)
   unfolding levels
   levels-done zero d lo s I = rw add-zero (done-here d lo s I)
   levels-done (suc r) d lo s I = ⊎-elim
@@ -234,7 +224,7 @@ module _ (n c : ℕ) (adj : ℕ → List ℕ) (Link : ℕ → ℕ → Type 0) (s
   start-inv = record {
     ready = ready-start n c centre;
     early = zero-le;
-    front = record { within = zero-le; exact = start-cases (λ (w x : ℕ). elem w (start n c .reached) ≡ eqb x 0) (start-reached c ∙ eq-eqb c c refl) (λ w e. start-reached w ∙ ne-eqb c w e) };
+    prefix = record { within = zero-le; exact = start-cases (λ (w x : ℕ). elem w (start n c .reached) ≡ eqb x 0) (start-reached c ∙ eq-eqb c c refl) (λ w e. start-reached w ∙ ne-eqb c w e) };
     sound = start-cases (λ (w x : ℕ). (x ≡ far) ⊎ (Walk Link c w x × (x ≤ 0))) (inr (stay, zero-le)) (λ w e. inl refl);
     least = λ w k h p. let e = walk-none p (omega arith) in rw (e, start-centre) zero-le;
   }
@@ -250,5 +240,5 @@ module _ (n c : ℕ) (adj : ℕ → List ℕ) (Link : ℕ → ℕ → Type 0) (s
   bfs-measured r = search-done r .measured
 
   -- it leaves an entry for each node, and counts the nodes that it reaches
-  pub bfs-ready : (r : ℕ) → Ready n (bfs adj n c r)
+  pub bfs-ready : (r : ℕ) → SearchReady n (bfs adj n c r)
   bfs-ready r = search-done r .ready

@@ -1,28 +1,11 @@
 -- What a list of visits makes of the entries and of the frontier of a breadth-first search. Assumes nothing.
-use mathlib.Core.Bool.{Bool, true, false, _||_, cond, or-true, or-false}
-use mathlib.Core.List.{List, [], _∷_, _++_}
-use mathlib.Core.Logic.{_⊎_, _↔_, inl, inr, ⊎-elim}
-use mathlib.Core.Path.{_≡_, refl, sym, ap, _∙_, subst}
-use Prim.Native.Nat.{ℕ, _≤_, _<_}
-use native.Mathlib.Nat.{le-refl}
-use native.Mathlib.Omega.{arith}
-use borrow.Author.Tests.{ltb-true, ltb-false, eq-eqb, ne-eqb, eqb-true, eqb-false}
-use lib.Dec.{T, eqb, ltb, eqb→eq, eqb-refl}
-use lib.ListN.{length, getD, drop, set, length-append, List·getD-eq-default, drop-of-length-le}
-use lib.Seq.{drop-length, drop-append-le, getD-set-same, getD-set-other}
+use Rattle.base_lists.specs.Kit.{_≡_, _∙_, sym, ap, refl, subst, _↔_, ⊎-elim, _⊎_, inl, inr, Bool, false, true, cond, _||_, or-false, or-true, List, [], _∷_, _++_, ℕ, _≤_, _<_, le-refl, T, eqb, eqb→eq, eqb-refl, length, getD, drop, set, length-append, List·getD-eq-default, drop-of-length-le, getD-set-other, getD-set-same, drop-length, drop-append-le, arith, eq-eqb, ne-eqb, eqb-true, eqb-false}
 use Rattle.base_lists.specs.List.{any, Below}
-use Rattle.base_lists.proofs.Tests.{either-left, either-right, either-cases, any-at, at-any, true-T}
+use Rattle.base_lists.proofs.Tests.{either-left, either-right, either-cases, any-at, at-any, true-T, lt-or-le}
 use Rattle.graph.specs.Search.{far}
 use Rattle.base_lists.specs.List.{Occurs}
-use Rattle.graph.specs.Bfs.{State, visit, scan, level}
+use Rattle.graph.specs.Bfs.{SearchState, visit, scan, level}
 use Rattle.graph.proofs.BfsSteps.{visit-cases, scan-append}
-
-pub lt-or-le : (a b : ℕ) → (a < b) ⊎ (b ≤ a)
-lt-or-le a b = go (ltb a b) refl
-  where
-    go : (t : Bool) → ltb a b ≡ t → (a < b) ⊎ (b ≤ a)
-    go true e = inl (ltb-true a b e)
-    go false e = inr (ltb-false a b e)
 
 -- ---- membership, as a test
 
@@ -73,7 +56,7 @@ pub targets : (ℕ → List ℕ) → List ℕ → List ℕ
 targets adj [] = []
 targets adj (v ∷ vs) = adj v ++ targets adj vs
 
-pub level-scan : (adj : ℕ → List ℕ) (d : ℕ) (s : State) (vs : List ℕ) → level adj d s vs ≡ scan d s (targets adj vs)
+pub level-scan : (adj : ℕ → List ℕ) (d : ℕ) (s : SearchState) (vs : List ℕ) → level adj d s vs ≡ scan d s (targets adj vs)
 unfolding level scan targets
 level-scan adj d s [] = refl
 level-scan adj d s (v ∷ vs) = level-scan adj d (scan d s (adj v)) vs ∙ sym (scan-append d s (adj v) (targets adj vs))
@@ -142,9 +125,9 @@ after-old d x b e = after-cases (λ (y : ℕ). y ≡ x) d x b (λ h _. absurd (e
 far-inside : (xs : List ℕ) (v : ℕ) → getD xs v 0 ≡ far → v < length xs
 far-inside xs v e = ⊎-elim (λ h. h) (λ h. let z = List·getD-eq-default xs 0 h in omega arith) (lt-or-le v (length xs))
 
-visit-dist : (d : ℕ) (s : State) (v w : ℕ) → getD (visit d s v .dist) w 0 ≡ after d (getD (s .dist) w 0) (eqb v w)
+visit-dist : (d : ℕ) (s : SearchState) (v w : ℕ) → getD (visit d s v .dist) w 0 ≡ after d (getD (s .dist) w 0) (eqb v w)
 unfolding after
-visit-dist d s v w = visit-cases (λ (t : State). getD (t .dist) w 0 ≡ after d (getD (s .dist) w 0) (eqb v w)) d s v (λ e. new e (eqb v w) refl) (λ e. old e (eqb v w) refl)
+visit-dist d s v w = visit-cases (λ (t : SearchState). getD (t .dist) w 0 ≡ after d (getD (s .dist) w 0) (eqb v w)) d s v (λ e. new e (eqb v w) refl) (λ e. old e (eqb v w) refl)
   where
     new : getD (s .dist) v 0 ≡ far → (b : Bool) → eqb v w ≡ b → getD (set (s .dist) v d) w 0 ≡ after d (getD (s .dist) w 0) b
     new e true q =
@@ -158,7 +141,7 @@ visit-dist d s v w = visit-cases (λ (t : State). getD (t .dist) w 0 ≡ after d
         rw (← p, ne-eqb (getD (s .dist) v 0) far e)
     old e false q = refl
 
-pub scan-dist : (d : ℕ) (s : State) (vs : List ℕ) (w : ℕ) → getD (scan d s vs .dist) w 0 ≡ after d (getD (s .dist) w 0) (elem w vs)
+pub scan-dist : (d : ℕ) (s : SearchState) (vs : List ℕ) (w : ℕ) → getD (scan d s vs .dist) w 0 ≡ after d (getD (s .dist) w 0) (elem w vs)
 unfolding scan after elem any
 scan-dist d s [] w = refl
 scan-dist d s (v ∷ vs) w =
@@ -169,19 +152,19 @@ scan-dist d s (v ∷ vs) w =
 -- ---- the frontier
 
 -- past the first m nodes reached stand those at distance d
-pub record Frontier (n m d : ℕ) (s : State) : Type 0 where
+pub record Frontier (n m d : ℕ) (s : SearchState) : Type 0 where
   pub within : m ≤ length (s .reached)
   pub exact : (w : ℕ) → w < n → elem w (drop m (s .reached)) ≡ eqb (getD (s .dist) w 0) d
 
 -- no node at distance d is reached yet
-pub frontier-none : (n d : ℕ) (s : State) → ((w : ℕ) → w < n → getD (s .dist) w 0 ≡ d → ⊥) → Frontier n (length (s .reached)) d s
+pub frontier-none : (n d : ℕ) (s : SearchState) → ((w : ℕ) → w < n → getD (s .dist) w 0 ≡ d → ⊥) → Frontier n (length (s .reached)) d s
 frontier-none n d s f = record { within = le-refl _; exact = λ w h. ap (elem w) (drop-length (s .reached)) ∙ elem-nil w ∙ sym (ne-eqb (getD (s .dist) w 0) d (f w h)) }
 
 -- where the frontier is empty, no node is at distance d
-pub frontier-empty : (n m d : ℕ) (s : State) → Frontier n m d s → length (s .reached) ≤ m → (w : ℕ) → w < n → getD (s .dist) w 0 ≡ d → ⊥
+pub frontier-empty : (n m d : ℕ) (s : SearchState) → Frontier n m d s → length (s .reached) ≤ m → (w : ℕ) → w < n → getD (s .dist) w 0 ≡ d → ⊥
 frontier-empty n m d s f l w h = eqb-false (getD (s .dist) w 0) d (sym (f .exact w h) ∙ ap (elem w) (drop-of-length-le (s .reached) l) ∙ elem-nil w)
 
-frontier-visit : (n m d : ℕ) (s : State) (v : ℕ) → Frontier n m d s → Frontier n m d (visit d s v)
+frontier-visit : (n m d : ℕ) (s : SearchState) (v : ℕ) → Frontier n m d s → Frontier n m d (visit d s v)
 frontier-visit n m d s v f = visit-cases (Frontier n m d) d s v (λ e. record { within = longer; exact = λ w h. joined w ∙ new e w h (eqb v w) refl }) (λ _. f)
   where
     longer : m ≤ length (s .reached ++ (v ∷ []))
@@ -199,7 +182,7 @@ frontier-visit n m d s v f = visit-cases (Frontier n m d) d s v (λ e. record { 
         ∙ f .exact w h
         ∙ ap (λ (x : ℕ). eqb x d) (sym (getD-set-other (s .dist) v w d 0 (λ p. eqb-false v w q (sym p))))
 
-pub frontier-scan : (n m d : ℕ) (s : State) (vs : List ℕ) → Frontier n m d s → Frontier n m d (scan d s vs)
+pub frontier-scan : (n m d : ℕ) (s : SearchState) (vs : List ℕ) → Frontier n m d s → Frontier n m d (scan d s vs)
 unfolding scan
 frontier-scan n m d s [] f = f
 frontier-scan n m d s (v ∷ vs) f = frontier-scan n m d (visit d s v) vs (frontier-visit n m d s v f)

@@ -1,20 +1,10 @@
 -- Each step of a breadth-first search keeps a state of a search, on lists and on the tables that stand for it. Assumes nothing.
-use mathlib.Core.Bool.{Bool, true, false, cond}
-use mathlib.Core.List.{List, [], _∷_, _++_, append-assoc, append-nil}
-use mathlib.Core.Path.{_≡_, refl, sym, ap, _∙_, subst}
-use Prim.Native.Nat.{ℕ, zero, suc, _+_, _-_, _≤_, _<_, suc-le-suc}
-use native.Mathlib.Nat.{le-of-suc-le-suc, not-suc-le-zero, zero-lt-suc, le-refl}
-use native.Mathlib.Numerals.{add-one}
-use native.Mathlib.Omega.{arith}
-use borrow.Author.Tests.{eq-eqb, ne-eqb, eqb-true, eqb-false}
-use lib.Dec.{eqb}
-use lib.ListN.{length, getD, take, drop, set, length-append, replicate, length-set, length-replicate, getD-replicate, drop-of-length-le}
-use lib.Seq.{drop-cons, length-take-le, take-suc-set, take-append-le, take-take, getD-take}
+use Rattle.base_lists.specs.Kit.{_≡_, _∙_, sym, ap, refl, subst, Bool, false, true, cond, List, [], _∷_, _++_, append-nil, append-assoc, ℕ, _≤_, _<_, _+_, _-_, suc, zero, suc-le-suc, not-suc-le-zero, le-refl, le-of-suc-le-suc, zero-lt-suc, add-one, eqb, length, getD, take, drop, set, length-set, length-append, replicate, drop-of-length-le, length-replicate, getD-replicate, length-take-le, drop-cons, getD-take, take-append-le, take-suc-set, arith, eq-eqb, ne-eqb, eqb-true, eqb-false}
 use Rattle.graph.specs.Net.{driven, driving}
-use Rattle.graph.specs.Bfs.{State, visit, scan, level, levels, start, adjacent, missing, Ready, stateOf, Searching, Searched, Found}
+use Rattle.graph.specs.Bfs.{SearchState, visit, scan, level, levels, start, adjacent, missing, SearchReady, stateOf, Searching, Searched, Found}
 use Rattle.base_lists.specs.List.{Below}
+use Rattle.base_lists.proofs.Entries.{below-append, below-one}
 use Rattle.graph.specs.Search.{far}
-use Rattle.graph.proofs.Below.{below-append, below-one}
 
 -- ---- how many nodes are missing
 
@@ -30,23 +20,23 @@ missing-set (x ∷ xs) (suc v) d h e l = go (eqb x far) (missing-set xs v d (le-
     go false q = q
 
 -- before anything is reached, all are missing
-missing-all : (n : ℕ) → missing (replicate n far) ≡ n
+pub missing-all : (n : ℕ) → missing (replicate n far) ≡ n
 unfolding missing
 missing-all zero = refl
 missing-all (suc n) = ap suc (missing-all n)
 
 -- ---- one visit
 
-pub visit-new : (d : ℕ) (s : State) (v : ℕ) → getD (s .dist) v 0 ≡ far → visit d s v ≡ record { dist = set (s .dist) v d; reached = s .reached ++ (v ∷ []) }
+pub visit-new : (d : ℕ) (s : SearchState) (v : ℕ) → getD (s .dist) v 0 ≡ far → visit d s v ≡ record { dist = set (s .dist) v d; reached = s .reached ++ (v ∷ []) }
 unfolding visit
 visit-new d s v e = rw (eq-eqb (getD (s .dist) v 0) far e)
 
-pub visit-old : (d : ℕ) (s : State) (v : ℕ) → (getD (s .dist) v 0 ≡ far → ⊥) → visit d s v ≡ s
+pub visit-old : (d : ℕ) (s : SearchState) (v : ℕ) → (getD (s .dist) v 0 ≡ far → ⊥) → visit d s v ≡ s
 unfolding visit
 visit-old d s v e = rw (ne-eqb (getD (s .dist) v 0) far e)
 
 -- what holds after a visit of a new node and of an old one holds after any
-pub visit-cases : (P : State → Type 0) (d : ℕ) (s : State) (v : ℕ)
+pub visit-cases : (P : SearchState → Type 0) (d : ℕ) (s : SearchState) (v : ℕ)
     → (getD (s .dist) v 0 ≡ far → P (record { dist = set (s .dist) v d; reached = s .reached ++ (v ∷ []) }))
     → ((getD (s .dist) v 0 ≡ far → ⊥) → P s)
     → P (visit d s v)
@@ -59,40 +49,40 @@ visit-cases P d s v new old = go (eqb (getD (s .dist) v 0) far) refl
 -- ---- a list of visits
 
 -- what is left of a list of visits, one visit further
-pub scan-next : (d : ℕ) (s s′ : State) (vs : List ℕ) (i : ℕ) → i < length vs → s′ ≡ visit d s (getD vs i 0)
+pub scan-next : (d : ℕ) (s s′ : SearchState) (vs : List ℕ) (i : ℕ) → i < length vs → s′ ≡ visit d s (getD vs i 0)
     → scan d s′ (drop (i + 1) vs) ≡ scan d s (drop i vs)
 unfolding scan
 scan-next d s s′ vs i h e = rw (e, add-one, drop-cons vs i 0)
 
-pub scan-end : (d : ℕ) (s : State) (vs : List ℕ) (i : ℕ) → length vs ≤ i → scan d s (drop i vs) ≡ s
+pub scan-end : (d : ℕ) (s : SearchState) (vs : List ℕ) (i : ℕ) → length vs ≤ i → scan d s (drop i vs) ≡ s
 unfolding scan
 scan-end d s vs i h = rw (drop-of-length-le vs h)
 
-pub scan-append : (d : ℕ) (s : State) (xs ys : List ℕ) → scan d s (xs ++ ys) ≡ scan d (scan d s xs) ys
+pub scan-append : (d : ℕ) (s : SearchState) (xs ys : List ℕ) → scan d s (xs ++ ys) ≡ scan d (scan d s xs) ys
 unfolding scan
 scan-append d s [] ys = refl
 scan-append d s (x ∷ xs) ys = scan-append d (visit d s x) xs ys
 
 -- the visits of what a node drives and of what drives it are those of its neighbours
-pub expanded : (d : ℕ) (s s₁ s₂ : State) (offsets links : List ℕ) (v : ℕ) (p₁ p₂ : List ℕ) → p₁ ≡ driven offsets links v → p₂ ≡ driving offsets links v
-    → s₁ ≡ scan d s p₁ → s₂ ≡ scan d s₁ p₂ → s₂ ≡ scan d s (adjacent offsets links v)
+pub expanded : (d : ℕ) (s s₁ s₂ : SearchState) (offsets targets : List ℕ) (v : ℕ) (p₁ p₂ : List ℕ) → p₁ ≡ driven offsets targets v → p₂ ≡ driving offsets targets v
+    → s₁ ≡ scan d s p₁ → s₂ ≡ scan d s₁ p₂ → s₂ ≡ scan d s (adjacent offsets targets v)
 unfolding adjacent
-expanded d s s₁ s₂ offsets links v p₁ p₂ e₁ e₂ f₁ f₂ = rw (f₂, f₁, e₁, e₂) (sym (scan-append d s (driven offsets links v) (driving offsets links v)))
+expanded d s s₁ s₂ offsets targets v p₁ p₂ e₁ e₂ f₁ f₂ = rw (f₂, f₁, e₁, e₂) (sym (scan-append d s (driven offsets targets v) (driving offsets targets v)))
 
 -- ---- a level, and levels
 
 -- what is left of a level, one node further
-pub level-next : (adj : ℕ → List ℕ) (d : ℕ) (s s′ : State) (vs : List ℕ) (i v : ℕ) → i < length vs → v ≡ getD vs i 0 → s′ ≡ scan d s (adj v)
+pub level-next : (adj : ℕ → List ℕ) (d : ℕ) (s s′ : SearchState) (vs : List ℕ) (i v : ℕ) → i < length vs → v ≡ getD vs i 0 → s′ ≡ scan d s (adj v)
     → level adj d s′ (drop (i + 1) vs) ≡ level adj d s (drop i vs)
 unfolding level
 level-next adj d s s′ vs i v h q e = rw (e, q, add-one, drop-cons vs i 0)
 
-pub level-end : (adj : ℕ → List ℕ) (d : ℕ) (s : State) (vs : List ℕ) (i : ℕ) → length vs ≤ i → level adj d s (drop i vs) ≡ s
+pub level-end : (adj : ℕ → List ℕ) (d : ℕ) (s : SearchState) (vs : List ℕ) (i : ℕ) → length vs ≤ i → level adj d s (drop i vs) ≡ s
 unfolding level
 level-end adj d s vs i h = rw (drop-of-length-le vs h)
 
 -- what is left of r levels, one level further
-pub levels-next : (adj : ℕ → List ℕ) (r d lo hi : ℕ) (s s′ : State) → d < r → hi ≡ length (s .reached) → s′ ≡ level adj (d + 1) s (drop lo (s .reached))
+pub levels-next : (adj : ℕ → List ℕ) (r d lo hi : ℕ) (s s′ : SearchState) → d < r → hi ≡ length (s .reached) → s′ ≡ level adj (d + 1) s (drop lo (s .reached))
     → levels adj (r - (d + 1)) (d + 1) hi s′ ≡ levels adj (r - d) d lo s
 unfolding levels
 levels-next adj r d lo hi s s′ h l e =
@@ -100,12 +90,12 @@ levels-next adj r d lo hi s s′ h l e =
     rw (e, l, q, add-one)
 
 -- no levels are left
-pub levels-none : (adj : ℕ → List ℕ) (r d lo : ℕ) (s : State) → r ≡ 0 → levels adj r d lo s ≡ s
+pub levels-none : (adj : ℕ → List ℕ) (r d lo : ℕ) (s : SearchState) → r ≡ 0 → levels adj r d lo s ≡ s
 unfolding levels
 levels-none adj r d lo s e = rw e
 
 -- an empty frontier leaves nothing to do
-pub levels-end : (adj : ℕ → List ℕ) (r d lo : ℕ) (s : State) → length (s .reached) ≤ lo → levels adj r d lo s ≡ s
+pub levels-end : (adj : ℕ → List ℕ) (r d lo : ℕ) (s : SearchState) → length (s .reached) ≤ lo → levels adj r d lo s ≡ s
 unfolding levels
 levels-end adj zero d lo s h = refl
 levels-end adj (suc r) d lo s h = rw (level-end adj (suc d) s (s .reached) lo h) (levels-end adj r (suc d) (length (s .reached)) s (le-refl _))
@@ -113,45 +103,45 @@ levels-end adj (suc r) d lo s h = rw (level-end adj (suc d) s (s .reached) lo h)
 -- ---- what was reached stays, in its place
 
 -- the first nodes reached are the same
-pub Extends : State → State → Type 0
+pub Extends : SearchState → SearchState → Type 0
 Extends s s′ = (new : List ℕ) × (s′ .reached ≡ s .reached ++ new)
 
-extends-refl : (s : State) → Extends s s
+extends-refl : (s : SearchState) → Extends s s
 unfolding Extends
 extends-refl s = ([], sym (append-nil (s .reached)))
 
-extends-trans : (s s′ s″ : State) → Extends s s′ → Extends s′ s″ → Extends s s″
+extends-trans : (s s′ s″ : SearchState) → Extends s s′ → Extends s′ s″ → Extends s s″
 unfolding Extends
 extends-trans s s′ s″ a b = (a .0 ++ b .0, b .1 ∙ ap (λ (l : List ℕ). l ++ b .0) (a .1) ∙ append-assoc (s .reached) (a .0) (b .0))
 
-extends-visit : (d : ℕ) (s : State) (v : ℕ) → Extends s (visit d s v)
+extends-visit : (d : ℕ) (s : SearchState) (v : ℕ) → Extends s (visit d s v)
 unfolding Extends
 extends-visit d s v = visit-cases (Extends s) d s v (λ _. (v ∷ [], refl)) (λ _. extends-refl s)
 
-pub extends-scan : (d : ℕ) (s : State) (vs : List ℕ) → Extends s (scan d s vs)
+pub extends-scan : (d : ℕ) (s : SearchState) (vs : List ℕ) → Extends s (scan d s vs)
 unfolding scan
 extends-scan d s [] = extends-refl s
 extends-scan d s (v ∷ vs) = extends-trans s (visit d s v) (scan d (visit d s v) vs) (extends-visit d s v) (extends-scan d (visit d s v) vs)
 
-pub extends-level : (adj : ℕ → List ℕ) (d : ℕ) (s : State) (vs : List ℕ) → Extends s (level adj d s vs)
+pub extends-level : (adj : ℕ → List ℕ) (d : ℕ) (s : SearchState) (vs : List ℕ) → Extends s (level adj d s vs)
 unfolding level
 extends-level adj d s [] = extends-refl s
 extends-level adj d s (v ∷ vs) =
     extends-trans s (scan d s (adj v)) (level adj d (scan d s (adj v)) vs) (extends-scan d s (adj v)) (extends-level adj d (scan d s (adj v)) vs)
 
-pub extends-length : (s s′ : State) → Extends s s′ → length (s .reached) ≤ length (s′ .reached)
+pub extends-length : (s s′ : SearchState) → Extends s s′ → length (s .reached) ≤ length (s′ .reached)
 unfolding Extends
 extends-length s s′ a = rw (a .1) (simp length-append (omega arith))
 
-pub extends-take : (m : ℕ) (s s′ : State) → Extends s s′ → m ≤ length (s .reached) → take m (s′ .reached) ≡ take m (s .reached)
+pub extends-take : (m : ℕ) (s s′ : SearchState) → Extends s s′ → m ≤ length (s .reached) → take m (s′ .reached) ≡ take m (s .reached)
 unfolding Extends
 extends-take m s s′ a h = rw (a .1) (take-append-le m (s .reached) (a .0) h)
 
 -- ---- each step keeps a state of a search
 
 module _ (n : ℕ) where
-  ready-new : (d : ℕ) (s : State) (v : ℕ) → Ready n s → v < n → d < far → getD (s .dist) v 0 ≡ far
-      → Ready n (record { dist = set (s .dist) v d; reached = s .reached ++ (v ∷ []) })
+  ready-new : (d : ℕ) (s : SearchState) (v : ℕ) → SearchReady n s → v < n → d < far → getD (s .dist) v 0 ≡ far
+      → SearchReady n (record { dist = set (s .dist) v d; reached = s .reached ++ (v ∷ []) })
   ready-new d s v k h l e = record {
     size = length-set (s .dist) v d ∙ k .size;
     counted =
@@ -162,22 +152,22 @@ module _ (n : ℕ) where
     inside = below-append n (s .reached) (v ∷ []) (k .inside) (below-one n v h);
   }
 
-  pub ready-visit : (d : ℕ) (s : State) (v : ℕ) → Ready n s → v < n → d < far → Ready n (visit d s v)
-  ready-visit d s v k h l = visit-cases (Ready n) d s v (ready-new d s v k h l) (λ _. k)
+  pub ready-visit : (d : ℕ) (s : SearchState) (v : ℕ) → SearchReady n s → v < n → d < far → SearchReady n (visit d s v)
+  ready-visit d s v k h l = visit-cases (SearchReady n) d s v (ready-new d s v k h l) (λ _. k)
 
-  pub ready-scan : (d : ℕ) (s : State) (vs : List ℕ) → Ready n s → Below n vs → d < far → Ready n (scan d s vs)
+  pub ready-scan : (d : ℕ) (s : SearchState) (vs : List ℕ) → SearchReady n s → Below n vs → d < far → SearchReady n (scan d s vs)
   unfolding scan Below
   ready-scan d s [] k b l = k
   ready-scan d s (v ∷ vs) k b l = ready-scan d (visit d s v) vs (ready-visit d s v k (b zero (zero-lt-suc _)) l) (λ i h. b (suc i) (suc-le-suc h)) l
 
-  pub ready-level : (adj : ℕ → List ℕ) (d : ℕ) (s : State) (vs : List ℕ) → ((v : ℕ) → v < n → Below n (adj v)) → Ready n s → Below n vs → d < far
-      → Ready n (level adj d s vs)
+  pub ready-level : (adj : ℕ → List ℕ) (d : ℕ) (s : SearchState) (vs : List ℕ) → ((v : ℕ) → v < n → Below n (adj v)) → SearchReady n s → Below n vs → d < far
+      → SearchReady n (level adj d s vs)
   unfolding level Below
   ready-level adj d s [] a k b l = k
   ready-level adj d s (v ∷ vs) a k b l =
       ready-level adj d (scan d s (adj v)) vs a (ready-scan d s (adj v) k (a v (b zero (zero-lt-suc _))) l) (λ i h. b (suc i) (suc-le-suc h)) l
 
-  pub ready-start : (c : ℕ) → c < n → Ready n (start n c)
+  pub ready-start : (c : ℕ) → c < n → SearchReady n (start n c)
   unfolding start Below
   ready-start c h =
       let l = length-replicate n far in
@@ -190,7 +180,7 @@ module _ (n : ℕ) where
       }
 
 -- a node that is not reached yet leaves room among the reached ones
-pub room-for : (n : ℕ) (s : State) (v : ℕ) → Ready n s → v < n → getD (s .dist) v 0 ≡ far → length (s .reached) < n
+pub room-for : (n : ℕ) (s : SearchState) (v : ℕ) → SearchReady n s → v < n → getD (s .dist) v 0 ≡ far → length (s .reached) < n
 room-for n s v k h e =
     let m = missing-set (s .dist) v 0 (rw (k .size) h) e (omega arith) in
     let c = k .counted in
@@ -266,28 +256,11 @@ started n c queue h l =
       };
     }
 
--- where one state of the tables extends another, the first nodes of the queue are the same
-pub tables-extend : (hi : ℕ) (dist queue : List ℕ) (tail : ℕ) (dist′ queue′ : List ℕ) (tail′ : ℕ) (s : State)
-    → Searching dist queue tail → Searched dist′ queue′ tail′ s → Extends (stateOf dist queue tail) s
-    → hi ≤ tail → (hi ≤ tail′) × (take hi queue′ ≡ take hi queue)
-unfolding stateOf
-tables-extend hi dist queue tail dist′ queue′ tail′ s k k′ y h =
-    let x : Extends (stateOf dist queue tail) (stateOf dist′ queue′ tail′) = rw (k′ .state) y in
-    let l = extends-length _ _ x in
-    let r = reached-length dist queue tail k in
-    let r′ = reached-length dist′ queue′ tail′ (k′ .kept) in
-    let h′ : hi ≤ tail′ = omega arith in
-    (h′, sym (take-take hi tail′ queue′ h′) ∙ extends-take hi _ _ x (omega arith) ∙ take-take hi tail queue h)
-
--- lists with the same first entries have the same entry there
-pub same-entry : (hi : ℕ) (xs ys : List ℕ) (i : ℕ) → take hi xs ≡ take hi ys → i < hi → getD xs i 0 ≡ getD (take hi ys) i 0
-same-entry hi xs ys i e h = sym (getD-take hi xs i 0 h) ∙ ap (λ (l : List ℕ). getD l i 0) e
-
 -- what the tables hold of a search
-pub found : (k : ℕ) (dist queue : List ℕ) (s : State) → Searched dist queue k s → Found k dist queue s
+pub found : (k : ℕ) (dist queue : List ℕ) (s : SearchState) → Searched dist queue k s → Found k dist queue s
 unfolding stateOf
 found k dist queue s f = record {
-  distances = ap (λ (t : State). t .dist) (f .state);
-  count = sym (reached-length dist queue k (f .kept)) ∙ ap (λ (t : State). length (t .reached)) (f .state);
-  nodes = ap (λ (t : State). t .reached) (f .state);
+  distances = ap (λ (t : SearchState). t .dist) (f .state);
+  count = sym (reached-length dist queue k (f .kept)) ∙ ap (λ (t : SearchState). length (t .reached)) (f .state);
+  nodes = ap (λ (t : SearchState). t .reached) (f .state);
 }

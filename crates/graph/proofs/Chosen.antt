@@ -1,13 +1,5 @@
 -- Choosing entries and links by a test of their index, or by a byte for each: which links the kept lists hold. Assumes nothing.
-use mathlib.Core.Bool.{Bool, true, false, cond}
-use mathlib.Core.List.{List, [], _∷_}
-use mathlib.Core.Logic.{_↔_}
-use mathlib.Core.Path.{_≡_, refl, ap, subst}
-use Prim.Native.Nat.{ℕ, zero, suc, _+_, _≤_, _<_, zero-le}
-use native.Mathlib.Nat.{add-zero, not-suc-le-zero}
-use native.Mathlib.Omega.{arith}
-use lib.Dec.{T}
-use lib.ListN.{length, getD}
+use Rattle.base_lists.specs.Kit.{_≡_, ap, refl, subst, _↔_, Bool, false, true, cond, List, [], _∷_, ℕ, _≤_, _<_, _+_, suc, zero, zero-le, not-suc-le-zero, add-zero, T, length, getD, arith}
 use Rattle.base_lists.specs.List.{Below}
 use Rattle.base_lists.specs.Below.{keepFrom}
 use Rattle.base_lists.proofs.Tests.{true-T, T-true}

@@ -1,15 +1,5 @@
 -- The distances, the radius and the test of connectedness of specs/Search are those of specs/Graph. Assumes nothing.
-use mathlib.Core.Bool.{Bool, true, false, not, cond}
-use mathlib.Core.List.{List, [], _∷_}
-use mathlib.Core.Logic.{_⊎_, inl, inr, _↔_, _≢_, ⊎-elim}
-use mathlib.Core.Path.{_≡_, refl, sym, ap, subst, _∙_}
-use Prim.Native.Nat.{ℕ, zero, suc, _+_, _-_, _≤_, _<_, zero-le}
-use native.Mathlib.Nat.{le-refl, le-trans, le-antisymm, zero-add, lt-of-not-le, not-le-of-lt}
-use native.Mathlib.Omega.{arith}
-use lib.Dec.{T, eqb, lit<}
-use borrow.Author.Tests.{eq-eqb, ne-eqb}
-use lib.ListN.{length, getD}
-use lib.Seq.{ext-getD}
+use Rattle.base_lists.specs.Kit.{_≡_, _∙_, sym, ap, refl, subst, _↔_, ⊎-elim, _⊎_, inl, inr, _≢_, Bool, false, true, cond, not, List, [], _∷_, ℕ, _≤_, _<_, _+_, _-_, suc, zero, zero-le, le-refl, le-trans, zero-add, le-antisymm, lt-of-not-le, not-le-of-lt, T, eqb, lit<, length, getD, ext-getD, arith, eq-eqb, ne-eqb}
 use Rattle.base_lists.specs.List.{all, tabulate, maximum}
 use Rattle.base_lists.proofs.Tests.{T-true, T-false, decide, all-at, at-all}
 use Rattle.base_lists.proofs.Tables.{length-tabulate, getD-tabulate, is-tabulate}
@@ -17,7 +7,7 @@ use Rattle.base_lists.proofs.Rows.{getD-le-maximum, maximum-attained, rule-le-m
 use Rattle.graph.specs.Graph.{Graph, Walk, Distance, InBall, Ball, DistanceEntry, Connected, Radius}
 use Rattle.graph.specs.Circuit.{HasLink, graphOf}
 use Rattle.graph.specs.Search.{far, beside, inside, ball, misses, distances, connected, radius}
-use Rattle.graph.proofs.Walks.{recount, reverse, append, distance-unique}
+use Rattle.graph.proofs.Walks.{walk-recount, walk-reverse, walk-append, distance-unique}
 use Rattle.graph.proofs.Ball.{Within, within-all, length-ball, ball-entry, inside-node, inside-centre, inside-mono, ball-walk, walk-node, walk-ball, walk-final}
 
 -- ---- the first ball that has a node
@@ -93,7 +83,7 @@ module _ {n : ℕ} {ss es : List ℕ} (links : Within n ss es) where
       let h : c < n = inside-centre n ss es c d v (p .has) in
       let first : (k : ℕ) → Walk (HasLink ss es) c v k → d ≤ k = λ k q. p .least k (walk-ball links c h q k (le-refl k)) in
       let (k, l, q) = ball-walk n ss es c d v (p .has) in
-      record { walk = recount (le-antisymm l (first k q)) q; shortest = first }
+      record { walk = walk-recount (le-antisymm l (first k q)) q; shortest = first }
 
   -- In the ball at radius r, the distance is the number of misses.
   pub inside-distance : (c r v : ℕ) → T (inside (ball n ss es c r) v) → Distance (graphOf n ss es) c v (misses n ss es c r v) × (misses n ss es c r v ≤ r)
@@ -108,14 +98,14 @@ module _ {n : ℕ} {ss es : List ℕ} (links : Within n ss es) where
 
   -- A walk to a node outside the ball at radius r is longer than r.
   pub outside-walk : (c r v : ℕ) → v < n → (T (inside (ball n ss es c r) v) → ⊥) → (k : ℕ) → Walk (HasLink ss es) c v k → r < k
-  outside-walk c r v h f k p = lt-of-not-le (λ l. f (walk-ball links c (walk-node links (reverse p) h) p r l))
+  outside-walk c r v h f k p = lt-of-not-le (λ l. f (walk-ball links c (walk-node links (walk-reverse p) h) p r l))
 
   -- distance at most r and in the ball at radius r are one
   pub inBall-iff : (c r v : ℕ) → T (inside (ball n ss es c r) v) ↔ InBall (graphOf n ss es) c r v
   unfolding InBall graphOf
   inBall-iff c r v = (
     λ t. (inside-node n ss es c r v t, (misses n ss es c r v, inside-distance c r v t .0, inside-distance c r v t .1)),
-    λ (h, (d, p, l)). distance-inside c r v d (walk-node links (reverse (p .walk)) h) p l,
+    λ (h, (d, p, l)). distance-inside c r v d (walk-node links (walk-reverse (p .walk)) h) p l,
   )
 
   -- A distance is below the number of nodes,
@@ -213,7 +203,7 @@ unfolding Connected graphOf
 connected-joins n ss es t v w nv nw =
     let (k, _, p) = ball-walk n ss es zero n v (connected-inside n ss es t v nv) in
     let (m, _, q) = ball-walk n ss es zero n w (connected-inside n ss es t w nw) in
-    (m + k, append (reverse p) q)
+    (m + k, walk-append (walk-reverse p) q)
 
 module _ {n : ℕ} {ss es : List ℕ} (links : Within n ss es) where
   -- a walk of any length leads into the ball at radius n
@@ -233,11 +223,11 @@ eccentricity n ss es c = maximum (distances n ss es c n)
 
 -- the entries of the rows of distances are at most the radius, and one of them is the radius
 module _ (n : ℕ) (ss es : List ℕ) where
-  entry-le-radius : (c v : ℕ) → c < n → getD (distances n ss es c n) v 0 ≤ radius n ss es
+  pub entry-le-radius : (c v : ℕ) → c < n → getD (distances n ss es c n) v 0 ≤ radius n ss es
   unfolding radius
   entry-le-radius c v h = le-trans (getD-le-maximum (distances n ss es c n) v) (rule-le-maximum n (eccentricity n ss es) c h)
 
-  entry-radius : zero < n → (c : ℕ) × (v : ℕ) × (c < n) × (v < n) × (getD (distances n ss es c n) v 0 ≡ radius n ss es)
+  pub entry-radius : zero < n → (c : ℕ) × (v : ℕ) × (c < n) × (v < n) × (getD (distances n ss es c n) v 0 ≡ radius n ss es)
   unfolding radius
   entry-radius h =
       let (c, hc, e) = rule-maximum-attained n (eccentricity n ss es) h in

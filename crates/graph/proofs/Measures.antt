@@ -1,9 +1,5 @@
 -- What the search finds over the neighbour tables of a circuit are the distances. Assumes nothing.
-use mathlib.Core.List.{List}
-use mathlib.Core.Logic.{inl, inr}
-use mathlib.Core.Path.{_≡_}
-use Prim.Native.Nat.{ℕ, _<_}
-use native.Mathlib.Omega.{arith}
+use Rattle.base_lists.specs.Kit.{_≡_, inl, inr, List, ℕ, _<_, arith}
 use Rattle.graph.specs.Bfs.{Adjacency, Measured, bfs, adjacent}
 use Rattle.graph.specs.Circuit.{HasLink, graphOf}
 use Rattle.graph.specs.Net.{NetOf}

@@ -1,23 +1,15 @@
 -- Laws of neighbour tables that are handed on as two lists: what filling them leaves, and what a caller may take from them. Assumes nothing.
-use mathlib.Core.List.{List, _++_}
-use mathlib.Core.Logic.{_⊎_, _↔_, inl, inr, ⊎-elim}
-use mathlib.Core.Path.{_≡_, sym, subst, _∙_}
-use Prim.Native.Nat.{ℕ, suc, _≤_, _<_}
-use native.Mathlib.Nat.{le-refl}
-use native.Mathlib.Omega.{arith}
-use lib.Dec.{T, ltb, lt→ltb}
-use lib.ListN.{length, getD, length-append}
-use lib.Seq.{getD-take}
+use Rattle.base_lists.specs.Kit.{_≡_, _∙_, sym, subst, _↔_, ⊎-elim, _⊎_, inl, inr, List, _++_, ℕ, _≤_, _<_, suc, le-refl, T, ltb, lt→ltb, length, getD, length-append, getD-take, arith}
 use Rattle.base_lists.specs.List.{all, part, Occurs, Below}
 use Rattle.base_lists.proofs.Parts.{length-part-le, halved, part-first, part-second, length-halved}
 use Rattle.base_lists.proofs.Tests.{at-all}
+use Rattle.base_lists.proofs.Entries.{below-append, all-below-at}
 use Rattle.graph.specs.Bfs.{adjacent, Adjacency}
 use Rattle.graph.specs.Circuit.{HasLink}
-use Rattle.graph.specs.Neighbours.{select, offsetsOf, grouped, stretch}
+use Rattle.graph.specs.Neighbours.{select, offsetsOf, groupedValues, stretch}
 use Rattle.graph.specs.Net.{NetRoom, driven, driving, Stretches, Net, NetOf}
-use Rattle.graph.proofs.Below.{below-append}
 use Rattle.graph.proofs.BfsScan.{occurs-append}
-use Rattle.graph.proofs.Groups.{key-below, below-mono, below-all, length-groups, length-offsets, offset-at, stretch-select, select-link, select-mem, select-mem-back}
+use Rattle.graph.proofs.Groups.{below-mono, below-all, length-groups, length-offsets, offset-at, stretch-select, select-link, select-mem, select-mem-back}
 use Rattle.graph.proofs.Lookup.{Sound}
 
 -- ---- tables that grouping has filled
@@ -27,15 +19,15 @@ pub select-below : (n : ℕ) (keys values : List ℕ) (v : ℕ) → T (all (λ x
 unfolding Below
 select-below n keys values v b j h =
     let (i, l) = select-link keys values v j h in
-    subst (λ (x : ℕ). x < n) (l .end) (key-below n values i b (l .inEnds))
+    subst (λ (x : ℕ). x < n) (l .end) (all-below-at n values i b (l .inEnds))
 
 -- Offsets and links grouped by their keys, with anything behind them, have a stretch for each node.
 pub filled : (n : ℕ) (keys values xs ys : List ℕ) → length keys ≡ length values → T (all (λ x. ltb x n) values)
-    → Stretches n (offsetsOf n keys ++ xs) (grouped n keys values ++ ys)
+    → Stretches n (offsetsOf n keys ++ xs) (groupedValues n keys values ++ ys)
 filled n keys values xs ys e b = record {
   held = omega (arith, length-append (offsetsOf n keys) xs, length-offsets n keys);
   rising = λ v h. rw (offset-at n keys xs v (omega arith), offset-at n keys xs (suc v) h) (below-mono keys v (suc v) (omega arith));
-  within = λ v h. rw (offset-at n keys xs (suc v) h) (omega (arith, length-append (grouped n keys values) ys, length-groups n keys values e, below-mono keys (suc v) n h));
+  within = λ v h. rw (offset-at n keys xs (suc v) h) (omega (arith, length-append (groupedValues n keys values) ys, length-groups n keys values e, below-mono keys (suc v) n h));
   nodes = λ v h. subst (Below n) (sym (stretch-select n keys values xs ys v e h)) (select-below n keys values v b);
 }
 
@@ -44,16 +36,16 @@ module _ (n : ℕ) (starts ends fo fl bo bl xs ys xs′ ys′ offsets links : Li
     (room : NetRoom offsets links)
     (inFo : length fo ≡ 513) (inFl : length fl ≡ 4096) (inBo : length bo ≡ 513) (inBl : length bl ≡ 4096)
     (parallel : length starts ≡ length ends) (inStarts : T (all (λ v. ltb v n) starts)) (inEnds : T (all (λ v. ltb v n) ends)) where
-  filled-forward : fo ≡ offsetsOf n starts ++ xs → fl ≡ grouped n starts ends ++ ys
+  filled-forward : fo ≡ offsetsOf n starts ++ xs → fl ≡ groupedValues n starts ends ++ ys
       → Stretches n fo fl × ((v : ℕ) → v < n → stretch fo fl v ≡ select starts ends v)
   filled-forward e f = (rw (e, f) (filled n starts ends xs ys parallel inEnds), λ v h. rw (e, f) (stretch-select n starts ends xs ys v parallel h))
 
-  filled-backward : bo ≡ offsetsOf n ends ++ xs′ → bl ≡ grouped n ends starts ++ ys′
+  filled-backward : bo ≡ offsetsOf n ends ++ xs′ → bl ≡ groupedValues n ends starts ++ ys′
       → Stretches n bo bl × ((v : ℕ) → v < n → stretch bo bl v ≡ select ends starts v)
   filled-backward e f = (rw (e, f) (filled n ends starts xs′ ys′ (sym parallel) inStarts), λ v h. rw (e, f) (stretch-select n ends starts xs′ ys′ v (sym parallel) h))
 
   pub filled-net :
-      fo ≡ offsetsOf n starts ++ xs → fl ≡ grouped n starts ends ++ ys → bo ≡ offsetsOf n ends ++ xs′ → bl ≡ grouped n ends starts ++ ys′
+      fo ≡ offsetsOf n starts ++ xs → fl ≡ groupedValues n starts ends ++ ys → bo ≡ offsetsOf n ends ++ xs′ → bl ≡ groupedValues n ends starts ++ ys′
       → NetOf n starts ends (halved 513 fo bo offsets) (halved 4096 fl bl links)
   unfolding driven driving
   filled-net e f e′ f′ =
@@ -66,7 +58,7 @@ module _ (n : ℕ) (starts ends fo fl bo bl xs ys xs′ ys′ offsets links : Li
       record {
         room = record {
           inOffsets = length-halved 513 fo bo offsets inFo inBo (omega (arith, room .inOffsets)) ∙ room .inOffsets;
-          inLinks = length-halved 4096 fl bl links inFl inBl (omega (arith, room .inLinks)) ∙ room .inLinks;
+          inTargets = length-halved 4096 fl bl links inFl inBl (omega (arith, room .inTargets)) ∙ room .inTargets;
         };
         forward = rw (a, b) (there .0);
         backward = rw (a′, b′) (back .0);

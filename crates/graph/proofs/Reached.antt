@@ -1,52 +1,28 @@
 -- The list of the nodes that a search has reached agrees with the entries: it has each node whose entry is not `far`, and each once.
 -- Assumes nothing.
-use mathlib.Core.Bool.{Bool, true, false}
-use mathlib.Core.List.{List, [], _∷_, _++_}
-use mathlib.Core.Logic.{_⊎_, inl, inr, ⊎-elim}
-use mathlib.Core.Path.{_≡_, refl, sym, ap, _∙_, subst}
-use Prim.Native.Nat.{ℕ, zero, suc, _+_, _≤_, _<_, zero-le, suc-le-suc}
-use native.Mathlib.Nat.{le-refl, zero-lt-suc, not-suc-le-zero, le-of-suc-le-suc}
-use native.Mathlib.Omega.{arith}
-use borrow.Author.Tests.{eqb-true, eqb-false}
-use lib.Dec.{eqb}
-use lib.ListN.{length, getD, drop, set, replicate, length-append, length-replicate, getD-replicate, List·getD-append}
-use lib.Seq.{getD-set-same, getD-set-other, getD-append-seam}
+use Rattle.base_lists.specs.Kit.{_≡_, _∙_, sym, ap, refl, subst, ⊎-elim, _⊎_, inl, inr, List, [], _∷_, _++_, ℕ, _≤_, _<_, _+_, suc, zero, zero-le, suc-le-suc, le-refl, zero-lt-suc, length, getD, drop, set, length-append, replicate, length-replicate, getD-replicate, List·getD-append, getD-set-other, getD-set-same, getD-append-seam, arith}
 use Rattle.base_lists.specs.List.{Occurs, Below}
+use Rattle.base_lists.proofs.Entries.{occurs-one, one-occurs, below-drop}
+use Rattle.base_lists.proofs.Tests.{lt-or-le, eq-or-not}
 use Rattle.graph.specs.Search.{far}
-use Rattle.graph.specs.Bfs.{State, visit, scan, level, levels, start, bfs, Ready}
-use Rattle.graph.proofs.Below.{below-drop}
+use Rattle.graph.specs.Bfs.{SearchState, visit, scan, level, levels, start, bfs, SearchReady}
 use Rattle.graph.proofs.BfsSteps.{visit-cases, levels-end, ready-visit, ready-scan, ready-level, ready-start, extends-level, extends-length}
-use Rattle.graph.proofs.BfsScan.{lt-or-le, occurs-append}
+use Rattle.graph.proofs.BfsScan.{occurs-append}
 
 -- a node has been reached: its entry is not `far`
-abbrev pub Near : State → ℕ → Type 0
+abbrev pub Near : SearchState → ℕ → Type 0
 Near s v = getD (s .dist) v 0 ≡ far → ⊥
 
-pub record Listed (n : ℕ) (s : State) : Type 0 where
+pub record Listed (n : ℕ) (s : SearchState) : Type 0 where
   pub near : (v : ℕ) → Occurs (s .reached) v → Near s v
   pub complete : (v : ℕ) → v < n → Near s v → Occurs (s .reached) v
   pub distinct : (i j : ℕ) → i < j → j < length (s .reached) → getD (s .reached) i 0 ≡ getD (s .reached) j 0 → ⊥
 
--- a list of one has that one
-occurs-one : (v w : ℕ) → Occurs (v ∷ []) w → v ≡ w
-occurs-one v w (zero, h, e) = e
-occurs-one v w (suc i, h, e) = absurd (not-suc-le-zero (le-of-suc-le-suc h))
-
-one-occurs : (v : ℕ) → Occurs (v ∷ []) v
-one-occurs v = (zero, zero-lt-suc _, refl)
-
-same-or-not : (v w : ℕ) → (v ≡ w) ⊎ (v ≡ w → ⊥)
-same-or-not v w = go (eqb v w) refl
-  where
-    go : (b : Bool) → eqb v w ≡ b → (v ≡ w) ⊎ (v ≡ w → ⊥)
-    go true e = inl (eqb-true v w e)
-    go false e = inr (eqb-false v w e)
-
 module _ (n : ℕ) where
   -- ---- a visit of a node that is not reached yet
 
-  module _ (d : ℕ) (s : State) (v : ℕ) (k : Ready n s) (l : Listed n s) (h : v < n) (small : d < far) (e : getD (s .dist) v 0 ≡ far) where
-    abbrev next : State
+  module _ (d : ℕ) (s : SearchState) (v : ℕ) (k : SearchReady n s) (l : Listed n s) (h : v < n) (small : d < far) (e : getD (s .dist) v 0 ≡ far) where
+    abbrev next : SearchState
     next = record { dist = set (s .dist) v d; reached = s .reached ++ (v ∷ []) }
 
     at-v : (w : ℕ) → v ≡ w → getD (next .dist) w 0 ≡ d
@@ -72,7 +48,7 @@ module _ (n : ℕ) where
         (⊎-elim
         (λ q. inr (subst (Occurs (v ∷ [])) q (one-occurs v)))
         (λ g. inl (l .complete w m (λ q. f (elsewhere w g ∙ q))))
-        (same-or-not v w))
+        (eq-or-not v w))
 
     next-distinct : (i j : ℕ) → i < j → j < length (next .reached) → getD (next .reached) i 0 ≡ getD (next .reached) j 0 → ⊥
     next-distinct i j a b q =
@@ -95,17 +71,17 @@ module _ (n : ℕ) where
 
   -- ---- each step keeps the agreement
 
-  listed-visit : (d : ℕ) (s : State) (v : ℕ) → Ready n s → Listed n s → v < n → d < far → Listed n (visit d s v)
+  listed-visit : (d : ℕ) (s : SearchState) (v : ℕ) → SearchReady n s → Listed n s → v < n → d < far → Listed n (visit d s v)
   listed-visit d s v k l h small = visit-cases (Listed n) d s v (listed-new d s v k l h small) (λ _. l)
 
-  pub listed-scan : (d : ℕ) (s : State) (vs : List ℕ) → Ready n s → Listed n s → Below n vs → d < far → Listed n (scan d s vs)
+  pub listed-scan : (d : ℕ) (s : SearchState) (vs : List ℕ) → SearchReady n s → Listed n s → Below n vs → d < far → Listed n (scan d s vs)
   unfolding scan Below
   listed-scan d s [] k l b small = l
   listed-scan d s (v ∷ vs) k l b small =
       let h : v < n = b zero (zero-lt-suc _) in
       listed-scan d (visit d s v) vs (ready-visit n d s v k h small) (listed-visit d s v k l h small) (λ i m. b (suc i) (suc-le-suc m)) small
 
-  listed-level : (adj : ℕ → List ℕ) (d : ℕ) (s : State) (vs : List ℕ) → ((v : ℕ) → v < n → Below n (adj v)) → Ready n s → Listed n s → Below n vs → d < far
+  listed-level : (adj : ℕ → List ℕ) (d : ℕ) (s : SearchState) (vs : List ℕ) → ((v : ℕ) → v < n → Below n (adj v)) → SearchReady n s → Listed n s → Below n vs → d < far
       → Listed n (level adj d s vs)
   unfolding level Below
   listed-level adj d s [] a k l b small = l
@@ -114,7 +90,7 @@ module _ (n : ℕ) where
       listed-level adj d (scan d s (adj v)) vs a (ready-scan n d s (adj v) k c small) (listed-scan d s (adj v) k l c small) (λ i m. b (suc i) (suc-le-suc m)) small
 
   -- each level that is not the last reaches a node, so that no distance comes to `far`
-  listed-levels : (adj : ℕ → List ℕ) (r d lo : ℕ) (s : State) → n < far → ((v : ℕ) → v < n → Below n (adj v)) → Ready n s → Listed n s → d ≤ lo
+  listed-levels : (adj : ℕ → List ℕ) (r d lo : ℕ) (s : SearchState) → n < far → ((v : ℕ) → v < n → Below n (adj v)) → SearchReady n s → Listed n s → d ≤ lo
       → lo ≤ length (s .reached) → Listed n (levels adj r d lo s)
   unfolding levels
   listed-levels adj zero d lo s few a k l early within = l
@@ -136,7 +112,7 @@ module _ (n : ℕ) where
   listed-start c h =
       record {
         near = λ v o q. let z = here v (occurs-one c v o) in omega arith;
-        complete = λ v m f. ⊎-elim (λ q. subst (Occurs (c ∷ [])) q (one-occurs c)) (λ g. absurd (f (there v m g))) (same-or-not c v);
+        complete = λ v m f. ⊎-elim (λ q. subst (Occurs (c ∷ [])) q (one-occurs c)) (λ g. absurd (f (there v m g))) (eq-or-not c v);
         distinct = λ i j a b q. omega arith;
       }
     where

@@ -1,11 +1,5 @@
 -- Links in strictly rising order are determined by which links there are. Assumes nothing.
-use mathlib.Core.List.{List, [], _∷_}
-use mathlib.Core.Logic.{_⊎_, inl, inr}
-use mathlib.Core.Path.{_≡_, refl, sym, ap₂, subst, _∙_}
-use Prim.Native.Nat.{ℕ, zero, suc, _<_, suc-le-suc}
-use native.Mathlib.Nat.{not-suc-le-zero, zero-lt-suc}
-use native.Mathlib.Omega.{arith}
-use lib.ListN.{length, getD}
+use Rattle.base_lists.specs.Kit.{_≡_, _∙_, sym, refl, subst, ap₂, _⊎_, inl, inr, List, [], _∷_, ℕ, _<_, suc, zero, suc-le-suc, not-suc-le-zero, zero-lt-suc, length, getD, arith}
 use Rattle.graph.specs.Circuit.{LinkAt, HasLink}
 use Rattle.graph.specs.Rising.{LinksRise}
 use Rattle.graph.proofs.Ball.{link-later, link-earlier, link-first}
@@ -54,7 +48,7 @@ module _ (s e : ℕ) (ss es : List ℕ) where
         subst (λ (x : ℕ). Before s e x w) (l .1 .start)
         (subst (λ (y : ℕ). Before s e (getD ss (l .0) 0) y) (l .1 .end) (rise zero (suc (l .0)) (zero-lt-suc _) (suc-le-suc (l .1 .inStarts))))
 
-no-link : (v w : ℕ) → HasLink [] [] v w → ⊥
+pub no-link : (v w : ℕ) → HasLink [] [] v w → ⊥
 unfolding HasLink
 no-link v w l = not-suc-le-zero (l .1 .inStarts)
 

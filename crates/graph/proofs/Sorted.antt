@@ -1,20 +1,10 @@
 -- Where starts do not fall, a node's links are a stretch of the file's order, the one that its two offsets bound; and the forward link table has
 -- the ends in the file's order. Assumes nothing.
-use mathlib.Core.Bool.{Bool, true, false, cond}
-use mathlib.Core.List.{List, [], _∷_}
-use mathlib.Core.Logic.{_↔_, ⊎-elim}
-use mathlib.Core.Path.{_≡_, refl, sym, ap, _∙_}
-use Prim.Native.Nat.{ℕ, zero, suc, _+_, _-_, _≤_, _<_, suc-le-suc}
-use native.Mathlib.Nat.{not-suc-le-zero, le-of-suc-le-suc, zero-lt-suc, suc-inj, le-of-eq}
-use native.Mathlib.Omega.{arith}
-use borrow.Author.Tests.{eq-eqb, ne-eqb, ltb-true, ltb-false, lt-ltb, le-ltb}
-use lib.Dec.{eqb, ltb, eqb→eq, eqb-refl}
-use lib.ListN.{length, getD, drop}
-use lib.Seq.{getD-take, getD-drop}
+use Rattle.base_lists.specs.Kit.{_≡_, _∙_, sym, ap, refl, _↔_, ⊎-elim, Bool, false, true, cond, List, [], _∷_, ℕ, _≤_, _<_, _+_, _-_, suc, zero, suc-le-suc, not-suc-le-zero, le-of-suc-le-suc, zero-lt-suc, le-of-eq, suc-inj, eqb, ltb, eqb→eq, eqb-refl, length, getD, drop, getD-take, getD-drop, arith, le-ltb, lt-ltb, ltb-false, ltb-true}
 use Rattle.base_lists.specs.List.{Below}
 use Rattle.base_lists.proofs.Tests.{true-T, false-T}
 use Rattle.graph.specs.Neighbours.{select, below, stretch}
-use Rattle.graph.specs.Net.{forwardOffsets, forwardLinks, driven, NetOf}
+use Rattle.graph.specs.Net.{forwardOffsets, forwardTargets, driven, NetOf}
 use Rattle.graph.specs.Rising.{LinksRise}
 use Rattle.graph.proofs.Lookup.{stretch-part}
 use Rattle.graph.proofs.Net.{stretch-sound}
@@ -105,13 +95,13 @@ sorted-select (x ∷ xs) (y ∷ ys) s e v i h q = go (eqb x v) refl i h q (sorte
 
 -- in neighbour tables of such links the forward link table has the ends in their order
 pub link-at : {n : ℕ} {starts ends offsets links : List ℕ} → NetOf n starts ends offsets links → Sorted starts → length starts ≡ length ends → Below n starts
-    → (i : ℕ) → i < length starts → getD (forwardLinks links) i 0 ≡ getD ends i 0
+    → (i : ℕ) → i < length starts → getD (forwardTargets links) i 0 ≡ getD ends i 0
 unfolding driven Below
 link-at {n} {starts} {ends} {offsets} {links} t s e b i h =
     let v = getD starts i 0 in
     let l : v < n = b i h in
     let fo = forwardOffsets offsets in
-    let fl = forwardLinks links in
+    let fl = forwardTargets links in
     let (low, high) = sorted-at starts s v i h .1 refl in
     let from : getD fo v 0 ≡ below starts v = t .begins v (omega arith) in
     let to : getD fo (suc v) 0 ≡ below starts (suc v) = t .begins (suc v) l in

@@ -1,70 +1,45 @@
 -- Laws of walks and distances, over any links and any graph. Assumes nothing.
-use mathlib.Core.Logic.{_⊎_, inl, inr, ⊎-elim, ⊎-swap}
-use mathlib.Core.Path.{_≡_, sym, subst}
-use Prim.Native.Nat.{ℕ, zero, suc, _+_, _≤_, zero-le}
-use native.Mathlib.Nat.{zero-add, suc-add, le-antisymm, le-of-suc-le-suc}
+use Rattle.base_lists.specs.Kit.{_≡_, sym, subst, _⊎_, ⊎-swap, ℕ, _≤_, _+_, suc, zero-add, le-antisymm, suc-add}
 use Rattle.graph.specs.Graph.{Graph, Walk, stay, step, Distance, Radius}
 
 -- ---- walks
 
 module _ {Link : ℕ → ℕ → Type 0} where
   -- a walk of one link
-  pub single : {v w : ℕ} → Link v w ⊎ Link w v → Walk Link v w 1
-  single l = step stay l
+  pub walk-single : {v w : ℕ} → Link v w ⊎ Link w v → Walk Link v w 1
+  walk-single l = step stay l
 
   -- a walk with its length, or its last node, named otherwise
-  pub recount : {v w m k : ℕ} → m ≡ k → Walk Link v w m → Walk Link v w k
-  recount {v} {w} e p = subst (Walk Link v w) e p
+  pub walk-recount : {v w m k : ℕ} → m ≡ k → Walk Link v w m → Walk Link v w k
+  walk-recount {v} {w} e p = subst (Walk Link v w) e p
 
-  pub retarget : {v w x k : ℕ} → w ≡ x → Walk Link v w k → Walk Link v x k
-  retarget {v} {k = k} e p = subst (λ y. Walk Link v y k) e p
+  pub walk-retarget : {v w x k : ℕ} → w ≡ x → Walk Link v w k → Walk Link v x k
+  walk-retarget {v} {k = k} e p = subst (λ y. Walk Link v y k) e p
 
   -- a link before a walk
-  pub cons : {v w x k : ℕ} → Link v w ⊎ Link w v → Walk Link w x k → Walk Link v x (suc k)
-  cons l stay = step stay l
-  cons l (step p m) = step (cons l p) m
+  pub walk-cons : {v w x k : ℕ} → Link v w ⊎ Link w v → Walk Link w x k → Walk Link v x (suc k)
+  walk-cons l stay = step stay l
+  walk-cons l (step p m) = step (walk-cons l p) m
 
-  pub reverse : {v w k : ℕ} → Walk Link v w k → Walk Link w v k
-  reverse stay = stay
-  reverse (step p l) = cons (⊎-swap l) (reverse p)
+  pub walk-reverse : {v w k : ℕ} → Walk Link v w k → Walk Link w v k
+  walk-reverse stay = stay
+  walk-reverse (step p l) = walk-cons (⊎-swap l) (walk-reverse p)
 
   -- one walk after another
-  pub append : {v w x m k : ℕ} → Walk Link v w m → Walk Link w x k → Walk Link v x (k + m)
-  append p stay = recount (sym (zero-add _)) p
-  append p (step q l) = recount (sym (suc-add _ _)) (step (append p q) l)
-
-  -- a walk along links that are links of another relation too
-  pub map : {M : ℕ → ℕ → Type 0} → ((v w : ℕ) → Link v w → M v w) → {v w k : ℕ} → Walk Link v w k → Walk M v w k
-  map f stay = stay
-  map f (step {w} {x} p l) = step (map f p) (⊎-elim (λ m. inl (f w x m)) (λ m. inr (f x w m)) l)
+  pub walk-append : {v w x m k : ℕ} → Walk Link v w m → Walk Link w x k → Walk Link v x (k + m)
+  walk-append p stay = walk-recount (sym (zero-add _)) p
+  walk-append p (step q l) = walk-recount (sym (suc-add _ _)) (step (walk-append p q) l)
 
   -- what a link hands from either of its nodes to the other, a walk hands from its first node to its last
-  pub along : (P : ℕ → Type 0) → ((v w : ℕ) → Link v w ⊎ Link w v → P v → P w) → {v w k : ℕ} → Walk Link v w k → P v → P w
-  along P f stay h = h
-  along P f (step {w} {x} p l) h = f w x l (along P f p h)
+  pub walk-along : (P : ℕ → Type 0) → ((v w : ℕ) → Link v w ⊎ Link w v → P v → P w) → {v w k : ℕ} → Walk Link v w k → P v → P w
+  walk-along P f stay h = h
+  walk-along P f (step {w} {x} p l) h = f w x l (walk-along P f p h)
 
 -- ---- distances
 
 module _ {G : Graph} where
   pub distance-unique : {v w d e : ℕ} → Distance G v w d → Distance G v w e → d ≡ e
   distance-unique {d = d} {e = e} p q = le-antisymm (p .shortest e (q .walk)) (q .shortest d (p .walk))
-
-  pub distance-self : (v : ℕ) → Distance G v v zero
-  distance-self v = record { walk = stay; shortest = λ k p. zero-le }
-
-  pub distance-sym : {v w d : ℕ} → Distance G v w d → Distance G w v d
-  distance-sym p = record { walk = reverse (p .walk); shortest = λ k q. p .shortest k (reverse q) }
-
-  -- a link changes the distance by one at most
-  pub distance-step : {v w x d e : ℕ} → Distance G v w d → G .Link w x ⊎ G .Link x w → Distance G v x e → e ≤ suc d
-  distance-step {d = d} p l q = q .shortest (suc d) (step (p .walk) l)
-
-  -- a node at distance d + 1 has a link, directions ignored, to one at distance d
-  pub distance-predecessor : {v x d : ℕ} → Distance G v x (suc d) → (w : ℕ) × Distance G v w d × (G .Link w x ⊎ G .Link x w)
-  distance-predecessor {v} {x} {d} p = go (p .walk) (p .shortest)
-    where
-      go : Walk (G .Link) v x (suc d) → ((k : ℕ) → Walk (G .Link) v x k → suc d ≤ k) → (w : ℕ) × Distance G v w d × (G .Link w x ⊎ G .Link x w)
-      go (step {w} q l) h = (w, record { walk = q; shortest = λ k r. le-of-suc-le-suc (h (suc k) (step r l)) }, l)
 
   -- the radius is the largest of the distances, so there is one at most
   radius-le : {r s : ℕ} → Radius G r → Radius G s → r ≤ s

@@ -1,7 +1,5 @@
 -- Links chosen by a byte for each: 1 for chosen, anything else for left out.
-use mathlib.Core.List.{List}
-use Prim.Native.Nat.{ℕ, zero}
-use lib.Dec.{T}
+use Rattle.base_lists.specs.Kit.{List, ℕ, zero, T}
 use Rattle.base_lists.specs.Below.{keepFrom}
 use Rattle.graph.specs.Circuit.{Circuit, LinkAt}
 use Rattle.graph.specs.Search.{inside}
@@ -12,7 +10,7 @@ picked marks xs = keepFrom zero (inside marks) xs
 
 -- the circuit with the chosen links alone: all its nodes stay
 unfoldable pub chosen : Circuit → List ℕ → Circuit
-chosen c marks = record { kinds = c .kinds; starts = picked marks (c .starts); ends = picked marks (c .ends) }
+chosen c marks = record { labels = c .labels; starts = picked marks (c .starts); ends = picked marks (c .ends) }
 
 -- the circuit has a link from v to w that is chosen
 unfoldable pub ChosenLink : Circuit → List ℕ → ℕ → ℕ → Type 0

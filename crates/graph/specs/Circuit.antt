@@ -1,8 +1,5 @@
 -- A circuit's graph. A circuit is given by how many nodes it has and by two parallel lists, the link starts and the link ends.
-use mathlib.Core.List.{List}
-use mathlib.Core.Path.{_≡_}
-use Prim.Native.Nat.{ℕ, _<_}
-use lib.ListN.{length, getD}
+use Rattle.base_lists.specs.Kit.{_≡_, List, ℕ, _<_, length, getD}
 use Rattle.graph.specs.Graph.{Graph}
 
 -- The i-th link goes from the i-th start to the i-th end.
@@ -23,12 +20,12 @@ graphOf n starts ends = record { Node = λ v. v < n; Link = HasLink starts ends 
 -- A circuit's content: the label of each node, and the links. "A pattern and a board are both circuits." A label is a node's kind and, where it has a package, 65,536
 -- times that besides; the field has the name that document 01 gives to a file's first list.
 pub record Circuit : Type 0 where
-  pub kinds : List ℕ
+  pub labels : List ℕ
   pub starts : List ℕ
   pub ends : List ℕ
 
 unfoldable pub circuitGraph : Circuit → Graph
-circuitGraph c = graphOf (length (c .kinds)) (c .starts) (c .ends)
+circuitGraph c = graphOf (length (c .labels)) (c .starts) (c .ends)
 
 abbrev pub circuit : List ℕ → List ℕ → List ℕ → Circuit
-circuit kinds starts ends = record { kinds = kinds; starts = starts; ends = ends }
+circuit labels starts ends = record { labels = labels; starts = starts; ends = ends }

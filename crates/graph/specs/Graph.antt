@@ -1,8 +1,6 @@
 -- What is meant by graph, subgraph, distance, ball, radius and connected. Sets are arbitrary predicates on numbers, so "every subgraph"
 -- is every one, and not only those that a program can build. The quoted sentences are document 01's.
-use mathlib.Core.Logic.{_⊎_, _↔_, _≢_}
-use mathlib.Core.Path.{_≡_}
-use Prim.Native.Nat.{ℕ, zero, suc, _≤_}
+use Rattle.base_lists.specs.Kit.{_≡_, _↔_, _⊎_, _≢_, ℕ, _≤_, suc, zero}
 
 -- A directed graph: which numbers are its nodes, and from which node to which it has a link.
 pub record Graph : Type 1 where

@@ -1,9 +1,10 @@
-pub mod Graph
+pub mod Bfs
+pub mod Chosen
 pub mod Circuit
-pub mod Rising
+pub mod Counting
+pub mod Graph
 pub mod Neighbours
 pub mod Net
-pub mod Counting
+pub mod Pairs
+pub mod Rising
 pub mod Search
-pub mod Chosen
-pub mod Bfs

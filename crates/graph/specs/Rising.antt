@@ -1,9 +1,5 @@
 -- "Links rise strictly by start, then by end", and lists that rise strictly.
-use mathlib.Core.List.{List}
-use mathlib.Core.Logic.{_⊎_}
-use mathlib.Core.Path.{_≡_}
-use Prim.Native.Nat.{ℕ, _<_}
-use lib.ListN.{length, getD}
+use Rattle.base_lists.specs.Kit.{_≡_, _⊎_, List, ℕ, _<_, length, getD}
 
 -- each entry is below every later one
 unfoldable pub Rising : List ℕ → Type 0

@@ -1,9 +1,5 @@
 -- Distance, ball, radius and connectedness computed by rounds: what the contracts cite. proofs/ ties them to the definitions of Graph.
-use mathlib.Core.Bool.{Bool, false, not, _&&_, _||_, cond}
-use mathlib.Core.List.{List, [], _∷_}
-use Prim.Native.Nat.{ℕ, zero, suc, _+_}
-use lib.Dec.{eqb}
-use lib.ListN.{getD}
+use Rattle.base_lists.specs.Kit.{Bool, false, cond, _&&_, not, _||_, List, [], _∷_, ℕ, _+_, suc, zero, eqb, getD}
 use Rattle.base_lists.specs.List.{all, tabulate, maximum}
 
 -- the entry of a node that no walk within the radius reaches

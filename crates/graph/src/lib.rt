@@ -6,6 +6,8 @@ ghost use Prim.Native.Nat.{_≤_};
 ghost use lib.ListN.{length, drop};
 ghost use Rattle.graph.specs.Search.{reached};
 
+pub mod marked;
+
 // The entry of a node that a search does not reach.
 pub const UNREACHED: u16 = 65535;
 

@@ -1,26 +1,17 @@
 -- Laws of following links to nodes by their sets. Assumes nothing.
-use mathlib.Core.Bool.{Bool, true, false, cond, _&&_}
-use mathlib.Core.List.{List, [], _∷_}
-use mathlib.Core.Logic.{_⊎_, _↔_, inl, inr, ⊎-elim}
-use mathlib.Core.Path.{_≡_, refl, sym, ap, _∙_, subst}
-use Prim.Native.Nat.{ℕ, zero, suc, _+_, _^_, _≤_, _<_, suc-le-suc}
-use native.Mathlib.Nat.{zero-lt-suc, not-suc-le-zero, le-of-suc-le-suc}
-use native.Mathlib.Numerals.{add-one}
-use lib.Dec.{T}
-use lib.ListN.{length, getD, drop, drop-of-length-le}
-use lib.Seq.{drop-cons}
+use Rattle.base_lists.specs.Kit.{_≡_, _∙_, sym, ap, refl, subst, _↔_, ⊎-elim, _⊎_, inl, inr, Bool, false, true, cond, _&&_, List, [], _∷_, ℕ, _≤_, _<_, _+_, suc, zero, _^_, suc-le-suc, not-suc-le-zero, le-of-suc-le-suc, zero-lt-suc, add-one, T, length, getD, drop, drop-of-length-le, drop-cons}
 use Rattle.base_lists.specs.List.{Occurs, Below}
-use Rattle.base_lists.proofs.Tests.{both, T-true, T-false, true-T, false-T, at-anyBelow}
+use Rattle.base_lists.proofs.Tests.{both-true, T-true, T-false, true-T, false-T, at-anyBelow}
+use Rattle.base_lists.proofs.Entries.{below-append}
 use Rattle.base_bits.specs.Bits.{bit, numberOf, intersects}
 use Rattle.base_bits.proofs.Digits.{bit-below, bit-of-zero, same-bits}
 use Rattle.base_bits.proofs.Numbers.{bit-number}
-use Rattle.graph.specs.Bfs.{State, visit, scan}
+use Rattle.graph.specs.Bfs.{SearchState, visit, scan}
 use Rattle.graph.specs.Net.{driven, driving, Net}
-use Rattle.graph.proofs.Below.{below-append}
 use Rattle.graph.proofs.Net.{driven-below, driving-below}
 use Rattle.graph.proofs.BfsSteps.{scan-append}
 use Rattle.graph.proofs.BfsScan.{occurs-append}
-use Rattle.graph_follow.specs.Follow.{meeting, look, anyPart, beside}
+use Rattle.graph_follow.specs.Follow.{meeting, look, everyPart, nodesBeside}
 
 -- ---- the nodes of a list that the search looks at
 
@@ -64,44 +55,44 @@ module _ (set : ℕ) (sets : List ℕ) where
 
   -- ---- a list of looks is a list of visits
 
-  look-scan : (s : State) (v : ℕ) (vs : List ℕ) → scan 0 s (meeting set sets (v ∷ vs)) ≡ scan 0 (look set sets s v) (meeting set sets vs)
+  look-scan : (d : ℕ) (s : SearchState) (v : ℕ) (vs : List ℕ) → scan d s (meeting set sets (v ∷ vs)) ≡ scan d (look d set sets s v) (meeting set sets vs)
   unfolding meeting look scan
-  look-scan s v vs = go (intersects set (getD sets v 0))
+  look-scan d s v vs = go (intersects set (getD sets v 0))
     where
-      go : (b : Bool) → scan 0 s (cond b (v ∷ meeting set sets vs) (meeting set sets vs)) ≡ scan 0 (cond b (visit 0 s v) s) (meeting set sets vs)
+      go : (b : Bool) → scan d s (cond b (v ∷ meeting set sets vs) (meeting set sets vs)) ≡ scan d (cond b (visit d s v) s) (meeting set sets vs)
       go true = refl
       go false = refl
 
   -- what is left of the list, one look further
   pub follow-next :
-      (s s′ : State) (vs : List ℕ) (i : ℕ) → i < length vs → s′ ≡ look set sets s (getD vs i 0) →
-      scan 0 s′ (meeting set sets (drop (i + 1) vs)) ≡ scan 0 s (meeting set sets (drop i vs))
-  follow-next s s′ vs i h e = rw (e, add-one, drop-cons vs i 0) (sym (look-scan s (getD vs i 0) (drop (suc i) vs)))
+      (d : ℕ) (s s′ : SearchState) (vs : List ℕ) (i : ℕ) → i < length vs → s′ ≡ look d set sets s (getD vs i 0) →
+      scan d s′ (meeting set sets (drop (i + 1) vs)) ≡ scan d s (meeting set sets (drop i vs))
+  follow-next d s s′ vs i h e = rw (e, add-one, drop-cons vs i 0) (sym (look-scan d s (getD vs i 0) (drop (suc i) vs)))
 
-  pub follow-end : (s : State) (vs : List ℕ) (i : ℕ) → length vs ≤ i → scan 0 s (meeting set sets (drop i vs)) ≡ s
+  pub follow-end : (d : ℕ) (s : SearchState) (vs : List ℕ) (i : ℕ) → length vs ≤ i → scan d s (meeting set sets (drop i vs)) ≡ s
   unfolding scan meeting
-  follow-end s vs i h = rw (drop-of-length-le vs h)
+  follow-end d s vs i h = rw (drop-of-length-le vs h)
 
-  pub look-taken : (s : State) (v : ℕ) → T (intersects set (getD sets v 0)) → look set sets s v ≡ visit 0 s v
+  pub look-taken : (d : ℕ) (s : SearchState) (v : ℕ) → T (intersects set (getD sets v 0)) → look d set sets s v ≡ visit d s v
   unfolding look
-  look-taken s v t = rw (T-true {b = intersects set (getD sets v 0)} t)
+  look-taken d s v t = rw (T-true {b = intersects set (getD sets v 0)} t)
 
-  pub look-left : (s : State) (v : ℕ) → intersects set (getD sets v 0) ≡ false → look set sets s v ≡ s
+  pub look-left : (d : ℕ) (s : SearchState) (v : ℕ) → intersects set (getD sets v 0) ≡ false → look d set sets s v ≡ s
   unfolding look
-  look-left s v e = rw e
+  look-left d s v e = rw e
 
 -- ---- the nodes beside a node
 
 -- a set that meets no part is empty
-any-bit : (u : ℕ) → u < 32 → bit anyPart u ≡ true
+any-bit : (u : ℕ) → u < 32 → bit everyPart u ≡ true
 unfolding numberOf
 any-bit u h = bit-number 32 (λ v. true) u h
 
-pub meets-any : (x : ℕ) → x < 2 ^ 32 → (x ≡ zero → ⊥) → T (intersects anyPart x)
+pub meets-any : (x : ℕ) → x < 2 ^ 32 → (x ≡ zero → ⊥) → T (intersects everyPart x)
 unfolding intersects
-meets-any x h some = go (intersects anyPart x) refl
+meets-any x h some = go (intersects everyPart x) refl
   where
-    go : (b : Bool) → intersects anyPart x ≡ b → T b
+    go : (b : Bool) → intersects everyPart x ≡ b → T b
     go true e = tt
     go false e =
         absurd
@@ -111,32 +102,32 @@ meets-any x h some = go (intersects anyPart x) refl
         T-false
         (λ m.
         let l : u < 32 = bit-below 32 x u h m in
-        false-T e (at-anyBelow 32 (λ v. bit anyPart v && bit x v) u l (both (bit anyPart u) (bit x u) (true-T (any-bit u l)) m)))
+        false-T e (at-anyBelow 32 (λ v. bit everyPart v && bit x v) u l (both-true (bit everyPart u) (bit x u) (true-T (any-bit u l)) m)))
         ∙ sym (bit-of-zero u))))
 
-module _ (offsets links sets : List ℕ) (v : ℕ) where
+module _ (offsets targets sets : List ℕ) (v : ℕ) where
   -- the looks along a node's two stretches are visits of the nodes beside it
   pub beside-scan :
-      (s s₁ s₂ : State) (p₁ p₂ : List ℕ) → p₁ ≡ driven offsets links v → p₂ ≡ driving offsets links v →
-      s₁ ≡ scan 0 s (meeting anyPart sets p₁) → s₂ ≡ scan 0 s₁ (meeting anyPart sets p₂) → s₂ ≡ scan 0 s (beside offsets links sets v)
-  unfolding beside
+      (s s₁ s₂ : SearchState) (p₁ p₂ : List ℕ) → p₁ ≡ driven offsets targets v → p₂ ≡ driving offsets targets v →
+      s₁ ≡ scan 0 s (meeting everyPart sets p₁) → s₂ ≡ scan 0 s₁ (meeting everyPart sets p₂) → s₂ ≡ scan 0 s (nodesBeside offsets targets sets v)
+  unfolding nodesBeside
   beside-scan s s₁ s₂ p₁ p₂ e₁ e₂ f₁ f₂ =
-      rw (f₂, f₁, e₁, e₂) (sym (scan-append 0 s (meeting anyPart sets (driven offsets links v)) (meeting anyPart sets (driving offsets links v))))
+      rw (f₂, f₁, e₁, e₂) (sym (scan-append 0 s (meeting everyPart sets (driven offsets targets v)) (meeting everyPart sets (driving offsets targets v))))
 
   -- which are nodes
-  pub beside-below : {n : ℕ} → Net n offsets links → v < n → Below n (beside offsets links sets v)
-  unfolding beside
+  pub beside-below : {n : ℕ} → Net n offsets targets → v < n → Below n (nodesBeside offsets targets sets v)
+  unfolding nodesBeside
   beside-below {n} net h =
-      below-append n _ _ (meeting-below anyPart sets n _ (driven-below net v h)) (meeting-below anyPart sets n _ (driving-below net v h))
+      below-append n _ _ (meeting-below everyPart sets n _ (driven-below net v h)) (meeting-below everyPart sets n _ (driving-below net v h))
 
   -- and each neighbour whose set is not empty is among them
-  pub beside-occurs : (w : ℕ) → getD sets w 0 < 2 ^ 32 → (getD sets w 0 ≡ zero → ⊥) → Occurs (driven offsets links v) w ⊎ Occurs (driving offsets links v) w
-      → Occurs (beside offsets links sets v) w
-  unfolding beside
+  pub beside-occurs : (w : ℕ) → getD sets w 0 < 2 ^ 32 → (getD sets w 0 ≡ zero → ⊥) → Occurs (driven offsets targets v) w ⊎ Occurs (driving offsets targets v) w
+      → Occurs (nodesBeside offsets targets sets v) w
+  unfolding nodesBeside
   beside-occurs w h some o =
       let t = meets-any (getD sets w 0) h some in
-      occurs-append w (meeting anyPart sets (driven offsets links v)) (meeting anyPart sets (driving offsets links v)) .1
+      occurs-append w (meeting everyPart sets (driven offsets targets v)) (meeting everyPart sets (driving offsets targets v)) .1
       (⊎-elim
-      (λ p. inl (meeting-occurs anyPart sets (driven offsets links v) w .1 (p, t)))
-      (λ p. inr (meeting-occurs anyPart sets (driving offsets links v) w .1 (p, t)))
+      (λ p. inl (meeting-occurs everyPart sets (driven offsets targets v) w .1 (p, t)))
+      (λ p. inr (meeting-occurs everyPart sets (driving offsets targets v) w .1 (p, t)))
       o)

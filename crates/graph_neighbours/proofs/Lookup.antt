@@ -1,9 +1,5 @@
 -- Laws of the lookup. Assumes nothing.
-use mathlib.Core.List.{List}
-use mathlib.Core.Path.{_≡_, ap}
-use Prim.Native.Nat.{ℕ, suc, _+_, _<_}
-use native.Mathlib.Numerals.{add-one}
-use lib.ListN.{getD}
+use Rattle.base_lists.specs.Kit.{_≡_, ap, List, ℕ, _<_, _+_, suc, add-one, getD}
 use Rattle.base_lists.specs.List.{Below}
 use Rattle.graph.specs.Net.{Net}
 use Rattle.graph.proofs.Net.{driven-below, driving-below}
@@ -12,7 +8,7 @@ use Rattle.graph_neighbours.specs.declared.neighbours.Direction.{Directi
 use Rattle.graph_neighbours.specs.declared.neighbours.Direction.the-variants.{Forward, Backward}
 
 -- a node's neighbours in either direction are nodes
-pub neighbours-below : (direction : Direction) {n : ℕ} {offsets links : List ℕ} → Net n offsets links → (v : ℕ) → v < n → Below n (neighboursIn direction offsets links v)
+pub neighbours-below : (direction : Direction) {n : ℕ} {offsets targets : List ℕ} → Net n offsets targets → (v : ℕ) → v < n → Below n (neighboursIn direction offsets targets v)
 unfolding neighboursIn
 neighbours-below Forward t v h = driven-below t v h
 neighbours-below Backward t v h = driving-below t v h

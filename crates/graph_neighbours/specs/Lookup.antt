@@ -1,6 +1,5 @@
 -- The neighbour lookup: "The neighbour lookup, told a direction, hands out that stretch of the one table or the other."
-use mathlib.Core.List.{List}
-use Prim.Native.Nat.{ℕ}
+use Rattle.base_lists.specs.Kit.{List, ℕ}
 use Rattle.graph.specs.Neighbours.{stretch}
 use Rattle.graph.specs.Net.{driven, driving}
 use Rattle.graph_neighbours.specs.declared.neighbours.Direction.{Direction}
@@ -13,5 +12,5 @@ neighboursOf Backward fo ft bo bt v = stretch bo bt v
 
 -- the same of tables that are handed on as two lists
 unfoldable pub neighboursIn : Direction → List ℕ → List ℕ → ℕ → List ℕ
-neighboursIn Forward offsets links v = driven offsets links v
-neighboursIn Backward offsets links v = driving offsets links v
+neighboursIn Forward offsets targets v = driven offsets targets v
+neighboursIn Backward offsets targets v = driving offsets targets v

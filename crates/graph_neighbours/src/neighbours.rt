@@ -5,10 +5,10 @@ ghost use lib.ListN.{length, getD};
 ghost use Rattle.graph.specs.Neighbours.{stretch};
 ghost use Rattle.graph.specs.Net.{NodeOf};
 ghost use Rattle.graph_neighbours.specs.Lookup.{neighboursOf, neighboursIn};
-use crate::tables::FORWARD_LINKS;
 use crate::tables::FORWARD_OFFSETS;
-use crate::tables::LINKS;
+use crate::tables::FORWARD_TARGETS;
 use crate::tables::OFFSETS;
+use crate::tables::TARGETS;
 
 // Which neighbours of a node are meant: what it drives, or what drives it.
 pub enum Direction {
@@ -71,21 +71,21 @@ fn sound_stretch<'a>(offsets: &[u16], table: &'a [u16], v: usize) -> &'a [u16]
 pub fn neighbours_in<'a>(
     direction: Direction,
     offsets: &[u16],
-    links: &'a [u16],
+    targets: &'a [u16],
     v: usize,
 ) -> &'a [u16]
-    requires { ⌜ NodeOf (now offsets) (now links) v ⌝ }
-    ensures { λ r. ⌜ now r ≡ neighboursIn direction (now (offsets .entry)) (now (links .entry)) v ⌝ }
+    requires { ⌜ NodeOf (now offsets) (now targets) v ⌝ }
+    ensures { λ r. ⌜ now r ≡ neighboursIn direction (now (offsets .entry)) (now (targets .entry)) v ⌝ }
 {
     match direction {
         Direction::Forward => sound_stretch(
             &offsets[0..FORWARD_OFFSETS],
-            &links[0..FORWARD_LINKS],
+            &targets[0..FORWARD_TARGETS],
             v,
         ),
         Direction::Backward => sound_stretch(
             &offsets[FORWARD_OFFSETS..OFFSETS],
-            &links[FORWARD_LINKS..LINKS],
+            &targets[FORWARD_TARGETS..TARGETS],
             v,
         ),
     }

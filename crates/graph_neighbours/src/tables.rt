@@ -12,11 +12,11 @@ use crate::group::group;
 // The entries of the two lists, and how many of them are the forward table's: room for 512 nodes and for 4,096 links each way.
 pub const OFFSETS: usize = 1026;
 
-pub const LINKS: usize = 8192;
+pub const TARGETS: usize = 8192;
 
 pub const FORWARD_OFFSETS: usize = 513;
 
-pub const FORWARD_LINKS: usize = 4096;
+pub const FORWARD_TARGETS: usize = 4096;
 
 // Fills one half of each list by grouping `forward` by the links' starts, and the other by grouping `backward` by their ends.
 pub fn group_both(
@@ -26,28 +26,28 @@ pub fn group_both(
     forward: &[u16],
     backward: &[u16],
     offsets: &mut [u16],
-    links: &mut [u16],
+    targets: &mut [u16],
 )
-    requires { ⌜ NetRoom (now offsets) (now links) ⌝ }
+    requires { ⌜ NetRoom (now offsets) (now targets) ⌝ }
     requires { ⌜ n ≤ 512 ⌝ }
     requires { ⌜ (length (now starts) ≤ 4096) × (length (now ends) ≤ 4096) ⌝ }
     requires { ⌜ (length (now starts) ≡ length (now forward)) × (length (now ends) ≡ length (now backward)) ⌝ }
     requires { ⌜ T (all (λ v. ltb v n) (now starts)) × T (all (λ v. ltb v n) (now ends)) ⌝ }
-    ensures { λ _. ⌜ Grouped n (now (starts .entry)) (now (ends .entry)) (now (forward .entry)) (now (backward .entry)) (now (offsets .entry)) (now (links .entry)) (now (offsets .exit)) (now (links .exit)) ⌝ }
+    ensures { λ _. ⌜ Grouped n (now (starts .entry)) (now (ends .entry)) (now (forward .entry)) (now (backward .entry)) (now (offsets .entry)) (now (targets .entry)) (now (offsets .exit)) (now (targets .exit)) ⌝ }
 {
     group(
         n,
         starts,
         forward,
         &mut offsets[..FORWARD_OFFSETS],
-        &mut links[..FORWARD_LINKS],
+        &mut targets[..FORWARD_TARGETS],
     );
     group(
         n,
         ends,
         backward,
         &mut offsets[513..1026],
-        &mut links[4096..8192],
+        &mut targets[4096..8192],
     );
 }
 
@@ -57,13 +57,13 @@ pub fn neighbour_tables(
     starts: &[u16],
     ends: &[u16],
     offsets: &mut [u16],
-    links: &mut [u16],
+    targets: &mut [u16],
 )
-    requires { ⌜ NetRoom (now offsets) (now links) ⌝ }
+    requires { ⌜ NetRoom (now offsets) (now targets) ⌝ }
     requires { ⌜ n ≤ 512 ⌝ }
     requires { ⌜ (length (now starts) ≡ length (now ends)) × (length (now starts) ≤ 4096) ⌝ }
     requires { ⌜ T (all (λ v. ltb v n) (now starts)) × T (all (λ v. ltb v n) (now ends)) ⌝ }
-    ensures { λ _. ⌜ NetOf n (now (starts .entry)) (now (ends .entry)) (now (offsets .exit)) (now (links .exit)) ⌝ }
+    ensures { λ _. ⌜ NetOf n (now (starts .entry)) (now (ends .entry)) (now (offsets .exit)) (now (targets .exit)) ⌝ }
 {
-    group_both(n, starts, ends, ends, starts, offsets, links);
+    group_both(n, starts, ends, ends, starts, offsets, targets);
 }

@@ -1,30 +1,21 @@
 -- The balls as sets: what is in each, the balls at radius 0 and 1, and one round. Assumes nothing.
-use mathlib.Core.Bool.{Bool, true, false, _&&_, _||_, or-false}
-use mathlib.Core.List.{List, []}
-use mathlib.Core.Logic.{_⊎_, inl, inr, _↔_, ⊎-elim, ⊎-swap}
-use mathlib.Core.Path.{_≡_, refl, sym, ap, subst, _∙_}
-use Prim.Native.Nat.{ℕ, suc, _+_, _^_, _≤_, _<_}
+use Rattle.base_lists.specs.Kit.{_≡_, _∙_, sym, ap, refl, subst, _↔_, ⊎-elim, _⊎_, inl, inr, ⊎-swap, Bool, false, true, _&&_, _||_, or-false, List, [], ℕ, _≤_, _<_, _+_, suc, _^_, lt-of-lt-of-le, not-le-of-lt, T, eqb, eqb→eq, length, getD, take, set, length-set, length-take, getD-set-other, getD-set-same, getD-take, arith, eq-eqb, eqb-true, eqb-false}
 use native.Mathlib.Decide.{decLt}
-use native.Mathlib.Nat.{lt-of-lt-of-le, not-le-of-lt, not-suc-le-zero}
-use native.Mathlib.Omega.{arith}
-use borrow.Author.Tests.{eq-eqb, eqb-true, eqb-false}
 use lib.Bits.{bitOr}
-use lib.Dec.{T, eqb, eqb→eq}
-use lib.ListN.{length, getD, set, take, length-take, length-set}
-use lib.Seq.{getD-take, getD-set-same, getD-set-other}
 use Rattle.base_bits.specs.Bits.{bit, numberOf}
 use Rattle.base_bits.proofs.Digits.{same-bits, bit-or, bit-single}
 use Rattle.base_bits.proofs.Numbers.{bit-number-all, number-lt}
 use Rattle.base_bits.proofs.Unions.{bit-unionOver}
 use Rattle.base_lists.specs.List.{anyBelow, tabulate, Below}
 use Rattle.base_lists.proofs.Tables.{length-tabulate, getD-tabulate, is-tabulate}
-use Rattle.base_lists.proofs.Tests.{both, both-left, both-right, either-left, either-right, either-cases, T-false, true-T, same-test, anyBelow-at, at-anyBelow}
+use Rattle.base_lists.proofs.Tests.{both-true, both-left, both-right, either-left, either-right, either-cases, T-false, true-T, same-test, anyBelow-at, at-anyBelow}
 use Rattle.graph.specs.Circuit.{LinkAt, HasLink}
 use Rattle.graph.specs.Graph.{Walk, stay, step}
 use Rattle.graph.specs.Search.{inside, ball}
 use Rattle.graph.proofs.Ball.{Within, inside-node, inside-zero, inside-suc, ball-walk, ball-iff, walk-node}
-use Rattle.graph.proofs.Walks.{append, reverse, single}
-use Rattle.graph_radius.specs.Balls.{balls, joined, grown}
+use Rattle.graph.proofs.Walks.{walk-append, walk-reverse, walk-single}
+use Rattle.graph.proofs.RisingLinks.{no-link}
+use Rattle.graph_radius.specs.Balls.{balls, withNode, grown}
 
 -- ---- what is in a ball
 
@@ -75,7 +66,7 @@ module _ {n : ℕ} {ss es : List ℕ} (links : Within n ss es) (few : n ≤ 32) 
   round-to k u w v a b =
       let (i, p, q) = ball-walk n ss es u 1 w a in
       let (j, p′, q′) = ball-walk n ss es w k v b in
-      ball-iff links u (suc k) v .1 (inside-node n ss es w k v b, (j + i, omega arith, append q q′))
+      ball-iff links u (suc k) v .1 (inside-node n ss es w k v b, (j + i, omega arith, walk-append q q′))
 
   abbrev Between : ℕ → ℕ → ℕ → Type 0
   Between k u v = (w : ℕ) × T (inside (ball n ss es u 1) w) × T (inside (ball n ss es w k) v)
@@ -84,10 +75,10 @@ module _ {n : ℕ} {ss es : List ℕ} (links : Within n ss es) (few : n ≤ 32) 
   walk-between : (k u v i : ℕ) → u < n → v < n → i ≤ suc k → Walk (HasLink ss es) v u i → Between k u v
   walk-between k u v i h hv p stay = (u, ball-iff links u 1 u .1 (h, (0, omega arith, stay)), ball-iff links u k u .1 (h, (0, omega arith, stay)))
   walk-between k u v i h hv p (step {w} {n = j} q l) =
-      (w, ball-iff links u 1 w .1 (walk-node links q hv, (1, omega arith, single (⊎-swap l))), ball-iff links w k v .1 (hv, (j, omega arith, reverse q)))
+      (w, ball-iff links u 1 w .1 (walk-node links q hv, (1, omega arith, walk-single (⊎-swap l))), ball-iff links w k v .1 (hv, (j, omega arith, walk-reverse q)))
 
   round-from : (k u v : ℕ) → u < n → T (inside (ball n ss es u (suc k)) v) → Between k u v
-  round-from k u v h t = let (i, p, q) = ball-walk n ss es u (suc k) v t in walk-between k u v i h (inside-node n ss es u (suc k) v t) p (reverse q)
+  round-from k u v h t = let (i, p, q) = ball-walk n ss es u (suc k) v t in walk-between k u v i h (inside-node n ss es u (suc k) v t) p (walk-reverse q)
 
   pub grown-balls : (k : ℕ) → grown (balls n ss es 1) (balls n ss es k) ≡ balls n ss es (suc k)
   unfolding grown
@@ -110,7 +101,7 @@ module _ {n : ℕ} {ss es : List ℕ} (links : Within n ss es) (few : n ≤ 32) 
       from u v h (w, a, b) =
           let l = inside-node n ss es u 1 w a in
           at-anyBelow 32 (near u v) w (lt-of-lt-of-le l few)
-          (both (bit (getD (balls n ss es 1) u 0) w) (bit (getD (balls n ss es k) w 0) v)
+          (both-true (bit (getD (balls n ss es 1) u 0) w) (bit (getD (balls n ss es k) w 0) v)
           (subst T (sym (bit-balls n ss es 1 u w h)) a) (subst T (sym (bit-balls n ss es k w v l)) b))
 
 -- ---- the balls at radius 1, link by link
@@ -128,10 +119,6 @@ near-iff n ss es u v h = (
       inside-suc n ss es u 0 v .1
       (l, ⊎-elim (λ e. inl (inside-zero n ss es u v .1 (l, e))) (λ j. inr (u, j, inside-zero n ss es u u .1 (h, refl))) q),
 )
-
-no-link : (v w : ℕ) → HasLink [] [] v w → ⊥
-unfolding HasLink
-no-link v w l = not-suc-le-zero (l .1 .inStarts)
 
 -- before the first link: each node alone
 pub balls-begin : (n : ℕ) (ss es : List ℕ) → tabulate n (λ u. 2 ^ u) ≡ balls n (take 0 ss) (take 0 es) 1
@@ -200,13 +187,13 @@ module _ (ss es : List ℕ) (i : ℕ) (h : i < length ss) (h′ : i < length es)
     },
   )
 
--- what `joined` has
-pub length-joined : (sets : List ℕ) (a b : ℕ) → length (joined sets a b) ≡ length sets
-unfolding joined
+-- what `withNode` has
+pub length-joined : (sets : List ℕ) (a b : ℕ) → length (withNode sets a b) ≡ length sets
+unfolding withNode
 length-joined sets a b = length-set sets a _
 
-bit-joined : (sets : List ℕ) (a b u v : ℕ) → a < length sets → bit (getD (joined sets a b) u 0) v ≡ bit (getD sets u 0) v || (eqb u a && eqb v b)
-unfolding joined
+bit-joined : (sets : List ℕ) (a b u v : ℕ) → a < length sets → bit (getD (withNode sets a b) u 0) v ≡ bit (getD sets u 0) v || (eqb u a && eqb v b)
+unfolding withNode
 bit-joined sets a b u v h = go (eqb u a) refl
   where
     go : (t : Bool) → eqb u a ≡ t → bit (getD (set sets a (bitOr (getD sets a 0) (2 ^ b))) u 0) v ≡ bit (getD sets u 0) v || (t && eqb v b)
@@ -235,9 +222,9 @@ module _ (n : ℕ) (ss es : List ℕ) (i : ℕ) (h : i < length ss) (h′ : i < 
   abbrev after : ℕ → ℕ → Bool
   after u v = (was u v || (eqb u s && eqb v e)) || (eqb u e && eqb v s)
 
-  bit-more : (u v : ℕ) → u < n → bit (getD (joined (joined old s e) e s) u 0) v ≡ after u v
+  bit-more : (u v : ℕ) → u < n → bit (getD (withNode (withNode old s e) e s) u 0) v ≡ after u v
   bit-more u v l =
-      bit-joined (joined old s e) e s u v (rw (length-joined, length-balls) inEnds)
+      bit-joined (withNode old s e) e s u v (rw (length-joined, length-balls) inEnds)
       ∙ ap (λ (x : Bool). x || (eqb u e && eqb v s))
       (bit-joined old s e u v (rw length-balls inStarts) ∙ ap (λ (x : Bool). x || (eqb u s && eqb v e)) (bit-balls n (take i ss) (take i es) 1 u v l))
 
@@ -245,7 +232,7 @@ module _ (n : ℕ) (ss es : List ℕ) (i : ℕ) (h : i < length ss) (h′ : i < 
   same-pair u v a b t = (eqb→eq u a (both-left (eqb u a) (eqb v b) t), eqb→eq v b (both-right (eqb u a) (eqb v b) t))
 
   pair-same : (u v a b : ℕ) → u ≡ a → v ≡ b → T (eqb u a && eqb v b)
-  pair-same u v a b p q = both (eqb u a) (eqb v b) (true-T (eq-eqb u a p)) (true-T (eq-eqb v b q))
+  pair-same u v a b p q = both-true (eqb u a) (eqb v b) (true-T (eq-eqb u a p)) (true-T (eq-eqb v b q))
 
   abbrev Next : ℕ → ℕ → Type 0
   Next u v = (v < n) × Near (take (i + 1) ss) (take (i + 1) es) u v
@@ -291,7 +278,7 @@ module _ (n : ℕ) (ss es : List ℕ) (i : ℕ) (h : i < length ss) (h′ : i < 
           (λ (p, p′). one (either-right (was u v) (eqb u s && eqb v e) (pair-same u v s e p p′)))
           (more-to ss es i h h′ u v k)
 
-  pub balls-more : joined (joined old s e) e s ≡ balls n (take (i + 1) ss) (take (i + 1) es) 1
+  pub balls-more : withNode (withNode old s e) e s ≡ balls n (take (i + 1) ss) (take (i + 1) es) 1
   balls-more =
       is-balls n (take (i + 1) ss) (take (i + 1) es) 1 _ (rw (length-joined, length-joined) (length-balls n (take i ss) (take i es) 1))
       (λ u v l. bit-more u v l

@@ -1,30 +1,19 @@
 -- The radius by balls: it is the first radius at which every ball has every node, and `far` where there is none; and a circuit is connected
 -- exactly when its radius is not `far`. Assumes nothing.
-use mathlib.Core.Bool.{true, false, not}
-use mathlib.Core.List.{List}
-use mathlib.Core.Logic.{_≢_, ⊎-elim}
-use mathlib.Core.Path.{_≡_, refl, sym, ap, ap₂, subst, _∙_}
-use Prim.Native.Nat.{ℕ, zero, suc, _+_, _^_, _≤_, _<_}
+use Rattle.base_lists.specs.Kit.{_≡_, _∙_, sym, ap, refl, subst, ap₂, ⊎-elim, _≢_, false, true, not, List, ℕ, _≤_, _<_, _+_, suc, zero, _^_, not-suc-le-zero, le-of-suc-le-suc, le-trans, le-of-eq, eq-or-lt-of-le, le-antisymm, pow-suc, add-one, T, eqb, ltb, eqb→eq, not-T, T-not, length, getD, arith, eq-eqb}
 use native.Mathlib.Decide.{decLt}
-use native.Mathlib.Nat.{le-trans, le-antisymm, le-of-eq, le-of-suc-le-suc, not-suc-le-zero, eq-or-lt-of-le, pow-suc}
-use native.Mathlib.Numerals.{add-one}
-use native.Mathlib.Omega.{arith}
-use borrow.Author.Tests.{eq-eqb}
-use lib.Dec.{T, eqb, ltb, eqb→eq, not-T, T-not}
-use lib.ListN.{length, getD}
 use Rattle.base_bits.specs.Bits.{bit, numberOf}
 use Rattle.base_bits.proofs.Digits.{same-bits-below}
 use Rattle.base_bits.proofs.Numbers.{bit-number, number-lt}
 use Rattle.base_lists.specs.List.{all, tabulate, maximum}
-use Rattle.base_lists.proofs.Rows.{getD-le-maximum, maximum-attained, rule-le-maximum, rule-maximum-attained}
 use Rattle.base_lists.proofs.Tests.{T-true, T-false, true-T, false-T, all-at, at-all, same-test, decide}
 use Rattle.graph.specs.Circuit.{graphOf}
 use Rattle.graph.specs.Graph.{Connected}
-use Rattle.graph.specs.Search.{far, inside, ball, distances, connected, radius}
+use Rattle.graph.specs.Search.{far, inside, ball, connected, radius}
 use Rattle.graph.proofs.Ball.{Within, within-all, ball-walk}
-use Rattle.graph.proofs.Distance.{length-distances, distances-spec, inside-distance, distance-inside, distance-near, connected-iff, radius-is}
+use Rattle.graph.proofs.Distance.{distances-spec, inside-distance, distance-inside, distance-near, connected-iff, radius-is, entry-le-radius, entry-radius}
 use Rattle.graph.proofs.Walks.{distance-unique}
-use Rattle.graph_radius.specs.Balls.{balls, everyNode, spanning, grown, Begun, Finds}
+use Rattle.graph_radius.specs.Balls.{balls, everyNode, spanning, grown, BallsBegun, FindsRadius}
 use Rattle.graph_radius.proofs.Balls.{length-balls, ball-below, bit-balls, balls-zero, grown-balls}
 
 -- ---- the set of all nodes, and tables of it
@@ -67,31 +56,14 @@ module _ (n : ℕ) (ss es : List ℕ) (k : ℕ) where
 
 -- ---- the radius and `far`
 
--- the entries of the rows of distances are at most the radius, and one of them is the radius
-module _ (n : ℕ) (ss es : List ℕ) where
-  abbrev eccentricity : ℕ → ℕ
-  eccentricity c = maximum (distances n ss es c n)
-
-  entry-le : (c v : ℕ) → c < n → getD (distances n ss es c n) v 0 ≤ radius n ss es
-  unfolding radius
-  entry-le c v h = le-trans (getD-le-maximum (distances n ss es c n) v) (rule-le-maximum n eccentricity c h)
-
-  entry-is : zero < n → (c : ℕ) × (v : ℕ) × (c < n) × (v < n) × (getD (distances n ss es c n) v 0 ≡ radius n ss es)
-  unfolding radius
-  entry-is h =
-      let (c, hc, e) = rule-maximum-attained n eccentricity h in
-      let l = length-distances n ss es c n in
-      let (v, hv, d) = maximum-attained (distances n ss es c n) (subst (λ x. zero < x) (sym l) h) in
-      (c, v, hc, subst (λ x. v < x) l hv, d ∙ e)
-
-  none-zero : n ≡ zero → radius n ss es ≡ zero
-  unfolding radius maximum tabulate
-  none-zero e = subst (λ (m : ℕ). radius m ss es ≡ zero) (sym e) refl
+none-zero : (n : ℕ) (ss es : List ℕ) → n ≡ zero → radius n ss es ≡ zero
+unfolding radius maximum tabulate
+none-zero n ss es e = subst (λ (m : ℕ). radius m ss es ≡ zero) (sym e) refl
 
 module _ {n : ℕ} {ss es : List ℕ} (links : Within n ss es) (few : n ≤ far) where
   radius-le-far : zero < n → radius n ss es ≤ far
   radius-le-far h =
-      let (c, v, hc, hv, e) = entry-is n ss es h in
+      let (c, v, hc, hv, e) = entry-radius n ss es h in
       ⊎-elim
       (λ (t, d, l). omega (arith, e))
       (λ (f, d, w). omega (arith, e, d))
@@ -102,7 +74,7 @@ module _ {n : ℕ} {ss es : List ℕ} (links : Within n ss es) (few : n ≤ far)
   near-everywhere h f u v hu hv =
       ⊎-elim
       (λ (t, _, _). t)
-      (λ (_, e, _). absurd (f (le-antisymm (radius-le-far h) (le-trans (le-of-eq (sym e)) (entry-le n ss es u v hu)))))
+      (λ (_, e, _). absurd (f (le-antisymm (radius-le-far h) (le-trans (le-of-eq (sym e)) (entry-le-radius n ss es u v hu)))))
       (distances-spec links u n v 0 hv)
 
   everywhere-connected : (k : ℕ) → Everywhere n ss es k → T (connected n ss es)
@@ -162,7 +134,7 @@ module _ {n : ℕ} {ss es : List ℕ} (links : Within n ss es) (few : n ≤ far)
 -- after k rounds the table has the balls at radius k, and at no smaller radius has every ball every node
 unfoldable pub Reached : List ℕ → List ℕ → List ℕ → ℕ → Type 0
 Reached near first sets k =
-    (ss es : List ℕ) → Begun ss es near first
+    (ss es : List ℕ) → BallsBegun ss es near first
     → (sets ≡ balls (length near) ss es k) × ((j : ℕ) → j < k → T (spanning (everyNode (length near)) (balls (length near) ss es j)) → ⊥)
 
 module _ (near first : List ℕ) where
@@ -179,21 +151,21 @@ module _ (near first : List ℕ) where
           λ j h t. ⊎-elim (λ s. false-T e (subst (λ (x : List ℕ). T (spanning (everyNode (length near)) x)) (ap (balls (length near) ss es) s ∙ sym q) t)) (λ l. none j l t) (eq-or-lt-of-le (le-of-suc-le-suc (rw add-one at h))),
         )
 
-    pub reached-found : (sets : List ℕ) (k : ℕ) → Reached near first sets k → spanning (everyNode (length near)) sets ≡ true → Finds near first k
-    unfolding Reached Finds
+    pub reached-found : (sets : List ℕ) (k : ℕ) → Reached near first sets k → spanning (everyNode (length near)) sets ≡ true → FindsRadius near first k
+    unfolding Reached FindsRadius
     reached-found sets k r e ss es b =
         let (q, none) = r ss es b in
         radius-found (within-all (length near) ss es (b .inStarts) (b .inEnds)) (omega arith) k (true-T (ap (spanning (everyNode (length near))) (sym q) ∙ e)) none
 
-    pub reached-far : (sets : List ℕ) (k : ℕ) → Reached near first sets k → length near < k → Finds near first far
-    unfolding Reached Finds
+    pub reached-far : (sets : List ℕ) (k : ℕ) → Reached near first sets k → length near < k → FindsRadius near first far
+    unfolding Reached FindsRadius
     reached-far sets k r h ss es b =
         radius-far (within-all (length near) ss es (b .inStarts) (b .inEnds)) (omega arith) (r ss es b .1 (length near) h)
 
 -- what is found is the radius of the circuit that the tables were made for
 pub finds-radius : (n m r : ℕ) (ss es near sets : List ℕ) → T (all (λ v. ltb v n) ss) → T (all (λ v. ltb v n) es) → near ≡ balls n ss es 1
-    → sets ≡ tabulate m (λ u. 2 ^ u) → m ≡ n → Finds near sets r → r ≡ radius n ss es
-unfolding Finds
+    → sets ≡ tabulate m (λ u. 2 ^ u) → m ≡ n → FindsRadius near sets r → r ≡ radius n ss es
+unfolding FindsRadius
 finds-radius n m r ss es near sets s e p q same f =
     let size : length near ≡ n = ap length p ∙ length-balls n ss es 1 in
     subst (λ (k : ℕ). r ≡ radius k ss es) size

@@ -1,11 +1,6 @@
 -- The balls around all nodes of a circuit at once, each a set of nodes as a number.
-use mathlib.Core.Bool.{Bool, true}
-use mathlib.Core.List.{List}
-use mathlib.Core.Path.{_≡_}
-use Prim.Native.Nat.{ℕ, _^_}
+use Rattle.base_lists.specs.Kit.{_≡_, Bool, true, List, ℕ, _^_, T, eqb, ltb, length, getD, set}
 use lib.Bits.{bitOr}
-use lib.Dec.{T, eqb, ltb}
-use lib.ListN.{length, getD, set}
 use Rattle.base_bits.specs.Bits.{numberOf, unionOver}
 use Rattle.base_lists.specs.List.{all, tabulate}
 use Rattle.graph.specs.Search.{inside, ball, radius}
@@ -23,20 +18,20 @@ unfoldable pub spanning : ℕ → List ℕ → Bool
 spanning full sets = all (λ x. eqb x full) sets
 
 -- v put into the set of u
-unfoldable pub joined : List ℕ → ℕ → ℕ → List ℕ
-joined sets u v = set sets u (bitOr (getD sets u 0) (2 ^ v))
+unfoldable pub withNode : List ℕ → ℕ → ℕ → List ℕ
+withNode sets u v = set sets u (bitOr (getD sets u 0) (2 ^ v))
 
 -- each ball with the balls around the nodes near its centre
 unfoldable pub grown : List ℕ → List ℕ → List ℕ
 grown near sets = tabulate (length near) (λ u. unionOver sets (getD near u 0))
 
 -- the tables hold the balls at radius 1 and 0 of a circuit that has a node for each entry
-pub record Begun (ss es near sets : List ℕ) : Type 0 where
+pub record BallsBegun (ss es near sets : List ℕ) : Type 0 where
   pub inStarts : T (all (λ v. ltb v (length near)) ss)
   pub inEnds : T (all (λ v. ltb v (length near)) es)
   pub ones : near ≡ balls (length near) ss es 1
   pub zeros : sets ≡ balls (length near) ss es 0
 
 -- r is the radius of whatever circuit the tables were made for
-unfoldable pub Finds : List ℕ → List ℕ → ℕ → Type 0
-Finds near sets r = (ss es : List ℕ) → Begun ss es near sets → r ≡ radius (length near) ss es
+unfoldable pub FindsRadius : List ℕ → List ℕ → ℕ → Type 0
+FindsRadius near sets r = (ss es : List ℕ) → BallsBegun ss es near sets → r ≡ radius (length near) ss es

@@ -5,7 +5,7 @@ ghost use lib.Dec.{T, ltb};
 ghost use lib.ListN.{length};
 ghost use Rattle.base_lists.specs.List.{all, tabulate, Below};
 ghost use Rattle.graph.specs.Search.{radius};
-ghost use Rattle.graph_radius.specs.Balls.{balls, everyNode, spanning, joined, grown, Finds};
+ghost use Rattle.graph_radius.specs.Balls.{balls, everyNode, spanning, withNode, grown, FindsRadius};
 use base_bits::single;
 use base_bits::union_of;
 
@@ -32,7 +32,7 @@ fn singles(sets: &mut [u32])
 // Puts v into the set of u.
 fn join(sets: &mut [u32], u: u16, v: u16)
     requires { ⌜ (u < length (now sets)) × (v < 32) ⌝ }
-    ensures { λ _. ⌜ now (sets .exit) ≡ joined (now (sets .entry)) u v ⌝ }
+    ensures { λ _. ⌜ now (sets .exit) ≡ withNode (now (sets .entry)) u v ⌝ }
 {
     let at = u as usize;
     sets[at] = sets[at] | single(v as u32);
@@ -85,7 +85,7 @@ fn all_full(sets: &[u32], full: u32) -> bool
 fn first_spanning(near: &[u32], old: &mut [u32], new: &mut [u32]) -> u16
     requires { ⌜ (length (now near) ≤ 32) × Below (2 ^ length (now near)) (now near) ⌝ }
     requires { ⌜ (length (now old) ≡ length (now near)) × (length (now new) ≡ length (now near)) ⌝ }
-    ensures { λ r. ⌜ Finds (now (near .entry)) (now (old .entry)) r ⌝ }
+    ensures { λ r. ⌜ FindsRadius (now (near .entry)) (now (old .entry)) r ⌝ }
 {
     let n = near.len();
     let full = every_node(n);

@@ -4,13 +4,16 @@
 use graph::UNREACHED;
 use graph_neighbours::neighbours::Direction;
 use graph_neighbours::neighbours::neighbours_in;
+ghost use mathlib.Core.Bool.{_||_};
 ghost use mathlib.Core.Path.{_≡_};
-ghost use Prim.Native.Nat.{_≤_, _<_};
-ghost use lib.ListN.{length, take, drop, replicate};
+ghost use Prim.Native.Nat.{_<_};
+ghost use lib.Dec.{eqb};
+ghost use lib.ListN.{length, replicate};
 ghost use Rattle.base_lists.specs.List.{Below};
-ghost use Rattle.graph.specs.Bfs.{visit, scan, level, levels, start, bfs, adjacent, stateOf, Searching, Searched, Found};
+ghost use Rattle.graph.specs.Bfs.{visit, scan, start, bfs, adjacent, stateOf, Searching, Searched, Found};
 ghost use Rattle.graph.specs.Net.{Net};
 ghost use Rattle.graph.specs.Search.{far};
+ghost use Rattle.graph_search.specs.Until.{Standing, Advanced};
 
 // Looks at node v from a node at distance d - 1: where v is not reached yet, it is now, at distance d, and joins the queue.
 pub fn visit(v: u16, d: u16, dist: &mut [u16], queue: &mut [u16], tail: usize) -> usize
@@ -48,70 +51,99 @@ fn scan(part: &[u16], d: u16, dist: &mut [u16], queue: &mut [u16], from: usize) 
 // Looks at the neighbours of node v: what it drives, then what drives it.
 pub fn expand(
     offsets: &[u16],
-    links: &[u16],
+    targets: &[u16],
     v: usize,
     d: u16,
     dist: &mut [u16],
     queue: &mut [u16],
     from: usize,
 ) -> usize
-    requires { ⌜ Net (length (now dist)) (now offsets) (now links) ⌝ }
+    requires { ⌜ Net (length (now dist)) (now offsets) (now targets) ⌝ }
     requires { ⌜ Searching (now dist) (now queue) from ⌝ }
     requires { ⌜ v < length (now dist) ⌝ }
     requires { ⌜ d < far ⌝ }
-    ensures { λ r. ⌜ Searched (now (dist .exit)) (now (queue .exit)) r (scan d (stateOf (now (dist .entry)) (now (queue .entry)) from) (adjacent (now (offsets .entry)) (now (links .entry)) v)) ⌝ }
+    ensures { λ r. ⌜ Searched (now (dist .exit)) (now (queue .exit)) r (scan d (stateOf (now (dist .entry)) (now (queue .entry)) from) (adjacent (now (offsets .entry)) (now (targets .entry)) v)) ⌝ }
 {
-    let driven = neighbours_in(Direction::Forward, offsets, links, v);
+    let driven = neighbours_in(Direction::Forward, offsets, targets, v);
     let tail = scan(driven, d, dist, queue, from);
-    let driving = neighbours_in(Direction::Backward, offsets, links, v);
+    let driving = neighbours_in(Direction::Backward, offsets, targets, v);
     scan(driving, d, dist, queue, tail)
 }
 
-// One level: looks at the neighbours of the nodes that stand in the queue from lo up to its end.
-fn level(
-    offsets: &[u16],
-    links: &[u16],
-    lo: usize,
-    hi: usize,
-    d: u16,
-    dist: &mut [u16],
-    queue: &mut [u16],
-) -> usize
-    requires { ⌜ Net (length (now dist)) (now offsets) (now links) ⌝ }
-    requires { ⌜ Searching (now dist) (now queue) hi ⌝ }
-    requires { ⌜ lo ≤ hi ⌝ }
-    requires { ⌜ d < far ⌝ }
-    ensures { λ r. ⌜ Searched (now (dist .exit)) (now (queue .exit)) r (level (adjacent (now (offsets .entry)) (now (links .entry))) d (stateOf (now (dist .entry)) (now (queue .entry)) hi) (drop lo (take hi (now (queue .entry))))) ⌝ }
-{
-    let mut tail = hi;
-    let mut i = lo;
-    while i < hi {
-        let v = queue[i] as usize;
-        tail = expand(offsets, links, v, d, dist, queue, tail);
-        i += 1;
-    }
-    tail
+// Where a search stands: of the `tail` nodes that it has reached the first `level` are at a distance less than `depth`, and the neighbours of the first
+// `looked` of those have been looked at. The neighbours of the others are the nodes at distance `depth`.
+pub struct Frontier {
+    pub looked: usize,
+    pub level: usize,
+    pub tail: usize,
+    pub depth: u16,
 }
 
-// The levels from the centre, which alone is in the queue, up to distance r, or up to the first that reaches nothing.
-fn levels(offsets: &[u16], links: &[u16], r: u16, dist: &mut [u16], queue: &mut [u16]) -> usize
-    requires { ⌜ Net (length (now dist)) (now offsets) (now links) ⌝ }
-    requires { ⌜ Searching (now dist) (now queue) 1 ⌝ }
-    ensures { λ k. ⌜ Searched (now (dist .exit)) (now (queue .exit)) k (levels (adjacent (now (offsets .entry)) (now (links .entry))) r 0 0 (stateOf (now (dist .entry)) (now (queue .entry)) 1)) ⌝ }
+// The centre alone is reached, and its neighbours are not looked at yet.
+pub const CENTRE: Frontier = Frontier {
+    looked: 0,
+    level: 0,
+    tail: 1,
+    depth: 0,
+};
+
+// More nodes than there are: no search has reached as many.
+pub const ALL: usize = 65536;
+
+// Whether nothing is left to look at when a level is done: it has reached nothing, or the next is too far.
+pub fn ended(level: usize, tail: usize, depth: u16, r: u16) -> bool
+    ensures { λ b. ⌜ b ≡ (eqb level tail || eqb depth r) ⌝ }
 {
-    let mut lo = 0;
-    let mut tail = 1;
-    let mut d: u16 = 0;
-    while d < r {
-        if lo == tail {
-            return tail;
-        }
-        let next = level(offsets, links, lo, tail, d + 1, dist, queue);
-        lo = tail;
-        tail = next;
-        d += 1;
+    if level == tail {
+        return true;
     }
-    tail
+    depth == r
+}
+
+// Goes on with a search as far as distance r, level by level, and stops as soon as it has reached `size` nodes.
+pub fn advance(
+    offsets: &[u16],
+    targets: &[u16],
+    from: Frontier,
+    r: u16,
+    size: usize,
+    dist: &mut [u16],
+    queue: &mut [u16],
+) -> Frontier
+    requires { ⌜ Net (length (now dist)) (now offsets) (now targets) ⌝ }
+    requires { ⌜ Searching (now dist) (now queue) (from .tail) ⌝ }
+    requires { ⌜ Standing r from ⌝ }
+    ensures { λ f. ⌜ Searching (now (dist .exit)) (now (queue .exit)) (f .tail) ⌝ }
+    ensures { λ f. ⌜ Advanced (adjacent (now (offsets .entry)) (now (targets .entry))) r size from (stateOf (now (dist .entry)) (now (queue .entry)) (from .tail)) f (stateOf (now (dist .exit)) (now (queue .exit)) (f .tail)) ⌝ }
+{
+    let mut looked = from.looked;
+    let mut level = from.level;
+    let mut tail = from.tail;
+    let mut depth = from.depth;
+    while tail < size {
+        if looked == level {
+            if ended(level, tail, depth, r) {
+                return Frontier {
+                    looked,
+                    level,
+                    tail,
+                    depth,
+                };
+            }
+            level = tail;
+            depth += 1;
+        } else {
+            let v = queue[looked] as usize;
+            tail = expand(offsets, targets, v, depth, dist, queue, tail);
+            looked += 1;
+        }
+    }
+    Frontier {
+        looked,
+        level,
+        tail,
+        depth,
+    }
 }
 
 // Sets every entry to x.
@@ -141,17 +173,18 @@ pub fn begin(c: u16, dist: &mut [u16], queue: &mut [u16])
 // Returns how many nodes it reached; they stand first in the queue, nearest first.
 pub fn search(
     offsets: &[u16],
-    links: &[u16],
+    targets: &[u16],
     c: u16,
     r: u16,
     dist: &mut [u16],
     queue: &mut [u16],
 ) -> usize
-    requires { ⌜ Net (length (now dist)) (now offsets) (now links) ⌝ }
+    requires { ⌜ Net (length (now dist)) (now offsets) (now targets) ⌝ }
     requires { ⌜ c < length (now dist) ⌝ }
     requires { ⌜ length (now dist) ≡ length (now queue) ⌝ }
-    ensures { λ k. ⌜ Found k (now (dist .exit)) (now (queue .exit)) (bfs (adjacent (now (offsets .entry)) (now (links .entry))) (length (now (dist .entry))) c r) ⌝ }
+    ensures { λ k. ⌜ Found k (now (dist .exit)) (now (queue .exit)) (bfs (adjacent (now (offsets .entry)) (now (targets .entry))) (length (now (dist .entry))) c r) ⌝ }
 {
     begin(c, dist, queue);
-    levels(offsets, links, r, dist, queue)
+    let end = advance(offsets, targets, CENTRE, r, ALL, dist, queue);
+    end.tail
 }

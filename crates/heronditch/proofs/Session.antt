@@ -1,8 +1,5 @@
 -- The promises of a session's calls, as a host program sees them. Assumes nothing.
-use mathlib.Core.List.{List, [], _∷_}
-use mathlib.Core.Path.{_≡_, refl, sym, ap, ap₂, _∙_}
-use Prim.Native.Nat.{ℕ}
-use lib.ListN.{length}
+use Rattle.base_lists.specs.Kit.{_≡_, _∙_, sym, ap, refl, ap₂, List, [], _∷_, ℕ, length}
 use Rattle.graph.specs.Circuit.{circuitGraph}
 use Rattle.simulation.specs.Simulation.{Largest}
 use Rattle.file_format.specs.Circuit.{circuitOf}
@@ -17,15 +14,14 @@ use Rattle.table.specs.Host.{KindsMatch}
 use Rattle.table.specs.Row.{InTable}
 use Rattle.call_session.specs.declared.OpenAnswer.{OpenAnswer}
 use Rattle.call_session.specs.Call.{openConditions, openVerdict, OpenPromise}
-use Rattle.session.specs.Machine.{Machine, fresh, cutReply, cutMachine, replies, machineAfter, boardLeft, machineTable}
-use Rattle.session.specs.Session.{cutState}
+use Rattle.session.specs.Machine.{Machine, fresh, replies, machineAfter, boardLeft, machineTable}
 use Rattle.session.specs.State.{State, state, Holds}
-use Rattle.session.specs.Tables.{nodesIn, cutAnswered, CutMade, cutsAnswered, cutsTables, readVerdict, tableIn, ReadMade}
+use Rattle.session.specs.Tables.{CutMade, cutsAnswered, cutsTables, ReadMade}
 use Rattle.session.proofs.Run.{machine-largest}
-use Rattle.session.proofs.Tables.{nodes-held, answered-held, tables-held, cut-held, cut-refused, cuts-held, table-held}
+use Rattle.session.proofs.Tables.{nodes-held, cuts-held, table-held}
 use Rattle.heronditch_reply.specs.declared.HostReply.{HostReply}
-use Rattle.heronditch_reply.specs.Replies.{slots, numberOf}
-use Rattle.heronditch.specs.Session.{HostOpen, HostCut, HostTable, HostCuts, hostReplies}
+use Rattle.heronditch_reply.specs.Replies.{slots, verdictNumber}
+use Rattle.heronditch.specs.Session.{HostOpen, HostCut, HostReadOut, HostCuts, hostReplies}
 
 pub host-open :
     {pattern board : CircuitFile} {before after : State} (answer : OpenAnswer) {r : HostReply} → OpenPromise pattern board before (openVerdict answer) after →
@@ -44,7 +40,7 @@ never-zero pattern board x = without-never 0 (openConditions pattern board) x
 
 -- no condition has number 0: a reply of number 0 is acceptance
 opened-zero : {pattern board : CircuitFile} {before after : State} {r : HostReply} → HostOpen pattern board before r after → r .number ≡ 0 → first (openConditions pattern board) ≡ accept
-unfolding slots numberOf files.reply
+unfolding slots verdictNumber files.reply
 opened-zero {pattern} {board} {before} {after} {r} p e = go (first (openConditions pattern board)) refl
   where
     go : (v : Verdict) → first (openConditions pattern board) ≡ v → v ≡ accept
@@ -57,40 +53,16 @@ pub host-cut :
 host-cut p e = record { replied = e ∙ ap (λ (v : Verdict). slots (files.reply v [])) (p .replied); tables = p .tables }
 
 pub host-table :
-    {fixed sets before after : List ℕ} {a : files.Reply} {r : HostReply} → ReadMade fixed sets before a after → r ≡ slots a → HostTable fixed sets before r after
+    {fixed sets before after : List ℕ} {a : files.Reply} {r : HostReply} → ReadMade fixed sets before a after → r ≡ slots a → HostReadOut fixed sets before r after
 host-table p e = record { replied = e ∙ ap slots (p .replied); table = p .table }
 
--- ---- what they come to: a number other than 0 leaves the tables as they were, whatever they hold; where they hold a machine, the reply and the tables are the machine's
+-- ---- what reading out comes to where the tables hold a machine
 
-module _ {before after : State} {link : ℕ} {r : HostReply} (c : HostCut before link r after) where
-  pub cut-keeps : (r .number ≡ 0 → ⊥) → after ≡ before
-  unfolding slots numberOf files.reply
-  cut-keeps other = go (cutAnswered before link) refl
-    where
-      go : (v : Verdict) → cutAnswered before link ≡ v → after ≡ before
-      go accept e = absurd (other (ap (λ (x : HostReply). x .number) (c .replied ∙ ap (λ (v : Verdict). slots (files.reply v [])) e)))
-      go (refuse x) e = c .tables ∙ cut-refused before link x e
-
-  pub cut-machine : (m : Machine) → Holds m before → (r ≡ slots (files.reply (cutReply m link) [])) × Holds (cutMachine m link) after × (after ≡ cutState m link before)
-  cut-machine m h = (
-    c .replied ∙ ap (λ (v : Verdict). slots (files.reply v [])) (answered-held h link),
-    rw (c .tables) (cut-held h link),
-    c .tables ∙ tables-held h link,
-  )
-
-module _ {fixed sets before after : List ℕ} {r : HostReply} (c : HostTable fixed sets before r after) where
-  pub table-keeps : (r .number ≡ 0 → ⊥) → after ≡ before
-  unfolding slots numberOf files.reply filled
-  table-keeps other = go (readVerdict fixed before) refl
-    where
-      go : (v : Verdict) → readVerdict fixed before ≡ v → after ≡ before
-      go accept e = absurd (other (ap (λ (x : HostReply). x .number) (c .replied ∙ ap (λ (v : Verdict). slots (files.reply v (nodesIn fixed ∷ []))) e)))
-      go (refuse x) e = c .table ∙ ap (λ (v : Verdict). filled v (tableIn fixed sets) before) e
-
+module _ {fixed sets before after : List ℕ} {r : HostReply} (c : HostReadOut fixed sets before r after) where
   pub table-machine :
       (m : Machine) (offsets numbers ends : List ℕ) → Holds m (state fixed offsets numbers ends sets) →
-      let verdict = first (shortTable (length (m .board .kinds)) (length before) ∷ []) in
-      (r ≡ slots (files.reply verdict (length (m .board .kinds) ∷ []))) × (after ≡ filled verdict (machineTable m) before)
+      let verdict = first (shortTable (length (m .board .labels)) (length before) ∷ []) in
+      (r ≡ slots (files.reply verdict (length (m .board .labels) ∷ []))) × (after ≡ filled verdict (machineTable m) before)
   table-machine m offsets numbers ends h =
       let nodes = nodes-held h in (
         c .replied ∙ ap (λ (n : ℕ). slots (files.reply (first (shortTable n (length before) ∷ [])) (n ∷ []))) nodes,
@@ -128,9 +100,9 @@ module _ {pattern board : CircuitFile} {before opened : State} {r : HostReply} (
       (es ∙ ap hostReplies said, rw end holds)
 
   pub host-read :
-      {lent later : List ℕ} {t : HostReply} → HostTable (after .fixed) (after .sets) lent t later →
-      let verdict = first (shortTable (length (machine .board .kinds)) (length lent) ∷ []) in
-      (t ≡ slots (files.reply verdict (length (machine .board .kinds) ∷ []))) × (later ≡ filled verdict (machineTable machine) lent)
+      {lent later : List ℕ} {t : HostReply} → HostReadOut (after .fixed) (after .sets) lent t later →
+      let verdict = first (shortTable (length (machine .board .labels)) (length lent) ∷ []) in
+      (t ≡ slots (files.reply verdict (length (machine .board .labels) ∷ []))) × (later ≡ filled verdict (machineTable machine) lent)
   host-read read = table-machine read machine (after .offsets) (after .numbers) (after .ends) (host-run .1)
 
   pub host-largest :

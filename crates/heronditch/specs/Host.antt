@@ -1,14 +1,11 @@
 -- The calls as a host program sees them: each reply is a struct of numbers, in which number 0 stands for acceptance. What is below gives
 -- document 01's reply in that form; the calls themselves are those of the crates below.
-use mathlib.Core.Bool.{cond}
-use mathlib.Core.List.{List, [], _∷_}
-use Prim.Native.Nat.{ℕ}
-use lib.ListN.{length}
+use Rattle.base_lists.specs.Kit.{cond, List, [], _∷_, ℕ, length}
 use Rattle.file_format.specs.Layout.{CircuitFile}
 use Rattle.file_format.specs.Reading.{ReadOutcome, filled}
 use Rattle.file_format.specs.Refusals.{first, shortTable}
 use Rattle.file_format.specs.Reply as files
-use Rattle.heronditch_reply.specs.Replies.{numberOf, meantFile, slots, counted, pieced}
+use Rattle.heronditch_reply.specs.Replies.{verdictNumber, meantFile, slots, counted, pieced}
 use Rattle.call_convert.specs.Call.{ConvertOutcome}
 use Rattle.call_distance.specs.Calls.{BallOutcome}
 use Rattle.file_write.specs.Writing.{WriteOutcome}
@@ -17,10 +14,10 @@ use Rattle.call_bounded.specs.Call.{boundedMatching}
 use Rattle.place.specs.Outcome.{PlaceOutcome}
 use Rattle.barring.specs.Outcome.{BarOutcome}
 use Rattle.call_merge.specs.Call.{MergeOutcome}
-use Rattle.call_load.specs.Call.{LoadOutcome}
+use Rattle.call_test_board.specs.Call.{TestBoardOutcome}
 use Rattle.call_report.specs.Call.{ReportOutcome}
-use Rattle.call_compare.specs.declared.CompareAnswer.{CompareAnswer}
-use Rattle.call_compare.specs.Call.{compareReply}
+use Rattle.call_shelf.specs.declared.compare.CompareAnswer.{CompareAnswer}
+use Rattle.call_shelf.specs.Compare.{compareReply}
 use Rattle.call_shelf.specs.Shelf.{ShelfOutcome}
 use Rattle.heronditch_reply.specs.declared.HostReply.{HostReply}
 use Rattle.heronditch_reply.specs.declared.Counted.{Counted}
@@ -83,8 +80,8 @@ pub record HostMerge : Type 0 where
 unfoldable pub hostMerge : MergeOutcome → HostMerge
 hostMerge o = record { reply = slots (o .reply); classes = o .classes; out = o .out }
 
-unfoldable pub hostLoad : LoadOutcome → HostOut
-hostLoad o = record { reply = slots (o .reply); out = o .out }
+unfoldable pub hostTestBoard : TestBoardOutcome → HostOut
+hostTestBoard o = record { reply = slots (o .reply); out = o .out }
 
 pub record HostReport : Type 0 where
   pub reply : Piece
@@ -97,7 +94,7 @@ hostReport o = record { reply = pieced (o .reply); out = o .out }
 unfoldable pub hostCompare : CompareAnswer → Comparison
 hostCompare answer =
     let c = compareReply answer in
-    record { number = numberOf (c .verdict); file = meantFile (c .verdict); which = c .which; order = c .order }
+    record { number = verdictNumber (c .verdict); file = meantFile (c .verdict); which = c .which; order = c .order }
 
 unfoldable pub hostShelf : ShelfOutcome → HostOut
 hostShelf o = record { reply = slots (o .reply); out = o .order }

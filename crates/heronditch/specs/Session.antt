@@ -1,7 +1,5 @@
 -- The calls of a session as a host program sees them: each reply as a struct of numbers, and what the lent tables hold.
-use mathlib.Core.List.{List, [], _∷_, map}
-use mathlib.Core.Path.{_≡_}
-use Prim.Native.Nat.{ℕ}
+use Rattle.base_lists.specs.Kit.{_≡_, List, [], _∷_, map, ℕ}
 use Rattle.file_format.specs.Circuit.{circuitOf}
 use Rattle.file_format.specs.Layout.{CircuitFile}
 use Rattle.file_format.specs.Reading.{filled}
@@ -28,7 +26,7 @@ pub record HostCut (before : State) (link : ℕ) (r : HostReply) (after : State)
   pub tables : after ≡ cutTables before link
 
 -- reading out, whatever the tables hold: the reply, and the lent table after it
-pub record HostTable (fixed sets before : List ℕ) (r : HostReply) (after : List ℕ) : Type 0 where
+pub record HostReadOut (fixed sets before : List ℕ) (r : HostReply) (after : List ℕ) : Type 0 where
   pub replied : r ≡ slots (reply (readVerdict fixed before) (nodesIn fixed ∷ []))
   pub table : after ≡ filled (readVerdict fixed before) (tableIn fixed sets) before
 

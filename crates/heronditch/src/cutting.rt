@@ -5,7 +5,7 @@ ghost use Rattle.call_session.specs.Call.{openVerdict};
 ghost use Rattle.file_format.specs.Reply.{reply};
 ghost use Rattle.heronditch_reply.specs.Replies.{slots};
 ghost use Rattle.heronditch_told.specs.Told.{told};
-ghost use Rattle.heronditch.specs.Session.{HostOpen, HostCut, HostTable};
+ghost use Rattle.heronditch.specs.Session.{HostOpen, HostCut, HostReadOut};
 ghost use Rattle.session.specs.State.{state};
 ghost use Rattle.session_cut.specs.Cut.{cutVerdict, outReply};
 use call_session::OpenAnswer;
@@ -102,7 +102,7 @@ pub extern "C" fn heronditch_session_table(
     sets: &[u32; 512],
     table: &mut [u32],
 ) -> HostReply
-    ensures { λ r. ⌜ HostTable (now (fixed .entry)) (now (sets .entry)) (now (table .entry)) r (now (table .exit)) ⌝ }
+    ensures { λ r. ⌜ HostReadOut (now (fixed .entry)) (now (sets .entry)) (now (table .entry)) r (now (table .exit)) ⌝ }
 {
     of_out(session_cut::read_out(&fixed[..], &sets[..], table))
 }

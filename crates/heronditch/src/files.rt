@@ -6,23 +6,23 @@ ghost use Rattle.graph_neighbours.specs.Lookup.{neighboursOf};
 ghost use Rattle.call_convert.specs.Call.{converting};
 ghost use Rattle.call_file.specs.Told.{asRole};
 ghost use Rattle.call_distance.specs.Calls.{radiusCall, ballCall};
-ghost use Rattle.call_load.specs.Call.{loading};
+ghost use Rattle.call_test_board.specs.Call.{makingTestBoard};
 ghost use Rattle.call_merge.specs.Call.{merging};
-ghost use Rattle.heronditch.specs.Host.{hostRead, hostWrite, hostConvert, hostBall, hostMerge, hostLoad, hostNeighbours};
+ghost use Rattle.heronditch.specs.Host.{hostRead, hostWrite, hostConvert, hostBall, hostMerge, hostTestBoard, hostNeighbours};
 ghost use Rattle.heronditch_reply.specs.Replies.{slots};
 ghost use Rattle.heronditch_told.specs.Told.{told, editionOf, roleOf, directionOf};
-use file_format::File;
-use file_format::Refusal;
+use call_file::as_role;
+use file_format::TOO_SHORT;
 use graph::copy;
 use graph_neighbours::neighbours::neighbours;
 use heronditch_reply::HostReply;
 use heronditch_reply::accepted;
 use heronditch_reply::of_ball;
 use heronditch_reply::of_convert;
-use heronditch_reply::of_load;
 use heronditch_reply::of_merge;
 use heronditch_reply::of_radius;
 use heronditch_reply::of_read;
+use heronditch_reply::of_test_board;
 use heronditch_reply::of_write;
 use heronditch_reply::refused;
 use heronditch_told::direction_of;
@@ -43,8 +43,8 @@ pub extern "C" fn heronditch_read(
     ensures { λ r. ⌜ record { reply = r; kinds = now (kinds .exit); packages = now (packages .exit); starts = now (starts .exit); ends = now (ends .exit) }
         ≡ hostRead (reading (asRole (roleOf role)) (told (now (file .entry)) edition) (now (kinds .entry)) (now (packages .entry)) (now (starts .entry)) (now (ends .entry))) ⌝ }
 {
-    of_read(call_file::read(
-        role_of(role),
+    of_read(file_read::read(
+        as_role(role_of(role)),
         edition_of(edition),
         file,
         kinds,
@@ -68,8 +68,8 @@ pub extern "C" fn heronditch_write(
     ensures { λ r. ⌜ record { reply = r; out = now (out .exit) }
         ≡ hostWrite (writing (asRole (roleOf role)) (editionOf edition) (now (kinds .entry)) (now (packages .entry)) (now (starts .entry)) (now (ends .entry)) (now (out .entry))) ⌝ }
 {
-    of_write(call_file::write(
-        role_of(role),
+    of_write(file_write::write(
+        as_role(role_of(role)),
         edition_of(edition),
         kinds,
         packages,
@@ -91,8 +91,8 @@ pub extern "C" fn heronditch_convert(
     ensures { λ r. ⌜ record { reply = r; out = now (out .exit) }
         ≡ hostConvert (converting (asRole (roleOf role)) (editionOf «to_edition») (told (now (file .entry)) edition) (now (out .entry))) ⌝ }
 {
-    of_convert(call_file::convert(
-        role_of(role),
+    of_convert(call_convert::convert(
+        as_role(role_of(role)),
         edition_of(edition),
         edition_of(to_edition),
         file,
@@ -109,9 +109,9 @@ pub extern "C" fn heronditch_test_board(
     k: u32,
     out: &mut [u8],
 ) -> HostReply
-    ensures { λ r. ⌜ record { reply = r; out = now (out .exit) } ≡ hostLoad (loading seed n m k (now (out .entry))) ⌝ }
+    ensures { λ r. ⌜ record { reply = r; out = now (out .exit) } ≡ hostTestBoard (makingTestBoard seed n m k (now (out .entry))) ⌝ }
 {
-    of_load(call_load::load(seed, n, m, k, out))
+    of_test_board(call_test_board::test_board(seed, n, m, k, out))
 }
 
 // A stretch of a table, copied out.
@@ -119,10 +119,7 @@ fn copy_out(part: &[u16], out: &mut [u16]) -> HostReply
     ensures { λ r. ⌜ record { reply = r; out = now (out .exit) } ≡ hostNeighbours (now (part .entry)) (now (out .entry)) ⌝ }
 {
     if out.len() < part.len() {
-        return refused(Refusal {
-            number: 8,
-            file: File::Neither,
-        });
+        return refused(TOO_SHORT);
     }
     copy(part, out);
     accepted(part.len(), 0)

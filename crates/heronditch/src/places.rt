@@ -10,6 +10,7 @@ ghost use Rattle.call_report.specs.Call.{reporting};
 ghost use Rattle.heronditch.specs.Host.{hostPlace, hostBar, hostReport};
 ghost use Rattle.heronditch_reply.specs.Replies.{slots};
 ghost use Rattle.heronditch_told.specs.Told.{told};
+use call_place::Question;
 use call_place::Reach;
 use heronditch_reply::Counted;
 use heronditch_reply::HostReply;
@@ -42,17 +43,12 @@ pub extern "C" fn heronditch_place_editions(
         (radiusOf (circuitOf (told (now (pattern .entry)) «pattern_edition»)))
         (now (nodes .entry)) (now (links .entry)) (now (table .entry)) (now (distances .entry))) ⌝ }
 {
-    of_place(call_place::place(
-        Reach::Own,
-        editions_of(pattern_edition, board_edition),
-        pattern,
-        board,
+    let question = Question {
         centre,
-        nodes,
-        links,
-        table,
-        distances,
-    ))
+        editions: editions_of(pattern_edition, board_edition),
+        reach: Reach::Own,
+    };
+    of_place(call_place::place(question, pattern, board, nodes, links, table, distances))
 }
 
 // The same at a radius given.
@@ -73,17 +69,12 @@ pub extern "C" fn heronditch_place_within_editions(
         ≡ hostPlace (placeAt (told (now (pattern .entry)) «pattern_edition») (told (now (board .entry)) «board_edition») centre radius
         (now (nodes .entry)) (now (links .entry)) (now (table .entry)) (now (distances .entry))) ⌝ }
 {
-    of_place(call_place::place(
-        Reach::Given(radius),
-        editions_of(pattern_edition, board_edition),
-        pattern,
-        board,
+    let question = Question {
         centre,
-        nodes,
-        links,
-        table,
-        distances,
-    ))
+        editions: editions_of(pattern_edition, board_edition),
+        reach: Reach::Given(radius),
+    };
+    of_place(call_place::place(question, pattern, board, nodes, links, table, distances))
 }
 
 // Finds the pattern around a node of the board, at the pattern's radius, in files of the first edition: "the C call still read[s] the first".

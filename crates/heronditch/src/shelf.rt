@@ -1,12 +1,12 @@
 // The comparison of two second-edition patterns, and a shelf of them.
 ghost use mathlib.Core.Path.{_≡_};
-ghost use Rattle.call_compare.specs.Call.{whichNumber, orderNumber, comparing};
+ghost use Rattle.call_shelf.specs.Compare.{whichNumber, orderNumber, comparing};
 ghost use Rattle.call_shelf.specs.Shelf.{shelfReply, shelving};
 ghost use Rattle.heronditch.specs.Host.{hostCompare, hostShelf};
 ghost use Rattle.heronditch_reply.specs.Replies.{slots};
-use call_compare::CompareAnswer;
-use call_compare::Which;
 use call_shelf::ShelfAnswer;
+use call_shelf::compare::CompareAnswer;
+use call_shelf::compare::Which;
 use heronditch_reply::HostReply;
 use heronditch_reply::accepted;
 use heronditch_reply::refused;
@@ -79,7 +79,7 @@ fn of_shelf(answer: ShelfAnswer) -> HostReply
 pub extern "C" fn heronditch_compare(first: &[u8], second: &[u8]) -> Comparison
     ensures { λ r. ⌜ r ≡ hostCompare (comparing (now (first .entry)) (now (second .entry))) ⌝ }
 {
-    of_compare(call_compare::compare(first, second))
+    of_compare(call_shelf::compare::compare(first, second))
 }
 
 // Puts a shelf of second-edition patterns in order, by their numbers; those that are refused are passed over. Replies with how many are accepted.

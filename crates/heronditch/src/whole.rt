@@ -40,12 +40,8 @@ pub extern "C" fn heronditch_match(
     if 2 < pattern_edition {
         return heronditch_match_third(pattern, board, board_edition, table);
     }
-    of_match(call_match::match_table(
-        editions_of(pattern_edition, board_edition),
-        pattern,
-        board,
-        table,
-    ))
+    let editions = editions_of(pattern_edition, board_edition);
+    of_match(call_match::match_table(editions, pattern, board, table))
 }
 
 // The same one way, without bounds: a pair needs partners for what its part drives, and none for what drives it.
@@ -60,10 +56,6 @@ pub extern "C" fn heronditch_match_one_way(
     ensures { λ r. ⌜ record { reply = r; table = now (table .exit) }
         ≡ hostMatch (oneWayMatching (told (now (pattern .entry)) «pattern_edition») (told (now (board .entry)) «board_edition») (now (table .entry))) ⌝ }
 {
-    of_match(call_match::match_one_way(
-        editions_of(pattern_edition, board_edition),
-        pattern,
-        board,
-        table,
-    ))
+    let editions = editions_of(pattern_edition, board_edition);
+    of_match(call_match::match_one_way(editions, pattern, board, table))
 }

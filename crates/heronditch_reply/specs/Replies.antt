@@ -17,9 +17,9 @@ fileNumber Pattern = 1
 fileNumber Board = 2
 
 -- acceptance is number 0 of neither file
-unfoldable pub numberOf : Verdict → ℕ
-numberOf accept = 0
-numberOf (refuse x) = x .number
+unfoldable pub verdictNumber : Verdict → ℕ
+verdictNumber accept = 0
+verdictNumber (refuse x) = x .number
 
 unfoldable pub meantFile : Verdict → ℕ
 meantFile accept = 0
@@ -28,13 +28,13 @@ meantFile (refuse x) = fileNumber (x .file)
 -- up to two values replied with; a slot without one is 0
 unfoldable pub slots : files.Reply → HostReply
 slots r =
-    record { number = numberOf (r .verdict); file = meantFile (r .verdict); first = getD (r .values) 0 0; second = getD (r .values) 1 0 }
+    record { number = verdictNumber (r .verdict); file = meantFile (r .verdict); first = getD (r .values) 0 0; second = getD (r .values) 1 0 }
 
 -- the four counts replied with
 unfoldable pub counted : table.MatchReply → Counted
 counted r =
     record {
-      number = numberOf (r .verdict);
+      number = verdictNumber (r .verdict);
       file = meantFile (r .verdict);
       started = r .counts .started;
       kept = r .counts .kept;
@@ -46,7 +46,7 @@ counted r =
 unfoldable pub pieced : files.Reply → Piece
 pieced r =
     record {
-      number = numberOf (r .verdict);
+      number = verdictNumber (r .verdict);
       file = meantFile (r .verdict);
       next = getD (r .values) 0 0;
       found = getD (r .values) 1 0;

@@ -9,7 +9,7 @@ ghost use Rattle.call_match.specs.Call.{replyOf};
 ghost use Rattle.place.specs.Outcome.{placeReply};
 ghost use Rattle.barring.specs.Outcome.{barReply};
 ghost use Rattle.call_merge.specs.Call.{mergeReply};
-ghost use Rattle.call_load.specs.Call.{loadReply};
+ghost use Rattle.call_test_board.specs.Call.{testBoardReply};
 ghost use Rattle.call_report.specs.Call.{reportReply};
 ghost use Rattle.heronditch_reply.specs.Replies.{fileNumber, slots, counted, pieced};
 use barring::BarAnswer;
@@ -17,16 +17,16 @@ use call_check::CheckAnswer;
 use call_convert::ConvertAnswer;
 use call_distance::BallAnswer;
 use call_distance::RadiusAnswer;
-use call_load::LoadAnswer;
 use call_match::TableAnswer;
 use call_merge::MergeAnswer;
 use call_report::ReportAnswer;
+use call_test_board::TestBoardAnswer;
 use file_format::File;
 use file_format::ReadAnswer;
 use file_format::Refusal;
 use file_write::WriteAnswer;
 use place::PlaceAnswer;
-use report_centres::Part;
+use report_centres::PutPiece;
 use table::Counts;
 
 // Number 0 for acceptance or the refusal's number; the file that it means (0 neither, 1 pattern, 2 board); the values replied with.
@@ -148,12 +148,13 @@ pub fn of_check(answer: CheckAnswer) -> HostReply
     }
 }
 
-fn with_counts(k: Counts) -> Counted
-    ensures { λ r. ⌜ r ≡ record { number = 0; file = 0; started = k .started; kept = k .kept; struck = k .struck; rounds = k .rounds } ⌝ }
+// Four counts, with a number and a file.
+fn with_counts(number: u32, file: u32, k: Counts) -> Counted
+    ensures { λ r. ⌜ r ≡ record { number = number; file = file; started = k .started; kept = k .kept; struck = k .struck; rounds = k .rounds } ⌝ }
 {
     Counted {
-        number: 0,
-        file: 0,
+        number,
+        file,
         started: k.started,
         kept: k.kept,
         struck: k.struck,
@@ -166,21 +167,14 @@ fn refused_with(x: Refusal, k: Counts) -> Counted
     ensures { λ r. ⌜ r ≡ record { number = x .number; file = fileNumber (x .file); started = k .started; kept = k .kept; struck = k .struck; rounds = k .rounds } ⌝ }
 {
     let file = x.file;
-    Counted {
-        number: x.number as u32,
-        file: file_number(file),
-        started: k.started,
-        kept: k.kept,
-        struck: k.struck,
-        rounds: k.rounds,
-    }
+    with_counts(x.number as u32, file_number(file), k)
 }
 
 pub fn of_match(answer: TableAnswer) -> Counted
     ensures { λ r. ⌜ r ≡ counted (replyOf answer) ⌝ }
 {
     match answer {
-        TableAnswer::Matched(k) => with_counts(k),
+        TableAnswer::Matched(k) => with_counts(0, 0, k),
         TableAnswer::Refused(x) => refused_with(
             x,
             Counts {
@@ -197,7 +191,7 @@ pub fn of_place(answer: PlaceAnswer) -> Counted
     ensures { λ r. ⌜ r ≡ counted (placeReply answer) ⌝ }
 {
     match answer {
-        PlaceAnswer::Placed(k) => with_counts(k),
+        PlaceAnswer::Placed(k) => with_counts(0, 0, k),
         PlaceAnswer::Refused(x, k) => refused_with(x, k),
     }
 }
@@ -220,16 +214,16 @@ pub fn of_merge(answer: MergeAnswer) -> HostReply
     }
 }
 
-pub fn of_load(answer: LoadAnswer) -> HostReply
-    ensures { λ r. ⌜ r ≡ slots (loadReply answer) ⌝ }
+pub fn of_test_board(answer: TestBoardAnswer) -> HostReply
+    ensures { λ r. ⌜ r ≡ slots (testBoardReply answer) ⌝ }
 {
     match answer {
-        LoadAnswer::Made(size) => accepted(size, 0),
-        LoadAnswer::Refused(x) => refused(x),
+        TestBoardAnswer::Made(size) => accepted(size, 0),
+        TestBoardAnswer::Refused(x) => refused(x),
     }
 }
 
-fn put_piece(part: Part) -> Piece
+fn put_piece(part: PutPiece) -> Piece
     ensures { λ r. ⌜ r ≡ record { number = 0; file = 0; next = part .next; found = part .found; size = part .size } ⌝ }
 {
     Piece {

@@ -10,17 +10,17 @@ use lib.Signed.{leZ}
 use mir.Syntax.{w64}
 use mir.Val.{SFits, ofZ}
 use Rattle.output.proofs.Errors.{value-is}
-use Rattle.input.specs.declared.Found.{Found}
-use Rattle.input.specs.declared.Found.the-variants as found
+use Rattle.input.specs.declared.FileFound.{FileFound}
+use Rattle.input.specs.declared.FileFound.the-variants as found
 use Rattle.input.specs.Reading.{isOpen, isAbsent, unopenedOf, isEnd, endedOf, Tells, Within}
 
-pub within-more : (x : Found) (a b : ℕ) → a ≤ b → Within a x → Within b x
+pub within-more : (x : FileFound) (a b : ℕ) → a ≤ b → Within a x → Within b x
 within-more (found.Bytes size) a b h w = omega arith
 within-more found.Absent a b h w = tt
 within-more found.Unreadable a b h w = tt
 
 -- no more was read than there is room
-pub told-within : (x : Found) (size room : ℕ) → Tells size room x → size ≤ room → Within room x
+pub told-within : (x : FileFound) (size room : ℕ) → Tells size room x → size ≤ room → Within room x
 told-within (found.Bytes told) size room e h = omega (arith, e, h)
 told-within found.Absent size room e h = absurd e
 told-within found.Unreadable size room e h = tt

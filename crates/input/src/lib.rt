@@ -8,7 +8,7 @@ ghost use lib.ListN.{length};
 ghost use Rattle.input.specs.Reading.{isOpen, isAbsent, unopenedOf, endedOf, Tells, Within};
 
 // What became of reading a file: so many of its bytes stand at the front of the buffer; or there is no such name; or it cannot be read.
-pub enum Found {
+pub enum FileFound {
     Bytes(usize),
     Absent,
     Unreadable,
@@ -39,24 +39,24 @@ fn absent(error: i32) -> bool
 }
 
 // What became of a file that was not opened, for this error.
-fn unopened(error: i32) -> Found
+fn unopened(error: i32) -> FileFound
     ensures { λ r. ⌜ r ≡ unopenedOf error ⌝ }
 {
     if absent(error) {
-        return Found::Absent;
+        return FileFound::Absent;
     }
-    Found::Unreadable
+    FileFound::Unreadable
 }
 
 // What became of an open file whose reading stopped after so many bytes, ahead of the buffer's end, and of which one read more answered this: 0 is the
 // file's end, and anything else a read that failed.
-fn ended(size: usize, more: isize) -> Found
+fn ended(size: usize, more: isize) -> FileFound
     ensures { λ r. ⌜ r ≡ endedOf size more ⌝ }
 {
     if more != 0 {
-        return Found::Unreadable;
+        return FileFound::Unreadable;
     }
-    Found::Bytes(size)
+    FileFound::Bytes(size)
 }
 
 // One read more, of at least a byte: a read of none would answer 0 as the file's end does.
@@ -68,18 +68,18 @@ fn read_more(fd: i32, more: &mut [u8]) -> isize
 
 // What became of an open file of which so many bytes were read, to where there is this much room: a read that failed is told from the end by one
 // read more. It is not absent, and be it empty; and where the buffer is full, it was read.
-fn outcome(fd: i32, size: usize, room: usize) -> Found
+fn outcome(fd: i32, size: usize, room: usize) -> FileFound
     ensures { λ r. ⌜ Tells size room r ⌝ }
 {
     if size == room {
-        return Found::Bytes(size);
+        return FileFound::Bytes(size);
     }
     let mut more = [0u8; 1];
     ended(size, read_more(fd, &mut more))
 }
 
 // Reads from an open file until the buffer is full or the file ends.
-fn read_open(fd: i32, buf: &mut [u8]) -> Found
+fn read_open(fd: i32, buf: &mut [u8]) -> FileFound
     requires { ⌜ isOpen fd ≡ true ⌝ }
     ensures { λ r. ⌜ Within (length (now (buf .exit))) r ⌝ }
 {
@@ -88,7 +88,7 @@ fn read_open(fd: i32, buf: &mut [u8]) -> Found
 }
 
 // The bytes of a file by its name.
-pub fn load(name: &[u8], buf: &mut [u8]) -> Found
+pub fn load(name: &[u8], buf: &mut [u8]) -> FileFound
     ensures { λ r. ⌜ Within (length (now (buf .exit))) r ⌝ }
 {
     let fd = os::open_read(name);

@@ -1,15 +1,5 @@
 -- A word gone through digit by digit. Assumes nothing.
-use mathlib.Core.Bool.{true, false, _&&_, and-false}
-use mathlib.Core.List.{List, [], _∷_}
-use mathlib.Core.Path.{_≡_, refl, sym, ap, _∙_}
-use Prim.Native.Nat.{ℕ, _+_, _*_, _-_, _^_, _≤_, _<_}
-use native.Mathlib.Nat.{le-refl, le-trans}
-use native.Mathlib.Numerals.{add-one}
-use native.Mathlib.Omega.{arith}
-use borrow.Author.Tests.{le-leb, lt-leb, lt-ltb, le-ltb}
-use lib.Dec.{T, leb, ltb, leb→le}
-use lib.ListN.{length, getD, drop}
-use lib.Seq.{drop-cons, drop-length}
+use Rattle.base_lists.specs.Kit.{_≡_, _∙_, sym, ap, refl, false, true, _&&_, and-false, List, [], _∷_, ℕ, _≤_, _<_, _+_, _-_, _*_, _^_, le-refl, le-trans, add-one, T, ltb, leb, leb→le, length, getD, drop, drop-cons, drop-length, arith, le-ltb, lt-ltb, le-leb, lt-leb}
 use Rattle.base_lists.specs.List.{all}
 use Rattle.base_lists.proofs.Tests.{true-T, both-left, both-right}
 use Rattle.loader.specs.declared.words.Word.the-variants.{Number, NoNumber}

@@ -1,9 +1,5 @@
 -- Numbers as words.
-use mathlib.Core.Bool.{Bool, _&&_, cond}
-use mathlib.Core.List.{List, [], _∷_}
-use Prim.Native.Nat.{ℕ, _+_, _*_, _-_, _^_}
-use lib.Dec.{leb, ltb}
-use lib.ListN.{length}
+use Rattle.base_lists.specs.Kit.{Bool, cond, _&&_, List, [], _∷_, ℕ, _+_, _-_, _*_, _^_, ltb, leb, length}
 use Rattle.base_lists.specs.List.{all}
 use Rattle.loader.specs.declared.words.Word.{Word}
 use Rattle.loader.specs.declared.words.Word.the-variants.{Number, NoNumber}

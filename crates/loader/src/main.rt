@@ -1,8 +1,8 @@
-// The program that makes a test load: takes the four numbers as words, seed, N, M and K, and writes the board's file to standard output. Where a
+// The program that makes a test board: takes the four numbers as words, seed, N, M and K, and writes the board's file to standard output. Where a
 // word is no number, or a number is out of its range, it says so on standard error and writes nothing to standard output.
 use crate::words::Word;
 use crate::words::number;
-use call_load::LoadAnswer;
+use call_test_board::TestBoardAnswer;
 use file_format::Board;
 use output::Output;
 ghost use mathlib.Core.Path.{_≡_};
@@ -11,15 +11,15 @@ ghost use lib.Dec.{eqb};
 ghost use lib.ListN.{length};
 ghost use Rattle.file_format.specs.declared.Edition.the-variants as editions;
 ghost use Rattle.file_format.specs.Layout.{lengthOf};
-ghost use Rattle.call_load.specs.Call.{loadBytes};
-ghost use Rattle.loader.specs.Printing.{heardOf, Tried, Told, Ran};
+ghost use Rattle.call_test_board.specs.Call.{testBoardBytes};
+ghost use Rattle.loader.specs.Printing.{heardOf, Heard, WordsHeard, askedBy, WriteTried, Handed, TestBoardRan};
 
 mod words;
 
-// The longest file of a load.
+// The longest file of a test board.
 const BYTES: usize = 4 + 2 * Board::MAX_NODES + 4 * Board::MAX_LINKS;
 
-// The four words that ask for a load.
+// The four words that ask for a test board.
 struct Asked {
     seed: Word,
     n: Word,
@@ -27,7 +27,7 @@ struct Asked {
     k: Word,
 }
 
-// What came of the words: the load's file was handed whole to standard output; or that failed; or a number was out of its range; or a word was none.
+// What came of the words: the test board's file was handed whole to standard output; or that failed; or a number was out of its range; or a word was none.
 enum Printed {
     Whole,
     Failed,
@@ -35,16 +35,33 @@ enum Printed {
     NoNumbers,
 }
 
+// An argument: its index, what the system answered when it was asked for, C's errno and a length, and the number that it is.
+struct Argument {
+    index: usize,
+    error: i32,
+    size: usize,
+    word: Word,
+}
+
+// What the program was told: how many arguments, its own name among them, and the four behind that.
+struct Told {
+    count: usize,
+    seed: Argument,
+    n: Argument,
+    m: Argument,
+    k: Argument,
+}
+
 // What the program was told, and what came of it.
 struct Run {
-    words: Asked,
+    told: Told,
     printed: Printed,
 }
 
-// Hands the file of a load to standard output, and notes how many bytes it has. Nothing was handed over before.
+// Hands the file of a test board to standard output, and notes how many bytes it has. Nothing was handed over before.
 fn hand(seed: u32, n: u32, m: u32, k: u32, handed: &mut usize, bytes: &[u8]) -> Printed
-    requires { ⌜ (now handed ≡ 0) × (now bytes ≡ loadBytes seed n m k) ⌝ }
-    ensures { λ r. ⌜ Tried (length (now (bytes .entry))) (now (handed .exit)) r ⌝ }
+    requires { ⌜ (now handed ≡ 0) × (now bytes ≡ testBoardBytes seed n m k) ⌝ }
+    ensures { λ r. ⌜ WriteTried (length (now (bytes .entry))) (now (handed .exit)) r ⌝ }
 {
     let answer = output::write_whole(bytes);
     let Output::Written(size) = answer else {
@@ -54,20 +71,27 @@ fn hand(seed: u32, n: u32, m: u32, k: u32, handed: &mut usize, bytes: &[u8]) -> 
     Printed::Whole
 }
 
-// Makes the load in a buffer that is long enough for each, and hands it on.
-fn print_load(seed: u32, n: u32, m: u32, k: u32, out: &mut [u8], handed: &mut usize) -> Printed
+// Makes the test board in a buffer that is long enough for each, and hands it on.
+fn print_test_board(
+    seed: u32,
+    n: u32,
+    m: u32,
+    k: u32,
+    out: &mut [u8],
+    handed: &mut usize,
+) -> Printed
     requires { ⌜ (lengthOf editions.First 512 4096 ≤ length (now out)) × (now handed ≡ 0) ⌝ }
-    ensures { λ r. ⌜ Told seed n m k (now (out .exit)) (now (handed .exit)) r ⌝ }
+    ensures { λ r. ⌜ Handed seed n m k (now (out .exit)) (now (handed .exit)) r ⌝ }
 {
-    let answer = call_load::load(seed, n, m, k, out);
-    let LoadAnswer::Made(size) = answer else {
+    let answer = call_test_board::test_board(seed, n, m, k, out);
+    let TestBoardAnswer::Made(size) = answer else {
         return Printed::OutOfRange;
     };
     hand(seed, n, m, k, handed, &out[..size])
 }
 
 // The number that an argument is, from what the system answered when it was asked for: 0 where the word is whole.
-fn heard(error: i32, word: &[u8]) -> Word
+fn number_of(error: i32, word: &[u8]) -> Word
     ensures { λ r. ⌜ r ≡ heardOf error (now (word .entry)) ⌝ }
 {
     if error != 0 {
@@ -76,11 +100,19 @@ fn heard(error: i32, word: &[u8]) -> Word
     number(word)
 }
 
-// The number that an argument is, by its place.
-fn argument(i: usize) -> Word {
-    let mut buf = [0u8; 32];
-    let size = os::arg(i, &mut buf);
-    heard(os::errno(), &buf[..size])
+// Asks the system for an argument by its index, into a lent buffer, and hears what number it is.
+fn hear(index: usize, buf: &mut [u8]) -> Argument
+    ensures { λ r. ⌜ Heard index (now (buf .exit)) r ⌝ }
+{
+    let size = os::arg(index, buf);
+    let error = os::errno();
+    let word = number_of(error, &buf[..size]);
+    Argument {
+        index,
+        error,
+        size,
+        word,
+    }
 }
 
 // Whether a program was told four words besides its own name.
@@ -90,9 +122,29 @@ fn are_four(arguments: usize) -> bool
     arguments == 5
 }
 
-// The words that the program was told: none are numbers where they are not four.
-fn read_words() -> Asked {
-    if !are_four(os::arg_count()) {
+// The words that the program was told, each read into a buffer of its own: none are numbers where they are not four.
+fn read_words(seed: &mut [u8], n: &mut [u8], m: &mut [u8], k: &mut [u8]) -> Told
+    ensures { λ r. ⌜ WordsHeard (now (seed .exit)) (now (n .exit)) (now (m .exit)) (now (k .exit)) r ⌝ }
+{
+    let count = os::arg_count();
+    let first = hear(1, seed);
+    let second = hear(2, n);
+    let third = hear(3, m);
+    let fourth = hear(4, k);
+    Told {
+        count,
+        seed: first,
+        n: second,
+        m: third,
+        k: fourth,
+    }
+}
+
+// The four words that ask for a test board: none are numbers where they are not four.
+fn asked_by(told: Told) -> Asked
+    ensures { λ r. ⌜ r ≡ askedBy told ⌝ }
+{
+    if !are_four(told.count) {
         return Asked {
             seed: Word::NoNumber,
             n: Word::NoNumber,
@@ -100,17 +152,21 @@ fn read_words() -> Asked {
             k: Word::NoNumber,
         };
     }
-    let seed = argument(1);
-    let n = argument(2);
-    let m = argument(3);
-    let k = argument(4);
+    let first = told.seed;
+    let seed = first.word;
+    let second = told.n;
+    let n = second.word;
+    let third = told.m;
+    let m = third.word;
+    let fourth = told.k;
+    let k = fourth.word;
     Asked { seed, n, m, k }
 }
 
-// The load that four words ask for.
-fn load_words(words: Asked, out: &mut [u8], handed: &mut usize) -> Printed
+// The test board that four words ask for.
+fn print_words(words: Asked, out: &mut [u8], handed: &mut usize) -> Printed
     requires { ⌜ (lengthOf editions.First 512 4096 ≤ length (now out)) × (now handed ≡ 0) ⌝ }
-    ensures { λ r. ⌜ Ran words (now (out .exit)) (now (handed .exit)) r ⌝ }
+    ensures { λ r. ⌜ TestBoardRan words (now (out .exit)) (now (handed .exit)) r ⌝ }
 {
     let first = words.seed;
     let Word::Number(seed) = first else {
@@ -128,10 +184,10 @@ fn load_words(words: Asked, out: &mut [u8], handed: &mut usize) -> Printed
     let Word::Number(k) = fourth else {
         return Printed::NoNumbers;
     };
-    print_load(seed, n, m, k, out, handed)
+    print_test_board(seed, n, m, k, out, handed)
 }
 
-// Tells on standard error where there is no load.
+// Tells on standard error where there is no test board.
 fn tell(printed: Printed) {
     match printed {
         Printed::Whole => {}
@@ -151,20 +207,33 @@ fn tell(printed: Printed) {
     }
 }
 
-// The load that the arguments ask for, by way of a buffer that is lent whole.
-fn load_asked_for(out: &mut [u8], handed: &mut usize) -> Run
+// The test board that the arguments ask for, by way of buffers that are lent whole.
+fn print_asked_for(
+    seed: &mut [u8],
+    n: &mut [u8],
+    m: &mut [u8],
+    k: &mut [u8],
+    out: &mut [u8],
+    handed: &mut usize,
+) -> Run
     requires { ⌜ (lengthOf editions.First 512 4096 ≤ length (now out)) × (now handed ≡ 0) ⌝ }
-    ensures { λ r. ⌜ Ran (r .words) (now (out .exit)) (now (handed .exit)) (r .printed) ⌝ }
+    ensures { λ r. ⌜ WordsHeard (now (seed .exit)) (now (n .exit)) (now (m .exit)) (now (k .exit)) (r .told) ⌝ }
+    ensures { λ r. ⌜ TestBoardRan (askedBy (r .told)) (now (out .exit)) (now (handed .exit)) (r .printed) ⌝ }
 {
-    let words = read_words();
-    let printed = load_words(words, out, handed);
-    Run { words, printed }
+    let told = read_words(seed, n, m, k);
+    let words = asked_by(told);
+    let printed = print_words(words, out, handed);
+    Run { told, printed }
 }
 
 fn main() {
+    let mut seed = [0u8; 32];
+    let mut n = [0u8; 32];
+    let mut m = [0u8; 32];
+    let mut k = [0u8; 32];
     let mut out = [0u8; BYTES];
     let mut handed: usize = 0;
-    let run = load_asked_for(&mut out, &mut handed);
+    let run = print_asked_for(&mut seed, &mut n, &mut m, &mut k, &mut out, &mut handed);
     let printed = run.printed;
     tell(printed);
 }

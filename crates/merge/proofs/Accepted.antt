@@ -1,7 +1,6 @@
 -- Merging a pattern gives a pattern: the merged circuit meets every condition on the content of a pattern file, is no longer and has no
 -- larger radius. Assumes nothing.
-use Prim.Native.Nat.{_≤_}
-use lib.ListN.{length}
+use Rattle.base_lists.specs.Kit.{_≤_, length}
 use Rattle.graph.specs.Circuit.{Circuit}
 use Rattle.file_format.specs.declared.Edition.{Edition}
 use Rattle.file_format.specs.Layout.{lengthOf}
@@ -21,7 +20,7 @@ module _ {p : Circuit} (c : PatternContent p) where
   merged-links-le = grouped-links-le c (classes-grouping c)
 
   -- the merged file is no longer than the pattern's, in either edition
-  pub merged-length-le : (e : Edition) → lengthOf e (length (merged p .kinds)) (length (merged p .starts)) ≤ lengthOf e (length (p .kinds)) (length (p .starts))
+  pub merged-length-le : (e : Edition) → lengthOf e (length (merged p .labels)) (length (merged p .starts)) ≤ lengthOf e (length (p .labels)) (length (p .starts))
   unfolding merged
   merged-length-le = grouped-length-le c (classes-grouping c)
 

@@ -1,15 +1,8 @@
 -- The classes of a pattern's parts: sharing a class is matching each other, and classes are numbered by their smallest part, rising.
 -- Assumes nothing.
-use mathlib.Core.Bool.{Bool}
-use mathlib.Core.Logic.{_↔_}
-use mathlib.Core.Path.{_≡_, sym, ap, subst, _∙_}
-use Prim.Native.Nat.{ℕ, _≤_, _<_, zero-le}
-use native.Mathlib.Nat.{lt-of-le-of-lt}
-use borrow.Author.Tests.{eq-eqb}
-use lib.Dec.{T, eqb→eq}
-use lib.ListN.{length, getD}
+use Rattle.base_lists.specs.Kit.{_≡_, _∙_, sym, ap, subst, _↔_, Bool, ℕ, _≤_, _<_, zero-le, lt-of-le-of-lt, T, eqb→eq, length, getD, eq-eqb}
 use Rattle.base_lists.specs.Below.{countBelow}
-use Rattle.base_lists.proofs.Tests.{both, both-left, both-right, true-T, same-test}
+use Rattle.base_lists.proofs.Tests.{both-true, both-left, both-right, true-T, same-test}
 use Rattle.base_lists.proofs.Tables.{length-tabulate, getD-tabulate}
 use Rattle.base_lists.proofs.Below.{leastBelow-min, leastBelow-at, leastBelow-same, countBelow-le}
 use Rattle.base_lists.proofs.Ranks.{rank-lt, rank-injective, rank-rises, rank-onto, collect-rank}
@@ -23,7 +16,7 @@ use Rattle.table.specs.Row.{inTable, InTable}
 use Rattle.table.proofs.Agreement.{kinds-reflexive, kinds-compose}
 use Rattle.table.proofs.Host.{within-joins, board-largest}
 use Rattle.table.proofs.Meaning.{last-fits}
-use Rattle.table.proofs.Sets.{Fits}
+use Rattle.table.proofs.Sets.{SetsFit}
 use Rattle.merge.specs.Merged.{equivalent, leader, isLeader, classIn, selfTable, classOf, leaders, classCount, classes}
 use Rattle.merge.proofs.Content.{PatternContent, some-parts, most-parts, content-within, content-connected}
 
@@ -37,10 +30,10 @@ Equivalent p u v = T (equivalent (selfTable p) u v)
 
 -- the smallest part of a class, and which parts are such
 abbrev pub leaderOf : Circuit → ℕ → ℕ
-leaderOf p = leader (length (p .kinds)) (selfTable p)
+leaderOf p = leader (length (p .labels)) (selfTable p)
 
 abbrev pub leads : Circuit → ℕ → Bool
-leads p = isLeader (length (p .kinds)) (selfTable p)
+leads p = isLeader (length (p .labels)) (selfTable p)
 
 -- equal kinds, of parts with parts and of parts with nodes, have what merging needs
 pub kinds-laws : (p board : Circuit) → AgreeLaws (circuitGraph p) (KindsMatch p p) (KindsMatch p board)
@@ -49,18 +42,18 @@ kinds-laws p board =
 
 module _ (p : Circuit) where
   -- the table on itself has a set of parts for each part
-  pub self-fits : Fits (length (p .kinds)) (length (p .kinds)) (selfTable p)
+  pub self-fits : SetsFit (length (p .labels)) (length (p .labels)) (selfTable p)
   unfolding selfTable
   self-fits = last-fits p p (everything p)
 
   -- the list of classes has at each part its class
-  pub length-classes : length (classes p) ≡ length (p .kinds)
+  pub length-classes : length (classes p) ≡ length (p .labels)
   unfolding classes
   length-classes = length-tabulate _ _
 
-  pub class-at : (u : ℕ) → u < length (p .kinds) → getD (classes p) u 0 ≡ classOf p u
+  pub class-at : (u : ℕ) → u < length (p .labels) → getD (classes p) u 0 ≡ classOf p u
   unfolding classes
-  class-at u h = getD-tabulate (length (p .kinds)) (classOf p) u 0 h
+  class-at u h = getD-tabulate (length (p .labels)) (classOf p) u 0 h
 
 module _ {p : Circuit} (c : PatternContent p) where
   -- ---- the table on itself
@@ -79,10 +72,10 @@ module _ {p : Circuit} (c : PatternContent p) where
   equivalent-iff u v =
       let there = inTable (selfTable p) u v in
       let back = inTable (selfTable p) v u in
-      (λ t. (both-left there back t, both-right there back t), λ (s, t). both there back s t)
+      (λ t. (both-left there back t, both-right there back t), λ (s, t). both-true there back s t)
 
   -- which is an equivalence of the parts
-  equivalent-refl : (u : ℕ) → u < length (p .kinds) → Equivalent p u u
+  equivalent-refl : (u : ℕ) → u < length (p .labels) → Equivalent p u u
   unfolding circuitGraph graphOf
   equivalent-refl u h = equivalent-iff u u .1 (mutual-equivalence content-joins (kinds-laws p p) self-largest .0 u h)
 
@@ -96,40 +89,40 @@ module _ {p : Circuit} (c : PatternContent p) where
 
   -- ---- the smallest part of a class
 
-  module _ (u : ℕ) (h : u < length (p .kinds)) where
+  module _ (u : ℕ) (h : u < length (p .labels)) where
     -- a part comes at or after the leader of its class,
     pub leader-le : leaderOf p u ≤ u
     unfolding leader
-    leader-le = leastBelow-min (length (p .kinds)) (equivalent (selfTable p) u) u (equivalent-refl u h)
+    leader-le = leastBelow-min (length (p .labels)) (equivalent (selfTable p) u) u (equivalent-refl u h)
 
-    pub leader-lt : leaderOf p u < length (p .kinds)
+    pub leader-lt : leaderOf p u < length (p .labels)
     leader-lt = lt-of-le-of-lt leader-le h
 
     -- which is a member of the class,
     pub leader-member : Equivalent p u (leaderOf p u)
     unfolding leader
-    leader-member = leastBelow-at (length (p .kinds)) (equivalent (selfTable p) u) leader-lt
+    leader-member = leastBelow-at (length (p .labels)) (equivalent (selfTable p) u) leader-lt
 
     -- the smallest
     pub leader-min : (v : ℕ) → Equivalent p u v → leaderOf p u ≤ v
     unfolding leader
-    leader-min v t = leastBelow-min (length (p .kinds)) (equivalent (selfTable p) u) v t
+    leader-min v t = leastBelow-min (length (p .labels)) (equivalent (selfTable p) u) v t
 
   -- members of one class have one leader
   pub leader-same : (u v : ℕ) → Equivalent p u v → leaderOf p u ≡ leaderOf p v
   unfolding leader
   leader-same u v t =
-      leastBelow-same (length (p .kinds)) (equivalent (selfTable p) u) (equivalent (selfTable p) v)
+      leastBelow-same (length (p .labels)) (equivalent (selfTable p) u) (equivalent (selfTable p) v)
       (λ i l. same-test (equivalent-trans v u i (equivalent-symm u v t)) (equivalent-trans u v i t))
 
   -- a leader leads itself
-  pub leader-leads : (u : ℕ) → u < length (p .kinds) → T (leads p (leaderOf p u))
+  pub leader-leads : (u : ℕ) → u < length (p .labels) → T (leads p (leaderOf p u))
   unfolding isLeader
   leader-leads u h = true-T (eq-eqb (leaderOf p (leaderOf p u)) (leaderOf p u) (sym (leader-same u (leaderOf p u) (leader-member u h))))
 
   -- ---- sharing a class
 
-  pub class-iff : (u v : ℕ) → u < length (p .kinds) → v < length (p .kinds) → (classOf p u ≡ classOf p v) ↔ Equivalent p u v
+  pub class-iff : (u v : ℕ) → u < length (p .labels) → v < length (p .labels) → (classOf p u ≡ classOf p v) ↔ Equivalent p u v
   unfolding classOf classIn
   class-iff u v h l = (
     λ e.
@@ -152,12 +145,12 @@ module _ {p : Circuit} (c : PatternContent p) where
 
   -- ---- "Classes are numbered by their smallest part, rising."
 
-  pub class-lt : (u : ℕ) → u < length (p .kinds) → classOf p u < classCount p
+  pub class-lt : (u : ℕ) → u < length (p .labels) → classOf p u < classCount p
   unfolding classOf classIn classCount
-  class-lt u h = rank-lt (leaderOf p u) (length (p .kinds)) (leads p) (leader-lt u h) (leader-leads u h)
+  class-lt u h = rank-lt (leaderOf p u) (length (p .labels)) (leads p) (leader-lt u h) (leader-leads u h)
 
   -- a smaller number is that of the class with the smaller leader, and the other way round
-  pub class-rises : (u v : ℕ) → u < length (p .kinds) → (classOf p u < classOf p v) ↔ (leaderOf p u < leaderOf p v)
+  pub class-rises : (u v : ℕ) → u < length (p .labels) → (classOf p u < classOf p v) ↔ (leaderOf p u < leaderOf p v)
   unfolding classOf classIn
   class-rises u v h = (
     rank-rises (leaderOf p u) (leaderOf p v) (leads p),
@@ -165,21 +158,21 @@ module _ {p : Circuit} (c : PatternContent p) where
   )
 
   -- the list of leaders has at each class its leader
-  pub leaders-class : (u : ℕ) → u < length (p .kinds) → getD (leaders p) (classOf p u) 0 ≡ leaderOf p u
+  pub leaders-class : (u : ℕ) → u < length (p .labels) → getD (leaders p) (classOf p u) 0 ≡ leaderOf p u
   unfolding classOf classIn leaders
-  leaders-class u h = collect-rank (length (p .kinds)) (leads p) (λ u. u) (leaderOf p u) 0 (leader-lt u h) (leader-leads u h)
+  leaders-class u h = collect-rank (length (p .labels)) (leads p) (λ u. u) (leaderOf p u) 0 (leader-lt u h) (leader-leads u h)
 
   -- every number below their count is the class of a leader,
-  pub class-onto : (a : ℕ) → a < classCount p → (u : ℕ) × (u < length (p .kinds)) × T (leads p u) × (classOf p u ≡ a)
+  pub class-onto : (a : ℕ) → a < classCount p → (u : ℕ) × (u < length (p .labels)) × T (leads p u) × (classOf p u ≡ a)
   unfolding classOf classIn classCount isLeader
   class-onto a h =
-      let (u, l, t, e) = rank-onto (length (p .kinds)) (leads p) a h in
+      let (u, l, t, e) = rank-onto (length (p .labels)) (leads p) a h in
       (u, l, t, ap (λ x. countBelow x (leads p)) (eqb→eq (leaderOf p u) u t) ∙ e)
 
   -- of the one that the list has there, and of no other
   pub leaders-at :
       (a : ℕ) → a < classCount p →
-      (getD (leaders p) a 0 < length (p .kinds)) × T (leads p (getD (leaders p) a 0)) × (classOf p (getD (leaders p) a 0) ≡ a)
+      (getD (leaders p) a 0 < length (p .labels)) × T (leads p (getD (leaders p) a 0)) × (classOf p (getD (leaders p) a 0) ≡ a)
   unfolding isLeader
   leaders-at a h =
       let (u, l, t, e) = class-onto a h in
@@ -187,9 +180,9 @@ module _ {p : Circuit} (c : PatternContent p) where
       ap (λ x. getD (leaders p) x 0) (sym e) ∙ leaders-class u l ∙ eqb→eq (leaderOf p u) u t in
       rw at (l, t, e)
 
-  pub classCount-le : classCount p ≤ length (p .kinds)
+  pub classCount-le : classCount p ≤ length (p .labels)
   unfolding classCount
-  classCount-le = countBelow-le (length (p .kinds)) (leads p)
+  classCount-le = countBelow-le (length (p .labels)) (leads p)
 
   pub classCount-pos : 0 < classCount p
   classCount-pos = lt-of-le-of-lt zero-le (class-lt 0 (some-parts c))

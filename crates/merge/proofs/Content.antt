@@ -1,9 +1,5 @@
 -- A circuit that can be the content of a pattern file. Assumes nothing.
-use mathlib.Core.Path.{_≡_, sym, _∙_}
-use Prim.Native.Nat.{ℕ, _≤_, _<_}
-use native.Mathlib.Nat.{le-trans}
-use lib.Dec.{T, ltb, lit≤}
-use lib.ListN.{length}
+use Rattle.base_lists.specs.Kit.{_≡_, _∙_, sym, _≤_, _<_, le-trans, T, ltb, lit≤, length}
 use Rattle.base_lists.specs.List.{all}
 use Rattle.base_lists.proofs.Tests.{both-left, both-right}
 use Rattle.graph.specs.Circuit.{Circuit, circuitGraph}
@@ -24,12 +20,12 @@ use Rattle.file_format.proofs.Fields.{length-labels, length-starts, length-ends
 
 -- Every condition on a pattern that is not about the bytes of a file: numbers 2, 4, 5, 6 and 11, and "as many starts as ends".
 pub record PatternContent (p : Circuit) : Type 0 where
-  pub range : T (inRange Pattern (length (p .kinds)) (length (p .starts)))
+  pub range : T (inRange Pattern (length (p .labels)) (length (p .starts)))
   pub parallel : length (p .starts) ≡ length (p .ends)
-  pub below : T (linksBelow (length (p .kinds)) (p .starts) (p .ends))
+  pub below : T (linksBelow (length (p .labels)) (p .starts) (p .ends))
   pub rises : T (rising (p .starts) (p .ends))
-  pub joined : T (connected (length (p .kinds)) (p .starts) (p .ends))
-  pub narrow : radius (length (p .kinds)) (p .starts) (p .ends) ≤ widest
+  pub joined : T (connected (length (p .labels)) (p .starts) (p .ends))
+  pub narrow : radius (length (p .labels)) (p .starts) (p .ends) ≤ widest
 
 -- an accepted pattern file holds such a circuit
 pub accepted-content : {file : CircuitFile} → Accepted Pattern file → PatternContent (circuitOf file)
@@ -47,13 +43,13 @@ accepted-content {file} a =
 -- ---- what follows
 
 module _ {p : Circuit} (c : PatternContent p) where
-  sizes : (0 < length (p .kinds)) × (length (p .kinds) ≤ 32) × (length (p .starts) ≤ 256)
-  sizes = range-orders Pattern (length (p .kinds)) (length (p .starts)) (c .range)
+  sizes : (0 < length (p .labels)) × (length (p .labels) ≤ 32) × (length (p .starts) ≤ 256)
+  sizes = range-orders Pattern (length (p .labels)) (length (p .starts)) (c .range)
 
-  pub some-parts : 0 < length (p .kinds)
+  pub some-parts : 0 < length (p .labels)
   some-parts = sizes .0
 
-  pub most-parts : length (p .kinds) ≤ 32
+  pub most-parts : length (p .labels) ≤ 32
   most-parts = sizes .1
 
   pub most-links : length (p .starts) ≤ 256
@@ -67,12 +63,12 @@ module _ {p : Circuit} (c : PatternContent p) where
   content-board =
       record { nodes = le-trans most-parts (lit≤ tt); links = le-trans most-links (lit≤ tt); parallel = c .parallel; below = c .below }
 
-  pub content-within : Within (length (p .kinds)) (p .starts) (p .ends)
+  pub content-within : Within (length (p .labels)) (p .starts) (p .ends)
   unfolding linksBelow
   content-within =
-      let starts = all (λ v. ltb v (length (p .kinds))) (p .starts) in
-      let ends = all (λ v. ltb v (length (p .kinds))) (p .ends) in
-      within-all (length (p .kinds)) (p .starts) (p .ends) (both-left starts ends (c .below)) (both-right starts ends (c .below))
+      let starts = all (λ v. ltb v (length (p .labels))) (p .starts) in
+      let ends = all (λ v. ltb v (length (p .labels))) (p .ends) in
+      within-all (length (p .labels)) (p .starts) (p .ends) (both-left starts ends (c .below)) (both-right starts ends (c .below))
 
   pub content-connected : Connected (circuitGraph p)
   unfolding circuitGraph
@@ -83,5 +79,5 @@ module _ {p : Circuit} (c : PatternContent p) where
   content-radius = radius-is content-within some-parts (c .joined)
 
   -- it is admissible as a pattern on every board whose links join its nodes
-  pub content-admissible : {board : Circuit} → Within (length (board .kinds)) (board .starts) (board .ends) → Admissible p board
+  pub content-admissible : {board : Circuit} → Within (length (board .labels)) (board .starts) (board .ends) → Admissible p board
   content-admissible links = record { most = most-parts; parallel = c .parallel; connected = content-connected; links = links }

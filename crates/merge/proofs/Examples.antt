@@ -1,13 +1,10 @@
 -- Document 01's examples of merging, by computation. Assumes nothing.
-use mathlib.Core.List.{List, [], _∷_}
-use mathlib.Core.Path.{_≡_, refl, ap, subst, _∙_}
-use Prim.Native.Nat.{ℕ}
-use lib.Dec.{lit≤}
+use Rattle.base_lists.specs.Kit.{_≡_, _∙_, ap, refl, subst, List, [], _∷_, ℕ, lit≤}
 use Rattle.base_lists.specs.List.{all, allBelow, anyBelow, tabulate, maximum}
 use Rattle.base_lists.specs.Below.{leastBelow, collect}
 use Rattle.base_bits.specs.Bits.{bit}
 use Rattle.graph.specs.Search.{beside, ball, misses, distances, connected, radius}
-use Rattle.graph_pairs.specs.Pairs.{pairTest, pairStarts, pairEnds}
+use Rattle.graph.specs.Pairs.{pairTest, pairStarts, pairEnds}
 use Rattle.table.specs.Examples.{circuitT, rowComputed}
 use Rattle.table.specs.Host.{everything}
 use Rattle.table.specs.Row.{inTable, lastTable, InTable}

@@ -1,17 +1,8 @@
 -- A grouping of a pattern's parts, its members of the same kind, makes a pattern: it is the quotient of the pattern by the grouping, meets every
 -- condition on the content of a pattern file, is no longer and has no larger radius. Assumes nothing.
-use mathlib.Core.Bool.{Bool, _&&_}
-use mathlib.Core.Logic.{_↔_}
-use mathlib.Core.List.{List}
-use mathlib.Core.Path.{_≡_, refl, sym, ap, ap₂, subst, _∙_}
-use Prim.Native.Nat.{ℕ, _≤_, _<_, zero-le}
-use native.Mathlib.Nat.{le-trans, lt-of-le-of-lt}
-use native.Mathlib.Omega.{arith}
-use borrow.Author.Tests.{eq-eqb}
-use lib.Dec.{T, eqb, eqb→eq, ltb, leb, lt→ltb, le→leb}
-use lib.ListN.{length, getD}
+use Rattle.base_lists.specs.Kit.{_≡_, _∙_, sym, ap, refl, subst, ap₂, _↔_, Bool, _&&_, List, ℕ, _≤_, _<_, zero-le, le-trans, lt-of-le-of-lt, T, eqb, ltb, eqb→eq, leb, lt→ltb, le→leb, length, getD, arith, eq-eqb}
 use Rattle.base_lists.specs.List.{all}
-use Rattle.base_lists.proofs.Tests.{both, both-left, both-right, true-T, anyBelow-at, at-anyBelow, at-all}
+use Rattle.base_lists.proofs.Tests.{both-true, both-left, both-right, true-T, anyBelow-at, at-anyBelow, at-all}
 use Rattle.base_lists.proofs.Tables.{length-tabulate, getD-tabulate, tabulate-same}
 use Rattle.base_lists.proofs.Below.{anyBelow-same, leastBelow-min, leastBelow-at, leastBelow-same}
 use Rattle.graph.specs.Circuit.{Circuit, HasLink, graphOf, circuitGraph}
@@ -20,7 +11,7 @@ use Rattle.graph.specs.Search.{connected}
 use Rattle.graph.specs.Rising.{LinksRise}
 use Rattle.graph.proofs.Ball.{Within}
 use Rattle.graph.proofs.Distance.{connected-iff, radius-is}
-use Rattle.graph_pairs.proofs.Pairs.{pairCount, length-pair-starts, length-pair-ends, pair-link, pairs-le, pairs-rise, pairs-same}
+use Rattle.graph.proofs.Pairs.{pairCount, length-pair-starts, length-pair-ends, pair-link, pairs-le, pairs-rise, pairs-same}
 use Rattle.simulation.specs.Grouping.{Grouping}
 use Rattle.simulation.specs.Perfect.{SameGraph}
 use Rattle.simulation.specs.Quotient.{QuotientGraph, QuotientAgree}
@@ -43,7 +34,7 @@ use Rattle.merge.proofs.Classes.{content-joins}
 
 module _ (p : Circuit) (class : ℕ → ℕ) (k : ℕ) where
   -- "a part per class"
-  pub length-grouped-kinds : length (grouped p class k .kinds) ≡ k
+  pub length-grouped-kinds : length (grouped p class k .labels) ≡ k
   unfolding grouped
   length-grouped-kinds = length-tabulate k _
 
@@ -60,7 +51,7 @@ module _ (p : Circuit) (class : ℕ → ℕ) (k : ℕ) where
 
 -- ---- the finest grouping: each part is a group
 
-pub finest : (p : Circuit) → Grouping (circuitGraph p) (λ u v. u ≡ v) (λ u. u) (length (p .kinds))
+pub finest : (p : Circuit) → Grouping (circuitGraph p) (λ u v. u ≡ v) (λ u. u) (length (p .labels))
 unfolding circuitGraph graphOf
 finest p = record { below = λ u h. h; onto = λ a h. (a, h, refl); alike = λ u v _ _ e. e }
 
@@ -83,7 +74,7 @@ module _ {p : Circuit} (c : PatternContent p) where
         ),
     λ (u, u′, (i, l), e, e′).
         at-anyBelow (length (p .starts)) passes i (l .inStarts)
-        (both (eqb (class (start i)) a) (eqb (class (end i)) b)
+        (both-true (eqb (class (start i)) a) (eqb (class (end i)) b)
         (true-T (eq-eqb _ a (ap class (l .start) ∙ e))) (true-T (eq-eqb _ b (ap class (l .end) ∙ e′)))),
   )
     where
@@ -97,7 +88,7 @@ module _ {p : Circuit} (c : PatternContent p) where
       passes i = eqb (class (start i)) a && eqb (class (end i)) b
 
 module _ {p : Circuit} (c : PatternContent p) {class : ℕ → ℕ} {k : ℕ} (g : Grouping (circuitGraph p) (SameKind p) class k) where
-  below : (u : ℕ) → u < length (p .kinds) → class u < k
+  below : (u : ℕ) → u < length (p .labels) → class u < k
   unfolding circuitGraph graphOf
   below u h = g .below u h
 
@@ -136,10 +127,10 @@ module _ {p : Circuit} (c : PatternContent p) {class : ℕ → ℕ} {k : ℕ} (g
   -- ---- kinds
 
   -- ".. of the same kind": the kind of a group is that of each of its members
-  pub grouped-kind : (u : ℕ) → u < length (p .kinds) → getD (grouped p class k .kinds) (class u) 0 ≡ getD (p .kinds) u 0
+  pub grouped-kind : (u : ℕ) → u < length (p .labels) → getD (grouped p class k .labels) (class u) 0 ≡ getD (p .labels) u 0
   unfolding grouped firstMember SameKind circuitGraph graphOf
   grouped-kind u h =
-      let n = length (p .kinds) in
+      let n = length (p .labels) in
       let member : T (eqb (class u) (class u)) = true-T (eq-eqb (class u) (class u) refl) in
       let first = lt-of-le-of-lt (leastBelow-min n (λ x. eqb (class x) (class u)) u member) h in
       getD-tabulate k _ (class u) 0 (below u h)
@@ -157,7 +148,7 @@ module _ {p : Circuit} (c : PatternContent p) {class : ℕ → ℕ} {k : ℕ} (g
 
   -- ---- sizes
 
-  pub grouped-parts-le : length (grouped p class k .kinds) ≤ length (p .kinds)
+  pub grouped-parts-le : length (grouped p class k .labels) ≤ length (p .labels)
   grouped-parts-le = rw length-grouped-kinds (finer-more (finest p) g (λ u v _ _ e. ap class e))
 
   -- each link of the grouped pattern comes from a link of the pattern, so that there are no more
@@ -172,13 +163,13 @@ module _ {p : Circuit} (c : PatternContent p) {class : ℕ → ℕ} {k : ℕ} (g
 
   -- its file is no longer than the pattern's, in either edition
   pub grouped-length-le :
-      (e : Edition) → lengthOf e (length (grouped p class k .kinds)) (length (grouped p class k .starts)) ≤ lengthOf e (length (p .kinds)) (length (p .starts))
+      (e : Edition) → lengthOf e (length (grouped p class k .labels)) (length (grouped p class k .starts)) ≤ lengthOf e (length (p .labels)) (length (p .starts))
   grouped-length-le First = omega (arith, grouped-parts-le, grouped-links-le)
   grouped-length-le Second = omega (arith, grouped-parts-le, grouped-links-le)
 
   -- ---- conditions on the links
 
-  pub grouped-within : Within (length (grouped p class k .kinds)) (grouped p class k .starts) (grouped p class k .ends)
+  pub grouped-within : Within (length (grouped p class k .labels)) (grouped p class k .starts) (grouped p class k .ends)
   grouped-within =
       record {
         starts = λ a b l. rw length-grouped-kinds (grouped-link a b .0 l .0);
@@ -192,11 +183,11 @@ module _ {p : Circuit} (c : PatternContent p) {class : ℕ → ℕ} {k : ℕ} (g
   unfolding HasLink
   link-at i h = (i, record { inStarts = h; inEnds = rw (← grouped-parallel p class k) h; start = refl; end = refl })
 
-  grouped-below : T (linksBelow (length (grouped p class k .kinds)) (grouped p class k .starts) (grouped p class k .ends))
+  grouped-below : T (linksBelow (length (grouped p class k .labels)) (grouped p class k .starts) (grouped p class k .ends))
   unfolding linksBelow
   grouped-below =
-      let n = length (grouped p class k .kinds) in
-      both (all (λ v. ltb v n) (grouped p class k .starts)) (all (λ v. ltb v n) (grouped p class k .ends))
+      let n = length (grouped p class k .labels) in
+      both-true (all (λ v. ltb v n) (grouped p class k .starts)) (all (λ v. ltb v n) (grouped p class k .ends))
       (at-all _ (grouped p class k .starts) (λ i h. lt→ltb _ _ (grouped-within .starts _ _ (link-at i h))))
       (at-all _ (grouped p class k .ends) (λ i h. lt→ltb _ _ (grouped-within .ends _ _ (link-at i (rw (grouped-parallel p class k) h)))))
 
@@ -208,7 +199,7 @@ module _ {p : Circuit} (c : PatternContent p) {class : ℕ → ℕ} {k : ℕ} (g
   pub grouped-connected : Connected (circuitGraph (grouped p class k))
   grouped-connected = connected-same (same-symm grouped-graph) (quotient-connected (circuitGraph p) class (content-connected c))
 
-  grouped-joined : T (connected (length (grouped p class k .kinds)) (grouped p class k .starts) (grouped p class k .ends))
+  grouped-joined : T (connected (length (grouped p class k .labels)) (grouped p class k .starts) (grouped p class k .ends))
   unfolding circuitGraph
   grouped-joined = connected-iff grouped-within .1 grouped-connected
 
@@ -226,12 +217,12 @@ module _ {p : Circuit} (c : PatternContent p) {class : ℕ → ℕ} {k : ℕ} (g
   pub grouped-content : PatternContent (grouped p class k)
   unfolding radiusOf
   grouped-content =
-      let n = length (grouped p class k .kinds) in
+      let n = length (grouped p class k .labels) in
       let m = length (grouped p class k .starts) in
       let some : 0 < n = rw length-grouped-kinds grouped-some in
       record {
-        range = both (leb 1 n) (leb n 32 && leb m 256) (le→leb 1 n some)
-            (both (leb n 32) (leb m 256) (le→leb n 32 (le-trans grouped-parts-le (most-parts c))) (le→leb m 256 (le-trans grouped-links-le (most-links c))));
+        range = both-true (leb 1 n) (leb n 32 && leb m 256) (le→leb 1 n some)
+            (both-true (leb n 32) (leb m 256) (le→leb n 32 (le-trans grouped-parts-le (most-parts c))) (le→leb m 256 (le-trans grouped-links-le (most-links c))));
         parallel = grouped-parallel p class k;
         below = grouped-below;
         rises = rise-test (grouped p class k .starts) (grouped p class k .ends) grouped-rise;
@@ -255,12 +246,12 @@ module _ {p : Circuit} (c : PatternContent p) where
   link-of i h = (i, record { inStarts = h; inEnds = subst (λ x. i < x) (c .parallel) h; start = refl; end = refl })
 
   pub grouped-same :
-      (class class′ : ℕ → ℕ) (k : ℕ) → ((u : ℕ) → u < length (p .kinds) → class u ≡ class′ u) → grouped p class k ≡ grouped p class′ k
+      (class class′ : ℕ → ℕ) (k : ℕ) → ((u : ℕ) → u < length (p .labels) → class u ≡ class′ u) → grouped p class k ≡ grouped p class′ k
   unfolding grouped firstMember linked
   grouped-same class class′ k e =
       let kinds =
-      tabulate-same k (λ a. getD (p .kinds) (firstMember p class a) 0) (λ a. getD (p .kinds) (firstMember p class′ a) 0)
-      (λ a h. ap (λ (x : ℕ). getD (p .kinds) x 0) (leastBelow-same (length (p .kinds)) _ _ (λ u l. ap (λ (x : ℕ). eqb x a) (e u l)))) in
+      tabulate-same k (λ a. getD (p .labels) (firstMember p class a) 0) (λ a. getD (p .labels) (firstMember p class′ a) 0)
+      (λ a h. ap (λ (x : ℕ). getD (p .labels) x 0) (leastBelow-same (length (p .labels)) _ _ (λ u l. ap (λ (x : ℕ). eqb x a) (e u l)))) in
       let (starts, ends) = pairs-same k (linked p class) (linked p class′) test in
       rw (kinds, starts, ends)
     where

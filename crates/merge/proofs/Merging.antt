@@ -1,11 +1,6 @@
 -- The classes are a grouping of the parts, and the merged pattern, which that grouping makes, is the quotient of the pattern by its classes.
 -- Assumes nothing.
-use mathlib.Core.List.{List}
-use mathlib.Core.Path.{_≡_, sym, ap, _∙_}
-use Prim.Native.Nat.{ℕ, _<_}
-use lib.Dec.{T, eqb→eq}
-use lib.ListN.{length, getD}
-use lib.Seq.{ext-getD}
+use Rattle.base_lists.specs.Kit.{_≡_, _∙_, sym, ap, List, ℕ, _<_, T, eqb→eq, length, getD, ext-getD}
 use Rattle.base_lists.specs.Below.{collect}
 use Rattle.base_lists.proofs.Below.{length-collect}
 use Rattle.base_lists.proofs.Ranks.{collect-rank}
@@ -26,7 +21,7 @@ pub kinds-alike : (p board : Circuit) → AlikeLaws (SameKind p) (KindsMatch p p
 unfolding SameKind
 kinds-alike p board = record { same = kinds-part p p board; each = kinds-mutual p }
 
-pub length-merged-kinds : (p : Circuit) → length (merged p .kinds) ≡ classCount p
+pub length-merged-kinds : (p : Circuit) → length (merged p .labels) ≡ classCount p
 unfolding merged
 length-merged-kinds p = length-grouped-kinds p (classOf p) (classCount p)
 
@@ -48,7 +43,7 @@ module _ {p : Circuit} (c : PatternContent p) where
   merged-graph = grouped-graph c classes-grouping
 
   -- ".. of the same kind": the kind of a class is that of each of its members
-  pub merged-kind : (u : ℕ) → u < length (p .kinds) → getD (merged p .kinds) (classOf p u) 0 ≡ getD (p .kinds) u 0
+  pub merged-kind : (u : ℕ) → u < length (p .labels) → getD (merged p .labels) (classOf p u) 0 ≡ getD (p .labels) u 0
   unfolding merged
   merged-kind = grouped-kind c classes-grouping
 
@@ -58,22 +53,22 @@ module _ {p : Circuit} (c : PatternContent p) where
 
   -- the kinds of the smallest parts of the classes, which rise with the classes
   abbrev leaderKinds : List ℕ
-  leaderKinds = collect (length (p .kinds)) (leads p) (λ u. getD (p .kinds) u 0)
+  leaderKinds = collect (length (p .labels)) (leads p) (λ u. getD (p .labels) u 0)
 
-  leader-kind : (u : ℕ) → u < length (p .kinds) → T (leads p u) → getD leaderKinds (classOf p u) 0 ≡ getD (p .kinds) u 0
+  leader-kind : (u : ℕ) → u < length (p .labels) → T (leads p u) → getD leaderKinds (classOf p u) 0 ≡ getD (p .labels) u 0
   unfolding classOf classIn isLeader
   leader-kind u h t =
-      collect-rank _ (leads p) (λ u. getD (p .kinds) u 0) (leaderOf p u) 0 (leader-lt c u h) (leader-leads c u h)
-      ∙ ap (λ (x : ℕ). getD (p .kinds) x 0) (eqb→eq (leaderOf p u) u t)
+      collect-rank _ (leads p) (λ u. getD (p .labels) u 0) (leaderOf p u) 0 (leader-lt c u h) (leader-leads c u h)
+      ∙ ap (λ (x : ℕ). getD (p .labels) x 0) (eqb→eq (leaderOf p u) u t)
 
   -- are the merged pattern's
-  pub merged-kinds : merged p .kinds ≡ leaderKinds
+  pub merged-kinds : merged p .labels ≡ leaderKinds
   unfolding classCount
   merged-kinds =
-      ext-getD 0 (merged p .kinds) leaderKinds (length-merged-kinds p ∙ sym (length-collect (length (p .kinds)) (leads p) _))
+      ext-getD 0 (merged p .labels) leaderKinds (length-merged-kinds p ∙ sym (length-collect (length (p .labels)) (leads p) _))
       (λ a h.
       let (u, l, t, e) = class-onto c a (rw length-merged-kinds at h) in
-      ap (λ (x : ℕ). getD (merged p .kinds) x 0) (sym e) ∙ merged-kind u l ∙ sym (leader-kind u l t) ∙ ap (λ (x : ℕ). getD leaderKinds x 0) e)
+      ap (λ (x : ℕ). getD (merged p .labels) x 0) (sym e) ∙ merged-kind u l ∙ sym (leader-kind u l t) ∙ ap (λ (x : ℕ). getD leaderKinds x 0) e)
 
   -- all that merging rests on, for equal kinds
   pub merging : (board : Circuit) → Merging (circuitGraph p) (KindsMatch p p) (KindsMatch p board) (SelfPairs p) (classOf p) (KindsMatch (merged p) board)

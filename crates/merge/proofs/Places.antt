@@ -1,25 +1,18 @@
 -- Merging keeps what is found: at every centre and every radius the pattern and the merged pattern have the same place, and the bytes
 -- that mark it are the same. Assumes nothing.
-use mathlib.Core.Bool.{Bool, _&&_, cond}
-use mathlib.Core.List.{List}
-use mathlib.Core.Logic.{_↔_, Iff·rfl, Iff·trans}
-use mathlib.Core.Path.{_≡_, refl, sym, ap, ap₂, subst, fun-ext}
-use Prim.Native.Nat.{ℕ, zero, _<_}
-use lib.ListN.{length, getD}
+use Rattle.base_lists.specs.Kit.{_≡_, sym, ap, refl, subst, ap₂, fun-ext, _↔_, Iff·rfl, Bool, cond, _&&_, List, ℕ, _<_, zero, length, getD}
 use Rattle.base_lists.specs.List.{tabulate}
 use Rattle.base_lists.proofs.Tests.{same-test}
 use Rattle.graph.specs.Circuit.{Circuit, graphOf, circuitGraph}
-use Rattle.graph.specs.Graph.{Graph}
 use Rattle.graph.specs.Search.{ball, inside}
 use Rattle.simulation.specs.Simulation.{Largest}
-use Rattle.simulation.specs.Perfect.{Place}
 use Rattle.simulation.specs.Quotient.{QuotientGraph}
-use Rattle.simulation.proofs.Same.{same-refl, same-symm, largest-same, place-same}
-use Rattle.simulation.proofs.Quotient.{same-pairs, same-place}
+use Rattle.simulation.proofs.Same.{same-refl, largest-same}
+use Rattle.simulation.proofs.Quotient.{same-pairs}
 use Rattle.table.specs.Host.{KindsMatch}
-use Rattle.place.specs.Match.{radiusOf, ballTable, found, matches, linkMatches, matchStarts, matchEnds, component, placeNodes, placeLinks}
+use Rattle.place.specs.Match.{ballTable, found, matches, linkMatches, matchStarts, matchEnds, component, placeNodes, placeLinks}
 use Rattle.base_lists.specs.Below.{keepFrom}
-use Rattle.place.proofs.Ball.{Admissible, ballGraph, BallPairs, ball-largest, found-iff}
+use Rattle.place.proofs.Ball.{Admissible, ballGraph, BallPairs, ball-largest, found-occurs}
 use Rattle.place.proofs.Links.{matches-iff}
 use Rattle.merge.specs.Merged.{classOf, merged}
 use Rattle.merge.proofs.Content.{PatternContent, content-admissible}
@@ -34,19 +27,6 @@ pub record SameAnswer (p q board : Circuit) (w r : ℕ) : Type 0 where
   pub links : placeLinks p board w r ≡ placeLinks q board w r
 
 module _ {p board : Circuit} (c : PatternContent p) (admissible : Admissible p board) (w r : ℕ) where
-  -- ---- places
-
-  -- The places of the pattern are those of the merged pattern.
-  pub merged-place :
-      (G : Graph) →
-      Place (circuitGraph p) (KindsMatch p board) (circuitGraph board) w r G ↔
-      Place (circuitGraph (merged p)) (KindsMatch (merged p) board) (circuitGraph board) w r G
-  merged-place G =
-      Iff·trans (same-place (merging c board)) (
-        place-same (same-symm (merged-graph c)) (record { agree = λ u v m n. Iff·rfl }) (same-refl _) (same-refl G),
-        place-same (merged-graph c) (record { agree = λ u v m n. Iff·rfl }) (same-refl _) (same-refl G),
-      )
-
   -- ---- pairs
 
   merged-admissible : Admissible (merged p) board
@@ -58,7 +38,7 @@ module _ {p board : Circuit} (c : PatternContent p) (admissible : Admissible p b
       largest-same (merged-graph c) (same-refl _) (record { agree = λ u v m n. Iff·rfl }) (ball-largest merged-admissible w r)
 
   -- In the ball a part matches exactly what its class matches:
-  pub pairs-iff : (u v : ℕ) → u < length (p .kinds) → BallPairs p board w r u v ↔ BallPairs (merged p) board w r (classOf p u) v
+  pub pairs-iff : (u v : ℕ) → u < length (p .labels) → BallPairs p board w r u v ↔ BallPairs (merged p) board w r (classOf p u) v
   unfolding circuitGraph graphOf
   pairs-iff u v h = same-pairs (merging c board) (ball-largest admissible w r) merged-largest u v h
 
@@ -68,7 +48,7 @@ module _ {p board : Circuit} (c : PatternContent p) (admissible : Admissible p b
   up u v s = pairs-iff u v (ball-largest admissible w r .holds .part u v s) .0 s
 
   -- and each member has those of its class.
-  down : (u a v : ℕ) → u < length (p .kinds) → classOf p u ≡ a → BallPairs (merged p) board w r a v → BallPairs p board w r u v
+  down : (u a v : ℕ) → u < length (p .labels) → classOf p u ≡ a → BallPairs (merged p) board w r a v → BallPairs p board w r u v
   down u a v h e m = pairs-iff u v h .1 (subst (λ x. BallPairs (merged p) board w r x v) (sym e) m)
 
   -- ---- the bytes
@@ -77,11 +57,11 @@ module _ {p board : Circuit} (c : PatternContent p) (admissible : Admissible p b
   unfolding QuotientGraph circuitGraph graphOf
   found-same =
       same-test
-      (λ t. let (u, s) = found-iff admissible w r .0 t in found-iff merged-admissible w r .1 (classOf p u, up u w s))
+      (λ t. let (u, s) = found-occurs p board (admissible .most) w r .0 t in found-occurs (merged p) board (merged-admissible .most) w r .1 (classOf p u, up u w s))
       (λ t.
-      let (a, m) = found-iff merged-admissible w r .0 t in
+      let (a, m) = found-occurs (merged p) board (merged-admissible .most) w r .0 t in
       let (u, h, e) = merged-largest .holds .part a w m in
-      found-iff admissible w r .1 (u, down u a w h e m))
+      found-occurs p board (admissible .most) w r .1 (u, down u a w h e m))
 
   -- a pair of nodes matches a link of the one where it matches a link of the other
   matches-same : (v v′ : ℕ) → matches p (ballTable p board w r) v v′ ≡ matches (merged p) (ballTable (merged p) board w r) v v′
@@ -105,7 +85,7 @@ module _ {p board : Circuit} (c : PatternContent p) (admissible : Admissible p b
   nodes-same : placeNodes p board w r ≡ placeNodes (merged p) board w r
   unfolding placeNodes component matchStarts matchEnds
   nodes-same =
-      let n = length (board .kinds) in
+      let n = length (board .labels) in
       ap (λ (match : ℕ → Bool). ball n (keepFrom zero match (board .starts)) (keepFrom zero match (board .ends)) w n) links-same
 
   -- Merging keeps what is found.
@@ -120,8 +100,3 @@ module _ {p board : Circuit} (c : PatternContent p) (admissible : Admissible p b
             (λ (match : ℕ → Bool) (nodes : List ℕ). tabulate (length (board .starts)) (λ i. cond (match i && inside nodes (getD (board .starts) i 0)) 1 0))
             links-same nodes-same;
       }
-
--- "Demand 3 hands the merged file to the place call with a radius given, the first pattern's radius, on the same board and centre."
-pub merged-at-radius :
-    {p board : Circuit} → PatternContent p → Admissible p board → (w : ℕ) → SameAnswer p (merged p) board w (radiusOf p)
-merged-at-radius {p} c admissible w = merged-answer c admissible w (radiusOf p)

@@ -1,15 +1,10 @@
 -- The merged pattern, computed. (Class and merged pattern are document 01's terms: the classes are those of mutual matching, and the
 -- merged pattern is the quotient graph.) proofs/ ties this to simulation's Quotient.
-use mathlib.Core.Bool.{Bool, _&&_}
-use mathlib.Core.List.{List}
-use mathlib.Core.Path.{_≡_}
-use Prim.Native.Nat.{ℕ}
-use lib.Dec.{eqb}
-use lib.ListN.{length, getD}
+use Rattle.base_lists.specs.Kit.{_≡_, Bool, _&&_, List, ℕ, eqb, length, getD}
 use Rattle.base_lists.specs.Below.{countBelow, leastBelow, collect}
 use Rattle.base_lists.specs.List.{anyBelow, tabulate}
 use Rattle.graph.specs.Circuit.{Circuit}
-use Rattle.graph_pairs.specs.Pairs.{pairStarts, pairEnds}
+use Rattle.graph.specs.Pairs.{pairStarts, pairEnds}
 use Rattle.table.specs.Host.{everything}
 use Rattle.table.specs.Row.{inTable, lastTable}
 
@@ -37,28 +32,28 @@ unfoldable pub selfTable : Circuit → List ℕ
 selfTable p = lastTable p p (everything p)
 
 unfoldable pub classOf : Circuit → ℕ → ℕ
-classOf p u = classIn (length (p .kinds)) (selfTable p) u
+classOf p u = classIn (length (p .labels)) (selfTable p) u
 
 -- the smallest part of each class, class by class
 unfoldable pub leaders : Circuit → List ℕ
-leaders p = collect (length (p .kinds)) (isLeader (length (p .kinds)) (selfTable p)) (λ u. u)
+leaders p = collect (length (p .labels)) (isLeader (length (p .labels)) (selfTable p)) (λ u. u)
 
 unfoldable pub classCount : Circuit → ℕ
-classCount p = countBelow (length (p .kinds)) (isLeader (length (p .kinds)) (selfTable p))
+classCount p = countBelow (length (p .labels)) (isLeader (length (p .labels)) (selfTable p))
 
 -- "the class of each part, a byte each"
 unfoldable pub classes : Circuit → List ℕ
-classes p = tabulate (length (p .kinds)) (classOf p)
+classes p = tabulate (length (p .labels)) (classOf p)
 
 -- ---- the pattern that a grouping of the parts makes: class gives the group of each part, and there are k groups, numbered from 0
 
 -- two parts are ".. of the same kind"
 unfoldable pub SameKind : Circuit → ℕ → ℕ → Type 0
-SameKind p u v = getD (p .kinds) u 0 ≡ getD (p .kinds) v 0
+SameKind p u v = getD (p .labels) u 0 ≡ getD (p .labels) v 0
 
 -- the smallest member of group a
 unfoldable pub firstMember : Circuit → (ℕ → ℕ) → ℕ → ℕ
-firstMember p class a = leastBelow (length (p .kinds)) (λ u. eqb (class u) a)
+firstMember p class a = leastBelow (length (p .labels)) (λ u. eqb (class u) a)
 
 -- some of the first j links goes from a member of a to a member of b
 unfoldable pub joins : (ℕ → ℕ) → List ℕ → List ℕ → ℕ → ℕ → ℕ → Bool
@@ -72,7 +67,7 @@ linked p class = joins class (p .starts) (p .ends) (length (p .starts))
 unfoldable pub grouped : Circuit → (ℕ → ℕ) → ℕ → Circuit
 grouped p class k =
     record {
-      kinds = tabulate k (λ a. getD (p .kinds) (firstMember p class a) 0);
+      labels = tabulate k (λ a. getD (p .labels) (firstMember p class a) 0);
       starts = pairStarts k (linked p class);
       ends = pairEnds k (linked p class);
     }

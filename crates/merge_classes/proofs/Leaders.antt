@@ -1,17 +1,9 @@
 -- The smallest part of a class, looked for among the members of a set, lowest first. Assumes nothing.
-use mathlib.Core.Bool.{Bool, false, _&&_, and-true, and-false}
-use mathlib.Core.List.{List}
-use mathlib.Core.Logic.{⊎-elim}
-use mathlib.Core.Path.{_≡_, sym, ap, _∙_}
-use Prim.Native.Nat.{ℕ, zero, _^_, _<_}
-use native.Mathlib.Nat.{eq-or-lt-of-le}
+use Rattle.base_lists.specs.Kit.{_≡_, _∙_, sym, ap, ⊎-elim, Bool, false, _&&_, and-true, and-false, List, ℕ, _<_, zero, _^_, eq-or-lt-of-le, T, length, getD, ne-eqb}
 use native.Mathlib.Decide.{ℕ-discrete}
-use borrow.Author.Tests.{ne-eqb}
-use lib.Dec.{T}
-use lib.ListN.{length, getD}
 use Rattle.base_lists.specs.Below.{leastBelow}
 use Rattle.base_lists.proofs.Below.{leastBelow-same, leastBelow-le, leastBelow-at, leastBelow-is}
-use Rattle.base_lists.proofs.Tests.{both, both-right, false-T}
+use Rattle.base_lists.proofs.Tests.{both-true, both-right, false-T}
 use Rattle.base_bits.specs.Bits.{bit, firstOf, withoutFirst}
 use Rattle.base_bits.proofs.Digits.{bit-of-zero}
 use Rattle.base_bits.proofs.Members.{first-bit, first-none, bit-without}
@@ -44,7 +36,7 @@ module _ (t : List ℕ) (u : ℕ) where
     pub among-found : firstOf left < length t → T (bit (getD t (firstOf left) 0) u) → leaderAmong t u left ≡ firstOf left
     unfolding leaderAmong
     among-found h m =
-        leastBelow-is (length t) _ (firstOf left) h (both (bit (getD t (firstOf left) 0) u) (bit left (firstOf left)) m (first-bit left some word))
+        leastBelow-is (length t) _ (firstOf left) h (both-true (bit (getD t (firstOf left) 0) u) (bit left (firstOf left)) m (first-bit left some word))
         (λ i l. ap (λ (b : Bool). bit (getD t i 0) u && b) (first-none left i l) ∙ and-false (bit (getD t i 0) u))
 
     -- and else one of the other members

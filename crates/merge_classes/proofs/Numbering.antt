@@ -1,27 +1,13 @@
 -- One pass over the parts numbers the classes, and one collects the kinds of their smallest parts. Assumes nothing.
-use mathlib.Core.Bool.{Bool, true, false}
-use mathlib.Core.List.{List, [], _∷_, _++_, append-nil}
-use mathlib.Core.Path.{_≡_, refl, sym, ap, _∙_}
-use Prim.Native.Nat.{ℕ, suc, _+_, _<_}
-use native.Mathlib.Nat.{add-zero, add-suc, suc-add}
-use native.Mathlib.Numerals.{add-one}
-use native.Mathlib.Omega.{arith}
-use borrow.Author.Tests.{eq-eqb, ne-eqb}
-use lib.ListN.{length, getD, drop, set, List·getD-append}
-use lib.Seq.{sets}
+use Rattle.base_lists.specs.Kit.{_≡_, _∙_, sym, ap, refl, Bool, false, true, List, [], _∷_, _++_, append-nil, ℕ, _<_, _+_, add-zero, add-one, length, getD, drop, set, List·getD-append, sets, arith, eq-eqb, ne-eqb}
 use Rattle.base_lists.specs.Below.{countBelow, collect}
 use Rattle.base_lists.specs.List.{tabulate}
 use Rattle.base_lists.proofs.Below.{countBelow-suc, collect-suc, length-collect}
-use Rattle.base_lists.proofs.Tables.{length-tabulate, getD-tabulate, filled-more, whole}
+use Rattle.base_lists.proofs.Tables.{length-tabulate, getD-tabulate, filled-more, stored-whole, sets-append}
 use Rattle.merge.specs.Merged.{leader, isLeader, classIn}
 use Rattle.merge.specs.Steps.{Led}
 use Rattle.merge.proofs.Steps.{class-leader, class-follower}
-use Rattle.merge_classes.specs.Passes.{classNumbers, leaderCount, leaderKinds}
-
--- values stored behind others are stored with them
-pub sets-append : (old : List ℕ) (at : ℕ) (xs ys : List ℕ) → sets (sets old at xs) (at + length xs) ys ≡ sets old at (xs ++ ys)
-sets-append old at [] ys = rw add-zero
-sets-append old at (x ∷ xs) ys = rw (add-suc, ← suc-add) (sets-append (set old at x) (suc at) xs ys)
+use Rattle.merge_classes.specs.Passes.{classNumbers, leaderCount, leaderLabels}
 
 module _ (t : List ℕ) where
   -- the parts that lead their class
@@ -79,7 +65,7 @@ module _ (t : List ℕ) where
 
   pub numbered-all : (old : List ℕ) (u : ℕ) → u ≡ length t → length old ≡ length t → numbered u old ≡ classNumbers t
   unfolding numbered classNumbers
-  numbered-all old u e l = rw e (whole _ old (length t) l)
+  numbered-all old u e l = rw e (stored-whole _ old (length t) l)
 
   -- ---- the kinds of those that lead, class by class
 
@@ -106,6 +92,6 @@ module _ (t : List ℕ) where
     unfolding kindsBefore
     kinds-follower u e = rw (add-one u, collect-suc u leads (λ v. getD kinds v 0), e) (sym (append-nil _))
 
-    pub kinds-all : (u : ℕ) → u ≡ length t → kindsBefore u ≡ leaderKinds t kinds
-    unfolding kindsBefore leaderKinds
+    pub kinds-all : (u : ℕ) → u ≡ length t → kindsBefore u ≡ leaderLabels t kinds
+    unfolding kindsBefore leaderLabels
     kinds-all u e = rw e

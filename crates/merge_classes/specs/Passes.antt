@@ -1,8 +1,5 @@
 -- What the passes of merging ask and leave: from a pattern's table on itself to its classes and the merged pattern.
-use mathlib.Core.List.{List}
-use mathlib.Core.Path.{_≡_}
-use Prim.Native.Nat.{ℕ, _^_, _≤_, _<_}
-use lib.ListN.{length, getD, take}
+use Rattle.base_lists.specs.Kit.{_≡_, List, ℕ, _≤_, _<_, _^_, length, getD, take}
 use Rattle.base_lists.specs.Below.{countBelow, collect}
 use Rattle.base_lists.specs.List.{tabulate}
 use Rattle.graph.specs.Circuit.{Circuit, circuit}
@@ -26,8 +23,8 @@ unfoldable pub classNumbers : List ℕ → List ℕ
 classNumbers t = tabulate (length t) (classIn (length t) t)
 
 -- the kind of the smallest part of each class, class by class
-unfoldable pub leaderKinds : List ℕ → List ℕ → List ℕ
-leaderKinds t kinds = collect (length t) (isLeader (length t) t) (λ u. getD kinds u 0)
+unfoldable pub leaderLabels : List ℕ → List ℕ → List ℕ
+leaderLabels t kinds = collect (length t) (isLeader (length t) t) (λ u. getD kinds u 0)
 
 -- a pattern's classes, and its quotient by them, the merged pattern, at the front of three tables, of the size told
 pub record Quotient (p : Circuit) (bytes kinds starts ends : List ℕ) (size : Pattern) : Type 0 where

@@ -4,7 +4,7 @@ ghost use Prim.Native.Nat.{_≤_, _<_};
 ghost use lib.ListN.{length};
 ghost use lib.Seq.{sets};
 ghost use Rattle.merge.specs.Merged.{leader};
-ghost use Rattle.merge_classes.specs.Passes.{SelfTable, leaderCount, classNumbers, leaderKinds};
+ghost use Rattle.merge_classes.specs.Passes.{SelfTable, leaderCount, classNumbers, leaderLabels};
 
 pub mod links;
 
@@ -49,16 +49,16 @@ pub fn number_classes(table: &[u32], classes: &mut [u8]) -> usize
 }
 
 // The kind of each class, that of its smallest part, at the front of a table.
-pub fn leader_kinds(table: &[u32], kinds: &[u32], out: &mut [u32])
+pub fn leader_labels(table: &[u32], labels: &[u32], out: &mut [u32])
     requires { ⌜ SelfTable (now table) ⌝ }
-    requires { ⌜ (length (now kinds) ≡ length (now table)) × (length (now table) ≤ length (now out)) ⌝ }
-    ensures { λ r. ⌜ now (out .exit) ≡ sets (now (out .entry)) 0 (leaderKinds (now (table .entry)) (now (kinds .entry))) ⌝ }
+    requires { ⌜ (length (now labels) ≡ length (now table)) × (length (now table) ≤ length (now out)) ⌝ }
+    ensures { λ r. ⌜ now (out .exit) ≡ sets (now (out .entry)) 0 (leaderLabels (now (table .entry)) (now (labels .entry))) ⌝ }
 {
     let mut next = 0;
     let mut u = 0;
-    while u < kinds.len() {
+    while u < labels.len() {
         if leader(table, u) == u {
-            out[next] = kinds[u];
+            out[next] = labels[u];
             next += 1;
         }
         u += 1;

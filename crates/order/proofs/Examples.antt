@@ -1,5 +1,5 @@
 -- Which comparison decides, by computation. Assumes nothing.
-use mathlib.Core.Path.{_≡_, refl}
+use Rattle.base_lists.specs.Kit.{_≡_, refl}
 use Rattle.order.specs.declared.Order.the-variants.{Less}
 use Rattle.order.specs.Order.{compareWhole}
 use Rattle.order.specs.Examples.{orderComputed, linkedBoth, threeNodes, linkedOnce, otherPackage, otherWay, highByte}

@@ -1,5 +1,5 @@
 -- Circuits of which one comparison says one thing and a later one another.
-use mathlib.Core.List.{[], _∷_}
+use Rattle.base_lists.specs.Kit.{[], _∷_}
 use Rattle.order.specs.Order.{Whole, followed, compareNumbers, compareLists, compareWhole}
 
 -- `unfolding orderComputed` opens the comparison

@@ -1,4 +1,5 @@
 pub mod Examples
+pub mod Files
 pub mod Meaning
 pub mod Order
 pub mod Sorting

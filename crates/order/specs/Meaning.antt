@@ -1,6 +1,5 @@
 -- What it is for a comparison to be an order.
-use mathlib.Core.Logic.{_↔_}
-use mathlib.Core.Path.{_≡_}
+use Rattle.base_lists.specs.Kit.{_≡_, _↔_}
 use Rattle.order.specs.declared.Order.{Order}
 use Rattle.order.specs.declared.Order.the-variants.{Less, Equal, Greater}
 use Rattle.order.specs.Order.{opposite}

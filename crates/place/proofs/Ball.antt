@@ -1,10 +1,5 @@
 -- The ball's table is the largest dual simulation of the pattern in the ball, and a centre is found where it occurs in that. Assumes nothing.
-use mathlib.Core.Bool.{not, Bool·not-not}
-use mathlib.Core.Logic.{_↔_, Iff·rfl}
-use mathlib.Core.Path.{_≡_, sym, ap, subst, _∙_}
-use Prim.Native.Nat.{ℕ, _≤_}
-use lib.Dec.{T}
-use lib.ListN.{length, getD}
+use Rattle.base_lists.specs.Kit.{_≡_, _∙_, sym, ap, subst, _↔_, Iff·rfl, not, Bool·not-not, ℕ, _≤_, T, length, getD}
 use Rattle.base_lists.specs.List.{anyBelow}
 use Rattle.base_lists.proofs.Tests.{anyBelow-at, at-anyBelow}
 use Rattle.base_bits.specs.Bits.{bit}
@@ -28,10 +23,10 @@ use Rattle.place.specs.Match.{ballOf, ballTable, found}
 -- All that the laws of the place ask of a pattern and a board: the pattern has at most 32 parts, so that a set of parts is a 32-bit number,
 -- has as many starts as ends and is connected; the board's links join its nodes. The circuits of two accepted files have it (Accepted).
 pub record Admissible (pattern board : Circuit) : Type 0 where
-  pub most : length (pattern .kinds) ≤ 32
+  pub most : length (pattern .labels) ≤ 32
   pub parallel : length (pattern .starts) ≡ length (pattern .ends)
   pub connected : Connected (circuitGraph pattern)
-  pub links : Within (length (board .kinds)) (board .starts) (board .ends)
+  pub links : Within (length (board .labels)) (board .starts) (board .ends)
 
 -- the ball as a graph, and the set of pairs of its table
 abbrev pub ballGraph : Circuit → ℕ → ℕ → Graph
@@ -45,7 +40,7 @@ pub ball-fits : (pattern board : Circuit) (w r : ℕ) → Table pattern board (b
 unfolding ballTable
 ball-fits pattern board w r = last-fits pattern board (ballOf board w r)
 
-module _ (board : Circuit) (links : Within (length (board .kinds)) (board .starts) (board .ends)) (w r : ℕ) where
+module _ (board : Circuit) (links : Within (length (board .labels)) (board .starts) (board .ends)) (w r : ℕ) where
   -- a byte of the ball is 1 exactly at a node in the ball
   ball-taken : (v : ℕ) → Taken board (ballOf board w r) v ↔ ballGraph board w r .Node v
   unfolding ballOf Ball circuitGraph
@@ -54,7 +49,7 @@ module _ (board : Circuit) (links : Within (length (board .kinds)) (board .start
         λ t. same .0 (t .marked),
         λ b.
             let t = same .1 b in
-            record { below = inside-node (length (board .kinds)) (board .starts) (board .ends) w r v t; marked = t },
+            record { below = inside-node (length (board .labels)) (board .starts) (board .ends) w r v t; marked = t },
       )
 
   -- the nodes that the bytes take, and the links between them, are the ball
@@ -69,7 +64,7 @@ module _ (board : Circuit) (links : Within (length (board .kinds)) (board .start
         );
       }
 
-module _ (pattern board : Circuit) (most : length (pattern .kinds) ≤ 32) (w r : ℕ) where
+module _ (pattern board : Circuit) (most : length (pattern .labels) ≤ 32) (w r : ℕ) where
   -- the centre's entry is a 32-bit number, so that the test of the whole entry is a test of each part
   found-any : found pattern board w r ≡ anyBelow 32 (bit (getD (ballTable pattern board w r) w 0))
   unfolding found
@@ -98,6 +93,3 @@ module _ {pattern board : Circuit} (a : Admissible pattern board) (w r : ℕ) wh
   ball-largest =
       largest-same (same-refl (circuitGraph pattern)) ball-host (record { agree = λ u v m n. Iff·rfl })
       (last-largest pattern board (ballOf board w r) (a .most) (a .connected))
-
-  pub found-iff : T (found pattern board w r) ↔ ((u : ℕ) × BallPairs pattern board w r u w)
-  found-iff = found-occurs pattern board (a .most) w r

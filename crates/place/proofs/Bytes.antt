@@ -1,32 +1,16 @@
 -- What the filling functions write is the place: its bytes and its table. Assumes nothing.
-use mathlib.Core.Bool.{Bool, true, false, _&&_, not, cond}
-use mathlib.Core.List.{List}
-use mathlib.Core.Path.{_≡_, refl, sym, ap, subst, _∙_}
-use Prim.Native.Nat.{ℕ, _<_}
-use native.Mathlib.Nat.{le-of-eq}
-use lib.Dec.{eqb}
-use lib.ListN.{length, getD, List·getD-eq-default}
+use Rattle.base_lists.specs.Kit.{_≡_, _∙_, sym, ap, refl, subst, Bool, false, true, cond, _&&_, not, List, ℕ, _<_, eqb, length, getD}
 use Rattle.base_lists.specs.List.{tabulate, Below}
 use Rattle.base_lists.proofs.Tables.{is-tabulate, tabulate-same}
+use Rattle.base_lists.proofs.Tests.{is-cond, cond-not}
 use Rattle.base_bits.specs.Bits.{intersects, unionOver}
-use Rattle.base_bits.proofs.Unions.{unionOver-none}
 use Rattle.graph.specs.Circuit.{Circuit}
 use Rattle.graph.specs.Search.{far, inside}
-use Rattle.graph.proofs.Ball.{bit-entry}
 use Rattle.place.specs.Match.{ballTable, matches, linkMatches, placeNodes, placeLinks, placeTable}
 use Rattle.place.specs.Bytes.{nodeBytes, nodeSets, drivenBy, linkByte, linkBytes}
 use Rattle.place.proofs.Marks.{nodes-marks}
 
--- before the first link, no set is known but the empty one past the last node
-pub driven-none : (succ sets : List ℕ) → 0 ≡ drivenBy succ sets (length sets)
-unfolding drivenBy
-driven-none succ sets = sym (ap (unionOver succ) (List·getD-eq-default sets 0 (le-of-eq refl)) ∙ unionOver-none succ)
-
 -- choosing by the test and by its opposite
-turned : (b : Bool) (x : ℕ) → cond b 0 x ≡ cond (not b) x 0
-turned true x = refl
-turned false x = refl
-
 both-chosen : (a b : Bool) → _≡_ {A = ℕ} (cond b 0 (cond a 1 0)) (cond (a && not b) 1 0)
 both-chosen true true = refl
 both-chosen true false = refl
@@ -35,10 +19,10 @@ both-chosen false false = refl
 
 -- The entries of a search that reaches the place's nodes.
 module _
-    (pattern board : Circuit) (w r : ℕ) (dist : List ℕ) (size : length dist ≡ length (board .kinds))
-    (reached : (v : ℕ) → v < length (board .kinds) → inside (placeNodes pattern board w r) v ≡ not (eqb (getD dist v 0) far))
+    (pattern board : Circuit) (w r : ℕ) (dist : List ℕ) (size : length dist ≡ length (board .labels))
+    (reached : (v : ℕ) → v < length (board .labels) → inside (placeNodes pattern board w r) v ≡ not (eqb (getD dist v 0) far))
   where
-    node-below : (v : ℕ) → v < length dist → v < length (board .kinds)
+    node-below : (v : ℕ) → v < length dist → v < length (board .labels)
     node-below v h = subst (λ m. v < m) size h
 
     pub bytes-nodes : nodeBytes dist ≡ placeNodes pattern board w r
@@ -48,18 +32,18 @@ module _
         sym
         (is-tabulate (length dist) _ (placeNodes pattern board w r) (marks .size ∙ sym size)
         (λ v h.
-        bit-entry _ (marks .bytes v (node-below v h)) ∙ ap (λ (b : Bool). cond b 1 0) (reached v (node-below v h)) ∙ sym (turned (eqb (getD dist v 0) far) 1)))
+        is-cond _ (marks .bytes v (node-below v h)) ∙ ap (λ (b : Bool). cond b 1 0) (reached v (node-below v h)) ∙ cond-not (eqb (getD dist v 0) far) 1))
 
     pub sets-table : nodeSets dist (ballTable pattern board w r) ≡ placeTable pattern board w r
     unfolding nodeSets placeTable
     sets-table =
         tabulate-same (length dist) _ _
         (λ v h.
-        turned (eqb (getD dist v 0) far) _ ∙ ap (λ (b : Bool). cond b (getD (ballTable pattern board w r) v 0) 0) (sym (reached v (node-below v h))))
+        sym (cond-not (eqb (getD dist v 0) far) _) ∙ ap (λ (b : Bool). cond b (getD (ballTable pattern board w r) v 0) 0) (sym (reached v (node-below v h))))
         ∙ ap (λ (m : ℕ). tabulate m (λ v. cond (inside (placeNodes pattern board w r) v) (getD (ballTable pattern board w r) v 0) 0)) size
 
     pub bytes-links :
-        (succ : List ℕ) → Below (length (board .kinds)) (board .starts) →
+        (succ : List ℕ) → Below (length (board .labels)) (board .starts) →
         ((v v′ : ℕ) → intersects (unionOver succ (getD (ballTable pattern board w r) v 0)) (getD (ballTable pattern board w r) v′ 0) ≡ matches pattern (ballTable pattern board w r) v v′) →
         linkBytes (board .starts) (board .ends) succ dist (ballTable pattern board w r) ≡ placeLinks pattern board w r
     unfolding linkBytes linkByte placeLinks linkMatches drivenBy Below

@@ -1,9 +1,5 @@
 -- Document 01's examples of places, by computation. Assumes nothing.
-use mathlib.Core.List.{List, [], _∷_}
-use mathlib.Core.Path.{_≡_, refl}
-use Prim.Native.Nat.{ℕ, zero, suc, _<_}
-use native.Mathlib.Omega.{arith}
-use lib.Dec.{T}
+use Rattle.base_lists.specs.Kit.{_≡_, refl, List, [], _∷_, ℕ, _<_, suc, zero, T, arith}
 use Rattle.base_lists.specs.List.{anyBelow, maximum}
 use Rattle.base_lists.specs.Below.{keepFrom}
 use Rattle.graph.specs.Circuit.{Circuit}

@@ -1,14 +1,9 @@
 -- Finding the place from a first table: from what it starts from to what it comes to, and what is then marked. Assumes nothing.
-use mathlib.Core.Bool.{Bool, true, false, not, cond}
-use mathlib.Core.List.{List}
-use mathlib.Core.Path.{_≡_, refl, sym, ap, _∙_, subst}
-use Prim.Native.Nat.{ℕ, _^_, _≤_, _<_, zero-le}
-use borrow.Author.Tests.{eqb-false}
-use lib.Dec.{T, eqb}
-use lib.ListN.{length, getD, take}
+use Rattle.base_lists.specs.Kit.{_≡_, _∙_, sym, ap, refl, subst, Bool, false, true, cond, not, List, ℕ, _≤_, _<_, _^_, zero-le, T, eqb, length, getD, take, eqb-false}
 use Rattle.base_lists.specs.List.{Below}
 use Rattle.base_lists.proofs.Tests.{true-T, false-T}
 use Rattle.base_lists.proofs.Tables.{tabulate-same}
+use Rattle.base_lists.proofs.Entries.{all-below}
 use Rattle.base_bits.specs.Bits.{intersects, unionOver}
 use Rattle.graph.specs.Bfs.{bfs, adjacent, Found as Searched}
 use Rattle.graph.specs.Circuit.{Circuit, HasLink}
@@ -16,7 +11,6 @@ use Rattle.graph.specs.Net.{Net}
 use Rattle.graph.specs.Rising.{LinksRise}
 use Rattle.graph.specs.Search.{far, inside}
 use Rattle.graph.proofs.Ball.{Within, within}
-use Rattle.graph.proofs.Groups.{all-below}
 use Rattle.graph.proofs.Net.{net-of, net-links}
 use Rattle.graph.proofs.Sorted.{rise-sorted}
 use Rattle.file_format.specs.Circuit.{Drawn}
@@ -25,7 +19,7 @@ use Rattle.table.specs.declared.Rest.{Rest}
 use Rattle.table.specs.Fill.{marksOf, NodeList, tableAt}
 use Rattle.table.specs.First.{Begins}
 use Rattle.table.specs.Prepared.{succOf, Tables, Prepared, Ready}
-use Rattle.table.specs.Refine.{Known, RestedBy}
+use Rattle.table.specs.Refine.{TablesKnown, RestedBy}
 use Rattle.table.specs.Host.{Taken, everything}
 use Rattle.table.specs.Row.{bothWays, problemBy, lastTable}
 use Rattle.table.proofs.Meaning.{last-fits}
@@ -37,7 +31,7 @@ use Rattle.place.specs.Find.{Tabled, Located, Seen, Sought, FoundIn}
 use Rattle.place.proofs.Ball.{ball-fits}
 use Rattle.place.proofs.Bytes.{bytes-nodes, bytes-links, sets-table}
 use Rattle.place.proofs.Listed.{marks-bytes, table-sets, links-bytes}
-use Rattle.place.proofs.Matched.{found-short, found-list, found-distances, found-marks, found-inside, forward-test, spread-component}
+use Rattle.place.proofs.Matched.{found-short, found-list, found-distances, found-marks, forward-test, spread-component}
 use Rattle.place.proofs.Outcome.{found-none, found-some}
 use Rattle.place.proofs.Whole.{Agreeing, agree-set, agree-matches, spread-narrower, spread-wider, spread-within, Component, whole-small, whole-agrees, part-agrees}
 
@@ -55,13 +49,13 @@ drawn-tabled d p =
 
 module _ {pattern board : Circuit} {t : Tables} (d : Tabled pattern board t) where
   abbrev size : ℕ
-  size = length (board .kinds)
+  size = length (board .labels)
 
   pub tabled-joins : Within size (board .starts) (board .ends)
   unfolding Below
   tabled-joins = within size (board .starts) (board .ends) (d .starts) (d .ends)
 
-  pub tabled-net : Net size (t .offsets) (t .links)
+  pub tabled-net : Net size (t .offsets) (t .targets)
   tabled-net = net-of (d .prepared .net)
 
   -- the last offset is how many links the board has
@@ -69,7 +63,7 @@ module _ {pattern board : Circuit} {t : Tables} (d : Tabled pattern board t) whe
   tabled-links = net-links (d .prepared .net) (d .starts)
 
   -- the search lists the ball's nodes, and finds their distances
-  module _ (w r : ℕ) (h : w < size) {k : ℕ} {dist queue : List ℕ} (f : Searched k dist queue (bfs (adjacent (t .offsets) (t .links)) size w r)) where
+  module _ (w r : ℕ) (h : w < size) {k : ℕ} {dist queue : List ℕ} (f : Searched k dist queue (bfs (adjacent (t .offsets) (t .targets)) size w r)) where
     pub ball-short : k ≤ size
     ball-short = found-short board (d .prepared .net) tabled-joins w r h k dist queue f
 
@@ -79,25 +73,21 @@ module _ {pattern board : Circuit} {t : Tables} (d : Tabled pattern board t) whe
     pub ball-measured : dist ≡ distancesOf board w r
     ball-measured = found-distances board (d .prepared .net) tabled-joins w r h k dist queue f
 
-    -- each node that it reached is in the ball
-    pub ball-reached : (v : ℕ) → v < size → Reached dist v → T (inside (ballOf board w r) v)
-    ball-reached = found-inside board (d .prepared .net) tabled-joins w r h k dist queue f
-
     -- and lists
     pub ball-marks : marksOf size (take k queue) ≡ ballOf board w r
     ball-marks = found-marks board (d .prepared .net) tabled-joins w r h k dist queue f
 
 -- ---- the place, from the ball's table and what the search for the component reaches
 
-module _ {pattern board : Circuit} {t : Tables} (d : Tabled pattern board t) {w : ℕ} (r : ℕ) (centre : w < length (board .kinds)) {sets : List ℕ}
-    (ball : sets ≡ ballTable pattern board w r) {dist : List ℕ} (g : Spread (length (board .kinds)) w (matched t sets) dist) where
+module _ {pattern board : Circuit} {t : Tables} (d : Tabled pattern board t) {w : ℕ} (r : ℕ) (centre : w < length (board .labels)) {sets : List ℕ}
+    (ball : sets ≡ ballTable pattern board w r) {dist : List ℕ} (g : Spread (length (board .labels)) w (matched t sets) dist) where
   tabled-small : (v : ℕ) → getD (ballTable pattern board w r) v 0 < 2 ^ 32
   tabled-small = fits-word (d .prepared .parts) (ball-fits pattern board w r)
 
-  tabled-long : length sets ≡ length (board .kinds)
+  tabled-long : length sets ≡ length (board .labels)
   tabled-long = ap length ball ∙ ball-fits pattern board w r .size
 
-  tabled-reached : (v : ℕ) → v < length (board .kinds) → inside (placeNodes pattern board w r) v ≡ not (eqb (getD dist v 0) far)
+  tabled-reached : (v : ℕ) → v < length (board .labels) → inside (placeNodes pattern board w r) v ≡ not (eqb (getD dist v 0) far)
   unfolding placeNodes
   tabled-reached = spread-component (d .prepared) (tabled-joins d) (d .parallel) (ballTable pattern board w r) tabled-small w centre dist (rw ball at g)
 
@@ -123,11 +113,11 @@ module _ {pattern board : Circuit} {t : Tables} (d : Tabled pattern board t) {w 
 
 -- The place from another table than the ball's, which agrees with that at the nodes that the search for the component reaches.
 module _ {pattern board : Circuit} {t : Tables} (d : Tabled pattern board t) (even : length (board .starts) ≡ length (board .ends)) {w : ℕ} (r : ℕ)
-    (centre : w < length (board .kinds)) (sets : List ℕ) {dist : List ℕ} (long : length sets ≡ length (board .kinds)) (small : (v : ℕ) → getD sets v 0 < 2 ^ 32)
-    (g : Spread (length (board .kinds)) w (matched t (ballTable pattern board w r)) dist)
-    (same : (v : ℕ) → v < length (board .kinds) → Reached dist v → getD sets v 0 ≡ getD (ballTable pattern board w r) v 0)
+    (centre : w < length (board .labels)) (sets : List ℕ) {dist : List ℕ} (long : length sets ≡ length (board .labels)) (small : (v : ℕ) → getD sets v 0 < 2 ^ 32)
+    (g : Spread (length (board .labels)) w (matched t (ballTable pattern board w r)) dist)
+    (same : (v : ℕ) → v < length (board .labels) → Reached dist v → getD sets v 0 ≡ getD (ballTable pattern board w r) v 0)
     (match :
-    (v v′ : ℕ) → HasLink (board .starts) (board .ends) v v′ → v < length (board .kinds) → Reached dist v →
+    (v v′ : ℕ) → HasLink (board .starts) (board .ends) v v′ → v < length (board .labels) → Reached dist v →
     matches pattern sets v v′ ≡ matches pattern (ballTable pattern board w r) v v′) where
   abbrev ballSets : List ℕ
   ballSets = ballTable pattern board w r
@@ -136,7 +126,7 @@ module _ {pattern board : Circuit} {t : Tables} (d : Tabled pattern board t) (ev
   unfolding nodeSets
   same-sets = tabulate-same (length dist) _ _ (λ v h. go v (subst (λ (m : ℕ). v < m) (g .size) h) (eqb (getD dist v 0) far) refl)
     where
-      go : (v : ℕ) → v < length (board .kinds) → (b : Bool) → eqb (getD dist v 0) far ≡ b → cond b 0 (getD sets v 0) ≡ cond b 0 (getD ballSets v 0)
+      go : (v : ℕ) → v < length (board .labels) → (b : Bool) → eqb (getD dist v 0) far ≡ b → cond b 0 (getD sets v 0) ≡ cond b 0 (getD ballSets v 0)
       go v h true q = refl
       go v h false q = same v h (eqb-false (getD dist v 0) far q)
 
@@ -176,16 +166,16 @@ module _ {pattern board : Circuit} {t : Tables} (d : Tabled pattern board t) (ev
 -- ---- from the centre's component in the whole board's match graph
 
 module _ {pattern board : Circuit} {t : Tables} (d : Tabled pattern board t) (even : length (board .starts) ≡ length (board .ends)) {w : ℕ} (r : ℕ)
-    (centre : w < length (board .kinds)) {whole comp : List ℕ} (e : whole ≡ lastTable pattern board (everything board))
-    (g : Spread (length (board .kinds)) w (matched t whole) comp) where
+    (centre : w < length (board .labels)) {whole comp : List ℕ} (e : whole ≡ lastTable pattern board (everything board))
+    (g : Spread (length (board .labels)) w (matched t whole) comp) where
   abbrev nodes : ℕ
-  nodes = length (board .kinds)
+  nodes = length (board .labels)
 
   component : Component pattern board t w whole comp
   component = record { joined = record { prepared = d .prepared; joins = tabled-joins d; parallel = d .parallel }; table = e; spread = g }
 
   -- Where the ball holds the whole component, the place is that component with its matching links.
-  module _ (held : (v : ℕ) → v < length (board .kinds) → Reached comp v → T (inside (ballOf board w r) v)) where
+  module _ (held : (v : ℕ) → v < length (board .labels) → Reached comp v → T (inside (ballOf board w r) v)) where
     held-agrees : Agreeing pattern board t (ballTable pattern board w r) whole comp
     unfolding ballTable
     held-agrees = whole-agrees component (ballOf board w r) held
@@ -228,7 +218,7 @@ module _ {pattern board : Circuit} {t : Tables} (d : Tabled pattern board t) (ev
 
 -- ---- the graphs that a place comes from
 
-module _ {pattern board : Circuit} {t : Tables} (d : Tabled pattern board t) (w r : ℕ) (centre : w < length (board .kinds)) where
+module _ {pattern board : Circuit} {t : Tables} (d : Tabled pattern board t) (w r : ℕ) (centre : w < length (board .labels)) where
   -- the ball,
   pub ball-seen : (taken : List ℕ) → taken ≡ ballOf board w r → Seen pattern board t w r taken
   unfolding ballTable
@@ -242,8 +232,8 @@ module _ {pattern board : Circuit} {t : Tables} (d : Tabled pattern board t) (w 
 
   -- as a search lists it,
   pub ball-sought :
-      {k : ℕ} {dist queue first : List ℕ} → Searched k dist queue (bfs (adjacent (t .offsets) (t .links)) (length (board .kinds)) w r) →
-      Begins pattern board (marksOf (length (board .kinds)) (take k queue)) first → Sought pattern board t w r (take k queue) first
+      {k : ℕ} {dist queue first : List ℕ} → Searched k dist queue (bfs (adjacent (t .offsets) (t .targets)) (length (board .labels)) w r) →
+      Begins pattern board (marksOf (length (board .labels)) (take k queue)) first → Sought pattern board t w r (take k queue) first
   ball-sought f b =
       record {
         tabled = d;
@@ -256,7 +246,7 @@ module _ {pattern board : Circuit} {t : Tables} (d : Tabled pattern board t) (w 
   -- and its nodes in the centre's component on the whole board
   pub cut-seen :
       {whole comp : List ℕ} → length (board .starts) ≡ length (board .ends) → whole ≡ lastTable pattern board (everything board) →
-      Spread (length (board .kinds)) w (matched t whole) comp → (taken : List ℕ) →
+      Spread (length (board .labels)) w (matched t whole) comp → (taken : List ℕ) →
       ((v : ℕ) → Taken board taken v → Taken board (ballOf board w r) v) →
       ((v : ℕ) → Taken board (ballOf board w r) v → Reached comp v → Taken board taken v) → Seen pattern board t w r taken
   cut-seen even e g taken within keeps =
@@ -270,14 +260,14 @@ module _ {pattern board : Circuit} {t : Tables} (d : Tabled pattern board t) (w 
 
 module _ {pattern board : Circuit} {t : Tables} {w r : ℕ} {nodes first : List ℕ} (s : Sought pattern board t w r nodes first) where
   abbrev n : ℕ
-  n = length (board .kinds)
+  n = length (board .labels)
 
   -- the rounds may begin with the first table
-  pub sought-known : Known t nodes first
+  pub sought-known : TablesKnown t nodes first
   sought-known = record { ways = bothWays; pattern = pattern; host = board; prepared = s .tabled .prepared; begins = s .begins }
 
   -- which has a set for each node
-  pub sought-long : length first ≡ length (board .kinds)
+  pub sought-long : length first ≡ length (board .labels)
   unfolding problemBy
   sought-long = s .begins .long
 
@@ -318,15 +308,15 @@ module _ {pattern board : Circuit} {t : Tables} {w r : ℕ} {nodes first : List 
 -- ---- what is marked
 
 module _ {pattern board : Circuit} {t : Tables} {w r : ℕ} {dist sets place : List ℕ} (l : Located pattern board t w r dist sets place) where
-  pub located-nodes : marksOf (length (board .kinds)) place ≡ placeNodes pattern board w r
+  pub located-nodes : marksOf (length (board .labels)) place ≡ placeNodes pattern board w r
   located-nodes = ap (λ (m : ℕ). marksOf m place) (sym (l .size)) ∙ marks-bytes (l .lists) ∙ l .bytes
 
-  pub located-table : tableAt (length (board .kinds)) (λ v. getD sets v 0) place ≡ placeTable pattern board w r
+  pub located-table : tableAt (length (board .labels)) (λ v. getD sets v 0) place ≡ placeTable pattern board w r
   located-table = ap (λ (m : ℕ). tableAt m (λ v. getD sets v 0) place) (sym (l .size)) ∙ table-sets (l .lists) sets ∙ l .table
 
 pub located-links :
     {pattern board : Circuit} {t : Tables} {w r : ℕ} {dist sets place : List ℕ} → Prepared pattern board t → length (board .starts) ≡ length (board .ends) →
-    Below (length (board .kinds)) (board .starts) → LinksRise (board .starts) (board .ends) →
+    Below (length (board .labels)) (board .starts) → LinksRise (board .starts) (board .ends) →
     Located pattern board t w r dist sets place → linkMarks (length (board .starts)) t sets place ≡ placeLinks pattern board w r
 located-links p parallel below rise l =
     links-bytes (l .lists) _ _ (rw (l .size) (p .net)) (rise-sorted _ _ rise) parallel (rw (l .size) below) ∙ l .links

@@ -1,12 +1,6 @@
 -- The links that match: what the test means, and that the kept lists hold the links of the match graph. Assumes nothing.
-use mathlib.Core.Bool.{Bool, _&&_}
-use mathlib.Core.List.{List}
-use mathlib.Core.Logic.{_↔_}
-use mathlib.Core.Path.{_≡_, refl, sym, ap₂, subst}
-use Prim.Native.Nat.{ℕ, _<_}
-use lib.Dec.{T}
-use lib.ListN.{length, getD}
-use Rattle.base_lists.proofs.Tests.{both, both-left, both-right, anyBelow-at, at-anyBelow}
+use Rattle.base_lists.specs.Kit.{_≡_, sym, refl, subst, ap₂, _↔_, Bool, _&&_, List, ℕ, _<_, T, length, getD}
+use Rattle.base_lists.proofs.Tests.{both-true, both-left, both-right, anyBelow-at, at-anyBelow}
 use Rattle.graph.specs.Circuit.{Circuit, LinkAt, HasLink, graphOf, circuitGraph}
 use Rattle.graph.specs.Graph.{Ball}
 use Rattle.graph.proofs.Ball.{Within}
@@ -37,7 +31,7 @@ matches-iff pattern parallel t v v′ = (
       ),
   λ (u, u′, (i, l), s, s′).
       at-anyBelow (length (pattern .starts)) passes i (l .inStarts)
-      (both (inTable t (start i) v) (inTable t (end i) v′) (subst (λ x. InTable t x v) (sym (l .start)) s) (subst (λ x. InTable t x v′) (sym (l .end)) s′)),
+      (both-true (inTable t (start i) v) (inTable t (end i) v′) (subst (λ x. InTable t x v) (sym (l .start)) s) (subst (λ x. InTable t x v′) (sym (l .end)) s′)),
 )
   where
     start : ℕ → ℕ
@@ -71,8 +65,8 @@ match-kept pattern board t v v′ =
 
 -- so they start and end at nodes where the board's do
 pub match-within :
-    (pattern board : Circuit) (t : List ℕ) → Within (length (board .kinds)) (board .starts) (board .ends) →
-    Within (length (board .kinds)) (matchStarts pattern board t) (matchEnds pattern board t)
+    (pattern board : Circuit) (t : List ℕ) → Within (length (board .labels)) (board .starts) (board .ends) →
+    Within (length (board .labels)) (matchStarts pattern board t) (matchEnds pattern board t)
 match-within pattern board t links =
     record {
       starts = λ v v′ l. links .starts v v′ (match-kept pattern board t v v′ .0 l .0);

@@ -1,30 +1,18 @@
 -- What is marked from the list of the nodes that the search reached is what its entries say: a byte and a set for each node, and a byte for
 -- each link of a board whose links come by their starts. Assumes nothing.
-use mathlib.Core.Bool.{Bool, true, false, _&&_, not, cond}
-use mathlib.Core.List.{List}
-use mathlib.Core.Path.{_≡_, refl, sym, ap, subst, _∙_}
-use Prim.Native.Nat.{ℕ, suc, _≤_, _<_}
-use native.Mathlib.Omega.{arith}
-use borrow.Author.Tests.{eq-eqb, ne-eqb, leb-true, ltb-true}
-use lib.Dec.{T, eqb, ltb, leb, eqb→eq, eqb-refl, leb→le, le→leb, ltb→lt, lt→ltb}
-use lib.ListN.{length, getD}
-use Rattle.base_lists.specs.List.{any, tabulate, Below}
-use Rattle.base_lists.proofs.Tests.{same-test, true-T, both, both-left, both-right, any-at, at-any}
+use Rattle.base_lists.specs.Kit.{_≡_, _∙_, ap, refl, subst, Bool, false, true, cond, _&&_, not, List, ℕ, _<_, suc, T, eqb, ltb, eqb→eq, leb, ltb→lt, lt→ltb, le→leb, leb→le, length, getD, arith, eq-eqb, ne-eqb}
+use Rattle.base_lists.specs.List.{any, Below}
+use Rattle.base_lists.proofs.Tests.{same-test, true-T, both-true, both-left, both-right, any-at, at-any, cond-not}
 use Rattle.base_lists.proofs.Tables.{tabulate-same}
 use Rattle.base_bits.specs.Bits.{intersects}
-use Rattle.graph.specs.Net.{forwardOffsets, forwardLinks, NetOf}
+use Rattle.graph.specs.Net.{forwardOffsets, forwardTargets, NetOf}
 use Rattle.graph.specs.Neighbours.{below}
 use Rattle.graph.specs.Search.{far}
 use Rattle.graph.proofs.Sorted.{Sorted, sorted-at, link-at}
 use Rattle.table.specs.Fill.{listed, marksOf, tableAt}
 use Rattle.table.specs.Prepared.{succOf, Tables}
 use Rattle.place.specs.Bytes.{nodeBytes, nodeSets, drivenBy, linkByte, linkBytes, marksLink, linkMarks}
-use Rattle.place.specs.Spread.{Reached, Lists}
-
--- choosing by the opposite of a test
-turned : (b : Bool) (x : ℕ) → cond (not b) x 0 ≡ cond b 0 x
-turned true x = refl
-turned false x = refl
+use Rattle.place.specs.Spread.{Lists}
 
 both-chosen : (far meets : Bool) → _≡_ {A = ℕ} (cond (not far && meets) 1 0) (cond far 0 (cond meets 1 0))
 both-chosen true meets = refl
@@ -48,16 +36,16 @@ module _ {nodes dist : List ℕ} (l : Lists nodes dist) where
   -- a byte for each node, and a set
   pub marks-bytes : marksOf (length dist) nodes ≡ nodeBytes dist
   unfolding marksOf nodeBytes
-  marks-bytes = tabulate-same (length dist) _ _ (λ v h. ap (λ (b : Bool). cond b 1 0) (listed-reached v h) ∙ turned (eqb (getD dist v 0) far) 1)
+  marks-bytes = tabulate-same (length dist) _ _ (λ v h. ap (λ (b : Bool). cond b 1 0) (listed-reached v h) ∙ cond-not (eqb (getD dist v 0) far) 1)
 
   pub table-sets : (sets : List ℕ) → tableAt (length dist) (λ v. getD sets v 0) nodes ≡ nodeSets dist sets
   unfolding tableAt nodeSets
   table-sets sets =
       tabulate-same (length dist) _ _
-      (λ v h. ap (λ (b : Bool). cond b (getD sets v 0) 0) (listed-reached v h) ∙ turned (eqb (getD dist v 0) far) (getD sets v 0))
+      (λ v h. ap (λ (b : Bool). cond b (getD sets v 0) 0) (listed-reached v h) ∙ cond-not (eqb (getD dist v 0) far) (getD sets v 0))
 
   -- a byte for each link
-  module _ {starts ends : List ℕ} (sets : List ℕ) (t : Tables) (net : NetOf (length dist) starts ends (t .offsets) (t .links)) (sorted : Sorted starts)
+  module _ {starts ends : List ℕ} (sets : List ℕ) (t : Tables) (net : NetOf (length dist) starts ends (t .offsets) (t .targets)) (sorted : Sorted starts)
       (parallel : length starts ≡ length ends) (inside : Below (length dist) starts)
     where
       abbrev matching : ℕ → Bool
@@ -72,7 +60,7 @@ module _ {nodes dist : List ℕ} (l : Lists nodes dist) where
           fo = forwardOffsets (t .offsets)
 
           fl : List ℕ
-          fl = forwardLinks (t .links)
+          fl = forwardTargets (t .targets)
 
           -- the two offsets of a node bound its links
           bounds : (v : ℕ) → v < length dist → T (leb (getD fo v 0) i && ltb i (getD fo (suc v) 0)) → getD starts i 0 ≡ v
@@ -88,7 +76,7 @@ module _ {nodes dist : List ℕ} (l : Lists nodes dist) where
               let bounded = leb (getD fo v 0) i && ltb i (getD fo (suc v) 0) in
               let meets = intersects (drivenBy (succOf (t .masks)) sets v) (getD sets (getD fl i 0) 0) in
               let e : getD starts i 0 ≡ v = bounds v (l .list .below j k) (both-left bounded meets b) in
-              both (not (eqb (getD dist (getD starts i 0) 0) far)) (matching i)
+              both-true (not (eqb (getD dist (getD starts i 0) 0) far)) (matching i)
               (near-test (getD dist (getD starts i 0) 0) (rw e (l .near v (j, k, refl))))
               (rw (e, ← link-at net sorted parallel inside i h) (both-right bounded meets b))
 
@@ -100,8 +88,8 @@ module _ {nodes dist : List ℕ} (l : Lists nodes dist) where
               let (lo, hi) = sorted-at starts sorted v i h .1 refl in
               at-any (marksLink t sets i) nodes j m
               (rw (e, link-at net sorted parallel inside i h)
-              (both (leb (getD fo v 0) i && ltb i (getD fo (suc v) 0)) (matching i)
-              (both (leb (getD fo v 0) i) (ltb i (getD fo (suc v) 0)) (le→leb (getD fo v 0) i (rw (net .begins v (omega arith)) lo)) (lt→ltb i (getD fo (suc v) 0) (rw (net .begins (suc v) k) hi)))
+              (both-true (leb (getD fo v 0) i && ltb i (getD fo (suc v) 0)) (matching i)
+              (both-true (leb (getD fo v 0) i) (ltb i (getD fo (suc v) 0)) (le→leb (getD fo v 0) i (rw (net .begins v (omega arith)) lo)) (lt→ltb i (getD fo (suc v) 0) (rw (net .begins (suc v) k) hi)))
               (both-right (not (eqb (getD dist v 0) far)) (matching i) b)))
 
       pub links-bytes : linkMarks (length starts) t sets nodes ≡ linkBytes starts ends (succOf (t .masks)) dist sets

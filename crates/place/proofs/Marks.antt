@@ -1,14 +1,7 @@
 -- The place's bytes and its table, entry by entry. Assumes nothing.
-use mathlib.Core.Bool.{Bool, _&&_}
-use mathlib.Core.List.{List}
-use mathlib.Core.Logic.{_↔_, ⊎-elim}
-use mathlib.Core.Path.{_≡_, sym, ap, subst, _∙_}
-use Prim.Native.Nat.{ℕ, _≤_, _<_}
+use Rattle.base_lists.specs.Kit.{_≡_, _∙_, sym, ap, subst, _↔_, ⊎-elim, Bool, _&&_, List, ℕ, _≤_, _<_, T, length, getD, List·getD-eq-default, arith}
 use native.Mathlib.Decide.{decLt}
-use native.Mathlib.Omega.{arith}
-use lib.Dec.{T}
-use lib.ListN.{length, getD, List·getD-eq-default}
-use Rattle.base_lists.proofs.Tests.{both, both-left, both-right, T-true, T-false, false-T, decide}
+use Rattle.base_lists.proofs.Tests.{both-true, both-left, both-right, T-true, T-false, false-T, decide}
 use Rattle.base_lists.proofs.Tables.{length-tabulate, getD-tabulate}
 use Rattle.base_bits.specs.Bits.{bit}
 use Rattle.base_bits.proofs.Digits.{bit-of-zero}
@@ -26,13 +19,13 @@ pub record Marks (n : ℕ) (row : List ℕ) : Type 0 where
   pub bytes : (i : ℕ) → i < n → getD row i 0 ≤ 1
 
 -- an entry per board node
-pub length-ballDistances : (board : Circuit) (w r : ℕ) → length (distancesOf board w r) ≡ length (board .kinds)
+pub length-ballDistances : (board : Circuit) (w r : ℕ) → length (distancesOf board w r) ≡ length (board .labels)
 unfolding distancesOf
 length-ballDistances board w r = length-distances _ _ _ w r
 
 module _ (pattern board : Circuit) (w r : ℕ) where
   -- "a byte per board node and one per board link"
-  pub nodes-marks : Marks (length (board .kinds)) (placeNodes pattern board w r)
+  pub nodes-marks : Marks (length (board .labels)) (placeNodes pattern board w r)
   unfolding placeNodes component
   nodes-marks = record { size = length-ball _ _ _ w _; bytes = ball-bits _ _ _ w _ }
 
@@ -52,14 +45,14 @@ module _ (pattern board : Circuit) (w r : ℕ) where
   link-marked i =
       let same = inside-bits (length (board .starts)) (λ i. matching i && starting i) i in (
         λ t. let (h, b) = same .0 t in (h, both-left (matching i) (starting i) b, both-right (matching i) (starting i) b),
-        λ (h, m, n). same .1 (h, both (matching i) (starting i) m n),
+        λ (h, m, n). same .1 (h, both-true (matching i) (starting i) m n),
       )
 
   -- a node that is marked is a node of the board
-  marked-node : (v : ℕ) → T (inside (placeNodes pattern board w r) v) → v < length (board .kinds)
+  marked-node : (v : ℕ) → T (inside (placeNodes pattern board w r) v) → v < length (board .labels)
   marked-node v t = subst (λ n. v < n) (nodes-marks .size) (inside-below _ v t)
 
-  pub length-table : length (placeTable pattern board w r) ≡ length (board .kinds)
+  pub length-table : length (placeTable pattern board w r) ≡ length (board .labels)
   unfolding placeTable
   length-table = length-tabulate _ _
 
@@ -71,9 +64,9 @@ module _ (pattern board : Circuit) (w r : ℕ) where
   -- and "0 elsewhere"
   pub table-outside : (v : ℕ) → (T (inside (placeNodes pattern board w r) v) → ⊥) → getD (placeTable pattern board w r) v 0 ≡ 0
   unfolding placeTable
-  table-outside v f = go (decLt v (length (board .kinds)))
+  table-outside v f = go (decLt v (length (board .labels)))
     where
-      go : Dec (v < length (board .kinds)) → getD (placeTable pattern board w r) v 0 ≡ 0
+      go : Dec (v < length (board .labels)) → getD (placeTable pattern board w r) v 0 ≡ 0
       go (yes h) = getD-tabulate _ _ v 0 h ∙ rw (T-false {b = inside (placeNodes pattern board w r) v} f)
       go (no h) = List·getD-eq-default (placeTable pattern board w r) 0 (omega (arith, length-table))
 

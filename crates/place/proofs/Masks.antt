@@ -1,15 +1,8 @@
 -- A link of the board is tested by whole sets: it matches where some part of its end's set is driven by some part of its start's.
 -- Assumes nothing.
-use mathlib.Core.Bool.{Bool, _&&_}
-use mathlib.Core.List.{List}
-use mathlib.Core.Logic.{_↔_}
-use mathlib.Core.Path.{_≡_, sym, ap, subst, _∙_}
-use Prim.Native.Nat.{ℕ, _^_, _<_}
+use Rattle.base_lists.specs.Kit.{_≡_, _∙_, sym, ap, subst, _↔_, Bool, _&&_, List, ℕ, _<_, _^_, T, eqb, eqb→eq, eqb-refl, length, getD, List·getD-eq-default, arith}
 use native.Mathlib.Decide.{decLt}
-use native.Mathlib.Omega.{arith}
-use lib.Dec.{T, eqb, eqb→eq, eqb-refl}
-use lib.ListN.{length, getD, List·getD-eq-default}
-use Rattle.base_lists.proofs.Tests.{both, both-left, both-right, false-T, same-test, anyBelow-at, at-anyBelow}
+use Rattle.base_lists.proofs.Tests.{both-true, both-left, both-right, false-T, same-test, anyBelow-at, at-anyBelow}
 use Rattle.base_lists.proofs.Tables.{getD-tabulate}
 use Rattle.base_bits.specs.Bits.{bit, intersects, unionOver}
 use Rattle.base_bits.proofs.Digits.{bit-of-zero, bit-below}
@@ -78,9 +71,9 @@ union-meets {masks = masks} table a b ha hb = (
       let h : u < 32 = bit-below 32 a u ha s in
       let h′ : u′ < 32 = bit-below 32 b u′ hb s′ in
       at-anyBelow 32 (λ x. bit (unionOver masks a) x && bit b x) u′ h′
-      (both (bit (unionOver masks a) u′) (bit b u′)
+      (both-true (bit (unionOver masks a) u′) (bit b u′)
       (subst T (sym (bit-unionOver masks a u′))
-      (at-anyBelow 32 (driving u′) u h (both (bit a u) (bit (getD masks u 0) u′) s (table .holds u u′ h h′ .1 l))))
+      (at-anyBelow 32 (driving u′) u h (both-true (bit a u) (bit (getD masks u 0) u′) s (table .holds u u′ h h′ .1 l))))
       s′),
 )
   where

@@ -1,23 +1,14 @@
 -- Over prepared tables the search follows the match graph's links, so that what it reaches is the centre's component; and the ball's list
 -- is the list of the first search. Assumes nothing.
-use mathlib.Core.Bool.{Bool, true, false, not, cond}
-use mathlib.Core.List.{List, []}
-use mathlib.Core.Logic.{_⊎_, _↔_, inl, inr, ⊎-elim}
-use mathlib.Core.Path.{_≡_, refl, sym, ap, _∙_, subst}
-use Prim.Native.Nat.{ℕ, _^_, _≤_, _<_}
-use native.Mathlib.Nat.{le-of-lt}
-use native.Mathlib.Omega.{arith}
-use borrow.Author.Tests.{eq-eqb, ne-eqb}
-use lib.Dec.{T, eqb, eqb→eq}
-use lib.ListN.{length, getD, take}
+use Rattle.base_lists.specs.Kit.{_≡_, _∙_, sym, ap, refl, subst, _↔_, ⊎-elim, _⊎_, inl, inr, Bool, false, true, cond, not, List, ℕ, _≤_, _<_, _^_, le-of-lt, T, eqb, eqb→eq, length, getD, take, arith, eq-eqb, ne-eqb}
 use Rattle.base_lists.specs.List.{Occurs, any, Below}
-use Rattle.base_lists.proofs.Tests.{same-test, T-true, true-T, any-at, at-any}
-use Rattle.base_lists.proofs.Tables.{getD-tabulate, tabulate-same}
+use Rattle.base_lists.proofs.Tests.{same-test, true-T, any-at, at-any}
+use Rattle.base_lists.proofs.Tables.{tabulate-same}
 use Rattle.base_bits.specs.Bits.{intersects, unionOver}
 use Rattle.graph.specs.Bfs.{bfs, adjacent, Adjacency, Found}
 use Rattle.graph.specs.Circuit.{Circuit, HasLink}
 use Rattle.graph.specs.Net.{driven, driving, NetOf}
-use Rattle.graph.specs.Search.{far, ball, inside, distances}
+use Rattle.graph.specs.Search.{far, inside, distances}
 use Rattle.graph.proofs.Ball.{Within}
 use Rattle.graph.proofs.Bfs.{bfs-ready}
 use Rattle.graph.proofs.BfsScan.{occurs-append}
@@ -44,10 +35,10 @@ masks-hold n keys values masks few e below =
 
 -- ---- the ball: the neighbour tables are enough, whatever the pattern
 
-module _ (board : Circuit) {offsets stretches : List ℕ} (net : NetOf (length (board .kinds)) (board .starts) (board .ends) offsets stretches)
-    (links : Within (length (board .kinds)) (board .starts) (board .ends)) where
+module _ (board : Circuit) {offsets stretches : List ℕ} (net : NetOf (length (board .labels)) (board .starts) (board .ends) offsets stretches)
+    (links : Within (length (board .labels)) (board .starts) (board .ends)) where
   abbrev n : ℕ
-  n = length (board .kinds)
+  n = length (board .labels)
 
   few : n < far
   few = omega (arith, net-few (net-of net))
@@ -111,21 +102,11 @@ module _ (board : Circuit) {offsets stretches : List ℕ} (net : NetOf (length (
       pub found-marks : marksOf n (take k queue) ≡ ballOf board c r
       found-marks = ap (marksOf n) (f .nodes) ∙ ball-marks
 
-      -- and each node that it reached is in the ball
-      pub found-inside : (v : ℕ) → v < n → (getD dist v 0 ≡ far → ⊥) → T (inside (ballOf board c r) v)
-      unfolding inside marksOf listed
-      found-inside v m q =
-          let l = bfs-listed n around c r h few (board-adjacency .inside) in
-          let (i, b, e) = l .complete v m (λ z. q (ap (λ (x : List ℕ). getD x v 0) (f .distances) ∙ z)) in
-          let here : T (any (λ w. eqb w v) (take k queue)) = rw (f .nodes) (at-any (λ w. eqb w v) ballList i b (true-T (eq-eqb _ _ e))) in
-          subst (λ (row : List ℕ). T (eqb (getD row v 0) 1)) found-marks
-          (rw (getD-tabulate n (λ x. cond (any (λ w. eqb w x) (take k queue)) 1 0) v 0 m, T-true {b = any (λ w. eqb w v) (take k queue)} here) tt)
-
 -- ---- the component
 
-module _ {pattern board : Circuit} {t : Tables} (p : Prepared pattern board t) (links : Within (length (board .kinds)) (board .starts) (board .ends)) where
+module _ {pattern board : Circuit} {t : Tables} (p : Prepared pattern board t) (links : Within (length (board .labels)) (board .starts) (board .ends)) where
   abbrev size : ℕ
-  size = length (board .kinds)
+  size = length (board .labels)
 
   module _ (parallel : length (pattern .starts) ≡ length (pattern .ends)) (sets : List ℕ) (small : (v : ℕ) → getD sets v 0 < 2 ^ 32) where
     -- a node is looked at along a link exactly where the link matches
@@ -140,18 +121,18 @@ module _ {pattern board : Circuit} {t : Tables} (p : Prepared pattern board t) (
     abbrev Linked : ℕ → ℕ → Type 0
     Linked = HasLink (matchStarts pattern board sets) (matchEnds pattern board sets)
 
-    forward-matched : (v w : ℕ) → v < size → Occurs (meeting (unionOver (succOf (t .masks)) (getD sets v 0)) sets (driven (t .offsets) (t .links) v)) w ↔ Linked v w
+    forward-matched : (v w : ℕ) → v < size → Occurs (meeting (unionOver (succOf (t .masks)) (getD sets v 0)) sets (driven (t .offsets) (t .targets) v)) w ↔ Linked v w
     forward-matched v w h =
         let kept = match-kept pattern board sets v w in
-        let looked = meeting-occurs (unionOver (succOf (t .masks)) (getD sets v 0)) sets (driven (t .offsets) (t .links) v) w in (
+        let looked = meeting-occurs (unionOver (succOf (t .masks)) (getD sets v 0)) sets (driven (t .offsets) (t .targets) v) w in (
           λ o. let (l, m) = looked .0 o in kept .1 (driven-link (p .net) v w h .0 l, subst T (forward-test v w) m),
           λ k. let (l, m) = kept .0 k in looked .1 (driven-link (p .net) v w h .1 l, subst T (sym (forward-test v w)) m),
         )
 
-    backward-matched : (v w : ℕ) → v < size → Occurs (meeting (unionOver (predOf (t .masks)) (getD sets v 0)) sets (driving (t .offsets) (t .links) v)) w ↔ Linked w v
+    backward-matched : (v w : ℕ) → v < size → Occurs (meeting (unionOver (predOf (t .masks)) (getD sets v 0)) sets (driving (t .offsets) (t .targets) v)) w ↔ Linked w v
     backward-matched v w h =
         let kept = match-kept pattern board sets w v in
-        let looked = meeting-occurs (unionOver (predOf (t .masks)) (getD sets v 0)) sets (driving (t .offsets) (t .links) v) w in (
+        let looked = meeting-occurs (unionOver (predOf (t .masks)) (getD sets v 0)) sets (driving (t .offsets) (t .targets) v) w in (
           λ o. let (l, m) = looked .0 o in kept .1 (driving-link (p .net) v w h .0 l, subst T (backward-test v w) m),
           λ k. let (l, m) = kept .0 k in looked .1 (driving-link (p .net) v w h .1 l, subst T (sym (backward-test v w)) m),
         )
@@ -163,8 +144,8 @@ module _ {pattern board : Circuit} {t : Tables} (p : Prepared pattern board t) (
         record {
           inside = matched-below t sets (net-of (p .net));
           joined = λ v w h.
-              let both = occurs-append w (meeting (unionOver (succOf (t .masks)) (getD sets v 0)) sets (driven (t .offsets) (t .links) v))
-              (meeting (unionOver (predOf (t .masks)) (getD sets v 0)) sets (driving (t .offsets) (t .links) v)) in (
+              let both = occurs-append w (meeting (unionOver (succOf (t .masks)) (getD sets v 0)) sets (driven (t .offsets) (t .targets) v))
+              (meeting (unionOver (predOf (t .masks)) (getD sets v 0)) sets (driving (t .offsets) (t .targets) v)) in (
                 λ o. ⊎-elim (λ a. inl (forward-matched v w h .0 a)) (λ a. inr (backward-matched v w h .0 a)) (both .0 o),
                 λ l. both .1 (⊎-elim (λ a. inl (forward-matched v w h .1 a)) (λ a. inr (backward-matched v w h .1 a)) l),
               );

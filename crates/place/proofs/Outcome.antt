@@ -1,10 +1,5 @@
 -- What the place's outcome comes to, by cases of whether the centre is found. Assumes nothing.
-use mathlib.Core.Bool.{true, false}
-use mathlib.Core.List.{List, _++_}
-use mathlib.Core.Path.{_≡_, sym, ap, _∙_}
-use Prim.Native.Nat.{ℕ}
-use borrow.Author.Tests.{eq-eqb, ne-eqb}
-use lib.ListN.{length, getD, drop}
+use Rattle.base_lists.specs.Kit.{_≡_, _∙_, sym, ap, false, true, List, _++_, ℕ, length, getD, drop, eq-eqb, ne-eqb}
 use Rattle.graph.specs.Circuit.{Circuit}
 use Rattle.file_format.specs.declared.File.the-variants.{Neither}
 use Rattle.file_format.specs.Reading.{filled}
@@ -41,18 +36,18 @@ unfolding placeAround placeVerdict placeReply filled
 around-none pattern board w r counts k e nodes links table distances = rw (e, k)
 
 -- entries that stand at the front of a table have filled it
-front : (values old : List ℕ) {left : List ℕ} {n : ℕ} → length values ≡ n → left ≡ values ++ drop n old → left ≡ filled accept values old
+prefix : (values old : List ℕ) {left : List ℕ} {n : ℕ} → length values ≡ n → left ≡ values ++ drop n old → left ≡ filled accept values old
 unfolding filled
-front values old size e = e ∙ ap (λ (k : ℕ). values ++ drop k old) (sym size)
+prefix values old size e = e ∙ ap (λ (k : ℕ). values ++ drop k old) (sym size)
 
 -- It is found: the place is written at the front of three tables, and the distances in the ball at the front of the fourth.
 pub around-some :
     (pattern board : Circuit) (w r : ℕ) (counts : Counts) → counts ≡ countsOf pattern board (ballOf board w r) → found pattern board w r ≡ true →
     (nodes links table distances : List ℕ) {nodes′ links′ table′ distances′ : List ℕ} →
-    nodes′ ≡ placeNodes pattern board w r ++ drop (length (board .kinds)) nodes →
+    nodes′ ≡ placeNodes pattern board w r ++ drop (length (board .labels)) nodes →
     links′ ≡ placeLinks pattern board w r ++ drop (length (board .starts)) links →
-    table′ ≡ placeTable pattern board w r ++ drop (length (board .kinds)) table →
-    distances′ ≡ distancesOf board w r ++ drop (length (board .kinds)) distances →
+    table′ ≡ placeTable pattern board w r ++ drop (length (board .labels)) table →
+    distances′ ≡ distancesOf board w r ++ drop (length (board .labels)) distances →
     record { reply = placeReply (Placed counts); nodes = nodes′; links = links′; table = table′; distances = distances′ }
     ≡ placeAround pattern board w r nodes links table distances
 unfolding placeAround placeVerdict placeReply
@@ -60,8 +55,8 @@ around-some pattern board w r counts k e nodes links table distances en el et ed
     rw (
       e,
       k,
-      front (placeNodes pattern board w r) nodes (nodes-marks pattern board w r .size) en,
-      front (placeLinks pattern board w r) links (links-marks pattern board w r .size) el,
-      front (placeTable pattern board w r) table (length-table pattern board w r) et,
-      front (distancesOf board w r) distances (length-ballDistances board w r) ed,
+      prefix (placeNodes pattern board w r) nodes (nodes-marks pattern board w r .size) en,
+      prefix (placeLinks pattern board w r) links (links-marks pattern board w r .size) el,
+      prefix (placeTable pattern board w r) table (length-table pattern board w r) et,
+      prefix (distancesOf board w r) distances (length-ballDistances board w r) ed,
     )

@@ -1,11 +1,6 @@
 -- What the bytes mark is the place, the perfect subgraph that contains every other; and the centre is not found exactly where there is no
 -- perfect subgraph. Assumes nothing.
-use mathlib.Core.Logic.{_↔_, Iff·rfl, Iff·symm, Iff·trans}
-use mathlib.Core.Path.{sym, subst}
-use Prim.Native.Nat.{ℕ}
-use native.Mathlib.Nat.{le-step, le-refl}
-use lib.Dec.{T}
-use lib.ListN.{length}
+use Rattle.base_lists.specs.Kit.{sym, subst, _↔_, Iff·rfl, Iff·trans, Iff·symm, ℕ, le-refl, le-step, T, length}
 use Rattle.graph.specs.Circuit.{Circuit, HasLink, circuitGraph}
 use Rattle.graph.specs.Graph.{Graph}
 use Rattle.graph.specs.Search.{inside}
@@ -21,7 +16,7 @@ use Rattle.table.specs.Host.{KindsMatch}
 use Rattle.table.specs.Row.{InTable}
 use Rattle.table.proofs.Sets.{fits-node}
 use Rattle.place.specs.Match.{ballTable, found, matchStarts, matchEnds, component, placeNodes, placeLinks, placeTable, markedGraph}
-use Rattle.place.proofs.Ball.{Admissible, ballGraph, BallPairs, ball-fits, ball-largest, found-iff}
+use Rattle.place.proofs.Ball.{Admissible, ballGraph, BallPairs, ball-fits, ball-largest, found-occurs}
 use Rattle.place.proofs.Links.{link-matches, match-kept, match-within, match-links}
 use Rattle.place.proofs.Marks.{link-marked, table-in}
 
@@ -52,8 +47,8 @@ module _ {pattern board : Circuit} (a : Admissible pattern board) (w r : ℕ) wh
   unfolding placeNodes component Component
   component-iff (u, m) v =
       let t = ballTable pattern board w r in
-      let links : Within (length (board .kinds)) (matchStarts pattern board t) (matchEnds pattern board t) = match-within pattern board t (a .links) in
-      let same = ball.component-iff links w (length (board .kinds)) (le-step (le-refl _)) v in (
+      let links : Within (length (board .labels)) (matchStarts pattern board t) (matchEnds pattern board t) = match-within pattern board t (a .links) in
+      let same = ball.component-iff links w (length (board .labels)) (le-step (le-refl _)) v in (
         λ b. let (h, (k, p)) = same .0 b in (k, wider-walk (λ x y. kept-links x y .0) p),
         λ (k, p).
             let q = wider-walk (λ x y. kept-links x y .1) p in
@@ -92,7 +87,7 @@ module _ {pattern board : Circuit} (a : Admissible pattern board) (w r : ℕ) wh
       T (found pattern board w r) →
       Place (circuitGraph pattern) (KindsMatch pattern board) (circuitGraph board) w r (placeGraph pattern board w r)
   place-found t =
-      let centre = found-iff a w r .0 t in
+      let centre = found-occurs pattern board (a .most) w r .0 t in
       place-same (same-refl (circuitGraph pattern)) (record { agree = λ u v m n. Iff·rfl }) (same-refl (ballGraph board w r))
       (same-symm (marked-component centre)) (component-place (ball-largest a w r) w (a .connected) centre)
 
@@ -100,7 +95,7 @@ module _ {pattern board : Circuit} (a : Admissible pattern board) (w r : ℕ) wh
   pub place-none :
       (T (found pattern board w r) → ⊥) →
       (G : Graph) → Perfect (circuitGraph pattern) (KindsMatch pattern board) (circuitGraph board) w r G → ⊥
-  place-none none G g = none (found-iff a w r .1 (perfect-occurs (ball-largest a w r) w g))
+  place-none none G g = none (found-occurs pattern board (a .most) w r .1 (perfect-occurs (ball-largest a w r) w g))
 
   -- and only there.
   pub none-iff :
@@ -112,7 +107,7 @@ module _ {pattern board : Circuit} (a : Admissible pattern board) (w r : ℕ) wh
   pub found-place :
       T (found pattern board w r) ↔
       ((G : Graph) × Place (circuitGraph pattern) (KindsMatch pattern board) (circuitGraph board) w r G)
-  found-place = (λ t. (_, place-found t), λ (G, g). found-iff a w r .1 (perfect-occurs (ball-largest a w r) w (g .perfect)))
+  found-place = (λ t. (_, place-found t), λ (G, g). found-occurs pattern board (a .most) w r .1 (perfect-occurs (ball-largest a w r) w (g .perfect)))
 
   -- The table over the place is the largest dual simulation in the place itself.
   pub place-table :

@@ -1,14 +1,7 @@
 -- Laws of the centre's component in the match graph of a larger graph, as the whole board is of a ball. What lies outside the component
 -- supports nothing inside it: so on its nodes a smaller graph's table is that of its nodes in the component alone; and where the smaller graph
 -- has the whole component, its table is the larger graph's there, and the place is that component with its matching links. Assumes nothing.
-use mathlib.Core.Bool.{Bool, not}
-use mathlib.Core.List.{List}
-use mathlib.Core.Logic.{_⊎_, _↔_, inl, inr, ⊎-elim}
-use mathlib.Core.Path.{_≡_, sym, ap, _∙_, subst}
-use Prim.Native.Nat.{ℕ, _^_, _≤_, _<_}
-use borrow.Author.Tests.{ne-eqb}
-use lib.Dec.{T, eqb}
-use lib.ListN.{length, getD}
+use Rattle.base_lists.specs.Kit.{_≡_, ap, subst, _↔_, ⊎-elim, _⊎_, inl, inr, Bool, not, List, ℕ, _≤_, _<_, _^_, T, eqb, length, getD, ne-eqb}
 use Rattle.base_lists.specs.List.{Occurs}
 use Rattle.base_lists.proofs.Tests.{same-test, true-T}
 use Rattle.base_bits.proofs.Digits.{same-bits}
@@ -26,7 +19,7 @@ use Rattle.table.proofs.Meaning.{last-fits, last-candidate, last-closed}
 use Rattle.table.proofs.Narrow.{last-wider}
 use Rattle.table.proofs.Row.{Moves}
 use Rattle.table.proofs.Sets.{fits-word}
-use Rattle.place.specs.Match.{ballOf, ballTable, matches, matchStarts, matchEnds}
+use Rattle.place.specs.Match.{matches, matchStarts, matchEnds}
 use Rattle.place.specs.Spread.{matched, Reached, ClosedSet, Spread}
 use Rattle.place.proofs.Links.{matches-iff, match-kept}
 use Rattle.place.proofs.Matched.{matched-adjacency}
@@ -42,7 +35,7 @@ host-along host taken backwards v w l n m = (l, m, n)
 
 -- ---- what lies outside the component supports nothing inside it
 
-module _ (pattern board : Circuit) (most : length (pattern .kinds) ≤ 32) (wide narrow : List ℕ) (P : ℕ → Type 0)
+module _ (pattern board : Circuit) (most : length (pattern .labels) ≤ 32) (wide narrow : List ℕ) (P : ℕ → Type 0)
     -- P is a set of nodes that has, with a node, those that a matching link of the larger graph joins to it,
     (closed :
     (d : Direction) (u v u′ v′ : ℕ) → P v → Along (circuitGraph pattern .Link) d u u′ → Along (HasLink (board .starts) (board .ends)) d v v′ →
@@ -95,7 +88,7 @@ module _ (pattern board : Circuit) (parallel : length (pattern .starts) ≡ leng
 -- links that join nodes, and tables of them
 pub record Joined (pattern board : Circuit) (t : Tables) : Type 0 where
   pub prepared : Prepared pattern board t
-  pub joins : Within (length (board .kinds)) (board .starts) (board .ends)
+  pub joins : Within (length (board .labels)) (board .starts) (board .ends)
   pub parallel : length (pattern .starts) ≡ length (pattern .ends)
 
 -- The nodes that `comp` reaches have, with a node, those that a matching link of the larger table joins to it; and at them the smaller table has what
@@ -105,12 +98,12 @@ pub record Agreeing (pattern board : Circuit) (t : Tables) (small large comp : L
   pub narrow : (v : ℕ) → getD small v 0 < 2 ^ 32
   pub wide : (v : ℕ) → getD large v 0 < 2 ^ 32
   pub inner : InTable small ⊆ InTable large
-  pub closed : (v v′ : ℕ) → v < length (board .kinds) → Reached comp v → Linked pattern board large v v′ ⊎ Linked pattern board large v′ v → Reached comp v′
-  pub holds : (u v : ℕ) → InTable large u v → v < length (board .kinds) → Reached comp v → InTable small u v
+  pub closed : (v v′ : ℕ) → v < length (board .labels) → Reached comp v → Linked pattern board large v v′ ⊎ Linked pattern board large v′ v → Reached comp v′
+  pub holds : (u v : ℕ) → InTable large u v → v < length (board .labels) → Reached comp v → InTable small u v
 
 module _ {pattern board : Circuit} {t : Tables} {small large comp : List ℕ} (a : Agreeing pattern board t small large comp) where
   abbrev n : ℕ
-  n = length (board .kinds)
+  n = length (board .labels)
 
   -- the two are the same at those nodes
   pub agree-set : (v : ℕ) → v < n → Reached comp v → getD small v 0 ≡ getD large v 0
@@ -199,17 +192,17 @@ module _ {pattern board : Circuit} {t : Tables} {small large comp : List ℕ} (a
 pub record Component (pattern board : Circuit) (t : Tables) (w : ℕ) (whole comp : List ℕ) : Type 0 where
   pub joined : Joined pattern board t
   pub table : whole ≡ lastTable pattern board (everything board)
-  pub spread : Spread (length (board .kinds)) w (matched t whole) comp
+  pub spread : Spread (length (board .labels)) w (matched t whole) comp
 
 module _ {pattern board : Circuit} {t : Tables} {w : ℕ} {whole comp : List ℕ} (g : Component pattern board t w whole comp) where
-  abbrev most : length (pattern .kinds) ≤ 32
+  abbrev most : length (pattern .labels) ≤ 32
   most = g .joined .prepared .parts
 
   pub whole-small : (v : ℕ) → getD whole v 0 < 2 ^ 32
   whole-small v = rw (g .table) (fits-word most (last-fits pattern board (everything board)) v)
 
   -- a matching link, followed either way, leads from a node of the component to one of it
-  whole-closed : (v v′ : ℕ) → v < length (board .kinds) → Reached comp v → Linked pattern board whole v v′ ⊎ Linked pattern board whole v′ v → Reached comp v′
+  whole-closed : (v v′ : ℕ) → v < length (board .labels) → Reached comp v → Linked pattern board whole v v′ ⊎ Linked pattern board whole v′ v → Reached comp v′
   whole-closed v v′ h f l =
       g .spread .closed v v′ h f
       (matched-adjacency (g .joined .prepared) (g .joined .joins) (g .joined .parallel) whole whole-small .joined v v′ h .1 l)
@@ -222,7 +215,7 @@ module _ {pattern board : Circuit} {t : Tables} {w : ℕ} {whole comp : List ℕ
   part-small taken = fits-word most (last-fits pattern board taken)
 
   -- a matching link of a smaller graph's table leads from a node of the component to one of it too
-  part-closed : (taken : List ℕ) (v v′ : ℕ) → v < length (board .kinds) → Reached comp v →
+  part-closed : (taken : List ℕ) (v v′ : ℕ) → v < length (board .labels) → Reached comp v →
       Linked pattern board (lastTable pattern board taken) v v′ ⊎ Linked pattern board (lastTable pattern board taken) v′ v → Reached comp v′
   part-closed taken v v′ h f l =
       let larger = linked-wider pattern board (g .joined .parallel) (lastTable pattern board taken) whole (whole-inner taken) in
@@ -231,10 +224,10 @@ module _ {pattern board : Circuit} {t : Tables} {w : ℕ} {whole comp : List ℕ
   -- Of two graphs, the smaller of which has those nodes of the larger that lie in the component, the tables agree.
   part-holds :
       (wide narrow : List ℕ) → ((v : ℕ) → Taken board wide v → Reached comp v → Taken board narrow v) →
-      (u v : ℕ) → InTable (lastTable pattern board wide) u v → v < length (board .kinds) → Reached comp v → InTable (lastTable pattern board narrow) u v
+      (u v : ℕ) → InTable (lastTable pattern board wide) u v → v < length (board .labels) → Reached comp v → InTable (lastTable pattern board narrow) u v
   unfolding hostGraph
   part-holds wide narrow keeps u v m h f =
-      supported pattern board most wide narrow (λ x. (x < length (board .kinds)) × Reached comp x)
+      supported pattern board most wide narrow (λ x. (x < length (board .labels)) × Reached comp x)
       (λ d x y x′ y′ (k, q) s l c c′. (
         last-candidate pattern board wide x′ y′ c′ .node .below,
         whole-closed y y′ k q (links-match pattern board (g .joined .parallel) whole d x y x′ y′ s l (whole-inner wide x y c) (whole-inner wide x′ y′ c′)),
@@ -243,7 +236,7 @@ module _ {pattern board : Circuit} {t : Tables} {w : ℕ} {whole comp : List ℕ
       u v m (h, f)
 
   -- a graph that has the whole component, and the whole board
-  pub whole-agrees : (taken : List ℕ) → ((v : ℕ) → v < length (board .kinds) → Reached comp v → T (inside taken v))
+  pub whole-agrees : (taken : List ℕ) → ((v : ℕ) → v < length (board .labels) → Reached comp v → T (inside taken v))
       → Agreeing pattern board t (lastTable pattern board taken) whole comp
   whole-agrees taken held =
       record {

@@ -1,14 +1,10 @@
 -- What is written into the lent tables: from the entries that the search for the component leaves, `far` outside it, and the same from the
 -- list of the nodes that it reached, which the contracts of the marking functions cite. proofs/Bytes ties the first to the place's bytes and
 -- its table, proofs/Listed the second to the first.
-use mathlib.Core.Bool.{Bool, _&&_, cond}
-use mathlib.Core.List.{List, [], _∷_}
-use Prim.Native.Nat.{ℕ, suc, _≤_, _<_}
-use lib.Dec.{eqb, ltb, leb}
-use lib.ListN.{length, getD}
+use Rattle.base_lists.specs.Kit.{Bool, cond, _&&_, List, [], _∷_, ℕ, _≤_, _<_, suc, eqb, ltb, leb, length, getD}
 use Rattle.base_lists.specs.List.{any, tabulate}
 use Rattle.base_bits.specs.Bits.{intersects, unionOver}
-use Rattle.graph.specs.Net.{forwardOffsets, forwardLinks}
+use Rattle.graph.specs.Net.{forwardOffsets, forwardTargets}
 use Rattle.graph.specs.Search.{far}
 use Rattle.table.specs.Prepared.{succOf, Tables}
 
@@ -44,7 +40,7 @@ linkBytes starts ends succ dist sets = tabulate (length starts) (linkByte starts
 unfoldable pub marksLink : Tables → List ℕ → ℕ → ℕ → Bool
 marksLink t sets i v =
     (leb (getD (forwardOffsets (t .offsets)) v 0) i && ltb i (getD (forwardOffsets (t .offsets)) (suc v) 0))
-    && intersects (drivenBy (succOf (t .masks)) sets v) (getD sets (getD (forwardLinks (t .links)) i 0) 0)
+    && intersects (drivenBy (succOf (t .masks)) sets v) (getD sets (getD (forwardTargets (t .targets)) i 0) 0)
 
 -- the bytes of a node's links, where those whose ends have a part of the set are marked
 unfoldable pub markedEnds : ℕ → List ℕ → List ℕ → List ℕ → List ℕ

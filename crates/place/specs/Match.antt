@@ -1,10 +1,6 @@
 -- The place around a centre, computed: the ball, the largest dual simulation in it, the links that match, and what they join to the
 -- centre. proofs/ shows that this is the perfect subgraph that contains every other.
-use mathlib.Core.Bool.{Bool, _&&_, not, cond}
-use mathlib.Core.List.{List, [], _∷_}
-use Prim.Native.Nat.{ℕ, zero, suc}
-use lib.Dec.{T, eqb}
-use lib.ListN.{length, getD}
+use Rattle.base_lists.specs.Kit.{Bool, cond, _&&_, not, List, ℕ, zero, T, eqb, length, getD}
 use Rattle.base_lists.specs.List.{anyBelow, tabulate}
 use Rattle.base_lists.specs.Below.{keepFrom}
 use Rattle.graph.specs.Circuit.{Circuit, LinkAt}
@@ -14,15 +10,15 @@ use Rattle.table.specs.Row.{inTable, lastTable}
 
 -- "One call uses the pattern's radius, one a radius given."
 unfoldable pub radiusOf : Circuit → ℕ
-radiusOf pattern = radius (length (pattern .kinds)) (pattern .starts) (pattern .ends)
+radiusOf pattern = radius (length (pattern .labels)) (pattern .starts) (pattern .ends)
 
 -- the ball around the centre, a byte per node
 unfoldable pub ballOf : Circuit → ℕ → ℕ → List ℕ
-ballOf board w r = ball (length (board .kinds)) (board .starts) (board .ends) w r
+ballOf board w r = ball (length (board .labels)) (board .starts) (board .ends) w r
 
 -- the distances in the ball, and 65,535 for a node outside it (document 02, Ask 2)
 unfoldable pub distancesOf : Circuit → ℕ → ℕ → List ℕ
-distancesOf board w r = distances (length (board .kinds)) (board .starts) (board .ends) w r
+distancesOf board w r = distances (length (board .labels)) (board .starts) (board .ends) w r
 
 -- the largest dual simulation of the pattern in the ball
 unfoldable pub ballTable : Circuit → Circuit → ℕ → ℕ → List ℕ
@@ -51,7 +47,7 @@ matchEnds pattern board t = keepFrom zero (linkMatches pattern board t) (board .
 -- the nodes that the match graph's links, directions ignored, join to the centre: a byte per node
 unfoldable pub component : Circuit → Circuit → List ℕ → ℕ → List ℕ
 component pattern board t w =
-    ball (length (board .kinds)) (matchStarts pattern board t) (matchEnds pattern board t) w (length (board .kinds))
+    ball (length (board .labels)) (matchStarts pattern board t) (matchEnds pattern board t) w (length (board .labels))
 
 -- the place's nodes and links, "a byte per board node and one per board link (1 in the place, else 0)"
 unfoldable pub placeNodes : Circuit → Circuit → ℕ → ℕ → List ℕ
@@ -65,7 +61,7 @@ placeLinks pattern board w r =
 -- "and a table as above, over the place's nodes only, 0 elsewhere"
 unfoldable pub placeTable : Circuit → Circuit → ℕ → ℕ → List ℕ
 placeTable pattern board w r =
-    tabulate (length (board .kinds)) (λ v. cond (inside (placeNodes pattern board w r) v) (getD (ballTable pattern board w r) v 0) 0)
+    tabulate (length (board .labels)) (λ v. cond (inside (placeNodes pattern board w r) v) (getD (ballTable pattern board w r) v 0) 0)
 
 -- the subgraph of a board that node bytes and link bytes mark
 unfoldable pub markedGraph : Circuit → List ℕ → List ℕ → Graph

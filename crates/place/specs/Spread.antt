@@ -1,11 +1,6 @@
 -- The search for the centre's component: links are followed where they match, which is tested by whole sets. It stops where nothing is
 -- new; proofs/Spread ties what it leaves to walks.
-use mathlib.Core.Bool.{Bool}
-use mathlib.Core.List.{List, _++_}
-use mathlib.Core.Path.{_≡_}
-use Prim.Native.Nat.{ℕ, _<_}
-use lib.Dec.{T}
-use lib.ListN.{length, getD}
+use Rattle.base_lists.specs.Kit.{_≡_, Bool, List, _++_, ℕ, _<_, T, length, getD}
 use Rattle.base_lists.specs.List.{Occurs}
 use Rattle.base_bits.specs.Bits.{unionOver}
 use Rattle.graph.specs.Net.{driven, driving}
@@ -17,8 +12,8 @@ use Rattle.table.specs.Prepared.{succOf, predOf, Tables}
 -- The nodes that a matching link joins to node v, directions ignored. What the parts of v's set drive is one union, what drives them another.
 unfoldable pub matched : Tables → List ℕ → ℕ → List ℕ
 matched t sets v =
-    meeting (unionOver (succOf (t .masks)) (getD sets v 0)) sets (driven (t .offsets) (t .links) v)
-    ++ meeting (unionOver (predOf (t .masks)) (getD sets v 0)) sets (driving (t .offsets) (t .links) v)
+    meeting (unionOver (succOf (t .masks)) (getD sets v 0)) sets (driven (t .offsets) (t .targets) v)
+    ++ meeting (unionOver (predOf (t .masks)) (getD sets v 0)) sets (driving (t .offsets) (t .targets) v)
 
 -- the entry of node v is not `far`: the search has reached it
 abbrev pub Reached : List ℕ → ℕ → Type 0

@@ -24,7 +24,7 @@ pub struct Asked {
 }
 
 // Whether there is a place, how many nodes it has, and where the rounds ended in the ball.
-pub struct Found {
+pub struct PlaceFound {
     pub found: bool,
     pub size: usize,
     pub rest: Rest,

@@ -1,6 +1,6 @@
 // Finding the place around a centre from a first table of its ball: the one way to a place, for a call that asks for one centre and for a report
 // that asks for one after another. No file is read here, and nothing is tested but whether there is a place.
-use place::Found;
+use place::PlaceFound;
 use place_component::component;
 use table_largest::refine;
 ghost use mathlib.Core.Path.{_≡_};
@@ -16,7 +16,7 @@ ghost use Rattle.place.specs.Find.{SoughtBySome, Finds};
 pub fn find(
     masks: &[u32],
     offsets: &[u16],
-    links: &[u16],
+    targets: &[u16],
     c: u16,
     k: usize,
     started: u32,
@@ -24,23 +24,23 @@ pub fn find(
     queue: &mut [u16],
     sets: &mut [u32],
     spare: &mut [u32],
-) -> Found
-    requires { ⌜ (k ≤ length (now queue)) × SoughtBySome (tables (now masks) (now offsets) (now links)) c (take k (now queue)) (now sets) ⌝ }
+) -> PlaceFound
+    requires { ⌜ (k ≤ length (now queue)) × SoughtBySome (tables (now masks) (now offsets) (now targets)) c (take k (now queue)) (now sets) ⌝ }
     requires { ⌜ started ≡ pairs (now sets) ⌝ }
     requires { ⌜ (length (now dist) ≡ length (now sets)) × (length (now queue) ≡ length (now sets)) × (length (now spare) ≡ length (now sets)) ⌝ }
-    ensures { λ a. ⌜ Finds (tables (now (masks .entry)) (now (offsets .entry)) (now (links .entry))) c (take k (now (queue .entry))) (now (sets .entry)) (now (dist .exit)) (now (queue .exit)) (now (sets .exit)) a ⌝ }
+    ensures { λ a. ⌜ Finds (tables (now (masks .entry)) (now (offsets .entry)) (now (targets .entry))) c (take k (now (queue .entry))) (now (sets .entry)) (now (dist .exit)) (now (queue .exit)) (now (sets .exit)) a ⌝ }
 {
-    let rest = refine(&queue[..k], masks, offsets, links, sets, spare, started);
+    let rest = refine(&queue[..k], masks, offsets, targets, sets, spare, started);
     let at = c as usize;
     if sets[at] == 0 {
-        return Found {
+        return PlaceFound {
             found: false,
             size: 0,
             rest,
         };
     }
-    let size = component(masks, offsets, links, sets, c, dist, queue);
-    Found {
+    let size = component(masks, offsets, targets, sets, c, dist, queue);
+    PlaceFound {
         found: true,
         size,
         rest,

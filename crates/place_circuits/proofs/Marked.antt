@@ -1,14 +1,8 @@
 -- What is marked from tables that are cut from longer ones is the place. Assumes nothing.
-use mathlib.Core.Bool.{true}
-use mathlib.Core.List.{List, _++_}
-use mathlib.Core.Path.{_≡_, sym, ap, ap₂, _∙_}
-use Prim.Native.Nat.{ℕ, suc, _≤_, _<_}
-use native.Mathlib.Omega.{arith}
-use lib.ListN.{length, getD, take, drop, length-append}
-use lib.Seq.{take-at, take-append-le}
-use Rattle.base_lists.specs.List.{Below}
+use Rattle.base_lists.specs.Kit.{_≡_, _∙_, ap, ap₂, true, List, _++_, ℕ, _≤_, _<_, suc, length, getD, take, drop, length-append, take-at, take-append-le, arith}
+use Rattle.base_lists.proofs.Entries.{all-below}
 use Rattle.graph.specs.Circuit.{Circuit}
-use Rattle.graph.proofs.Groups.{below-le, all-below}
+use Rattle.graph.proofs.Groups.{below-le}
 use Rattle.file_format.specs.Circuit.{Drawn}
 use Rattle.file_format.proofs.Accepted.{bounded-starts}
 use Rattle.table.specs.Fill.{marksOf, NodeList, tableAt}
@@ -27,7 +21,7 @@ module _ {pattern board : Circuit} {t : Tables} {around : Around} {dist queue se
     (after past : List ℕ)
   where
     abbrev n : ℕ
-    n = length (board .kinds)
+    n = length (board .labels)
 
     abbrev here : Located pattern board t (around .centre) (around .radius) (b .there f .0) sets (take (a .size) queue)
     here = b .there f .1

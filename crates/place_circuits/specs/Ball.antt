@@ -1,10 +1,6 @@
 -- Finding in the ball around a centre, from the kinds and from tables: whose links these are of need not be handed on, and every pattern and
 -- board that they are of has the same place.
-use mathlib.Core.Bool.{true}
-use mathlib.Core.List.{List}
-use mathlib.Core.Path.{_≡_}
-use Prim.Native.Nat.{ℕ, _≤_}
-use lib.ListN.{length, take}
+use Rattle.base_lists.specs.Kit.{_≡_, true, List, ℕ, _≤_, length, take}
 use Rattle.graph.specs.Circuit.{Circuit, circuit}
 use Rattle.file_format.specs.Circuit.{Drawn}
 use Rattle.table.specs.Prepared.{Tables, Prepared}
@@ -16,12 +12,12 @@ use Rattle.place.specs.Outcome.{PlaceOutcome}
 use Rattle.place_circuits.specs.declared.InBall.{InBall}
 
 -- the tables are those of a pattern and a board that have these kinds, and some links
-pub record SomeTabled (partKinds nodeKinds : List ℕ) (t : Tables) : Type 0 where
+pub record SomeTabled (partLabels nodeLabels : List ℕ) (t : Tables) : Type 0 where
   pub partStarts : List ℕ
   pub partEnds : List ℕ
   pub nodeStarts : List ℕ
   pub nodeEnds : List ℕ
-  pub tabled : Tabled (circuit partKinds partStarts partEnds) (circuit nodeKinds nodeStarts nodeEnds) t
+  pub tabled : Tabled (circuit partLabels partStarts partEnds) (circuit nodeLabels nodeStarts nodeEnds) t
 
 -- the ball's counts and distances, whether there is a place, and then the place in the tables, by another search's entries
 pub record PlacedIn (pattern board : Circuit) (t : Tables) (around : Around) (dist queue sets : List ℕ) (a : InBall) : Type 0 where
@@ -33,26 +29,26 @@ pub record PlacedIn (pattern board : Circuit) (t : Tables) (around : Around) (di
 
 -- this for every pattern and board with these kinds that the tables are of
 abbrev pub EveryPlaced : List ℕ → List ℕ → Tables → Around → List ℕ → List ℕ → List ℕ → InBall → Type 0
-EveryPlaced partKinds nodeKinds t around dist queue sets a =
+EveryPlaced partLabels nodeLabels t around dist queue sets a =
     (partStarts partEnds nodeStarts nodeEnds : List ℕ) →
-    Tabled (circuit partKinds partStarts partEnds) (circuit nodeKinds nodeStarts nodeEnds) t →
-    PlacedIn (circuit partKinds partStarts partEnds) (circuit nodeKinds nodeStarts nodeEnds) t around dist queue sets a
+    Tabled (circuit partLabels partStarts partEnds) (circuit nodeLabels nodeStarts nodeEnds) t →
+    PlacedIn (circuit partLabels partStarts partEnds) (circuit nodeLabels nodeStarts nodeEnds) t around dist queue sets a
 
 -- ---- what was read
 
 -- the tables are those of a pattern and a board that were read, with these kinds and some links
-pub record SomeDrawn (partKinds nodeKinds : List ℕ) (t : Tables) : Type 0 where
+pub record SomeDrawn (partLabels nodeLabels : List ℕ) (t : Tables) : Type 0 where
   pub partStarts : List ℕ
   pub partEnds : List ℕ
   pub nodeStarts : List ℕ
   pub nodeEnds : List ℕ
-  pub drawn : Drawn (circuit partKinds partStarts partEnds) (circuit nodeKinds nodeStarts nodeEnds)
-  pub prepared : Prepared (circuit partKinds partStarts partEnds) (circuit nodeKinds nodeStarts nodeEnds) t
+  pub drawn : Drawn (circuit partLabels partStarts partEnds) (circuit nodeLabels nodeStarts nodeEnds)
+  pub prepared : Prepared (circuit partLabels partStarts partEnds) (circuit nodeLabels nodeStarts nodeEnds) t
 
 -- what a call leaves is what `outcome` says of every such pattern and board
 abbrev pub EveryDrawn : List ℕ → List ℕ → Tables → PlaceOutcome → (Circuit → Circuit → PlaceOutcome) → Type 0
-EveryDrawn partKinds nodeKinds t left outcome =
+EveryDrawn partLabels nodeLabels t left outcome =
     (partStarts partEnds nodeStarts nodeEnds : List ℕ) →
-    Drawn (circuit partKinds partStarts partEnds) (circuit nodeKinds nodeStarts nodeEnds) →
-    Prepared (circuit partKinds partStarts partEnds) (circuit nodeKinds nodeStarts nodeEnds) t →
-    left ≡ outcome (circuit partKinds partStarts partEnds) (circuit nodeKinds nodeStarts nodeEnds)
+    Drawn (circuit partLabels partStarts partEnds) (circuit nodeLabels nodeStarts nodeEnds) →
+    Prepared (circuit partLabels partStarts partEnds) (circuit nodeLabels nodeStarts nodeEnds) t →
+    left ≡ outcome (circuit partLabels partStarts partEnds) (circuit nodeLabels nodeStarts nodeEnds)

@@ -28,33 +28,33 @@ pub struct InBall {
 // Finds the place from the ball's pairs of equal kinds, and leaves the ball's distances in `dist`. The searches clear their entries whole, and the
 // first table and the rounds both tables of sets; all other work is in the ball.
 fn find_in_ball(
-    part_kinds: &[u32],
-    node_kinds: &[u32],
+    part_labels: &[u32],
+    node_labels: &[u32],
     masks: &[u32],
     offsets: &[u16],
-    links: &[u16],
+    targets: &[u16],
     around: Around,
     dist: &mut [u16],
     queue: &mut [u16],
     sets: &mut [u32],
     spare: &mut [u32],
 ) -> InBall
-    requires { ⌜ SomeTabled (now «part_kinds») (now «node_kinds») (tables (now masks) (now offsets) (now links)) ⌝ }
-    requires { ⌜ around .centre < length (now «node_kinds») ⌝ }
-    requires { ⌜ (length (now dist) ≡ length (now «node_kinds»)) × (length (now queue) ≡ length (now «node_kinds»)) ⌝ }
-    requires { ⌜ (length (now sets) ≡ length (now «node_kinds»)) × (length (now spare) ≡ length (now «node_kinds»)) ⌝ }
-    ensures { λ a. ⌜ EveryPlaced (now («part_kinds» .entry)) (now («node_kinds» .entry)) (tables (now (masks .entry)) (now (offsets .entry)) (now (links .entry))) around (now (dist .exit)) (now (queue .exit)) (now (sets .exit)) a ⌝ }
+    requires { ⌜ SomeTabled (now «part_labels») (now «node_labels») (tables (now masks) (now offsets) (now targets)) ⌝ }
+    requires { ⌜ around .centre < length (now «node_labels») ⌝ }
+    requires { ⌜ (length (now dist) ≡ length (now «node_labels»)) × (length (now queue) ≡ length (now «node_labels»)) ⌝ }
+    requires { ⌜ (length (now sets) ≡ length (now «node_labels»)) × (length (now spare) ≡ length (now «node_labels»)) ⌝ }
+    ensures { λ a. ⌜ EveryPlaced (now («part_labels» .entry)) (now («node_labels» .entry)) (tables (now (masks .entry)) (now (offsets .entry)) (now (targets .entry))) around (now (dist .exit)) (now (queue .exit)) (now (sets .exit)) a ⌝ }
 {
     let mut joined = [0u16; Board::MAX_NODES];
-    let n = node_kinds.len();
+    let n = node_labels.len();
     let apart = &mut joined[..n];
     let c = around.centre;
-    let k = search(offsets, links, c, around.radius, dist, queue);
-    let started = start(&queue[..k], part_kinds, node_kinds, sets);
+    let k = search(offsets, targets, c, around.radius, dist, queue);
+    let started = start(&queue[..k], part_labels, node_labels, sets);
     let place = find(
         masks,
         offsets,
-        links,
+        targets,
         c,
         k,
         started,
@@ -74,22 +74,22 @@ fn find_in_ball(
 // The place around a centre: the ball's counts, and the four lent tables written; or number 9 with the ball's counts, which leaves those
 // tables as they were. The last offset is how many links the board has.
 pub fn place_circuits(
-    part_kinds: &[u32],
-    node_kinds: &[u32],
+    part_labels: &[u32],
+    node_labels: &[u32],
     masks: &[u32],
     offsets: &[u16],
-    links: &[u16],
+    targets: &[u16],
     around: Around,
     nodes: &mut [u8],
     bytes: &mut [u8],
     table: &mut [u32],
     distances: &mut [u16],
 ) -> PlaceAnswer
-    requires { ⌜ SomeDrawn (now «part_kinds») (now «node_kinds») (tables (now masks) (now offsets) (now links)) ⌝ }
-    requires { ⌜ around .centre < length (now «node_kinds») ⌝ }
-    requires { ⌜ (length (now «node_kinds») ≤ length (now nodes)) × (getD (now offsets) (length (now «node_kinds»)) 0 ≤ length (now bytes)) ⌝ }
-    requires { ⌜ (length (now «node_kinds») ≤ length (now table)) × (length (now «node_kinds») ≤ length (now distances)) ⌝ }
-    ensures { λ a. ⌜ EveryDrawn (now («part_kinds» .entry)) (now («node_kinds» .entry)) (tables (now (masks .entry)) (now (offsets .entry)) (now (links .entry)))
+    requires { ⌜ SomeDrawn (now «part_labels») (now «node_labels») (tables (now masks) (now offsets) (now targets)) ⌝ }
+    requires { ⌜ around .centre < length (now «node_labels») ⌝ }
+    requires { ⌜ (length (now «node_labels») ≤ length (now nodes)) × (getD (now offsets) (length (now «node_labels»)) 0 ≤ length (now bytes)) ⌝ }
+    requires { ⌜ (length (now «node_labels») ≤ length (now table)) × (length (now «node_labels») ≤ length (now distances)) ⌝ }
+    ensures { λ a. ⌜ EveryDrawn (now («part_labels» .entry)) (now («node_labels» .entry)) (tables (now (masks .entry)) (now (offsets .entry)) (now (targets .entry)))
         (record { reply = placeReply a; nodes = now (nodes .exit); links = now (bytes .exit); table = now (table .exit); distances = now (distances .exit) })
         (λ pattern board. placeAround pattern board (around .centre) (around .radius) (now (nodes .entry)) (now (bytes .entry)) (now (table .entry)) (now (distances .entry))) ⌝ }
 {
@@ -97,14 +97,14 @@ pub fn place_circuits(
     let mut queue = [0u16; Board::MAX_NODES];
     let mut sets = [0u32; Board::MAX_NODES];
     let mut spare = [0u32; Board::MAX_NODES];
-    let n = node_kinds.len();
+    let n = node_labels.len();
     let m = offsets[n] as usize;
     let ball = find_in_ball(
-        part_kinds,
-        node_kinds,
+        part_labels,
+        node_labels,
         masks,
         offsets,
-        links,
+        targets,
         around,
         &mut dist[..n],
         &mut queue[..n],
@@ -125,7 +125,7 @@ pub fn place_circuits(
     mark(
         masks,
         offsets,
-        links,
+        targets,
         &sets[..n],
         &queue[..size],
         &mut nodes[..n],

@@ -1,4 +1,2 @@
+pub mod ComponentNumbers
 pub mod Lists
-pub mod Labels
-pub mod Covering
-pub mod Seeking

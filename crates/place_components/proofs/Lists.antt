@@ -1,19 +1,9 @@
 -- Lists without repeats: one whose entries all occur in another is not longer, so that where it is as long it has all of the other's; and those of
 -- a list's nodes that pass a test. Assumes nothing.
-use mathlib.Core.Bool.{Bool, true, false, cond}
-use mathlib.Core.List.{List, [], _∷_, _++_, append-nil}
-use mathlib.Core.Path.{_≡_, refl, sym, ap, subst, _∙_}
-use Prim.Native.Nat.{ℕ, zero, suc, _+_, _≤_, _<_, zero-le, suc-le-suc}
-use native.Mathlib.Nat.{le-step, le-of-suc-le-suc, not-suc-le-zero, zero-lt-suc}
-use native.Mathlib.Numerals.{add-one}
-use native.Mathlib.Omega.{arith}
-use borrow.Author.Tests.{ne-eqb}
-use lib.Dec.{T, eqb, eqb-refl}
-use lib.ListN.{length, getD, take, length-append, List·getD-append}
-use lib.Seq.{take-suc}
+use Rattle.base_lists.specs.Kit.{_≡_, _∙_, sym, ap, refl, subst, Bool, false, true, cond, List, [], _∷_, _++_, ℕ, _≤_, _<_, _+_, suc, zero, zero-le, suc-le-suc, not-suc-le-zero, le-of-suc-le-suc, zero-lt-suc, le-step, add-one, T, eqb, eqb-refl, length, getD, take, length-append, List·getD-append, take-suc, arith, ne-eqb}
 use Rattle.base_lists.specs.List.{Occurs, Below}
-use Rattle.base_lists.specs.Below.{countBelow, leastBelow}
-use Rattle.base_lists.proofs.Below.{leastBelow-is}
+use Rattle.base_lists.specs.Below.{leastBelow}
+use Rattle.base_lists.proofs.Below.{leastBelow-is, countBelow-all}
 use Rattle.base_lists.proofs.Ranks.{count-images}
 use Rattle.base_lists.proofs.Tests.{true-T, false-T}
 use Rattle.graph.proofs.BfsScan.{elem, elem-occurs, occurs-elem}
@@ -53,17 +43,12 @@ first-list {n} xs ys l =
 
 -- ---- as long as another
 
-count-all : (n : ℕ) → countBelow n (λ i. true) ≡ n
-unfolding countBelow
-count-all zero = refl
-count-all (suc n) = omega (arith, count-all n)
-
-few-within : (xs ys : List ℕ) → Distinct xs → ((v : ℕ) → Occurs xs v → Occurs ys v) → length xs ≤ length ys
+pub few-within : (xs ys : List ℕ) → Distinct xs → ((v : ℕ) → Occurs xs v → Occurs ys v) → length xs ≤ length ys
 unfolding Distinct
 few-within xs ys d inner =
     let m : ℕ = length xs in
     let at : ℕ → ℕ = λ j. leastBelow m (λ i. eqb (getD xs i 0) (getD ys j 0)) in
-    subst (λ (k : ℕ). k ≤ length ys) (count-all m)
+    subst (λ (k : ℕ). k ≤ length ys) (countBelow-all m)
     (count-images m (length ys) (λ i. true) at
     (λ i h _.
     let (j, l, e) = inner (getD xs i 0) (i, h, refl) in (

@@ -1,34 +1,16 @@
 -- Laws of marking: writing at the nodes of a list one after another, and the links of one node after another. Assumes nothing.
-use mathlib.Core.Bool.{Bool, true, false, _&&_, _||_, cond}
-use mathlib.Core.List.{List, [], _∷_, _++_}
-use mathlib.Core.Logic.{_⊎_, inl, inr, ⊎-elim}
-use mathlib.Core.Path.{_≡_, refl, sym, ap, subst, _∙_}
-use Prim.Native.Nat.{ℕ, suc, _+_, _-_, _≤_, _<_, min}
-use native.Mathlib.Numerals.{add-one}
-use native.Mathlib.Omega.{arith}
-use borrow.Author.Tests.{lt-ltb, le-ltb, le-leb, lt-leb}
-use lib.Dec.{leb, ltb}
-use lib.ListN.{length, getD, set, take, drop, replicate, length-take, length-drop, length-replicate, length-append, List·getD-append, getD-replicate, drop-of-length-le}
-use lib.Seq.{drop-cons, getD-append-add, getD-take, getD-drop, length-take-le}
-use Rattle.base_lists.specs.List.{any, tabulate, part}
+use Rattle.base_lists.specs.Kit.{_≡_, _∙_, sym, ap, refl, subst, ⊎-elim, _⊎_, inl, inr, Bool, false, true, cond, _&&_, _||_, List, [], _∷_, _++_, ℕ, _≤_, _<_, _+_, _-_, suc, min, add-one, ltb, leb, length, getD, take, drop, set, length-append, replicate, length-drop, drop-of-length-le, length-replicate, length-take, getD-replicate, List·getD-append, length-take-le, drop-cons, getD-take, getD-drop, getD-append-add, arith, le-ltb, lt-ltb, le-leb, lt-leb}
+use Rattle.base_lists.specs.List.{any, part}
 use Rattle.base_lists.proofs.Tables.{length-tabulate, getD-tabulate, is-tabulate}
+use Rattle.base_lists.proofs.Tests.{lt-or-le}
 use Rattle.base_bits.specs.Bits.{intersects, unionOver}
-use Rattle.graph.specs.Net.{forwardOffsets, forwardLinks, driven, Net}
-use Rattle.graph.proofs.BfsScan.{lt-or-le}
+use Rattle.graph.specs.Net.{forwardOffsets, forwardTargets, driven, Net}
 use Rattle.graph.proofs.Lookup.{stretch-part}
 use Rattle.graph.proofs.Net.{stretch-sound, net-few}
 use Rattle.table.specs.Fill.{marksOf, fillAt, tableAt}
 use Rattle.table.specs.Prepared.{succOf, Tables}
 use Rattle.table.proofs.Fill.{fill-table, cleared-none}
 use Rattle.place.specs.Bytes.{drivenBy, markedEnds, marksLink, markStart, markStarts, linkMarks}
-
--- an entry that is not written yet
-pub filled-rest : (k : ℕ) (f : ℕ → ℕ) (xs old : List ℕ) → xs ≡ tabulate k f ++ drop k old → getD xs k 0 ≡ getD old k 0
-filled-rest k f xs old e =
-    let here : length (tabulate k f) + 0 ≡ k = omega (arith, length-tabulate k f) in
-    let there : k + 0 ≡ k = omega arith in
-    ap (λ (l : List ℕ). getD l k 0) e ∙ ap (λ (j : ℕ). getD (tabulate k f ++ drop k old) j 0) (sym here)
-    ∙ getD-append-add (tabulate k f) (drop k old) 0 0 ∙ getD-drop k old 0 0 ∙ ap (λ (j : ℕ). getD old j 0) there
 
 -- ---- at the nodes of a list
 
@@ -109,21 +91,21 @@ module _ {n : ℕ} {offsets links : List ℕ} (net : Net n offsets links) (v : �
   unfolding part
   start-at = sym (getD-take 513 offsets v 0 (omega (arith, net-few net)))
 
-  ends-part : ends ≡ take (getD (forwardOffsets offsets) (suc v) 0 - start) (drop start (forwardLinks links))
+  ends-part : ends ≡ take (getD (forwardOffsets offsets) (suc v) 0 - start) (drop start (forwardTargets links))
   unfolding driven
-  ends-part = stretch-part (forwardOffsets offsets) (forwardLinks links) v (stretch-sound (net .forward) v h)
+  ends-part = stretch-part (forwardOffsets offsets) (forwardTargets links) v (stretch-sound (net .forward) v h)
 
   -- its links are those between its two offsets
   pub ends-length : start + length ends ≡ getD (forwardOffsets offsets) (suc v) 0
   ends-length =
-      let e : length ends ≡ min (getD (forwardOffsets offsets) (suc v) 0 - start) (length (forwardLinks links) - start) = ap length ends-part ∙ simp (length-take, length-drop) in
+      let e : length ends ≡ min (getD (forwardOffsets offsets) (suc v) 0 - start) (length (forwardTargets links) - start) = ap length ends-part ∙ simp (length-take, length-drop) in
       omega (arith, net .forward .rising v h, net .forward .within v h)
 
-  ends-at : (k : ℕ) → k < length ends → getD ends k 0 ≡ getD (forwardLinks links) (start + k) 0
+  ends-at : (k : ℕ) → k < length ends → getD ends k 0 ≡ getD (forwardTargets links) (start + k) 0
   ends-at k l =
       ap (λ (xs : List ℕ). getD xs k 0) ends-part
-      ∙ getD-take (getD (forwardOffsets offsets) (suc v) 0 - start) (drop start (forwardLinks links)) k 0 (omega (arith, ends-length))
-      ∙ getD-drop start (forwardLinks links) k 0
+      ∙ getD-take (getD (forwardOffsets offsets) (suc v) 0 - start) (drop start (forwardTargets links)) k 0 (omega (arith, ends-length))
+      ∙ getD-drop start (forwardTargets links) k 0
 
 -- Marking the links of a node in the stretch of the bytes that is theirs.
 module _ (a k : ℕ) (bytes ys : List ℕ) (fits : a + k ≤ length bytes) (long : length ys ≡ k) where
@@ -153,7 +135,7 @@ module _ (a k : ℕ) (bytes ys : List ℕ) (fits : a + k ≤ length bytes) (long
       ∙ getD-drop k (drop a bytes) j 0
       ∙ getD-drop a bytes (k + j) 0
 
-module _ (t : Tables) {n : ℕ} (net : Net n (t .offsets) (t .links)) (v : ℕ) (h : v < n) (sets bytes : List ℕ)
+module _ (t : Tables) {n : ℕ} (net : Net n (t .offsets) (t .targets)) (v : ℕ) (h : v < n) (sets bytes : List ℕ)
     (room : getD (forwardOffsets (t .offsets)) (suc v) 0 ≤ length bytes)
   where
     abbrev from : ℕ
@@ -163,13 +145,13 @@ module _ (t : Tables) {n : ℕ} (net : Net n (t .offsets) (t .links)) (v : ℕ) 
     to = getD (forwardOffsets (t .offsets)) (suc v) 0
 
     abbrev stretch : List ℕ
-    stretch = driven (t .offsets) (t .links) v
+    stretch = driven (t .offsets) (t .targets) v
 
     abbrev parts : ℕ
     parts = drivenBy (succOf (t .masks)) sets v
 
     abbrev meets : ℕ → Bool
-    meets i = intersects parts (getD sets (getD (forwardLinks (t .links)) i 0) 0)
+    meets i = intersects parts (getD sets (getD (forwardTargets (t .targets)) i 0) 0)
 
     abbrev middle : List ℕ
     middle = take (length stretch) (drop from bytes)

@@ -68,17 +68,17 @@ fn mark_ends(ends: &[u16], driven: u32, sets: &[u32], bytes: &mut [u8])
 fn mark_start(
     masks: &[u32],
     offsets: &[u16],
-    links: &[u16],
+    targets: &[u16],
     sets: &[u32],
     v: usize,
     bytes: &mut [u8],
 )
-    requires { ⌜ Ready (tables (now masks) (now offsets) (now links)) (now sets) ⌝ }
+    requires { ⌜ Ready (tables (now masks) (now offsets) (now targets)) (now sets) ⌝ }
     requires { ⌜ v < length (now sets) ⌝ }
     requires { ⌜ getD (forwardOffsets (now offsets)) (suc v) 0 ≤ length (now bytes) ⌝ }
-    ensures { λ _. ⌜ now (bytes .exit) ≡ markStart (tables (now (masks .entry)) (now (offsets .entry)) (now (links .entry))) (now (sets .entry)) v (now (bytes .entry)) ⌝ }
+    ensures { λ _. ⌜ now (bytes .exit) ≡ markStart (tables (now (masks .entry)) (now (offsets .entry)) (now (targets .entry))) (now (sets .entry)) v (now (bytes .entry)) ⌝ }
 {
-    let ends = neighbours_in(Direction::Forward, offsets, links, v);
+    let ends = neighbours_in(Direction::Forward, offsets, targets, v);
     let driven = driven_parts(masks, sets[v]);
     let from = offsets[v] as usize;
     let to = from + ends.len();
@@ -89,21 +89,21 @@ fn mark_start(
 fn mark_links(
     masks: &[u32],
     offsets: &[u16],
-    links: &[u16],
+    targets: &[u16],
     sets: &[u32],
     list: &[u16],
     bytes: &mut [u8],
 )
-    requires { ⌜ Ready (tables (now masks) (now offsets) (now links)) (now sets) ⌝ }
+    requires { ⌜ Ready (tables (now masks) (now offsets) (now targets)) (now sets) ⌝ }
     requires { ⌜ NodeList (length (now sets)) (now list) ⌝ }
     requires { ⌜ LinksFit (length (now sets)) (now offsets) (now bytes) ⌝ }
-    ensures { λ _. ⌜ now (bytes .exit) ≡ linkMarks (length (now (bytes .entry))) (tables (now (masks .entry)) (now (offsets .entry)) (now (links .entry))) (now (sets .entry)) (now (list .entry)) ⌝ }
+    ensures { λ _. ⌜ now (bytes .exit) ≡ linkMarks (length (now (bytes .entry))) (tables (now (masks .entry)) (now (offsets .entry)) (now (targets .entry))) (now (sets .entry)) (now (list .entry)) ⌝ }
 {
     clear(bytes);
     let mut i = 0;
     while i < list.len() {
         let v = list[i] as usize;
-        mark_start(masks, offsets, links, sets, v, bytes);
+        mark_start(masks, offsets, targets, sets, v, bytes);
         i += 1;
     }
 }
@@ -112,22 +112,22 @@ fn mark_links(
 pub fn mark(
     masks: &[u32],
     offsets: &[u16],
-    links: &[u16],
+    targets: &[u16],
     sets: &[u32],
     list: &[u16],
     nodes: &mut [u8],
     bytes: &mut [u8],
     table: &mut [u32],
 )
-    requires { ⌜ Ready (tables (now masks) (now offsets) (now links)) (now sets) ⌝ }
+    requires { ⌜ Ready (tables (now masks) (now offsets) (now targets)) (now sets) ⌝ }
     requires { ⌜ NodeList (length (now sets)) (now list) ⌝ }
     requires { ⌜ LinksFit (length (now sets)) (now offsets) (now bytes) ⌝ }
     requires { ⌜ (length (now nodes) ≡ length (now sets)) × (length (now table) ≡ length (now sets)) ⌝ }
     ensures { λ _. ⌜ now (nodes .exit) ≡ marksOf (length (now (sets .entry))) (now (list .entry)) ⌝ }
-    ensures { λ _. ⌜ now (bytes .exit) ≡ linkMarks (length (now (bytes .entry))) (tables (now (masks .entry)) (now (offsets .entry)) (now (links .entry))) (now (sets .entry)) (now (list .entry)) ⌝ }
+    ensures { λ _. ⌜ now (bytes .exit) ≡ linkMarks (length (now (bytes .entry))) (tables (now (masks .entry)) (now (offsets .entry)) (now (targets .entry))) (now (sets .entry)) (now (list .entry)) ⌝ }
     ensures { λ _. ⌜ now (table .exit) ≡ tableAt (length (now (sets .entry))) (λ v. getD (now (sets .entry)) v 0) (now (list .entry)) ⌝ }
 {
     mark_nodes(list, nodes);
-    mark_links(masks, offsets, links, sets, list, bytes);
+    mark_links(masks, offsets, targets, sets, list, bytes);
     copy(list, sets, table);
 }

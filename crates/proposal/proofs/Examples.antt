@@ -1,7 +1,5 @@
 -- Proposals near the truth, by computation: each at the pattern's radius, unless another is named. Assumes nothing.
-use mathlib.Core.List.{List, [], _∷_}
-use Prim.Native.Nat.{ℕ}
-use lib.Dec.{T}
+use Rattle.base_lists.specs.Kit.{List, [], _∷_, ℕ, T}
 use Rattle.graph.specs.Circuit.{Circuit}
 use Rattle.table.specs.Examples.{circuitT, circuitB, twoWay, ring}
 use Rattle.place.specs.Examples.{circuitY, oneLink}

@@ -1,15 +1,9 @@
 -- The check and the finder: every place that the finder finds gets a yes, and a yes means that the finder finds a place, which contains all that
 -- was proposed. Assumes nothing.
-use mathlib.Core.List.{List}
-use mathlib.Core.Logic.{⊎-elim}
-use mathlib.Core.Path.{_≡_, refl, subst}
-use Prim.Native.Nat.{ℕ, _<_}
-use lib.Dec.{T}
-use lib.ListN.{length, getD}
+use Rattle.base_lists.specs.Kit.{_≡_, refl, subst, ⊎-elim, List, ℕ, _<_, T, length, getD}
 use Rattle.base_lists.proofs.Tests.{decide}
 use Rattle.graph.specs.Circuit.{Circuit, LinkAt}
 use Rattle.graph.specs.Graph.{Contains}
-use Rattle.graph.specs.Search.{inside}
 use Rattle.place.specs.Match.{found, placeNodes, placeLinks, markedGraph}
 use Rattle.place.proofs.Ball.{Admissible}
 use Rattle.place.proofs.Marks.{nodes-marks, links-marks, link-marked}

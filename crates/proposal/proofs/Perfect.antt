@@ -1,17 +1,9 @@
 -- The check says yes exactly when the bytes mark a perfect subgraph around the centre: the marked links make a board of their own, in which a
 -- perfect subgraph that has them all is the place. Assumes nothing.
-use mathlib.Core.Bool.{Bool, true, false, _&&_, _||_, not}
-use mathlib.Core.List.{List}
-use mathlib.Core.Logic.{_↔_, Iff·rfl, Iff·symm, ⊎-elim}
-use mathlib.Core.Path.{_≡_, refl, sym, subst}
-use Prim.Native.Nat.{ℕ, _≤_, _<_}
-use native.Mathlib.Nat.{le-step, le-refl}
-use borrow.Author.Tests.{leb-true, le-leb}
-use lib.Dec.{T, leb}
-use lib.ListN.{length, getD}
-use Rattle.base_lists.proofs.Tests.{both, both-left, both-right, either-left, either-right, decide, T-true, true-T, allBelow-at, at-allBelow, all-at, at-all}
+use Rattle.base_lists.specs.Kit.{_≡_, sym, refl, subst, _↔_, ⊎-elim, Iff·rfl, Iff·symm, Bool, _&&_, not, _||_, List, ℕ, _≤_, _<_, le-refl, le-step, T, leb, length, getD, le-leb, leb-true}
+use Rattle.base_lists.proofs.Tests.{both-true, both-left, both-right, decide, T-true, true-T, allBelow-at, at-allBelow, all-at, at-all, unless-at, at-unless}
 use Rattle.base_lists.specs.List.{allBelow}
-use Rattle.graph.specs.Chosen.{picked, chosen, ChosenLink}
+use Rattle.graph.specs.Chosen.{chosen, ChosenLink}
 use Rattle.graph.specs.Circuit.{Circuit, LinkAt, HasLink, graphOf, circuitGraph}
 use Rattle.graph.specs.Graph.{Graph, Subgraph, Contains, Connected, Walk, stay, step, InBall, Ball}
 use Rattle.graph.specs.Search.{inside}
@@ -31,15 +23,6 @@ use Rattle.proposal.specs.Check.{bits, endsMarked, marksSubgraph, inRow,
 use Rattle.proposal.specs.Meaning.{PerfectMarks}
 
 -- ---- tests
-
--- where a mark is set, what is asked there holds
-pub unless-at : (b c : Bool) → T (not b || c) → T b → T c
-unless-at true c t s = t
-unless-at false c t s = absurd s
-
-pub at-unless : (b c : Bool) → (T b → T c) → T (not b || c)
-at-unless true c f = f tt
-at-unless false c f = tt
 
 -- every byte is 0 or 1
 pub bits-at : (bytes : List ℕ) → T (bits bytes) → (i : ℕ) → i < length bytes → getD bytes i 0 ≤ 1
@@ -99,7 +82,7 @@ module _ {pattern board : Circuit} (a : Admissible pattern board) (w r : ℕ) (n
   H = chosen board links
 
   abbrev n : ℕ
-  n = length (H .kinds)
+  n = length (H .labels)
 
   -- the two boards have the same nodes, of the same kinds
   kinds-same : (u v : ℕ) → KindsMatch pattern H u v ↔ KindsMatch pattern board u v
@@ -240,7 +223,7 @@ module _ {pattern board : Circuit} (a : Admissible pattern board) (w r : ℕ) (n
       (λ i h.
       let s = inside nodes (getD (board .starts) i 0) in
       let e = inside nodes (getD (board .ends) i 0) in
-      at-unless (inside links i) (s && e) (λ m. both s e (f i m .0) (f i m .1)))
+      at-unless (inside links i) (s && e) (λ m. both-true s e (f i m .0) (f i m .1)))
 
   -- what is tested, part by part
   abbrev bytes : Bool
@@ -286,12 +269,12 @@ module _ {pattern board : Circuit} (a : Admissible pattern board) (w r : ℕ) (n
   unfolding checks marksSubgraph fills markedGraph Ball
   perfect-yes parallel m =
       let p = m .perfect in
-      let b = both (bits nodes) (bits links) (at-bits nodes (m .nodeBytes)) (at-bits links (m .linkBytes)) in
-      let j = both (inside nodes w) (endsMarked (board .starts) (board .ends) nodes links) (p .centre) (at-ends (m .ends)) in
+      let b = both-true (bits nodes) (bits links) (at-bits nodes (m .nodeBytes)) (at-bits links (m .linkBytes)) in
+      let j = both-true (inside nodes w) (endsMarked (board .starts) (board .ends) nodes links) (p .centre) (at-ends (m .ends)) in
       let e = at-allBelow (length (H .starts)) (inside (placeLinks pattern H w n)) (λ i h. link-placed p i h (rw (← with-parallel board links parallel) h)) in
-      let all = both (inRow (placeNodes pattern H w n) nodes) every-link (at-row (placeNodes pattern H w n) nodes (node-placed p)) e in
-      both (bytes && joins) (near && placed) (both bytes joins b j)
-      (both near placed (at-row (ballOf board w r) nodes (λ v t. near-iff v .1 (p .subgraph .nodes v t))) (both (found pattern H w n) whole (is-found p) all))
+      let all = both-true (inRow (placeNodes pattern H w n) nodes) every-link (at-row (placeNodes pattern H w n) nodes (node-placed p)) e in
+      both-true (bytes && joins) (near && placed) (both-true bytes joins b j)
+      (both-true near placed (at-row (ballOf board w r) nodes (λ v t. near-iff v .1 (p .subgraph .nodes v t))) (both-true (found pattern H w n) whole (is-found p) all))
 
   -- The check says yes exactly when every byte is 0 or 1, every marked link has both its ends marked, and what is marked is a perfect subgraph
   -- around the centre at the radius, largest or not.

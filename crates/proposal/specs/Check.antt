@@ -1,10 +1,6 @@
 -- Checking a place from elsewhere, computed: the bytes are those of a subgraph of the ball, and this subgraph is the place in itself. A subgraph
 -- of a board is a board with fewer links; proofs/Perfect shows that the answer is yes exactly for a perfect subgraph.
-use mathlib.Core.Bool.{Bool, _&&_, _||_, not}
-use mathlib.Core.List.{List}
-use Prim.Native.Nat.{ℕ}
-use lib.Dec.{leb}
-use lib.ListN.{length, getD}
+use Rattle.base_lists.specs.Kit.{Bool, _&&_, not, _||_, List, ℕ, leb, length, getD}
 use Rattle.base_lists.specs.List.{all, allBelow}
 use Rattle.graph.specs.Chosen.{chosen}
 use Rattle.graph.specs.Circuit.{Circuit}
@@ -32,7 +28,7 @@ inRow row nodes = allBelow (length nodes) (λ v. not (inside nodes v) || inside 
 -- The place around w in a board, at a radius that leaves out nothing that links join to w, has all the marked nodes and all links.
 unfoldable pub fills : Circuit → Circuit → ℕ → List ℕ → Bool
 fills pattern board w nodes =
-    let r = length (board .kinds) in
+    let r = length (board .labels) in
     found pattern board w r && (inRow (placeNodes pattern board w r) nodes && allBelow (length (board .starts)) (inside (placeLinks pattern board w r)))
 
 -- "say yes exactly when these are a perfect subgraph around the centre at the pattern's radius, largest or not": w is the centre, r the radius

@@ -1,5 +1,5 @@
 -- A board of which proposals are checked by computation, and what is opened there.
-use mathlib.Core.List.{[], _∷_}
+use Rattle.base_lists.specs.Kit.{[], _∷_}
 use Rattle.base_lists.specs.List.{allBelow, anyBelow}
 use Rattle.base_lists.specs.Below.{keepFrom}
 use Rattle.graph.specs.Chosen.{picked, chosen}
@@ -16,4 +16,4 @@ checkComputed = tt
 
 -- two copies of the link 10 to 20, joined by links that match nothing: 0:10, 1:20, 2:10, 3:20, links 0-1, 0-2, 2-3, 3-0
 unfoldable pub joinedCopies : Circuit
-joinedCopies = record { kinds = 10 ∷ 20 ∷ 10 ∷ 20 ∷ []; starts = 0 ∷ 0 ∷ 2 ∷ 3 ∷ []; ends = 1 ∷ 2 ∷ 3 ∷ 0 ∷ [] }
+joinedCopies = record { labels = 10 ∷ 20 ∷ 10 ∷ 20 ∷ []; starts = 0 ∷ 0 ∷ 2 ∷ 3 ∷ []; ends = 1 ∷ 2 ∷ 3 ∷ 0 ∷ [] }

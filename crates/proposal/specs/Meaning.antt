@@ -1,9 +1,6 @@
 -- What a yes means: "Given a pattern, a board, a centre, a byte per node and a byte per link, say yes exactly when these are a perfect subgraph
 -- around the centre at the pattern's radius, largest or not. Bytes other than 0 and 1, or a link whose ends are not both marked, give no."
-use mathlib.Core.List.{List}
-use Prim.Native.Nat.{ℕ, _≤_, _<_}
-use lib.Dec.{T}
-use lib.ListN.{length, getD}
+use Rattle.base_lists.specs.Kit.{List, ℕ, _≤_, _<_, T, length, getD}
 use Rattle.graph.specs.Circuit.{Circuit, circuitGraph}
 use Rattle.graph.specs.Search.{inside}
 use Rattle.simulation.specs.Perfect.{Perfect}

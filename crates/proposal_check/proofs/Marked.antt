@@ -1,34 +1,26 @@
 -- What the tests come to, one after another. Assumes nothing.
-use mathlib.Core.Bool.{Bool, true, false}
-use mathlib.Core.List.{List}
-use mathlib.Core.Path.{_≡_, sym, ap, ap₂, _∙_}
-use Prim.Native.Nat.{ℕ, _≤_}
-use native.Mathlib.Omega.{arith}
-use borrow.Author.Tests.{lt-ltb}
-use lib.Dec.{T, ltb}
-use lib.ListN.{length}
-use Rattle.base_lists.specs.List.{allBelow, all, Below}
-use Rattle.base_lists.proofs.Tests.{true-T, at-all}
+use Rattle.base_lists.specs.Kit.{_≡_, _∙_, sym, ap, ap₂, false, true, List, ℕ, _≤_, T, ltb, length, arith}
+use Rattle.base_lists.specs.List.{allBelow, all}
+use Rattle.base_lists.proofs.Entries.{all-below, below-all}
 use Rattle.graph.specs.Chosen.{picked, chosen}
 use Rattle.graph.specs.Circuit.{Circuit, circuit}
 use Rattle.graph.specs.Net.{NetOf}
 use Rattle.graph.specs.Search.{ball, inside}
 use Rattle.graph.proofs.Chosen.{length-picked, picked-parallel, picked-below}
-use Rattle.graph.proofs.Groups.{all-below}
 use Rattle.file_format.specs.Circuit.{Drawn}
 use Rattle.file_format.proofs.Accepted.{bounded-starts, bounded-ends}
 use Rattle.table.specs.Prepared.{succOf, Tables, Masked}
 use Rattle.table.proofs.Prepare.{prepared}
 use Rattle.place.specs.Bytes.{nodeBytes, linkBytes}
 use Rattle.place.specs.Find.{Tabled, Located}
-use Rattle.place.specs.Match.{ballOf, found, placeNodes, placeLinks}
+use Rattle.place.specs.Match.{ballOf, found}
 use Rattle.proposal.specs.Check.{marksSubgraph, inRow, fills, checks}
 
 -- ---- the board is filled by its place
 
 module _ (pattern board : Circuit) (w : ℕ) (nodes : List ℕ) where
   abbrev r : ℕ
-  r = length (board .kinds)
+  r = length (board .labels)
 
   pub found-not : found pattern board w r ≡ false → false ≡ fills pattern board w nodes
   unfolding fills
@@ -51,24 +43,20 @@ module _ (pattern board : Circuit) (w r : ℕ) (nodes links : List ℕ) where
   unfolding checks
   marks-not e = rw e
 
-  module _ (m : marksSubgraph board w nodes links ≡ true) {n : ℕ} (size : n ≡ length (board .kinds)) where
+  module _ (m : marksSubgraph board w nodes links ≡ true) {n : ℕ} (size : n ≡ length (board .labels)) where
     pub near-not : inRow (ball n (board .starts) (board .ends) w r) nodes ≡ false → false ≡ checks pattern board w r nodes links
     unfolding checks ballOf
     near-not e = rw (m, ← size, e)
 
     pub fills-left : inRow (ball n (board .starts) (board .ends) w r) nodes ≡ true →
         {starts ends : List ℕ} → starts ≡ picked links (board .starts) → ends ≡ picked links (board .ends) →
-        fills pattern (circuit (board .kinds) starts ends) w nodes ≡ checks pattern board w r nodes links
+        fills pattern (circuit (board .labels) starts ends) w nodes ≡ checks pattern board w r nodes links
     unfolding checks ballOf chosen
     fills-left e s t =
-        ap₂ (λ (ss es : List ℕ). fills pattern (circuit (board .kinds) ss es) w nodes) s t
+        ap₂ (λ (ss es : List ℕ). fills pattern (circuit (board .labels) ss es) w nodes) s t
         ∙ rw (m, ap (λ (k : ℕ). inRow (ball k (board .starts) (board .ends) w r) nodes) (sym size) ∙ e)
 
 -- ---- the links that are left
-
-below-all : (n : ℕ) (xs : List ℕ) → Below n xs → T (all (λ v. ltb v n) xs)
-unfolding Below
-below-all n xs b = at-all (λ v. ltb v n) xs (λ i h. true-T (lt-ltb _ _ (b i h)))
 
 module _ {pattern board : Circuit} (d : Drawn pattern board) (links : List ℕ) {starts ends : List ℕ}
     (s : starts ≡ picked links (board .starts)) (e : ends ≡ picked links (board .ends))
@@ -76,20 +64,20 @@ module _ {pattern board : Circuit} (d : Drawn pattern board) (links : List ℕ) 
     pub left-parallel : length starts ≡ length ends
     left-parallel = ap length s ∙ picked-parallel links (board .starts) (board .ends) (d .nodes .parallel) ∙ sym (ap length e)
 
-    pub left-sizes : (length (board .kinds) ≤ 512) × (length starts ≡ length ends) × (length starts ≤ 4096)
+    pub left-sizes : (length (board .labels) ≤ 512) × (length starts ≡ length ends) × (length starts ≤ 4096)
     left-sizes =
         let most : length (board .starts) ≤ 4096 = d .nodes .links in
         (d .nodes .nodes, left-parallel, omega (arith, ap length s, length-picked links (board .starts)))
 
-    pub left-nodes : T (all (λ v. ltb v (length (board .kinds))) starts) × T (all (λ v. ltb v (length (board .kinds))) ends)
+    pub left-nodes : T (all (λ v. ltb v (length (board .labels))) starts) × T (all (λ v. ltb v (length (board .labels))) ends)
     left-nodes = (
       rw s (below-all _ _ (picked-below links _ (board .starts) (all-below _ _ (bounded-starts (d .nodes))))),
       rw e (below-all _ _ (picked-below links _ (board .ends) (all-below _ _ (bounded-ends (d .nodes))))),
     )
 
     -- they are tabled as a board of their own
-    pub left-tabled : {t : Tables} → Masked (pattern .starts) (pattern .ends) (t .masks) → NetOf (length (board .kinds)) starts ends (t .offsets) (t .links) →
-        Tabled pattern (circuit (board .kinds) starts ends) t
+    pub left-tabled : {t : Tables} → Masked (pattern .starts) (pattern .ends) (t .masks) → NetOf (length (board .labels)) starts ends (t .offsets) (t .targets) →
+        Tabled pattern (circuit (board .labels) starts ends) t
     left-tabled m n =
         record {
           prepared = prepared (d .parts) m n;

@@ -1,11 +1,5 @@
 -- The nodes that the search reaches are the ball; and tables that are cut from longer ones. Assumes nothing.
-use mathlib.Core.Bool.{Bool}
-use mathlib.Core.List.{List, _++_}
-use mathlib.Core.Path.{_≡_, sym, ap, ap₂, subst, _∙_}
-use Prim.Native.Nat.{ℕ, _≤_, _<_}
-use native.Mathlib.Omega.{arith}
-use lib.ListN.{length, take, length-append}
-use lib.Seq.{length-take-le, take-at}
+use Rattle.base_lists.specs.Kit.{_≡_, _∙_, sym, ap, ap₂, Bool, List, _++_, ℕ, _≤_, _<_, length, take, length-append, length-take-le, take-at, arith}
 use Rattle.base_lists.specs.List.{allBelow}
 use Rattle.graph.specs.Bfs.{bfs, adjacent, Found}
 use Rattle.graph.specs.Net.{NetOf}
@@ -18,16 +12,12 @@ use Rattle.place.specs.Bytes.{nodeBytes, linkBytes}
 use Rattle.proposal.specs.Check.{inRow}
 
 pub near-row :
-    {n : ℕ} {ss es offsets links : List ℕ} → NetOf n ss es offsets links → Within n ss es → (w : ℕ) → w < n → (r : ℕ) {m k : ℕ} {dist queue : List ℕ} →
-    m ≡ n → Found k dist queue (bfs (adjacent offsets links) m w r) → nodeBytes dist ≡ ball n ss es w r
+    {n : ℕ} {ss es offsets targets : List ℕ} → NetOf n ss es offsets targets → Within n ss es → (w : ℕ) → w < n → (r : ℕ) {m k : ℕ} {dist queue : List ℕ} →
+    m ≡ n → Found k dist queue (bfs (adjacent offsets targets) m w r) → nodeBytes dist ≡ ball n ss es w r
 unfolding nodeBytes
-near-row {n} {ss} {es} {offsets} {links} t within w h r e f =
-    ap nodeBytes (f .distances ∙ ap (λ (m : ℕ). bfs (adjacent offsets links) m w r .dist) e ∙ net-distances t within w h r)
+near-row {n} {ss} {es} {offsets} {targets} t within w h r e f =
+    ap nodeBytes (f .distances ∙ ap (λ (m : ℕ). bfs (adjacent offsets targets) m w r .dist) e ∙ net-distances t within w h r)
     ∙ rw (length-distances n ss es w r) (sym (ball-distances within w r (let few = net-few (net-of t) in omega arith)))
-
--- what holds of n holds of the length of the n entries that are lent
-pub lent : (n : ℕ) (table : List ℕ) (P : ℕ → Type 0) → n ≤ length table → P n → P (length (take n table))
-lent n table P h = subst P (sym (length-take-le n table h))
 
 -- ---- n entries, cut from more
 

@@ -1,8 +1,8 @@
 // Checking a proposed place on a pattern and a board that were read.
 use file_format::Board;
-use graph_chosen::choose;
-use graph_neighbours::tables::LINKS;
+use graph::marked::choose;
 use graph_neighbours::tables::OFFSETS;
+use graph_neighbours::tables::TARGETS;
 use graph_neighbours::tables::neighbour_tables;
 use graph_search::search;
 use place::Around;
@@ -10,8 +10,9 @@ use place_around::find;
 use proposal_marks::marks::in_row;
 use proposal_marks::marks::links_placed;
 use proposal_marks::marks::marks_subgraph;
+use table::Ways;
 use table_first::start;
-use table_prepare::lookups::prepare;
+use table_prepare::lookups::prepare_along;
 ghost use mathlib.Core.Path.{_≡_};
 ghost use Prim.Native.Nat.{_≤_, _<_};
 ghost use lib.Dec.{T, ltb};
@@ -33,9 +34,9 @@ fn near(
     around: Around,
     nodes: &[u8],
     offsets: &mut [u16],
-    links: &mut [u16],
+    targets: &mut [u16],
 ) -> bool
-    requires { ⌜ NetRoom (now offsets) (now links) ⌝ }
+    requires { ⌜ NetRoom (now offsets) (now targets) ⌝ }
     requires { ⌜ (length (now nodes) ≤ 512) × (around .centre < length (now nodes)) ⌝ }
     requires { ⌜ (length (now starts) ≡ length (now ends)) × (length (now starts) ≤ 4096) ⌝ }
     requires { ⌜ T (all (λ v. ltb v (length (now nodes))) (now starts)) × T (all (λ v. ltb v (length (now nodes))) (now ends)) ⌝ }
@@ -44,10 +45,10 @@ fn near(
     let n = nodes.len();
     let mut dist = [0u16; Board::MAX_NODES];
     let mut queue = [0u16; Board::MAX_NODES];
-    neighbour_tables(n, starts, ends, offsets, links);
+    neighbour_tables(n, starts, ends, offsets, targets);
     search(
         offsets,
-        links,
+        targets,
         around.centre,
         around.radius,
         &mut dist[..n],
@@ -59,30 +60,30 @@ fn near(
 // Whether there is a place around c among all that links join to c: no walk needs more links than there are nodes. Where there is one, `dist` is
 // left with `UNREACHED` outside it, and `sets` with the table of those nodes.
 fn find_joined(
-    part_kinds: &[u32],
-    node_kinds: &[u32],
+    part_labels: &[u32],
+    node_labels: &[u32],
     masks: &[u32],
     offsets: &[u16],
-    links: &[u16],
+    targets: &[u16],
     c: u16,
     dist: &mut [u16],
     queue: &mut [u16],
     sets: &mut [u32],
     spare: &mut [u32],
 ) -> bool
-    requires { ⌜ SomeTabled (now «part_kinds») (now «node_kinds») (tables (now masks) (now offsets) (now links)) ⌝ }
-    requires { ⌜ (length (now «node_kinds») ≤ 512) × (c < length (now «node_kinds»)) ⌝ }
-    requires { ⌜ (length (now dist) ≡ length (now «node_kinds»)) × (length (now queue) ≡ length (now «node_kinds»)) ⌝ }
-    requires { ⌜ (length (now sets) ≡ length (now «node_kinds»)) × (length (now spare) ≡ length (now «node_kinds»)) ⌝ }
-    ensures { λ a. ⌜ EveryJoined (now («part_kinds» .entry)) (now («node_kinds» .entry)) (tables (now (masks .entry)) (now (offsets .entry)) (now (links .entry))) c (now (dist .exit)) (now (sets .exit)) a ⌝ }
+    requires { ⌜ SomeTabled (now «part_labels») (now «node_labels») (tables (now masks) (now offsets) (now targets)) ⌝ }
+    requires { ⌜ (length (now «node_labels») ≤ 512) × (c < length (now «node_labels»)) ⌝ }
+    requires { ⌜ (length (now dist) ≡ length (now «node_labels»)) × (length (now queue) ≡ length (now «node_labels»)) ⌝ }
+    requires { ⌜ (length (now sets) ≡ length (now «node_labels»)) × (length (now spare) ≡ length (now «node_labels»)) ⌝ }
+    ensures { λ a. ⌜ EveryJoined (now («part_labels» .entry)) (now («node_labels» .entry)) (tables (now (masks .entry)) (now (offsets .entry)) (now (targets .entry))) c (now (dist .exit)) (now (sets .exit)) a ⌝ }
 {
-    let n = node_kinds.len();
-    let k = search(offsets, links, c, n as u16, dist, queue);
-    let started = start(&queue[..k], part_kinds, node_kinds, sets);
+    let n = node_labels.len();
+    let k = search(offsets, targets, c, n as u16, dist, queue);
+    let started = start(&queue[..k], part_labels, node_labels, sets);
     let place = find(
         masks,
         offsets,
-        links,
+        targets,
         c,
         k,
         started,
@@ -96,32 +97,32 @@ fn find_joined(
 
 // Whether the place around the centre in a board has all the marked nodes and all links.
 fn fills(
-    part_kinds: &[u32],
-    node_kinds: &[u32],
+    part_labels: &[u32],
+    node_labels: &[u32],
     masks: &[u32],
     offsets: &[u16],
-    links: &[u16],
+    targets: &[u16],
     starts: &[u16],
     ends: &[u16],
     c: u16,
     nodes: &[u8],
 ) -> bool
-    requires { ⌜ SomePattern (now «part_kinds») (circuit (now «node_kinds») (now starts) (now ends)) (tables (now masks) (now offsets) (now links)) ⌝ }
+    requires { ⌜ SomePattern (now «part_labels») (circuit (now «node_labels») (now starts) (now ends)) (tables (now masks) (now offsets) (now targets)) ⌝ }
     requires { ⌜ length (now starts) ≡ length (now ends) ⌝ }
-    requires { ⌜ (length (now «node_kinds») ≤ 512) × (c < length (now «node_kinds»)) × (length (now nodes) ≡ length (now «node_kinds»)) ⌝ }
-    ensures { λ r. ⌜ EveryFills (now («part_kinds» .entry)) (circuit (now («node_kinds» .entry)) (now (starts .entry)) (now (ends .entry))) (tables (now (masks .entry)) (now (offsets .entry)) (now (links .entry))) c (now (nodes .entry)) r ⌝ }
+    requires { ⌜ (length (now «node_labels») ≤ 512) × (c < length (now «node_labels»)) × (length (now nodes) ≡ length (now «node_labels»)) ⌝ }
+    ensures { λ r. ⌜ EveryFills (now («part_labels» .entry)) (circuit (now («node_labels» .entry)) (now (starts .entry)) (now (ends .entry))) (tables (now (masks .entry)) (now (offsets .entry)) (now (targets .entry))) c (now (nodes .entry)) r ⌝ }
 {
-    let n = node_kinds.len();
+    let n = node_labels.len();
     let mut dist = [0u16; Board::MAX_NODES];
     let mut queue = [0u16; Board::MAX_NODES];
     let mut sets = [0u32; Board::MAX_NODES];
     let mut spare = [0u32; Board::MAX_NODES];
     let found = find_joined(
-        part_kinds,
-        node_kinds,
+        part_labels,
+        node_labels,
         masks,
         offsets,
-        links,
+        targets,
         c,
         &mut dist[..n],
         &mut queue[..n],
@@ -140,10 +141,10 @@ fn fills(
 // Whether the node bytes and the link bytes mark a perfect subgraph around the centre at the radius, largest or not. The board's links are left
 // with the marked ones in front: those are matched as a board of their own.
 pub fn check_circuits(
-    part_kinds: &[u32],
+    part_labels: &[u32],
     part_starts: &[u16],
     part_ends: &[u16],
-    node_kinds: &[u32],
+    node_labels: &[u32],
     node_starts: &mut [u16],
     node_ends: &mut [u16],
     around: Around,
@@ -151,33 +152,34 @@ pub fn check_circuits(
     bytes: &[u8],
 ) -> bool
     ghost { Circuit × Circuit }
-    requires { λ α. ⌜ (circuit (now «part_kinds») (now «part_starts») (now «part_ends»), circuit (now «node_kinds») (now «node_starts») (now «node_ends»)) ≡ α ⌝ }
+    requires { λ α. ⌜ (circuit (now «part_labels») (now «part_starts») (now «part_ends»), circuit (now «node_labels») (now «node_starts») (now «node_ends»)) ≡ α ⌝ }
     requires { λ α. ⌜ Drawn (α .0) (α .1) ⌝ }
-    requires { λ α. ⌜ around .centre < length (now «node_kinds») ⌝ }
-    requires { λ α. ⌜ (length (now nodes) ≡ length (now «node_kinds»)) × (length (now bytes) ≡ length (now «node_starts»)) ⌝ }
+    requires { λ α. ⌜ around .centre < length (now «node_labels») ⌝ }
+    requires { λ α. ⌜ (length (now nodes) ≡ length (now «node_labels»)) × (length (now bytes) ≡ length (now «node_starts»)) ⌝ }
     ensures { λ α r. ⌜ r ≡ checks (α .0) (α .1) (around .centre) (around .radius) (now (nodes .entry)) (now (bytes .entry)) ⌝ }
 {
-    let n = node_kinds.len();
+    let n = node_labels.len();
     let c = around.centre;
     if !marks_subgraph(node_starts, node_ends, c as usize, nodes, bytes) {
         return false;
     }
     let mut masks = [0u32; 64];
     let mut offsets = [0u16; OFFSETS];
-    let mut links = [0u16; LINKS];
+    let mut targets = [0u16; TARGETS];
     if !near(
         node_starts,
         node_ends,
         around,
         nodes,
         &mut offsets,
-        &mut links,
+        &mut targets,
     ) {
         return false;
     }
     let m = choose(bytes, node_starts);
     let k = choose(bytes, node_ends);
-    prepare(
+    prepare_along(
+        Ways::Both,
         n,
         part_starts,
         part_ends,
@@ -185,14 +187,14 @@ pub fn check_circuits(
         &node_ends[..k],
         &mut masks,
         &mut offsets,
-        &mut links,
+        &mut targets,
     );
     fills(
-        part_kinds,
-        node_kinds,
+        part_labels,
+        node_labels,
         &masks,
         &offsets,
-        &links,
+        &targets,
         &node_starts[..m],
         &node_ends[..k],
         c,

@@ -1,10 +1,5 @@
 -- The bytes mark a subgraph with the centre: what the tests come to, one after another. Assumes nothing.
-use mathlib.Core.Bool.{true, false}
-use mathlib.Core.List.{List}
-use mathlib.Core.Path.{_≡_}
-use Prim.Native.Nat.{ℕ}
-use borrow.Author.Tests.{eq-eqb, ne-eqb}
-use lib.ListN.{getD}
+use Rattle.base_lists.specs.Kit.{_≡_, false, true, List, ℕ, getD, eq-eqb, ne-eqb}
 use Rattle.graph.specs.Circuit.{Circuit}
 use Rattle.graph.specs.Search.{inside}
 use Rattle.proposal.specs.Check.{bits, endsMarked, marksSubgraph}

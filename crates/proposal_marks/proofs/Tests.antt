@@ -1,23 +1,16 @@
 -- The tests of the bytes, as the loops make them: what was seen at every index, or at one. Assumes nothing.
-use mathlib.Core.Bool.{Bool, true, false, _&&_, _||_, not, cond}
-use mathlib.Core.List.{List}
-use mathlib.Core.Path.{_≡_, refl, sym, ap, subst, _∙_}
-use Prim.Native.Nat.{ℕ, _≤_, _<_}
-use native.Mathlib.Omega.{arith}
-use borrow.Author.Tests.{eqb-true, eq-eqb, ne-eqb}
-use lib.Dec.{T, eqb}
-use lib.ListN.{length, getD}
+use Rattle.base_lists.specs.Kit.{_≡_, _∙_, sym, ap, refl, Bool, false, true, cond, _&&_, not, _||_, List, ℕ, _≤_, _<_, T, eqb, length, getD, arith, eq-eqb, ne-eqb, eqb-true}
 use Rattle.base_lists.specs.List.{allBelow}
 use Rattle.base_lists.proofs.Below.{allBelow-same}
 use Rattle.base_lists.proofs.Tables.{getD-tabulate}
-use Rattle.base_lists.proofs.Tests.{T-true, T-false, true-T, false-T, allBelow-at, at-allBelow}
+use Rattle.base_lists.proofs.Tests.{T-true, T-false, true-T, false-T, allBelow-at, at-allBelow, unless-at, at-unless}
 use Rattle.base_bits.specs.Bits.{intersects}
 use Rattle.graph.specs.Search.{far, inside}
 use Rattle.graph.proofs.Ball.{inside-below}
 use Rattle.place.specs.Bytes.{unlessFar, nodeBytes, drivenBy, linkByte, linkBytes}
-use Rattle.proposal_marks.specs.Link.{placed}
+use Rattle.proposal_marks.specs.Link.{linkPlaced}
 use Rattle.proposal.specs.Check.{bits, endsMarked, inRow}
-use Rattle.proposal.proofs.Perfect.{bits-at, at-bits, unless-at, at-unless, row-at, at-row}
+use Rattle.proposal.proofs.Perfect.{bits-at, at-bits, row-at, at-row}
 
 -- a byte is 1
 pub one-inside : (row : List ℕ) (v : ℕ) → getD row v 0 ≡ 1 → T (inside row v)
@@ -89,11 +82,11 @@ module _ (dist nodes : List ℕ) (long : length nodes ≡ length dist) where
 
 module _ (starts ends succ dist sets : List ℕ) where
   abbrev pub placed-at : ℕ → Bool
-  placed-at i = placed succ dist sets (getD starts i 0) (getD ends i 0)
+  placed-at i = linkPlaced succ dist sets (getD starts i 0) (getD ends i 0)
 
   -- the byte of a link is made from the test
   byte : (i : ℕ) → i < length starts → inside (linkBytes starts ends succ dist sets) i ≡ placed-at i
-  unfolding linkBytes linkByte placed inside
+  unfolding linkBytes linkByte linkPlaced inside
   byte i h =
       ap (λ (b : ℕ). eqb b 1) (getD-tabulate (length starts) (linkByte starts ends succ dist sets) i 0 h)
       ∙ go (eqb (getD dist (getD starts i 0) 0) far) (intersects (drivenBy succ sets (getD starts i 0)) (getD sets (getD ends i 0) 0))

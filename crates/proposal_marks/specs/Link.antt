@@ -1,12 +1,9 @@
 -- One link of a place, as it is tested.
-use mathlib.Core.Bool.{Bool, _&&_}
-use mathlib.Core.List.{List}
-use Prim.Native.Nat.{ℕ}
-use lib.ListN.{getD}
+use Rattle.base_lists.specs.Kit.{Bool, _&&_, List, ℕ, getD}
 use Rattle.base_bits.specs.Bits.{intersects}
 use Rattle.graph.specs.Search.{reached}
 use Rattle.place.specs.Bytes.{drivenBy}
 
 -- the link from v to w is in the place: v was reached, and what its parts drive has a part of w's set
-unfoldable pub placed : List ℕ → List ℕ → List ℕ → ℕ → ℕ → Bool
-placed succ dist sets v w = reached (getD dist v 0) && intersects (drivenBy succ sets v) (getD sets w 0)
+unfoldable pub linkPlaced : List ℕ → List ℕ → List ℕ → ℕ → ℕ → Bool
+linkPlaced succ dist sets v w = reached (getD dist v 0) && intersects (drivenBy succ sets v) (getD sets w 0)

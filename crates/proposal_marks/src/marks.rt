@@ -12,7 +12,7 @@ ghost use Rattle.graph.specs.Search.{inside};
 ghost use Rattle.table.specs.Prepared.{succOf};
 ghost use Rattle.place.specs.Bytes.{nodeBytes, linkBytes};
 ghost use Rattle.proposal.specs.Check.{bits, endsMarked, marksSubgraph, inRow};
-ghost use Rattle.proposal_marks.specs.Link.{placed};
+ghost use Rattle.proposal_marks.specs.Link.{linkPlaced};
 
 // Whether every byte is 0 or 1.
 fn bits(bytes: &[u8]) -> bool
@@ -42,14 +42,14 @@ fn both_marked(nodes: &[u8], v: u16, w: u16) -> bool
 }
 
 // Whether every marked link has both its ends marked.
-fn ends_marked(starts: &[u16], ends: &[u16], nodes: &[u8], links: &[u8]) -> bool
-    requires { ⌜ (length (now links) ≡ length (now starts)) × (length (now links) ≡ length (now ends)) ⌝ }
+fn ends_marked(starts: &[u16], ends: &[u16], nodes: &[u8], link_bytes: &[u8]) -> bool
+    requires { ⌜ (length (now «link_bytes») ≡ length (now starts)) × (length (now «link_bytes») ≡ length (now ends)) ⌝ }
     requires { ⌜ Below (length (now nodes)) (now starts) × Below (length (now nodes)) (now ends) ⌝ }
-    ensures { λ r. ⌜ r ≡ endsMarked (now (starts .entry)) (now (ends .entry)) (now (nodes .entry)) (now (links .entry)) ⌝ }
+    ensures { λ r. ⌜ r ≡ endsMarked (now (starts .entry)) (now (ends .entry)) (now (nodes .entry)) (now («link_bytes» .entry)) ⌝ }
 {
     let mut i = 0;
-    while i < links.len() {
-        if links[i] == 1 {
+    while i < link_bytes.len() {
+        if link_bytes[i] == 1 {
             if !both_marked(nodes, starts[i], ends[i]) {
                 return false;
             }
@@ -65,23 +65,23 @@ pub fn marks_subgraph(
     ends: &[u16],
     centre: usize,
     nodes: &[u8],
-    links: &[u8],
+    link_bytes: &[u8],
 ) -> bool
-    requires { ⌜ (length (now links) ≡ length (now starts)) × (length (now links) ≡ length (now ends)) ⌝ }
+    requires { ⌜ (length (now «link_bytes») ≡ length (now starts)) × (length (now «link_bytes») ≡ length (now ends)) ⌝ }
     requires { ⌜ Below (length (now nodes)) (now starts) × Below (length (now nodes)) (now ends) ⌝ }
     requires { ⌜ centre < length (now nodes) ⌝ }
-    ensures { λ r. ⌜ ((kinds : List ℕ) → r ≡ marksSubgraph (circuit kinds (now (starts .entry)) (now (ends .entry))) centre (now (nodes .entry)) (now (links .entry))) ⌝ }
+    ensures { λ r. ⌜ ((kinds : List ℕ) → r ≡ marksSubgraph (circuit kinds (now (starts .entry)) (now (ends .entry))) centre (now (nodes .entry)) (now («link_bytes» .entry))) ⌝ }
 {
     if !bits(nodes) {
         return false;
     }
-    if !bits(links) {
+    if !bits(link_bytes) {
         return false;
     }
     if nodes[centre] != 1 {
         return false;
     }
-    ends_marked(starts, ends, nodes, links)
+    ends_marked(starts, ends, nodes, link_bytes)
 }
 
 // Whether a search reached every marked node.
@@ -105,7 +105,7 @@ pub fn in_row(dist: &[u16], nodes: &[u8]) -> bool
 fn link_placed(masks: &[u32], dist: &[u16], sets: &[u32], v: u16, w: u16) -> bool
     requires { ⌜ (length (now masks) ≡ 64) × (length (now dist) ≡ length (now sets)) ⌝ }
     requires { ⌜ (v < length (now sets)) × (w < length (now sets)) ⌝ }
-    ensures { λ r. ⌜ r ≡ placed (succOf (now (masks .entry))) (now (dist .entry)) (now (sets .entry)) v w ⌝ }
+    ensures { λ r. ⌜ r ≡ linkPlaced (succOf (now (masks .entry))) (now (dist .entry)) (now (sets .entry)) v w ⌝ }
 {
     let i = v as usize;
     let j = w as usize;

@@ -1,16 +1,10 @@
 -- The line that the program puts for a centre with a place is the centre's line of the report, and where there is none the report has no line.
 -- Assumes nothing.
-use mathlib.Core.Bool.{Bool, true, false, not, cond}
-use mathlib.Core.List.{List, [], _++_}
-use mathlib.Core.Path.{_≡_, refl, sym, ap, ap₂, subst, _∙_}
-use Prim.Native.Nat.{ℕ, _<_}
-use native.Mathlib.Nat.{zero-lt-suc}
-use lib.Dec.{eqb}
-use lib.ListN.{length, getD}
+use Rattle.base_lists.specs.Kit.{_≡_, _∙_, sym, ap, refl, subst, ap₂, Bool, false, true, cond, not, List, [], _++_, ℕ, _<_, zero-lt-suc, eqb, length, getD}
 use Rattle.base_lists.specs.Below.{concatBelow}
 use Rattle.base_lists.specs.List.{tabulate, Below}
-use Rattle.base_lists.proofs.Ranks.{concatBelow-same}
 use Rattle.base_lists.proofs.Tables.{length-tabulate, getD-tabulate}
+use Rattle.base_lists.proofs.Concat.{concatBelow-none, concatBelow-same}
 use Rattle.base_bits.specs.Bits.{intersects}
 use Rattle.base_text.specs.Text.{bytes, decimal}
 use Rattle.graph.specs.Circuit.{Circuit}
@@ -24,8 +18,7 @@ use Rattle.place.specs.Bytes.{nodeBytes, drivenBy, linkByte, linkBytes}
 use Rattle.place.specs.Match.{radiusOf}
 use Rattle.place.specs.Find.{Located}
 use Rattle.report.specs.Lines.{nodeText, nodesText, linkText, drivenText, startText, linksText, lineText}
-use Rattle.report.specs.Report.{marked, linkItem, nodeItems, linkItems, placeLine, hasPlace, centreLine}
-use Rattle.report.proofs.Concat.{concat-none}
+use Rattle.report.specs.Report.{markedItems, linkItem, nodeItems, linkItems, placeLine, hasPlace, centreLine}
 use Rattle.report.proofs.Order.{from, links-by-start}
 
 -- ---- marked items, by a test
@@ -41,8 +34,8 @@ both-chosen false false x = refl
 
 -- the items that a rule marks
 marked-rule : (n : ℕ) (byte : ℕ → ℕ) (item g : ℕ → List ℕ) → ((i : ℕ) → i < n → cond (eqb (byte i) 1) (bytes " " ++ item i) [] ≡ g i)
-    → marked (tabulate n byte) item ≡ concatBelow n g
-unfolding marked inside
+    → markedItems (tabulate n byte) item ≡ concatBelow n g
+unfolding markedItems inside
 marked-rule n byte item g h =
     rw (length-tabulate n byte) (concatBelow-same n _ g (λ i l. rw (getD-tabulate n byte i 0 l) (h i l)))
 
@@ -69,20 +62,20 @@ links-text starts ends succ dist sets =
 
 -- the test on the start is one test for all its links
 start-text : (t : Tables) (dist sets : List ℕ) (v : ℕ) →
-    startText t dist sets v ≡ from (reachedLink (succOf (t .masks)) dist sets) v (driven (t .offsets) (t .links) v)
+    startText t dist sets v ≡ from (reachedLink (succOf (t .masks)) dist sets) v (driven (t .offsets) (t .targets) v)
 unfolding startText drivenText
-start-text t dist sets v = go (reached (getD dist v 0)) (driven (t .offsets) (t .links) v)
+start-text t dist sets v = go (reached (getD dist v 0)) (driven (t .offsets) (t .targets) v)
   where
     text : List ℕ → ℕ → List ℕ
     text ends i = linkText (drivenBy (succOf (t .masks)) sets v) (getD sets (getD ends i 0) 0) v (getD ends i 0)
 
     go : (b : Bool) (ends : List ℕ) → cond b (concatBelow (length ends) (text ends)) [] ≡ concatBelow (length ends) (λ i. cond b (text ends i) [])
     go true ends = refl
-    go false ends = sym (concat-none (length ends) _ (λ i l. refl))
+    go false ends = sym (concatBelow-none (length ends) _ (λ i l. refl))
 
 -- neighbour tables of a file's links give the links in the file's order
 links-order : (starts ends : List ℕ) (t : Tables) (dist sets : List ℕ) → length starts ≡ length ends → Below (length dist) starts → LinksRise starts ends
-    → ((v : ℕ) → v < length dist → driven (t .offsets) (t .links) v ≡ select starts ends v)
+    → ((v : ℕ) → v < length dist → driven (t .offsets) (t .targets) v ≡ select starts ends v)
     → linkItems starts ends (linkBytes starts ends (succOf (t .masks)) dist sets) ≡ linksText t dist sets
 unfolding linksText
 links-order starts ends t dist sets e below rise grouped =
@@ -106,7 +99,7 @@ centre-long pattern board c e = rw e (zero-lt-suc _)
 -- the line that is put from the entries and the sets that are left where there is a place
 pub centre-located :
     {pattern board : Circuit} {t : Tables} (p : Prepared pattern board t) → length (board .starts) ≡ length (board .ends) →
-    Below (length (board .kinds)) (board .starts) → LinksRise (board .starts) (board .ends) → (c : ℕ) {dist sets place : List ℕ} →
+    Below (length (board .labels)) (board .starts) → LinksRise (board .starts) (board .ends) → (c : ℕ) {dist sets place : List ℕ} →
     hasPlace pattern board c ≡ true → Located pattern board t c (radiusOf pattern) dist sets place →
     lineText t dist sets c ≡ centreLine pattern board c
 unfolding centreLine lineText

@@ -1,10 +1,6 @@
 -- Document 01's example of a report, T on B, from the bytes of the two files; and the two lines of refused files that it implies. Assumes
 -- nothing.
-use mathlib.Core.Bool.{Bool, true, false}
-use mathlib.Core.List.{List, [], _∷_, _++_}
-use mathlib.Core.Path.{_≡_, refl, ap, ap₂, _∙_}
-use Prim.Native.Nat.{ℕ}
-use lib.Dec.{T}
+use Rattle.base_lists.specs.Kit.{_≡_, _∙_, ap, refl, ap₂, Bool, false, true, List, [], _∷_, _++_, ℕ, T}
 use Rattle.base_lists.specs.List.{all, allBelow, anyBelow, tabulate, maximum}
 use Rattle.base_lists.specs.Below.{countBelow, concatBelow, keepFrom}
 use Rattle.base_lists.proofs.Tests.{T-true, T-false}
@@ -20,7 +16,7 @@ use Rattle.file_format.specs.Refusals.{Verdict, accept, first, linkConditions, 
 use Rattle.table.specs.Examples.{rowComputed, circuitT, circuitB}
 use Rattle.place.specs.Match.{radiusOf, ballOf, ballTable, found, matches, linkMatches, matchStarts, matchEnds, component, placeNodes, placeLinks}
 use Rattle.place.proofs.Examples.{Shows, radius-T, E3-0, E3-1, E3-2, E4-none}
-use Rattle.report.specs.Report.{marked, linkItem, nodeItems, linkItems, placeLine, hasPlace, centreLine, endLine, fileWord, refusalLine, linesOf, reportFor, reportOf}
+use Rattle.report.specs.Report.{markedItems, linkItem, nodeItems, linkItems, placeLine, hasPlace, centreLine, endLine, fileWord, refusalLine, linesOf, reportFor, reportOf}
 
 -- both files are accepted, and hold T and B
 T-and-B : first (fileConditions Pattern (firstEdition fileT) ++ fileConditions Board (firstEdition fileB)) ≡ accept
@@ -59,15 +55,15 @@ unfolding centreLine hasPlace
 empty c t = record { place = rw radius-T (T-false {b = found circuitT circuitB c 2} t); line = rw (radius-T, T-false {b = found circuitT circuitB c 2} t) }
 
 line-0 : Line 0 true (bytes "place 0: 0 1 2 / 0-1 1-2\n")
-unfolding circuitB placeLine nodeItems linkItems linkItem marked concatBelow inside bytes decimal digits
+unfolding circuitB placeLine nodeItems linkItems linkItem markedItems concatBelow inside bytes decimal digits
 line-0 = shown 0 _ E3-0 refl
 
 line-1 : Line 1 true (bytes "place 1: 0 1 2 / 0-1 1-2\n")
-unfolding circuitB placeLine nodeItems linkItems linkItem marked concatBelow inside bytes decimal digits
+unfolding circuitB placeLine nodeItems linkItems linkItem markedItems concatBelow inside bytes decimal digits
 line-1 = shown 1 _ E3-1 refl
 
 line-2 : Line 2 true (bytes "place 2: 0 1 2 / 0-1 1-2\n")
-unfolding circuitB placeLine nodeItems linkItems linkItem marked concatBelow inside bytes decimal digits
+unfolding circuitB placeLine nodeItems linkItems linkItem markedItems concatBelow inside bytes decimal digits
 line-2 = shown 2 _ E3-2 refl
 
 line-4 : Line 4 false []
@@ -128,5 +124,5 @@ unfolding reading writing fileT
 empty-board = refl
 
 pub no-links : reportOf (firstEdition fileOne) (firstEdition fileOne) ≡ bytes "place 0: 0 /\nend 1 of 1\n"
-unfolding reading writing opened fileOne radiusOf radius distances misses maximum matches keepFrom linkMatches matchStarts matchEnds component placeNodes placeLinks anyBelow placeLine nodeItems linkItems linkItem marked hasPlace centreLine
+unfolding reading writing opened fileOne radiusOf radius distances misses maximum matches keepFrom linkMatches matchStarts matchEnds component placeNodes placeLinks anyBelow placeLine nodeItems linkItems linkItem markedItems hasPlace centreLine
 no-links = refl

@@ -1,15 +1,11 @@
 -- How long the lines get: a centre's line of an accepted board has at most 34,829 bytes, the last line 17, a refusal 20. Assumes nothing.
-use mathlib.Core.Bool.{Bool, true, false, cond}
-use mathlib.Core.List.{List, [], _++_}
-use Prim.Native.Nat.{ℕ, _+_, _*_, _≤_, _<_}
-use native.Mathlib.Nat.{le-trans, mul-le-mul-right}
-use native.Mathlib.Omega.{arith}
-use lib.ListN.{length, getD, length-append}
+use Rattle.base_lists.specs.Kit.{Bool, false, true, cond, List, [], _++_, ℕ, _≤_, _<_, _+_, _*_, le-trans, mul-le-mul-right, length, getD, length-append, arith}
+use Rattle.base_lists.proofs.Concat.{concatBelow-bound}
+use Rattle.base_lists.proofs.Entries.{all-below-at}
 use Rattle.base_text.specs.Text.{bytes, decimal, Fits}
 use Rattle.base_text.proofs.Text.{length-decimal}
 use Rattle.graph.specs.Circuit.{Circuit}
 use Rattle.graph.specs.Search.{inside}
-use Rattle.graph.proofs.Groups.{key-below}
 use Rattle.file_format.specs.declared.File.{File}
 use Rattle.file_format.specs.declared.File.the-variants as file
 use Rattle.file_format.specs.declared.Refusal.{Refusal}
@@ -19,8 +15,7 @@ use Rattle.file_format.proofs.Accepted.{starts-below, ends-below}
 use Rattle.place.specs.Match.{radiusOf, placeNodes, placeLinks}
 use Rattle.place.proofs.Marks.{nodes-marks, links-marks}
 use Rattle.report.specs.Lines.{longestLine}
-use Rattle.report.specs.Report.{marked, linkItem, nodeItems, linkItems, placeLine, hasPlace, centreLine, endLine, fileWord, refusalLine}
-use Rattle.report.proofs.Concat.{concat-bound}
+use Rattle.report.specs.Report.{markedItems, linkItem, nodeItems, linkItems, placeLine, hasPlace, centreLine, endLine, fileWord, refusalLine}
 
 -- a space before an item
 space : {b : ℕ} (text : List ℕ) → length text ≤ b → length (bytes " " ++ text) ≤ 1 + b
@@ -29,10 +24,10 @@ space text h = omega arith
 
 -- at most n marks, each for an item of at most b bytes
 marked-length : (n b : ℕ) (marks : List ℕ) (item : ℕ → List ℕ) → length marks ≤ n → ((i : ℕ) → i < length marks → length (item i) ≤ b)
-    → length (marked marks item) ≤ n * (1 + b)
-unfolding marked
+    → length (markedItems marks item) ≤ n * (1 + b)
+unfolding markedItems
 marked-length n b marks item h l =
-    le-trans (concat-bound (length marks) (1 + b) _ (λ i m. go (inside marks i) (item i) (l i m))) (mul-le-mul-right (1 + b) h)
+    le-trans (concatBelow-bound (length marks) (1 + b) _ (λ i m. go (inside marks i) (item i) (l i m))) (mul-le-mul-right (1 + b) h)
   where
     go : (on : Bool) (text : List ℕ) → length text ≤ b → length (cond on (bytes " " ++ text) []) ≤ 1 + b
     go true text k = space text k
@@ -59,7 +54,7 @@ unfolding placeLine bytes
 line-length c nodes links h n l = simp length-append (omega (arith, length-decimal 2 c h))
 
 -- the centre's line: "a board has 0 to 512 nodes and at most 4,096 links"
-pub centre-length : (pattern board : Circuit) (c : ℕ) → Bounded Board board → c < length (board .kinds) → length (centreLine pattern board c) ≤ longestLine
+pub centre-length : (pattern board : Circuit) (c : ℕ) → Bounded Board board → c < length (board .labels) → length (centreLine pattern board c) ≤ longestLine
 unfolding centreLine
 centre-length pattern board c b h = go (hasPlace pattern board c)
   where
@@ -70,8 +65,8 @@ centre-length pattern board c b h = go (hasPlace pattern board c)
     links =
         let m = links-marks pattern board c (radiusOf pattern) .size in
         links-length (board .starts) (board .ends) (placeLinks pattern board c (radiusOf pattern)) (omega (arith, b .links))
-        (λ i l. omega (arith, b .nodes, key-below (length (board .kinds)) (board .starts) i (starts-below _ _ _ (b .below)) (omega arith)))
-        (λ i l. omega (arith, b .nodes, key-below (length (board .kinds)) (board .ends) i (ends-below _ _ _ (b .below)) (omega (arith, b .parallel))))
+        (λ i l. omega (arith, b .nodes, all-below-at (length (board .labels)) (board .starts) i (starts-below _ _ _ (b .below)) (omega arith)))
+        (λ i l. omega (arith, b .nodes, all-below-at (length (board .labels)) (board .ends) i (ends-below _ _ _ (b .below)) (omega (arith, b .parallel))))
 
     go : (found : Bool) →
         length (cond found
@@ -96,6 +91,6 @@ unfolding refusalLine bytes
 refusal-length x h = simp length-append (omega (arith, length-decimal 2 (x .number) h, word-length (x .file)))
 
 -- so there is room for a centre's line wherever there is room for the longest
-pub centre-fits : {out : List ℕ} {at : ℕ} (pattern board : Circuit) (c : ℕ) → Bounded Board board → c < length (board .kinds) → at + longestLine ≤ length out
+pub centre-fits : {out : List ℕ} {at : ℕ} (pattern board : Circuit) (c : ℕ) → Bounded Board board → c < length (board .labels) → at + longestLine ≤ length out
     → Fits out at (centreLine pattern board c)
 centre-fits pattern board c b h room = record { room = omega (arith, centre-length pattern board c b h) }

@@ -1,10 +1,5 @@
 -- The lines and their items piece by piece, as the program puts them. Assumes nothing.
-use mathlib.Core.Bool.{true, false}
-use mathlib.Core.List.{List, [], _∷_, _++_, append-assoc}
-use mathlib.Core.Path.{_≡_}
-use Prim.Native.Nat.{ℕ, _+_, _≤_}
-use native.Mathlib.Omega.{arith}
-use lib.ListN.{length, getD, length-append}
+use Rattle.base_lists.specs.Kit.{_≡_, false, true, List, [], _∷_, _++_, append-assoc, ℕ, _≤_, _+_, length, getD, length-append, arith}
 use Rattle.base_bits.specs.Bits.{intersects, unionOver}
 use Rattle.base_text.specs.Text.{bytes, decimal, Fits}
 use Rattle.graph.specs.Net.{driven}
@@ -48,7 +43,7 @@ module _ (t : Tables) (dist sets : List ℕ) (v : ℕ) where
   start-missed e = rw e
 
   pub start-reached : (parts : ℕ) (nodes : List ℕ) → reached (getD dist v 0) ≡ true → parts ≡ unionOver (succOf (t .masks)) (getD sets v 0) →
-      nodes ≡ driven (t .offsets) (t .links) v → startText t dist sets v ≡ drivenText parts sets v nodes
+      nodes ≡ driven (t .offsets) (t .targets) v → startText t dist sets v ≡ drivenText parts sets v nodes
   unfolding startText drivenBy
   start-reached parts nodes e d p = rw (e, d, p)
 

@@ -1,10 +1,7 @@
 -- The line of a found centre as the program puts it, node by node, from what the search for the component leaves: the entries `dist`, `far`
 -- outside it, the ball's sets, and what matching looks up. What the contracts of the inner functions cite; proofs/Centre ties it to
 -- the report's text.
-use mathlib.Core.Bool.{cond}
-use mathlib.Core.List.{List, [], _++_}
-use Prim.Native.Nat.{ℕ}
-use lib.ListN.{length, getD}
+use Rattle.base_lists.specs.Kit.{cond, List, [], _++_, ℕ, length, getD}
 use Rattle.base_lists.specs.Below.{concatBelow}
 use Rattle.base_bits.specs.Bits.{intersects}
 use Rattle.base_text.specs.Text.{bytes, decimal}
@@ -32,7 +29,7 @@ drivenText driven sets v nodes = concatBelow (length nodes) (λ i. linkText driv
 -- the links that start at v
 unfoldable pub startText : Tables → List ℕ → List ℕ → ℕ → List ℕ
 startText t dist sets v =
-    cond (reached (getD dist v 0)) (drivenText (drivenBy (succOf (t .masks)) sets v) sets v (driven (t .offsets) (t .links) v)) []
+    cond (reached (getD dist v 0)) (drivenText (drivenBy (succOf (t .masks)) sets v) sets v (driven (t .offsets) (t .targets) v)) []
 
 -- each link, by its start
 unfoldable pub linksText : Tables → List ℕ → List ℕ → List ℕ

@@ -1,8 +1,5 @@
 -- The report's text, from the bytes of the two files. The quoted sentences are document 01's.
-use mathlib.Core.Bool.{Bool, cond}
-use mathlib.Core.List.{List, [], _++_}
-use Prim.Native.Nat.{ℕ}
-use lib.ListN.{length, getD}
+use Rattle.base_lists.specs.Kit.{Bool, cond, List, [], _++_, ℕ, length, getD}
 use Rattle.base_lists.specs.Below.{countBelow, concatBelow}
 use Rattle.base_text.specs.Text.{bytes, decimal}
 use Rattle.graph.specs.Circuit.{Circuit}
@@ -17,8 +14,8 @@ use Rattle.file_format.specs.Refusals.{Verdict, accept, refuse, first, fileCond
 use Rattle.place.specs.Match.{radiusOf, found, placeNodes, placeLinks}
 
 -- the items whose bytes are 1, in their order: "a space stands before each item but the first and the colon"
-unfoldable pub marked : List ℕ → (ℕ → List ℕ) → List ℕ
-marked marks item = concatBelow (length marks) (λ i. cond (inside marks i) (bytes " " ++ item i) [])
+unfoldable pub markedItems : List ℕ → (ℕ → List ℕ) → List ℕ
+markedItems marks item = concatBelow (length marks) (λ i. cond (inside marks i) (bytes " " ++ item i) [])
 
 -- "each link as its start, a hyphen and its end"
 unfoldable pub linkItem : ℕ → ℕ → List ℕ
@@ -26,11 +23,11 @@ linkItem v w = decimal v ++ bytes "-" ++ decimal w
 
 -- "each node", from a byte per node: "nodes rise"
 unfoldable pub nodeItems : List ℕ → List ℕ
-nodeItems nodes = marked nodes decimal
+nodeItems nodes = markedItems nodes decimal
 
 -- each link, from a byte per link: "links are in file order"
 unfoldable pub linkItems : List ℕ → List ℕ → List ℕ → List ℕ
-linkItems starts ends links = marked links (λ i. linkItem (getD starts i 0) (getD ends i 0))
+linkItems starts ends links = markedItems links (λ i. linkItem (getD starts i 0) (getD ends i 0))
 
 -- "`place`, the centre, a colon, each node, a slash, each link"; "Every line ends with one byte `0A`." The nodes and the links are given as
 -- texts.
@@ -65,7 +62,7 @@ refusalLine x = bytes "refused " ++ decimal (x .number) ++ fileWord (x .file) ++
 -- the report where neither file is refused: the lines of the centres, "rising", and the last line
 unfoldable pub linesOf : Circuit → Circuit → List ℕ
 linesOf pattern board =
-    let n = length (board .kinds) in
+    let n = length (board .labels) in
     concatBelow n (centreLine pattern board) ++ endLine (countBelow n (hasPlace pattern board)) n
 
 -- the report, by whether a file is refused; "the pattern's 1 to 6 before the board's"

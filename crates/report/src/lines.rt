@@ -106,7 +106,7 @@ fn put_start(
     names: &[u32],
     masks: &[u32],
     offsets: &[u16],
-    links: &[u16],
+    targets: &[u16],
     dist: &[u16],
     sets: &[u32],
     v: usize,
@@ -115,17 +115,17 @@ fn put_start(
 ) -> usize
     requires { ⌜ Names (now names) × (length (now dist) ≤ length (now names)) ⌝ }
     requires { ⌜ length (now sets) ≡ length (now dist) ⌝ }
-    requires { ⌜ Ready (tables (now masks) (now offsets) (now links)) (now sets) ⌝ }
+    requires { ⌜ Ready (tables (now masks) (now offsets) (now targets)) (now sets) ⌝ }
     requires { ⌜ v < length (now dist) ⌝ }
-    requires { ⌜ Fits (now out) at (startText (tables (now masks) (now offsets) (now links)) (now dist) (now sets) v) ⌝ }
-    ensures { λ r. ⌜ Put (now (out .entry)) at (startText (tables (now (masks .entry)) (now (offsets .entry)) (now (links .entry))) (now (dist .entry)) (now (sets .entry)) v) (now (out .exit)) r ⌝ }
+    requires { ⌜ Fits (now out) at (startText (tables (now masks) (now offsets) (now targets)) (now dist) (now sets) v) ⌝ }
+    ensures { λ r. ⌜ Put (now (out .entry)) at (startText (tables (now (masks .entry)) (now (offsets .entry)) (now (targets .entry))) (now (dist .entry)) (now (sets .entry)) v) (now (out .exit)) r ⌝ }
 {
     let there = is_reached(dist[v]);
     if !there {
         return at;
     }
     let driven = driven_parts(masks, sets[v]);
-    let ends = neighbours_in(Direction::Forward, offsets, links, v);
+    let ends = neighbours_in(Direction::Forward, offsets, targets, v);
     put_driven(names, ends, driven, sets, v, out, at)
 }
 
@@ -134,7 +134,7 @@ fn put_links(
     names: &[u32],
     masks: &[u32],
     offsets: &[u16],
-    links: &[u16],
+    targets: &[u16],
     dist: &[u16],
     sets: &[u32],
     out: &mut [u8],
@@ -142,14 +142,14 @@ fn put_links(
 ) -> usize
     requires { ⌜ Names (now names) × (length (now dist) ≤ length (now names)) ⌝ }
     requires { ⌜ length (now sets) ≡ length (now dist) ⌝ }
-    requires { ⌜ Ready (tables (now masks) (now offsets) (now links)) (now sets) ⌝ }
-    requires { ⌜ Fits (now out) at (linksText (tables (now masks) (now offsets) (now links)) (now dist) (now sets)) ⌝ }
-    ensures { λ r. ⌜ Put (now (out .entry)) at (linksText (tables (now (masks .entry)) (now (offsets .entry)) (now (links .entry))) (now (dist .entry)) (now (sets .entry))) (now (out .exit)) r ⌝ }
+    requires { ⌜ Ready (tables (now masks) (now offsets) (now targets)) (now sets) ⌝ }
+    requires { ⌜ Fits (now out) at (linksText (tables (now masks) (now offsets) (now targets)) (now dist) (now sets)) ⌝ }
+    ensures { λ r. ⌜ Put (now (out .entry)) at (linksText (tables (now (masks .entry)) (now (offsets .entry)) (now (targets .entry))) (now (dist .entry)) (now (sets .entry))) (now (out .exit)) r ⌝ }
 {
     let mut end = at;
     let mut v = 0;
     while v < dist.len() {
-        end = put_start(names, masks, offsets, links, dist, sets, v, out, end);
+        end = put_start(names, masks, offsets, targets, dist, sets, v, out, end);
         v += 1;
     }
     end
@@ -160,7 +160,7 @@ pub fn put_line(
     names: &[u32],
     masks: &[u32],
     offsets: &[u16],
-    links: &[u16],
+    targets: &[u16],
     dist: &[u16],
     sets: &[u32],
     c: usize,
@@ -169,16 +169,16 @@ pub fn put_line(
 ) -> usize
     requires { ⌜ Names (now names) × (length (now dist) ≤ length (now names)) ⌝ }
     requires { ⌜ length (now sets) ≡ length (now dist) ⌝ }
-    requires { ⌜ Ready (tables (now masks) (now offsets) (now links)) (now sets) ⌝ }
-    requires { ⌜ Fits (now out) at (lineText (tables (now masks) (now offsets) (now links)) (now dist) (now sets) c) ⌝ }
-    ensures { λ r. ⌜ Put (now (out .entry)) at (lineText (tables (now (masks .entry)) (now (offsets .entry)) (now (links .entry))) (now (dist .entry)) (now (sets .entry)) c) (now (out .exit)) r ⌝ }
+    requires { ⌜ Ready (tables (now masks) (now offsets) (now targets)) (now sets) ⌝ }
+    requires { ⌜ Fits (now out) at (lineText (tables (now masks) (now offsets) (now targets)) (now dist) (now sets) c) ⌝ }
+    ensures { λ r. ⌜ Put (now (out .entry)) at (lineText (tables (now (masks .entry)) (now (offsets .entry)) (now (targets .entry))) (now (dist .entry)) (now (sets .entry)) c) (now (out .exit)) r ⌝ }
 {
     let centre = put_bytes(b"place ", out, at);
     let colon = put_number(c, out, centre);
     let nodes = put_byte(b':', out, colon);
     let slash = put_nodes(names, dist, out, nodes);
     let after = put_bytes(b" /", out, slash);
-    let end = put_links(names, masks, offsets, links, dist, sets, out, after);
+    let end = put_links(names, masks, offsets, targets, dist, sets, out, after);
     put_byte(b'\n', out, end)
 }
 

@@ -1,13 +1,6 @@
 -- The line of one centre: none where the whole board's table leaves the centre empty, else from the place that was
 -- found; and what the line adds to the count. Assumes nothing.
-use mathlib.Core.Bool.{Bool, true, false, cond}
-use mathlib.Core.List.{List, []}
-use mathlib.Core.Path.{_≡_, refl, sym, ap, _∙_}
-use Prim.Native.Nat.{ℕ, _≤_, _<_}
-use native.Mathlib.Omega.{arith}
-use borrow.Author.Tests.{eq-eqb, ne-eqb}
-use lib.Dec.{eqb}
-use lib.ListN.{length, getD}
+use Rattle.base_lists.specs.Kit.{_≡_, _∙_, sym, ap, refl, Bool, false, true, cond, List, [], ℕ, _≤_, eqb, length, getD, arith, eq-eqb, ne-eqb}
 use Rattle.base_lists.proofs.Tests.{T-false, false-T}
 use Rattle.base_bits.specs.Bits.{bit}
 use Rattle.base_bits.proofs.Digits.{bit-of-zero, no-bits}
@@ -35,14 +28,14 @@ module _ {pattern board : Circuit} {t : Tables} {table : List ℕ} {r : ℕ} (s 
   source-tabled = drawn-tabled (s .drawn) (s .ready)
 
   -- the whole board's table has an entry for each node
-  pub source-long : length table ≡ length (board .kinds)
+  pub source-long : length table ≡ length (board .labels)
   source-long = ap length (s .whole) ∙ last-fits pattern board (everything board) .size
 
   pub source-few : length table ≤ 512
   source-few = rw source-long (s .drawn .nodes .nodes)
 
   -- the neighbour tables are over its entries
-  pub source-net : {n : ℕ} → n ≡ length table → Net n (t .offsets) (t .links)
+  pub source-net : {n : ℕ} → n ≡ length table → Net n (t .offsets) (t .targets)
   source-net e = rw (e ∙ source-long) (tabled-net source-tabled)
 
   -- ---- the line
@@ -61,7 +54,7 @@ module _ {pattern board : Circuit} {t : Tables} {table : List ℕ} {r : ℕ} (s 
       let ball = ballTable pattern board c (radiusOf pattern) in
       centre-missed pattern board c
       (found-none pattern board c (radiusOf pattern) ball refl
-      (no-bits (length (pattern .kinds)) (getD ball c 0) (ball-fits pattern board c (radiusOf pattern) .small c)
+      (no-bits (length (pattern .labels)) (getD ball c 0) (ball-fits pattern board c (radiusOf pattern) .small c)
       (λ u l. T-false (λ m. false-T (ap (λ (x : ℕ). bit x u) z ∙ bit-of-zero u) (ball-inside c u m)))))
 
   -- What finding answers is whether there is a place: where there is none, the report has no line,

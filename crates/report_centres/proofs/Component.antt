@@ -1,57 +1,40 @@
--- The centre's component in the whole board's match graph. Where matching links lead to all of it in r steps, or the board's links
--- to as many nodes with its label as it has, the ball holds it, and the place is the component with its matching links; else the place comes from those nodes
--- of the ball that have its label. Assumes nothing.
-use mathlib.Core.Bool.{Bool, true, false, cond}
-use mathlib.Core.List.{List, [], _++_, append-nil}
-use mathlib.Core.Logic.{inl, inr, ⊎-elim}
-use mathlib.Core.Path.{_≡_, refl, sym, ap, subst, _∙_}
-use Prim.Native.Nat.{ℕ, _^_, _≤_, _<_}
-use native.Mathlib.Omega.{arith}
-use borrow.Author.Tests.{eq-eqb}
-use lib.Dec.{T, eqb, eqb→eq}
-use lib.ListN.{length, getD}
-use lib.Seq.{take-length}
+-- The centre's component in the whole board's match graph. Where walks of r matching links lead to all of it, or the board's links
+-- to as many nodes with its number as it has, the ball holds it, and the place is the component with its matching links; else the place comes from those nodes
+-- of the ball that have its number. Assumes nothing.
+use Rattle.base_lists.specs.Kit.{_≡_, _∙_, sym, ap, refl, subst, ⊎-elim, inl, inr, Bool, true, List, _++_, ℕ, _≤_, _<_, suc, le-antisymm, T, eqb, eqb→eq, length, getD, take-length, arith, eq-eqb}
 use Rattle.base_lists.specs.List.{Occurs, Below}
 use Rattle.base_lists.proofs.Tests.{true-T, any-at, at-any}
-use Rattle.base_lists.proofs.Tables.{getD-tabulate}
-use Rattle.graph.specs.Bfs.{bfs, adjacent, Found as Searched}
-use Rattle.graph.specs.Circuit.{Circuit}
-use Rattle.graph.specs.Search.{inside}
+use Rattle.graph.specs.Bfs.{SearchState, bfs, adjacent, Found as Searched}
+use Rattle.graph.specs.Circuit.{Circuit, HasLink}
+use Rattle.graph.specs.Graph.{Walk, stay, step}
+use Rattle.graph.specs.Search.{far, inside}
 use Rattle.graph.proofs.BfsScan.{occurs-append}
-use Rattle.graph.proofs.Ball.{inside-zero, inside-suc, inside-grows, inside-mono}
+use Rattle.graph.proofs.Ball.{inside-mono, walk-ball}
+use Rattle.graph_search.specs.Until.{Until}
+use Rattle.graph_search.proofs.Onward.{until-walk}
 use Rattle.table.specs.Fill.{listed, marksOf, NodeList}
 use Rattle.table.specs.First.{Written}
 use Rattle.table.specs.Host.{Taken, everything}
 use Rattle.table.specs.Prepared.{Tables}
-use Rattle.table.proofs.Begun.{copied-begins}
+use Rattle.table.proofs.Begun.{copied-begins, inside-marks}
 use Rattle.table.proofs.Host.{everything-taken}
 use Rattle.table.proofs.Meaning.{last-fits}
 use Rattle.table.proofs.Sets.{fits-word}
 use Rattle.place.specs.declared.Around.{Around}
-use Rattle.place.specs.Match.{ballOf, found}
+use Rattle.place.specs.Match.{ballOf, found, matchStarts, matchEnds}
 use Rattle.place.specs.Find.{Sought, Located}
 use Rattle.place.specs.Spread.{matched, Reached, Spread, Lists}
-use Rattle.place.proofs.Find.{ball-list, ball-marks, whole-located, whole-found, cut-seen}
+use Rattle.place.proofs.Find.{tabled-joins, ball-list, ball-marks, whole-located, whole-found, cut-seen}
 use Rattle.place.proofs.Links.{match-kept}
-use Rattle.place_components.specs.Components.{MatchTable, Growing, Covered, sameLabel, Gathered}
-use Rattle.place_components.proofs.Lists.{first-list, all-within, having-from, having-to, having-list}
-use Rattle.place_components.proofs.Labels.{match-adjacency, spread-same}
-use Rattle.place_components.proofs.Covering.{covered-spread}
+use Rattle.place_components.specs.Components.{MatchTable, sameComponent, Gathered}
+use Rattle.place_components.proofs.Lists.{first-list, having-from, having-to, having-list}
+use Rattle.place_components.proofs.ComponentNumbers.{match-adjacency, spread-same, some-few, some-lists, until-lists}
 use Rattle.report_centres.specs.Pieces.{Source, CentreLabelled, Cut}
-use Rattle.report_centres.proofs.Centre.{source-tabled, source-long}
-
--- a node is marked where it is listed
-inside-marks : (n : ℕ) (nodes : List ℕ) (v : ℕ) → v < n → inside (marksOf n nodes) v ≡ listed nodes v
-unfolding inside marksOf
-inside-marks n nodes v h = ap (λ (x : ℕ). eqb x 1) (getD-tabulate n (λ v. cond (listed nodes v) 1 0) v 0 h) ∙ go (listed nodes v)
-  where
-    go : (b : Bool) → eqb (cond b 1 0) 1 ≡ b
-    go true = refl
-    go false = refl
+use Rattle.report_centres.proofs.Centre.{source-tabled, source-long, source-few}
 
 module _ {pattern board : Circuit} {t : Tables} {table : List ℕ} {r : ℕ} (s : Source pattern board t table r) where
   abbrev n : ℕ
-  n = length (board .kinds)
+  n = length (board .labels)
 
   -- the whole board's table is one of sets
   pub source-match : MatchTable t table
@@ -73,28 +56,29 @@ module _ {pattern board : Circuit} {t : Tables} {table : List ℕ} {r : ℕ} (s 
 
     -- ---- the whole component
 
-    -- matching links are links: so many of them lead no farther than the ball of that radius
-    growing : Growing (length table) c (matched t table) (λ d. inside (ballOf board c d))
-    unfolding source-match ballOf Below
-    growing =
-        record {
-          first = inside-zero n (board .starts) (board .ends) c c .1 (node, refl);
-          grows = λ d v t. inside-grows n (board .starts) (board .ends) c d v t;
-          next =
-              λ d v w m t o.
-              let a = match-adjacency source-match in
-              let low : w < n = rw (source-long s) at (subst (λ (x : ℕ). x < length table) (o .2) (a .inside v m (o .0) (o .1))) in
-              let link = a .joined v w m .0 o in
-              inside-suc n (board .starts) (board .ends) c d w .1
-              (low, inr (v, ⊎-elim (λ l. inr (match-kept pattern board table v w .0 l .0)) (λ l. inl (match-kept pattern board table w v .0 l .0)) link, t));
-        }
+    few : suc (length table) < far
+    few = omega (arith, source-few s)
 
-    -- the component is reached in r steps: the ball holds it
-    pub covered-held : {labels nodes dist : List ℕ} {size : ℕ} → CentreLabelled t table labels size c → Covered (length table) c (matched t table) r size nodes dist
-        → (comp : List ℕ) → Spread (length table) c (matched t table) comp → (v : ℕ) → v < n → Reached comp v → T (inside (ballOf board c r) v)
-    covered-held l g comp k v m q =
-        let h′ : v < length table = rw (source-long s) m in
-        g .steps v h′ (spread-same k (covered-spread h (match-adjacency source-match .inside) (l .component) g) v h′ q) (λ d. inside (ballOf board c d)) growing
+    -- matching links are links: a walk along them is one along the board's
+    kept-walk : {v w k : ℕ} → Walk (HasLink (matchStarts pattern board table) (matchEnds pattern board table)) v w k → Walk (HasLink (board .starts) (board .ends)) v w k
+    kept-walk stay = stay
+    kept-walk (step {w = v} {x = w} p l) =
+        step (kept-walk p) (⊎-elim (λ q. inl (match-kept pattern board table v w .0 q .0)) (λ q. inr (match-kept pattern board table w v .0 q .0)) l)
+
+    -- the search along matching links reaches the component: the ball holds it,
+    module _ {componentOf : List ℕ} {size : ℕ} (l : CentreLabelled t table componentOf size c) {Enough : Type 0} {reached : SearchState}
+        (u : Until (matched t table) (length table) c r Enough reached) (count : length (reached .reached) ≡ size) where
+      -- and it is what is reached
+      pub reached-lists : Lists (reached .reached) (l .comp)
+      reached-lists = until-lists (l .component) few h (match-adjacency source-match) u count
+
+      pub reached-held : (comp : List ℕ) → Spread (length table) c (matched t table) comp → (v : ℕ) → v < n → Reached comp v → T (inside (ballOf board c r) v)
+      unfolding source-match ballOf
+      reached-held comp k v m q =
+          let h′ : v < length table = rw (source-long s) m in
+          let o = reached-lists .complete v (rw (l .component .spread .size) h′) (spread-same k (l .component .spread) v h′ q) in
+          let walk = until-walk (omega (arith, few)) h (match-adjacency source-match) u v o .1 in
+          walk-ball (tabled-joins (source-tabled s)) c node (kept-walk (walk .1)) r (walk .2)
 
     -- ---- where the ball holds it
 
@@ -111,97 +95,105 @@ module _ {pattern board : Circuit} {t : Tables} {table : List ℕ} {r : ℕ} (s 
 
     -- ---- the nodes in the component that a search of the board's links gathers
 
-    module _ {labels : List ℕ} {size : ℕ} (l : CentreLabelled t table labels size c) {nodes : List ℕ}
-        (g : Gathered (adjacent (t .offsets) (t .links)) (length table) c r (sameLabel labels c) size nodes) where
+    -- what such a search reaches up to distance d is the ball
+    abbrev reachedAt : ℕ → List ℕ
+    reachedAt d = bfs (adjacent (t .offsets) (t .targets)) n c d .reached
+
+    searched : (d : ℕ) → Searched (length (reachedAt d)) (bfs (adjacent (t .offsets) (t .targets)) n c d .dist) (reachedAt d) (bfs (adjacent (t .offsets) (t .targets)) n c d)
+    searched d = record { distances = refl; count = refl; nodes = take-length (reachedAt d) }
+
+    ball : (d : ℕ) → marksOf n (reachedAt d) ≡ ballOf board c d
+    ball d = ap (marksOf n) (sym (take-length (reachedAt d))) ∙ ball-marks (source-tabled s) c d node (searched d)
+
+    occurs-taken : (nodes : List ℕ) (v : ℕ) → v < n → Occurs nodes v → Taken board (marksOf n nodes) v
+    unfolding listed
+    occurs-taken nodes v m (i, b, e) =
+        record { below = m; marked = rw (inside-marks n nodes v m) (at-any (λ w. eqb w v) nodes i b (true-T (eq-eqb _ _ e))) }
+
+    taken-occurs : (nodes : List ℕ) (v : ℕ) → Taken board (marksOf n nodes) v → Occurs nodes v
+    unfolding listed
+    taken-occurs nodes v m =
+        let (i, b, e) = any-at (λ w. eqb w v) nodes (subst T (inside-marks n nodes v (m .below)) (m .marked)) in
+        (i, b, eqb→eq _ _ e)
+
+    module _ {componentOf : List ℕ} {size : ℕ} (l : CentreLabelled t table componentOf size c) {nodes : List ℕ}
+        (g : Gathered (adjacent (t .offsets) (t .targets)) (length table) c r (sameComponent componentOf c) size nodes) where
       abbrev d : ℕ
       d = g .until .depth
 
+      abbrev all : List ℕ
+      all = g .all .reached
+
       abbrev test : ℕ → Bool
-      test = sameLabel labels c
+      test = sameComponent componentOf c
 
       -- what it has reached is the first of the ball of some radius, which is at most r
-      abbrev all : List ℕ
-      all = g .all ++ g .until .rest
-
-      searched : Searched (length all) (bfs (adjacent (t .offsets) (t .links)) n c d .dist) all (bfs (adjacent (t .offsets) (t .links)) n c d)
-      searched =
-          let e : all ≡ bfs (adjacent (t .offsets) (t .links)) n c d .reached = rw (source-long s) at (g .until .reached) in
-          record { distances = refl; count = ap length e; nodes = take-length all ∙ e }
-
-      ball : marksOf n all ≡ ballOf board c d
-      ball = ap (marksOf n) (sym (take-length all)) ∙ ball-marks (source-tabled s) c d node searched
+      first : all ++ g .until .rest ≡ reachedAt d
+      first = rw (source-long s) at (g .until .first)
 
       list : NodeList n nodes
-      list = rw (g .passed) (having-list test (first-list (g .all) (g .until .rest) (rw (take-length all) at (ball-list (source-tabled s) c d node searched))))
+      list =
+          rw (g .passed)
+          (having-list test
+          (first-list all (g .until .rest) (subst (NodeList n) (take-length (reachedAt d) ∙ sym first) (ball-list (source-tabled s) c d node (searched d)))))
 
-      occurs-taken : (nodes : List ℕ) (v : ℕ) → v < n → Occurs nodes v → Taken board (marksOf n nodes) v
-      unfolding listed
-      occurs-taken nodes v m (i, b, e) =
-          record { below = m; marked = rw (inside-marks n nodes v m) (at-any (λ w. eqb w v) nodes i b (true-T (eq-eqb _ _ e))) }
+      passed : (v : ℕ) → Occurs nodes v → Occurs all v × T (test v)
+      passed v o = having-from test all v (rw (g .passed) at o)
 
-      taken-occurs : (nodes : List ℕ) (v : ℕ) → Taken board (marksOf n nodes) v → Occurs nodes v
-      unfolding listed
-      taken-occurs nodes v m =
-          let (i, b, e) = any-at (λ w. eqb w v) nodes (subst T (inside-marks n nodes v (m .below)) (m .marked)) in
-          (i, b, eqb→eq _ _ e)
-
-      passed : (v : ℕ) → Occurs nodes v → Occurs (g .all) v × T (test v)
-      passed v o = having-from test (g .all) v (rw (g .passed) at o)
-
-      within : (v : ℕ) → Taken board (marksOf n nodes) v → Taken board (ballOf board c d) v
+      within : (v : ℕ) → Taken board (marksOf n nodes) v → Taken board (ballOf board c r) v
+      unfolding ballOf
       within v m =
-          subst (λ (row : List ℕ). Taken board row v) ball
-          (occurs-taken all v (m .below) (occurs-append v (g .all) (g .until .rest) .1 (inl (passed v (taken-occurs nodes v m) .0))))
+          let o = subst (λ (ns : List ℕ). Occurs ns v) first (occurs-append v all (g .until .rest) .1 (inl (passed v (taken-occurs nodes v m) .0))) in
+          let b = subst (λ (row : List ℕ). Taken board row v) (ball d) (occurs-taken (reachedAt d) v (m .below) o) in
+          record { below = m .below; marked = inside-mono n (board .starts) (board .ends) c d r v (g .until .within) (b .marked) }
+
+      low : (w : ℕ) → Occurs nodes w → w < length table
+      unfolding Below
+      low w o = subst (λ (x : ℕ). x < length table) (o .2) (rw (source-long s) (list .below (o .0) (o .1)))
+
+      only : (w : ℕ) → Occurs nodes w → Reached (l .comp) w
+      only w o = l .only w (low w o) (eqb→eq _ _ (passed w o .1))
+
+      in-table : NodeList (length table) nodes
+      in-table = rw (source-long s) list
+
+      most : length nodes ≤ size
+      most = some-few (l .component) in-table only
 
       -- They are not as many as the component has: all of the ball of r is reached,
       module _ (f : length nodes ≡ size → ⊥) where
-        whole : (d ≡ r) × (g .until .rest ≡ [])
-        whole = g .until .stop (λ q. f (ap length (g .passed) ∙ q))
+        full : all ≡ reachedAt r
+        full =
+            rw (source-long s) at
+            (ap (λ (s : SearchState). s .reached)
+            (g .until .all (λ h. f (le-antisymm most (rw (g .passed) h)))))
 
-        keeps : (v : ℕ) → Taken board (ballOf board c d) v → Reached (l .comp) v → Taken board (marksOf n nodes) v
+        keeps : (v : ℕ) → Taken board (ballOf board c r) v → Reached (l .comp) v → Taken board (marksOf n nodes) v
         keeps v m q =
-            let o : Occurs all v = taken-occurs all v (subst (λ (row : List ℕ). Taken board row v) (sym ball) m) in
-            let o′ : Occurs (g .all) v = rw (whole .1, append-nil (g .all)) at o in
+            let o = subst (λ (ns : List ℕ). Occurs ns v) (sym full) (taken-occurs (reachedAt r) v (subst (λ (row : List ℕ). Taken board row v) (sym (ball r)) m)) in
             occurs-taken nodes v (m .below)
-            (rw (g .passed) (having-to test (g .all) v o′ (true-T (eq-eqb _ _ (l .same v (rw (source-long s) (m .below)) q)))))
+            (rw (g .passed) (having-to test all v o (true-T (eq-eqb _ _ (l .same v (rw (source-long s) (m .below)) q)))))
 
         -- and the place comes from them.
         pub gathered-cut : Cut pattern board t (record { centre = c; radius = r }) nodes
         gathered-cut =
-            let e = whole .0 in
             record {
               list = list;
-              seen = cut-seen (source-tabled s) c r node {comp = l .comp} even (s .whole) (rw (← source-long s) (l .component .spread)) (marksOf n nodes) (rw e at within) (rw e at keeps);
+              seen = cut-seen (source-tabled s) c r node {comp = l .comp} even (s .whole) (rw (← source-long s) (l .component .spread)) (marksOf n nodes) within keeps;
             }
 
       -- They are as many:
       module _ (count : length nodes ≡ size) where
-        low : (w : ℕ) → Occurs nodes w → w < length table
-        unfolding Below
-        low w o = subst (λ (x : ℕ). x < length table) (o .2) (rw (source-long s) (list .below (o .0) (o .1)))
+        -- they are the component,
+        pub gathered-lists : Lists nodes (l .comp)
+        gathered-lists = some-lists (l .component) in-table only count
 
-        only : (w : ℕ) → Occurs nodes w → Reached (l .comp) w
-        only w o = l .only w (low w o) (eqb→eq _ _ (passed w o .1))
-
-        member : (v : ℕ) → v < length table → Reached (l .comp) v → Occurs nodes v
-        member v m q =
-            let full = l .component .lists .complete in
-            let size = l .component .spread .size in
-            all-within nodes (l .nodes) (list .distinct) (λ w o. full w (rw size (low w o)) (only w o)) (omega (arith, count, l .component .count)) v (full v (rw size m) q)
-
-        -- the ball holds it,
+        -- and the ball holds it
         pub gathered-held : (comp : List ℕ) → Spread (length table) c (matched t table) comp → (v : ℕ) → v < n → Reached comp v → T (inside (ballOf board c r) v)
-        unfolding ballOf
         gathered-held comp k v m q =
             let h′ : v < length table = rw (source-long s) m in
-            inside-mono n (board .starts) (board .ends) c d r v (g .until .within)
-            (within v (occurs-taken nodes v m (member v h′ (spread-same k (l .component .spread) v h′ q))) .marked)
-
-        -- and they are it
-        pub gathered-lists : Lists nodes (l .comp)
-        gathered-lists =
-            let size = l .component .spread .size in
-            record { list = rw (size ∙ source-long s) list; near = only; complete = λ v m q. member v (rw size at m) q }
+            let o = gathered-lists .complete v (rw (l .component .spread .size) h′) (spread-same k (l .component .spread) v h′ q) in
+            within v (occurs-taken nodes v m o) .marked
 
   -- the whole board's sets at nodes that the place comes from are a table to begin with
   pub cut-sought : {around : Around} {nodes first : List ℕ} {m count : ℕ} → Cut pattern board t around nodes → around .centre < length table → m ≡ length table

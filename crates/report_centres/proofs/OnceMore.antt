@@ -1,15 +1,6 @@
 -- The text of a component, once more: what follows the colon is the same for each centre whose ball holds the component; what a line puts is found in the
 -- buffer again, and stays there where later lines are put; and the table of where such texts stand, with one text more. Assumes nothing.
-use mathlib.Core.Bool.{Bool, true, false, not, cond}
-use mathlib.Core.List.{List, _++_}
-use mathlib.Core.Path.{_≡_, refl, sym, ap, ap₂, subst, _∙_}
-use Prim.Native.Nat.{ℕ, _+_, _-_, _≤_, _<_}
-use native.Mathlib.Nat.{le-refl}
-use native.Mathlib.Omega.{arith}
-use borrow.Author.Tests.{ne-eqb, eqb-true, eqb-false}
-use lib.Dec.{T, eqb, ltb}
-use lib.ListN.{length, getD, set, replicate, length-set, length-append, length-replicate, getD-replicate}
-use lib.Seq.{getD-set-same, getD-set-other}
+use Rattle.base_lists.specs.Kit.{_≡_, _∙_, sym, ap, refl, subst, ap₂, Bool, false, true, cond, not, List, _++_, ℕ, _≤_, _<_, _+_, _-_, le-refl, T, eqb, ltb, length, getD, set, length-set, length-append, replicate, length-replicate, getD-replicate, getD-set-other, getD-set-same, arith, ne-eqb, eqb-true, eqb-false}
 use Rattle.base_lists.specs.List.{part}
 use Rattle.base_lists.proofs.Tests.{same-test, true-T}
 use Rattle.base_text.specs.Text.{Put}
@@ -20,12 +11,12 @@ use Rattle.table.specs.Prepared.{Tables}
 use Rattle.place.specs.Spread.{matched, Reached, Spread}
 use Rattle.place.proofs.Spread.{spread-from}
 use Rattle.place_components.specs.Components.{Components}
-use Rattle.place_components.proofs.Labels.{match-adjacency, spread-same}
+use Rattle.place_components.proofs.ComponentNumbers.{match-adjacency, spread-same}
 use Rattle.report.specs.Report.{centreLine}
 use Rattle.report_texts.specs.Texts.{headText, bodyText}
 use Rattle.report_texts.proofs.Texts.{line-split, body-same, put-before, put-second}
 use Rattle.report_centres.specs.declared.Span.{Span}
-use Rattle.report_centres.specs.Pieces.{Source, Entire, Noted, under, noting, Kept}
+use Rattle.report_centres.specs.Pieces.{Source, Entire, TextNoted, under, noting, Kept}
 use Rattle.report_centres.proofs.Centre.{source-line}
 use Rattle.report_centres.proofs.Component.{source-match, held-found, held-located}
 
@@ -42,10 +33,10 @@ module _ {pattern board : Circuit} {t : Tables} {table : List ℕ} {r : ℕ} (s 
   test-reached dist v k q = subst (λ (x : ℕ). T (not (eqb x far))) q k
 
   pub body-alike :
-      {labels sizes dist other : List ℕ} → Components n (matched t table) table labels sizes → (c d : ℕ) → c < n → d < n → (getD table c 0 ≡ 0 → ⊥) →
-      getD labels d 0 ≡ getD labels c 0 → Spread n c (matched t table) dist → Spread n d (matched t table) other → bodyText t dist table ≡ bodyText t other table
-  body-alike {labels} {sizes} {dist} {other} k c d h l f e g g′ =
-      let comp = k .labelled c h f in
+      {componentOf sizes dist other : List ℕ} → Components n (matched t table) table componentOf sizes → (c d : ℕ) → c < n → d < n → (getD table c 0 ≡ 0 → ⊥) →
+      getD componentOf d 0 ≡ getD componentOf c 0 → Spread n c (matched t table) dist → Spread n d (matched t table) other → bodyText t dist table ≡ bodyText t other table
+  body-alike {componentOf} {sizes} {dist} {other} k c d h l f e g g′ =
+      let comp = k .numbered c h f in
       let there : Reached dist d = spread-same (comp .component .spread) g d l (comp .only d l e) in
       let from : Spread n d (matched t table) dist = spread-from (match-adjacency (source-match s)) g d l there in
       body-same t dist other table (g .size ∙ sym (g′ .size))
@@ -65,20 +56,20 @@ module _ {pattern board : Circuit} {t : Tables} {table : List ℕ} {r : ℕ} (s 
       sym (line-split t dist table c)
       ∙ source-line s c true (sym (held-found s c h (g .spread) f held)) refl (held-located s c h (g .spread) f held _ (g .lists))
 
-  -- so it has the line of its head and the text that is noted under its label
+  -- so it has the line of its head and the text that is noted under its number
   pub again-line :
-      {labels out nodes : List ℕ} {at label : ℕ} {x : Span} (c : ℕ) (h : c < n) (f : getD table c 0 ≡ 0 → ⊥) → Noted t table labels out at label x →
-      getD labels c 0 ≡ label → Entire t table (record { centre = c; radius = r }) nodes →
+      {componentOf out nodes : List ℕ} {at number : ℕ} {x : Span} (c : ℕ) (h : c < n) (f : getD table c 0 ≡ 0 → ⊥) → TextNoted t table componentOf out at number x →
+      getD componentOf c 0 ≡ number → Entire t table (record { centre = c; radius = r }) nodes →
       headText c ++ part (x .from) (x .to - x .from) out ≡ centreLine pattern board c
   again-line c h f k e g = ap (λ (l : List ℕ). headText c ++ l) (k .text c h f e (g .comp) (g .spread)) ∙ entire-line c h f g
 
   -- and in its line, which was put, the text is found again
   pub noted-after :
-      {labels sizes out after nodes : List ℕ} {at past : ℕ} → Components n (matched t table) table labels sizes → (c : ℕ) (h : c < n) (f : getD table c 0 ≡ 0 → ⊥) →
+      {componentOf sizes out after nodes : List ℕ} {at past : ℕ} → Components n (matched t table) table componentOf sizes → (c : ℕ) (h : c < n) (f : getD table c 0 ≡ 0 → ⊥) →
       Entire t table (record { centre = c; radius = r }) nodes → Put out at (centreLine pattern board c) after past →
       at + length (centreLine pattern board c) ≤ length out →
-      Noted t table labels after past (getD labels c 0) (record { from = at + length (headText c); to = past })
-  noted-after {labels} {out = out} {after = after} {at = at} {past = past} k c h f g p room =
+      TextNoted t table componentOf after past (getD componentOf c 0) (record { from = at + length (headText c); to = past })
+  noted-after {componentOf} {out = out} {after = after} {at = at} {past = past} k c h f g p room =
       record {
         order = omega (arith, put .end, two);
         short = le-refl past;
@@ -101,20 +92,20 @@ module _ {pattern board : Circuit} {t : Tables} {table : List ℕ} {r : ℕ} (s 
 -- ---- the texts in the buffer, and the table of them
 
 -- at first there are none
-pub kept-start : {t : Tables} {table labels out : List ℕ} → Kept t table labels out 0 (replicate 1024 0)
-kept-start = record { long = length-replicate {A = ℕ} 1024 0; noted = λ label h f. absurd (f (getD-replicate {A = ℕ} 1024 (512 + label) 0 0 (omega arith))) }
+pub kept-start : {t : Tables} {table componentOf out : List ℕ} → Kept t table componentOf out 0 (replicate 1024 0)
+kept-start = record { long = length-replicate {A = ℕ} 1024 0; noted = λ number h f. absurd (f (getD-replicate {A = ℕ} 1024 (512 + number) 0 0 (omega arith))) }
 
 -- they stay where a line is put after them
 pub kept-after :
-    {t : Tables} {table labels out after xs texts : List ℕ} {at past : ℕ} → Kept t table labels out at texts → Put out at xs after past → at ≤ length out →
-    Kept t table labels after past texts
-kept-after {t} {table} {labels} {after = after} {texts = texts} {past = past} k p room =
+    {t : Tables} {table componentOf out after xs texts : List ℕ} {at past : ℕ} → Kept t table componentOf out at texts → Put out at xs after past → at ≤ length out →
+    Kept t table componentOf after past texts
+kept-after {t} {table} {componentOf} {after = after} {texts = texts} {past = past} k p room =
     record { long = k .long; noted = later }
   where
-    later : (label : ℕ) → label < 512 → (under texts label .to ≡ 0 → ⊥) → Noted t table labels after past label (under texts label)
-    later label h f =
-        let g = k .noted label h f in
-        let x = under texts label in
+    later : (number : ℕ) → number < 512 → (under texts number .to ≡ 0 → ⊥) → TextNoted t table componentOf after past number (under texts number)
+    later number h f =
+        let g = k .noted number h f in
+        let x = under texts number in
         record {
           order = g .order;
           short = omega (arith, g .short, p .end);
@@ -124,45 +115,45 @@ kept-after {t} {table} {labels} {after = after} {texts = texts} {past = past} k 
         }
 
 -- one text more
-module _ (texts : List ℕ) (long : length texts ≡ 1024) (label : ℕ) (low : label < 512) (x : Span) where
+module _ (texts : List ℕ) (long : length texts ≡ 1024) (number : ℕ) (low : number < 512) (x : Span) where
   abbrev more : List ℕ
-  more = set (set texts label (x .from)) (512 + label) (x .to)
+  more = set (set texts number (x .from)) (512 + number) (x .to)
 
   span : {a b c d : ℕ} → a ≡ c → b ≡ d → _≡_ {A = Span} (record { from = a; to = b }) (record { from = c; to = d })
   span e f = ap₂ (λ (a b : ℕ). record { from = a; to = b }) e f
 
-  here : under more label ≡ x
+  here : under more number ≡ x
   here =
       span
-      (getD-set-other (set texts label (x .from)) (512 + label) label (x .to) 0 (λ e. omega arith) ∙ getD-set-same texts label (x .from) 0 (omega arith))
-      (getD-set-same (set texts label (x .from)) (512 + label) (x .to) 0 (rw (length-set texts label (x .from)) (omega arith)))
+      (getD-set-other (set texts number (x .from)) (512 + number) number (x .to) 0 (λ e. omega arith) ∙ getD-set-same texts number (x .from) 0 (omega arith))
+      (getD-set-same (set texts number (x .from)) (512 + number) (x .to) 0 (rw (length-set texts number (x .from)) (omega arith)))
 
-  elsewhere : (l : ℕ) → l < 512 → (l ≡ label → ⊥) → under more l ≡ under texts l
+  elsewhere : (l : ℕ) → l < 512 → (l ≡ number → ⊥) → under more l ≡ under texts l
   elsewhere l h f =
       span
-      (getD-set-other (set texts label (x .from)) (512 + label) l (x .to) 0 (λ e. omega arith) ∙ getD-set-other texts label l (x .from) 0 f)
-      (getD-set-other (set texts label (x .from)) (512 + label) (512 + l) (x .to) 0 (λ e. f (omega arith))
-      ∙ getD-set-other texts label (512 + l) (x .from) 0 (λ e. omega arith))
+      (getD-set-other (set texts number (x .from)) (512 + number) l (x .to) 0 (λ e. omega arith) ∙ getD-set-other texts number l (x .from) 0 f)
+      (getD-set-other (set texts number (x .from)) (512 + number) (512 + l) (x .to) 0 (λ e. f (omega arith))
+      ∙ getD-set-other texts number (512 + l) (x .from) 0 (λ e. omega arith))
 
 pub kept-more :
-    {t : Tables} {table labels out texts : List ℕ} {at : ℕ} → Kept t table labels out at texts → (label : ℕ) → label < 512 → (x : Span) →
-    Noted t table labels out at label x → Kept t table labels out at (noting texts label x)
+    {t : Tables} {table componentOf out texts : List ℕ} {at : ℕ} → Kept t table componentOf out at texts → (number : ℕ) → number < 512 → (x : Span) →
+    TextNoted t table componentOf out at number x → Kept t table componentOf out at (noting texts number x)
 unfolding noting
-kept-more {t} {table} {labels} {out} {texts} {at} k label h x g = go (ltb 4294967295 (x .to))
+kept-more {t} {table} {componentOf} {out} {texts} {at} k number h x g = go (ltb 4294967295 (x .to))
   where
-    also : (l : ℕ) → l < 512 → (b : Bool) → eqb l label ≡ b → (under (more texts (k .long) label h x) l .to ≡ 0 → ⊥) →
-        Noted t table labels out at l (under (more texts (k .long) label h x) l)
+    also : (l : ℕ) → l < 512 → (b : Bool) → eqb l number ≡ b → (under (more texts (k .long) number h x) l .to ≡ 0 → ⊥) →
+        TextNoted t table componentOf out at l (under (more texts (k .long) number h x) l)
     also l m true e f =
-        subst (λ (j : ℕ). Noted t table labels out at j (under (more texts (k .long) label h x) j)) (sym (eqb-true l label e))
-        (subst (λ (y : Span). Noted t table labels out at label y) (sym (here texts (k .long) label h x)) g)
+        subst (λ (j : ℕ). TextNoted t table componentOf out at j (under (more texts (k .long) number h x) j)) (sym (eqb-true l number e))
+        (subst (λ (y : Span). TextNoted t table componentOf out at number y) (sym (here texts (k .long) number h x)) g)
     also l m false e f =
-        let same = elsewhere texts (k .long) label h x l m (eqb-false l label e) in
-        subst (λ (y : Span). Noted t table labels out at l y) (sym same) (k .noted l m (λ z. f (ap (λ (y : Span). y .to) same ∙ z)))
+        let same = elsewhere texts (k .long) number h x l m (eqb-false l number e) in
+        subst (λ (y : Span). TextNoted t table componentOf out at l y) (sym same) (k .noted l m (λ z. f (ap (λ (y : Span). y .to) same ∙ z)))
 
-    go : (b : Bool) → Kept t table labels out at (cond b texts (more texts (k .long) label h x))
+    go : (b : Bool) → Kept t table componentOf out at (cond b texts (more texts (k .long) number h x))
     go true = k
     go false =
         record {
-          long = length-set (set texts label (x .from)) (512 + label) (x .to) ∙ length-set texts label (x .from) ∙ k .long;
-          noted = λ l m f. also l m (eqb l label) refl f;
+          long = length-set (set texts number (x .from)) (512 + number) (x .to) ∙ length-set texts number (x .from) ∙ k .long;
+          noted = λ l m f. also l m (eqb l number) refl f;
         }

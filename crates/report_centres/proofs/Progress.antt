@@ -1,15 +1,6 @@
 -- Where the loop over the centres stands, from its start to its end: the lines of the centres before c are put, each of which had room, and
 -- those with a place are counted. Assumes nothing.
-use mathlib.Core.Bool.{Bool, true, false, _&&_, not, cond}
-use mathlib.Core.List.{List, [], _++_}
-use mathlib.Core.Logic.{_⊎_, inl, inr}
-use mathlib.Core.Path.{_≡_, refl, sym, ap, _∙_}
-use Prim.Native.Nat.{ℕ, suc, _+_, _-_, _≤_, _<_, zero-le}
-use native.Mathlib.Nat.{le-refl, sub-self, add-sub-of-le, eq-or-lt-of-le, le-of-suc-le-suc}
-use native.Mathlib.Omega.{arith}
-use borrow.Author.Tests.{leb-true, ltb-true, ltb-false}
-use lib.Dec.{T, eqb, ltb, ltb→lt}
-use lib.ListN.{length}
+use Rattle.base_lists.specs.Kit.{_≡_, _∙_, sym, ap, refl, _⊎_, inl, inr, Bool, false, true, cond, _&&_, not, List, [], _++_, ℕ, _≤_, _<_, _+_, _-_, suc, zero-le, le-refl, le-of-suc-le-suc, eq-or-lt-of-le, add-sub-of-le, sub-self, T, eqb, ltb, ltb→lt, length, arith, ltb-false, ltb-true, leb-true}
 use Rattle.base_lists.specs.Below.{countBelow, leastBelow, concatBelow}
 use Rattle.base_lists.proofs.Below.{countBelow-suc, countBelow-le, leastBelow-le, leastBelow-is, leastBelow-all}
 use Rattle.base_lists.proofs.Tests.{both-left, both-right, true-T, T-true}
@@ -26,7 +17,7 @@ use Rattle.report_centres.proofs.Centre.{line-counts}
 
 pub record Progress (pattern board : Circuit) (from found : ℕ) (before : List ℕ) (c count at : ℕ) (after : List ℕ) : Type 0 where
   pub begun : from ≤ c
-  pub within : c - from ≤ length (board .kinds) - from
+  pub within : c - from ≤ length (board .labels) - from
   pub put : Put before 0 (linesFrom pattern board from (c - from)) after at
   pub counted : count ≡ found + placesFrom pattern board from (c - from)
   pub room : (j : ℕ) → j < c - from → roomy (length before) (length (linesFrom pattern board from j)) ≡ true
@@ -37,7 +28,7 @@ module _ (pattern board : Circuit) (from found : ℕ) where
   lines = linesFrom pattern board from
 
   abbrev n : ℕ
-  n = length (board .kinds)
+  n = length (board .labels)
 
   -- one line more
   lines-more : (j c : ℕ) → from + j ≡ c → lines j ++ centreLine pattern board c ≡ lines (suc j)

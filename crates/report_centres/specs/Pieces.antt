@@ -1,11 +1,6 @@
 -- Pieces of a report: the lines of the centres from one on, as long as there is room for the longest line, and the last line; and what the
 -- contracts of the functions that put them cite.
-use mathlib.Core.Bool.{Bool, true, false, _&&_, not, cond}
-use mathlib.Core.List.{List, [], _++_}
-use mathlib.Core.Path.{_≡_}
-use Prim.Native.Nat.{ℕ, suc, _+_, _-_, _≤_, _<_}
-use lib.Dec.{T, eqb, leb, ltb}
-use lib.ListN.{length, getD, take, set}
+use Rattle.base_lists.specs.Kit.{_≡_, Bool, false, true, cond, _&&_, not, List, [], _++_, ℕ, _≤_, _<_, _+_, _-_, suc, T, eqb, ltb, leb, length, getD, take, set}
 use Rattle.base_lists.specs.List.{part}
 use Rattle.base_lists.specs.Below.{countBelow, leastBelow, concatBelow}
 use Rattle.base_text.specs.Text.{Put, Fits}
@@ -22,11 +17,11 @@ use Rattle.place.specs.Match.{radiusOf, ballOf, found}
 use Rattle.place.specs.Spread.{matched, Reached, Spread, Lists}
 use Rattle.report.specs.Lines.{longestLine}
 use Rattle.report.specs.Report.{hasPlace, centreLine, endLine}
-use Rattle.place_components.specs.Components.{Component}
-use Rattle.report_centres.specs.declared.Held.{Held}
+use Rattle.place_components.specs.Components.{ComponentFound}
+use Rattle.report_centres.specs.declared.ComponentHeld.{ComponentHeld}
 use Rattle.report_texts.specs.Texts.{bodyText}
 use Rattle.report_centres.specs.declared.Span.{Span}
-use Rattle.report_centres.specs.declared.Part.{Part}
+use Rattle.report_centres.specs.declared.PutPiece.{PutPiece}
 
 -- ---- the lines of some centres
 
@@ -44,7 +39,7 @@ roomy room size = leb (size + longestLine) room
 -- how many lines are put: those of the centres that are left, or fewer, where before one of them there is not room for the longest line
 unfoldable pub linesTaken : Circuit → Circuit → ℕ → ℕ → ℕ
 linesTaken pattern board from room =
-    leastBelow (length (board .kinds) - from) (λ j. not (roomy room (length (linesFrom pattern board from j))))
+    leastBelow (length (board .labels) - from) (λ j. not (roomy room (length (linesFrom pattern board from j))))
 
 -- ---- pieces of the report
 
@@ -73,7 +68,7 @@ closed n room p =
 
 -- the piece of a pattern and a board
 unfoldable pub linesPiece : Circuit → Circuit → ℕ → ℕ → ℕ → Piece
-linesPiece pattern board from found room = closed (length (board .kinds)) room (centresPiece pattern board from found room)
+linesPiece pattern board from found room = closed (length (board .labels)) room (centresPiece pattern board from found room)
 
 -- ---- what a piece is put from, and what putting it leaves
 
@@ -90,26 +85,26 @@ pub record SourceOfSome (t : Tables) (table : List ℕ) (r : ℕ) : Type 0 where
   pub board : Circuit
   pub source : Source pattern board t table r
 
--- The centre's component in the whole board's match graph, which has `size` nodes: those with the centre's label.
-pub record CentreLabelled (t : Tables) (table labels : List ℕ) (size c : ℕ) : Type 0 where
+-- The centre's component in the whole board's match graph, which has `size` nodes: those with the centre's number.
+pub record CentreLabelled (t : Tables) (table componentOf : List ℕ) (size c : ℕ) : Type 0 where
   pub low : c < length table
-  pub long : length labels ≡ length table
+  pub long : length componentOf ≡ length table
   pub comp : List ℕ
   pub nodes : List ℕ
-  pub component : Component (length table) c (matched t table) size comp nodes
-  pub same : (v : ℕ) → v < length table → Reached comp v → getD labels v 0 ≡ getD labels c 0
-  pub only : (v : ℕ) → v < length table → getD labels v 0 ≡ getD labels c 0 → Reached comp v
+  pub component : ComponentFound (length table) c (matched t table) size comp nodes
+  pub same : (v : ℕ) → v < length table → Reached comp v → getD componentOf v 0 ≡ getD componentOf c 0
+  pub only : (v : ℕ) → v < length table → getD componentOf v 0 ≡ getD componentOf c 0 → Reached comp v
 
 -- The ball around the centre holds the centre's component, of every pattern and board that a line is put from.
 abbrev pub EveryHeld : Tables → List ℕ → Around → Type 0
 EveryHeld t table around =
     (pattern board : Circuit) → Source pattern board t table (around .radius) → (comp : List ℕ) → Spread (length table) (around .centre) (matched t table) comp
-    → (v : ℕ) → v < length (board .kinds) → Reached comp v → T (inside (ballOf board (around .centre) (around .radius)) v)
+    → (v : ℕ) → v < length (board .labels) → Reached comp v → T (inside (ballOf board (around .centre) (around .radius)) v)
 
 -- The place around the centre comes from the graph of some nodes,
 pub record Cut (pattern board : Circuit) (t : Tables) (around : Around) (nodes : List ℕ) : Type 0 where
-  pub list : NodeList (length (board .kinds)) nodes
-  pub seen : Seen pattern board t (around .centre) (around .radius) (marksOf (length (board .kinds)) nodes)
+  pub list : NodeList (length (board .labels)) nodes
+  pub seen : Seen pattern board t (around .centre) (around .radius) (marksOf (length (board .labels)) nodes)
 
 -- of every such pattern and board.
 abbrev pub EveryCut : Tables → List ℕ → Around → List ℕ → Type 0
@@ -123,13 +118,13 @@ pub record Entire (t : Tables) (table : List ℕ) (around : Around) (nodes : Lis
   pub held : EveryHeld t table around
 
 -- what is known of a ball: the first nodes of the queue are the centre's component, which the ball holds, or the place comes from them
-pub record Holds (t : Tables) (table : List ℕ) (around : Around) (queue : List ℕ) (h : Held) : Type 0 where
+pub record BallHolds (t : Tables) (table : List ℕ) (around : Around) (queue : List ℕ) (h : ComponentHeld) : Type 0 where
   pub short : h .kept ≤ length queue
   pub whole : h .all ≡ true → Entire t table around (take (h .kept) queue)
   pub cut : h .all ≡ false → EveryCut t table around (take (h .kept) queue)
 
 -- what is known of a centre: whether there is a place around it, and then the place in the tables
-pub record Known (pattern board : Circuit) (t : Tables) (around : Around) (dist sets : List ℕ) (b : Bool) : Type 0 where
+pub record PlaceKnown (pattern board : Circuit) (t : Tables) (around : Around) (dist sets : List ℕ) (b : Bool) : Type 0 where
   pub answer : b ≡ found pattern board (around .centre) (around .radius)
   pub nodes : List ℕ
   pub there : b ≡ true → Located pattern board t (around .centre) (around .radius) dist sets nodes
@@ -137,29 +132,29 @@ pub record Known (pattern board : Circuit) (t : Tables) (around : Around) (dist 
 -- this of every pattern and board that a line is put from
 abbrev pub EveryKnown : Tables → List ℕ → Around → List ℕ → List ℕ → Bool → Type 0
 EveryKnown t table around dist sets b =
-    (pattern board : Circuit) → Source pattern board t table (around .radius) → Known pattern board t around dist sets b
+    (pattern board : Circuit) → Source pattern board t table (around .radius) → PlaceKnown pattern board t around dist sets b
 
--- The text of the component with a label stands in the buffer, before `at`: for each centre with the label it is what follows the colon in the line of the
+-- The text of the component with a number stands in the buffer, before `at`: for each centre with the number it is what follows the colon in the line of the
 -- component.
-pub record Noted (t : Tables) (table labels out : List ℕ) (at label : ℕ) (x : Span) : Type 0 where
+pub record TextNoted (t : Tables) (table componentOf out : List ℕ) (at number : ℕ) (x : Span) : Type 0 where
   pub order : x .from ≤ x .to
   pub short : x .to ≤ at
   pub text :
-      (c : ℕ) → c < length table → (getD table c 0 ≡ 0 → ⊥) → getD labels c 0 ≡ label → (dist : List ℕ) → Spread (length table) c (matched t table) dist →
+      (c : ℕ) → c < length table → (getD table c 0 ≡ 0 → ⊥) → getD componentOf c 0 ≡ number → (dist : List ℕ) → Spread (length table) c (matched t table) dist →
       part (x .from) (x .to - x .from) out ≡ bodyText t dist table
 
--- where the text stands that a table has under a label,
+-- where the text stands that a table has under a number,
 abbrev pub under : List ℕ → ℕ → Span
-under texts label = record { from = getD texts label 0; to = getD texts (512 + label) 0 }
+under texts number = record { from = getD texts number 0; to = getD texts (512 + number) 0 }
 
 -- the table with a text more, where its end is a number of 32 bits,
 unfoldable pub noting : List ℕ → ℕ → Span → List ℕ
-noting texts label x = cond (ltb 4294967295 (x .to)) texts (set (set texts label (x .from)) (512 + label) (x .to))
+noting texts number x = cond (ltb 4294967295 (x .to)) texts (set (set texts number (x .from)) (512 + number) (x .to))
 
 -- and a table that says of no text but where it stands
-pub record Kept (t : Tables) (table labels out : List ℕ) (at : ℕ) (texts : List ℕ) : Type 0 where
+pub record Kept (t : Tables) (table componentOf out : List ℕ) (at : ℕ) (texts : List ℕ) : Type 0 where
   pub long : length texts ≡ 1024
-  pub noted : (label : ℕ) → label < 512 → (under texts label .to ≡ 0 → ⊥) → Noted t table labels out at label (under texts label)
+  pub noted : (number : ℕ) → number < 512 → (under texts number .to ≡ 0 → ⊥) → TextNoted t table componentOf out at number (under texts number)
 
 -- the centre's line is put, of every such pattern and board
 abbrev pub EveryLine : Tables → List ℕ → Around → List ℕ → ℕ → List ℕ → ℕ → Type 0
@@ -167,19 +162,19 @@ EveryLine t table around before at after next =
     (pattern board : Circuit) → Source pattern board t table (around .radius) → Put before at (centreLine pattern board (around .centre)) after next
 
 -- the piece had room and stands at the front of the buffer, and the answer says so
-pub record Wrote (before : List ℕ) (p : Piece) (after : List ℕ) (part : Part) : Type 0 where
+pub record Wrote (before : List ℕ) (p : Piece) (after : List ℕ) (part : PutPiece) : Type 0 where
   pub fits : Fits before 0 (p .text)
   pub put : Put before 0 (p .text) after (part .size)
   pub next : part .next ≡ p .next
   pub found : part .found ≡ p .found
 
 -- after a part that ended at a centre, the last line was put where it follows
-pub record Closed (before : List ℕ) (part : Part) (n : ℕ) (after : List ℕ) (r : Part) : Type 0 where
+pub record LastPut (before : List ℕ) (part : PutPiece) (n : ℕ) (after : List ℕ) (r : PutPiece) : Type 0 where
   pub put : Put before (part .size) (cond (ends n (length before) (part .next) (part .size)) (endLine (part .found) n) []) after (r .size)
   pub next : r .next ≡ cond (ends n (length before) (part .next) (part .size)) (suc n) (part .next)
   pub found : r .found ≡ part .found
 
 -- this holds of a piece of every pattern and board that lines are put from
-abbrev pub EveryWrote : Tables → List ℕ → ℕ → (Circuit → Circuit → Piece) → List ℕ → List ℕ → Part → Type 0
+abbrev pub EveryWrote : Tables → List ℕ → ℕ → (Circuit → Circuit → Piece) → List ℕ → List ℕ → PutPiece → Type 0
 EveryWrote t table r piece before after part =
     (pattern board : Circuit) → Source pattern board t table r → Wrote before (piece pattern board) after part

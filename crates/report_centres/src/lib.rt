@@ -3,7 +3,7 @@ use base_text::make_names;
 use file_format::Board;
 use place::Around;
 use place_around::find;
-use place_components::covers;
+use place_component::reach;
 use place_components::gather;
 use place_components::mark;
 use report::lines::put_end;
@@ -12,7 +12,7 @@ use report_texts::head_bytes;
 use report_texts::put_copy;
 use report_texts::put_head;
 use table_first::copy;
-ghost use mathlib.Core.Bool.{true, false, _&&_, not, cond};
+ghost use mathlib.Core.Bool.{true, false, _&&_, cond};
 ghost use mathlib.Core.List.{_++_};
 ghost use mathlib.Core.Path.{_≡_};
 ghost use Prim.Native.Nat.{_+_, _-_, _≤_, _<_};
@@ -25,7 +25,7 @@ ghost use Rattle.place.specs.Spread.{matched};
 ghost use Rattle.place_components.specs.Components.{Components};
 ghost use Rattle.report.specs.Lines.{longestLine};
 ghost use Rattle.report_texts.specs.Texts.{headText};
-ghost use Rattle.report_centres.specs.Pieces.{roomy, centresPiece, SourceOfSome, CentreLabelled, Holds, EveryKnown, under, noting, Kept, EveryLine, EveryWrote, Closed};
+ghost use Rattle.report_centres.specs.Pieces.{roomy, centresPiece, SourceOfSome, CentreLabelled, BallHolds, EveryKnown, under, noting, Kept, EveryLine, EveryWrote, LastPut};
 
 // No line of a report is longer: a buffer has to be as long, and a line is put where so many bytes are left.
 pub const LONGEST: usize = 34829;
@@ -37,7 +37,7 @@ const FEW: usize = 64;
 const FURTHEST: usize = 4294967295;
 
 // A piece that was put: where to go on, how many centres before that one have a place, and how many bytes the piece has.
-pub struct Part {
+pub struct PutPiece {
     pub next: usize,
     pub found: usize,
     pub size: usize,
@@ -81,7 +81,7 @@ fn counted(count: usize, at: usize, next: usize) -> usize
 }
 
 // How much of the centre's component on the whole board its ball has: all of it or not, and how many nodes, which stand first in a queue.
-struct Held {
+struct ComponentHeld {
     all: bool,
     kept: usize,
 }
@@ -91,31 +91,32 @@ struct Held {
 fn holds(
     masks: &[u32],
     offsets: &[u16],
-    links: &[u16],
+    targets: &[u16],
     whole: &[u32],
-    labels: &[u16],
+    component_of: &[u16],
     size: usize,
     around: Around,
     dist: &mut [u16],
     queue: &mut [u16],
-) -> Held
-    requires { ⌜ SourceOfSome (tables (now masks) (now offsets) (now links)) (now whole) (around .radius) ⌝ }
-    requires { ⌜ CentreLabelled (tables (now masks) (now offsets) (now links)) (now whole) (now labels) size (around .centre) ⌝ }
+) -> ComponentHeld
+    requires { ⌜ SourceOfSome (tables (now masks) (now offsets) (now targets)) (now whole) (around .radius) ⌝ }
+    requires { ⌜ CentreLabelled (tables (now masks) (now offsets) (now targets)) (now whole) (now «component_of») size (around .centre) ⌝ }
     requires { ⌜ (length (now dist) ≡ length (now whole)) × (length (now queue) ≡ length (now whole)) ⌝ }
-    ensures { λ h. ⌜ Holds (tables (now (masks .entry)) (now (offsets .entry)) (now (links .entry))) (now (whole .entry)) around (now (queue .exit)) h ⌝ }
+    ensures { λ h. ⌜ BallHolds (tables (now (masks .entry)) (now (offsets .entry)) (now (targets .entry))) (now (whole .entry)) around (now (queue .exit)) h ⌝ }
 {
     let c = around.centre;
     let r = around.radius;
     if size <= FEW {
-        if covers(masks, offsets, links, whole, c, r, size, dist, queue) {
-            return Held {
+        let reached = reach(masks, offsets, targets, whole, c, r, size, dist, queue);
+        if reached == size {
+            return ComponentHeld {
                 all: true,
                 kept: size,
             };
         }
     }
-    let kept = gather(offsets, links, labels, size, c, r, dist, queue);
-    Held {
+    let kept = gather(offsets, targets, component_of, size, c, r, dist, queue);
+    ComponentHeld {
         all: kept == size,
         kept,
     }
@@ -127,19 +128,19 @@ fn holds(
 fn locate(
     masks: &[u32],
     offsets: &[u16],
-    links: &[u16],
+    targets: &[u16],
     whole: &[u32],
-    ball: Held,
+    ball: ComponentHeld,
     around: Around,
     dist: &mut [u16],
     queue: &mut [u16],
     sets: &mut [u32],
 ) -> bool
-    requires { ⌜ SourceOfSome (tables (now masks) (now offsets) (now links)) (now whole) (around .radius) ⌝ }
+    requires { ⌜ SourceOfSome (tables (now masks) (now offsets) (now targets)) (now whole) (around .radius) ⌝ }
     requires { ⌜ (around .centre < length (now whole)) × (getD (now whole) (around .centre) 0 ≡ 0 → ⊥) ⌝ }
-    requires { ⌜ Holds (tables (now masks) (now offsets) (now links)) (now whole) around (now queue) ball ⌝ }
+    requires { ⌜ BallHolds (tables (now masks) (now offsets) (now targets)) (now whole) around (now queue) ball ⌝ }
     requires { ⌜ (length (now dist) ≡ length (now whole)) × (length (now queue) ≡ length (now whole)) × (length (now sets) ≡ length (now whole)) ⌝ }
-    ensures { λ b. ⌜ EveryKnown (tables (now (masks .entry)) (now (offsets .entry)) (now (links .entry))) (now (whole .entry)) around (now (dist .exit)) (now (sets .exit)) b ⌝ }
+    ensures { λ b. ⌜ EveryKnown (tables (now (masks .entry)) (now (offsets .entry)) (now (targets .entry))) (now (whole .entry)) around (now (dist .exit)) (now (sets .exit)) b ⌝ }
 {
     let kept = ball.kept;
     if ball.all {
@@ -153,7 +154,7 @@ fn locate(
     let place = find(
         masks,
         offsets,
-        links,
+        targets,
         around.centre,
         kept,
         started,
@@ -171,16 +172,16 @@ struct Span {
     to: usize,
 }
 
-// The text that a centre's line has after its colon, as far as it is known: where the ball holds the centre's component, that which is noted under its label.
-fn known(all: bool, label: usize, texts: &[u32]) -> Span
-    requires { ⌜ (label < 512) × (length (now texts) ≡ 1024) ⌝ }
-    ensures { λ r. ⌜ r ≡ cond all (under (now (texts .entry)) label) (record { from = 0; to = 0 }) ⌝ }
+// The text that a centre's line has after its colon, as far as it is known: where the ball holds the centre's component, that which is noted under its number.
+fn known(all: bool, number: usize, texts: &[u32]) -> Span
+    requires { ⌜ (number < 512) × (length (now texts) ≡ 1024) ⌝ }
+    ensures { λ r. ⌜ r ≡ cond all (under (now (texts .entry)) number) (record { from = 0; to = 0 }) ⌝ }
 {
     if !all {
         return Span { from: 0, to: 0 };
     }
-    let from = texts[label] as usize;
-    let to = texts[Board::MAX_NODES + label] as usize;
+    let from = texts[number] as usize;
+    let to = texts[Board::MAX_NODES + number] as usize;
     Span { from, to }
 }
 
@@ -194,16 +195,16 @@ fn put_again(c: usize, text: Span, out: &mut [u8], at: usize) -> usize
     put_copy(text.from, text.to, out, body)
 }
 
-// A component's text noted under its label, where its end is a number of 32 bits.
-fn note(label: usize, text: Span, texts: &mut [u32])
-    requires { ⌜ (label < 512) × (length (now texts) ≡ 1024) × (text .from ≤ text .to) ⌝ }
-    ensures { λ _. ⌜ now (texts .exit) ≡ noting (now (texts .entry)) label text ⌝ }
+// A component's text noted under its number, where its end is a number of 32 bits.
+fn note(number: usize, text: Span, texts: &mut [u32])
+    requires { ⌜ (number < 512) × (length (now texts) ≡ 1024) × (text .from ≤ text .to) ⌝ }
+    ensures { λ _. ⌜ now (texts .exit) ≡ noting (now (texts .entry)) number text ⌝ }
 {
     if FURTHEST < text.to {
         return;
     }
-    texts[label] = text.from as u32;
-    texts[Board::MAX_NODES + label] = text.to as u32;
+    texts[number] = text.from as u32;
+    texts[Board::MAX_NODES + number] = text.to as u32;
 }
 
 // Where a line is to be put, and around which centre.
@@ -217,28 +218,28 @@ fn put_new(
     names: &[u32],
     masks: &[u32],
     offsets: &[u16],
-    links: &[u16],
+    targets: &[u16],
     whole: &[u32],
-    ball: Held,
+    ball: ComponentHeld,
     line: Line,
     dist: &mut [u16],
     queue: &mut [u16],
     out: &mut [u8],
 ) -> usize
-    requires { ⌜ SourceOfSome (tables (now masks) (now offsets) (now links)) (now whole) (line .around .radius) ⌝ }
+    requires { ⌜ SourceOfSome (tables (now masks) (now offsets) (now targets)) (now whole) (line .around .radius) ⌝ }
     requires { ⌜ (line .around .centre < length (now whole)) × (getD (now whole) (line .around .centre) 0 ≡ 0 → ⊥) ⌝ }
-    requires { ⌜ Holds (tables (now masks) (now offsets) (now links)) (now whole) (line .around) (now queue) ball ⌝ }
+    requires { ⌜ BallHolds (tables (now masks) (now offsets) (now targets)) (now whole) (line .around) (now queue) ball ⌝ }
     requires { ⌜ (length (now dist) ≡ length (now whole)) × (length (now queue) ≡ length (now whole)) ⌝ }
     requires { ⌜ Names (now names) × (length (now whole) ≤ length (now names)) ⌝ }
     requires { ⌜ line .at + longestLine ≤ length (now out) ⌝ }
-    ensures { λ r. ⌜ EveryLine (tables (now (masks .entry)) (now (offsets .entry)) (now (links .entry))) (now (whole .entry)) (line .around) (now (out .entry)) (line .at) (now (out .exit)) r ⌝ }
+    ensures { λ r. ⌜ EveryLine (tables (now (masks .entry)) (now (offsets .entry)) (now (targets .entry))) (now (whole .entry)) (line .around) (now (out .entry)) (line .at) (now (out .exit)) r ⌝ }
 {
     let mut table = [0u32; Board::MAX_NODES];
     let sets = &mut table[..whole.len()];
     let there = locate(
         masks,
         offsets,
-        links,
+        targets,
         whole,
         ball,
         line.around,
@@ -250,38 +251,38 @@ fn put_new(
         return line.at;
     }
     let c = line.around.centre as usize;
-    put_line(names, masks, offsets, links, dist, sets, c, out, line.at)
+    put_line(names, masks, offsets, targets, dist, sets, c, out, line.at)
 }
 
 // A centre's line, nothing where there is no place around it. A centre that the whole board's table leaves empty has none. The text of a component is made
-// once, and noted: `texts` has under a label where it begins, and `Board::MAX_NODES` further on where it ends.
+// once, and noted: `texts` has under a number where it begins, and `Board::MAX_NODES` further on where it ends.
 fn put_centre(
     names: &[u32],
     masks: &[u32],
     offsets: &[u16],
-    links: &[u16],
+    targets: &[u16],
     whole: &[u32],
-    labels: &[u16],
+    component_of: &[u16],
     sizes: &[u16],
     line: Line,
     texts: &mut [u32],
     out: &mut [u8],
 ) -> usize
-    requires { ⌜ SourceOfSome (tables (now masks) (now offsets) (now links)) (now whole) (line .around .radius) ⌝ }
-    requires { ⌜ Components (length (now whole)) (matched (tables (now masks) (now offsets) (now links)) (now whole)) (now whole) (now labels) (now sizes) ⌝ }
+    requires { ⌜ SourceOfSome (tables (now masks) (now offsets) (now targets)) (now whole) (line .around .radius) ⌝ }
+    requires { ⌜ Components (length (now whole)) (matched (tables (now masks) (now offsets) (now targets)) (now whole)) (now whole) (now «component_of») (now sizes) ⌝ }
     requires { ⌜ line .around .centre < length (now whole) ⌝ }
     requires { ⌜ Names (now names) × (length (now whole) ≤ length (now names)) ⌝ }
     requires { ⌜ line .at + longestLine ≤ length (now out) ⌝ }
-    requires { ⌜ Kept (tables (now masks) (now offsets) (now links)) (now whole) (now labels) (now out) (line .at) (now texts) ⌝ }
-    ensures { λ r. ⌜ EveryLine (tables (now (masks .entry)) (now (offsets .entry)) (now (links .entry))) (now (whole .entry)) (line .around) (now (out .entry)) (line .at) (now (out .exit)) r ⌝ }
-    ensures { λ r. ⌜ Kept (tables (now (masks .entry)) (now (offsets .entry)) (now (links .entry))) (now (whole .entry)) (now (labels .entry)) (now (out .exit)) r (now (texts .exit)) ⌝ }
+    requires { ⌜ Kept (tables (now masks) (now offsets) (now targets)) (now whole) (now «component_of») (now out) (line .at) (now texts) ⌝ }
+    ensures { λ r. ⌜ EveryLine (tables (now (masks .entry)) (now (offsets .entry)) (now (targets .entry))) (now (whole .entry)) (line .around) (now (out .entry)) (line .at) (now (out .exit)) r ⌝ }
+    ensures { λ r. ⌜ Kept (tables (now (masks .entry)) (now (offsets .entry)) (now (targets .entry))) (now (whole .entry)) (now («component_of» .entry)) (now (out .exit)) r (now (texts .exit)) ⌝ }
 {
     let c = line.around.centre as usize;
     if whole[c] == 0 {
         return line.at;
     }
-    let label = labels[c] as usize;
-    let size = sizes[label] as usize;
+    let number = component_of[c] as usize;
+    let size = sizes[number] as usize;
     let mut distances = [0u16; Board::MAX_NODES];
     let mut nodes = [0u16; Board::MAX_NODES];
     let n = whole.len();
@@ -290,15 +291,15 @@ fn put_centre(
     let ball = holds(
         masks,
         offsets,
-        links,
+        targets,
         whole,
-        labels,
+        component_of,
         size,
         line.around,
         dist,
         queue,
     );
-    let text = known(ball.all, label, texts);
+    let text = known(ball.all, number, texts);
     if text.to != 0 {
         return put_again(c, text, out, line.at);
     }
@@ -306,7 +307,7 @@ fn put_centre(
         names,
         masks,
         offsets,
-        links,
+        targets,
         whole,
         ball,
         line,
@@ -316,7 +317,7 @@ fn put_centre(
     );
     if ball.all {
         let from = line.at + head_bytes(c);
-        note(label, Span { from, to: end }, texts);
+        note(number, Span { from, to: end }, texts);
     }
     end
 }
@@ -325,16 +326,16 @@ fn put_centre(
 pub fn put_centres(
     masks: &[u32],
     offsets: &[u16],
-    links: &[u16],
+    targets: &[u16],
     whole: &[u32],
-    labels: &[u16],
+    component_of: &[u16],
     sizes: &[u16],
     resume: Resume,
     out: &mut [u8],
-) -> Part
-    requires { ⌜ SourceOfSome (tables (now masks) (now offsets) (now links)) (now whole) (resume .radius) ⌝ }
-    requires { ⌜ Components (length (now whole)) (matched (tables (now masks) (now offsets) (now links)) (now whole)) (now whole) (now labels) (now sizes) ⌝ }
-    ensures { λ p. ⌜ EveryWrote (tables (now (masks .entry)) (now (offsets .entry)) (now (links .entry))) (now (whole .entry)) (resume .radius) (λ pattern board. centresPiece pattern board (resume .from) (resume .found) (length (now (out .entry)))) (now (out .entry)) (now (out .exit)) p ⌝ }
+) -> PutPiece
+    requires { ⌜ SourceOfSome (tables (now masks) (now offsets) (now targets)) (now whole) (resume .radius) ⌝ }
+    requires { ⌜ Components (length (now whole)) (matched (tables (now masks) (now offsets) (now targets)) (now whole)) (now whole) (now «component_of») (now sizes) ⌝ }
+    ensures { λ p. ⌜ EveryWrote (tables (now (masks .entry)) (now (offsets .entry)) (now (targets .entry))) (now (whole .entry)) (resume .radius) (λ pattern board. centresPiece pattern board (resume .from) (resume .found) (length (now (out .entry)))) (now (out .entry)) (now (out .exit)) p ⌝ }
 {
     let mut names = [0u32; Board::MAX_NODES];
     make_names(&mut names);
@@ -352,9 +353,9 @@ pub fn put_centres(
             &names,
             masks,
             offsets,
-            links,
+            targets,
             whole,
-            labels,
+            component_of,
             sizes,
             Line { around, at },
             &mut texts,
@@ -364,7 +365,7 @@ pub fn put_centres(
         at = next;
         c += 1;
     }
-    Part {
+    PutPiece {
         next: c,
         found: count,
         size: at,
@@ -372,9 +373,9 @@ pub fn put_centres(
 }
 
 // The last line after a part that has come to the centre n, where there is room for it.
-pub fn put_last(part: Part, n: usize, out: &mut [u8]) -> Part
+pub fn put_last(part: PutPiece, n: usize, out: &mut [u8]) -> PutPiece
     requires { ⌜ (part .size ≤ length (now out)) × (part .found < 100000) × (n < 1000) ⌝ }
-    ensures { λ r. ⌜ Closed (now (out .entry)) part n (now (out .exit)) r ⌝ }
+    ensures { λ r. ⌜ LastPut (now (out .entry)) part n (now (out .exit)) r ⌝ }
 {
     if part.next != n {
         return part;
@@ -384,7 +385,7 @@ pub fn put_last(part: Part, n: usize, out: &mut [u8]) -> Part
         return part;
     }
     let end = put_end(part.found, n, out, at);
-    Part {
+    PutPiece {
         next: n + 1,
         found: part.found,
         size: end,

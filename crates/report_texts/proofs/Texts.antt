@@ -1,17 +1,10 @@
 -- Laws of a line's two parts, and of text that stands in a buffer: it stays where later text is put after it, and what was put is found there again. Assumes
 -- nothing.
-use mathlib.Core.Bool.{Bool, cond}
-use mathlib.Core.List.{List, [], _∷_, _++_, append-assoc}
-use mathlib.Core.Path.{_≡_, refl, sym, ap, ap₂, _∙_}
-use Prim.Native.Nat.{ℕ, zero, suc, _+_, _-_, _≤_, _<_, suc-le-suc}
-use native.Mathlib.Nat.{le-of-suc-le-suc, not-suc-le-zero, zero-add}
-use native.Mathlib.Omega.{arith}
-use lib.ListN.{length, getD, take, drop, set, length-set, length-drop, length-append}
-use lib.Seq.{length-take-le, getD-take, getD-drop, getD-set-same, getD-set-other, sets}
-use Rattle.base_lists.specs.List.{part, tabulate}
-use Rattle.base_lists.specs.Below.{concatBelow}
-use Rattle.base_lists.proofs.Ranks.{concatBelow-same}
-use Rattle.base_lists.proofs.Tables.{is-tabulate, tabulate-same}
+use Rattle.base_lists.specs.Kit.{_≡_, _∙_, sym, ap, refl, ap₂, List, _++_, append-assoc, ℕ, _≤_, _<_, _+_, _-_, length, getD, length-append, sets, arith, getD-append-add}
+use Rattle.base_lists.specs.List.{part}
+use Rattle.base_lists.proofs.Tables.{is-tabulate, tabulate-same, getD-sets-before, getD-sets}
+use Rattle.base_lists.proofs.Concat.{concatBelow-same}
+use Rattle.base_lists.proofs.Parts.{part-entries}
 use Rattle.base_text.specs.Text.{bytes, decimal, Put}
 use Rattle.base_text.proofs.Text.{put-length}
 use Rattle.graph.specs.Search.{reached}
@@ -42,45 +35,16 @@ body-same t dist other sets e same =
 
 -- ---- text in a buffer
 
-before-sets : (xs l : List ℕ) (i j : ℕ) → j < i → getD (sets l i xs) j 0 ≡ getD l j 0
-before-sets [] l i j h = refl
-before-sets (a ∷ xs) l i j h = before-sets xs (set l i a) (suc i) j (omega arith) ∙ getD-set-other l i j a 0 (λ e. omega arith)
-
-within-sets : (xs l : List ℕ) (i k : ℕ) → k < length xs → i + length xs ≤ length l → getD (sets l i xs) (i + k) 0 ≡ getD xs k 0
-within-sets [] l i k h room = absurd (not-suc-le-zero h)
-within-sets (a ∷ xs) l i zero h room =
-    ap (λ (j : ℕ). getD (sets (set l i a) (suc i) xs) j 0) (omega arith) ∙ before-sets xs (set l i a) (suc i) i (omega arith) ∙ getD-set-same l i a 0 (omega arith)
-within-sets (a ∷ xs) l i (suc k) h room =
-    ap (λ (j : ℕ). getD (sets (set l i a) (suc i) xs) j 0) (omega arith)
-    ∙ within-sets xs (set l i a) (suc i) k (le-of-suc-le-suc h) (rw (length-set l i a) (omega arith))
-
--- a stretch, entry by entry
-part-entries : (from k : ℕ) (l : List ℕ) → from + k ≤ length l → part from k l ≡ tabulate k (λ i. getD l (from + i) 0)
-unfolding part
-part-entries from k l h =
-    is-tabulate k (λ i. getD l (from + i) 0) (take k (drop from l)) (length-take-le k (drop from l) (omega (arith, length-drop from l)))
-    (λ i b. getD-take k (drop from l) i 0 b ∙ getD-drop from l i 0)
-
-pub part-length : (from k : ℕ) (l : List ℕ) → from + k ≤ length l → length (part from k l) ≡ k
-unfolding part
-part-length from k l h = length-take-le k (drop from l) (omega (arith, length-drop from l))
-
-append-right : (xs ys : List ℕ) (i : ℕ) → getD (xs ++ ys) (length xs + i) 0 ≡ getD ys i 0
-append-right [] ys i = ap (λ (j : ℕ). getD ys j 0) (zero-add i)
-append-right (x ∷ xs) ys i =
-    let e : suc (length xs) + i ≡ suc (length xs + i) = omega arith in
-    ap (λ (j : ℕ). getD (x ∷ (xs ++ ys)) j 0) e ∙ append-right xs ys i
-
 module _ {o after : List ℕ} {at past : ℕ} where
   -- what stands before it stays
   pub put-before : {xs : List ℕ} → Put o at xs after past → (from k : ℕ) → from + k ≤ at → from + k ≤ length o → part from k after ≡ part from k o
   put-before {xs} p from k h l =
       part-entries from k after (rw (put-length p) l)
-      ∙ tabulate-same k _ _ (λ i b. ap (λ (r : List ℕ). getD r (from + i) 0) (p .table) ∙ before-sets xs o at (from + i) (omega arith))
+      ∙ tabulate-same k _ _ (λ i b. ap (λ (r : List ℕ). getD r (from + i) 0) (p .table) ∙ getD-sets-before xs o at (from + i) (omega arith))
       ∙ sym (part-entries from k o l)
 
   pub put-entry : {xs : List ℕ} → Put o at xs after past → (j : ℕ) → j < at → getD after j 0 ≡ getD o j 0
-  put-entry {xs} p j h = ap (λ (r : List ℕ). getD r j 0) (p .table) ∙ before-sets xs o at j h
+  put-entry {xs} p j h = ap (λ (r : List ℕ). getD r j 0) (p .table) ∙ getD-sets-before xs o at j h
 
   -- the second of two texts that were put stands after the first
   pub put-second : (xs ys : List ℕ) → Put o at (xs ++ ys) after past → at + length (xs ++ ys) ≤ length o → part (at + length xs) (length ys) after ≡ ys
@@ -91,6 +55,6 @@ module _ {o after : List ℕ} {at past : ℕ} where
       (λ i b.
       ap (λ (r : List ℕ). getD r ((at + length xs) + i) 0) (p .table)
       ∙ ap (λ (j : ℕ). getD (sets o at (xs ++ ys)) j 0) (omega arith)
-      ∙ within-sets (xs ++ ys) o at (length xs + i) (omega arith) room
-      ∙ append-right xs ys i)
+      ∙ getD-sets (xs ++ ys) o at (length xs + i) (omega arith) room
+      ∙ getD-append-add xs ys i 0)
       ∙ sym (is-tabulate (length ys) (λ i. getD ys i 0) ys refl (λ i _. refl))

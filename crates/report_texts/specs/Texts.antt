@@ -1,6 +1,5 @@
 -- A line in two parts: up to its colon, by the centre alone, and what follows, by the place alone.
-use mathlib.Core.List.{List, _++_}
-use Prim.Native.Nat.{ℕ}
+use Rattle.base_lists.specs.Kit.{List, _++_, ℕ}
 use Rattle.base_text.specs.Text.{bytes, decimal}
 use Rattle.table.specs.Prepared.{Tables}
 use Rattle.report.specs.Lines.{nodesText, linksText}

@@ -1,9 +1,8 @@
 -- Reading out sets that no machine has, by computation. Assumes nothing.
-use mathlib.Core.List.{[], _∷_}
-use mathlib.Core.Path.{_≡_, refl}
+use Rattle.base_lists.specs.Kit.{_≡_, refl, [], _∷_}
 use Rattle.base_lists.specs.Below.{countBelow}
 use Rattle.base_bits.specs.Bits.{bit, sizeOf}
-use Rattle.table_answer.specs.Union.{unionAll}
+use Rattle.table.specs.Union.{unionAll}
 use Rattle.session.specs.Tables.{occurOrNone}
 
 -- two parts at two nodes, of a pattern of two

@@ -1,8 +1,5 @@
 -- Why a cut may strike on from the last table: with fewer links left the old largest set contains the new one. Assumes nothing.
-use mathlib.Core.List.{List}
-use Prim.Native.Nat.{ℕ, _≤_}
-use lib.Dec.{T}
-use lib.ListN.{length}
+use Rattle.base_lists.specs.Kit.{List, ℕ, _≤_, T, length}
 use Rattle.base_lists.specs.List.{Occurs}
 use Rattle.graph.specs.Chosen.{chosen, ChosenLink}
 use Rattle.graph.specs.Circuit.{Circuit, HasLink}
@@ -28,7 +25,7 @@ module _ (board : Circuit) (left left′ : List ℕ) (fewer : (i : ℕ) → T (i
 
   -- The last table of the pattern on more links is one to begin with on fewer.
   pub fewer-begins :
-      (pattern : Circuit) → length (pattern .kinds) ≤ 32 →
+      (pattern : Circuit) → length (pattern .labels) ≤ 32 →
       Begins pattern (chosen board left′) (everything (chosen board left′)) (lastTable pattern (chosen board left) (everything (chosen board left)))
   unfolding problemBy withMoves agrees everything chosen
   fewer-begins pattern most =

@@ -1,22 +1,12 @@
 -- The links of a machine as the tables hold them: they lead where the links left lead, and taking a link out leaves the others. Assumes nothing.
-use mathlib.Core.Bool.{Bool, true, false, cond}
-use mathlib.Core.List.{List, [], _∷_}
-use mathlib.Core.Logic.{_↔_, Iff·trans, Iff·symm}
-use mathlib.Core.Path.{_≡_, refl, sym, ap, ap₂, subst, _∙_}
-use Prim.Native.Nat.{ℕ, zero, suc, _+_, _≤_, _<_, suc-le-suc}
-use native.Mathlib.Nat.{zero-lt-suc, not-suc-le-zero, le-of-suc-le-suc}
-use native.Mathlib.Omega.{arith}
-use borrow.Author.Tests.{eqb-true, eqb-false, ltb-true, ltb-false}
-use lib.Dec.{T, eqb, ltb}
-use lib.ListN.{length, getD, set, take, drop, List·getD-eq-default}
-use lib.Seq.{getD-set-same, getD-set-other, set-out, take-set-le, take-set-lt, drop-set-lt, drop-set-add}
+use Rattle.base_lists.specs.Kit.{_≡_, _∙_, sym, ap, refl, subst, ap₂, _↔_, Iff·trans, Iff·symm, Bool, false, true, cond, List, [], _∷_, ℕ, _≤_, _<_, _+_, suc, zero, suc-le-suc, not-suc-le-zero, le-of-suc-le-suc, zero-lt-suc, T, eqb, ltb, length, getD, take, drop, set, List·getD-eq-default, getD-set-other, getD-set-same, set-out, take-set-le, drop-set-add, drop-set-lt, take-set-lt, arith, eqb-true, ltb-false, eqb-false, ltb-true}
 use Rattle.base_lists.specs.List.{part, Occurs}
 use Rattle.base_lists.proofs.Tables.{length-tabulate, getD-tabulate}
 use Rattle.base_lists.proofs.Tests.{T-true, true-T}
 use Rattle.graph.specs.Chosen.{chosen, ChosenLink}
 use Rattle.graph.specs.Circuit.{LinkAt, HasLink}
 use Rattle.graph.specs.Neighbours.{select}
-use Rattle.graph.specs.Net.{forwardLinks, backwardLinks, driven, driving}
+use Rattle.graph.specs.Net.{forwardTargets, backwardTargets, driven, driving}
 use Rattle.graph.specs.Search.{inside, far}
 use Rattle.graph.proofs.Chosen.{chosen-iff}
 use Rattle.graph.proofs.Groups.{select-mem, select-mem-back, link-swap}
@@ -25,7 +15,7 @@ use Rattle.table.specs.Fill.{allNodes}
 use Rattle.table.specs.Row.{neighbours}
 use Rattle.session_strike.specs.Moves.{beyond, movesIn}
 use Rattle.session.specs.Machine.{Machine, isLeft, takeOut, boardLeft}
-use Rattle.session.specs.State.{endLeft, without, Linked}
+use Rattle.session.specs.State.{endLeft, endsWithout, Linked}
 use Rattle.session.proofs.Left.{end-out, left-inside, below-left}
 
 -- ---- the other ends of some links
@@ -57,15 +47,15 @@ beyond-out ends (k ∷ l) i out =
     ap₂ (λ (a : ℕ) (b : List ℕ). a ∷ b) (getD-set-other ends i k far far (λ e. out (zero, zero-lt-suc _, e)))
     (beyond-out ends l i (λ (j, h, e). out (suc j, suc-le-suc h, e)))
 
-entry-out : (ends : List ℕ) (place i : ℕ) → getD (set ends place far) i far ≡ cond (eqb i place) far (getD ends i far)
-entry-out ends place i = go (eqb i place) refl (ltb place (length ends)) refl
+entry-out : (ends : List ℕ) (linkIndex i : ℕ) → getD (set ends linkIndex far) i far ≡ cond (eqb i linkIndex) far (getD ends i far)
+entry-out ends linkIndex i = go (eqb i linkIndex) refl (ltb linkIndex (length ends)) refl
   where
-    go : (b : Bool) → eqb i place ≡ b → (a : Bool) → ltb place (length ends) ≡ a → getD (set ends place far) i far ≡ cond b far (getD ends i far)
-    go true e true l = rw (eqb-true i place e) (getD-set-same ends place far far (ltb-true _ _ l))
+    go : (b : Bool) → eqb i linkIndex ≡ b → (a : Bool) → ltb linkIndex (length ends) ≡ a → getD (set ends linkIndex far) i far ≡ cond b far (getD ends i far)
+    go true e true l = rw (eqb-true i linkIndex e) (getD-set-same ends linkIndex far far (ltb-true _ _ l))
     go true e false l =
-        let none : length ends ≤ place = ltb-false _ _ l in
-        rw (eqb-true i place e, set-out ends place far none) (List·getD-eq-default ends far none)
-    go false e a l = getD-set-other ends place i far far (eqb-false i place e)
+        let none : length ends ≤ linkIndex = ltb-false _ _ l in
+        rw (eqb-true i linkIndex e, set-out ends linkIndex far none) (List·getD-eq-default ends far none)
+    go false e a l = getD-set-other ends linkIndex i far far (eqb-false i linkIndex e)
 
 -- ---- the numbers of the links of a node
 
@@ -108,20 +98,20 @@ module _ (m : Machine) (keys others : List ℕ) (long : length keys ≡ length (
           (i, numbers-mem keys v i .1 (l .inStarts, l .start), entries i ∙ ap (λ (b : Bool). cond b (getD others i 0) far) in-left ∙ l .end)
 
 module _ (m : Machine) {offsets numbers ends : List ℕ} (linked : Linked m offsets numbers ends) (parallel : length (m .board .starts) ≡ length (m .board .ends))
-    (few : length (m .board .kinds) ≤ 512) where
+    (few : length (m .board .labels) ≤ 512) where
   -- the moves lead where the links left lead
   pub linked-leads :
-      (d : Direction) (v w : ℕ) → v < length (m .board .kinds) → w < length (m .board .kinds) →
+      (d : Direction) (v w : ℕ) → v < length (m .board .labels) → w < length (m .board .labels) →
       Occurs (movesIn offsets numbers ends d v) w ↔ Occurs (neighbours (boardLeft m) d v) w
   unfolding movesIn neighbours boardLeft ChosenLink
   linked-leads forwards v w h l =
       let n : w < 512 = omega arith in
       rw (linked .byStart v h)
-      (Iff·trans (leads m (m .board .starts) (m .board .ends) refl (sym parallel) (forwardLinks ends) (linked .atEnds) v w n)
+      (Iff·trans (leads m (m .board .starts) (m .board .ends) refl (sym parallel) (forwardTargets ends) (linked .atEnds) v w n)
       (Iff·trans (Iff·symm (chosen-iff (m .board) (m .left) v w)) (Iff·symm (select-mem (chosen (m .board) (m .left) .starts) (chosen (m .board) (m .left) .ends) v w))))
   linked-leads backwards v w h l =
       let n : w < 512 = omega arith in
-      let along = leads m (m .board .ends) (m .board .starts) (sym parallel) parallel (backwardLinks ends) (linked .atStarts) v w n in
+      let along = leads m (m .board .ends) (m .board .starts) (sym parallel) parallel (backwardTargets ends) (linked .atStarts) v w n in
       rw (linked .byEnd v h, parallel)
       (Iff·trans along
       (Iff·trans ((λ (i, x, t). (i, link-swap _ _ _ _ _ x, t)), (λ (i, x, t). (i, link-swap _ _ _ _ _ x, t)))
@@ -129,19 +119,19 @@ module _ (m : Machine) {offsets numbers ends : List ℕ} (linked : Linked m offs
 
 -- ---- a link taken out
 
-module _ (ends : List ℕ) (place : ℕ) (h : place < 4096) where
-  pub forward-out : forwardLinks (without ends place) ≡ set (forwardLinks ends) place far
+module _ (ends : List ℕ) (linkIndex : ℕ) (h : linkIndex < 4096) where
+  pub forward-out : forwardTargets (endsWithout ends linkIndex) ≡ set (forwardTargets ends) linkIndex far
   unfolding part
-  forward-out = take-set-le 4096 (set ends place far) (4096 + place) far (omega arith) ∙ take-set-lt 4096 ends place far h
+  forward-out = take-set-le 4096 (set ends linkIndex far) (4096 + linkIndex) far (omega arith) ∙ take-set-lt 4096 ends linkIndex far h
 
-  pub backward-out : backwardLinks (without ends place) ≡ set (backwardLinks ends) place far
+  pub backward-out : backwardTargets (endsWithout ends linkIndex) ≡ set (backwardTargets ends) linkIndex far
   unfolding part
   backward-out =
-      ap (take 4096) (drop-set-add 4096 (set ends place far) place far ∙ ap (λ (l : List ℕ). set l place far) (drop-set-lt 4096 ends place far h))
-      ∙ take-set-lt 4096 (drop 4096 ends) place far h
+      ap (take 4096) (drop-set-add 4096 (set ends linkIndex far) linkIndex far ∙ ap (λ (l : List ℕ). set l linkIndex far) (drop-set-lt 4096 ends linkIndex far h))
+      ∙ take-set-lt 4096 (drop 4096 ends) linkIndex far h
 
-module _ (m : Machine) {offsets numbers ends : List ℕ} (linked : Linked m offsets numbers ends) (place : ℕ) (h : place < 4096) where
-  pub linked-out : Linked (takeOut m place) offsets numbers (without ends place)
+module _ (m : Machine) {offsets numbers ends : List ℕ} (linked : Linked m offsets numbers ends) (linkIndex : ℕ) (h : linkIndex < 4096) where
+  pub linked-out : Linked (takeOut m linkIndex) offsets numbers (endsWithout ends linkIndex)
   unfolding takeOut
   linked-out =
       record {
@@ -149,29 +139,29 @@ module _ (m : Machine) {offsets numbers ends : List ℕ} (linked : Linked m offs
         byEnd = linked .byEnd;
         atEnds =
             λ i.
-            ap (λ (l : List ℕ). getD l i far) (forward-out ends place h)
-            ∙ entry-out (forwardLinks ends) place i
-            ∙ ap (λ (x : ℕ). cond (eqb i place) far x) (linked .atEnds i)
-            ∙ sym (end-out m place (m .board .ends) i);
+            ap (λ (l : List ℕ). getD l i far) (forward-out ends linkIndex h)
+            ∙ entry-out (forwardTargets ends) linkIndex i
+            ∙ ap (λ (x : ℕ). cond (eqb i linkIndex) far x) (linked .atEnds i)
+            ∙ sym (end-out m linkIndex (m .board .ends) i);
         atStarts =
             λ i.
-            ap (λ (l : List ℕ). getD l i far) (backward-out ends place h)
-            ∙ entry-out (backwardLinks ends) place i
-            ∙ ap (λ (x : ℕ). cond (eqb i place) far x) (linked .atStarts i)
-            ∙ sym (end-out m place (m .board .starts) i);
+            ap (λ (l : List ℕ). getD l i far) (backward-out ends linkIndex h)
+            ∙ entry-out (backwardTargets ends) linkIndex i
+            ∙ ap (λ (x : ℕ). cond (eqb i linkIndex) far x) (linked .atStarts i)
+            ∙ sym (end-out m linkIndex (m .board .starts) i);
       }
 
   -- the moves of a node that is at neither end stay
   pub moves-apart :
-      length (m .board .starts) ≡ length (m .board .ends) → (v : ℕ) → v < length (m .board .kinds) →
-      (getD (m .board .starts) place 0 ≡ v → ⊥) → (getD (m .board .ends) place 0 ≡ v → ⊥) → (d : Direction) →
-      movesIn offsets numbers (without ends place) d v ≡ movesIn offsets numbers ends d v
+      length (m .board .starts) ≡ length (m .board .ends) → (v : ℕ) → v < length (m .board .labels) →
+      (getD (m .board .starts) linkIndex 0 ≡ v → ⊥) → (getD (m .board .ends) linkIndex 0 ≡ v → ⊥) → (d : Direction) →
+      movesIn offsets numbers (endsWithout ends linkIndex) d v ≡ movesIn offsets numbers ends d v
   unfolding movesIn
   moves-apart parallel v l start end forwards =
-      ap (λ (x : List ℕ). beyond x (driven offsets numbers v)) (forward-out ends place h)
-      ∙ beyond-out (forwardLinks ends) (driven offsets numbers v) place
-      (λ o. start (numbers-mem (m .board .starts) v place .0 (rw (linked .byStart v l) at o) .1))
+      ap (λ (x : List ℕ). beyond x (driven offsets numbers v)) (forward-out ends linkIndex h)
+      ∙ beyond-out (forwardTargets ends) (driven offsets numbers v) linkIndex
+      (λ o. start (numbers-mem (m .board .starts) v linkIndex .0 (rw (linked .byStart v l) at o) .1))
   moves-apart parallel v l start end backwards =
-      ap (λ (x : List ℕ). beyond x (driving offsets numbers v)) (backward-out ends place h)
-      ∙ beyond-out (backwardLinks ends) (driving offsets numbers v) place
-      (λ o. end (numbers-mem (m .board .ends) v place .0 (rw (linked .byEnd v l, parallel) at o) .1))
+      ap (λ (x : List ℕ). beyond x (driving offsets numbers v)) (backward-out ends linkIndex h)
+      ∙ beyond-out (backwardTargets ends) (driving offsets numbers v) linkIndex
+      (λ o. end (numbers-mem (m .board .ends) v linkIndex .0 (rw (linked .byEnd v l, parallel) at o) .1))

@@ -1,12 +1,6 @@
 -- For every list of cuts: each reply is the machine's, and afterwards the tables hold the machine after the list. Its table is the largest dual simulation in the
 -- nodes with the links left. Assumes nothing.
-use mathlib.Core.Bool.{Bool, true, false, _&&_, _||_, not, cond, and-true}
-use mathlib.Core.List.{List, [], _∷_}
-use mathlib.Core.Path.{_≡_, refl, sym, ap, ap₂, subst, _∙_}
-use Prim.Native.Nat.{ℕ}
-use borrow.Author.Tests.{eqb-true, eq-eqb}
-use lib.Dec.{T, eqb, eqb→eq}
-use lib.ListN.{length}
+use Rattle.base_lists.specs.Kit.{_≡_, _∙_, sym, ap, refl, subst, ap₂, Bool, false, true, cond, _&&_, not, _||_, and-true, List, [], _∷_, ℕ, T, eqb, eqb→eq, length, eq-eqb, eqb-true}
 use Rattle.base_lists.specs.List.{any}
 use Rattle.base_lists.proofs.Tests.{T-true, true-T, same-test}
 use Rattle.graph.specs.Chosen.{chosen}
@@ -31,14 +25,14 @@ use Rattle.session.proofs.Left.{left-out}
 
 -- ---- the two kinds of cut
 
-module _ (m : Machine) (place : ℕ) where
+module _ (m : Machine) (linkIndex : ℕ) where
   -- "takes it out of the set. Its reply is then 'cut'."
-  pub cut-left : T (isLeft m place) → (cutReply m place ≡ accept) × (cutMachine m place ≡ takeOut m place)
+  pub cut-left : T (isLeft m linkIndex) → (cutReply m linkIndex ≡ accept) × (cutMachine m linkIndex ≡ takeOut m linkIndex)
   unfolding cutReply cutMachine first linkGone
-  cut-left t = let e : isLeft m place ≡ true = T-true {b = isLeft m place} t in (rw e, rw e)
+  cut-left t = let e : isLeft m linkIndex ≡ true = T-true {b = isLeft m linkIndex} t in (rw e, rw e)
 
   -- "A cut of a link already out, or of a place not below M, changes nothing and its reply is 14."
-  pub cut-gone : isLeft m place ≡ false → (cutReply m place ≡ refuse (record { number = 14; file = Neither })) × (cutMachine m place ≡ m)
+  pub cut-gone : isLeft m linkIndex ≡ false → (cutReply m linkIndex ≡ refuse (record { number = 14; file = Neither })) × (cutMachine m linkIndex ≡ m)
   unfolding cutReply cutMachine first linkGone
   cut-gone e = (rw e, rw e)
 
@@ -46,40 +40,40 @@ module _ (m : Machine) (place : ℕ) where
 
 -- "For every list of cuts from a fresh session, after it .. each reply in the list is the machine's": and so from any machine that the tables hold.
 pub run-holds :
-    (places : List ℕ) (rs : List Verdict) (m : Machine) {before after : State} → Holds m before → Cuts before places rs after →
-    (rs ≡ replies m places) × Holds (machineAfter m places) after
+    (linkIndices : List ℕ) (rs : List Verdict) (m : Machine) {before after : State} → Holds m before → Cuts before linkIndices rs after →
+    (rs ≡ replies m linkIndices) × Holds (machineAfter m linkIndices) after
 unfolding Cuts replies machineAfter
 run-holds [] [] m h e = (refl, subst (Holds m) (sym e) h)
 run-holds [] (r ∷ rs) m h c = absurd c
-run-holds (place ∷ places) [] m h c = absurd c
-run-holds (place ∷ places) (r ∷ rs) m h (s, cut, rest) =
+run-holds (linkIndex ∷ linkIndices) [] m h c = absurd c
+run-holds (linkIndex ∷ linkIndices) (r ∷ rs) m h (s, cut, rest) =
     let (e, now, content) = cut .machine m h in
-    let (es, end) = run-holds places rs (cutMachine m place) now rest in
+    let (es, end) = run-holds linkIndices rs (cutMachine m linkIndex) now rest in
     (ap₂ (λ (x : Verdict) (xs : List Verdict). x ∷ xs) e es, end)
 
 -- the links left after a list are those that are not in it
-pub cut-keeps : (m : Machine) (place i : ℕ) → isLeft (cutMachine m place) i ≡ isLeft m i && not (eqb place i)
+pub cut-keeps : (m : Machine) (linkIndex i : ℕ) → isLeft (cutMachine m linkIndex) i ≡ isLeft m i && not (eqb linkIndex i)
 unfolding cutMachine
-cut-keeps m place i = go (isLeft m place) refl
+cut-keeps m linkIndex i = go (isLeft m linkIndex) refl
   where
-    apart : eqb i place ≡ eqb place i
-    apart = same-test (λ t. true-T (eq-eqb place i (sym (eqb→eq i place t)))) (λ t. true-T (eq-eqb i place (sym (eqb→eq place i t))))
+    apart : eqb i linkIndex ≡ eqb linkIndex i
+    apart = same-test (λ t. true-T (eq-eqb linkIndex i (sym (eqb→eq i linkIndex t)))) (λ t. true-T (eq-eqb i linkIndex (sym (eqb→eq linkIndex i t))))
 
-    stays : (c : Bool) → eqb place i ≡ c → isLeft m place ≡ false → isLeft m i ≡ isLeft m i && not c
-    stays true q e = let none : isLeft m i ≡ false = ap (isLeft m) (sym (eqb-true place i q)) ∙ e in rw none
+    stays : (c : Bool) → eqb linkIndex i ≡ c → isLeft m linkIndex ≡ false → isLeft m i ≡ isLeft m i && not c
+    stays true q e = let none : isLeft m i ≡ false = ap (isLeft m) (sym (eqb-true linkIndex i q)) ∙ e in rw none
     stays false q e = sym (and-true (isLeft m i))
 
-    go : (b : Bool) → isLeft m place ≡ b → isLeft (cond b (takeOut m place) m) i ≡ isLeft m i && not (eqb place i)
-    go true e = left-out m place i ∙ ap (λ (b : Bool). isLeft m i && not b) apart
-    go false e = stays (eqb place i) refl e
+    go : (b : Bool) → isLeft m linkIndex ≡ b → isLeft (cond b (takeOut m linkIndex) m) i ≡ isLeft m i && not (eqb linkIndex i)
+    go true e = left-out m linkIndex i ∙ ap (λ (b : Bool). isLeft m i && not b) apart
+    go false e = stays (eqb linkIndex i) refl e
 
-pub left-after : (places : List ℕ) (m : Machine) (i : ℕ) → isLeft (machineAfter m places) i ≡ isLeft m i && not (listed places i)
+pub left-after : (linkIndices : List ℕ) (m : Machine) (i : ℕ) → isLeft (machineAfter m linkIndices) i ≡ isLeft m i && not (listed linkIndices i)
 unfolding machineAfter listed any
 left-after [] m i = sym (and-true (isLeft m i))
-left-after (place ∷ places) m i =
-    left-after places (cutMachine m place) i
-    ∙ ap (λ (b : Bool). b && not (any (λ w. eqb w i) places)) (cut-keeps m place i)
-    ∙ go (isLeft m i) (eqb place i) (any (λ w. eqb w i) places)
+left-after (linkIndex ∷ linkIndices) m i =
+    left-after linkIndices (cutMachine m linkIndex) i
+    ∙ ap (λ (b : Bool). b && not (any (λ w. eqb w i) linkIndices)) (cut-keeps m linkIndex i)
+    ∙ go (isLeft m i) (eqb linkIndex i) (any (λ w. eqb w i) linkIndices)
   where
     go : (a b c : Bool) → (a && not b) && not c ≡ a && not (b || c)
     go true true c = refl
@@ -89,20 +83,20 @@ left-after (place ∷ places) m i =
 -- ---- what the table means
 
 -- it has a set for each node
-pub length-table : (m : Machine) → length (machineTable m) ≡ length (m .board .kinds)
+pub length-table : (m : Machine) → length (machineTable m) ≡ length (m .board .labels)
 unfolding machineTable boardLeft chosen
 length-table m = answer-fits bothWays (m .pattern) (boardLeft m) (everything (boardLeft m)) .size
 
 -- a machine keeps its pattern and its board
-pub after-same : (places : List ℕ) (m : Machine) → (machineAfter m places .pattern ≡ m .pattern) × (machineAfter m places .board ≡ m .board)
+pub after-same : (linkIndices : List ℕ) (m : Machine) → (machineAfter m linkIndices .pattern ≡ m .pattern) × (machineAfter m linkIndices .board ≡ m .board)
 unfolding machineAfter cutMachine takeOut
 after-same [] m = (refl, refl)
-after-same (place ∷ places) m =
-    let (p, b) = after-same places (cutMachine m place) in
-    let (q, c) = one (isLeft m place) in
+after-same (linkIndex ∷ linkIndices) m =
+    let (p, b) = after-same linkIndices (cutMachine m linkIndex) in
+    let (q, c) = one (isLeft m linkIndex) in
     (p ∙ q, b ∙ c)
   where
-    one : (b : Bool) → (cond b (takeOut m place) m .pattern ≡ m .pattern) × (cond b (takeOut m place) m .board ≡ m .board)
+    one : (b : Bool) → (cond b (takeOut m linkIndex) m .pattern ≡ m .pattern) × (cond b (takeOut m linkIndex) m .board ≡ m .board)
     one true = (refl, refl)
     one false = (refl, refl)
 
@@ -112,7 +106,7 @@ pub machine-largest :
     Largest (circuitGraph (m .pattern)) (KindsMatch (m .pattern) (boardLeft m)) (circuitGraph (boardLeft m)) (InTable (machineTable m))
 unfolding machineTable boardLeft chosen
 machine-largest m p b =
-    let within = within-all (length (m .board .kinds)) (m .board .starts) (m .board .ends) (bounded-starts b) (bounded-ends b) in
+    let within = within-all (length (m .board .labels)) (m .board .starts) (m .board .ends) (bounded-starts b) (bounded-ends b) in
     along-dual
     (board-along bothWays (m .pattern) (boardLeft m) (p .nodes)
     (within-joins (boardLeft m)

@@ -1,23 +1,18 @@
 -- What a cut and reading out come to where the tables hold a machine: the machine's reply, the tables of the machine after it, and its table. Assumes nothing.
-use mathlib.Core.Bool.{Bool, true, false, cond}
-use mathlib.Core.List.{List, [], _∷_, _++_}
-use mathlib.Core.Path.{_≡_, refl, sym, ap, ap₂, _∙_}
-use Prim.Native.Nat.{ℕ, _≤_, _<_}
-use native.Mathlib.Omega.{arith}
-use borrow.Author.Tests.{leb-true, le-leb, lt-leb}
-use lib.Dec.{leb}
-use lib.ListN.{length, take, drop}
+use Rattle.base_lists.specs.Kit.{_≡_, _∙_, sym, ap, refl, ap₂, Bool, false, true, cond, List, [], _∷_, _++_, ℕ, _≤_, _<_, leb, length, take, drop, arith, le-leb, lt-leb, leb-true}
 use Rattle.base_lists.proofs.Tests.{true-T}
+use Rattle.base_lists.proofs.Tables.{replicate-tabulate}
 use Rattle.file_format.specs.Reading.{filled}
 use Rattle.file_format.specs.Refusals.{Verdict, accept, refuse, first, linkGone, shortTable}
 use Rattle.file_format.specs.Reply.{Reply, reply}
 use Rattle.file_format.specs.declared.Refusal.{Refusal}
+use Rattle.file_format.proofs.Refusals.{accept-not-refuse}
 use Rattle.graph.specs.Chosen.{chosen}
-use Rattle.table.specs.Answer.{Fits, allOrNone}
+use Rattle.table.specs.Answer.{SetsFit, allOrNone}
 use Rattle.table.specs.Host.{everything}
 use Rattle.table.specs.Row.{problemBy, lastTable}
 use Rattle.table.proofs.Meaning.{last-fits}
-use Rattle.table_answer.proofs.AllParts.{occur-size, none-tabulated}
+use Rattle.table.proofs.AllParts.{occur-size}
 use Rattle.table_row.specs.Answer.{answerOf}
 use Rattle.session.specs.Machine.{Machine, isLeft, takeOut, cutReply, cutMachine, replies, machineAfter, boardLeft, machineTable}
 use Rattle.session.specs.Session.{cutState, CutPromise, ReadPromise}
@@ -45,90 +40,87 @@ bounded-le most x = go (leb x most) refl
 
 module _ {m : Machine} {s : State} (h : Holds m s) where
   -- of tables that hold a machine they are the machine's
-  pub nodes-held : nodesIn (s .fixed) ≡ length (m .board .kinds)
-  nodes-held = ap (bounded 512) (h .nodes) ∙ bounded-in 512 (length (m .board .kinds)) (h .board .nodes)
+  pub nodes-held : nodesIn (s .fixed) ≡ length (m .board .labels)
+  nodes-held = ap (bounded 512) (h .nodes) ∙ bounded-in 512 (length (m .board .labels)) (h .board .nodes)
 
-  pub parts-held : partsIn (s .fixed) ≡ length (m .pattern .kinds)
-  parts-held = ap (bounded 32) (h .parts) ∙ bounded-in 32 (length (m .pattern .kinds)) (h .pattern .nodes)
+  pub parts-held : partsIn (s .fixed) ≡ length (m .pattern .labels)
+  parts-held = ap (bounded 32) (h .parts) ∙ bounded-in 32 (length (m .pattern .labels)) (h .pattern .nodes)
 
   -- ---- a cut
 
-  module _ (place : ℕ) where
-    pub named-held : named s place ≡ isLeft m place
-    named-held = ap (λ (n : ℕ). takes (s .ends) n place) nodes-held ∙ takes-left h place
+  module _ (linkIndex : ℕ) where
+    pub named-held : named s linkIndex ≡ isLeft m linkIndex
+    named-held = ap (λ (n : ℕ). takes (s .ends) n linkIndex) nodes-held ∙ takes-left h linkIndex
 
-    pub answered-held : cutAnswered s place ≡ cutReply m place
+    pub answered-held : cutAnswered s linkIndex ≡ cutReply m linkIndex
     unfolding cutAnswered cutReply
     answered-held = ap (λ (b : Bool). first (linkGone b ∷ [])) named-held
 
     -- the sets are the last table without the link, before those past N
-    sets-held : isLeft m place ≡ true →
-        cutSets s place ≡ lastTable (m .pattern) (boardLeft (takeOut m place)) (everything (boardLeft (takeOut m place))) ++ drop (length (m .board .kinds)) (s .sets)
+    sets-held : isLeft m linkIndex ≡ true →
+        cutSets s linkIndex ≡ lastTable (m .pattern) (boardLeft (takeOut m linkIndex)) (everything (boardLeft (takeOut m linkIndex))) ++ drop (length (m .board .labels)) (s .sets)
     unfolding cutSets
-    sets-held e = rw (nodes-held, cut-last h place (true-T e))
+    sets-held e = rw (nodes-held, cut-last h linkIndex (true-T e))
 
-    pub tables-held : cutTables s place ≡ cutState m place s
+    pub tables-held : cutTables s linkIndex ≡ cutState m linkIndex s
     unfolding cutTables cutState
-    tables-held = rw named-held (go (isLeft m place) refl)
+    tables-held = rw named-held (go (isLeft m linkIndex) refl)
       where
-        go : (b : Bool) → isLeft m place ≡ b →
-            cond b (linkOut s place (cutSets s place)) s
-            ≡ cond b (linkOut s place (lastTable (m .pattern) (boardLeft (takeOut m place)) (everything (boardLeft (takeOut m place))) ++ drop (length (m .board .kinds)) (s .sets))) s
-        go true e = ap (linkOut s place) (sets-held e)
+        go : (b : Bool) → isLeft m linkIndex ≡ b →
+            cond b (linkOut s linkIndex (cutSets s linkIndex)) s
+            ≡ cond b (linkOut s linkIndex (lastTable (m .pattern) (boardLeft (takeOut m linkIndex)) (everything (boardLeft (takeOut m linkIndex))) ++ drop (length (m .board .labels)) (s .sets))) s
+        go true e = ap (linkOut s linkIndex) (sets-held e)
         go false e = refl
 
-    state-holds : Holds (cutMachine m place) (cutState m place s)
+    state-holds : Holds (cutMachine m linkIndex) (cutState m linkIndex s)
     unfolding cutMachine cutState
-    state-holds = go (isLeft m place) refl
+    state-holds = go (isLeft m linkIndex) refl
       where
-        go : (b : Bool) → isLeft m place ≡ b → Holds (cutMachine m place) (cutState m place s)
-        go true e = rw e (cut-holds h place (true-T e))
+        go : (b : Bool) → isLeft m linkIndex ≡ b → Holds (cutMachine m linkIndex) (cutState m linkIndex s)
+        go true e = rw e (cut-holds h linkIndex (true-T e))
         go false e = rw e h
 
     -- the tables after a cut hold the machine after it
-    pub cut-held : Holds (cutMachine m place) (cutTables s place)
+    pub cut-held : Holds (cutMachine m linkIndex) (cutTables s linkIndex)
     cut-held = rw tables-held state-holds
 
 -- for every list of cuts: the replies are the machine's, and the tables hold the machine after the list
-pub cuts-held : (places : List ℕ) {m : Machine} {s : State} → Holds m s → (cutsAnswered s places ≡ replies m places) × Holds (machineAfter m places) (cutsTables s places)
+pub cuts-held : (linkIndices : List ℕ) {m : Machine} {s : State} → Holds m s → (cutsAnswered s linkIndices ≡ replies m linkIndices) × Holds (machineAfter m linkIndices) (cutsTables s linkIndices)
 unfolding cutsAnswered cutsTables replies machineAfter
 cuts-held [] h = (refl, h)
-cuts-held (place ∷ places) h =
-    let (rs, end) = cuts-held places (cut-held h place) in
-    (ap₂ (λ (x : Verdict) (xs : List Verdict). x ∷ xs) (answered-held h place) rs, end)
+cuts-held (linkIndex ∷ linkIndices) h =
+    let (rs, end) = cuts-held linkIndices (cut-held h linkIndex) in
+    (ap₂ (λ (x : Verdict) (xs : List Verdict). x ∷ xs) (answered-held h linkIndex) rs, end)
 
 -- ---- refused
 
-never : (x : Refusal) → accept ≡ refuse x → ⊥
-never x q = let e : _≡_ {A = ℕ} 0 1 = cc in omega arith
-
 -- a cut that is refused leaves all tables as they were, whatever they hold
-pub cut-refused : (s : State) (place : ℕ) (x : Refusal) → cutAnswered s place ≡ refuse x → cutTables s place ≡ s
+pub cut-refused : (s : State) (linkIndex : ℕ) (x : Refusal) → cutAnswered s linkIndex ≡ refuse x → cutTables s linkIndex ≡ s
 unfolding cutAnswered cutTables first linkGone
-cut-refused s place x = go (named s place)
+cut-refused s linkIndex x = go (named s linkIndex)
   where
-    go : (b : Bool) → first (linkGone b ∷ []) ≡ refuse x → cond b (linkOut s place (cutSets s place)) s ≡ s
-    go true q = absurd (never x q)
+    go : (b : Bool) → first (linkGone b ∷ []) ≡ refuse x → cond b (linkOut s linkIndex (cutSets s linkIndex)) s ≡ s
+    go true q = absurd (accept-not-refuse q)
     go false q = refl
 
-pub cut-promise : {before : State} {place : ℕ} {reply : Verdict} {after : State} → CutMade before place reply after → CutPromise before place reply after
-cut-promise {before} {place} c =
+pub cut-promise : {before : State} {linkIndex : ℕ} {reply : Verdict} {after : State} → CutMade before linkIndex reply after → CutPromise before linkIndex reply after
+cut-promise {before} {linkIndex} c =
     record {
       machine =
           λ m h. (
-            c .replied ∙ answered-held h place,
-            rw (c .tables) (cut-held h place),
-            c .tables ∙ tables-held h place,
+            c .replied ∙ answered-held h linkIndex,
+            rw (c .tables) (cut-held h linkIndex),
+            c .tables ∙ tables-held h linkIndex,
           );
-      refused = λ x q. c .tables ∙ cut-refused before place x (sym (c .replied) ∙ q);
+      refused = λ x q. c .tables ∙ cut-refused before linkIndex x (sym (c .replied) ∙ q);
     }
 
 -- ---- reading out
 
 -- of sets that have no part past so many, the rule is the one of the row's answer
-occur-rule : (parts : ℕ) (t : List ℕ) → parts ≤ 32 → Fits (length t) parts t → occurOrNone parts t ≡ allOrNone (length t) parts t
+occur-rule : (parts : ℕ) (t : List ℕ) → parts ≤ 32 → SetsFit (length t) parts t → occurOrNone parts t ≡ allOrNone (length t) parts t
 unfolding occurOrNone allOrNone
-occur-rule parts t few fits = rw (occur-size parts few t fits, none-tabulated (length t))
+occur-rule parts t few fits = rw (occur-size parts few t fits, replicate-tabulate (length t))
 
 pub table-held : {m : Machine} {s : State} → Holds m s → tableIn (s .fixed) (s .sets) ≡ machineTable m
 unfolding machineTable answerOf problemBy boardLeft chosen
@@ -136,13 +128,13 @@ table-held {m} {s} h =
     let last : List ℕ = lastTable (m .pattern) (boardLeft m) (everything (boardLeft m)) in
     let fits = last-fits (m .pattern) (boardLeft m) (everything (boardLeft m)) in
     ap₂ (λ (k n : ℕ). occurOrNone k (take n (s .sets))) (parts-held h) (nodes-held h)
-    ∙ ap (occurOrNone (length (m .pattern .kinds))) (h .table)
-    ∙ occur-rule (length (m .pattern .kinds)) last (h .pattern .nodes) (rw (fits .size) fits)
-    ∙ ap (λ (n : ℕ). allOrNone n (length (m .pattern .kinds)) last) (fits .size)
+    ∙ ap (occurOrNone (length (m .pattern .labels))) (h .table)
+    ∙ occur-rule (length (m .pattern .labels)) last (h .pattern .nodes) (rw (fits .size) fits)
+    ∙ ap (λ (n : ℕ). allOrNone n (length (m .pattern .labels)) last) (fits .size)
 
 read-refused : (v : Verdict) (values table before : List ℕ) (x : Refusal) → reply v values .verdict ≡ refuse x → filled v table before ≡ before
 unfolding reply filled
-read-refused accept values table before x q = absurd (never x q)
+read-refused accept values table before x q = absurd (accept-not-refuse q)
 read-refused (refuse y) values table before x q = refl
 
 pub read-promise :

@@ -1,10 +1,6 @@
 -- The plain machine that defines a session (document 02, cutting tracks while searching): "its state is the pattern, the nodes and the set of board
 -- links left." The nodes and the links of the file are those of a board, and the set has a byte for each link of the file, 1 for one that is left.
-use mathlib.Core.Bool.{Bool, _&&_, cond}
-use mathlib.Core.List.{List, [], _∷_}
-use Prim.Native.Nat.{ℕ}
-use lib.Dec.{ltb}
-use lib.ListN.{length, set}
+use Rattle.base_lists.specs.Kit.{Bool, cond, _&&_, List, [], _∷_, ℕ, ltb, length, set}
 use Rattle.base_lists.specs.List.{tabulate}
 use Rattle.graph.specs.Chosen.{chosen}
 use Rattle.graph.specs.Circuit.{Circuit}
@@ -24,28 +20,28 @@ fresh pattern board = record { pattern = pattern; board = board; left = tabulate
 
 -- the place is that of a link which is left
 unfoldable pub isLeft : Machine → ℕ → Bool
-isLeft m place = ltb place (length (m .board .starts)) && inside (m .left) place
+isLeft m linkIndex = ltb linkIndex (length (m .board .starts)) && inside (m .left) linkIndex
 
 -- "A cut names a link by its place in the file, from 0, and takes it out of the set."
 unfoldable pub takeOut : Machine → ℕ → Machine
-takeOut m place = record { pattern = m .pattern; board = m .board; left = set (m .left) place 0 }
+takeOut m linkIndex = record { pattern = m .pattern; board = m .board; left = set (m .left) linkIndex 0 }
 
 -- "Its reply is then 'cut'. A cut of a link already out, or of a place not below M, changes nothing and its reply is 14." 'Cut' is acceptance.
 unfoldable pub cutReply : Machine → ℕ → Verdict
-cutReply m place = first (linkGone (isLeft m place) ∷ [])
+cutReply m linkIndex = first (linkGone (isLeft m linkIndex) ∷ [])
 
 unfoldable pub cutMachine : Machine → ℕ → Machine
-cutMachine m place = cond (isLeft m place) (takeOut m place) m
+cutMachine m linkIndex = cond (isLeft m linkIndex) (takeOut m linkIndex) m
 
 -- ---- a list of cuts
 
 unfoldable pub replies : Machine → List ℕ → List Verdict
 replies m [] = []
-replies m (place ∷ places) = cutReply m place ∷ replies (cutMachine m place) places
+replies m (linkIndex ∷ linkIndices) = cutReply m linkIndex ∷ replies (cutMachine m linkIndex) linkIndices
 
 unfoldable pub machineAfter : Machine → List ℕ → Machine
 machineAfter m [] = m
-machineAfter m (place ∷ places) = machineAfter (cutMachine m place) places
+machineAfter m (linkIndex ∷ linkIndices) = machineAfter (cutMachine m linkIndex) linkIndices
 
 -- ---- its table
 

@@ -1,14 +1,9 @@
 -- The tables that a session lives in, and which machine they hold. The caller lends them to each call; what they hold is the session's own affair.
-use mathlib.Core.Bool.{Bool, _&&_, cond}
-use mathlib.Core.List.{List}
-use mathlib.Core.Path.{_≡_}
-use Prim.Native.Nat.{ℕ, _+_, _<_}
-use lib.Dec.{ltb}
-use lib.ListN.{length, getD, set, take}
+use Rattle.base_lists.specs.Kit.{_≡_, Bool, cond, _&&_, List, ℕ, _<_, _+_, ltb, length, getD, take, set}
 use Rattle.file_format.specs.Circuit.{Bounded}
 use Rattle.file_format.specs.declared.Role.the-variants as role
 use Rattle.graph.specs.Neighbours.{select}
-use Rattle.graph.specs.Net.{forwardLinks, backwardLinks, driven, driving}
+use Rattle.graph.specs.Net.{forwardTargets, backwardTargets, driven, driving}
 use Rattle.graph.specs.Search.{far}
 use Rattle.table.specs.Fill.{allNodes}
 use Rattle.table.specs.Host.{everything}
@@ -43,24 +38,24 @@ endLeft m ends i = cond (isLeft m i) (getD ends i 0) far
 -- The links left are those of a machine: each node has the numbers of the file's links that start there, and of those that end there; and each
 -- link that is left has its two ends.
 pub record Linked (m : Machine) (offsets numbers ends : List ℕ) : Type 0 where
-  pub byStart : (v : ℕ) → v < length (m .board .kinds) → driven offsets numbers v ≡ select (m .board .starts) (allNodes (length (m .board .starts))) v
-  pub byEnd : (v : ℕ) → v < length (m .board .kinds) → driving offsets numbers v ≡ select (m .board .ends) (allNodes (length (m .board .starts))) v
-  pub atEnds : (i : ℕ) → getD (forwardLinks ends) i far ≡ endLeft m (m .board .ends) i
-  pub atStarts : (i : ℕ) → getD (backwardLinks ends) i far ≡ endLeft m (m .board .starts) i
+  pub byStart : (v : ℕ) → v < length (m .board .labels) → driven offsets numbers v ≡ select (m .board .starts) (allNodes (length (m .board .starts))) v
+  pub byEnd : (v : ℕ) → v < length (m .board .labels) → driving offsets numbers v ≡ select (m .board .ends) (allNodes (length (m .board .starts))) v
+  pub atEnds : (i : ℕ) → getD (forwardTargets ends) i far ≡ endLeft m (m .board .ends) i
+  pub atStarts : (i : ℕ) → getD (backwardTargets ends) i far ≡ endLeft m (m .board .starts) i
 
 -- ---- a link taken out
 
 -- the tables say that a link is left at a place: it has an end among so many nodes
 unfoldable pub takes : List ℕ → ℕ → ℕ → Bool
-takes ends nodes place = ltb place 4096 && ltb (getD ends place far) nodes
+takes ends nodes linkIndex = ltb linkIndex 4096 && ltb (getD ends linkIndex far) nodes
 
 -- the ends with the two entries of a link made no node's
-abbrev pub without : List ℕ → ℕ → List ℕ
-without ends place = set (set ends place far) (4096 + place) far
+abbrev pub endsWithout : List ℕ → ℕ → List ℕ
+endsWithout ends linkIndex = set (set ends linkIndex far) (4096 + linkIndex) far
 
 -- the tables with a link taken out, and these sets
 abbrev pub linkOut : State → ℕ → List ℕ → State
-linkOut s place sets = state (s .fixed) (s .offsets) (s .numbers) (without (s .ends) place) sets
+linkOut s linkIndex sets = state (s .fixed) (s .offsets) (s .numbers) (endsWithout (s .ends) linkIndex) sets
 
 -- ---- which machine it is
 
@@ -70,7 +65,7 @@ pub record Holds (m : Machine) (s : State) : Type 0 where
   pub board : Bounded role.Board (m .board)
   pub bytes : length (m .left) ≡ length (m .board .starts)
   pub masked : Masked (m .pattern .starts) (m .pattern .ends) (take 64 (s .fixed))
-  pub parts : getD (s .fixed) 64 0 ≡ length (m .pattern .kinds)
-  pub nodes : getD (s .fixed) 65 0 ≡ length (m .board .kinds)
+  pub parts : getD (s .fixed) 64 0 ≡ length (m .pattern .labels)
+  pub nodes : getD (s .fixed) 65 0 ≡ length (m .board .labels)
   pub links : Linked m (s .offsets) (s .numbers) (s .ends)
-  pub table : take (length (m .board .kinds)) (s .sets) ≡ lastTable (m .pattern) (boardLeft m) (everything (boardLeft m))
+  pub table : take (length (m .board .labels)) (s .sets) ≡ lastTable (m .pattern) (boardLeft m) (everything (boardLeft m))

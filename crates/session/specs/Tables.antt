@@ -1,20 +1,15 @@
 -- What a cut and reading out come to on tables of any content, by equations on what they hold: a cut takes the link out and strikes on node by node
 -- (session_strike/specs/Moves: `settled`), and reading out copies the sets and applies the all-0 rule. What this is where the tables hold a machine is
 -- proved (proofs/Tables).
-use mathlib.Core.Bool.{Bool, cond}
-use mathlib.Core.List.{List, [], _∷_, _++_}
-use mathlib.Core.Path.{_≡_}
-use Prim.Native.Nat.{ℕ, _+_}
-use lib.Dec.{eqb, leb}
-use lib.ListN.{length, getD, take, drop, replicate}
+use Rattle.base_lists.specs.Kit.{_≡_, Bool, cond, List, [], _∷_, _++_, ℕ, _+_, eqb, leb, length, getD, take, drop, replicate}
 use Rattle.base_bits.specs.Bits.{sizeOf}
 use Rattle.file_format.specs.Reading.{filled}
 use Rattle.file_format.specs.Refusals.{Verdict, first, linkGone, shortTable}
 use Rattle.file_format.specs.Reply.{Reply, reply}
 use Rattle.graph.specs.Search.{far}
 use Rattle.session_strike.specs.Moves.{movesIn, settledFrom}
-use Rattle.table_answer.specs.Union.{unionAll}
-use Rattle.session.specs.State.{State, takes, without, linkOut}
+use Rattle.table.specs.Union.{unionAll}
+use Rattle.session.specs.State.{State, takes, endsWithout, linkOut}
 
 -- A number of the tables that says how many there are of something: 0 where it is above what there is room for, as in tables that hold no machine.
 unfoldable pub bounded : ℕ → ℕ → ℕ
@@ -31,37 +26,37 @@ partsIn fixed = bounded 32 (getD fixed 64 0)
 
 -- the tables have a link at the place
 abbrev pub named : State → ℕ → Bool
-named s place = takes (s .ends) (nodesIn (s .fixed)) place
+named s linkIndex = takes (s .ends) (nodesIn (s .fixed)) linkIndex
 
 -- the reply: 14 where they have none
 unfoldable pub cutAnswered : State → ℕ → Verdict
-cutAnswered s place = first (linkGone (named s place) ∷ [])
+cutAnswered s linkIndex = first (linkGone (named s linkIndex) ∷ [])
 
 -- the sets without that link: those of the first N nodes, struck on from its two ends, before those past N
 unfoldable pub cutSets : State → ℕ → List ℕ
-cutSets s place =
+cutSets s linkIndex =
     let n = nodesIn (s .fixed) in
-    let moves = movesIn (s .offsets) (s .numbers) (without (s .ends) place) in
-    settledFrom (take 64 (s .fixed)) moves (take n (s .sets)) (getD (s .ends) (4096 + place) far) (getD (s .ends) place far) ++ drop n (s .sets)
+    let moves = movesIn (s .offsets) (s .numbers) (endsWithout (s .ends) linkIndex) in
+    settledFrom (take 64 (s .fixed)) moves (take n (s .sets)) (getD (s .ends) (4096 + linkIndex) far) (getD (s .ends) linkIndex far) ++ drop n (s .sets)
 
 -- the tables after it: the link's two entries are no node's; all stay where there is no link
 unfoldable pub cutTables : State → ℕ → State
-cutTables s place = cond (named s place) (linkOut s place (cutSets s place)) s
+cutTables s linkIndex = cond (named s linkIndex) (linkOut s linkIndex (cutSets s linkIndex)) s
 
 -- what a cut makes
-pub record CutMade (before : State) (place : ℕ) (reply : Verdict) (after : State) : Type 0 where
-  pub replied : reply ≡ cutAnswered before place
-  pub tables : after ≡ cutTables before place
+pub record CutMade (before : State) (linkIndex : ℕ) (reply : Verdict) (after : State) : Type 0 where
+  pub replied : reply ≡ cutAnswered before linkIndex
+  pub tables : after ≡ cutTables before linkIndex
 
 -- ---- a list of cuts
 
 unfoldable pub cutsAnswered : State → List ℕ → List Verdict
 cutsAnswered s [] = []
-cutsAnswered s (place ∷ places) = cutAnswered s place ∷ cutsAnswered (cutTables s place) places
+cutsAnswered s (linkIndex ∷ linkIndices) = cutAnswered s linkIndex ∷ cutsAnswered (cutTables s linkIndex) linkIndices
 
 unfoldable pub cutsTables : State → List ℕ → State
 cutsTables s [] = s
-cutsTables s (place ∷ places) = cutsTables (cutTables s place) places
+cutsTables s (linkIndex ∷ linkIndices) = cutsTables (cutTables s linkIndex) linkIndices
 
 -- ---- reading out
 

@@ -1,19 +1,12 @@
 -- What reading the table out comes to, for tables of any content. Assumes nothing.
-use mathlib.Core.Bool.{Bool, true, false, cond}
-use mathlib.Core.List.{List, _++_}
-use mathlib.Core.Path.{_≡_, refl, ap, _∙_}
-use Prim.Native.Nat.{ℕ, _≤_, _<_}
-use borrow.Author.Tests.{lt-ltb, le-ltb}
-use lib.Dec.{eqb}
-use lib.ListN.{length, take, drop, replicate, length-replicate}
-use lib.Seq.{take-at, drop-at, length-take-le}
+use Rattle.base_lists.specs.Kit.{_≡_, _∙_, ap, refl, Bool, false, true, cond, List, _++_, ℕ, _≤_, _<_, eqb, length, take, drop, replicate, length-replicate, length-take-le, take-at, drop-at, le-ltb, lt-ltb}
 use Rattle.base_bits.specs.Bits.{sizeOf}
 use Rattle.file_format.specs.Reading.{filled}
 use Rattle.file_format.specs.Refusals.{first, shortTable}
 use Rattle.file_format.specs.Reply.{reply}
 use Rattle.file_format.specs.declared.File.the-variants.{Neither}
 use Rattle.session.specs.Tables.{nodesIn, partsIn, occurOrNone, ReadMade}
-use Rattle.table_answer.specs.Union.{unionAll}
+use Rattle.table.specs.Union.{unionAll}
 use Rattle.session_cut.specs.declared.OutAnswer.the-variants as out
 use Rattle.session_cut.specs.Cut.{outReply}
 
@@ -38,10 +31,10 @@ module _ (fixed sets before : List ℕ) where
   unfolding outReply first shortTable reply filled
   copied-made {n} {parts} {mid} {after} en ep h room copied ruled =
       let long : length (take n sets) ≡ n = length-take-le n sets room in
-      let front : take n mid ≡ take n sets = ap (take n) copied ∙ take-at (take n sets) _ n long in
+      let prefix : take n mid ≡ take n sets = ap (take n) copied ∙ take-at (take n sets) _ n long in
       let rest : drop n mid ≡ drop n before = ap (drop n) copied ∙ drop-at (take n sets) _ n long ∙ ap (λ (k : ℕ). drop k before) long in
       let fits = le-ltb (length before) n h in
       record {
         replied = rw (← en, fits);
-        table = rw (← en, ← ep, fits, length-occur parts (take n sets), long, ruled, front, rest);
+        table = rw (← en, ← ep, fits, length-occur parts (take n sets), long, ruled, prefix, rest);
       }

@@ -5,11 +5,12 @@ use base_bits::copy;
 use base_bits::size;
 use file_format::File;
 use file_format::Refusal;
+use file_format::TOO_SHORT;
 use graph::UNREACHED;
-use graph_neighbours::tables::FORWARD_LINKS;
+use graph_neighbours::tables::FORWARD_TARGETS;
 use session_strike::strike_from;
 use table::MASKS;
-use table_answer::occurring;
+use table::rule::occurring;
 ghost use mathlib.Core.Path.{_≡_};
 ghost use lib.ListN.{length};
 ghost use Rattle.session.specs.State.{state, StateRoom};
@@ -39,20 +40,20 @@ fn at_most(most: usize, x: usize) -> usize
 }
 
 // Takes the link at a place out, where one is left: both its entries become no node's.
-fn take_out(ends: &mut [u16], nodes: usize, place: usize) -> Taken
+fn take_out(ends: &mut [u16], nodes: usize, link_index: usize) -> Taken
     requires { ⌜ length (now ends) ≡ 8192 ⌝ }
-    ensures { λ r. ⌜ TakenOut (now (ends .entry)) nodes place r (now (ends .exit)) ⌝ }
+    ensures { λ r. ⌜ TakenOut (now (ends .entry)) nodes «link_index» r (now (ends .exit)) ⌝ }
 {
-    if FORWARD_LINKS <= place {
+    if FORWARD_TARGETS <= link_index {
         return Taken::Gone;
     }
-    let end = ends[place] as usize;
+    let end = ends[link_index] as usize;
     if nodes <= end {
         return Taken::Gone;
     }
-    let back = FORWARD_LINKS + place;
+    let back = FORWARD_TARGETS + link_index;
     let start = ends[back] as usize;
-    ends[place] = UNREACHED;
+    ends[link_index] = UNREACHED;
     ends[back] = UNREACHED;
     Taken::Link(start, end)
 }
@@ -64,14 +65,14 @@ pub fn cut(
     numbers: &[u16],
     ends: &mut [u16],
     sets: &mut [u32],
-    place: usize,
+    link_index: usize,
 ) -> CutAnswer
     requires { ⌜ StateRoom (state (now fixed) (now offsets) (now numbers) (now ends) (now sets)) ⌝ }
-    ensures { λ r. ⌜ CutMade (state (now (fixed .entry)) (now (offsets .entry)) (now (numbers .entry)) (now (ends .entry)) (now (sets .entry))) place (cutVerdict r)
+    ensures { λ r. ⌜ CutMade (state (now (fixed .entry)) (now (offsets .entry)) (now (numbers .entry)) (now (ends .entry)) (now (sets .entry))) «link_index» (cutVerdict r)
         (state (now (fixed .entry)) (now (offsets .entry)) (now (numbers .entry)) (now (ends .exit)) (now (sets .exit))) ⌝ }
 {
     let n = at_most(512, fixed[65] as usize);
-    let taken = take_out(ends, n, place);
+    let taken = take_out(ends, n, link_index);
     let Taken::Link(start, end) = taken else {
         return CutAnswer::Refused(Refusal {
             number: 14,
@@ -113,10 +114,7 @@ pub fn read_out(fixed: &[u32], sets: &[u32], table: &mut [u32]) -> OutAnswer
 {
     let n = at_most(512, fixed[65] as usize);
     if table.len() < n {
-        return OutAnswer::Refused(Refusal {
-            number: 8,
-            file: File::Neither,
-        });
+        return OutAnswer::Refused(TOO_SHORT);
     }
     copy(&sets[..n], table);
     let parts = at_most(32, fixed[64] as usize);

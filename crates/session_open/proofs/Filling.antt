@@ -1,22 +1,16 @@
 -- What filling the tables of a session leaves. Assumes nothing.
-use mathlib.Core.List.{List, [], _∷_, _++_, append-nil, append-assoc}
-use mathlib.Core.Path.{_≡_, sym, ap, ap₂, _∙_}
-use Prim.Native.Nat.{ℕ, suc, _+_, _≤_}
-use native.Mathlib.Omega.{arith}
-use lib.Dec.{T, ltb}
-use lib.ListN.{length, set, take, drop, length-set, length-append, length-take, length-drop, length-replicate, take-append-drop, drop-of-length-le}
-use lib.Seq.{take-at, drop-at, take-all, set-at, take-set-le, getD-set-same, getD-set-other}
+use Rattle.base_lists.specs.Kit.{_≡_, _∙_, sym, ap, ap₂, List, [], _∷_, _++_, append-nil, append-assoc, ℕ, _≤_, _+_, suc, T, ltb, length, take, drop, set, length-set, length-append, length-drop, drop-of-length-le, length-replicate, length-take, take-append-drop, take-at, getD-set-other, take-all, drop-at, getD-set-same, take-set-le, set-at, arith}
 use Rattle.base_lists.specs.List.{all, part}
 use Rattle.base_lists.proofs.Parts.{halved, part-first, part-second, length-halved}
 use Rattle.base_lists.proofs.Tables.{length-tabulate}
-use Rattle.graph.specs.Neighbours.{offsetsOf, grouped}
+use Rattle.graph.specs.Neighbours.{offsetsOf, groupedValues}
 use Rattle.graph.specs.Net.{NetRoom, driven, driving}
 use Rattle.graph.proofs.Groups.{length-grouped, length-offsets, stretch-select}
 use Rattle.graph_neighbours.specs.Grouped.{Grouped}
 use Rattle.table.specs.Fill.{allNodes}
 use Rattle.table.specs.Row.{among}
 use Rattle.table.specs.Prepared.{counting, masksOf, Masked}
-use Rattle.session_open.specs.Open.{halvesFilled, padded, Numbered, Ended, Fixed}
+use Rattle.session_open.specs.Open.{halvesFilled, padded, LinksNumbered, Ended, Fixed}
 
 pub length-all : (m : ℕ) → length (allNodes m) ≡ m
 unfolding allNodes
@@ -37,7 +31,7 @@ halves size xs ys old {new} k l long room inXs inYs e f =
 -- the numbers of the links, grouped both ways
 pub numbered : {n : ℕ} {starts ends before held offsets numbers : List ℕ} →
     Grouped n starts ends (allNodes (length starts)) (allNodes (length starts)) before held offsets numbers → NetRoom before held →
-    length starts ≡ length ends → T (all (λ v. ltb v n) starts) → T (all (λ v. ltb v n) ends) → Numbered n starts ends before held offsets numbers
+    length starts ≡ length ends → T (all (λ v. ltb v n) starts) → T (all (λ v. ltb v n) ends) → LinksNumbered n starts ends before held offsets numbers
 unfolding driven driving
 numbered {n} {starts} {ends} {before} {held} g room parallel inStarts inEnds =
     let order = allNodes (length starts) in
@@ -49,7 +43,7 @@ numbered {n} {starts} {ends} {before} {held} g room parallel inStarts inEnds =
           halves 513 (offsetsOf n starts) (offsetsOf n ends) before (suc n) (suc n) (room .inOffsets) (g .room .inOffsets)
           (length-offsets n starts) (length-offsets n ends) (g .startOffsets) (g .endOffsets);
       inNumbers =
-          halves 4096 (grouped n starts order) (grouped n ends order) held (length starts) (length ends) (room .inLinks) (g .room .inLinks)
+          halves 4096 (groupedValues n starts order) (groupedValues n ends order) held (length starts) (length ends) (room .inTargets) (g .room .inTargets)
           (length-grouped n starts order paired inStarts) (length-grouped n ends order ended inEnds) (g .byStart) (g .byEnd);
       byStart = λ v h. rw (g .startOffsets, g .byStart) (stretch-select n starts order _ _ v paired h);
       byEnd = λ v h. rw (g .endOffsets, g .byEnd) (stretch-select n ends order _ _ v ended h);
@@ -105,7 +99,7 @@ pub fixed-stored : (starts ends : List ℕ) (parts nodes : ℕ) (old : List ℕ)
 fixed-stored starts ends parts nodes old {masks} room long masked =
     let whole : length (masks ++ drop 64 old) ≡ 66 = simp (length-append, length-drop) (omega arith) in
     let once : length (set (masks ++ drop 64 old) 64 parts) ≡ 66 = length-set (masks ++ drop 64 old) 64 parts ∙ whole in
-    let front : take 64 (set (set (masks ++ drop 64 old) 64 parts) 65 nodes) ≡ masks =
+    let prefix : take 64 (set (set (masks ++ drop 64 old) 64 parts) 65 nodes) ≡ masks =
     take-set-le 64 (set (masks ++ drop 64 old) 64 parts) 65 nodes (omega arith)
     ∙ take-set-le 64 (masks ++ drop 64 old) 64 parts (omega arith)
     ∙ take-at masks (drop 64 old) 64 long in
@@ -113,7 +107,7 @@ fixed-stored starts ends parts nodes old {masks} room long masked =
     record {
       room = length-set (set (masks ++ drop 64 old) 64 parts) 65 nodes ∙ once;
       content = stored-two masks (drop 64 old) parts nodes long (length-drop 64 old ∙ omega arith) ∙ ap (λ (l : List ℕ). l ++ (parts ∷ nodes ∷ [])) joined;
-      masked = rw front masked;
+      masked = rw prefix masked;
       ofParts =
           getD-set-other (set (masks ++ drop 64 old) 64 parts) 65 64 nodes 0 (λ e. absurd (omega arith))
           ∙ getD-set-same (masks ++ drop 64 old) 64 parts 0 (omega arith);

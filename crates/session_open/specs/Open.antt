@@ -1,10 +1,7 @@
 -- What a session's tables hold at first, one after another.
-use mathlib.Core.List.{List, [], _∷_, _++_}
-use mathlib.Core.Path.{_≡_}
-use Prim.Native.Nat.{ℕ, _<_}
-use lib.ListN.{length, getD, take, drop, replicate}
-use Rattle.graph.specs.Neighbours.{select, offsetsOf, grouped}
-use Rattle.graph.specs.Net.{NetRoom, forwardLinks, backwardLinks, driven, driving}
+use Rattle.base_lists.specs.Kit.{_≡_, List, [], _∷_, _++_, ℕ, _<_, length, getD, take, drop, replicate}
+use Rattle.graph.specs.Neighbours.{select, offsetsOf, groupedValues}
+use Rattle.graph.specs.Net.{NetRoom, forwardTargets, backwardTargets, driven, driving}
 use Rattle.graph.specs.Search.{far}
 use Rattle.table.specs.Fill.{allNodes}
 use Rattle.table.specs.Prepared.{masksOf, Masked}
@@ -14,10 +11,10 @@ unfoldable pub halvesFilled : ℕ → List ℕ → List ℕ → List ℕ → Lis
 halvesFilled size xs ys old = (xs ++ drop (length xs) (take size old)) ++ (ys ++ drop (length ys) (drop size old))
 
 -- the numbers of the links of each node, by their starts and by their ends
-pub record Numbered (n : ℕ) (starts ends before held offsets numbers : List ℕ) : Type 0 where
+pub record LinksNumbered (n : ℕ) (starts ends before held offsets numbers : List ℕ) : Type 0 where
   pub room : NetRoom offsets numbers
   pub inOffsets : offsets ≡ halvesFilled 513 (offsetsOf n starts) (offsetsOf n ends) before
-  pub inNumbers : numbers ≡ halvesFilled 4096 (grouped n starts (allNodes (length starts))) (grouped n ends (allNodes (length starts))) held
+  pub inNumbers : numbers ≡ halvesFilled 4096 (groupedValues n starts (allNodes (length starts))) (groupedValues n ends (allNodes (length starts))) held
   pub byStart : (v : ℕ) → v < n → driven offsets numbers v ≡ select starts (allNodes (length starts)) v
   pub byEnd : (v : ℕ) → v < n → driving offsets numbers v ≡ select ends (allNodes (length starts)) v
 
@@ -29,8 +26,8 @@ padded k values = values ++ drop (length values) (replicate k far)
 pub record Ended (starts ends stored : List ℕ) : Type 0 where
   pub room : length stored ≡ 8192
   pub content : stored ≡ padded 4096 ends ++ padded 4096 starts
-  pub forward : forwardLinks stored ≡ padded 4096 ends
-  pub backward : backwardLinks stored ≡ padded 4096 starts
+  pub forward : forwardTargets stored ≡ padded 4096 ends
+  pub backward : backwardTargets stored ≡ padded 4096 starts
 
 -- the pattern's masks, and how many parts and nodes there are
 pub record Fixed (starts ends : List ℕ) (parts nodes : ℕ) (fixed : List ℕ) : Type 0 where

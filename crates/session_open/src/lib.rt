@@ -2,7 +2,7 @@
 use file_format::Board;
 use graph::UNREACHED;
 use graph::copy;
-use graph_neighbours::tables::FORWARD_LINKS;
+use graph_neighbours::tables::FORWARD_TARGETS;
 use graph_neighbours::tables::group_both;
 use graph_search::fill;
 use table::MASKS;
@@ -14,29 +14,9 @@ ghost use lib.Dec.{T, ltb};
 ghost use lib.ListN.{length};
 ghost use Rattle.base_lists.specs.List.{all, Below};
 ghost use Rattle.graph.specs.Net.{NetRoom};
-ghost use Rattle.table.specs.Fill.{allNodes};
-ghost use Rattle.session_open.specs.Open.{padded, Numbered, Ended, Fixed};
+ghost use Rattle.session_open.specs.Open.{padded, LinksNumbered, Ended, Fixed};
 
-// Fills the numbers of the links of each node: of those that start there, and of those that end there. `order` has the numbers of all links.
-fn group_links(
-    n: usize,
-    starts: &[u16],
-    ends: &[u16],
-    order: &[u16],
-    offsets: &mut [u16],
-    numbers: &mut [u16],
-)
-    requires { ⌜ NetRoom (now offsets) (now numbers) ⌝ }
-    requires { ⌜ n ≤ 512 ⌝ }
-    requires { ⌜ (length (now starts) ≡ length (now ends)) × (length (now starts) ≤ 4096) ⌝ }
-    requires { ⌜ T (all (λ v. ltb v n) (now starts)) × T (all (λ v. ltb v n) (now ends)) ⌝ }
-    requires { ⌜ now order ≡ allNodes (length (now starts)) ⌝ }
-    ensures { λ _. ⌜ Numbered n (now (starts .entry)) (now (ends .entry)) (now (offsets .entry)) (now (numbers .entry)) (now (offsets .exit)) (now (numbers .exit)) ⌝ }
-{
-    group_both(n, starts, ends, order, order, offsets, numbers);
-}
-
-// The same from a table that has room for the numbers of all links.
+// Fills the numbers of the links of each node: of those that start there, and of those that end there. `order` has room for the numbers of all links.
 fn order_links(
     n: usize,
     starts: &[u16],
@@ -50,11 +30,12 @@ fn order_links(
     requires { ⌜ (length (now starts) ≡ length (now ends)) × (length (now starts) ≤ 4096) ⌝ }
     requires { ⌜ T (all (λ v. ltb v n) (now starts)) × T (all (λ v. ltb v n) (now ends)) ⌝ }
     requires { ⌜ length (now order) ≡ 4096 ⌝ }
-    ensures { λ _. ⌜ Numbered n (now (starts .entry)) (now (ends .entry)) (now (offsets .entry)) (now (numbers .entry)) (now (offsets .exit)) (now (numbers .exit)) ⌝ }
+    ensures { λ _. ⌜ LinksNumbered n (now (starts .entry)) (now (ends .entry)) (now (offsets .entry)) (now (numbers .entry)) (now (offsets .exit)) (now (numbers .exit)) ⌝ }
 {
     let m = starts.len();
     list_all(&mut order[..m]);
-    group_links(n, starts, ends, &order[..m], offsets, numbers);
+    let listed = &order[..m];
+    group_both(n, starts, ends, listed, listed, offsets, numbers);
 }
 
 // Fills a table with values, and past these with no node.
@@ -71,7 +52,7 @@ fn store_ends(starts: &[u16], ends: &[u16], out: &mut [u16])
     requires { ⌜ (length (now starts) ≤ 4096) × (length (now ends) ≤ 4096) × (length (now out) ≡ 8192) ⌝ }
     ensures { λ _. ⌜ Ended (now (starts .entry)) (now (ends .entry)) (now (out .exit)) ⌝ }
 {
-    store_values(ends, &mut out[..FORWARD_LINKS]);
+    store_values(ends, &mut out[..FORWARD_TARGETS]);
     store_values(starts, &mut out[4096..8192]);
 }
 
@@ -88,7 +69,7 @@ pub fn store_links(
     requires { ⌜ n ≤ 512 ⌝ }
     requires { ⌜ (length (now starts) ≡ length (now ends)) × (length (now starts) ≤ 4096) ⌝ }
     requires { ⌜ T (all (λ v. ltb v n) (now starts)) × T (all (λ v. ltb v n) (now ends)) ⌝ }
-    ensures { λ _. ⌜ Numbered n (now (starts .entry)) (now (ends .entry)) (now (offsets .entry)) (now (numbers .entry)) (now (offsets .exit)) (now (numbers .exit)) ⌝ }
+    ensures { λ _. ⌜ LinksNumbered n (now (starts .entry)) (now (ends .entry)) (now (offsets .entry)) (now (numbers .entry)) (now (offsets .exit)) (now (numbers .exit)) ⌝ }
     ensures { λ _. ⌜ Ended (now (starts .entry)) (now (ends .entry)) (now (out .exit)) ⌝ }
 {
     let mut order = [0u16; Board::MAX_LINKS];

@@ -1,30 +1,18 @@
 -- Laws of entries read with a default, of unions over them and of lists of nodes that are marked. Assumes nothing.
-use mathlib.Core.List.{List, [], _∷_}
-use mathlib.Core.Path.{_≡_, refl, sym, ap, _∙_}
-use Prim.Native.Nat.{ℕ, zero, suc, _+_, _≤_, _<_}
-use native.Mathlib.Nat.{le-of-suc-le-suc, not-suc-le-zero}
-use native.Mathlib.Numerals.{add-one}
+use Rattle.base_lists.specs.Kit.{_≡_, _∙_, sym, ap, refl, List, [], _∷_, ℕ, _≤_, _<_, _+_, add-one, length, getD, drop, drop-of-length-le, drop-cons}
 use lib.Bits.{bitOr, or-zero-r}
-use lib.ListN.{length, getD, drop, drop-of-length-le}
-use lib.Seq.{drop-cons}
 use Rattle.base_bits.specs.Bits.{unionAt}
 use Rattle.base_bits.proofs.Tests.{bitOr-assoc}
-use Rattle.graph.specs.Net.{forwardOffsets, backwardOffsets, forwardLinks, backwardLinks, driven, driving}
+use Rattle.graph.specs.Net.{forwardOffsets, backwardOffsets, forwardTargets, backwardTargets, driven, driving}
 use Rattle.graph.specs.Search.{far}
 use Rattle.graph_neighbours.specs.Lookup.{neighboursOf, neighboursIn}
 use Rattle.graph_neighbours.specs.declared.neighbours.Direction.{Direction}
 use Rattle.graph_neighbours.specs.declared.neighbours.Direction.the-variants.{Forward, Backward}
 use Rattle.session_strike.specs.Moves.{beyond, markOne, markAll}
 
--- an entry of a list does not depend on the default
-pub entry-any : (xs : List ℕ) (i a b : ℕ) → i < length xs → getD xs i a ≡ getD xs i b
-entry-any [] i a b h = absurd (not-suc-le-zero h)
-entry-any (x ∷ xs) zero a b h = refl
-entry-any (x ∷ xs) (suc i) a b h = entry-any xs i a b (le-of-suc-le-suc h)
-
 -- the stretches of the halves of two lists are those of the lists
 pub halves-neighbours : (direction : Direction) (offsets links : List ℕ) (v : ℕ)
-    → neighboursOf direction (forwardOffsets offsets) (forwardLinks links) (backwardOffsets offsets) (backwardLinks links) v ≡ neighboursIn direction offsets links v
+    → neighboursOf direction (forwardOffsets offsets) (forwardTargets links) (backwardOffsets offsets) (backwardTargets links) v ≡ neighboursIn direction offsets links v
 unfolding neighboursIn driven driving
 halves-neighbours Forward offsets links v = refl
 halves-neighbours Backward offsets links v = refl

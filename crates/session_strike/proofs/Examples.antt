@@ -1,21 +1,16 @@
 -- Going on from a table, by computation: on the links of a board, and on tables that hold no board's links, where a node may keep a part that it ought to lose. Assumes nothing.
-use mathlib.Core.Bool.{cond}
-use mathlib.Core.List.{List, [], _∷_}
-use mathlib.Core.Path.{_≡_, refl}
-use Prim.Native.Nat.{ℕ}
-use lib.Dec.{eqb}
-use lib.ListN.{replicate}
+use Rattle.base_lists.specs.Kit.{_≡_, refl, cond, List, [], _∷_, ℕ, eqb, replicate}
 use Rattle.base_lists.specs.List.{allBelow, part, sum}
 use Rattle.base_lists.specs.Below.{countBelow, leastBelow}
 use Rattle.base_bits.specs.Bits.{bit, numberOf, subsetOf, firstOf, withoutFirst, sizeOf, unionAt}
 use Rattle.simulation.specs.Simulation.{Direction, forwards, backwards}
 use Rattle.table.specs.Row.{pairs}
 use Rattle.table_strike.specs.Strike.{survivors}
-use Rattle.session_strike.specs.Moves.{nextOf, mark, markOne, markAll, markBeside, markBoth, nodeAt, unmark, lookSets, lookMarks, lookOn, settled, settledFrom}
+use Rattle.session_strike.specs.Moves.{nextSetAt, mark, markOne, markAll, markBeside, markBoth, nodeAt, unmark, lookSets, lookMarks, lookOn, settled, settledFrom}
 
 -- `unfolding settledComputed` opens what is computed
 unfoldable pub settledComputed : Unit {0}
-unfolding allBelow part sum countBelow leastBelow bit numberOf subsetOf firstOf withoutFirst sizeOf unionAt pairs survivors nextOf mark markOne markAll markBeside markBoth nodeAt unmark lookSets lookMarks lookOn settled settledFrom
+unfolding allBelow part sum countBelow leastBelow bit numberOf subsetOf firstOf withoutFirst sizeOf unionAt pairs survivors nextSetAt mark markOne markAll markBeside markBoth nodeAt unmark lookSets lookMarks lookOn settled settledFrom
 settledComputed = tt
 
 -- the masks of one part that drives itself, and asks for nothing that drives it

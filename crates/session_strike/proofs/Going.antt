@@ -1,14 +1,10 @@
 -- The loop that goes on from a table: what it keeps, that it ends, and that it leads to the last table. Assumes nothing.
-use mathlib.Core.Bool.{Bool, true, false, not, cond}
-use mathlib.Core.List.{List}
-use mathlib.Core.Path.{_≡_, refl, sym, ap, _∙_}
-use Prim.Native.Nat.{ℕ, zero, suc, _≤_, _<_}
-use native.Mathlib.Omega.{arith}
-use borrow.Author.Tests.{eqb-true, eqb-false, ltb-true, ltb-false, lt-ltb, le-ltb, not-true}
-use lib.Dec.{eqb, ltb}
-use lib.ListN.{length, getD, set}
+use Rattle.base_lists.specs.Kit.{_≡_, _∙_, sym, ap, refl, Bool, false, true, cond, not, List, ℕ, _≤_, _<_, suc, zero, eqb, ltb, length, getD, set, arith, le-ltb, lt-ltb, eqb-true, not-true, ltb-false, eqb-false, ltb-true}
 use Rattle.base_lists.proofs.Below.{leastBelow-at}
 use Rattle.base_lists.proofs.Tests.{T-true, T-false, false-T}
+use Rattle.base_bits.proofs.Counts.{size-less}
+use Rattle.base_bits.specs.Bits.{Words}
+use Rattle.base_bits.proofs.Numbers.{words-set}
 use Rattle.graph.specs.Circuit.{Circuit}
 use Rattle.simulation.specs.Simulation.{Direction}
 use Rattle.table.specs.First.{Begins}
@@ -17,10 +13,10 @@ use Rattle.table.specs.Row.{pairs, problemBy, problemOf, lastTable}
 use Rattle.table.proofs.Pairs.{pairs-le}
 use Rattle.table.proofs.Sets.{fits-word}
 use Rattle.table_row.proofs.Begin.{begins-fits}
-use Rattle.session_strike.specs.Going.{Follows, Covered}
-use Rattle.session_strike.specs.Moves.{nextOf, markBeside, markBoth, nodeAt, unmark, lookSets, lookMarks, firstWord, lookOn, left, settled, settledFrom}
+use Rattle.session_strike.specs.Going.{MovesFollow, UnmarkedKept}
+use Rattle.session_strike.specs.Moves.{nextSetAt, markBeside, markBoth, nodeAt, unmark, lookSets, lookMarks, firstWord, lookOn, left, settled, settledFrom}
 use Rattle.session_strike.proofs.Looking.{next-subset, next-lt, next-out, length-look, look-same}
-use Rattle.session_strike.proofs.Marking.{Words, words-set, size-less, pairs-less, length-unmark, words-unmark, unmark-less, unmark-keeps, length-beside, words-beside, length-both, words-both, none-marked}
+use Rattle.session_strike.proofs.Marking.{pairs-less, length-unmark, words-unmark, unmark-less, unmark-keeps, length-beside, words-beside, length-both, words-both, none-marked}
 use Rattle.session_strike.proofs.Striking.{look-begins, look-covered, rest-last}
 
 -- What the loop keeps, whatever its lists hold: 16 words of marks, and sets of 32 bits.
@@ -34,7 +30,7 @@ pub record Standing (sets marks : List ℕ) : Type 0 where
 module _ (masks : List ℕ) (moves : Direction → ℕ → List ℕ) (old marks : List ℕ) (v : ℕ) where
   pub length-look-marks : length (lookMarks masks moves old marks v) ≡ length marks
   unfolding lookMarks
-  length-look-marks = go (eqb (nextOf masks moves old v) (getD old v 0))
+  length-look-marks = go (eqb (nextSetAt masks moves old v) (getD old v 0))
     where
       go : (b : Bool) → length (cond b marks (markBeside (length old) moves marks v)) ≡ length marks
       go true = refl
@@ -42,7 +38,7 @@ module _ (masks : List ℕ) (moves : Direction → ℕ → List ℕ) (old marks 
 
   pub words-look-marks : Words marks → Words (lookMarks masks moves old marks v)
   unfolding lookMarks
-  words-look-marks w = go (eqb (nextOf masks moves old v) (getD old v 0))
+  words-look-marks w = go (eqb (nextSetAt masks moves old v) (getD old v 0))
     where
       go : (b : Bool) → Words (cond b marks (markBeside (length old) moves marks v))
       go true = w
@@ -53,13 +49,13 @@ module _ (masks : List ℕ) (moves : Direction → ℕ → List ℕ) (old marks 
   words-look-sets w = words-set old v _ w (next-lt masks moves old v)
 
   -- where the set is another, there are fewer pairs
-  pub look-fewer : Words old → (nextOf masks moves old v ≡ getD old v 0 → ⊥) → pairs (lookSets masks moves old v) < pairs old
+  pub look-fewer : Words old → (nextSetAt masks moves old v ≡ getD old v 0 → ⊥) → pairs (lookSets masks moves old v) < pairs old
   unfolding lookSets
   look-fewer w other = go (ltb v (length old)) refl
     where
-      go : (b : Bool) → ltb v (length old) ≡ b → pairs (set old v (nextOf masks moves old v)) < pairs old
+      go : (b : Bool) → ltb v (length old) ≡ b → pairs (set old v (nextSetAt masks moves old v)) < pairs old
       go true l =
-          pairs-less old v (nextOf masks moves old v) (ltb-true _ _ l)
+          pairs-less old v (nextSetAt masks moves old v) (ltb-true _ _ l)
           (size-less _ _ (next-lt masks moves old v) (w v) (next-subset masks moves old v) other)
       go false l = absurd (other (next-out masks moves old v (ltb-false _ _ l)))
 
@@ -111,9 +107,9 @@ module _ (masks : List ℕ) (moves : Direction → ℕ → List ℕ) {sets marks
 
   -- less is left
   pub left-less : left nextSets nextMarks < left sets marks
-  left-less = go (eqb (nextOf masks moves sets v) (getD sets v 0)) refl
+  left-less = go (eqb (nextSetAt masks moves sets v) (getD sets v 0)) refl
     where
-      go : (b : Bool) → eqb (nextOf masks moves sets v) (getD sets v 0) ≡ b → left nextSets nextMarks < left sets marks
+      go : (b : Bool) → eqb (nextSetAt masks moves sets v) (getD sets v 0) ≡ b → left nextSets nextMarks < left sets marks
       go true p =
           let same = look-same masks moves sets v rest (eqb-true _ _ p) in
           let fewer = unmark-less marks j inside word-some (s .inMarks j) in
@@ -128,12 +124,12 @@ module _ (masks : List ℕ) (moves : Direction → ℕ → List ℕ) {sets marks
   look-turn k = rw (lt-ltb j 16 more)
 
   -- a table to begin with stays one, and what changes is marked
-  module _ (pattern host : Circuit) (follows : Follows pattern host masks moves) (begins : Begins pattern host (everything host) sets) where
+  module _ (pattern host : Circuit) (follows : MovesFollow pattern host masks moves) (begins : Begins pattern host (everything host) sets) where
     pub begins-turn : Begins pattern host (everything host) nextSets
     begins-turn = look-begins pattern host follows begins v
 
-    pub covered-turn : length sets ≤ 512 → Covered masks moves sets marks → Covered masks moves nextSets nextMarks
-    unfolding problemBy Covered
+    pub covered-turn : length sets ≤ 512 → UnmarkedKept masks moves sets marks → UnmarkedKept masks moves nextSets nextMarks
+    unfolding problemBy UnmarkedKept
     covered-turn few covered =
         look-covered pattern host follows sets rest (begins .long) v
         (λ w h other u. covered w h (T-false (λ t. false-T u (unmark-keeps marks j inside word-some (s .inMarks j) w other t))))
@@ -236,11 +232,11 @@ module _ (masks : List ℕ) (moves : Direction → ℕ → List ℕ) where
 
 -- ---- where it leads
 
-module _ (pattern host : Circuit) {masks : List ℕ} {moves : Direction → ℕ → List ℕ} (follows : Follows pattern host masks moves) where
+module _ (pattern host : Circuit) {masks : List ℕ} {moves : Direction → ℕ → List ℕ} (follows : MovesFollow pattern host masks moves) where
   -- where no node is marked, it rests
-  done-last : {sets marks : List ℕ} → Standing sets marks → Begins pattern host (everything host) sets → Covered masks moves sets marks → 16 ≤ firstWord marks →
+  done-last : {sets marks : List ℕ} → Standing sets marks → Begins pattern host (everything host) sets → UnmarkedKept masks moves sets marks → 16 ≤ firstWord marks →
       (k : ℕ) → lookOn masks moves k sets marks ≡ lastTable pattern host (everything host)
-  unfolding Covered
+  unfolding UnmarkedKept
   done-last {sets} {marks} s begins covered done k =
       look-done masks moves k sets marks done
       ∙ rest-last pattern host follows begins (λ v l. covered v l (none-marked marks (omega (arith, s .room)) v))
@@ -248,7 +244,7 @@ module _ (pattern host : Circuit) {masks : List ℕ} {moves : Direction → ℕ 
   -- to the last table, where the table is one to begin with and each node that changes is marked
   look-last :
       (k : ℕ) {sets marks : List ℕ} → Standing sets marks → left sets marks ≤ k → length sets ≤ 512 → Begins pattern host (everything host) sets →
-      Covered masks moves sets marks → lookOn masks moves k sets marks ≡ lastTable pattern host (everything host)
+      UnmarkedKept masks moves sets marks → lookOn masks moves k sets marks ≡ lastTable pattern host (everything host)
   look-last zero s h few begins covered = done-last s begins covered (nothing-left masks moves s h) zero
   look-last (suc k) {sets} {marks} s h few begins covered =
       byMarks marks
@@ -261,7 +257,7 @@ module _ (pattern host : Circuit) {masks : List ℕ} {moves : Direction → ℕ 
 
   -- from a table where none but two nodes can change at first
   pub from-last :
-      (sets : List ℕ) (x y : ℕ) → length sets ≤ 512 → Begins pattern host (everything host) sets → Covered masks moves sets (markBoth (length sets) x y) →
+      (sets : List ℕ) (x y : ℕ) → length sets ≤ 512 → Begins pattern host (everything host) sets → UnmarkedKept masks moves sets (markBoth (length sets) x y) →
       settledFrom masks moves sets x y ≡ lastTable pattern host (everything host)
   unfolding settled settledFrom problemBy
   from-last sets x y few begins covered =

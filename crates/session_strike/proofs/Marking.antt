@@ -1,57 +1,23 @@
 -- Laws of marks: which nodes are marked after one is marked or taken away, and how many. Assumes nothing.
-use mathlib.Core.Bool.{Bool, true, false, not, cond}
-use mathlib.Core.List.{List, [], _∷_}
-use mathlib.Core.Path.{_≡_, refl, ap, _∙_}
-use Prim.Native.Nat.{ℕ, zero, suc, _*_, _/_, _%_, _^_, _≤_, _<_}
-use native.Mathlib.Nat.{le-of-suc-le-suc, not-suc-le-zero}
-use native.Mathlib.Omega.{arith}
-use borrow.Author.Tests.{eqb-true, eqb-false, eq-eqb, ne-eqb, ltb-true, ltb-false, lt-ltb, not-false}
+use Rattle.base_lists.specs.Kit.{_≡_, _∙_, ap, refl, Bool, false, true, cond, not, List, [], _∷_, ℕ, _≤_, _<_, suc, zero, _*_, _^_, _/_, _%_, not-suc-le-zero, le-of-suc-le-suc, T, eqb, ltb, length, getD, set, length-set, replicate, List·getD-eq-default, length-replicate, getD-set-other, getD-set-same, set-out, arith, eq-eqb, ne-eqb, lt-ltb, eqb-true, not-false, ltb-false, eqb-false, ltb-true}
 use lib.Bits.{bitOr, or-lt}
-use lib.Dec.{T, eqb, ltb}
-use lib.ListN.{length, getD, set, replicate, length-set, length-replicate, List·getD-eq-default}
 use lib.Pow.{pow-lt}
-use lib.Seq.{getD-set-same, getD-set-other, set-out}
 use Rattle.base_lists.specs.List.{Occurs}
-use Rattle.base_lists.specs.Below.{countBelow, leastBelow}
-use Rattle.base_lists.proofs.Below.{countBelow-mono, countBelow-equal, leastBelow-none}
-use Rattle.base_lists.proofs.Tests.{both, both-left, both-right, either-left, either-right, true-T, false-T}
-use Rattle.base_bits.specs.Bits.{bit, Subset, sizeOf, firstOf, withoutFirst}
-use Rattle.base_bits.proofs.Digits.{bit-of-zero, bit-or, bit-single, same-bits-below}
+use Rattle.base_lists.specs.Below.{leastBelow}
+use Rattle.base_lists.proofs.Below.{leastBelow-none}
+use Rattle.base_lists.proofs.Tests.{both-true, both-left, both-right, either-left, either-right, true-T, false-T}
+use Rattle.base_bits.specs.Bits.{bit, Subset, sizeOf, firstOf, withoutFirst, Words}
+use Rattle.base_bits.proofs.Digits.{bit-of-zero, bit-or, bit-single}
 use Rattle.base_bits.proofs.Members.{bit-without}
-use Rattle.base_bits.proofs.Numbers.{number-lt}
+use Rattle.base_bits.proofs.Numbers.{number-lt, words-set, words-none}
 use Rattle.simulation.specs.Simulation.{Direction, forwards, backwards}
 use Rattle.table.specs.Row.{pairs}
 use Rattle.table.proofs.Pairs.{pairs-at, pairs-put}
 use Rattle.base_bits.proofs.Members.{first-bit}
-use Rattle.session_strike.specs.Moves.{marked, mark, markOne, markAll, markBeside, markBoth, nodeAt, unmark}
-
--- ---- words
-
--- each entry is a number of 32 bits
-abbrev pub Words : List ℕ → Type 0
-Words xs = (i : ℕ) → getD xs i 0 < 2 ^ 32
-
-pub words-set : (xs : List ℕ) (i x : ℕ) → Words xs → x < 2 ^ 32 → Words (set xs i x)
-words-set xs i x w h k = go (eqb k i) refl (ltb i (length xs)) refl
-  where
-    go : (b : Bool) → eqb k i ≡ b → (a : Bool) → ltb i (length xs) ≡ a → getD (set xs i x) k 0 < 2 ^ 32
-    go true e true l = rw (eqb-true k i e, getD-set-same xs i x 0 (ltb-true i (length xs) l)) h
-    go true e false l = rw (set-out xs i x (omega (arith, ltb-false i (length xs) l))) (w k)
-    go false e a l = rw (getD-set-other xs i k x 0 (eqb-false k i e)) (w k)
+use Rattle.base_bits.proofs.Counts.{size-less}
+use Rattle.session_strike.specs.Moves.{nodeMarked, mark, markOne, markAll, markBeside, markBoth, nodeAt, unmark}
 
 -- ---- sizes
-
--- a set inside another has fewer parts, or is equal to it
-pub size-less : (y x : ℕ) → y < 2 ^ 32 → x < 2 ^ 32 → Subset y x → (y ≡ x → ⊥) → sizeOf y < sizeOf x
-unfolding sizeOf
-size-less y x h l s other = go (ltb (countBelow 32 (bit y)) (countBelow 32 (bit x))) refl
-  where
-    go : (b : Bool) → ltb (countBelow 32 (bit y)) (countBelow 32 (bit x)) ≡ b → countBelow 32 (bit y) < countBelow 32 (bit x)
-    go true e = ltb-true _ _ e
-    go false e =
-        let less = countBelow-mono 32 (bit y) (bit x) (λ u k. s u) in
-        let more = ltb-false (countBelow 32 (bit y)) (countBelow 32 (bit x)) e in
-        absurd (other (same-bits-below 32 y x h l (countBelow-equal 32 (bit y) (bit x) (λ u k. s u) (omega arith))))
 
 -- so a table with one set made smaller has fewer pairs
 pub pairs-less : (xs : List ℕ) (v y : ℕ) → v < length xs → sizeOf y < sizeOf (getD xs v 0) → pairs (set xs v y) < pairs xs
@@ -71,8 +37,8 @@ module _ (marks : List ℕ) (v : ℕ) where
       words-set marks (v / 32) _ w (or-lt 32 _ _ (w (v / 32)) (pow-lt low))
 
   -- the others stay
-  pub mark-keeps : (w : ℕ) → T (marked marks w) → T (marked (mark marks v) w)
-  unfolding mark marked
+  pub mark-keeps : (w : ℕ) → T (nodeMarked marks w) → T (nodeMarked (mark marks v) w)
+  unfolding mark nodeMarked
   mark-keeps w t = go (eqb (w / 32) (v / 32)) refl (ltb (v / 32) (length marks)) refl
     where
       word : ℕ
@@ -86,8 +52,8 @@ module _ (marks : List ℕ) (v : ℕ) where
       go true e false l = rw (set-out marks (v / 32) word (ltb-false _ _ l)) t
       go false e a l = rw (getD-set-other marks (v / 32) (w / 32) word 0 (eqb-false _ _ e)) t
 
-  pub mark-marks : v / 32 < length marks → T (marked (mark marks v) v)
-  unfolding mark marked
+  pub mark-marks : v / 32 < length marks → T (nodeMarked (mark marks v) v)
+  unfolding mark nodeMarked
   mark-marks h =
       rw (getD-set-same marks (v / 32) (bitOr (getD marks (v / 32) 0) (2 ^ (v % 32))) 0 h, bit-or)
       (either-right (bit (getD marks (v / 32) 0) (v % 32)) _ (true-T (bit-single (v % 32) (v % 32) ∙ eq-eqb (v % 32) (v % 32) refl)))
@@ -121,25 +87,25 @@ module _ (n : ℕ) where
   words-all marks [] k = k
   words-all marks (w ∷ ws) k = words-all (markOne n marks w) ws (words-one marks w k)
 
-  one-keeps : (marks : List ℕ) (w x : ℕ) → T (marked marks x) → T (marked (markOne n marks w) x)
+  one-keeps : (marks : List ℕ) (w x : ℕ) → T (nodeMarked marks x) → T (nodeMarked (markOne n marks w) x)
   unfolding markOne
   one-keeps marks w x t = go (ltb w n)
     where
-      go : (b : Bool) → T (marked (cond b (mark marks w) marks) x)
+      go : (b : Bool) → T (nodeMarked (cond b (mark marks w) marks) x)
       go true = mark-keeps marks w x t
       go false = t
 
-  pub all-keeps : (marks ws : List ℕ) (x : ℕ) → T (marked marks x) → T (marked (markAll n marks ws) x)
+  pub all-keeps : (marks ws : List ℕ) (x : ℕ) → T (nodeMarked marks x) → T (nodeMarked (markAll n marks ws) x)
   unfolding markAll
   all-keeps marks [] x t = t
   all-keeps marks (w ∷ ws) x t = all-keeps (markOne n marks w) ws x (one-keeps marks w x t)
 
-  one-marks : (marks : List ℕ) (w x : ℕ) → n ≤ 32 * length marks → x < n → w ≡ x → T (marked (markOne n marks w) x)
+  one-marks : (marks : List ℕ) (w x : ℕ) → n ≤ 32 * length marks → x < n → w ≡ x → T (nodeMarked (markOne n marks w) x)
   unfolding markOne
   one-marks marks w x room h e = rw (e, lt-ltb x n h) (mark-marks marks x (omega arith))
 
   -- each node of the list is marked
-  pub all-marks : (marks ws : List ℕ) (x : ℕ) → n ≤ 32 * length marks → x < n → Occurs ws x → T (marked (markAll n marks ws) x)
+  pub all-marks : (marks ws : List ℕ) (x : ℕ) → n ≤ 32 * length marks → x < n → Occurs ws x → T (nodeMarked (markAll n marks ws) x)
   unfolding markAll
   all-marks marks [] x room h (i, l, e) = absurd (not-suc-le-zero l)
   all-marks marks (w ∷ ws) x room h (zero, l, e) = all-keeps (markOne n marks w) ws x (one-marks marks w x room h e)
@@ -157,22 +123,22 @@ module _ (n : ℕ) where
     unfolding markBeside
     words-beside w = words-all (markAll n marks (moves forwards v)) (moves backwards v) (words-all marks (moves forwards v) w)
 
-    pub beside-keeps : (x : ℕ) → T (marked marks x) → T (marked (markBeside n moves marks v) x)
+    pub beside-keeps : (x : ℕ) → T (nodeMarked marks x) → T (nodeMarked (markBeside n moves marks v) x)
     unfolding markBeside
     beside-keeps x t = all-keeps (markAll n marks (moves forwards v)) (moves backwards v) x (all-keeps marks (moves forwards v) x t)
 
-    pub beside-marks : (d : Direction) (x : ℕ) → n ≤ 32 * length marks → x < n → Occurs (moves d v) x → T (marked (markBeside n moves marks v) x)
+    pub beside-marks : (d : Direction) (x : ℕ) → n ≤ 32 * length marks → x < n → Occurs (moves d v) x → T (nodeMarked (markBeside n moves marks v) x)
     unfolding markBeside
     beside-marks forwards x room h o = all-keeps (markAll n marks (moves forwards v)) (moves backwards v) x (all-marks marks (moves forwards v) x room h o)
     beside-marks backwards x room h o =
         all-marks (markAll n marks (moves forwards v)) (moves backwards v) x (omega (arith, length-all marks (moves forwards v))) h o
 
 -- two nodes marked
-pub both-first : (n x y : ℕ) → n ≤ 512 → x < n → T (marked (markBoth n x y) x)
+pub both-first : (n x y : ℕ) → n ≤ 512 → x < n → T (nodeMarked (markBoth n x y) x)
 unfolding markBoth
 both-first n x y few h = one-keeps n (markOne n (replicate 16 0) x) y x (one-marks n (replicate 16 0) x x (omega (arith, length-replicate {A = ℕ} 16 0)) h refl)
 
-pub both-second : (n x y : ℕ) → n ≤ 512 → y < n → T (marked (markBoth n x y) y)
+pub both-second : (n x y : ℕ) → n ≤ 512 → y < n → T (nodeMarked (markBoth n x y) y)
 unfolding markBoth
 both-second n x y few h =
     one-marks n (markOne n (replicate 16 0) x) y y (omega (arith, length-one n (replicate 16 0) x, length-replicate {A = ℕ} 16 0)) h refl
@@ -180,11 +146,6 @@ both-second n x y few h =
 pub length-both : (n x y : ℕ) → length (markBoth n x y) ≡ 16
 unfolding markBoth
 length-both n x y = length-one n (markOne n (replicate 16 0) x) y ∙ length-one n (replicate 16 0) x ∙ length-replicate {A = ℕ} 16 0
-
-words-none : (n : ℕ) → Words (replicate n 0)
-words-none zero i = omega arith
-words-none (suc n) zero = omega arith
-words-none (suc n) (suc i) = words-none n i
 
 pub words-both : (n x y : ℕ) → Words (markBoth n x y)
 unfolding markBoth
@@ -221,8 +182,8 @@ module _ (marks : List ℕ) (j : ℕ) (inside : j < length marks) (some : zero <
   unmark-less = pairs-less marks j _ inside (size-less _ _ without-word word without-subset without-other)
 
   -- the marks of the other nodes stay
-  pub unmark-keeps : (w : ℕ) → (w ≡ nodeAt marks j → ⊥) → T (marked marks w) → T (marked (unmark marks j) w)
-  unfolding unmark marked nodeAt
+  pub unmark-keeps : (w : ℕ) → (w ≡ nodeAt marks j → ⊥) → T (nodeMarked marks w) → T (nodeMarked (unmark marks j) w)
+  unfolding unmark nodeMarked nodeAt
   unmark-keeps w other t = go (eqb (w / 32) j) refl
     where
       x : ℕ
@@ -232,13 +193,13 @@ module _ (marks : List ℕ) (j : ℕ) (inside : j < length marks) (some : zero <
       go true e =
           let q : w / 32 ≡ j = eqb-true _ _ e in
           rw (q, getD-set-same marks j (withoutFirst x) 0 inside, bit-without x some word (w % 32))
-          (both (bit x (w % 32)) _ (rw q at t) (true-T (ap not (ne-eqb (w % 32) (firstOf x) (λ p. other (omega arith))))))
+          (both-true (bit x (w % 32)) _ (rw q at t) (true-T (ap not (ne-eqb (w % 32) (firstOf x) (λ p. other (omega arith))))))
       go false e = rw (getD-set-other marks j (w / 32) (withoutFirst x) 0 (eqb-false _ _ e)) t
 
 -- ---- no mark left
 
-pub none-marked : (marks : List ℕ) → length marks ≤ leastBelow (length marks) (λ j. not (eqb (getD marks j 0) 0)) → (w : ℕ) → marked marks w ≡ false
-unfolding marked
+pub none-marked : (marks : List ℕ) → length marks ≤ leastBelow (length marks) (λ j. not (eqb (getD marks j 0) 0)) → (w : ℕ) → nodeMarked marks w ≡ false
+unfolding nodeMarked
 none-marked marks h w = ap (λ (x : ℕ). bit x (w % 32)) (go (ltb (w / 32) (length marks)) refl) ∙ bit-of-zero (w % 32)
   where
     go : (b : Bool) → ltb (w / 32) (length marks) ≡ b → getD marks (w / 32) 0 ≡ 0

@@ -1,16 +1,11 @@
 -- The links of a board as a session keeps them, so that one can be taken out: by their numbers. One list has for each node the numbers of the
 -- links that start there, and then for each those of the links that end there, with offsets as neighbour tables have them (graph/specs/Net);
 -- another has each link's end, and then each one's start. A link that is out has neither: its two entries are no node's number.
-use mathlib.Core.Bool.{Bool, not, cond}
-use mathlib.Core.List.{List, [], _∷_}
-use mathlib.Core.Path.{_≡_}
-use Prim.Native.Nat.{ℕ, zero, suc, _+_, _*_, _/_, _%_, _^_}
+use Rattle.base_lists.specs.Kit.{_≡_, Bool, cond, not, List, [], _∷_, ℕ, _+_, suc, zero, _*_, _^_, _/_, _%_, eqb, ltb, length, getD, set, replicate}
 use lib.Bits.{bitOr}
-use lib.Dec.{eqb, ltb}
-use lib.ListN.{length, getD, set, replicate}
 use Rattle.base_lists.specs.Below.{leastBelow}
 use Rattle.base_bits.specs.Bits.{bit, firstOf, withoutFirst, unionAt}
-use Rattle.graph.specs.Net.{forwardLinks, backwardLinks, driven, driving}
+use Rattle.graph.specs.Net.{forwardTargets, backwardTargets, driven, driving}
 use Rattle.graph.specs.Search.{far}
 use Rattle.simulation.specs.Simulation.{Direction, forwards, backwards}
 use Rattle.table.specs.Prepared.{succOf, predOf}
@@ -18,7 +13,7 @@ use Rattle.table.specs.Row.{pairs}
 use Rattle.table_strike.specs.Strike.{survivors}
 
 -- the lists have their room
-pub record Room (masks offsets numbers ends : List ℕ) : Type 0 where
+pub record MovesRoom (masks offsets numbers ends : List ℕ) : Type 0 where
   pub inMasks : length masks ≡ 64
   pub inOffsets : length offsets ≡ 1026
   pub inNumbers : length numbers ≡ 8192
@@ -31,20 +26,20 @@ beyond ends (i ∷ is) = getD ends i far ∷ beyond ends is
 
 -- what node v drives, and what drives it
 unfoldable pub movesIn : List ℕ → List ℕ → List ℕ → Direction → ℕ → List ℕ
-movesIn offsets numbers ends forwards v = beyond (forwardLinks ends) (driven offsets numbers v)
-movesIn offsets numbers ends backwards v = beyond (backwardLinks ends) (driving offsets numbers v)
+movesIn offsets numbers ends forwards v = beyond (forwardTargets ends) (driven offsets numbers v)
+movesIn offsets numbers ends backwards v = beyond (backwardTargets ends) (driving offsets numbers v)
 
 -- ---- one node
 
 -- the next set of node v: those of its parts whose links all have partners
-unfoldable pub nextOf : List ℕ → (Direction → ℕ → List ℕ) → List ℕ → ℕ → ℕ
-nextOf masks moves old v =
+unfoldable pub nextSetAt : List ℕ → (Direction → ℕ → List ℕ) → List ℕ → ℕ → ℕ
+nextSetAt masks moves old v =
     survivors (succOf masks) (predOf masks) (unionAt old (moves forwards v)) (unionAt old (moves backwards v)) (getD old v 0)
 
 -- ---- marks: a bit per node, 32 to a number
 
-unfoldable pub marked : List ℕ → ℕ → Bool
-marked marks v = bit (getD marks (v / 32) 0) (v % 32)
+unfoldable pub nodeMarked : List ℕ → ℕ → Bool
+nodeMarked marks v = bit (getD marks (v / 32) 0) (v % 32)
 
 -- the marks with node v's
 unfoldable pub mark : List ℕ → ℕ → List ℕ
@@ -77,11 +72,11 @@ unmark marks j = set marks j (withoutFirst (getD marks j 0))
 -- ---- a look at one node: its next set is written, and where that is another set, the nodes beside it are marked
 
 unfoldable pub lookSets : List ℕ → (Direction → ℕ → List ℕ) → List ℕ → ℕ → List ℕ
-lookSets masks moves old v = set old v (nextOf masks moves old v)
+lookSets masks moves old v = set old v (nextSetAt masks moves old v)
 
 unfoldable pub lookMarks : List ℕ → (Direction → ℕ → List ℕ) → List ℕ → List ℕ → ℕ → List ℕ
 lookMarks masks moves old marks v =
-    cond (eqb (nextOf masks moves old v) (getD old v 0)) marks (markBeside (length old) moves marks v)
+    cond (eqb (nextSetAt masks moves old v) (getD old v 0)) marks (markBeside (length old) moves marks v)
 
 -- ---- going on until no node is marked
 

@@ -6,10 +6,10 @@ use base_bits::without_first;
 use graph::UNREACHED;
 use graph_neighbours::neighbours::Direction;
 use graph_neighbours::neighbours::neighbours;
-use graph_neighbours::tables::FORWARD_LINKS;
 use graph_neighbours::tables::FORWARD_OFFSETS;
-use graph_neighbours::tables::LINKS;
+use graph_neighbours::tables::FORWARD_TARGETS;
 use graph_neighbours::tables::OFFSETS;
+use graph_neighbours::tables::TARGETS;
 use table::FORWARD_MASKS;
 use table::MASKS;
 use table_strike::surviving;
@@ -19,7 +19,7 @@ ghost use lib.ListN.{length, getD};
 ghost use Rattle.base_bits.specs.Bits.{unionAt};
 ghost use Rattle.graph.specs.Search.{far};
 ghost use Rattle.graph_neighbours.specs.Lookup.{neighboursIn};
-ghost use Rattle.session_strike.specs.Moves.{Room, beyond, movesIn, nextOf, mark, markOne, markAll, markBeside, nodeAt, unmark, lookSets, lookMarks, firstWord, settled, settledFrom};
+ghost use Rattle.session_strike.specs.Moves.{MovesRoom, beyond, movesIn, nextSetAt, mark, markOne, markAll, markBeside, nodeAt, unmark, lookSets, lookMarks, firstWord, settled, settledFrom};
 
 // How many numbers have the marks of all nodes, 32 to a number.
 const MARKS: usize = 16;
@@ -32,9 +32,9 @@ fn links_of<'a>(direction: Direction, offsets: &[u16], numbers: &'a [u16], v: us
     neighbours(
         direction,
         &offsets[0..FORWARD_OFFSETS],
-        &numbers[0..FORWARD_LINKS],
+        &numbers[0..FORWARD_TARGETS],
         &offsets[FORWARD_OFFSETS..OFFSETS],
-        &numbers[FORWARD_LINKS..LINKS],
+        &numbers[FORWARD_TARGETS..TARGETS],
         v,
     )
 }
@@ -83,8 +83,8 @@ fn next_set(
     sets: &[u32],
     v: usize,
 ) -> u32
-    requires { ⌜ Room (now masks) (now offsets) (now numbers) (now ends) ⌝ }
-    ensures { λ r. ⌜ r ≡ nextOf (now (masks .entry)) (movesIn (now (offsets .entry)) (now (numbers .entry)) (now (ends .entry))) (now (sets .entry)) v ⌝ }
+    requires { ⌜ MovesRoom (now masks) (now offsets) (now numbers) (now ends) ⌝ }
+    ensures { λ r. ⌜ r ≡ nextSetAt (now (masks .entry)) (movesIn (now (offsets .entry)) (now (numbers .entry)) (now (ends .entry))) (now (sets .entry)) v ⌝ }
 {
     let set = set_at(sets, v);
     if set == 0 {
@@ -92,12 +92,12 @@ fn next_set(
     }
     let f = reach(
         links_of(Direction::Forward, offsets, numbers, v),
-        &ends[0..FORWARD_LINKS],
+        &ends[0..FORWARD_TARGETS],
         sets,
     );
     let b = reach(
         links_of(Direction::Backward, offsets, numbers, v),
-        &ends[FORWARD_LINKS..LINKS],
+        &ends[FORWARD_TARGETS..TARGETS],
         sets,
     );
     surviving(
@@ -155,13 +155,13 @@ fn mark_beside(
 {
     mark_ends(
         links_of(Direction::Forward, offsets, numbers, v),
-        &ends[0..FORWARD_LINKS],
+        &ends[0..FORWARD_TARGETS],
         n,
         marks,
     );
     mark_ends(
         links_of(Direction::Backward, offsets, numbers, v),
-        &ends[FORWARD_LINKS..LINKS],
+        &ends[FORWARD_TARGETS..TARGETS],
         n,
         marks,
     );
@@ -177,7 +177,7 @@ fn look(
     marks: &mut [u32],
     v: usize,
 )
-    requires { ⌜ Room (now masks) (now offsets) (now numbers) (now ends) ⌝ }
+    requires { ⌜ MovesRoom (now masks) (now offsets) (now numbers) (now ends) ⌝ }
     requires { ⌜ (length (now sets) ≤ 512) × (length (now marks) ≡ 16) ⌝ }
     ensures { λ _. ⌜ now (sets .exit) ≡ lookSets (now (masks .entry)) (movesIn (now (offsets .entry)) (now (numbers .entry)) (now (ends .entry))) (now (sets .entry)) v ⌝ }
     ensures { λ _. ⌜ now (marks .exit) ≡ lookMarks (now (masks .entry)) (movesIn (now (offsets .entry)) (now (numbers .entry)) (now (ends .entry))) (now (sets .entry)) (now (marks .entry)) v ⌝ }
@@ -216,7 +216,7 @@ fn look_next(
     marks: &mut [u32],
     j: usize,
 )
-    requires { ⌜ Room (now masks) (now offsets) (now numbers) (now ends) ⌝ }
+    requires { ⌜ MovesRoom (now masks) (now offsets) (now numbers) (now ends) ⌝ }
     requires { ⌜ (length (now sets) ≤ 512) × (length (now marks) ≡ 16) ⌝ }
     requires { ⌜ (j < 16) × (0 < getD (now marks) j 0) ⌝ }
     ensures { λ _. ⌜ now (sets .exit) ≡ lookSets (now (masks .entry)) (movesIn (now (offsets .entry)) (now (numbers .entry)) (now (ends .entry))) (now (sets .entry)) (nodeAt (now (marks .entry)) j) ⌝ }
@@ -229,7 +229,7 @@ fn look_next(
 }
 
 // Goes on from a table until no node is marked. A node that is looked at and changes marks the nodes beside it; nothing else is looked at.
-fn settle(
+fn strike_marked(
     masks: &[u32],
     offsets: &[u16],
     numbers: &[u16],
@@ -237,7 +237,7 @@ fn settle(
     sets: &mut [u32],
     marks: &mut [u32],
 )
-    requires { ⌜ Room (now masks) (now offsets) (now numbers) (now ends) ⌝ }
+    requires { ⌜ MovesRoom (now masks) (now offsets) (now numbers) (now ends) ⌝ }
     requires { ⌜ (length (now sets) ≤ 512) × (length (now marks) ≡ 16) ⌝ }
     ensures { λ _. ⌜ now (sets .exit) ≡ settled (now (masks .entry)) (movesIn (now (offsets .entry)) (now (numbers .entry)) (now (ends .entry))) (now (sets .entry)) (now (marks .entry)) ⌝ }
 {
@@ -258,7 +258,7 @@ pub fn strike_from(
     x: usize,
     y: usize,
 )
-    requires { ⌜ Room (now masks) (now offsets) (now numbers) (now ends) ⌝ }
+    requires { ⌜ MovesRoom (now masks) (now offsets) (now numbers) (now ends) ⌝ }
     requires { ⌜ length (now sets) ≤ 512 ⌝ }
     ensures { λ _. ⌜ now (sets .exit) ≡ settledFrom (now (masks .entry)) (movesIn (now (offsets .entry)) (now (numbers .entry)) (now (ends .entry))) (now (sets .entry)) x y ⌝ }
 {
@@ -266,5 +266,5 @@ pub fn strike_from(
     let n = sets.len();
     mark_one(n, x, &mut marks);
     mark_one(n, y, &mut marks);
-    settle(masks, offsets, numbers, ends, sets, &mut marks);
+    strike_marked(masks, offsets, numbers, ends, sets, &mut marks);
 }

@@ -1,7 +1,6 @@
 -- Of a file the program reads at most a byte more than the longest that is accepted: the shelf of what is read so is the shelf of the files, for
 -- any list of byte strings. Assumes nothing.
-use mathlib.Core.Bool.{Bool, true, false}
-use mathlib.Core.List.{List, [], map}
+use mathlib.Core.List.{List, []}
 use mathlib.Core.Path.{_≡_, refl, sym, ap, ap₂, _∙_}
 use Prim.Native.Nat.{ℕ}
 use lib.Dec.{T}
@@ -10,16 +9,16 @@ use Rattle.file_format.specs.declared.Edition.the-variants.{Second}
 use Rattle.file_format.specs.declared.Role.the-variants.{Pattern}
 use Rattle.file_format.specs.Layout.{inEdition}
 use Rattle.file_format.specs.Refusals.{Verdict, accept, refuse, first, fileConditions}
-use Rattle.file_cut.specs.Cut.{cut}
-use Rattle.file_cut.proofs.Cut.{cut-verdict, accepted-whole}
+use Rattle.file_format.specs.Cut.{cut}
+use Rattle.file_format.proofs.Cut.{cut-verdict, accepted-whole}
 use Rattle.order.specs.Order.{isLess}
 use Rattle.order.specs.Sorting.{sortBelow}
 use Rattle.order.proofs.Sorting.{sort-same}
-use Rattle.order_files.specs.Files.{compareFiles}
-use Rattle.shelf_text.specs.Text.{shelfText}
+use Rattle.order.specs.Files.{compareFiles}
+use Rattle.call_shelf.specs.Text.{shelfText}
 use Rattle.call_shelf.specs.Shelf.{isAccepted, fileAt, acceptedIn, shelfOf}
 use Rattle.shelf.specs.Reading.{cutEach}
-use Rattle.shelf.specs.Printing.{textOf}
+use Rattle.shelf.specs.Printing.{shelfTextOf}
 
 -- what reading a file as a second-edition pattern finds
 abbrev verdictFor : List ℕ → Verdict
@@ -56,6 +55,6 @@ module _ (files : List (List ℕ)) where
       ∙ ap (sortBelow (acceptedIn files) (λ i j. isLess (compareFiles (fileAt files i) (fileAt files j)))) (length-map files (cut Second Pattern))
 
   -- so its text is
-  pub cut-text : textOf (cutEach files) ≡ textOf files
-  unfolding textOf
+  pub cut-text : shelfTextOf (cutEach files) ≡ shelfTextOf files
+  unfolding shelfTextOf
   cut-text = ap shelfText cut-shelf

@@ -1,8 +1,8 @@
 -- The numbers of a shelf and their text. Assumes nothing.
 use mathlib.Core.Bool.{Bool, true, false, cond}
-use mathlib.Core.List.{List, [], _∷_, _++_}
-use mathlib.Core.Path.{_≡_, refl, sym, ap, _∙_}
-use Prim.Native.Nat.{ℕ, _+_, _*_, _≤_}
+use mathlib.Core.List.{List, [], _∷_}
+use mathlib.Core.Path.{_≡_, sym, ap, _∙_}
+use Prim.Native.Nat.{ℕ, _*_, _≤_}
 use native.Mathlib.Omega.{arith}
 use lib.ListN.{length, take, drop, length-append}
 use lib.Seq.{take-all, take-at}
@@ -13,16 +13,16 @@ use Rattle.file_format.specs.Refusals.{Verdict, accept, refuse, first, shortTab
 use Rattle.file_format.specs.Reply.{Reply, reply}
 use Rattle.order.specs.Order.{isLess}
 use Rattle.order.proofs.Sorting.{length-sort}
-use Rattle.order_files.specs.Files.{compareFiles}
-use Rattle.shelf_strings.specs.Strings.{cutInto}
-use Rattle.shelf_strings.proofs.Cutting.{length-cut}
-use Rattle.shelf_text.specs.Text.{shelfText}
-use Rattle.shelf_text.proofs.Text.{length-text}
+use Rattle.order.specs.Files.{compareFiles}
+use Rattle.call_shelf.specs.Strings.{cutInto}
+use Rattle.call_shelf.proofs.Cutting.{length-cut}
+use Rattle.call_shelf.specs.Text.{shelfText}
+use Rattle.call_shelf.proofs.Text.{length-text}
 use Rattle.call_shelf.specs.declared.ShelfAnswer.{ShelfAnswer}
 use Rattle.call_shelf.specs.declared.ShelfAnswer.the-variants.{Ordered}
 use Rattle.shelf.specs.declared.Taken.the-variants as taken
-use Rattle.shelf.specs.Reading.{endOf}
-use Rattle.shelf.specs.Printing.{printedOf, Handed, endedOf, Ran}
+use Rattle.shelf.specs.Reading.{shelfEnd}
+use Rattle.shelf.specs.Printing.{printedOf, ShelfHanded, shelfEnded, ShelfRan}
 use Rattle.call_shelf.specs.Shelf.{fileAt, acceptedIn, shelfOf, shelfReply, ShelfOutcome, shelvingOf, shelving}
 
 -- as many numbers as files, at most
@@ -59,8 +59,8 @@ text-room out numbers h = record { room = omega (arith, length-text numbers) }
 
 module _ {out after text : List ℕ} {size : ℕ} (p : Put out 0 text after size) (f : Fits out 0 text) where
   -- what was put stands at the front
-  pub text-front : take size after ≡ text
-  text-front = ap (take size) (put-whole p f) ∙ take-at text (drop (length text) out) size (omega (arith, p .end))
+  pub text-prefix : take size after ≡ text
+  text-prefix = ap (take size) (put-whole p f) ∙ take-at text (drop (length text) out) size (omega (arith, p .end))
 
   pub text-size : size ≤ length after
   text-size = omega (arith, p .end, ap length (put-whole p f), length-append text (drop (length text) out))
@@ -68,14 +68,14 @@ module _ {out after text : List ℕ} {size : ℕ} (p : Put out 0 text after size
 -- ---- what is handed over
 
 -- the front of a buffer that is a text, where it was taken
-pub handed-front : (text out : List ℕ) (size k : ℕ) (r : Bool) → take size out ≡ text → size ≡ length (take size out) → k ≡ cond r (length (take size out)) 0 → Handed text out k r
-unfolding Handed
-handed-front text out size k true e s h = (h ∙ ap length e, ap (λ (n : ℕ). take n out) (h ∙ sym s) ∙ e)
-handed-front text out size k false e s h = h
+pub handed-prefix : (text out : List ℕ) (size k : ℕ) (r : Bool) → take size out ≡ text → size ≡ length (take size out) → k ≡ cond r (length (take size out)) 0 → ShelfHanded text out k r
+unfolding ShelfHanded
+handed-prefix text out size k true e s h = (h ∙ ap length e, ap (λ (n : ℕ). take n out) (h ∙ sym s) ∙ e)
+handed-prefix text out size k false e s h = h
 
 -- how a run ends in which so many files were read
-pub ran-begun : (bytes notes out : List ℕ) (k count : ℕ) (whole : Bool) → endOf notes ≡ taken.Files count → Handed (printedOf bytes notes) out k whole
-    → Ran bytes notes out k (endedOf count whole)
-unfolding Ran endedOf
+pub ran-begun : (bytes notes out : List ℕ) (k count : ℕ) (whole : Bool) → shelfEnd notes ≡ taken.Files count → ShelfHanded (printedOf bytes notes) out k whole
+    → ShelfRan bytes notes out k (shelfEnded count whole)
+unfolding ShelfRan shelfEnded
 ran-begun bytes notes out k count true e h = (e, h)
 ran-begun bytes notes out k count false e h = (e, h)

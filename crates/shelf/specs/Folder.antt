@@ -6,10 +6,10 @@ use Prim.Native.Nat.{ℕ}
 use lib.ListN.{length, take, drop}
 use Rattle.file_format.specs.declared.Edition.the-variants.{Second}
 use Rattle.file_format.specs.declared.Role.the-variants.{Pattern}
-use Rattle.file_cut.specs.Cut.{cut}
-use Rattle.input.specs.declared.Found.the-variants as found
+use Rattle.file_format.specs.Cut.{cut}
+use Rattle.input.specs.declared.FileFound.the-variants as found
 use Rattle.shelf.specs.Reading.{noted}
-use Rattle.shelf.specs.Printing.{textOf}
+use Rattle.shelf.specs.Printing.{shelfTextOf}
 
 -- what there is under a name: a file with these bytes, be they none; no such name; or what cannot be read
 pub data Entry : Type 0 where
@@ -33,14 +33,14 @@ allReadable (unreadable ∷ later) = false
 
 -- what is printed
 unfoldable pub textIn : List Entry → List ℕ
-textIn folder = cond (allReadable folder) (textOf (onShelf folder)) []
+textIn folder = cond (allReadable folder) (shelfTextOf (onShelf folder)) []
 
 -- What is noted of the files that are looked at, and the bytes read, are the folder's: of each file as much as is read at most.
-unfoldable pub Told : List Entry → List ℕ → List ℕ → Type 0
-Told [] [] bytes = Unit {0}
-Told [] (note ∷ notes) bytes = ⊥
-Told (entry ∷ later) [] bytes = ⊥
-Told (file content ∷ later) (note ∷ notes) bytes =
-    (note ≡ length (cut Second Pattern content)) × (take note bytes ≡ cut Second Pattern content) × Told later notes (drop note bytes)
-Told (absent ∷ later) (note ∷ notes) bytes = note ≡ noted found.Absent
-Told (unreadable ∷ later) (note ∷ notes) bytes = note ≡ noted found.Unreadable
+unfoldable pub FolderTold : List Entry → List ℕ → List ℕ → Type 0
+FolderTold [] [] bytes = Unit {0}
+FolderTold [] (note ∷ notes) bytes = ⊥
+FolderTold (entry ∷ later) [] bytes = ⊥
+FolderTold (file content ∷ later) (note ∷ notes) bytes =
+    (note ≡ length (cut Second Pattern content)) × (take note bytes ≡ cut Second Pattern content) × FolderTold later notes (drop note bytes)
+FolderTold (absent ∷ later) (note ∷ notes) bytes = note ≡ noted found.Absent
+FolderTold (unreadable ∷ later) (note ∷ notes) bytes = note ≡ noted found.Unreadable

@@ -5,7 +5,7 @@
 use call_shelf::FILES;
 use call_shelf::ShelfAnswer;
 use file_format::Pattern;
-use input::Found;
+use input::FileFound;
 use output::Output;
 ghost use mathlib.Core.Bool.{cond};
 ghost use mathlib.Core.Path.{_≡_};
@@ -13,9 +13,9 @@ ghost use Prim.Native.Nat.{_+_, _*_, _<_, _≤_};
 ghost use lib.ListN.{length, take, set};
 ghost use Rattle.call_shelf.specs.Shelf.{mostFiles};
 ghost use Rattle.shelf.specs.declared.Taken.the-variants as taken;
-ghost use Rattle.shelf.specs.Printing.{printedOf, Handed, endedOf, Ran};
+ghost use Rattle.shelf.specs.Printing.{printedOf, ShelfHanded, shelfEnded, ShelfRan};
 ghost use Rattle.input.specs.Reading.{Within};
-ghost use Rattle.shelf.specs.Reading.{nameOf, mostBytes, noted, nextAfter, Reached, endOf};
+ghost use Rattle.shelf.specs.Reading.{shelfNameOf, mostBytes, noted, nextAfter, FileReached, shelfEnd};
 
 // A byte more than the longest second-edition pattern that is accepted: so that a longer file is refused by its length.
 const FILE_BYTES: usize = 4 + 4 * Pattern::MAX_NODES + 4 * Pattern::MAX_LINKS + 1;
@@ -51,7 +51,7 @@ enum End {
 // The name of the i-th file: its two digits.
 fn name_of(i: usize) -> [u8; 7]
     requires { ⌜ i < 100 ⌝ }
-    ensures { λ r. ⌜ r ≡ nameOf i ⌝ }
+    ensures { λ r. ⌜ r ≡ shelfNameOf i ⌝ }
 {
     [
         b'p',
@@ -65,15 +65,15 @@ fn name_of(i: usize) -> [u8; 7]
 }
 
 // The bytes of the i-th file, by its name.
-fn load_named(i: usize, name: &[u8], buf: &mut [u8]) -> Found
-    requires { ⌜ now name ≡ nameOf i ⌝ }
+fn load_named(i: usize, name: &[u8], buf: &mut [u8]) -> FileFound
+    requires { ⌜ now name ≡ shelfNameOf i ⌝ }
     ensures { λ r. ⌜ Within (length (now (buf .exit))) r ⌝ }
 {
     input::load(name, buf)
 }
 
 // The bytes of the i-th file.
-fn load(i: usize, buf: &mut [u8]) -> Found
+fn load(i: usize, buf: &mut [u8]) -> FileFound
     requires { ⌜ i < 100 ⌝ }
     ensures { λ r. ⌜ Within (length (now (buf .exit))) r ⌝ }
 {
@@ -82,22 +82,22 @@ fn load(i: usize, buf: &mut [u8]) -> Found
 }
 
 // What is noted of a file.
-fn note(found: Found) -> u32
+fn note(found: FileFound) -> u32
     requires { ⌜ Within mostBytes found ⌝ }
     ensures { λ r. ⌜ r ≡ noted found ⌝ }
 {
     match found {
-        Found::Bytes(size) => size as u32,
-        Found::Absent => ABSENT,
-        Found::Unreadable => UNREADABLE,
+        FileFound::Bytes(size) => size as u32,
+        FileFound::Absent => ABSENT,
+        FileFound::Unreadable => UNREADABLE,
     }
 }
 
 // Reads the i-th file to a place of the bytes, behind those of the files before it, and notes what became of it. All of those are there, and their
 // bytes stay.
-fn read_one(i: usize, at: usize, bytes: &mut [u8], notes: &mut [u32]) -> Found
+fn read_one(i: usize, at: usize, bytes: &mut [u8], notes: &mut [u32]) -> FileFound
     requires { ⌜ (i < length (now notes)) × (i < 100) × (at ≤ 65536) × (at + mostBytes ≤ length (now bytes)) ⌝ }
-    requires { ⌜ Reached (now notes) i at ⌝ }
+    requires { ⌜ FileReached (now notes) i at ⌝ }
     ensures { λ r. ⌜ Within mostBytes r × (now (notes .exit) ≡ set (now (notes .entry)) i (noted r)) ⌝ }
     ensures { λ _. ⌜ take at (now (bytes .exit)) ≡ take at (now (bytes .entry)) ⌝ }
 {
@@ -108,21 +108,21 @@ fn read_one(i: usize, at: usize, bytes: &mut [u8], notes: &mut [u32]) -> Found
 }
 
 // How the reading goes on: it ends at the first file that is absent.
-fn after(found: Found, at: usize) -> Next
+fn after(found: FileFound, at: usize) -> Next
     requires { ⌜ (at ≤ 65536) × Within mostBytes found ⌝ }
     ensures { λ r. ⌜ r ≡ nextAfter found at ⌝ }
 {
     match found {
-        Found::Bytes(size) => Next::Further(at + size),
-        Found::Absent => Next::Ends,
-        Found::Unreadable => Next::GivesUp,
+        FileFound::Bytes(size) => Next::Further(at + size),
+        FileFound::Absent => Next::Ends,
+        FileFound::Unreadable => Next::GivesUp,
     }
 }
 
 // Reads the files one after another, the bytes of each behind those of the one before, and notes what became of each.
 fn read_all(bytes: &mut [u8], notes: &mut [u32]) -> Taken
     requires { ⌜ (mostFiles * mostBytes ≤ length (now bytes)) × (length (now notes) ≡ mostFiles) ⌝ }
-    ensures { λ r. ⌜ r ≡ endOf (now (notes .exit)) ⌝ }
+    ensures { λ r. ⌜ r ≡ shelfEnd (now (notes .exit)) ⌝ }
 {
     let mut at: usize = 0;
     let mut i: usize = 0;
@@ -165,15 +165,15 @@ fn print_shelf(
     out: &mut [u8],
     handed: &mut usize,
 ) -> bool
-    requires { ⌜ (length (now notes) ≡ mostFiles) × (endOf (now notes) ≡ taken.Files count) ⌝ }
+    requires { ⌜ (length (now notes) ≡ mostFiles) × (shelfEnd (now notes) ≡ taken.Files count) ⌝ }
     requires { ⌜ (mostFiles ≤ length (now order)) × (3 * mostFiles ≤ length (now out)) × (now handed ≡ 0) ⌝ }
-    ensures { λ r. ⌜ Handed (printedOf (now (bytes .entry)) (now (notes .entry))) (now (out .exit)) (now (handed .exit)) r ⌝ }
+    ensures { λ r. ⌜ ShelfHanded (printedOf (now (bytes .entry)) (now (notes .entry))) (now (out .exit)) (now (handed .exit)) r ⌝ }
 {
     let answer = call_shelf::shelf(bytes, &notes[..count], order);
     let ShelfAnswer::Ordered(ordered) = answer else {
         return false;
     };
-    let size = shelf_text::put_numbers(&order[..ordered], out);
+    let size = call_shelf::lines::put_numbers(&order[..ordered], out);
     hand(bytes, notes, handed, &out[..size])
 }
 
@@ -186,7 +186,7 @@ fn cannot_read(i: usize)
 
 // How a run ends in which so many files were read, and tells where their lines are not whole.
 fn ended(count: usize, whole: bool) -> End
-    ensures { λ r. ⌜ r ≡ endedOf count whole ⌝ }
+    ensures { λ r. ⌜ r ≡ shelfEnded count whole ⌝ }
 {
     if whole {
         return End::Whole(count);
@@ -205,7 +205,7 @@ fn shelve(
 ) -> End
     requires { ⌜ (mostFiles * mostBytes ≤ length (now bytes)) × (length (now notes) ≡ mostFiles) ⌝ }
     requires { ⌜ (mostFiles ≤ length (now order)) × (3 * mostFiles ≤ length (now out)) × (now handed ≡ 0) ⌝ }
-    ensures { λ r. ⌜ Ran (now (bytes .exit)) (now (notes .exit)) (now (out .exit)) (now (handed .exit)) r ⌝ }
+    ensures { λ r. ⌜ ShelfRan (now (bytes .exit)) (now (notes .exit)) (now (out .exit)) (now (handed .exit)) r ⌝ }
 {
     let taken = read_all(bytes, notes);
     match taken {

@@ -1,30 +1,6 @@
 -- Laws of closed sets, over any labels, agreement, steps and moves: union, restriction, weaker requirements, composition. Assumes nothing.
-use Prim.Native.Nat.{ℕ}
-use Rattle.simulation.specs.Closed.{Relation, _⊆_, Closed, Occurring, LargestClosed, Union, Restrict, Compose}
-
--- the union of closed sets is closed
-pub union-closed :
-    {D I : Type 0} {Agree : Relation} {Step Move : D → Relation} (F : I → Relation) →
-    ((i : I) → Closed Agree Step Move (F i)) → Closed Agree Step Move (Union F)
-unfolding Union
-union-closed F c =
-    record {
-      agree = λ u v m. c (m .0) .agree u v (m .1);
-      partner = λ d u v u′ m p.
-          let (v′, l, s) = c (m .0) .partner d u v u′ (m .1) p in
-          (v′, l, (m .0, s));
-    }
-
--- and every part occurs in it, if every part occurs in each of the sets
-pub union-occurring :
-    {I : Type 0} {Part : ℕ → Type 0} (F : I → Relation) → ((i : I) → Occurring Part (F i)) → Occurring Part (Union F)
-unfolding Union
-union-occurring F o =
-    record {
-      occurs = λ u v m x p.
-          let (y, s) = o (m .0) .occurs u v (m .1) x p in
-          (y, (m .0, s));
-    }
+use Rattle.base_lists.specs.Kit.{ℕ}
+use Rattle.simulation.specs.Closed.{Relation, _⊆_, Closed, Occurring, LargestClosed, Restrict, Compose}
 
 -- A closed set cut to some nodes is closed for fewer moves, where these still answer the steps from the nodes kept, and lead to such.
 pub restrict-closed :
@@ -44,11 +20,11 @@ restrict-closed N agrees answers c =
 
 -- A closed set stays closed for a wider agreement and weaker requirements: each new step is an old one, perhaps with another label, whose
 -- moves are all moves of the new label.
-pub weaken :
+pub closed-weaken :
     {D D′ : Type 0} {Agree Agree′ : Relation} {Step Move : D → Relation} {Step′ Move′ : D′ → Relation} {S : Relation} →
     Agree ⊆ Agree′ → ((d′ : D′) (u u′ : ℕ) → Step′ d′ u u′ → (d : D) × Step d u u′ × (Move d ⊆ Move′ d′)) →
     Closed Agree Step Move S → Closed Agree′ Step′ Move′ S
-weaken wider weaker c =
+closed-weaken wider weaker c =
     record {
       agree = λ u v s. wider u v (c .agree u v s);
       partner = λ d′ u v u′ s p′.
@@ -57,21 +33,10 @@ weaken wider weaker c =
           (v′, more v v′ l, s′);
     }
 
--- with the labels kept: a wider agreement, fewer steps, more moves
-pub wider-agreement :
-    {D : Type 0} {Agree Agree′ : Relation} {Step Move : D → Relation} {S : Relation} →
-    Agree ⊆ Agree′ → Closed Agree Step Move S → Closed Agree′ Step Move S
-wider-agreement wider = weaken wider (λ d u u′ p. (d, p, λ v v′ l. l))
-
 pub fewer-steps :
     {D : Type 0} {Agree : Relation} {Step Step′ Move : D → Relation} {S : Relation} →
     ((d : D) → Step′ d ⊆ Step d) → Closed Agree Step Move S → Closed Agree Step′ Move S
-fewer-steps fewer = weaken (λ u v a. a) (λ d u u′ p. (d, fewer d u u′ p, λ v v′ l. l))
-
-pub more-moves :
-    {D : Type 0} {Agree : Relation} {Step Move Move′ : D → Relation} {S : Relation} →
-    ((d : D) → Move d ⊆ Move′ d) → Closed Agree Step Move S → Closed Agree Step Move′ S
-more-moves more = weaken (λ u v a. a) (λ d u u′ p. (d, p, more d))
+fewer-steps fewer = closed-weaken (λ u v a. a) (λ d u u′ p. (d, fewer d u u′ p, λ v v′ l. l))
 
 -- The same set, said in another way.
 pub closed-same-set :
@@ -121,19 +86,6 @@ compose-occurring inMiddle t s =
           (v′, (x, t′, s′));
     }
 
--- There is at most one largest closed set.
-pub largest-closed-unique :
-    {D : Type 0} {Agree : Relation} {Step Move : D → Relation} {R S : Relation} →
-    LargestClosed Agree Step Move R → LargestClosed Agree Step Move S → R ⊆ S
-largest-closed-unique r s = s .contains _ (r .closed)
-
--- The largest closed set grows as the requirements get weaker.
-pub largest-closed-grows :
-    {D D′ : Type 0} {Agree Agree′ : Relation} {Step Move : D → Relation} {Step′ Move′ : D′ → Relation} {R S : Relation} →
-    Agree ⊆ Agree′ → ((d′ : D′) (u u′ : ℕ) → Step′ d′ u u′ → (d : D) × Step d u u′ × (Move d ⊆ Move′ d′)) →
-    LargestClosed Agree Step Move R → LargestClosed Agree′ Step′ Move′ S → R ⊆ S
-largest-closed-grows wider weaker r s = s .contains _ (weaken wider weaker (r .closed))
-
 -- With the same agreement, steps and moves, said in another way, it is the same set.
 pub largest-closed-same :
     {D : Type 0} {Agree Agree′ : Relation} {Step Step′ Move Move′ : D → Relation} {S : Relation} →
@@ -141,6 +93,6 @@ pub largest-closed-same :
     LargestClosed Agree Step Move S → LargestClosed Agree′ Step′ Move′ S
 largest-closed-same wider narrower more fewer moves back l =
     record {
-      closed = weaken wider (λ d u u′ p. (d, fewer d u u′ p, moves d)) (l .closed);
-      contains = λ R c. l .contains R (weaken narrower (λ d u u′ p. (d, more d u u′ p, back d)) c);
+      closed = closed-weaken wider (λ d u u′ p. (d, fewer d u u′ p, moves d)) (l .closed);
+      contains = λ R c. l .contains R (closed-weaken narrower (λ d u u′ p. (d, more d u u′ p, back d)) c);
     }

@@ -1,6 +1,5 @@
 -- Laws of a node's component. Assumes nothing.
-use mathlib.Core.Logic.{inl, inr}
-use Prim.Native.Nat.{ℕ, zero, suc}
+use Rattle.base_lists.specs.Kit.{inl, inr, ℕ, suc, zero}
 use Rattle.graph.specs.Graph.{Graph, Connected, Walk, stay, step}
 use Rattle.simulation.specs.Simulation.{Direction, forwards, backwards, Along}
 use Rattle.simulation.specs.Perfect.{Component}

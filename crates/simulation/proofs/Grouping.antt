@@ -1,13 +1,10 @@
 -- Nothing more could be joined: a grouping of a pattern's parts whose groups match what each of their members matches joins no parts but such
 -- as match each other, and so has at least as many groups as there are classes of mutual matching. These classes are such a grouping. The
 -- agreement need not be symmetric. Assumes nothing.
-use mathlib.Core.Bool.{true}
-use mathlib.Core.Path.{_≡_, refl, sym, _∙_}
-use Prim.Native.Nat.{ℕ, zero, suc, _≤_, _<_}
+use Rattle.base_lists.specs.Kit.{_≡_, _∙_, sym, refl, true, ℕ, _≤_, _<_, zero, arith}
 use native.Mathlib.Decide.{decLt}
-use native.Mathlib.Omega.{arith}
-use Rattle.base_lists.specs.Below.{countBelow}
 use Rattle.base_lists.proofs.Ranks.{count-images}
+use Rattle.base_lists.proofs.Below.{countBelow-all}
 use Rattle.graph.specs.Graph.{Graph}
 use Rattle.simulation.specs.Closed.{Relation}
 use Rattle.simulation.specs.Simulation.{Largest}
@@ -27,11 +24,6 @@ grouping-agree g likes =
 
 -- ── Numbers of groups ──
 
-count-all : (n : ℕ) → countBelow n (λ i. true) ≡ n
-unfolding countBelow
-count-all zero = refl
-count-all (suc n) = omega (arith, count-all n)
-
 -- Of two groupings the finer one has at least as many groups.
 pub finer-more :
     {P : Graph} {Alike Alike′ : Relation} {fine coarse : ℕ → ℕ} {k c : ℕ} → Grouping P Alike fine k → Grouping P Alike′ coarse c →
@@ -39,7 +31,7 @@ pub finer-more :
 finer-more {P = P} {fine = fine} {coarse = coarse} {k = k} {c = c} f g finer =
     omega (
       arith,
-      count-all c,
+      countBelow-all c,
       count-images c k (λ i. true) (λ j. around j (decLt j k))
           (λ a h _. let (u, n, e) = g .onto a h in (fine u, f .below u n, around-is u n (decLt (fine u) k) ∙ e)),
     )

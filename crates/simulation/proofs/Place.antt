@@ -1,7 +1,6 @@
 -- The place is the component of the centre in the match graph of the largest dual simulation, and there is none where the centre does not
 -- occur in that. Assumes nothing.
-use mathlib.Core.Logic.{inl, inr, _↔_, Iff·rfl}
-use Prim.Native.Nat.{ℕ}
+use Rattle.base_lists.specs.Kit.{_↔_, inl, inr, Iff·rfl, ℕ}
 use Rattle.graph.specs.Graph.{Graph, Subgraph, Contains, Connected, Walk, stay, step}
 use Rattle.simulation.specs.Closed.{Relation, _⊆_, Closed, Restrict}
 use Rattle.simulation.specs.Simulation.{Largest, Candidate, Direction, forwards, backwards, Along}
@@ -126,9 +125,6 @@ module _ {P : Graph} {Agree : Relation} {B : Graph} {S : Relation} (largest : La
 
   pub place-none : ¬ ((u : ℕ) × S u w) → (G : Graph) → ¬ PerfectIn P Agree B w G
   place-none none G g = none (perfect-occurs g)
-
-  pub place-iff : Connected P → ((u : ℕ) × S u w) ↔ ((G : Graph) × PlaceIn P Agree B w G)
-  place-iff connected = (λ centre. (_, component-place connected centre), λ (G, g). perfect-occurs (g .perfect))
 
   pub perfect-iff : Connected P → ((u : ℕ) × S u w) ↔ ((G : Graph) × PerfectIn P Agree B w G)
   perfect-iff connected = (λ centre. (_, component-perfect connected centre), λ (G, g). perfect-occurs g)

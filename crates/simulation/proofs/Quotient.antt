@@ -1,17 +1,12 @@
 -- Merging keeps what is found: the pattern and its quotient by mutual matching have the same match graphs, perfect subgraphs and places,
 -- and no distance of the quotient is larger. Assumes nothing.
-use mathlib.Core.Logic.{_↔_}
-use mathlib.Core.Path.{_≡_, refl, sym, _∙_, subst, subst₂}
-use Prim.Native.Nat.{ℕ, _≤_}
-use native.Mathlib.Nat.{le-trans}
-use Rattle.graph.specs.Graph.{Graph, Connected, Walk, Distance, Radius}
+use Rattle.base_lists.specs.Kit.{_≡_, _∙_, sym, refl, subst, subst₂, _↔_, ℕ, _≤_, le-trans}
+use Rattle.graph.specs.Graph.{Graph, Connected, Walk, Radius}
 use Rattle.simulation.specs.Closed.{Relation, Compose}
 use Rattle.simulation.specs.Simulation.{DualSimulation, Largest, Direction, forwards, backwards, Along}
-use Rattle.simulation.specs.Perfect.{MatchGraph, PerfectIn, PlaceIn, SameGraph}
-use Rattle.simulation.specs.Quotient.{SharesClass, QuotientGraph, QuotientAgree, AgreeLaws, LinksJoin, Mutual, Merging, Image, Preimage}
+use Rattle.simulation.specs.Quotient.{QuotientGraph, AgreeLaws, LinksJoin, Mutual, Merging, Image, Preimage}
 use Rattle.simulation.proofs.Simulation.{dual-closed, closed-dual, dual-compose}
 use Rattle.simulation.proofs.Walks.{map-walk}
-use Rattle.simulation.proofs.Same.{same-symm, perfect-change}
 
 -- ── A pattern's table on itself ──
 
@@ -61,25 +56,6 @@ module _
   self-absorbs {S} largest u x v s t =
       largest .contains (Compose Self S) (dual-compose (laws .compose) (self .holds) (largest .holds)) u v (x, s, t)
 
-  -- The composite of the table with any set holds of a part what it holds of one that matches it.
-  compose-absorbs : (S : Relation) (u x v : ℕ) → Self u x → Compose Self S x v → Compose Self S u v
-  unfolding Compose
-  compose-absorbs S u x v s (y, t, m) = (y, self-trans u x y s t, m)
-
-  -- Members of one class agree with the same nodes,
-  pub class-agree :
-      {class : ℕ → ℕ} → SharesClass P Self class → (u x v : ℕ) → P .Node u → P .Node x → class u ≡ class x → Agree u v → Agree x v
-  class-agree classes u x v n m e a = laws .compose x u v (self .holds .kinds x u (classes .shares u x n m .0 e .1)) a
-
-  -- so there is an agreement of the classes.
-  pub quotient-agree :
-      {class : ℕ → ℕ} → SharesClass P Self class → QuotientAgree P class Agree (Image class (λ u v. P .Node u × Agree u v))
-  unfolding Image
-  quotient-agree classes =
-      record {
-        agree = λ u v n. (λ a. (u, refl, (n, a)), λ (x, e, (m, a)). class-agree classes x u v m n e a);
-      }
-
 -- ── Links and walks of the quotient ──
 
 module _ (P : Graph) (class : ℕ → ℕ) where
@@ -111,11 +87,6 @@ module _ (P : Graph) (class : ℕ → ℕ) where
   quotient-connected connected a b (u, n, e) (v, m, e′) =
       let (k, walk) = connected u v n m in
       (k, class-walk e e′ walk)
-
-  -- The distance of two classes is at most that of their members.
-  pub quotient-distance :
-      (u v d e : ℕ) → Distance P u v d → Distance (QuotientGraph P class) (class u) (class v) e → e ≤ d
-  quotient-distance u v d e p q = q .shortest d (class-walk refl refl (p .walk))
 
   -- So the quotient's radius is never the larger one.
   pub quotient-radius : (r s : ℕ) → Radius P r → Radius (QuotientGraph P class) s → s ≤ r
@@ -202,22 +173,6 @@ module _
             (u, e, largest .contains (Preimage P class R) (preimage-dual r) u v (n, subst (λ x. R x v) (sym e) m));
       }
 
-  -- A dual simulation of the pattern, composed with the table of the pattern on itself, holds the same of every member of a class, and so
-  -- is one of the quotient.
-  pub pattern-largest :
-      {H : Graph} {R : Relation} → Largest (QuotientGraph P class) AgreeQ H R → Largest P Agree H (Preimage P class R)
-  unfolding Image Preimage Compose
-  pattern-largest largest =
-      record {
-        holds = preimage-dual (largest .holds);
-        contains = λ S s u v m.
-            let n = s .part u v m in
-            let wide = dual-compose (merging .laws .compose) (merging .self .holds) s in
-            let absorbs = compose-absorbs (merging .joins) (merging .laws) (merging .self) S in
-            let itself = self-refl (merging .joins) (merging .laws) (merging .self) u n in
-            (n, largest .contains (Image class (Compose Self S)) (image-dual absorbs wide) (class u) v (u, refl, (u, itself, m)));
-      }
-
   -- A part matches a node exactly when its class does.
   pub same-pairs :
       {H : Graph} {S R : Relation} → Largest P Agree H S → Largest (QuotientGraph P class) AgreeQ H R →
@@ -226,60 +181,4 @@ module _
   same-pairs {S} {R} p q u v n = (
     λ s. q .contains (Image class S) (quotient-largest p .holds) (class u) v (u, refl, s),
     λ m. p .contains (Preimage P class R) (preimage-dual (q .holds)) u v (n, m),
-  )
-
-  -- The match graphs are the same.
-  pub same-match-graph :
-      {H : Graph} {S R : Relation} → Largest P Agree H S → Largest (QuotientGraph P class) AgreeQ H R →
-      SameGraph (MatchGraph P H S) (MatchGraph (QuotientGraph P class) H R)
-  unfolding MatchGraph QuotientGraph
-  same-match-graph {S} {R} p q =
-      record {
-        nodes = λ v. (
-          λ (u, s). (class u, up u v s),
-          λ (a, m). let (u, n, e) = q .holds .part a v m in (u, down u a v n e m),
-        );
-        links = λ v v′. (
-          λ (k, (u, u′, l, s, s′)). (k, (class u, class u′, (u, u′, l, refl, refl), up u v s, up u′ v′ s′)),
-          λ (k, (a, a′, (u, u′, l, e, e′), m, m′)). (
-            k,
-            (u, u′, l, down u a v (merging .joins .starts u u′ l) e m, down u′ a′ v′ (merging .joins .ends u u′ l) e′ m′),
-          ),
-        );
-      }
-    where
-      up : (u v : ℕ) → S u v → R (class u) v
-      up u v s = same-pairs p q u v (p .holds .part u v s) .0 s
-
-      down : (u a v : ℕ) → P .Node u → class u ≡ a → R a v → S u v
-      down u a v n e m = same-pairs p q u v n .1 (subst (λ x. R x v) (sym e) m)
-
-  -- ── Perfect subgraphs and places ──
-
-  quotient-perfect :
-      {B G : Graph} {w : ℕ} → PerfectIn P Agree B w G → PerfectIn (QuotientGraph P class) AgreeQ B w G
-  unfolding Image
-  quotient-perfect g =
-      let largest = quotient-largest (g .largest) in
-      let (u, v, s) = g .pair in
-      perfect-change g largest (class u, v, (u, refl, s)) (same-match-graph (g .largest) largest)
-
-  pattern-perfect :
-      {B G : Graph} {w : ℕ} → PerfectIn (QuotientGraph P class) AgreeQ B w G → PerfectIn P Agree B w G
-  unfolding Preimage QuotientGraph
-  pattern-perfect g =
-      let largest = pattern-largest (g .largest) in
-      let (a, v, m) = g .pair in
-      let (u, n, e) = g .largest .holds .part a v m in
-      perfect-change g largest (u, v, (n, subst (λ x. g .S x v) (sym e) m)) (same-symm (same-match-graph largest (g .largest)))
-
-  -- The perfect subgraphs are the same, and the places.
-  pub same-perfect :
-      {B G : Graph} {w : ℕ} → PerfectIn P Agree B w G ↔ PerfectIn (QuotientGraph P class) AgreeQ B w G
-  same-perfect = (quotient-perfect, pattern-perfect)
-
-  pub same-place : {B G : Graph} {w : ℕ} → PlaceIn P Agree B w G ↔ PlaceIn (QuotientGraph P class) AgreeQ B w G
-  same-place = (
-    λ g. record { perfect = quotient-perfect (g .perfect); contains = λ other o. g .contains other (pattern-perfect o) },
-    λ g. record { perfect = pattern-perfect (g .perfect); contains = λ other o. g .contains other (quotient-perfect o) },
   )

@@ -1,5 +1,5 @@
 -- A row of sets that stops has the largest closed set at its end. Assumes nothing.
-use Prim.Native.Nat.{ℕ, zero, suc}
+use Rattle.base_lists.specs.Kit.{ℕ, suc, zero}
 use Rattle.simulation.specs.Closed.{Relation, _⊆_, Closed, LargestClosed, Refine, Row}
 
 -- a closed set inside another is inside what that is refined to

@@ -1,12 +1,11 @@
 -- Graphs with the same nodes and links, and agreements that say the same, may take each other's place in every statement on matching.
 -- Assumes nothing.
-use mathlib.Core.Logic.{Iff·rfl, Iff·symm, Iff·trans}
-use Prim.Native.Nat.{ℕ}
+use Rattle.base_lists.specs.Kit.{Iff·rfl, Iff·symm, ℕ}
 use Rattle.graph.specs.Graph.{Graph, Subgraph, Contains, Connected, Distance, Radius}
 use Rattle.simulation.specs.Closed.{Relation, _⊆_}
 use Rattle.simulation.specs.Simulation.{DualSimulation, Largest}
 use Rattle.simulation.specs.Perfect.{MatchGraph, PerfectIn, PlaceIn, SameGraph, SameAgree}
-use Rattle.simulation.proofs.Closed.{weaken, closed-same-set, occurring-same-set}
+use Rattle.simulation.proofs.Closed.{closed-weaken, closed-same-set, occurring-same-set}
 use Rattle.simulation.proofs.Simulation.{along-wider, dual-closed, dual-occurring, closed-dual}
 use Rattle.simulation.proofs.Walks.{wider-walk}
 
@@ -17,10 +16,6 @@ same-refl G = record { nodes = λ v. Iff·rfl; links = λ v w. Iff·rfl }
 
 pub same-symm : {G H : Graph} → SameGraph G H → SameGraph H G
 same-symm g = record { nodes = λ v. Iff·symm (g .nodes v); links = λ v w. Iff·symm (g .links v w) }
-
-pub same-trans : {F G H : Graph} → SameGraph F G → SameGraph G H → SameGraph F H
-same-trans f g =
-    record { nodes = λ v. Iff·trans (f .nodes v) (g .nodes v); links = λ v w. Iff·trans (f .links v w) (g .links v w) }
 
 pub same-contains : {G H : Graph} → SameGraph G H → Contains H G
 same-contains g = record { nodes = λ v. g .nodes v .0; links = λ v w. g .links v w .0 }
@@ -79,7 +74,7 @@ pub dual-same :
     DualSimulation P Agree H S → DualSimulation P′ Agree′ H′ S
 dual-same p h a s =
     closed-dual
-    (weaken
+    (closed-weaken
     (λ u v c.
     record {
       part = p .nodes u .0 (c .part);
@@ -136,22 +131,6 @@ perfect-within s g =
       pair = g .pair;
       holdsMatches = g .holdsMatches;
       onlyMatches = g .onlyMatches;
-    }
-
--- a perfect subgraph of one pattern is one of another, if the two have the same match graph in it
-pub perfect-change :
-    {P Q B G : Graph} {Agree AgreeQ R : Relation} {w : ℕ} (g : PerfectIn P Agree B w G) → Largest Q AgreeQ G R →
-    (u : ℕ) × (v : ℕ) × R u v → SameGraph (MatchGraph P G (g .S)) (MatchGraph Q G R) → PerfectIn Q AgreeQ B w G
-perfect-change {R} g largest pair same =
-    record {
-      subgraph = g .subgraph;
-      connected = g .connected;
-      centre = g .centre;
-      S = R;
-      largest = largest;
-      pair = pair;
-      holdsMatches = contains-trans (g .holdsMatches) (same-contains (same-symm same));
-      onlyMatches = contains-trans (same-contains same) (g .onlyMatches);
     }
 
 pub perfect-same :

@@ -1,10 +1,9 @@
 -- A dual simulation is a set that is closed for both directions and in which every part occurs. Assumes nothing.
-use mathlib.Core.Logic.{_⊎_, inl, inr, _↔_}
-use Prim.Native.Nat.{ℕ}
+use Rattle.base_lists.specs.Kit.{_↔_, _⊎_, inl, inr, ℕ}
 use Rattle.graph.specs.Graph.{Graph, Subgraph, Connected, Walk, stay, step}
-use Rattle.simulation.specs.Closed.{Relation, _⊆_, Closed, Occurring, LargestClosed, Union, Compose}
+use Rattle.simulation.specs.Closed.{Relation, _⊆_, Closed, Occurring, LargestClosed, Compose}
 use Rattle.simulation.specs.Simulation.{DualSimulation, Largest, Candidate, Direction, forwards, backwards, Along}
-use Rattle.simulation.proofs.Closed.{union-closed, union-occurring, compose-closed, compose-occurring, weaken}
+use Rattle.simulation.proofs.Closed.{compose-closed, compose-occurring, closed-weaken}
 
 -- a wider relation is wider in each direction
 pub along-wider : {R S : Relation} → R ⊆ S → (d : Direction) → Along R d ⊆ Along S d
@@ -96,19 +95,13 @@ pub largest-unique :
     {P : Graph} {Agree : Relation} {H : Graph} {R S : Relation} → Largest P Agree H R → Largest P Agree H S → R ⊆ S
 largest-unique r s = s .contains _ (r .holds)
 
--- The union of dual simulations is one.
-pub dual-union :
-    {P : Graph} {Agree : Relation} {H : Graph} {I : Type 0} (F : I → Relation) →
-    ((i : I) → DualSimulation P Agree H (F i)) → DualSimulation P Agree H (Union F)
-dual-union F s = closed-dual (union-closed F (λ i. dual-closed (s i))) (union-occurring F (λ i. dual-occurring (s i)))
-
 -- A dual simulation in a subgraph is one in the graph.
 pub dual-subgraph :
     {P : Graph} {Agree : Relation} {G H : Graph} {S : Relation} → Subgraph G H →
     DualSimulation P Agree G S → DualSimulation P Agree H S
 dual-subgraph g s =
     closed-dual
-    (weaken (λ u v c. record { part = c .part; node = g .nodes v (c .node); kinds = c .kinds })
+    (closed-weaken (λ u v c. record { part = c .part; node = g .nodes v (c .node); kinds = c .kinds })
     (λ d u u′ p. (d, p, along-wider (g .links) d)) (dual-closed s))
     (dual-occurring s)
 

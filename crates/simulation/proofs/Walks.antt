@@ -1,6 +1,5 @@
 -- Laws of walks, directions ignored: they can be mapped, turned round and joined. Assumes nothing.
-use mathlib.Core.Logic.{_⊎_, ⊎-map, ⊎-swap}
-use Prim.Native.Nat.{ℕ, suc}
+use Rattle.base_lists.specs.Kit.{_⊎_, ⊎-swap, ⊎-map, ℕ, suc}
 use Rattle.graph.specs.Graph.{Walk, stay, step}
 use Rattle.simulation.specs.Closed.{Relation, _⊆_}
 use Rattle.simulation.specs.Perfect.{Joined}

@@ -1,6 +1,6 @@
 -- The one notion under every kind of matching: a set of pairs that is closed under labelled requirements. It knows no kinds of parts, no
 -- directions and no file.
-use Prim.Native.Nat.{ℕ, zero, suc}
+use Rattle.base_lists.specs.Kit.{ℕ, suc, zero}
 
 -- A set of pairs of numbers: of parts and nodes, or of nodes.
 abbrev pub Relation : Type 1
@@ -14,7 +14,7 @@ R ⊆ S = (u v : ℕ) → R u v → S u v
 -- A set S of pairs (part u, node v) is closed when each pair agrees, and each step of the pattern from u to u′ that bears the label d is
 -- answered by a move with that label from v to some v′ with (u′, v′) in S.
 pub record Closed {D : Type 0} (Agree : Relation) (Step Move : D → Relation) (S : Relation) : Type 0 where
-  pub agree : (u v : ℕ) → S u v → Agree u v
+  pub agree : S ⊆ Agree
   pub partner : (d : D) (u v u′ : ℕ) → S u v → Step d u u′ → (v′ : ℕ) × Move d v v′ × S u′ v′
 
 -- Every part of the pattern occurs in a pair, unless the set is empty.
@@ -25,10 +25,6 @@ pub record Occurring (Part : ℕ → Type 0) (S : Relation) : Type 0 where
 pub record LargestClosed {D : Type 0} (Agree : Relation) (Step Move : D → Relation) (S : Relation) : Type 1 where
   pub closed : Closed Agree Step Move S
   pub contains : (R : Relation) → Closed Agree Step Move R → R ⊆ S
-
--- The pairs that are in some set of a family.
-unfoldable pub Union : {I : Type 0} → (I → Relation) → Relation
-Union {I} F u v = (i : I) × F i u v
 
 -- The pairs of S whose node is one of N.
 unfoldable pub Restrict : Relation → (ℕ → Type 0) → Relation

@@ -1,8 +1,6 @@
 -- Groupings of a pattern's parts. A grouping is made into a pattern as merging does it: specs/Quotient's QuotientGraph and QuotientAgree, of
 -- which the merged pattern is the instance for the classes of mutual matching.
-use mathlib.Core.Logic.{_↔_}
-use mathlib.Core.Path.{_≡_}
-use Prim.Native.Nat.{ℕ, _<_}
+use Rattle.base_lists.specs.Kit.{_≡_, _↔_, ℕ, _<_}
 use Rattle.graph.specs.Graph.{Graph}
 use Rattle.simulation.specs.Closed.{Relation}
 

@@ -1,6 +1,5 @@
 -- Match graph, perfect subgraph and place; the component of a node; when two graphs are the same.
-use mathlib.Core.Logic.{_↔_}
-use Prim.Native.Nat.{ℕ}
+use Rattle.base_lists.specs.Kit.{_↔_, ℕ}
 use Rattle.graph.specs.Graph.{Graph, Subgraph, Contains, Connected, Walk, Ball}
 use Rattle.simulation.specs.Closed.{Relation}
 use Rattle.simulation.specs.Simulation.{Largest}

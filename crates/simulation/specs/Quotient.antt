@@ -1,8 +1,6 @@
 -- The merged pattern: the quotient of the pattern by mutual matching. (Class and merged pattern are document 01's terms.)
-use mathlib.Core.Logic.{_↔_}
-use mathlib.Core.Path.{_≡_}
-use Prim.Native.Nat.{ℕ}
-use Rattle.graph.specs.Graph.{Graph}
+use Rattle.base_lists.specs.Kit.{_≡_, _↔_, ℕ}
+use Rattle.graph.specs.Graph.{Graph, Subgraph}
 use Rattle.simulation.specs.Closed.{Relation}
 use Rattle.simulation.specs.Simulation.{Largest}
 
@@ -33,10 +31,9 @@ pub record AgreeLaws (P : Graph) (AgreeSelf Agree : Relation) : Type 0 where
   pub transitive : (u x y : ℕ) → AgreeSelf u x → AgreeSelf x y → AgreeSelf u y
   pub compose : (u x v : ℕ) → AgreeSelf u x → Agree x v → Agree u v
 
--- The links of a graph join its nodes.
-pub record LinksJoin (G : Graph) : Type 0 where
-  pub starts : (v w : ℕ) → G .Link v w → G .Node v
-  pub ends : (v w : ℕ) → G .Link v w → G .Node w
+-- The links of a graph join its nodes: it is a subgraph of itself.
+abbrev pub LinksJoin : Graph → Type 0
+LinksJoin G = Subgraph G G
 
 -- The pairs of classes and nodes that a set of pairs of parts and nodes gives: a class has the pairs of its members.
 unfoldable pub Image : (ℕ → ℕ) → Relation → Relation

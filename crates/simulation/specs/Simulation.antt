@@ -1,5 +1,5 @@
 -- Dual simulation, as document 01 reads it, and graph simulation. The pattern P and the graph H are graphs; Agree u v says that part u and node v have equal kinds.
-use Prim.Native.Nat.{ℕ}
+use Rattle.base_lists.specs.Kit.{ℕ}
 use Rattle.graph.specs.Graph.{Graph}
 use Rattle.simulation.specs.Closed.{Relation, _⊆_}
 
@@ -9,7 +9,7 @@ use Rattle.simulation.specs.Closed.{Relation, _⊆_}
 pub record DualSimulation (P : Graph) (Agree : Relation) (H : Graph) (S : Relation) : Type 0 where
   pub part : (u v : ℕ) → S u v → P .Node u
   pub node : (u v : ℕ) → S u v → H .Node v
-  pub kinds : (u v : ℕ) → S u v → Agree u v
+  pub kinds : S ⊆ Agree
   pub forward : (u v u′ : ℕ) → S u v → P .Link u u′ → (v′ : ℕ) × H .Link v v′ × S u′ v′
   pub backward : (u v u′ : ℕ) → S u v → P .Link u′ u → (v′ : ℕ) × H .Link v′ v × S u′ v′
   pub occurs : (u v : ℕ) → S u v → (x : ℕ) → P .Node x → (y : ℕ) × S x y
@@ -26,7 +26,7 @@ pub record Largest (P : Graph) (Agree : Relation) (H : Graph) (S : Relation) : T
 pub record GraphSimulation (P : Graph) (Agree : Relation) (H : Graph) (S : Relation) : Type 0 where
   pub part : (u v : ℕ) → S u v → P .Node u
   pub node : (u v : ℕ) → S u v → H .Node v
-  pub kinds : (u v : ℕ) → S u v → Agree u v
+  pub kinds : S ⊆ Agree
   pub forward : (u v u′ : ℕ) → S u v → P .Link u u′ → (v′ : ℕ) × H .Link v v′ × S u′ v′
   pub occurs : (u v : ℕ) → S u v → (x : ℕ) → P .Node x → (y : ℕ) × S x y
 

@@ -1,15 +1,7 @@
 -- The agreement of a part and a node: what its test means, and what it is good for. Nothing else looks into it. Assumes nothing.
-use mathlib.Core.Bool.{true, _&&_, _||_}
-use mathlib.Core.List.{List}
-use mathlib.Core.Logic.{_↔_, _⊎_, inl, inr, ⊎-elim}
-use mathlib.Core.Path.{_≡_, refl, sym, ap, ap₂, subst, _∙_}
-use Prim.Native.Nat.{ℕ, _*_, _/_, _<_}
-use native.Mathlib.Omega.{arith}
-use lib.Dec.{T, eqb, eqb→eq}
-use lib.ListN.{length, getD}
-use borrow.Author.Tests.{eq-eqb}
+use Rattle.base_lists.specs.Kit.{_≡_, _∙_, sym, ap, refl, subst, ap₂, _↔_, ⊎-elim, _⊎_, inl, inr, true, _&&_, _||_, List, ℕ, _<_, _*_, _/_, T, eqb, eqb→eq, length, getD, arith, eq-eqb}
 use Rattle.base_lists.specs.List.{Below}
-use Rattle.base_lists.proofs.Tests.{true-T, T-true, both, both-left, both-right, same-test, either-left, either-right, either-cases}
+use Rattle.base_lists.proofs.Tests.{true-T, T-true, both-true, both-left, both-right, same-test, either-left, either-right, either-cases}
 use Rattle.base_bits.specs.Bits.{numberOf}
 use Rattle.graph.specs.Circuit.{Circuit}
 use Rattle.table.specs.First.{startNode}
@@ -39,7 +31,7 @@ agree-iff part node =
         eqb→eq (packageIn part) (packageIn node) (both-left same (any || equal) t),
       ),
       λ (k, e).
-          both same (any || equal) (true-T (eq-eqb (packageIn part) (packageIn node) e))
+          both-true same (any || equal) (true-T (eq-eqb (packageIn part) (packageIn node) e))
           (⊎-elim (λ z. either-left any equal (true-T (eq-eqb (kindIn part) 0 z))) (λ q. either-right any equal (true-T (eq-eqb (kindIn part) (kindIn node) q))) k),
     )
 
@@ -91,12 +83,12 @@ agree-plain part node h h′ =
 -- "Every sentence of document 01 on equal kinds reads so"
 pub agrees-kinds : (pattern host : Circuit) (u v : ℕ) → T (agrees pattern host u v) ↔ KindsMatch pattern host u v
 unfolding agrees KindsMatch
-agrees-kinds pattern host u v = agree-iff (getD (pattern .kinds) u 0) (getD (host .kinds) v 0)
+agrees-kinds pattern host u v = agree-iff (getD (pattern .labels) u 0) (getD (host .labels) v 0)
 
 -- the set of the parts that agree with a node, as the code makes it from the kinds
 pub start-agrees :
     (pattern host : Circuit) (v : ℕ) →
-    startNode (pattern .kinds) (host .kinds) v ≡ numberOf (length (pattern .kinds)) (λ u. agrees pattern host u v)
+    startNode (pattern .labels) (host .labels) v ≡ numberOf (length (pattern .labels)) (λ u. agrees pattern host u v)
 unfolding startNode agrees
 start-agrees pattern host v = refl
 
@@ -116,23 +108,23 @@ kinds-compose a b c u x v (inr e, p) (inr d, q) = (inr (e ∙ d), p ∙ q)
 
 -- parts that agree with each other have the same kind and the same package: a part of kind 0 agrees with one of kind 5, and not the other
 -- way round
-pub kinds-mutual : (c : Circuit) (u v : ℕ) → KindsMatch c c u v → KindsMatch c c v u → getD (c .kinds) u 0 ≡ getD (c .kinds) v 0
+pub kinds-mutual : (c : Circuit) (u v : ℕ) → KindsMatch c c u v → KindsMatch c c v u → getD (c .labels) u 0 ≡ getD (c .labels) v 0
 unfolding KindsMatch
 kinds-mutual c u v (inr e, p) d = same-label _ _ e p
 kinds-mutual c u v (inl e, p) (inl d, q) = same-label _ _ (e ∙ sym d) p
 kinds-mutual c u v (inl e, p) (inr d, q) = same-label _ _ (sym d) p
 
 -- parts of the same kind and package agree with the same nodes
-pub kinds-part : (a b host : Circuit) (u x v : ℕ) → getD (a .kinds) u 0 ≡ getD (b .kinds) x 0 → KindsMatch a host u v → KindsMatch b host x v
+pub kinds-part : (a b host : Circuit) (u x v : ℕ) → getD (a .labels) u 0 ≡ getD (b .labels) x 0 → KindsMatch a host u v → KindsMatch b host x v
 unfolding KindsMatch
 kinds-part a b host u x v e m =
-    subst (λ (l : ℕ). KindMatches (kindIn l) (kindIn (getD (host .kinds) v 0)) × (packageIn l ≡ packageIn (getD (host .kinds) v 0))) e m
+    subst (λ (l : ℕ). KindMatches (kindIn l) (kindIn (getD (host .labels) v 0)) × (packageIn l ≡ packageIn (getD (host .labels) v 0))) e m
 
 -- ---- patterns without kind 0
 
 -- no part is of kind 0
 abbrev pub Plain : Circuit → Type 0
-Plain c = (u : ℕ) → u < length (c .kinds) → kindIn (getD (c .kinds) u 0) ≡ 0 → ⊥
+Plain c = (u : ℕ) → u < length (c .labels) → kindIn (getD (c .labels) u 0) ≡ 0 → ⊥
 
 -- such a part agrees with its own label alone
 labels-agree : (part node : ℕ) → (kindIn part ≡ 0 → ⊥) → kindsAgree part node ≡ eqb part node
@@ -142,9 +134,9 @@ labels-agree part node f = agree-own part node (λ e. f (omega arith))
 -- For such a pattern the problem is that of equal labels, whatever kinds and packages the board has: so its tables and counts, and all that is made from
 -- them, are those of before.
 module _ (pattern host : Circuit) (taken : List ℕ) (plain : Plain pattern) where
-  plain-agree : (u v : ℕ) → u < length (pattern .kinds) → agrees pattern host u v ≡ eqb (getD (pattern .kinds) u 0) (getD (host .kinds) v 0)
+  plain-agree : (u v : ℕ) → u < length (pattern .labels) → agrees pattern host u v ≡ eqb (getD (pattern .labels) u 0) (getD (host .labels) v 0)
   unfolding agrees
-  plain-agree u v h = labels-agree (getD (pattern .kinds) u 0) (getD (host .kinds) v 0) (plain u h)
+  plain-agree u v h = labels-agree (getD (pattern .labels) u 0) (getD (host .labels) v 0) (plain u h)
 
   pub plain-same : Equivalent (problemOf pattern host taken) (byEqualKinds pattern host taken)
   unfolding problemBy byEqualKinds
@@ -178,11 +170,11 @@ module _ (pattern host : Circuit) (taken : List ℕ) (plain : Plain pattern) whe
 
 -- Labels of 16 bits, as circuits of first-edition files have: the problem is that of kinds, so its tables and counts, and all that is made from
 -- them, are those of before there were packages.
-module _ (pattern host : Circuit) (taken : List ℕ) (parts : Below 65536 (pattern .kinds)) (nodes : Below 65536 (host .kinds)) where
-  unpacked-agree : (u v : ℕ) → u < length (pattern .kinds) → v < length (host .kinds)
-      → agrees pattern host u v ≡ (eqb (getD (pattern .kinds) u 0) 0 || eqb (getD (pattern .kinds) u 0) (getD (host .kinds) v 0))
+module _ (pattern host : Circuit) (taken : List ℕ) (parts : Below 65536 (pattern .labels)) (nodes : Below 65536 (host .labels)) where
+  unpacked-agree : (u v : ℕ) → u < length (pattern .labels) → v < length (host .labels)
+      → agrees pattern host u v ≡ (eqb (getD (pattern .labels) u 0) 0 || eqb (getD (pattern .labels) u 0) (getD (host .labels) v 0))
   unfolding agrees Below
-  unpacked-agree u v h l = agree-plain (getD (pattern .kinds) u 0) (getD (host .kinds) v 0) (parts u h) (nodes v l)
+  unpacked-agree u v h l = agree-plain (getD (pattern .labels) u 0) (getD (host .labels) v 0) (parts u h) (nodes v l)
 
   pub unpacked-same : Equivalent (problemOf pattern host taken) (byKinds pattern host taken)
   unfolding problemBy byKinds

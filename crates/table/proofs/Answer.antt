@@ -1,14 +1,7 @@
 -- The whole-board call's answer, for any directions and for every pattern, connected or not: the largest set that is closed along them and in
 -- which every part occurs. For both directions and a connected pattern it is the row's last set with the row's counts. Assumes nothing.
-use mathlib.Core.Bool.{Bool, true, false, cond}
-use mathlib.Core.List.{List, map}
-use mathlib.Core.Logic.{_↔_, Iff·rfl}
-use mathlib.Core.Path.{_≡_, refl, sym, _∙_}
-use Prim.Native.Nat.{ℕ, _+_, _≤_, _<_}
-use native.Mathlib.Nat.{le-refl}
+use Rattle.base_lists.specs.Kit.{_≡_, _∙_, sym, refl, _↔_, Iff·rfl, Bool, false, true, cond, List, map, ℕ, _≤_, _<_, _+_, le-refl, T, length}
 use lib.Count.{ones}
-use lib.Dec.{T}
-use lib.ListN.{length}
 use Rattle.base_lists.specs.List.{tabulate, sum}
 use Rattle.base_lists.proofs.Tests.{T-false, true-T}
 use Rattle.graph.specs.Circuit.{Circuit, graphOf, circuitGraph}
@@ -24,7 +17,7 @@ use Rattle.table_row.proofs.Answer as Of
 use Rattle.table_row.proofs.Counting.{started-ones}
 use Rattle.table_row.proofs.Meaning.{last-fits}
 use Rattle.table.specs.declared.Counts.{Counts}
-use Rattle.table.specs.Answer.{Fits, allOccur, allOrNone, answerBy, answerTable, answerCountsBy, AnsweredBy, countsWhere, Ruled}
+use Rattle.table.specs.Answer.{SetsFit, allOccur, allOrNone, answerBy, answerTable, answerCountsBy, AnsweredBy, countsWhere, Ruled}
 use Rattle.table.specs.Host.{everything, KindsMatch}
 use Rattle.table.specs.Refine.{countsBy, countsOf, RefinedBy}
 use Rattle.table.specs.Row.{bothWays, oneWay, problemBy, problemOf, lastTable}
@@ -38,7 +31,7 @@ module _ (ways : List Direction) (pattern host : Circuit) (taken : List ℕ) whe
 
   -- every part has a node in the row's last set
   abbrev occur : Bool
-  occur = allOccur (length (host .kinds)) (length (pattern .kinds)) (lastOf problem)
+  occur = allOccur (length (host .labels)) (length (pattern .labels)) (lastOf problem)
 
   pub answer-fits : Table pattern host (answerBy ways pattern host taken)
   unfolding problemBy
@@ -63,20 +56,20 @@ module _ (ways : List Direction) (pattern host : Circuit) (taken : List ℕ) whe
   abbrev cleared : Counts
   cleared = record { started = startedOf problem; kept = 0; struck = startedOf problem; rounds = roundsOf problem }
 
-  answer-none : occur ≡ false → AnsweredBy ways pattern host taken (tabulate (length (host .kinds)) (λ v. 0)) cleared
+  answer-none : occur ≡ false → AnsweredBy ways pattern host taken (tabulate (length (host .labels)) (λ v. 0)) cleared
   unfolding problemBy answerCountsBy
   answer-none e = record { counted = rw (Of.none-kept problem e, Of.none-struck problem e); last = sym (Of.answer-none problem e) }
 
   -- "If some part is left without a node, the table is all 0, kept is 0, struck equals started, and rounds count as before."
   pub answer-missing :
-      (u : ℕ) → u < length (pattern .kinds) → ((v : ℕ) → InTable (lastOf problem) u v → ⊥) →
-      AnsweredBy ways pattern host taken (tabulate (length (host .kinds)) (λ v. 0)) cleared
+      (u : ℕ) → u < length (pattern .labels) → ((v : ℕ) → InTable (lastOf problem) u v → ⊥) →
+      AnsweredBy ways pattern host taken (tabulate (length (host .labels)) (λ v. 0)) cleared
   unfolding problemBy
   answer-missing u h none = answer-none (T-false (λ s. let (v, m) = Of.occur-iff problem row-fits .0 s u h in none v m))
 
   -- Else it is the row's last set, with the row's counts.
   pub answer-found :
-      ((u : ℕ) → u < length (pattern .kinds) → (v : ℕ) × InTable (lastOf problem) u v) →
+      ((u : ℕ) → u < length (pattern .labels) → (v : ℕ) × InTable (lastOf problem) u v) →
       AnsweredBy ways pattern host taken (lastOf problem) (countsBy ways pattern host taken)
   unfolding problemBy
   answer-found found = answer-all (Of.occur-iff problem row-fits .1 found)
@@ -84,19 +77,19 @@ module _ (ways : List Direction) (pattern host : Circuit) (taken : List ℕ) whe
   -- ---- as the rule is applied
 
   pub refined-fits :
-      {last : List ℕ} {counts : Counts} → RefinedBy ways pattern host taken last counts → Fits (length last) (length (pattern .kinds)) last
+      {last : List ℕ} {counts : Counts} → RefinedBy ways pattern host taken last counts → SetsFit (length last) (length (pattern .labels)) last
   refined-fits r = rw (r .last) (record { size = refl; small = row-fits .small })
 
   pub answered :
       {last table : List ℕ} {counts answer : Counts} → RefinedBy ways pattern host taken last counts →
-      Ruled (length (pattern .kinds)) (length last) last counts table answer → AnsweredBy ways pattern host taken table answer
+      Ruled (length (pattern .labels)) (length last) last counts table answer → AnsweredBy ways pattern host taken table answer
   unfolding allOrNone countsWhere countsBy
   answered {table = table} {answer = answer} r w =
       let size = row-fits .size in
       go occur refl (rw (r .last, size) at (w .made)) (rw (r .last, size, r .counted) at (w .counted))
     where
       go :
-          (b : Bool) → occur ≡ b → table ≡ cond b (lastOf problem) (tabulate (length (host .kinds)) (λ v. 0)) →
+          (b : Bool) → occur ≡ b → table ≡ cond b (lastOf problem) (tabulate (length (host .labels)) (λ v. 0)) →
           answer ≡ countsWhere b (countsBy ways pattern host taken) → AnsweredBy ways pattern host taken table answer
       go true e t k = let a = answer-all (true-T e) in record { counted = k ∙ a .counted; last = t ∙ a .last }
       go false e t k = let a = answer-none e in record { counted = k ∙ a .counted; last = t ∙ a .last }
@@ -104,11 +97,11 @@ module _ (ways : List Direction) (pattern host : Circuit) (taken : List ℕ) whe
 -- ---- what it means
 
 -- the parts of a pattern's graph
-parts-iff : (pattern : Circuit) (u : ℕ) → circuitGraph pattern .Node u ↔ (u < length (pattern .kinds))
+parts-iff : (pattern : Circuit) (u : ℕ) → circuitGraph pattern .Node u ↔ (u < length (pattern .labels))
 unfolding circuitGraph graphOf
 parts-iff pattern u = Iff·rfl
 
-module _ (ways : List Direction) (pattern host : Circuit) (taken : List ℕ) (most : length (pattern .kinds) ≤ 32) where
+module _ (ways : List Direction) (pattern host : Circuit) (taken : List ℕ) (most : length (pattern .labels) ≤ 32) where
   abbrev problem′ : Problem Direction
   problem′ = problemBy ways pattern host taken
 
@@ -139,7 +132,7 @@ module _ (ways : List Direction) (pattern host : Circuit) (taken : List ℕ) (mo
 
 -- on the whole board
 pub board-along :
-    (ways : List Direction) (pattern board : Circuit) → length (pattern .kinds) ≤ 32 → LinksJoin (circuitGraph board) →
+    (ways : List Direction) (pattern board : Circuit) → length (pattern .labels) ≤ 32 → LinksJoin (circuitGraph board) →
     LargestOccurring (circuitGraph pattern .Node) (Candidate (circuitGraph pattern) (KindsMatch pattern board) (circuitGraph board))
     (Chosen ways (Steps pattern)) (Along (circuitGraph board .Link)) (InTable (answerBy ways pattern board (everything board)))
 board-along ways pattern board most j = Of.occurring-same (everything-same board j) (answer-along ways pattern board (everything board) most)
@@ -158,7 +151,7 @@ pub along-graph :
     LargestOccurring (P .Node) (Candidate P Agree H) (Chosen oneWay (Along (P .Link))) (Along (H .Link)) S → LargestGraphSimulation P Agree H S
 along-graph = Of.occurring-graph
 
-module _ (pattern host : Circuit) (taken : List ℕ) (most : length (pattern .kinds) ≤ 32) where
+module _ (pattern host : Circuit) (taken : List ℕ) (most : length (pattern .labels) ≤ 32) where
   -- "Connected patterns get the table and counts they always got."
   pub answer-connected :
       Connected (circuitGraph pattern) → AnsweredBy bothWays pattern host taken (lastTable pattern host taken) (countsOf pattern host taken)

@@ -1,14 +1,10 @@
 -- Tests over what a node drives, and the set of pairs that a table holds. Assumes nothing.
-use mathlib.Core.Bool.{Bool}
-use mathlib.Core.List.{List}
-use mathlib.Core.Logic.{_↔_}
-use Prim.Native.Nat.{ℕ}
-use lib.Dec.{T}
+use Rattle.base_lists.specs.Kit.{_↔_, Bool, List, ℕ, T}
 use Rattle.base_lists.specs.List.{any}
+use Rattle.base_lists.proofs.Entries.{any-occurs}
 use Rattle.graph.specs.Circuit.{HasLink}
 use Rattle.graph.specs.Neighbours.{select}
 use Rattle.graph.proofs.Groups.{select-mem}
-use Rattle.table_row.proofs.Tests.{any-occurs}
 pub use Rattle.table_row.specs.Reading.{InTable}
 
 -- a test passes at some node to which v has a link

@@ -1,12 +1,8 @@
 -- The row of a pattern on a circuit comes to rest at its last set, and the four counts say how: table_row's laws, for any directions and at most 32
 -- parts.
 -- Assumes nothing.
-use mathlib.Core.List.{List, map}
-use mathlib.Core.Logic.{_≢_}
-use mathlib.Core.Path.{_≡_, refl}
-use Prim.Native.Nat.{ℕ, suc, _+_, _-_, _≤_, _<_}
+use Rattle.base_lists.specs.Kit.{_≡_, refl, _≢_, List, map, ℕ, _≤_, _<_, _-_, suc, length}
 use lib.Count.{ones}
-use lib.ListN.{length}
 use Rattle.base_lists.specs.List.{sum}
 use Rattle.graph.specs.Circuit.{Circuit}
 use Rattle.table_row.specs.Row.{struckOf}
@@ -19,25 +15,7 @@ pub struck-minus : (ways : List Direction) (pattern host : Circuit) (taken : Lis
 unfolding struckOf
 struck-minus ways pattern host taken = refl
 
-module _ (ways : List Direction) (pattern host : Circuit) (taken : List ℕ) (most : length (pattern .kinds) ≤ 32) where
-  -- "The last set of this row": the row rests from `started` on.
-  pub row-last : (k : ℕ) → startedBy ways pattern host taken ≤ k → rowBy ways pattern host taken k ≡ lastBy ways pattern host taken
-  unfolding problemBy
-  row-last = Of.row-last (problemBy ways pattern host taken) most
-
-  -- "So started = kept + struck, and rounds are at most struck."
-  pub kept-started : keptBy ways pattern host taken ≤ startedBy ways pattern host taken
-  unfolding problemBy
-  kept-started = Of.kept-started (problemBy ways pattern host taken) most
-
-  pub started-sum : startedBy ways pattern host taken ≡ keptBy ways pattern host taken + struckBy ways pattern host taken
-  unfolding problemBy
-  started-sum = Of.started-sum (problemBy ways pattern host taken) most
-
-  pub rounds-struck : roundsBy ways pattern host taken ≤ struckBy ways pattern host taken
-  unfolding problemBy
-  rounds-struck = Of.rounds-struck (problemBy ways pattern host taken) most
-
+module _ (ways : List Direction) (pattern host : Circuit) (taken : List ℕ) (most : length (pattern .labels) ≤ 32) where
   -- "rounds, how many sets differ from the one before": each set up to there does, and there the row has come to its last
   pub rounds-differ : (j : ℕ) → j < roundsBy ways pattern host taken → rowBy ways pattern host taken (suc j) ≢ rowBy ways pattern host taken j
   unfolding problemBy
@@ -50,7 +28,7 @@ module _ (ways : List Direction) (pattern host : Circuit) (taken : List ℕ) (mo
   -- "kept is the number of one bits in the whole table"; started likewise, of the first
   pub kept-ones : keptBy ways pattern host taken ≡ sum (map ones (lastBy ways pattern host taken))
   unfolding problemBy
-  kept-ones = Of.kept-ones (problemBy ways pattern host taken) most
+  kept-ones = Of.keptOf-ones (problemBy ways pattern host taken) most
 
   pub started-ones : startedBy ways pattern host taken ≡ sum (map ones (startBy ways pattern host taken))
   unfolding problemBy

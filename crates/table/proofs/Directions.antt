@@ -1,9 +1,5 @@
 -- The masks of the directions chosen: a direction that is not among them asks for nothing. Assumes nothing.
-use mathlib.Core.Bool.{Bool, true, false, _&&_, _||_, not, cond}
-use mathlib.Core.List.{List, [], _∷_}
-use mathlib.Core.Path.{_≡_, refl, sym, ap, _∙_}
-use Prim.Native.Nat.{ℕ, _<_}
-use lib.ListN.{getD}
+use Rattle.base_lists.specs.Kit.{_≡_, _∙_, sym, ap, refl, Bool, false, true, cond, _&&_, not, _||_, List, [], _∷_, ℕ, _<_, getD}
 use Rattle.base_lists.specs.List.{any}
 use Rattle.base_lists.proofs.Tests.{T-true, at-allBelow}
 use Rattle.base_lists.proofs.Tables.{getD-tabulate}

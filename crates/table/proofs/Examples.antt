@@ -1,6 +1,5 @@
 -- Document 01's examples of the match table, by computation. Assumes nothing.
-use mathlib.Core.List.{[], _∷_}
-use mathlib.Core.Path.{_≡_, refl}
+use Rattle.base_lists.specs.Kit.{_≡_, refl, [], _∷_}
 use Rattle.table.specs.Answer.{answerBy, answerCountsBy, answerTable, answerCounts}
 use Rattle.table.specs.Host.{everything}
 use Rattle.table.specs.Row.{oneWay, lastBy, started, lastTable, kept, struck, rounds}

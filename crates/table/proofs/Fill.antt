@@ -1,12 +1,5 @@
 -- Laws of tables that are written at the nodes of a list. Assumes nothing.
-use mathlib.Core.Bool.{Bool, true, false, _||_, cond}
-use mathlib.Core.List.{List, [], _∷_}
-use mathlib.Core.Path.{_≡_, refl, sym, ap, _∙_, subst}
-use Prim.Native.Nat.{ℕ, _<_}
-use lib.Dec.{T, eqb, eqb→eq}
-use lib.ListN.{length, getD, set, replicate, length-set, length-replicate, getD-replicate}
-use lib.Seq.{getD-set-same, getD-set-other}
-use borrow.Author.Tests.{eqb-true, eqb-false, eq-eqb}
+use Rattle.base_lists.specs.Kit.{_≡_, _∙_, sym, ap, refl, subst, Bool, false, true, cond, _||_, List, [], _∷_, ℕ, _<_, T, eqb, eqb→eq, length, getD, set, length-set, replicate, length-replicate, getD-replicate, getD-set-other, getD-set-same, eq-eqb, eqb-true, eqb-false}
 use Rattle.base_lists.specs.List.{any, Occurs}
 use Rattle.base_lists.proofs.Tables.{is-tabulate, length-tabulate, getD-tabulate}
 use Rattle.base_lists.proofs.Tests.{true-T, any-at, at-any}
@@ -60,10 +53,6 @@ length-table n f nodes = length-tabulate n (λ v. cond (listed nodes v) (f v) 0)
 pub getD-table : (n : ℕ) (f : ℕ → ℕ) (nodes : List ℕ) (v : ℕ) → v < n → getD (tableAt n f nodes) v 0 ≡ cond (listed nodes v) (f v) 0
 unfolding tableAt
 getD-table n f nodes v h = getD-tabulate n (λ v. cond (listed nodes v) (f v) 0) v 0 h
-
-pub cleared-table : (n : ℕ) (f : ℕ → ℕ) (nodes : List ℕ) → Cleared nodes (tableAt n f nodes)
-unfolding Cleared
-cleared-table n f nodes v h e = getD-table n f nodes v (rw length-table at h) ∙ rw e
 
 pub cleared-none : (n : ℕ) (nodes xs : List ℕ) → xs ≡ replicate n 0 → Cleared nodes xs
 unfolding Cleared

@@ -1,29 +1,20 @@
 -- Laws of the masks: the sets of the parts that a part drives, or that drive it, built link by link. Assumes nothing.
-use mathlib.Core.Bool.{Bool, true, false, _||_, cond, or-assoc, or-false}
-use mathlib.Core.List.{List, [], _∷_}
-use mathlib.Core.Path.{_≡_, refl, sym, ap, _∙_, subst}
-use Prim.Native.Nat.{ℕ, _+_, _^_, _≤_, _<_}
-use native.Mathlib.Nat.{not-le-of-lt}
-use native.Mathlib.Numerals.{add-one}
+use Rattle.base_lists.specs.Kit.{_≡_, _∙_, sym, ap, refl, subst, Bool, false, true, cond, _||_, or-false, or-assoc, List, [], _∷_, ℕ, _≤_, _<_, _+_, _^_, not-le-of-lt, add-one, eqb, length, getD, drop, set, length-set, replicate, drop-of-length-le, length-replicate, getD-replicate, getD-set-other, drop-cons, getD-set-same, eqb-true, eqb-false}
 use lib.Bits.{bitOr}
-use lib.Dec.{eqb, eqb→eq}
-use lib.ListN.{length, getD, drop, set, replicate, length-set, length-replicate, getD-replicate, drop-of-length-le}
-use lib.Seq.{drop-cons, getD-set-same, getD-set-other}
-use borrow.Author.Tests.{eqb-true, eqb-false, eq-eqb}
 use Rattle.base_lists.specs.List.{any, Below}
-use Rattle.base_lists.proofs.Tests.{T-false, true-T, same-test}
+use Rattle.base_lists.proofs.Tests.{T-false, eqb-sym}
 use Rattle.base_lists.proofs.Tables.{is-tabulate}
+use Rattle.simulation.specs.Simulation.{Direction, forwards, backwards}
 use Rattle.base_bits.specs.Bits.{bit, numberOf}
 use Rattle.base_bits.proofs.Digits.{bit-of-zero, bit-or, bit-single, same-bits}
 use Rattle.base_bits.proofs.Numbers.{bit-number-all}
 use Rattle.graph.specs.Neighbours.{select}
 use Rattle.graph.proofs.Groups.{select-link}
+use Rattle.graph.specs.Circuit.{Circuit}
 use Rattle.table_row.proofs.Masks.{listed-below}
 use Rattle.table.specs.Fill.{listed}
 use Rattle.table.specs.Prepared.{masksOf}
-
-eqb-sym : (a b : ℕ) → eqb a b ≡ eqb b a
-eqb-sym a b = same-test (λ t. true-T (eq-eqb b a (sym (eqb→eq a b t)))) (λ t. true-T (eq-eqb a b (sym (eqb→eq b a t))))
+use Rattle.table.specs.Row.{neighbours}
 
 -- ---- links added one by one to the sets of their keys
 
@@ -93,3 +84,11 @@ add-masks n ks xs out l e =
 pub add-end : (keys values out : List ℕ) (i : ℕ) → length keys ≤ i → addLinks (drop i keys) (drop i values) out ≡ out
 unfolding addLinks
 add-end keys values out i h = ap (λ (ks : List ℕ). addLinks ks (drop i values) out) (drop-of-length-le keys h)
+
+-- ---- neighbours along a direction
+
+-- links lead from parts to parts
+pub neighbours-below : (n : ℕ) (c : Circuit) → Below n (c .starts) → Below n (c .ends) → (d : Direction) (u : ℕ) → Below n (neighbours c d u)
+unfolding neighbours
+neighbours-below n c starts ends forwards u = select-within n (c .starts) (c .ends) u ends
+neighbours-below n c starts ends backwards u = select-within n (c .ends) (c .starts) u starts

@@ -1,7 +1,5 @@
 -- The last table of the row is the largest closed set and, for a connected pattern, the largest dual simulation. Assumes nothing.
-use mathlib.Core.List.{List}
-use Prim.Native.Nat.{ℕ, _≤_}
-use lib.ListN.{length}
+use Rattle.base_lists.specs.Kit.{List, ℕ, _≤_, length}
 use Rattle.graph.specs.Circuit.{Circuit, circuitGraph}
 use Rattle.graph.specs.Graph.{Connected}
 use Rattle.simulation.specs.Closed.{_⊆_, LargestClosed}
@@ -23,7 +21,7 @@ module _ (pattern host : Circuit) (taken : List ℕ) where
   pub last-candidate : InTable (lastTable pattern host taken) ⊆ Candidates pattern host taken
   last-candidate u v m = agreeing-iff pattern host taken u v .0 (Of.last-agrees (problemOf pattern host taken) u v m)
 
-module _ (pattern host : Circuit) (taken : List ℕ) (most : length (pattern .kinds) ≤ 32) where
+module _ (pattern host : Circuit) (taken : List ℕ) (most : length (pattern .labels) ≤ 32) where
   pub last-closed : LargestClosed (Candidates pattern host taken) (Steps pattern) (Moves host taken) (InTable (lastTable pattern host taken))
   unfolding problemBy
   last-closed = Of.last-closed (problemOf pattern host taken) most (reading pattern host taken)

@@ -1,7 +1,5 @@
 -- More nodes, more pairs: so a ball's largest dual simulation lies in the whole board's. Assumes nothing.
-use mathlib.Core.List.{List}
-use Prim.Native.Nat.{ℕ, _≤_}
-use lib.ListN.{length}
+use Rattle.base_lists.specs.Kit.{List, ℕ, _≤_, length}
 use Rattle.graph.specs.Circuit.{Circuit}
 use Rattle.simulation.specs.Closed.{_⊆_}
 use Rattle.table_row.specs.Reading.{InTable, Wider}
@@ -26,7 +24,7 @@ more-nodes pattern host taken taken′ more =
 
 -- what lies in the largest set of H lies in that of a graph with more nodes of the same circuit
 pub last-wider :
-    (pattern host : Circuit) (taken taken′ : List ℕ) → length (pattern .kinds) ≤ 32 →
+    (pattern host : Circuit) (taken taken′ : List ℕ) → length (pattern .labels) ≤ 32 →
     ((v : ℕ) → Taken host taken v → Taken host taken′ v) →
     InTable (lastTable pattern host taken) ⊆ InTable (lastTable pattern host taken′)
 unfolding problemBy

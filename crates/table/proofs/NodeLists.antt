@@ -1,15 +1,8 @@
 -- Laws of the list of all nodes. Assumes nothing.
-use mathlib.Core.Bool.{true, cond}
-use mathlib.Core.List.{List}
-use mathlib.Core.Path.{_≡_, refl, subst}
-use Prim.Native.Nat.{ℕ, zero, suc, _≤_, _<_}
-use native.Mathlib.Omega.{arith}
-use borrow.Author.Tests.{ne-eqb}
-use lib.Dec.{eqb, eqb-refl}
-use lib.ListN.{length, getD}
+use Rattle.base_lists.specs.Kit.{_≡_, subst, true, cond, List, ℕ, _≤_, _<_, eqb, eqb-refl, length, getD, arith, ne-eqb}
 use Rattle.base_lists.specs.List.{any, tabulate, Below}
 use Rattle.base_lists.specs.Below.{countBelow, leastBelow}
-use Rattle.base_lists.proofs.Below.{leastBelow-is}
+use Rattle.base_lists.proofs.Below.{leastBelow-is, countBelow-all}
 use Rattle.base_lists.proofs.Ranks.{count-images}
 use Rattle.base_lists.proofs.Tests.{T-true, at-any}
 use Rattle.base_lists.proofs.Tables.{length-tabulate, getD-tabulate, tabulate-same}
@@ -51,14 +44,10 @@ unfolding Distinct Below countBelow
 list-few {n} {nodes} list =
     let m : ℕ = length nodes in
     let at : ℕ → ℕ = λ v. leastBelow m (λ i. eqb (getD nodes i 0) v) in
-    subst (λ (k : ℕ). k ≤ n) (count-all m)
+    subst (λ (k : ℕ). k ≤ n) (countBelow-all m)
     (count-images m n (λ i. true) at
     (λ i h _. (
       getD nodes i 0,
       list .below i h,
       leastBelow-is m (λ j. eqb (getD nodes j 0) (getD nodes i 0)) i h (eqb-refl (getD nodes i 0)) (λ j l. ne-eqb _ _ (list .distinct j i l h)),
     )))
-  where
-    count-all : (m : ℕ) → countBelow m (λ i. true) ≡ m
-    count-all zero = refl
-    count-all (suc m) = omega (arith, count-all m)

@@ -1,25 +1,9 @@
 -- How many pairs a table has. Assumes nothing.
-use mathlib.Core.Bool.{false}
-use mathlib.Core.List.{List, [], _∷_}
-use mathlib.Core.Path.{_≡_}
-use Prim.Native.Nat.{ℕ, zero, suc, _+_, _-_, _*_, _≤_, _<_, zero-le}
-use native.Mathlib.Nat.{le-of-suc-le-suc, not-suc-le-zero}
-use native.Mathlib.Omega.{arith}
-use lib.ListN.{length, getD, set}
+use Rattle.base_lists.specs.Kit.{_≡_, List, [], _∷_, ℕ, _≤_, _<_, _+_, _-_, suc, zero, _*_, zero-le, not-suc-le-zero, le-of-suc-le-suc, length, getD, set, arith}
 use Rattle.base_lists.specs.List.{sum}
-use Rattle.base_lists.specs.Below.{countBelow}
-use Rattle.base_lists.proofs.Below.{countBelow-le, countBelow-same}
-use Rattle.base_bits.specs.Bits.{bit, sizeOf}
-use Rattle.base_bits.proofs.Digits.{bit-of-zero}
+use Rattle.base_bits.specs.Bits.{sizeOf}
+use Rattle.base_bits.proofs.Counts.{size-le}
 use Rattle.table.specs.Row.{pairs}
-
-pub size-none : sizeOf zero ≡ zero
-unfolding sizeOf countBelow
-size-none = countBelow-same 32 (bit zero) (λ u. false) (λ u h. bit-of-zero u)
-
-pub size-le : (x : ℕ) → sizeOf x ≤ 32
-unfolding sizeOf
-size-le x = countBelow-le 32 (bit x)
 
 -- a set has no more parts than the table pairs
 pub pairs-at : (xs : List ℕ) (v : ℕ) → v < length xs → sizeOf (getD xs v 0) ≤ pairs xs

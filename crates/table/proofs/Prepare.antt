@@ -1,19 +1,14 @@
 -- What preparing and listing every node come to. Assumes nothing.
-use mathlib.Core.Bool.{Bool, cond}
-use mathlib.Core.List.{List, []}
-use mathlib.Core.Path.{_≡_, refl, sym, ap, ap₂, subst, _∙_}
-use Prim.Native.Nat.{ℕ}
-use native.Mathlib.Omega.{arith}
-use lib.ListN.{length, replicate}
+use Rattle.base_lists.specs.Kit.{_≡_, _∙_, sym, ap, refl, subst, ap₂, Bool, cond, List, [], ℕ, length, replicate, arith}
 use Rattle.base_lists.proofs.Parts.{halved, part-first, part-second, length-halved}
 use Rattle.graph.specs.Circuit.{Circuit}
 use Rattle.graph.specs.Net.{NetOf}
-use Rattle.graph.proofs.Groups.{all-below}
 use Rattle.file_format.specs.declared.Role.the-variants.{Pattern}
 use Rattle.file_format.specs.Circuit.{Bounded}
 use Rattle.file_format.proofs.Accepted.{bounded-starts, bounded-ends}
 use Rattle.table.specs.declared.Counts.{Counts}
 use Rattle.base_lists.specs.List.{any, tabulate}
+use Rattle.base_lists.proofs.Entries.{all-below}
 use Rattle.base_bits.specs.Bits.{numberOf}
 use Rattle.graph.specs.Neighbours.{select}
 use Rattle.simulation.specs.Simulation.{Direction, forwards, backwards}
@@ -56,7 +51,7 @@ none-masks = refl
 -- Masks and neighbour tables as `prepare` leaves them are those of the pattern and the circuit.
 pub prepared :
     {ways : List Direction} {pattern host : Circuit} {t : Tables} → Bounded Pattern pattern → MaskedBy ways (pattern .starts) (pattern .ends) (t .masks) →
-    NetOf (length (host .kinds)) (host .starts) (host .ends) (t .offsets) (t .links) → PreparedBy ways pattern host t
+    NetOf (length (host .labels)) (host .starts) (host .ends) (t .offsets) (t .targets) → PreparedBy ways pattern host t
 prepared {pattern = pattern} p masked net =
     record {
       parts = p .nodes;
@@ -74,8 +69,8 @@ listed-all long e = e ∙ ap allNodes long
 
 -- what is refined over it is refined over the whole board
 pub refined-everything :
-    {ways : List Direction} {pattern board : Circuit} {nodes table : List ℕ} {counts : Counts} → nodes ≡ allNodes (length (board .kinds)) →
-    RefinedBy ways pattern board (marksOf (length (board .kinds)) nodes) table counts → MatchedBy ways pattern board table counts
+    {ways : List Direction} {pattern board : Circuit} {nodes table : List ℕ} {counts : Counts} → nodes ≡ allNodes (length (board .labels)) →
+    RefinedBy ways pattern board (marksOf (length (board .labels)) nodes) table counts → MatchedBy ways pattern board table counts
 unfolding everything
 refined-everything {ways} {pattern} {board} {nodes} {table} {counts} e r =
-    subst (λ (taken : List ℕ). RefinedBy ways pattern board taken table counts) (ap (marksOf (length (board .kinds))) e ∙ all-marks (length (board .kinds))) r
+    subst (λ (taken : List ℕ). RefinedBy ways pattern board taken table counts) (ap (marksOf (length (board .labels))) e ∙ all-marks (length (board .labels))) r

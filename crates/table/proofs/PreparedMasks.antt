@@ -1,8 +1,5 @@
 -- How many masks there are. Assumes nothing.
-use mathlib.Core.List.{List}
-use mathlib.Core.Path.{_≡_}
-use Prim.Native.Nat.{ℕ}
-use lib.ListN.{length}
+use Rattle.base_lists.specs.Kit.{_≡_, List, ℕ, length}
 use Rattle.base_lists.proofs.Tables.{length-tabulate}
 use Rattle.base_bits.specs.Bits.{numberOf}
 use Rattle.graph.specs.Neighbours.{select}

@@ -1,29 +1,25 @@
 -- The row of a pattern on a circuit is the row of sets that begins with the pairs of equal kinds, and follows links in the ways chosen. Along
 -- both ways it contains every dual simulation. Assumes nothing.
-use mathlib.Core.List.{List}
-use mathlib.Core.Logic.{_↔_, inl, inr, Iff·trans}
-use mathlib.Core.Path.{_≡_, refl}
-use Prim.Native.Nat.{ℕ, suc}
-use lib.ListN.{length}
+use Rattle.base_lists.specs.Kit.{_≡_, refl, _↔_, inl, inr, Iff·trans, List, ℕ, suc, length}
 use Rattle.base_lists.specs.List.{Occurs}
-use Rattle.base_lists.proofs.Tests.{both, both-left, both-right}
+use Rattle.base_lists.proofs.Tests.{both-true, both-left, both-right}
 use Rattle.graph.specs.Circuit.{Circuit, HasLink, graphOf, circuitGraph}
 use Rattle.graph.specs.Search.{inside}
 use Rattle.graph.proofs.Groups.{select-mem, select-mem-back}
-use Rattle.simulation.specs.Closed.{Relation, _⊆_, Closed, Row}
-use Rattle.simulation.specs.Simulation.{DualSimulation, Candidate, Direction, forwards, backwards, Along}
-use Rattle.simulation.proofs.Simulation.{along-wider, dual-closed}
+use Rattle.simulation.specs.Closed.{Relation, _⊆_, Row}
+use Rattle.simulation.specs.Simulation.{Candidate, Direction, forwards, backwards, Along}
+use Rattle.simulation.proofs.Simulation.{along-wider}
 use Rattle.table_row.specs.Problem.{Way, Agreeing}
 use Rattle.table_row.specs.Row.{rowFrom, rowOf}
-use Rattle.table_row.specs.Reading.{InTable, Fits, Reading, Chosen, Wider}
+use Rattle.table_row.specs.Reading.{InTable, SetsFit, Reading, Chosen, Wider}
 use Rattle.table_row.proofs.Row as Of
 use Rattle.table.specs.Host.{hostGraph, KindsMatch}
-use Rattle.table.specs.Row.{agrees, neighbours, bothWays, problemBy, problemOf, startBy, rowBy, startTable, row}
+use Rattle.table.specs.Row.{agrees, neighbours, bothWays, problemBy, problemOf, startBy, rowBy, startTable}
 use Rattle.table.proofs.Agreement.{agrees-kinds}
 
 -- A table of a pattern on a circuit has a number per node, of as many digits as there are parts.
 abbrev pub Table : Circuit → Circuit → List ℕ → Type 0
-Table pattern host t = Fits (length (host .kinds)) (length (pattern .kinds)) t
+Table pattern host t = SetsFit (length (host .labels)) (length (pattern .labels)) t
 
 -- "R0 is the set of pairs with equal kinds": the pairs of a part and a node of H.
 abbrev pub Candidates : Circuit → Circuit → List ℕ → Relation
@@ -39,13 +35,13 @@ Moves host taken = Along (hostGraph host taken .Link)
 -- ---- how the problem is read
 
 -- a node's neighbours are those to which a link leads
-neighbours-along : (c : Circuit) (d : Direction) (v w : ℕ) → Occurs (neighbours c d v) w ↔ Along (HasLink (c .starts) (c .ends)) d v w
+pub neighbours-along : (c : Circuit) (d : Direction) (v w : ℕ) → Occurs (neighbours c d v) w ↔ Along (HasLink (c .starts) (c .ends)) d v w
 unfolding neighbours Along
 neighbours-along c forwards v w = select-mem (c .starts) (c .ends) v w
 neighbours-along c backwards v w = select-mem-back (c .starts) (c .ends) v w
 
 -- both ways count
-both-ways : (d : Direction) → Way bothWays d
+pub both-ways : (d : Direction) → Way bothWays d
 unfolding Way
 both-ways forwards = inl refl
 both-ways backwards = inr (inl refl)
@@ -72,7 +68,7 @@ module _ (ways : List Direction) (pattern host : Circuit) (taken : List ℕ) whe
         record {
           part = c .part;
           node = c .node .below;
-          agree = both (inside taken v) (agrees pattern host u v) (c .node .marked) (agrees-kinds pattern host u v .1 (c .kinds));
+          agree = both-true (inside taken v) (agrees pattern host u v) (c .node .marked) (agrees-kinds pattern host u v .1 (c .kinds));
         },
   )
 
@@ -145,14 +141,3 @@ module _ (pattern host : Circuit) (taken : List ℕ) where
   -- the first table holds the pairs with equal kinds
   pub start-in : (u v : ℕ) → InTable (startTable pattern host taken) u v ↔ Candidates pattern host taken u v
   start-in = start-for bothWays pattern host taken
-
-  -- Every set of the row contains each closed set, and so each dual simulation.
-  pub every-row-closed :
-      {S : Relation} → Closed (Candidates pattern host taken) (Steps pattern) (Moves host taken) S →
-      (k : ℕ) → S ⊆ InTable (row pattern host taken k)
-  every-row-closed = Of.every-row (problemOf pattern host taken) reading
-
-  pub every-row :
-      {S : Relation} → DualSimulation (circuitGraph pattern) (KindsMatch pattern host) (hostGraph host taken) S →
-      (k : ℕ) → S ⊆ InTable (row pattern host taken k)
-  every-row s = every-row-closed (dual-closed s)

@@ -1,13 +1,10 @@
 -- What the whole-board call answers, for patterns that may lie in several bits: "If some part is left without a node, the table is all 0,
 -- kept is 0, struck equals started, and rounds count as before." The row is run to its end, and clearing the table is no round.
-use mathlib.Core.Bool.{Bool, true, false}
-use mathlib.Core.List.{List}
-use mathlib.Core.Path.{_≡_}
-use Prim.Native.Nat.{ℕ}
+use Rattle.base_lists.specs.Kit.{_≡_, Bool, false, true, List, ℕ}
 use Rattle.graph.specs.Circuit.{Circuit}
 use Rattle.table_row.specs.Answer.{answerOf, answerKept, answerStruck}
 unfoldable pub use Rattle.table_row.specs.Answer.{allOccur, allOrNone}
-pub use Rattle.table_row.specs.Reading.{Fits}
+pub use Rattle.table_row.specs.Reading.{SetsFit}
 use Rattle.table.specs.Host.{everything}
 use Rattle.simulation.specs.Simulation.{Direction}
 use Rattle.table.specs.Row.{bothWays, problemBy, startedBy, roundsBy}

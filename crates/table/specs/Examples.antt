@@ -1,5 +1,5 @@
 -- The circuits of document 01's examples, and what is opened where their tables are computed.
-use mathlib.Core.List.{[], _∷_}
+use Rattle.base_lists.specs.Kit.{[], _∷_}
 use Rattle.base_lists.specs.List.{all, any, allBelow, anyBelow, tabulate, sum}
 use Rattle.base_lists.specs.Below.{countBelow}
 use Rattle.base_bits.specs.Bits.{bit, numberOf, sizeOf}
@@ -25,33 +25,33 @@ answerComputed = tt
 
 -- "T: 0:10, 1:20, 2:30, links 0-1, 1-2."
 unfoldable pub circuitT : Circuit
-circuitT = record { kinds = 10 ∷ 20 ∷ 30 ∷ []; starts = 0 ∷ 1 ∷ []; ends = 1 ∷ 2 ∷ [] }
+circuitT = record { labels = 10 ∷ 20 ∷ 30 ∷ []; starts = 0 ∷ 1 ∷ []; ends = 1 ∷ 2 ∷ [] }
 
 -- "B: 0:10, 1:20, 2:30, 3:20, 4:30, 5:10, links 0-1, 1-2, 3-4."
 unfoldable pub circuitB : Circuit
-circuitB = record { kinds = 10 ∷ 20 ∷ 30 ∷ 20 ∷ 30 ∷ 10 ∷ []; starts = 0 ∷ 1 ∷ 3 ∷ []; ends = 1 ∷ 2 ∷ 4 ∷ [] }
+circuitB = record { labels = 10 ∷ 20 ∷ 30 ∷ 20 ∷ 30 ∷ 10 ∷ []; starts = 0 ∷ 1 ∷ 3 ∷ []; ends = 1 ∷ 2 ∷ 4 ∷ [] }
 
 -- E5: "Pattern 0:10, 1:20, links 0-1, 1-0"
 unfoldable pub twoWay : Circuit
-twoWay = record { kinds = 10 ∷ 20 ∷ []; starts = 0 ∷ 1 ∷ []; ends = 1 ∷ 0 ∷ [] }
+twoWay = record { labels = 10 ∷ 20 ∷ []; starts = 0 ∷ 1 ∷ []; ends = 1 ∷ 0 ∷ [] }
 
 -- E5: "the ring 0:10, 1:20, 2:10, 3:20, links 0-1, 1-2, 2-3, 3-0"
 unfoldable pub ring : Circuit
-ring = record { kinds = 10 ∷ 20 ∷ 10 ∷ 20 ∷ []; starts = 0 ∷ 1 ∷ 2 ∷ 3 ∷ []; ends = 1 ∷ 2 ∷ 3 ∷ 0 ∷ [] }
+ring = record { labels = 10 ∷ 20 ∷ 10 ∷ 20 ∷ []; starts = 0 ∷ 1 ∷ 2 ∷ 3 ∷ []; ends = 1 ∷ 2 ∷ 3 ∷ 0 ∷ [] }
 
 -- any part that drives one of kind 20; as a board: a node that is not identified and drives one of kind 20
 unfoldable pub anyTo20 : Circuit
-anyTo20 = record { kinds = 0 ∷ 20 ∷ []; starts = 0 ∷ []; ends = 1 ∷ [] }
+anyTo20 = record { labels = 0 ∷ 20 ∷ []; starts = 0 ∷ []; ends = 1 ∷ [] }
 
 -- T and a copy of it with other kinds, as one pattern of six parts: a pattern in two bits
 unfoldable pub twoT : Circuit
-twoT = record { kinds = 10 ∷ 20 ∷ 30 ∷ 40 ∷ 50 ∷ 60 ∷ []; starts = 0 ∷ 1 ∷ 3 ∷ 4 ∷ []; ends = 1 ∷ 2 ∷ 4 ∷ 5 ∷ [] }
+twoT = record { labels = 10 ∷ 20 ∷ 30 ∷ 40 ∷ 50 ∷ 60 ∷ []; starts = 0 ∷ 1 ∷ 3 ∷ 4 ∷ []; ends = 1 ∷ 2 ∷ 4 ∷ 5 ∷ [] }
 
 -- B and a copy of T with those kinds: a board that has both bits
 unfoldable pub bothBits : Circuit
 bothBits =
     record {
-      kinds = 10 ∷ 20 ∷ 30 ∷ 20 ∷ 30 ∷ 10 ∷ 40 ∷ 50 ∷ 60 ∷ [];
+      labels = 10 ∷ 20 ∷ 30 ∷ 20 ∷ 30 ∷ 10 ∷ 40 ∷ 50 ∷ 60 ∷ [];
       starts = 0 ∷ 1 ∷ 3 ∷ 6 ∷ 7 ∷ [];
       ends = 1 ∷ 2 ∷ 4 ∷ 7 ∷ 8 ∷ [];
     }
@@ -59,12 +59,12 @@ bothBits =
 -- B and two parts of the copy, with the link between them: a board that has the first bit only
 unfoldable pub oneBit : Circuit
 oneBit =
-    record { kinds = 10 ∷ 20 ∷ 30 ∷ 20 ∷ 30 ∷ 10 ∷ 40 ∷ 50 ∷ []; starts = 0 ∷ 1 ∷ 3 ∷ 6 ∷ []; ends = 1 ∷ 2 ∷ 4 ∷ 7 ∷ [] }
+    record { labels = 10 ∷ 20 ∷ 30 ∷ 20 ∷ 30 ∷ 10 ∷ 40 ∷ 50 ∷ []; starts = 0 ∷ 1 ∷ 3 ∷ 6 ∷ []; ends = 1 ∷ 2 ∷ 4 ∷ 7 ∷ [] }
 
 -- T and a part of another kind, without links
 unfoldable pub loneT : Circuit
-loneT = record { kinds = 10 ∷ 20 ∷ 30 ∷ 70 ∷ []; starts = 0 ∷ 1 ∷ []; ends = 1 ∷ 2 ∷ [] }
+loneT = record { labels = 10 ∷ 20 ∷ 30 ∷ 70 ∷ []; starts = 0 ∷ 1 ∷ []; ends = 1 ∷ 2 ∷ [] }
 
 -- the last two of T's parts, with the link between them: a board on which nothing drives the first
 unfoldable pub tailT : Circuit
-tailT = record { kinds = 20 ∷ 30 ∷ []; starts = 0 ∷ []; ends = 1 ∷ [] }
+tailT = record { labels = 20 ∷ 30 ∷ []; starts = 0 ∷ []; ends = 1 ∷ [] }

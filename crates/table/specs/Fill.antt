@@ -1,9 +1,5 @@
 -- Tables of sets that are written at the nodes of a list: what the loops over a list of nodes do. Start and strike are both of this form.
-use mathlib.Core.Bool.{false, cond}
-use mathlib.Core.List.{List, [], _∷_}
-use mathlib.Core.Path.{_≡_}
-use Prim.Native.Nat.{ℕ, zero, _+_, _≤_, _<_}
-use lib.ListN.{length, getD, set}
+use Rattle.base_lists.specs.Kit.{_≡_, false, cond, List, [], _∷_, ℕ, _≤_, _<_, _+_, zero, length, getD, set}
 use Rattle.base_lists.specs.List.{tabulate, Below}
 use Rattle.base_bits.specs.Bits.{sizeOf}
 unfoldable pub use Rattle.table_row.specs.Masks.{listed}

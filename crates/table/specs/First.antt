@@ -1,8 +1,5 @@
 -- First tables: what striking may begin with, and how they are written at the nodes of a list.
-use mathlib.Core.List.{List}
-use mathlib.Core.Path.{_≡_}
-use Prim.Native.Nat.{ℕ}
-use lib.ListN.{length, getD}
+use Rattle.base_lists.specs.Kit.{_≡_, List, ℕ, length, getD}
 use Rattle.base_bits.specs.Bits.{numberOf}
 use Rattle.graph.specs.Circuit.{Circuit}
 use Rattle.table_row.specs.Reading.{Begins as BeginsOf}
@@ -19,7 +16,7 @@ Begins pattern host taken first = BeginsBy bothWays pattern host taken first
 
 -- the set of the parts that agree with a node, by their kinds
 unfoldable pub startNode : List ℕ → List ℕ → ℕ → ℕ
-startNode partKinds nodeKinds v = numberOf (length partKinds) (λ u. kindsAgree (getD partKinds u 0) (getD nodeKinds v 0))
+startNode partLabels nodeLabels v = numberOf (length partLabels) (λ u. kindsAgree (getD partLabels u 0) (getD nodeLabels v 0))
 
 -- The table of n sets that a rule makes, empty outside the list, and how many pairs it has.
 pub record Written (n : ℕ) (f : ℕ → ℕ) (nodes table : List ℕ) (count : ℕ) : Type 0 where

@@ -1,9 +1,10 @@
-pub mod Host
-pub mod Row
-pub mod Fill
-pub mod Prepared
-pub mod First
-pub mod Refine
 pub mod Answer
-pub mod Reply
 pub mod Examples
+pub mod Fill
+pub mod First
+pub mod Host
+pub mod Prepared
+pub mod Refine
+pub mod Reply
+pub mod Row
+pub mod Union

@@ -1,13 +1,9 @@
 -- What matching looks up: masks of the pattern and neighbour tables of the circuit, and when they are those of a pattern and a circuit. The
 -- calls above prepare them; how pairs are struck is not said here. One list has 64 masks: for each of 32 parts the parts that it drives, and
 -- then for each those that drive it. The neighbour tables are two lists, as graph/specs/Net has them.
-use mathlib.Core.Bool.{cond}
-use mathlib.Core.List.{List, []}
-use mathlib.Core.Path.{_≡_}
-use Prim.Native.Nat.{ℕ, _^_, _≤_, _<_}
-use lib.ListN.{length, getD}
+use Rattle.base_lists.specs.Kit.{_≡_, cond, List, [], ℕ, _≤_, length}
 use Rattle.base_lists.specs.List.{tabulate, part, Below}
-use Rattle.base_bits.specs.Bits.{numberOf}
+use Rattle.base_bits.specs.Bits.{numberOf, Words}
 use Rattle.graph.specs.Circuit.{Circuit}
 use Rattle.graph.specs.Neighbours.{select}
 use Rattle.graph.specs.Net.{Net, NetOf}
@@ -45,25 +41,25 @@ Masked starts ends masks = MaskedBy bothWays starts ends masks
 pub record Tables : Type 0 where
   pub masks : List ℕ
   pub offsets : List ℕ
-  pub links : List ℕ
+  pub targets : List ℕ
 
 abbrev pub tables : List ℕ → List ℕ → List ℕ → Tables
-tables masks offsets links = record { masks = masks; offsets = offsets; links = links }
+tables masks offsets targets = record { masks = masks; offsets = offsets; targets = targets }
 
 -- What a table of sets needs: 64 masks, neighbour tables over the nodes of the table of sets, and sets of 32 bits.
 pub record Ready (t : Tables) (old : List ℕ) : Type 0 where
   pub masks : length (t .masks) ≡ 64
-  pub net : Net (length old) (t .offsets) (t .links)
-  pub small : (v : ℕ) → getD old v 0 < 2 ^ 32
+  pub net : Net (length old) (t .offsets) (t .targets)
+  pub small : Words old
 
 -- The tables are those of a pattern and of a graph: the masks are made of the pattern's links, and a node's two stretches are what it
 -- drives and what drives it.
 pub record PreparedBy (ways : List Direction) (pattern host : Circuit) (t : Tables) : Type 0 where
-  pub parts : length (pattern .kinds) ≤ 32
-  pub starts : Below (length (pattern .kinds)) (pattern .starts)
-  pub ends : Below (length (pattern .kinds)) (pattern .ends)
+  pub parts : length (pattern .labels) ≤ 32
+  pub starts : Below (length (pattern .labels)) (pattern .starts)
+  pub ends : Below (length (pattern .labels)) (pattern .ends)
   pub masked : MaskedBy ways (pattern .starts) (pattern .ends) (t .masks)
-  pub net : NetOf (length (host .kinds)) (host .starts) (host .ends) (t .offsets) (t .links)
+  pub net : NetOf (length (host .labels)) (host .starts) (host .ends) (t .offsets) (t .targets)
 
 abbrev pub Prepared : Circuit → Circuit → Tables → Type 0
 Prepared pattern host t = PreparedBy bothWays pattern host t

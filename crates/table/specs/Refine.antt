@@ -1,8 +1,5 @@
 -- What the refinement of a first table to the last set of the row promises, for the directions that the tables are of.
-use mathlib.Core.List.{List}
-use mathlib.Core.Path.{_≡_}
-use Prim.Native.Nat.{ℕ, _-_}
-use lib.ListN.{length}
+use Rattle.base_lists.specs.Kit.{_≡_, List, ℕ, _-_, length}
 use Rattle.graph.specs.Circuit.{Circuit}
 use Rattle.table.specs.Fill.{marksOf}
 use Rattle.table.specs.First.{BeginsBy}
@@ -31,12 +28,12 @@ countsOf pattern host taken = countsBy bothWays pattern host taken
 
 -- The tables are those of some directions, some pattern and some circuit, and the first table is one to begin with in the circuit's part that has the listed
 -- nodes.
-pub record Known (t : Tables) (nodes first : List ℕ) : Type 0 where
+pub record TablesKnown (t : Tables) (nodes first : List ℕ) : Type 0 where
   pub ways : List Direction
   pub pattern : Circuit
   pub host : Circuit
   pub prepared : PreparedBy ways pattern host t
-  pub begins : BeginsBy ways pattern host (marksOf (length (host .kinds)) nodes) first
+  pub begins : BeginsBy ways pattern host (marksOf (length (host .labels)) nodes) first
 
 -- What a first table comes to: the table of the row's last set. The rounds are the row's where the first table is.
 pub record RestedBy (ways : List Direction) (pattern host : Circuit) (taken first end : List ℕ) (rest : Rest) : Type 0 where
@@ -50,8 +47,8 @@ Rested pattern host taken first end rest = RestedBy bothWays pattern host taken 
 -- this holds of every choice of directions, every pattern and every circuit that the tables are of and that the first table is one to begin with in
 abbrev pub Refines : Tables → List ℕ → List ℕ → List ℕ → Rest → Type 0
 Refines t nodes first end rest =
-    (ways : List Direction) (pattern host : Circuit) → PreparedBy ways pattern host t → BeginsBy ways pattern host (marksOf (length (host .kinds)) nodes) first →
-    RestedBy ways pattern host (marksOf (length (host .kinds)) nodes) first end rest
+    (ways : List Direction) (pattern host : Circuit) → PreparedBy ways pattern host t → BeginsBy ways pattern host (marksOf (length (host .labels)) nodes) first →
+    RestedBy ways pattern host (marksOf (length (host .labels)) nodes) first end rest
 
 -- ---- the four counts
 

@@ -12,6 +12,6 @@ pub record MatchReply : Type 0 where
   pub counts : Counts
 
 -- the reply to a verdict, where acceptance has these counts
-unfoldable pub replied : Verdict → Counts → MatchReply
-replied accept counts = record { verdict = accept; counts = counts }
-replied (refuse x) counts = record { verdict = refuse x; counts = noCounts }
+unfoldable pub countsReply : Verdict → Counts → MatchReply
+countsReply accept counts = record { verdict = accept; counts = counts }
+countsReply (refuse x) counts = record { verdict = refuse x; counts = noCounts }

@@ -1,11 +1,7 @@
 -- The row of sets of a pattern on a circuit, and the four counts: what the contracts cite. They are those of a problem as table_row has it:
 -- which part agrees with which node, and links to be followed in the directions chosen. proofs/ shows that the last set is the largest closed
 -- one, and so what dual simulation and graph simulation have as their largest.
-use mathlib.Core.Bool.{Bool, true, false, _&&_, _||_}
-use mathlib.Core.List.{List, [], _∷_}
-use Prim.Native.Nat.{ℕ}
-use lib.Dec.{eqb}
-use lib.ListN.{length, getD}
+use Rattle.base_lists.specs.Kit.{Bool, false, true, _&&_, _||_, List, [], _∷_, ℕ, eqb, length, getD}
 use Rattle.file_format.specs.Label.{kindIn, packageIn}
 use Rattle.graph.specs.Circuit.{Circuit}
 use Rattle.graph.specs.Neighbours.{select}
@@ -28,7 +24,7 @@ kindsAgree part node = eqb (packageIn part) (packageIn node) && (eqb (kindIn par
 
 -- part u and node v agree
 unfoldable pub agrees : Circuit → Circuit → ℕ → ℕ → Bool
-agrees pattern host u v = kindsAgree (getD (pattern .kinds) u 0) (getD (host .kinds) v 0)
+agrees pattern host u v = kindsAgree (getD (pattern .labels) u 0) (getD (host .labels) v 0)
 
 -- what a node drives, and what drives it
 unfoldable pub neighbours : Circuit → Direction → ℕ → List ℕ
@@ -39,8 +35,8 @@ neighbours c backwards v = select (c .ends) (c .starts) v
 unfoldable pub problemBy : List Direction → Circuit → Circuit → List ℕ → Problem Direction
 problemBy ways pattern host taken =
     record {
-      parts = length (pattern .kinds);
-      nodes = length (host .kinds);
+      parts = length (pattern .labels);
+      nodes = length (host .labels);
       agree = λ u v. inside taken v && agrees pattern host u v;
       ways = ways;
       steps = neighbours pattern;
@@ -76,9 +72,9 @@ problemOf pattern host taken = problemBy bothWays pattern host taken
 unfoldable pub byEqualKinds : Circuit → Circuit → List ℕ → Problem Direction
 byEqualKinds pattern host taken =
     record {
-      parts = length (pattern .kinds);
-      nodes = length (host .kinds);
-      agree = λ u v. inside taken v && eqb (getD (pattern .kinds) u 0) (getD (host .kinds) v 0);
+      parts = length (pattern .labels);
+      nodes = length (host .labels);
+      agree = λ u v. inside taken v && eqb (getD (pattern .labels) u 0) (getD (host .labels) v 0);
       ways = forwards ∷ backwards ∷ [];
       steps = neighbours pattern;
       moves = neighbours host;
@@ -88,9 +84,9 @@ byEqualKinds pattern host taken =
 unfoldable pub byKinds : Circuit → Circuit → List ℕ → Problem Direction
 byKinds pattern host taken =
     record {
-      parts = length (pattern .kinds);
-      nodes = length (host .kinds);
-      agree = λ u v. inside taken v && (eqb (getD (pattern .kinds) u 0) 0 || eqb (getD (pattern .kinds) u 0) (getD (host .kinds) v 0));
+      parts = length (pattern .labels);
+      nodes = length (host .labels);
+      agree = λ u v. inside taken v && (eqb (getD (pattern .labels) u 0) 0 || eqb (getD (pattern .labels) u 0) (getD (host .labels) v 0));
       ways = forwards ∷ backwards ∷ [];
       steps = neighbours pattern;
       moves = neighbours host;

@@ -1,7 +1,9 @@
-// The match table: what it is, the masks of a pattern and the counts.
+// The match table: what it is, the masks of a pattern and the counts; the all-0 rule (`rule`).
 ghost use mathlib.Core.Path.{_≡_};
 ghost use Prim.Native.Nat.{_≤_};
 ghost use Rattle.table.specs.Refine.{countsFrom};
+
+pub mod rule;
 
 // The masks of a pattern: for each of 32 parts the parts that it drives, and then for each those that drive it.
 pub const MASKS: usize = 64;

@@ -1,19 +1,12 @@
 -- Writing a first table, node by node: what the loop over the list of nodes leads to, and how many pairs the table has. Assumes nothing.
-use mathlib.Core.List.{List, [], _∷_}
-use mathlib.Core.Path.{_≡_, refl, sym, ap, _∙_}
-use Prim.Native.Nat.{ℕ, zero, suc, _+_, _*_, _^_, _≤_, _<_, zero-le, suc-le-suc}
-use native.Mathlib.Nat.{le-of-suc-le-suc, not-suc-le-zero, zero-lt-suc}
-use native.Mathlib.Numerals.{add-one}
-use native.Mathlib.Omega.{arith}
-use lib.ListN.{length, getD, drop, set, replicate, length-set, length-replicate, getD-replicate, drop-of-length-le}
-use lib.Seq.{drop-cons, getD-set-other}
+use Rattle.base_lists.specs.Kit.{_≡_, _∙_, sym, ap, refl, List, [], _∷_, ℕ, _≤_, _<_, _+_, suc, zero, _*_, _^_, zero-le, suc-le-suc, not-suc-le-zero, le-of-suc-le-suc, zero-lt-suc, add-one, length, getD, drop, set, length-set, replicate, drop-of-length-le, length-replicate, getD-replicate, getD-set-other, drop-cons, arith}
 use Rattle.base_lists.specs.List.{sum, Below}
 use Rattle.base_bits.specs.Bits.{sizeOf}
+use Rattle.base_bits.proofs.Counts.{size-none, size-le}
 use Rattle.table.specs.Row.{pairs}
 use Rattle.table.specs.Fill.{Distinct, NodeList, fillAt, sizesAt, Filled, tableAt}
 use Rattle.table.specs.First.{Written}
 use Rattle.table.proofs.Fill.{cleared-none, fill-table}
-use Rattle.table.proofs.Pairs.{size-none, size-le}
 
 -- ---- how many pairs
 

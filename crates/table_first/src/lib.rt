@@ -21,14 +21,14 @@ fn kinds_agree(part: u32, node: u32) -> bool
 }
 
 // The set of the parts that agree with a node of this label.
-fn alike(part_kinds: &[u32], kind: u32) -> u32
-    requires { ⌜ length (now «part_kinds») ≤ 32 ⌝ }
-    ensures { λ r. ⌜ r ≡ numberOf (length (now («part_kinds» .entry))) (λ u. kindsAgree (getD (now («part_kinds» .entry)) u 0) kind) ⌝ }
+fn alike(part_labels: &[u32], kind: u32) -> u32
+    requires { ⌜ length (now «part_labels») ≤ 32 ⌝ }
+    ensures { λ r. ⌜ r ≡ numberOf (length (now («part_labels» .entry))) (λ u. kindsAgree (getD (now («part_labels» .entry)) u 0) kind) ⌝ }
 {
     let mut set: u32 = 0;
     let mut u = 0;
-    while u < part_kinds.len() {
-        if kinds_agree(part_kinds[u], kind) {
+    while u < part_labels.len() {
+        if kinds_agree(part_labels[u], kind) {
             set = set | base_bits::single(u as u32);
         }
         u += 1;
@@ -37,18 +37,18 @@ fn alike(part_kinds: &[u32], kind: u32) -> u32
 }
 
 // The table that has at each node of the list the parts that agree with it, and is empty elsewhere. Returns how many pairs it has.
-pub fn start(nodes: &[u16], part_kinds: &[u32], node_kinds: &[u32], table: &mut [u32]) -> u32
-    requires { ⌜ length (now «part_kinds») ≤ 32 ⌝ }
+pub fn start(nodes: &[u16], part_labels: &[u32], node_labels: &[u32], table: &mut [u32]) -> u32
+    requires { ⌜ length (now «part_labels») ≤ 32 ⌝ }
     requires { ⌜ NodeList (length (now table)) (now nodes) ⌝ }
-    requires { ⌜ Below (length (now «node_kinds»)) (now nodes) ⌝ }
-    ensures { λ r. ⌜ Written (length (now (table .entry))) (startNode (now («part_kinds» .entry)) (now («node_kinds» .entry))) (now (nodes .entry)) (now (table .exit)) r ⌝ }
+    requires { ⌜ Below (length (now «node_labels»)) (now nodes) ⌝ }
+    ensures { λ r. ⌜ Written (length (now (table .entry))) (startNode (now («part_labels» .entry)) (now («node_labels» .entry))) (now (nodes .entry)) (now (table .exit)) r ⌝ }
 {
     clear(table);
     let mut started: u32 = 0;
     let mut i = 0;
     while i < nodes.len() {
         let v = nodes[i] as usize;
-        let set = alike(part_kinds, node_kinds[v]);
+        let set = alike(part_labels, node_labels[v]);
         table[v] = set;
         started = started + base_bits::size(set);
         i += 1;

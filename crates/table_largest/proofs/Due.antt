@@ -1,26 +1,18 @@
 -- Only what may change is looked at: a node none of whose neighbours changed keeps its set. Assumes nothing.
-use mathlib.Core.Bool.{Bool, true, false, not, cond}
-use mathlib.Core.List.{List, [], _∷_}
-use mathlib.Core.Logic.{_⊎_, inl, inr}
-use mathlib.Core.Path.{_≡_, refl, sym, ap, ap₂, _∙_, subst}
-use Prim.Native.Nat.{ℕ, zero, suc, _^_, _<_, suc-le-suc}
-use native.Mathlib.Nat.{zero-lt-suc}
-use borrow.Author.Tests.{eqb-true, eqb-false}
-use lib.Bits.{bitOr}
-use lib.Dec.{T, eqb}
-use lib.ListN.{length, getD}
+use Rattle.base_lists.specs.Kit.{_≡_, _∙_, sym, ap, refl, subst, ap₂, _⊎_, inl, inr, Bool, false, true, cond, not, List, ℕ, _<_, _^_, T, eqb, length, getD, eqb-true, eqb-false}
 use Rattle.base_lists.specs.List.{Occurs, Below}
 use Rattle.base_lists.proofs.Tests.{true-T, false-T, both-right}
 use Rattle.base_lists.proofs.Tables.{length-tabulate, getD-tabulate, is-tabulate}
 use Rattle.base_bits.specs.Bits.{unionAt}
+use Rattle.base_bits.proofs.Unions.{unionAt-same}
 use Rattle.graph.specs.Net.{driven, driving, NetOf, Net}
 use Rattle.graph.proofs.Net.{driven-below, driving-below, driven-link, driving-link}
 use Rattle.table.specs.Fill.{listed, fillAt}
-use Rattle.graph_follow.specs.Follow.{beside}
+use Rattle.graph_follow.specs.Follow.{nodesBeside}
 use Rattle.table_round.specs.Pending.{changing}
 use Rattle.table.specs.Prepared.{succOf, predOf, Tables}
 use Rattle.table_strike.specs.Strike.{survivors, strikeNode}
-use Rattle.table_largest.specs.Rounds.{strikeTable, Mutual, Covers}
+use Rattle.table_largest.specs.Rounds.{strikeTable, MutualTables, Covers}
 use Rattle.graph_follow.proofs.Following.{beside-occurs}
 use Rattle.table.proofs.Fill.{length-fill, getD-fill}
 use Rattle.table_round.proofs.Pending.{listed-changing}
@@ -37,27 +29,21 @@ module _ (t : Tables) (old : List ℕ) where
   unfolding strikeTable
   strike-at v h = getD-tabulate (length old) (strikeNode t old) v 0 h
 
-union-same : (xs ys l : List ℕ) → ((w : ℕ) → Occurs l w → getD xs w 0 ≡ getD ys w 0) → unionAt xs l ≡ unionAt ys l
-unfolding unionAt
-union-same xs ys [] e = refl
-union-same xs ys (w ∷ l) e =
-    ap₂ (λ (a b : ℕ). bitOr a b) (e w (zero, zero-lt-suc _, refl)) (union-same xs ys l (λ x (i, h, q). e x (suc i, suc-le-suc h, q)))
-
 -- A node none of whose neighbours changed in a round keeps its set in the next.
 pub still :
     (t : Tables) (old : List ℕ) (v : ℕ) → v < length old →
-    ((w : ℕ) → Occurs (driven (t .offsets) (t .links) v) w → getD (strikeTable t old) w 0 ≡ getD old w 0) →
-    ((w : ℕ) → Occurs (driving (t .offsets) (t .links) v) w → getD (strikeTable t old) w 0 ≡ getD old w 0) →
+    ((w : ℕ) → Occurs (driven (t .offsets) (t .targets) v) w → getD (strikeTable t old) w 0 ≡ getD old w 0) →
+    ((w : ℕ) → Occurs (driving (t .offsets) (t .targets) v) w → getD (strikeTable t old) w 0 ≡ getD old w 0) →
     strikeNode t (strikeTable t old) v ≡ getD (strikeTable t old) v 0
 unfolding strikeNode
 still t old v h out back =
     let new : List ℕ = strikeTable t old in
     let succ : List ℕ = succOf (t .masks) in
     let pred : List ℕ = predOf (t .masks) in
-    let f : ℕ = unionAt old (driven (t .offsets) (t .links) v) in
-    let b : ℕ = unionAt old (driving (t .offsets) (t .links) v) in
-    ap₂ (λ (x y : ℕ). survivors succ pred x y (getD new v 0)) (union-same new old (driven (t .offsets) (t .links) v) out)
-    (union-same new old (driving (t .offsets) (t .links) v) back)
+    let f : ℕ = unionAt old (driven (t .offsets) (t .targets) v) in
+    let b : ℕ = unionAt old (driving (t .offsets) (t .targets) v) in
+    ap₂ (λ (x y : ℕ). survivors succ pred x y (getD new v 0)) (unionAt-same new old (driven (t .offsets) (t .targets) v) out)
+    (unionAt-same new old (driving (t .offsets) (t .targets) v) back)
     ∙ ap (survivors succ pred f b) (strike-at t old v h)
     ∙ survivors-again succ pred f b (getD old v 0)
     ∙ sym (strike-at t old v h)
@@ -97,11 +83,11 @@ module _ (t : Tables) (old : List ℕ) where
 
   -- ---- what lies beside the nodes that changed covers the next round
 
-  module _ (net : Net (length old) (t .offsets) (t .links)) (both : Mutual t (length old)) (small : (v : ℕ) → getD (strikeTable t old) v 0 < 2 ^ 32)
+  module _ (net : Net (length old) (t .offsets) (t .targets)) (both : MutualTables t (length old)) (small : (v : ℕ) → getD (strikeTable t old) v 0 < 2 ^ 32)
       (changed : List ℕ) (c : Covers t old changed) (todo : List ℕ)
-      (woke : (w v : ℕ) → T (listed changed w) → Occurs (beside (t .offsets) (t .links) (strikeTable t old) w) v → T (listed todo v)) where
+      (woke : (w v : ℕ) → T (listed changed w) → Occurs (nodesBeside (t .offsets) (t .targets) (strikeTable t old) w) v → T (listed todo v)) where
     pub covers-next : Covers t (strikeTable t old) todo
-    unfolding Covers Mutual Below
+    unfolding Covers MutualTables Below
     covers-next v l e = go (eqb (getD (strikeTable t old) v 0) 0) refl
       where
         new : List ℕ
@@ -111,11 +97,11 @@ module _ (t : Tables) (old : List ℕ) where
         h = rw length-strike at l
 
         same : (w : ℕ) → w < length old → (getD (strikeTable t old) v 0 ≡ 0 → ⊥) →
-            Occurs (driven (t .offsets) (t .links) w) v ⊎ Occurs (driving (t .offsets) (t .links) w) v → getD (strikeTable t old) w 0 ≡ getD old w 0
+            Occurs (driven (t .offsets) (t .targets) w) v ⊎ Occurs (driving (t .offsets) (t .targets) w) v → getD (strikeTable t old) w 0 ≡ getD old w 0
         same w k some o = at (listed changed w) refl
           where
             at : (b : Bool) → listed changed w ≡ b → getD (strikeTable t old) w 0 ≡ getD old w 0
-            at true p = absurd (false-T e (woke w v (true-T p) (beside-occurs (t .offsets) (t .links) (strikeTable t old) w v (small v) some o)))
+            at true p = absurd (false-T e (woke w v (true-T p) (beside-occurs (t .offsets) (t .targets) (strikeTable t old) w v (small v) some o)))
             at false p = strike-at t old w k ∙ c w k p
 
         go : (b : Bool) → eqb (getD (strikeTable t old) v 0) 0 ≡ b → strikeNode t (strikeTable t old) v ≡ getD (strikeTable t old) v 0
@@ -133,6 +119,6 @@ module _ (t : Tables) (old : List ℕ) where
             same w k some (inl (both w v k h .1 o)))
 
 -- the two neighbour tables of a graph have the same links
-pub net-mutual : {n : ℕ} {starts ends : List ℕ} (t : Tables) → NetOf n starts ends (t .offsets) (t .links) → Mutual t n
-unfolding Mutual
+pub net-mutual : {n : ℕ} {starts ends : List ℕ} (t : Tables) → NetOf n starts ends (t .offsets) (t .targets) → MutualTables t n
+unfolding MutualTables
 net-mutual t net v w h k = (λ o. driving-link net w v k .1 (driven-link net v w h .0 o), λ o. driven-link net v w h .1 (driving-link net w v k .0 o))

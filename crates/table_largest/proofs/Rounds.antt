@@ -1,22 +1,13 @@
 -- The loop of rounds: from one table to the next, until a round strikes nothing. Assumes nothing.
-use mathlib.Core.List.{List, []}
-use mathlib.Core.Logic.{_⊎_, ⊎-elim}
-use mathlib.Core.Path.{_≡_, refl, sym, ap, ap₂, subst, _∙_}
-use Prim.Native.Nat.{ℕ, suc, _+_, _^_, _≤_, _<_}
-use native.Mathlib.Nat.{le-refl, not-suc-le-zero, lt-of-le-of-lt}
-use native.Mathlib.Numerals.{add-one}
+use Rattle.base_lists.specs.Kit.{_≡_, _∙_, sym, ap, refl, subst, ap₂, ⊎-elim, _⊎_, List, [], ℕ, _≤_, _<_, _+_, suc, _^_, not-suc-le-zero, le-refl, lt-of-le-of-lt, add-one, T, length, getD, take, replicate, List·getD-eq-default, length-take-le, arith}
 use native.Mathlib.Decide.{decLt}
-use native.Mathlib.Omega.{arith}
 use borrow.Author.Count.{below-more}
-use lib.Dec.{T}
-use lib.ListN.{length, getD, take, replicate, List·getD-eq-default}
-use lib.Seq.{length-take-le}
 use Rattle.base_lists.specs.List.{Occurs, Below}
 use Rattle.base_lists.proofs.Tests.{false-T}
 use Rattle.base_bits.specs.Bits.{bit, Subset}
 use Rattle.base_bits.proofs.Digits.{bit-of-zero}
 use Rattle.base_bits.proofs.Numbers.{subset-le}
-use Rattle.graph.specs.Bfs.{State, level, stateOf, Searched}
+use Rattle.graph.specs.Bfs.{SearchState, level, stateOf, Searched}
 use Rattle.graph.specs.Circuit.{Circuit}
 use Rattle.graph.specs.Net.{NetOf}
 use Rattle.graph.specs.Search.{far}
@@ -32,8 +23,8 @@ use Rattle.table_row.proofs.Begin.{begins-fits, begins-times, begins-rest}
 use Rattle.table.specs.Row.{inTable, pairs, problemBy}
 use Rattle.table.specs.Fill.{listed, marksOf, NodeList, Cleared, fillAt}
 use Rattle.table.specs.First.{BeginsBy}
-use Rattle.graph_follow.specs.Follow.{beside}
-use Rattle.table_round.specs.Pending.{changing, Pending, putAt, Put}
+use Rattle.graph_follow.specs.Follow.{nodesBeside}
+use Rattle.table_round.specs.Pending.{changing, Pending, putAt, SetsPut}
 use Rattle.table.specs.Prepared.{Tables, Ready, PreparedBy}
 use Rattle.table.specs.Refine.{RestedBy}
 use Rattle.table_strike.specs.Strike.{strikeNode}
@@ -126,7 +117,7 @@ module _ {t : Tables} {start old : List ℕ} {kept rounds : ℕ} (r : Round t st
 
   -- ---- some change: their sets are written
 
-  module _ {new : List ℕ} {count : ℕ} (put : Put nodes (take k next) old new count) where
+  module _ {new : List ℕ} {count : ℕ} (put : SetsPut nodes (take k next) old new count) where
     struck : new ≡ strikeTable t old
     struck =
         put .table ∙ ap₂ (λ (vs xs : List ℕ). putAt vs xs old) (q .pending .nodes) (q .pending .sets)
@@ -170,17 +161,17 @@ module _ {t : Tables} {start old : List ℕ} {kept rounds : ℕ} (r : Round t st
     -- what lies beside them is to be looked at
 
     module _ (todo : List ℕ) {marks marks′ todo′ : List ℕ} {m : ℕ} (clean : marks ≡ replicate (length old) far)
-        (s : Searched marks′ todo′ m (level (beside (t .offsets) (t .links) new) 0 (stateOf marks todo 0) nodes)) where
-      beside-inside : (v : ℕ) → v < length old → Below (length old) (beside (t .offsets) (t .links) new v)
-      beside-inside v h = beside-below (t .offsets) (t .links) new v (q .due .ready .net) h
+        (s : Searched marks′ todo′ m (level (nodesBeside (t .offsets) (t .targets) new) 0 (stateOf marks todo 0) nodes)) where
+      beside-inside : (v : ℕ) → v < length old → Below (length old) (nodesBeside (t .offsets) (t .targets) new v)
+      beside-inside v h = beside-below (t .offsets) (t .targets) new v (q .due .ready .net) h
 
-      state : stateOf marks′ todo′ m ≡ level (beside (t .offsets) (t .links) new) 0 (unmarked (length old)) nodes
+      state : stateOf marks′ todo′ m ≡ level (nodesBeside (t .offsets) (t .targets) new) 0 (unmarked (length old)) nodes
       unfolding unmarked stateOf
-      state = s .state ∙ ap (λ (l : List ℕ). level (beside (t .offsets) (t .links) new) 0 (record { dist = l; reached = [] }) nodes) clean
+      state = s .state ∙ ap (λ (l : List ℕ). level (nodesBeside (t .offsets) (t .targets) new) 0 (record { dist = l; reached = [] }) nodes) clean
 
-      list : take m todo′ ≡ level (beside (t .offsets) (t .links) new) 0 (unmarked (length old)) nodes .reached
+      list : take m todo′ ≡ level (nodesBeside (t .offsets) (t .targets) new) 0 (unmarked (length old)) nodes .reached
       unfolding stateOf
-      list = ap (λ (x : State). x .reached) state
+      list = ap (λ (x : SearchState). x .reached) state
 
       pub woken-due : length marks′ ≡ length old → Due t new (take m todo′)
       unfolding stateOf
@@ -190,11 +181,11 @@ module _ {t : Tables} {start old : List ℕ} {kept rounds : ℕ} (r : Round t st
             both = rw new-long (q .due .both);
             covers =
                 subst (λ (l : List ℕ). Covers t new l) (sym list)
-                (subst (λ (x : List ℕ). Covers t x (level (beside (t .offsets) (t .links) new) 0 (unmarked (length old)) nodes .reached)) (sym struck)
+                (subst (λ (x : List ℕ). Covers t x (level (nodesBeside (t .offsets) (t .targets) new) 0 (unmarked (length old)) nodes .reached)) (sym struck)
                 (covers-next t old (q .due .ready .net) (q .due .both) (λ v. subst (λ (x : List ℕ). getD x v 0 < 2 ^ 32) struck (new-ready .small v)) nodes covered _
                 (λ w v o m.
-                woken-beside (beside (t .offsets) (t .links) new) beside-inside nodes noticed-below w v o
-                (subst (λ (x : List ℕ). Occurs (beside (t .offsets) (t .links) x w) v) (sym struck) m))));
+                woken-beside (nodesBeside (t .offsets) (t .targets) new) beside-inside nodes noticed-below w v o
+                (subst (λ (x : List ℕ). Occurs (nodesBeside (t .offsets) (t .targets) x w) v) (sym struck) m))));
             below = rw (new-long, ← long) (s .kept .ready .inside);
             few = rw new-long (omega (arith, tail-le marks′ todo′ m (s .kept), reached-length marks′ todo′ m (s .kept), long));
           }
@@ -202,24 +193,24 @@ module _ {t : Tables} {start old : List ℕ} {kept rounds : ℕ} (r : Round t st
       pub woken-clean : fillAt (λ v. far) (take m todo′) marks′ ≡ replicate (length old) far
       unfolding stateOf
       woken-clean =
-          ap (λ (x : State). fillAt (λ v. far) (x .reached) (x .dist)) state
-          ∙ woken-unmarked (beside (t .offsets) (t .links) new) beside-inside nodes noticed-below
+          ap (λ (x : SearchState). fillAt (λ v. far) (x .reached) (x .dist)) state
+          ∙ woken-unmarked (nodesBeside (t .offsets) (t .targets) new) beside-inside nodes noticed-below
 
 -- ---- the rounds begin
 
 module _ {ways : List Direction} {pattern host : Circuit} {t : Tables} (p : PreparedBy ways pattern host t) (nodes : List ℕ) {first : List ℕ}
-    (b : BeginsBy ways pattern host (marksOf (length (host .kinds)) nodes) first) where
+    (b : BeginsBy ways pattern host (marksOf (length (host .labels)) nodes) first) where
   -- the list of nodes has each node that changes
   pub first-due : NodeList (length first) nodes → Due t first nodes
   unfolding problemBy Covers Cleared
   first-due list =
-      let net : NetOf (length first) (host .starts) (host .ends) (t .offsets) (t .links) = rw (b .long) (p .net) in
+      let net : NetOf (length first) (host .starts) (host .ends) (t .offsets) (t .targets) = rw (b .long) (p .net) in
       record {
         ready =
             record {
               masks = p .masked .room;
               net = net-of net;
-              small = fits-word (p .parts) (begins-fits (problemBy ways pattern host (marksOf (length (host .kinds)) nodes)) b);
+              small = fits-word (p .parts) (begins-fits (problemBy ways pattern host (marksOf (length (host .labels)) nodes)) b);
             };
         both = net-mutual t net;
         covers = λ v h e. let z = begins-cleared ways pattern host nodes b v h e in strike-none t first v z ∙ sym z;
@@ -231,7 +222,7 @@ module _ {ways : List Direction} {pattern host : Circuit} {t : Tables} (p : Prep
 
   module _ {last : List ℕ} {k r : ℕ} (s : Settled t first last k r) where
     abbrev marks : List ℕ
-    marks = marksOf (length (host .kinds)) nodes
+    marks = marksOf (length (host .labels)) nodes
 
     abbrev problem : Problem Direction
     problem = problemBy ways pattern host marks

@@ -1,10 +1,6 @@
 -- Striking over masks, neighbour tables and a list of nodes is the striking of the row. Assumes nothing.
-use mathlib.Core.Bool.{Bool, _&&_}
-use mathlib.Core.List.{List}
-use mathlib.Core.Path.{_≡_, refl, sym, ap, ap₂, _∙_}
-use Prim.Native.Nat.{ℕ, zero, suc, _<_}
-use lib.ListN.{length, getD}
-use Rattle.base_lists.specs.List.{tabulate, Below}
+use Rattle.base_lists.specs.Kit.{_≡_, _∙_, sym, ap, refl, ap₂, Bool, _&&_, List, ℕ, _<_, suc, zero, length, getD}
+use Rattle.base_lists.specs.List.{tabulate}
 use Rattle.base_lists.proofs.Tests.{T-false, false-T}
 use Rattle.base_lists.proofs.Tables.{tabulate-same}
 use Rattle.base_bits.specs.Bits.{bit, subsetOf, unionAt}
@@ -26,16 +22,10 @@ use Rattle.table_strike.specs.Strike.{survivors, strikeNode}
 use Rattle.table_largest.specs.Rounds.{strikeTable, strikeTimes}
 use Rattle.table.proofs.Begun.{inside-marks}
 use Rattle.table.proofs.Row.{Table, start-for}
-use Rattle.table.proofs.Masks.{select-within}
+use Rattle.table.proofs.Masks.{neighbours-below}
 use Rattle.table.proofs.Directions.{counting-covered, every-among}
 
 -- ---- one node, one round
-
--- links lead from parts to parts
-neighbours-below : (n : ℕ) (c : Circuit) → Below n (c .starts) → Below n (c .ends) → (d : Direction) (u : ℕ) → Below n (neighbours c d u)
-unfolding neighbours
-neighbours-below n c starts ends forwards u = select-within n (c .starts) (c .ends) u ends
-neighbours-below n c starts ends backwards u = select-within n (c .ends) (c .starts) u starts
 
 -- the test of two masks, of the directions that count, is that of every way
 survivors-next :
@@ -63,9 +53,9 @@ module _ (ways : List Direction) (pattern host : Circuit) (t : Tables) (p : Prep
 
   steps-within : StepsWithin problem
   unfolding problemBy
-  steps-within = record { below = λ d u h. neighbours-below (length (pattern .kinds)) pattern (p .starts) (p .ends) d u }
+  steps-within = record { below = λ d u h. neighbours-below (length (pattern .labels)) pattern (p .starts) (p .ends) d u }
 
-  node-next : (old : List ℕ) (v : ℕ) → v < length (host .kinds) → strikeNode t old v ≡ nextSet problem old v
+  node-next : (old : List ℕ) (v : ℕ) → v < length (host .labels) → strikeNode t old v ≡ nextSet problem old v
   unfolding strikeNode problemBy neighbours maskOf masksOf
   node-next old v l = rw (p .masked .succ, p .masked .pred, p .net .drives v l, p .net .drivenBy v l) (survivors-next ways pattern host taken old v)
 
@@ -74,30 +64,30 @@ module _ (ways : List Direction) (pattern host : Circuit) (t : Tables) (p : Prep
   unfolding strikeTable problemBy
   strike-row old fits =
       ap (λ (m : ℕ). tabulate m (strikeNode t old)) (fits .size)
-      ∙ tabulate-same (length (host .kinds)) (strikeNode t old) (nextSet problem old) (node-next old)
+      ∙ tabulate-same (length (host .labels)) (strikeNode t old) (nextSet problem old) (node-next old)
       ∙ masks-strike problem (p .parts) steps-within fits
 
 -- ---- the first table
 
 -- a table to begin with is empty outside the list
 pub begins-cleared :
-    (ways : List Direction) (pattern host : Circuit) (nodes : List ℕ) {first : List ℕ} → BeginsBy ways pattern host (marksOf (length (host .kinds)) nodes) first → Cleared nodes first
+    (ways : List Direction) (pattern host : Circuit) (nodes : List ℕ) {first : List ℕ} → BeginsBy ways pattern host (marksOf (length (host .labels)) nodes) first → Cleared nodes first
 unfolding Cleared inTable hostGraph problemBy
 begins-cleared ways pattern host nodes {first} b v h e =
-    let marks : List ℕ = marksOf (length (host .kinds)) nodes in
+    let marks : List ℕ = marksOf (length (host .labels)) nodes in
     same-bits (getD first v 0) 0
     (λ u.
     T-false
     (λ m.
-    false-T (inside-marks (length (host .kinds)) nodes v (rw (b .long) at h) ∙ e) (start-for ways pattern host marks u v .0 (b .within u v m) .node .marked))
+    false-T (inside-marks (length (host .labels)) nodes v (rw (b .long) at h) ∙ e) (start-for ways pattern host marks u v .0 (b .within u v m) .node .marked))
     ∙ sym (bit-of-zero u))
 
 -- ---- the row
 
 module _ (ways : List Direction) (pattern host : Circuit) (t : Tables) (p : PreparedBy ways pattern host t) (nodes : List ℕ) {first : List ℕ}
-    (b : BeginsBy ways pattern host (marksOf (length (host .kinds)) nodes) first) where
+    (b : BeginsBy ways pattern host (marksOf (length (host .labels)) nodes) first) where
   abbrev marks : List ℕ
-  marks = marksOf (length (host .kinds)) nodes
+  marks = marksOf (length (host .labels)) nodes
 
   -- k rounds from a table to begin with are k steps of the row from it
   pub times-row : (k : ℕ) → strikeTimes t first k ≡ rowFrom (problemBy ways pattern host marks) first k

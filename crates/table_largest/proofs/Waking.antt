@@ -1,37 +1,21 @@
 -- The list of the nodes to look at next, made with marks: it has what lies beside the nodes that changed, each once, and without its marks the
 -- table of marks is as it was. Assumes nothing.
-use mathlib.Core.Bool.{Bool, true, false, cond}
-use mathlib.Core.List.{List, []}
-use mathlib.Core.Path.{_≡_, refl, sym, ap, _∙_}
-use Prim.Native.Nat.{ℕ, zero, suc, _<_, zero-le}
-use native.Mathlib.Nat.{not-suc-le-zero, zero-lt-suc}
-use native.Mathlib.Omega.{arith}
-use borrow.Author.Tests.{eqb-true, eqb-false}
-use lib.Dec.{T, eqb}
-use lib.ListN.{length, getD, replicate, length-replicate, getD-replicate}
-use lib.Seq.{ext-getD}
+use Rattle.base_lists.specs.Kit.{_≡_, _∙_, sym, ap, refl, Bool, false, true, cond, List, [], ℕ, _<_, zero-le, not-suc-le-zero, T, eqb, length, getD, replicate, length-replicate, getD-replicate, ext-getD, arith, eqb-true, eqb-false}
 use Rattle.base_lists.specs.List.{Occurs, Below}
 use Rattle.base_lists.proofs.Tests.{T-true, false-T}
-use Rattle.graph.specs.Bfs.{State, level, start, missing, Ready, stateOf, Searching}
+use Rattle.graph.specs.Bfs.{SearchState, level, SearchReady, stateOf, Searching}
 use Rattle.graph.specs.Search.{far}
-use Rattle.graph.proofs.BfsSteps.{missing-set, ready-level, ready-start}
+use Rattle.graph.proofs.BfsSteps.{ready-level, missing-all}
 use Rattle.graph.proofs.BfsScan.{elem, occurs-elem, below-elem, targets, targets-from, to-targets, level-scan, after-new, scan-dist}
 use Rattle.graph.proofs.Reached.{Listed, listed-scan}
 use Rattle.table.specs.Fill.{listed, fillAt}
 use Rattle.table.proofs.Fill.{listed-occurs, occurs-listed, length-fill, getD-fill}
 
 -- nothing is marked
-unfoldable pub unmarked : ℕ → State
+unfoldable pub unmarked : ℕ → SearchState
 unmarked n = record { dist = replicate n far; reached = [] }
 
-missing-all : (n : ℕ) → missing (replicate n far) ≡ n
-unfolding start missing
-missing-all zero = refl
-missing-all (suc n) =
-    omega
-    (arith, missing-set (replicate (suc n) far) 0 0 (rw length-replicate (zero-lt-suc n)) refl (omega arith), ready-start (suc n) 0 (zero-lt-suc n) .counted)
-
-unmarked-ready : (n : ℕ) → Ready n (unmarked n)
+unmarked-ready : (n : ℕ) → SearchReady n (unmarked n)
 unfolding unmarked Below
 unmarked-ready n = record { size = length-replicate n far; counted = omega (arith, missing-all n); inside = λ i h. absurd (not-suc-le-zero h) }
 
@@ -58,7 +42,7 @@ marks-searching {n} {marks} {todo} e l =
 -- ---- what is listed
 
 module _ {n : ℕ} (adj : ℕ → List ℕ) (inside : (v : ℕ) → v < n → Below n (adj v)) (changed : List ℕ) (b : Below n changed) where
-  abbrev woken : State
+  abbrev woken : SearchState
   woken = level adj 0 (unmarked n) changed
 
   targets-below : Below n (targets adj changed)
@@ -79,7 +63,7 @@ module _ {n : ℕ} (adj : ℕ → List ℕ) (inside : (v : ℕ) → v < n → Be
       let t : T (elem v (targets adj changed)) = to-targets adj w v changed (occurs-elem w changed (listed-occurs changed w m)) (occurs-elem v (adj w) o) in
       let h : v < n = below-elem n v (targets adj changed) targets-below t in
       let marked : getD (woken .dist) v 0 ≡ 0 =
-      ap (λ (s : State). getD (s .dist) v 0) (level-scan adj 0 (unmarked n) changed) ∙ scan-dist 0 (unmarked n) (targets adj changed) v
+      ap (λ (s : SearchState). getD (s .dist) v 0) (level-scan adj 0 (unmarked n) changed) ∙ scan-dist 0 (unmarked n) (targets adj changed) v
       ∙ after-new 0 (getD (replicate n far) v 0) (elem v (targets adj changed)) (getD-replicate n v far 0 h) (T-true t) in
       occurs-listed (woken .reached) v (woken-listed .complete v h (λ q. omega (arith, marked)))
 

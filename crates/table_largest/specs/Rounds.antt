@@ -1,14 +1,10 @@
 -- Rounds of striking over neighbour tables and masks, and when a list has all nodes that change in a round: what the contracts here cite.
 -- proofs/Row ties the rounds to the row of sets.
-use mathlib.Core.Bool.{false}
-use mathlib.Core.List.{List}
-use mathlib.Core.Logic.{_↔_}
-use mathlib.Core.Path.{_≡_}
-use Prim.Native.Nat.{ℕ, zero, suc, _≤_, _<_}
-use lib.ListN.{length, getD}
+use Rattle.base_lists.specs.Kit.{_≡_, _↔_, false, List, ℕ, _≤_, _<_, suc, zero, length, getD}
 use Rattle.base_lists.specs.List.{tabulate, Occurs, Below}
 use Rattle.graph.specs.Net.{driven, driving}
 use Rattle.table.specs.Fill.{listed}
+use Rattle.table_row.specs.Row.{Falls}
 use Rattle.table.specs.Row.{pairs}
 use Rattle.table.specs.Prepared.{Tables, Ready}
 use Rattle.table_strike.specs.Strike.{strikeNode}
@@ -25,8 +21,8 @@ strikeTimes t old (suc k) = strikeTable t (strikeTimes t old k)
 -- ---- only what may change is looked at
 
 -- what a node drives it is driven by, in the two neighbour tables
-unfoldable pub Mutual : Tables → ℕ → Type 0
-Mutual t n = (v w : ℕ) → v < n → w < n → Occurs (driven (t .offsets) (t .links) v) w ↔ Occurs (driving (t .offsets) (t .links) w) v
+unfoldable pub MutualTables : Tables → ℕ → Type 0
+MutualTables t n = (v w : ℕ) → v < n → w < n → Occurs (driven (t .offsets) (t .targets) v) w ↔ Occurs (driving (t .offsets) (t .targets) w) v
 
 -- a node that is not in the list keeps its set in the next round
 unfoldable pub Covers : Tables → List ℕ → List ℕ → Type 0
@@ -35,7 +31,7 @@ Covers t old todo = (v : ℕ) → v < length old → listed todo v ≡ false →
 -- A list of nodes to look at: it has each node that changes.
 pub record Due (t : Tables) (old todo : List ℕ) : Type 0 where
   pub ready : Ready t old
-  pub both : Mutual t (length old)
+  pub both : MutualTables t (length old)
   pub covers : Covers t old todo
   pub below : Below (length old) todo
   pub few : length todo ≤ length old
@@ -43,12 +39,12 @@ pub record Due (t : Tables) (old todo : List ℕ) : Type 0 where
 -- Where the rounds stand: `old` is the table after some rounds, each of which struck a pair.
 pub record Round (t : Tables) (start old : List ℕ) (kept rounds : ℕ) : Type 0 where
   pub table : old ≡ strikeTimes t start rounds
-  pub falls : (j : ℕ) → j < rounds → pairs (strikeTimes t start (suc j)) < pairs (strikeTimes t start j)
+  pub falls : Falls pairs (strikeTimes t start) rounds
   pub count : kept ≡ pairs old
 
 -- What striking round after round from a table comes to: the table after as many rounds as struck a pair, which one more would not change.
 pub record Settled (t : Tables) (start last : List ℕ) (kept rounds : ℕ) : Type 0 where
   pub table : last ≡ strikeTimes t start rounds
   pub stops : strikeTable t last ≡ last
-  pub falls : (j : ℕ) → j < rounds → pairs (strikeTimes t start (suc j)) < pairs (strikeTimes t start j)
+  pub falls : Falls pairs (strikeTimes t start) rounds
   pub count : kept ≡ pairs last

@@ -1,7 +1,7 @@
 // Striking round after round until a round strikes nothing: the largest dual simulation.
 use file_format::Board;
 use graph::UNREACHED;
-use graph_follow::wake;
+use graph_follow::list_beside;
 use table::FORWARD_MASKS;
 use table::MASKS;
 use table::Rest;
@@ -15,7 +15,7 @@ ghost use Rattle.graph.specs.Search.{far};
 ghost use Rattle.table.specs.Fill.{NodeList};
 ghost use Rattle.table.specs.Prepared.{tables};
 ghost use Rattle.table.specs.Row.{pairs};
-ghost use Rattle.table.specs.Refine.{Known, Refines};
+ghost use Rattle.table.specs.Refine.{TablesKnown, Refines};
 ghost use Rattle.table_largest.specs.Rounds.{Due, Settled};
 
 // Goes on from a table, which has `started` pairs, and a list of nodes that has each one that changes, until a round strikes nothing. Each round
@@ -25,7 +25,7 @@ pub fn settle(
     first: &[u16],
     masks: &[u32],
     offsets: &[u16],
-    links: &[u16],
+    targets: &[u16],
     table: &mut [u32],
     started: u32,
     marks: &mut [u16],
@@ -33,23 +33,41 @@ pub fn settle(
     changed: &mut [u16],
     next: &mut [u32],
 ) -> Rest
-    requires { ⌜ Due (tables (now masks) (now offsets) (now links)) (now table) (now first) ⌝ }
+    requires { ⌜ Due (tables (now masks) (now offsets) (now targets)) (now table) (now first) ⌝ }
     requires { ⌜ started ≡ pairs (now table) ⌝ }
     requires { ⌜ (now marks ≡ replicate (length (now table)) far) × (length (now todo) ≡ length (now table)) ⌝ }
     requires { ⌜ (length (now changed) ≡ length (now table)) × (length (now next) ≡ length (now table)) ⌝ }
-    ensures { λ r. ⌜ Settled (tables (now (masks .entry)) (now (offsets .entry)) (now (links .entry))) (now (table .entry)) (now (table .exit)) (r .kept) (r .rounds) ⌝ }
+    ensures { λ r. ⌜ Settled (tables (now (masks .entry)) (now (offsets .entry)) (now (targets .entry))) (now (table .entry)) (now (table .exit)) (r .kept) (r .rounds) ⌝ }
     ensures { λ _. ⌜ now (marks .exit) ≡ now (marks .entry) ⌝ }
 {
     let mut kept = started;
     let mut rounds: u32 = 0;
-    let alone = all_empty(&masks[FORWARD_MASKS..MASKS]);
-    let mut n = changes(alone, first, masks, offsets, links, table, changed, next);
+    let one_way = all_empty(&masks[FORWARD_MASKS..MASKS]);
+    let mut n = changes(
+        one_way,
+        first,
+        masks,
+        offsets,
+        targets,
+        table,
+        changed,
+        next,
+    );
     while n != 0 {
         kept = write(&changed[..n], &next[..n], table, kept);
         rounds += 1;
-        let k = wake(&changed[..n], offsets, links, table, marks, todo);
+        let k = list_beside(&changed[..n], offsets, targets, table, marks, todo);
         let listed = &todo[..k];
-        n = changes(alone, listed, masks, offsets, links, table, changed, next);
+        n = changes(
+            one_way,
+            listed,
+            masks,
+            offsets,
+            targets,
+            table,
+            changed,
+            next,
+        );
         unmark(listed, marks);
     }
     Rest { kept, rounds }
@@ -62,16 +80,16 @@ pub fn refine(
     nodes: &[u16],
     masks: &[u32],
     offsets: &[u16],
-    links: &[u16],
+    targets: &[u16],
     table: &mut [u32],
     spare: &mut [u32],
     started: u32,
 ) -> Rest
-    requires { ⌜ Known (tables (now masks) (now offsets) (now links)) (now nodes) (now table) ⌝ }
+    requires { ⌜ TablesKnown (tables (now masks) (now offsets) (now targets)) (now nodes) (now table) ⌝ }
     requires { ⌜ NodeList (length (now table)) (now nodes) ⌝ }
     requires { ⌜ length (now spare) ≡ length (now table) ⌝ }
     requires { ⌜ started ≡ pairs (now table) ⌝ }
-    ensures { λ r. ⌜ Refines (tables (now (masks .entry)) (now (offsets .entry)) (now (links .entry))) (now (nodes .entry)) (now (table .entry)) (now (table .exit)) r ⌝ }
+    ensures { λ r. ⌜ Refines (tables (now (masks .entry)) (now (offsets .entry)) (now (targets .entry))) (now (nodes .entry)) (now (table .entry)) (now (table .exit)) r ⌝ }
 {
     let mut marks = [UNREACHED; Board::MAX_NODES];
     let mut todo = [0u16; Board::MAX_NODES];
@@ -81,7 +99,7 @@ pub fn refine(
         nodes,
         masks,
         offsets,
-        links,
+        targets,
         table,
         started,
         &mut marks[..n],

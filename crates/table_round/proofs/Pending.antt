@@ -1,14 +1,5 @@
 -- Laws of the two halves of a round: listing the nodes that change, and writing their sets. Assumes nothing.
-use mathlib.Core.Bool.{Bool, true, false, _&&_, _||_, not, cond}
-use mathlib.Core.List.{List, [], _∷_, _++_, map, append-nil, append-assoc}
-use mathlib.Core.Path.{_≡_, refl, sym, ap, _∙_, subst}
-use Prim.Native.Nat.{ℕ, suc, _+_, _-_, _≤_, _<_, zero-le}
-use native.Mathlib.Numerals.{add-one}
-use native.Mathlib.Omega.{arith}
-use borrow.Author.Tests.{eqb-true}
-use lib.Dec.{T, eqb}
-use lib.ListN.{length, getD, take, drop, set, length-set, drop-of-length-le}
-use lib.Seq.{drop-cons, take-suc-set}
+use Rattle.base_lists.specs.Kit.{_≡_, _∙_, sym, ap, refl, subst, Bool, false, true, cond, _&&_, not, _||_, List, [], _∷_, _++_, append-nil, map, append-assoc, ℕ, _≤_, _<_, _+_, _-_, suc, zero-le, add-one, T, eqb, length, getD, take, drop, set, length-set, drop-of-length-le, drop-cons, take-suc-set, arith, eqb-true, and-false}
 use Rattle.base_lists.specs.List.{any, Below}
 use Rattle.base_lists.proofs.Tests.{both-left}
 use Rattle.base_bits.specs.Bits.{sizeOf}
@@ -16,7 +7,7 @@ use Rattle.table.specs.Row.{pairs}
 use Rattle.table.specs.Fill.{listed, fillAt}
 use Rattle.table.proofs.Fill.{listed-occurs, occurs-listed}
 use Rattle.table.proofs.Pairs.{pairs-put}
-use Rattle.table_round.specs.Pending.{changing, Pending, Noted, putAt, Put}
+use Rattle.table_round.specs.Pending.{changing, Pending, ChangeNoted, putAt, SetsPut}
 
 -- ---- the nodes that change
 
@@ -33,11 +24,7 @@ module _ (f : ℕ → ℕ) (old : List ℕ) where
       go : (b : Bool) → eqb (f w) (getD old w 0) ≡ b → (c : Bool) → eqb w v ≡ c →
           listed (changing f old vs) v ≡ listed vs v && not (eqb (f v) (getD old v 0)) →
           listed (cond b (changing f old vs) (w ∷ changing f old vs)) v ≡ (c || listed vs v) && not (eqb (f v) (getD old v 0))
-      go true e true q r = r ∙ rw (at true e (eqb-true w v q)) (none (listed vs v))
-        where
-          none : (b : Bool) → b && false ≡ false
-          none true = refl
-          none false = refl
+      go true e true q r = r ∙ rw (at true e (eqb-true w v q)) (and-false (listed vs v))
       go true e false q r = r
       go false e true q r = rw (q, at false e (eqb-true w v q))
       go false e false q r = rw q r
@@ -64,7 +51,7 @@ module _ (f : ℕ → ℕ) (old : List ℕ) where
 
   module _ {todo changed next : List ℕ} {k i : ℕ} (g : Listing todo changed next k i) where
     pub listing-next : {v x y k′ : ℕ} {changed′ next′ : List ℕ} → i < length todo → k < length changed → k < length next →
-        v ≡ getD todo i 0 → x ≡ f v → y ≡ getD old v 0 → Noted v x y k changed next changed′ next′ k′ → Listing todo changed′ next′ k′ (i + 1)
+        v ≡ getD todo i 0 → x ≡ f v → y ≡ getD old v 0 → ChangeNoted v x y k changed next changed′ next′ k′ → Listing todo changed′ next′ k′ (i + 1)
     unfolding changing
     listing-next {v} {x} {y} {k′} {changed′} {next′} h room room′ ev ex ey noted = go (eqb x y) refl
       where
@@ -141,6 +128,6 @@ module _ {nodes sets before after : List ℕ} {count i : ℕ} (g : Putting nodes
         size = rw (g .size, ea, eb) (pairs-put after v x inside);
       }
 
-  pub putting-end : length nodes ≤ i → Put nodes sets before after count
+  pub putting-end : length nodes ≤ i → SetsPut nodes sets before after count
   unfolding putAt
   putting-end h = record { table = rw (drop-of-length-le nodes h) at (g .table); size = g .size }

@@ -1,10 +1,5 @@
 -- A round in two halves: the nodes that change are listed, each with its next set, and then these sets are written.
-use mathlib.Core.Bool.{cond}
-use mathlib.Core.List.{List, [], _∷_, map}
-use mathlib.Core.Path.{_≡_}
-use Prim.Native.Nat.{ℕ, _+_, _≤_}
-use lib.Dec.{eqb}
-use lib.ListN.{length, getD, take, set}
+use Rattle.base_lists.specs.Kit.{_≡_, cond, List, [], _∷_, map, ℕ, _≤_, _+_, eqb, length, getD, take, set}
 use Rattle.table.specs.Row.{pairs}
 
 -- those nodes of a list to which a rule gives another set than they have
@@ -19,7 +14,7 @@ pub record Pending (f : ℕ → ℕ) (old todo changed next : List ℕ) (k : ℕ
   pub sets : take k next ≡ map f (changing f old todo)
 
 -- one node more: it is listed with its next set where that is not the set that it has
-pub record Noted (v x y k : ℕ) (changed next changed′ next′ : List ℕ) (k′ : ℕ) : Type 0 where
+pub record ChangeNoted (v x y k : ℕ) (changed next changed′ next′ : List ℕ) (k′ : ℕ) : Type 0 where
   pub count : k′ ≡ k + cond (eqb x y) 0 1
   pub nodes : changed′ ≡ cond (eqb x y) changed (set changed k v)
   pub sets : next′ ≡ cond (eqb x y) next (set next k x)
@@ -31,6 +26,6 @@ putAt (v ∷ vs) [] table = table
 putAt (v ∷ vs) (x ∷ xs) table = putAt vs xs (set table v x)
 
 -- that table, and how many pairs it has
-pub record Put (nodes sets before after : List ℕ) (count : ℕ) : Type 0 where
+pub record SetsPut (nodes sets before after : List ℕ) (count : ℕ) : Type 0 where
   pub table : after ≡ putAt nodes sets before
   pub size : count ≡ pairs after

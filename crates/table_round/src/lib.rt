@@ -11,12 +11,12 @@ ghost use Rattle.table.specs.Fill.{fillAt};
 ghost use Rattle.table.specs.Prepared.{predOf, tables, Ready};
 ghost use Rattle.table.specs.Row.{pairs};
 ghost use Rattle.table_strike.specs.Strike.{allEmpty, strikeNode};
-ghost use Rattle.table_round.specs.Pending.{Noted, Pending, Put};
+ghost use Rattle.table_round.specs.Pending.{ChangeNoted, Pending, SetsPut};
 
 // Lists node v with its next set, where that is not the set that it has.
 fn note(v: u16, set: u32, old: u32, changed: &mut [u16], next: &mut [u32], k: usize) -> usize
     requires { ⌜ (k < length (now changed)) × (k < length (now next)) ⌝ }
-    ensures { λ r. ⌜ Noted v set old k (now (changed .entry)) (now (next .entry)) (now (changed .exit)) (now (next .exit)) r ⌝ }
+    ensures { λ r. ⌜ ChangeNoted v set old k (now (changed .entry)) (now (next .entry)) (now (changed .exit)) (now (next .exit)) r ⌝ }
 {
     if set == old {
         return k;
@@ -28,26 +28,26 @@ fn note(v: u16, set: u32, old: u32, changed: &mut [u16], next: &mut [u32], k: us
 
 // Lists those nodes of a list that change, each with its next set from the table whole, and returns how many they are.
 pub fn changes(
-    alone: bool,
+    one_way: bool,
     todo: &[u16],
     masks: &[u32],
     offsets: &[u16],
-    links: &[u16],
+    targets: &[u16],
     old: &[u32],
     changed: &mut [u16],
     next: &mut [u32],
 ) -> usize
-    requires { ⌜ alone ≡ allEmpty (predOf (now masks)) ⌝ }
-    requires { ⌜ Ready (tables (now masks) (now offsets) (now links)) (now old) ⌝ }
+    requires { ⌜ «one_way» ≡ allEmpty (predOf (now masks)) ⌝ }
+    requires { ⌜ Ready (tables (now masks) (now offsets) (now targets)) (now old) ⌝ }
     requires { ⌜ Below (length (now old)) (now todo) ⌝ }
     requires { ⌜ (length (now todo) ≤ length (now changed)) × (length (now todo) ≤ length (now next)) ⌝ }
-    ensures { λ r. ⌜ Pending (strikeNode (tables (now (masks .entry)) (now (offsets .entry)) (now (links .entry))) (now (old .entry))) (now (old .entry)) (now (todo .entry)) (now (changed .exit)) (now (next .exit)) r ⌝ }
+    ensures { λ r. ⌜ Pending (strikeNode (tables (now (masks .entry)) (now (offsets .entry)) (now (targets .entry))) (now (old .entry))) (now (old .entry)) (now (todo .entry)) (now (changed .exit)) (now (next .exit)) r ⌝ }
 {
     let mut k = 0;
     let mut i = 0;
     while i < todo.len() {
         let v = todo[i] as usize;
-        let set = strike_node(alone, masks, offsets, links, old, v);
+        let set = strike_node(one_way, masks, offsets, targets, old, v);
         k = note(todo[i], set, old[v], changed, next, k);
         i += 1;
     }
@@ -59,7 +59,7 @@ pub fn write(nodes: &[u16], sets: &[u32], table: &mut [u32], started: u32) -> u3
     requires { ⌜ (length (now sets) ≡ length (now nodes)) × Below (length (now table)) (now nodes) ⌝ }
     requires { ⌜ started ≡ pairs (now table) ⌝ }
     requires { ⌜ length (now table) ≤ 65536 ⌝ }
-    ensures { λ r. ⌜ Put (now (nodes .entry)) (now (sets .entry)) (now (table .entry)) (now (table .exit)) r ⌝ }
+    ensures { λ r. ⌜ SetsPut (now (nodes .entry)) (now (sets .entry)) (now (table .entry)) (now (table .exit)) r ⌝ }
 {
     let mut kept = started;
     let mut i = 0;

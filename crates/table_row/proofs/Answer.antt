@@ -1,21 +1,14 @@
 -- The answer where every part has to occur: the largest set that is closed and in which every part occurs, unless it is empty; and its
 -- counts. Assumes nothing.
-use mathlib.Core.Bool.{Bool, true, false, cond}
-use mathlib.Core.List.{List, [], _∷_, map}
-use mathlib.Core.Logic.{_↔_, inl, inr}
-use mathlib.Core.Path.{_≡_, refl, sym, ap, _∙_}
-use Prim.Native.Nat.{ℕ, _+_, _-_, _≤_, _<_}
-use native.Mathlib.Nat.{le-refl, lt-of-lt-of-le}
-use native.Mathlib.Omega.{arith}
+use Rattle.base_lists.specs.Kit.{_≡_, _∙_, sym, ap, refl, _↔_, inl, inr, Bool, false, true, cond, List, [], _∷_, map, ℕ, _≤_, _<_, _+_, _-_, le-refl, lt-of-lt-of-le, T, arith}
 use lib.Count.{ones}
-use lib.Dec.{T}
 use Rattle.base_lists.specs.List.{anyBelow, tabulate, sum}
 use Rattle.base_lists.proofs.Tests.{T-true, allBelow-at, at-allBelow, anyBelow-at, at-anyBelow}
 use Rattle.graph.specs.Graph.{Graph}
 use Rattle.simulation.specs.Closed.{Relation, _⊆_, Closed, Occurring}
 use Rattle.simulation.specs.Perfect.{SameGraph}
 use Rattle.simulation.specs.Simulation.{Candidate, Direction, forwards, backwards, Along, Largest, LargestGraphSimulation}
-use Rattle.simulation.proofs.Closed.{weaken}
+use Rattle.simulation.proofs.Closed.{closed-weaken}
 use Rattle.simulation.proofs.Same.{same-symm}
 use Rattle.simulation.proofs.Simulation.{along-wider, dual-closed, dual-occurring, closed-dual}
 use Rattle.table_row.specs.Problem.{Problem, Way}
@@ -165,7 +158,7 @@ module _ {P : Graph} {Agree : Relation} {Step : Direction → Relation} where
       {H H′ : Graph} {R : Relation} → SameGraph H H′ → Closed (Candidate P Agree H) Step (Along (H .Link)) R →
       Closed (Candidate P Agree H′) Step (Along (H′ .Link)) R
   closed-on same =
-      weaken (λ u v c. record { part = c .part; node = same .nodes v .0 (c .node); kinds = c .kinds })
+      closed-weaken (λ u v c. record { part = c .part; node = same .nodes v .0 (c .node); kinds = c .kinds })
       (λ d u u′ p. (d, p, along-wider (λ x y. same .links x y .0) d))
 
   pub occurring-same :

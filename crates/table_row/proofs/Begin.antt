@@ -1,21 +1,13 @@
 -- Striking may begin with any table between the last one and the agreement: it comes to the same last set. Such a table is had from the
 -- last one of a problem that asks no more. Assumes nothing.
-use mathlib.Core.Bool.{Bool, _&&_}
-use mathlib.Core.List.{List}
-use mathlib.Core.Path.{_≡_, sym, _∙_}
-use Prim.Native.Nat.{ℕ, zero, suc, _≤_}
-use native.Mathlib.Nat.{lt-of-le-of-lt}
-use native.Mathlib.Omega.{arith}
-use lib.ListN.{length, getD}
-use Rattle.base_lists.proofs.Tests.{both, both-left}
+use Rattle.base_lists.specs.Kit.{_≡_, _∙_, sym, List, ℕ, _≤_, suc, zero, lt-of-le-of-lt, length, getD}
 use Rattle.base_bits.proofs.Numbers.{subset-le}
 use Rattle.simulation.specs.Closed.{_⊆_, Refine}
 use Rattle.table_row.specs.Problem.{Problem, Agreeing, MoveOf, withMoves}
-use Rattle.table_row.specs.Row.{inTable, tableOf, pairs, startOf, strikeOf, rowFrom, lastOf}
-use Rattle.table_row.specs.Reading.{InTable, TableOf, Wider, Begins, cutTo}
-use Rattle.table_row.proofs.Sets.{same-pairs, table-fits, table-in}
+use Rattle.table_row.specs.Row.{inTable, startOf, strikeOf, rowFrom, lastOf}
+use Rattle.table_row.specs.Reading.{InTable, TableOf, Wider, Begins}
+use Rattle.table_row.proofs.Sets.{same-pairs}
 use Rattle.table_row.proofs.Row.{start-fits, start-in, strike-fits, strike-in, strike-inside}
-use Rattle.table_row.proofs.Counting.{from-last}
 use Rattle.table_row.proofs.Meaning.{last-fits, last-agrees, last-own}
 use Rattle.table_row.proofs.Wider.{last-wider, fewer-moves}
 
@@ -82,11 +74,6 @@ module _ {D : Type 0} (p : Problem D) (most : p .parts ≤ 32) where
   begins-times b zero = b
   begins-times b (suc k) = begins-next (begins-times b k)
 
-  -- So the row that begins with it ends with the last set, after at most as many rounds as it has pairs.
-  pub begins-last : {t : List ℕ} → Begins p t → (k : ℕ) → pairs t ≤ k → rowFrom p t k ≡ lastOf p
-  unfolding rowFrom
-  begins-last {t} b k h = begins-rest (begins-times b k) (from-last p most (begins-fits p b) k (suc k) h (omega arith))
-
 -- ---- the last table of a problem that asks no more
 
 module _ {D E : Type 0} {p : Problem D} {q : Problem E} (w : Wider p q) (most : p .parts ≤ 32) (most′ : q .parts ≤ 32) where
@@ -98,16 +85,6 @@ module _ {D E : Type 0} {p : Problem D} {q : Problem E} (w : Wider p q) (most : 
         within = λ u v m. start-in p u v .1 (inside u v m);
         contains = λ u v m. more u v (last-agrees p u v m) (last-wider w most most′ u v m);
       }
-
-  -- and so it is when cut to these.
-  pub cut-begins : Begins p (cutTo p (lastOf q))
-  unfolding cutTo
-  cut-begins =
-      let test : ℕ → ℕ → Bool = λ u v. p .agree u v && inTable (lastOf q) u v in
-      let all = table-in (p .nodes) (p .parts) test in
-      last-begins (tableOf (p .nodes) (p .parts) test) (table-fits (p .nodes) (p .parts) test .size)
-      (λ u v m. let (h, l, b) = all u v .0 m in record { part = h; node = l; agree = both-left (p .agree u v) (inTable (lastOf q) u v) b })
-      (λ u v a m. all u v .1 (a .part, a .node, both (p .agree u v) (inTable (lastOf q) u v) (a .agree) m))
 
 -- With fewer moves of the board striking may go on from where it was.
 pub moves-begin :

@@ -1,23 +1,17 @@
 -- The row comes to rest at its last set, and the four counts say how. Assumes nothing.
-use mathlib.Core.Bool.{Bool, false, not}
-use mathlib.Core.List.{List, [], _∷_, map}
-use mathlib.Core.Logic.{_≢_, _⊎_}
-use mathlib.Core.Path.{_≡_, refl, sym, ap, ap₂, subst, _∙_}
-use Prim.Native.Nat.{ℕ, suc, _+_, _≤_, _<_}
-use native.Mathlib.Nat.{le-refl}
-use native.Mathlib.Omega.{arith}
+use Rattle.base_lists.specs.Kit.{_≡_, _∙_, sym, ap, refl, subst, ap₂, _⊎_, _≢_, Bool, false, not, List, [], _∷_, map, ℕ, _≤_, _<_, _+_, suc, le-refl, T, eqb, eqb→eq, eqb-refl, not-T, arith}
 use lib.Count.{ones}
-use lib.Dec.{T, eqb, eqb→eq, eqb-refl, not-T}
 use Rattle.base_lists.specs.List.{sum}
 use Rattle.base_lists.specs.Below.{countBelow}
-use Rattle.base_lists.proofs.Tests.{both, both-left, both-right, T-true}
+use Rattle.base_lists.proofs.Tests.{both-true, both-left, both-right, T-true}
 use Rattle.base_lists.proofs.Rows.{rests, falls-to-rest}
+use Rattle.base_lists.proofs.Below.{countBelow-first}
 use Rattle.table_row.specs.Problem.{Problem}
-use Rattle.table_row.specs.Row.{pairs, same, startOf, strikeOf, rowFrom, rowOf, startedOf, lastOf, keptOf, struckOf, roundsOf}
+use Rattle.table_row.specs.Row.{pairs, same, startOf, strikeOf, rowFrom, rowOf, startedOf, lastOf, keptOf, roundsOf}
 use Rattle.table_row.specs.Reading.{TableOf}
 use Rattle.table_row.proofs.Sets.{fits-word, pairs-progress, pairs-ones}
 use Rattle.table_row.proofs.Row.{start-fits, strike-fits, strike-inside, from-fits, row-fits}
-use Rattle.table_row.proofs.Falling.{FirstRest, falls-count, first-rest, count-first}
+use Rattle.table_row.proofs.Falling.{FirstRest, falls-count, first-rest}
 
 -- ---- the test whether two tables are the same
 
@@ -32,14 +26,14 @@ same-equal (x ∷ xs) (y ∷ ys) t =
 same-self : (xs : List ℕ) → T (same xs xs)
 unfolding same
 same-self [] = tt
-same-self (x ∷ xs) = both (eqb x x) (same xs xs) (eqb-refl x) (same-self xs)
+same-self (x ∷ xs) = both-true (eqb x x) (same xs xs) (eqb-refl x) (same-self xs)
 
 pub equal-same : (xs ys : List ℕ) → xs ≡ ys → T (same xs ys)
 equal-same xs ys e = subst (λ zs. T (same xs zs)) e (same-self xs)
 
 -- the set after the k-th differs from it
-abbrev pub differs : {D : Type 0} → Problem D → ℕ → Bool
-differs p k = not (same (rowOf p (suc k)) (rowOf p k))
+abbrev pub rows-differ : {D : Type 0} → Problem D → ℕ → Bool
+rows-differ p k = not (same (rowOf p (suc k)) (rowOf p k))
 
 -- ---- coming to rest
 
@@ -98,14 +92,14 @@ module _ {D : Type 0} (p : Problem D) {k : ℕ} (first : FirstRest pairs (rowOf 
   first-last = repeats (startedOf p) (omega (arith, first-count))
 
   -- the steps before it change the set, and the others do not
-  first-changes : (j : ℕ) → j < k → T (differs p j)
+  first-changes : (j : ℕ) → j < k → T (rows-differ p j)
   first-changes j l = not-T (same _ _) (λ t. absurd (omega (arith, first .falls j l, ap pairs (same-equal _ _ t))))
 
-  first-keeps : (j : ℕ) → k ≤ j → differs p j ≡ false
+  first-keeps : (j : ℕ) → k ≤ j → rows-differ p j ≡ false
   first-keeps j l = ap not (T-true {b = same _ _} (equal-same _ _ (repeats (suc j) (omega arith) ∙ sym (repeats j l))))
 
-  first-differing : (n : ℕ) → k ≤ n → countBelow n (differs p) ≡ k
-  first-differing n h = count-first n k (differs p) h first-changes first-keeps
+  first-differing : (n : ℕ) → k ≤ n → countBelow n (rows-differ p) ≡ k
+  first-differing n h = countBelow-first n k (rows-differ p) h first-changes first-keeps
 
   -- and the number of steps to it is `rounds`
   pub first-rounds : roundsOf p ≡ k
@@ -118,10 +112,6 @@ module _ {D : Type 0} (p : Problem D) (most : p .parts ≤ 32) where
   -- `rounds` is the first k at which the row repeats a set
   pub rounds-first : FirstRest pairs (rowOf p) (roundsOf p)
   rounds-first = let (k, r) = first-rest pairs (rowOf p) (row-progress p most) in rw (first-rounds p r) r
-
-  -- "rounds, how many sets differ from the one before": of all the sets of the row, however far it is followed
-  pub rounds-all : (n : ℕ) → roundsOf p ≤ n → countBelow n (differs p) ≡ roundsOf p
-  rounds-all n h = first-differing p rounds-first n h
 
   -- each set up to there differs from the one before, and there the row has come to its last set
   pub rounds-differ : (j : ℕ) → j < roundsOf p → rowOf p (suc j) ≢ rowOf p j
@@ -139,18 +129,10 @@ module _ {D : Type 0} (p : Problem D) (most : p .parts ≤ 32) where
   pub kept-started : keptOf p ≤ startedOf p
   kept-started = omega (arith, kept-rounds)
 
-  pub started-sum : startedOf p ≡ keptOf p + struckOf p
-  unfolding struckOf
-  started-sum = omega (arith, kept-rounds)
-
-  pub rounds-struck : roundsOf p ≤ struckOf p
-  unfolding struckOf
-  rounds-struck = omega (arith, kept-rounds)
-
   -- "kept is the number of one bits in the whole table"
-  pub kept-ones : keptOf p ≡ sum (map ones (lastOf p))
+  pub keptOf-ones : keptOf p ≡ sum (map ones (lastOf p))
   unfolding keptOf lastOf
-  kept-ones = pairs-ones (lastOf p) (fits-word most (row-fits p (startedOf p)))
+  keptOf-ones = pairs-ones (lastOf p) (fits-word most (row-fits p (startedOf p)))
 
   -- "started, the pairs of R0": so counted too
   pub started-ones : startedOf p ≡ sum (map ones (startOf p))

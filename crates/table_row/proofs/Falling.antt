@@ -1,17 +1,6 @@
 -- A sequence whose count falls with each step until the sequence repeats: where it first does. Assumes nothing.
-use mathlib.Core.Bool.{Bool, false}
-use mathlib.Core.Logic.{_⊎_, inl, inr, ⊎-elim}
-use mathlib.Core.Path.{_≡_, refl, sym, subst}
-use Prim.Native.Nat.{ℕ, zero, suc, _+_, _≤_, _<_, zero-le, suc-le-suc}
-use native.Mathlib.Nat.{le-refl, le-of-suc-le-suc, not-suc-le-zero, zero-lt-suc, eq-or-lt-of-le}
-use native.Mathlib.Omega.{arith}
-use lib.Dec.{T}
-use Rattle.base_lists.specs.Below.{countBelow}
-use Rattle.base_lists.proofs.Tests.{T-true}
-
--- The count falls with each of the first k steps.
-abbrev pub Falls : {A : Type 0} → (A → ℕ) → (ℕ → A) → ℕ → Type 0
-Falls count x k = (j : ℕ) → j < k → count (x (suc j)) < count (x j)
+use Rattle.base_lists.specs.Kit.{_≡_, sym, subst, ⊎-elim, _⊎_, inl, inr, ℕ, _≤_, _<_, _+_, suc, zero, not-suc-le-zero, le-refl, le-of-suc-le-suc, eq-or-lt-of-le, arith}
+use Rattle.table_row.specs.Row.{Falls}
 
 -- k is the first term that the next one repeats.
 pub record FirstRest {A : Type 0} (count : A → ℕ) (x : ℕ → A) (k : ℕ) : Type 0 where
@@ -38,15 +27,3 @@ module _ {A : Type 0} (count : A → ℕ) (x : ℕ → A) where
   pub first-rest : ((k : ℕ) → (count (x (suc k)) < count (x k)) ⊎ (x (suc k) ≡ x k)) → (k : ℕ) × FirstRest count x k
   first-rest step =
       ⊎-elim (λ f. absurd (omega (arith, falls-count (suc (count (x zero))) f))) (λ r. r) (falls-or-rest step (suc (count (x zero))))
-
--- a test that passes below m and nowhere from m on counts m
-pub count-first : (n m : ℕ) (p : ℕ → Bool) → m ≤ n → ((i : ℕ) → i < m → T (p i)) → ((i : ℕ) → m ≤ i → p i ≡ false) → countBelow n p ≡ m
-unfolding countBelow
-count-first zero zero p h below from = refl
-count-first zero (suc m) p h below from = absurd (not-suc-le-zero h)
-count-first (suc n) zero p h below from =
-    rw (from zero zero-le)
-    (omega (arith, count-first n zero (λ i. p (suc i)) zero-le (λ i l. absurd (not-suc-le-zero l)) (λ i l. from (suc i) zero-le)))
-count-first (suc n) (suc m) p h below from =
-    rw (T-true {b = p zero} (below zero (zero-lt-suc m)))
-    (omega (arith, count-first n m (λ i. p (suc i)) (le-of-suc-le-suc h) (λ i l. below (suc i) (suc-le-suc l)) (λ i l. from (suc i) (suc-le-suc l))))

@@ -1,13 +1,7 @@
 -- The round by masks is the strike, for any list of ways. Assumes nothing.
-use mathlib.Core.Bool.{Bool, true, false, _&&_, _||_, not}
-use mathlib.Core.List.{List, [], _∷_}
-use mathlib.Core.Path.{_≡_, sym, ap, ap₂, subst, _∙_}
-use Prim.Native.Nat.{ℕ, _≤_, _<_}
-use native.Mathlib.Nat.{lt-of-lt-of-le, not-le-of-lt}
-use lib.Dec.{T, eqb, eqb→eq, eqb-refl}
-use lib.ListN.{length, getD}
+use Rattle.base_lists.specs.Kit.{_≡_, _∙_, sym, ap, subst, ap₂, Bool, _&&_, not, _||_, List, [], _∷_, ℕ, _≤_, _<_, lt-of-lt-of-le, not-le-of-lt, T, eqb, eqb→eq, eqb-refl, length, getD}
 use Rattle.base_lists.specs.List.{all, any, allBelow, tabulate, Below}
-use Rattle.base_lists.proofs.Tests.{T-false, same-test, all-at, at-all, any-at, at-any, allBelow-at, at-allBelow}
+use Rattle.base_lists.proofs.Tests.{T-false, same-test, all-at, at-all, any-at, at-any, allBelow-at, at-allBelow, unless-at, at-unless}
 use Rattle.base_lists.proofs.Below.{allBelow-same}
 use Rattle.base_lists.proofs.Tables.{getD-tabulate, tabulate-same}
 use Rattle.base_bits.specs.Bits.{bit, numberOf, subsetOf, unionAt}
@@ -42,26 +36,18 @@ all-listed n xs q below = same-test to from
     here : (i : ℕ) → i < length xs → T (any (λ w. eqb w (getD xs i 0)) xs)
     here i h = at-any (λ w. eqb w (getD xs i 0)) xs i h (eqb-refl (getD xs i 0))
 
-    met : (a b : Bool) → T (not a || b) → T a → T b
-    met true b t s = t
-    met false b t s = absurd s
-
-    meets : (a b : Bool) → (T a → T b) → T (not a || b)
-    meets true b f = f tt
-    meets false b f = tt
-
     to : T (allBelow n (λ y. not (any (λ w. eqb w y) xs) || q y)) → T (all q xs)
     to t =
         at-all q xs
         (λ i h.
-        met (any (λ w. eqb w (getD xs i 0)) xs) (q (getD xs i 0))
+        unless-at (any (λ w. eqb w (getD xs i 0)) xs) (q (getD xs i 0))
         (allBelow-at n (λ y. not (any (λ w. eqb w y) xs) || q y) t (getD xs i 0) (below i h)) (here i h))
 
     from : T (all q xs) → T (allBelow n (λ y. not (any (λ w. eqb w y) xs) || q y))
     from t =
         at-allBelow n (λ y. not (any (λ w. eqb w y) xs) || q y)
         (λ y h.
-        meets (any (λ w. eqb w y) xs) (q y)
+        at-unless (any (λ w. eqb w y) xs) (q y)
         (λ s.
         let w = any-at (λ w. eqb w y) xs s in
         subst (λ (z : ℕ). T (q z)) (eqb→eq (getD xs (w .0) 0) y (w .2)) (all-at q xs t (w .0) (w .1))))

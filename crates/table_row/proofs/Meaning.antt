@@ -1,7 +1,5 @@
 -- The last table of the row is the largest closed set, however the problem is read. Assumes nothing.
-use mathlib.Core.Path.{_≡_}
-use Prim.Native.Nat.{ℕ, suc, _≤_}
-use native.Mathlib.Omega.{arith}
+use Rattle.base_lists.specs.Kit.{_≡_, ℕ, _≤_, suc, arith}
 use Rattle.simulation.specs.Closed.{Relation, _⊆_, LargestClosed, Row}
 use Rattle.simulation.proofs.Closed.{closed-same-set}
 use Rattle.simulation.proofs.Row.{row-largest-agree}

@@ -1,12 +1,9 @@
 -- The tables of the row, pair by pair: the first holds the pairs that agree, and each further one the pairs of the last whose steps have
 -- partners in it. So they are the row of sets of the theory, which contains every closed set. Assumes nothing.
-use mathlib.Core.Bool.{_&&_}
-use mathlib.Core.List.{List}
-use mathlib.Core.Logic.{_↔_}
-use Prim.Native.Nat.{ℕ, zero, suc}
-use Rattle.base_lists.proofs.Tests.{both, both-left, both-right}
-use Rattle.simulation.specs.Closed.{Relation, _⊆_, Closed, Refine, Row}
-use Rattle.simulation.proofs.Row.{row-contains, row-falls}
+use Rattle.base_lists.specs.Kit.{_↔_, _&&_, List, ℕ, suc, zero}
+use Rattle.base_lists.proofs.Tests.{both-true, both-left, both-right}
+use Rattle.simulation.specs.Closed.{Relation, _⊆_, Refine, Row}
+use Rattle.simulation.proofs.Row.{row-falls}
 use Rattle.table_row.specs.Problem.{Problem, Agreeing, StepOf, MoveOf}
 use Rattle.table_row.specs.Row.{inTable, startOf, supported, strikeOf, rowFrom, rowOf}
 use Rattle.table_row.specs.Reading.{InTable, TableOf, Reading}
@@ -62,7 +59,7 @@ module _ {D : Type 0} (p : Problem D) where
         λ m.
             let (h, l, b) = all .0 m in
             (both-left (inTable t u v) (supported p t u v) b, answers .0 (both-right (inTable t u v) (supported p t u v) b)),
-        λ (m, s). all .1 (fits-part f u v m, fits-node f u v m, both (inTable t u v) (supported p t u v) m (answers .1 s)),
+        λ (m, s). all .1 (fits-part f u v m, fits-node f u v m, both-true (inTable t u v) (supported p t u v) m (answers .1 s)),
       )
 
   -- the sets fall
@@ -123,10 +120,6 @@ module _ {D : Type 0} (p : Problem D) where
           (λ d x x′ l. (d, r .step d x x′ .0 l, λ y y′ a b n. r .move d x y x′ y′ a b (r .step d x x′ .0 l) .1 n))
           k u v m),
     )
-
-    -- Every set of the row contains each closed set.
-    pub every-row : {S : Relation} → Closed Agree Step Move S → (k : ℕ) → S ⊆ InTable (rowOf p k)
-    every-row c k u v s = row-in k u v .1 (row-contains c (c .agree) k u v s)
 
 -- a problem read by itself
 pub self-reading : {D : Type 0} (p : Problem D) → Reading p (Agreeing p) (StepOf p) (MoveOf p)

@@ -1,17 +1,8 @@
 -- Tables of sets of parts: which pairs they hold, when two are equal, and how many pairs they have. Assumes nothing.
-use mathlib.Core.Bool.{Bool, true, false, _&&_, cond}
-use mathlib.Core.List.{List, [], _∷_, map}
-use mathlib.Core.Logic.{_↔_, _⊎_, inl, inr, ⊎-elim}
-use mathlib.Core.Path.{_≡_, refl, sym, ap, ap₂, subst, _∙_}
-use Prim.Native.Nat.{ℕ, zero, suc, _+_, _^_, _≤_, _<_}
-use native.Mathlib.Nat.{lt-of-lt-of-le, lt-of-not-le, not-suc-le-zero}
+use Rattle.base_lists.specs.Kit.{_≡_, _∙_, sym, ap, refl, subst, ap₂, _↔_, ⊎-elim, _⊎_, inl, inr, Bool, List, [], _∷_, map, ℕ, _≤_, _<_, _+_, suc, zero, _^_, not-suc-le-zero, lt-of-lt-of-le, lt-of-not-le, T, length, getD, List·getD-eq-default, length-map, ext-getD, arith}
 use native.Mathlib.Decide.{decLt}
-use native.Mathlib.Omega.{arith}
 use lib.Count.{ones}
-use lib.Dec.{T}
-use lib.ListN.{length, getD, length-map, List·getD-eq-default}
 use lib.Pow.{pow-pos, pow-mono}
-use lib.Seq.{ext-getD}
 use Rattle.base_lists.specs.List.{tabulate, sum}
 use Rattle.base_lists.specs.Below.{countBelow}
 use Rattle.base_lists.proofs.Tests.{false-T, same-test}
@@ -24,7 +15,7 @@ use Rattle.base_bits.proofs.Numbers.{number-lt, bit-number}
 use Rattle.base_bits.proofs.Counts.{ones-count}
 use Rattle.simulation.specs.Closed.{_⊆_}
 use Rattle.table_row.specs.Row.{inTable, tableOf, pairs}
-use Rattle.table_row.specs.Reading.{InTable, Fits}
+use Rattle.table_row.specs.Reading.{InTable, SetsFit}
 
 -- ---- the pairs of a table
 
@@ -35,10 +26,10 @@ in-node t u v m = lt-of-not-le (λ l. false-T (ap (λ x. bit x u) (List·getD-eq
 
 module _ {n k : ℕ} where
   -- the node and the part of a pair are in range
-  pub fits-node : {t : List ℕ} (f : Fits n k t) (u v : ℕ) → InTable t u v → v < n
+  pub fits-node : {t : List ℕ} (f : SetsFit n k t) (u v : ℕ) → InTable t u v → v < n
   fits-node {t} f u v m = subst (λ x. v < x) (f .size) (in-node t u v m)
 
-  pub fits-part : {t : List ℕ} (f : Fits n k t) (u v : ℕ) → InTable t u v → u < k
+  pub fits-part : {t : List ℕ} (f : SetsFit n k t) (u v : ℕ) → InTable t u v → u < k
   unfolding inTable
   fits-part {t} f u v m = bit-below k (getD t v 0) u (f .small v) m
 
@@ -59,7 +50,7 @@ module _ (n k : ℕ) (test : ℕ → ℕ → Bool) where
   unfolding tableOf
   size = length-tabulate n (λ v. numberOf k (λ u. test u v))
 
-  pub table-fits : Fits n k (tableOf n k test)
+  pub table-fits : SetsFit n k (tableOf n k test)
   table-fits = record { size = size; small = λ v. go v (decLt v n) }
     where
       go : (v : ℕ) → Dec (v < n) → getD (tableOf n k test) v 0 < 2 ^ k
@@ -81,7 +72,7 @@ module _ (n k : ℕ) (test : ℕ → ℕ → Bool) where
 
 -- ---- the table of no pair
 
-pub none-fits : (n k : ℕ) → Fits n k (tabulate n (λ v. 0))
+pub none-fits : (n k : ℕ) → SetsFit n k (tabulate n (λ v. 0))
 none-fits n k =
     record {
       size = length-tabulate n (λ v. 0);
@@ -97,21 +88,10 @@ none-fits n k =
 pub none-in : (n u v : ℕ) → InTable (tabulate n (λ v. 0)) u v → ⊥
 none-in n u v m = not-suc-le-zero (fits-part (none-fits n 0) u v m)
 
--- the set of no part
-number-none : (k : ℕ) → numberOf k (λ u. false) ≡ 0
-unfolding numberOf
-number-none zero = refl
-number-none (suc k) = omega (arith, number-none k)
-
--- a set, or none of its parts
-pub number-if : (b : Bool) (k : ℕ) (p : ℕ → Bool) → cond b (numberOf k p) 0 ≡ numberOf k (λ u. b && p u)
-number-if true k p = refl
-number-if false k p = sym (number-none k)
-
 -- ---- how many pairs
 
 -- the entries are 32-bit numbers, where there are at most 32 parts
-pub fits-word : {n k : ℕ} → k ≤ 32 → {t : List ℕ} → Fits n k t → (v : ℕ) → getD t v 0 < 2 ^ 32
+pub fits-word : {n k : ℕ} → k ≤ 32 → {t : List ℕ} → SetsFit n k t → (v : ℕ) → getD t v 0 < 2 ^ 32
 fits-word most f v = lt-of-lt-of-le (f .small v) (pow-mono most)
 
 -- the size of an entry
@@ -121,7 +101,7 @@ size-entry [] v = refl
 size-entry (x ∷ xs) zero = refl
 size-entry (x ∷ xs) (suc v) = size-entry xs v
 
-module _ {n k : ℕ} (most : k ≤ 32) {s t : List ℕ} (f : Fits n k s) (g : Fits n k t) (inside : InTable s ⊆ InTable t) where
+module _ {n k : ℕ} (most : k ≤ 32) {s t : List ℕ} (f : SetsFit n k s) (g : SetsFit n k t) (inside : InTable s ⊆ InTable t) where
   size-le : (v : ℕ) → sizeOf (getD s v 0) ≤ sizeOf (getD t v 0)
   unfolding sizeOf inTable
   size-le v = countBelow-mono 32 (bit (getD s v 0)) (bit (getD t v 0)) (λ u h. inside u v)

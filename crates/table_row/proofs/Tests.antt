@@ -1,30 +1,12 @@
--- What the tests over lists mean: of entries, and of labels. Assumes nothing.
-use mathlib.Core.Bool.{Bool, _&&_}
-use mathlib.Core.List.{List, [], _∷_}
-use mathlib.Core.Logic.{_↔_, inl, inr}
-use mathlib.Core.Path.{_≡_, refl, sym, ap₂, subst}
-use Prim.Native.Nat.{ℕ}
-use lib.Dec.{T}
-use Rattle.base_lists.specs.List.{all, any, Occurs}
-use Rattle.base_lists.proofs.Tests.{both, both-left, both-right, all-at, at-all, any-at, at-any}
+-- What the tests over labels mean, and what supports a pair. Assumes nothing.
+use Rattle.base_lists.specs.Kit.{_≡_, sym, refl, subst, ap₂, _↔_, inl, inr, Bool, _&&_, List, [], _∷_, ℕ, T}
+use Rattle.base_lists.specs.List.{any}
+use Rattle.base_lists.proofs.Tests.{both-true, both-left, both-right}
+use Rattle.base_lists.proofs.Entries.{all-occurs, any-occurs}
 use Rattle.simulation.specs.Closed.{Relation}
 use Rattle.table_row.specs.Problem.{Problem, Way, StepOf, MoveOf}
 use Rattle.table_row.specs.Row.{inTable, answered, every, supported}
 use Rattle.table_row.specs.Reading.{InTable}
-
--- ---- entries of a list
-
-pub all-occurs : (test : ℕ → Bool) (xs : List ℕ) → T (all test xs) ↔ ((x : ℕ) → Occurs xs x → T (test x))
-all-occurs test xs = (
-  λ t x (i, h, e). subst (λ y. T (test y)) e (all-at test xs t i h),
-  λ f. at-all test xs (λ i h. f _ (i, h, refl)),
-)
-
-pub any-occurs : (test : ℕ → Bool) (xs : List ℕ) → T (any test xs) ↔ ((x : ℕ) × Occurs xs x × T (test x))
-any-occurs test xs = (
-  λ t. let (i, h, s) = any-at test xs t in (_, (i, h, refl), s),
-  λ (x, (i, h, e), s). at-any test xs i h (subst (λ y. T (test y)) (sym e) s),
-)
 
 -- ---- labels of a list
 
@@ -37,7 +19,7 @@ every-at test (e ∷ es) t d (inr w) = every-at test es (both-right (test e) (ev
 pub at-every : {D : Type 0} (test : D → Bool) (ds : List D) → ((d : D) → Way ds d → T (test d)) → T (every test ds)
 unfolding every Way
 at-every test [] f = tt
-at-every test (e ∷ es) f = both (test e) (every test es) (f e (inl refl)) (at-every test es (λ d w. f d (inr w)))
+at-every test (e ∷ es) f = both-true (test e) (every test es) (f e (inl refl)) (at-every test es (λ d w. f d (inr w)))
 
 -- two tests that say the same of each label
 pub every-same : {D : Type 0} (f g : D → Bool) (ds : List D) → ((d : D) → f d ≡ g d) → every f ds ≡ every g ds

@@ -1,12 +1,9 @@
 -- Problems side by side: one that asks no more has larger sets, row by row; two that ask the same have the same tables and counts.
 -- Assumes nothing.
-use mathlib.Core.Bool.{not}
-use mathlib.Core.List.{List}
-use mathlib.Core.Path.{_≡_, sym, ap, ap₂, fun-ext, _∙_}
-use Prim.Native.Nat.{ℕ, zero, suc, _-_, _≤_}
+use Rattle.base_lists.specs.Kit.{_≡_, _∙_, sym, ap, ap₂, fun-ext, not, List, ℕ, _≤_, _-_, suc, zero}
 use Rattle.base_lists.specs.Below.{countBelow}
 use Rattle.simulation.specs.Closed.{_⊆_}
-use Rattle.table_row.specs.Problem.{Problem, StepOf, MoveOf, withSteps, withMoves}
+use Rattle.table_row.specs.Problem.{Problem, MoveOf, withMoves}
 use Rattle.table_row.specs.Row.{pairs, same, rowFrom, rowOf, startedOf, lastOf, keptOf, struckOf, roundsOf}
 use Rattle.table_row.specs.Reading.{InTable, Wider, Equivalent}
 use Rattle.table_row.proofs.Sets.{same-pairs}
@@ -36,17 +33,6 @@ module _ {D E : Type 0} {p : Problem D} {q : Problem E} (w : Wider p q) where
       })
 
 -- ---- one thing changed
-
--- with fewer ways, or fewer steps of the pattern, a problem asks no more
-pub fewer-steps :
-    {D : Type 0} (p : Problem D) (ways : List D) (steps : D → ℕ → List ℕ) →
-    ((d : D) (u u′ : ℕ) → StepOf (withSteps p ways steps) d u u′ → StepOf p d u u′) → Wider p (withSteps p ways steps)
-unfolding withSteps
-fewer-steps p ways steps fewer =
-    record {
-      agree = λ u v a. record { part = a .part; node = a .node; agree = a .agree };
-      step = λ d u u′ l. (d, fewer d u u′ l, λ v v′ a b m. record { move = m .move });
-    }
 
 -- and it asks no more than the same with fewer moves of the board
 pub fewer-moves :

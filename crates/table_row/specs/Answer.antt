@@ -1,8 +1,6 @@
 -- The answer where every part has to occur: "If some part is left without a node, the table is all 0, kept is 0, struck equals started,
 -- and rounds count as before." So `startedOf` and `roundsOf` stand as they are.
-use mathlib.Core.Bool.{Bool, cond}
-use mathlib.Core.List.{List}
-use Prim.Native.Nat.{ℕ, _-_}
+use Rattle.base_lists.specs.Kit.{Bool, cond, List, ℕ, _-_}
 use Rattle.base_lists.specs.List.{allBelow, anyBelow, tabulate}
 use Rattle.table_row.specs.Problem.{Problem}
 use Rattle.table_row.specs.Row.{inTable, pairs, startedOf, lastOf}

@@ -1,10 +1,6 @@
 -- One round of striking by masks: a part stays at a node when, for each way, the set of the parts that it steps to lies within the union
 -- of the sets of the nodes that the node moves to.
-use mathlib.Core.Bool.{Bool, _&&_}
-use mathlib.Core.List.{List}
-use Prim.Native.Nat.{ℕ, _<_}
-use lib.Dec.{eqb}
-use lib.ListN.{getD}
+use Rattle.base_lists.specs.Kit.{Bool, _&&_, List, ℕ, _<_, eqb, getD}
 use Rattle.base_lists.specs.List.{any, tabulate, Below}
 use Rattle.base_bits.specs.Bits.{bit, numberOf, subsetOf, unionAt}
 use Rattle.table_row.specs.Problem.{Problem}

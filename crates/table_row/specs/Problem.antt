@@ -1,11 +1,6 @@
 -- A problem of matching: all that a row of sets is computed from. It knows no kinds of parts, no directions and no file. Requirements are
 -- told apart by labels, which are of any type D.
-use mathlib.Core.Bool.{Bool}
-use mathlib.Core.List.{List, [], _∷_}
-use mathlib.Core.Logic.{_⊎_}
-use mathlib.Core.Path.{_≡_}
-use Prim.Native.Nat.{ℕ, _<_}
-use lib.Dec.{T}
+use Rattle.base_lists.specs.Kit.{_≡_, _⊎_, Bool, List, [], _∷_, ℕ, _<_, T}
 use Rattle.base_lists.specs.List.{Occurs}
 
 pub record Problem (D : Type 0) : Type 0 where
@@ -39,11 +34,6 @@ pub record StepOf {D : Type 0} (p : Problem D) (d : D) (u u′ : ℕ) : Type 0 w
 -- and the moves.
 pub record MoveOf {D : Type 0} (p : Problem D) (d : D) (v v′ : ℕ) : Type 0 where
   pub move : Occurs (p .moves d v) v′
-
--- the same problem with other ways and steps of the pattern, and with other moves of the board
-unfoldable pub withSteps : {D : Type 0} → Problem D → List D → (D → ℕ → List ℕ) → Problem D
-withSteps p ways steps =
-    record { parts = p .parts; nodes = p .nodes; agree = p .agree; ways = ways; steps = steps; moves = p .moves }
 
 unfoldable pub withMoves : {D : Type 0} → Problem D → (D → ℕ → List ℕ) → Problem D
 withMoves p moves =

@@ -1,15 +1,9 @@
 -- What a problem and its tables say: how a problem is read as an agreement, steps and moves of any kind; when one problem asks no more
 -- than another; and with which tables striking may begin.
-use mathlib.Core.Bool.{_&&_}
-use mathlib.Core.List.{List}
-use mathlib.Core.Logic.{_↔_}
-use mathlib.Core.Path.{_≡_}
-use Prim.Native.Nat.{ℕ, _^_, _<_}
-use lib.Dec.{T}
-use lib.ListN.{length, getD}
+use Rattle.base_lists.specs.Kit.{_≡_, _↔_, List, ℕ, _<_, _^_, T, length, getD}
 use Rattle.simulation.specs.Closed.{Relation, _⊆_, Closed, Occurring}
 use Rattle.table_row.specs.Problem.{Problem, Way, Agreeing, StepOf, MoveOf}
-use Rattle.table_row.specs.Row.{inTable, tableOf, startOf, lastOf}
+use Rattle.table_row.specs.Row.{inTable, startOf, lastOf}
 
 -- ---- tables
 
@@ -18,13 +12,13 @@ abbrev pub InTable : List ℕ → Relation
 InTable t u v = T (inTable t u v)
 
 -- a table of n sets of the parts below k
-pub record Fits (n k : ℕ) (t : List ℕ) : Type 0 where
+pub record SetsFit (n k : ℕ) (t : List ℕ) : Type 0 where
   pub size : length t ≡ n
   pub small : (v : ℕ) → getD t v 0 < 2 ^ k
 
 -- a table of a problem: a number per node, of as many digits as there are parts
 abbrev pub TableOf : {D : Type 0} → Problem D → List ℕ → Type 0
-TableOf p t = Fits (p .nodes) (p .parts) t
+TableOf p t = SetsFit (p .nodes) (p .parts) t
 
 -- ---- how a problem is read
 
@@ -69,7 +63,3 @@ pub record Begins {D : Type 0} (p : Problem D) (t : List ℕ) : Type 0 where
   pub long : length t ≡ p .nodes
   pub within : InTable t ⊆ InTable (startOf p)
   pub contains : InTable (lastOf p) ⊆ InTable t
-
--- the pairs of a table that agree
-unfoldable pub cutTo : {D : Type 0} → Problem D → List ℕ → List ℕ
-cutTo p t = tableOf (p .nodes) (p .parts) (λ u v. p .agree u v && inTable t u v)

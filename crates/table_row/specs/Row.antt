@@ -1,10 +1,6 @@
 -- The row of sets of a problem, and the four counts. A set of pairs is a table with a number per node, the sum of 2^u over its parts u.
 -- proofs/ shows that the last set is the largest closed one.
-use mathlib.Core.Bool.{Bool, true, false, _&&_, not}
-use mathlib.Core.List.{List, [], _∷_, map}
-use Prim.Native.Nat.{ℕ, zero, suc, _-_}
-use lib.Dec.{eqb}
-use lib.ListN.{getD}
+use Rattle.base_lists.specs.Kit.{Bool, false, true, _&&_, not, List, [], _∷_, map, ℕ, _-_, suc, zero, eqb, getD, _<_}
 use Rattle.base_lists.specs.List.{all, any, tabulate, sum}
 use Rattle.base_lists.specs.Below.{countBelow}
 use Rattle.base_bits.specs.Bits.{bit, numberOf, sizeOf}
@@ -80,3 +76,9 @@ struckOf p = startedOf p - keptOf p
 
 unfoldable pub roundsOf : {D : Type 0} → Problem D → ℕ
 roundsOf p = countBelow (startedOf p) (λ k. not (same (rowOf p (suc k)) (rowOf p k)))
+
+-- ---- rows that fall
+
+-- The count falls with each of the first k steps.
+abbrev pub Falls : {A : Type 0} → (A → ℕ) → (ℕ → A) → ℕ → Type 0
+Falls count x k = (j : ℕ) → j < k → count (x (suc j)) < count (x j)

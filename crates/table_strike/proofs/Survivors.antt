@@ -1,22 +1,13 @@
 -- Laws of the parts of a set whose links all have partners: what `surviving` keeps, and the next set of a node. Assumes nothing.
-use mathlib.Core.Bool.{Bool, true, false, _&&_, _||_, not, cond, and-false}
-use mathlib.Core.Path.{_≡_, refl, sym, ap, ap₂, _∙_}
-use mathlib.Core.List.{List, [], _∷_}
-use Prim.Native.Nat.{ℕ, zero, suc, _+_, _^_, _≤_, _<_}
-use native.Mathlib.Nat.{not-suc-le-zero}
-use native.Mathlib.Omega.{arith}
-use lib.Bits.{bitOr, or-zero-r, or-add-and, and-le-l, and-le-r}
-use lib.Dec.{T, eqb}
-use lib.ListN.{length, getD}
+use Rattle.base_lists.specs.Kit.{_≡_, _∙_, sym, ap, refl, ap₂, Bool, false, true, cond, _&&_, and-false, List, [], _∷_, ℕ, _≤_, _<_, _+_, suc, zero, _^_, not-suc-le-zero, T, eqb, length, getD, arith, eq-eqb, eqb-true}
+use lib.Bits.{bitOr, or-zero-r}
 use borrow.Author.Count.{below-more}
-use borrow.Author.Tests.{eqb-true, eq-eqb}
 use Rattle.base_lists.specs.List.{all}
-use Rattle.base_lists.proofs.Tests.{both-left, both-right, T-true, true-T, same-test, at-all, all-at, at-allBelow}
+use Rattle.base_lists.proofs.Tests.{both-left, both-right, T-true, true-T, same-test, at-all, all-at}
 use Rattle.base_bits.specs.Bits.{bit, Subset, subsetOf, firstOf, withoutFirst, unionAt}
-use Rattle.base_bits.proofs.Digits.{bit-of-zero}
 use Rattle.base_bits.proofs.Numbers.{number-same}
 use Rattle.base_bits.proofs.Passing.{passing-none, passing-subset, passing-again, passing-next}
-use Rattle.base_bits.proofs.Tests.{bitOr-assoc}
+use Rattle.base_bits.proofs.Tests.{bitOr-assoc, subset-none, bitOr-left, bitOr-right}
 use Rattle.graph.specs.Net.{driven, driving}
 use Rattle.table.specs.Prepared.{succOf, predOf, Tables}
 use Rattle.table_strike.specs.Strike.{survivors, allEmpty, strikeNode}
@@ -72,18 +63,11 @@ module _ (succ pred : List ℕ) (f b : ℕ) where
 pub strike-none : (t : Tables) (old : List ℕ) (v : ℕ) → getD old v 0 ≡ zero → strikeNode t old v ≡ zero
 unfolding strikeNode
 strike-none t old v e =
-    let f = unionAt old (driven (t .offsets) (t .links) v) in
-    let b = unionAt old (driving (t .offsets) (t .links) v) in
+    let f = unionAt old (driven (t .offsets) (t .targets) v) in
+    let b = unionAt old (driving (t .offsets) (t .targets) v) in
     ap (survivors (succOf (t .masks)) (predOf (t .masks)) f b) e ∙ survivors-none (succOf (t .masks)) (predOf (t .masks)) f b
 
 -- ---- masks that ask for nothing
-
--- a union has each of its sets
-or-left : (a b : ℕ) → a ≤ bitOr a b
-or-left a b = omega (arith, or-add-and a b, and-le-r a b)
-
-or-right : (a b : ℕ) → b ≤ bitOr a b
-or-right a b = omega (arith, or-add-and a b, and-le-l a b)
 
 -- the union of the first i masks: it has each of them, and is empty where all of them are
 pub record UnionTo (masks : List ℕ) (i union : ℕ) : Type 0 where
@@ -98,7 +82,7 @@ pub union-next : {masks : List ℕ} {i union : ℕ} → UnionTo masks i union �
 union-next {masks} {i} {union} u h =
     record {
       within = omega arith;
-      has = below-more (λ (k : ℕ). getD masks k 0 ≤ bitOr union (getD masks i 0)) i (λ k l. omega (arith, u .has k l, or-left union (getD masks i 0))) (or-right union (getD masks i 0));
+      has = below-more (λ (k : ℕ). getD masks k 0 ≤ bitOr union (getD masks i 0)) i (λ k l. omega (arith, u .has k l, bitOr-left union (getD masks i 0))) (bitOr-right union (getD masks i 0));
       least = λ f. ap₂ bitOr (u .least (λ k l. f k (omega arith))) (f i (omega arith)) ∙ or-zero-r 0;
     }
 
@@ -117,11 +101,6 @@ empty-at [] t u = refl
 empty-at (m ∷ masks) t zero = eqb-true m 0 (T-true (both-left (eqb m 0) (all (λ m. eqb m 0) masks) t))
 empty-at (m ∷ masks) t (suc u) = empty-at masks (both-right (eqb m 0) (all (λ m. eqb m 0) masks) t) u
 
--- an empty set lies in every set
-empty-inside : (b : ℕ) → subsetOf 0 b ≡ true
-unfolding subsetOf
-empty-inside b = T-true (at-allBelow 32 (λ v. not (bit 0 v) || bit b v) (λ v k. rw (bit-of-zero v) tt))
-
 -- so it does not matter what drives a node, where no part asks for it
 survivors-alone : (succ pred : List ℕ) → true ≡ allEmpty pred → (f b b′ x : ℕ) → survivors succ pred f b x ≡ survivors succ pred f b′ x
 unfolding survivors
@@ -130,11 +109,11 @@ survivors-alone succ pred e f b b′ x =
     (λ u h. ap (λ (c : Bool). bit x u && (subsetOf (getD succ u 0) f && c)) (inside u b ∙ sym (inside u b′)))
   where
     inside : (u b : ℕ) → subsetOf (getD pred u 0) b ≡ true
-    inside u b = ap (λ (m : ℕ). subsetOf m b) (empty-at pred (true-T (sym e)) u) ∙ empty-inside b
+    inside u b = ap (λ (m : ℕ). subsetOf m b) (empty-at pred (true-T (sym e)) u) ∙ subset-none b
 
 -- the next set of a node, from the two unions over its neighbours, of which the second is left out where nothing is asked for of what drives it
 pub strike-unions : (t : Tables) (old : List ℕ) (v : ℕ) {alone : Bool} {f b r : ℕ} → alone ≡ allEmpty (predOf (t .masks))
-    → f ≡ unionAt old (driven (t .offsets) (t .links) v) → b ≡ cond alone 0 (unionAt old (driving (t .offsets) (t .links) v))
+    → f ≡ unionAt old (driven (t .offsets) (t .targets) v) → b ≡ cond alone 0 (unionAt old (driving (t .offsets) (t .targets) v))
     → r ≡ survivors (succOf (t .masks)) (predOf (t .masks)) f b (getD old v 0) → r ≡ strikeNode t old v
 unfolding strikeNode
 strike-unions t old v {alone} a d e q = q ∙ ap₂ next d e ∙ go alone a
@@ -143,7 +122,7 @@ strike-unions t old v {alone} a d e q = q ∙ ap₂ next d e ∙ go alone a
     next f b = survivors (succOf (t .masks)) (predOf (t .masks)) f b (getD old v 0)
 
     go : (alone : Bool) → alone ≡ allEmpty (predOf (t .masks)) →
-        next (unionAt old (driven (t .offsets) (t .links) v)) (cond alone 0 (unionAt old (driving (t .offsets) (t .links) v)))
-        ≡ next (unionAt old (driven (t .offsets) (t .links) v)) (unionAt old (driving (t .offsets) (t .links) v))
-    go true h = survivors-alone (succOf (t .masks)) (predOf (t .masks)) h (unionAt old (driven (t .offsets) (t .links) v)) 0 (unionAt old (driving (t .offsets) (t .links) v)) (getD old v 0)
+        next (unionAt old (driven (t .offsets) (t .targets) v)) (cond alone 0 (unionAt old (driving (t .offsets) (t .targets) v)))
+        ≡ next (unionAt old (driven (t .offsets) (t .targets) v)) (unionAt old (driving (t .offsets) (t .targets) v))
+    go true h = survivors-alone (succOf (t .masks)) (predOf (t .masks)) h (unionAt old (driven (t .offsets) (t .targets) v)) 0 (unionAt old (driving (t .offsets) (t .targets) v)) (getD old v 0)
     go false h = refl

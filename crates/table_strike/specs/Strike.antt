@@ -1,9 +1,5 @@
 -- Striking at one node, over neighbour tables and masks.
-use mathlib.Core.Bool.{Bool, _&&_}
-use mathlib.Core.List.{List}
-use Prim.Native.Nat.{ℕ}
-use lib.Dec.{eqb}
-use lib.ListN.{getD}
+use Rattle.base_lists.specs.Kit.{Bool, _&&_, List, ℕ, eqb, getD}
 use Rattle.base_lists.specs.List.{all}
 use Rattle.base_bits.specs.Bits.{bit, numberOf, subsetOf, unionAt}
 use Rattle.graph.specs.Net.{driven, driving}
@@ -21,5 +17,5 @@ allEmpty masks = all (λ m. eqb m 0) masks
 -- union, those at some node that drives v another.
 unfoldable pub strikeNode : Tables → List ℕ → ℕ → ℕ
 strikeNode t old v =
-    survivors (succOf (t .masks)) (predOf (t .masks)) (unionAt old (driven (t .offsets) (t .links) v))
-    (unionAt old (driving (t .offsets) (t .links) v)) (getD old v 0)
+    survivors (succOf (t .masks)) (predOf (t .masks)) (unionAt old (driven (t .offsets) (t .targets) v))
+    (unionAt old (driving (t .offsets) (t .targets) v)) (getD old v 0)

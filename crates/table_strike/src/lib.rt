@@ -28,15 +28,18 @@ pub fn all_empty(masks: &[u32]) -> bool
 }
 
 // The union of the sets of what drives node v, or nothing where nothing is asked for of it.
-fn reach_back(alone: bool, offsets: &[u16], links: &[u16], sets: &[u32], v: usize) -> u32
-    requires { ⌜ Net (length (now sets)) (now offsets) (now links) ⌝ }
+fn reach_back(one_way: bool, offsets: &[u16], targets: &[u16], sets: &[u32], v: usize) -> u32
+    requires { ⌜ Net (length (now sets)) (now offsets) (now targets) ⌝ }
     requires { ⌜ v < length (now sets) ⌝ }
-    ensures { λ r. ⌜ r ≡ cond alone 0 (unionAt (now (sets .entry)) (driving (now (offsets .entry)) (now (links .entry)) v)) ⌝ }
+    ensures { λ r. ⌜ r ≡ cond «one_way» 0 (unionAt (now (sets .entry)) (driving (now (offsets .entry)) (now (targets .entry)) v)) ⌝ }
 {
-    if alone {
+    if one_way {
         return 0;
     }
-    union_at(sets, neighbours_in(Direction::Backward, offsets, links, v))
+    union_at(
+        sets,
+        neighbours_in(Direction::Backward, offsets, targets, v),
+    )
 }
 
 // Those parts of the set that drive only parts of f, and that only parts of b drive.
@@ -62,24 +65,24 @@ pub fn surviving(set: u32, succ: &[u32], pred: &[u32], f: u32, b: u32) -> u32
 
 // The next set of node v. Where forward links alone count, what drives the node is not looked at.
 pub fn strike_node(
-    alone: bool,
+    one_way: bool,
     masks: &[u32],
     offsets: &[u16],
-    links: &[u16],
+    targets: &[u16],
     old: &[u32],
     v: usize,
 ) -> u32
-    requires { ⌜ alone ≡ allEmpty (predOf (now masks)) ⌝ }
-    requires { ⌜ Ready (tables (now masks) (now offsets) (now links)) (now old) ⌝ }
+    requires { ⌜ «one_way» ≡ allEmpty (predOf (now masks)) ⌝ }
+    requires { ⌜ Ready (tables (now masks) (now offsets) (now targets)) (now old) ⌝ }
     requires { ⌜ v < length (now old) ⌝ }
-    ensures { λ r. ⌜ r ≡ strikeNode (tables (now (masks .entry)) (now (offsets .entry)) (now (links .entry))) (now (old .entry)) v ⌝ }
+    ensures { λ r. ⌜ r ≡ strikeNode (tables (now (masks .entry)) (now (offsets .entry)) (now (targets .entry))) (now (old .entry)) v ⌝ }
 {
     let set = old[v];
     if set == 0 {
         return 0;
     }
-    let f = union_at(old, neighbours_in(Direction::Forward, offsets, links, v));
-    let b = reach_back(alone, offsets, links, old, v);
+    let f = union_at(old, neighbours_in(Direction::Forward, offsets, targets, v));
+    let b = reach_back(one_way, offsets, targets, old, v);
     surviving(
         set,
         &masks[..FORWARD_MASKS],

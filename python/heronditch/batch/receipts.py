@@ -3,7 +3,7 @@
 Where the match table of the whole board is all 0, no report is made: then no node has a place. That is a theorem. A place around a node needs
 the node to occur in the largest dual simulation on its ball (simulation/proofs/Place `place-none`), which lies in that on the whole board
 (table/proofs/Narrow `last-wider`), and that is what the match call fills in for a pattern that is accepted for places (call_match/proofs/Promise
-`front-connected`); report_centres/proofs/Centre `whole-missed` has it for the lines of the report. The table is all 0 exactly when no pair is
+`prefix-connected`); report_centres/proofs/Centre `whole-missed` has it for the lines of the report. The table is all 0 exactly when no pair is
 counted as kept (call_match/proofs/Promise `counts-ones`). Whether a pattern is accepted for places is asked of the radius call, which refuses
 by 1 to 6 and 11."""
 

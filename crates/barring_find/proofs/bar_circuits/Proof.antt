@@ -1,18 +1,12 @@
 -- `barring_find::bar_circuits` meets its contract: the tables are prepared, the ball is listed, and in it the kept links are found. Assumes nothing.
-use mathlib.Core.List.{List, _++_}
-use mathlib.Core.Path.{_≡_, sym, ap, _∙_}
-use Prim.Native.Nat.{ℕ, _≤_}
-use native.Mathlib.Omega.{arith}
-use denote.Ref.{now}
-use lib.ListN.{length, take}
-use lib.Seq.{length-take-le, take-at}
+use Rattle.base_lists.specs.Kit.{now, _≡_, _∙_, sym, List, _++_, ℕ, _≤_, length, take, length-take-le, arith, needs}
+use Rattle.base_lists.proofs.Parts.{length-append-le, length-append-room, length-take-append}
 use Rattle.graph.specs.Circuit.{circuit}
 use Rattle.file_format.proofs.Accepted.{bounded-starts, bounded-ends}
 use Rattle.barring_find.specs.Ball.{Netted, Listed}
 use Rattle.barring_find.specs.Trial.{Tried}
 use Rattle.barring_find.proofs.Netted.{bounded-netted}
-use Rattle.barring_find.proofs.Around.{room, cut-room, cut-size, listed-tried}
-use borrow.Author.Needs.{needs}
+use Rattle.barring_find.proofs.Around.{listed-tried}
 use Rattle.barring_find.proofs.bar_circuits.Statement.{statement}
 use Rattle.barring_find.proofs.bar_circuits.Tie as tie
 
@@ -28,7 +22,7 @@ neighbour-tables-requires c κs =
     (search needs, (board .nodes, ((board .parallel, board .links), (bounded-starts board, bounded-ends board))))
 
 -- no more nodes than the tables have room for
-most : (s : tie.Start) → length (now (s .args .node-kinds)) ≤ 512
+most : (s : tie.Start) → length (now (s .args .node-labels)) ≤ 512
 most s = s .pre .0 .1 .nodes
 
 slice-aggregate-first-in-ball : tie.Need-slice-aggregate-first-in-ball
@@ -59,7 +53,7 @@ slice-aggregate-first-in-ball-5 c = sym (length-take-le _ _ (most (c .before .be
 made : (c : tie.After-neighbour-tables) →
     let a = c .before .before .before .before .before .before .before .before .before .before .args in
     let l = c .neighbour-tables .last .1 .1 .1 in
-    Netted (circuit (now (a .node-kinds)) (now (a .node-starts)) (now (a .node-ends))) (l .0) (l .1 .0)
+    Netted (circuit (now (a .node-labels)) (now (a .node-starts)) (now (a .node-ends))) (l .0) (l .1 .0)
 made c = bounded-netted (c .before .before .before .before .before .before .before .before .before .before .pre .0 .1) (c .neighbour-tables .ensures)
 
 first-in-ball-requires : tie.Need-first-in-ball-requires
@@ -75,26 +69,26 @@ entry c = c .before .before .before .before .before .before .before .before .bef
 
 listed : (c : tie.After-first-in-ball) →
     let a = entry c .args in
-    Listed (now (a .part-kinds)) (circuit (now (a .node-kinds)) (now (a .node-starts)) (now (a .node-ends))) (a .around) (c .first-in-ball .last .1 .1 .1 .1 .1 .1 .0)
+    Listed (now (a .part-labels)) (circuit (now (a .node-labels)) (now (a .node-starts)) (now (a .node-ends))) (a .around) (c .first-in-ball .last .1 .1 .1 .1 .1 .1 .0)
     (c .first-in-ball .last .1 .1 .1 .1 .1 .1 .1 .0) (c .first-in-ball .result)
 listed c = c .first-in-ball .ensures _ _ (made (c .before .before .before .before .before .before .before .before))
 
-sized : (c : tie.After-first-in-ball) → length (c .first-in-ball .last .1 .1 .1 .1 .1 .1 .1 .0) ≡ length (now (entry c .args .node-kinds))
+sized : (c : tie.After-first-in-ball) → length (c .first-in-ball .last .1 .1 .1 .1 .1 .1 .1 .0) ≡ length (now (entry c .args .node-labels))
 sized c = c .first-in-ball .kept .1 .1 .1 .1 .1 .1 .1 .0 ∙ length-take-le _ _ (most (entry c))
 
 trial : (c : tie.After-first-in-ball) (past after : List ℕ) →
     let a = entry c .args in
     let l = c .before .before .before .before .before .before .before .before .neighbour-tables .last .1 .1 .1 in
-    Tried (circuit (now (a .part-kinds)) (now (a .part-starts)) (now (a .part-ends))) (circuit (now (a .node-kinds)) (now (a .node-starts)) (now (a .node-ends)))
+    Tried (circuit (now (a .part-labels)) (now (a .part-starts)) (now (a .part-ends))) (circuit (now (a .node-labels)) (now (a .node-starts)) (now (a .node-ends)))
     (l .0) (l .1 .0) (a .around .centre) (a .around .radius) (take (c .first-in-ball .result) (c .first-in-ball .last .1 .1 .1 .1 .1 .1 .0 ++ past))
-    (take (length (now (a .node-kinds))) (c .first-in-ball .last .1 .1 .1 .1 .1 .1 .1 .0 ++ after))
+    (take (length (now (a .node-labels))) (c .first-in-ball .last .1 .1 .1 .1 .1 .1 .1 .0 ++ after))
 trial c past after = listed-tried (entry c .pre .0 .0) (entry c .pre .0 .1) (c .before .before .before .before .before .before .before .before .neighbour-tables .ensures) (entry c .pre .1 .0) (listed c) (sized c) past after
 
 array-share-prefix-queue : tie.Need-array-share-prefix-queue
-array-share-prefix-queue c = let d = c .before .before .before in room _ (d .first-in-ball .last .1 .1 .1 .1 .1 .1 .0) _ (listed d .short)
+array-share-prefix-queue c = let d = c .before .before .before in length-append-le _ (d .first-in-ball .last .1 .1 .1 .1 .1 .1 .0) _ (listed d .short)
 
 slice-aggregate-least-in-ball : tie.Need-slice-aggregate-least-in-ball
-slice-aggregate-least-in-ball c = let d = c .before .before .before .before in sym (length-take-le _ _ (room _ (d .first-in-ball .last .1 .1 .1 .1 .1 .1 .0) _ (listed d .short)))
+slice-aggregate-least-in-ball c = let d = c .before .before .before .before in sym (length-take-le _ _ (length-append-le _ (d .first-in-ball .last .1 .1 .1 .1 .1 .1 .0) _ (listed d .short)))
 
 slice-aggregate-least-in-ball-2 : tie.Need-slice-aggregate-least-in-ball-2
 slice-aggregate-least-in-ball-2 c = search needs
@@ -103,10 +97,10 @@ slice-aggregate-least-in-ball-3 : tie.Need-slice-aggregate-least-in-ball-3
 slice-aggregate-least-in-ball-3 c = search needs
 
 array-share-prefix-first : tie.Need-array-share-prefix-first
-array-share-prefix-first c = let d = c .before .before .before .before .before .before in cut-room _ (d .first-in-ball .last .1 .1 .1 .1 .1 .1 .1 .0) _ (sized d)
+array-share-prefix-first c = let d = c .before .before .before .before .before .before in length-append-room _ (d .first-in-ball .last .1 .1 .1 .1 .1 .1 .1 .0) _ (sized d)
 
 slice-aggregate-least-in-ball-4 : tie.Need-slice-aggregate-least-in-ball-4
-slice-aggregate-least-in-ball-4 c = let d = c .before .before .before .before .before .before .before in cut-size _ (d .first-in-ball .last .1 .1 .1 .1 .1 .1 .1 .0) _ (sized d)
+slice-aggregate-least-in-ball-4 c = let d = c .before .before .before .before .before .before .before in length-take-append _ (d .first-in-ball .last .1 .1 .1 .1 .1 .1 .1 .0) _ (sized d)
 
 cast-least-in-ball : tie.Need-cast-least-in-ball
 cast-least-in-ball c = let s = c .before .before .before .before .before .before .before .before .before .before .before .before .before .before .before .before .before .before .before .before .before .before .before .before .before in omega (arith, s .pre .1 .0, most s)
@@ -114,7 +108,7 @@ cast-least-in-ball c = let s = c .before .before .before .before .before .before
 least-in-ball-requires : tie.Need-least-in-ball-requires
 least-in-ball-requires c κs =
     let s = c .before .before .before .before .before .before .before .before .before .before .before .before .before .before .before .before .before .before .before .before .before .before .before .before .before .before in
-    (record { partKinds = _; board = _; radius = _; tried = trial (c .before .before .before .before .before .before .before .before) _ _ }, s .pre .1 .1)
+    (record { partLabels = _; board = _; radius = _; tried = trial (c .before .before .before .before .before .before .before .before) _ _ }, s .pre .1 .1)
 
 same-length : tie.Need-same-length
 same-length c = search needs

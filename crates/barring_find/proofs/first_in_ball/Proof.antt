@@ -1,13 +1,8 @@
 -- `barring_find::first_in_ball` meets its contract: the nodes that the search lists are the ball, and the table has the pairs that agree at them.
 -- Assumes nothing.
-use mathlib.Core.Path.{sym, _∙_}
-use Prim.Native.Nat.{ℕ, _≤_}
-use denote.Ref.{now}
-use lib.ListN.{length}
-use lib.Seq.{length-take-le}
+use Rattle.base_lists.specs.Kit.{_∙_, sym, _≤_, length, length-take-le, needs}
 use Rattle.barring_find.proofs.Tried.{written-at}
 use Rattle.barring_find.proofs.Netted.{netted-net, netted-short, netted-list, netted-ball}
-use borrow.Author.Needs.{needs}
 use Rattle.barring_find.proofs.first_in_ball.Statement.{statement}
 use Rattle.barring_find.proofs.first_in_ball.Tie as tie
 

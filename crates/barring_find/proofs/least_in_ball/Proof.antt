@@ -1,16 +1,10 @@
 -- `barring_find::least_in_ball` meets its contract: all links are tried together, and where they bar the kept ones are found and counted. Assumes
 -- nothing.
-use mathlib.Core.List.{List, _++_}
-use mathlib.Core.Path.{_≡_, sym, ap, _∙_}
-use Prim.Native.Nat.{ℕ}
-use borrow.Author.Tests.{not-true, not-false}
-use denote.Ref.{now}
-use lib.ListN.{length, drop}
-use lib.Seq.{length-take-le, take-at}
+use Rattle.base_lists.specs.Kit.{now, _≡_, _∙_, sym, ap, List, _++_, ℕ, length, drop, length-take-le, take-at, needs, not-false, not-true}
+use Rattle.base_lists.proofs.Parts.{length-take-append}
 use Rattle.barring.specs.Least.{keptCount}
 use Rattle.barring.proofs.Outcome.{around-placed, around-kept}
-use Rattle.barring_find.proofs.Around.{cut-size, is-placed, is-none}
-use borrow.Author.Needs.{needs}
+use Rattle.barring_find.proofs.Around.{is-placed, is-none}
 use Rattle.barring_find.proofs.least_in_ball.Statement.{statement}
 use Rattle.barring_find.proofs.least_in_ball.Tie as tie
 
@@ -25,8 +19,8 @@ bars-requires c κs = let p = c .before .before .before .before .before .before 
 
 returns : tie.Need-returns
 returns c =
-    λ partKinds board r t.
-    around-placed _ board _ r _ (is-placed _ board (t .parts .parallel) (t .parts .links) _ r (c .before .bars .ensures partKinds board r t) (not-true _ (c .if1 .taken)))
+    λ partLabels board r t.
+    around-placed _ board _ r _ (is-placed _ board (t .parts .parallel) (t .parts .links) _ r (c .before .bars .ensures partLabels board r t) (not-true _ (c .if1 .taken)))
 
 -- there are as many bytes as links
 long : (c : tie.After-drop-links) → length (c .drop-links .last .1 .1 .1 .1 .1 .1 .1 .0) ≡ length (now (c .before .before .before .before .before .before .before .before .before .before .before .before .args .starts))
@@ -49,7 +43,7 @@ slice-reshare-prefix-count : tie.Need-slice-reshare-prefix-count
 slice-reshare-prefix-count c = search needs
 
 slice-aggregate-count : tie.Need-slice-aggregate-count
-slice-aggregate-count c = let d = c .before .before .before in cut-size _ (d .drop-links .last .1 .1 .1 .1 .1 .1 .1 .0) _ (long d)
+slice-aggregate-count c = let d = c .before .before .before in length-take-append _ (d .drop-links .last .1 .1 .1 .1 .1 .1 .1 .0) _ (long d)
 
 count-requires : tie.Need-count-requires
 count-requires c κs = search needs
@@ -63,10 +57,10 @@ returns-2 c =
     let dropped = c .before .before .before .before in
     let s = c .before .before .before .before .before .before .before .before .before .before .before .before .before .before .before .before in
     let l = long dropped in
-    λ partKinds board r t.
-    let kept = dropped .drop-links .ensures partKinds board r t in
+    λ partLabels board r t.
+    let kept = dropped .drop-links .ensures partLabels board r t in
     around-kept _ board _ r _
-    (is-none _ board (t .parts .parallel) (t .parts .links) _ r (c .before .before .before .before .before .before .before .bars .ensures partKinds board r t) (not-false _ (c .before .before .before .before .before .before .if1 .left)))
+    (is-none _ board (t .parts .parallel) (t .parts .links) _ r (c .before .before .before .before .before .before .before .bars .ensures partLabels board r t) (not-false _ (c .before .before .before .before .before .before .if1 .left)))
     (c .count .ensures ∙ ap keptCount (take-at _ _ _ l ∙ kept))
     (kept-after (now (s .args .out)) l kept)
 

@@ -1,14 +1,7 @@
 -- `base_bits::clear` meets its contract. The loop's invariant: the entries before i are 0, and the others as they were. The measure is
 -- how many are left. Assumes nothing.
-use mathlib.Core.List.{List, _++_, append-nil}
-use mathlib.Core.Path.{_≡_, refl, _∙_}
-use Prim.Native.Nat.{ℕ, _-_, _≤_}
-use native.Mathlib.Omega.{arith}
+use Rattle.base_lists.specs.Kit.{now, _≡_, _∙_, refl, List, _++_, append-nil, ℕ, _≤_, _-_, length, drop, length-set, replicate, drop-length, arith, needs}
 use borrow.Author.Fill.{fill-more}
-use borrow.Author.Needs.{needs}
-use denote.Ref.{now}
-use lib.ListN.{length, drop, replicate, length-set}
-use lib.Seq.{drop-length}
 use Rattle.base_bits.proofs.clear.Statement.{statement}
 use Rattle.base_bits.proofs.clear.Tie as tie
 

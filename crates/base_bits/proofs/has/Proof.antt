@@ -1,6 +1,5 @@
 -- `base_bits::has` meets its contract: what it computes is the definition. Assumes nothing.
-use mathlib.Core.Path.{refl}
-use borrow.Author.Needs.{needs}
+use Rattle.base_lists.specs.Kit.{refl, needs}
 use Rattle.base_bits.specs.Bits.{bit}
 use Rattle.base_bits.proofs.has.Statement.{statement}
 use Rattle.base_bits.proofs.has.Tie as tie

@@ -1,5 +1,5 @@
 -- `base_bits::single` meets its contract: the digit is not shifted out. Assumes nothing.
-use borrow.Author.Needs.{needs}
+use Rattle.base_lists.specs.Kit.{needs}
 use Rattle.base_bits.proofs.Digits.{one-shl}
 use Rattle.base_bits.proofs.single.Statement.{statement}
 use Rattle.base_bits.proofs.single.Tie as tie

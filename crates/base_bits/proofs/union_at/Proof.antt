@@ -1,15 +1,7 @@
 -- `base_bits::union_at` meets its contract. The loop's invariant: the union so far, with the sets of the numbers that are left, is the whole
 -- union. The measure is how many are left. Assumes nothing.
-use mathlib.Core.List.{List}
-use mathlib.Core.Path.{_≡_, sym, _∙_}
-use Prim.Native.Nat.{ℕ, _+_, _-_, _≤_, _<_}
-use native.Mathlib.Numerals.{add-one}
-use native.Mathlib.Omega.{arith}
-use borrow.Author.Needs.{needs}
-use denote.Ref.{now}
+use Rattle.base_lists.specs.Kit.{now, _≡_, _∙_, sym, List, ℕ, _≤_, _<_, _+_, _-_, add-one, length, getD, drop, drop-of-length-le, drop-cons, arith, needs}
 use lib.Bits.{bitOr, or-zero-l, or-zero-r}
-use lib.ListN.{length, getD, drop, drop-of-length-le}
-use lib.Seq.{drop-cons}
 use Rattle.base_bits.specs.Bits.{unionAt}
 use Rattle.base_bits.proofs.Tests.{bitOr-assoc}
 use Rattle.base_lists.specs.List.{Below}

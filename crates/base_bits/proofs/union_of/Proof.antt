@@ -1,10 +1,7 @@
 -- `base_bits::union_of` meets its contract. The loop's invariant: the union so far, with the masks of the parts that are left, is the whole union,
 -- and what is left is at most the set. The measure is what is left, as a number. Assumes nothing.
-use mathlib.Core.Path.{_≡_, refl, sym, ap, _∙_}
-use Prim.Native.Nat.{_≤_}
-use native.Mathlib.Omega.{arith}
+use Rattle.base_lists.specs.Kit.{_≡_, _∙_, sym, ap, refl, _≤_, length, arith}
 use lib.Bits.{bitOr, or-zero-r}
-use lib.ListN.{length}
 use Rattle.base_bits.specs.Bits.{unionOver}
 use Rattle.base_bits.proofs.Members.{trailing-lt, trailing-below, and-pred-lt}
 use Rattle.base_bits.proofs.Unions.{unionOver-none, unionOver-turn}

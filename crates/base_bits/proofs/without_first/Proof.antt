@@ -1,6 +1,5 @@
 -- `base_bits::without_first` meets its contract: less one, every digit up to the lowest that is set changes, and no other. Assumes nothing.
-use native.Mathlib.Omega.{arith}
-use borrow.Author.Needs.{needs}
+use Rattle.base_lists.specs.Kit.{arith, needs}
 use Rattle.base_bits.proofs.Members.{without-and}
 use Rattle.base_bits.proofs.without_first.Statement.{statement}
 use Rattle.base_bits.proofs.without_first.Tie as tie

@@ -1,8 +1,5 @@
 -- `base_text::put_number` meets its contract. The measure is the number itself, of which a tenth is less. Assumes nothing.
-use mathlib.Core.Path.{sym}
-use Prim.Native.Nat.{ℕ, _/_, _<_}
-use native.Mathlib.Omega.{arith}
-use borrow.Author.Needs.{needs}
+use Rattle.base_lists.specs.Kit.{sym, ℕ, _<_, _/_, arith, needs}
 use borrow.Fn.Kinds.{In}
 use borrow.Fn.PlainCycle.{Measures, is, falls, and}
 use Rattle.base_text.specs.Text.{decimal}

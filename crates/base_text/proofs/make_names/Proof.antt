@@ -1,27 +1,20 @@
 -- `base_text::make_names` meets its contract. The loop's invariant: the entries before x are names, and the others as they were. The measure is
 -- how many are left. Assumes nothing.
-use mathlib.Core.List.{List, _++_, append-nil}
-use mathlib.Core.Path.{_≡_, refl, _∙_}
-use Prim.Native.Nat.{ℕ, _-_, _≤_}
-use native.Mathlib.Omega.{arith}
-use borrow.Author.Needs.{needs}
-use denote.Ref.{now}
-use lib.ListN.{length, drop, length-set}
-use lib.Seq.{drop-length}
+use Rattle.base_lists.specs.Kit.{now, _≡_, _∙_, refl, List, _++_, append-nil, ℕ, _≤_, _-_, length, drop, length-set, drop-length, arith, needs}
 use Rattle.base_lists.specs.List.{tabulate}
 use Rattle.base_lists.proofs.Tables.{filled-none, filled-more}
-use Rattle.base_text.specs.Text.{nameOf}
+use Rattle.base_text.specs.Text.{digitsNumber}
 use Rattle.base_text.proofs.make_names.Statement.{statement}
 use Rattle.base_text.proofs.make_names.Tie as tie
 
 abbrev Inv-loop : tie.InvT-loop
-Inv-loop names₀ x₀ names x = (x ≤ length names₀) × (length names ≡ length names₀) × (names ≡ tabulate x nameOf ++ drop x names₀)
+Inv-loop names₀ x₀ names x = (x ≤ length names₀) × (length names ≡ length names₀) × (names ≡ tabulate x digitsNumber ++ drop x names₀)
 
 abbrev μ-loop : tie.MeasureT-loop
 μ-loop names₀ x₀ names x = length names₀ - x
 
 loop-holds : tie.Need-loop-holds Inv-loop μ-loop
-loop-holds c = (omega arith, refl, filled-none nameOf (now (c .before .args .names)))
+loop-holds c = (omega arith, refl, filled-none digitsNumber (now (c .before .args .names)))
 
 cast-name-of : tie.Need-cast-name-of Inv-loop μ-loop
 cast-name-of c = omega arith
@@ -44,7 +37,7 @@ loop-less c = omega arith
 loop-again : tie.Need-loop-again Inv-loop μ-loop
 loop-again c =
     let loop = c .before .before .loop in
-    let h = filled-more (loop .x) nameOf (now (c .before .before .before .before .args .names)) (omega arith) in
+    let h = filled-more (loop .x) digitsNumber (now (c .before .before .before .before .args .names)) (omega arith) in
     (omega arith, simp length-set (loop .inv .1), rw (loop .inv .2, c .name-of .ensures) h)
 
 same-length : tie.Need-same-length Inv-loop μ-loop
@@ -52,7 +45,7 @@ same-length c = search needs
 
 -- past the last entry all are names
 ended : (x : ℕ) (names₀ names : List ℕ) → x ≡ length names₀ → length names ≡ length names₀ →
-    names ≡ tabulate x nameOf ++ drop x names₀ → names ≡ tabulate (length names) nameOf
+    names ≡ tabulate x digitsNumber ++ drop x names₀ → names ≡ tabulate (length names) digitsNumber
 ended x names₀ names e l q = q ∙ rw (l, e, drop-length) (append-nil _)
 
 returns : tie.Need-returns Inv-loop μ-loop

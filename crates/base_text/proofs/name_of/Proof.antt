@@ -1,7 +1,6 @@
 -- `base_text::name_of` meets its contract. Assumes nothing.
-use mathlib.Core.Path.{refl}
-use borrow.Author.Needs.{needs}
-use Rattle.base_text.specs.Text.{nameOf}
+use Rattle.base_lists.specs.Kit.{refl, needs}
+use Rattle.base_text.specs.Text.{digitsNumber}
 use Rattle.base_text.proofs.name_of.Statement.{statement}
 use Rattle.base_text.proofs.name_of.Tie as tie
 
@@ -30,7 +29,7 @@ add-result-5 : tie.Need-add-result-5
 add-result-5 c = search needs
 
 returns : tie.Need-returns
-unfolding nameOf
+unfolding digitsNumber
 returns c = refl
 
 pub name-of-spec : {M : Type 1} → statement M

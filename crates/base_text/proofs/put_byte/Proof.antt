@@ -1,5 +1,5 @@
 -- `base_text::put_byte` meets its contract. Assumes nothing.
-use borrow.Author.Needs.{needs}
+use Rattle.base_lists.specs.Kit.{needs}
 use Rattle.base_text.proofs.Text.{put-one}
 use Rattle.base_text.proofs.put_byte.Statement.{statement}
 use Rattle.base_text.proofs.put_byte.Tie as tie

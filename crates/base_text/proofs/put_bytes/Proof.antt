@@ -1,13 +1,6 @@
 -- `base_text::put_bytes` meets its contract. The loop's invariant: the word's first i bytes are written. The measure is how many are left. Assumes
 -- nothing.
-use mathlib.Core.List.{List, [], _∷_, _++_}
-use mathlib.Core.Path.{_≡_}
-use Prim.Native.Nat.{ℕ, _+_, _-_, _≤_, _<_}
-use native.Mathlib.Numerals.{add-one}
-use native.Mathlib.Omega.{arith}
-use denote.Ref.{now}
-use lib.ListN.{length, take, getD, length-append, length-take}
-use lib.Seq.{take-suc, take-all}
+use Rattle.base_lists.specs.Kit.{now, _≡_, List, [], _∷_, _++_, ℕ, _≤_, _<_, _+_, _-_, add-one, length, getD, take, length-append, length-take, take-all, take-suc, arith}
 use Rattle.base_text.specs.Text.{Put, Fits}
 use Rattle.base_text.proofs.Text.{put-nothing, put-then, put-same, put-length, fits-less, fits-then}
 use Rattle.base_text.proofs.put_bytes.Statement.{statement}

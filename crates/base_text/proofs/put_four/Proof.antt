@@ -1,7 +1,5 @@
 -- `base_text::put_four` meets its contract, byte by byte. Assumes nothing.
-use native.Mathlib.Omega.{arith}
-use borrow.Author.Needs.{needs}
-use lib.ListN.{length-set}
+use Rattle.base_lists.specs.Kit.{length-set, arith, needs}
 use Rattle.base_text.specs.Text.{fourBytes}
 use Rattle.base_text.proofs.Text.{put-four-bytes}
 use Rattle.base_text.proofs.put_four.Statement.{statement}

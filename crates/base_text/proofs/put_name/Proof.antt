@@ -1,11 +1,5 @@
 -- `base_text::put_name` meets its contract: a byte and one or two digits, or four bytes at once. Assumes nothing.
-use mathlib.Core.List.{_∷_}
-use mathlib.Core.Path.{_≡_, sym, ap, _∙_}
-use Prim.Native.Nat.{ℕ, _+_, _≤_}
-use native.Mathlib.Omega.{arith}
-use borrow.Author.Needs.{needs}
-use denote.Ref.{now}
-use lib.ListN.{getD}
+use Rattle.base_lists.specs.Kit.{now, _≡_, _∙_, sym, ap, _∷_, ℕ, _≤_, _+_, getD, arith, needs}
 use Rattle.base_text.specs.Text.{decimal, fourBytes}
 use Rattle.base_text.proofs.Text.{put-then, put-same, fits-same, name-at, name-small, name-bytes}
 use Rattle.base_text.proofs.put_name.Statement.{statement}

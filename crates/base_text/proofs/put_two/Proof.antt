@@ -1,7 +1,5 @@
 -- `base_text::put_two` meets its contract: one digit, or two one after the other. Assumes nothing.
-use mathlib.Core.Path.{sym}
-use native.Mathlib.Omega.{arith}
-use borrow.Author.Needs.{needs}
+use Rattle.base_lists.specs.Kit.{sym, arith, needs}
 use Rattle.base_text.proofs.Text.{put-then, put-same, fits-same, fits-first, fits-then, decimal-digit, decimal-two}
 use Rattle.base_text.proofs.put_two.Statement.{statement}
 use Rattle.base_text.proofs.put_two.Tie as tie

@@ -1,12 +1,5 @@
 -- `bounded_prepare::bound_masks` meets its contract: the two halves of the masks. Assumes nothing.
-use mathlib.Core.List.{List, _++_}
-use mathlib.Core.Path.{_≡_, sym, ap, _∙_}
-use Prim.Native.Nat.{ℕ}
-use native.Mathlib.Omega.{arith}
-use borrow.Author.Needs.{needs}
-use denote.Ref.{now}
-use lib.ListN.{length, take, drop, length-take, length-drop, length-append}
-use lib.Seq.{length-take-le}
+use Rattle.base_lists.specs.Kit.{now, _≡_, _∙_, sym, length, length-take-le, needs}
 use Rattle.bounded_prepare.proofs.Halves.{bound-masked, half, half-2}
 use Rattle.bounded_prepare.proofs.bound_masks.Statement.{statement}
 use Rattle.bounded_prepare.proofs.bound_masks.Tie as tie

@@ -1,15 +1,9 @@
 -- `bounded_prepare::keys_of` meets its contract. The loop's invariant: the first i numbers are made, and the others as they were. The measure is
 -- how many are left. Assumes nothing.
-use mathlib.Core.List.{List, _++_}
-use mathlib.Core.Path.{_≡_, refl, ap, _∙_}
-use Prim.Native.Nat.{ℕ, _-_, _≤_, _<_}
-use native.Mathlib.Omega.{arith}
-use denote.Ref.{now}
-use lib.ListN.{length, getD, drop, length-set}
+use Rattle.base_lists.specs.Kit.{now, _≡_, _∙_, ap, refl, List, _++_, ℕ, _≤_, _<_, _-_, length, getD, drop, length-set, arith}
 use Rattle.base_lists.specs.List.{tabulate, Below}
-use Rattle.base_lists.proofs.Tables.{filled-none}
+use Rattle.base_lists.proofs.Tables.{filled-none, filled-all, filled-next}
 use Rattle.bounded_strike.specs.Prepared.{keyAt, keyed}
-use Rattle.bounded_layer.proofs.Fills.{filled-next, filled-all}
 use Rattle.bounded_prepare.proofs.keys_of.Statement.{statement}
 use Rattle.bounded_prepare.proofs.keys_of.Tie as tie
 

@@ -1,14 +1,7 @@
 -- `bounded_prepare::largest_bound` meets its contract. The loop's invariant: no bound so far is larger than `top`, which is from 1 to 4. The
 -- measure is how many are left. Assumes nothing.
-use mathlib.Core.Logic.{⊎-elim}
-use mathlib.Core.Path.{_≡_}
-use Prim.Native.Nat.{ℕ, _-_, _≤_, _<_}
-use native.Mathlib.Nat.{not-suc-le-zero}
-use native.Mathlib.Omega.{arith}
+use Rattle.base_lists.specs.Kit.{now, ⊎-elim, ℕ, _≤_, _<_, _-_, not-suc-le-zero, length, getD, arith, needs}
 use borrow.Author.Count.{below-more}
-use borrow.Author.Needs.{needs}
-use denote.Ref.{now}
-use lib.ListN.{length, getD}
 use Rattle.bounded_prepare.proofs.largest_bound.Statement.{statement}
 use Rattle.bounded_prepare.proofs.largest_bound.Tie as tie
 

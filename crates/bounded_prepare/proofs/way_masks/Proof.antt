@@ -1,12 +1,6 @@
 -- `bounded_prepare::way_masks` meets its contract. Assumes nothing.
-use mathlib.Core.List.{List}
-use mathlib.Core.Path.{_≡_, sym, ap, ap₂, _∙_}
-use Prim.Native.Nat.{ℕ}
-use borrow.Author.Needs.{needs}
-use denote.Ref.{now}
-use lib.ListN.{length}
+use Rattle.base_lists.specs.Kit.{now, _∙_, ap₂, List, ℕ, needs}
 use Rattle.table.specs.Prepared.{masksOf}
-use Rattle.bounded_strike.specs.Prepared.{keyed}
 use Rattle.bounded_prepare.proofs.Keys.{keyed-below}
 use Rattle.bounded_prepare.proofs.way_masks.Statement.{statement}
 use Rattle.bounded_prepare.proofs.way_masks.Tie as tie

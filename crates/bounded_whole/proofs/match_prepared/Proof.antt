@@ -1,24 +1,16 @@
 -- `bounded_whole::match_prepared` meets its contract: every node is listed, and the pairs of equal kinds are struck to the end. Assumes nothing.
-use mathlib.Core.List.{List}
-use mathlib.Core.Path.{_≡_, sym, ap, _∙_}
-use Prim.Native.Nat.{ℕ, _≤_}
-use native.Mathlib.Nat.{le-trans, le-of-eq}
-use borrow.Author.Needs.{needs}
-use denote.Ref.{now}
-use lib.Dec.{lit≤}
-use lib.ListN.{length}
-use lib.Seq.{length-take-le}
+use Rattle.base_lists.specs.Kit.{now, _≡_, _∙_, sym, ap, List, ℕ, _≤_, le-trans, le-of-eq, lit≤, length, length-take-le, needs}
 use Rattle.graph.specs.Circuit.{circuit}
 use Rattle.graph.proofs.Net.{net-of, net-few}
 use Rattle.table_row.specs.Row.{startOf}
 use Rattle.table.specs.Fill.{allNodes}
 use Rattle.bounded.specs.Problem.{boundedProblem}
-use Rattle.bounded_whole.proofs.Settle.{front-all, front-list, front-long, front-room, first-table, first-ready, whole-few, whole-row}
+use Rattle.bounded_whole.proofs.Settle.{prefix-all, prefix-list, prefix-long, prefix-room, first-table, first-ready, whole-few, whole-row}
 use Rattle.bounded_whole.proofs.match_prepared.Statement.{statement}
 use Rattle.bounded_whole.proofs.match_prepared.Tie as tie
 
 abbrev count : tie.Start → ℕ
-count s = length (now (s .args .node-kinds))
+count s = length (now (s .args .node-labels))
 
 few : (s : tie.Start) → count s ≤ 512
 few s = net-few (net-of (s .pre .0 .prepared .net))
@@ -44,16 +36,16 @@ listed : (l : tie.After-list-all) → l .list-all .last .0 ≡ allNodes (count (
 listed l = l .list-all .ensures ∙ ap allNodes (length-take-le _ _ (few (entry l)))
 
 array-share-prefix-nodes : tie.Need-array-share-prefix-nodes
-array-share-prefix-nodes c = front-room _ _ _ (listed (c .before))
+array-share-prefix-nodes c = prefix-room _ _ _ (listed (c .before))
 
 slice-aggregate-start : tie.Need-slice-aggregate-start
-slice-aggregate-start c = sym (front-long _ _ _ (listed (c .before .before)))
+slice-aggregate-start c = sym (prefix-long _ _ _ (listed (c .before .before)))
 
 start-requires : tie.Need-start-requires
 start-requires c κs =
     let l = c .before .before .before in
     let s = entry l in
-    let list = front-list _ _ _ (listed l) (short s) in
+    let list = prefix-list _ _ _ (listed l) (short s) in
     (s .pre .0 .prepared .parts, (rw (s .pre .1) list, list .below))
 
 -- ---- the pairs are struck
@@ -63,12 +55,12 @@ begun f = f .before .before .before .before
 
 made : (f : tie.After-start) (partStarts partEnds bounds nodeStarts nodeEnds : List ℕ) →
     let a = entry (begun f) .args in
-    f .start .last .1 .1 .1 .0 ≡ startOf (boundedProblem (circuit (now (a .part-kinds)) partStarts partEnds) bounds (circuit (now (a .node-kinds)) nodeStarts nodeEnds))
+    f .start .last .1 .1 .1 .0 ≡ startOf (boundedProblem (circuit (now (a .part-labels)) partStarts partEnds) bounds (circuit (now (a .node-labels)) nodeStarts nodeEnds))
 made f partStarts partEnds bounds nodeStarts nodeEnds =
     let l = begun f in
     let s = entry l in
-    first-table (circuit (now (s .args .part-kinds)) partStarts partEnds) bounds (circuit (now (s .args .node-kinds)) nodeStarts nodeEnds) (s .pre .1)
-    (front-all _ _ _ (listed l)) (f .start .ensures)
+    first-table (circuit (now (s .args .part-labels)) partStarts partEnds) bounds (circuit (now (s .args .node-labels)) nodeStarts nodeEnds) (s .pre .1)
+    (prefix-all _ _ _ (listed l)) (f .start .ensures)
 
 array-borrow-prefix-spare : tie.Need-array-borrow-prefix-spare
 array-borrow-prefix-spare c = few (c .before .before .before .before .before .before .before .before .before .before .before .before .before .before .before)

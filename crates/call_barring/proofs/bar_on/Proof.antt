@@ -1,6 +1,5 @@
 -- `call_barring::bar_on` meets its contract: the centre is outside, there are too few bytes, or the kept links are found. Assumes nothing.
-use native.Mathlib.Omega.{arith}
-use borrow.Author.Needs.{needs}
+use Rattle.base_lists.specs.Kit.{arith, needs}
 use Rattle.call_barring.proofs.Finding.{on-centre, on-short, on-around}
 use Rattle.call_barring.proofs.bar_on.Statement.{statement}
 use Rattle.call_barring.proofs.bar_on.Tie as tie

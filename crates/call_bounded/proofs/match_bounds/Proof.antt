@@ -1,9 +1,5 @@
 -- `call_bounded::match_bounds` meets its contract: a file is refused, or the two circuits that were read are matched. Assumes nothing.
-use denote.Ref.{now}
-use mathlib.Core.List.{List}
-use mathlib.Core.Path.{_≡_, sym}
-use Prim.Native.Nat.{ℕ}
-use borrow.Author.Needs.{needs}
+use Rattle.base_lists.specs.Kit.{now, _≡_, sym, List, ℕ, needs}
 use Rattle.graph.specs.Circuit.{Circuit}
 use Rattle.file_format.specs.declared.Role.the-variants.{Board}
 use Rattle.file_format.specs.Layout.{CircuitFile, inEdition}
@@ -25,7 +21,7 @@ abbrev pattern : tie.After-load-bounded → List ℕ
 pattern c = now (entry c .args .pattern)
 
 abbrev parts : tie.After-load-bounded → Circuit
-parts c = let l = c .load-bounded .last .1 in record { kinds = l .0; starts = l .1 .0; ends = l .1 .1 .0 }
+parts c = let l = c .load-bounded .last .1 in record { labels = l .0; starts = l .1 .0; ends = l .1 .1 .0 }
 
 abbrev bounds : tie.After-load-bounded → List ℕ
 bounds c = c .load-bounded .last .1 .1 .1 .1 .0
@@ -45,7 +41,7 @@ abbrev board : tie.After-load → CircuitFile
 board c = let a = entry (drawn c) .args in inEdition (a .edition) (now (a .board))
 
 abbrev nodes : tie.After-load → Circuit
-nodes c = let l = c .load .last .1 .1 .1 in record { kinds = l .0; starts = l .1 .0; ends = l .1 .1 .0 }
+nodes c = let l = c .load .last .1 .1 .1 in record { labels = l .0; starts = l .1 .0; ends = l .1 .1 .0 }
 
 -- both were read
 abbrev reading : tie.After-enum-told2 → tie.After-load

@@ -1,6 +1,5 @@
 -- `call_check::check_on` meets its contract: the centre is outside, or the bytes have another length, or it is yes or no. Assumes nothing.
-use native.Mathlib.Omega.{arith}
-use borrow.Author.Needs.{needs}
+use Rattle.base_lists.specs.Kit.{arith, needs}
 use Rattle.call_check.proofs.Judging.{on-centre, on-nodes, on-links, on-judged}
 use Rattle.call_check.proofs.check_on.Statement.{statement}
 use Rattle.call_check.proofs.check_on.Tie as tie

@@ -1,5 +1,5 @@
 -- `call_check::refused` meets its contract: the refusal means neither file. Assumes nothing.
-use mathlib.Core.Path.{refl}
+use Rattle.base_lists.specs.Kit.{refl}
 use Rattle.call_check.proofs.refused.Statement.{statement}
 use Rattle.call_check.proofs.refused.Tie as tie
 

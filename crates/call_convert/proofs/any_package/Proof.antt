@@ -1,9 +1,6 @@
 -- `call_convert::any_package` meets its contract. The loop's invariant: each package passed is 0. Assumes nothing.
 use borrow.Author.Count.{below-none, below-more}
-use mathlib.Core.Path.{_≡_, sym}
-use Prim.Native.Nat.{ℕ, _-_, _≤_, _<_}
-use native.Mathlib.Omega.{arith}
-use lib.ListN.{length, getD}
+use Rattle.base_lists.specs.Kit.{_≡_, sym, ℕ, _≤_, _<_, _-_, length, getD, arith}
 use Rattle.call_convert.proofs.Packages.{lost-some, none-lost}
 use Rattle.call_convert.proofs.any_package.Statement.{statement}
 use Rattle.call_convert.proofs.any_package.Tie as tie

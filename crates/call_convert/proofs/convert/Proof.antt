@@ -1,7 +1,6 @@
 -- `call_convert::convert` meets its contract: its tables have room for the circuit of every file. Assumes nothing.
-use lib.Dec.{lit≤}
-use Rattle.call_convert.proofs.Converting.{zeros}
-use borrow.Author.Needs.{needs}
+use Rattle.base_lists.specs.Kit.{lit≤, needs}
+use Rattle.base_lists.proofs.Entries.{below-zeros}
 use Rattle.call_convert.proofs.convert.Statement.{statement}
 use Rattle.call_convert.proofs.convert.Tie as tie
 
@@ -18,7 +17,7 @@ slice-aggregate-convert-through-4 : tie.Need-slice-aggregate-convert-through-4
 slice-aggregate-convert-through-4 c = search needs
 
 convert-through-requires : tie.Need-convert-through-requires
-convert-through-requires c κs = ((lit≤ tt, lit≤ tt, lit≤ tt, lit≤ tt), zeros 512)
+convert-through-requires c κs = ((lit≤ tt, lit≤ tt, lit≤ tt, lit≤ tt), below-zeros 512)
 
 same-length : tie.Need-same-length
 same-length c = search needs

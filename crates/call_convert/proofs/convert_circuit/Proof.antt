@@ -1,7 +1,5 @@
 -- `call_convert::convert_circuit` meets its contract: a package would be lost, or what writing leaves is the answer. Assumes nothing.
-use denote.Ref.{now}
-use mathlib.Core.Path.{_≡_, sym, ap, _∙_}
-use borrow.Author.Needs.{needs}
+use Rattle.base_lists.specs.Kit.{now, _≡_, _∙_, sym, ap, needs}
 use Rattle.file_write.specs.declared.WriteAnswer.{WriteAnswer}
 use Rattle.call_convert.specs.Call.{convertReply, convertOn}
 use Rattle.call_convert.proofs.Converting.{asConverted, on-lost, on-written}

@@ -1,9 +1,7 @@
 -- `call_convert::convert_through` meets its contract: the file is refused, or its circuit, at the front of the tables, is converted. Assumes nothing.
-use denote.Ref.{now}
-use mathlib.Core.Path.{sym}
-use Rattle.file_format.proofs.Reading.{front-room}
+use Rattle.base_lists.specs.Kit.{now, sym, needs}
+use Rattle.base_lists.proofs.Parts.{length-take-room}
 use Rattle.call_convert.proofs.Converting.{Whole, converting-refused, whole-turned, whole-read, whole-sizes, whole-circuit, whole-converted}
-use borrow.Author.Needs.{needs}
 use Rattle.call_convert.proofs.convert_through.Statement.{statement}
 use Rattle.call_convert.proofs.convert_through.Tie as tie
 
@@ -30,25 +28,25 @@ enum-known-answer : tie.Need-enum-known-answer
 enum-known-answer c = search needs
 
 slice-reshare-prefix-convert-circuit : tie.Need-slice-reshare-prefix-convert-circuit
-slice-reshare-prefix-convert-circuit c = front-room _ _ (whole-sizes (stood (c .before)) .0)
+slice-reshare-prefix-convert-circuit c = length-take-room _ _ (whole-sizes (stood (c .before)) .0)
 
 slice-aggregate-convert-circuit : tie.Need-slice-aggregate-convert-circuit
 slice-aggregate-convert-circuit c = sym (whole-sizes (stood (c .before .before)) .0)
 
 slice-reshare-prefix-convert-circuit-2 : tie.Need-slice-reshare-prefix-convert-circuit-2
-slice-reshare-prefix-convert-circuit-2 c = front-room _ _ (whole-sizes (stood (c .before .before)) .1)
+slice-reshare-prefix-convert-circuit-2 c = length-take-room _ _ (whole-sizes (stood (c .before .before)) .1)
 
 slice-aggregate-convert-circuit-2 : tie.Need-slice-aggregate-convert-circuit-2
 slice-aggregate-convert-circuit-2 c = sym (whole-sizes (stood (c .before .before .before)) .1)
 
 slice-reshare-prefix-convert-circuit-3 : tie.Need-slice-reshare-prefix-convert-circuit-3
-slice-reshare-prefix-convert-circuit-3 c = front-room _ _ (whole-sizes (stood (c .before .before .before)) .2)
+slice-reshare-prefix-convert-circuit-3 c = length-take-room _ _ (whole-sizes (stood (c .before .before .before)) .2)
 
 slice-aggregate-convert-circuit-3 : tie.Need-slice-aggregate-convert-circuit-3
 slice-aggregate-convert-circuit-3 c = sym (whole-sizes (stood (c .before .before .before .before)) .2)
 
 slice-reshare-prefix-convert-circuit-4 : tie.Need-slice-reshare-prefix-convert-circuit-4
-slice-reshare-prefix-convert-circuit-4 c = front-room _ _ (whole-sizes (stood (c .before .before .before .before)) .3)
+slice-reshare-prefix-convert-circuit-4 c = length-take-room _ _ (whole-sizes (stood (c .before .before .before .before)) .3)
 
 slice-aggregate-convert-circuit-4 : tie.Need-slice-aggregate-convert-circuit-4
 slice-aggregate-convert-circuit-4 c = sym (whole-sizes (stood (c .before .before .before .before .before)) .3)

@@ -1,6 +1,5 @@
 -- `call_convert::loses` meets its contract, by cases on the edition. Assumes nothing.
-use mathlib.Core.Path.{refl}
-use borrow.Author.Needs.{needs}
+use Rattle.base_lists.specs.Kit.{refl, needs}
 use Rattle.file_format.specs.Refusals.{lostPackage}
 use Rattle.call_convert.proofs.loses.Statement.{statement}
 use Rattle.call_convert.proofs.loses.Tie as tie

@@ -1,7 +1,5 @@
 -- `call_distance::ball` meets its contract: the file is refused, or the centre is, or the table, or the ball is filled in. Assumes nothing.
-use denote.Ref.{now}
-use mathlib.Core.Path.{_≡_, sym}
-use native.Mathlib.Omega.{arith}
+use Rattle.base_lists.specs.Kit.{now, _≡_, sym, arith, needs}
 use Rattle.graph.specs.Circuit.{Circuit, circuit}
 use Rattle.file_format.specs.declared.Role.the-variants.{Board}
 use Rattle.file_format.specs.Layout.{CircuitFile, inEdition}
@@ -10,7 +8,6 @@ use Rattle.file_format.specs.Refusals.{accept, first, fileConditions}
 use Rattle.file_format.proofs.Reading.{loaded-accepted, loaded-refused, stands-size, stands-room, stands-bounded, stands-range}
 use Rattle.call_distance.specs.Calls.{ballReply}
 use Rattle.call_distance.proofs.Cases.{ball-refused, ball-outside, ball-short, ball-read}
-use borrow.Author.Needs.{needs}
 use Rattle.call_distance.proofs.ball.Statement.{statement}
 use Rattle.call_distance.proofs.ball.Tie as tie
 
@@ -69,20 +66,20 @@ returns-3 c =
     let nodes = held (c .before .before) .nodes in
     sym (ball-short _ _ _ _ (sound (c .before .before)) (omega arith) (omega arith))
 
-array-share-prefix-labels : tie.Need-array-share-prefix-labels
-array-share-prefix-labels c = stands-room (held (c .before .before)) .0
+array-share-prefix-nk : tie.Need-array-share-prefix-nk
+array-share-prefix-nk c = stands-room (held (c .before .before)) .0
 
 slice-aggregate-fill-ball : tie.Need-slice-aggregate-fill-ball
 slice-aggregate-fill-ball c = sym (stands-size (held (c .before .before .before)) .0)
 
-array-share-prefix-starts : tie.Need-array-share-prefix-starts
-array-share-prefix-starts c = stands-room (held (c .before .before .before)) .1
+array-share-prefix-ns : tie.Need-array-share-prefix-ns
+array-share-prefix-ns c = stands-room (held (c .before .before .before)) .1
 
 slice-aggregate-fill-ball-2 : tie.Need-slice-aggregate-fill-ball-2
 slice-aggregate-fill-ball-2 c = sym (stands-size (held (c .before .before .before .before)) .1)
 
-array-share-prefix-ends : tie.Need-array-share-prefix-ends
-array-share-prefix-ends c = stands-room (held (c .before .before .before .before)) .2
+array-share-prefix-ne : tie.Need-array-share-prefix-ne
+array-share-prefix-ne c = stands-room (held (c .before .before .before .before)) .2
 
 slice-aggregate-fill-ball-3 : tie.Need-slice-aggregate-fill-ball-3
 slice-aggregate-fill-ball-3 c = sym (stands-size (held (c .before .before .before .before .before)) .2)
@@ -119,11 +116,11 @@ ball-spec =
     enum-told
     returns-2
     returns-3
-    array-share-prefix-labels
+    array-share-prefix-nk
     slice-aggregate-fill-ball
-    array-share-prefix-starts
+    array-share-prefix-ns
     slice-aggregate-fill-ball-2
-    array-share-prefix-ends
+    array-share-prefix-ne
     slice-aggregate-fill-ball-3
     cast-fill-ball
     fill-ball-requires

@@ -1,10 +1,9 @@
 -- `call_distance::radius` meets its contract: the file is refused, or was measured as it was read. Assumes nothing.
-use mathlib.Core.Path.{sym}
+use Rattle.base_lists.specs.Kit.{sym, needs}
 use Rattle.file_format.specs.Refusals.{asksConnected}
 use Rattle.file_format.proofs.Reading.{loaded-accepted, loaded-refused}
 use Rattle.call_distance.specs.Calls.{radiusReply}
 use Rattle.call_distance.proofs.Cases.{radius-refused, radius-replied}
-use borrow.Author.Needs.{needs}
 use Rattle.call_distance.proofs.radius.Statement.{statement}
 use Rattle.call_distance.proofs.radius.Tie as tie
 

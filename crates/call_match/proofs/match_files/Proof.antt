@@ -1,8 +1,5 @@
 -- `call_match::match_files` meets its contract: a file is refused, or the two circuits that were read and prepared are matched. Assumes nothing.
-use denote.Ref.{now}
-use mathlib.Core.Path.{refl, sym}
-use borrow.Author.Needs.{needs}
-use lib.Seq.{length-take-le}
+use Rattle.base_lists.specs.Kit.{now, sym, refl, length-take-le, needs}
 use Rattle.file_format.specs.declared.Role.the-variants.{AnyPattern}
 use Rattle.file_format.specs.Layout.{inEdition}
 use Rattle.table.specs.Prepared.{tables}
@@ -32,7 +29,7 @@ slice-aggregate-read-prepared-5 c = search needs
 
 read-prepared-requires : tie.Need-read-prepared-requires
 read-prepared-requires c κs =
-    (record { nodes = refl; links = refl }, ((refl, refl), (refl, record { inOffsets = refl; inLinks = refl })))
+    (record { nodes = refl; links = refl }, ((refl, refl), (refl, record { inOffsets = refl; inTargets = refl })))
 
 enum-known-verdict : tie.Need-enum-known-verdict
 enum-known-verdict c = search needs

@@ -1,17 +1,12 @@
 -- `call_merge::merge` meets its contract: the pattern is refused, or one of the two tables is short, or the pattern is merged. Assumes nothing.
-use denote.Ref.{now}
-use mathlib.Core.Path.{_≡_, sym, _∙_}
-use native.Mathlib.Nat.{le-trans, le-of-eq}
-use native.Mathlib.Omega.{arith}
-use borrow.Author.Needs.{needs}
-use lib.Seq.{length-take-le}
+use Rattle.base_lists.specs.Kit.{now, _≡_, _∙_, sym, le-trans, le-of-eq, length-take-le, arith, needs}
 use Rattle.graph.specs.Circuit.{Circuit, circuit}
 use Rattle.file_format.specs.declared.Role.the-variants.{Pattern}
 use Rattle.file_format.specs.Layout.{CircuitFile, inEdition}
 use Rattle.file_format.specs.Reading.{Stands}
 use Rattle.file_format.specs.Refusals.{accept, first, fileConditions}
 use Rattle.file_format.proofs.Reading.{loaded-accepted, loaded-refused, stands-size, stands-room}
-use Rattle.call_merge.proofs.Merging.{front-sound, front-length, front-fits, merging-file, merging-classes, merging-out, merging-merged}
+use Rattle.call_merge.proofs.Merging.{prefix-sound, prefix-length, prefix-fits, merging-file, merging-classes, merging-out, merging-merged}
 use Rattle.call_merge.proofs.merge.Statement.{statement}
 use Rattle.call_merge.proofs.merge.Tie as tie
 
@@ -106,13 +101,13 @@ merge-circuit-requires : tie.Need-merge-circuit-requires
 merge-circuit-requires c κs =
     let here = enough c in
     let l = held (read here) in (
-      front-sound (sound (read here)) l,
+      prefix-sound (sound (read here)) l,
       (
         (
           length-take-le _ _ (here .before .if1 .left) ∙ sym (stands-size l .0),
-          le-trans (le-of-eq (front-length (sound (read here)) l)) (here .if2 .left),
+          le-trans (le-of-eq (prefix-length (sound (read here)) l)) (here .if2 .left),
         ),
-        front-fits _ _ l (λ i. omega (arith, reading (read here) .before .before .before .before .before .before .shared-slice-known .given i)),
+        prefix-fits _ _ l (λ i. omega (arith, reading (read here) .before .before .before .before .before .before .shared-slice-known .given i)),
       ),
     )
 

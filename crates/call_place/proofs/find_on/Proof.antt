@@ -1,11 +1,5 @@
 -- `call_place::find_on` meets its contract: the centre is outside, or a table is short, or the place is sought. Assumes nothing.
-use mathlib.Core.Bool.{Bool, true, false, cond}
-use mathlib.Core.Path.{_≡_, ap, _∙_}
-use native.Mathlib.Omega.{arith}
-use borrow.Author.Needs.{needs}
-use borrow.Author.Tests.{not-true, not-false}
-use denote.Ref.{now}
-use lib.ListN.{length, getD}
+use Rattle.base_lists.specs.Kit.{now, _≡_, _∙_, ap, Bool, false, true, cond, length, getD, arith, needs, not-false, not-true}
 use Rattle.file_format.specs.Refusals.{accept, refuse, first}
 use Rattle.place.proofs.Find.{drawn-tabled, tabled-links}
 use Rattle.call_place.specs.Call.{tooShort, roomConditions}
@@ -23,39 +17,39 @@ shared-slice-read-m c =
     omega (arith, some .drawn .nodes .nodes, some .prepared .net .room .inOffsets)
 
 cast-m : tie.Need-cast-m
-cast-m c = omega (arith, c .shared-slice-known6 .given (length (now (c .before .before .before .before .before .before .before .before .before .before .args .node-kinds))))
+cast-m c = omega (arith, c .shared-slice-known6 .given (length (now (c .before .before .before .before .before .before .before .before .before .before .args .node-labels))))
 
 roomy-requires : tie.Need-roomy-requires
 roomy-requires c κs = search needs
 
-turned-away-requires : tie.Need-turned-away-requires
-turned-away-requires c κs = search needs
+refused-place-requires : tie.Need-refused-place-requires
+refused-place-requires c κs = search needs
 
 returns : tie.Need-returns
-returns c = λ ps pe ns ne d p. rw (c .turned-away .ensures) (on-centre _ _ _ _ _ _ _ _ (c .before .if1 .taken))
+returns c = λ ps pe ns ne d p. rw (c .refused-place .ensures) (on-centre _ _ _ _ _ _ _ _ (c .before .if1 .taken))
 
-turned-away-requires-2 : tie.Need-turned-away-requires-2
-turned-away-requires-2 c κs = search needs
+refused-place-requires-2 : tie.Need-refused-place-requires-2
+refused-place-requires-2 c κs = search needs
 
 -- what the test of the lengths comes to
 tested : (c : tie.After-roomy) (b : Bool) → c .roomy .result ≡ b →
     let a = c .before .before .before .before .before .before .before .before .before .before .before .args in
-    let n = length (now (a .node-kinds)) in
-    first (roomConditions n (getD (now (a .offsets)) n 0) (length (now (a .nodes))) (length (now (a .links))) (length (now (a .table))) (length (now (a .distances))))
+    let n = length (now (a .node-labels)) in
+    first (roomConditions n (getD (now (a .offsets)) n 0) (length (now (a .nodes))) (length (now (a .link-bytes))) (length (now (a .table))) (length (now (a .distances))))
     ≡ cond b accept (refuse tooShort)
 tested c b e = c .roomy .ensures ∙ ap (λ (x : Bool). cond x accept (refuse tooShort)) e
 
 returns-2 : tie.Need-returns-2
 returns-2 c =
     let room = tested (c .before .before .before) false (not-true _ (c .before .if2 .taken)) in
-    λ ps pe ns ne d p. rw (c .turned-away2 .ensures) (on-short _ _ _ _ _ _ _ _ (c .before .before .if1 .left) (tabled-links (drawn-tabled d p)) room)
+    λ ps pe ns ne d p. rw (c .refused-place2 .ensures) (on-short _ _ _ _ _ _ _ _ (c .before .before .if1 .left) (tabled-links (drawn-tabled d p)) room)
 
 -- the centre is a node, and the tables are long enough
 abbrev entry : tie.Else2 → tie.Start
 entry c = c .before .before .before .before .before .before .before .before .before .before .before .before .before
 
-cast-t20 : tie.Need-cast-t20
-cast-t20 c = omega (arith, c .before .if1 .left, entry c .pre .drawn .nodes .nodes)
+cast-t19 : tie.Need-cast-t19
+cast-t19 c = omega (arith, c .before .if1 .left, entry c .pre .drawn .nodes .nodes)
 
 place-circuits-requires : tie.Need-place-circuits-requires
 place-circuits-requires c κs =
@@ -90,11 +84,11 @@ find-on-spec =
     shared-slice-read-m
     cast-m
     roomy-requires
-    turned-away-requires
+    refused-place-requires
     returns
-    turned-away-requires-2
+    refused-place-requires-2
     returns-2
-    cast-t20
+    cast-t19
     place-circuits-requires
     same-length
     same-length-2

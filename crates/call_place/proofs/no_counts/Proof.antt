@@ -1,5 +1,5 @@
 -- `call_place::no_counts` meets its contract: four counts of 0. Assumes nothing.
-use mathlib.Core.Path.{refl}
+use Rattle.base_lists.specs.Kit.{refl}
 use Rattle.table.specs.Reply.{noCounts}
 use Rattle.call_place.proofs.no_counts.Statement.{statement}
 use Rattle.call_place.proofs.no_counts.Tie as tie

@@ -1,9 +1,6 @@
 -- `call_place::place` meets its contract: a file is refused, or the place is sought on the two circuits that were read and prepared. Assumes
 -- nothing.
-use denote.Ref.{now}
-use mathlib.Core.Path.{refl, sym}
-use borrow.Author.Needs.{needs}
-use lib.Seq.{length-take-le}
+use Rattle.base_lists.specs.Kit.{now, sym, refl, length-take-le, needs}
 use Rattle.file_format.specs.declared.Role.the-variants.{Pattern}
 use Rattle.file_format.specs.Layout.{inEdition}
 use Rattle.file_format.specs.Reading.{verdictOf}
@@ -32,7 +29,7 @@ slice-aggregate-read-prepared-5 : tie.Need-slice-aggregate-read-prepared-5
 slice-aggregate-read-prepared-5 c = search needs
 
 read-prepared-requires : tie.Need-read-prepared-requires
-read-prepared-requires c κs = (record { nodes = refl; links = refl }, ((refl, refl), (refl, record { inOffsets = refl; inLinks = refl })))
+read-prepared-requires c κs = (record { nodes = refl; links = refl }, ((refl, refl), (refl, record { inOffsets = refl; inTargets = refl })))
 
 enum-told : tie.Need-enum-told
 enum-told c = search needs
@@ -54,10 +51,10 @@ radius-for-requires c κs = search needs
 
 -- both were read and prepared
 ready : (c : tie.After-enum-told) →
-    let a = c .before .before .before .before .before .before .before .before .before .before .before .before .before .before .before .before .before .before .before .args in
+    let a = c .before .before .before .before .before .before .before .before .before .before .before .before .before .before .before .before .before .before .before .before .args in
     let read = c .before .before .before .before .before .before .before .read-prepared in
     let l = read .last .1 .1 .1 in
-    BothPrepared Pattern bothWays (inEdition (a .editions .pattern) (now (a .pattern))) (inEdition (a .editions .board) (now (a .board))) (read .result) (l .0) (l .1 .0) (tables (l .1 .1 .0) (l .1 .1 .1 .0) (l .1 .1 .1 .1 .0))
+    BothPrepared Pattern bothWays (inEdition (a .question .editions .pattern) (now (a .pattern))) (inEdition (a .question .editions .board) (now (a .board))) (read .result) (l .0) (l .1 .0) (tables (l .1 .1 .0) (l .1 .1 .1 .0) (l .1 .1 .1 .1 .0))
 ready c = ready-both (c .before .before .before .before .before .before .before .read-prepared .ensures) (c .enum-told .given .1)
 
 array-share-prefix-pk : tie.Need-array-share-prefix-pk

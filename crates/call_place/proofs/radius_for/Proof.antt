@@ -1,6 +1,5 @@
 -- `call_place::radius_for` meets its contract: the pattern's own radius, or the one given. Assumes nothing.
-use mathlib.Core.Path.{refl}
-use borrow.Author.Needs.{needs}
+use Rattle.base_lists.specs.Kit.{refl, needs}
 use Rattle.call_place.specs.Call.{radiusFor}
 use Rattle.call_place.proofs.radius_for.Statement.{statement}
 use Rattle.call_place.proofs.radius_for.Tie as tie

@@ -1,5 +1,5 @@
 -- `call_place::roomy` meets its contract: the first table that is too short decides, or none is. Assumes nothing.
-use borrow.Author.Tests.{lt-ltb, le-ltb}
+use Rattle.base_lists.specs.Kit.{le-ltb, lt-ltb}
 use Rattle.file_format.specs.Refusals.{first, shortTable}
 use Rattle.call_place.specs.Call.{roomConditions}
 use Rattle.call_place.proofs.roomy.Statement.{statement}

@@ -1,11 +1,9 @@
 -- `call_prepare::read_prepared` meets its contract: a file is refused, or what is prepared is of the two circuits that were read. Assumes nothing.
 use denote.Ref.{now}
-use mathlib.Core.Path.{sym, _∙_}
+use mathlib.Core.Path.{sym}
 use native.Mathlib.Omega.{arith}
 use borrow.Author.Needs.{needs}
 use Rattle.graph.specs.Circuit.{Circuit}
-use Rattle.graph.proofs.Below.{below-wider}
-use Rattle.graph.proofs.Groups.{all-below}
 use Rattle.file_format.specs.Layout.{inEdition}
 use Rattle.file_format.proofs.Accepted.{bounded-starts, bounded-ends}
 use Rattle.file_format.proofs.Reading.{stands-size, stands-room}
@@ -15,16 +13,17 @@ use Rattle.table.proofs.Prepare.{prepared}
 use Rattle.call_prepare.proofs.Ready.{as-pattern, pair-turned, pair-ready}
 use Rattle.call_prepare.proofs.read_prepared.Statement.{statement}
 use Rattle.call_prepare.proofs.read_prepared.Tie as tie
+use Rattle.base_lists.proofs.Entries.{all-below, below-wider}
 
 abbrev entry : tie.After-read-pair → tie.Start
 entry c = c .before .before .before .before .before .before .before .before .before .before .before .before .before .before .before
 
 -- what reading the two files left
 abbrev parts : tie.After-read-pair → Circuit
-parts c = let l = c .read-pair .last .1 .1 .1 .1 in record { kinds = l .0; starts = l .1 .0; ends = l .1 .1 .0 }
+parts c = let l = c .read-pair .last .1 .1 .1 .1 in record { labels = l .0; starts = l .1 .0; ends = l .1 .1 .0 }
 
 abbrev nodes : tie.After-read-pair → Circuit
-nodes c = let l = c .read-pair .last .1 .1 .1 .1 .1 .1 .1 in record { kinds = l .0; starts = l .1 .0; ends = l .1 .1 .0 }
+nodes c = let l = c .read-pair .last .1 .1 .1 .1 .1 .1 .1 in record { labels = l .0; starts = l .1 .0; ends = l .1 .1 .0 }
 
 -- the files as they were read
 abbrev reading : tie.After-ne2 → tie.After-read-pair

@@ -1,5 +1,5 @@
 -- `call_report::answer_by` meets its contract, by cases on the verdict. Assumes nothing.
-use borrow.Author.Needs.{needs}
+use Rattle.base_lists.specs.Kit.{needs}
 use Rattle.call_report.specs.Call.{reportReply, outcomeBy}
 use Rattle.call_report.proofs.answer_by.Statement.{statement}
 use Rattle.call_report.proofs.answer_by.Tie as tie

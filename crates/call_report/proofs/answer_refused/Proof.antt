@@ -1,5 +1,5 @@
 -- `call_report::answer_refused` meets its contract: the line of a refused file is put, where there is room for it. Assumes nothing.
-use borrow.Author.Needs.{needs}
+use Rattle.base_lists.specs.Kit.{needs}
 use Rattle.call_report.proofs.Outcome.{outcome-short, outcome-put}
 use Rattle.call_report.proofs.answer_refused.Statement.{statement}
 use Rattle.call_report.proofs.answer_refused.Tie as tie

@@ -1,18 +1,10 @@
 -- `call_report::open` meets its contract: a file is refused, or no lines are left, or the whole board is matched and its components are named. Assumes
 -- nothing.
-use denote.Ref.{now}
-use mathlib.Core.Path.{_≡_, refl, sym, _∙_}
-use Prim.Native.Nat.{_≤_}
-use native.Mathlib.Omega.{arith}
-use borrow.Author.Needs.{needs}
-use lib.ListN.{length}
-use lib.Seq.{length-take-le}
+use Rattle.base_lists.specs.Kit.{now, _≡_, _∙_, sym, refl, _≤_, length, length-take-le, arith, needs}
 use Rattle.file_format.specs.declared.Role.the-variants.{Pattern}
-use Rattle.file_format.specs.Circuit.{circuitOf}
 use Rattle.file_format.specs.Layout.{inEdition}
 use Rattle.table.specs.Prepared.{tables}
 use Rattle.table.specs.Row.{bothWays}
-use Rattle.report_centres.specs.Pieces.{Source}
 use Rattle.report_centres.proofs.Component.{source-match}
 use Rattle.call_prepare.specs.Read.{BothPrepared}
 use Rattle.call_prepare.proofs.Ready.{ready-both}
@@ -46,13 +38,13 @@ start c = reading c .before .before .before .before .before .before .before .bef
 -- ---- a file is refused
 
 same-length : tie.Need-same-length
-same-length c = search needs
+same-length c = reading (c .before .before) .read-prepared .kept .1 .1 .1 .1 .1 .0
 
 same-length-2 : tie.Need-same-length-2
-same-length-2 c = search needs
+same-length-2 c = reading (c .before .before) .read-prepared .kept .1 .1 .1 .1 .1 .1 .0
 
 same-length-3 : tie.Need-same-length-3
-same-length-3 c = search needs
+same-length-3 c = reading (c .before .before) .read-prepared .kept .1 .1 .1 .1 .1 .1 .1 .0
 
 returns : tie.Need-returns
 returns c = opened-refused (reading (c .before .before) .read-prepared .ensures) _ (c .enum-told2 .given .1)
@@ -60,13 +52,13 @@ returns c = opened-refused (reading (c .before .before) .read-prepared .ensures)
 -- ---- no lines are left
 
 same-length-4 : tie.Need-same-length-4
-same-length-4 c = search needs
+same-length-4 c = reading (c .before .before .before) .read-prepared .kept .1 .1 .1 .1 .1 .0
 
 same-length-5 : tie.Need-same-length-5
-same-length-5 c = search needs
+same-length-5 c = reading (c .before .before .before) .read-prepared .kept .1 .1 .1 .1 .1 .1 .0
 
 same-length-6 : tie.Need-same-length-6
-same-length-6 c = search needs
+same-length-6 c = reading (c .before .before .before) .read-prepared .kept .1 .1 .1 .1 .1 .1 .1 .0
 
 returns-2 : tie.Need-returns-2
 returns-2 c =
@@ -87,7 +79,7 @@ ready c = ready-both (reading (c .before .before .before) .read-prepared .ensure
 room : (c : tie.Else1) →
     let a = start (c .before .before .before) .args in
     let n = reading (c .before .before .before) .read-prepared .result .nodes in
-    (n ≤ length (now (a .whole))) × (n ≤ length (now (a .labels))) × (n ≤ length (now (a .sizes)))
+    (n ≤ length (now (a .whole))) × (n ≤ length (now (a .component-of))) × (n ≤ length (now (a .sizes)))
 room c =
     let few = opened-few (ready c) in
     let long = start (c .before .before .before) .pre .1 in
@@ -153,14 +145,18 @@ components-requires c κs =
       ),
     )
 
+-- what was read, seen from the last return
+abbrev read-last : tie.After-slice-known13 → tie.After-read-prepared
+read-last c = reading (going (matching (c .before .before .before .before .before .before .before .before .before)) .before .before .before)
+
 same-length-7 : tie.Need-same-length-7
-same-length-7 c = search needs
+same-length-7 c = read-last c .read-prepared .kept .1 .1 .1 .1 .1 .0
 
 same-length-8 : tie.Need-same-length-8
-same-length-8 c = search needs
+same-length-8 c = read-last c .read-prepared .kept .1 .1 .1 .1 .1 .1 .0
 
 same-length-9 : tie.Need-same-length-9
-same-length-9 c = search needs
+same-length-9 c = read-last c .read-prepared .kept .1 .1 .1 .1 .1 .1 .1 .0
 
 same-length-10 : tie.Need-same-length-10
 same-length-10 c = search needs

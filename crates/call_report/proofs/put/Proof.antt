@@ -1,9 +1,6 @@
 -- `call_report::put` meets its contract: the line of a refused file is put, or nothing past the last line, or a piece of the lines, where there is
 -- room. Assumes nothing.
-use denote.Ref.{now}
-use mathlib.Core.Path.{refl, sym, _∙_}
-use borrow.Author.Needs.{needs}
-use lib.Seq.{length-take-le}
+use Rattle.base_lists.specs.Kit.{now, _∙_, sym, refl, length-take-le, needs}
 use Rattle.file_format.specs.Circuit.{circuitOf}
 use Rattle.table.specs.Prepared.{tables}
 use Rattle.report_centres.proofs.Pieces.{past-wrote}
@@ -44,8 +41,8 @@ start c = c .before .before .before .before .before .before .before .before .bef
 both : (c : tie.After-enum-told) →
     let s = start c in
     let a = s .args in
-    OpenedBoth (a .from) (circuitOf (s .pre .pattern)) (circuitOf (s .pre .board)) (a .read) (tables (now (a .masks)) (now (a .offsets)) (now (a .links)))
-    (now (a .whole)) (now (a .labels)) (now (a .sizes))
+    OpenedBoth (a .from) (circuitOf (s .pre .pattern)) (circuitOf (s .pre .board)) (a .read) (tables (now (a .masks)) (now (a .offsets)) (now (a .targets)))
+    (now (a .whole)) (now (a .component-of)) (now (a .sizes))
 both c = opened-both (start c .pre .opened) (c .enum-told .given .1)
 
 too-short-requires : tie.Need-too-short-requires

@@ -1,6 +1,5 @@
 -- `call_report::put_lines` meets its contract: the lines of the centres are put, and the last line. Assumes nothing.
-use native.Mathlib.Omega.{arith}
-use borrow.Author.Needs.{needs}
+use Rattle.base_lists.specs.Kit.{arith, needs}
 use Rattle.report_centres.specs.Pieces.{linesPiece}
 use Rattle.report_centres.proofs.Centre.{source-long, source-few}
 use Rattle.report_centres.proofs.Pieces.{wrote-within, closed-wrote}

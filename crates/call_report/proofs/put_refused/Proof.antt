@@ -1,7 +1,5 @@
 -- `call_report::put_refused` meets its contract: the one line at the start, nothing after. Assumes nothing.
-use borrow.Author.Needs.{needs}
-use native.Mathlib.Omega.{arith}
-use denote.Ref.{now}
+use Rattle.base_lists.specs.Kit.{now, arith, needs}
 use Rattle.base_text.specs.Text.{Fits}
 use Rattle.report.specs.Report.{refusalLine}
 use Rattle.call_report.proofs.Refused.{refused-later, refused-fits, refused-first}

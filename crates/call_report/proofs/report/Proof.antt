@@ -1,6 +1,5 @@
 -- `call_report::report` meets its contract: the files are opened, and a piece is put from what that leaves. Assumes nothing.
-use mathlib.Core.Path.{refl}
-use borrow.Author.Needs.{needs}
+use Rattle.base_lists.specs.Kit.{refl, needs}
 use Rattle.call_report.proofs.report.Statement.{statement}
 use Rattle.call_report.proofs.report.Tie as tie
 
@@ -23,7 +22,7 @@ slice-aggregate-open-6 : tie.Need-slice-aggregate-open-6
 slice-aggregate-open-6 c = search needs
 
 open-requires : tie.Need-open-requires
-open-requires c κs = ((refl, record { inOffsets = refl; inLinks = refl }), (refl, refl, refl))
+open-requires c κs = ((refl, record { inOffsets = refl; inTargets = refl }), (refl, refl, refl))
 
 slice-aggregate-put : tie.Need-slice-aggregate-put
 slice-aggregate-put c = search needs

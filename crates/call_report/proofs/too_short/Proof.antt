@@ -1,5 +1,5 @@
 -- `call_report::too_short` meets its contract. Assumes nothing.
-use mathlib.Core.Path.{refl}
+use Rattle.base_lists.specs.Kit.{refl}
 use Rattle.call_report.proofs.too_short.Statement.{statement}
 use Rattle.call_report.proofs.too_short.Tie as tie
 

@@ -1,10 +1,5 @@
 -- `call_session::open` meets its contract: a file is refused, or the tables are filled from the two circuits that were read. Assumes nothing.
-use mathlib.Core.Path.{_≡_, sym, _∙_}
-use native.Mathlib.Omega.{arith}
-use borrow.Author.Needs.{needs}
-use denote.Ref.{now}
-use lib.ListN.{length, take}
-use lib.Seq.{length-take-le}
+use Rattle.base_lists.specs.Kit.{now, _≡_, _∙_, sym, length, take, length-take-le, arith, needs}
 use Rattle.graph.specs.Circuit.{Circuit}
 use Rattle.file_format.specs.Layout.{inEdition}
 use Rattle.file_format.specs.declared.Role.the-variants.{AnyPattern}
@@ -24,10 +19,10 @@ entry c = c .before .before .before .before .before .before .before .before .bef
 
 -- what reading them left
 abbrev parts : tie.After-read-pair → Circuit
-parts c = let l = c .read-pair .last .1 .1 .1 .1 in record { kinds = l .0; starts = l .1 .0; ends = l .1 .1 .0 }
+parts c = let l = c .read-pair .last .1 .1 .1 .1 in record { labels = l .0; starts = l .1 .0; ends = l .1 .1 .0 }
 
 abbrev nodes : tie.After-read-pair → Circuit
-nodes c = let l = c .read-pair .last .1 .1 .1 .1 .1 .1 .1 in record { kinds = l .0; starts = l .1 .0; ends = l .1 .1 .0 }
+nodes c = let l = c .read-pair .last .1 .1 .1 .1 .1 .1 .1 in record { labels = l .0; starts = l .1 .0; ends = l .1 .1 .0 }
 
 -- both were read
 abbrev reading : tie.After-enum-told → tie.After-read-pair
@@ -117,7 +112,7 @@ store-links-requires c κs =
     let n = board-bounded read in
     let size = stands-size (read .given) .0 in
     let s = entry (reading told) .pre in
-    ((record { inOffsets = s .inOffsets; inLinks = s .inNumbers }, s .inEnds), (omega (arith, n .nodes, size), ((n .parallel, n .links), (rw size at (bounded-starts n), rw size at (bounded-ends n)))))
+    ((record { inOffsets = s .inOffsets; inTargets = s .inNumbers }, s .inEnds), (omega (arith, n .nodes, size), ((n .parallel, n .links), (rw size at (bounded-starts n), rw size at (bounded-ends n)))))
 
 array-share-prefix-pk : tie.Need-array-share-prefix-pk
 array-share-prefix-pk c = stands-room (both (c .before .before .before .before .before .before .before .before .before .before .before .before .before .before .before .before .before .before) .drawn) .0

@@ -1,9 +1,6 @@
 -- `file_bounds::all_within` meets its contract. The loop's invariant: each bound passed is from 1 to 4. Assumes nothing.
-use mathlib.Core.Path.{sym}
-use Prim.Native.Nat.{ℕ, _-_, _≤_, _<_}
-use native.Mathlib.Omega.{arith}
+use Rattle.base_lists.specs.Kit.{sym, ℕ, _≤_, _<_, _-_, length, arith}
 use borrow.Author.Count.{below-none, below-more}
-use lib.ListN.{length}
 use Rattle.file_bounds.proofs.Fit.{Fits, at-fit, not-fit}
 use Rattle.file_bounds.proofs.all_within.Statement.{statement}
 use Rattle.file_bounds.proofs.all_within.Tie as tie

@@ -1,15 +1,10 @@
 -- `file_bounds::load_bounded` meets its contract: 1 to 3 by the size, then the file before the bounds, then the bounds. Assumes nothing.
-use mathlib.Core.Path.{_≡_, sym, ap, _∙_}
-use native.Mathlib.Omega.{arith}
-use denote.Ref.{now}
-use borrow.Author.Tests.{not-true, not-false}
-use lib.Seq.{length-take-le}
+use Rattle.base_lists.specs.Kit.{now, _≡_, _∙_, sym, ap, length-take-le, arith, needs, not-false, not-true}
 use Rattle.file_format.specs.declared.Role.the-variants.{AnyPattern}
 use Rattle.file_format.specs.Layout.{field}
 use Rattle.file_format.proofs.Refusals.{turned, range-orders}
 use Rattle.file_bounds.specs.Third.{thirdSize}
-use Rattle.file_bounds.proofs.Third.{third-sized, third-turned, turned-loaded, loaded-front-refused, loaded-bounds-refused, loaded-bounds}
-use borrow.Author.Needs.{needs}
+use Rattle.file_bounds.proofs.Third.{third-sized, third-turned, turned-loaded, loaded-prefix-refused, loaded-bounds-refused, loaded-bounds}
 use Rattle.file_bounds.proofs.load_bounded.Statement.{statement}
 use Rattle.file_bounds.proofs.load_bounded.Tie as tie
 
@@ -34,19 +29,19 @@ abbrev counted : tie.After-load → tie.After-field-at2
 counted c = c .before .before .before .before .before
 
 -- and the bounds
-abbrev front : tie.After-read-bounds → tie.After-load
-front c = c .before .before .before .before .before .before .before .before .before .before
+abbrev prefix : tie.After-read-bounds → tie.After-load
+prefix c = c .before .before .before .before .before .before .before .before .before .before
 
 size-number-requires : tie.Need-size-number-requires
 size-number-requires c κs = search needs
 
-turned-away-requires : tie.Need-turned-away-requires
-turned-away-requires c κs = search needs
+refused-bounded-requires : tie.Need-refused-bounded-requires
+refused-bounded-requires c κs = search needs
 
 returns : tie.Need-returns
 returns c =
     let number = c .before .before .size-number .ensures in
-    turned-loaded _ _ _ _ _ (c .turned-away .ensures) (third-turned _ (λ e. c .before .if1 .taken (number ∙ e)) ∙ ap (turned AnyPattern) (sym number))
+    turned-loaded _ _ _ _ _ (c .refused-bounded .ensures) (third-turned _ (λ e. c .before .if1 .taken (number ∙ e)) ∙ ap (turned AnyPattern) (sym number))
 
 field-at-requires : tie.Need-field-at-requires
 field-at-requires c κs = omega (arith, third-sized _ (none c) .0)
@@ -98,7 +93,7 @@ same-length-3 c = search needs
 returns-2 : tie.Need-returns-2
 returns-2 c =
     let read = c .before .before .before .before .before .before .before .before in
-    loaded-front-refused _ _ _ (nodes-are (counted read)) (links-are (counted read)) (none (sizes (counted read))) (read .load .ensures) (c .enum-told2 .given .1)
+    loaded-prefix-refused _ _ _ (nodes-are (counted read)) (links-are (counted read)) (none (sizes (counted read))) (read .load .ensures) (c .enum-told2 .given .1)
 
 read-bounds-requires : tie.Need-read-bounds-requires
 read-bounds-requires c κs =
@@ -108,8 +103,8 @@ read-bounds-requires c κs =
     let (_, _, few) = range-orders AnyPattern (field file 0) (field file 2) range in
     (omega (arith, nodes-are here, links-are here, size), omega (arith, links-are here, few, start (sizes here) .pre .1))
 
-turned-away-requires-2 : tie.Need-turned-away-requires-2
-turned-away-requires-2 c κs = search needs
+refused-bounded-requires-2 : tie.Need-refused-bounded-requires-2
+refused-bounded-requires-2 c κs = search needs
 
 same-length-4 : tie.Need-same-length-4
 same-length-4 c = search needs
@@ -126,9 +121,9 @@ same-length-7 c = search needs
 returns-3 : tie.Need-returns-3
 returns-3 c =
     let bounds = c .before .before .before .before in
-    let here = counted (front bounds) in
-    loaded-bounds-refused _ _ _ (nodes-are here) (links-are here) (none (sizes here)) (front bounds .load .ensures) (bounds .before .before .enum-told .given .1)
-    (bounds .read-bounds .ensures .0) (not-true _ (c .before .if2 .taken)) (c .turned-away2 .ensures)
+    let here = counted (prefix bounds) in
+    loaded-bounds-refused _ _ _ (nodes-are here) (links-are here) (none (sizes here)) (prefix bounds .load .ensures) (bounds .before .before .enum-told .given .1)
+    (bounds .read-bounds .ensures .0) (not-true _ (c .before .if2 .taken)) (c .refused-bounded2 .ensures)
 
 same-length-8 : tie.Need-same-length-8
 same-length-8 c = search needs
@@ -145,8 +140,8 @@ same-length-11 c = search needs
 returns-4 : tie.Need-returns-4
 returns-4 c =
     let bounds = c .before .before .before in
-    let here = counted (front bounds) in
-    loaded-bounds _ _ _ (nodes-are here) (links-are here) (none (sizes here)) (front bounds .load .ensures) (bounds .before .before .enum-told .given .1)
+    let here = counted (prefix bounds) in
+    loaded-bounds _ _ _ (nodes-are here) (links-are here) (none (sizes here)) (prefix bounds .load .ensures) (bounds .before .before .enum-told .given .1)
     (bounds .read-bounds .ensures .0) (not-false _ (c .if2 .left)) (bounds .read-bounds .ensures .1)
 
 pub load-bounded-spec : {M : Type 1} → statement M
@@ -154,7 +149,7 @@ load-bounded-spec =
     tie.close
     (tie.spec
     size-number-requires
-    turned-away-requires
+    refused-bounded-requires
     returns
     field-at-requires
     cast-n
@@ -173,7 +168,7 @@ load-bounded-spec =
     same-length-3
     returns-2
     read-bounds-requires
-    turned-away-requires-2
+    refused-bounded-requires-2
     same-length-4
     same-length-5
     same-length-6

@@ -1,10 +1,7 @@
 -- `file_bounds::read_bounds` meets its contract: what is stored is what is tested. Assumes nothing.
-use mathlib.Core.Path.{_≡_, sym, ap, _∙_}
-use native.Mathlib.Omega.{arith}
-use lib.Seq.{length-take-le}
-use Rattle.file_format.proofs.Fields.{stored-front}
+use Rattle.base_lists.specs.Kit.{_∙_, sym, ap, length-take-le, arith, needs}
+use Rattle.file_format.proofs.Fields.{stored-prefix}
 use Rattle.file_bounds.specs.Third.{boundsFit}
-use borrow.Author.Needs.{needs}
 use Rattle.file_bounds.proofs.read_bounds.Statement.{statement}
 use Rattle.file_bounds.proofs.read_bounds.Tie as tie
 
@@ -25,7 +22,7 @@ same-length c = search needs
 
 returns : tie.Need-returns
 returns c =
-    let same = stored-front _ _ _ _ (c .before .before .before .before .store-at .ensures) in
+    let same = stored-prefix _ _ _ _ (c .before .before .before .before .store-at .ensures) in
     (c .all-within .ensures ∙ ap boundsFit same, same)
 
 pub read-bounds-spec : {M : Type 1} → statement M

@@ -1,9 +1,6 @@
 -- `file_bounds::size_number` meets its contract: each return rewrites with the tests that led there. Assumes nothing.
-use borrow.Author.Tests.{not-true, not-false}
-use mathlib.Core.Path.{sym, _∙_}
-use native.Mathlib.Omega.{arith}
+use Rattle.base_lists.specs.Kit.{_∙_, sym, arith, needs, not-false, not-true}
 use Rattle.file_bounds.proofs.Third.{third-1, third-2, third-3, third-0}
-use borrow.Author.Needs.{needs}
 use Rattle.file_bounds.proofs.size_number.Statement.{statement}
 use Rattle.file_bounds.proofs.size_number.Tie as tie
 

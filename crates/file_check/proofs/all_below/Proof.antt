@@ -1,10 +1,5 @@
 -- `file_check::all_below` meets its contract. The loop's invariant: one of the numbers passed is the greatest of them. Assumes nothing.
-use denote.Ref.{now}
-use mathlib.Core.Logic.{⊎-elim}
-use mathlib.Core.Path.{_≡_, sym, subst}
-use native.Mathlib.Omega.{arith}
-use Prim.Native.Nat.{ℕ, _+_, _-_, _≤_}
-use lib.ListN.{length}
+use Rattle.base_lists.specs.Kit.{now, _≡_, sym, subst, ⊎-elim, ℕ, _≤_, _+_, _-_, length, arith}
 use Rattle.file_check.proofs.LinkTests.{Greatest, greatest-one, greatest-next, greatest-stays, greatest-all, all-below}
 use Rattle.file_check.proofs.all_below.Statement.{statement}
 use Rattle.file_check.proofs.all_below.Tie as tie

@@ -1,5 +1,5 @@
 -- `file_check::asks_connected` meets its contract, by cases on the role. Assumes nothing.
-use borrow.Author.Needs.{needs}
+use Rattle.base_lists.specs.Kit.{needs}
 use Rattle.file_format.specs.Refusals.{asksConnected}
 use Rattle.file_check.proofs.asks_connected.Statement.{statement}
 use Rattle.file_check.proofs.asks_connected.Tie as tie

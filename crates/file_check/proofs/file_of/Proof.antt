@@ -1,5 +1,5 @@
 -- `file_check::file_of` meets its contract, by cases on the role. Assumes nothing.
-use borrow.Author.Needs.{needs}
+use Rattle.base_lists.specs.Kit.{needs}
 use Rattle.file_check.proofs.file_of.Statement.{statement}
 use Rattle.file_check.proofs.file_of.Tie as tie
 

@@ -1,6 +1,5 @@
 -- `file_check::in_range` meets its contract, by cases on the role. Assumes nothing.
-use mathlib.Core.Path.{_∙_}
-use borrow.Author.Needs.{needs}
+use Rattle.base_lists.specs.Kit.{_∙_, needs}
 use Rattle.file_check.proofs.in_range.Statement.{statement}
 use Rattle.file_check.proofs.in_range.Tie as tie
 

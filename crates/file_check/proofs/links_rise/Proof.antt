@@ -1,9 +1,5 @@
 -- `file_check::links_rise` meets its contract. The loop's invariant: of the links passed each number is below the next one's. Assumes nothing.
-use mathlib.Core.Path.{sym}
-use Prim.Native.Nat.{_-_}
-use native.Mathlib.Omega.{arith}
-use borrow.Author.Needs.{needs}
-use lib.ListN.{length}
+use Rattle.base_lists.specs.Kit.{sym, _-_, length, arith, needs}
 use Rattle.file_check.proofs.LinkTests.{Rose, no-links, rose-first, rose-not, rose-more, rose-all}
 use Rattle.file_check.proofs.links_rise.Statement.{statement}
 use Rattle.file_check.proofs.links_rise.Tie as tie

@@ -1,6 +1,5 @@
 -- `file_check::number_of` meets its contract: neither the product nor the sum passes 32 bits. Assumes nothing.
-use mathlib.Core.Path.{refl}
-use native.Mathlib.Omega.{arith}
+use Rattle.base_lists.specs.Kit.{refl, arith}
 use Rattle.file_check.proofs.number_of.Statement.{statement}
 use Rattle.file_check.proofs.number_of.Tie as tie
 

@@ -1,12 +1,8 @@
 -- `file_check::order_number` meets its contract: each return rewrites with the tests that led there. Assumes nothing.
-use borrow.Author.Tests.{not-true, not-false}
-use denote.Ref.{now}
-use mathlib.Core.Path.{_≡_, sym, _∙_}
-use native.Mathlib.Omega.{arith}
+use Rattle.base_lists.specs.Kit.{now, _≡_, _∙_, sym, arith, needs, not-false, not-true}
 use Rattle.file_format.specs.Links.{rising}
 use Rattle.file_format.proofs.Packed.{numbers-rise}
 use Rattle.file_format.proofs.Refusals.{order-starts, order-ends, order-falls, order-rises}
-use borrow.Author.Needs.{needs}
 use Rattle.file_check.proofs.order_number.Statement.{statement}
 use Rattle.file_check.proofs.order_number.Tie as tie
 use Rattle.file_check.proofs.order_number.Reads as reads

@@ -1,5 +1,5 @@
 -- `file_check::refusal` meets its contract. Assumes nothing.
-use borrow.Author.Needs.{needs}
+use Rattle.base_lists.specs.Kit.{needs}
 use Rattle.file_check.proofs.refusal.Statement.{statement}
 use Rattle.file_check.proofs.refusal.Tie as tie
 

@@ -1,10 +1,7 @@
 -- `file_check::size_number` meets its contract: each return rewrites with the tests that led there. Assumes nothing.
-use borrow.Author.Tests.{not-true, not-false}
-use mathlib.Core.Path.{sym, _∙_}
-use native.Mathlib.Omega.{arith}
+use Rattle.base_lists.specs.Kit.{_∙_, sym, arith, needs, not-false, not-true}
 use Rattle.file_format.specs.Layout.{nodesOf, linksOf}
 use Rattle.file_format.proofs.Refusals.{size-1, size-2, size-3, size-0}
-use borrow.Author.Needs.{needs}
 use Rattle.file_check.proofs.size_number.Statement.{statement}
 use Rattle.file_check.proofs.size_number.Tie as tie
 use Rattle.file_check.proofs.size_number.Reads as reads

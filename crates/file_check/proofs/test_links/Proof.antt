@@ -1,12 +1,10 @@
 -- `file_check::test_links` meets its contract: 4 or 5 by the links' order; and the radius of a pattern, which is `far` where it is not
 -- connected. Assumes nothing.
-use borrow.Author.Tests.{not-true, not-false}
-use mathlib.Core.Path.{sym, _∙_}
+use Rattle.base_lists.specs.Kit.{_∙_, sym, needs, not-false, not-true}
 use Rattle.base_lists.proofs.Tests.{true-T, false-T}
 use Rattle.file_format.proofs.Accepted.{starts-below, ends-below}
 use Rattle.file_format.proofs.Refusals.{ordered, number-order, range-asked}
 use Rattle.file_check.proofs.LinkTests.{pattern-number, unasked-number}
-use borrow.Author.Needs.{needs}
 use Rattle.file_check.proofs.test_links.Statement.{statement}
 use Rattle.file_check.proofs.test_links.Tie as tie
 use Rattle.file_check.proofs.test_links.Reads as reads

@@ -1,5 +1,5 @@
 -- `file_check::width_number` meets its contract: each return rewrites with the tests that led there. Assumes nothing.
-use borrow.Author.Tests.{eq-eqb, ne-eqb, lt-ltb, le-ltb}
+use Rattle.base_lists.specs.Kit.{eq-eqb, ne-eqb, le-ltb, lt-ltb}
 use Rattle.graph.specs.Search.{far}
 use Rattle.file_format.specs.Refusals.{widest, widthNumber}
 use Rattle.file_check.proofs.width_number.Statement.{statement}

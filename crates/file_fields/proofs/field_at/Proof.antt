@@ -1,9 +1,6 @@
 -- `file_fields::field_at` meets its contract: a byte is below 256, so that two of them fit 16 bits. Assumes nothing.
-use mathlib.Core.Path.{refl}
-use native.Mathlib.Omega.{arith}
-use Prim.Native.Nat.{_+_, _*_}
+use Rattle.base_lists.specs.Kit.{refl, _+_, _*_, arith, needs}
 use Rattle.file_format.specs.Layout.{field}
-use borrow.Author.Needs.{needs}
 use Rattle.file_fields.proofs.field_at.Statement.{statement}
 use Rattle.file_fields.proofs.field_at.Tie as tie
 

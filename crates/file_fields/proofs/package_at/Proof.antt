@@ -1,10 +1,5 @@
 -- `file_fields::package_at` meets its contract: there is no such field, or it is the i-th. Assumes nothing.
-use mathlib.Core.Path.{_≡_, sym, _∙_}
-use Prim.Native.Nat.{ℕ, _≤_}
-use native.Mathlib.Omega.{arith}
-use borrow.Author.Needs.{needs}
-use denote.Ref.{now}
-use lib.ListN.{length, getD, List·getD-eq-default}
+use Rattle.base_lists.specs.Kit.{now, _∙_, sym, _≤_, length, List·getD-eq-default, arith, needs}
 use Rattle.file_format.specs.Layout.{fields}
 use Rattle.file_format.proofs.Fields.{length-fields, getD-fields}
 use Rattle.file_fields.proofs.package_at.Statement.{statement}

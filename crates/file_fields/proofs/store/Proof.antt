@@ -1,9 +1,4 @@
-use mathlib.Core.List.{_++_}
-use mathlib.Core.Path.{_≡_, refl, subst}
-use native.Mathlib.Omega.{arith}
-use Prim.Native.Nat.{ℕ, _+_, _-_, _≤_}
-use lib.ListN.{length, drop, length-set}
-use denote.Ref.{now}
+use Rattle.base_lists.specs.Kit.{now, _≡_, refl, subst, _++_, ℕ, _≤_, _+_, _-_, length, drop, length-set, arith}
 use Rattle.file_format.proofs.Fields.{stored-none, stored-more}
 use Rattle.file_format.specs.Layout.{fields}
 use Rattle.file_fields.proofs.store.Statement.{statement}

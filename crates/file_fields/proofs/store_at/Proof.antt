@@ -1,10 +1,5 @@
 -- `file_fields::store_at` meets its contract. Assumes nothing.
-use mathlib.Core.List.{List, _++_}
-use mathlib.Core.Path.{ap, _∙_}
-use Prim.Native.Nat.{ℕ}
-use borrow.Author.Needs.{needs}
-use denote.Ref.{now}
-use lib.ListN.{drop}
+use Rattle.base_lists.specs.Kit.{now, _∙_, ap, List, _++_, ℕ, drop, needs}
 use Rattle.file_fields.proofs.store_at.Statement.{statement}
 use Rattle.file_fields.proofs.store_at.Tie as tie
 

@@ -1,16 +1,10 @@
 -- `file_fields::store_labels` meets its contract. The loop's invariant: the labels of the nodes passed stand at the front. Assumes nothing.
-use mathlib.Core.List.{List, _++_}
-use mathlib.Core.Path.{_≡_, refl, sym, ap, ap₂, subst, _∙_}
-use native.Mathlib.Omega.{arith}
-use Prim.Native.Nat.{ℕ, _+_, _*_, _-_, _≤_, _<_}
-use lib.ListN.{length, getD, drop, length-set}
-use denote.Ref.{now}
+use Rattle.base_lists.specs.Kit.{now, _≡_, _∙_, sym, refl, subst, ap₂, List, _++_, ℕ, _≤_, _<_, _+_, _-_, _*_, length, getD, drop, length-set, arith, needs}
 use Rattle.base_lists.specs.List.{tabulate}
 use Rattle.base_lists.proofs.Tables.{filled-none, filled-more}
 use Rattle.file_format.proofs.Fields.{length-fields, getD-fields}
 use Rattle.file_format.specs.Label.{label, labels}
 use Rattle.file_format.specs.Layout.{field, fields}
-use borrow.Author.Needs.{needs}
 use Rattle.file_fields.proofs.store_labels.Statement.{statement}
 use Rattle.file_fields.proofs.store_labels.Tie as tie
 

@@ -1,8 +1,6 @@
 -- `file_fields::stretch` meets its contract: the part has the fields that begin at the offset. Assumes nothing.
-use native.Mathlib.Omega.{arith}
-use lib.ListN.{length-take, length-drop}
+use Rattle.base_lists.specs.Kit.{length-drop, length-take, arith, needs}
 use Rattle.file_format.proofs.Fields.{fields-part}
-use borrow.Author.Needs.{needs}
 use Rattle.file_fields.proofs.stretch.Statement.{statement}
 use Rattle.file_fields.proofs.stretch.Tie as tie
 

@@ -1,7 +1,5 @@
 -- `file_format::package_count` meets its contract, by cases on the edition. Assumes nothing.
-use mathlib.Core.Path.{refl}
-use native.Mathlib.Omega.{arith}
-use borrow.Author.Needs.{needs}
+use Rattle.base_lists.specs.Kit.{refl, arith, needs}
 use Rattle.file_format.proofs.package_count.Statement.{statement}
 use Rattle.file_format.proofs.package_count.Tie as tie
 

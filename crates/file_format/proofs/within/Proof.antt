@@ -1,5 +1,5 @@
 -- `file_format::within` meets its contract: each return rewrites with the tests that led there. Assumes nothing.
-use borrow.Author.Tests.{le-leb, lt-leb}
+use Rattle.base_lists.specs.Kit.{le-leb, lt-leb}
 use Rattle.file_format.proofs.within.Statement.{statement}
 use Rattle.file_format.proofs.within.Tie as tie
 

@@ -13,8 +13,8 @@ enum-told c = search needs
 enum-told-2 : tie.Need-enum-told-2
 enum-told-2 c = search needs
 
-turned-away-requires : tie.Need-turned-away-requires
-turned-away-requires c κs = search needs
+refused-pair-requires : tie.Need-refused-pair-requires
+refused-pair-requires c κs = search needs
 
 same-length : tie.Need-same-length
 same-length c = search needs
@@ -26,7 +26,7 @@ same-length-3 : tie.Need-same-length-3
 same-length-3 c = search needs
 
 returns : tie.Need-returns
-returns c = pair-pattern _ _ _ _ _ (c .before .before .before .before .before .before .before .before .before .load .ensures) (c .before .enum-told2 .given .1) (c .turned-away .ensures)
+returns c = pair-pattern _ _ _ _ _ (c .before .before .before .before .before .before .before .before .before .load .ensures) (c .before .enum-told2 .given .1) (c .refused-pair .ensures)
 
 load-requires-2 : tie.Need-load-requires-2
 load-requires-2 c κs = search needs
@@ -59,7 +59,7 @@ read-pair-spec =
     load-requires
     enum-told
     enum-told-2
-    turned-away-requires
+    refused-pair-requires
     same-length
     same-length-2
     same-length-3

@@ -64,13 +64,13 @@ standing c =
 size-number-requires : tie.Need-size-number-requires
 size-number-requires c κs = search needs
 
-turned-away-requires : tie.Need-turned-away-requires
-turned-away-requires c κs = search needs
+refused-read-requires : tie.Need-refused-read-requires
+refused-read-requires c κs = search needs
 
 returns : tie.Need-returns
 returns c =
     let number = c .before .before .size-number .ensures in
-    turned-loaded _ _ _ _ _ (c .turned-away .ensures) (verdict-turned _ _ (λ e. c .before .if1 .taken (number ∙ e)) ∙ ap (turned _) (sym number))
+    turned-loaded _ _ _ _ _ (c .refused-read .ensures) (verdict-turned _ _ (λ e. c .before .if1 .taken (number ∙ e)) ∙ ap (turned _) (sym number))
 
 field-at-requires : tie.Need-field-at-requires
 field-at-requires c κs = omega (arith, sized _ _ (none c) .0)
@@ -122,8 +122,8 @@ test-links-requires c κs =
     let range = same-range (start .args .role) _ _ (nodesOf (given start)) (linksOf (given start)) (nodes-are here) (links-are here) (sized _ _ (none (sizes here)) .1) in
     (subst (λ (k : ℕ). T (inRange (start .args .role) (here .before .field-at .result) k)) (sym starts) range, starts ∙ sym ends)
 
-turned-away-requires-2 : tie.Need-turned-away-requires-2
-turned-away-requires-2 c κs = search needs
+refused-read-requires-2 : tie.Need-refused-read-requires-2
+refused-read-requires-2 c κs = search needs
 
 same-length : tie.Need-same-length
 same-length c = search needs
@@ -137,7 +137,7 @@ same-length-3 c = search needs
 returns-2 : tie.Need-returns-2
 returns-2 c =
     let filled = c .before .before .before .before .before .before .before .before .before .before in
-    links-turned _ _ _ _ _ (standing filled) (none (sizes (counted filled))) _ _ (c .before .before .before .test-links .ensures) _ (c .turned-away2 .ensures) (c .before .if2 .taken)
+    links-turned _ _ _ _ _ (standing filled) (none (sizes (counted filled))) _ _ (c .before .before .before .test-links .ensures) _ (c .refused-read2 .ensures) (c .before .if2 .taken)
 
 same-length-4 : tie.Need-same-length-4
 same-length-4 c = search needs
@@ -158,7 +158,7 @@ load-spec =
     tie.close
     (tie.spec
     size-number-requires
-    turned-away-requires
+    refused-read-requires
     returns
     field-at-requires
     cast-n
@@ -171,7 +171,7 @@ load-spec =
     slice-reshare-prefix-test-links-2
     slice-aggregate-test-links-2
     test-links-requires
-    turned-away-requires-2
+    refused-read-requires-2
     same-length
     same-length-2
     same-length-3

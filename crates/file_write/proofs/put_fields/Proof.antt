@@ -1,7 +1,6 @@
 -- `file_write::put_fields` meets its contract: the fields stored one behind another make the file. Assumes nothing.
-use native.Mathlib.Omega.{arith}
 use Rattle.file_write.proofs.Stores.{file-stored}
-use borrow.Author.Needs.{needs}
+use Rattle.base_lists.specs.Kit.{needs}
 use Rattle.file_write.proofs.put_fields.Statement.{statement}
 use Rattle.file_write.proofs.put_fields.Tie as tie
 

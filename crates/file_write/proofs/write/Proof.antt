@@ -1,11 +1,5 @@
 -- `file_write::write` meets its contract: the call is refused, is short of room, or fills the file in. Assumes nothing.
-use denote.Ref.{now}
-use mathlib.Core.List.{List}
-use mathlib.Core.Path.{_≡_, refl, sym, ap, _∙_}
-use Prim.Native.Nat.{ℕ, _≤_}
-use native.Mathlib.Omega.{arith}
-use lib.ListN.{length}
-use lib.Seq.{length-take-le}
+use Rattle.base_lists.specs.Kit.{now, _≡_, _∙_, sym, ap, refl, List, ℕ, _≤_, length, length-take-le, arith, needs}
 use Rattle.file_format.specs.Layout.{lengthOf}
 use Rattle.file_format.specs.Refusals.{first, accept}
 use Rattle.file_format.proofs.Fields.{package-count-le}
@@ -14,7 +8,6 @@ use Rattle.file_write.specs.declared.WriteAnswer.{WriteAnswer}
 use Rattle.file_write.specs.declared.WriteAnswer.the-variants.{Written}
 use Rattle.file_write.specs.Writing.{circuitConditions, WriteOutcome, writeReply}
 use Rattle.file_write.proofs.Writing.{answer-refused, answer-written, sound, writing-refused, writing-short, writing-filled}
-use borrow.Author.Needs.{needs}
 use Rattle.file_write.proofs.write.Statement.{statement}
 use Rattle.file_write.proofs.write.Tie as tie
 

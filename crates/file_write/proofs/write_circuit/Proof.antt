@@ -1,7 +1,5 @@
 -- `file_write::write_circuit` meets its contract: its tables have room for the kinds and the packages of every circuit. Assumes nothing.
-use mathlib.Core.Path.{sym}
-use lib.Seq.{length-take-le}
-use borrow.Author.Needs.{needs}
+use Rattle.base_lists.specs.Kit.{sym, length-take-le, needs}
 use Rattle.file_write.proofs.write_circuit.Statement.{statement}
 use Rattle.file_write.proofs.write_circuit.Tie as tie
 

@@ -1,6 +1,6 @@
 -- `file_write::write_parts` meets its contract: the labels are taken apart, and what they have is written. Assumes nothing.
 use Rattle.file_write.proofs.RoundTrip.{kinds-for}
-use borrow.Author.Needs.{needs}
+use Rattle.base_lists.specs.Kit.{needs}
 use Rattle.file_write.proofs.write_parts.Statement.{statement}
 use Rattle.file_write.proofs.write_parts.Tie as tie
 

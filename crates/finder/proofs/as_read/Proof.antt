@@ -1,6 +1,6 @@
 -- `finder::as_read` meets its contract, case by case. Assumes nothing.
 use Rattle.finder.specs.Printing.{heldOf}
-use borrow.Author.Needs.{needs}
+use Rattle.base_lists.specs.Kit.{needs}
 use Rattle.finder.proofs.as_read.Statement.{statement}
 use Rattle.finder.proofs.as_read.Tie as tie
 

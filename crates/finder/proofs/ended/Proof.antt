@@ -1,14 +1,14 @@
 -- `finder::ended` meets its contract. Assumes nothing.
-use Rattle.finder.specs.Printing.{endOf}
+use Rattle.finder.specs.Printing.{reportEnd}
 use Rattle.finder.proofs.ended.Statement.{statement}
 use Rattle.finder.proofs.ended.Tie as tie
 
 returns : tie.Need-returns
-unfolding endOf
+unfolding reportEnd
 returns c = rw (c .if1 .taken)
 
 returns-2 : tie.Need-returns-2
-unfolding endOf
+unfolding reportEnd
 returns-2 c = rw (c .if1 .left)
 
 pub ended-spec : {M : Type 1} → statement M

@@ -1,20 +1,14 @@
 -- `finder::load` meets its contract: no more bytes are held than the buffer has. Assumes nothing.
-use mathlib.Core.Path.{_≡_, sym}
-use Prim.Native.Nat.{ℕ, _≤_}
-use native.Mathlib.Omega.{arith}
-use lib.ListN.{length}
-use lib.Seq.{length-take-le}
+use Rattle.base_lists.specs.Kit.{sym, List, ℕ, length, length-take-le, arith, needs}
 use Rattle.io.specs.Counts.{Counts}
-use mathlib.Core.List.{List}
-use Rattle.input.specs.declared.Found.{Found}
-use Rattle.input.specs.declared.Found.the-variants as found
+use Rattle.input.specs.declared.FileFound.{FileFound}
+use Rattle.input.specs.declared.FileFound.the-variants as found
 use Rattle.input.specs.Reading.{Within}
 use Rattle.finder.specs.Printing.{heldOf}
-use borrow.Author.Needs.{needs}
 use Rattle.finder.proofs.load.Statement.{statement}
 use Rattle.finder.proofs.load.Tie as tie
 
-holds : (x : Found) (bytes : List ℕ) → Within (length bytes) x → Counts (heldOf x .size) bytes
+holds : (x : FileFound) (bytes : List ℕ) → Within (length bytes) x → Counts (heldOf x .size) bytes
 unfolding heldOf
 holds (found.Bytes size) bytes h = (h, sym (length-take-le size bytes h))
 holds found.Absent bytes h = (omega arith, sym (length-take-le 0 bytes (omega arith)))

@@ -1,13 +1,6 @@
 -- `finder::print_pieces` meets its contract, and ends. The loop's invariant: the next piece starts at an item of the report, and as many centres
 -- before it have a place as are counted. The measure is how many items are left. Assumes nothing.
-use mathlib.Core.Path.{_≡_, refl, sym, _∙_}
-use Prim.Native.Nat.{_-_, _≤_, zero-le}
-use native.Mathlib.Omega.{arith}
-use borrow.Author.Needs.{needs}
-use borrow.Author.Tests.{not-true, not-false}
-use denote.Ref.{now}
-use lib.ListN.{length}
-use lib.Seq.{length-take-le}
+use Rattle.base_lists.specs.Kit.{now, _≡_, _∙_, sym, refl, _≤_, _-_, zero-le, length, length-take-le, arith, needs, not-false, not-true}
 use Rattle.file_format.specs.Layout.{firstEdition}
 use Rattle.table.specs.Prepared.{tables}
 use Rattle.report.specs.Lines.{longestLine}
@@ -18,16 +11,16 @@ use Rattle.call_report.specs.Whole.{itemsOf, placesOf}
 use Rattle.call_report.proofs.Opened.{opened-later}
 use Rattle.call_report.proofs.Promise.{places-few, put-within, put-follows, put-text, put-none}
 use Rattle.call_report.proofs.Whole.{places-start}
-use Rattle.finder.specs.Printing.{GoesOn, Handed}
+use Rattle.finder.specs.Printing.{GoesOn, ReportHanded}
 use Rattle.finder.proofs.print_pieces.Statement.{statement}
 use Rattle.finder.proofs.print_pieces.Tie as tie
 
 abbrev Inv-loop : tie.InvT-loop
-Inv-loop pattern board read masks offsets links whole labels sizes out₀ handed₀ found₀ out handed found =
+Inv-loop pattern board read masks offsets links whole componentOf sizes out₀ handed₀ found₀ out handed found =
     (handed ≤ itemsOf (firstEdition pattern) (firstEdition board)) × (found ≡ placesOf (firstEdition pattern) (firstEdition board) handed) × (length out ≡ length out₀) × (longestLine ≤ length out)
 
 abbrev μ-loop : tie.MeasureT-loop
-μ-loop pattern board read masks offsets links whole labels sizes out₀ handed₀ found₀ out handed found = itemsOf (firstEdition pattern) (firstEdition board) - handed
+μ-loop pattern board read masks offsets links whole componentOf sizes out₀ handed₀ found₀ out handed found = itemsOf (firstEdition pattern) (firstEdition board) - handed
 
 -- nothing was handed over at the start
 start-none : (c : tie.After-slice-known Inv-loop μ-loop) → now (c .before .before .before .before .before .before .before .before .before .args .handed) ≡ 0
@@ -44,7 +37,7 @@ start c = c .before .before .before .before .before .before .before .before .bef
 
 opened : (c : tie.At-loop Inv-loop μ-loop) →
     let a = start c .args in
-    Opened (c .loop .handed) (firstEdition (now (a .pattern))) (firstEdition (now (a .board))) (a .read) (tables (now (a .masks)) (now (a .offsets)) (now (a .links))) (now (a .whole)) (now (a .labels)) (now (a .sizes))
+    Opened (c .loop .handed) (firstEdition (now (a .pattern))) (firstEdition (now (a .board))) (a .read) (tables (now (a .masks)) (now (a .offsets)) (now (a .targets))) (now (a .whole)) (now (a .component-of)) (now (a .sizes))
 opened c = opened-later zero-le (start c .pre .0)
 
 put-requires : tie.Need-put-requires Inv-loop μ-loop
@@ -60,7 +53,7 @@ same-length : tie.Need-same-length Inv-loop μ-loop
 same-length c = c .before .before .before .before .put .kept .1 .1 .1 .1 .1 .1 .1 .1 .1 .0 ∙ c .before .before .before .before .before .before .loop .inv .2
 
 returns : tie.Need-returns Inv-loop μ-loop
-unfolding Handed
+unfolding ReportHanded
 returns c = c .before .before .before .before .before .before .loop .inv .0
 
 -- ---- a piece was put
@@ -80,7 +73,7 @@ same-length-2 : tie.Need-same-length-2 Inv-loop μ-loop
 same-length-2 c = c .before .before .before .before .before .before .put .kept .1 .1 .1 .1 .1 .1 .1 .1 .1 .0 ∙ c .before .before .before .before .before .before .before .before .loop .inv .2
 
 returns-2 : tie.Need-returns-2 Inv-loop μ-loop
-unfolding Handed
+unfolding ReportHanded
 returns-2 c =
     let k = c .before in
     let loop = k .before .before .before .before .before .before .before .loop in
@@ -111,7 +104,7 @@ same-length-3 c = let k = told (c .before) in k .before .before .before .before 
 
 -- a piece that was not taken leaves as many items handed over as before
 returns-3 : tie.Need-returns-3 Inv-loop μ-loop
-unfolding Handed
+unfolding ReportHanded
 returns-3 c =
     let kept = rw (not-true (c .before .hand .result) (c .if2 .taken)) at (c .before .hand .ensures) in
     rw kept (told (c .before) .before .before .before .before .before .before .before .loop .inv .0)

@@ -1,7 +1,6 @@
 -- `finder::read_files` meets its contract: each file is asked for by the name of its role, into the buffer of its role. Assumes nothing.
-use mathlib.Core.Path.{refl}
+use Rattle.base_lists.specs.Kit.{refl, needs}
 use Rattle.base_text.specs.Text.{bytes}
-use borrow.Author.Needs.{needs}
 use Rattle.finder.proofs.read_files.Statement.{statement}
 use Rattle.finder.proofs.read_files.Tie as tie
 

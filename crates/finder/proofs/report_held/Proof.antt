@@ -1,17 +1,16 @@
 -- `finder::report_held` meets its contract. Assumes nothing.
-use borrow.Author.Tests.{not-true, not-false}
-use Rattle.finder.specs.Printing.{Ran}
+use Rattle.base_lists.specs.Kit.{needs, not-false, not-true}
+use Rattle.finder.specs.Printing.{ReportRan}
 use Rattle.finder.proofs.Ending.{ran-begun}
-use borrow.Author.Needs.{needs}
 use Rattle.finder.proofs.report_held.Statement.{statement}
 use Rattle.finder.proofs.report_held.Tie as tie
 
 returns : tie.Need-returns
-unfolding Ran
+unfolding ReportRan
 returns c = (not-true _ (c .if1 .taken), c .before .before .before .before .before .before .before .pre .1 .1)
 
 returns-2 : tie.Need-returns-2
-unfolding Ran
+unfolding ReportRan
 returns-2 c = (not-false _ (c .before .before .if1 .left), not-true _ (c .if2 .taken), c .before .before .before .before .before .before .before .before .before .pre .1 .1)
 
 slice-aggregate-print-report : tie.Need-slice-aggregate-print-report

@@ -1,7 +1,5 @@
 -- `graph_follow::look` meets its contract, by the laws of a look. Assumes nothing.
-use mathlib.Core.Path.{sym, _∙_}
-use borrow.Author.Needs.{needs}
-use denote.Ref.{now}
+use Rattle.base_lists.specs.Kit.{now, _∙_, sym, needs}
 use Rattle.base_lists.proofs.Tests.{true-T}
 use Rattle.graph.specs.Bfs.{stateOf}
 use Rattle.graph_follow.proofs.Following.{look-taken, look-left}
@@ -30,13 +28,13 @@ returns : tie.Need-returns
 returns c =
     let a = c .before .before .before .before .before .before .before .before .before .before .before .before .before .args in
     let s = stateOf (now (a .dist)) (now (a .queue)) (a .tail) in
-    rw (look-taken (a .set) (now (a .sets)) s (a .v) (true-T (sym (c .before .before .before .before .before .before .before .before .meets .ensures) ∙ c .before .before .before .before .before .before .before .if1 .taken))) (c .before .before .before .before .visit .ensures)
+    rw (look-taken (a .set) (now (a .sets)) (a .d) s (a .v) (true-T (sym (c .before .before .before .before .before .before .before .before .meets .ensures) ∙ c .before .before .before .before .before .before .before .if1 .taken))) (c .before .before .before .before .visit .ensures)
 
 returns-2 : tie.Need-returns-2
 returns-2 c =
     let a = c .before .before .before .before .before .before .args in
     let s = stateOf (now (a .dist)) (now (a .queue)) (a .tail) in
-    record { state = sym (look-left (a .set) (now (a .sets)) s (a .v) (sym (c .before .meets .ensures) ∙ c .if1 .left)); kept = c .before .before .before .before .before .before .pre .0 }
+    record { state = sym (look-left (a .set) (now (a .sets)) (a .d) s (a .v) (sym (c .before .meets .ensures) ∙ c .if1 .left)); kept = c .before .before .before .before .before .before .pre .0 }
 
 pub look-spec : {M : Type 1} → statement M
 look-spec = tie.close (tie.spec mul-meets shared-slice-read-meets meets-requires visit-requires same-length same-length-2 returns returns-2)

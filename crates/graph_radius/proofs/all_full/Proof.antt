@@ -1,9 +1,6 @@
 -- `graph_radius::all_full` meets its contract. The loop's invariant: each set passed is `full`. Assumes nothing.
-use mathlib.Core.Path.{_≡_, sym}
-use Prim.Native.Nat.{ℕ, _-_, _≤_, _<_}
-use native.Mathlib.Omega.{arith}
+use Rattle.base_lists.specs.Kit.{_≡_, sym, ℕ, _≤_, _<_, _-_, length, getD, arith}
 use borrow.Author.Count.{below-none, below-more}
-use lib.ListN.{length, getD}
 use Rattle.graph_radius.proofs.Spanning.{is-spanning, not-spanning}
 use Rattle.graph_radius.proofs.all_full.Statement.{statement}
 use Rattle.graph_radius.proofs.all_full.Tie as tie

@@ -1,10 +1,8 @@
 -- `graph_radius::every_node` meets its contract. Assumes nothing.
-use Prim.Native.Nat.{_≤_}
-use native.Mathlib.Omega.{arith}
+use Rattle.base_lists.specs.Kit.{_≤_, arith, needs}
 use lib.Pow.{pow-pos, pow-mono}
 use Rattle.base_bits.proofs.Digits.{one-shl}
 use Rattle.graph_radius.proofs.Spanning.{every-node}
-use borrow.Author.Needs.{needs}
 use Rattle.graph_radius.proofs.every_node.Statement.{statement}
 use Rattle.graph_radius.proofs.every_node.Tie as tie
 

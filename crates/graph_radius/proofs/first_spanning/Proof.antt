@@ -1,12 +1,6 @@
 -- `graph_radius::first_spanning` meets its contract. The loop's invariant: the first table has the balls at radius k, and at no smaller
 -- radius has every ball every node. The measure is how many radii are left. Assumes nothing.
-use denote.Ref.{now}
-use mathlib.Core.Bool.{Bool}
-use mathlib.Core.List.{List}
-use mathlib.Core.Path.{_≡_, refl, sym, ap, subst, _∙_}
-use Prim.Native.Nat.{ℕ, _+_, _-_, _≤_}
-use native.Mathlib.Omega.{arith}
-use lib.ListN.{length}
+use Rattle.base_lists.specs.Kit.{now, _≡_, _∙_, sym, ap, refl, subst, Bool, List, ℕ, _≤_, _+_, _-_, length, arith}
 use Rattle.graph_radius.specs.Balls.{everyNode, spanning, grown}
 use Rattle.graph_radius.proofs.Spanning.{Reached, reached-first, reached-next, reached-found, reached-far}
 use Rattle.graph_radius.proofs.first_spanning.Statement.{statement}

@@ -1,14 +1,9 @@
 -- `graph_radius::grow` meets its contract. The loop's invariant: the sets before u are the new ones, and the others as they were. The
 -- measure is how many are left. Assumes nothing.
-use denote.Ref.{now}
-use mathlib.Core.List.{_++_}
-use mathlib.Core.Path.{_≡_, refl, sym, subst, _∙_}
-use Prim.Native.Nat.{ℕ, _-_, _^_, _≤_, _<_}
-use native.Mathlib.Omega.{arith}
-use lib.ListN.{length, getD, drop, length-set}
+use Rattle.base_lists.specs.Kit.{now, _≡_, _∙_, sym, refl, subst, _++_, ℕ, _≤_, _<_, _-_, _^_, length, getD, drop, length-set, arith}
 use Rattle.base_bits.specs.Bits.{unionOver}
 use Rattle.base_lists.specs.List.{tabulate, Below}
-use Rattle.base_lists.proofs.Tables.{filled-none, filled-more, whole}
+use Rattle.base_lists.proofs.Tables.{filled-none, filled-more, stored-whole}
 use Rattle.graph_radius.specs.Balls.{grown}
 use Rattle.graph_radius.proofs.grow.Statement.{statement}
 use Rattle.graph_radius.proofs.grow.Tie as tie
@@ -65,7 +60,7 @@ returns c =
     let a = at-loop .before .before .before .before .args in
     let e : at-loop .loop .u ≡ length (now (a .near)) = omega arith in
     let same : length (now (a .new)) ≡ length (now (a .near)) = omega arith in
-    at-loop .loop .inv .2 ∙ rw e (whole _ _ _ same)
+    at-loop .loop .inv .2 ∙ rw e (stored-whole _ _ _ same)
 
 pub grow-spec : {M : Type 1} → statement M
 grow-spec =

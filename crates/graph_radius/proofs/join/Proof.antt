@@ -1,6 +1,6 @@
 -- `graph_radius::join` meets its contract. Assumes nothing.
-use Rattle.graph_radius.specs.Balls.{joined}
-use borrow.Author.Needs.{needs}
+use Rattle.graph_radius.specs.Balls.{withNode}
+use Rattle.base_lists.specs.Kit.{needs}
 use Rattle.graph_radius.proofs.join.Statement.{statement}
 use Rattle.graph_radius.proofs.join.Tie as tie
 
@@ -23,7 +23,7 @@ same-length : tie.Need-same-length
 same-length c = search needs
 
 returns : tie.Need-returns
-unfolding joined
+unfolding withNode
 returns c = rw (c .single .ensures)
 
 pub join-spec : {M : Type 1} → statement M

@@ -1,8 +1,7 @@
 -- `graph_radius::measure` meets its contract: what is found in the tables just made is the radius. Assumes nothing.
-use native.Mathlib.Omega.{arith}
+use Rattle.base_lists.specs.Kit.{arith, needs}
 use Rattle.graph_radius.proofs.Balls.{balls-below}
 use Rattle.graph_radius.proofs.Spanning.{finds-radius}
-use borrow.Author.Needs.{needs}
 use Rattle.graph_radius.proofs.measure.Statement.{statement}
 use Rattle.graph_radius.proofs.measure.Tie as tie
 

@@ -1,12 +1,7 @@
 -- `graph_radius::neighbourhoods` meets its contract. The loop's invariant: the sets are the balls at radius 1 along the links passed. The
 -- measure is how many links are left. Assumes nothing.
-use denote.Ref.{now}
-use mathlib.Core.Path.{_≡_, refl, _∙_}
-use Prim.Native.Nat.{_-_, _≤_, _<_}
-use native.Mathlib.Omega.{arith}
-use lib.ListN.{length, getD, take}
-use lib.Seq.{take-all}
-use Rattle.graph.proofs.Groups.{key-below}
+use Rattle.base_lists.specs.Kit.{now, _≡_, _∙_, refl, _≤_, _<_, _-_, length, getD, take, take-all, arith}
+use Rattle.base_lists.proofs.Entries.{all-below-at}
 use Rattle.graph_radius.specs.Balls.{balls}
 use Rattle.graph_radius.proofs.Balls.{balls-begin, balls-more}
 use Rattle.graph_radius.proofs.neighbourhoods.Statement.{statement}
@@ -28,10 +23,10 @@ size l = l .before .before .before .singles .kept .0
 
 -- the nodes of the link at hand
 start-below : (l : tie.At-loop Inv-loop μ-loop) → l .loop .i < length (now (start l .args .starts)) → getD (now (start l .args .starts)) (l .loop .i) 0 < length (now (start l .args .near))
-start-below l h = key-below _ (now (start l .args .starts)) (l .loop .i) (start l .pre .1 .0) h
+start-below l h = all-below-at _ (now (start l .args .starts)) (l .loop .i) (start l .pre .1 .0) h
 
 end-below : (l : tie.At-loop Inv-loop μ-loop) → l .loop .i < length (now (start l .args .starts)) → getD (now (start l .args .ends)) (l .loop .i) 0 < length (now (start l .args .near))
-end-below l h = key-below _ (now (start l .args .ends)) (l .loop .i) (start l .pre .1 .1) (omega (arith, start l .pre .0 .0))
+end-below l h = all-below-at _ (now (start l .args .ends)) (l .loop .i) (start l .pre .1 .1) (omega (arith, start l .pre .0 .0))
 
 singles-requires : tie.Need-singles-requires Inv-loop μ-loop
 singles-requires c κs = omega arith

@@ -1,14 +1,7 @@
 -- `graph_radius::radius` meets its contract: its tables have room for 32 nodes. Assumes nothing.
-use denote.Ref.{now}
-use mathlib.Core.Path.{_≡_, refl, sym, ap, subst, _∙_}
-use Prim.Native.Nat.{ℕ, _≤_}
-use native.Mathlib.Omega.{arith}
-use lib.Dec.{T, ltb}
-use lib.ListN.{length, take, replicate}
-use lib.Seq.{length-take-le}
+use Rattle.base_lists.specs.Kit.{now, _≡_, _∙_, sym, ap, refl, subst, ℕ, _≤_, T, ltb, length, take, replicate, length-take-le, arith, needs}
 use Rattle.base_lists.specs.List.{all}
 use Rattle.graph.specs.Search.{radius}
-use borrow.Author.Needs.{needs}
 use Rattle.graph_radius.proofs.radius.Statement.{statement}
 use Rattle.graph_radius.proofs.radius.Tie as tie
 

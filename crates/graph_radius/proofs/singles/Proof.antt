@@ -1,13 +1,8 @@
 -- `graph_radius::singles` meets its contract. The loop's invariant: the sets before u are made, and the others as they were. The measure is
 -- how many are left. Assumes nothing.
-use denote.Ref.{now}
-use mathlib.Core.List.{_++_}
-use mathlib.Core.Path.{_≡_, refl, _∙_}
-use Prim.Native.Nat.{_-_, _^_, _≤_}
-use native.Mathlib.Omega.{arith}
-use lib.ListN.{length, drop, length-set}
+use Rattle.base_lists.specs.Kit.{now, _≡_, _∙_, refl, _++_, _≤_, _-_, _^_, length, drop, length-set, arith}
 use Rattle.base_lists.specs.List.{tabulate}
-use Rattle.base_lists.proofs.Tables.{filled-none, filled-more, whole}
+use Rattle.base_lists.proofs.Tables.{filled-none, filled-more, stored-whole}
 use Rattle.graph_radius.proofs.singles.Statement.{statement}
 use Rattle.graph_radius.proofs.singles.Tie as tie
 
@@ -54,7 +49,7 @@ returns c =
     let at-loop = c .before in
     let sets = now (at-loop .before .before .args .sets) in
     let e : at-loop .loop .u ≡ length sets = omega arith in
-    at-loop .loop .inv .2 ∙ rw e (whole (tabulate (length sets) (λ i. 2 ^ i)) sets (length sets) refl)
+    at-loop .loop .inv .2 ∙ rw e (stored-whole (tabulate (length sets) (λ i. 2 ^ i)) sets (length sets) refl)
 
 pub singles-spec : {M : Type 1} → statement M
 singles-spec =

@@ -1,8 +1,6 @@
 -- `graph_search::begin` meets its contract: its stores set the tables up for the state in which only the centre is reached. Assumes nothing.
-use lib.ListN.{length, length-set}
+use Rattle.base_lists.specs.Kit.{now, length, length-set, needs}
 use Rattle.graph.proofs.BfsSteps.{started}
-use borrow.Author.Needs.{needs}
-use denote.Ref.{now}
 use Rattle.graph_search.proofs.begin.Statement.{statement}
 use Rattle.graph_search.proofs.begin.Tie as tie
 

@@ -3,7 +3,7 @@
 use Rattle.graph.proofs.BfsSteps.{expanded}
 use Rattle.graph_neighbours.specs.Lookup.{neighboursIn}
 use Rattle.graph_neighbours.proofs.Lookup.{neighbours-below}
-use borrow.Author.Needs.{needs}
+use Rattle.base_lists.specs.Kit.{needs}
 use Rattle.graph_search.proofs.expand.Statement.{statement}
 use Rattle.graph_search.proofs.expand.Tie as tie
 

@@ -1,11 +1,6 @@
 -- `graph_search::scan` meets its contract. The loop's invariant: from the state that the tables stand for, the visits that are left
 -- lead to the state that all of them lead to. The measure is how many are left. Assumes nothing.
-use mathlib.Core.Path.{_≡_, refl, sym, _∙_}
-use Prim.Native.Nat.{_-_, _≤_}
-use native.Mathlib.Omega.{arith}
-use borrow.Author.Needs.{needs}
-use denote.Ref.{now}
-use lib.ListN.{length, drop}
+use Rattle.base_lists.specs.Kit.{now, _≡_, _∙_, sym, refl, _≤_, _-_, length, drop, arith, needs}
 use Rattle.graph.specs.Bfs.{scan, stateOf, Searching}
 use Rattle.base_lists.specs.List.{Below}
 use Rattle.graph.proofs.BfsSteps.{scan-next, scan-end}

@@ -1,19 +1,19 @@
--- `graph_search::search` meets its contract: the levels from the state in which only the centre is reached. Assumes nothing.
-use mathlib.Core.Path.{ap, _∙_}
-use Rattle.graph.specs.Bfs.{bfs}
-use Rattle.graph.proofs.BfsSteps.{found}
-use borrow.Author.Needs.{needs}
+-- `graph_search::search` meets its contract: it goes on from the centre, and no number of nodes is enough. Assumes nothing.
+use Rattle.base_lists.specs.Kit.{_<_, arith, needs}
+use Rattle.graph.proofs.BfsSteps.{found, tail-le}
+use Rattle.graph.proofs.Net.{net-few}
+use Rattle.graph_search.proofs.Onward.{centre-standing, advanced-all}
 use Rattle.graph_search.proofs.search.Statement.{statement}
 use Rattle.graph_search.proofs.search.Tie as tie
 
 begin-requires : tie.Need-begin-requires
 begin-requires c κs = search needs
 
-levels-requires : tie.Need-levels-requires
-levels-requires c κs =
+advance-requires : tie.Need-advance-requires
+advance-requires c κs =
     let begun = c .before .before .before .before .before .before .begin in
     let p = c .before .before .before .before .before .before .before .before .before .before .before .before .before .pre in
-    (rw (begun .kept .1 .0) (p .0), begun .ensures .kept)
+    (rw (begun .kept .1 .0) (p .0), (begun .ensures .kept, centre-standing _))
 
 same-length : tie.Need-same-length
 same-length c = search needs
@@ -22,18 +22,22 @@ same-length-2 : tie.Need-same-length-2
 same-length-2 c = search needs
 
 returns : tie.Need-returns
-unfolding bfs
 returns c =
-    let call = c .before .before .before .before .levels in
-    let begun = c .before .before .before .before .before .before .before .before .before .before .before .begin in
-    found _ _ _ _ (record { state = call .ensures .state ∙ rw (begun .ensures .state); kept = call .ensures .kept })
+    let call = c .before .before .before .before .advance in
+    let first = c .before .before .before .before .before .before .before .before .before .before .before in
+    let begun = first .begin in
+    let few = net-few (first .before .before .before .before .before .before .before .pre .0) in
+    let k = call .ensures .0 in
+    let most = tail-le _ _ _ k in
+    let all : call .result .tail < 65536 = omega (arith, most, few, call .kept .1 .1 .1 .1 .1 .0, begun .kept .1 .0) in
+    found _ _ _ _ (record { state = advanced-all _ _ (begun .ensures .state) (call .ensures .1) all; kept = k })
 
 pub search-spec : {M : Type 1} → statement M
 search-spec =
     tie.close
     (tie.spec
     begin-requires
-    levels-requires
+    advance-requires
     same-length
     same-length-2
     returns)

@@ -1,6 +1,5 @@
 -- `graph_search::visit` meets its contract, by the laws of a visit. Assumes nothing.
-use borrow.Author.Needs.{needs}
-use denote.Ref.{now}
+use Rattle.base_lists.specs.Kit.{now, needs}
 use Rattle.graph.proofs.BfsSteps.{queue-room, visited-new, visited-old}
 use Rattle.graph_search.proofs.visit.Statement.{statement}
 use Rattle.graph_search.proofs.visit.Tie as tie

@@ -1,5 +1,4 @@
 -- `input::ended` meets its contract. Assumes nothing.
-use mathlib.Core.Path.{sym}
 use Rattle.input.specs.Reading.{endedOf}
 use Rattle.input.proofs.Reading.{end-is, end-not}
 use Rattle.input.proofs.ended.Statement.{statement}

@@ -1,7 +1,7 @@
 -- `loader::hand` meets its contract. Assumes nothing.
 use Rattle.output.specs.Writing.{All}
-use Rattle.loader.specs.Printing.{Tried}
-use borrow.Author.Needs.{needs}
+use Rattle.loader.specs.Printing.{WriteTried}
+use Rattle.base_lists.specs.Kit.{needs}
 use Rattle.loader.proofs.hand.Statement.{statement}
 use Rattle.loader.proofs.hand.Tie as tie
 
@@ -15,11 +15,11 @@ enum-told : tie.Need-enum-told
 enum-told c = search needs
 
 returns : tie.Need-returns
-unfolding Tried
+unfolding WriteTried
 returns c = c .before .before .before .before .pre .0
 
 returns-2 : tie.Need-returns-2
-unfolding Tried All
+unfolding WriteTried All
 returns-2 c = rw (c .before .answer .given .1) at (c .before .before .before .write-whole .ensures)
 
 pub hand-spec : {M : Type 1} → statement M

@@ -1,12 +1,6 @@
 -- `merge_classes::leader` meets its contract. The loop's invariant: the leader is the least of the parts that are left whose own set has
 -- u. The measure is what is left, as a number. Assumes nothing.
-use denote.Ref.{now}
-use mathlib.Core.Path.{_≡_, sym, ap, _∙_}
-use Prim.Native.Nat.{ℕ, zero, _^_, _≤_, _<_}
-use native.Mathlib.Nat.{lt-of-le-of-lt}
-use native.Mathlib.Omega.{arith}
-use borrow.Author.Needs.{needs}
-use lib.ListN.{length, getD}
+use Rattle.base_lists.specs.Kit.{now, _≡_, _∙_, sym, ap, ℕ, _≤_, _<_, zero, _^_, lt-of-le-of-lt, length, getD, arith, needs}
 use Rattle.base_lists.proofs.Tests.{true-T}
 use Rattle.base_bits.specs.Bits.{bit, firstOf}
 use Rattle.base_bits.proofs.Digits.{bit-below}

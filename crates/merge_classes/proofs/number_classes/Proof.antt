@@ -1,13 +1,6 @@
 -- `merge_classes::number_classes` meets its contract. The loop's invariant: the parts before u have their classes, and `next` is the
 -- number of classes that they lead. The measure is how many parts are left. Assumes nothing.
-use denote.Ref.{now}
-use mathlib.Core.List.{List}
-use mathlib.Core.Logic.{⊎-elim}
-use mathlib.Core.Path.{_≡_, refl, ap, ap₂, _∙_}
-use Prim.Native.Nat.{ℕ, _+_, _-_, _≤_}
-use native.Mathlib.Omega.{arith}
-use borrow.Author.Needs.{needs}
-use lib.ListN.{length, getD, set, length-set}
+use Rattle.base_lists.specs.Kit.{now, _≡_, _∙_, ap, refl, ap₂, ⊎-elim, List, ℕ, _≤_, _+_, _-_, length, getD, set, length-set, arith, needs}
 use Rattle.base_lists.specs.Below.{countBelow}
 use Rattle.base_lists.proofs.Below.{countBelow-le}
 use Rattle.merge.specs.Merged.{leader, isLeader}

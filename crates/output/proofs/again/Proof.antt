@@ -1,5 +1,4 @@
 -- `output::again` meets its contract, error by error. Assumes nothing.
-use mathlib.Core.Path.{refl}
 use lib.Dec.{lit<}
 use Rattle.output.specs.Writing.{triedAgain}
 use Rattle.output.proofs.Errors.{error-is, error-not}

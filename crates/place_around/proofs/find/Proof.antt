@@ -1,14 +1,11 @@
 -- `place_around::find` meets its contract: the rounds end with the ball's table, and where the centre is left in it the search finds its
 -- component. Assumes nothing.
-use mathlib.Core.Path.{_≡_, sym, _∙_}
-use Prim.Native.Nat.{_<_}
-use native.Mathlib.Omega.{arith}
-use borrow.Author.Needs.{needs}
-use denote.Ref.{now}
-use lib.ListN.{length}
-use lib.Seq.{length-take-le}
+use Rattle.base_lists.specs.Kit.{_∙_, sym, _<_, length, length-take-le, arith, needs}
 use Rattle.table.specs.Row.{bothWays}
-use Rattle.place.proofs.Find.{sought-known, sought-long, sets-ready, found-nothing, found-place}
+use Rattle.graph.proofs.Net.{net-few}
+use Rattle.place.proofs.Find.{tabled-joins, tabled-net, sought-known, sought-long, sets-ready, found-nothing, found-place}
+use Rattle.place.proofs.Matched.{matched-adjacency}
+use Rattle.place.proofs.Spread.{found-spread}
 use Rattle.place_around.proofs.find.Statement.{statement}
 use Rattle.place_around.proofs.find.Tie as tie
 
@@ -82,8 +79,11 @@ returns-2 c =
     let end = c .before .before .before .before .before .before .before .before .before .before .before .before .before .before in
     let call = c .before .before .before .before .component in
     λ pattern board r g.
-    found-place g (end .refine .ensures bothWays pattern board (g .tabled .prepared) (g .begins)) _
-    (rw (entry end .pre .1 .1 .0, sought-long g) at (call .ensures .0)) _ _ (c .before .before .before .before .before .before .before .before .if1 .left) (call .ensures .1 .0) (call .ensures .1 .1)
+    let e = end .refine .ensures bothWays pattern board (g .tabled .prepared) (g .begins) in
+    let (spread, short, lists) = found-spread _ _ _ _ (omega (arith, net-few (tabled-net (g .tabled)))) (g .centre)
+    (matched-adjacency (g .tabled .prepared) (tabled-joins (g .tabled)) (g .tabled .parallel) _ (sets-ready g e .small)) (omega (arith, net-few (tabled-net (g .tabled))))
+    (rw (entry end .pre .1 .1 .0, sought-long g) at (call .ensures)) in
+    found-place g e _ spread _ _ (c .before .before .before .before .before .before .before .before .if1 .left) short lists
 
 pub find-spec : {M : Type 1} → statement M
 find-spec =

@@ -1,13 +1,6 @@
 -- `place_circuits::find_in_ball` meets its contract: the nodes that the search lists are the ball, and the pairs of equal kinds in it are a
 -- first table. What the search finds are the ball's distances, and no other search writes over them. Assumes nothing.
-use mathlib.Core.List.{List}
-use mathlib.Core.Path.{_≡_, sym, ap, _∙_}
-use Prim.Native.Nat.{ℕ, _≤_}
-use native.Mathlib.Omega.{arith}
-use borrow.Author.Needs.{needs}
-use denote.Ref.{now}
-use lib.ListN.{length, take}
-use lib.Seq.{length-take-le}
+use Rattle.base_lists.specs.Kit.{now, _∙_, sym, ap, List, ℕ, _≤_, length, take, length-take-le, arith, needs}
 use Rattle.graph.specs.Bfs.{bfs, adjacent, Found}
 use Rattle.graph.specs.Circuit.{circuit}
 use Rattle.graph.proofs.Net.{net-few}
@@ -21,10 +14,10 @@ use Rattle.place_circuits.proofs.find_in_ball.Statement.{statement}
 use Rattle.place_circuits.proofs.find_in_ball.Tie as tie
 
 abbrev tablesOf : tie.Start → Tables
-tablesOf s = tables (now (s .args .masks)) (now (s .args .offsets)) (now (s .args .links))
+tablesOf s = tables (now (s .args .masks)) (now (s .args .offsets)) (now (s .args .targets))
 
 -- the search for the component has a table of its own, with room for every board
-few : (s : tie.Start) → length (now (s .args .node-kinds)) ≤ 512
+few : (s : tie.Start) → length (now (s .args .node-labels)) ≤ 512
 few s = net-few (tabled-net (s .pre .0 .tabled))
 
 array-borrow-prefix-joined : tie.Need-array-borrow-prefix-joined
@@ -63,9 +56,9 @@ start-requires c κs =
 -- what finding starts from, whatever the links, at the radius of the search
 seek : (c : tie.After-start) → let s = c .before .before .before .before .before .before .before .before .before .before .before .before .before .before .before .before .before .before .before .before in let a = s .args in (ps pe ns ne : List _) (r : ℕ) →
     Found (c .before .before .before .before .before .before .before .search .result) (c .before .before .before .before .before .before .before .search .last .1 .1 .1 .1 .0) (c .before .before .before .before .before .before .before .search .last .1 .1 .1 .1 .1 .0)
-    (bfs (adjacent (now (a .offsets)) (now (a .links))) (length (now (a .dist))) (a .around .centre) r) →
-    Tabled (circuit (now (a .part-kinds)) ps pe) (circuit (now (a .node-kinds)) ns ne) (tablesOf s) →
-    Sought (circuit (now (a .part-kinds)) ps pe) (circuit (now (a .node-kinds)) ns ne) (tablesOf s) (a .around .centre) r
+    (bfs (adjacent (now (a .offsets)) (now (a .targets))) (length (now (a .dist))) (a .around .centre) r) →
+    Tabled (circuit (now (a .part-labels)) ps pe) (circuit (now (a .node-labels)) ns ne) (tablesOf s) →
+    Sought (circuit (now (a .part-labels)) ps pe) (circuit (now (a .node-labels)) ns ne) (tablesOf s) (a .around .centre) r
     (take (c .before .before .before .before .before .before .before .search .result) (c .before .before .before .before .before .before .before .search .last .1 .1 .1 .1 .1 .0)) (c .start .last .1 .1 .1 .0)
 seek c ps pe ns ne r f d =
     let s = c .before .before .before .before .before .before .before .before .before .before .before .before .before .before .before .before .before .before .before .before in

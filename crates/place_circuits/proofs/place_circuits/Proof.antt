@@ -1,14 +1,6 @@
 -- `place_circuits::place_circuits` meets its contract: the place is found in the ball, and where there is one it is marked, and the ball's
 -- distances are copied. Assumes nothing.
-use mathlib.Core.List.{List, [], _++_}
-use mathlib.Core.Path.{_≡_, sym, ap, _∙_}
-use Prim.Native.Nat.{ℕ, _≤_}
-use native.Mathlib.Omega.{arith}
-use borrow.Author.Needs.{needs}
-use borrow.Author.Tests.{not-true, not-false}
-use denote.Ref.{now}
-use lib.ListN.{length, getD, take, drop}
-use lib.Seq.{length-take-le}
+use Rattle.base_lists.specs.Kit.{now, _∙_, sym, ap, List, [], _++_, ℕ, _≤_, length, getD, take, drop, length-take-le, arith, needs, not-false, not-true}
 use Rattle.graph.specs.Circuit.{circuit}
 use Rattle.file_format.specs.Circuit.{Drawn}
 use Rattle.table.specs.Prepared.{tables, Tables, Prepared}
@@ -21,11 +13,11 @@ use Rattle.place_circuits.proofs.place_circuits.Statement.{statement}
 use Rattle.place_circuits.proofs.place_circuits.Tie as tie
 
 -- a board has at most 512 nodes
-few : (s : tie.Start) → length (now (s .args .node-kinds)) ≤ 512
+few : (s : tie.Start) → length (now (s .args .node-labels)) ≤ 512
 few s = s .pre .0 .drawn .nodes .nodes
 
 abbrev tablesOf : tie.Start → Tables
-tablesOf s = tables (now (s .args .masks)) (now (s .args .offsets)) (now (s .args .links))
+tablesOf s = tables (now (s .args .masks)) (now (s .args .offsets)) (now (s .args .targets))
 
 mul-m : tie.Need-mul-m
 mul-m c = omega (arith, few (c .before .before .before .before .before .before .before .before .before))
@@ -36,7 +28,7 @@ shared-slice-read-m c =
     omega (arith, few s, s .pre .0 .prepared .net .room .inOffsets)
 
 cast-m : tie.Need-cast-m
-cast-m c = omega (arith, c .shared-slice-known6 .given (length (now (c .before .before .before .before .before .before .before .before .before .before .args .node-kinds))))
+cast-m c = omega (arith, c .shared-slice-known6 .given (length (now (c .before .before .before .before .before .before .before .before .before .before .args .node-labels))))
 
 array-borrow-prefix-dist : tie.Need-array-borrow-prefix-dist
 array-borrow-prefix-dist c = few (c .before .before .before .before .before .before .before .before .before .before)
@@ -88,9 +80,9 @@ placed : (c : tie.After-find-in-ball) (ps pe ns ne : List ℕ) →
     let s = c .before .before .before .before .before .before .before .before .before .before .before .before .before .before .before in
     let a = s .args in
     let found = c .find-in-ball .last .1 .1 .1 .1 .1 .1 in
-    Drawn (circuit (now (a .part-kinds)) ps pe) (circuit (now (a .node-kinds)) ns ne) →
-    Prepared (circuit (now (a .part-kinds)) ps pe) (circuit (now (a .node-kinds)) ns ne) (tablesOf s) →
-    PlacedIn (circuit (now (a .part-kinds)) ps pe) (circuit (now (a .node-kinds)) ns ne) (tablesOf s) (a .around) (found .0) (found .1 .0) (found .1 .1 .0) (c .find-in-ball .result)
+    Drawn (circuit (now (a .part-labels)) ps pe) (circuit (now (a .node-labels)) ns ne) →
+    Prepared (circuit (now (a .part-labels)) ps pe) (circuit (now (a .node-labels)) ns ne) (tablesOf s) →
+    PlacedIn (circuit (now (a .part-labels)) ps pe) (circuit (now (a .node-labels)) ns ne) (tablesOf s) (a .around) (found .0) (found .1 .0) (found .1 .1 .0) (c .find-in-ball .result)
 placed c ps pe ns ne d p = c .find-in-ball .ensures ps pe ns ne (drawn-tabled d p)
 
 returns : tie.Need-returns
@@ -108,7 +100,7 @@ abbrev some : (c : tie.Else1) →
     let a = s .args in
     let w = s .pre .0 in
     let found = c .before .before .before .before .before .before .before .find-in-ball .last .1 .1 .1 .1 .1 .1 in
-    PlacedIn (circuit (now (a .part-kinds)) (w .partStarts) (w .partEnds)) (circuit (now (a .node-kinds)) (w .nodeStarts) (w .nodeEnds)) (tablesOf s) (a .around) (found .0) (found .1 .0) (found .1 .1 .0) (c .before .before .before .before .before .before .before .find-in-ball .result)
+    PlacedIn (circuit (now (a .part-labels)) (w .partStarts) (w .partEnds)) (circuit (now (a .node-labels)) (w .nodeStarts) (w .nodeEnds)) (tablesOf s) (a .around) (found .0) (found .1 .0) (found .1 .1 .0) (c .before .before .before .before .before .before .before .find-in-ball .result)
 some c = let w = start c .pre .0 in placed (c .before .before .before .before .before .before .before) (w .partStarts) (w .partEnds) (w .nodeStarts) (w .nodeEnds) (w .drawn) (w .prepared)
 
 array-share-prefix-sets : tie.Need-array-share-prefix-sets
@@ -152,7 +144,7 @@ mark-requires c κs =
     let w = s .pre .0 in
     let b = some left in
     let f = not-false _ (left .if1 .left) in
-    let m = getD (now (s .args .offsets)) (length (now (s .args .node-kinds))) 0 in
+    let m = getD (now (s .args .offsets)) (length (now (s .args .node-labels))) 0 in
     let long = cut-long (w .drawn) (w .prepared) b f _ [] in (
       cut-ready (w .drawn) (w .prepared) b f _ [],
       (
@@ -203,7 +195,7 @@ returns-2 c =
     let f = not-false _ (left .if1 .left) in
     let made = c .before .before .before .before .before .before .before .before .before .before .before .mark .ensures in
     let a = s .args in
-    let n = length (now (a .node-kinds)) in
+    let n = length (now (a .node-labels)) in
     let m = getD (now (a .offsets)) n 0 in
     λ ps pe ns ne d p.
     let b = placed (left .before .before .before .before .before .before .before) ps pe ns ne d p in
@@ -211,7 +203,7 @@ returns-2 c =
     around-some _ _ _ _ _ (b .counted) (sym (b .answer) ∙ f) _ _ _ _
     (ap (λ (xs : List ℕ). xs ++ drop n (now (a .nodes))) (marked-nodes d p b f _ _ (made .0)))
     (ap (λ (xs : List ℕ). xs ++ drop m (now (a .bytes))) (marked-links d p b f _ _ (length-take-le _ _ (s .pre .1 .1 .0 .1) ∙ last) (made .1 .0))
-    ∙ ap (λ (k : ℕ). placeLinks (circuit (now (a .part-kinds)) ps pe) (circuit (now (a .node-kinds)) ns ne) (a .around .centre) (a .around .radius) ++ drop k (now (a .bytes))) last)
+    ∙ ap (λ (k : ℕ). placeLinks (circuit (now (a .part-labels)) ps pe) (circuit (now (a .node-labels)) ns ne) (a .around .centre) (a .around .radius) ++ drop k (now (a .bytes))) last)
     (ap (λ (xs : List ℕ). xs ++ drop n (now (a .table))) (marked-table d p b f _ _ (made .1 .1)))
     (copied d p b f _ [] (now (a .distances)) (c .before .before .copy .ensures))
 

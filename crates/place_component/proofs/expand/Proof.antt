@@ -1,9 +1,6 @@
 -- `place_component::expand` meets its contract: the looks along the two stretches are visits of what matching links join to the node.
 -- Assumes nothing.
-use mathlib.Core.Path.{sym, _∙_}
-use borrow.Author.Needs.{needs}
-use denote.Ref.{now}
-use lib.ListN.{length}
+use Rattle.base_lists.specs.Kit.{now, _∙_, sym, length, needs}
 use Rattle.graph.specs.Net.{Net}
 use Rattle.graph_neighbours.specs.Lookup.{neighboursIn}
 use Rattle.graph_neighbours.proofs.Lookup.{neighbours-below}
@@ -25,26 +22,26 @@ driving-parts-requires : tie.Need-driving-parts-requires
 driving-parts-requires c κs = search needs
 
 -- the tables are over the nodes of the search
-net : (s : tie.Start) → Net (length (now (s .args .dist))) (now (s .args .offsets)) (now (s .args .links))
+net : (s : tie.Start) → Net (length (now (s .args .dist))) (now (s .args .offsets)) (now (s .args .targets))
 net s = rw (← s .pre .1 .1 .0) (s .pre .1 .0 .net)
 
 neighbours-in-requires : tie.Need-neighbours-in-requires
-neighbours-in-requires c κs = record { nodes = _; net = net (c .before .before .before .before .before .before .before .before .before); node = c .before .before .before .before .before .before .before .before .before .pre .1 .1 .1 }
+neighbours-in-requires c κs = record { nodes = _; net = net (c .before .before .before .before .before .before .before .before .before); node = c .before .before .before .before .before .before .before .before .before .pre .1 .1 .1 .0 }
 
 follow-requires : tie.Need-follow-requires
 follow-requires c κs =
     let s = c .before .before .before .before .before .before .before .before .before .before .before .before in
-    (s .pre .0, (rw (c .before .before .neighbours-in .ensures) (neighbours-below _ (net s) _ (s .pre .1 .1 .1)), s .pre .1 .1 .0))
+    (s .pre .0, (rw (c .before .before .neighbours-in .ensures) (neighbours-below _ (net s) _ (s .pre .1 .1 .1 .0)), (s .pre .1 .1 .0, s .pre .1 .1 .1 .1)))
 
 neighbours-in-requires-2 : tie.Need-neighbours-in-requires-2
-neighbours-in-requires-2 c κs = record { nodes = _; net = net (c .before .before .before .before .before .before .before .before .before .before .before .before .before .before .before .before .before); node = c .before .before .before .before .before .before .before .before .before .before .before .before .before .before .before .before .before .pre .1 .1 .1 }
+neighbours-in-requires-2 c κs = record { nodes = _; net = net (c .before .before .before .before .before .before .before .before .before .before .before .before .before .before .before .before .before); node = c .before .before .before .before .before .before .before .before .before .before .before .before .before .before .before .before .before .pre .1 .1 .1 .0 }
 
 follow-requires-2 : tie.Need-follow-requires-2
 follow-requires-2 c κs =
     let s = c .before .before .before .before .before .before .before .before .before .before .before .before .before .before .before .before .before .before .before .before in
     let first = c .before .before .before .before .before .before .before .follow in
-    let e = first .kept .1 .1 .1 .0 in
-    (first .ensures .kept, (rw (e, c .before .before .neighbours-in2 .ensures) (neighbours-below _ (net s) _ (s .pre .1 .1 .1)), s .pre .1 .1 .0 ∙ sym e))
+    let e = first .kept .1 .1 .1 .1 .0 in
+    (first .ensures .kept, (rw (e, c .before .before .neighbours-in2 .ensures) (neighbours-below _ (net s) _ (s .pre .1 .1 .1 .0)), (s .pre .1 .1 .0 ∙ sym e, s .pre .1 .1 .1 .1)))
 
 same-length : tie.Need-same-length
 same-length c = search needs
@@ -59,7 +56,7 @@ returns c =
     let second = c .before .before .before .before .follow2 .ensures in
     record {
       state =
-          matched-scan (tables (now (a .masks)) (now (a .offsets)) (now (a .links))) (now (a .sets)) (a .v) _ _ _ _ _ _ _
+          matched-scan (tables (now (a .masks)) (now (a .offsets)) (now (a .targets))) (now (a .sets)) (a .v) (a .d) _ _ _ _ _ _ _
           (c .before .before .before .before .before .before .before .before .before .before .before .before .before .before .before .before .before .driven-parts .ensures) (c .before .before .before .before .before .before .before .before .before .before .before .before .before .before .before .before .driving-parts .ensures) (c .before .before .before .before .before .before .before .before .before .before .before .before .before .before .before .neighbours-in .ensures) (c .before .before .before .before .before .before .before .neighbours-in2 .ensures)
           (c .before .before .before .before .before .before .before .before .before .before .before .before .follow .ensures .state) (second .state);
       kept = second .kept;

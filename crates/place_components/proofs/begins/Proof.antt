@@ -1,5 +1,5 @@
 -- `place_components::begins` meets its contract: both tests, one after the other. Assumes nothing.
-use borrow.Author.Tests.{eq-eqb, ne-eqb}
+use Rattle.base_lists.specs.Kit.{eq-eqb, ne-eqb}
 use Rattle.place_components.proofs.begins.Statement.{statement}
 use Rattle.place_components.proofs.begins.Tie as tie
 

@@ -1,29 +1,23 @@
--- `place_components::components` meets its contract. The loop's invariant: the nodes before f are named (Labelling). The measure is how many nodes are left.
+-- `place_components::components` meets its contract. The loop's invariant: the nodes before f are named (`ComponentsBefore`). The measure is how many nodes are left.
 -- Assumes nothing.
-use mathlib.Core.Path.{_≡_, sym, ap, _∙_}
-use Prim.Native.Nat.{_-_, _≤_, _<_}
-use native.Mathlib.Omega.{arith}
-use borrow.Author.Needs.{needs}
-use denote.Ref.{now}
-use lib.ListN.{length, replicate}
-use lib.Seq.{length-take-le}
+use Rattle.base_lists.specs.Kit.{now, _≡_, _∙_, sym, ap, _≤_, _<_, _-_, length, replicate, length-take-le, arith, needs}
 use Rattle.graph.specs.Search.{far}
 use Rattle.table.specs.Prepared.{tables}
 use Rattle.place.specs.Spread.{matched}
-use Rattle.place_components.specs.Components.{Labelling}
-use Rattle.place_components.proofs.Labels.{labelling-start, labelling-end}
+use Rattle.place_components.specs.Components.{ComponentsBefore}
+use Rattle.place_components.proofs.ComponentNumbers.{numbering-start, numbering-end}
 use Rattle.place_components.proofs.components.Statement.{statement}
 use Rattle.place_components.proofs.components.Tie as tie
 
 abbrev Inv-loop : tie.InvT-loop
-Inv-loop masks offsets links sets labels₀ sizes₀ n dist₀ queue₀ f₀ labels sizes dist queue f =
+Inv-loop masks offsets targets sets componentOf₀ sizes₀ n dist₀ queue₀ f₀ componentOf sizes dist queue f =
     (f ≤ length sets)
     × (length dist ≡ length sets)
     × (length queue ≡ length sets)
-    × Labelling (length sets) (matched (tables masks offsets links) sets) sets f labels sizes
+    × ComponentsBefore (length sets) (matched (tables masks offsets targets) sets) sets f componentOf sizes
 
 abbrev μ-loop : tie.MeasureT-loop
-μ-loop masks offsets links sets labels₀ sizes₀ n dist₀ queue₀ f₀ labels sizes dist queue f = length sets - f
+μ-loop masks offsets targets sets componentOf₀ sizes₀ n dist₀ queue₀ f₀ componentOf sizes dist queue f = length sets - f
 
 abbrev start : tie.After-slice-known2 Inv-loop μ-loop → tie.Start Inv-loop μ-loop
 start c = c .before .before .before .before .before .before
@@ -55,14 +49,14 @@ loop-holds c =
       omega arith,
       length-take-le _ _ h,
       length-take-le _ _ h,
-      labelling-start _ (c .before .before .fill .ensures ∙ ap (λ m. replicate m far) (p .1 .1 .0)) (p .1 .1 .1),
+      numbering-start _ (c .before .before .fill .ensures ∙ ap (λ m. replicate m far) (p .1 .1 .0)) (p .1 .1 .1),
     )
 
 abbrev begun : tie.At-loop Inv-loop μ-loop → tie.Start Inv-loop μ-loop
 begun c = start (c .before .before .before .before .before .before .before)
 
-label-from-requires : tie.Need-label-from-requires Inv-loop μ-loop
-label-from-requires c κs =
+number-from-requires : tie.Need-number-from-requires Inv-loop μ-loop
+number-from-requires c κs =
     let at = c .before .before .before .before .before in
     let inv = at .loop .inv in
     (begun at .pre .0, (c .before .before .before .before .loop-test .taken, ((inv .1, inv .2), inv .3)))
@@ -81,7 +75,7 @@ loop-less c = omega (arith, more c)
 
 loop-again : tie.Need-loop-again Inv-loop μ-loop
 loop-again c =
-    let call = c .before .before .before .before .before .before .before .before .label-from in
+    let call = c .before .before .before .before .before .before .before .before .number-from in
     let inv = turn c .loop .inv in
     (omega (arith, more c), call .kept .1 .1 .1 .1 .1 .0 ∙ inv .1, call .kept .1 .1 .1 .1 .1 .1 .0 ∙ inv .2, call .ensures)
 
@@ -92,7 +86,7 @@ same-length-2 : tie.Need-same-length-2 Inv-loop μ-loop
 same-length-2 c = let at = c .before .before .before in at .loop .inv .3 .sized ∙ sym (begun at .pre .1 .1 .1)
 
 returns : tie.Need-returns Inv-loop μ-loop
-returns c = let inv = c .before .before .before .loop .inv in labelling-end (c .before .before .loop-test .left) (inv .0) (inv .3)
+returns c = let inv = c .before .before .before .loop .inv in numbering-end (c .before .before .loop-test .left) (inv .0) (inv .3)
 
 pub components-spec : {M : Type 1} → statement M
 components-spec =
@@ -106,7 +100,7 @@ components-spec =
     slice-aggregate-queue
     fill-requires
     loop-holds
-    label-from-requires
+    number-from-requires
     add-f
     loop-less
     loop-again

@@ -1,7 +1,5 @@
--- `place_components::counted` meets its contract: one more exactly where the label is x. Assumes nothing.
-use native.Mathlib.Omega.{arith}
-use borrow.Author.Needs.{needs}
-use borrow.Author.Tests.{eq-eqb, ne-eqb}
+-- `place_components::counted` meets its contract: one more exactly where the number is x. Assumes nothing.
+use Rattle.base_lists.specs.Kit.{arith, needs, eq-eqb, ne-eqb}
 use Rattle.place_components.proofs.counted.Statement.{statement}
 use Rattle.place_components.proofs.counted.Tie as tie
 
@@ -9,10 +7,10 @@ add-result : tie.Need-add-result
 add-result c = search needs
 
 returns : tie.Need-returns
-returns c = let a = c .before .args in rw (eq-eqb (a .label) (a .x) (c .if1 .taken))
+returns c = let a = c .before .args in rw (eq-eqb (a .number) (a .x) (c .if1 .taken))
 
 returns-2 : tie.Need-returns-2
-returns-2 c = let a = c .before .args in rw (ne-eqb (a .label) (a .x) (c .if1 .left)) (omega arith)
+returns-2 c = let a = c .before .args in rw (ne-eqb (a .number) (a .x) (c .if1 .left)) (omega arith)
 
 pub counted-spec : {M : Type 1} → statement M
 counted-spec = tie.close (tie.spec add-result returns returns-2)

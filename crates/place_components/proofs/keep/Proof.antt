@@ -1,18 +1,8 @@
--- `place_components::keep` meets its contract. The loop's invariant: of the first i nodes those with the label stand in front, and the nodes from the
+-- `place_components::keep` meets its contract. The loop's invariant: of the first i nodes those with the number stand in front, and the nodes from the
 -- i-th on stand where they stood. The measure is how many are left. Assumes nothing.
-use mathlib.Core.Bool.{Bool, true, false, cond}
-use mathlib.Core.List.{List, [], _∷_, _++_, append-nil}
-use mathlib.Core.Path.{_≡_, refl, sym, ap, subst, _∙_}
-use Prim.Native.Nat.{ℕ, suc, _+_, _-_, _≤_, _<_}
-use native.Mathlib.Nat.{add-zero, le-refl}
-use native.Mathlib.Numerals.{add-one}
-use native.Mathlib.Omega.{arith}
-use borrow.Author.Needs.{needs}
-use denote.Ref.{now}
-use lib.Dec.{eqb}
-use lib.ListN.{length, getD, take, set, length-set}
-use lib.Seq.{length-take-le, take-suc, take-suc-set, take-set-le, getD-take, getD-set-other}
+use Rattle.base_lists.specs.Kit.{now, _≡_, _∙_, sym, ap, refl, subst, Bool, false, true, cond, List, [], _∷_, _++_, append-nil, ℕ, _≤_, _<_, _+_, _-_, le-refl, add-zero, add-one, eqb, length, getD, take, set, length-set, length-take-le, getD-set-other, getD-take, take-suc, take-suc-set, take-set-le, arith}
 use Rattle.base_lists.specs.List.{Below}
+use Rattle.base_lists.proofs.Tests.{cond-le}
 use Rattle.place_components.specs.Components.{having}
 use Rattle.place_components.proofs.Lists.{having-more}
 use Rattle.place_components.proofs.keep.Statement.{statement}
@@ -34,15 +24,15 @@ keep-next p queue queue₀ kept i v h k e q = go (p v) ∙ sym more
     go false = rw add-zero (take-set-le kept queue kept v (le-refl kept) ∙ sym (append-nil (take kept queue)))
 
 abbrev Inv-loop : tie.InvT-loop
-Inv-loop labels x k queue₀ kept₀ i₀ queue kept i =
+Inv-loop componentOf x k queue₀ kept₀ i₀ queue kept i =
     (i ≤ k)
     × (kept ≤ i)
     × (length queue ≡ length queue₀)
-    × (take kept queue ≡ having (λ v. eqb (getD labels v 0) x) (take i queue₀))
+    × (take kept queue ≡ having (λ v. eqb (getD componentOf v 0) x) (take i queue₀))
     × ((j : ℕ) → i ≤ j → getD queue j 0 ≡ getD queue₀ j 0)
 
 abbrev μ-loop : tie.MeasureT-loop
-μ-loop labels x k queue₀ kept₀ i₀ queue kept i = k - i
+μ-loop componentOf x k queue₀ kept₀ i₀ queue kept i = k - i
 
 loop-holds : tie.Need-loop-holds Inv-loop μ-loop
 unfolding having
@@ -67,13 +57,13 @@ slice-read-v c = omega (arith, room (c .before))
 cast-at : tie.Need-cast-at Inv-loop μ-loop
 cast-at c = omega (arith, c .slice-known2 .given (c .before .before .loop .i))
 
--- it has a label
-node : (c : tie.In-loop Inv-loop μ-loop) → getD (c .before .loop .queue) (c .before .loop .i) 0 < length (now (begun (c .before) .args .labels))
+-- it has a number
+node : (c : tie.In-loop Inv-loop μ-loop) → getD (c .before .loop .queue) (c .before .loop .i) 0 < length (now (begun (c .before) .args .component-of))
 unfolding Below
 node c =
     let l = c .before .loop in
     let s = begun (c .before) in
-    subst (λ (v : ℕ). v < length (now (s .args .labels))) (getD-take (s .args .k) (now (s .args .queue)) (l .i) 0 (c .loop-test .taken) ∙ sym (l .inv .4 (l .i) (le-refl _)))
+    subst (λ (v : ℕ). v < length (now (s .args .component-of))) (getD-take (s .args .k) (now (s .args .queue)) (l .i) 0 (c .loop-test .taken) ∙ sym (l .inv .4 (l .i) (le-refl _)))
     (s .pre .2 (l .i) (rw (length-take-le (s .args .k) (now (s .args .queue)) (s .pre .0)) (c .loop-test .taken)))
 
 mul-queue : tie.Need-mul-queue Inv-loop μ-loop
@@ -100,10 +90,6 @@ add-i c = omega (arith, room (turn c))
 loop-less : tie.Need-loop-less Inv-loop μ-loop
 loop-less c = omega arith
 
-one-le : (b : Bool) → cond b 1 0 ≤ 1
-one-le true = omega arith
-one-le false = omega arith
-
 loop-again : tie.Need-loop-again Inv-loop μ-loop
 loop-again c =
     let here = turn c in
@@ -111,9 +97,9 @@ loop-again c =
     let a = begun (here .before) .args in
     let r = room here in
     let v = getD (l .queue) (l .i) 0 in
-    let p : ℕ → Bool = λ w. eqb (getD (now (a .labels)) w 0) (a .x) in (
+    let p : ℕ → Bool = λ w. eqb (getD (now (a .component-of)) w 0) (a .x) in (
       omega (arith, here .loop-test .taken),
-      omega (arith, c .counted .ensures, one-le (p v), l .inv .1),
+      omega (arith, c .counted .ensures, cond-le (p v), l .inv .1),
       length-set (l .queue) (l .kept) v ∙ l .inv .2,
       rw (c .counted .ensures) (keep-next p (l .queue) (now (a .queue)) (l .kept) (l .i) v (omega (arith, l .inv .2)) (r .1) (l .inv .4 (l .i) (le-refl _)) (l .inv .3)),
       λ j h. getD-set-other (l .queue) (l .kept) j v 0 (λ e. omega (arith, l .inv .1)) ∙ l .inv .4 j (omega arith),
@@ -127,7 +113,7 @@ returns c =
     let l = c .before .loop in
     let s = begun (c .before) in
     let e : l .i ≡ s .args .k = omega (arith, c .loop-test .left, l .inv .0) in
-    (omega (arith, l .inv .1, l .inv .0, l .inv .2, s .pre .0), l .inv .3 ∙ ap (λ (m : ℕ). having (λ v. eqb (getD (now (s .args .labels)) v 0) (s .args .x)) (take m (now (s .args .queue)))) e)
+    (omega (arith, l .inv .1, l .inv .0, l .inv .2, s .pre .0), l .inv .3 ∙ ap (λ (m : ℕ). having (λ v. eqb (getD (now (s .args .component-of)) v 0) (s .args .x)) (take m (now (s .args .queue)))) e)
 
 pub keep-spec : {M : Type 1} → statement M
 keep-spec =

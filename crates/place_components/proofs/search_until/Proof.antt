@@ -1,38 +1,25 @@
--- `place_components::search_until` meets its contract. The loop's invariant: proofs/Seeking's, of the state that the tables stand for, and so many of the nodes reached
--- have the centre's label. The measure is how many levels and how many nodes are left. Assumes nothing.
-use mathlib.Core.Bool.{Bool, true, false, not, _&&_}
-use mathlib.Core.List.{List}
-use mathlib.Core.Path.{_≡_, refl, sym, ap, subst, _∙_}
-use Prim.Native.Nat.{ℕ, _+_, _-_, _≤_, _<_}
-use native.Mathlib.Nat.{le-refl}
-use native.Mathlib.Omega.{arith}
-use borrow.Author.Needs.{needs}
-use borrow.Author.Tests.{eq-eqb, ne-eqb, lt-ltb, eqb-true}
-use denote.Ref.{now}
-use lib.Dec.{eqb, ltb, ltb→lt}
-use lib.ListN.{length, getD, take}
-use lib.Seq.{length-take-le, take-take, getD-take}
-use Rattle.base_lists.proofs.Tests.{both-left, both-right, true-T, false-T}
-use Rattle.graph.specs.Bfs.{State, start, adjacent, stateOf, Searching}
-use Rattle.graph.proofs.BfsSteps.{extends-scan, tables-extend, tail-le, reached-length, queue-node}
+-- `place_components::search_until` meets its contract. The loop's invariant: the search has gone on from the centre to the state that the tables stand for, and so many
+-- of the nodes reached have the centre's number. The measure is how many nodes are not reached. Assumes nothing.
+use Rattle.base_lists.specs.Kit.{now, _≡_, _∙_, sym, ap, refl, List, ℕ, _≤_, _-_, not-suc-le-zero, length, getD, take, length-take-le, take-take, arith, needs, eq-eqb}
+use Rattle.graph.specs.Bfs.{SearchState, start, adjacent, stateOf, Searching}
+use Rattle.graph.proofs.BfsSteps.{tail-le, reached-length}
 use Rattle.graph.proofs.Net.{net-few}
-use Rattle.place_components.specs.Components.{having, sameLabel}
-use Rattle.place_components.proofs.Seeking.{Seeking, counted-on, all-until, seeking-start, seeking-next, seeking-level, seeking-none, seeking-until}
+use Rattle.graph_search.specs.Until.{Advanced}
+use Rattle.graph_search.proofs.Onward.{centre, centre-standing, first-le, advanced-none, advanced-more, advanced-all, advanced-until}
+use Rattle.place_components.specs.Components.{having, sameComponent}
 use Rattle.place_components.proofs.search_until.Statement.{statement}
 use Rattle.place_components.proofs.search_until.Tie as tie
 
 abbrev Inv-loop : tie.InvT-loop
-Inv-loop offsets links labels size c r dist₀ queue₀ at x i₀ hi₀ tail₀ tally₀ d₀ dist queue i hi tail tally d =
-    Seeking (adjacent offsets links) (length labels) c r i hi d (stateOf dist queue tail)
-    × (length dist ≡ length labels)
-    × (length queue ≡ length labels)
-    × Searching dist queue tail
-    × (tally .seen ≤ tail)
-    × (tally .count ≡ length (having (sameLabel labels c) (take (tally .seen) queue)))
-    × (tally .count ≡ size → tally .seen ≡ tail)
+Inv-loop offsets targets componentOf size c r dist₀ queue₀ at x from₀ count₀ dist queue from count =
+    (length dist ≡ length componentOf)
+    × (length queue ≡ length componentOf)
+    × Searching dist queue (from .tail)
+    × Advanced (adjacent offsets targets) r 0 centre (start (length componentOf) c) from (stateOf dist queue (from .tail))
+    × (count ≡ length (having (sameComponent componentOf c) (take (from .tail) queue)))
 
 abbrev μ-loop : tie.MeasureT-loop
-μ-loop offsets links labels size c r dist₀ queue₀ at x i₀ hi₀ tail₀ tally₀ d₀ dist queue i hi tail tally d = (r - d) + (length labels - i)
+μ-loop offsets targets componentOf size c r dist₀ queue₀ at x from₀ count₀ dist queue from count = length componentOf - from .tail
 
 begin-requires : tie.Need-begin-requires Inv-loop μ-loop
 begin-requires c κs = search needs
@@ -43,233 +30,151 @@ mul-x c = search needs
 shared-slice-read-x : tie.Need-shared-slice-read-x Inv-loop μ-loop
 shared-slice-read-x c = search needs
 
--- the centre, which alone is reached, has its own label
-one : (n c : ℕ) (labels dist queue : List ℕ) → stateOf dist queue 1 ≡ start n c → _≡_ {A = ℕ} 1 (length (having (sameLabel labels c) (take 1 queue)))
+-- the centre, which alone is reached, has its own number
+one : (n c : ℕ) (componentOf dist queue : List ℕ) → stateOf dist queue 1 ≡ start n c → _≡_ {A = ℕ} 1 (length (having (sameComponent componentOf c) (take 1 queue)))
 unfolding having start stateOf
-one n c labels dist queue e =
-    rw (ap (λ (s : State). s .reached) e, eq-eqb (getD labels c 0) (getD labels c 0) refl)
+one n c componentOf dist queue e =
+    rw (ap (λ (s : SearchState). s .reached) e, eq-eqb (getD componentOf c 0) (getD componentOf c 0) refl)
 
 loop-holds : tie.Need-loop-holds Inv-loop μ-loop
 loop-holds c =
     let first = c .before .before .before .before .before .begin in
     let s = c .before .before .before .before .before .before .before .before .before .before .before .before .before in
-    let long = s .pre .1 .1 .1 in
+    let long = s .pre .1 .1 .0 .1 in
     let e = first .ensures .state in (
-      rw (e, long) (seeking-start _ _ _ _),
       first .kept .1 .0 ∙ sym long,
-      first .kept .1 .1 .0 ∙ sym (s .pre .1 .1 .0) ∙ sym long,
+      first .kept .1 .1 .0 ∙ sym (s .pre .1 .1 .0 .0) ∙ sym long,
       first .ensures .kept,
-      le-refl 1,
-      one _ _ (now (s .args .labels)) _ _ e,
-      λ _. refl,
+      rw (e, long) (advanced-none (centre-standing (s .args .r))),
+      one _ _ (now (s .args .component-of)) _ _ e,
     )
-
-goes-on-requires : tie.Need-goes-on-requires Inv-loop μ-loop
-goes-on-requires c κs = search needs
 
 abbrev begun : tie.At-loop Inv-loop μ-loop → tie.Start Inv-loop μ-loop
 begun c = c .before .before .before .before .before .before .before .before .before .before .before .before .before .before
 
 -- the tables are as long as before
 long : (c : tie.At-loop Inv-loop μ-loop) → (length (c .loop .dist) ≡ length (now (begun c .args .dist))) × (length (c .loop .queue) ≡ length (now (begun c .args .queue)))
-long c = let p = begun c .pre .1 .1 in (c .loop .inv .1 ∙ p .1, c .loop .inv .2 ∙ p .1 ∙ p .0)
+long c = let p = begun c .pre .1 .1 .0 in (c .loop .inv .0 ∙ p .1, c .loop .inv .1 ∙ p .1 ∙ p .0)
 
--- ---- a turn: links are left to follow
+-- there are not too many nodes, and not too many are wanted
+few : (c : tie.At-loop Inv-loop μ-loop) → (c .loop .from .tail ≤ length (now (begun c .args .component-of))) × (length (now (begun c .args .component-of)) ≤ 512) × (begun c .args .size ≤ 65536)
+few c =
+    let p = begun c .pre in
+    (omega (arith, tail-le _ _ _ (c .loop .inv .2), c .loop .inv .0), omega (arith, p .1 .1 .0 .1, net-few (p .0)), p .1 .1 .1)
 
-abbrev turn : tie.Then1 Inv-loop μ-loop → tie.At-loop Inv-loop μ-loop
-turn c = c .before .before
+-- ---- a turn: more nodes with the number are wanted
 
-more : (c : tie.Then1 Inv-loop μ-loop) → turn c .loop .d < begun (turn c) .args .r
-more c =
-    let l = turn c .loop in
-    let a = begun (turn c) .args in
-    ltb→lt (l .d) (a .r) (both-right (not (eqb (l .tally .count) (a .size))) (ltb (l .d) (a .r)) (true-T (sym (c .before .goes-on .ensures) ∙ c .if1 .taken)))
+sub-wanted : tie.Need-sub-wanted Inv-loop μ-loop
+sub-wanted c = omega (arith, c .loop-test .taken)
 
--- there are not as many as wanted yet
-wanted : (c : tie.Then1 Inv-loop μ-loop) → turn c .loop .tally .count ≡ begun (turn c) .args .size → ⊥
-wanted c e =
-    let l = turn c .loop in
-    let a = begun (turn c) .args in
-    let t = both-left (not (eqb (l .tally .count) (a .size))) (ltb (l .d) (a .r)) (true-T (sym (c .before .goes-on .ensures) ∙ c .if1 .taken)) in
-    rw (eq-eqb (l .tally .count) (a .size) e) at t
+add-wanted : tie.Need-add-wanted Inv-loop μ-loop
+add-wanted c = omega (arith, few (c .before .before))
 
--- there are nodes for all levels and for all steps of the queue
-near : (c : tie.Then1 Inv-loop μ-loop) → let l = turn c .loop in
-    (l .i ≤ l .hi) × (l .hi ≤ l .tail) × (l .d < l .hi) × (l .tail ≤ length (now (begun (turn c) .args .labels))) × (length (now (begun (turn c) .args .labels)) < 65535)
-near c =
-    let at = turn c in
-    let l = at .loop in
-    let s = l .inv .0 in
-    let size = reached-length _ _ _ (l .inv .3) in
-    let low = tail-le _ _ _ (l .inv .3) in (
-      s .looked,
-      omega (arith, s .listed, size),
-      s .deep,
-      omega (arith, low, l .inv .1),
-      omega (arith, begun at .pre .1 .1 .1, net-few (begun at .pre .0)),
-    )
+advance-requires : tie.Need-advance-requires Inv-loop μ-loop
+advance-requires c κs =
+    let at = c .before .before .before .before in
+    (rw (long at .0) (begun at .pre .0), (at .loop .inv .2, at .loop .inv .3 .standing))
 
--- all that is reached has been looked from: no farther is anything found
+abbrev turn : tie.After-advance Inv-loop μ-loop → tie.At-loop Inv-loop μ-loop
+turn c = c .before .before .before .before .before
 
-same-length : tie.Need-same-length Inv-loop μ-loop
-same-length c = long (turn (c .before .before)) .0
-
-same-length-2 : tie.Need-same-length-2 Inv-loop μ-loop
-same-length-2 c = long (turn (c .before .before)) .1
-
-returns : tie.Need-returns Inv-loop μ-loop
+-- what was reached stands where it stood
+longer : (c : tie.After-advance Inv-loop μ-loop) → let l = turn c .loop in
+    (l .from .tail ≤ c .advance .result .tail) × (take (l .from .tail) (c .advance .last .1 .1 .1 .1 .1 .1 .0) ≡ take (l .from .tail) (l .queue))
 unfolding stateOf
-returns c =
-    let at = turn (c .before .before) in
+longer c =
+    let l = turn c .loop in
+    let call = c .advance in
+    let queue = call .last .1 .1 .1 .1 .1 .1 .0 in
+    let before = reached-length _ _ _ (l .inv .2) in
+    let after = reached-length _ _ _ (call .ensures .0) in
+    let first = call .ensures .1 .longer in
+    let more : l .from .tail ≤ call .result .tail = omega (arith, first-le _ _ first, before, after) in
+    (more, sym (take-take (l .from .tail) (call .result .tail) queue more) ∙ (rw before at first))
+
+slice-reshare-prefix-count-from : tie.Need-slice-reshare-prefix-count-from Inv-loop μ-loop
+slice-reshare-prefix-count-from c = c .before .before .before .before .advance .ensures .0 .within
+
+slice-aggregate-count-from : tie.Need-slice-aggregate-count-from Inv-loop μ-loop
+slice-aggregate-count-from c = sym (length-take-le _ _ (c .before .before .before .before .before .advance .ensures .0 .within))
+
+count-from-requires : tie.Need-count-from-requires Inv-loop μ-loop
+unfolding stateOf
+count-from-requires c κs =
+    let done = c .before .before .before .before .before in
+    let at = turn done in
     let l = at .loop in
     let a = begun at .args in
-    let k = l .inv .3 in
-    let size = reached-length _ _ _ k in
-    let all = seeking-none (l .inv .0) (c .before .if2 .taken) (more (c .before .before)) (omega (arith, size, c .before .if2 .taken, c .if3 .taken)) in
-    (k .within, all-until (sameLabel (now (a .labels)) (a .c)) (a .size) (rw (long at .0) at (k .ready .inside)) (rw (begun at .pre .1 .1 .1) at all))
+    let call = done .advance in
+    let k = call .ensures .0 in
+    let queue = call .last .1 .1 .1 .1 .1 .1 .0 in
+    let size = length-take-le (call .result .tail) queue (k .within) in
+    let (more, same) = longer done in
+    let e = call .kept .1 .1 .1 .1 .1 .0 ∙ l .inv .0 in (
+      (omega (arith, size, more), omega (arith, size, tail-le _ _ _ k, e, few at), rw e at (k .ready .inside)),
+      l .inv .4 ∙ ap (λ (ns : List ℕ). length (having (sameComponent (now (a .component-of)) (a .c)) ns)) (sym same ∙ sym (take-take (l .from .tail) (call .result .tail) queue more)),
+    )
 
--- those at most d links away have: the next level begins
+-- ---- fewer nodes are reached than could be enough: nothing is left
 
-add-d : tie.Need-add-d Inv-loop μ-loop
-add-d c = omega (arith, near (c .before .before))
+same-length : tie.Need-same-length Inv-loop μ-loop
+same-length c = let done = c .before .before .before .before .before .before .before .before in done .advance .kept .1 .1 .1 .1 .1 .0 ∙ long (turn done) .0
+
+same-length-2 : tie.Need-same-length-2 Inv-loop μ-loop
+same-length-2 c = let done = c .before .before .before .before .before .before .before .before in done .advance .kept .1 .1 .1 .1 .1 .1 .0 ∙ long (turn done) .1
+
+returns : tie.Need-returns Inv-loop μ-loop
+returns c =
+    let done = c .before .before .before .before .before .before .before .before in
+    let at = turn done in
+    let call = done .advance in
+    let more = advanced-more (at .loop .inv .3) (call .ensures .1) in
+    let u = advanced-until _ _ refl more in (
+      call .ensures .0,
+      rw (← begun at .pre .1 .1 .0 .1)
+          (record { depth = u .depth; rest = u .rest; within = u .within; first = u .first; all = λ _. advanced-all _ _ refl more (c .if1 .taken) }),
+    )
+
+-- ---- there may be enough
 
 loop-less : tie.Need-loop-less Inv-loop μ-loop
-loop-less c = omega (arith, more (c .before .before))
+loop-less c =
+    let done = c .before .before .before .before .before .before .before .before in
+    let at = turn done in
+    let call = done .advance in
+    omega (arith, few at, c .if1 .left, done .before .before .before .before .loop-test .taken, tail-le _ _ _ (call .ensures .0), call .kept .1 .1 .1 .1 .1 .0, at .loop .inv .0)
 
 loop-again : tie.Need-loop-again Inv-loop μ-loop
 loop-again c =
-    let l = turn (c .before .before) .loop in
-    let n = near (c .before .before) in (
-      seeking-level (l .inv .0) (c .before .if2 .taken) (l .tail) (more (c .before .before)) (omega (arith, n, c .if3 .left)) (sym (reached-length _ _ _ (l .inv .3))),
-      l .inv .1,
-      l .inv .2,
-      l .inv .3,
-      l .inv .4,
-      l .inv .5,
-      l .inv .6,
-    )
-
--- one of them has not
-
-next : (c : tie.Else2 Inv-loop μ-loop) → turn (c .before) .loop .i < turn (c .before) .loop .hi
-next c = omega (arith, near (c .before), c .if2 .left)
-
-mul-v : tie.Need-mul-v Inv-loop μ-loop
-mul-v c = omega (arith, near (c .before), next c)
-
-slice-read-v : tie.Need-slice-read-v Inv-loop μ-loop
-slice-read-v c = omega (arith, near (c .before .before), next (c .before), turn (c .before .before) .loop .inv .2)
-
-cast-v : tie.Need-cast-v Inv-loop μ-loop
-cast-v c = omega (arith, c .slice-known5 .given (turn (c .before .before) .loop .i))
-
-add-expand : tie.Need-add-expand Inv-loop μ-loop
-add-expand c = omega (arith, near (c .before .before))
-
-expand-requires : tie.Need-expand-requires Inv-loop μ-loop
-expand-requires c κs =
-    let here = c .before .before .before .before in
-    let at = turn here in
+    let done = c .before .before .before .before .before .before .before .before in
+    let at = turn done in
     let l = at .loop in
-    (rw (long at .0) (begun at .pre .0), (l .inv .3, (queue-node _ _ _ (l .inv .3) (l .i) (omega (arith, near here, next (c .before .before .before))), omega (arith, near here))))
-
-abbrev there : tie.After-expand Inv-loop μ-loop → tie.Else2 Inv-loop μ-loop
-there c = c .before .before .before .before
-
--- what was reached stands where it stood
-longer : (c : tie.After-expand Inv-loop μ-loop) (k : ℕ) → let l = turn (there c .before) .loop in
-    k ≤ l .tail → (k ≤ c .expand .result) × (take k (c .expand .last .1 .1 .1 .1 .1 .0) ≡ take k (l .queue))
-longer c k h =
-    let l = turn (there c .before) .loop in
-    tables-extend k _ _ _ _ _ _ _ (l .inv .3) (c .expand .ensures) (extends-scan _ (stateOf (l .dist) (l .queue) (l .tail)) _) h
-
-slice-reshare-prefix-count-on : tie.Need-slice-reshare-prefix-count-on Inv-loop μ-loop
-slice-reshare-prefix-count-on c = c .before .before .before .before .expand .ensures .kept .within
-
-slice-aggregate-count-on : tie.Need-slice-aggregate-count-on Inv-loop μ-loop
-slice-aggregate-count-on c = sym (length-take-le _ _ (c .before .before .before .before .before .expand .ensures .kept .within))
-
--- so many of those that were counted have the label
-counted : (c : tie.After-expand Inv-loop μ-loop) → let at = turn (there c .before) in let a = begun at .args in
-    at .loop .tally .count ≡ length (having (sameLabel (now (a .labels)) (a .c)) (take (at .loop .tally .seen) (c .expand .last .1 .1 .1 .1 .1 .0)))
-counted c =
-    let at = turn (there c .before) in
-    let l = at .loop in
-    let a = begun at .args in
-    l .inv .5 ∙ ap (λ ns. length (having (sameLabel (now (a .labels)) (a .c)) ns)) (sym (longer c (l .tally .seen) (l .inv .4) .1))
-
-count-on-requires : tie.Need-count-on-requires Inv-loop μ-loop
-unfolding stateOf
-count-on-requires c κs =
-    let done = c .before .before .before .before .before in
-    let at = turn (there done .before) in
-    let l = at .loop in
-    let call = done .expand in
-    let a = begun at .args in
-    let p = begun at .pre in
-    let queue = call .last .1 .1 .1 .1 .1 .0 in
-    let size = length-take-le (call .result) queue (call .ensures .kept .within) in
-    let grows = longer done (l .tally .seen) (l .inv .4) .0 in
-    let e = call .kept .1 .1 .1 .1 .0 ∙ l .inv .1 in (
-      (omega (arith, size, grows), omega (arith, size, tail-le _ _ _ (call .ensures .kept), e, p .1 .1 .1, net-few (p .0)), rw e at (call .ensures .kept .ready .inside)),
-      counted done ∙ ap (λ ns. length (having (sameLabel (now (a .labels)) (a .c)) ns)) (sym (take-take (l .tally .seen) (call .result) queue grows)),
-    )
-
-abbrev after : tie.After-count-on Inv-loop μ-loop → tie.After-expand Inv-loop μ-loop
-after c = c .before .before .before .before .before .before
-
-add-i : tie.Need-add-i Inv-loop μ-loop
-add-i c = omega (arith, near (there (after c) .before), next (there (after c)))
-
-loop-less-2 : tie.Need-loop-less-2 Inv-loop μ-loop
-loop-less-2 c = omega (arith, near (there (after c) .before), next (there (after c)))
-
-loop-again-2 : tie.Need-loop-again-2 Inv-loop μ-loop
-unfolding stateOf
-loop-again-2 c =
-    let done = after c in
-    let here = there done in
-    let at = turn (here .before) in
-    let l = at .loop in
-    let call = done .expand in
-    let seen = longer done (l .tally .seen) (l .inv .4) .0 in
-    let t = counted-on (call .result) (call .last .1 .1 .1 .1 .1 .0) (call .ensures .kept .within) (c .count-on .ensures) seen (counted done) (wanted (here .before)) in
-    let entry = sym (getD-take (l .tail) (l .queue) (l .i) 0 (omega (arith, near (here .before), next here))) in (
-      subst (Seeking _ _ _ _ (l .i + 1) (l .hi) (l .d)) (sym (call .ensures .state)) (seeking-next (l .inv .0) _ (next here) (more (here .before)) entry),
-      call .kept .1 .1 .1 .1 .0 ∙ l .inv .1,
-      call .kept .1 .1 .1 .1 .1 .0 ∙ l .inv .2,
-      call .ensures .kept,
-      t .0,
-      t .1,
-      t .2,
+    let call = done .advance in
+    let more = advanced-more (l .inv .3) (call .ensures .1) in (
+      call .kept .1 .1 .1 .1 .1 .0 ∙ l .inv .0,
+      call .kept .1 .1 .1 .1 .1 .1 .0 ∙ l .inv .1,
+      call .ensures .0,
+      record { standing = more .standing; further = more .further; longer = more .longer; same = more .same; all = λ h. absurd (not-suc-le-zero h) },
+      c .before .before .count-from .ensures,
     )
 
 -- ---- the end
 
 same-length-3 : tie.Need-same-length-3 Inv-loop μ-loop
-same-length-3 c = long (c .before .before) .0
+same-length-3 c = long (c .before) .0
 
 same-length-4 : tie.Need-same-length-4 Inv-loop μ-loop
-same-length-4 c = long (c .before .before) .1
-
--- it stops before r only with so many nodes of the label
-stopped : (b : Bool) (d r : ℕ) → (not b && ltb d r) ≡ false → d < r → b ≡ true
-stopped true d r e h = refl
-stopped false d r e h = absurd (false-T (sym (lt-ltb d r h) ∙ e) tt)
+same-length-4 c = long (c .before) .1
 
 returns-2 : tie.Need-returns-2 Inv-loop μ-loop
-unfolding stateOf
 returns-2 c =
-    let at = c .before .before in
+    let at = c .before in
     let l = at .loop in
     let a = begun at .args in
-    let k = l .inv .3 in (
-      k .within,
-      rw (begun at .pre .1 .1 .1) at
-          (seeking-until (l .inv .0) (sameLabel (now (a .labels)) (a .c)) (a .size) (rw (l .inv .1) at (k .ready .inside))
-          (λ h.
-          let q = eqb-true (l .tally .count) (a .size) (stopped _ (l .d) (a .r) (sym (c .before .goes-on .ensures) ∙ c .if1 .left) h) in
-          ap (λ (k : ℕ). length (having (sameLabel (now (a .labels)) (a .c)) (take k (l .queue)))) (sym (l .inv .6 q)) ∙ sym (l .inv .5) ∙ q)),
+    let u = advanced-until _ _ refl (l .inv .3) in
+    let enough : a .size ≤ length (having (sameComponent (now (a .component-of)) (a .c)) (take (l .from .tail) (l .queue))) = omega (arith, l .inv .4, c .loop-test .left) in (
+      l .inv .2,
+      rw (← begun at .pre .1 .1 .0 .1) (record { depth = u .depth; rest = u .rest; within = u .within; first = u .first; all = λ none. absurd (none enough) }),
     )
 
 pub search-until-spec : {M : Type 1} → statement M
@@ -282,24 +187,17 @@ search-until-spec =
     mul-x
     shared-slice-read-x
     loop-holds
-    goes-on-requires
+    sub-wanted
+    add-wanted
+    advance-requires
+    slice-reshare-prefix-count-from
+    slice-aggregate-count-from
+    count-from-requires
     same-length
     same-length-2
     returns
-    add-d
     loop-less
     loop-again
-    mul-v
-    slice-read-v
-    cast-v
-    add-expand
-    expand-requires
-    slice-reshare-prefix-count-on
-    slice-aggregate-count-on
-    count-on-requires
-    add-i
-    loop-less-2
-    loop-again-2
     same-length-3
     same-length-4
     returns-2)

@@ -1,14 +1,7 @@
 -- `place_mark::clear` meets its contract. The loop's invariant: the bytes before i are 0, and the others as they were. The measure is how many
 -- are left. Assumes nothing.
-use mathlib.Core.List.{_++_, append-nil}
-use mathlib.Core.Path.{_≡_, refl, _∙_}
-use Prim.Native.Nat.{_-_, _≤_}
-use native.Mathlib.Omega.{arith}
+use Rattle.base_lists.specs.Kit.{now, _≡_, _∙_, refl, _++_, append-nil, _≤_, _-_, length, drop, length-set, replicate, drop-length, arith, needs}
 use borrow.Author.Fill.{fill-more}
-use borrow.Author.Needs.{needs}
-use denote.Ref.{now}
-use lib.ListN.{length, drop, replicate, length-set}
-use lib.Seq.{drop-length}
 use Rattle.place_mark.proofs.clear.Statement.{statement}
 use Rattle.place_mark.proofs.clear.Tie as tie
 

@@ -1,6 +1,5 @@
 -- `place_mark::link_byte` meets its contract, by the test as it comes out. Assumes nothing.
-use mathlib.Core.Path.{sym, _∙_}
-use borrow.Author.Needs.{needs}
+use Rattle.base_lists.specs.Kit.{_∙_, sym, needs}
 use Rattle.place_mark.proofs.link_byte.Statement.{statement}
 use Rattle.place_mark.proofs.link_byte.Tie as tie
 

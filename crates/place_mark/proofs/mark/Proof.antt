@@ -1,10 +1,5 @@
 -- `place_mark::mark` meets its contract: each table by its own function. Assumes nothing.
-use mathlib.Core.List.{List}
-use mathlib.Core.Path.{_≡_, ap, _∙_}
-use Prim.Native.Nat.{ℕ}
-use borrow.Author.Needs.{needs}
-use denote.Ref.{now}
-use lib.ListN.{getD}
+use Rattle.base_lists.specs.Kit.{now, _∙_, ap, ℕ, getD, needs}
 use Rattle.table.specs.Fill.{marksOf, tableAt}
 use Rattle.place_mark.proofs.mark.Statement.{statement}
 use Rattle.place_mark.proofs.mark.Tie as tie

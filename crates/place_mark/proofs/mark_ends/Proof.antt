@@ -1,18 +1,10 @@
 -- `place_mark::mark_ends` meets its contract. The loop's invariant: the bytes before k are marked, and the others as they were. The measure is
 -- how many are left. Assumes nothing.
-use mathlib.Core.Bool.{cond}
-use mathlib.Core.List.{List, _++_}
-use mathlib.Core.Path.{_≡_, refl, ap, subst, _∙_}
-use Prim.Native.Nat.{ℕ, _-_, _≤_, _<_}
-use native.Mathlib.Omega.{arith}
-use borrow.Author.Needs.{needs}
-use denote.Ref.{now}
-use lib.ListN.{length, getD, drop, length-set}
+use Rattle.base_lists.specs.Kit.{now, _≡_, _∙_, refl, subst, cond, List, _++_, ℕ, _≤_, _<_, _-_, length, getD, drop, length-set, arith, needs}
 use Rattle.base_lists.specs.List.{tabulate, Below}
-use Rattle.base_lists.proofs.Tables.{filled-none, filled-more, whole}
+use Rattle.base_lists.proofs.Tables.{filled-none, filled-more, stored-whole, filled-rest}
 use Rattle.base_bits.specs.Bits.{intersects}
 use Rattle.place.specs.Bytes.{markedEnds}
-use Rattle.place_mark.proofs.Marks.{filled-rest}
 use Rattle.place_mark.proofs.mark_ends.Statement.{statement}
 use Rattle.place_mark.proofs.mark_ends.Tie as tie
 
@@ -87,7 +79,7 @@ returns c =
     let a = s .args in
     let e : loop .k ≡ length (now (a .ends)) = omega arith in
     subst (λ (k : ℕ). loop .bytes ≡ tabulate k (byte (now (a .ends)) (a .driven) (now (a .sets)) (now (a .bytes))) ++ drop k (now (a .bytes))) e (loop .inv .2)
-    ∙ whole _ (now (a .bytes)) (length (now (a .ends))) (omega arith)
+    ∙ stored-whole _ (now (a .bytes)) (length (now (a .ends))) (omega arith)
 
 pub mark-ends-spec : {M : Type 1} → statement M
 mark-ends-spec =

@@ -1,11 +1,6 @@
 -- `place_mark::mark_links` meets its contract. The loop's invariant: marking the links of the nodes that are left leads to the bytes with all of
 -- them. The measure is how many are left. Assumes nothing.
-use mathlib.Core.Path.{_≡_, refl, sym, ap, _∙_}
-use Prim.Native.Nat.{_-_, _≤_, _<_}
-use native.Mathlib.Omega.{arith}
-use borrow.Author.Needs.{needs}
-use denote.Ref.{now}
-use lib.ListN.{length, getD, drop}
+use Rattle.base_lists.specs.Kit.{now, _≡_, _∙_, sym, ap, refl, _≤_, _-_, length, drop, arith, needs}
 use Rattle.base_lists.specs.List.{Below}
 use Rattle.table.specs.Prepared.{tables, Tables}
 use Rattle.place.specs.Bytes.{markStarts}
@@ -22,7 +17,7 @@ abbrev μ-loop : tie.MeasureT-loop
 μ-loop masks offsets links sets list bytes₀ i₀ bytes i = length list - i
 
 abbrev tablesOf : tie.Start Inv-loop μ-loop → Tables
-tablesOf s = tables (now (s .args .masks)) (now (s .args .offsets)) (now (s .args .links))
+tablesOf s = tables (now (s .args .masks)) (now (s .args .offsets)) (now (s .args .targets))
 
 clear-requires : tie.Need-clear-requires Inv-loop μ-loop
 clear-requires c κs = search needs

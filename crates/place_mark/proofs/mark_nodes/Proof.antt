@@ -1,11 +1,6 @@
 -- `place_mark::mark_nodes` meets its contract. The loop's invariant: writing at the nodes that are left leads to the table with all of them. The
 -- measure is how many are left. Assumes nothing.
-use mathlib.Core.Path.{_≡_, refl, sym, _∙_}
-use Prim.Native.Nat.{_-_, _≤_, _<_}
-use native.Mathlib.Omega.{arith}
-use borrow.Author.Needs.{needs}
-use denote.Ref.{now}
-use lib.ListN.{length, getD, drop, length-set}
+use Rattle.base_lists.specs.Kit.{now, _≡_, _∙_, sym, refl, _≤_, _-_, length, drop, length-set, arith, needs}
 use Rattle.base_lists.specs.List.{Below}
 use Rattle.table.specs.Fill.{fillAt}
 use Rattle.place_mark.proofs.Marks.{fill-next, fill-end, ones-marks}

@@ -1,11 +1,5 @@
 -- `place_mark::mark_start` meets its contract: the node's links are the stretch of the bytes between its two offsets. Assumes nothing.
-use mathlib.Core.Path.{_≡_, sym, ap, _∙_}
-use Prim.Native.Nat.{_+_, _-_, _≤_}
-use native.Mathlib.Omega.{arith}
-use borrow.Author.Needs.{needs}
-use denote.Ref.{now}
-use lib.ListN.{length, getD, drop, length-drop}
-use lib.Seq.{length-take-le}
+use Rattle.base_lists.specs.Kit.{now, _≡_, sym, _≤_, _+_, _-_, length, getD, drop, length-drop, length-take-le, arith, needs}
 use Rattle.graph_neighbours.specs.Lookup.{neighboursIn}
 use Rattle.graph_neighbours.proofs.Lookup.{neighbours-below}
 use Rattle.graph.proofs.Net.{net-few}
@@ -15,7 +9,7 @@ use Rattle.place_mark.proofs.mark_start.Statement.{statement}
 use Rattle.place_mark.proofs.mark_start.Tie as tie
 
 abbrev tablesOf : tie.Start → Tables
-tablesOf s = tables (now (s .args .masks)) (now (s .args .offsets)) (now (s .args .links))
+tablesOf s = tables (now (s .args .masks)) (now (s .args .offsets)) (now (s .args .targets))
 
 neighbours-in-requires : tie.Need-neighbours-in-requires
 neighbours-in-requires c κs = let s = c .before .before .before .before .before in record { nodes = _; net = s .pre .0 .net; node = s .pre .1 .0 }

@@ -1,10 +1,6 @@
 -- `proposal_check::check_circuits` meets its contract: the tests one after another; what is left of the links is a board of its own. Assumes nothing.
-use mathlib.Core.Path.{sym, _∙_}
-use borrow.Author.Tests.{not-true, not-false}
-use borrow.Author.Needs.{needs}
-use lib.Seq.{length-take-le}
-use Rattle.graph.proofs.Groups.{all-below}
-use Rattle.graph.proofs.Below.{below-wider}
+use Rattle.base_lists.specs.Kit.{_∙_, sym, length-take-le, needs, not-false, not-true}
+use Rattle.base_lists.proofs.Entries.{all-below, below-wider}
 use Rattle.file_format.proofs.Accepted.{bounded-starts, bounded-ends}
 use Rattle.proposal_check.proofs.Marked.{marks-not, near-not, fills-left, left-parallel, left-sizes, left-nodes, left-tabled}
 use Rattle.proposal_check.proofs.check_circuits.Statement.{statement}
@@ -60,29 +56,29 @@ choose-requires c κs = search needs
 choose-requires-2 : tie.Need-choose-requires-2
 choose-requires-2 c κs = search needs
 
-slice-reshare-prefix-prepare : tie.Need-slice-reshare-prefix-prepare
-slice-reshare-prefix-prepare c = search needs
+slice-reshare-prefix-prepare-along : tie.Need-slice-reshare-prefix-prepare-along
+slice-reshare-prefix-prepare-along c = search needs
 
-slice-aggregate-prepare : tie.Need-slice-aggregate-prepare
-slice-aggregate-prepare c = sym (length-take-le _ _ (c .before .before .before .before .before .before .before .choose .ensures .0))
+slice-aggregate-prepare-along : tie.Need-slice-aggregate-prepare-along
+slice-aggregate-prepare-along c = sym (length-take-le _ _ (c .before .before .before .before .before .before .before .choose .ensures .0))
 
-slice-reshare-prefix-prepare-2 : tie.Need-slice-reshare-prefix-prepare-2
-slice-reshare-prefix-prepare-2 c = search needs
+slice-reshare-prefix-prepare-along-2 : tie.Need-slice-reshare-prefix-prepare-along-2
+slice-reshare-prefix-prepare-along-2 c = search needs
 
-slice-aggregate-prepare-2 : tie.Need-slice-aggregate-prepare-2
-slice-aggregate-prepare-2 c = sym (length-take-le _ _ (c .before .before .before .before .choose2 .ensures .0))
+slice-aggregate-prepare-along-2 : tie.Need-slice-aggregate-prepare-along-2
+slice-aggregate-prepare-along-2 c = sym (length-take-le _ _ (c .before .before .before .before .choose2 .ensures .0))
 
-slice-aggregate-prepare-3 : tie.Need-slice-aggregate-prepare-3
-slice-aggregate-prepare-3 c = search needs
+slice-aggregate-prepare-along-3 : tie.Need-slice-aggregate-prepare-along-3
+slice-aggregate-prepare-along-3 c = search needs
 
-slice-aggregate-prepare-4 : tie.Need-slice-aggregate-prepare-4
-slice-aggregate-prepare-4 c = search needs
+slice-aggregate-prepare-along-4 : tie.Need-slice-aggregate-prepare-along-4
+slice-aggregate-prepare-along-4 c = search needs
 
-slice-aggregate-prepare-5 : tie.Need-slice-aggregate-prepare-5
-slice-aggregate-prepare-5 c = search needs
+slice-aggregate-prepare-along-5 : tie.Need-slice-aggregate-prepare-along-5
+slice-aggregate-prepare-along-5 c = search needs
 
-prepare-requires : tie.Need-prepare-requires
-prepare-requires c κs =
+prepare-along-requires : tie.Need-prepare-along-requires
+prepare-along-requires c κs =
     let p = c .before .before .before .before .before .before .before .before .before .before .before .before .before .before .before .before .before .before .before .before .before .before .before .before .before .before .before .before .before .before .before .before .before .pre .0 in
     let pattern = p .parts in
     let starts = below-wider _ 32 _ (pattern .nodes) (all-below _ _ (bounded-starts pattern)) in
@@ -117,7 +113,7 @@ fills-requires c κs =
     let p = c .before .before .before .before .before .before .before .before .before .before .before .before .before .before .before .before .before .before .before .before .before .before .before .before .before .before .before .before .before .before .before .before .before .before .before .before .before .before .before .before .before .before .pre in
     let s = c .before .before .before .before .before .before .before .before .before .before .before .before .before .before .before .before .before .before .before .before .choose .ensures .1 in
     let e = c .before .before .before .before .before .before .before .before .before .before .before .before .before .before .before .before .choose2 .ensures .1 in
-    let made = c .before .before .before .before .before .before .before .before .prepare .ensures in (
+    let made = c .before .before .before .before .before .before .before .before .prepare-along .ensures in (
       record { partStarts = _; partEnds = _; tabled = left-tabled (p .0) _ s e (made .0) (made .1) },
       (left-parallel (p .0) _ s e, (p .0 .nodes .nodes, p .1 .0, p .1 .1 .0)),
     )
@@ -133,7 +129,7 @@ returns-3 c =
     let p = c .before .before .before .before .before .before .before .before .before .before .before .before .before .before .before .before .before .before .before .before .before .before .before .before .before .before .before .before .before .before .before .before .before .before .before .before .before .before .before .before .before .before .before .pre in
     let s = c .before .before .before .before .before .before .before .before .before .before .before .before .before .before .before .before .before .before .before .before .before .choose .ensures .1 in
     let e = c .before .before .before .before .before .before .before .before .before .before .before .before .before .before .before .before .before .choose2 .ensures .1 in
-    let made = c .before .before .before .before .before .before .before .before .before .prepare .ensures in
+    let made = c .before .before .before .before .before .before .before .before .before .prepare-along .ensures in
     c .fills .ensures _ _ (left-tabled (p .0) _ s e (made .0) (made .1))
     ∙ fills-left _ _ _ _ _ _ (sym (c .before .before .before .before .before .before .before .before .before .before .before .before .before .before .before .before .before .before .before .before .before .before .before .before .before .before .before .before .before .before .before .before .marks-subgraph .ensures _) ∙ not-false _ (c .before .before .before .before .before .before .before .before .before .before .before .before .before .before .before .before .before .before .before .before .before .before .before .before .before .before .before .before .before .before .before .if1 .left)) (p .1 .1 .0)
     (sym (c .before .before .before .before .before .before .before .before .before .before .before .before .before .before .before .before .before .before .before .before .before .before .before .before .before .before .near .ensures) ∙ not-false _ (c .before .before .before .before .before .before .before .before .before .before .before .before .before .before .before .before .before .before .before .before .before .before .before .if2 .left)) s e
@@ -155,14 +151,14 @@ check-circuits-spec =
     returns-2
     choose-requires
     choose-requires-2
-    slice-reshare-prefix-prepare
-    slice-aggregate-prepare
-    slice-reshare-prefix-prepare-2
-    slice-aggregate-prepare-2
-    slice-aggregate-prepare-3
-    slice-aggregate-prepare-4
-    slice-aggregate-prepare-5
-    prepare-requires
+    slice-reshare-prefix-prepare-along
+    slice-aggregate-prepare-along
+    slice-reshare-prefix-prepare-along-2
+    slice-aggregate-prepare-along-2
+    slice-aggregate-prepare-along-3
+    slice-aggregate-prepare-along-4
+    slice-aggregate-prepare-along-5
+    prepare-along-requires
     slice-aggregate-fills
     slice-aggregate-fills-2
     slice-aggregate-fills-3

@@ -1,11 +1,5 @@
 -- `proposal_check::fills` meets its contract: the place is found in the board's own links, and compared with what is marked. Assumes nothing.
-use denote.Ref.{now}
-use mathlib.Core.Path.{_≡_, sym, subst, _∙_}
-use Prim.Native.Nat.{ℕ}
-use borrow.Author.Tests.{not-true, not-false}
-use borrow.Author.Needs.{needs}
-use lib.ListN.{length}
-use lib.Seq.{length-take-le}
+use Rattle.base_lists.specs.Kit.{now, _≡_, _∙_, sym, subst, ℕ, length, length-take-le, needs, not-false, not-true}
 use Rattle.base_lists.specs.List.{Below}
 use Rattle.table.specs.Prepared.{succOf}
 use Rattle.proposal_check.proofs.Searched.{cut-room, cut-long, cut-row, cut-links}
@@ -56,10 +50,10 @@ returns : tie.Need-returns
 returns c = λ ps pe d. found-not _ _ _ _ (sym (c .before .before .before .before .before .find-joined .ensures ps pe _ _ d .answer) ∙ not-true _ (c .if1 .taken))
 
 -- an entry and a set are left for each node
-dist-long : (c : tie.After-find-joined) → length (c .find-joined .last .1 .1 .1 .1 .1 .1 .0) ≡ length (now (c .before .before .before .before .before .before .before .before .before .before .before .before .before .args .node-kinds))
+dist-long : (c : tie.After-find-joined) → length (c .find-joined .last .1 .1 .1 .1 .1 .1 .0) ≡ length (now (c .before .before .before .before .before .before .before .before .before .before .before .before .before .args .node-labels))
 dist-long c = c .find-joined .kept .1 .1 .1 .1 .1 .1 .0 ∙ length-take-le _ _ (c .before .before .before .before .before .before .before .before .before .before .before .before .before .pre .1 .1 .0)
 
-sets-long : (c : tie.After-find-joined) → length (c .find-joined .last .1 .1 .1 .1 .1 .1 .1 .1 .0) ≡ length (now (c .before .before .before .before .before .before .before .before .before .before .before .before .before .args .node-kinds))
+sets-long : (c : tie.After-find-joined) → length (c .find-joined .last .1 .1 .1 .1 .1 .1 .1 .1 .0) ≡ length (now (c .before .before .before .before .before .before .before .before .before .before .before .before .before .args .node-labels))
 sets-long c = c .find-joined .kept .1 .1 .1 .1 .1 .1 .1 .1 .0 ∙ length-take-le _ _ (c .before .before .before .before .before .before .before .before .before .before .before .before .before .pre .1 .1 .0)
 
 array-share-prefix-dist : tie.Need-array-share-prefix-dist

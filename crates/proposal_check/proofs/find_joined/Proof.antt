@@ -1,12 +1,6 @@
 -- `proposal_check::find_joined` meets its contract: the nodes that the search lists are all that links join to the centre, and the pairs of
 -- equal kinds among them are a first table. Assumes nothing.
-use mathlib.Core.List.{List}
-use mathlib.Core.Path.{_≡_, sym, _∙_}
-use Prim.Native.Nat.{ℕ, _≤_}
-use borrow.Author.Needs.{needs}
-use denote.Ref.{now}
-use lib.ListN.{length, take}
-use lib.Seq.{length-take-le}
+use Rattle.base_lists.specs.Kit.{now, _∙_, sym, List, ℕ, _≤_, length, take, length-take-le, needs}
 use Rattle.graph.specs.Bfs.{bfs, adjacent, Found}
 use Rattle.graph.specs.Circuit.{circuit}
 use Rattle.table.specs.Prepared.{tables, Tables}
@@ -18,7 +12,7 @@ use Rattle.proposal_check.proofs.find_joined.Statement.{statement}
 use Rattle.proposal_check.proofs.find_joined.Tie as tie
 
 abbrev tablesOf : tie.Start → Tables
-tablesOf s = tables (now (s .args .masks)) (now (s .args .offsets)) (now (s .args .links))
+tablesOf s = tables (now (s .args .masks)) (now (s .args .offsets)) (now (s .args .targets))
 
 cast-search : tie.Need-cast-search
 cast-search c = search needs
@@ -53,9 +47,9 @@ start-requires c κs =
 -- what finding starts from, whatever the links, at the radius of the search
 seek : (c : tie.After-start) → let s = c .before .before .before .before .before .before .before .before .before .before .before .before .before .before .before .before .before .before .before in let a = s .args in (ps pe ns ne : List _) (r : ℕ) →
     Found (c .before .before .before .before .before .before .before .search .result) (c .before .before .before .before .before .before .before .search .last .1 .1 .1 .1 .0) (c .before .before .before .before .before .before .before .search .last .1 .1 .1 .1 .1 .0)
-    (bfs (adjacent (now (a .offsets)) (now (a .links))) (length (now (a .dist))) (a .c) r) →
-    Tabled (circuit (now (a .part-kinds)) ps pe) (circuit (now (a .node-kinds)) ns ne) (tablesOf s) →
-    Sought (circuit (now (a .part-kinds)) ps pe) (circuit (now (a .node-kinds)) ns ne) (tablesOf s) (a .c) r
+    (bfs (adjacent (now (a .offsets)) (now (a .targets))) (length (now (a .dist))) (a .c) r) →
+    Tabled (circuit (now (a .part-labels)) ps pe) (circuit (now (a .node-labels)) ns ne) (tablesOf s) →
+    Sought (circuit (now (a .part-labels)) ps pe) (circuit (now (a .node-labels)) ns ne) (tablesOf s) (a .c) r
     (take (c .before .before .before .before .before .before .before .search .result) (c .before .before .before .before .before .before .before .search .last .1 .1 .1 .1 .1 .0)) (c .start .last .1 .1 .1 .0)
 seek c ps pe ns ne r f d =
     let s = c .before .before .before .before .before .before .before .before .before .before .before .before .before .before .before .before .before .before .before in
@@ -96,7 +90,7 @@ returns : tie.Need-returns
 returns c =
     let s = c .before .before .before .before .before .before .before .before .before .before .before .before .before .before .before .before .before .before .before .before .before .before .before .before .before .before .before .before .before .before .before .before .before .before in
     λ ps pe ns ne d.
-    let g = seek (c .before .before .before .before .before .before .before .before .before .before .before .before .before .before .before) ps pe ns ne (length (now (s .args .node-kinds))) (c .before .before .before .before .before .before .before .before .before .before .before .before .before .before .before .before .before .before .before .before .before .before .search .ensures) d in
+    let g = seek (c .before .before .before .before .before .before .before .before .before .before .before .before .before .before .before) ps pe ns ne (length (now (s .args .node-labels))) (c .before .before .before .before .before .before .before .before .before .before .before .before .before .before .before .before .before .before .before .before .before .before .search .ensures) d in
     let f = c .before .before .before .before .before .before .before .before .find .ensures _ _ _ g in
     record { answer = f .answer; there = λ e. (_, f .there e) }
 

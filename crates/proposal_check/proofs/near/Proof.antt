@@ -1,16 +1,11 @@
 -- `proposal_check::near` meets its contract: the search reaches the nodes of the ball, and no other. Assumes nothing.
-use denote.Ref.{now}
-use mathlib.Core.List.{List}
-use mathlib.Core.Path.{_≡_, refl, sym, ap, _∙_}
-use Prim.Native.Nat.{ℕ, _<_}
-use borrow.Author.Needs.{needs}
-use lib.ListN.{length}
-use lib.Seq.{length-take-le}
+use Rattle.base_lists.specs.Kit.{now, _≡_, _∙_, sym, ap, refl, List, ℕ, _<_, length, length-take-le, needs}
+use Rattle.base_lists.proofs.Parts.{length-take-for}
 use Rattle.graph.specs.Net.{Net}
 use Rattle.graph.proofs.Net.{net-of}
 use Rattle.graph.proofs.Ball.{within-all}
 use Rattle.proposal.specs.Check.{inRow}
-use Rattle.proposal_check.proofs.Searched.{near-row, lent, cut-room, cut-long, cut-row}
+use Rattle.proposal_check.proofs.Searched.{near-row, cut-room, cut-long, cut-row}
 use Rattle.proposal_check.proofs.near.Statement.{statement}
 use Rattle.proposal_check.proofs.near.Tie as tie
 
@@ -33,7 +28,7 @@ search-requires : tie.Need-search-requires
 search-requires c κs =
     let s = c .before .before .before .before .before .before .before .before .before .before .before .before .before .before .before .before in
     let t = c .before .before .before .before .before .before .before .before .neighbour-tables in
-    lent (length (now (s .args .nodes))) _ (λ k. Net k (t .last .1 .1 .1 .0) (t .last .1 .1 .1 .1 .0) × ((s .args .around .centre < k) × (k ≡ k))) (s .pre .1 .0 .0)
+    length-take-for (length (now (s .args .nodes))) _ (λ k. Net k (t .last .1 .1 .1 .0) (t .last .1 .1 .1 .1 .0) × ((s .args .around .centre < k) × (k ≡ k))) (s .pre .1 .0 .0)
     (net-of (t .ensures), (s .pre .1 .0 .1, refl))
 
 -- the search leaves a distance for each node

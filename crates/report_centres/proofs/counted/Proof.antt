@@ -1,7 +1,5 @@
 -- `report_centres::counted` meets its contract: one more exactly where the offset has moved. Assumes nothing.
-use native.Mathlib.Omega.{arith}
-use borrow.Author.Needs.{needs}
-use borrow.Author.Tests.{eq-eqb, ne-eqb}
+use Rattle.base_lists.specs.Kit.{arith, needs, eq-eqb, ne-eqb}
 use Rattle.report_centres.proofs.counted.Statement.{statement}
 use Rattle.report_centres.proofs.counted.Tie as tie
 

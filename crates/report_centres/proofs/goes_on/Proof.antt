@@ -1,6 +1,5 @@
 -- `report_centres::goes_on` meets its contract: both tests, one after the other. Assumes nothing.
-use borrow.Author.Needs.{needs}
-use borrow.Author.Tests.{lt-ltb, le-ltb}
+use Rattle.base_lists.specs.Kit.{needs, le-ltb, lt-ltb}
 use Rattle.report_centres.proofs.goes_on.Statement.{statement}
 use Rattle.report_centres.proofs.goes_on.Tie as tie
 

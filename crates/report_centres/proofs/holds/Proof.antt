@@ -1,25 +1,16 @@
 -- `report_centres::holds` meets its contract: the component is reached along matching links; or those of its nodes that the ball has are gathered, all of them
 -- where they are as many as it has. Assumes nothing.
-use denote.Ref.{now}
-use mathlib.Core.List.{List}
-use mathlib.Core.Logic.{⊎-elim}
-use mathlib.Core.Path.{_≡_, sym, ap, subst, _∙_}
-use Prim.Native.Nat.{ℕ, _≤_}
-use native.Mathlib.Nat.{min-le-right}
-use borrow.Author.Needs.{needs}
-use borrow.Author.Tests.{eqb-true, eqb-false}
-use lib.ListN.{length, take, length-take}
-use lib.Seq.{length-take-le}
+use Rattle.base_lists.specs.Kit.{now, _≡_, _∙_, sym, ap, ⊎-elim, length, length-take-le, arith, needs, eqb-true, eqb-false}
 use Rattle.base_lists.proofs.Tests.{false-T}
-use Rattle.place_components.proofs.Labels.{match-ready, match-adjacency}
-use Rattle.place_components.proofs.Covering.{covered-spread}
+use Rattle.graph.specs.Bfs.{stateOf}
+use Rattle.place_components.proofs.ComponentNumbers.{match-ready}
 use Rattle.report_centres.proofs.Centre.{source-net}
-use Rattle.report_centres.proofs.Component.{source-match, covered-held, gathered-cut, gathered-held, gathered-lists}
+use Rattle.report_centres.proofs.Component.{source-match, reached-lists, reached-held, gathered-cut, gathered-held, gathered-lists}
 use Rattle.report_centres.proofs.holds.Statement.{statement}
 use Rattle.report_centres.proofs.holds.Tie as tie
 
-covers-requires : tie.Need-covers-requires
-covers-requires c κs =
+reach-requires : tie.Need-reach-requires
+reach-requires c κs =
     let p = c .before .before .before .before .before .before .before .before .before .before .pre in
     let (d, q) = p .1 .1 in
     (match-ready (source-match (p .0 .source)), (rw d (p .1 .0 .low), (sym d, d ∙ sym q)))
@@ -32,22 +23,24 @@ same-length-2 c = search needs
 
 -- ---- matching links lead to all of it
 
-short : (m : ℕ) (l : List ℕ) → length (take m l) ≡ m → m ≤ length l
-short m l e = subst (λ (k : ℕ). k ≤ length l) (sym (length-take m l) ∙ e) (min-le-right m (length l))
-
 returns : tie.Need-returns
+unfolding stateOf
 returns c =
     let p = c .before .before .before .before .before .before .before .before .before .before .before .before .before .before .before .before .pre in
     let l = p .1 .0 in
-    let g = rw (p .1 .1 .0) at (c .before .before .before .before .before .covers .ensures (c .if2 .taken)) in
+    let call = c .before .before .before .before .before .reach in
+    let same = c .if2 .taken in
+    let u = rw (p .1 .1 .0, same) at (call .ensures .1) in
+    let k = rw same at (call .ensures .0 .within) in
+    let count = length-take-le _ _ k in
     record {
-      short = short _ _ (g .count);
+      short = k;
       whole =
           λ _. record {
-            comp = _;
-            spread = covered-spread (l .low) (match-adjacency (source-match (p .0 .source)) .inside) (l .component) g;
-            lists = g .lists;
-            held = λ pattern board s. covered-held s _ (l .low) l g;
+            comp = l .comp;
+            spread = l .component .spread;
+            lists = reached-lists (p .0 .source) _ (l .low) l u count;
+            held = λ pattern board s. reached-held s _ (l .low) l u count;
           };
       cut = λ e. absurd (false-T e tt);
     }
@@ -71,7 +64,7 @@ gather-requires c κs =
     let here = c .before .before in
     let p = start here .pre in
     let (d, q) = long here in
-    (source-net (p .0 .source) d, (rw d (p .1 .0 .low), (d ∙ sym q, p .1 .0 .long ∙ sym d)))
+    (source-net (p .0 .source) d, (rw d (p .1 .0 .low), ((d ∙ sym q, p .1 .0 .long ∙ sym d), omega (arith, p .1 .0 .component .count, p .1 .0 .component .lists .list .short))))
 
 abbrev joined : tie.After-gather → tie.Joined1
 joined c = c .before .before .before
@@ -106,7 +99,7 @@ pub holds-spec : {M : Type 1} → statement M
 holds-spec =
     tie.close
     (tie.spec
-    covers-requires
+    reach-requires
     same-length
     same-length-2
     returns

@@ -1,8 +1,5 @@
 -- `report_centres::known` meets its contract. Assumes nothing.
-use Prim.Native.Nat.{_+_}
-use native.Mathlib.Omega.{arith}
-use borrow.Author.Needs.{needs}
-use borrow.Author.Tests.{not-true, not-false}
+use Rattle.base_lists.specs.Kit.{_+_, arith, needs, not-false, not-true}
 use Rattle.report_centres.proofs.known.Statement.{statement}
 use Rattle.report_centres.proofs.known.Tie as tie
 
@@ -16,7 +13,7 @@ shared-slice-read-from : tie.Need-shared-slice-read-from
 shared-slice-read-from c = search needs
 
 cast-from : tie.Need-cast-from
-cast-from c = omega (arith, c .shared-slice-known .given (c .before .before .args .label))
+cast-from c = omega (arith, c .shared-slice-known .given (c .before .before .args .number))
 
 add-to : tie.Need-add-to
 add-to c = search needs
@@ -28,7 +25,7 @@ shared-slice-read-to : tie.Need-shared-slice-read-to
 shared-slice-read-to c = search needs
 
 cast-to : tie.Need-cast-to
-cast-to c = omega (arith, c .shared-slice-known2 .given (512 + c .before .before .before .args .label))
+cast-to c = omega (arith, c .shared-slice-known2 .given (512 + c .before .before .before .args .number))
 
 returns-2 : tie.Need-returns-2
 returns-2 c = let chosen = c .before .before in rw (not-false (chosen .before .args .all) (chosen .if1 .left))

@@ -1,18 +1,11 @@
 -- `report_centres::locate` meets its contract: the place is the component where the ball holds it; else the whole board's sets at those of its nodes that the
 -- ball has are a table to begin with. Assumes nothing.
-use denote.Ref.{now}
-use mathlib.Core.List.{List, _++_, append-nil}
-use mathlib.Core.Path.{_≡_, refl, sym, ap, _∙_}
-use Prim.Native.Nat.{ℕ, _≤_}
-use native.Mathlib.Omega.{arith}
-use borrow.Author.Needs.{needs}
-use lib.ListN.{length, take, drop, drop-of-length-le}
-use lib.Seq.{length-take-le}
+use Rattle.base_lists.specs.Kit.{now, _≡_, _∙_, sym, ap, List, _++_, append-nil, ℕ, _≤_, length, take, drop, drop-of-length-le, length-take-le, arith, needs}
 use Rattle.graph.specs.Circuit.{Circuit}
 use Rattle.table.specs.Fill.{NodeList}
 use Rattle.table.specs.Prepared.{tables}
 use Rattle.place.specs.Find.{Sought}
-use Rattle.place_components.proofs.Labels.{match-adjacency, marked-spread}
+use Rattle.place_components.proofs.ComponentNumbers.{match-adjacency, marked-spread}
 use Rattle.report_centres.specs.Pieces.{Source, Entire}
 use Rattle.report_centres.proofs.Centre.{source-long, source-few}
 use Rattle.report_centres.proofs.Component.{source-match, held-found, held-located, cut-sought}
@@ -32,7 +25,7 @@ slice-aggregate-mark c = sym (length-take-le _ _ (begun (c .before) .pre .1 .1 .
 
 -- the component's nodes are listed
 entire : (c : tie.Then1) → let a = begun c .args in
-    Entire (tables (now (a .masks)) (now (a .offsets)) (now (a .links))) (now (a .whole)) (a .around) (take (a .ball .kept) (now (a .queue)))
+    Entire (tables (now (a .masks)) (now (a .offsets)) (now (a .targets))) (now (a .whole)) (a .around) (take (a .ball .kept) (now (a .queue)))
 entire c = begun c .pre .1 .1 .0 .whole (c .if1 .taken)
 
 mark-requires : tie.Need-mark-requires
@@ -122,8 +115,8 @@ there c = c .before .before .before .before
 
 -- it is one to begin with, of every pattern and board
 sought : (c : tie.After-copy2) → let a = entry (there c) .args in
-    (pattern board : Circuit) → Source pattern board (tables (now (a .masks)) (now (a .offsets)) (now (a .links))) (now (a .whole)) (a .around .radius)
-    → Sought pattern board (tables (now (a .masks)) (now (a .offsets)) (now (a .links))) (a .around .centre) (a .around .radius)
+    (pattern board : Circuit) → Source pattern board (tables (now (a .masks)) (now (a .offsets)) (now (a .targets))) (now (a .whole)) (a .around .radius)
+    → Sought pattern board (tables (now (a .masks)) (now (a .offsets)) (now (a .targets))) (a .around .centre) (a .around .radius)
     (take (a .ball .kept) (now (a .queue))) (c .copy2 .last .1 .1 .0)
 sought c pattern board s =
     let here = there c in

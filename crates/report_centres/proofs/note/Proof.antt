@@ -1,9 +1,5 @@
 -- `report_centres::note` meets its contract. Assumes nothing.
-use denote.Ref.{now}
-use native.Mathlib.Omega.{arith}
-use borrow.Author.Needs.{needs}
-use borrow.Author.Tests.{lt-ltb, le-ltb}
-use lib.ListN.{length-set}
+use Rattle.base_lists.specs.Kit.{now, length-set, arith, needs, le-ltb, lt-ltb}
 use Rattle.report_centres.specs.Pieces.{noting}
 use Rattle.report_centres.proofs.note.Statement.{statement}
 use Rattle.report_centres.proofs.note.Tie as tie
@@ -33,7 +29,7 @@ mul-texts-2 c = search needs
 slice-write-texts-2 : tie.Need-slice-write-texts-2
 slice-write-texts-2 c =
     let s = c .before .before .before .before in
-    omega (arith, s .pre, length-set (now (s .args .texts)) (s .args .label) (s .args .text .from))
+    omega (arith, s .pre, length-set (now (s .args .texts)) (s .args .number) (s .args .text .from))
 
 same-length : tie.Need-same-length
 same-length c = search needs

@@ -1,13 +1,10 @@
 -- `report_centres::put_again` meets its contract: the head, and then the text, which the head leaves where it stands. Assumes nothing.
-use Prim.Native.Nat.{_+_, _-_, _≤_}
-use native.Mathlib.Omega.{arith}
-use borrow.Author.Needs.{needs}
-use denote.Ref.{now}
-use lib.ListN.{length, length-append}
+use Rattle.base_lists.specs.Kit.{now, _≤_, _+_, _-_, length, length-append, arith, needs}
 use Rattle.base_lists.specs.List.{part}
+use Rattle.base_lists.proofs.Parts.{length-part}
 use Rattle.base_text.proofs.Text.{put-then, put-same, put-length, fits-first}
 use Rattle.report_texts.specs.Texts.{headText}
-use Rattle.report_texts.proofs.Texts.{part-length, put-before}
+use Rattle.report_texts.proofs.Texts.{put-before}
 use Rattle.report_centres.proofs.put_again.Statement.{statement}
 use Rattle.report_centres.proofs.put_again.Tie as tie
 
@@ -19,7 +16,7 @@ room s =
     let h = s .pre .1 .room in
     let two = length-append (headText (s .args .c)) (part (x .from) (x .to - x .from) (now (s .args .out))) in
     let inside : x .from + (x .to - x .from) ≤ length (now (s .args .out)) = omega (arith, s .pre .0, h, two) in
-    (inside, omega (arith, h, two, part-length (x .from) (x .to - x .from) (now (s .args .out)) inside))
+    (inside, omega (arith, h, two, length-part (x .from) (x .to - x .from) (now (s .args .out)) inside))
 
 put-head-requires : tie.Need-put-head-requires
 put-head-requires c κs = fits-first _ _ (c .before .before .pre .1)

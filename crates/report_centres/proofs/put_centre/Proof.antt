@@ -1,22 +1,15 @@
 -- `report_centres::put_centre` meets its contract: nothing where the whole board's table leaves the centre empty; the text that is noted under the centre's
--- label, where the ball holds the component; else a new line, whose text is noted where it is the component's. Assumes nothing.
-use denote.Ref.{now}
-use mathlib.Core.Bool.{Bool, true, false, cond}
-use mathlib.Core.Path.{_≡_, refl, sym, ap, subst, _∙_}
-use Prim.Native.Nat.{ℕ, _+_, _≤_, _<_}
-use native.Mathlib.Omega.{arith}
-use borrow.Author.Needs.{needs}
-use lib.ListN.{length, getD}
-use lib.Seq.{length-take-le}
+-- number, where the ball holds the component; else a new line, whose text is noted where it is the component's. Assumes nothing.
+use Rattle.base_lists.specs.Kit.{now, _≡_, _∙_, sym, ap, refl, subst, Bool, false, true, cond, ℕ, _≤_, _<_, _+_, length, getD, length-take-le, arith, needs}
 use Rattle.base_text.proofs.Text.{put-nothing, put-same, fits-same}
 use Rattle.table.specs.Prepared.{tables}
 use Rattle.place.specs.Spread.{matched}
-use Rattle.place_components.specs.Components.{Labelled}
+use Rattle.place_components.specs.Components.{ComponentAt}
 use Rattle.report.specs.Report.{centreLine}
 use Rattle.report.proofs.Lengths.{centre-fits}
 use Rattle.report_texts.specs.Texts.{headText}
 use Rattle.report_centres.specs.declared.Span.{Span}
-use Rattle.report_centres.specs.Pieces.{Noted, under, Kept}
+use Rattle.report_centres.specs.Pieces.{TextNoted, under, Kept}
 use Rattle.report_centres.proofs.Centre.{source-long, source-few, whole-missed}
 use Rattle.report_centres.proofs.OnceMore.{again-line, noted-after, kept-after, kept-more}
 use Rattle.report_centres.proofs.put_centre.Statement.{statement}
@@ -39,25 +32,25 @@ returns c = (λ pattern board s. put-same (sym (whole-missed s _ (c .if1 .taken)
 abbrev start : tie.Else1 → tie.Start
 start c = c .before .before .before .before .before .before .before .before .before .before .before .before
 
--- so it has the label of its component
-abbrev label : tie.Else1 → ℕ
-label c = getD (now (start c .args .labels)) (start c .args .line .around .centre) 0
+-- so it has the number of its component
+abbrev number : tie.Else1 → ℕ
+number c = getD (now (start c .args .component-of)) (start c .args .line .around .centre) 0
 
 labelled : (c : tie.Else1) → let a = start c .args in
-    Labelled (length (now (a .whole))) (matched (tables (now (a .masks)) (now (a .offsets)) (now (a .links))) (now (a .whole))) (now (a .labels)) (now (a .sizes)) (a .line .around .centre)
-labelled c = start c .pre .1 .0 .labelled _ (start c .pre .1 .1 .0) (c .if1 .left)
+    ComponentAt (length (now (a .whole))) (matched (tables (now (a .masks)) (now (a .offsets)) (now (a .targets))) (now (a .whole))) (now (a .component-of)) (now (a .sizes)) (a .line .around .centre)
+labelled c = start c .pre .1 .0 .numbered _ (start c .pre .1 .1 .0) (c .if1 .left)
 
-named : (c : tie.Else1) → (label c < length (now (start c .args .whole))) × (length (now (start c .args .whole)) ≤ 512)
+named : (c : tie.Else1) → (number c < length (now (start c .args .whole))) × (length (now (start c .args .whole)) ≤ 512)
 named c = (start c .pre .1 .0 .named _ (start c .pre .1 .1 .0) (c .if1 .left), source-few (start c .pre .0 .source))
 
-mul-label : tie.Need-mul-label
-mul-label c = omega (arith, start c .pre .1 .0 .long, start c .pre .1 .1 .0)
+mul-number : tie.Need-mul-number
+mul-number c = omega (arith, start c .pre .1 .0 .long, start c .pre .1 .1 .0)
 
-shared-slice-read-label : tie.Need-shared-slice-read-label
-shared-slice-read-label c = omega (arith, start (c .before) .pre .1 .0 .long, start (c .before) .pre .1 .1 .0)
+shared-slice-read-number : tie.Need-shared-slice-read-number
+shared-slice-read-number c = omega (arith, start (c .before) .pre .1 .0 .long, start (c .before) .pre .1 .1 .0)
 
-cast-label : tie.Need-cast-label
-cast-label c = omega (arith, named (c .before))
+cast-number : tie.Need-cast-number
+cast-number c = omega (arith, named (c .before))
 
 mul-size : tie.Need-mul-size
 mul-size c = omega (arith, named (c .before), start (c .before) .pre .1 .0 .sized)
@@ -123,8 +116,8 @@ known-requires c κs =
 abbrev ball : tie.Then2 → tie.After-holds
 ball c = c .before .before .before .before .before .before .before .before
 
--- the ball holds the component, and the text is that of its label
-tests : (c : tie.Then2) → (ball c .holds .result .all ≡ true) × (c .before .before .known .result ≡ under (now (begun (ball c) .args .texts)) (label (there (ball c))))
+-- the ball holds the component, and the text is that of its number
+tests : (c : tie.Then2) → (ball c .holds .result .all ≡ true) × (c .before .before .known .result ≡ under (now (begun (ball c) .args .texts)) (number (there (ball c))))
 tests c = go (ball c .holds .result .all) refl (c .before .before .known .ensures) (c .if2 .taken)
   where
     go : {x y : Span} (b : Bool) → ball c .holds .result .all ≡ b → x ≡ cond (ball c .holds .result .all) y (record { from = 0; to = 0 }) → (x .to ≡ 0 → ⊥)
@@ -133,12 +126,12 @@ tests c = go (ball c .holds .result .all) refl (c .before .before .known .ensure
     go {x} {y} false e f g = absurd (g (ap (λ (z : Span). z .to) (f ∙ ap (λ (b : Bool). cond b y (record { from = 0; to = 0 })) e)))
 
 text : (c : tie.Then2) → let a = begun (ball c) .args in
-    Noted (tables (now (a .masks)) (now (a .offsets)) (now (a .links))) (now (a .whole)) (now (a .labels)) (now (a .out)) (a .line .at) (label (there (ball c))) (c .before .before .known .result)
+    TextNoted (tables (now (a .masks)) (now (a .offsets)) (now (a .targets))) (now (a .whole)) (now (a .component-of)) (now (a .out)) (a .line .at) (number (there (ball c))) (c .before .before .known .result)
 text c =
     let a = begun (ball c) .args in
     let same = tests c .1 in
-    subst (λ (x : Span). Noted (tables (now (a .masks)) (now (a .offsets)) (now (a .links))) (now (a .whole)) (now (a .labels)) (now (a .out)) (a .line .at) (label (there (ball c))) x) (sym same)
-    (begun (ball c) .pre .1 .1 .1 .1 .1 .noted (label (there (ball c))) (omega (arith, named (there (ball c)))) (λ z. c .if2 .taken (ap (λ (x : Span). x .to) same ∙ z)))
+    subst (λ (x : Span). TextNoted (tables (now (a .masks)) (now (a .offsets)) (now (a .targets))) (now (a .whole)) (now (a .component-of)) (now (a .out)) (a .line .at) (number (there (ball c))) x) (sym same)
+    (begun (ball c) .pre .1 .1 .1 .1 .1 .noted (number (there (ball c))) (omega (arith, named (there (ball c)))) (λ z. c .if2 .taken (ap (λ (x : Span). x .to) same ∙ z)))
 
 put-again-requires : tie.Need-put-again-requires
 put-again-requires c κs =
@@ -192,7 +185,7 @@ abbrev looked : tie.After-slice-known6 → tie.After-holds
 looked c = other (put c .before .before)
 
 kept : (c : tie.After-slice-known6) → let a = begun (looked c) .args in
-    Kept (tables (now (a .masks)) (now (a .offsets)) (now (a .links))) (now (a .whole)) (now (a .labels)) (put c .put-new .last .1 .1 .1 .1 .1 .1 .1 .1 .1 .0) (put c .put-new .result) (now (a .texts))
+    Kept (tables (now (a .masks)) (now (a .offsets)) (now (a .targets))) (now (a .whole)) (now (a .component-of)) (put c .put-new .last .1 .1 .1 .1 .1 .1 .1 .1 .1 .0) (put c .put-new .result) (now (a .texts))
 kept c =
     let p = begun (looked c) .pre in
     kept-after (p .1 .1 .1 .1 .1) (put c .put-new .ensures _ _ (p .0 .source)) (omega (arith, p .1 .1 .1 .1 .0))
@@ -200,8 +193,8 @@ kept c =
 -- it is the component's
 
 fresh : (c : tie.Then3) → let here = c .before in let a = begun (looked here) .args in
-    Noted (tables (now (a .masks)) (now (a .offsets)) (now (a .links))) (now (a .whole)) (now (a .labels)) (put here .put-new .last .1 .1 .1 .1 .1 .1 .1 .1 .1 .0) (put here .put-new .result)
-    (label (there (looked here))) (record { from = a .line .at + length (headText (a .line .around .centre)); to = put here .put-new .result })
+    TextNoted (tables (now (a .masks)) (now (a .offsets)) (now (a .targets))) (now (a .whole)) (now (a .component-of)) (put here .put-new .last .1 .1 .1 .1 .1 .1 .1 .1 .1 .0) (put here .put-new .result)
+    (number (there (looked here))) (record { from = a .line .at + length (headText (a .line .around .centre)); to = put here .put-new .result })
 fresh c =
     let known = looked (c .before) in
     let p = begun known .pre in
@@ -233,7 +226,7 @@ returns-3 c =
     let a = begun known .args in
     let e = c .before .before .before .before .before .head-bytes .ensures in (
       put (here .before) .put-new .ensures,
-      rw (c .before .before .note .ensures, e) (kept-more (kept (here .before)) (label (there known)) (omega (arith, named (there known))) _ (fresh here)),
+      rw (c .before .before .note .ensures, e) (kept-more (kept (here .before)) (number (there known)) (omega (arith, named (there known))) _ (fresh here)),
     )
 
 -- it is not
@@ -255,9 +248,9 @@ put-centre-spec =
     mul-if1
     shared-slice-read-if1
     returns
-    mul-label
-    shared-slice-read-label
-    cast-label
+    mul-number
+    shared-slice-read-number
+    cast-number
     mul-size
     shared-slice-read-size
     cast-size

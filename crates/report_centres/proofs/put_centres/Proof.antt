@@ -1,14 +1,6 @@
 -- `report_centres::put_centres` meets its contract. The loop's invariant: the lines of the centres before c are put and those with a place
 -- counted (Progress), of every pattern and board that lines are put from. The measure is how many centres are left. Assumes nothing.
-use denote.Ref.{now}
-use mathlib.Core.Bool.{true}
-use mathlib.Core.Path.{_≡_}
-use Prim.Native.Nat.{_+_, _-_, _≤_, _<_}
-use native.Mathlib.Omega.{arith}
-use borrow.Author.Needs.{needs}
-use borrow.Author.Tests.{leb-true}
-use lib.Dec.{lit≤}
-use lib.ListN.{length}
+use Rattle.base_lists.specs.Kit.{now, _≡_, true, _≤_, _<_, _+_, _-_, lit≤, length, arith, needs, leb-true}
 use Rattle.base_text.proofs.Text.{put-length}
 use Rattle.graph.specs.Circuit.{Circuit}
 use Rattle.table.specs.Prepared.{tables}
@@ -21,12 +13,12 @@ use Rattle.report_centres.proofs.put_centres.Statement.{statement}
 use Rattle.report_centres.proofs.put_centres.Tie as tie
 
 abbrev Inv-loop : tie.InvT-loop
-Inv-loop masks offsets links whole labels sizes resume out₀ names n c₀ count₀ texts₀ at₀ out c count texts at =
+Inv-loop masks offsets links whole componentOf sizes resume out₀ names n c₀ count₀ texts₀ at₀ out c count texts at =
     ((pattern board : Circuit) → Source pattern board (tables masks offsets links) whole (resume .radius) → Progress pattern board (resume .from) (resume .found) out₀ c count at out)
-    × Kept (tables masks offsets links) whole labels out at texts
+    × Kept (tables masks offsets links) whole componentOf out at texts
 
 abbrev μ-loop : tie.MeasureT-loop
-μ-loop masks offsets links whole labels sizes resume out₀ names n c₀ count₀ texts₀ at₀ out c count texts at = length whole - c
+μ-loop masks offsets links whole componentOf sizes resume out₀ names n c₀ count₀ texts₀ at₀ out c count texts at = length whole - c
 
 abbrev entry : tie.After-struct-known Inv-loop μ-loop → tie.Start Inv-loop μ-loop
 entry c = c .before .before .before .before .before .before .before .before .before .before .before
@@ -62,8 +54,8 @@ start c = entry (turn c .before)
 
 goes : (c : tie.Then1 Inv-loop μ-loop) →
     (pattern board : Circuit)
-    → Source pattern board (tables (now (start c .args .masks)) (now (start c .args .offsets)) (now (start c .args .links))) (now (start c .args .whole)) (start c .args .resume .radius)
-    → (turn c .loop .c < length (board .kinds)) × (roomy (length (now (start c .args .out))) (turn c .loop .at) ≡ true)
+    → Source pattern board (tables (now (start c .args .masks)) (now (start c .args .offsets)) (now (start c .args .targets))) (now (start c .args .whole)) (start c .args .resume .radius)
+    → (turn c .loop .c < length (board .labels)) × (roomy (length (now (start c .args .out))) (turn c .loop .at) ≡ true)
 goes c pattern board s =
     progress-goes _ _ _ _ (turn c .loop .inv .0 pattern board s) _ (rw (source-long s) at (c .before .goes-on .ensures)) (c .if1 .taken)
 

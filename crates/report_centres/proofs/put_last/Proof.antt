@@ -1,10 +1,6 @@
 -- `report_centres::put_last` meets its contract: nothing where the centres are not done or there is no room, else the last line. Assumes
 -- nothing.
-use mathlib.Core.Path.{sym, _∙_}
-use native.Mathlib.Omega.{arith}
-use borrow.Author.Needs.{needs}
-use borrow.Author.Tests.{not-true, not-false}
-use denote.Ref.{now}
+use Rattle.base_lists.specs.Kit.{now, _∙_, sym, arith, needs, not-false, not-true}
 use Rattle.report_centres.proofs.Pieces.{last-elsewhere, last-full, last-put, last-room}
 use Rattle.report_centres.proofs.put_last.Statement.{statement}
 use Rattle.report_centres.proofs.put_last.Tie as tie

@@ -1,12 +1,5 @@
 -- `report_centres::put_new` meets its contract: nothing where there is no place around the centre, else the line of the place. Assumes nothing.
-use denote.Ref.{now}
-use mathlib.Core.Path.{_≡_, sym, _∙_}
-use Prim.Native.Nat.{ℕ, _≤_}
-use native.Mathlib.Omega.{arith}
-use borrow.Author.Needs.{needs}
-use borrow.Author.Tests.{not-true, not-false}
-use lib.ListN.{length}
-use lib.Seq.{length-take-le}
+use Rattle.base_lists.specs.Kit.{now, _≡_, _∙_, sym, _≤_, length, length-take-le, arith, needs, not-false, not-true}
 use Rattle.base_text.proofs.Text.{put-nothing, put-same, fits-same}
 use Rattle.graph.specs.Circuit.{Circuit}
 use Rattle.table.specs.Prepared.{tables}
@@ -56,7 +49,7 @@ returns c =
 abbrev placed : tie.Else1 → tie.After-locate
 placed c = c .before .before .before .before .before .before .before
 
-line : (c : tie.Else1) → let a = entry (placed c) .args in let t = tables (now (a .masks)) (now (a .offsets)) (now (a .links)) in
+line : (c : tie.Else1) → let a = entry (placed c) .args in let t = tables (now (a .masks)) (now (a .offsets)) (now (a .targets)) in
     (pattern board : Circuit) → Source pattern board t (now (a .whole)) (a .line .around .radius)
     → lineText t (placed c .locate .last .1 .1 .1 .1 .1 .1 .0) (placed c .locate .last .1 .1 .1 .1 .1 .1 .1 .1 .0) (a .line .around .centre)
     ≡ centreLine pattern board (a .line .around .centre)

@@ -1,5 +1,5 @@
 -- `report_centres::roomy` meets its contract: the longest line fits into what is left of the room. Assumes nothing.
-use borrow.Author.Needs.{needs}
+use Rattle.base_lists.specs.Kit.{needs}
 use Rattle.report_centres.proofs.Pieces.{room-left}
 use Rattle.report_centres.proofs.roomy.Statement.{statement}
 use Rattle.report_centres.proofs.roomy.Tie as tie

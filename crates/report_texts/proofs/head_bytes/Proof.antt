@@ -1,10 +1,7 @@
 -- `report_texts::head_bytes` meets its contract: a number below 1,000 has one digit, two or three. Assumes nothing.
-use mathlib.Core.Path.{_≡_, ap, _∙_}
-use Prim.Native.Nat.{ℕ, _+_, _/_, _≤_, _<_}
-use native.Mathlib.Omega.{arith}
-use lib.ListN.{length, length-append}
+use Rattle.base_lists.specs.Kit.{_≡_, _∙_, ap, ℕ, _≤_, _<_, _+_, _/_, length, length-append, arith}
 use Rattle.base_text.specs.Text.{bytes, decimal}
-use Rattle.base_text.proofs.Text.{decimal-digit, decimal-two, decimal-more}
+use Rattle.base_text.proofs.Text.{decimal-two, decimal-more, length-digit}
 use Rattle.report_texts.specs.Texts.{headText}
 use Rattle.report_texts.proofs.head_bytes.Statement.{statement}
 use Rattle.report_texts.proofs.head_bytes.Tie as tie
@@ -12,9 +9,6 @@ use Rattle.report_texts.proofs.head_bytes.Tie as tie
 head-length : (c d : ℕ) → length (decimal c) ≡ d → 7 + d ≡ length (headText c)
 unfolding headText bytes
 head-length c d e = omega (arith, e, length-append (decimal c) (bytes ":"))
-
-one : (c : ℕ) → c < 10 → length (decimal c) ≡ 1
-one c h = ap length (decimal-digit c h)
 
 two : (c : ℕ) → 10 ≤ c → c < 100 → length (decimal c) ≡ 2
 two c h l = ap length (decimal-two c h l)
@@ -25,7 +19,7 @@ three c h l =
     ∙ ap (λ (n : ℕ). n + 1) (two (c / 10) (omega arith) (omega arith))
 
 returns : tie.Need-returns
-returns c = head-length _ 1 (one _ (c .if1 .taken))
+returns c = head-length _ 1 (length-digit _ (c .if1 .taken))
 
 returns-2 : tie.Need-returns-2
 returns-2 c = head-length _ 2 (two _ (c .before .if1 .left) (c .if2 .taken))

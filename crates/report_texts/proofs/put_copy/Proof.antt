@@ -1,34 +1,12 @@
 -- `report_texts::put_copy` meets its contract. The loop's invariant: the bytes before the i-th are put once more. The measure is how many are left. Assumes nothing.
-use mathlib.Core.List.{List, _∷_, [], _++_}
-use mathlib.Core.Path.{_≡_, refl, sym, ap, _∙_}
-use Prim.Native.Nat.{ℕ, suc, _+_, _-_, _≤_, _<_}
-use native.Mathlib.Nat.{sub-self}
-use native.Mathlib.Omega.{arith}
-use borrow.Author.Needs.{needs}
-use denote.Ref.{now}
-use lib.ListN.{length, getD, take, drop, length-drop}
-use lib.Seq.{length-take-le, take-suc, getD-drop}
+use Rattle.base_lists.specs.Kit.{now, _≡_, _∙_, ap, [], _∷_, _++_, ℕ, _≤_, _<_, _+_, _-_, length, getD, arith, needs}
 use Rattle.base_lists.specs.List.{part}
+use Rattle.base_lists.proofs.Parts.{part-none, part-more}
 use Rattle.base_text.specs.Text.{Put}
 use Rattle.base_text.proofs.Text.{put-one, put-nothing, put-then, put-same, put-length}
 use Rattle.report_texts.proofs.Texts.{put-entry}
 use Rattle.report_texts.proofs.put_copy.Statement.{statement}
 use Rattle.report_texts.proofs.put_copy.Tie as tie
-
--- nothing yet, and one byte more
-part-none : (from : ℕ) (l : List ℕ) → [] ≡ part from (from - from) l
-unfolding part
-part-none from l = rw (sub-self from)
-
-part-more : (from i : ℕ) (l : List ℕ) → from ≤ i → i < length l → part from (i - from) l ++ (getD l i 0 ∷ []) ≡ part from ((i + 1) - from) l
-unfolding part
-part-more from i l h b =
-    let k : ℕ = i - from in
-    let next : (i + 1) - from ≡ suc k = omega arith in
-    let here : from + k ≡ i = omega arith in
-    rw next
-    (ap (λ (x : ℕ). take k (drop from l) ++ (x ∷ [])) (sym (getD-drop from l k 0 ∙ ap (λ (j : ℕ). getD l j 0) here))
-    ∙ sym (take-suc (drop from l) k 0 (omega (arith, length-drop from l))))
 
 abbrev Inv-loop : tie.InvT-loop
 Inv-loop from to out₀ at end₀ i₀ out end i = (from ≤ i) × (i ≤ to) × (end ≡ at + (i - from)) × Put out₀ at (part from (i - from) out₀) out end

@@ -1,9 +1,5 @@
 -- `report_texts::put_head` meets its contract, piece by piece. Assumes nothing.
-use mathlib.Core.List.{_++_}
-use mathlib.Core.Path.{_≡_}
-use native.Mathlib.Omega.{arith}
-use borrow.Author.Needs.{needs}
-use denote.Ref.{now}
+use Rattle.base_lists.specs.Kit.{now, _++_, needs}
 use Rattle.base_text.specs.Text.{bytes, Fits, decimal}
 use Rattle.base_text.proofs.Text.{put-then, fits-first, fits-then}
 use Rattle.report_texts.specs.Texts.{headText}

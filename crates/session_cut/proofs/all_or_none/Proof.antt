@@ -1,7 +1,5 @@
 -- `session_cut::all_or_none` meets its contract: the union of the sets says whether every part occurs. Assumes nothing.
-use mathlib.Core.Path.{sym, ap, _∙_}
-use borrow.Author.Needs.{needs}
-use borrow.Author.Tests.{eq-eqb, ne-eqb}
+use Rattle.base_lists.specs.Kit.{_∙_, sym, ap, needs, eq-eqb, ne-eqb}
 use Rattle.base_bits.specs.Bits.{sizeOf}
 use Rattle.session.specs.Tables.{occurOrNone}
 use Rattle.session_cut.proofs.all_or_none.Statement.{statement}

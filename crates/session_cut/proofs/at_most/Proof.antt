@@ -1,5 +1,5 @@
 -- `session_cut::at_most` meets its contract. Assumes nothing.
-use mathlib.Core.Path.{sym}
+use Rattle.base_lists.specs.Kit.{sym}
 use Rattle.session.proofs.Tables.{bounded-in, bounded-out}
 use Rattle.session_cut.proofs.at_most.Statement.{statement}
 use Rattle.session_cut.proofs.at_most.Tie as tie

@@ -1,12 +1,5 @@
 -- `session_cut::cut` meets its contract: no link is left at the place, or it is taken out and striking goes on. Assumes nothing.
-use mathlib.Core.List.{_++_}
-use mathlib.Core.Path.{_≡_, sym, subst, _∙_}
-use Prim.Native.Nat.{ℕ, _≤_}
-use native.Mathlib.Omega.{arith}
-use borrow.Author.Needs.{needs}
-use denote.Ref.{now}
-use lib.ListN.{drop, length, getD, take}
-use lib.Seq.{length-take-le}
+use Rattle.base_lists.specs.Kit.{now, _≡_, _∙_, sym, subst, _++_, ℕ, _≤_, length, getD, take, drop, length-take-le, arith, needs}
 use Rattle.session.specs.State.{state}
 use Rattle.session.specs.Tables.{nodesIn, CutMade}
 use Rattle.session.proofs.Tables.{bounded-le}
@@ -26,8 +19,8 @@ number c = c .before .before .at-most .ensures
 few : (c : tie.After-take-out) → c .before .before .at-most .result ≤ 512
 few c = omega (arith, number c, bounded-le 512 (getD (now (entry c .args .fixed)) 65 0))
 
-taking : (c : tie.After-take-out) → TakenOut (now (entry c .args .ends)) (nodesIn (now (entry c .args .fixed))) (entry c .args .place) (c .take-out .result) (c .take-out .last .0)
-taking c = subst (λ (n : ℕ). TakenOut (now (entry c .args .ends)) n (entry c .args .place) (c .take-out .result) (c .take-out .last .0)) (number c) (c .take-out .ensures)
+taking : (c : tie.After-take-out) → TakenOut (now (entry c .args .ends)) (nodesIn (now (entry c .args .fixed))) (entry c .args .link-index) (c .take-out .result) (c .take-out .last .0)
+taking c = subst (λ (n : ℕ). TakenOut (now (entry c .args .ends)) n (entry c .args .link-index) (c .take-out .result) (c .take-out .last .0)) (number c) (c .take-out .ensures)
 
 shared-slice-read-at-most : tie.Need-shared-slice-read-at-most
 shared-slice-read-at-most c = search needs
@@ -101,7 +94,7 @@ returns-2 c =
     let a = entry called .args in
     let ends = called .take-out .last .0 in
     let last = struck .strike-from .last .1 .1 .1 .1 .0 in
-    subst (λ (n : ℕ). CutMade (state (now (a .fixed)) (now (a .offsets)) (now (a .numbers)) (now (a .ends)) (now (a .sets))) (a .place) (cutVerdict answer.Cut) (state (now (a .fixed)) (now (a .offsets)) (now (a .numbers)) ends (last ++ drop n (now (a .sets)))))
+    subst (λ (n : ℕ). CutMade (state (now (a .fixed)) (now (a .offsets)) (now (a .numbers)) (now (a .ends)) (now (a .sets))) (a .link-index) (cutVerdict answer.Cut) (state (now (a .fixed)) (now (a .offsets)) (now (a .numbers)) ends (last ++ drop n (now (a .sets)))))
     (sym (number called))
     (link-made (now (a .fixed)) (now (a .offsets)) (now (a .numbers)) (now (a .ends)) (now (a .sets)) (taking called) _ _ (told .taken .given .1)
     (subst (λ (n : ℕ). last ≡ settledFrom (take 64 (now (a .fixed))) (movesIn (now (a .offsets)) (now (a .numbers)) ends) (take n (now (a .sets))) (told .taken .given .0 .0) (told .taken .given .0 .1 .0)) (number called) (struck .strike-from .ensures)))

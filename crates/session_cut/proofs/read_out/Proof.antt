@@ -1,11 +1,5 @@
 -- `session_cut::read_out` meets its contract. Assumes nothing.
-use mathlib.Core.Path.{sym}
-use Prim.Native.Nat.{_≤_}
-use native.Mathlib.Omega.{arith}
-use borrow.Author.Needs.{needs}
-use denote.Ref.{now}
-use lib.ListN.{length, getD}
-use lib.Seq.{length-take-le}
+use Rattle.base_lists.specs.Kit.{now, sym, _≤_, length, getD, length-take-le, arith, needs}
 use Rattle.session.proofs.Tables.{bounded-le}
 use Rattle.session_cut.proofs.Out.{short-made, copied-made}
 use Rattle.session_cut.proofs.read_out.Statement.{statement}

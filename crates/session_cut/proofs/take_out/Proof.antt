@@ -1,13 +1,8 @@
 -- `session_cut::take_out` meets its contract. Assumes nothing.
-use mathlib.Core.Path.{sym, ap₂, subst}
-use Prim.Native.Nat.{ℕ, _+_, _≤_, _<_}
-use native.Mathlib.Omega.{arith}
-use borrow.Author.Needs.{needs}
-use denote.Ref.{now}
-use lib.ListN.{length-set}
+use Rattle.base_lists.specs.Kit.{now, sym, subst, ap₂, ℕ, _≤_, _<_, _+_, length-set, arith, needs}
+use Rattle.base_lists.proofs.Entries.{getD-any}
 use Rattle.graph.specs.Search.{far}
-use Rattle.session.specs.State.{without}
-use Rattle.session_strike.proofs.Entries.{entry-any}
+use Rattle.session.specs.State.{endsWithout}
 use Rattle.session_cut.specs.declared.Taken.{Taken}
 use Rattle.session_cut.specs.declared.Taken.the-variants.{Link}
 use Rattle.session_cut.specs.Cut.{TakenOut}
@@ -25,15 +20,15 @@ slice-read-end : tie.Need-slice-read-end
 slice-read-end c = search needs
 
 cast-end : tie.Need-cast-end
-cast-end c = omega (arith, c .slice-known .given (c .before .before .args .place))
+cast-end c = omega (arith, c .slice-known .given (c .before .before .args .link-index))
 
 returns-2 : tie.Need-returns-2
 returns-2 c =
     let start = c .before .before .before in
     let ends = now (start .args .ends) in
-    let place = start .args .place in
+    let linkIndex = start .args .link-index in
     let few = c .before .before .if1 .left in
-    gone-end ends (start .args .nodes) place few (subst (λ (x : ℕ). start .args .nodes ≤ x) (entry-any ends place 0 far (omega (arith, start .pre))) (c .if2 .taken))
+    gone-end ends (start .args .nodes) linkIndex few (subst (λ (x : ℕ). start .args .nodes ≤ x) (getD-any ends linkIndex 0 far (omega (arith, start .pre))) (c .if2 .taken))
 
 add-back : tie.Need-add-back
 add-back c = search needs
@@ -45,7 +40,7 @@ slice-read-start : tie.Need-slice-read-start
 slice-read-start c = search needs
 
 cast-start : tie.Need-cast-start
-cast-start c = omega (arith, c .slice-known2 .given (4096 + c .before .before .before .before .args .place))
+cast-start c = omega (arith, c .slice-known2 .given (4096 + c .before .before .before .before .args .link-index))
 
 mul-ends : tie.Need-mul-ends
 mul-ends c = search needs
@@ -66,12 +61,12 @@ returns-3 : tie.Need-returns-3
 returns-3 c =
     let start = c .before .before .before .before in
     let ends = now (start .args .ends) in
-    let place = start .args .place in
+    let linkIndex = start .args .link-index in
     let few = c .before .before .before .if1 .left in
-    let end = entry-any ends place 0 far (omega (arith, start .pre)) in
-    let first = entry-any ends (4096 + place) 0 far (omega (arith, start .pre)) in
-    subst (λ (x : Taken). TakenOut ends (start .args .nodes) place x (without ends place)) (ap₂ (λ (x y : ℕ). Link x y) (sym first) (sym end))
-    (taken-link ends (start .args .nodes) place few (subst (λ (x : ℕ). x < start .args .nodes) end (c .before .if2 .left)))
+    let end = getD-any ends linkIndex 0 far (omega (arith, start .pre)) in
+    let first = getD-any ends (4096 + linkIndex) 0 far (omega (arith, start .pre)) in
+    subst (λ (x : Taken). TakenOut ends (start .args .nodes) linkIndex x (endsWithout ends linkIndex)) (ap₂ (λ (x y : ℕ). Link x y) (sym first) (sym end))
+    (taken-link ends (start .args .nodes) linkIndex few (subst (λ (x : ℕ). x < start .args .nodes) end (c .before .if2 .left)))
 
 pub take-out-spec : {M : Type 1} → statement M
 take-out-spec =

@@ -1,12 +1,7 @@
--- `session_open::order_links` meets its contract. Assumes nothing.
-use mathlib.Core.Path.{_≡_, sym, ap, _∙_}
-use native.Mathlib.Omega.{arith}
-use borrow.Author.Needs.{needs}
-use denote.Ref.{now}
-use lib.ListN.{length, take}
-use lib.Seq.{length-take-le, take-at}
+-- `session_open::order_links` meets its contract: the numbers are listed, and grouped by the links' starts and by their ends. Assumes nothing.
+use Rattle.base_lists.specs.Kit.{now, _≡_, _∙_, sym, ap, length, take, drop, length-take-le, take-at, arith, needs}
 use Rattle.table.specs.Fill.{allNodes}
-use Rattle.session_open.proofs.Filling.{length-all}
+use Rattle.session_open.proofs.Filling.{length-all, numbered}
 use Rattle.session_open.proofs.order_links.Statement.{statement}
 use Rattle.session_open.proofs.order_links.Tie as tie
 
@@ -35,19 +30,22 @@ list-all-requires c κs =
     let s = c .before .before .before .before .before .before in
     omega (arith, room s, s .pre .1 .1 .0 .1)
 
-slice-reshare-prefix-group-links : tie.Need-slice-reshare-prefix-group-links
-slice-reshare-prefix-group-links c = search needs
+slice-reshare-prefix-listed : tie.Need-slice-reshare-prefix-listed
+slice-reshare-prefix-listed c = search needs
 
-slice-aggregate-group-links : tie.Need-slice-aggregate-group-links
-slice-aggregate-group-links c =
+slice-aggregate-listed : tie.Need-slice-aggregate-listed
+slice-aggregate-listed c =
     let called = c .before .before .before in
     sym (ap length (take-at (called .list-all .last .0) _ _ (listed called .0)) ∙ listed called .0)
 
-group-links-requires : tie.Need-group-links-requires
-group-links-requires c κs =
+group-both-requires : tie.Need-group-both-requires
+group-both-requires c κs =
     let called = c .before .before .before .before .before in
-    let p = entry called .pre in
-    (p .0, (p .1 .0, (p .1 .1 .0, (p .1 .1 .1 .0, take-at (called .list-all .last .0) _ _ (listed called .0) ∙ listed called .1))))
+    let s = entry called in
+    let p = s .pre in
+    let all = take-at (called .list-all .last .0) _ _ (listed called .0) ∙ listed called .1 in
+    let order = ap length all ∙ length-all (length (now (s .args .starts))) in
+    (p .0, (p .1 .0, ((p .1 .1 .0 .1, omega (arith, p .1 .1 .0)), ((sym order, sym (p .1 .1 .0 .0) ∙ sym order), p .1 .1 .1 .0))))
 
 same-length : tie.Need-same-length
 same-length c = search needs
@@ -59,7 +57,12 @@ same-length-3 : tie.Need-same-length-3
 same-length-3 c = search needs
 
 returns : tie.Need-returns
-returns c = search needs
+returns c =
+    let called = c .before .before .before .before .before .before .before .before .before .before in
+    let a = entry called .args in
+    let p = entry called .pre in
+    let past = drop (length (now (a .starts))) (now (a .order)) in
+    numbered (rw (take-at (called .list-all .last .0) past _ (listed called .0) ∙ listed called .1) at (c .before .before .before .before .group-both .ensures)) (p .0) (p .1 .1 .0 .0) (p .1 .1 .1 .0 .0) (p .1 .1 .1 .0 .1)
 
 pub order-links-spec : {M : Type 1} → statement M
 order-links-spec =
@@ -68,9 +71,9 @@ order-links-spec =
     slice-relend-prefix-list-all
     slice-aggregate-list-all
     list-all-requires
-    slice-reshare-prefix-group-links
-    slice-aggregate-group-links
-    group-links-requires
+    slice-reshare-prefix-listed
+    slice-aggregate-listed
+    group-both-requires
     same-length
     same-length-2
     same-length-3

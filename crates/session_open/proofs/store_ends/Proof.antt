@@ -1,11 +1,6 @@
 -- `session_open::store_ends` meets its contract. Assumes nothing.
-use mathlib.Core.Path.{sym, ap, _∙_}
-use Prim.Native.Nat.{ℕ}
-use native.Mathlib.Omega.{arith}
+use Rattle.base_lists.specs.Kit.{now, _∙_, sym, ap, ℕ, length-take-le, arith, needs}
 use Rattle.session_open.specs.Open.{padded}
-use borrow.Author.Needs.{needs}
-use denote.Ref.{now}
-use lib.Seq.{length-take-le}
 use Rattle.session_open.proofs.Filling.{ended, second-half}
 use Rattle.session_open.proofs.store_ends.Statement.{statement}
 use Rattle.session_open.proofs.store_ends.Tie as tie

@@ -1,10 +1,5 @@
 -- `session_open::store_fixed` meets its contract. Assumes nothing.
-use mathlib.Core.Path.{sym, _∙_}
-use native.Mathlib.Omega.{arith}
-use borrow.Author.Needs.{needs}
-use denote.Ref.{now}
-use lib.ListN.{length-set, length-append, length-drop}
-use lib.Seq.{length-take-le}
+use Rattle.base_lists.specs.Kit.{now, _∙_, sym, length-set, length-append, length-drop, length-take-le, arith, needs}
 use Rattle.session_open.proofs.Filling.{fixed-stored}
 use Rattle.session_open.proofs.store_fixed.Statement.{statement}
 use Rattle.session_open.proofs.store_fixed.Tie as tie

@@ -1,6 +1,5 @@
 -- `session_open::store_links` meets its contract. Assumes nothing.
-use mathlib.Core.Path.{refl}
-use borrow.Author.Needs.{needs}
+use Rattle.base_lists.specs.Kit.{refl, needs}
 use Rattle.session_open.proofs.store_links.Statement.{statement}
 use Rattle.session_open.proofs.store_links.Tie as tie
 

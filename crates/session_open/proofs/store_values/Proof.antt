@@ -1,11 +1,6 @@
 -- `session_open::store_values` meets its contract. Assumes nothing.
-use mathlib.Core.List.{List, _++_}
-use mathlib.Core.Path.{ap, _∙_}
-use Prim.Native.Nat.{ℕ}
-use denote.Ref.{now}
-use lib.ListN.{length, drop}
+use Rattle.base_lists.specs.Kit.{now, _∙_, ap, List, _++_, ℕ, length, drop, needs}
 use Rattle.session_open.specs.Open.{padded}
-use borrow.Author.Needs.{needs}
 use Rattle.session_open.proofs.store_values.Statement.{statement}
 use Rattle.session_open.proofs.store_values.Tie as tie
 

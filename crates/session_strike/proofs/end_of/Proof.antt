@@ -1,11 +1,7 @@
 -- `session_strike::end_of` meets its contract: past the end of the list stands no node. Assumes nothing.
-use mathlib.Core.Path.{sym}
-use native.Mathlib.Omega.{arith}
-use borrow.Author.Needs.{needs}
-use denote.Ref.{now}
-use lib.ListN.{getD, List·getD-eq-default}
+use Rattle.base_lists.specs.Kit.{now, sym, getD, List·getD-eq-default, arith, needs}
+use Rattle.base_lists.proofs.Entries.{getD-any}
 use Rattle.graph.specs.Search.{far}
-use Rattle.session_strike.proofs.Entries.{entry-any}
 use Rattle.session_strike.proofs.end_of.Statement.{statement}
 use Rattle.session_strike.proofs.end_of.Tie as tie
 
@@ -38,7 +34,7 @@ cast-result-2 c =
 returns-2 : tie.Need-returns-2
 returns-2 c =
     let a = c .before .before .before .args in
-    entry-any (now (a .ends)) (getD (now (a .numbers)) (a .j) 0) 0 far (c .before .if1 .left)
+    getD-any (now (a .ends)) (getD (now (a .numbers)) (a .j) 0) 0 far (c .before .if1 .left)
 
 pub end-of-spec : {M : Type 1} → statement M
 end-of-spec =

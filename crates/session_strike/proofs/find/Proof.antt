@@ -1,14 +1,6 @@
 -- `session_strike::find` meets its contract. The loop's invariant: no word before has a mark. The measure is how many words are left. Assumes nothing.
-use mathlib.Core.Bool.{not, false}
-use mathlib.Core.Path.{_≡_, sym, ap, _∙_}
-use Prim.Native.Nat.{ℕ, _-_, _≤_, _<_}
-use native.Mathlib.Omega.{arith}
-use borrow.Author.Needs.{needs}
-use denote.Ref.{now}
-use lib.Dec.{eqb}
-use lib.ListN.{length, getD}
+use Rattle.base_lists.specs.Kit.{now, _≡_, _∙_, sym, ap, false, not, ℕ, _≤_, _<_, _-_, eqb, length, getD, arith, needs, eq-eqb, ne-eqb}
 use borrow.Author.Count.{below-more}
-use borrow.Author.Tests.{eq-eqb, ne-eqb}
 use Rattle.base_lists.proofs.Below.{leastBelow-is, leastBelow-all}
 use Rattle.base_lists.proofs.Tests.{true-T}
 use Rattle.session_strike.proofs.find.Statement.{statement}

@@ -1,7 +1,5 @@
 -- `session_strike::links_of` meets its contract. Assumes nothing.
-use mathlib.Core.Path.{_∙_}
-use borrow.Author.Needs.{needs}
-use denote.Ref.{now}
+use Rattle.base_lists.specs.Kit.{now, _∙_, needs}
 use Rattle.base_lists.specs.List.{part}
 use Rattle.session_strike.proofs.Entries.{halves-neighbours}
 use Rattle.session_strike.proofs.links_of.Statement.{statement}

@@ -1,9 +1,5 @@
 -- `session_strike::look` meets its contract: the set stays, or it is another one. Assumes nothing.
-use mathlib.Core.Path.{sym, ap, _∙_}
-use Prim.Native.Nat.{ℕ}
-use borrow.Author.Needs.{needs}
-use denote.Ref.{now}
-use lib.ListN.{set, length-set}
+use Rattle.base_lists.specs.Kit.{now, _∙_, sym, ap, ℕ, set, length-set, needs}
 use Rattle.session_strike.specs.Moves.{movesIn, markBeside}
 use Rattle.session_strike.proofs.Looking.{look-same, look-other, next-out}
 use Rattle.session_strike.proofs.look.Statement.{statement}

@@ -1,10 +1,5 @@
 -- `session_strike::look_next` meets its contract. Assumes nothing.
-use mathlib.Core.List.{List}
-use mathlib.Core.Path.{ap, ap₂, _∙_}
-use Prim.Native.Nat.{ℕ, _+_, _*_}
-use borrow.Author.Needs.{needs}
-use denote.Ref.{now}
-use lib.ListN.{set, length-set}
+use Rattle.base_lists.specs.Kit.{now, _∙_, ap, ap₂, List, ℕ, _+_, _*_, set, length-set, needs}
 use Rattle.session_strike.specs.Moves.{movesIn, nodeAt, unmark, lookSets, lookMarks}
 use Rattle.session_strike.proofs.look_next.Statement.{statement}
 use Rattle.session_strike.proofs.look_next.Tie as tie

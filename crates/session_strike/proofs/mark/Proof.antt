@@ -1,5 +1,5 @@
 -- `session_strike::mark` meets its contract. Assumes nothing.
-use borrow.Author.Needs.{needs}
+use Rattle.base_lists.specs.Kit.{needs}
 use Rattle.session_strike.specs.Moves.{mark}
 use Rattle.session_strike.proofs.mark.Statement.{statement}
 use Rattle.session_strike.proofs.mark.Tie as tie

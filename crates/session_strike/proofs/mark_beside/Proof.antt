@@ -1,11 +1,7 @@
 -- `session_strike::mark_beside` meets its contract. Assumes nothing.
-use mathlib.Core.List.{List}
-use mathlib.Core.Path.{ap, ap₂, _∙_}
-use Prim.Native.Nat.{ℕ}
-use borrow.Author.Needs.{needs}
-use denote.Ref.{now}
+use Rattle.base_lists.specs.Kit.{now, _∙_, ap, ap₂, List, ℕ, needs}
 use Rattle.base_lists.specs.List.{part}
-use Rattle.graph.specs.Net.{forwardLinks, backwardLinks, driven, driving}
+use Rattle.graph.specs.Net.{forwardTargets, backwardTargets, driven, driving}
 use Rattle.graph_neighbours.specs.Lookup.{neighboursIn}
 use Rattle.session_strike.specs.Moves.{beyond, movesIn, markAll, markBeside}
 use Rattle.session_strike.proofs.mark_beside.Statement.{statement}
@@ -54,8 +50,8 @@ returns c =
     let a = first .before .before .before .before .before .args in
     two .mark-ends2 .ensures
     ∙ ap₂ (λ (m l : List ℕ). markAll (a .n) m l)
-    (one .mark-ends .ensures ∙ ap (λ (l : List ℕ). markAll (a .n) (now (a .marks)) (beyond (forwardLinks (now (a .ends))) l)) (first .links-of .ensures))
-    (ap (beyond (backwardLinks (now (a .ends)))) (second .links-of2 .ensures))
+    (one .mark-ends .ensures ∙ ap (λ (l : List ℕ). markAll (a .n) (now (a .marks)) (beyond (forwardTargets (now (a .ends))) l)) (first .links-of .ensures))
+    (ap (beyond (backwardTargets (now (a .ends)))) (second .links-of2 .ensures))
 
 pub mark-beside-spec : {M : Type 1} → statement M
 mark-beside-spec =

@@ -1,12 +1,6 @@
 -- `session_strike::mark_ends` meets its contract. The loop's invariant: marking the ends of the links that are left leads to the whole. The measure is
 -- how many are left. Assumes nothing.
-use mathlib.Core.List.{List}
-use mathlib.Core.Path.{_≡_, refl, sym, ap, _∙_}
-use Prim.Native.Nat.{ℕ, _+_, _-_, _≤_}
-use native.Mathlib.Omega.{arith}
-use borrow.Author.Needs.{needs}
-use denote.Ref.{now}
-use lib.ListN.{length, drop}
+use Rattle.base_lists.specs.Kit.{now, _≡_, _∙_, sym, ap, refl, List, ℕ, _≤_, _+_, _-_, length, drop, arith, needs}
 use Rattle.session_strike.specs.Moves.{beyond, markOne, markAll}
 use Rattle.session_strike.proofs.Entries.{marks-next, marks-end}
 use Rattle.session_strike.proofs.mark_ends.Statement.{statement}

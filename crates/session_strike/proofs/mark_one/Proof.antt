@@ -1,6 +1,5 @@
 -- `session_strike::mark_one` meets its contract. Assumes nothing.
-use borrow.Author.Needs.{needs}
-use borrow.Author.Tests.{lt-ltb, le-ltb}
+use Rattle.base_lists.specs.Kit.{needs, le-ltb, lt-ltb}
 use Rattle.session_strike.specs.Moves.{markOne}
 use Rattle.session_strike.proofs.mark_one.Statement.{statement}
 use Rattle.session_strike.proofs.mark_one.Tie as tie

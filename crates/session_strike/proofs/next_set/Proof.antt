@@ -1,15 +1,8 @@
 -- `session_strike::next_set` meets its contract. Of an empty set nothing survives, so that its neighbours need no look. Assumes nothing.
-use mathlib.Core.List.{List}
-use mathlib.Core.Path.{sym, ap, _∙_}
-use Prim.Native.Nat.{ℕ, _^_, _<_}
-use native.Mathlib.Omega.{arith}
-use borrow.Author.Needs.{needs}
-use denote.Ref.{now}
+use Rattle.base_lists.specs.Kit.{now, _∙_, sym, ap, List, ℕ, _<_, _^_, drop, length-drop, length-take-le, arith, needs}
 use Rattle.base_lists.specs.List.{part}
-use lib.ListN.{drop, length-drop}
-use lib.Seq.{length-take-le}
 use Rattle.base_bits.specs.Bits.{unionAt}
-use Rattle.graph.specs.Net.{forwardLinks, backwardLinks, driven, driving}
+use Rattle.graph.specs.Net.{forwardTargets, backwardTargets, driven, driving}
 use Rattle.graph_neighbours.specs.Lookup.{neighboursIn}
 use Rattle.session_strike.specs.Moves.{beyond, movesIn}
 use Rattle.session_strike.proofs.Looking.{next-unions, next-none}
@@ -92,8 +85,8 @@ returns-2 c =
     let start = called .before .before .before .before .before .before in
     let sets = now (start .args .sets) in
     next-unions (now (start .args .masks)) (movesIn (now (start .args .offsets)) (now (start .args .numbers)) (now (start .args .ends))) sets (start .args .v)
-    (out .reach .ensures ∙ ap (λ (l : List ℕ). unionAt sets (beyond (forwardLinks (now (start .args .ends))) l)) (first .links-of .ensures))
-    (back .reach2 .ensures ∙ ap (λ (l : List ℕ). unionAt sets (beyond (backwardLinks (now (start .args .ends))) l)) (second .links-of2 .ensures))
+    (out .reach .ensures ∙ ap (λ (l : List ℕ). unionAt sets (beyond (forwardTargets (now (start .args .ends))) l)) (first .links-of .ensures))
+    (back .reach2 .ensures ∙ ap (λ (l : List ℕ). unionAt sets (beyond (backwardTargets (now (start .args .ends))) l)) (second .links-of2 .ensures))
     (called .set-at .ensures) (c .surviving .ensures)
 
 pub next-set-spec : {M : Type 1} → statement M

@@ -1,12 +1,7 @@
 -- `session_strike::reach` meets its contract. The loop's invariant: the union so far, with the sets at the ends of the links that are left, is the whole
 -- union. The measure is how many are left. Assumes nothing.
-use mathlib.Core.Path.{_≡_, sym, ap, _∙_}
-use Prim.Native.Nat.{ℕ, _+_, _-_, _≤_}
-use native.Mathlib.Omega.{arith}
-use borrow.Author.Needs.{needs}
-use denote.Ref.{now}
+use Rattle.base_lists.specs.Kit.{now, _≡_, _∙_, sym, ap, ℕ, _≤_, _+_, _-_, length, getD, drop, arith, needs}
 use lib.Bits.{bitOr, or-zero-l}
-use lib.ListN.{length, getD, drop}
 use Rattle.base_bits.specs.Bits.{unionAt}
 use Rattle.session_strike.specs.Moves.{beyond}
 use Rattle.session_strike.proofs.Entries.{union-next, union-end}

@@ -1,8 +1,5 @@
 -- `session_strike::set_at` meets its contract: past the end of the table a set is empty. Assumes nothing.
-use mathlib.Core.Path.{sym}
-use borrow.Author.Needs.{needs}
-use denote.Ref.{now}
-use lib.ListN.{List·getD-eq-default}
+use Rattle.base_lists.specs.Kit.{now, sym, List·getD-eq-default, needs}
 use Rattle.session_strike.proofs.set_at.Statement.{statement}
 use Rattle.session_strike.proofs.set_at.Tie as tie
 

@@ -1,10 +1,5 @@
 -- `session_strike::strike_from` meets its contract. Assumes nothing.
-use mathlib.Core.List.{List}
-use mathlib.Core.Path.{ap, _∙_}
-use Prim.Native.Nat.{ℕ}
-use borrow.Author.Needs.{needs}
-use denote.Ref.{now}
-use lib.ListN.{length}
+use Rattle.base_lists.specs.Kit.{now, _∙_, ap, List, ℕ, length, needs}
 use Rattle.session_strike.specs.Moves.{movesIn, markOne, markBoth, settled, settledFrom}
 use Rattle.session_strike.proofs.strike_from.Statement.{statement}
 use Rattle.session_strike.proofs.strike_from.Tie as tie
@@ -21,11 +16,11 @@ slice-aggregate-mark-one-2 c = search needs
 mark-one-requires-2 : tie.Need-mark-one-requires-2
 mark-one-requires-2 c κs = search needs
 
-slice-aggregate-settle : tie.Need-slice-aggregate-settle
-slice-aggregate-settle c = search needs
+slice-aggregate-strike-marked : tie.Need-slice-aggregate-strike-marked
+slice-aggregate-strike-marked c = search needs
 
-settle-requires : tie.Need-settle-requires
-settle-requires c κs = search needs
+strike-marked-requires : tie.Need-strike-marked-requires
+strike-marked-requires c κs = search needs
 
 same-length : tie.Need-same-length
 same-length c = search needs
@@ -38,7 +33,7 @@ returns c =
     let one = two .before .before .before in
     let a = one .before .before .before .before .before .before .before .args in
     let marks = two .mark-one2 .ensures ∙ ap (λ (m : List ℕ). markOne (length (now (a .sets))) m (a .y)) (one .mark-one .ensures) in
-    called .settle .ensures ∙ ap (settled (now (a .masks)) (movesIn (now (a .offsets)) (now (a .numbers)) (now (a .ends))) (now (a .sets))) marks
+    called .strike-marked .ensures ∙ ap (settled (now (a .masks)) (movesIn (now (a .offsets)) (now (a .numbers)) (now (a .ends))) (now (a .sets))) marks
 
 pub strike-from-spec : {M : Type 1} → statement M
 strike-from-spec =
@@ -48,7 +43,7 @@ strike-from-spec =
     mark-one-requires
     slice-aggregate-mark-one-2
     mark-one-requires-2
-    slice-aggregate-settle
-    settle-requires
+    slice-aggregate-strike-marked
+    strike-marked-requires
     same-length
     returns)

@@ -1,20 +1,14 @@
 -- `shelf::after` meets its contract. Assumes nothing.
-use Prim.Native.Nat.{_≤_}
 use native.Mathlib.Omega.{arith}
-use Rattle.shelf.specs.Reading.{mostBytes}
 use borrow.Author.Needs.{needs}
 use Rattle.shelf.proofs.after.Statement.{statement}
 use Rattle.shelf.proofs.after.Tie as tie
-
--- what was read has room
-room : (c : tie.After-known-told) → c .before .found .given .0 .0 ≤ mostBytes
-room c = let h = rw (c .before .found .given .1) at (c .before .before .before .pre .1) in h
 
 enum-known-found : tie.Need-enum-known-found
 enum-known-found c = search needs
 
 add-t5 : tie.Need-add-t5
-add-t5 c = omega (arith, room c)
+add-t5 c = let room = rw (c .before .found .given .1) at (c .before .before .before .pre .1) in omega arith
 
 enum-told : tie.Need-enum-told
 enum-told c = search needs

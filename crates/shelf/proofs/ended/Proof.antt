@@ -1,11 +1,11 @@
 -- `shelf::ended` meets its contract. Assumes nothing.
-use Rattle.shelf.specs.Printing.{endedOf}
+use Rattle.shelf.specs.Printing.{shelfEnded}
 use borrow.Author.Needs.{needs}
 use Rattle.shelf.proofs.ended.Statement.{statement}
 use Rattle.shelf.proofs.ended.Tie as tie
 
 returns : tie.Need-returns
-unfolding endedOf
+unfolding shelfEnded
 returns c = rw (c .if1 .taken)
 
 slice-aggregate-fail : tie.Need-slice-aggregate-fail
@@ -15,7 +15,7 @@ fail-requires : tie.Need-fail-requires
 fail-requires c κs = search needs
 
 returns-2 : tie.Need-returns-2
-unfolding endedOf
+unfolding shelfEnded
 returns-2 c = rw (c .before .before .if1 .left)
 
 pub ended-spec : {M : Type 1} → statement M

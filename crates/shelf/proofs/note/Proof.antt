@@ -1,20 +1,14 @@
 -- `shelf::note` meets its contract. Assumes nothing.
-use Prim.Native.Nat.{_≤_}
 use native.Mathlib.Omega.{arith}
-use Rattle.shelf.specs.Reading.{mostBytes}
 use borrow.Author.Needs.{needs}
 use Rattle.shelf.proofs.note.Statement.{statement}
 use Rattle.shelf.proofs.note.Tie as tie
-
--- what was read has room
-room : (c : tie.After-known-told) → c .before .found .given .0 .0 ≤ mostBytes
-room c = let h = rw (c .before .found .given .1) at (c .before .before .before .pre) in h
 
 enum-known-found : tie.Need-enum-known-found
 enum-known-found c = search needs
 
 cast-result : tie.Need-cast-result
-cast-result c = omega (arith, room c)
+cast-result c = let room = rw (c .before .found .given .1) at (c .before .before .before .pre) in omega arith
 
 enum-told : tie.Need-enum-told
 enum-told c = search needs

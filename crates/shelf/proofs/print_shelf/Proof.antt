@@ -7,14 +7,13 @@ use denote.Ref.{now}
 use lib.ListN.{length, take}
 use lib.Seq.{length-take-le}
 use Rattle.base_text.specs.Text.{Fits}
-use Rattle.base_text.proofs.Text.{put-whole, put-length}
-use Rattle.shelf_strings.specs.Strings.{cutInto}
-use Rattle.shelf_text.specs.Text.{shelfText}
+use Rattle.call_shelf.specs.Strings.{cutInto}
+use Rattle.call_shelf.specs.Text.{shelfText}
 use Rattle.call_shelf.specs.Shelf.{shelfOf}
 use Rattle.shelf.specs.declared.Taken.{Taken}
-use Rattle.shelf.specs.Printing.{textOf, printedAt, printedOf, Handed}
+use Rattle.shelf.specs.Printing.{shelfTextOf, printedAt, printedOf, ShelfHanded}
 use Rattle.shelf.proofs.Reading.{few-files}
-use Rattle.shelf.proofs.Printing.{ordered-numbers, ordered-few, text-room, text-front, text-size, handed-front}
+use Rattle.shelf.proofs.Printing.{ordered-numbers, ordered-few, text-room, text-prefix, text-size, handed-prefix}
 use borrow.Author.Needs.{needs}
 use Rattle.shelf.proofs.print_shelf.Statement.{statement}
 use Rattle.shelf.proofs.print_shelf.Tie as tie
@@ -79,7 +78,7 @@ same-length : tie.Need-same-length
 same-length c = search needs
 
 returns : tie.Need-returns
-unfolding Handed
+unfolding ShelfHanded
 returns c = start (c .before .before .before .before) .pre .1 .2
 
 slice-reshare-prefix-put-numbers : tie.Need-slice-reshare-prefix-put-numbers
@@ -104,19 +103,19 @@ slice-aggregate-hand c =
     sym (length-take-le _ _ (text-size (put .put-numbers .ensures) (fits a)))
 
 -- the lines at the front of the buffer are the text of the files
-front : (c : tie.After-put-numbers) →
+prefix : (c : tie.After-put-numbers) →
     let s = start (call (c .before .before .before .before)) .args in
     take (c .put-numbers .result) (c .put-numbers .last .1 .0) ≡ printedOf (now (s .bytes)) (now (s .notes))
-unfolding textOf printedAt printedOf
-front c =
+unfolding shelfTextOf printedAt printedOf
+prefix c =
     let a = c .before .before .before .before in
     let s = start (call a) in
-    text-front (c .put-numbers .ensures) (fits a) ∙ ap shelfText (numbers a) ∙ ap (λ (t : Taken). printedAt t (now (s .args .bytes)) (now (s .args .notes))) (sym (s .pre .0 .1))
+    text-prefix (c .put-numbers .ensures) (fits a) ∙ ap shelfText (numbers a) ∙ ap (λ (t : Taken). printedAt t (now (s .args .bytes)) (now (s .args .notes))) (sym (s .pre .0 .1))
 
 hand-requires : tie.Need-hand-requires
 hand-requires c κs =
     let put = c .before .before .before .before in
-    (start (call (put .before .before .before .before)) .pre .1 .2, front put)
+    (start (call (put .before .before .before .before)) .pre .1 .2, prefix put)
 
 same-length-2 : tie.Need-same-length-2
 same-length-2 c = search needs
@@ -127,7 +126,7 @@ same-length-3 c = search needs
 returns-2 : tie.Need-returns-2
 returns-2 c =
     let put = c .before .before .before .before .before in
-    handed-front _ _ _ _ _ (front put) (slice-aggregate-hand (c .before)) (c .hand .ensures)
+    handed-prefix _ _ _ _ _ (prefix put) (slice-aggregate-hand (c .before)) (c .hand .ensures)
 
 pub print-shelf-spec : {M : Type 1} → statement M
 print-shelf-spec =

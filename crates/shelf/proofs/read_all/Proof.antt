@@ -1,10 +1,10 @@
 -- `shelf::read_all` meets its contract. The loop's invariant: the files before the i-th are there, and their bytes end at the place. Assumes nothing.
 use mathlib.Core.Path.{_≡_, refl, sym, ap, _∙_}
-use Prim.Native.Nat.{_+_, _*_, _-_, _<_, _≤_}
+use Prim.Native.Nat.{_*_, _-_, _<_, _≤_}
 use native.Mathlib.Omega.{arith}
 use lib.ListN.{length}
 use Rattle.shelf.specs.declared.Next.{Next}
-use Rattle.shelf.specs.Reading.{mostBytes, Reached, nextAfter, endOf}
+use Rattle.shelf.specs.Reading.{mostBytes, FileReached, nextAfter, shelfEnd}
 use Rattle.shelf.proofs.Reading.{further-place, reached-none, reached-more, absent-ends, unreadable-ends, all-read}
 use borrow.Author.Needs.{needs}
 use Rattle.shelf.proofs.read_all.Statement.{statement}
@@ -12,7 +12,7 @@ use Rattle.shelf.proofs.read_all.Tie as tie
 
 abbrev Inv-loop : tie.InvT-loop
 Inv-loop bytes₀ notes₀ at₀ i₀ bytes notes at i =
-    (i ≤ 16) × (at ≤ mostBytes * i) × (length bytes ≡ length bytes₀) × (length notes ≡ length notes₀) × Reached notes i at
+    (i ≤ 16) × (at ≤ mostBytes * i) × (length bytes ≡ length bytes₀) × (length notes ≡ length notes₀) × FileReached notes i at
 
 abbrev μ-loop : tie.MeasureT-loop
 μ-loop bytes₀ notes₀ at₀ i₀ bytes notes at i = 16 - i
@@ -60,7 +60,7 @@ returns : tie.Need-returns Inv-loop μ-loop
 returns c =
     let a = c .before .before in
     let one = call a .read-one .ensures .0 in
-    absent-ends _ _ _ (call a .read-one .result) (short a) (one .0) (turn a .loop .inv .4) (onward a _ (c .enum-told .given .1)) ∙ ap endOf (sym (one .1))
+    absent-ends _ _ _ (call a .read-one .result) (short a) (one .0) (turn a .loop .inv .4) (onward a _ (c .enum-told .given .1)) ∙ ap shelfEnd (sym (one .1))
 
 enum-told-2 : tie.Need-enum-told-2 Inv-loop μ-loop
 enum-told-2 c = search needs
@@ -75,7 +75,7 @@ returns-2 : tie.Need-returns-2 Inv-loop μ-loop
 returns-2 c =
     let a = c .before .before in
     let one = call a .read-one .ensures .0 in
-    unreadable-ends _ _ _ (call a .read-one .result) (short a) (one .0) (turn a .loop .inv .4) (onward a _ (c .enum-told2 .given .1)) ∙ ap endOf (sym (one .1))
+    unreadable-ends _ _ _ (call a .read-one .result) (short a) (one .0) (turn a .loop .inv .4) (onward a _ (c .enum-told2 .given .1)) ∙ ap shelfEnd (sym (one .1))
 
 add-i : tie.Need-add-i Inv-loop μ-loop
 add-i c = omega arith

@@ -1,11 +1,11 @@
 -- `shelf::read_one` meets its contract. Assumes nothing.
-use mathlib.Core.Path.{_≡_, refl, sym, ap, _∙_}
+use mathlib.Core.Path.{ap}
 use native.Mathlib.Omega.{arith}
 use denote.Ref.{now}
-use lib.ListN.{length, take, drop, set, length-take, length-drop}
+use lib.ListN.{length, take, set, length-take, length-drop}
 use lib.Seq.{take-at, length-take-le}
 use Rattle.input.specs.Reading.{Within}
-use Rattle.shelf.specs.Reading.{mostBytes, noted}
+use Rattle.shelf.specs.Reading.{mostBytes}
 use Rattle.input.proofs.Reading.{within-more}
 use borrow.Author.Needs.{needs}
 use Rattle.shelf.proofs.read_one.Statement.{statement}

@@ -4,8 +4,8 @@ use native.Mathlib.Omega.{arith}
 use lib.ListN.{length}
 use Rattle.call_shelf.specs.Shelf.{mostFiles}
 use Rattle.shelf.specs.declared.Taken.the-variants as taken
-use Rattle.shelf.specs.Reading.{endOf}
-use Rattle.shelf.specs.Printing.{Ran}
+use Rattle.shelf.specs.Reading.{shelfEnd}
+use Rattle.shelf.specs.Printing.{ShelfRan}
 use Rattle.shelf.proofs.Reading.{unreadable-under}
 use Rattle.shelf.proofs.Printing.{ran-begun}
 use borrow.Author.Needs.{needs}
@@ -23,7 +23,7 @@ enum-known-taken : tie.Need-enum-known-taken
 enum-known-taken c = search needs
 
 -- how the reading ended, by the notes
-files : (c : tie.After-known-told) → endOf (c .before .before .before .before .before .before .before .read-all .last .1 .0) ≡ taken.Files (c .before .taken .given .0 .0)
+files : (c : tie.After-known-told) → shelfEnd (c .before .before .before .before .before .before .before .read-all .last .1 .0) ≡ taken.Files (c .before .taken .given .0 .0)
 files c = sym (c .before .before .before .before .before .before .before .read-all .ensures) ∙ c .before .taken .given .1
 
 print-shelf-requires : tie.Need-print-shelf-requires
@@ -67,7 +67,7 @@ same-length-6 : tie.Need-same-length-6
 same-length-6 c = search needs
 
 returns-2 : tie.Need-returns-2
-unfolding Ran
+unfolding ShelfRan
 returns-2 c =
     let t = c .before .before in
     (sym (t .before .before .before .before .before .before .read-all .ensures) ∙ t .taken2 .given .1, t .before .before .before .before .before .before .before .before .before .before .before .before .before .pre .1 .2)

@@ -1,6 +1,5 @@
 -- `table::counted` meets its contract. Assumes nothing.
-use mathlib.Core.Path.{refl}
-use borrow.Author.Needs.{needs}
+use Rattle.base_lists.specs.Kit.{refl, needs}
 use Rattle.table.proofs.counted.Statement.{statement}
 use Rattle.table.proofs.counted.Tie as tie
 

@@ -1,13 +1,7 @@
 -- `table_first::alike` meets its contract. The loop's invariant: the set so far is that of the parts before u. The measure is how many
 -- parts are left. Assumes nothing.
-use mathlib.Core.Logic.{⊎-elim}
-use mathlib.Core.Path.{_≡_, refl, sym, ap, ap₂, _∙_}
-use Prim.Native.Nat.{ℕ, _-_, _≤_}
-use native.Mathlib.Omega.{arith}
-use borrow.Author.Needs.{needs}
-use denote.Ref.{now}
+use Rattle.base_lists.specs.Kit.{now, _≡_, _∙_, sym, ap, refl, ap₂, ⊎-elim, ℕ, _≤_, _-_, length, getD, arith, needs}
 use lib.Bits.{bitOr}
-use lib.ListN.{length, getD}
 use Rattle.base_bits.specs.Bits.{numberOf}
 use Rattle.base_bits.proofs.Numbers.{number-insert, number-skip}
 use Rattle.table.specs.Row.{kindsAgree}
@@ -50,7 +44,7 @@ loop-again c =
     let loop = c .before .before .before .before in
     let a = loop .before .before .args in
     let u = loop .loop .u in
-    let kinds = now (a .part-kinds) in
+    let kinds = now (a .part-labels) in
     let inv = loop .loop .inv .1 in (
       omega arith,
       ⊎-elim
@@ -66,8 +60,8 @@ returns : tie.Need-returns Inv-loop μ-loop
 returns c =
     let loop = c .before in
     let a = loop .before .before .args in
-    let done : loop .loop .u ≡ length (now (a .part-kinds)) = omega arith in
-    loop .loop .inv .1 ∙ ap (λ (n : ℕ). numberOf n (λ x. kindsAgree (getD (now (a .part-kinds)) x 0) (a .kind))) done
+    let done : loop .loop .u ≡ length (now (a .part-labels)) = omega arith in
+    loop .loop .inv .1 ∙ ap (λ (n : ℕ). numberOf n (λ x. kindsAgree (getD (now (a .part-labels)) x 0) (a .kind))) done
 
 pub alike-spec : {M : Type 1} → statement M
 alike-spec = tie.close (tie.spec Inv-loop μ-loop loop-holds mul-kinds-agree shared-slice-read-kinds-agree kinds-agree-requires cast-single single-requires add-u loop-less loop-again returns)

@@ -1,11 +1,6 @@
 -- `table_first::copy` meets its contract, as `start` does: the turns that are left lead to the whole table and the whole count. Assumes
 -- nothing.
-use mathlib.Core.Path.{refl}
-use Prim.Native.Nat.{_-_, _<_}
-use native.Mathlib.Omega.{arith}
-use borrow.Author.Needs.{needs}
-use denote.Ref.{now}
-use lib.ListN.{length, getD}
+use Rattle.base_lists.specs.Kit.{now, refl, _<_, _-_, length, getD, arith, needs}
 use Rattle.base_lists.specs.List.{Below}
 use Rattle.table_first.proofs.Filling.{Filling, filling-start, filling-fits, filling-next, filling-end, filled-written}
 use Rattle.table_first.proofs.copy.Statement.{statement}

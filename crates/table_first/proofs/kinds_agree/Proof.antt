@@ -1,6 +1,5 @@
 -- `table_first::kinds_agree` meets its contract: the label that it tries first is that of any part of the node's package. Assumes nothing.
-use mathlib.Core.Path.{sym}
-use native.Mathlib.Omega.{arith}
+use Rattle.base_lists.specs.Kit.{sym, arith}
 use Rattle.table.proofs.Agreement.{agree-any, agree-own}
 use Rattle.table_first.proofs.kinds_agree.Statement.{statement}
 use Rattle.table_first.proofs.kinds_agree.Tie as tie

@@ -1,11 +1,6 @@
 -- `table_first::start` meets its contract. The loop's invariant: the turns that are left lead to the whole table and the whole count. The
 -- measure is how many are left. Assumes nothing.
-use mathlib.Core.Path.{_≡_}
-use Prim.Native.Nat.{_-_, _<_}
-use native.Mathlib.Omega.{arith}
-use borrow.Author.Needs.{needs}
-use denote.Ref.{now}
-use lib.ListN.{length, getD}
+use Rattle.base_lists.specs.Kit.{now, _≡_, _<_, _-_, length, getD, arith, needs}
 use Rattle.base_lists.specs.List.{Below}
 use Rattle.table.specs.First.{startNode}
 use Rattle.table_first.proofs.Filling.{Filling, filling-start, filling-fits, filling-next, filling-end, filled-written}
@@ -38,7 +33,7 @@ known : (c : tie.In-loop Inv-loop μ-loop) →
     let loop = c .before in
     let a = loop .before .before .before .before .before .before .before .before .before .args in
     let v = getD (now (a .nodes)) (loop .loop .i) 0 in
-    (v < length (loop .loop .table)) × (v < length (now (a .node-kinds)))
+    (v < length (loop .loop .table)) × (v < length (now (a .node-labels)))
 unfolding Below
 known c =
     let loop = c .before in
@@ -61,7 +56,7 @@ alike-requires c κs = search needs
 made : (c : tie.After-alike Inv-loop μ-loop) →
     let loop = c .before .before .before .before in
     let a = loop .before .before .before .before .before .before .before .before .before .args in
-    c .alike .result ≡ startNode (now (a .part-kinds)) (now (a .node-kinds)) (getD (now (a .nodes)) (loop .loop .i) 0)
+    c .alike .result ≡ startNode (now (a .part-labels)) (now (a .node-labels)) (getD (now (a .nodes)) (loop .loop .i) 0)
 unfolding startNode
 made c = c .alike .ensures
 

@@ -1,24 +1,13 @@
 -- `table_largest::refine` meets its contract: the list of nodes has each node that changes, and what the rounds settle at is the end of the row.
 -- Assumes nothing.
-use mathlib.Core.List.{List, _∷_}
-use mathlib.Core.Path.{_≡_, refl, sym, ap}
-use Prim.Native.Nat.{ℕ, zero, suc, _≤_}
-use native.Mathlib.Nat.{not-suc-le-zero, le-of-suc-le-suc}
-use denote.Ref.{now}
-use lib.ListN.{length, take, replicate}
-use lib.Seq.{length-take-le}
+use Rattle.base_lists.specs.Kit.{now, sym, _≤_, length, length-take-le, needs}
+use Rattle.base_lists.proofs.Parts.{take-replicate}
 use Rattle.graph.specs.Search.{far}
 use Rattle.graph.proofs.Net.{net-of, net-few}
 use Rattle.table.specs.Row.{problemBy}
 use Rattle.table_largest.proofs.Rounds.{first-due, settled-rested}
-use borrow.Author.Needs.{needs}
 use Rattle.table_largest.proofs.refine.Statement.{statement}
 use Rattle.table_largest.proofs.refine.Tie as tie
-
-take-replicate : (k n x : ℕ) → k ≤ n → take k (replicate n x) ≡ replicate k x
-take-replicate zero n x h = refl
-take-replicate (suc k) zero x h = absurd (not-suc-le-zero h)
-take-replicate (suc k) (suc n) x h = ap (λ (l : List ℕ). x ∷ l) (take-replicate k n x (le-of-suc-le-suc h))
 
 -- there are no more nodes than the scratch has entries
 few : (s : tie.Start) → length (now (s .args .table)) ≤ 512

@@ -1,13 +1,7 @@
 -- `table_largest::settle` meets its contract. The loop's invariant: `table` is the table after `rounds` rounds, each of which struck a pair; the
 -- nodes that change are listed, each with its next set; and nothing is marked. The measure is how many pairs there are, which falls with each
 -- round. Assumes nothing.
-use mathlib.Core.Path.{_≡_, refl, sym, ap, _∙_}
-use Prim.Native.Nat.{ℕ, _≤_, _<_}
-use native.Mathlib.Omega.{arith}
-use borrow.Author.Needs.{needs}
-use denote.Ref.{now}
-use lib.ListN.{length, take, replicate, length-replicate}
-use lib.Seq.{length-take-le}
+use Rattle.base_lists.specs.Kit.{now, _≡_, _∙_, sym, ap, refl, ℕ, _≤_, _<_, length, take, replicate, length-replicate, length-take-le, arith, needs}
 use Rattle.base_lists.specs.List.{part}
 use Rattle.graph.specs.Bfs.{stateOf}
 use Rattle.graph.specs.Search.{far}
@@ -124,14 +118,14 @@ add-rounds c =
     let start = entry (looped write) in
     omega (arith, round-count (looped write .loop .inv .0), fewer write, start .pre .1 .0, start .fits)
 
-slice-reshare-prefix-wake : tie.Need-slice-reshare-prefix-wake Inv-loop μ-loop
-slice-reshare-prefix-wake c = room (looped (c .before .before)) .0
+slice-reshare-prefix-list-beside : tie.Need-slice-reshare-prefix-list-beside Inv-loop μ-loop
+slice-reshare-prefix-list-beside c = room (looped (c .before .before)) .0
 
-slice-aggregate-wake : tie.Need-slice-aggregate-wake Inv-loop μ-loop
-slice-aggregate-wake c = sym (length-take-le _ _ (room (looped (c .before .before .before)) .0))
+slice-aggregate-list-beside : tie.Need-slice-aggregate-list-beside Inv-loop μ-loop
+slice-aggregate-list-beside c = sym (length-take-le _ _ (room (looped (c .before .before .before)) .0))
 
-wake-requires : tie.Need-wake-requires Inv-loop μ-loop
-wake-requires c κs =
+list-beside-requires : tie.Need-list-beside-requires Inv-loop μ-loop
+list-beside-requires c κs =
     let write = c .before .before .before .before .before .before in
     let inv = looped write .loop .inv in
     let long = new-long (inv .0) (inv .1) (write .write .ensures) in (
@@ -143,21 +137,21 @@ wake-requires c κs =
     )
 
 slice-reshare-prefix-listed : tie.Need-slice-reshare-prefix-listed Inv-loop μ-loop
-slice-reshare-prefix-listed c = c .before .before .before .before .wake .ensures .kept .within
+slice-reshare-prefix-listed c = c .before .before .before .before .list-beside .ensures .kept .within
 
 slice-aggregate-listed : tie.Need-slice-aggregate-listed Inv-loop μ-loop
-slice-aggregate-listed c = sym (length-take-le _ _ (c .before .before .before .before .before .wake .ensures .kept .within))
+slice-aggregate-listed c = sym (length-take-le _ _ (c .before .before .before .before .before .list-beside .ensures .kept .within))
 
 -- what lies beside the nodes that changed is to be looked at
-due : (c : tie.After-wake Inv-loop μ-loop) →
+due : (c : tie.After-list-beside Inv-loop μ-loop) →
     let start = entry (looped (c .before .before .before .before .before .before .before)) in
-    Due (tables (now (start .args .masks)) (now (start .args .offsets)) (now (start .args .links))) (c .before .before .before .before .before .before .before .write .last .1 .1 .0)
-    (take (c .wake .result) (c .wake .last .1 .1 .1 .1 .1 .0))
+    Due (tables (now (start .args .masks)) (now (start .args .offsets)) (now (start .args .targets))) (c .before .before .before .before .before .before .before .write .last .1 .1 .0)
+    (take (c .list-beside .result) (c .list-beside .last .1 .1 .1 .1 .1 .0))
 due c =
     let loop = looped (c .before .before .before .before .before .before .before) in
     let inv = loop .loop .inv in
-    woken-due (inv .0) (inv .1) (c .before .before .before .before .before .before .before .write .ensures) (loop .loop .todo) (clean loop) (c .wake .ensures)
-    (c .wake .kept .1 .1 .1 .1 .0 ∙ ap length (clean loop) ∙ length-replicate _ far)
+    woken-due (inv .0) (inv .1) (c .before .before .before .before .before .before .before .write .ensures) (loop .loop .todo) (clean loop) (c .list-beside .ensures)
+    (c .list-beside .kept .1 .1 .1 .1 .0 ∙ ap length (clean loop) ∙ length-replicate _ far)
 
 changes-requires-2 : tie.Need-changes-requires-2 Inv-loop μ-loop
 unfolding part
@@ -173,7 +167,7 @@ changes-requires-2 c κs =
 
 unmark-requires : tie.Need-unmark-requires Inv-loop μ-loop
 unfolding stateOf
-unmark-requires c κs = c .before .before .before .before .before .before .before .before .before .before .before .before .before .before .wake .ensures .kept .ready .inside
+unmark-requires c κs = c .before .before .before .before .before .before .before .before .before .before .before .before .before .before .list-beside .ensures .kept .ready .inside
 
 loop-less : tie.Need-loop-less Inv-loop μ-loop
 loop-less c = fewer (c .before .before .before .before .before .before .before .before .before .before .before .before .before .before .before .before .before .before .before .before .before .before .before .before)
@@ -187,10 +181,10 @@ loop-again c =
       round-next (inv .0) (inv .1) (write .write .ensures) (inv .5 ∙ sym (inv .3)) (changed-some write),
       record { todo = _; due = due wake; pending = call .ensures },
       c .before .before .unmark .ensures
-          ∙ woken-clean (inv .0) (inv .1) (write .write .ensures) (looped write .loop .todo) (clean (looped write)) (wake .wake .ensures)
+          ∙ woken-clean (inv .0) (inv .1) (write .write .ensures) (looped write .loop .todo) (clean (looped write)) (wake .list-beside .ensures)
           ∙ ap (λ (n : ℕ). replicate n far) (inv .3),
       new-long (inv .0) (inv .1) (write .write .ensures) ∙ inv .3,
-      wake .wake .kept .1 .1 .1 .1 .1 .0 ∙ inv .4,
+      wake .list-beside .kept .1 .1 .1 .1 .1 .0 ∙ inv .4,
       call .kept .1 .1 .1 .1 .1 .1 .0 ∙ inv .5,
       call .kept .1 .1 .1 .1 .1 .1 .1 .0 ∙ inv .6,
     )
@@ -236,9 +230,9 @@ settle-spec =
     slice-aggregate-write-2
     write-requires
     add-rounds
-    slice-reshare-prefix-wake
-    slice-aggregate-wake
-    wake-requires
+    slice-reshare-prefix-list-beside
+    slice-aggregate-list-beside
+    list-beside-requires
     slice-reshare-prefix-listed
     slice-aggregate-listed
     changes-requires-2

@@ -1,11 +1,6 @@
 -- `table_round::changes` meets its contract. The loop's invariant: what is listed, with what is left of the list, leads to the whole. The
 -- measure is how many are left. Assumes nothing.
-use mathlib.Core.Path.{_≡_, refl, _∙_}
-use Prim.Native.Nat.{_-_, _<_}
-use native.Mathlib.Omega.{arith}
-use borrow.Author.Needs.{needs}
-use denote.Ref.{now}
-use lib.ListN.{length, getD}
+use Rattle.base_lists.specs.Kit.{now, _≡_, _∙_, refl, _<_, _-_, length, getD, arith, needs}
 use Rattle.base_lists.specs.List.{Below}
 use Rattle.table.specs.Prepared.{tables}
 use Rattle.table_strike.specs.Strike.{strikeNode}
@@ -14,10 +9,10 @@ use Rattle.table_round.proofs.changes.Statement.{statement}
 use Rattle.table_round.proofs.changes.Tie as tie
 
 abbrev Inv-loop : tie.InvT-loop
-Inv-loop alone todo masks offsets links old changed₀ next₀ k₀ i₀ changed next k i = (length changed ≡ length changed₀) × (length next ≡ length next₀) × Listing (strikeNode (tables masks offsets links) old) old todo changed next k i
+Inv-loop alone todo masks offsets targets old changed₀ next₀ k₀ i₀ changed next k i = (length changed ≡ length changed₀) × (length next ≡ length next₀) × Listing (strikeNode (tables masks offsets targets) old) old todo changed next k i
 
 abbrev μ-loop : tie.MeasureT-loop
-μ-loop alone todo masks offsets links old changed₀ next₀ k₀ i₀ changed next k i = length todo - i
+μ-loop alone todo masks offsets targets old changed₀ next₀ k₀ i₀ changed next k i = length todo - i
 
 abbrev entry : tie.At-loop Inv-loop μ-loop → tie.Start Inv-loop μ-loop
 entry loop = loop .before .before .before .before .before .before .before .before

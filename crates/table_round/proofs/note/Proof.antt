@@ -1,7 +1,5 @@
 -- `table_round::note` meets its contract. Assumes nothing.
-use native.Mathlib.Omega.{arith}
-use borrow.Author.Needs.{needs}
-use borrow.Author.Tests.{eq-eqb, ne-eqb}
+use Rattle.base_lists.specs.Kit.{arith, needs, eq-eqb, ne-eqb}
 use Rattle.table_round.proofs.note.Statement.{statement}
 use Rattle.table_round.proofs.note.Tie as tie
 

@@ -1,15 +1,6 @@
 -- `table_round::unmark` meets its contract. The loop's invariant: the marks that are left to take away lead to the whole. The measure is how
 -- many are left. Assumes nothing.
-use native.Mathlib.Numerals.{add-one}
-use lib.ListN.{set, length-set, drop-of-length-le}
-use lib.Seq.{drop-cons}
-use mathlib.Core.Path.{_≡_, refl, _∙_}
-use mathlib.Core.List.{List}
-use Prim.Native.Nat.{ℕ, _+_, _-_, _≤_, _<_}
-use native.Mathlib.Omega.{arith}
-use borrow.Author.Needs.{needs}
-use denote.Ref.{now}
-use lib.ListN.{length, getD, drop}
+use Rattle.base_lists.specs.Kit.{now, _≡_, _∙_, refl, List, ℕ, _≤_, _<_, _+_, _-_, add-one, length, getD, drop, set, length-set, drop-of-length-le, drop-cons, arith, needs}
 use Rattle.base_lists.specs.List.{Below}
 use Rattle.graph.specs.Search.{far}
 use Rattle.table.specs.Fill.{fillAt}

@@ -1,14 +1,10 @@
 -- `table_round::write` meets its contract. The loop's invariant: what is left to write leads to the whole table, and `kept` is how many
 -- pairs the table has. The measure is how many sets are left. Assumes nothing.
-use mathlib.Core.Path.{refl}
-use Prim.Native.Nat.{_-_, _<_}
-use native.Mathlib.Omega.{arith}
-use borrow.Author.Needs.{needs}
-use denote.Ref.{now}
-use lib.ListN.{length, getD}
+use Rattle.base_lists.specs.Kit.{now, refl, _<_, _-_, length, getD, arith, needs}
 use Rattle.base_lists.specs.List.{Below}
+use Rattle.base_bits.proofs.Counts.{size-le}
 use Rattle.table_round.proofs.Pending.{Putting, putting-start, putting-next, putting-end}
-use Rattle.table.proofs.Pairs.{size-le, pairs-at, pairs-le}
+use Rattle.table.proofs.Pairs.{pairs-at, pairs-le}
 use Rattle.table_round.proofs.write.Statement.{statement}
 use Rattle.table_round.proofs.write.Tie as tie
 

@@ -1,9 +1,6 @@
 -- `table_strike::all_empty` meets its contract. The loop's invariant: `union` is the union of the masks passed. The measure is how many are left.
 -- Assumes nothing.
-use Prim.Native.Nat.{_-_}
-use native.Mathlib.Omega.{arith}
-use borrow.Author.Needs.{needs}
-use lib.ListN.{length}
+use Rattle.base_lists.specs.Kit.{_-_, length, arith, needs}
 use Rattle.table_strike.proofs.Survivors.{UnionTo, union-start, union-next, union-end}
 use Rattle.table_strike.proofs.all_empty.Statement.{statement}
 use Rattle.table_strike.proofs.all_empty.Tie as tie

@@ -1,8 +1,5 @@
 -- `table_strike::reach_back` meets its contract: nothing, or the union over what drives the node. Assumes nothing.
-use mathlib.Core.Bool.{Bool, cond}
-use mathlib.Core.Path.{sym, ap, _∙_}
-use borrow.Author.Needs.{needs}
-use denote.Ref.{now}
+use Rattle.base_lists.specs.Kit.{now, _∙_, sym, ap, Bool, cond}
 use Rattle.base_bits.specs.Bits.{unionAt}
 use Rattle.graph.specs.Net.{driving}
 use Rattle.graph_neighbours.specs.declared.neighbours.Direction.the-variants.{Backward}
@@ -14,7 +11,7 @@ use Rattle.table_strike.proofs.reach_back.Tie as tie
 returns : tie.Need-returns
 returns c =
     let a = c .before .before .before .before .args in
-    ap (λ (b : Bool). cond b 0 (unionAt (now (a .sets)) (driving (now (a .offsets)) (now (a .links)) (a .v)))) (sym (c .if1 .taken))
+    ap (λ (b : Bool). cond b 0 (unionAt (now (a .sets)) (driving (now (a .offsets)) (now (a .targets)) (a .v)))) (sym (c .if1 .taken))
 
 abbrev entry : tie.Else1 → tie.Start
 entry c = c .before .before .before .before
@@ -34,7 +31,7 @@ returns-2 c =
     let left = c .before .before in
     let a = entry left .args in
     c .union-at .ensures ∙ ap (unionAt (now (a .sets))) (found .ensures)
-    ∙ ap (λ (b : Bool). cond b 0 (unionAt (now (a .sets)) (driving (now (a .offsets)) (now (a .links)) (a .v)))) (sym (left .if1 .left))
+    ∙ ap (λ (b : Bool). cond b 0 (unionAt (now (a .sets)) (driving (now (a .offsets)) (now (a .targets)) (a .v)))) (sym (left .if1 .left))
 
 pub reach-back-spec : {M : Type 1} → statement M
 reach-back-spec = tie.close (tie.spec returns neighbours-in-requires union-at-requires returns-2)

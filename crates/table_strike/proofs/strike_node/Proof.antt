@@ -1,10 +1,5 @@
 -- `table_strike::strike_node` meets its contract. Of an empty set nothing survives, so that its neighbours need no look. Assumes nothing.
-use mathlib.Core.Path.{sym, ap, _∙_}
-use native.Mathlib.Omega.{arith}
-use borrow.Author.Needs.{needs}
-use denote.Ref.{now}
-use lib.ListN.{drop, length-drop}
-use lib.Seq.{length-take-le}
+use Rattle.base_lists.specs.Kit.{now, _∙_, sym, ap, drop, length-drop, length-take-le, arith, needs}
 use Rattle.base_lists.specs.List.{part}
 use Rattle.base_bits.specs.Bits.{unionAt}
 use Rattle.graph_neighbours.specs.declared.neighbours.Direction.the-variants.{Forward}
@@ -16,7 +11,7 @@ use Rattle.table_strike.proofs.strike_node.Statement.{statement}
 use Rattle.table_strike.proofs.strike_node.Tie as tie
 
 abbrev tablesOf : tie.Start → Tables
-tablesOf start = tables (now (start .args .masks)) (now (start .args .offsets)) (now (start .args .links))
+tablesOf start = tables (now (start .args .masks)) (now (start .args .offsets)) (now (start .args .targets))
 
 mul-set : tie.Need-mul-set
 mul-set c = search needs

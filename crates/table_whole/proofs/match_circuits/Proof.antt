@@ -5,16 +5,15 @@ use native.Mathlib.Omega.{arith}
 use borrow.Author.Needs.{needs}
 use denote.Ref.{now}
 use Rattle.graph.specs.Circuit.{circuit}
-use Rattle.graph.proofs.Below.{below-wider}
-use Rattle.graph.proofs.Groups.{all-below}
 use Rattle.file_format.proofs.Accepted.{bounded-starts, bounded-ends}
 use Rattle.table.specs.Prepared.{tables, PreparedBy}
 use Rattle.table.specs.Row.{waysOf}
 use Rattle.table.proofs.Prepare.{prepared}
 use Rattle.table_whole.proofs.match_circuits.Statement.{statement}
 use Rattle.table_whole.proofs.match_circuits.Tie as tie
+use Rattle.base_lists.proofs.Entries.{all-below, below-wider}
 
-abbrev entry : tie.After-links → tie.Start
+abbrev entry : tie.After-targets → tie.Start
 entry c = c .before .before .before .before .before .before .before .before .before .before
 
 slice-aggregate-prepare-along : tie.Need-slice-aggregate-prepare-along
@@ -36,15 +35,15 @@ prepare-along-requires c κs =
       (omega (arith, pattern .parallel), search needs, search needs),
       (
         (board .nodes, board .parallel, board .links),
-        ((bounded-starts board, bounded-ends board), (refl, record { inOffsets = refl; inLinks = refl })),
+        ((bounded-starts board, bounded-ends board), (refl, record { inOffsets = refl; inTargets = refl })),
       ),
     )
 
 -- what is left is of the pattern and of the board, along the directions that count
 made : (c : tie.After-prepare-along) →
     let a = entry (c .before) .args in
-    PreparedBy (waysOf (a .ways)) (circuit (now (a .part-kinds)) (now (a .part-starts)) (now (a .part-ends)))
-    (circuit (now (a .node-kinds)) (now (a .node-starts)) (now (a .node-ends)))
+    PreparedBy (waysOf (a .ways)) (circuit (now (a .part-labels)) (now (a .part-starts)) (now (a .part-ends)))
+    (circuit (now (a .node-labels)) (now (a .node-starts)) (now (a .node-ends)))
     (tables (c .prepare-along .last .1 .1 .1 .1 .1 .1 .0) (c .prepare-along .last .1 .1 .1 .1 .1 .1 .1 .0) (c .prepare-along .last .1 .1 .1 .1 .1 .1 .1 .1 .0))
 made c = prepared (entry (c .before) .pre .0) (c .prepare-along .ensures .0) (c .prepare-along .ensures .1)
 

@@ -1,14 +1,7 @@
 -- `barring_find::dropping::choose_all` meets its contract. The loop's invariant: the bytes before i are 1, and the others as they were. The measure
 -- is how many are left. Assumes nothing.
-use mathlib.Core.List.{List, _++_, append-nil}
-use mathlib.Core.Path.{_≡_, refl, _∙_}
-use Prim.Native.Nat.{ℕ, _-_, _≤_}
+use Rattle.base_lists.specs.Kit.{now, _≡_, _∙_, refl, List, _++_, append-nil, ℕ, _≤_, _-_, length, drop, length-set, replicate, drop-length, arith, needs}
 use borrow.Author.Fill.{fill-more}
-use lib.ListN.{length, drop, replicate, length-set}
-use lib.Seq.{drop-length}
-use borrow.Author.Needs.{needs}
-use native.Mathlib.Omega.{arith}
-use denote.Ref.{now}
 use Rattle.barring_find.proofs.dropping.choose_all.Statement.{statement}
 use Rattle.barring_find.proofs.dropping.choose_all.Tie as tie
 

@@ -1,22 +1,15 @@
 -- `barring_find::dropping::drop_links` meets its contract. The loop's invariant: the links before i are gone through, and what is left to do comes to
 -- the kept links. The measure is how many are left. Assumes nothing.
-use mathlib.Core.Logic.{⊎-elim}
-use mathlib.Core.Path.{_≡_, refl, sym, _∙_}
-use Prim.Native.Nat.{ℕ, _-_}
-use native.Mathlib.Omega.{arith}
-use borrow.Author.Needs.{needs}
-use borrow.Author.Tests.{not-true, not-false}
-use denote.Ref.{now}
-use lib.ListN.{length, length-set}
+use Rattle.base_lists.specs.Kit.{_≡_, _∙_, refl, ⊎-elim, _-_, length, length-set, arith, needs, not-false, not-true}
 use Rattle.barring_find.proofs.Drops.{Dropping, dropping-all, dropping-drop, dropping-keep, dropping-end}
 use Rattle.barring_find.proofs.dropping.drop_links.Statement.{statement}
 use Rattle.barring_find.proofs.dropping.drop_links.Tie as tie
 
 abbrev Inv-loop : tie.InvT-loop
-Inv-loop nodes starts ends offsets links first w marks₀ i₀ marks i = Dropping starts ends offsets links w nodes first marks i × (length marks ≡ length marks₀)
+Inv-loop nodes starts ends offsets targets first w marks₀ i₀ marks i = Dropping starts ends offsets targets w nodes first marks i × (length marks ≡ length marks₀)
 
 abbrev μ-loop : tie.MeasureT-loop
-μ-loop nodes starts ends offsets links first w marks₀ i₀ marks i = length marks₀ - i
+μ-loop nodes starts ends offsets targets first w marks₀ i₀ marks i = length marks₀ - i
 
 choose-all-requires : tie.Need-choose-all-requires Inv-loop μ-loop
 choose-all-requires c κs = search needs

@@ -1,12 +1,7 @@
 -- `barring_find::trial::bars` meets its contract: with the masks of the chosen links the centre is in no pair that is left exactly where they
 -- bar. Assumes nothing.
-use mathlib.Core.Path.{_≡_, refl, sym, subst, _∙_}
-use Prim.Native.Nat.{ℕ, _≤_, _<_}
-use denote.Ref.{now}
-use lib.ListN.{length}
-use lib.Seq.{length-take-le}
+use Rattle.base_lists.specs.Kit.{now, _∙_, sym, refl, subst, ℕ, _≤_, _<_, length, length-take-le, needs}
 use Rattle.barring_find.proofs.Tried.{tried-starts, tried-ends, tried-long, tried-begun, tried-bars}
-use borrow.Author.Needs.{needs}
 use Rattle.barring_find.proofs.trial.bars.Statement.{statement}
 use Rattle.barring_find.proofs.trial.bars.Tie as tie
 
@@ -49,7 +44,7 @@ empty-at-requires c κs =
 returns : tie.Need-returns
 returns c =
     let s = c .before .before .before .before .before .before .before .before .before .before .before .before .before .before .before .before in
-    λ partKinds board r t.
+    λ partLabels board r t.
     c .before .before .empty-at .ensures _ _ (tried-begun t _ (c .before .before .before .before .before .before .before .chosen-masks .ensures)) ∙ tried-bars t (now (s .args .marks))
 
 pub bars-spec : {M : Type 1} → statement M

@@ -1,18 +1,10 @@
 -- `barring_find::trial::chosen_masks` meets its contract: the chosen starts and ends stand at the front of two lists, and the masks are made of
 -- these. Assumes nothing.
-use mathlib.Core.List.{List}
-use mathlib.Core.Path.{_≡_, sym, ap, subst, _∙_}
-use Prim.Native.Nat.{ℕ, _≤_}
-use native.Mathlib.Omega.{arith}
-use denote.Ref.{now}
-use lib.ListN.{length, take}
-use lib.Seq.{length-take-le}
+use Rattle.base_lists.specs.Kit.{now, _≡_, _∙_, sym, ap, subst, _≤_, length, take, length-take-le, needs}
 use Rattle.base_lists.specs.List.{Below}
 use Rattle.graph.specs.Chosen.{picked}
 use Rattle.graph.proofs.Chosen.{picked-parallel, picked-below}
-use Rattle.table.specs.Prepared.{Masked}
 use Rattle.barring_find.proofs.Tried.{masked-same}
-use borrow.Author.Needs.{needs}
 use Rattle.barring_find.proofs.trial.chosen_masks.Statement.{statement}
 use Rattle.barring_find.proofs.trial.chosen_masks.Tie as tie
 
@@ -35,8 +27,8 @@ entry c = c .before .before .before .before .before .before
 room : (c : tie.After-chosen-of) → c .chosen-of .result ≤ length (c .chosen-of .last .1 .1 .0)
 room c = c .chosen-of .ensures .0
 
-front : (c : tie.After-chosen-of) → take (c .chosen-of .result) (c .chosen-of .last .1 .1 .0) ≡ picked (now (entry c .args .marks)) (now (entry c .args .starts))
-front c = c .chosen-of .ensures .1
+prefix : (c : tie.After-chosen-of) → take (c .chosen-of .result) (c .chosen-of .last .1 .1 .0) ≡ picked (now (entry c .args .marks)) (now (entry c .args .starts))
+prefix c = c .chosen-of .ensures .1
 
 abbrev entry-2 : tie.After-chosen-of2 → tie.Start
 entry-2 c = c .before .before .before .before .before .before .before .before .before
@@ -44,8 +36,8 @@ entry-2 c = c .before .before .before .before .before .before .before .before .b
 room-2 : (c : tie.After-chosen-of2) → c .chosen-of2 .result ≤ length (c .chosen-of2 .last .1 .1 .0)
 room-2 c = c .chosen-of2 .ensures .0
 
-front-2 : (c : tie.After-chosen-of2) → take (c .chosen-of2 .result) (c .chosen-of2 .last .1 .1 .0) ≡ picked (now (entry-2 c .args .marks)) (now (entry-2 c .args .ends))
-front-2 c = c .chosen-of2 .ensures .1
+prefix-2 : (c : tie.After-chosen-of2) → take (c .chosen-of2 .result) (c .chosen-of2 .last .1 .1 .0) ≡ picked (now (entry-2 c .args .marks)) (now (entry-2 c .args .ends))
+prefix-2 c = c .chosen-of2 .ensures .1
 
 array-share-prefix-from : tie.Need-array-share-prefix-from
 array-share-prefix-from c = room (c .before .before .before .before)
@@ -61,8 +53,8 @@ slice-aggregate-pattern-masks-2 c = sym (length-take-le _ _ (room-2 (c .before .
 
 pattern-masks-requires : tie.Need-pattern-masks-requires
 pattern-masks-requires c κs =
-    let from = front (c .before .before .before .before .before .before .before) in
-    let to = front-2 (c .before .before .before .before) in
+    let from = prefix (c .before .before .before .before .before .before .before) in
+    let to = prefix-2 (c .before .before .before .before) in
     let s = c .before .before .before .before .before .before .before .before .before .before .before .before .before in
     let marks = now (s .args .marks) in (
       (
@@ -77,7 +69,7 @@ same-length : tie.Need-same-length
 same-length c = search needs
 
 returns : tie.Need-returns
-returns c = masked-same (front (c .before .before .before .before .before .before .before .before .before .before)) (front-2 (c .before .before .before .before .before .before .before)) (c .before .before .pattern-masks .ensures)
+returns c = masked-same (prefix (c .before .before .before .before .before .before .before .before .before .before)) (prefix-2 (c .before .before .before .before .before .before .before)) (c .before .before .pattern-masks .ensures)
 
 pub chosen-masks-spec : {M : Type 1} → statement M
 chosen-masks-spec =

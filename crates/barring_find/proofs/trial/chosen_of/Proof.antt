@@ -1,20 +1,10 @@
 -- `barring_find::trial::chosen_of` meets its contract: the entries are copied, and of the copy the marked ones are moved to the front. Assumes
 -- nothing.
-use mathlib.Core.List.{List, _++_}
-use mathlib.Core.Path.{_≡_, sym, ap, _∙_}
-use Prim.Native.Nat.{ℕ, _≤_}
-use native.Mathlib.Omega.{arith}
-use borrow.Author.Needs.{needs}
-use denote.Ref.{now}
-use lib.ListN.{length, take, length-append}
-use lib.Seq.{length-take-le, take-at, take-append-le}
+use Rattle.base_lists.specs.Kit.{now, _≡_, _∙_, sym, ap, _≤_, length, take, length-take-le, take-at, take-append-le, arith, needs}
+use Rattle.base_lists.proofs.Parts.{length-append-le}
 use Rattle.graph.specs.Chosen.{picked}
 use Rattle.barring_find.proofs.trial.chosen_of.Statement.{statement}
 use Rattle.barring_find.proofs.trial.chosen_of.Tie as tie
-
--- a front that is short enough for a list is short enough for a longer one
-longer : (k : ℕ) (xs ys : List ℕ) → k ≤ length xs → k ≤ length (xs ++ ys)
-longer k xs ys h = omega (arith, length-append xs ys)
 
 copy-requires : tie.Need-copy-requires
 copy-requires c κs = search needs
@@ -27,8 +17,8 @@ entry c = c .before .before .before .before .before
 room : (c : tie.After-copy) → length (now (entry c .args .marks)) ≤ length (c .copy .last .1 .0)
 room c = omega (arith, c .copy .kept .1 .0, entry c .pre .0, entry c .pre .1)
 
-front : (c : tie.After-copy) → take (length (now (entry c .args .marks))) (c .copy .last .1 .0) ≡ now (entry c .args .xs)
-front c = ap (take (length (now (entry c .args .marks)))) (c .copy .ensures) ∙ take-at (now (entry c .args .xs)) _ _ (entry c .pre .0)
+prefix : (c : tie.After-copy) → take (length (now (entry c .args .marks))) (c .copy .last .1 .0) ≡ now (entry c .args .xs)
+prefix c = ap (take (length (now (entry c .args .marks)))) (c .copy .ensures) ∙ take-at (now (entry c .args .xs)) _ _ (entry c .pre .0)
 
 -- ---- of which the marked ones are moved to the front
 
@@ -51,7 +41,7 @@ returns c =
     let k = chosen .choose .result in
     let list = chosen .choose .last .1 .0 in
     let e = chosen .choose .ensures in
-    (longer k list _ (e .0), take-append-le k list _ (e .0) ∙ e .1 ∙ ap (picked (now (entry copied .args .marks))) (front copied))
+    (length-append-le k list _ (e .0), take-append-le k list _ (e .0) ∙ e .1 ∙ ap (picked (now (entry copied .args .marks))) (prefix copied))
 
 pub chosen-of-spec : {M : Type 1} → statement M
 chosen-of-spec =

@@ -1,11 +1,5 @@
 -- `barring_find::trial::empty_at` meets its contract: the copied table is one to begin with, and striking ends with the last one. Assumes nothing.
-use mathlib.Core.List.{List}
-use mathlib.Core.Path.{sym, ap, subst, _∙_}
-use Prim.Native.Nat.{ℕ}
-use borrow.Author.Needs.{needs}
-use denote.Ref.{now}
-use lib.Dec.{eqb}
-use lib.ListN.{length, getD}
+use Rattle.base_lists.specs.Kit.{now, _∙_, sym, ap, subst, List, ℕ, eqb, getD, needs}
 use Rattle.base_lists.specs.List.{Below}
 use Rattle.table.specs.Fill.{NodeList}
 use Rattle.table.specs.Row.{bothWays}

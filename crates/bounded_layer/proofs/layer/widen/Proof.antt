@@ -1,19 +1,13 @@
 -- `bounded_layer::layer::widen` meets its contract. The loop's invariant: the first v sets are those of the next layer, and the others as they
 -- were. The measure is how many are left. Assumes nothing.
-use mathlib.Core.List.{List, _++_}
-use mathlib.Core.Path.{_≡_, refl, ap, _∙_}
-use Prim.Native.Nat.{ℕ, _-_, _≤_}
-use native.Mathlib.Omega.{arith}
-use denote.Ref.{now}
+use Rattle.base_lists.specs.Kit.{now, _≡_, _∙_, ap, refl, List, _++_, ℕ, _≤_, _-_, length, getD, drop, length-set, arith}
 use lib.Bits.{bitOr}
-use lib.ListN.{length, getD, drop, length-set}
 use Rattle.base_lists.specs.List.{tabulate}
-use Rattle.base_lists.proofs.Tables.{filled-none}
+use Rattle.base_lists.proofs.Tables.{filled-none, filled-all, filled-next}
 use Rattle.base_bits.specs.Bits.{unionAt}
 use Rattle.graph_neighbours.specs.Lookup.{neighboursIn}
 use Rattle.graph_neighbours.proofs.Lookup.{neighbours-below}
 use Rattle.bounded_layer.specs.Pass.{nextLayer}
-use Rattle.bounded_layer.proofs.Fills.{filled-next, filled-all}
 use Rattle.bounded_layer.proofs.layer.widen.Statement.{statement}
 use Rattle.bounded_layer.proofs.layer.widen.Tie as tie
 
@@ -72,7 +66,7 @@ loop-again c =
     let inv = loop .loop .inv in
     let a = entry loop .args in
     let v = loop .loop .v in
-    let rule : ℕ → ℕ = further (neighboursIn (a .direction) (now (a .offsets)) (now (a .links))) (now (a .old)) (now (a .layer)) in (
+    let rule : ℕ → ℕ = further (neighboursIn (a .direction) (now (a .offsets)) (now (a .targets))) (now (a .old)) (now (a .layer)) in (
       omega arith,
       simp length-set (inv .1),
       filled-next rule (now (a .next)) (loop .loop .next) v _ (omega arith) (inv .2)
@@ -88,7 +82,7 @@ returns c =
     let loop = c .before in
     let start = entry loop in
     let a = start .args in
-    let rule : ℕ → ℕ = further (neighboursIn (a .direction) (now (a .offsets)) (now (a .links))) (now (a .old)) (now (a .layer)) in
+    let rule : ℕ → ℕ = further (neighboursIn (a .direction) (now (a .offsets)) (now (a .targets))) (now (a .old)) (now (a .layer)) in
     loop .loop .inv .2 ∙ filled-all (loop .loop .v) rule (now (a .next)) (omega arith) ∙ ap (λ (n : ℕ). tabulate n rule) (start .pre .1 .1)
 
 pub widen-spec : {M : Type 1} → statement M

@@ -1,17 +1,11 @@
 -- `bounded_layer::pass::pass` meets its contract. The loop's invariant: the first v sets are what is left, and the others as they were. The
 -- measure is how many are left. Assumes nothing.
-use mathlib.Core.List.{List, _++_}
-use mathlib.Core.Path.{_≡_, refl, ap, _∙_}
-use Prim.Native.Nat.{ℕ, _-_, _≤_}
-use native.Mathlib.Omega.{arith}
-use denote.Ref.{now}
-use lib.ListN.{length, getD, drop, length-set}
+use Rattle.base_lists.specs.Kit.{now, _≡_, _∙_, ap, refl, List, _++_, ℕ, _≤_, _-_, length, getD, drop, length-set, arith}
 use Rattle.base_lists.specs.List.{tabulate}
-use Rattle.base_lists.proofs.Tables.{filled-none}
+use Rattle.base_lists.proofs.Tables.{filled-none, filled-rest, filled-all, filled-next}
 use Rattle.base_bits.specs.Bits.{unionAt}
 use Rattle.graph_neighbours.specs.Lookup.{neighboursIn}
 use Rattle.bounded_layer.specs.Pass.{keptWithin, passTable}
-use Rattle.bounded_layer.proofs.Fills.{filled-rest, filled-next, filled-all}
 use Rattle.bounded_layer.proofs.pass.pass.Statement.{statement}
 use Rattle.bounded_layer.proofs.pass.pass.Tie as tie
 
@@ -63,14 +57,14 @@ loop-again c =
     let inv = loop .loop .inv in
     let a = entry loop .args in
     let v = loop .loop .v in
-    let near = neighboursIn (a .direction) (now (a .offsets)) (now (a .links)) in
+    let near = neighboursIn (a .direction) (now (a .offsets)) (now (a .targets)) in
     let rule : ℕ → ℕ = left near (now (a .masks)) (now (a .layer)) (now (a .new)) in (
       omega arith,
       simp length-set (inv .1),
       filled-next rule (now (a .new)) (loop .loop .new) v _ (omega arith) (inv .2)
           (c .pass-node .ensures
           ∙ ap (keptWithin (now (a .masks)) (unionAt (now (a .layer)) (near v)))
-          (ap (λ (xs : List ℕ). getD xs v 0) (inv .2) ∙ filled-rest v rule (now (a .new)) (omega arith))),
+          (filled-rest v rule (loop .loop .new) (now (a .new)) (inv .2))),
     )
 
 same-length : tie.Need-same-length Inv-loop μ-loop

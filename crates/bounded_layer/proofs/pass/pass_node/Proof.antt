@@ -1,9 +1,5 @@
 -- `bounded_layer::pass::pass_node` meets its contract. Of an empty set nothing is kept, so that its neighbours need no look. Assumes nothing.
-use mathlib.Core.Path.{sym, ap, _∙_}
-use Prim.Native.Nat.{ℕ}
-use native.Mathlib.Omega.{arith}
-use borrow.Author.Needs.{needs}
-use denote.Ref.{now}
+use Rattle.base_lists.specs.Kit.{now, _∙_, sym, ap, ℕ, arith}
 use Rattle.base_bits.specs.Bits.{unionAt}
 use Rattle.graph_neighbours.proofs.Lookup.{neighbours-below}
 use Rattle.bounded_layer.specs.Pass.{keptWithin}

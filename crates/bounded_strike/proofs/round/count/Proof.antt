@@ -1,17 +1,10 @@
 -- `bounded_strike::round::count` meets its contract. The loop's invariant: the sum so far, with the pairs of the sets that are left, is the
 -- number of pairs. The measure is how many are left. Assumes nothing.
-use mathlib.Core.List.{List, map}
-use mathlib.Core.Path.{_≡_, refl, sym, ap, _∙_}
-use Prim.Native.Nat.{ℕ, zero, _+_, _*_, _-_, _≤_, _<_}
-use native.Mathlib.Numerals.{add-one}
-use native.Mathlib.Omega.{arith}
-use borrow.Author.Needs.{needs}
-use denote.Ref.{now}
-use lib.ListN.{length, getD, drop, drop-of-length-le}
-use lib.Seq.{drop-cons}
-use Rattle.base_bits.specs.Bits.{sizeOf}
+use Rattle.base_lists.specs.Kit.{now, _≡_, _≤_, _+_, _-_, length, getD, drop, arith, needs}
+use Rattle.base_bits.proofs.Counts.{size-le}
 use Rattle.table.specs.Row.{pairs}
-use Rattle.bounded_strike.proofs.Pairs.{pairs-next, pairs-end, pairs-le, size-le}
+use Rattle.table.proofs.Pairs.{pairs-le}
+use Rattle.bounded_strike.proofs.Pairs.{pairs-next, pairs-end}
 use Rattle.bounded_strike.proofs.round.count.Statement.{statement}
 use Rattle.bounded_strike.proofs.round.count.Tie as tie
 

@@ -1,8 +1,5 @@
 -- `bounded_strike::round::further` meets its contract. Assumes nothing.
-use mathlib.Core.Path.{sym, subst, _∙_}
-use Prim.Native.Nat.{ℕ}
-use borrow.Author.Needs.{needs}
-use denote.Ref.{now}
+use Rattle.base_lists.specs.Kit.{now, _∙_, sym, subst, ℕ, needs}
 use Rattle.graph.specs.Net.{Net}
 use Rattle.bounded_strike.proofs.round.further.Statement.{statement}
 use Rattle.bounded_strike.proofs.round.further.Tie as tie
@@ -14,7 +11,7 @@ pass-requires : tie.Need-pass-requires
 pass-requires c κs =
     let start = c .before .before .before .before .before .before .before .before .before .before .before .before .before in
     let long = c .before .before .before .before .widen .kept .1 .1 .1 .1 .1 .0 ∙ start .pre .1 .2 in
-    (start .pre .1 .0, subst (λ (n : ℕ). Net n (now (start .args .offsets)) (now (start .args .links))) (sym long) (start .pre .0), start .pre .1 .3 ∙ sym long)
+    (start .pre .1 .0, subst (λ (n : ℕ). Net n (now (start .args .offsets)) (now (start .args .targets))) (sym long) (start .pre .0), start .pre .1 .3 ∙ sym long)
 
 same-length : tie.Need-same-length
 same-length c = search needs

@@ -1,12 +1,5 @@
 -- `bounded_strike::round::strike` meets its contract. Assumes nothing.
-use mathlib.Core.Path.{_≡_, sym, ap, _∙_}
-use mathlib.Core.List.{List, _++_, append-nil}
-use Prim.Native.Nat.{ℕ, _≤_}
-use native.Mathlib.Omega.{arith}
-use borrow.Author.Needs.{needs}
-use denote.Ref.{now}
-use lib.ListN.{length, take, drop, length-drop, drop-of-length-le}
-use lib.Seq.{length-take-le}
+use Rattle.base_lists.specs.Kit.{now, _≡_, _∙_, sym, ap, List, _++_, append-nil, ℕ, _≤_, length, take, drop, length-drop, drop-of-length-le, length-take-le, arith, needs}
 use Rattle.base_lists.specs.List.{part}
 use Rattle.graph_neighbours.specs.Lookup.{neighboursIn}
 use Rattle.graph_neighbours.specs.declared.neighbours.Direction.the-variants.{Forward, Backward}
@@ -54,7 +47,7 @@ same k =
 
 made : (s : tie.After-strike-way2) →
     let a = entry (copied (forth s)) .args in
-    s .strike-way2 .last .1 .1 .1 .1 .1 .1 .1 .1 .0 ≡ roundTable (tables (now (a .masks)) (now (a .offsets)) (now (a .links))) (a .top) (now (a .old))
+    s .strike-way2 .last .1 .1 .1 .1 .1 .1 .1 .1 .0 ≡ roundTable (tables (now (a .masks)) (now (a .offsets)) (now (a .targets))) (a .top) (now (a .old))
 unfolding roundTable part
 made s =
     let f = forth s in
@@ -62,9 +55,9 @@ made s =
     let a = entry k .args in
     let old = now (a .old) in
     s .strike-way2 .ensures
-    ∙ ap (λ (new : List ℕ). passes (neighboursIn Backward (now (a .offsets)) (now (a .links))) (take 128 (drop 128 (now (a .masks)))) old (a .top) new)
+    ∙ ap (λ (new : List ℕ). passes (neighboursIn Backward (now (a .offsets)) (now (a .targets))) (take 128 (drop 128 (now (a .masks)))) old (a .top) new)
     (f .strike-way .ensures
-    ∙ ap (λ (new : List ℕ). passes (neighboursIn Forward (now (a .offsets)) (now (a .links))) (take 128 (now (a .masks))) old (a .top) new) (same k))
+    ∙ ap (λ (new : List ℕ). passes (neighboursIn Forward (now (a .offsets)) (now (a .targets))) (take 128 (now (a .masks))) old (a .top) new) (same k))
 
 -- ---- the needs
 

@@ -1,13 +1,6 @@
 -- `bounded_strike::round::strike_way` meets its contract: each call makes one bound more, over the layer that reaches one link further.
 -- Assumes nothing.
-use mathlib.Core.List.{List}
-use mathlib.Core.Path.{_≡_, refl, sym, ap, _∙_}
-use Prim.Native.Nat.{ℕ, _+_, _≤_}
-use native.Mathlib.Omega.{arith}
-use borrow.Author.Needs.{needs}
-use denote.Ref.{now}
-use lib.ListN.{length, take, drop, length-drop}
-use lib.Seq.{length-take-le}
+use Rattle.base_lists.specs.Kit.{now, _≡_, _∙_, sym, ap, refl, List, ℕ, _≤_, _+_, length, take, drop, length-drop, length-take-le, arith, needs}
 use Rattle.base_lists.specs.List.{part}
 use Rattle.graph_neighbours.specs.Lookup.{neighboursIn}
 use Rattle.bounded_strike.specs.Round.{layerOf, passes}
@@ -32,7 +25,7 @@ after-three f = f .before .before .before .before .before .before .before .befor
 -- ---- the calls' tables
 
 abbrev near : tie.Start → ℕ → List ℕ
-near s = neighboursIn (s .args .direction) (now (s .args .offsets)) (now (s .args .links))
+near s = neighboursIn (s .args .direction) (now (s .args .offsets)) (now (s .args .targets))
 
 abbrev Layers : tie.Start → ℕ → List ℕ → Type 0
 Layers s h layer = layer ≡ layerOf (near s) (now (s .args .old)) h

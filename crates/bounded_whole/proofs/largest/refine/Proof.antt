@@ -1,12 +1,6 @@
 -- `bounded_whole::largest::refine` meets its contract, as table_largest::refine does. The loop's invariant: `table` is the table after `rounds`
 -- rounds, each of which struck a pair, and has `kept` pairs. The measure is `kept`, which falls with each round. Assumes nothing.
-use mathlib.Core.List.{List}
-use mathlib.Core.Path.{_≡_, refl, sym, _∙_}
-use Prim.Native.Nat.{ℕ, _+_, _<_}
-use native.Mathlib.Omega.{arith}
-use borrow.Author.Needs.{needs}
-use denote.Ref.{now}
-use lib.ListN.{length}
+use Rattle.base_lists.specs.Kit.{now, _≡_, _∙_, sym, refl, List, ℕ, _<_, _+_, length, arith}
 use Rattle.table.specs.Prepared.{Tables, tables}
 use Rattle.bounded_strike.specs.Round.{Turn}
 use Rattle.bounded_whole.proofs.Rounds.{first-turn, turn-count, turn-less, turn-next, turn-last, turn-end}
@@ -77,7 +71,7 @@ fewer : (c : tie.Else1 Inv-loop μ-loop) → once c .strike .result < came (once
 fewer c = turn-less (came (once c) .loop .inv .0) (once c .strike .ensures .0) (once c .strike .ensures .1) (c .if1 .left)
 
 abbrev tablesOf : tie.Start Inv-loop μ-loop → Tables
-tablesOf start = tables (now (start .args .masks)) (now (start .args .offsets)) (now (start .args .links))
+tablesOf start = tables (now (start .args .masks)) (now (start .args .offsets)) (now (start .args .targets))
 
 turn : (c : tie.Else1 Inv-loop μ-loop) →
     let start = entry (came (once c)) in

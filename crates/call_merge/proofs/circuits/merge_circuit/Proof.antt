@@ -1,16 +1,10 @@
 -- `call_merge::circuits::merge_circuit` meets its contract: its scratch tables have room for every pattern, the merged pattern is made and
 -- written, and writing it is not refused. Assumes nothing.
-use denote.Ref.{now}
-use mathlib.Core.Path.{_≡_, refl, sym, ap, ap₂, _∙_}
-use native.Mathlib.Nat.{le-trans, le-of-eq}
-use borrow.Author.Needs.{needs}
-use lib.Dec.{lit≤}
-use lib.ListN.{length, take}
-use lib.Seq.{length-take-le}
+use Rattle.base_lists.specs.Kit.{now, _≡_, _∙_, sym, ap, refl, ap₂, le-trans, le-of-eq, lit≤, length, take, length-take-le, needs}
+use Rattle.base_lists.proofs.Parts.{length-take-room}
 use Rattle.graph.specs.Circuit.{Circuit, circuit}
 use Rattle.file_format.specs.Reading.{filled}
 use Rattle.file_format.specs.Refusals.{accept}
-use Rattle.file_format.proofs.Reading.{front-room}
 use Rattle.file_write.specs.declared.WriteAnswer.the-variants.{Written}
 use Rattle.file_write.specs.Writing.{WriteOutcome, writeReply}
 use Rattle.merge.proofs.Content.{PatternContent, most-parts}
@@ -26,7 +20,7 @@ abbrev entry : tie.After-quotient-arg → tie.Start
 entry c = c .before .before .before .before .before .before
 
 abbrev pattern : tie.Start → Circuit
-pattern c = circuit (now (c .args .kinds)) (now (c .args .starts)) (now (c .args .ends))
+pattern c = circuit (now (c .args .labels)) (now (c .args .starts)) (now (c .args .ends))
 
 content : (c : tie.Start) → PatternContent (pattern c)
 content c = sound-content _ _ _ (c .pre .0)
@@ -71,19 +65,19 @@ size :
 size c = quotient-size (content (start (made c .before))) (made c .quotient .ensures)
 
 array-share-prefix-mk : tie.Need-array-share-prefix-mk
-array-share-prefix-mk c = front-room _ _ (size c .0)
+array-share-prefix-mk c = length-take-room _ _ (size c .0)
 
 slice-aggregate-write-circuit : tie.Need-slice-aggregate-write-circuit
 slice-aggregate-write-circuit c = sym (size (c .before) .0)
 
 array-share-prefix-ms : tie.Need-array-share-prefix-ms
-array-share-prefix-ms c = front-room _ _ (size (c .before) .1)
+array-share-prefix-ms c = length-take-room _ _ (size (c .before) .1)
 
 slice-aggregate-write-circuit-2 : tie.Need-slice-aggregate-write-circuit-2
 slice-aggregate-write-circuit-2 c = sym (size (c .before .before) .1)
 
 array-share-prefix-me : tie.Need-array-share-prefix-me
-array-share-prefix-me c = front-room _ _ (size (c .before .before) .2)
+array-share-prefix-me c = length-take-room _ _ (size (c .before .before) .2)
 
 slice-aggregate-write-circuit-3 : tie.Need-slice-aggregate-write-circuit-3
 slice-aggregate-write-circuit-3 c = sym (size (c .before .before .before) .2)
@@ -92,7 +86,7 @@ write-circuit-requires : tie.Need-write-circuit-requires
 write-circuit-requires c κs =
     let here = c .before .before .before .before in
     let first = start (made here .before) in
-    let is = ap (λ (q : Circuit). q .kinds) (made here .quotient .ensures .content) in
+    let is = ap (λ (q : Circuit). q .labels) (made here .quotient .ensures .content) in
     let few = le-trans (le-of-eq (size here .0 ∙ made here .quotient .ensures .counted)) (classes-few (content first)) in
     (le-trans few (lit≤ tt), rw is (merged-fits (content first) (first .args .edition) (first .pre .1 .1)))
 

@@ -1,13 +1,6 @@
 -- `call_merge::circuits::quotient` meets its contract: the pattern is matched on itself, its classes are numbered, and the merged pattern's kinds
 -- and links are stored. Assumes nothing.
-use denote.Ref.{now}
-use mathlib.Core.List.{List}
-use mathlib.Core.Path.{_≡_, sym, _∙_}
-use Prim.Native.Nat.{ℕ}
-use native.Mathlib.Nat.{le-trans, le-of-eq}
-use native.Mathlib.Omega.{arith}
-use borrow.Author.Needs.{needs}
-use lib.ListN.{length}
+use Rattle.base_lists.specs.Kit.{now, _≡_, _∙_, sym, List, ℕ, le-trans, le-of-eq, length, arith, needs}
 use Rattle.graph.specs.Circuit.{Circuit, circuit}
 use Rattle.merge.specs.Merged.{selfTable, classCount, classes}
 use Rattle.merge.proofs.Content.{PatternContent, content-bounded, content-board, most-parts}
@@ -21,7 +14,7 @@ abbrev entry : tie.After-match-circuits-arg → tie.Start
 entry c = c .before .before .before .before .before .before .before .before .before .before
 
 abbrev pattern : tie.Start → Circuit
-pattern c = circuit (now (c .args .kinds)) (now (c .args .starts)) (now (c .args .ends))
+pattern c = circuit (now (c .args .labels)) (now (c .args .starts)) (now (c .args .ends))
 
 content : (c : tie.Start) → PatternContent (pattern c)
 content c = sound-content _ _ _ (c .pre .0)
@@ -50,7 +43,7 @@ number-classes-requires c κs =
 
 -- ---- the classes
 
-abbrev numbered : tie.After-leader-kinds-arg2 → tie.After-number-classes
+abbrev numbered : tie.After-leader-labels-arg2 → tie.After-number-classes
 numbered c = c .before .before .before .before
 
 classed :
@@ -64,8 +57,8 @@ classed c =
       c .number-classes .ensures .1 ∙ numbers-are (content start) _ on,
     )
 
-leader-kinds-requires : tie.Need-leader-kinds-requires
-leader-kinds-requires c κs =
+leader-labels-requires : tie.Need-leader-labels-requires
+leader-labels-requires c κs =
     let call = matched (numbered c .before) in
     let start = entry (call .before) in
     let size = table-size (content start) _ (self call) in
@@ -73,7 +66,7 @@ leader-kinds-requires c κs =
 
 -- ---- the rows of linked classes
 
-abbrev kinded : tie.After-mark-rows-arg2 → tie.After-leader-kinds
+abbrev kinded : tie.After-mark-rows-arg2 → tie.After-leader-labels
 kinded c = c .before .before .before .before
 
 mark-rows-requires : tie.Need-mark-rows-requires
@@ -148,7 +141,7 @@ returns c =
       content =
           rw (c .new .ensures .0, c .new .ensures .1)
           (tables-merged (content start) _ _ _ _ _ _ _ _ _ _ (classed number .0) (scan .scan .ensures .0) (self match) (row-marks mark)
-          (kind .leader-kinds .ensures) (scan .scan .ensures .1 .0) (scan .scan .ensures .1 .1) (start .pre .1 .1 .0) (start .pre .1 .1 .1) (start .pre .1 .1 .2));
+          (kind .leader-labels .ensures) (scan .scan .ensures .1 .0) (scan .scan .ensures .1 .1) (start .pre .1 .1 .0) (start .pre .1 .1 .1) (start .pre .1 .1 .2));
     }
 
 pub quotient-spec : {M : Type 1} → statement M
@@ -157,7 +150,7 @@ quotient-spec =
     (tie.spec
     match-circuits-requires
     number-classes-requires
-    leader-kinds-requires
+    leader-labels-requires
     mark-rows-requires
     scan-requires
     new-requires

@@ -1,10 +1,5 @@
 -- `file_write::bytes::store` meets its contract. The loop's invariant: the numbers passed are stored. Assumes nothing.
-use denote.Ref.{now}
-use mathlib.Core.List.{List, [], _∷_}
-use mathlib.Core.Path.{_≡_, refl, ap, _∙_}
-use native.Mathlib.Omega.{arith}
-use Prim.Native.Nat.{ℕ, _*_, _+_, _-_, _≤_}
-use lib.ListN.{length, getD, take}
+use Rattle.base_lists.specs.Kit.{now, _≡_, _∙_, ap, refl, List, [], _∷_, ℕ, _≤_, _+_, _-_, _*_, length, getD, take, arith}
 use Rattle.file_write.specs.Bytes.{stored}
 use Rattle.file_write.proofs.Stores.{stored-none, stored-more, stored-all}
 use Rattle.file_write.proofs.bytes.store.Statement.{statement}

@@ -1,8 +1,6 @@
 -- `file_write::bytes::store_field` meets its contract: both bytes fit, and two stores make the field. Assumes nothing.
-use native.Mathlib.Omega.{arith}
-use lib.ListN.{length-set}
+use Rattle.base_lists.specs.Kit.{length-set, arith, needs}
 use Rattle.file_write.proofs.Stores.{stored-field}
-use borrow.Author.Needs.{needs}
 use Rattle.file_write.proofs.bytes.store_field.Statement.{statement}
 use Rattle.file_write.proofs.bytes.store_field.Tie as tie
 

@@ -1,16 +1,11 @@
 -- `file_write::check::check` meets its contract: each return is the verdict that the tests before it give. Assumes nothing.
-use borrow.Author.Tests.{not-true, not-false}
-use denote.Ref.{now}
-use mathlib.Core.Path.{_≡_, sym, ap, _∙_}
-use native.Mathlib.Omega.{arith}
-use lib.ListN.{length}
+use Rattle.base_lists.specs.Kit.{now, _≡_, _∙_, sym, ap, length, arith, needs, not-false, not-true}
 use Rattle.base_lists.proofs.Tests.{true-T}
 use Rattle.file_format.specs.Refusals.{first}
 use Rattle.file_format.proofs.Refusals.{verdict-number, byNumber, number-turned, number-accept, range-bounds}
 use Rattle.file_write.specs.declared.WriteAnswer.the-variants.{Refused}
 use Rattle.file_write.specs.Writing.{circuitConditions}
 use Rattle.file_write.proofs.Writing.{answer-turned, answer-accept, verdict-2, verdict-3, verdict-3-packages, verdict-links}
-use borrow.Author.Needs.{needs}
 use Rattle.file_write.proofs.check.check.Statement.{statement}
 use Rattle.file_write.proofs.check.check.Tie as tie
 

@@ -1,13 +1,8 @@
 -- `file_write::parts::split` meets its contract. The loop's invariant: the kinds and the packages of the labels passed stand at the front. Assumes
 -- nothing.
-use mathlib.Core.List.{List, _++_}
-use mathlib.Core.Path.{_≡_, refl, sym, ap, _∙_}
-use Prim.Native.Nat.{ℕ, _-_, _≤_}
-use native.Mathlib.Omega.{arith}
-use denote.Ref.{now}
-use lib.ListN.{length, getD, drop, length-set}
+use Rattle.base_lists.specs.Kit.{now, _≡_, _∙_, sym, ap, refl, _++_, ℕ, _≤_, _-_, length, getD, drop, length-set, arith}
 use Rattle.base_lists.specs.List.{tabulate}
-use Rattle.base_lists.proofs.Tables.{filled-none, filled-more, whole}
+use Rattle.base_lists.proofs.Tables.{filled-none, filled-more, stored-whole}
 use Rattle.file_format.specs.Label.{kindIn, packageIn, kindsIn, packagesIn}
 use Rattle.file_write.proofs.parts.split.Statement.{statement}
 use Rattle.file_write.proofs.parts.split.Tie as tie
@@ -85,8 +80,8 @@ returns c =
     let a = c .before .before .args in
     let inv = c .before .loop .inv in
     let done : c .before .loop .i ≡ length (now (a .labels)) = omega arith in (
-      inv .3 ∙ whole _ (now (a .kinds)) _ (c .before .before .pre .0 ∙ sym done) ∙ ap (λ (n : ℕ). tabulate n (λ v. kindIn (getD (now (a .labels)) v 0))) done,
-      inv .4 ∙ whole _ (now (a .packages)) _ (c .before .before .pre .1 ∙ sym done) ∙ ap (λ (n : ℕ). tabulate n (λ v. packageIn (getD (now (a .labels)) v 0))) done,
+      inv .3 ∙ stored-whole _ (now (a .kinds)) _ (c .before .before .pre .0 ∙ sym done) ∙ ap (λ (n : ℕ). tabulate n (λ v. kindIn (getD (now (a .labels)) v 0))) done,
+      inv .4 ∙ stored-whole _ (now (a .packages)) _ (c .before .before .pre .1 ∙ sym done) ∙ ap (λ (n : ℕ). tabulate n (λ v. packageIn (getD (now (a .labels)) v 0))) done,
     )
 
 pub split-spec : {M : Type 1} → statement M

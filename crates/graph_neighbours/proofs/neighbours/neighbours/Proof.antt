@@ -1,5 +1,5 @@
 -- `graph_neighbours::neighbours::neighbours` meets its contract: in each arm of the match the direction is known. Assumes nothing.
-use borrow.Author.Needs.{needs}
+use Rattle.base_lists.specs.Kit.{needs}
 use Rattle.graph_neighbours.proofs.neighbours.neighbours.Statement.{statement}
 use Rattle.graph_neighbours.proofs.neighbours.neighbours.Tie as tie
 

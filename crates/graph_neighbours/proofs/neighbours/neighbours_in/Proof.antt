@@ -4,7 +4,7 @@ use Rattle.base_lists.specs.List.{part}
 use Rattle.graph.specs.Net.{driven, driving}
 use Rattle.graph.proofs.Net.{stretch-sound}
 use Rattle.graph_neighbours.specs.Lookup.{neighboursIn}
-use borrow.Author.Needs.{needs}
+use Rattle.base_lists.specs.Kit.{needs}
 use Rattle.graph_neighbours.proofs.neighbours.neighbours_in.Statement.{statement}
 use Rattle.graph_neighbours.proofs.neighbours.neighbours_in.Tie as tie
 

@@ -1,8 +1,5 @@
 -- `graph_neighbours::neighbours::sound_stretch` meets its contract: of sound offsets the stretch is what lies between them. Assumes nothing.
-use mathlib.Core.Path.{sym}
-use native.Mathlib.Omega.{arith}
-use borrow.Author.Needs.{needs}
-use denote.Ref.{now}
+use Rattle.base_lists.specs.Kit.{now, sym, arith, needs}
 use Rattle.graph.proofs.Lookup.{stretch-part}
 use Rattle.graph_neighbours.proofs.Lookup.{next-is}
 use Rattle.graph_neighbours.proofs.neighbours.sound_stretch.Statement.{statement}

@@ -1,10 +1,6 @@
 -- `graph_neighbours::neighbours::stretch` meets its contract: each test that fails leaves the stretch empty, and past them all the offsets are
 -- sound. Assumes nothing.
-use mathlib.Core.Path.{sym}
-use Prim.Native.Nat.{_+_}
-use native.Mathlib.Omega.{arith}
-use borrow.Author.Needs.{needs}
-use denote.Ref.{now}
+use Rattle.base_lists.specs.Kit.{now, sym, _+_, arith, needs}
 use Rattle.graph.proofs.Lookup.{stretch-part, stretch-none}
 use Rattle.graph_neighbours.proofs.Lookup.{next-is}
 use Rattle.graph_neighbours.proofs.neighbours.stretch.Statement.{statement}

@@ -1,12 +1,7 @@
 -- `graph_neighbours::tables::group_both` meets its contract: one grouping serves both directions, and fills one half of each list.
 -- Assumes nothing.
-use denote.Ref.{now}
-use mathlib.Core.Path.{_≡_, sym, _∙_}
-use native.Mathlib.Omega.{arith}
-use lib.ListN.{length, length-take, length-drop, length-append}
-use lib.Seq.{length-take-le}
+use Rattle.base_lists.specs.Kit.{now, _≡_, _∙_, sym, length, length-append, length-drop, length-take, length-take-le, arith, needs}
 use Rattle.graph_neighbours.proofs.Grouped.{grouped-both}
-use borrow.Author.Needs.{needs}
 use Rattle.graph_neighbours.proofs.tables.group_both.Statement.{statement}
 use Rattle.graph_neighbours.proofs.tables.group_both.Tie as tie
 
@@ -20,14 +15,14 @@ slice-relend-prefix-group-2 : tie.Need-slice-relend-prefix-group-2
 slice-relend-prefix-group-2 c = search needs
 
 slice-aggregate-group-2 : tie.Need-slice-aggregate-group-2
-slice-aggregate-group-2 c = let s = c .before .before .before .before .before .before .before .before in sym (length-take-le 4096 (now (s .args .links)) (omega (arith, s .pre .0 .inLinks)))
+slice-aggregate-group-2 c = let s = c .before .before .before .before .before .before .before .before in sym (length-take-le 4096 (now (s .args .targets)) (omega (arith, s .pre .0 .inTargets)))
 
 group-requires : tie.Need-group-requires
 group-requires c κs =
     let s = c .before .before .before .before .before .before .before .before in
     let p = s .pre in
     let o = length-take-le 513 (now (s .args .offsets)) (omega (arith, p .0 .inOffsets)) in
-    let l = length-take-le 4096 (now (s .args .links)) (omega (arith, p .0 .inLinks)) in
+    let l = length-take-le 4096 (now (s .args .targets)) (omega (arith, p .0 .inTargets)) in
     (p .1 .1 .1 .0 .0, (p .1 .1 .1 .1 .0, (omega (arith, p .1 .1 .0 .0), (omega (arith, p .1 .0), omega (arith, p .1 .1 .0 .0)))))
 
 sub-group : tie.Need-sub-group
@@ -54,7 +49,7 @@ group-requires-2 c κs =
     let p = s .pre in
     let first = c .before .before .before .before .before .before .group .kept in
     let o = length-take-le 513 (now (s .args .offsets)) (omega (arith, p .0 .inOffsets)) in
-    let l = length-take-le 4096 (now (s .args .links)) (omega (arith, p .0 .inLinks)) in
+    let l = length-take-le 4096 (now (s .args .targets)) (omega (arith, p .0 .inTargets)) in
     (p .1 .1 .1 .0 .1, (p .1 .1 .1 .1 .1, (omega (arith, p .1 .1 .0 .1), (simp (length-take, length-drop, length-append) (omega (arith, p .1 .0)), simp (length-take, length-drop, length-append) (omega (arith, p .1 .1 .0 .1))))))
 
 same-length : tie.Need-same-length
@@ -71,7 +66,7 @@ returns c =
     let one = c .before .before .before .before .before .before .before .before .before .before .before .group in
     let two = c .before .before .before .before .group2 in
     let o = one .kept .1 .1 .1 .0 ∙ length-take-le 513 (now (a .offsets)) (omega (arith, p .0 .inOffsets)) in
-    let l = one .kept .1 .1 .1 .1 .0 ∙ length-take-le 4096 (now (a .links)) (omega (arith, p .0 .inLinks)) in
+    let l = one .kept .1 .1 .1 .1 .0 ∙ length-take-le 4096 (now (a .targets)) (omega (arith, p .0 .inTargets)) in
     let o′ : length (two .last .1 .1 .1 .0) ≡ 513 = two .kept .1 .1 .1 .0 ∙ simp (length-take, length-drop, length-append) (omega arith) in
     let l′ : length (two .last .1 .1 .1 .1 .0) ≡ 4096 = two .kept .1 .1 .1 .1 .0 ∙ simp (length-take, length-drop, length-append) (omega arith) in
     grouped-both (a .n) (now (a .starts)) (now (a .ends)) (now (a .forward)) (now (a .backward))
@@ -79,7 +74,7 @@ returns c =
     (one .last .1 .1 .1 .1 .0)
     (two .last .1 .1 .1 .0)
     (two .last .1 .1 .1 .1 .0)
-    (now (a .offsets)) (now (a .links)) (p .0) o l o′ l′ (one .ensures .0) (one .ensures .1) (two .ensures .0) (two .ensures .1)
+    (now (a .offsets)) (now (a .targets)) (p .0) o l o′ l′ (one .ensures .0) (one .ensures .1) (two .ensures .0) (two .ensures .1)
 
 pub group-both-spec : {M : Type 1} → statement M
 group-both-spec =

@@ -1,8 +1,6 @@
 -- `graph_neighbours::tables::neighbour_tables` meets its contract: the ends are grouped by their starts, and the starts by their ends.
 -- Assumes nothing.
-use mathlib.Core.Path.{sym}
-use native.Mathlib.Omega.{arith}
-use borrow.Author.Needs.{needs}
+use Rattle.base_lists.specs.Kit.{sym, arith, needs}
 use Rattle.graph_neighbours.proofs.Grouped.{net-grouped}
 use Rattle.graph_neighbours.proofs.tables.neighbour_tables.Statement.{statement}
 use Rattle.graph_neighbours.proofs.tables.neighbour_tables.Tie as tie

@@ -1,8 +1,8 @@
 -- `heronditch::cutting::of_cut` meets its contract, case by case. Assumes nothing.
 use Rattle.session_cut.specs.Cut.{cutVerdict}
 use Rattle.file_format.specs.Reply.{reply}
-use Rattle.heronditch_reply.specs.Replies.{slots, numberOf, meantFile}
-use borrow.Author.Needs.{needs}
+use Rattle.heronditch_reply.specs.Replies.{slots, verdictNumber, meantFile}
+use Rattle.base_lists.specs.Kit.{needs}
 use Rattle.heronditch.proofs.cutting.of_cut.Statement.{statement}
 use Rattle.heronditch.proofs.cutting.of_cut.Tie as tie
 
@@ -19,11 +19,11 @@ refused-requires : tie.Need-refused-requires
 refused-requires c κs = search needs
 
 returns : tie.Need-returns
-unfolding slots numberOf meantFile reply cutVerdict
+unfolding slots verdictNumber meantFile reply cutVerdict
 returns c = rw (c .before .enum-told .given .1, c .accepted .ensures)
 
 returns-2 : tie.Need-returns-2
-unfolding slots numberOf meantFile reply cutVerdict
+unfolding slots verdictNumber meantFile reply cutVerdict
 returns-2 c = rw (c .before .before .answer .given .1, c .refused .ensures)
 
 pub of-cut-spec : {M : Type 1} → statement M

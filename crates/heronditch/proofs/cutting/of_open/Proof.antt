@@ -1,8 +1,8 @@
 -- `heronditch::cutting::of_open` meets its contract, case by case. Assumes nothing.
 use Rattle.call_session.specs.Call.{openVerdict}
 use Rattle.file_format.specs.Reply.{reply}
-use Rattle.heronditch_reply.specs.Replies.{slots, numberOf, meantFile}
-use borrow.Author.Needs.{needs}
+use Rattle.heronditch_reply.specs.Replies.{slots, verdictNumber, meantFile}
+use Rattle.base_lists.specs.Kit.{needs}
 use Rattle.heronditch.proofs.cutting.of_open.Statement.{statement}
 use Rattle.heronditch.proofs.cutting.of_open.Tie as tie
 
@@ -19,11 +19,11 @@ refused-requires : tie.Need-refused-requires
 refused-requires c κs = search needs
 
 returns : tie.Need-returns
-unfolding slots numberOf meantFile reply openVerdict
+unfolding slots verdictNumber meantFile reply openVerdict
 returns c = rw (c .before .enum-told .given .1, c .accepted .ensures)
 
 returns-2 : tie.Need-returns-2
-unfolding slots numberOf meantFile reply openVerdict
+unfolding slots verdictNumber meantFile reply openVerdict
 returns-2 c = rw (c .before .before .answer .given .1, c .refused .ensures)
 
 pub of-open-spec : {M : Type 1} → statement M

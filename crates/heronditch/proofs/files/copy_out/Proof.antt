@@ -1,11 +1,10 @@
 -- `heronditch::files::copy_out` meets its contract: the entries do not fit, or they are files. Assumes nothing.
-use borrow.Author.Needs.{needs}
-use borrow.Author.Tests.{lt-ltb, le-ltb}
+use Rattle.base_lists.specs.Kit.{needs, le-ltb, lt-ltb}
 use Rattle.file_format.specs.Reading.{filled}
 use Rattle.file_format.specs.Refusals.{first, shortTable}
 use Rattle.file_format.specs.Reply.{reply}
 use Rattle.heronditch.specs.Host.{hostNeighbours}
-use Rattle.heronditch_reply.specs.Replies.{fileNumber, numberOf, meantFile, slots}
+use Rattle.heronditch_reply.specs.Replies.{fileNumber, verdictNumber, meantFile, slots}
 use Rattle.heronditch.proofs.files.copy_out.Statement.{statement}
 use Rattle.heronditch.proofs.files.copy_out.Tie as tie
 
@@ -13,7 +12,7 @@ refused-requires : tie.Need-refused-requires
 refused-requires c κs = search needs
 
 returns : tie.Need-returns
-unfolding hostNeighbours first shortTable reply slots numberOf meantFile fileNumber filled
+unfolding hostNeighbours first shortTable reply slots verdictNumber meantFile fileNumber filled
 returns c = rw (c .refused .ensures) (simp (lt-ltb _ _ (c .before .if1 .taken)))
 
 copy-requires : tie.Need-copy-requires
@@ -26,7 +25,7 @@ same-length : tie.Need-same-length
 same-length c = search needs
 
 returns-2 : tie.Need-returns-2
-unfolding hostNeighbours first shortTable reply slots numberOf meantFile filled
+unfolding hostNeighbours first shortTable reply slots verdictNumber meantFile filled
 returns-2 c =
     rw (c .accepted .ensures, c .before .before .before .copy .ensures) (simp (le-ltb _ _ (c .before .before .before .before .before .if1 .left)))
 

@@ -1,12 +1,14 @@
 -- `heronditch::files::heronditch_read` meets its contract: the call of the crate below, its reply as numbers. Assumes nothing.
-use mathlib.Core.Path.{ap}
+use Rattle.base_lists.specs.Kit.{ap, needs}
 use Rattle.heronditch.specs.Host.{hostRead}
-use borrow.Author.Needs.{needs}
 use Rattle.heronditch.proofs.files.heronditch_read.Statement.{statement}
 use Rattle.heronditch.proofs.files.heronditch_read.Tie as tie
 
 role-of-requires : tie.Need-role-of-requires
 role-of-requires c κs = search needs
+
+as-role-requires : tie.Need-as-role-requires
+as-role-requires c κs = search needs
 
 edition-of-requires : tie.Need-edition-of-requires
 edition-of-requires c κs = search needs
@@ -32,13 +34,14 @@ same-length-4 c = search needs
 returns : tie.Need-returns
 unfolding hostRead
 returns c =
-    rw (c .of-read .ensures, ← c .before .before .before .before .before .before .before .before .before .before .before .before .before .before .before .role-of .ensures, ← c .before .before .before .before .before .before .before .before .before .before .before .before .before .before .edition-of .ensures) (ap hostRead (c .before .before .before .before .before .before .before .before .before .read .ensures))
+    rw (c .of-read .ensures, ← c .before .before .before .before .before .before .before .before .before .before .before .before .before .before .before .before .role-of .ensures, ← c .before .before .before .before .before .before .before .before .before .before .before .before .before .before .before .as-role .ensures, ← c .before .before .before .before .before .before .before .before .before .before .before .before .before .before .edition-of .ensures) (ap hostRead (c .before .before .before .before .before .before .before .before .before .read .ensures))
 
 pub heronditch-read-spec : {M : Type 1} → statement M
 heronditch-read-spec =
     tie.close
     (tie.spec
     role-of-requires
+    as-role-requires
     edition-of-requires
     read-requires
     of-read-requires

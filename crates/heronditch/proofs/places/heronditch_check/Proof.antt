@@ -1,7 +1,6 @@
 -- `heronditch::places::heronditch_check` meets its contract: the call of the crate below, its reply as numbers. Assumes nothing.
-use mathlib.Core.Path.{ap}
+use Rattle.base_lists.specs.Kit.{ap, needs}
 use Rattle.heronditch_reply.specs.Replies.{slots}
-use borrow.Author.Needs.{needs}
 use Rattle.heronditch.proofs.places.heronditch_check.Statement.{statement}
 use Rattle.heronditch.proofs.places.heronditch_check.Tie as tie
 

@@ -1,7 +1,6 @@
 -- `heronditch::shelf::heronditch_compare` meets its contract: the call of the crate below, its answer as numbers. Assumes nothing.
-use mathlib.Core.Path.{ap, _∙_}
+use Rattle.base_lists.specs.Kit.{_∙_, ap, needs}
 use Rattle.heronditch.specs.Host.{hostCompare}
-use borrow.Author.Needs.{needs}
 use Rattle.heronditch.proofs.shelf.heronditch_compare.Statement.{statement}
 use Rattle.heronditch.proofs.shelf.heronditch_compare.Tie as tie
 

@@ -1,7 +1,6 @@
 -- `heronditch::shelf::heronditch_shelf` meets its contract: the call of the crate below, its reply as numbers. Assumes nothing.
-use mathlib.Core.Path.{ap}
+use Rattle.base_lists.specs.Kit.{ap, needs}
 use Rattle.heronditch.specs.Host.{hostShelf}
-use borrow.Author.Needs.{needs}
 use Rattle.heronditch.proofs.shelf.heronditch_shelf.Statement.{statement}
 use Rattle.heronditch.proofs.shelf.heronditch_shelf.Tie as tie
 

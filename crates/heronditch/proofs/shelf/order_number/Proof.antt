@@ -1,6 +1,6 @@
 -- `heronditch::shelf::order_number` meets its contract. Assumes nothing.
-use Rattle.call_compare.specs.Call.{orderNumber}
-use borrow.Author.Needs.{needs}
+use Rattle.call_shelf.specs.Compare.{orderNumber}
+use Rattle.base_lists.specs.Kit.{needs}
 use Rattle.heronditch.proofs.shelf.order_number.Statement.{statement}
 use Rattle.heronditch.proofs.shelf.order_number.Tie as tie
 

@@ -1,6 +1,6 @@
 -- `heronditch::shelf::which_number` meets its contract. Assumes nothing.
-use Rattle.call_compare.specs.Call.{whichNumber}
-use borrow.Author.Needs.{needs}
+use Rattle.call_shelf.specs.Compare.{whichNumber}
+use Rattle.base_lists.specs.Kit.{needs}
 use Rattle.heronditch.proofs.shelf.which_number.Statement.{statement}
 use Rattle.heronditch.proofs.shelf.which_number.Tie as tie
 

@@ -1,9 +1,7 @@
 -- `heronditch::whole::heronditch_match` meets its contract: the third edition, or another. Assumes nothing.
-use mathlib.Core.Path.{ap}
-use borrow.Author.Tests.{lt-ltb, le-ltb}
+use Rattle.base_lists.specs.Kit.{ap, needs, le-ltb, lt-ltb}
 use Rattle.heronditch.specs.Host.{hostMatch, matchingTold}
 use Rattle.heronditch_told.specs.Told.{isThird}
-use borrow.Author.Needs.{needs}
 use Rattle.heronditch.proofs.whole.heronditch_match.Statement.{statement}
 use Rattle.heronditch.proofs.whole.heronditch_match.Tie as tie
 

@@ -1,7 +1,6 @@
 -- `heronditch::whole::heronditch_match_one_way` meets its contract: the call of the crate below, its reply as numbers. Assumes nothing.
-use mathlib.Core.Path.{ap}
+use Rattle.base_lists.specs.Kit.{ap, needs}
 use Rattle.heronditch.specs.Host.{hostMatch}
-use borrow.Author.Needs.{needs}
 use Rattle.heronditch.proofs.whole.heronditch_match_one_way.Statement.{statement}
 use Rattle.heronditch.proofs.whole.heronditch_match_one_way.Tie as tie
 

@@ -1,5 +1,5 @@
 -- `loader::words::is_digit` meets its contract: each return rewrites with the tests that led there. Assumes nothing.
-use borrow.Author.Tests.{le-leb, lt-leb}
+use Rattle.base_lists.specs.Kit.{le-leb, lt-leb}
 use Rattle.loader.specs.Words.{isDigit}
 use Rattle.loader.proofs.words.is_digit.Statement.{statement}
 use Rattle.loader.proofs.words.is_digit.Tie as tie

@@ -1,13 +1,6 @@
 -- `loader::words::number` meets its contract. The loop's invariant: the bytes passed are digits that come to the value, and it is below 2^32. The
 -- measure is how many are left. Assumes nothing.
-use denote.Ref.{now}
-use mathlib.Core.Bool.{true}
-use mathlib.Core.Path.{_≡_, refl, sym, _∙_}
-use Prim.Native.Nat.{_-_, _≤_}
-use native.Mathlib.Omega.{arith}
-use borrow.Author.Needs.{needs}
-use borrow.Author.Tests.{not-true, not-false}
-use lib.ListN.{length, getD}
+use Rattle.base_lists.specs.Kit.{now, _≡_, _∙_, sym, refl, true, _≤_, _-_, length, getD, arith, needs, not-false, not-true}
 use Rattle.loader.specs.Words.{isDigit}
 use Rattle.loader.proofs.Digits.{Passed, passed-none, passed-next, passed-all, no-word, no-digit, too-large, digit-range}
 use Rattle.loader.proofs.words.number.Statement.{statement}

@@ -1,8 +1,5 @@
 -- `place::parts::driven_parts` meets its contract: the first half of the masks is asked. Assumes nothing.
-use mathlib.Core.Path.{sym}
-use native.Mathlib.Omega.{arith}
-use denote.Ref.{now}
-use lib.Seq.{length-take-le}
+use Rattle.base_lists.specs.Kit.{now, sym, length-take-le, arith}
 use Rattle.base_lists.specs.List.{part}
 use Rattle.place.proofs.parts.driven_parts.Statement.{statement}
 use Rattle.place.proofs.parts.driven_parts.Tie as tie

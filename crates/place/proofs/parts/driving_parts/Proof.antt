@@ -1,9 +1,5 @@
 -- `place::parts::driving_parts` meets its contract: the second half of the masks is asked. Assumes nothing.
-use native.Mathlib.Omega.{arith}
-use borrow.Author.Needs.{needs}
-use denote.Ref.{now}
-use lib.ListN.{drop, length-drop}
-use lib.Seq.{length-take-le}
+use Rattle.base_lists.specs.Kit.{now, drop, length-drop, length-take-le, arith, needs}
 use Rattle.base_lists.specs.List.{part}
 use Rattle.place.proofs.parts.driving_parts.Statement.{statement}
 use Rattle.place.proofs.parts.driving_parts.Tie as tie

@@ -1,9 +1,6 @@
 -- `proposal_marks::marks::bits` meets its contract: the bytes passed are 0 or 1. Assumes nothing.
-use Prim.Native.Nat.{ℕ, _≤_, _<_, _-_}
-use native.Mathlib.Omega.{arith}
+use Rattle.base_lists.specs.Kit.{ℕ, _≤_, _<_, _-_, length, getD, arith, needs}
 use borrow.Author.Count.{below-more}
-use borrow.Author.Needs.{needs}
-use lib.ListN.{length, getD}
 use Rattle.proposal_marks.proofs.Tests.{bits-true, bits-false}
 use Rattle.proposal_marks.proofs.marks.bits.Statement.{statement}
 use Rattle.proposal_marks.proofs.marks.bits.Tie as tie

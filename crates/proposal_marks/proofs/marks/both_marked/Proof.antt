@@ -1,6 +1,5 @@
 -- `proposal_marks::marks::both_marked` meets its contract. Assumes nothing.
-use borrow.Author.Tests.{eq-eqb, ne-eqb}
-use borrow.Author.Needs.{needs}
+use Rattle.base_lists.specs.Kit.{needs, eq-eqb, ne-eqb}
 use Rattle.graph.specs.Search.{inside}
 use Rattle.proposal_marks.proofs.marks.both_marked.Statement.{statement}
 use Rattle.proposal_marks.proofs.marks.both_marked.Tie as tie

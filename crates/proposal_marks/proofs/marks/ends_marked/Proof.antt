@@ -1,12 +1,6 @@
 -- `proposal_marks::marks::ends_marked` meets its contract: the links passed have both ends marked, where they are marked. Assumes nothing.
-use mathlib.Core.Logic.{⊎-elim}
-use mathlib.Core.Path.{_≡_, sym, _∙_}
-use Prim.Native.Nat.{ℕ, _≤_, _<_, _-_}
-use native.Mathlib.Omega.{arith}
-use borrow.Author.Tests.{not-true, not-false}
+use Rattle.base_lists.specs.Kit.{_∙_, sym, ⊎-elim, ℕ, _≤_, _<_, _-_, length, arith, needs, not-false, not-true}
 use borrow.Author.Count.{below-more}
-use borrow.Author.Needs.{needs}
-use lib.ListN.{length, getD}
 use Rattle.base_lists.specs.List.{Below}
 use Rattle.proposal_marks.proofs.Tests.{EndsAt, ends-true, ends-false}
 use Rattle.proposal_marks.proofs.marks.ends_marked.Statement.{statement}

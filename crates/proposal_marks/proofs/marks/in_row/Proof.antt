@@ -1,11 +1,6 @@
 -- `proposal_marks::marks::in_row` meets its contract: the nodes passed were reached, where they are marked. Assumes nothing.
-use mathlib.Core.Logic.{⊎-elim}
-use mathlib.Core.Path.{_≡_}
-use Prim.Native.Nat.{ℕ, _≤_, _<_, _-_}
-use native.Mathlib.Omega.{arith}
+use Rattle.base_lists.specs.Kit.{_≡_, ⊎-elim, ℕ, _≤_, _<_, _-_, length, getD, arith, needs}
 use borrow.Author.Count.{below-more}
-use borrow.Author.Needs.{needs}
-use lib.ListN.{length, getD}
 use Rattle.graph.specs.Search.{far}
 use Rattle.proposal_marks.proofs.Tests.{row-true, row-false}
 use Rattle.proposal_marks.proofs.marks.in_row.Statement.{statement}

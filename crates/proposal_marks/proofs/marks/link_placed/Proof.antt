@@ -1,11 +1,9 @@
 -- `proposal_marks::marks::link_placed` meets its contract. Assumes nothing.
-use mathlib.Core.Path.{refl, ap₂, _∙_}
-use borrow.Author.Tests.{eq-eqb, ne-eqb}
-use borrow.Author.Needs.{needs}
+use Rattle.base_lists.specs.Kit.{_∙_, refl, ap₂, needs, eq-eqb, ne-eqb}
 use Rattle.base_bits.specs.Bits.{intersects}
 use Rattle.graph.specs.Search.{far}
 use Rattle.place.specs.Bytes.{drivenBy}
-use Rattle.proposal_marks.specs.Link.{placed}
+use Rattle.proposal_marks.specs.Link.{linkPlaced}
 use Rattle.proposal_marks.proofs.marks.link_placed.Statement.{statement}
 use Rattle.proposal_marks.proofs.marks.link_placed.Tie as tie
 
@@ -16,7 +14,7 @@ shared-slice-read-if1 : tie.Need-shared-slice-read-if1
 shared-slice-read-if1 c = search needs
 
 returns : tie.Need-returns
-unfolding placed
+unfolding linkPlaced
 returns c = rw (eq-eqb _ far (c .if1 .taken))
 
 mul-driven-parts : tie.Need-mul-driven-parts
@@ -38,7 +36,7 @@ meets-requires : tie.Need-meets-requires
 meets-requires c κs = search needs
 
 returns-2 : tie.Need-returns-2
-unfolding placed drivenBy
+unfolding linkPlaced drivenBy
 returns-2 c = rw (ne-eqb _ far (c .before .before .before .before .if1 .left)) (c .meets .ensures ∙ ap₂ intersects (c .before .before .driven-parts .ensures) refl)
 
 pub link-placed-spec : {M : Type 1} → statement M

@@ -1,13 +1,6 @@
 -- `proposal_marks::marks::links_placed` meets its contract: the links passed are in the place. Assumes nothing.
-use denote.Ref.{now}
-use mathlib.Core.Bool.{true}
-use mathlib.Core.Path.{_≡_, sym, _∙_}
-use Prim.Native.Nat.{ℕ, _≤_, _<_, _-_}
-use native.Mathlib.Omega.{arith}
-use borrow.Author.Tests.{not-true, not-false}
+use Rattle.base_lists.specs.Kit.{now, _≡_, _∙_, sym, true, ℕ, _≤_, _<_, _-_, length, arith, needs, not-false, not-true}
 use borrow.Author.Count.{below-more}
-use borrow.Author.Needs.{needs}
-use lib.ListN.{length, getD}
 use Rattle.base_lists.specs.List.{Below}
 use Rattle.table.specs.Prepared.{succOf}
 use Rattle.proposal_marks.proofs.Tests.{placed-at, placed-true, placed-false}

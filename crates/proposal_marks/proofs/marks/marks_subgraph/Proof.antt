@@ -1,8 +1,5 @@
 -- `proposal_marks::marks::marks_subgraph` meets its contract. Assumes nothing.
-use mathlib.Core.Path.{sym, _∙_}
-use native.Mathlib.Omega.{arith}
-use borrow.Author.Tests.{not-true, not-false}
-use borrow.Author.Needs.{needs}
+use Rattle.base_lists.specs.Kit.{_∙_, sym, arith, needs, not-false, not-true}
 use Rattle.proposal_marks.proofs.Subgraph.{nodes-not, links-not, centre-not, ends-left}
 use Rattle.proposal_marks.proofs.marks.marks_subgraph.Statement.{statement}
 use Rattle.proposal_marks.proofs.marks.marks_subgraph.Tie as tie

@@ -1,5 +1,5 @@
 -- `report::lines::node_at` meets its contract. Assumes nothing.
-use borrow.Author.Needs.{needs}
+use Rattle.base_lists.specs.Kit.{needs}
 use Rattle.report.proofs.lines.node_at.Statement.{statement}
 use Rattle.report.proofs.lines.node_at.Tie as tie
 

@@ -1,18 +1,13 @@
 -- `report::lines::put_driven` meets its contract. The loop's invariant: the links to the first i nodes of the list are put. The measure is how
 -- many are left. Assumes nothing.
-use mathlib.Core.List.{List}
-use mathlib.Core.Path.{_≡_, ap}
-use Prim.Native.Nat.{ℕ, _-_, _≤_, _<_}
-use native.Mathlib.Omega.{arith}
-use borrow.Author.Needs.{needs}
-use denote.Ref.{now}
-use lib.ListN.{length, getD}
+use Rattle.base_lists.specs.Kit.{now, _≡_, ap, List, ℕ, _≤_, _<_, _-_, length, getD, arith, needs}
 use Rattle.base_lists.specs.Below.{concatBelow}
 use Rattle.base_text.specs.Text.{Put}
 use Rattle.base_text.proofs.Text.{put-nothing, put-then, put-same, put-length, fits-then}
 use Rattle.base_lists.specs.List.{Below}
+use Rattle.base_lists.proofs.Concat.{concatBelow-next}
 use Rattle.report.specs.Lines.{linkText, drivenText}
-use Rattle.report.proofs.Concat.{concat-more, fits-piece}
+use Rattle.report.proofs.Concat.{fits-piece}
 use Rattle.report.proofs.lines.put_driven.Statement.{statement}
 use Rattle.report.proofs.lines.put_driven.Tie as tie
 
@@ -69,7 +64,7 @@ loop-again : tie.Need-loop-again Inv-loop μ-loop
 loop-again c =
     let a = c .before .before .before .before .before .before .before .before .before .before .before .before .args in
     let loop = c .before .before .before .before .before .before .before .loop in
-    (omega arith, put-same (concat-more (loop .i) (linkTo (now (a .nodes)) (a .driven) (now (a .sets)) (a .v))) (put-then (loop .inv .1) (rw (c .before .before .before .before .before .node-at .ensures) at (c .before .before .put-link .ensures))))
+    (omega arith, put-same (concatBelow-next (loop .i) (linkTo (now (a .nodes)) (a .driven) (now (a .sets)) (a .v))) (put-then (loop .inv .1) (rw (c .before .before .before .before .before .node-at .ensures) at (c .before .before .put-link .ensures))))
 
 same-length : tie.Need-same-length Inv-loop μ-loop
 same-length c = put-length (c .before .loop .inv .1)

@@ -1,9 +1,5 @@
 -- `report::lines::put_end` meets its contract, word by word. Assumes nothing.
-use mathlib.Core.Path.{sym}
-use Prim.Native.Nat.{_+_, _≤_}
-use native.Mathlib.Omega.{arith}
-use borrow.Author.Needs.{needs}
-use lib.ListN.{length}
+use Rattle.base_lists.specs.Kit.{sym, _≤_, _+_, length, arith, needs}
 use Rattle.base_text.specs.Text.{bytes}
 use Rattle.base_text.proofs.Text.{put-then, put-same, length-decimal}
 use Rattle.report.proofs.Concat.{fits-number, room-left}

@@ -1,7 +1,5 @@
 -- `report::lines::put_file` meets its contract, file by file. Assumes nothing.
-use mathlib.Core.Path.{sym, ap}
-use native.Mathlib.Omega.{arith}
-use borrow.Author.Needs.{needs}
+use Rattle.base_lists.specs.Kit.{sym, ap, arith, needs}
 use Rattle.base_text.specs.Text.{bytes}
 use Rattle.base_text.proofs.Text.{put-nothing, put-same}
 use Rattle.report.specs.Report.{fileWord}

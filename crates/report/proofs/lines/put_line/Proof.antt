@@ -1,10 +1,5 @@
 -- `report::lines::put_line` meets its contract, piece by piece. Assumes nothing.
-use mathlib.Core.List.{List, _++_}
-use mathlib.Core.Path.{_≡_, sym}
-use Prim.Native.Nat.{ℕ}
-use native.Mathlib.Omega.{arith}
-use borrow.Author.Needs.{needs}
-use denote.Ref.{now}
+use Rattle.base_lists.specs.Kit.{now, _≡_, sym, List, _++_, ℕ, arith, needs}
 use Rattle.base_text.specs.Text.{bytes, Fits, decimal}
 use Rattle.base_text.proofs.Text.{put-then, put-same, fits-same, fits-less, fits-first, fits-then}
 use Rattle.table.specs.Prepared.{tables}
@@ -19,10 +14,10 @@ abbrev nodes : tie.Start → List ℕ
 nodes s = nodesText (now (s .args .dist))
 
 abbrev links : tie.Start → List ℕ
-links s = let a = s .args in linksText (tables (now (a .masks)) (now (a .offsets)) (now (a .links))) (now (a .dist)) (now (a .sets))
+links s = let a = s .args in linksText (tables (now (a .masks)) (now (a .offsets)) (now (a .targets))) (now (a .dist)) (now (a .sets))
 
 pieces : (s : tie.Start) → let a = s .args in
-    lineText (tables (now (a .masks)) (now (a .offsets)) (now (a .links))) (now (a .dist)) (now (a .sets)) (a .c)
+    lineText (tables (now (a .masks)) (now (a .offsets)) (now (a .targets))) (now (a .dist)) (now (a .sets)) (a .c)
     ≡ bytes "place " ++ (decimal (a .c) ++ (bytes ":" ++ (nodes s ++ (bytes " /" ++ (links s ++ bytes "\n")))))
 unfolding lineText
 pieces s = line-pieces (s .args .c) (nodes s) (links s)

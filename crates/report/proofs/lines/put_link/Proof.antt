@@ -1,12 +1,5 @@
 -- `report::lines::put_link` meets its contract: the start after a space, and the end after a hyphen. Assumes nothing.
-use mathlib.Core.List.{_++_}
-use mathlib.Core.Path.{_≡_, sym, _∙_}
-use Prim.Native.Nat.{_+_, _≤_}
-use native.Mathlib.Omega.{arith}
-use borrow.Author.Needs.{needs}
-use borrow.Author.Tests.{not-true, not-false}
-use denote.Ref.{now}
-use lib.ListN.{length}
+use Rattle.base_lists.specs.Kit.{now, _≡_, _∙_, sym, _++_, _≤_, _+_, length, arith, needs, not-false, not-true}
 use Rattle.base_text.specs.Text.{bytes, decimal}
 use Rattle.base_text.proofs.Text.{put-nothing, put-then, put-same, put-length, fits-same}
 use Rattle.report.specs.Lines.{linkText}

@@ -1,17 +1,13 @@
 -- `report::lines::put_links` meets its contract. The loop's invariant: the links that start below v are put. The measure is how many nodes are
 -- left. Assumes nothing.
-use mathlib.Core.List.{List}
-use mathlib.Core.Path.{_≡_, ap}
-use Prim.Native.Nat.{ℕ, _-_, _≤_}
-use native.Mathlib.Omega.{arith}
-use denote.Ref.{now}
-use lib.ListN.{length}
+use Rattle.base_lists.specs.Kit.{now, _≡_, ap, List, ℕ, _≤_, _-_, length, arith}
 use Rattle.base_lists.specs.Below.{concatBelow}
+use Rattle.base_lists.proofs.Concat.{concatBelow-next}
 use Rattle.base_text.specs.Text.{Put}
 use Rattle.base_text.proofs.Text.{put-nothing, put-then, put-same, put-length, fits-then}
 use Rattle.table.specs.Prepared.{tables}
 use Rattle.report.specs.Lines.{startText, linksText}
-use Rattle.report.proofs.Concat.{concat-more, fits-piece}
+use Rattle.report.proofs.Concat.{fits-piece}
 use Rattle.report.proofs.lines.put_links.Statement.{statement}
 use Rattle.report.proofs.lines.put_links.Tie as tie
 
@@ -23,7 +19,7 @@ abbrev μ-loop : tie.MeasureT-loop
 
 -- the links that start at a node
 abbrev starting : tie.Start Inv-loop μ-loop → ℕ → List ℕ
-starting s = let a = s .args in startText (tables (now (a .masks)) (now (a .offsets)) (now (a .links))) (now (a .dist)) (now (a .sets))
+starting s = let a = s .args in startText (tables (now (a .masks)) (now (a .offsets)) (now (a .targets))) (now (a .dist)) (now (a .sets))
 
 loop-holds : tie.Need-loop-holds Inv-loop μ-loop
 unfolding concatBelow
@@ -46,7 +42,7 @@ loop-less c = omega arith
 loop-again : tie.Need-loop-again Inv-loop μ-loop
 loop-again c =
     let loop = c .before .before .before .before .before .loop in
-    (omega arith, put-same (concat-more (loop .v) (starting (c .before .before .before .before .before .before .before .before .before .before .before .before .before))) (put-then (loop .inv .1) (c .before .before .put-start .ensures)))
+    (omega arith, put-same (concatBelow-next (loop .v) (starting (c .before .before .before .before .before .before .before .before .before .before .before .before .before))) (put-then (loop .inv .1) (c .before .before .put-start .ensures)))
 
 same-length : tie.Need-same-length Inv-loop μ-loop
 same-length c = put-length (c .before .loop .inv .1)

@@ -1,10 +1,5 @@
 -- `report::lines::put_node` meets its contract: the node after a space. Assumes nothing.
-use mathlib.Core.List.{_++_}
-use mathlib.Core.Path.{_≡_, sym, _∙_}
-use native.Mathlib.Omega.{arith}
-use borrow.Author.Needs.{needs}
-use borrow.Author.Tests.{not-true, not-false}
-use denote.Ref.{now}
+use Rattle.base_lists.specs.Kit.{now, _≡_, _∙_, sym, _++_, arith, needs, not-false, not-true}
 use Rattle.base_text.specs.Text.{bytes, decimal}
 use Rattle.base_text.proofs.Text.{put-nothing, put-same, fits-same}
 use Rattle.report.specs.Lines.{nodeText}

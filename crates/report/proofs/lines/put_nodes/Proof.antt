@@ -1,15 +1,12 @@
 -- `report::lines::put_nodes` meets its contract. The loop's invariant: the nodes below v are put. The measure is how many nodes are left.
 -- Assumes nothing.
-use mathlib.Core.Path.{_≡_, ap}
-use Prim.Native.Nat.{ℕ, _-_, _≤_}
-use native.Mathlib.Omega.{arith}
-use denote.Ref.{now}
-use lib.ListN.{length}
+use Rattle.base_lists.specs.Kit.{now, _≡_, ap, ℕ, _≤_, _-_, length, arith}
 use Rattle.base_lists.specs.Below.{concatBelow}
+use Rattle.base_lists.proofs.Concat.{concatBelow-next}
 use Rattle.base_text.specs.Text.{Put}
 use Rattle.base_text.proofs.Text.{put-nothing, put-then, put-same, put-length, fits-then}
 use Rattle.report.specs.Lines.{nodeText, nodesText}
-use Rattle.report.proofs.Concat.{concat-more, fits-piece}
+use Rattle.report.proofs.Concat.{fits-piece}
 use Rattle.report.proofs.lines.put_nodes.Statement.{statement}
 use Rattle.report.proofs.lines.put_nodes.Tie as tie
 
@@ -40,7 +37,7 @@ loop-less c = omega arith
 loop-again : tie.Need-loop-again Inv-loop μ-loop
 loop-again c =
     let loop = c .before .before .before .before .before .loop in
-    (omega arith, put-same (concat-more (loop .v) (nodeText (now (c .before .before .before .before .before .before .before .before .before .args .dist)))) (put-then (loop .inv .1) (c .before .before .put-node .ensures)))
+    (omega arith, put-same (concatBelow-next (loop .v) (nodeText (now (c .before .before .before .before .before .before .before .before .before .args .dist)))) (put-then (loop .inv .1) (c .before .before .put-node .ensures)))
 
 same-length : tie.Need-same-length Inv-loop μ-loop
 same-length c = put-length (c .before .loop .inv .1)

@@ -1,10 +1,5 @@
 -- `report::lines::put_start` meets its contract. Assumes nothing.
-use mathlib.Core.Path.{_≡_, sym, _∙_}
-use native.Mathlib.Omega.{arith}
-use borrow.Author.Needs.{needs}
-use borrow.Author.Tests.{not-true, not-false}
-use denote.Ref.{now}
-use lib.ListN.{length}
+use Rattle.base_lists.specs.Kit.{now, _≡_, _∙_, sym, arith, needs, not-false, not-true}
 use Rattle.base_text.proofs.Text.{put-nothing, put-same, fits-same}
 use Rattle.graph_neighbours.specs.Lookup.{neighboursIn}
 use Rattle.graph_neighbours.proofs.Lookup.{neighbours-below}
@@ -15,7 +10,7 @@ use Rattle.report.proofs.lines.put_start.Statement.{statement}
 use Rattle.report.proofs.lines.put_start.Tie as tie
 
 abbrev tablesOf : tie.Start → Tables
-tablesOf s = tables (now (s .args .masks)) (now (s .args .offsets)) (now (s .args .links))
+tablesOf s = tables (now (s .args .masks)) (now (s .args .offsets)) (now (s .args .targets))
 
 mul-is-reached : tie.Need-mul-is-reached
 mul-is-reached c = search needs

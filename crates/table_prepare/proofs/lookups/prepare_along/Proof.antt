@@ -1,5 +1,5 @@
 -- `table_prepare::lookups::prepare_along` meets its contract: the neighbour tables and the masks, as their own contracts give them. Assumes nothing.
-use borrow.Author.Needs.{needs}
+use Rattle.base_lists.specs.Kit.{needs}
 use Rattle.table_prepare.proofs.lookups.prepare_along.Statement.{statement}
 use Rattle.table_prepare.proofs.lookups.prepare_along.Tie as tie
 

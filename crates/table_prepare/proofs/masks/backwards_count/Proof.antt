@@ -1,5 +1,5 @@
 -- `table_prepare::masks::backwards_count` meets its contract: the two choices. Assumes nothing.
-use borrow.Author.Needs.{needs}
+use Rattle.base_lists.specs.Kit.{needs}
 use Rattle.table.specs.Row.{among}
 use Rattle.table_prepare.proofs.masks.backwards_count.Statement.{statement}
 use Rattle.table_prepare.proofs.masks.backwards_count.Tie as tie

@@ -1,11 +1,5 @@
 -- `table_prepare::masks::half_of` meets its contract: the masks of the links, or those of none, which are empty. Assumes nothing.
-use mathlib.Core.Bool.{Bool, cond}
-use mathlib.Core.List.{List, []}
-use mathlib.Core.Path.{sym, ap, _∙_}
-use Prim.Native.Nat.{ℕ}
-use borrow.Author.Needs.{needs}
-use denote.Ref.{now}
-use lib.ListN.{replicate}
+use Rattle.base_lists.specs.Kit.{now, _∙_, sym, ap, Bool, cond, List, [], ℕ, replicate, needs}
 use Rattle.table.specs.Prepared.{masksOf}
 use Rattle.table.proofs.Prepare.{none-masks}
 use Rattle.table_prepare.proofs.masks.half_of.Statement.{statement}

@@ -1,13 +1,6 @@
 -- `table_prepare::masks::masks_along` meets its contract: the two halves of the masks, each by the links followed in one direction, or by none.
 -- Assumes nothing.
-use mathlib.Core.List.{List, _++_}
-use mathlib.Core.Path.{_≡_, sym, _∙_}
-use Prim.Native.Nat.{ℕ}
-use native.Mathlib.Omega.{arith}
-use borrow.Author.Needs.{needs}
-use denote.Ref.{now}
-use lib.ListN.{length, take, drop, length-take, length-drop, length-append}
-use lib.Seq.{length-take-le}
+use Rattle.base_lists.specs.Kit.{now, _≡_, _∙_, sym, List, _++_, ℕ, length, take, drop, length-append, length-drop, length-take, length-take-le, arith, needs}
 use Rattle.table.proofs.Prepare.{masked}
 use Rattle.table_prepare.proofs.masks.masks_along.Statement.{statement}
 use Rattle.table_prepare.proofs.masks.masks_along.Tie as tie

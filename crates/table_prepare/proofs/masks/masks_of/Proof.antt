@@ -1,12 +1,7 @@
 -- `table_prepare::masks::masks_of` meets its contract. The loop's invariant: the links that are left, added to the sets so far, make the masks.
 -- The measure is how many are left. Assumes nothing.
-use mathlib.Core.Path.{_≡_, refl, sym, ap, _∙_}
-use Prim.Native.Nat.{ℕ, _+_, _-_, _≤_, _<_}
-use native.Mathlib.Omega.{arith}
-use borrow.Author.Needs.{needs}
-use denote.Ref.{now}
+use Rattle.base_lists.specs.Kit.{now, _≡_, _∙_, sym, ap, refl, ℕ, _≤_, _<_, _+_, _-_, length, getD, drop, set, length-set, arith, needs}
 use lib.Bits.{bitOr}
-use lib.ListN.{length, getD, drop, set, length-set}
 use Rattle.base_lists.specs.List.{Below}
 use Rattle.table.specs.Prepared.{masksOf}
 use Rattle.table.proofs.Masks.{addLinks, add-next, add-end, add-masks}

@@ -1,13 +1,6 @@
 -- `table_prepare::nodes::list_all` meets its contract. The loop's invariant: the entries before v are the nodes, and the others as they were.
 -- The measure is how many are left. Assumes nothing.
-use mathlib.Core.List.{List, _++_, append-nil}
-use mathlib.Core.Path.{_≡_, refl, _∙_}
-use Prim.Native.Nat.{ℕ, _-_, _≤_}
-use native.Mathlib.Omega.{arith}
-use borrow.Author.Needs.{needs}
-use denote.Ref.{now}
-use lib.ListN.{length, drop, length-set}
-use lib.Seq.{drop-length}
+use Rattle.base_lists.specs.Kit.{now, _≡_, _∙_, refl, List, _++_, append-nil, ℕ, _≤_, _-_, length, drop, length-set, drop-length, arith, needs}
 use Rattle.base_lists.specs.List.{tabulate}
 use Rattle.base_lists.proofs.Tables.{filled-none, filled-more}
 use Rattle.table.specs.Fill.{allNodes}

@@ -1,2 +1,0 @@
-// The ball around a node of a board that was read.
-pub mod ball;

@@ -1,3 +1,0 @@
-pub mod Draws
-pub mod Marks
-pub mod Scanning
