@@ -20,9 +20,6 @@ cast-t17 c = omega (arith, c .before .if1 .left, entry c .pre .1 .nodes)
 bar-circuits-requires : tie.Need-bar-circuits-requires
 bar-circuits-requires c κs = let here = c .before in (entry here .pre, (here .before .if1 .left, here .if2 .left))
 
-same-length : tie.Need-same-length
-same-length c = search needs
-
 returns-3 : tie.Need-returns-3
 returns-3 c =
     let found = c .before .before in
@@ -30,4 +27,4 @@ returns-3 c =
     on-around _ _ _ _ _ (here .before .if1 .left) (here .if2 .left) (found .bar-circuits .ensures)
 
 pub bar-on-spec : {M : Type 1} → statement M
-bar-on-spec = tie.close (tie.spec returns returns-2 cast-t17 bar-circuits-requires same-length returns-3)
+bar-on-spec = tie.close (tie.spec returns returns-2 cast-t17 bar-circuits-requires (λ c. search needs) returns-3)

@@ -19,17 +19,8 @@ shared-slice-read-m c =
 cast-m : tie.Need-cast-m
 cast-m c = omega (arith, c .shared-slice-known6 .given (length (now (c .before .before .before .before .before .before .before .before .before .before .args .node-labels))))
 
-roomy-requires : tie.Need-roomy-requires
-roomy-requires c κs = search needs
-
-refused-place-requires : tie.Need-refused-place-requires
-refused-place-requires c κs = search needs
-
 returns : tie.Need-returns
 returns c = λ ps pe ns ne d p. rw (c .refused-place .ensures) (on-centre _ _ _ _ _ _ _ _ (c .before .if1 .taken))
-
-refused-place-requires-2 : tie.Need-refused-place-requires-2
-refused-place-requires-2 c κs = search needs
 
 -- what the test of the lengths comes to
 tested : (c : tie.After-roomy) (b : Bool) → c .roomy .result ≡ b →
@@ -57,18 +48,6 @@ place-circuits-requires c κs =
     let (nodes, links, table, distances) = room-holds _ _ _ _ _ _ (tested (here .before .before) true (not-false _ (here .if2 .left))) in
     (entry here .pre, (here .before .if1 .left, ((nodes, links), (table, distances))))
 
-same-length : tie.Need-same-length
-same-length c = search needs
-
-same-length-2 : tie.Need-same-length-2
-same-length-2 c = search needs
-
-same-length-3 : tie.Need-same-length-3
-same-length-3 c = search needs
-
-same-length-4 : tie.Need-same-length-4
-same-length-4 c = search needs
-
 returns-3 : tie.Need-returns-3
 returns-3 c =
     let here = c .before .before .before .before .before .before .before .before .before .before .before .before .before in
@@ -79,19 +58,6 @@ returns-3 c =
 pub find-on-spec : {M : Type 1} → statement M
 find-on-spec =
     tie.close
-    (tie.spec
-    mul-m
-    shared-slice-read-m
-    cast-m
-    roomy-requires
-    refused-place-requires
-    returns
-    refused-place-requires-2
-    returns-2
-    cast-t19
-    place-circuits-requires
-    same-length
-    same-length-2
-    same-length-3
-    same-length-4
-    returns-3)
+    (tie.spec mul-m shared-slice-read-m cast-m (λ c κs. search needs) (λ c κs. search needs) returns
+    (λ c κs. search needs) returns-2 cast-t19 place-circuits-requires (λ c. search needs) (λ c. search needs)
+    (λ c. search needs) (λ c. search needs) returns-3)

@@ -4,12 +4,6 @@ use Rattle.call_place.specs.Call.{radiusFor}
 use Rattle.call_place.proofs.radius_for.Statement.{statement}
 use Rattle.call_place.proofs.radius_for.Tie as tie
 
-enum-told : tie.Need-enum-told
-enum-told c = search needs
-
-enum-known-reach : tie.Need-enum-known-reach
-enum-known-reach c = search needs
-
 returns : tie.Need-returns
 unfolding radiusFor
 returns c = rw (c .enum-told .given .1) refl
@@ -19,5 +13,4 @@ unfolding radiusFor
 returns-2 c = rw (c .before .reach .given .1) refl
 
 pub radius-for-spec : {M : Type 1} → statement M
-radius-for-spec =
-    tie.close (tie.spec enum-told enum-known-reach returns returns-2)
+radius-for-spec = tie.close (tie.spec (λ c. search needs) (λ c. search needs) returns returns-2)

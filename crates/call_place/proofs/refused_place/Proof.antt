@@ -3,11 +3,8 @@ use Rattle.base_lists.specs.Kit.{needs}
 use Rattle.call_place.proofs.refused_place.Statement.{statement}
 use Rattle.call_place.proofs.refused_place.Tie as tie
 
-no-counts-requires : tie.Need-no-counts-requires
-no-counts-requires c κs = search needs
-
 returns : tie.Need-returns
 returns c = rw (c .no-counts .ensures)
 
 pub refused-place-spec : {M : Type 1} → statement M
-refused-place-spec = tie.close (tie.spec no-counts-requires returns)
+refused-place-spec = tie.close (tie.spec (λ c κs. search needs) returns)

@@ -14,20 +14,8 @@ use Rattle.call_report.proofs.open.Tie as tie
 
 -- ---- the two files
 
-slice-aggregate-read-prepared : tie.Need-slice-aggregate-read-prepared
-slice-aggregate-read-prepared c = search needs
-
-slice-aggregate-read-prepared-2 : tie.Need-slice-aggregate-read-prepared-2
-slice-aggregate-read-prepared-2 c = search needs
-
 read-prepared-requires : tie.Need-read-prepared-requires
 read-prepared-requires c κs = (record { nodes = refl; links = refl }, ((refl, refl), c .before .before .before .before .before .before .before .before .before .before .before .before .before .pre .0))
-
-enum-told : tie.Need-enum-told
-enum-told c = search needs
-
-enum-told-2 : tie.Need-enum-told-2
-enum-told-2 c = search needs
 
 abbrev reading : tie.After-slice-known9 → tie.After-read-prepared
 reading c = c .before .before .before .before .before .before .before .before
@@ -158,15 +146,6 @@ same-length-8 c = read-last c .read-prepared .kept .1 .1 .1 .1 .1 .1 .0
 same-length-9 : tie.Need-same-length-9
 same-length-9 c = read-last c .read-prepared .kept .1 .1 .1 .1 .1 .1 .1 .0
 
-same-length-10 : tie.Need-same-length-10
-same-length-10 c = search needs
-
-same-length-11 : tie.Need-same-length-11
-same-length-11 c = search needs
-
-same-length-12 : tie.Need-same-length-12
-same-length-12 c = search needs
-
 returns-3 : tie.Need-returns-3
 returns-3 c =
     let named = c .before .before .before .before .before .before in
@@ -183,36 +162,9 @@ returns-3 c =
 pub open-spec : {M : Type 1} → statement M
 open-spec =
     tie.close
-    (tie.spec
-    slice-aggregate-read-prepared
-    slice-aggregate-read-prepared-2
-    read-prepared-requires
-    enum-told
-    enum-told-2
-    same-length
-    same-length-2
-    same-length-3
-    returns
-    same-length-4
-    same-length-5
-    same-length-6
-    returns-2
-    slice-relend-prefix-table
-    slice-aggregate-table
-    array-share-prefix-pk
-    slice-aggregate-match-tables
-    array-share-prefix-nk
-    slice-aggregate-match-tables-2
-    match-tables-requires
-    slice-relend-prefix-components
-    slice-aggregate-components
-    slice-relend-prefix-components-2
-    slice-aggregate-components-2
-    components-requires
-    same-length-7
-    same-length-8
-    same-length-9
-    same-length-10
-    same-length-11
-    same-length-12
-    returns-3)
+    (tie.spec (λ c. search needs) (λ c. search needs) read-prepared-requires (λ c. search needs) (λ c. search needs)
+    same-length same-length-2 same-length-3 returns same-length-4 same-length-5 same-length-6 returns-2
+    slice-relend-prefix-table slice-aggregate-table array-share-prefix-pk slice-aggregate-match-tables
+    array-share-prefix-nk slice-aggregate-match-tables-2 match-tables-requires slice-relend-prefix-components
+    slice-aggregate-components slice-relend-prefix-components-2 slice-aggregate-components-2 components-requires
+    same-length-7 same-length-8 same-length-9 (λ c. search needs) (λ c. search needs) (λ c. search needs) returns-3)

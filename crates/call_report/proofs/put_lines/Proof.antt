@@ -7,9 +7,6 @@ use Rattle.report_centres.proofs.Progress.{piece-small}
 use Rattle.call_report.proofs.put_lines.Statement.{statement}
 use Rattle.call_report.proofs.put_lines.Tie as tie
 
-put-centres-requires : tie.Need-put-centres-requires
-put-centres-requires c κs = search needs
-
 -- the lines of the centres are put
 abbrev lined : tie.After-put-last-arg → tie.After-put-centres
 lined c = c .before .before .before
@@ -27,9 +24,6 @@ put-last-requires c κs =
       omega (arith, source-few source),
     )
 
-same-length : tie.Need-same-length
-same-length c = search needs
-
 returns : tie.Need-returns
 unfolding linesPiece
 returns c pattern board s =
@@ -39,4 +33,4 @@ returns c pattern board s =
     (lined (done .before) .put-centres .ensures pattern board s) (rw (source-long s) at (done .put-last .ensures))
 
 pub put-lines-spec : {M : Type 1} → statement M
-put-lines-spec = tie.close (tie.spec put-centres-requires put-last-requires same-length returns)
+put-lines-spec = tie.close (tie.spec (λ c κs. search needs) put-last-requires (λ c. search needs) returns)

@@ -6,9 +6,6 @@ use Rattle.call_report.proofs.Refused.{refused-later, refused-fits, ref
 use Rattle.call_report.proofs.put_refused.Statement.{statement}
 use Rattle.call_report.proofs.put_refused.Tie as tie
 
-put-nothing-requires : tie.Need-put-nothing-requires
-put-nothing-requires c κs = search needs
-
 returns : tie.Need-returns
 returns c =
     let test = c .before in
@@ -22,9 +19,6 @@ fits s = let a = s .args in refused-fits (a .x) (now (a .out)) (a .from) (a .fou
 put-refusal-requires : tie.Need-put-refusal-requires
 put-refusal-requires c κs = omega (arith, c .before .before .before .pre)
 
-same-length : tie.Need-same-length
-same-length c = search needs
-
 returns-2 : tie.Need-returns-2
 returns-2 c =
     let s = c .before .before .before .before .before .before in
@@ -32,4 +26,5 @@ returns-2 c =
     refused-first (a .x) (now (a .out)) (a .from) (a .found) (c .before .before .before .before .if1 .left) (fits s) (c .before .before .put-refusal .ensures)
 
 pub put-refused-spec : {M : Type 1} → statement M
-put-refused-spec = tie.close (tie.spec put-nothing-requires returns put-refusal-requires same-length returns-2)
+put-refused-spec =
+    tie.close (tie.spec (λ c κs. search needs) returns put-refusal-requires (λ c. search needs) returns-2)

@@ -4,15 +4,6 @@ use Rattle.file_format.specs.Refusals.{asksConnected}
 use Rattle.file_check.proofs.asks_connected.Statement.{statement}
 use Rattle.file_check.proofs.asks_connected.Tie as tie
 
-enum-told : tie.Need-enum-told
-enum-told c = search needs
-
-enum-told-2 : tie.Need-enum-told-2
-enum-told-2 c = search needs
-
-enum-told-3 : tie.Need-enum-told-3
-enum-told-3 c = search needs
-
 returns : tie.Need-returns
 unfolding asksConnected
 returns c = rw (c .enum-told .given .1)
@@ -26,4 +17,5 @@ unfolding asksConnected
 returns-3 c = rw (c .enum-told3 .given .1)
 
 pub asks-connected-spec : {M : Type 1} → statement M
-asks-connected-spec = tie.close (tie.spec enum-told enum-told-2 enum-told-3 returns returns-2 returns-3)
+asks-connected-spec =
+    tie.close (tie.spec (λ c. search needs) (λ c. search needs) (λ c. search needs) returns returns-2 returns-3)

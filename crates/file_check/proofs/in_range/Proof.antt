@@ -3,33 +3,6 @@ use Rattle.base_lists.specs.Kit.{_∙_, needs}
 use Rattle.file_check.proofs.in_range.Statement.{statement}
 use Rattle.file_check.proofs.in_range.Tie as tie
 
-enum-told : tie.Need-enum-told
-enum-told c = search needs
-
-new-requires : tie.Need-new-requires
-new-requires c κs = search needs
-
-in-range-requires : tie.Need-in-range-requires
-in-range-requires c κs = search needs
-
-enum-told-2 : tie.Need-enum-told-2
-enum-told-2 c = search needs
-
-new-requires-2 : tie.Need-new-requires-2
-new-requires-2 c κs = search needs
-
-in-range-requires-2 : tie.Need-in-range-requires-2
-in-range-requires-2 c κs = search needs
-
-enum-told-3 : tie.Need-enum-told-3
-enum-told-3 c = search needs
-
-new-requires-3 : tie.Need-new-requires-3
-new-requires-3 c κs = search needs
-
-in-range-requires-3 : tie.Need-in-range-requires-3
-in-range-requires-3 c κs = search needs
-
 returns : tie.Need-returns
 returns c =
     c .in-range .ensures ∙ rw (c .before .before .enum-told .given .1, c .before .new .ensures .0, c .before .new .ensures .1)
@@ -45,16 +18,6 @@ returns-3 c =
 pub in-range-spec : {M : Type 1} → statement M
 in-range-spec =
     tie.close
-    (tie.spec
-    enum-told
-    new-requires
-    in-range-requires
-    enum-told-2
-    new-requires-2
-    in-range-requires-2
-    enum-told-3
-    new-requires-3
-    in-range-requires-3
-    returns
-    returns-2
-    returns-3)
+    (tie.spec (λ c. search needs) (λ c κs. search needs) (λ c κs. search needs) (λ c. search needs)
+    (λ c κs. search needs) (λ c κs. search needs) (λ c. search needs) (λ c κs. search needs) (λ c κs. search needs)
+    returns returns-2 returns-3)

@@ -10,14 +10,8 @@ use Rattle.file_check.proofs.order_number.Lts as lts
 use Rattle.file_check.proofs.all_below.Reads as all-below-reads
 use Rattle.file_check.proofs.links_rise.Reads as links-rise-reads
 
-all-below-requires : tie.Need-all-below-requires
-all-below-requires c κs = search needs
-
 returns : tie.Need-returns
 returns c = sym (order-starts _ _ _ (sym (c .before .all-below .ensures) ∙ not-true _ (c .if1 .taken)))
-
-all-below-requires-2 : tie.Need-all-below-requires-2
-all-below-requires-2 c κs = search needs
 
 returns-2 : tie.Need-returns-2
 returns-2 c =
@@ -25,9 +19,6 @@ returns-2 c =
     (order-ends _ _ _
     (sym (c .before .before .before .all-below .ensures) ∙ not-false _ (c .before .before .if1 .left))
     (sym (c .before .all-below2 .ensures) ∙ not-true _ (c .if2 .taken)))
-
-links-rise-requires : tie.Need-links-rise-requires
-links-rise-requires c κs = search needs
 
 -- what the numbers say, the links say: an end is of 16 bits
 by-numbers : (c : tie.After-links-rise) → let a = c .before .before .before .before .before .before .before .args in c .links-rise .result ≡ rising (now (a .starts)) (now (a .ends))
@@ -52,11 +43,5 @@ returns-4 c =
 pub order-number-spec : {M : Type 1} → statement M
 order-number-spec =
     tie.close
-    (tie.spec
-    all-below-requires
-    returns
-    all-below-requires-2
-    returns-2
-    links-rise-requires
-    returns-3
+    (tie.spec (λ c κs. search needs) returns (λ c κs. search needs) returns-2 (λ c κs. search needs) returns-3
     returns-4)

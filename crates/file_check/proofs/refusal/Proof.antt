@@ -3,11 +3,8 @@ use Rattle.base_lists.specs.Kit.{needs}
 use Rattle.file_check.proofs.refusal.Statement.{statement}
 use Rattle.file_check.proofs.refusal.Tie as tie
 
-file-of-requires : tie.Need-file-of-requires
-file-of-requires c κs = search needs
-
 returns : tie.Need-returns
 returns c = rw (c .file-of .ensures)
 
 pub refusal-spec : {M : Type 1} → statement M
-refusal-spec = tie.close (tie.spec file-of-requires returns)
+refusal-spec = tie.close (tie.spec (λ c κs. search needs) returns)

@@ -11,9 +11,6 @@ use Rattle.file_read.proofs.fill_fitting.Tie as tie
 returns : tie.Need-returns
 returns c = λ role e. sym (reading-short role _ _ _ _ _ e (inl (rw (c .before .before .before .before .before .before .pre .0) at (c .if1 .taken))))
 
-package-count-requires : tie.Need-package-count-requires
-package-count-requires c κs = search needs
-
 returns-2 : tie.Need-returns-2
 returns-2 c = λ role e. sym (reading-short role _ _ _ _ _ e (inr (inl (rw (c .before .package-count .ensures .0, c .before .before .before .before .before .before .before .before .pre .0) at (c .if2 .taken)))))
 
@@ -22,24 +19,6 @@ returns-3 c = λ role e. sym (reading-short role _ _ _ _ _ e (inr (inr (inl (rw 
 
 returns-4 : tie.Need-returns-4
 returns-4 c = λ role e. sym (reading-short role _ _ _ _ _ e (inr (inr (inr (rw (c .before .before .before .before .before .before .before .before .before .before .pre .1) at (c .if4 .taken))))))
-
-fill-nodes-requires : tie.Need-fill-nodes-requires
-fill-nodes-requires c κs = search needs
-
-fill-links-requires : tie.Need-fill-links-requires
-fill-links-requires c κs = search needs
-
-same-length : tie.Need-same-length
-same-length c = search needs
-
-same-length-2 : tie.Need-same-length-2
-same-length-2 c = search needs
-
-same-length-3 : tie.Need-same-length-3
-same-length-3 c = search needs
-
-same-length-4 : tie.Need-same-length-4
-same-length-4 c = search needs
 
 returns-5 : tie.Need-returns-5
 unfolding kindsOf packagesOf startsOf endsOf
@@ -55,16 +34,5 @@ returns-5 c =
 pub fill-fitting-spec : {M : Type 1} → statement M
 fill-fitting-spec =
     tie.close
-    (tie.spec
-    returns
-    package-count-requires
-    returns-2
-    returns-3
-    returns-4
-    fill-nodes-requires
-    fill-links-requires
-    same-length
-    same-length-2
-    same-length-3
-    same-length-4
-    returns-5)
+    (tie.spec returns (λ c κs. search needs) returns-2 returns-3 returns-4 (λ c κs. search needs)
+    (λ c κs. search needs) (λ c. search needs) (λ c. search needs) (λ c. search needs) (λ c. search needs) returns-5)

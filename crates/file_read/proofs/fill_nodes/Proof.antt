@@ -3,27 +3,6 @@ use borrow.Author.Needs.{needs}
 use Rattle.file_read.proofs.fill_nodes.Statement.{statement}
 use Rattle.file_read.proofs.fill_nodes.Tie as tie
 
-package-count-requires : tie.Need-package-count-requires
-package-count-requires c κs = search needs
-
-store-at-requires : tie.Need-store-at-requires
-store-at-requires c κs = search needs
-
-mul-store-at : tie.Need-mul-store-at
-mul-store-at c = search needs
-
-add-store-at : tie.Need-add-store-at
-add-store-at c = search needs
-
-store-at-requires-2 : tie.Need-store-at-requires-2
-store-at-requires-2 c κs = search needs
-
-same-length : tie.Need-same-length
-same-length c = search needs
-
-same-length-2 : tie.Need-same-length-2
-same-length-2 c = search needs
-
 returns : tie.Need-returns
 returns c =
     let first = c .before .before .before .before .before .before in
@@ -32,4 +11,5 @@ returns c =
 pub fill-nodes-spec : {M : Type 1} → statement M
 fill-nodes-spec =
     tie.close
-    (tie.spec package-count-requires store-at-requires mul-store-at add-store-at store-at-requires-2 same-length same-length-2 returns)
+    (tie.spec (λ c κs. search needs) (λ c κs. search needs) (λ c. search needs) (λ c. search needs)
+    (λ c κs. search needs) (λ c. search needs) (λ c. search needs) returns)

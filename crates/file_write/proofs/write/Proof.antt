@@ -36,15 +36,6 @@ enough c =
     let s = sound _ _ _ _ _ _ (accepted (c .before .before .before) .0) in
     omega (arith, c .package-count .ensures .0, s .given, package-count-le (a .edition) (length (now (a .packages))))
 
-check-requires : tie.Need-check-requires
-check-requires c κs = search needs
-
-enum-known-answer : tie.Need-enum-known-answer
-enum-known-answer c = search needs
-
-enum-told : tie.Need-enum-told
-enum-told c = search needs
-
 returns : tie.Need-returns
 returns c =
     same (c .enum-told .given .1) refl
@@ -54,9 +45,6 @@ returns-2 : tie.Need-returns-2
 returns-2 c =
     let s = accepted (c .before .before) in
     sym (writing-short _ _ _ _ _ _ _ (s .0) (omega arith))
-
-package-count-requires : tie.Need-package-count-requires
-package-count-requires c κs = search needs
 
 slice-aggregate-put-fields : tie.Need-slice-aggregate-put-fields
 slice-aggregate-put-fields c = sym (length-take-le _ _ (enough (c .before)))
@@ -72,9 +60,6 @@ put-fields-requires c κs =
     let p = here .package-count .ensures in
     ((omega arith, omega arith, omega arith, omega arith), omega arith)
 
-same-length : tie.Need-same-length
-same-length c = search needs
-
 returns-3 : tie.Need-returns-3
 returns-3 c =
     let here = c .before .before .before .before .before in
@@ -85,14 +70,5 @@ returns-3 c =
 pub write-spec : {M : Type 1} → statement M
 write-spec =
     tie.close
-    (tie.spec
-    check-requires
-    enum-known-answer
-    enum-told
-    returns
-    returns-2
-    package-count-requires
-    slice-aggregate-put-fields
-    put-fields-requires
-    same-length
-    returns-3)
+    (tie.spec (λ c κs. search needs) (λ c. search needs) (λ c. search needs) returns returns-2
+    (λ c κs. search needs) slice-aggregate-put-fields put-fields-requires (λ c. search needs) returns-3)

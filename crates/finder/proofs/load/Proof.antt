@@ -14,17 +14,8 @@ holds (found.Bytes size) bytes h = (h, sym (length-take-le size bytes h))
 holds found.Absent bytes h = (omega arith, sym (length-take-le 0 bytes (omega arith)))
 holds found.Unreadable bytes h = (omega arith, sym (length-take-le 0 bytes (omega arith)))
 
-load-requires : tie.Need-load-requires
-load-requires c κs = search needs
-
-as-read-requires : tie.Need-as-read-requires
-as-read-requires c κs = search needs
-
-same-length : tie.Need-same-length
-same-length c = search needs
-
 returns : tie.Need-returns
 returns c = rw (c .as-read .ensures) (holds _ _ (c .before .before .before .load .ensures))
 
 pub load-spec : {M : Type 1} → statement M
-load-spec = tie.close (tie.spec load-requires as-read-requires same-length returns)
+load-spec = tie.close (tie.spec (λ c κs. search needs) (λ c κs. search needs) (λ c. search needs) returns)

@@ -5,18 +5,6 @@ use borrow.Author.Needs.{needs}
 use Rattle.heronditch_reply.proofs.of_place.Statement.{statement}
 use Rattle.heronditch_reply.proofs.of_place.Tie as tie
 
-enum-known-answer : tie.Need-enum-known-answer
-enum-known-answer c = search needs
-
-with-counts-requires : tie.Need-with-counts-requires
-with-counts-requires c κs = search needs
-
-enum-known-answer-2 : tie.Need-enum-known-answer-2
-enum-known-answer-2 c = search needs
-
-refused-with-requires : tie.Need-refused-with-requires
-refused-with-requires c κs = search needs
-
 returns : tie.Need-returns
 unfolding counted verdictNumber meantFile placeReply
 returns c = rw (c .before .before .answer .given .1, c .with-counts .ensures)
@@ -28,10 +16,5 @@ returns-2 c = rw (c .before .before .answer2 .given .1, c .refused-with .ensures
 pub of-place-spec : {M : Type 1} → statement M
 of-place-spec =
     tie.close
-    (tie.spec
-    enum-known-answer
-    with-counts-requires
-    enum-known-answer-2
-    refused-with-requires
-    returns
+    (tie.spec (λ c. search needs) (λ c κs. search needs) (λ c. search needs) (λ c κs. search needs) returns
     returns-2)

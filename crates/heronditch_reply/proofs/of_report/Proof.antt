@@ -5,18 +5,6 @@ use borrow.Author.Needs.{needs}
 use Rattle.heronditch_reply.proofs.of_report.Statement.{statement}
 use Rattle.heronditch_reply.proofs.of_report.Tie as tie
 
-enum-known-answer : tie.Need-enum-known-answer
-enum-known-answer c = search needs
-
-put-piece-requires : tie.Need-put-piece-requires
-put-piece-requires c κs = search needs
-
-enum-known-answer-2 : tie.Need-enum-known-answer-2
-enum-known-answer-2 c = search needs
-
-refused-piece-requires : tie.Need-refused-piece-requires
-refused-piece-requires c κs = search needs
-
 returns : tie.Need-returns
 unfolding pieced verdictNumber meantFile reportReply
 returns c = rw (c .before .before .answer .given .1, c .put-piece .ensures)
@@ -28,10 +16,5 @@ returns-2 c = rw (c .before .before .answer2 .given .1, c .refused-piece .ensure
 pub of-report-spec : {M : Type 1} → statement M
 of-report-spec =
     tie.close
-    (tie.spec
-    enum-known-answer
-    put-piece-requires
-    enum-known-answer-2
-    refused-piece-requires
-    returns
+    (tie.spec (λ c. search needs) (λ c κs. search needs) (λ c. search needs) (λ c κs. search needs) returns
     returns-2)

@@ -4,9 +4,6 @@ use Rattle.loader.specs.Printing.{askedBy}
 use Rattle.loader.proofs.asked_by.Statement.{statement}
 use Rattle.loader.proofs.asked_by.Tie as tie
 
-are-four-requires : tie.Need-are-four-requires
-are-four-requires c κs = search needs
-
 returns : tie.Need-returns
 unfolding askedBy
 returns c = rw (sym (c .before .are-four .ensures) ∙ not-true _ (c .if1 .taken))
@@ -16,4 +13,4 @@ unfolding askedBy
 returns-2 c = rw (sym (c .before .before .before .before .before .are-four .ensures) ∙ not-false _ (c .before .before .before .before .if1 .left))
 
 pub asked-by-spec : {M : Type 1} → statement M
-asked-by-spec = tie.close (tie.spec are-four-requires returns returns-2)
+asked-by-spec = tie.close (tie.spec (λ c κs. search needs) returns returns-2)

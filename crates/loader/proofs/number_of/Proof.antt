@@ -9,12 +9,9 @@ returns : tie.Need-returns
 unfolding heardOf
 returns c = rw (error-not 0 (c .before .before .args .error) (c .if1 .taken))
 
-number-requires : tie.Need-number-requires
-number-requires c κs = search needs
-
 returns-2 : tie.Need-returns-2
 unfolding heardOf
 returns-2 c = rw (error-is 0 (c .before .before .before .args .error) (c .before .before .before .fits .error) (lit< tt) (c .before .if1 .left)) (c .number .ensures)
 
 pub number-of-spec : {M : Type 1} → statement M
-number-of-spec = tie.close (tie.spec returns number-requires returns-2)
+number-of-spec = tie.close (tie.spec returns (λ c κs. search needs) returns-2)

@@ -91,18 +91,6 @@ counted-requires c κs =
     let g = seek begun (some .partStarts) (some .partEnds) (some .nodeStarts) (some .nodeEnds) _ (c .before .before .before .before .before .before .before .before .before .before .before .before .before .before .before .before .before .before .before .before .before .search .ensures) (some .tabled) in
     omega (arith, kept-first bothWays _ _ _ (s .pre .1 .1 .1 .0) (begun .start .ensures) (some .tabled .prepared .parts) (c .before .before .before .before .before .before .before .before .find .ensures _ _ _ g .rested))
 
-same-length : tie.Need-same-length
-same-length c = search needs
-
-same-length-2 : tie.Need-same-length-2
-same-length-2 c = search needs
-
-same-length-3 : tie.Need-same-length-3
-same-length-3 c = search needs
-
-same-length-4 : tie.Need-same-length-4
-same-length-4 c = search needs
-
 returns : tie.Need-returns
 returns c =
     let begun = c .before .before .before .before .before .before .before .before .before .before .before .before .before .before .before in
@@ -125,17 +113,6 @@ returns c =
 pub find-in-ball-spec : {M : Type 1} → statement M
 find-in-ball-spec =
     tie.close
-    (tie.spec
-    array-borrow-prefix-joined
-    slice-aggregate-apart
-    search-requires
-    slice-reshare-prefix-start
-    slice-aggregate-start
-    start-requires
-    find-requires
-    counted-requires
-    same-length
-    same-length-2
-    same-length-3
-    same-length-4
-    returns)
+    (tie.spec array-borrow-prefix-joined slice-aggregate-apart search-requires slice-reshare-prefix-start
+    slice-aggregate-start start-requires find-requires counted-requires (λ c. search needs) (λ c. search needs)
+    (λ c. search needs) (λ c. search needs) returns)

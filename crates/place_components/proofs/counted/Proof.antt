@@ -3,9 +3,6 @@ use Rattle.base_lists.specs.Kit.{arith, needs, eq-eqb, ne-eqb}
 use Rattle.place_components.proofs.counted.Statement.{statement}
 use Rattle.place_components.proofs.counted.Tie as tie
 
-add-result : tie.Need-add-result
-add-result c = search needs
-
 returns : tie.Need-returns
 returns c = let a = c .before .args in rw (eq-eqb (a .number) (a .x) (c .if1 .taken))
 
@@ -13,4 +10,4 @@ returns-2 : tie.Need-returns-2
 returns-2 c = let a = c .before .args in rw (ne-eqb (a .number) (a .x) (c .if1 .left)) (omega arith)
 
 pub counted-spec : {M : Type 1} → statement M
-counted-spec = tie.close (tie.spec add-result returns returns-2)
+counted-spec = tie.close (tie.spec (λ c. search needs) returns returns-2)

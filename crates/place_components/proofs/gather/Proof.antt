@@ -5,15 +5,6 @@ use Rattle.graph.proofs.Net.{net-few}
 use Rattle.place_components.proofs.gather.Statement.{statement}
 use Rattle.place_components.proofs.gather.Tie as tie
 
-search-until-requires : tie.Need-search-until-requires
-search-until-requires c κs = search needs
-
-mul-keep : tie.Need-mul-keep
-mul-keep c = search needs
-
-shared-slice-read-keep : tie.Need-shared-slice-read-keep
-shared-slice-read-keep c = search needs
-
 keep-requires : tie.Need-keep-requires
 unfolding stateOf
 keep-requires c κs =
@@ -24,12 +15,6 @@ keep-requires c κs =
     let k = call .ensures .0 in
     (k .within, omega (arith, e, few, p .1 .1 .0 .0), rw (call .kept .1 .1 .1 .1 .1 .1 .0 ∙ sym (p .1 .1 .0 .1)) at (k .ready .inside))
 
-same-length : tie.Need-same-length
-same-length c = search needs
-
-same-length-2 : tie.Need-same-length-2
-same-length-2 c = search needs
-
 returns : tie.Need-returns
 unfolding stateOf
 returns c =
@@ -39,11 +24,5 @@ returns c =
 pub gather-spec : {M : Type 1} → statement M
 gather-spec =
     tie.close
-    (tie.spec
-    search-until-requires
-    mul-keep
-    shared-slice-read-keep
-    keep-requires
-    same-length
-    same-length-2
-    returns)
+    (tie.spec (λ c κs. search needs) (λ c. search needs) (λ c. search needs) keep-requires (λ c. search needs)
+    (λ c. search needs) returns)

@@ -6,11 +6,8 @@ use Rattle.report_centres.proofs.counted.Tie as tie
 returns : tie.Need-returns
 returns c = let a = c .before .args in rw (eq-eqb (a .next) (a .at) (c .if1 .taken)) (omega arith)
 
-add-result : tie.Need-add-result
-add-result c = search needs
-
 returns-2 : tie.Need-returns-2
 returns-2 c = let a = c .before .args in rw (ne-eqb (a .next) (a .at) (c .if1 .left))
 
 pub counted-spec : {M : Type 1} → statement M
-counted-spec = tie.close (tie.spec returns add-result returns-2)
+counted-spec = tie.close (tie.spec returns (λ c. search needs) returns-2)

@@ -6,11 +6,8 @@ use Rattle.report_centres.proofs.goes_on.Tie as tie
 returns : tie.Need-returns
 returns c = let a = c .before .args in rw (le-ltb (a .c) (a .n) (c .if1 .taken))
 
-roomy-requires : tie.Need-roomy-requires
-roomy-requires c κs = search needs
-
 returns-2 : tie.Need-returns-2
 returns-2 c = let a = c .before .before .args in rw (lt-ltb (a .c) (a .n) (c .before .if1 .left)) (c .roomy .ensures)
 
 pub goes-on-spec : {M : Type 1} → statement M
-goes-on-spec = tie.close (tie.spec returns roomy-requires returns-2)
+goes-on-spec = tie.close (tie.spec returns (λ c κs. search needs) returns-2)

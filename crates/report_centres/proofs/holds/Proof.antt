@@ -15,12 +15,6 @@ reach-requires c κs =
     let (d, q) = p .1 .1 in
     (match-ready (source-match (p .0 .source)), (rw d (p .1 .0 .low), (sym d, d ∙ sym q)))
 
-same-length : tie.Need-same-length
-same-length c = search needs
-
-same-length-2 : tie.Need-same-length-2
-same-length-2 c = search needs
-
 -- ---- matching links lead to all of it
 
 returns : tie.Need-returns
@@ -98,12 +92,5 @@ returns-2 c =
 pub holds-spec : {M : Type 1} → statement M
 holds-spec =
     tie.close
-    (tie.spec
-    reach-requires
-    same-length
-    same-length-2
-    returns
-    gather-requires
-    same-length-3
-    same-length-4
-    returns-2)
+    (tie.spec reach-requires (λ c. search needs) (λ c. search needs) returns gather-requires same-length-3
+    same-length-4 returns-2)

@@ -43,12 +43,6 @@ whole xs ys l =
     let none : length ys ≤ length xs = omega (arith, l) in
     ap (λ (ns : List ℕ). xs ++ ns) (drop-of-length-le ys none) ∙ append-nil xs
 
-same-length : tie.Need-same-length
-same-length c = search needs
-
-same-length-2 : tie.Need-same-length-2
-same-length-2 c = search needs
-
 returns : tie.Need-returns
 returns c =
     let here = c .before .before .before .before .before .before .before .before .before in
@@ -71,15 +65,6 @@ returns c =
 
 abbrev entry : tie.Else1 → tie.Start
 entry c = c .before .before .before .before .before .before .before .before
-
-same-length-3 : tie.Need-same-length-3
-same-length-3 c = search needs
-
-same-length-4 : tie.Need-same-length-4
-same-length-4 c = search needs
-
-same-length-5 : tie.Need-same-length-5
-same-length-5 c = search needs
 
 -- the scratch table has room for the board
 few : (c : tie.Else1) → length (now (entry c .args .whole)) ≤ 512
@@ -137,9 +122,6 @@ find-requires c κs =
       ),
     )
 
-same-length-6 : tie.Need-same-length-6
-same-length-6 c = search needs
-
 returns-2 : tie.Need-returns-2
 returns-2 c pattern board s =
     let done = c .before .before .before .before .before .before .before in
@@ -149,22 +131,7 @@ returns-2 c pattern board s =
 pub locate-spec : {M : Type 1} → statement M
 locate-spec =
     tie.close
-    (tie.spec
-    slice-reshare-prefix-mark
-    slice-aggregate-mark
-    mark-requires
-    copy-requires
-    same-length
-    same-length-2
-    same-length-3
-    returns
-    array-borrow-prefix-other
-    slice-aggregate-spare
-    slice-reshare-prefix-copy
-    slice-aggregate-copy
-    copy-requires-2
-    find-requires
-    same-length-4
-    same-length-5
-    same-length-6
-    returns-2)
+    (tie.spec slice-reshare-prefix-mark slice-aggregate-mark mark-requires copy-requires (λ c. search needs)
+    (λ c. search needs) (λ c. search needs) returns array-borrow-prefix-other slice-aggregate-spare
+    slice-reshare-prefix-copy slice-aggregate-copy copy-requires-2 find-requires (λ c. search needs)
+    (λ c. search needs) (λ c. search needs) returns-2)

@@ -27,9 +27,6 @@ put-copy-requires c κs =
     let p = c .before .before .before .put-head .ensures in
     (s .pre .0 .0, omega (arith, s .pre .0, p .end), omega (arith, room s, p .end, put-length p))
 
-same-length : tie.Need-same-length
-same-length c = search needs
-
 returns : tie.Need-returns
 returns c =
     let s = c .before .before .before .before .before .before .before .before .before in
@@ -38,4 +35,4 @@ returns c =
     put-then p (put-same (put-before p (x .from) (x .to - x .from) (omega (arith, s .pre .0)) (room s .0)) (c .before .before .put-copy .ensures))
 
 pub put-again-spec : {M : Type 1} → statement M
-put-again-spec = tie.close (tie.spec put-head-requires put-copy-requires same-length returns)
+put-again-spec = tie.close (tie.spec put-head-requires put-copy-requires (λ c. search needs) returns)

@@ -8,9 +8,6 @@ use Rattle.report_centres.proofs.put_last.Tie as tie
 returns : tie.Need-returns
 returns c = last-elsewhere _ _ _ (c .if1 .taken)
 
-roomy-requires : tie.Need-roomy-requires
-roomy-requires c κs = search needs
-
 returns-2 : tie.Need-returns-2
 returns-2 c = last-full _ _ _ (sym (c .before .roomy .ensures) ∙ not-true _ (c .if2 .taken))
 
@@ -20,12 +17,6 @@ put-end-requires c κs =
     let s = here .before .before .before .before .before in
     ((omega arith, omega arith), last-room (now (s .args .out)) (s .args .part) (s .args .n) (sym (here .before .roomy .ensures) ∙ not-false _ (here .if2 .left)))
 
-add-t7 : tie.Need-add-t7
-add-t7 c = search needs
-
-same-length : tie.Need-same-length
-same-length c = search needs
-
 returns-3 : tie.Need-returns-3
 returns-3 c =
     let here = c .before .before .before .before in
@@ -34,11 +25,5 @@ returns-3 c =
 pub put-last-spec : {M : Type 1} → statement M
 put-last-spec =
     tie.close
-    (tie.spec
-    returns
-    roomy-requires
-    returns-2
-    put-end-requires
-    add-t7
-    same-length
+    (tie.spec returns (λ c κs. search needs) returns-2 put-end-requires (λ c. search needs) (λ c. search needs)
     returns-3)

@@ -33,12 +33,6 @@ locate-requires c κs =
 abbrev entry : tie.After-locate → tie.Start
 entry c = c .before .before .before .before .before .before .before .before .before .before .before .before .before
 
-same-length : tie.Need-same-length
-same-length c = search needs
-
-same-length-2 : tie.Need-same-length-2
-same-length-2 c = search needs
-
 returns : tie.Need-returns
 returns c =
     let done = c .before .before .before .before .before .before .before .before in
@@ -58,9 +52,6 @@ line c pattern board s =
     let found = not-false _ (c .if1 .left) in
     source-line s _ _ (place .answer) found (place .there found)
 
-cast-c : tie.Need-cast-c
-cast-c c = search needs
-
 put-line-requires : tie.Need-put-line-requires
 put-line-requires c κs =
     let here = c .before .before .before .before in
@@ -78,15 +69,6 @@ put-line-requires c κs =
       ),
     )
 
-same-length-3 : tie.Need-same-length-3
-same-length-3 c = search needs
-
-same-length-4 : tie.Need-same-length-4
-same-length-4 c = search needs
-
-same-length-5 : tie.Need-same-length-5
-same-length-5 c = search needs
-
 returns-2 : tie.Need-returns-2
 returns-2 c =
     let put = c .before .before .before in
@@ -95,16 +77,6 @@ returns-2 c =
 pub put-new-spec : {M : Type 1} → statement M
 put-new-spec =
     tie.close
-    (tie.spec
-    array-borrow-prefix-table
-    slice-aggregate-sets
-    locate-requires
-    same-length
-    same-length-2
-    returns
-    cast-c
-    put-line-requires
-    same-length-3
-    same-length-4
-    same-length-5
+    (tie.spec array-borrow-prefix-table slice-aggregate-sets locate-requires (λ c. search needs) (λ c. search needs)
+    returns (λ c. search needs) put-line-requires (λ c. search needs) (λ c. search needs) (λ c. search needs)
     returns-2)

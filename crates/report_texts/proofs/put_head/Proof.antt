@@ -6,9 +6,6 @@ use Rattle.report_texts.specs.Texts.{headText}
 use Rattle.report_texts.proofs.put_head.Statement.{statement}
 use Rattle.report_texts.proofs.put_head.Tie as tie
 
-slice-aggregate-put-bytes : tie.Need-slice-aggregate-put-bytes
-slice-aggregate-put-bytes c = search needs
-
 room : (s : tie.Start) → Fits (now (s .args .out)) (s .args .at) (bytes "place " ++ (decimal (s .args .c) ++ bytes ":"))
 unfolding headText
 room s = s .pre
@@ -28,9 +25,6 @@ put-byte-requires : tie.Need-put-byte-requires
 unfolding bytes
 put-byte-requires c κs = fits-then (c .before .before .before .put-number .ensures) (room-centre (c .before .before .before .before .before .before .before))
 
-same-length : tie.Need-same-length
-same-length c = search needs
-
 returns : tie.Need-returns
 unfolding headText bytes
 returns c = put-then (c .before .before .before .before .before .before .before .before .before .before .put-bytes .ensures) (put-then (c .before .before .before .before .before .before .put-number .ensures) (c .before .before .put-byte .ensures))
@@ -38,10 +32,5 @@ returns c = put-then (c .before .before .before .before .before .before .before 
 pub put-head-spec : {M : Type 1} → statement M
 put-head-spec =
     tie.close
-    (tie.spec
-    slice-aggregate-put-bytes
-    put-bytes-requires
-    put-number-requires
-    put-byte-requires
-    same-length
+    (tie.spec (λ c. search needs) put-bytes-requires put-number-requires put-byte-requires (λ c. search needs)
     returns)

@@ -4,39 +4,6 @@ use Rattle.session_strike.specs.Moves.{movesIn, nodeAt, unmark, lookSets
 use Rattle.session_strike.proofs.look_next.Statement.{statement}
 use Rattle.session_strike.proofs.look_next.Tie as tie
 
-mul-word : tie.Need-mul-word
-mul-word c = search needs
-
-slice-read-word : tie.Need-slice-read-word
-slice-read-word c = search needs
-
-mul-v : tie.Need-mul-v
-mul-v c = search needs
-
-first-requires : tie.Need-first-requires
-first-requires c κs = search needs
-
-cast-v : tie.Need-cast-v
-cast-v c = search needs
-
-add-v : tie.Need-add-v
-add-v c = search needs
-
-without-first-requires : tie.Need-without-first-requires
-without-first-requires c κs = search needs
-
-mul-marks : tie.Need-mul-marks
-mul-marks c = search needs
-
-slice-write-marks : tie.Need-slice-write-marks
-slice-write-marks c = search needs
-
-look-requires : tie.Need-look-requires
-look-requires c κs = search needs
-
-same-length : tie.Need-same-length
-same-length c = search needs
-
 same-length-2 : tie.Need-same-length-2
 same-length-2 c =
     let called = c .before .before .before .before in
@@ -61,17 +28,6 @@ returns c =
 pub look-next-spec : {M : Type 1} → statement M
 look-next-spec =
     tie.close
-    (tie.spec
-    mul-word
-    slice-read-word
-    mul-v
-    first-requires
-    cast-v
-    add-v
-    without-first-requires
-    mul-marks
-    slice-write-marks
-    look-requires
-    same-length
-    same-length-2
-    returns)
+    (tie.spec (λ c. search needs) (λ c. search needs) (λ c. search needs) (λ c κs. search needs) (λ c. search needs)
+    (λ c. search needs) (λ c κs. search needs) (λ c. search needs) (λ c. search needs) (λ c κs. search needs)
+    (λ c. search needs) same-length-2 returns)

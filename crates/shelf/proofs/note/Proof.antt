@@ -4,17 +4,8 @@ use borrow.Author.Needs.{needs}
 use Rattle.shelf.proofs.note.Statement.{statement}
 use Rattle.shelf.proofs.note.Tie as tie
 
-enum-known-found : tie.Need-enum-known-found
-enum-known-found c = search needs
-
 cast-result : tie.Need-cast-result
 cast-result c = let room = rw (c .before .found .given .1) at (c .before .before .before .pre) in omega arith
-
-enum-told : tie.Need-enum-told
-enum-told c = search needs
-
-enum-told-2 : tie.Need-enum-told-2
-enum-told-2 c = search needs
 
 returns : tie.Need-returns
 returns c = rw (c .before .found .given .1)
@@ -28,4 +19,4 @@ returns-3 c = rw (c .enum-told2 .given .1)
 pub note-spec : {M : Type 1} → statement M
 note-spec =
     tie.close
-    (tie.spec enum-known-found cast-result enum-told enum-told-2 returns returns-2 returns-3)
+    (tie.spec (λ c. search needs) cast-result (λ c. search needs) (λ c. search needs) returns returns-2 returns-3)

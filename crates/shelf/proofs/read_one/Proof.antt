@@ -15,35 +15,8 @@ use Rattle.shelf.proofs.read_one.Tie as tie
 room : (c : tie.After-load) → Within mostBytes (c .load .result)
 room c = within-more (c .load .result) (length (c .load .last .1 .0)) mostBytes (omega (arith, simp (length-take, length-drop) at (c .load .kept .1 .0))) (c .load .ensures)
 
-add-end : tie.Need-add-end
-add-end c = search needs
-
-sub-load : tie.Need-sub-load
-sub-load c = search needs
-
-part-load-start : tie.Need-part-load-start
-part-load-start c = search needs
-
-part-load-end : tie.Need-part-load-end
-part-load-end c = search needs
-
-load-requires : tie.Need-load-requires
-load-requires c κs = search needs
-
 note-requires : tie.Need-note-requires
 note-requires c κs = room (c .before .before)
-
-mul-notes : tie.Need-mul-notes
-mul-notes c = search needs
-
-slice-write-notes : tie.Need-slice-write-notes
-slice-write-notes c = search needs
-
-same-length : tie.Need-same-length
-same-length c = search needs
-
-same-length-2 : tie.Need-same-length-2
-same-length-2 c = search needs
 
 returns : tie.Need-returns
 returns c =
@@ -56,15 +29,5 @@ returns c =
 pub read-one-spec : {M : Type 1} → statement M
 read-one-spec =
     tie.close
-    (tie.spec
-    add-end
-    sub-load
-    part-load-start
-    part-load-end
-    load-requires
-    note-requires
-    mul-notes
-    slice-write-notes
-    same-length
-    same-length-2
-    returns)
+    (tie.spec (λ c. search needs) (λ c. search needs) (λ c. search needs) (λ c. search needs) (λ c κs. search needs)
+    note-requires (λ c. search needs) (λ c. search needs) (λ c. search needs) (λ c. search needs) returns)

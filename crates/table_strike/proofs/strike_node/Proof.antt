@@ -13,12 +13,6 @@ use Rattle.table_strike.proofs.strike_node.Tie as tie
 abbrev tablesOf : tie.Start → Tables
 tablesOf start = tables (now (start .args .masks)) (now (start .args .offsets)) (now (start .args .targets))
 
-mul-set : tie.Need-mul-set
-mul-set c = search needs
-
-shared-slice-read-set : tie.Need-shared-slice-read-set
-shared-slice-read-set c = search needs
-
 returns : tie.Need-returns
 returns c =
     let start = c .before .before .before .before .before .before in
@@ -50,15 +44,6 @@ slice-aggregate-surviving c =
     let long = start .pre .1 .0 .masks in
     sym (length-take-le 32 (now (start .args .masks)) (omega arith))
 
-sub-surviving : tie.Need-sub-surviving
-sub-surviving c = search needs
-
-part-surviving-start : tie.Need-part-surviving-start
-part-surviving-start c = search needs
-
-part-surviving-end : tie.Need-part-surviving-end
-part-surviving-end c = search needs
-
 surviving-requires : tie.Need-surviving-requires
 surviving-requires c κs =
     let start = entry (c .before .before .before .before .before) in
@@ -82,16 +67,6 @@ returns-2 c =
 pub strike-node-spec : {M : Type 1} → statement M
 strike-node-spec =
     tie.close
-    (tie.spec
-    mul-set
-    shared-slice-read-set
-    returns
-    neighbours-in-requires
-    union-at-requires
-    reach-back-requires
-    slice-aggregate-surviving
-    sub-surviving
-    part-surviving-start
-    part-surviving-end
-    surviving-requires
-    returns-2)
+    (tie.spec (λ c. search needs) (λ c. search needs) returns neighbours-in-requires union-at-requires
+    reach-back-requires slice-aggregate-surviving (λ c. search needs) (λ c. search needs) (λ c. search needs)
+    surviving-requires returns-2)

@@ -25,9 +25,6 @@ measure-requires c κs =
           ((bounded-starts board, bounded-ends board), (s .pre .1 .0, board .nodes)),
     )
 
-same-length : tie.Need-same-length
-same-length c = search needs
-
 returns : tie.Need-returns
 returns c =
     let s = c .before .before .before .before .before .before .before .before in
@@ -39,9 +36,4 @@ returns c =
 pub fill-ball-spec : {M : Type 1} → statement M
 fill-ball-spec =
     tie.close
-    (tie.spec
-    slice-relend-prefix-measure
-    slice-aggregate-measure
-    measure-requires
-    same-length
-    returns)
+    (tie.spec slice-relend-prefix-measure slice-aggregate-measure measure-requires (λ c. search needs) returns)

@@ -23,33 +23,15 @@ by-links c =
     ∙ verdict-number _ _ _ _
     ∙ ap (byNumber (entry c .args .role)) (sym (c .test-links .ensures .number))
 
-in-range-requires : tie.Need-in-range-requires
-in-range-requires c κs = search needs
-
-refusal-requires : tie.Need-refusal-requires
-refusal-requires c κs = search needs
-
 returns : tie.Need-returns
 returns c =
     ap Refused (c .refusal .ensures)
     ∙ sym (answer-turned _ _ _ _ (verdict-2 _ _ _ _ _ _ (sym (c .before .before .in-range .ensures) ∙ not-true _ (c .before .if1 .taken))))
 
-refusal-requires-2 : tie.Need-refusal-requires-2
-refusal-requires-2 c κs = search needs
-
 returns-2 : tie.Need-returns-2
 returns-2 c =
     ap Refused (c .refusal2 .ensures)
     ∙ sym (answer-turned _ _ _ _ (verdict-3 _ _ _ _ _ _ (sym (c .before .before .before .in-range .ensures) ∙ not-false _ (c .before .before .if1 .left)) (c .before .if2 .taken)))
-
-package-count-requires : tie.Need-package-count-requires
-package-count-requires c κs = search needs
-
-package-count-requires-2 : tie.Need-package-count-requires-2
-package-count-requires-2 c κs = search needs
-
-refusal-requires-3 : tie.Need-refusal-requires-3
-refusal-requires-3 c κs = search needs
 
 returns-3 : tie.Need-returns-3
 returns-3 c =
@@ -62,30 +44,15 @@ returns-3 c =
 test-links-requires : tie.Need-test-links-requires
 test-links-requires c κs = (true-T (sym (c .before .before .before .before .before .in-range .ensures) ∙ not-false _ (c .before .before .before .before .if1 .left)), c .before .before .before .if2 .left)
 
-refusal-requires-4 : tie.Need-refusal-requires-4
-refusal-requires-4 c κs = search needs
-
 returns-4 : tie.Need-returns-4
 returns-4 c =
     ap Refused (c .refusal4 .ensures)
     ∙ sym (answer-turned _ _ _ _ (by-links (c .before .before .before) ∙ number-turned _ _ (c .before .if4 .taken)))
 
-mul-t14 : tie.Need-mul-t14
-mul-t14 c = search needs
-
-add-t16 : tie.Need-add-t16
-add-t16 c = search needs
-
-mul-t19 : tie.Need-mul-t19
-mul-t19 c = search needs
-
 add-t20 : tie.Need-add-t20
 add-t20 c =
     let a = c .before .before .before .before .before .before .before .before .before .before .before .before .before .args in
     omega (arith, c .before .before .before .before .before .package-count .ensures .1, range-bounds (a .role) (length (now (a .kinds))) (length (now (a .starts))) (true-T (sym (c .before .before .before .before .before .before .before .before .in-range .ensures) ∙ not-false _ (c .before .before .before .before .before .before .before .if1 .left))))
-
-mul-t21 : tie.Need-mul-t21
-mul-t21 c = search needs
 
 add-t22 : tie.Need-add-t22
 add-t22 c =
@@ -99,23 +66,7 @@ returns-5 c =
 pub check-spec : {M : Type 1} → statement M
 check-spec =
     tie.close
-    (tie.spec
-    in-range-requires
-    refusal-requires
-    returns
-    refusal-requires-2
-    returns-2
-    package-count-requires
-    package-count-requires-2
-    refusal-requires-3
-    returns-3
-    test-links-requires
-    refusal-requires-4
-    returns-4
-    mul-t14
-    add-t16
-    mul-t19
-    add-t20
-    mul-t21
-    add-t22
-    returns-5)
+    (tie.spec (λ c κs. search needs) (λ c κs. search needs) returns (λ c κs. search needs) returns-2
+    (λ c κs. search needs) (λ c κs. search needs) (λ c κs. search needs) returns-3 test-links-requires
+    (λ c κs. search needs) returns-4 (λ c. search needs) (λ c. search needs) (λ c. search needs) add-t20
+    (λ c. search needs) add-t22 returns-5)

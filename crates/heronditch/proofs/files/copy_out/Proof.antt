@@ -8,21 +8,9 @@ use Rattle.heronditch_reply.specs.Replies.{fileNumber, verdictNumber, meantFile
 use Rattle.heronditch.proofs.files.copy_out.Statement.{statement}
 use Rattle.heronditch.proofs.files.copy_out.Tie as tie
 
-refused-requires : tie.Need-refused-requires
-refused-requires c κs = search needs
-
 returns : tie.Need-returns
 unfolding hostNeighbours first shortTable reply slots verdictNumber meantFile fileNumber filled
 returns c = rw (c .refused .ensures) (simp (lt-ltb _ _ (c .before .if1 .taken)))
-
-copy-requires : tie.Need-copy-requires
-copy-requires c κs = search needs
-
-accepted-requires : tie.Need-accepted-requires
-accepted-requires c κs = search needs
-
-same-length : tie.Need-same-length
-same-length c = search needs
 
 returns-2 : tie.Need-returns-2
 unfolding hostNeighbours first shortTable reply slots verdictNumber meantFile filled
@@ -32,4 +20,5 @@ returns-2 c =
 pub copy-out-spec : {M : Type 1} → statement M
 copy-out-spec =
     tie.close
-    (tie.spec refused-requires returns copy-requires accepted-requires same-length returns-2)
+    (tie.spec (λ c κs. search needs) returns (λ c κs. search needs) (λ c κs. search needs) (λ c. search needs)
+    returns-2)

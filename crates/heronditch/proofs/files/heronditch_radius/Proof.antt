@@ -4,19 +4,10 @@ use Rattle.heronditch_reply.specs.Replies.{slots}
 use Rattle.heronditch.proofs.files.heronditch_radius.Statement.{statement}
 use Rattle.heronditch.proofs.files.heronditch_radius.Tie as tie
 
-edition-of-requires : tie.Need-edition-of-requires
-edition-of-requires c κs = search needs
-
-radius-requires : tie.Need-radius-requires
-radius-requires c κs = search needs
-
-of-radius-requires : tie.Need-of-radius-requires
-of-radius-requires c κs = search needs
-
 returns : tie.Need-returns
 returns c =
     rw (c .of-radius .ensures, ← c .before .before .edition-of .ensures) (ap slots (c .before .radius .ensures))
 
 pub heronditch-radius-spec : {M : Type 1} → statement M
 heronditch-radius-spec =
-    tie.close (tie.spec edition-of-requires radius-requires of-radius-requires returns)
+    tie.close (tie.spec (λ c κs. search needs) (λ c κs. search needs) (λ c κs. search needs) returns)

@@ -4,16 +4,9 @@ use Rattle.base_lists.specs.Kit.{needs}
 use Rattle.heronditch.proofs.places.heronditch_report.Statement.{statement}
 use Rattle.heronditch.proofs.places.heronditch_report.Tie as tie
 
-heronditch-report-editions-requires : tie.Need-heronditch-report-editions-requires
-heronditch-report-editions-requires c κs = search needs
-
-same-length : tie.Need-same-length
-same-length c = search needs
-
 returns : tie.Need-returns
 unfolding editionOf
 returns c = c .before .before .heronditch-report-editions .ensures
 
 pub heronditch-report-spec : {M : Type 1} → statement M
-heronditch-report-spec =
-    tie.close (tie.spec heronditch-report-editions-requires same-length returns)
+heronditch-report-spec = tie.close (tie.spec (λ c κs. search needs) (λ c. search needs) returns)

@@ -4,19 +4,10 @@ use Rattle.heronditch.specs.Host.{hostShelf}
 use Rattle.heronditch.proofs.shelf.heronditch_shelf.Statement.{statement}
 use Rattle.heronditch.proofs.shelf.heronditch_shelf.Tie as tie
 
-shelf-requires : tie.Need-shelf-requires
-shelf-requires c κs = search needs
-
-of-shelf-requires : tie.Need-of-shelf-requires
-of-shelf-requires c κs = search needs
-
-same-length : tie.Need-same-length
-same-length c = search needs
-
 returns : tie.Need-returns
 unfolding hostShelf
 returns c = rw (c .of-shelf .ensures) (ap hostShelf (c .before .before .before .shelf .ensures))
 
 pub heronditch-shelf-spec : {M : Type 1} → statement M
 heronditch-shelf-spec =
-    tie.close (tie.spec shelf-requires of-shelf-requires same-length returns)
+    tie.close (tie.spec (λ c κs. search needs) (λ c κs. search needs) (λ c. search needs) returns)

@@ -7,9 +7,6 @@ use Rattle.report.proofs.Pieces.{end-pieces}
 use Rattle.report.proofs.lines.put_end.Statement.{statement}
 use Rattle.report.proofs.lines.put_end.Tie as tie
 
-slice-aggregate-put-bytes : tie.Need-slice-aggregate-put-bytes
-slice-aggregate-put-bytes c = search needs
-
 put-bytes-requires : tie.Need-put-bytes-requires
 put-bytes-requires c κs = record { room = omega (arith, c .before .before .before .pre .1) }
 
@@ -23,9 +20,6 @@ put-number-requires c κs = fits-number _ (omega arith) (omega (arith, room-coun
 
 room-of : (c : tie.After-put-number) → c .put-number .result + 15 ≤ length (c .put-number .last .1 .0)
 room-of c = room-left 5 15 (c .put-number .ensures) (length-decimal 4 _ (omega arith)) (room-count (c .before .before .before .before))
-
-slice-aggregate-put-bytes-2 : tie.Need-slice-aggregate-put-bytes-2
-slice-aggregate-put-bytes-2 c = search needs
 
 put-bytes-requires-2 : tie.Need-put-bytes-requires-2
 put-bytes-requires-2 c κs = record { room = omega (arith, room-of (c .before .before .before .before)) }
@@ -42,9 +36,6 @@ room-end c = room-left 5 6 (c .put-number2 .ensures) (length-decimal 4 _ (omega 
 put-byte-requires : tie.Need-put-byte-requires
 put-byte-requires c κs = record { room = omega (arith, room-end (c .before .before .before)) }
 
-same-length : tie.Need-same-length
-same-length c = search needs
-
 returns : tie.Need-returns
 unfolding bytes
 returns c =
@@ -58,13 +49,5 @@ returns c =
 pub put-end-spec : {M : Type 1} → statement M
 put-end-spec =
     tie.close
-    (tie.spec
-    slice-aggregate-put-bytes
-    put-bytes-requires
-    put-number-requires
-    slice-aggregate-put-bytes-2
-    put-bytes-requires-2
-    put-number-requires-2
-    put-byte-requires
-    same-length
-    returns)
+    (tie.spec (λ c. search needs) put-bytes-requires put-number-requires (λ c. search needs) put-bytes-requires-2
+    put-number-requires-2 put-byte-requires (λ c. search needs) returns)

@@ -22,9 +22,6 @@ pieces : (s : tie.Start) → let a = s .args in
 unfolding lineText
 pieces s = line-pieces (s .args .c) (nodes s) (links s)
 
-slice-aggregate-put-bytes : tie.Need-slice-aggregate-put-bytes
-slice-aggregate-put-bytes c = search needs
-
 -- ---- the room, before each piece
 
 room : (s : tie.Start) → let a = s .args in
@@ -65,9 +62,6 @@ room-slash : (c : tie.After-put-nodes) → let s = c .before .before .before .be
     Fits (c .put-nodes .last .1 .1 .0) (c .put-nodes .result) (bytes " /" ++ (links s ++ bytes "\n"))
 room-slash c = fits-then (c .put-nodes .ensures) (room-nodes (c .before .before .before .before))
 
-slice-aggregate-put-bytes-2 : tie.Need-slice-aggregate-put-bytes-2
-slice-aggregate-put-bytes-2 c = search needs
-
 put-bytes-requires-2 : tie.Need-put-bytes-requires-2
 unfolding bytes
 put-bytes-requires-2 c κs = fits-less _ (omega arith) (fits-first (bytes " /") _ (room-slash (c .before .before .before .before)))
@@ -83,9 +77,6 @@ put-byte-requires-2 : tie.Need-put-byte-requires-2
 unfolding bytes
 put-byte-requires-2 c κs = fits-then (c .before .before .before .put-links .ensures) (room-links (c .before .before .before .before .before .before .before))
 
-same-length : tie.Need-same-length
-same-length c = search needs
-
 returns : tie.Need-returns
 unfolding bytes
 returns c =
@@ -100,15 +91,5 @@ returns c =
 pub put-line-spec : {M : Type 1} → statement M
 put-line-spec =
     tie.close
-    (tie.spec
-    slice-aggregate-put-bytes
-    put-bytes-requires
-    put-number-requires
-    put-byte-requires
-    put-nodes-requires
-    slice-aggregate-put-bytes-2
-    put-bytes-requires-2
-    put-links-requires
-    put-byte-requires-2
-    same-length
-    returns)
+    (tie.spec (λ c. search needs) put-bytes-requires put-number-requires put-byte-requires put-nodes-requires
+    (λ c. search needs) put-bytes-requires-2 put-links-requires put-byte-requires-2 (λ c. search needs) returns)

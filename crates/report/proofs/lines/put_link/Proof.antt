@@ -7,9 +7,6 @@ use Rattle.report.proofs.Pieces.{link-apart, link-meets, link-room}
 use Rattle.report.proofs.lines.put_link.Statement.{statement}
 use Rattle.report.proofs.lines.put_link.Tie as tie
 
-meets-requires : tie.Need-meets-requires
-meets-requires c κs = search needs
-
 returns : tie.Need-returns
 returns c =
     let a = c .before .before .before .before .args in
@@ -37,9 +34,6 @@ put-name-requires-2 c κs =
     let first = c .before .before .before .put-name .ensures in
     (s .pre .0 .0, (omega arith, record { room = omega (arith, room (c .before .before .before .before .before), first .end, put-length first) }))
 
-same-length : tie.Need-same-length
-same-length c = search needs
-
 returns-2 : tie.Need-returns-2
 unfolding bytes
 returns-2 c =
@@ -47,4 +41,6 @@ returns-2 c =
     (put-then (c .before .before .before .before .before .before .put-name .ensures) (c .before .before .put-name2 .ensures))
 
 pub put-link-spec : {M : Type 1} → statement M
-put-link-spec = tie.close (tie.spec meets-requires returns put-name-requires put-name-requires-2 same-length returns-2)
+put-link-spec =
+    tie.close
+    (tie.spec (λ c κs. search needs) returns put-name-requires put-name-requires-2 (λ c. search needs) returns-2)

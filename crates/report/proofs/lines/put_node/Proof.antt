@@ -7,15 +7,6 @@ use Rattle.report.proofs.Pieces.{node-missed, node-reached}
 use Rattle.report.proofs.lines.put_node.Statement.{statement}
 use Rattle.report.proofs.lines.put_node.Tie as tie
 
-mul-is-reached : tie.Need-mul-is-reached
-mul-is-reached c = search needs
-
-shared-slice-read-is-reached : tie.Need-shared-slice-read-is-reached
-shared-slice-read-is-reached c = search needs
-
-is-reached-requires : tie.Need-is-reached-requires
-is-reached-requires c κs = search needs
-
 returns : tie.Need-returns
 returns c =
     let a = c .before .before .before .before .before .before .args in
@@ -33,12 +24,12 @@ put-name-requires c κs =
     let s = c .before .before .before .before .before .before .before in
     (s .pre .0 .0, (omega (arith, s .pre .0 .1, s .pre .1 .0), fits-same (text (c .before)) (s .pre .1 .1)))
 
-same-length : tie.Need-same-length
-same-length c = search needs
-
 returns-2 : tie.Need-returns-2
 unfolding bytes
 returns-2 c = put-same (sym (text (c .before .before .before .before))) (c .before .before .put-name .ensures)
 
 pub put-node-spec : {M : Type 1} → statement M
-put-node-spec = tie.close (tie.spec mul-is-reached shared-slice-read-is-reached is-reached-requires returns put-name-requires same-length returns-2)
+put-node-spec =
+    tie.close
+    (tie.spec (λ c. search needs) (λ c. search needs) (λ c κs. search needs) returns put-name-requires
+    (λ c. search needs) returns-2)

@@ -8,9 +8,6 @@ use Rattle.report.proofs.Pieces.{refusal-pieces}
 use Rattle.report.proofs.lines.put_refusal.Statement.{statement}
 use Rattle.report.proofs.lines.put_refusal.Tie as tie
 
-slice-aggregate-put-bytes : tie.Need-slice-aggregate-put-bytes
-slice-aggregate-put-bytes c = search needs
-
 put-bytes-requires : tie.Need-put-bytes-requires
 put-bytes-requires c κs = record { room = omega (arith, c .before .before .before .pre) }
 
@@ -18,9 +15,6 @@ put-bytes-requires c κs = record { room = omega (arith, c .before .before .befo
 
 room-number : (c : tie.After-put-bytes) → c .put-bytes .result + 12 ≤ length (c .put-bytes .last .1 .0)
 room-number c = room-left 8 12 (c .put-bytes .ensures) (omega arith) (omega (arith, c .before .before .before .before .pre))
-
-cast-put-number : tie.Need-cast-put-number
-cast-put-number c = search needs
 
 put-number-requires : tie.Need-put-number-requires
 put-number-requires c κs = fits-number _ (omega arith) (omega (arith, room-number (c .before .before .before .before)))
@@ -37,9 +31,6 @@ room-end c = room-left 8 1 (c .put-file .ensures) (word-length _) (room-file (c 
 put-byte-requires : tie.Need-put-byte-requires
 put-byte-requires c κs = record { room = omega (arith, room-end (c .before .before .before)) }
 
-same-length : tie.Need-same-length
-same-length c = search needs
-
 returns : tie.Need-returns
 unfolding bytes
 returns c =
@@ -51,12 +42,5 @@ returns c =
 pub put-refusal-spec : {M : Type 1} → statement M
 put-refusal-spec =
     tie.close
-    (tie.spec
-    slice-aggregate-put-bytes
-    put-bytes-requires
-    cast-put-number
-    put-number-requires
-    put-file-requires
-    put-byte-requires
-    same-length
-    returns)
+    (tie.spec (λ c. search needs) put-bytes-requires (λ c. search needs) put-number-requires put-file-requires
+    put-byte-requires (λ c. search needs) returns)
