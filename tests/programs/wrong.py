@@ -42,19 +42,19 @@ EMPTY_FOR_A_GAP = """    if size == 0 {
     }
     FileFound::Bytes(size)
 """
-READS = """    let first = load(Role::Pattern, b"pattern.cir", pattern);
-    let second = load(Role::Board, b"board.cir", board);
+READS = """    let first = load(Role::Pattern, b"pattern.cir", &mut pattern[..]);
+    let second = load(Role::Board, b"board.cir", &mut board[..]);
 """
-NAMES_SWAPPED = """    let first = load(Role::Pattern, b"board.cir", pattern);
-    let second = load(Role::Board, b"pattern.cir", board);
+NAMES_SWAPPED = """    let first = load(Role::Pattern, b"board.cir", &mut pattern[..]);
+    let second = load(Role::Board, b"pattern.cir", &mut board[..]);
 """
 FINDER = [
-    Wrong("the two names swapped", "finder", READS, NAMES_SWAPPED),
-    Wrong("a line more", "finder", "    ended(print_report(", '    output::write_whole(b"hello\\n");\n    ended(print_report('),
+    Wrong("the two names swapped", "finder", READS, NAMES_SWAPPED, "finder_read"),
+    Wrong("a line more", "finder", "    let answer = output", '    output::write_whole(b"hello\\n");\n    let answer = output', "finder_print"),
     Wrong("silent", "finder", "    let run = report_files(", "    return;\n    let run = report_files("),
-    Wrong("nothing opened", "finder", "    as_read(input::load(name, buf))", "    as_read(FileFound::Absent)"),
-    Wrong("nothing printed", "finder", "output::write_whole(bytes)", "Output::Written(bytes.len())"),
-    Wrong("a piece twice", "finder", "output::write_whole(bytes)", "output::write_whole(bytes);\n    output::write_whole(bytes)"),
+    Wrong("nothing opened", "finder", "    as_read(input::load(name, buf))", "    as_read(FileFound::Absent)", "finder_read"),
+    Wrong("nothing printed", "finder", "output::write_whole(bytes)", "Output::Written(bytes.len())", "finder_print"),
+    Wrong("a piece twice", "finder", "output::write_whole(bytes)", "output::write_whole(bytes);\n    output::write_whole(bytes)", "finder_print"),
 ]
 SHELF = [
     Wrong("the other standard stream", "shelf", "libc::write(fd, rest)", "libc::write(2, rest)", "output"),

@@ -1,38 +1,34 @@
 // The report call: the report of a pattern file on a board file, put piece by piece into a lent buffer.
-use call_prepare::Reading;
-use call_prepare::read_prepared;
+use call_open::open;
 use file_format::Board;
 use file_format::Editions;
 use file_format::FileVerdict;
-use file_format::Pattern;
 use file_format::Refusal;
-use file_format::Role;
 use file_format::TOO_SHORT;
 use file_pair::Pair;
 use graph_neighbours::tables::OFFSETS;
 use graph_neighbours::tables::TARGETS;
-use place_components::components;
-use report::lines::put_refusal;
-use report_centres::LONGEST;
-use report_centres::PutPiece;
 use report_centres::Resume;
 use report_centres::put_centres;
-use report_centres::put_last;
+use report_pieces::LONGEST;
+use report_pieces::PutPiece;
+use report_pieces::put_last;
+use report_pieces::put_nothing;
+use report_pieces::put_refused;
 use table::MASKS;
-use table::Ways;
-use table_whole::match_tables;
 ghost use mathlib.Core.Path.{_≡_};
-ghost use Prim.Native.Nat.{_≤_};
 ghost use lib.ListN.{length};
-ghost use Rattle.call_report.specs.Call.{refusalPiece, outcomeFor, outcomeBy, reportReply, reporting};
+ghost use Rattle.call_report.specs.Call.{outcomeFor, outcomeBy, reportReply, reporting};
 ghost use Rattle.file_format.specs.Layout.{inEdition};
 ghost use Rattle.report.specs.Lines.{longestRefusal};
-ghost use Rattle.report_centres.specs.Pieces.{linesPiece, SourceOfSome, Wrote, EveryWrote};
+ghost use Rattle.report_pieces.specs.Pieces.{refusalPiece, linesPiece};
+ghost use Rattle.report_locate.specs.Source.{SourceOfSome};
+ghost use Rattle.report_centres.specs.Centres.{EveryWrote};
 ghost use Rattle.place.specs.Spread.{matched};
 ghost use Rattle.place_components.specs.Components.{Components};
 ghost use Rattle.table.specs.Prepared.{tables};
-ghost use Rattle.graph.specs.Net.{NetRoom};
-ghost use Rattle.call_report.specs.Opened.{Opened, SomeOpened, EveryReported};
+ghost use Rattle.call_open.specs.Opened.{SomeOpened};
+ghost use Rattle.call_report.specs.Reported.{EveryReported};
 ghost use Rattle.file_format.specs.declared.File.the-variants as file;
 ghost use Rattle.call_report.specs.declared.ReportAnswer.the-variants as answer;
 
@@ -50,33 +46,6 @@ fn too_short() -> ReportAnswer
     ensures { λ a. ⌜ a ≡ answer.Refused (record { number = 8; file = file.Neither }) ⌝ }
 {
     ReportAnswer::Refused(TOO_SHORT)
-}
-
-// Nothing: the report is at its end.
-fn put_nothing(from: usize, found: u16) -> PutPiece
-    ensures { λ r. ⌜ r ≡ record { next = from; found = found; size = 0 } ⌝ }
-{
-    PutPiece {
-        next: from,
-        found: found as usize,
-        size: 0,
-    }
-}
-
-// The line of a refused file, which is the whole report.
-fn put_refused(x: Refusal, from: usize, found: u16, out: &mut [u8]) -> PutPiece
-    requires { ⌜ longestRefusal ≤ length (now out) ⌝ }
-    ensures { λ r. ⌜ Wrote (now (out .entry)) (refusalPiece x from found) (now (out .exit)) r ⌝ }
-{
-    if from != 0 {
-        return put_nothing(from, found);
-    }
-    let size = put_refusal(x, out, 0);
-    PutPiece {
-        next: 1,
-        found: found as usize,
-        size,
-    }
 }
 
 // What the call comes to where a file is refused.
@@ -125,63 +94,6 @@ fn put_lines(
         out,
     );
     put_last(part, whole.len(), out)
-}
-
-// Opens two files for the pieces of their report from the centre `from` on: reads them, and leaves what the lines are put from, the whole board's match
-// table and its components among it, at the fronts of the tables. Past the last line nothing is left to put, and nothing is matched.
-pub fn open(
-    from: usize,
-    editions: Editions,
-    pattern: &[u8],
-    board: &[u8],
-    masks: &mut [u32],
-    offsets: &mut [u16],
-    targets: &mut [u16],
-    whole: &mut [u32],
-    component_of: &mut [u16],
-    sizes: &mut [u16],
-) -> Pair
-    requires { ⌜ (length (now masks) ≡ 64) × NetRoom (now offsets) (now targets) ⌝ }
-    requires { ⌜ (length (now whole) ≡ 512) × (length (now «component_of») ≡ 512) × (length (now sizes) ≡ 512) ⌝ }
-    ensures { λ r. ⌜ Opened from (inEdition (editions .pattern) (now (pattern .entry))) (inEdition (editions .board) (now (board .entry))) r (tables (now (masks .exit)) (now (offsets .exit)) (now (targets .exit))) (now (whole .exit)) (now («component_of» .exit)) (now (sizes .exit)) ⌝ }
-{
-    let mut pk = [0u32; Pattern::MAX_NODES];
-    let mut nk = [0u32; Board::MAX_NODES];
-    let reading = Reading {
-        role: Role::Pattern,
-        ways: Ways::Both,
-        editions,
-    };
-    let read = read_prepared(
-        reading,
-        pattern,
-        board,
-        &mut pk,
-        &mut nk,
-        masks,
-        offsets,
-        targets,
-    );
-    let verdict = read.verdict;
-    let FileVerdict::Accepted = verdict else {
-        return read;
-    };
-    let n = read.nodes;
-    if n < from {
-        return read;
-    }
-    let parts = read.parts;
-    let table = &mut whole[..n];
-    match_tables(&pk[..parts], &nk[..n], masks, offsets, targets, table);
-    components(
-        masks,
-        offsets,
-        targets,
-        table,
-        &mut component_of[..n],
-        &mut sizes[..n],
-    );
-    read
 }
 
 // A piece of the report of two files that were opened, as `report` puts it.

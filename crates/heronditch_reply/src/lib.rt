@@ -26,7 +26,7 @@ use file_format::ReadAnswer;
 use file_format::Refusal;
 use file_write::WriteAnswer;
 use place::PlaceAnswer;
-use report_centres::PutPiece;
+use report_pieces::PutPiece;
 use table::Counts;
 
 // Number 0 for acceptance or the refusal's number; the file that it means (0 neither, 1 pattern, 2 board); the values replied with.

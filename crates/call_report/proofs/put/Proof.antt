@@ -3,10 +3,10 @@
 use Rattle.base_lists.specs.Kit.{now, _∙_, sym, refl, length-take-le, needs}
 use Rattle.file_format.specs.Circuit.{circuitOf}
 use Rattle.table.specs.Prepared.{tables}
-use Rattle.report_centres.proofs.Pieces.{past-wrote}
+use Rattle.report_pieces.proofs.Pieces.{past-wrote}
 use Rattle.call_report.specs.Call.{outcomeBy}
-use Rattle.call_report.specs.Opened.{OpenedBoth}
-use Rattle.call_report.proofs.Opened.{opened-turned, opened-accepted, opened-both}
+use Rattle.call_open.specs.Opened.{OpenedBoth}
+use Rattle.call_open.proofs.Opened.{opened-turned, opened-accepted, opened-both}
 use Rattle.call_report.proofs.Outcome.{outcome-short, outcome-put, reporting-refused, reporting-lines}
 use Rattle.call_report.proofs.put.Statement.{statement}
 use Rattle.call_report.proofs.put.Tie as tie

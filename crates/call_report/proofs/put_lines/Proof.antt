@@ -1,9 +1,9 @@
 -- `call_report::put_lines` meets its contract: the lines of the centres are put, and the last line. Assumes nothing.
 use Rattle.base_lists.specs.Kit.{arith, needs}
-use Rattle.report_centres.specs.Pieces.{linesPiece}
-use Rattle.report_centres.proofs.Centre.{source-long, source-few}
-use Rattle.report_centres.proofs.Pieces.{wrote-within, closed-wrote}
-use Rattle.report_centres.proofs.Progress.{piece-small}
+use Rattle.report_pieces.specs.Pieces.{linesPiece}
+use Rattle.report_locate.proofs.Centre.{source-long, source-few}
+use Rattle.report_pieces.proofs.Pieces.{wrote-within, closed-wrote}
+use Rattle.report_pieces.proofs.Progress.{piece-small}
 use Rattle.call_report.proofs.put_lines.Statement.{statement}
 use Rattle.call_report.proofs.put_lines.Tie as tie
 

@@ -7,10 +7,10 @@ use Rattle.place.specs.Spread.{matched}
 use Rattle.place_components.specs.Components.{ComponentAt}
 use Rattle.report.specs.Report.{centreLine}
 use Rattle.report.proofs.Lengths.{centre-fits}
-use Rattle.report_texts.specs.Texts.{headText}
-use Rattle.report_centres.specs.declared.Span.{Span}
-use Rattle.report_centres.specs.Pieces.{TextNoted, under, Kept}
-use Rattle.report_centres.proofs.Centre.{source-long, source-few, whole-missed}
+use Rattle.report_texts.specs.declared.Span.{Span}
+use Rattle.report_texts.specs.Texts.{headText, under}
+use Rattle.report_locate.proofs.Centre.{source-long, source-few, whole-missed}
+use Rattle.report_centres.specs.Centres.{TextNoted, Kept}
 use Rattle.report_centres.proofs.OnceMore.{again-line, noted-after, kept-after, kept-more}
 use Rattle.report_centres.proofs.put_centre.Statement.{statement}
 use Rattle.report_centres.proofs.put_centre.Tie as tie

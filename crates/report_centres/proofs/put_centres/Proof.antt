@@ -5,10 +5,12 @@ use Rattle.base_text.proofs.Text.{put-length}
 use Rattle.graph.specs.Circuit.{Circuit}
 use Rattle.table.specs.Prepared.{tables}
 use Rattle.report.specs.Lines.{longestLine}
-use Rattle.report_centres.specs.Pieces.{roomy, Source, Kept}
-use Rattle.report_centres.proofs.Centre.{source-long, source-few}
+use Rattle.report_pieces.specs.Pieces.{roomy}
+use Rattle.report_locate.specs.Source.{Source}
+use Rattle.report_locate.proofs.Centre.{source-long, source-few}
+use Rattle.report_centres.specs.Centres.{Kept}
 use Rattle.report_centres.proofs.OnceMore.{kept-start}
-use Rattle.report_centres.proofs.Progress.{Progress, progress-start, progress-small, progress-goes, progress-step, progress-end}
+use Rattle.report_pieces.proofs.Progress.{Progress, progress-start, progress-small, progress-goes, progress-step, progress-end}
 use Rattle.report_centres.proofs.put_centres.Statement.{statement}
 use Rattle.report_centres.proofs.put_centres.Tie as tie
 
