@@ -2,13 +2,14 @@
 // nodes only. The tables of distances have an entry for each node and no more, and so has the queue, which is scratch: the nodes reached
 // so far, in order, `tail` of them.
 use graph::UNREACHED;
+use graph::fill;
 use graph_neighbours::neighbours::Direction;
 use graph_neighbours::neighbours::neighbours_in;
 ghost use mathlib.Core.Bool.{_||_};
 ghost use mathlib.Core.Path.{_≡_};
 ghost use Prim.Native.Nat.{_<_};
 ghost use lib.Dec.{eqb};
-ghost use lib.ListN.{length, replicate};
+ghost use lib.ListN.{length};
 ghost use Rattle.base_lists.specs.List.{Below};
 ghost use Rattle.graph.specs.Bfs.{visit, scan, start, bfs, adjacent, stateOf, Searching, Searched, Found};
 ghost use Rattle.graph.specs.Net.{Net};
@@ -143,17 +144,6 @@ pub fn advance(
         level,
         tail,
         depth,
-    }
-}
-
-// Sets every entry to x.
-pub fn fill(s: &mut [u16], x: u16)
-    ensures { λ _. ⌜ now (s .exit) ≡ replicate (length (now (s .entry))) x ⌝ }
-{
-    let mut i = 0;
-    while i < s.len() {
-        s[i] = x;
-        i += 1;
     }
 }
 

@@ -2,9 +2,9 @@
 use file_format::Board;
 use graph::UNREACHED;
 use graph::copy;
+use graph::fill;
 use graph_neighbours::tables::FORWARD_TARGETS;
 use graph_neighbours::tables::group_both;
-use graph_search::fill;
 use table::MASKS;
 use table_prepare::masks::pattern_masks;
 use table_prepare::nodes::list_all;

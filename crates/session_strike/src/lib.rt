@@ -10,9 +10,7 @@ use graph_neighbours::tables::FORWARD_OFFSETS;
 use graph_neighbours::tables::FORWARD_TARGETS;
 use graph_neighbours::tables::OFFSETS;
 use graph_neighbours::tables::TARGETS;
-use table::FORWARD_MASKS;
-use table::MASKS;
-use table_strike::surviving;
+use table_strike::parts_left;
 ghost use mathlib.Core.Path.{_≡_};
 ghost use Prim.Native.Nat.{_+_, _*_, _/_, _≤_, _<_};
 ghost use lib.ListN.{length, getD};
@@ -100,13 +98,7 @@ fn next_set(
         &ends[FORWARD_TARGETS..TARGETS],
         sets,
     );
-    surviving(
-        set,
-        &masks[..FORWARD_MASKS],
-        &masks[FORWARD_MASKS..MASKS],
-        f,
-        b,
-    )
+    parts_left(masks, set, f, b)
 }
 
 // Marks node v.
@@ -206,26 +198,14 @@ fn find(marks: &[u32]) -> usize
     j
 }
 
-// Takes the first mark of word j away, and looks at its node.
-fn look_next(
-    masks: &[u32],
-    offsets: &[u16],
-    numbers: &[u16],
-    ends: &[u16],
-    sets: &mut [u32],
-    marks: &mut [u32],
-    j: usize,
-)
-    requires { ⌜ MovesRoom (now masks) (now offsets) (now numbers) (now ends) ⌝ }
-    requires { ⌜ (length (now sets) ≤ 512) × (length (now marks) ≡ 16) ⌝ }
-    requires { ⌜ (j < 16) × (0 < getD (now marks) j 0) ⌝ }
-    ensures { λ _. ⌜ now (sets .exit) ≡ lookSets (now (masks .entry)) (movesIn (now (offsets .entry)) (now (numbers .entry)) (now (ends .entry))) (now (sets .entry)) (nodeAt (now (marks .entry)) j) ⌝ }
-    ensures { λ _. ⌜ now (marks .exit) ≡ lookMarks (now (masks .entry)) (movesIn (now (offsets .entry)) (now (numbers .entry)) (now (ends .entry))) (now (sets .entry)) (unmark (now (marks .entry)) j) (nodeAt (now (marks .entry)) j) ⌝ }
+// Takes the first mark of word j away, and returns its node.
+fn unmark(marks: &mut [u32], j: usize) -> usize
+    requires { ⌜ (length (now marks) ≡ 16) × (j < 16) × (0 < getD (now marks) j 0) ⌝ }
+    ensures { λ r. ⌜ (now (marks .exit) ≡ unmark (now (marks .entry)) j) × (r ≡ nodeAt (now (marks .entry)) j) ⌝ }
 {
     let word = marks[j];
-    let v = 32 * j + first(word) as usize;
     marks[j] = without_first(word);
-    look(masks, offsets, numbers, ends, sets, marks, v);
+    32 * j + first(word) as usize
 }
 
 // Goes on from a table until no node is marked. A node that is looked at and changes marks the nodes beside it; nothing else is looked at.
@@ -243,7 +223,8 @@ fn strike_marked(
 {
     let mut j = find(marks);
     while j < MARKS {
-        look_next(masks, offsets, numbers, ends, sets, marks, j);
+        let v = unmark(marks, j);
+        look(masks, offsets, numbers, ends, sets, marks, v);
         j = find(marks);
     }
 }

@@ -11,7 +11,7 @@ ghost use Prim.Native.Nat.{_^_, _<_};
 ghost use lib.ListN.{length};
 ghost use Rattle.base_bits.specs.Bits.{unionAt};
 ghost use Rattle.graph.specs.Net.{Net, driving};
-ghost use Rattle.table.specs.Prepared.{predOf, tables, Ready};
+ghost use Rattle.table.specs.Prepared.{succOf, predOf, tables, Ready};
 ghost use Rattle.table_strike.specs.Strike.{survivors, allEmpty, strikeNode};
 
 // Whether every mask is empty: then nothing is asked for in their direction.
@@ -43,7 +43,7 @@ fn reach_back(one_way: bool, offsets: &[u16], targets: &[u16], sets: &[u32], v: 
 }
 
 // Those parts of the set that drive only parts of f, and that only parts of b drive.
-pub fn surviving(set: u32, succ: &[u32], pred: &[u32], f: u32, b: u32) -> u32
+fn surviving(set: u32, succ: &[u32], pred: &[u32], f: u32, b: u32) -> u32
     requires { ⌜ set < 2 ^ length (now succ) ⌝ }
     requires { ⌜ set < 2 ^ length (now pred) ⌝ }
     ensures { λ r. ⌜ r ≡ survivors (now (succ .entry)) (now (pred .entry)) f b set ⌝ }
@@ -61,6 +61,20 @@ pub fn surviving(set: u32, succ: &[u32], pred: &[u32], f: u32, b: u32) -> u32
         left = base_bits::without_first(left);
     }
     kept
+}
+
+// The same with the masks of both directions in one list.
+pub fn parts_left(masks: &[u32], set: u32, f: u32, b: u32) -> u32
+    requires { ⌜ length (now masks) ≡ 64 ⌝ }
+    ensures { λ r. ⌜ r ≡ survivors (succOf (now (masks .entry))) (predOf (now (masks .entry))) f b set ⌝ }
+{
+    surviving(
+        set,
+        &masks[..FORWARD_MASKS],
+        &masks[FORWARD_MASKS..MASKS],
+        f,
+        b,
+    )
 }
 
 // The next set of node v. Where forward links alone count, what drives the node is not looked at.
@@ -83,11 +97,5 @@ pub fn strike_node(
     }
     let f = union_at(old, neighbours_in(Direction::Forward, offsets, targets, v));
     let b = reach_back(one_way, offsets, targets, old, v);
-    surviving(
-        set,
-        &masks[..FORWARD_MASKS],
-        &masks[FORWARD_MASKS..MASKS],
-        f,
-        b,
-    )
+    parts_left(masks, set, f, b)
 }

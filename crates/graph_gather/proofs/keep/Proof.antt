@@ -1,12 +1,12 @@
--- `place_components::keep` meets its contract. The loop's invariant: of the first i nodes those with the number stand in front, and the nodes from the
+-- `graph_gather::keep` meets its contract. The loop's invariant: of the first i nodes those with the number stand in front, and the nodes from the
 -- i-th on stand where they stood. The measure is how many are left. Assumes nothing.
-use Rattle.base_lists.specs.Kit.{now, _≡_, _∙_, sym, ap, refl, subst, Bool, false, true, cond, List, [], _∷_, _++_, append-nil, ℕ, _≤_, _<_, _+_, _-_, le-refl, add-zero, add-one, eqb, length, getD, take, set, length-set, length-take-le, getD-set-other, getD-take, take-suc, take-suc-set, take-set-le, arith}
+use Rattle.base_lists.specs.Kit.{now, _≡_, _∙_, sym, ap, refl, subst, Bool, false, true, cond, List, [], _∷_, _++_, append-nil, ℕ, _≤_, _<_, _+_, _-_, le-refl, add-zero, add-one, length, getD, take, set, length-set, length-take-le, getD-set-other, getD-take, take-suc, take-suc-set, take-set-le, arith}
 use Rattle.base_lists.specs.List.{Below}
 use Rattle.base_lists.proofs.Tests.{cond-le}
-use Rattle.place_components.specs.Components.{having}
-use Rattle.place_components.proofs.Lists.{having-more}
-use Rattle.place_components.proofs.keep.Statement.{statement}
-use Rattle.place_components.proofs.keep.Tie as tie
+use Rattle.graph_gather.specs.Having.{having, numbered}
+use Rattle.graph_gather.proofs.Having.{having-more}
+use Rattle.graph_gather.proofs.keep.Statement.{statement}
+use Rattle.graph_gather.proofs.keep.Tie as tie
 
 -- one node more
 keep-next : (p : ℕ → Bool) (queue queue₀ : List ℕ) (kept i v : ℕ) → i < length queue₀ → kept < length queue → v ≡ getD queue₀ i 0
@@ -24,15 +24,15 @@ keep-next p queue queue₀ kept i v h k e q = go (p v) ∙ sym more
     go false = rw add-zero (take-set-le kept queue kept v (le-refl kept) ∙ sym (append-nil (take kept queue)))
 
 abbrev Inv-loop : tie.InvT-loop
-Inv-loop componentOf x k queue₀ kept₀ i₀ queue kept i =
+Inv-loop numbers x k queue₀ kept₀ i₀ queue kept i =
     (i ≤ k)
     × (kept ≤ i)
     × (length queue ≡ length queue₀)
-    × (take kept queue ≡ having (λ v. eqb (getD componentOf v 0) x) (take i queue₀))
+    × (take kept queue ≡ having (numbered numbers x) (take i queue₀))
     × ((j : ℕ) → i ≤ j → getD queue j 0 ≡ getD queue₀ j 0)
 
 abbrev μ-loop : tie.MeasureT-loop
-μ-loop componentOf x k queue₀ kept₀ i₀ queue kept i = k - i
+μ-loop numbers x k queue₀ kept₀ i₀ queue kept i = k - i
 
 loop-holds : tie.Need-loop-holds Inv-loop μ-loop
 unfolding having
@@ -48,47 +48,17 @@ room c =
     let p = begun (c .before) .pre in
     (omega (arith, l .inv .2, p .0), omega (arith, l .inv .1, l .inv .2, p .0), omega (arith, p .0, p .1))
 
-mul-v : tie.Need-mul-v Inv-loop μ-loop
-mul-v c = omega (arith, room c)
-
-slice-read-v : tie.Need-slice-read-v Inv-loop μ-loop
-slice-read-v c = omega (arith, room (c .before))
-
-cast-at : tie.Need-cast-at Inv-loop μ-loop
-cast-at c = omega (arith, c .slice-known2 .given (c .before .before .loop .i))
-
 -- it has a number
-node : (c : tie.In-loop Inv-loop μ-loop) → getD (c .before .loop .queue) (c .before .loop .i) 0 < length (now (begun (c .before) .args .component-of))
+node : (c : tie.In-loop Inv-loop μ-loop) → getD (c .before .loop .queue) (c .before .loop .i) 0 < length (now (begun (c .before) .args .numbers))
 unfolding Below
 node c =
     let l = c .before .loop in
     let s = begun (c .before) in
-    subst (λ (v : ℕ). v < length (now (s .args .component-of))) (getD-take (s .args .k) (now (s .args .queue)) (l .i) 0 (c .loop-test .taken) ∙ sym (l .inv .4 (l .i) (le-refl _)))
+    subst (λ (v : ℕ). v < length (now (s .args .numbers))) (getD-take (s .args .k) (now (s .args .queue)) (l .i) 0 (c .loop-test .taken) ∙ sym (l .inv .4 (l .i) (le-refl _)))
     (s .pre .2 (l .i) (rw (length-take-le (s .args .k) (now (s .args .queue)) (s .pre .0)) (c .loop-test .taken)))
-
-mul-queue : tie.Need-mul-queue Inv-loop μ-loop
-mul-queue c = omega (arith, room (c .before))
-
-slice-write-queue : tie.Need-slice-write-queue Inv-loop μ-loop
-slice-write-queue c = omega (arith, room (c .before))
-
-mul-counted : tie.Need-mul-counted Inv-loop μ-loop
-mul-counted c = omega (arith, node (c .before), c .slice-known2 .given (c .before .before .loop .i))
-
-shared-slice-read-counted : tie.Need-shared-slice-read-counted Inv-loop μ-loop
-shared-slice-read-counted c = node (c .before .before)
-
-counted-requires : tie.Need-counted-requires Inv-loop μ-loop
-counted-requires c κs = omega (arith, room (c .before .before), c .before .before .before .loop .inv .1)
 
 abbrev turn : tie.After-counted Inv-loop μ-loop → tie.In-loop Inv-loop μ-loop
 turn c = c .before .before .before
-
-add-i : tie.Need-add-i Inv-loop μ-loop
-add-i c = omega (arith, room (turn c))
-
-loop-less : tie.Need-loop-less Inv-loop μ-loop
-loop-less c = omega arith
 
 loop-again : tie.Need-loop-again Inv-loop μ-loop
 loop-again c =
@@ -97,7 +67,7 @@ loop-again c =
     let a = begun (here .before) .args in
     let r = room here in
     let v = getD (l .queue) (l .i) 0 in
-    let p : ℕ → Bool = λ w. eqb (getD (now (a .component-of)) w 0) (a .x) in (
+    let p : ℕ → Bool = numbered (now (a .numbers)) (a .x) in (
       omega (arith, here .loop-test .taken),
       omega (arith, c .counted .ensures, cond-le (p v), l .inv .1),
       length-set (l .queue) (l .kept) v ∙ l .inv .2,
@@ -105,33 +75,20 @@ loop-again c =
       λ j h. getD-set-other (l .queue) (l .kept) j v 0 (λ e. omega (arith, l .inv .1)) ∙ l .inv .4 j (omega arith),
     )
 
-same-length : tie.Need-same-length Inv-loop μ-loop
-same-length c = c .before .loop .inv .2
-
 returns : tie.Need-returns Inv-loop μ-loop
 returns c =
     let l = c .before .loop in
     let s = begun (c .before) in
     let e : l .i ≡ s .args .k = omega (arith, c .loop-test .left, l .inv .0) in
-    (omega (arith, l .inv .1, l .inv .0, l .inv .2, s .pre .0), l .inv .3 ∙ ap (λ (m : ℕ). having (λ v. eqb (getD (now (s .args .component-of)) v 0) (s .args .x)) (take m (now (s .args .queue)))) e)
+    (omega (arith, l .inv .1, l .inv .0, l .inv .2, s .pre .0), l .inv .3 ∙ ap (λ (m : ℕ). having (numbered (now (s .args .numbers)) (s .args .x)) (take m (now (s .args .queue)))) e)
 
 pub keep-spec : {M : Type 1} → statement M
 keep-spec =
     tie.close
-    (tie.spec
-    Inv-loop
-    μ-loop
-    loop-holds
-    mul-v
-    slice-read-v
-    cast-at
-    mul-queue
-    slice-write-queue
-    mul-counted
-    shared-slice-read-counted
-    counted-requires
-    add-i
-    loop-less
-    loop-again
-    same-length
-    returns)
+    (tie.spec Inv-loop μ-loop loop-holds (λ c. omega (arith, room c)) (λ c. omega (arith, room (c .before)))
+    (λ c. omega (arith, c .slice-known2 .given (c .before .before .loop .i))) (λ c. omega (arith, room (c .before)))
+    (λ c. omega (arith, room (c .before)))
+    (λ c. omega (arith, node (c .before), c .slice-known2 .given (c .before .before .loop .i)))
+    (λ c. node (c .before .before))
+    (λ c κs. omega (arith, room (c .before .before), c .before .before .before .loop .inv .1))
+    (λ c. omega (arith, room (turn c))) (λ c. omega arith) loop-again (λ c. c .before .loop .inv .2) returns)

@@ -1,7 +1,7 @@
--- `place_components::counted` meets its contract: one more exactly where the number is x. Assumes nothing.
+-- `graph_gather::counted` meets its contract: one more exactly where the number is x. Assumes nothing.
 use Rattle.base_lists.specs.Kit.{arith, needs, eq-eqb, ne-eqb}
-use Rattle.place_components.proofs.counted.Statement.{statement}
-use Rattle.place_components.proofs.counted.Tie as tie
+use Rattle.graph_gather.proofs.counted.Statement.{statement}
+use Rattle.graph_gather.proofs.counted.Tie as tie
 
 returns : tie.Need-returns
 returns c = let a = c .before .args in rw (eq-eqb (a .number) (a .x) (c .if1 .taken))
