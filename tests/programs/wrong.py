@@ -60,16 +60,16 @@ SHELF = [
     Wrong("the other standard stream", "shelf", "libc::write(fd, rest)", "libc::write(2, rest)", "output"),
     Wrong("a file that opens taken for one that does not", "shelf", "    fd >= 0", "    fd >= 64", "input"),
     Wrong("silent", "shelf", "    shelve(&mut", "    return;\n    shelve(&mut"),
-    Wrong("nothing opened", "shelf", "    input::load(name, buf)", "    FileFound::Absent"),
+    Wrong("nothing opened", "shelf", "    input::load(name, buf)", "    FileFound::Absent", "shelf_files"),
     Wrong("nothing printed", "shelf", "output::write_whole(text)", "Output::Written(text.len())"),
     Wrong("the lines twice", "shelf", "output::write_whole(text)", "output::write_whole(text);\n    output::write_whole(text)"),
     Wrong("a line more", "shelf", "    let answer = output::write_whole(text)", '    output::write_whole(b"99\\n");\n    let answer = output::write_whole(text)'),
-    Wrong("a gap read over", "shelf", "    let found = load(i, &mut bytes[at..end]);", GAP_READ_OVER),
+    Wrong("a gap read over", "shelf", "    let found = load(i, &mut bytes[at..end]);", GAP_READ_OVER, "shelf_files"),
     Wrong("an empty file taken for a gap", "shelf", "    FileFound::Bytes(size)\n", EMPTY_FOR_A_GAP, "input"),
 ]
 LOADER = [
     Wrong("silent", "loader", "    let run = print_asked_for(", "    return;\n    let run = print_asked_for("),
-    Wrong("a word read twice", "loader", "    let second = hear(2, n);", "    let second = hear(3, n);"),
+    Wrong("a word read twice", "loader", "    let second = hear(2, n);", "    let second = hear(3, n);", "loader_words"),
     Wrong("nothing printed", "loader", "output::write_whole(bytes)", "Output::Written(bytes.len())"),
     Wrong("the file twice", "loader", "output::write_whole(bytes)", "output::write_whole(bytes);\n    output::write_whole(bytes)"),
 ]
@@ -122,7 +122,7 @@ def fail_reading(crates: pathlib.Path) -> None:
 
 
 CONDITIONS = [
-    (store_seventeen, Wrong("the 17th file read", "shelf", "    while i < FILES {", "    while i < FILES + 1 {")),
+    (store_seventeen, Wrong("the 17th file read", "shelf", "    while i < FILES {", "    while i < FILES + 1 {", "shelf_files")),
     (store_long, Wrong("a full buffer read on, and another not", "shelf", "    if size == room {", "    if size != room {", "input")),
     (close_input, Wrong("a file that opens as 0 taken for unreadable", "shelf", "    fd >= 0", "    fd >= 1", "input")),
     (fail_reading, Wrong("a last read of no byte", "shelf", "    let mut more = [0u8; 1];", "    let mut more = [0u8; 0];", "input")),

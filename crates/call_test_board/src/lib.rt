@@ -2,8 +2,8 @@
 use crate::make::make;
 use file_format::File;
 use file_format::Refusal;
+use test_board::in_range;
 ghost use mathlib.Core.Path.{_≡_};
-ghost use Rattle.test_board.specs.Board.{sizesInRange};
 ghost use Rattle.call_test_board.specs.Call.{testBoardReply, makingTestBoard};
 
 mod make;
@@ -12,25 +12,6 @@ mod make;
 pub enum TestBoardAnswer {
     Made(usize),
     Refused(Refusal),
-}
-
-// Whether the numbers of nodes, links and kinds are in their ranges.
-fn in_range(n: u32, m: u32, k: u32) -> bool
-    ensures { λ r. ⌜ r ≡ sizesInRange n m k ⌝ }
-{
-    if n < 1 {
-        return false;
-    }
-    if n > 512 {
-        return false;
-    }
-    if m > 4096 {
-        return false;
-    }
-    if k < 1 {
-        return false;
-    }
-    k <= 65536
 }
 
 fn refused(number: u8) -> TestBoardAnswer

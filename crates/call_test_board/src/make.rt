@@ -4,7 +4,7 @@ use file_format::Board;
 use file_format::Role;
 use file_write::WriteAnswer;
 use test_board::draw_test_board;
-use test_board::pairs::collect_links;
+use test_board_links::collect_links;
 ghost use Prim.Native.Nat.{_≤_};
 ghost use lib.ListN.{length};
 ghost use Rattle.file_format.specs.declared.Edition.the-variants as editions;

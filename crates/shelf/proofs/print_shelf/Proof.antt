@@ -10,9 +10,9 @@ use Rattle.base_text.specs.Text.{Fits}
 use Rattle.call_shelf.specs.Strings.{cutInto}
 use Rattle.call_shelf.specs.Text.{shelfText}
 use Rattle.call_shelf.specs.Shelf.{shelfOf}
-use Rattle.shelf.specs.declared.Taken.{Taken}
+use Rattle.shelf_files.specs.declared.Taken.{Taken}
 use Rattle.shelf.specs.Printing.{shelfTextOf, printedAt, printedOf, ShelfHanded}
-use Rattle.shelf.proofs.Reading.{few-files}
+use Rattle.shelf_files.proofs.Reading.{few-files}
 use Rattle.shelf.proofs.Printing.{ordered-numbers, ordered-few, text-room, text-prefix, text-size, handed-prefix}
 use borrow.Author.Needs.{needs}
 use Rattle.shelf.proofs.print_shelf.Statement.{statement}

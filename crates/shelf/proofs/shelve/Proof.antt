@@ -3,10 +3,10 @@ use mathlib.Core.Path.{_≡_, sym, _∙_}
 use native.Mathlib.Omega.{arith}
 use lib.ListN.{length}
 use Rattle.call_shelf.specs.Shelf.{mostFiles}
-use Rattle.shelf.specs.declared.Taken.the-variants as taken
-use Rattle.shelf.specs.Reading.{shelfEnd}
+use Rattle.shelf_files.specs.declared.Taken.the-variants as taken
+use Rattle.shelf_files.specs.Reading.{shelfEnd}
 use Rattle.shelf.specs.Printing.{ShelfRan}
-use Rattle.shelf.proofs.Reading.{unreadable-under}
+use Rattle.shelf_files.proofs.Reading.{unreadable-under}
 use Rattle.shelf.proofs.Printing.{ran-begun}
 use borrow.Author.Needs.{needs}
 use Rattle.shelf.proofs.shelve.Statement.{statement}

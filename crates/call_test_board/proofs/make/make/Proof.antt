@@ -8,7 +8,7 @@ use Rattle.file_write.specs.declared.WriteAnswer.the-variants.{Written}
 use Rattle.file_write.specs.Writing.{WriteOutcome, writeReply}
 use Rattle.test_board.specs.Board.{testBoard}
 use Rattle.test_board.proofs.Board.{testBoard-nodes, testBoard-parallel}
-use Rattle.test_board.specs.Marks.{AllBelow}
+use Rattle.test_board_links.specs.Marks.{AllBelow}
 use Rattle.call_test_board.specs.declared.TestBoardAnswer.the-variants.{Made}
 use Rattle.call_test_board.specs.Call.{testBoardBytes}
 use Rattle.call_test_board.proofs.Making.{pairs-below, links-count, fronts, written, written-size, written-not-refused}
