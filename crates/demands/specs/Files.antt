@@ -19,8 +19,7 @@ use Rattle.call_test_board.specs.Call.{makingTestBoard}
 use Rattle.call_distance.specs.Calls.{ballConditions}
 use Rattle.call_bounded.specs.Call.{boundedMatching}
 use Rattle.call_barring.specs.Call.{barCall}
-use Rattle.call_file.specs.Told.{asRole}
-use Rattle.heronditch_told.specs.Told.{told, isThird, roleOf, directionOf}
+use Rattle.heronditch_told.specs.Told.{told, isThird, roleOf, directionOf, asRole}
 use Rattle.demands.specs.Cutting.{cutReplies}
 use Rattle.demands.specs.Examples.{Statements, done, _also_}
 

@@ -1,11 +1,9 @@
 -- The calls as a host program sees them: each reply is a struct of numbers, in which number 0 stands for acceptance. What is below gives
 -- document 01's reply in that form; the calls themselves are those of the crates below.
-use Rattle.base_lists.specs.Kit.{cond, List, [], _∷_, ℕ, length}
+use Rattle.base_lists.specs.Kit.{cond, List, ℕ}
 use Rattle.file_format.specs.Layout.{CircuitFile}
-use Rattle.file_format.specs.Reading.{ReadOutcome, filled}
-use Rattle.file_format.specs.Refusals.{first, shortTable}
-use Rattle.file_format.specs.Reply as files
-use Rattle.heronditch_reply.specs.Replies.{verdictNumber, meantFile, slots, counted, pieced}
+use Rattle.file_format.specs.Reading.{ReadOutcome}
+use Rattle.heronditch_reply.specs.Replies.{HostOut, verdictNumber, meantFile, slots, counted, pieced}
 use Rattle.call_convert.specs.Call.{ConvertOutcome}
 use Rattle.call_distance.specs.Calls.{BallOutcome}
 use Rattle.file_write.specs.Writing.{WriteOutcome}
@@ -34,10 +32,6 @@ pub record HostRead : Type 0 where
 
 unfoldable pub hostRead : ReadOutcome → HostRead
 hostRead o = record { reply = slots (o .reply); kinds = o .kinds; packages = o .packages; starts = o .starts; ends = o .ends }
-
-pub record HostOut : Type 0 where
-  pub reply : HostReply
-  pub out : List ℕ
 
 unfoldable pub hostWrite : WriteOutcome → HostOut
 hostWrite o = record { reply = slots (o .reply); out = o .out }
@@ -98,10 +92,3 @@ hostCompare answer =
 
 unfoldable pub hostShelf : ShelfOutcome → HostOut
 hostShelf o = record { reply = slots (o .reply); out = o .order }
-
--- The neighbour lookup hands out a stretch of one of two tables. C has no form for that: the stretch is copied to the front of the lent
--- table, and its length replied; 8 where it does not fit.
-unfoldable pub hostNeighbours : List ℕ → List ℕ → HostOut
-hostNeighbours part out =
-    let verdict = first (shortTable (length part) (length out) ∷ []) in
-    record { reply = slots (files.reply verdict (length part ∷ [])); out = filled verdict part out }

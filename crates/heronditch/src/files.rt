@@ -4,27 +4,23 @@ ghost use Rattle.file_format.specs.Reading.{reading};
 ghost use Rattle.file_write.specs.Writing.{writing};
 ghost use Rattle.graph_neighbours.specs.Lookup.{neighboursOf};
 ghost use Rattle.call_convert.specs.Call.{converting};
-ghost use Rattle.call_file.specs.Told.{asRole};
 ghost use Rattle.call_distance.specs.Calls.{radiusCall, ballCall};
 ghost use Rattle.call_test_board.specs.Call.{makingTestBoard};
 ghost use Rattle.call_merge.specs.Call.{merging};
-ghost use Rattle.heronditch.specs.Host.{hostRead, hostWrite, hostConvert, hostBall, hostMerge, hostTestBoard, hostNeighbours};
-ghost use Rattle.heronditch_reply.specs.Replies.{slots};
-ghost use Rattle.heronditch_told.specs.Told.{told, editionOf, roleOf, directionOf};
-use call_file::as_role;
-use file_format::TOO_SHORT;
-use graph::copy;
+ghost use Rattle.heronditch.specs.Host.{hostRead, hostWrite, hostConvert, hostBall, hostMerge, hostTestBoard};
+ghost use Rattle.heronditch_reply.specs.Replies.{slots, hostNeighbours};
+ghost use Rattle.heronditch_told.specs.Told.{told, editionOf, roleOf, directionOf, asRole};
+use crate::replies::of_ball;
+use crate::replies::of_convert;
+use crate::replies::of_merge;
+use crate::replies::of_radius;
+use crate::replies::of_test_board;
+use crate::replies::of_write;
 use graph_neighbours::neighbours::neighbours;
 use heronditch_reply::HostReply;
-use heronditch_reply::accepted;
-use heronditch_reply::of_ball;
-use heronditch_reply::of_convert;
-use heronditch_reply::of_merge;
-use heronditch_reply::of_radius;
+use heronditch_reply::copy_out;
 use heronditch_reply::of_read;
-use heronditch_reply::of_test_board;
-use heronditch_reply::of_write;
-use heronditch_reply::refused;
+use heronditch_told::as_role;
 use heronditch_told::direction_of;
 use heronditch_told::edition_of;
 use heronditch_told::role_of;
@@ -112,17 +108,6 @@ pub extern "C" fn heronditch_test_board(
     ensures { λ r. ⌜ record { reply = r; out = now (out .exit) } ≡ hostTestBoard (makingTestBoard seed n m k (now (out .entry))) ⌝ }
 {
     of_test_board(call_test_board::test_board(seed, n, m, k, out))
-}
-
-// A stretch of a table, copied out.
-fn copy_out(part: &[u16], out: &mut [u16]) -> HostReply
-    ensures { λ r. ⌜ record { reply = r; out = now (out .exit) } ≡ hostNeighbours (now (part .entry)) (now (out .entry)) ⌝ }
-{
-    if out.len() < part.len() {
-        return refused(TOO_SHORT);
-    }
-    copy(part, out);
-    accepted(part.len(), 0)
 }
 
 // Looks up what a node drives, or what drives it: a stretch of the forward or of the backward table, copied to the front of `out`. Replies with its

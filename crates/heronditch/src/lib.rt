@@ -5,6 +5,7 @@ ghost use mathlib.Core.Path.{_≡_};
 pub mod cutting;
 pub mod files;
 pub mod places;
+mod replies;
 pub mod shelf;
 pub mod whole;
 

@@ -10,19 +10,17 @@ ghost use Rattle.call_report.specs.Call.{reporting};
 ghost use Rattle.heronditch.specs.Host.{hostPlace, hostBar, hostReport};
 ghost use Rattle.heronditch_reply.specs.Replies.{slots};
 ghost use Rattle.heronditch_told.specs.Told.{told};
+use crate::replies::of_bar;
+use crate::replies::of_check;
+use crate::replies::of_place;
+use crate::replies::of_report;
 use call_place::Question;
 use call_place::Reach;
 use heronditch_reply::Counted;
 use heronditch_reply::HostReply;
 use heronditch_reply::Piece;
-use heronditch_reply::of_bar;
-use heronditch_reply::of_check;
-use heronditch_reply::of_place;
-use heronditch_reply::of_report;
 use heronditch_told::editions_of;
-
-// The number of the first edition, which document 02's C call and report still read.
-const FIRST: u32 = 1;
+use heronditch_told::first_edition;
 
 // Finds the pattern around a node of the board, at the pattern's radius: the place's nodes and links, its table, and each node's distance from the
 // centre. The counts are those of the whole ball.
@@ -93,11 +91,12 @@ pub extern "C" fn heronditch_place(
         (radiusOf (circuitOf (firstEdition (now (pattern .entry)))))
         (now (nodes .entry)) (now (links .entry)) (now (table .entry)) (now (distances .entry))) ⌝ }
 {
+    let first = first_edition();
     heronditch_place_editions(
         pattern,
-        FIRST,
+        first,
         board,
-        FIRST,
+        first,
         centre,
         nodes,
         links,
@@ -122,11 +121,12 @@ pub extern "C" fn heronditch_place_within(
         ≡ hostPlace (placeAt (firstEdition (now (pattern .entry))) (firstEdition (now (board .entry))) centre radius
         (now (nodes .entry)) (now (links .entry)) (now (table .entry)) (now (distances .entry))) ⌝ }
 {
+    let first = first_edition();
     heronditch_place_within_editions(
         pattern,
-        FIRST,
+        first,
         board,
-        FIRST,
+        first,
         centre,
         radius,
         nodes,
@@ -218,5 +218,6 @@ pub extern "C" fn heronditch_report(
     ensures { λ r. ⌜ record { reply = r; out = now (out .exit) }
         ≡ hostReport (reporting (firstEdition (now (pattern .entry))) (firstEdition (now (board .entry))) from found (now (out .entry))) ⌝ }
 {
-    heronditch_report_editions(pattern, FIRST, board, FIRST, from, found, out)
+    let first = first_edition();
+    heronditch_report_editions(pattern, first, board, first, from, found, out)
 }

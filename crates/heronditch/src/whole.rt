@@ -4,10 +4,11 @@ ghost use Rattle.call_bounded.specs.Call.{boundedMatching};
 ghost use Rattle.call_match.specs.Call.{oneWayMatching};
 ghost use Rattle.heronditch.specs.Host.{matchingTold, hostMatch};
 ghost use Rattle.heronditch_told.specs.Told.{told};
+use crate::replies::of_match;
 use heronditch_reply::Counted;
-use heronditch_reply::of_match;
 use heronditch_told::edition_of;
 use heronditch_told::editions_of;
+use heronditch_told::is_third;
 
 // The whole-board call on a pattern of the third edition, whose links have bounds. It is exported for the stack's sake alone: so the compiler keeps it a
 // function of its own, and heronditch_match has no room for both ways of matching at once. library/combine keeps its name inside the archive.
@@ -37,7 +38,7 @@ pub extern "C" fn heronditch_match(
     ensures { λ r. ⌜ record { reply = r; table = now (table .exit) }
         ≡ hostMatch (matchingTold (now (pattern .entry)) «pattern_edition» (told (now (board .entry)) «board_edition») (now (table .entry))) ⌝ }
 {
-    if 2 < pattern_edition {
+    if is_third(pattern_edition) {
         return heronditch_match_third(pattern, board, board_edition, table);
     }
     let editions = editions_of(pattern_edition, board_edition);

@@ -7,8 +7,10 @@ use lib.Dec.{ltb}
 use Rattle.file_format.specs.declared.Edition.{Edition}
 use Rattle.file_format.specs.declared.Edition.the-variants.{First, Second}
 use Rattle.file_format.specs.Layout.{CircuitFile, inEdition}
-use Rattle.call_file.specs.declared.FileRole.{FileRole}
-use Rattle.call_file.specs.declared.FileRole.the-variants.{Pattern, Board}
+use Rattle.file_format.specs.declared.Role.{Role}
+use Rattle.file_format.specs.declared.Role.the-variants as role
+use Rattle.heronditch_told.specs.declared.FileRole.{FileRole}
+use Rattle.heronditch_told.specs.declared.FileRole.the-variants.{Pattern, Board}
 use Rattle.graph_neighbours.specs.declared.neighbours.Direction.{Direction}
 use Rattle.graph_neighbours.specs.declared.neighbours.Direction.the-variants.{Forward, Backward}
 
@@ -27,6 +29,11 @@ told bytes edition = inEdition (editionOf edition) bytes
 -- "Reading and writing are told the role": 1 a pattern, 2 a board
 unfoldable pub roleOf : ℕ → FileRole
 roleOf number = cond (ltb number 2) Pattern Board
+
+-- the role by which it is read and written: of a pattern 6 is asked, and 11
+unfoldable pub asRole : FileRole → Role
+asRole Pattern = role.Pattern
+asRole Board = role.Board
 
 -- "The neighbour lookup, told a direction": 1 what a node drives, 2 what drives it
 unfoldable pub directionOf : ℕ → Direction
