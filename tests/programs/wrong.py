@@ -61,17 +61,17 @@ SHELF = [
     Wrong("a file that opens taken for one that does not", "shelf", "    fd >= 0", "    fd >= 64", "input"),
     Wrong("silent", "shelf", "    shelve(&mut", "    return;\n    shelve(&mut"),
     Wrong("nothing opened", "shelf", "    input::load(name, buf)", "    FileFound::Absent", "shelf_files"),
-    Wrong("nothing printed", "shelf", "output::write_whole(text)", "Output::Written(text.len())"),
-    Wrong("the lines twice", "shelf", "output::write_whole(text)", "output::write_whole(text);\n    output::write_whole(text)"),
-    Wrong("a line more", "shelf", "    let answer = output::write_whole(text)", '    output::write_whole(b"99\\n");\n    let answer = output::write_whole(text)'),
+    Wrong("nothing printed", "shelf", "output::hand(handed, text)", "true"),
+    Wrong("the lines twice", "shelf", "output::hand(handed, text)", "output::write_whole(text);\n    output::hand(handed, text)"),
+    Wrong("a line more", "shelf", "    output::hand(handed, text)", '    output::write_whole(b"99\\n");\n    output::hand(handed, text)'),
     Wrong("a gap read over", "shelf", "    let found = load(i, &mut bytes[at..end]);", GAP_READ_OVER, "shelf_files"),
     Wrong("an empty file taken for a gap", "shelf", "    FileFound::Bytes(size)\n", EMPTY_FOR_A_GAP, "input"),
 ]
 LOADER = [
     Wrong("silent", "loader", "    let run = print_asked_for(", "    return;\n    let run = print_asked_for("),
     Wrong("a word read twice", "loader", "    let second = hear(2, n);", "    let second = hear(3, n);", "loader_words"),
-    Wrong("nothing printed", "loader", "output::write_whole(bytes)", "Output::Written(bytes.len())"),
-    Wrong("the file twice", "loader", "output::write_whole(bytes)", "output::write_whole(bytes);\n    output::write_whole(bytes)"),
+    Wrong("nothing printed", "loader", "output::hand(handed, bytes)", "true"),
+    Wrong("the file twice", "loader", "    if output::hand(handed, bytes)", "    output::write_whole(bytes);\n    if output::hand(handed, bytes)"),
 ]
 
 

@@ -1,5 +1,5 @@
 // Text into a table of bytes: each function writes from an offset on and returns the offset after what it wrote.
-ghost use mathlib.Core.List.{List};
+ghost use mathlib.Core.List.{List, _++_};
 ghost use mathlib.Core.Path.{_≡_};
 ghost use Prim.Native.Nat.{_+_, _≤_, _<_};
 ghost use lib.ListN.{length};
@@ -73,6 +73,15 @@ pub fn put_number(x: usize, out: &mut [u8], at: usize) -> usize
     }
     let next = put_number(x / 10, out, at);
     put_digit(x % 10, out, next)
+}
+
+// A word, and a number after it.
+pub fn put_numbered(word: &[u8], x: usize, out: &mut [u8], at: usize) -> usize
+    requires { ⌜ Fits (now out) at (now word ++ decimal x) ⌝ }
+    ensures { λ r. ⌜ Put (now (out .entry)) at (now (word .entry) ++ decimal x) (now (out .exit)) r ⌝ }
+{
+    let next = put_bytes(word, out, at);
+    put_number(x, out, next)
 }
 
 // The four bytes of a number, the low one first. Compiled, that is one store.

@@ -7,7 +7,6 @@ use loader_words::Told;
 use loader_words::Word;
 use loader_words::asked_by;
 use loader_words::read_words;
-use output::Output;
 ghost use mathlib.Core.Path.{_≡_};
 ghost use Prim.Native.Nat.{_≤_};
 ghost use lib.ListN.{length};
@@ -39,12 +38,10 @@ fn hand(seed: u32, n: u32, m: u32, k: u32, handed: &mut usize, bytes: &[u8]) -> 
     requires { ⌜ (now handed ≡ 0) × (now bytes ≡ testBoardBytes seed n m k) ⌝ }
     ensures { λ r. ⌜ WriteTried (length (now (bytes .entry))) (now (handed .exit)) r ⌝ }
 {
-    let answer = output::write_whole(bytes);
-    let Output::Written(size) = answer else {
-        return Printed::Failed;
-    };
-    *handed = size;
-    Printed::Whole
+    if output::hand(handed, bytes) {
+        return Printed::Whole;
+    }
+    Printed::Failed
 }
 
 // Makes the test board in a buffer that is long enough for each, and hands it on.

@@ -1,7 +1,7 @@
 // Careful writing. All of some bytes go to standard output, or the answer says that they did not. A write that takes only some of them is
 // gone on with, and one that was interrupted is tried again. After one that failed nothing more is written: what comes out is always a front
 // of the bytes.
-ghost use mathlib.Core.Bool.{true};
+ghost use mathlib.Core.Bool.{true, cond};
 ghost use mathlib.Core.Path.{_≡_};
 ghost use Prim.Native.Nat.{_≤_};
 ghost use lib.IntN.{pos};
@@ -73,4 +73,17 @@ pub fn write_whole(bytes: &[u8]) -> Output
         done += taken;
     }
     Output::Written(done)
+}
+
+// Hands bytes to standard output, to which nothing was handed before, and notes how many there are. The answer says whether they were taken.
+pub fn hand(handed: &mut usize, bytes: &[u8]) -> bool
+    requires { ⌜ now handed ≡ 0 ⌝ }
+    ensures { λ r. ⌜ now (handed .exit) ≡ cond r (length (now (bytes .entry))) 0 ⌝ }
+{
+    let answer = write_whole(bytes);
+    let Output::Written(size) = answer else {
+        return false;
+    };
+    *handed = size;
+    true
 }

@@ -2,35 +2,24 @@
 // node.
 ghost use mathlib.Core.Path.{_≡_};
 ghost use Prim.Native.Nat.{_+_, _≤_, _<_};
-ghost use lib.ListN.{length, getD};
+ghost use lib.ListN.{length};
 ghost use Rattle.base_text.specs.Text.{Put, Fits, Names};
-ghost use Rattle.base_lists.specs.List.{Below};
 ghost use Rattle.table.specs.Prepared.{tables, Ready};
 ghost use Rattle.report.specs.Report.{endLine, refusalLine, fileWord};
-ghost use Rattle.report.specs.Lines.{nodeText, nodesText, linkText, drivenText, startText, linksText, lineText, longestLine, longestRefusal};
+ghost use Rattle.report.specs.Lines.{longestLine, longestRefusal};
+ghost use Rattle.report_texts.specs.Texts.{nodesText, startText, linksText, bodyText, lineText};
 use base_text::put_byte;
 use base_text::put_bytes;
-use base_text::put_name;
-use base_text::put_number;
+use base_text::put_numbered;
 use file_format::File;
 use file_format::Refusal;
 use graph::is_reached;
 use graph_neighbours::neighbours::Direction;
 use graph_neighbours::neighbours::neighbours_in;
 use place::parts::driven_parts;
-
-// Node v, if the search reached it.
-fn put_node(names: &[u32], dist: &[u16], v: usize, out: &mut [u8], at: usize) -> usize
-    requires { ⌜ Names (now names) × (length (now dist) ≤ length (now names)) ⌝ }
-    requires { ⌜ v < length (now dist) ⌝ }
-    requires { ⌜ Fits (now out) at (nodeText (now dist) v) ⌝ }
-    ensures { λ r. ⌜ Put (now (out .entry)) at (nodeText (now (dist .entry)) v) (now (out .exit)) r ⌝ }
-{
-    if !is_reached(dist[v]) {
-        return at;
-    }
-    put_name(names, b' ', v, out, at)
-}
+use report_texts::put_driven;
+use report_texts::put_head;
+use report_texts::put_node;
 
 // Each node that the search reached.
 fn put_nodes(names: &[u32], dist: &[u16], out: &mut [u8], at: usize) -> usize
@@ -43,60 +32,6 @@ fn put_nodes(names: &[u32], dist: &[u16], out: &mut [u8], at: usize) -> usize
     while v < dist.len() {
         end = put_node(names, dist, v, out, end);
         v += 1;
-    }
-    end
-}
-
-// The link from v to w, if what the parts of v's set drive has a part of w's set.
-fn put_link(
-    names: &[u32],
-    driven: u32,
-    set: u32,
-    v: usize,
-    w: usize,
-    out: &mut [u8],
-    at: usize,
-) -> usize
-    requires { ⌜ Names (now names) × (v < length (now names)) × (w < length (now names)) ⌝ }
-    requires { ⌜ Fits (now out) at (linkText driven set v w) ⌝ }
-    ensures { λ r. ⌜ Put (now (out .entry)) at (linkText driven set v w) (now (out .exit)) r ⌝ }
-{
-    if !base_bits::meets(driven, set) {
-        return at;
-    }
-    let hyphen = put_name(names, b' ', v, out, at);
-    put_name(names, b'-', w, out, hyphen)
-}
-
-// The i-th node of a list.
-fn node_at(nodes: &[u16], i: usize) -> u16
-    requires { ⌜ i < length (now nodes) ⌝ }
-    ensures { λ r. ⌜ r ≡ getD (now (nodes .entry)) i 0 ⌝ }
-{
-    nodes[i]
-}
-
-// The links from v to the nodes of a list.
-fn put_driven(
-    names: &[u32],
-    nodes: &[u16],
-    driven: u32,
-    sets: &[u32],
-    v: usize,
-    out: &mut [u8],
-    at: usize,
-) -> usize
-    requires { ⌜ Names (now names) × (length (now sets) ≤ length (now names)) × (v < length (now names)) ⌝ }
-    requires { ⌜ Below (length (now sets)) (now nodes) ⌝ }
-    requires { ⌜ Fits (now out) at (drivenText driven (now sets) v (now nodes)) ⌝ }
-    ensures { λ r. ⌜ Put (now (out .entry)) at (drivenText driven (now (sets .entry)) v (now (nodes .entry))) (now (out .exit)) r ⌝ }
-{
-    let mut end = at;
-    let mut i = 0;
-    while i < nodes.len() {
-        let w = node_at(nodes, i) as usize;
-        end = put_link(names, driven, sets[w], v, w, out, end);
-        i += 1;
     }
     end
 }
@@ -155,6 +90,29 @@ fn put_links(
     end
 }
 
+// The rest of the line of a centre around which there is a place, after the colon.
+fn put_body(
+    names: &[u32],
+    masks: &[u32],
+    offsets: &[u16],
+    targets: &[u16],
+    dist: &[u16],
+    sets: &[u32],
+    out: &mut [u8],
+    at: usize,
+) -> usize
+    requires { ⌜ Names (now names) × (length (now dist) ≤ length (now names)) ⌝ }
+    requires { ⌜ length (now sets) ≡ length (now dist) ⌝ }
+    requires { ⌜ Ready (tables (now masks) (now offsets) (now targets)) (now sets) ⌝ }
+    requires { ⌜ Fits (now out) at (bodyText (tables (now masks) (now offsets) (now targets)) (now dist) (now sets)) ⌝ }
+    ensures { λ r. ⌜ Put (now (out .entry)) at (bodyText (tables (now (masks .entry)) (now (offsets .entry)) (now (targets .entry))) (now (dist .entry)) (now (sets .entry))) (now (out .exit)) r ⌝ }
+{
+    let slash = put_nodes(names, dist, out, at);
+    let after = put_bytes(b" /", out, slash);
+    let end = put_links(names, masks, offsets, targets, dist, sets, out, after);
+    put_byte(b'\n', out, end)
+}
+
 // The line of the centre c, around which there is a place.
 pub fn put_line(
     names: &[u32],
@@ -173,13 +131,8 @@ pub fn put_line(
     requires { ⌜ Fits (now out) at (lineText (tables (now masks) (now offsets) (now targets)) (now dist) (now sets) c) ⌝ }
     ensures { λ r. ⌜ Put (now (out .entry)) at (lineText (tables (now (masks .entry)) (now (offsets .entry)) (now (targets .entry))) (now (dist .entry)) (now (sets .entry)) c) (now (out .exit)) r ⌝ }
 {
-    let centre = put_bytes(b"place ", out, at);
-    let colon = put_number(c, out, centre);
-    let nodes = put_byte(b':', out, colon);
-    let slash = put_nodes(names, dist, out, nodes);
-    let after = put_bytes(b" /", out, slash);
-    let end = put_links(names, masks, offsets, targets, dist, sets, out, after);
-    put_byte(b'\n', out, end)
+    let colon = put_head(c, out, at);
+    put_body(names, masks, offsets, targets, dist, sets, out, colon)
 }
 
 // The last line: k of n centres have a place.
@@ -188,10 +141,8 @@ pub fn put_end(k: usize, n: usize, out: &mut [u8], at: usize) -> usize
     requires { ⌜ at + longestLine ≤ length (now out) ⌝ }
     ensures { λ r. ⌜ Put (now (out .entry)) at (endLine k n) (now (out .exit)) r ⌝ }
 {
-    let count = put_bytes(b"end ", out, at);
-    let of = put_number(k, out, count);
-    let all = put_bytes(b" of ", out, of);
-    let end = put_number(n, out, all);
+    let of = put_numbered(b"end ", k, out, at);
+    let end = put_numbered(b" of ", n, out, of);
     put_byte(b'\n', out, end)
 }
 
@@ -212,8 +163,7 @@ pub fn put_refusal(x: Refusal, out: &mut [u8], at: usize) -> usize
     requires { ⌜ at + longestRefusal ≤ length (now out) ⌝ }
     ensures { λ r. ⌜ Put (now (out .entry)) at (refusalLine x) (now (out .exit)) r ⌝ }
 {
-    let number = put_bytes(b"refused ", out, at);
-    let file = put_number(x.number as usize, out, number);
+    let file = put_numbered(b"refused ", x.number as usize, out, at);
     let meant = x.file;
     let end = put_file(meant, out, file);
     put_byte(b'\n', out, end)

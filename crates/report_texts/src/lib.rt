@@ -1,16 +1,18 @@
-// A line's text once more, for another centre: its head is put anew, and what follows is copied from where it stands in the buffer.
+// The pieces of a line of the report, each put into a table of bytes from an offset on; the offset after the piece is returned. A line has a head, the
+// nodes and the links of its place. For another centre its head is put anew, and what follows is copied from where it stands in the buffer.
 ghost use mathlib.Core.Bool.{cond};
 ghost use mathlib.Core.List.{_++_};
 ghost use mathlib.Core.Path.{_≡_};
 ghost use Prim.Native.Nat.{_+_, _-_, _≤_, _<_};
-ghost use lib.ListN.{length};
-ghost use Rattle.base_lists.specs.List.{part};
-ghost use Rattle.base_text.specs.Text.{Put, Fits};
-ghost use Rattle.report_texts.specs.Texts.{headText, under, noting};
+ghost use lib.ListN.{length, getD};
+ghost use Rattle.base_lists.specs.List.{Below, part};
+ghost use Rattle.base_text.specs.Text.{Put, Fits, Names};
+ghost use Rattle.report_texts.specs.Texts.{nodeText, linkText, drivenText, headText, under, noting};
 use base_text::put_byte;
-use base_text::put_bytes;
-use base_text::put_number;
+use base_text::put_name;
+use base_text::put_numbered;
 use file_format::Board;
+use graph::is_reached;
 
 // The largest number of 32 bits.
 const FURTHEST: usize = 4294967295;
@@ -20,8 +22,7 @@ pub fn put_head(c: usize, out: &mut [u8], at: usize) -> usize
     requires { ⌜ Fits (now out) at (headText c) ⌝ }
     ensures { λ r. ⌜ Put (now (out .entry)) at (headText c) (now (out .exit)) r ⌝ }
 {
-    let centre = put_bytes(b"place ", out, at);
-    let colon = put_number(c, out, centre);
+    let colon = put_numbered(b"place ", c, out, at);
     put_byte(b':', out, colon)
 }
 
@@ -37,6 +38,73 @@ pub fn head_bytes(c: usize) -> usize
         return 9;
     }
     10
+}
+
+// Node v, if the search reached it. `names` has a name for each node.
+pub fn put_node(names: &[u32], dist: &[u16], v: usize, out: &mut [u8], at: usize) -> usize
+    requires { ⌜ Names (now names) × (length (now dist) ≤ length (now names)) ⌝ }
+    requires { ⌜ v < length (now dist) ⌝ }
+    requires { ⌜ Fits (now out) at (nodeText (now dist) v) ⌝ }
+    ensures { λ r. ⌜ Put (now (out .entry)) at (nodeText (now (dist .entry)) v) (now (out .exit)) r ⌝ }
+{
+    if !is_reached(dist[v]) {
+        return at;
+    }
+    put_name(names, b' ', v, out, at)
+}
+
+// The link from v to w, if what the parts of v's set drive has a part of w's set.
+fn put_link(
+    names: &[u32],
+    driven: u32,
+    set: u32,
+    v: usize,
+    w: usize,
+    out: &mut [u8],
+    at: usize,
+) -> usize
+    requires { ⌜ Names (now names) × (v < length (now names)) × (w < length (now names)) ⌝ }
+    requires { ⌜ Fits (now out) at (linkText driven set v w) ⌝ }
+    ensures { λ r. ⌜ Put (now (out .entry)) at (linkText driven set v w) (now (out .exit)) r ⌝ }
+{
+    if !base_bits::meets(driven, set) {
+        return at;
+    }
+    let hyphen = put_name(names, b' ', v, out, at);
+    put_name(names, b'-', w, out, hyphen)
+}
+
+// The i-th node of a list.
+fn node_at(nodes: &[u16], i: usize) -> u16
+    requires { ⌜ i < length (now nodes) ⌝ }
+    ensures { λ r. ⌜ r ≡ getD (now (nodes .entry)) i 0 ⌝ }
+{
+    nodes[i]
+}
+
+// The links from v to the nodes of a list.
+pub fn put_driven(
+    names: &[u32],
+    nodes: &[u16],
+    driven: u32,
+    sets: &[u32],
+    v: usize,
+    out: &mut [u8],
+    at: usize,
+) -> usize
+    requires { ⌜ Names (now names) × (length (now sets) ≤ length (now names)) × (v < length (now names)) ⌝ }
+    requires { ⌜ Below (length (now sets)) (now nodes) ⌝ }
+    requires { ⌜ Fits (now out) at (drivenText driven (now sets) v (now nodes)) ⌝ }
+    ensures { λ r. ⌜ Put (now (out .entry)) at (drivenText driven (now (sets .entry)) v (now (nodes .entry))) (now (out .exit)) r ⌝ }
+{
+    let mut end = at;
+    let mut i = 0;
+    while i < nodes.len() {
+        let w = node_at(nodes, i) as usize;
+        end = put_link(names, driven, sets[w], v, w, out, end);
+        i += 1;
+    }
+    end
 }
 
 // The bytes from `from` up to `to` once more, after them.

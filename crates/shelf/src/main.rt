@@ -4,7 +4,6 @@
 // printed is then a front of them.
 use call_shelf::FILES;
 use call_shelf::ShelfAnswer;
-use output::Output;
 use shelf_files::SHELF_BYTES;
 use shelf_files::Taken;
 use shelf_files::cannot_read;
@@ -32,12 +31,7 @@ fn hand(bytes: &[u8], notes: &[u32], handed: &mut usize, text: &[u8]) -> bool
     requires { ⌜ (now handed ≡ 0) × (now text ≡ printedOf (now bytes) (now notes)) ⌝ }
     ensures { λ r. ⌜ now (handed .exit) ≡ cond r (length (now (text .entry))) 0 ⌝ }
 {
-    let answer = output::write_whole(text);
-    let Output::Written(size) = answer else {
-        return false;
-    };
-    *handed = size;
-    true
+    output::hand(handed, text)
 }
 
 // Puts the files in order and hands their lines on, by way of a table for their numbers and a buffer for the lines. The answer says whether they were

@@ -4,7 +4,7 @@ use Rattle.base_text.proofs.Text.{put-nothing, put-same, fits-same}
 use Rattle.graph_neighbours.specs.Lookup.{neighboursIn}
 use Rattle.graph_neighbours.proofs.Lookup.{neighbours-below}
 use Rattle.table.specs.Prepared.{tables, Tables}
-use Rattle.report.specs.Lines.{startText, drivenText}
+use Rattle.report_texts.specs.Texts.{startText, drivenText}
 use Rattle.report.proofs.Pieces.{start-missed, start-reached}
 use Rattle.report.proofs.lines.put_start.Statement.{statement}
 use Rattle.report.proofs.lines.put_start.Tie as tie

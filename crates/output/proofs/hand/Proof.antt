@@ -1,8 +1,8 @@
--- `shelf::hand` meets its contract. Assumes nothing.
+-- `output::hand` meets its contract. Assumes nothing.
 use Rattle.output.specs.Writing.{All}
 use borrow.Author.Needs.{needs}
-use Rattle.shelf.proofs.hand.Statement.{statement}
-use Rattle.shelf.proofs.hand.Tie as tie
+use Rattle.output.proofs.hand.Statement.{statement}
+use Rattle.output.proofs.hand.Tie as tie
 
 returns-2 : tie.Need-returns-2
 unfolding All

@@ -1,11 +1,11 @@
--- `report::lines::put_link` meets its contract: the start after a space, and the end after a hyphen. Assumes nothing.
+-- `report_texts::put_link` meets its contract: the start after a space, and the end after a hyphen. Assumes nothing.
 use Rattle.base_lists.specs.Kit.{now, _≡_, _∙_, sym, _++_, _≤_, _+_, length, arith, needs, not-false, not-true}
 use Rattle.base_text.specs.Text.{bytes, decimal}
 use Rattle.base_text.proofs.Text.{put-nothing, put-then, put-same, put-length, fits-same}
-use Rattle.report.specs.Lines.{linkText}
-use Rattle.report.proofs.Pieces.{link-apart, link-meets, link-room}
-use Rattle.report.proofs.lines.put_link.Statement.{statement}
-use Rattle.report.proofs.lines.put_link.Tie as tie
+use Rattle.report_texts.specs.Texts.{linkText}
+use Rattle.report_texts.proofs.Items.{link-apart, link-meets, link-room}
+use Rattle.report_texts.proofs.put_link.Statement.{statement}
+use Rattle.report_texts.proofs.put_link.Tie as tie
 
 returns : tie.Need-returns
 returns c =

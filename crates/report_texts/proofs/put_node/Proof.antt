@@ -1,11 +1,11 @@
--- `report::lines::put_node` meets its contract: the node after a space. Assumes nothing.
+-- `report_texts::put_node` meets its contract: the node after a space. Assumes nothing.
 use Rattle.base_lists.specs.Kit.{now, _≡_, _∙_, sym, _++_, arith, needs, not-false, not-true}
 use Rattle.base_text.specs.Text.{bytes, decimal}
 use Rattle.base_text.proofs.Text.{put-nothing, put-same, fits-same}
-use Rattle.report.specs.Lines.{nodeText}
-use Rattle.report.proofs.Pieces.{node-missed, node-reached}
-use Rattle.report.proofs.lines.put_node.Statement.{statement}
-use Rattle.report.proofs.lines.put_node.Tie as tie
+use Rattle.report_texts.specs.Texts.{nodeText}
+use Rattle.report_texts.proofs.Items.{node-missed, node-reached}
+use Rattle.report_texts.proofs.put_node.Statement.{statement}
+use Rattle.report_texts.proofs.put_node.Tie as tie
 
 returns : tie.Need-returns
 returns c =

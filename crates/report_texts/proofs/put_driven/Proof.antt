@@ -1,4 +1,4 @@
--- `report::lines::put_driven` meets its contract. The loop's invariant: the links to the first i nodes of the list are put. The measure is how
+-- `report_texts::put_driven` meets its contract. The loop's invariant: the links to the first i nodes of the list are put. The measure is how
 -- many are left. Assumes nothing.
 use Rattle.base_lists.specs.Kit.{now, _≡_, ap, List, ℕ, _≤_, _<_, _-_, length, getD, arith, needs}
 use Rattle.base_lists.specs.Below.{concatBelow}
@@ -6,10 +6,10 @@ use Rattle.base_text.specs.Text.{Put}
 use Rattle.base_text.proofs.Text.{put-nothing, put-then, put-same, put-length, fits-then}
 use Rattle.base_lists.specs.List.{Below}
 use Rattle.base_lists.proofs.Concat.{concatBelow-next}
-use Rattle.report.specs.Lines.{linkText, drivenText}
-use Rattle.report.proofs.Concat.{fits-piece}
-use Rattle.report.proofs.lines.put_driven.Statement.{statement}
-use Rattle.report.proofs.lines.put_driven.Tie as tie
+use Rattle.report_texts.specs.Texts.{linkText, drivenText}
+use Rattle.report_texts.proofs.Items.{fits-piece}
+use Rattle.report_texts.proofs.put_driven.Statement.{statement}
+use Rattle.report_texts.proofs.put_driven.Tie as tie
 
 -- the link to the i-th node of the list
 abbrev linkTo : List ℕ → ℕ → List ℕ → ℕ → ℕ → List ℕ
