@@ -8,13 +8,13 @@ ghost use Rattle.file_format.specs.Layout.{inEdition};
 ghost use Rattle.file_format.specs.Refusals.{Verdict, first, lostPackage};
 ghost use Rattle.file_write.specs.Writing.{circuitConditions};
 ghost use Rattle.call_convert.specs.Call.{convertReply, convertOn, converting};
-use file_check::refusal;
 use file_format::Board;
 use file_format::Edition;
 use file_format::ReadAnswer;
 use file_format::Refusal;
 use file_format::Role;
 use file_read::read;
+use file_role::refusal;
 use file_write::WriteAnswer;
 use file_write::write;
 

@@ -43,6 +43,16 @@ pub fn store_at(file: &[u8], at: usize, k: usize, out: &mut [u16])
     store(stretch(file, at, k), k, out);
 }
 
+// The k fields that begin at an offset, and the j behind them, each stretch stored in its table.
+pub fn store_two(file: &[u8], at: usize, k: usize, first: &mut [u16], j: usize, second: &mut [u16])
+    requires { ⌜ (at + 2 * k + 2 * j ≤ length (now file)) × (k ≤ length (now first)) × (j ≤ length (now second)) ⌝ }
+    ensures { λ r. ⌜ now (first .exit) ≡ fields (drop at (now (file .entry))) k ++ drop k (now (first .entry)) ⌝ }
+    ensures { λ r. ⌜ now (second .exit) ≡ fields (drop (at + 2 * k) (now (file .entry))) j ++ drop j (now (second .entry)) ⌝ }
+{
+    store_at(file, at, k, first);
+    store_at(file, at + 2 * k, j, second);
+}
+
 // The i-th of a stretch of p packages; 0 where there are not so many.
 fn package_at(part: &[u8], p: usize, i: usize) -> u32
     requires { ⌜ 2 * p ≤ length (now part) ⌝ }

@@ -6,8 +6,6 @@ ghost use lib.Seq.{sets};
 ghost use Rattle.merge.specs.Merged.{leader};
 ghost use Rattle.merge_classes.specs.Passes.{SelfTable, leaderCount, classNumbers, leaderLabels};
 
-pub mod links;
-
 // The smallest part of u's class: the first of the parts that u's set has whose own set has u.
 fn leader(table: &[u32], u: usize) -> usize
     requires { ⌜ SelfTable (now table) ⌝ }

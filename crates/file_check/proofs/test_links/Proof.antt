@@ -4,12 +4,12 @@ use Rattle.base_lists.specs.Kit.{_∙_, sym, needs, not-false, not-true}
 use Rattle.base_lists.proofs.Tests.{true-T, false-T}
 use Rattle.file_format.proofs.Accepted.{starts-below, ends-below}
 use Rattle.file_format.proofs.Refusals.{ordered, number-order, range-asked}
-use Rattle.file_check.proofs.LinkTests.{pattern-number, unasked-number}
+use Rattle.file_check.proofs.Widths.{pattern-number, unasked-number}
 use Rattle.file_check.proofs.test_links.Statement.{statement}
 use Rattle.file_check.proofs.test_links.Tie as tie
 use Rattle.file_check.proofs.test_links.Reads as reads
 use Rattle.file_check.proofs.test_links.Lts as lts
-use Rattle.file_check.proofs.order_number.Reads as order-number-reads
+use Rattle.file_links.proofs.order_number.Reads as order-number-reads
 use Rattle.graph_radius.proofs.radius.Reads as radius-reads
 
 returns : tie.Need-returns
