@@ -1,5 +1,5 @@
--- The calls as a host program sees them: each reply is a struct of numbers, in which number 0 stands for acceptance. What is below gives
--- document 01's reply in that form; the calls themselves are those of the crates below.
+-- The calls as a host program sees them: each reply is a struct of numbers, in which number 0 stands for acceptance.
+-- What is below gives document 01's reply in that form; the calls themselves are those of the crates below.
 use Rattle.base_lists.specs.Kit.{cond, List, ℕ}
 use Rattle.file_format.specs.Layout.{CircuitFile}
 use Rattle.file_format.specs.Reading.{ReadOutcome}
@@ -30,6 +30,10 @@ pub record HostRead : Type 0 where
   pub starts : List ℕ
   pub ends : List ℕ
 
+abbrev pub readAs : HostReply → List ℕ → List ℕ → List ℕ → List ℕ → HostRead
+readAs r kinds packages starts ends =
+    record { reply = r; kinds = kinds; packages = packages; starts = starts; ends = ends }
+
 unfoldable pub hostRead : ReadOutcome → HostRead
 hostRead o = record { reply = slots (o .reply); kinds = o .kinds; packages = o .packages; starts = o .starts; ends = o .ends }
 
@@ -46,7 +50,8 @@ pub record HostTable : Type 0 where
   pub reply : Counted
   pub table : List ℕ
 
--- The whole-board call, told the pattern's edition by a number: "Only Ask 7's whole-board call takes this edition", the third.
+-- The whole-board call, told the pattern's edition by a number: "Only Ask 7's whole-board call takes this edition", the
+-- third.
 unfoldable pub matchingTold : List ℕ → ℕ → CircuitFile → List ℕ → TableOutcome
 matchingTold pattern edition board table = cond (isThird edition) (boundedMatching pattern board table) (matching (told pattern edition) board table)
 
@@ -59,6 +64,10 @@ pub record HostPlace : Type 0 where
   pub links : List ℕ
   pub table : List ℕ
   pub distances : List ℕ
+
+abbrev pub placedAs : Counted → List ℕ → List ℕ → List ℕ → List ℕ → HostPlace
+placedAs r nodes links table distances =
+    record { reply = r; nodes = nodes; links = links; table = table; distances = distances }
 
 unfoldable pub hostPlace : PlaceOutcome → HostPlace
 hostPlace o = record { reply = counted (o .reply); nodes = o .nodes; links = o .links; table = o .table; distances = o .distances }

@@ -1,7 +1,7 @@
 // Replies as a host program sees them: structs of numbers, in place of the enums.
 ghost use mathlib.Core.Path.{_≡_};
 ghost use Rattle.file_format.specs.Reply.{readReply};
-ghost use Rattle.heronditch_reply.specs.Replies.{fileNumber, slots, hostNeighbours};
+ghost use Rattle.heronditch_reply.specs.Replies.{fileNumber, slots, countedAs, hostNeighbours};
 use file_format::File;
 use file_format::ReadAnswer;
 use file_format::Refusal;
@@ -9,7 +9,8 @@ use file_format::TOO_SHORT;
 use graph::copy;
 use table::Counts;
 
-// Number 0 for acceptance or the refusal's number; the file that it means (0 neither, 1 pattern, 2 board); the values replied with.
+// Number 0 for acceptance or the refusal's number; the file that it means (0 neither, 1 pattern, 2 board); the values
+// replied with.
 #[repr(C)]
 pub struct HostReply {
     pub number: u32,
@@ -29,7 +30,8 @@ pub struct Counted {
     pub rounds: u32,
 }
 
-// The same with where the report goes on after a piece, how many centres before that have a place, and how many bytes were put.
+// The same with where the report goes on after a piece, how many centres before that have a place, and how many bytes
+// were put.
 #[repr(C)]
 pub struct Piece {
     pub number: u32,
@@ -84,7 +86,7 @@ pub fn of_read(answer: ReadAnswer) -> HostReply
 
 // Four counts, with a number and a file.
 pub fn with_counts(number: u32, file: u32, k: Counts) -> Counted
-    ensures { λ r. ⌜ r ≡ record { number = number; file = file; started = k .started; kept = k .kept; struck = k .struck; rounds = k .rounds } ⌝ }
+    ensures { λ r. ⌜ r ≡ countedAs number file k ⌝ }
 {
     Counted {
         number,
@@ -98,7 +100,7 @@ pub fn with_counts(number: u32, file: u32, k: Counts) -> Counted
 
 // A refusal with counts, as number 9 has them.
 pub fn refused_with(x: Refusal, k: Counts) -> Counted
-    ensures { λ r. ⌜ r ≡ record { number = x .number; file = fileNumber (x .file); started = k .started; kept = k .kept; struck = k .struck; rounds = k .rounds } ⌝ }
+    ensures { λ r. ⌜ r ≡ countedAs (x .number) (fileNumber (x .file)) k ⌝ }
 {
     let file = x.file;
     with_counts(x.number as u32, file_number(file), k)
@@ -133,7 +135,8 @@ pub fn refused_piece(x: Refusal) -> Piece
 
 // A stretch of a table, copied out.
 pub fn copy_out(part: &[u16], out: &mut [u16]) -> HostReply
-    ensures { λ r. ⌜ record { reply = r; out = now (out .exit) } ≡ hostNeighbours (now (part .entry)) (now (out .entry)) ⌝ }
+    ensures { λ r. ⌜ record { reply = r; out = now (out .exit) } ≡ hostNeighbours (now (part .entry)) (now (out .entry))
+        ⌝ }
 {
     if out.len() < part.len() {
         return refused(TOO_SHORT);

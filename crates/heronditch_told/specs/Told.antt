@@ -1,5 +1,6 @@
--- What the numbers stand for by which a host program tells an edition, a role or a direction. Every number has an answer, so that no call gets a
--- refusal which documents 01 and 02 do not have: a number below the first name's counts as the first, and one above the last name's as the last.
+-- What the numbers stand for by which a host program tells an edition, a role or a direction. Every number has an
+-- answer, so that no call gets a refusal which documents 01 and 02 do not have: a number below the first name's counts
+-- as the first, and one above the last name's as the last.
 use mathlib.Core.Bool.{Bool, cond}
 use mathlib.Core.List.{List}
 use Prim.Native.Nat.{ℕ}

@@ -41,8 +41,9 @@ pub fn is_third(number: u32) -> bool
     2 < number
 }
 
-// What a file is told to be by who asks for it to be read, written or converted: of either, the conditions of its role are asked, of a pattern 6 and 11
-// too. That a pattern need not be connected is a role of the calls on a whole board alone, and cannot be told.
+// What a file is told to be by who asks for it to be read, written or converted: of either, the conditions of its role
+// are asked, of a pattern 6 and 11 too. That a pattern need not be connected is a role of the calls on a whole board
+// alone, and cannot be told.
 pub enum FileRole {
     Pattern,
     Board,

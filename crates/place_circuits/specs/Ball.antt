@@ -1,5 +1,5 @@
--- Finding in the ball around a centre, from the kinds and from tables: whose links these are of need not be handed on, and every pattern and
--- board that they are of has the same place.
+-- Finding in the ball around a centre, from the kinds and from tables: whose links these are of need not be handed on,
+-- and every pattern and board that they are of has the same place.
 use Rattle.base_lists.specs.Kit.{_≡_, true, List, ℕ, _≤_, length, take}
 use Rattle.graph.specs.Circuit.{Circuit, circuit}
 use Rattle.file_format.specs.Circuit.{Drawn}
@@ -8,7 +8,8 @@ use Rattle.table.specs.Refine.{countsOf}
 use Rattle.place.specs.declared.Around.{Around}
 use Rattle.place.specs.Find.{Tabled, Located}
 use Rattle.place.specs.Match.{ballOf, distancesOf, found}
-use Rattle.place.specs.Outcome.{PlaceOutcome}
+use Rattle.place.specs.declared.PlaceAnswer.{PlaceAnswer}
+use Rattle.place.specs.Outcome.{PlaceOutcome, placeReply}
 use Rattle.place_circuits.specs.declared.InBall.{InBall}
 
 -- the tables are those of a pattern and a board that have these kinds, and some links
@@ -19,7 +20,8 @@ pub record SomeTabled (partLabels nodeLabels : List ℕ) (t : Tables) : Type 0 w
   pub nodeEnds : List ℕ
   pub tabled : Tabled (circuit partLabels partStarts partEnds) (circuit nodeLabels nodeStarts nodeEnds) t
 
--- the ball's counts and distances, whether there is a place, and then the place in the tables, by another search's entries
+-- the ball's counts and distances, whether there is a place, and then the place in the tables, by another search's
+-- entries
 pub record PlacedIn (pattern board : Circuit) (t : Tables) (around : Around) (dist queue sets : List ℕ) (a : InBall) : Type 0 where
   pub counted : a .counts ≡ countsOf pattern board (ballOf board (around .centre) (around .radius))
   pub answer : a .found ≡ found pattern board (around .centre) (around .radius)
@@ -44,6 +46,11 @@ pub record SomeDrawn (partLabels nodeLabels : List ℕ) (t : Tables) : Type 0 wh
   pub nodeEnds : List ℕ
   pub drawn : Drawn (circuit partLabels partStarts partEnds) (circuit nodeLabels nodeStarts nodeEnds)
   pub prepared : Prepared (circuit partLabels partStarts partEnds) (circuit nodeLabels nodeStarts nodeEnds) t
+
+-- an answer, and what the four tables are left with
+abbrev pub placedAs : PlaceAnswer → List ℕ → List ℕ → List ℕ → List ℕ → PlaceOutcome
+placedAs a nodes links table distances =
+    record { reply = placeReply a; nodes = nodes; links = links; table = table; distances = distances }
 
 -- what a call leaves is what `outcome` says of every such pattern and board
 abbrev pub EveryDrawn : List ℕ → List ℕ → Tables → PlaceOutcome → (Circuit → Circuit → PlaceOutcome) → Type 0

@@ -1,4 +1,5 @@
--- `call_barring::bar` meets its contract: a file is refused, or the kept links of the two circuits that were read are found. Assumes nothing.
+-- `call_barring::bar` meets its contract: a file is refused, or the kept links of the two circuits that were read are
+-- found. Assumes nothing.
 use Rattle.base_lists.specs.Kit.{now, sym, needs}
 use Rattle.graph.specs.Circuit.{Circuit}
 use Rattle.file_format.specs.Layout.{inEdition}

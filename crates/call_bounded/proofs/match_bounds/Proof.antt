@@ -1,4 +1,5 @@
--- `call_bounded::match_bounds` meets its contract: a file is refused, or the two circuits that were read are matched. Assumes nothing.
+-- `call_bounded::match_bounds` meets its contract: a file is refused, or the two circuits that were read are matched.
+-- Assumes nothing.
 use Rattle.base_lists.specs.Kit.{now, _≡_, sym, List, ℕ, needs}
 use Rattle.graph.specs.Circuit.{Circuit}
 use Rattle.file_format.specs.declared.Role.the-variants.{Board}

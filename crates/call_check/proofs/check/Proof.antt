@@ -1,4 +1,5 @@
--- `call_check::check` meets its contract: a file is refused, or what is proposed is judged on the two circuits that were read. Assumes nothing.
+-- `call_check::check` meets its contract: a file is refused, or what is proposed is judged on the two circuits that
+-- were read. Assumes nothing.
 use Rattle.base_lists.specs.Kit.{now, sym, needs}
 use Rattle.graph.specs.Circuit.{Circuit}
 use Rattle.file_format.specs.declared.Role.the-variants.{Pattern}

@@ -1,4 +1,5 @@
--- `call_distance::ball` meets its contract: the file is refused, or the centre is, or the table, or the ball is filled in. Assumes nothing.
+-- `call_distance::ball` meets its contract: the file is refused, or the centre is, or the table, or the ball is filled
+-- in. Assumes nothing.
 use Rattle.base_lists.specs.Kit.{now, _≡_, sym, arith, needs}
 use Rattle.graph.specs.Circuit.{Circuit, circuit}
 use Rattle.file_format.specs.declared.Role.the-variants.{Board}

@@ -1,4 +1,5 @@
--- `call_match::match_files` meets its contract: a file is refused, or the two circuits that were read and prepared are matched. Assumes nothing.
+-- `call_match::match_files` meets its contract: a file is refused, or the two circuits that were read and prepared are
+-- matched. Assumes nothing.
 use Rattle.base_lists.specs.Kit.{now, sym, refl, length-take-le, needs}
 use Rattle.file_format.specs.declared.Role.the-variants.{AnyPattern}
 use Rattle.file_format.specs.Layout.{inEdition}

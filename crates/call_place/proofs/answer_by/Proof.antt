@@ -11,7 +11,7 @@ returns c = rw (c .no-counts .ensures, c .before .enum-told .given .1)
 
 returns-2 : tie.Need-returns-2
 unfolding verdictOf placeReply
-returns-2 c = rw (c .refused-place .ensures, c .before .before .verdict .given .1)
+returns-2 c = rw (c .no-counts2 .ensures, c .before .before .verdict .given .1)
 
 pub answer-by-spec : {M : Type 1} → statement M
 answer-by-spec =

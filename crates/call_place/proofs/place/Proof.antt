@@ -1,5 +1,5 @@
--- `call_place::place` meets its contract: a file is refused, or the place is sought on the two circuits that were read and prepared. Assumes
--- nothing.
+-- `call_place::place` meets its contract: a file is refused, or the place is sought on the two circuits that were read
+-- and prepared. Assumes nothing.
 use Rattle.base_lists.specs.Kit.{now, sym, refl, length-take-le, needs}
 use Rattle.file_format.specs.declared.Role.the-variants.{Pattern}
 use Rattle.file_format.specs.Layout.{inEdition}

@@ -1,4 +1,5 @@
--- `call_prepare::read_prepared` meets its contract: a file is refused, or what is prepared is of the two circuits that were read. Assumes nothing.
+-- `call_prepare::read_prepared` meets its contract: a file is refused, or what is prepared is of the two circuits that
+-- were read. Assumes nothing.
 use denote.Ref.{now}
 use mathlib.Core.Path.{sym}
 use native.Mathlib.Omega.{arith}

@@ -1,4 +1,5 @@
--- `call_session::open` meets its contract: a file is refused, or the tables are filled from the two circuits that were read. Assumes nothing.
+-- `call_session::open` meets its contract: a file is refused, or the tables are filled from the two circuits that were
+-- read. Assumes nothing.
 use Rattle.base_lists.specs.Kit.{now, _≡_, _∙_, sym, length, take, length-take-le, arith, needs}
 use Rattle.graph.specs.Circuit.{Circuit}
 use Rattle.file_format.specs.Layout.{inEdition}

@@ -1,5 +1,6 @@
--- `place_circuits::find_in_ball` meets its contract: the nodes that the search lists are the ball, and the pairs of equal kinds in it are a
--- first table. What the search finds are the ball's distances, and no other search writes over them. Assumes nothing.
+-- `place_circuits::find_in_ball` meets its contract: the nodes that the search lists are the ball, and the pairs of
+-- equal kinds in it are a first table. What the search finds are the ball's distances, and no other search writes over
+-- them. Assumes nothing.
 use Rattle.base_lists.specs.Kit.{now, _∙_, sym, ap, List, ℕ, _≤_, length, take, length-take-le, arith, needs}
 use Rattle.graph.specs.Bfs.{bfs, adjacent, Found}
 use Rattle.graph.specs.Circuit.{circuit}

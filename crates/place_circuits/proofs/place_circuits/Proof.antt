@@ -1,5 +1,5 @@
--- `place_circuits::place_circuits` meets its contract: the place is found in the ball, and where there is one it is marked, and the ball's
--- distances are copied. Assumes nothing.
+-- `place_circuits::place_circuits` meets its contract: the place is found in the ball, and where there is one it is
+-- marked, and the ball's distances are copied. Assumes nothing.
 use Rattle.base_lists.specs.Kit.{now, _∙_, sym, ap, List, [], _++_, ℕ, _≤_, length, getD, take, drop, length-take-le, arith, needs, not-false, not-true}
 use Rattle.graph.specs.Circuit.{circuit}
 use Rattle.file_format.specs.Circuit.{Drawn}

@@ -1,4 +1,5 @@
--- `proposal_check::check_circuits` meets its contract: the tests one after another; what is left of the links is a board of its own. Assumes nothing.
+-- `proposal_check::check_circuits` meets its contract: the tests one after another; what is left of the links is a
+-- board of its own. Assumes nothing.
 use Rattle.base_lists.specs.Kit.{_∙_, sym, length-take-le, needs, not-false, not-true}
 use Rattle.base_lists.proofs.Entries.{all-below, below-wider}
 use Rattle.file_format.proofs.Accepted.{bounded-starts, bounded-ends}

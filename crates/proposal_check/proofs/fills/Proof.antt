@@ -1,4 +1,5 @@
--- `proposal_check::fills` meets its contract: the place is found in the board's own links, and compared with what is marked. Assumes nothing.
+-- `proposal_check::fills` meets its contract: the place is found in the board's own links, and compared with what is
+-- marked. Assumes nothing.
 use Rattle.base_lists.specs.Kit.{now, _≡_, _∙_, sym, subst, ℕ, length, length-take-le, needs, not-false, not-true}
 use Rattle.base_lists.specs.List.{Below}
 use Rattle.table.specs.Prepared.{succOf}

@@ -1,5 +1,5 @@
--- `proposal_check::find_joined` meets its contract: the nodes that the search lists are all that links join to the centre, and the pairs of
--- equal kinds among them are a first table. Assumes nothing.
+-- `proposal_check::find_joined` meets its contract: the nodes that the search lists are all that links join to the
+-- centre, and the pairs of equal kinds among them are a first table. Assumes nothing.
 use Rattle.base_lists.specs.Kit.{now, _∙_, sym, List, ℕ, _≤_, length, take, length-take-le, needs}
 use Rattle.graph.specs.Bfs.{bfs, adjacent, Found}
 use Rattle.graph.specs.Circuit.{circuit}

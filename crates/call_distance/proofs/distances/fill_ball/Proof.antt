@@ -1,4 +1,5 @@
--- `call_distance::distances::fill_ball` meets its contract: the distances are written into the front of the lent table. Assumes nothing.
+-- `call_distance::distances::fill_ball` meets its contract: the distances are written into the front of the lent table.
+-- Assumes nothing.
 use Rattle.base_lists.specs.Kit.{now, _∙_, sym, ap, List, _++_, ℕ, _≤_, _<_, T, ltb, length, drop, length-take-le, needs}
 use Rattle.base_lists.specs.List.{all}
 use Rattle.base_lists.proofs.Parts.{length-take-for}

@@ -1,4 +1,5 @@
--- `call_distance::distances::measure` meets its contract: the search over the tables just made finds the distances. Assumes nothing.
+-- `call_distance::distances::measure` meets its contract: the search over the tables just made finds the distances.
+-- Assumes nothing.
 use Rattle.base_lists.specs.Kit.{now, _∙_, sym, refl, length, length-take-le, needs}
 use Rattle.graph.proofs.Ball.{within-all}
 use Rattle.graph.proofs.Measures.{net-distances}

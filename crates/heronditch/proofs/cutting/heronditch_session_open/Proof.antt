@@ -1,4 +1,5 @@
--- `heronditch::cutting::heronditch_session_open` meets its contract: the call of the crate below, its answer as numbers. Assumes nothing.
+-- `heronditch::cutting::heronditch_session_open` meets its contract: the call of the crate below, its answer as
+-- numbers. Assumes nothing.
 use Rattle.heronditch.proofs.Session.{host-open}
 use Rattle.base_lists.specs.Kit.{needs}
 use Rattle.heronditch.proofs.cutting.heronditch_session_open.Statement.{statement}

@@ -1,4 +1,5 @@
--- `heronditch::files::heronditch_neighbours` meets its contract: the stretch that the lookup hands out, copied. Assumes nothing.
+-- `heronditch::files::heronditch_neighbours` meets its contract: the stretch that the lookup hands out, copied. Assumes
+-- nothing.
 use Rattle.base_lists.specs.Kit.{needs}
 use Rattle.heronditch.proofs.files.heronditch_neighbours.Statement.{statement}
 use Rattle.heronditch.proofs.files.heronditch_neighbours.Tie as tie

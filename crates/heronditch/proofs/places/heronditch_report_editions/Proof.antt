@@ -1,4 +1,5 @@
--- `heronditch::places::heronditch_report_editions` meets its contract: the call of the crate below, its reply as numbers. Assumes nothing.
+-- `heronditch::places::heronditch_report_editions` meets its contract: the call of the crate below, its reply as
+-- numbers. Assumes nothing.
 use Rattle.base_lists.specs.Kit.{ap, needs}
 use Rattle.heronditch.specs.Host.{hostReport}
 use Rattle.heronditch.proofs.places.heronditch_report_editions.Statement.{statement}

@@ -1,4 +1,5 @@
--- `heronditch::shelf::heronditch_compare` meets its contract: the call of the crate below, its answer as numbers. Assumes nothing.
+-- `heronditch::shelf::heronditch_compare` meets its contract: the call of the crate below, its answer as numbers.
+-- Assumes nothing.
 use Rattle.base_lists.specs.Kit.{_∙_, ap, needs}
 use Rattle.heronditch.specs.Host.{hostCompare}
 use Rattle.heronditch.proofs.shelf.heronditch_compare.Statement.{statement}

@@ -1,4 +1,5 @@
--- `heronditch::shelf::heronditch_shelf` meets its contract: the call of the crate below, its reply as numbers. Assumes nothing.
+-- `heronditch::shelf::heronditch_shelf` meets its contract: the call of the crate below, its reply as numbers. Assumes
+-- nothing.
 use Rattle.base_lists.specs.Kit.{ap, needs}
 use Rattle.heronditch.specs.Host.{hostShelf}
 use Rattle.heronditch.proofs.shelf.heronditch_shelf.Statement.{statement}

@@ -1,4 +1,5 @@
--- `heronditch::whole::heronditch_match_third` meets its contract: the call of the crate below, its reply as numbers. Assumes nothing.
+-- `heronditch::whole::heronditch_match_third` meets its contract: the call of the crate below, its reply as numbers.
+-- Assumes nothing.
 use Rattle.base_lists.specs.Kit.{ap, needs}
 use Rattle.heronditch.specs.Host.{hostMatch}
 use Rattle.heronditch.proofs.whole.heronditch_match_third.Statement.{statement}

@@ -1,8 +1,8 @@
--- `call_place::radius_for` meets its contract: the pattern's own radius, or the one given. Assumes nothing.
+-- `call_decide::radius_for` meets its contract: the pattern's own radius, or the one given. Assumes nothing.
 use Rattle.base_lists.specs.Kit.{refl, needs}
-use Rattle.call_place.specs.Call.{radiusFor}
-use Rattle.call_place.proofs.radius_for.Statement.{statement}
-use Rattle.call_place.proofs.radius_for.Tie as tie
+use Rattle.call_decide.specs.Decide.{radiusFor}
+use Rattle.call_decide.proofs.radius_for.Statement.{statement}
+use Rattle.call_decide.proofs.radius_for.Tie as tie
 
 returns : tie.Need-returns
 unfolding radiusFor

@@ -1,8 +1,8 @@
--- `call_place::no_counts` meets its contract: four counts of 0. Assumes nothing.
+-- `call_decide::no_counts` meets its contract: four counts of 0. Assumes nothing.
 use Rattle.base_lists.specs.Kit.{refl}
 use Rattle.table.specs.Reply.{noCounts}
-use Rattle.call_place.proofs.no_counts.Statement.{statement}
-use Rattle.call_place.proofs.no_counts.Tie as tie
+use Rattle.call_decide.proofs.no_counts.Statement.{statement}
+use Rattle.call_decide.proofs.no_counts.Tie as tie
 
 returns : tie.Need-returns
 unfolding noCounts

@@ -1,9 +1,9 @@
--- `call_place::roomy` meets its contract: the first table that is too short decides, or none is. Assumes nothing.
+-- `call_decide::roomy` meets its contract: the first table that is too short decides, or none is. Assumes nothing.
 use Rattle.base_lists.specs.Kit.{le-ltb, lt-ltb}
 use Rattle.file_format.specs.Refusals.{first, shortTable}
-use Rattle.call_place.specs.Call.{roomConditions}
-use Rattle.call_place.proofs.roomy.Statement.{statement}
-use Rattle.call_place.proofs.roomy.Tie as tie
+use Rattle.call_decide.specs.Decide.{roomConditions}
+use Rattle.call_decide.proofs.roomy.Statement.{statement}
+use Rattle.call_decide.proofs.roomy.Tie as tie
 
 returns : tie.Need-returns
 unfolding roomConditions first shortTable
