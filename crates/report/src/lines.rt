@@ -1,13 +1,14 @@
 // The report's lines, each put into a table of bytes from an offset on; the offset after the line is returned. `names` has a name for each
 // node.
+ghost use mathlib.Core.List.{List};
 ghost use mathlib.Core.Path.{_≡_};
-ghost use Prim.Native.Nat.{_+_, _≤_, _<_};
+ghost use Prim.Native.Nat.{ℕ, _+_, _≤_, _<_};
 ghost use lib.ListN.{length};
 ghost use Rattle.base_text.specs.Text.{Put, Fits, Names};
 ghost use Rattle.table.specs.Prepared.{tables, Ready};
 ghost use Rattle.report.specs.Report.{endLine, refusalLine, fileWord};
 ghost use Rattle.report.specs.Lines.{longestLine, longestRefusal};
-ghost use Rattle.report_texts.specs.Texts.{nodesText, startText, linksText, bodyText, lineText};
+ghost use Rattle.report_texts.specs.Texts.{nodesText, startText, linksText, lineText};
 use base_text::put_byte;
 use base_text::put_bytes;
 use base_text::put_numbered;
@@ -48,12 +49,14 @@ fn put_start(
     out: &mut [u8],
     at: usize,
 ) -> usize
-    requires { ⌜ Names (now names) × (length (now dist) ≤ length (now names)) ⌝ }
-    requires { ⌜ length (now sets) ≡ length (now dist) ⌝ }
-    requires { ⌜ Ready (tables (now masks) (now offsets) (now targets)) (now sets) ⌝ }
-    requires { ⌜ v < length (now dist) ⌝ }
-    requires { ⌜ Fits (now out) at (startText (tables (now masks) (now offsets) (now targets)) (now dist) (now sets) v) ⌝ }
-    ensures { λ r. ⌜ Put (now (out .entry)) at (startText (tables (now (masks .entry)) (now (offsets .entry)) (now (targets .entry))) (now (dist .entry)) (now (sets .entry)) v) (now (out .exit)) r ⌝ }
+    ghost { List ℕ }
+    requires { λ α. ⌜ startText (tables (now masks) (now offsets) (now targets)) (now dist) (now sets) v ≡ α ⌝ }
+    requires { λ α. ⌜ Names (now names) × (length (now dist) ≤ length (now names)) ⌝ }
+    requires { λ α. ⌜ length (now sets) ≡ length (now dist) ⌝ }
+    requires { λ α. ⌜ Ready (tables (now masks) (now offsets) (now targets)) (now sets) ⌝ }
+    requires { λ α. ⌜ v < length (now dist) ⌝ }
+    requires { λ α. ⌜ Fits (now out) at α ⌝ }
+    ensures { λ α r. ⌜ Put (now (out .entry)) at α (now (out .exit)) r ⌝ }
 {
     let there = is_reached(dist[v]);
     if !there {
@@ -75,11 +78,13 @@ fn put_links(
     out: &mut [u8],
     at: usize,
 ) -> usize
-    requires { ⌜ Names (now names) × (length (now dist) ≤ length (now names)) ⌝ }
-    requires { ⌜ length (now sets) ≡ length (now dist) ⌝ }
-    requires { ⌜ Ready (tables (now masks) (now offsets) (now targets)) (now sets) ⌝ }
-    requires { ⌜ Fits (now out) at (linksText (tables (now masks) (now offsets) (now targets)) (now dist) (now sets)) ⌝ }
-    ensures { λ r. ⌜ Put (now (out .entry)) at (linksText (tables (now (masks .entry)) (now (offsets .entry)) (now (targets .entry))) (now (dist .entry)) (now (sets .entry))) (now (out .exit)) r ⌝ }
+    ghost { List ℕ }
+    requires { λ α. ⌜ linksText (tables (now masks) (now offsets) (now targets)) (now dist) (now sets) ≡ α ⌝ }
+    requires { λ α. ⌜ Names (now names) × (length (now dist) ≤ length (now names)) ⌝ }
+    requires { λ α. ⌜ length (now sets) ≡ length (now dist) ⌝ }
+    requires { λ α. ⌜ Ready (tables (now masks) (now offsets) (now targets)) (now sets) ⌝ }
+    requires { λ α. ⌜ Fits (now out) at α ⌝ }
+    ensures { λ α r. ⌜ Put (now (out .entry)) at α (now (out .exit)) r ⌝ }
 {
     let mut end = at;
     let mut v = 0;
@@ -88,29 +93,6 @@ fn put_links(
         v += 1;
     }
     end
-}
-
-// The rest of the line of a centre around which there is a place, after the colon.
-fn put_body(
-    names: &[u32],
-    masks: &[u32],
-    offsets: &[u16],
-    targets: &[u16],
-    dist: &[u16],
-    sets: &[u32],
-    out: &mut [u8],
-    at: usize,
-) -> usize
-    requires { ⌜ Names (now names) × (length (now dist) ≤ length (now names)) ⌝ }
-    requires { ⌜ length (now sets) ≡ length (now dist) ⌝ }
-    requires { ⌜ Ready (tables (now masks) (now offsets) (now targets)) (now sets) ⌝ }
-    requires { ⌜ Fits (now out) at (bodyText (tables (now masks) (now offsets) (now targets)) (now dist) (now sets)) ⌝ }
-    ensures { λ r. ⌜ Put (now (out .entry)) at (bodyText (tables (now (masks .entry)) (now (offsets .entry)) (now (targets .entry))) (now (dist .entry)) (now (sets .entry))) (now (out .exit)) r ⌝ }
-{
-    let slash = put_nodes(names, dist, out, at);
-    let after = put_bytes(b" /", out, slash);
-    let end = put_links(names, masks, offsets, targets, dist, sets, out, after);
-    put_byte(b'\n', out, end)
 }
 
 // The line of the centre c, around which there is a place.
@@ -125,14 +107,19 @@ pub fn put_line(
     out: &mut [u8],
     at: usize,
 ) -> usize
-    requires { ⌜ Names (now names) × (length (now dist) ≤ length (now names)) ⌝ }
-    requires { ⌜ length (now sets) ≡ length (now dist) ⌝ }
-    requires { ⌜ Ready (tables (now masks) (now offsets) (now targets)) (now sets) ⌝ }
-    requires { ⌜ Fits (now out) at (lineText (tables (now masks) (now offsets) (now targets)) (now dist) (now sets) c) ⌝ }
-    ensures { λ r. ⌜ Put (now (out .entry)) at (lineText (tables (now (masks .entry)) (now (offsets .entry)) (now (targets .entry))) (now (dist .entry)) (now (sets .entry)) c) (now (out .exit)) r ⌝ }
+    ghost { List ℕ }
+    requires { λ α. ⌜ lineText (tables (now masks) (now offsets) (now targets)) (now dist) (now sets) c ≡ α ⌝ }
+    requires { λ α. ⌜ Names (now names) × (length (now dist) ≤ length (now names)) ⌝ }
+    requires { λ α. ⌜ length (now sets) ≡ length (now dist) ⌝ }
+    requires { λ α. ⌜ Ready (tables (now masks) (now offsets) (now targets)) (now sets) ⌝ }
+    requires { λ α. ⌜ Fits (now out) at α ⌝ }
+    ensures { λ α r. ⌜ Put (now (out .entry)) at α (now (out .exit)) r ⌝ }
 {
-    let colon = put_head(c, out, at);
-    put_body(names, masks, offsets, targets, dist, sets, out, colon)
+    let nodes = put_head(c, out, at);
+    let slash = put_nodes(names, dist, out, nodes);
+    let after = put_bytes(b" /", out, slash);
+    let end = put_links(names, masks, offsets, targets, dist, sets, out, after);
+    put_byte(b'\n', out, end)
 }
 
 // The last line: k of n centres have a place.

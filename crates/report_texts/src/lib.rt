@@ -1,9 +1,9 @@
 // The pieces of a line of the report, each put into a table of bytes from an offset on; the offset after the piece is returned. A line has a head, the
 // nodes and the links of its place. For another centre its head is put anew, and what follows is copied from where it stands in the buffer.
 ghost use mathlib.Core.Bool.{cond};
-ghost use mathlib.Core.List.{_++_};
+ghost use mathlib.Core.List.{List, _++_};
 ghost use mathlib.Core.Path.{_≡_};
-ghost use Prim.Native.Nat.{_+_, _-_, _≤_, _<_};
+ghost use Prim.Native.Nat.{ℕ, _+_, _-_, _≤_, _<_};
 ghost use lib.ListN.{length, getD};
 ghost use Rattle.base_lists.specs.List.{Below, part};
 ghost use Rattle.base_text.specs.Text.{Put, Fits, Names};
@@ -92,10 +92,12 @@ pub fn put_driven(
     out: &mut [u8],
     at: usize,
 ) -> usize
-    requires { ⌜ Names (now names) × (length (now sets) ≤ length (now names)) × (v < length (now names)) ⌝ }
-    requires { ⌜ Below (length (now sets)) (now nodes) ⌝ }
-    requires { ⌜ Fits (now out) at (drivenText driven (now sets) v (now nodes)) ⌝ }
-    ensures { λ r. ⌜ Put (now (out .entry)) at (drivenText driven (now (sets .entry)) v (now (nodes .entry))) (now (out .exit)) r ⌝ }
+    ghost { List ℕ }
+    requires { λ α. ⌜ drivenText driven (now sets) v (now nodes) ≡ α ⌝ }
+    requires { λ α. ⌜ Names (now names) × (length (now sets) ≤ length (now names)) × (v < length (now names)) ⌝ }
+    requires { λ α. ⌜ Below (length (now sets)) (now nodes) ⌝ }
+    requires { λ α. ⌜ Fits (now out) at α ⌝ }
+    ensures { λ α r. ⌜ Put (now (out .entry)) at α (now (out .exit)) r ⌝ }
 {
     let mut end = at;
     let mut i = 0;

@@ -9,8 +9,9 @@ use shelf_files::Taken;
 use shelf_files::cannot_read;
 use shelf_files::read_all;
 ghost use mathlib.Core.Bool.{cond};
+ghost use mathlib.Core.List.{List};
 ghost use mathlib.Core.Path.{_≡_};
-ghost use Prim.Native.Nat.{_*_, _≤_};
+ghost use Prim.Native.Nat.{ℕ, _*_, _≤_};
 ghost use lib.ListN.{length};
 ghost use Rattle.call_shelf.specs.Shelf.{mostFiles};
 ghost use Rattle.shelf_files.specs.declared.Taken.the-variants as taken;
@@ -44,9 +45,11 @@ fn print_shelf(
     out: &mut [u8],
     handed: &mut usize,
 ) -> bool
-    requires { ⌜ (length (now notes) ≡ mostFiles) × (shelfEnd (now notes) ≡ taken.Files count) ⌝ }
-    requires { ⌜ (mostFiles ≤ length (now order)) × (3 * mostFiles ≤ length (now out)) × (now handed ≡ 0) ⌝ }
-    ensures { λ r. ⌜ ShelfHanded (printedOf (now (bytes .entry)) (now (notes .entry))) (now (out .exit)) (now (handed .exit)) r ⌝ }
+    ghost { List ℕ }
+    requires { λ α. ⌜ printedOf (now bytes) (now notes) ≡ α ⌝ }
+    requires { λ α. ⌜ (length (now notes) ≡ mostFiles) × (shelfEnd (now notes) ≡ taken.Files count) ⌝ }
+    requires { λ α. ⌜ (mostFiles ≤ length (now order)) × (3 * mostFiles ≤ length (now out)) × (now handed ≡ 0) ⌝ }
+    ensures { λ α r. ⌜ ShelfHanded α (now (out .exit)) (now (handed .exit)) r ⌝ }
 {
     let answer = call_shelf::shelf(bytes, &notes[..count], order);
     let ShelfAnswer::Ordered(ordered) = answer else {

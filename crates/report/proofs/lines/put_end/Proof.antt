@@ -41,9 +41,6 @@ room-end c =
     room-left 9 1 (c .put-numbered2 .ensures) (numbered-length (bytes " of ") 4 _ (omega (arith, s .pre .0)))
     (room-of (count c))
 
-put-byte-requires : tie.Need-put-byte-requires
-put-byte-requires c κs = record { room = omega (arith, room-end (c .before .before .before)) }
-
 returns : tie.Need-returns
 unfolding bytes
 returns c =
@@ -57,4 +54,4 @@ pub put-end-spec : {M : Type 1} → statement M
 put-end-spec =
     tie.close
     (tie.spec (λ c. search needs) put-numbered-requires (λ c. search needs) put-numbered-requires-2
-    put-byte-requires (λ c. search needs) returns)
+    (λ c κs. record { room = omega (arith, room-end (c .before .before .before)) }) (λ c. search needs) returns)

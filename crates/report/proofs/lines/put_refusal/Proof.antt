@@ -31,9 +31,6 @@ put-file-requires c κs = omega (arith, room-file (c .before .before .before))
 room-end : (c : tie.After-put-file) → c .put-file .result + 1 ≤ length (c .put-file .last .1 .0)
 room-end c = room-left 8 1 (c .put-file .ensures) (word-length _) (room-file (c .before .before .before .before))
 
-put-byte-requires : tie.Need-put-byte-requires
-put-byte-requires c κs = record { room = omega (arith, room-end (c .before .before .before)) }
-
 returns : tie.Need-returns
 unfolding bytes
 returns c =
@@ -46,5 +43,6 @@ returns c =
 pub put-refusal-spec : {M : Type 1} → statement M
 put-refusal-spec =
     tie.close
-    (tie.spec (λ c. search needs) (λ c. search needs) put-numbered-requires put-file-requires put-byte-requires
+    (tie.spec (λ c. search needs) (λ c. search needs) put-numbered-requires put-file-requires
+    (λ c κs. record { room = omega (arith, room-end (c .before .before .before)) })
     (λ c. search needs) returns)
