@@ -14,7 +14,7 @@ ghost use mathlib.Core.Path.{_≡_};
 ghost use lib.ListN.{length};
 ghost use Rattle.graph.specs.Net.{NetRoom};
 ghost use Rattle.file_format.specs.Layout.{inEdition};
-ghost use Rattle.table.specs.Prepared.{tables};
+ghost use Rattle.table.specs.Prepared.{Tables, tables};
 ghost use Rattle.call_open.specs.Opened.{LinesRoom, SomePrepared, EveryOpened, Opened};
 
 // Leaves the whole board's match table and its components at the fronts of the tables, for the lines from the centre `from` on of two files that were read and
@@ -31,9 +31,12 @@ fn fill_lines(
     component_of: &mut [u16],
     sizes: &mut [u16],
 )
-    requires { ⌜ SomePrepared read (now pk) (now nk) (tables (now masks) (now offsets) (now targets)) ⌝ }
-    requires { ⌜ LinesRoom (now whole) (now «component_of») (now sizes) ⌝ }
-    ensures { λ _. ⌜ EveryOpened from read (now (pk .entry)) (now (nk .entry)) (tables (now (masks .entry)) (now (offsets .entry)) (now (targets .entry))) (now (whole .exit)) (now («component_of» .exit)) (now (sizes .exit)) ⌝ }
+    ghost { Tables }
+    requires { λ α. ⌜ tables (now masks) (now offsets) (now targets) ≡ α ⌝ }
+    requires { λ α. ⌜ SomePrepared read (now pk) (now nk) α ⌝ }
+    requires { λ α. ⌜ LinesRoom (now whole) (now «component_of») (now sizes) ⌝ }
+    ensures { λ α _. ⌜ EveryOpened from read (now (pk .entry)) (now (nk .entry)) α
+        (now (whole .exit)) (now («component_of» .exit)) (now (sizes .exit)) ⌝ }
 {
     let verdict = read.verdict;
     let FileVerdict::Accepted = verdict else {
@@ -72,7 +75,10 @@ pub fn open(
 ) -> Pair
     requires { ⌜ (length (now masks) ≡ 64) × NetRoom (now offsets) (now targets) ⌝ }
     requires { ⌜ LinesRoom (now whole) (now «component_of») (now sizes) ⌝ }
-    ensures { λ r. ⌜ Opened from (inEdition (editions .pattern) (now (pattern .entry))) (inEdition (editions .board) (now (board .entry))) r (tables (now (masks .exit)) (now (offsets .exit)) (now (targets .exit))) (now (whole .exit)) (now («component_of» .exit)) (now (sizes .exit)) ⌝ }
+    ensures { λ r. ⌜ Opened from (inEdition (editions .pattern) (now (pattern .entry)))
+        (inEdition (editions .board) (now (board .entry))) r
+        (tables (now (masks .exit)) (now (offsets .exit)) (now (targets .exit)))
+        (now (whole .exit)) (now («component_of» .exit)) (now (sizes .exit)) ⌝ }
 {
     let mut pk = [0u32; Pattern::MAX_NODES];
     let mut nk = [0u32; Board::MAX_NODES];

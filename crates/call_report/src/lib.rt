@@ -9,24 +9,18 @@ use file_pair::Pair;
 use graph_neighbours::tables::OFFSETS;
 use graph_neighbours::tables::TARGETS;
 use report_centres::Resume;
-use report_centres::put_centres;
+use report_centres::put_lines;
 use report_pieces::LONGEST;
 use report_pieces::PutPiece;
-use report_pieces::put_last;
 use report_pieces::put_nothing;
 use report_pieces::put_refused;
 use table::MASKS;
 ghost use mathlib.Core.Path.{_≡_};
-ghost use lib.ListN.{length};
 ghost use Rattle.call_report.specs.Call.{outcomeFor, outcomeBy, reportReply, reporting};
 ghost use Rattle.file_format.specs.Layout.{inEdition};
 ghost use Rattle.report.specs.Lines.{longestRefusal};
-ghost use Rattle.report_pieces.specs.Pieces.{refusalPiece, linesPiece};
-ghost use Rattle.report_locate.specs.Source.{SourceOfSome};
-ghost use Rattle.report_centres.specs.Centres.{EveryWrote};
-ghost use Rattle.place.specs.Spread.{matched};
-ghost use Rattle.place_components.specs.Components.{Components};
-ghost use Rattle.table.specs.Prepared.{tables};
+ghost use Rattle.report_pieces.specs.Pieces.{refusalPiece};
+ghost use Rattle.table.specs.Prepared.{Tables, tables};
 ghost use Rattle.call_open.specs.Opened.{SomeOpened};
 ghost use Rattle.call_report.specs.Reported.{EveryReported};
 ghost use Rattle.file_format.specs.declared.File.the-variants as file;
@@ -50,7 +44,8 @@ fn too_short() -> ReportAnswer
 
 // What the call comes to where a file is refused.
 fn answer_refused(x: Refusal, from: usize, found: u16, out: &mut [u8]) -> ReportAnswer
-    ensures { λ a. ⌜ record { reply = reportReply a; out = now (out .exit) } ≡ outcomeFor longestRefusal (refusalPiece x from found) (now (out .entry)) ⌝ }
+    ensures { λ a. ⌜ record { reply = reportReply a; out = now (out .exit) }
+        ≡ outcomeFor longestRefusal (refusalPiece x from found) (now (out .entry)) ⌝ }
 {
     if out.len() < LONGEST_REFUSAL {
         return too_short();
@@ -60,40 +55,13 @@ fn answer_refused(x: Refusal, from: usize, found: u16, out: &mut [u8]) -> Report
 
 // What the call comes to by the verdict on the two files alone.
 fn answer_by(verdict: FileVerdict, from: usize, found: u16, out: &mut [u8]) -> ReportAnswer
-    ensures { λ a. ⌜ record { reply = reportReply a; out = now (out .exit) } ≡ outcomeBy verdict from found (now (out .entry)) ⌝ }
+    ensures { λ a. ⌜ record { reply = reportReply a; out = now (out .exit) }
+        ≡ outcomeBy verdict from found (now (out .entry)) ⌝ }
 {
     match verdict {
         FileVerdict::Accepted => ReportAnswer::Put(put_nothing(from, found)),
         FileVerdict::Refused(x) => answer_refused(x, from, found, out),
     }
-}
-
-// The lines of the centres from where a piece goes on, and the last line where the centres are done.
-fn put_lines(
-    masks: &[u32],
-    offsets: &[u16],
-    targets: &[u16],
-    whole: &[u32],
-    component_of: &[u16],
-    sizes: &[u16],
-    resume: Resume,
-    out: &mut [u8],
-) -> PutPiece
-    requires { ⌜ SourceOfSome (tables (now masks) (now offsets) (now targets)) (now whole) (resume .radius) ⌝ }
-    requires { ⌜ Components (length (now whole)) (matched (tables (now masks) (now offsets) (now targets)) (now whole)) (now whole) (now «component_of») (now sizes) ⌝ }
-    ensures { λ p. ⌜ EveryWrote (tables (now (masks .entry)) (now (offsets .entry)) (now (targets .entry))) (now (whole .entry)) (resume .radius) (λ pattern board. linesPiece pattern board (resume .from) (resume .found) (length (now (out .entry)))) (now (out .entry)) (now (out .exit)) p ⌝ }
-{
-    let part = put_centres(
-        masks,
-        offsets,
-        targets,
-        whole,
-        component_of,
-        sizes,
-        resume,
-        out,
-    );
-    put_last(part, whole.len(), out)
 }
 
 // A piece of the report of two files that were opened, as `report` puts it.
@@ -109,8 +77,12 @@ pub fn put(
     found: u16,
     out: &mut [u8],
 ) -> ReportAnswer
-    requires { ⌜ SomeOpened from read (tables (now masks) (now offsets) (now targets)) (now whole) (now «component_of») (now sizes) ⌝ }
-    ensures { λ a. ⌜ EveryReported from found read (tables (now (masks .entry)) (now (offsets .entry)) (now (targets .entry))) (now (whole .entry)) (now («component_of» .entry)) (now (sizes .entry)) (now (out .entry)) (record { reply = reportReply a; out = now (out .exit) }) ⌝ }
+    ghost { Tables }
+    requires { λ α. ⌜ tables (now masks) (now offsets) (now targets) ≡ α ⌝ }
+    requires { λ α. ⌜ SomeOpened from read α (now whole) (now «component_of») (now sizes) ⌝ }
+    ensures { λ α a. ⌜ EveryReported from found read α
+        (now (whole .entry)) (now («component_of» .entry)) (now (sizes .entry))
+        (now (out .entry)) (record { reply = reportReply a; out = now (out .exit) }) ⌝ }
 {
     let verdict = read.verdict;
     let FileVerdict::Accepted = verdict else {
@@ -153,7 +125,9 @@ pub fn report(
     out: &mut [u8],
 ) -> ReportAnswer
     ensures { λ a. ⌜ record { reply = reportReply a; out = now (out .exit) }
-        ≡ reporting (inEdition (editions .pattern) (now (pattern .entry))) (inEdition (editions .board) (now (board .entry))) from found (now (out .entry)) ⌝ }
+        ≡ reporting (inEdition (editions .pattern) (now (pattern .entry)))
+        (inEdition (editions .board) (now (board .entry)))
+        from found (now (out .entry)) ⌝ }
 {
     let mut masks = [0u32; MASKS];
     let mut offsets = [0u16; OFFSETS];

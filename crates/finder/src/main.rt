@@ -11,7 +11,7 @@ ghost use Prim.Native.Nat.{_≤_};
 ghost use lib.ListN.{length};
 ghost use Rattle.io.specs.Counts.{Counts};
 ghost use Rattle.report.specs.Lines.{longestLine};
-ghost use Rattle.finder.specs.Printing.{reportEnd, ReportRan};
+ghost use Rattle.finder.specs.Run.{reportEnd, ReportRan};
 
 // What is put at a time; a longer report takes further pieces.
 const PIECE_BYTES: usize = 524288;

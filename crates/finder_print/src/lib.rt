@@ -14,8 +14,8 @@ ghost use mathlib.Core.Bool.{cond};
 ghost use mathlib.Core.Path.{_≡_};
 ghost use Prim.Native.Nat.{_≤_};
 ghost use lib.ListN.{length};
-ghost use Rattle.file_format.specs.Layout.{firstEdition};
-ghost use Rattle.table.specs.Prepared.{tables};
+ghost use Rattle.file_format.specs.Layout.{CircuitFile, firstEdition};
+ghost use Rattle.table.specs.Prepared.{Tables, tables};
 ghost use Rattle.report.specs.Lines.{longestLine};
 ghost use Rattle.call_open.specs.Opened.{Opened};
 ghost use Rattle.finder_print.specs.Handed.{GoesOn, ReportHanded};
@@ -24,8 +24,10 @@ ghost use Rattle.finder_print.specs.Handed.{GoesOn, ReportHanded};
 // far that is. (An item is a line for each centre, which may be empty, or the last line.) The answer says whether they were taken; where they were
 // not, nothing is handed over any more.
 fn hand(pattern: &[u8], board: &[u8], handed: &mut usize, next: usize, bytes: &[u8]) -> bool
-    requires { ⌜ GoesOn (firstEdition (now pattern)) (firstEdition (now board)) (now handed) next (now bytes) ⌝ }
-    ensures { λ r. ⌜ now (handed .exit) ≡ cond r next (now (handed .entry)) ⌝ }
+    ghost { CircuitFile × CircuitFile }
+    requires { λ α. ⌜ (firstEdition (now pattern), firstEdition (now board)) ≡ α ⌝ }
+    requires { λ α. ⌜ GoesOn (α .0) (α .1) (now handed) next (now bytes) ⌝ }
+    ensures { λ α r. ⌜ now (handed .exit) ≡ cond r next (now (handed .entry)) ⌝ }
 {
     let answer = output::write_whole(bytes);
     let Output::Written(_) = answer else {
@@ -50,9 +52,15 @@ fn print_pieces(
     out: &mut [u8],
     handed: &mut usize,
 ) -> bool
-    requires { ⌜ Opened 0 (firstEdition (now pattern)) (firstEdition (now board)) read (tables (now masks) (now offsets) (now targets)) (now whole) (now «component_of») (now sizes) ⌝ }
-    requires { ⌜ (longestLine ≤ length (now out)) × (now handed ≡ 0) ⌝ }
-    ensures { λ r. ⌜ ReportHanded (firstEdition (now (pattern .entry))) (firstEdition (now (board .entry))) (now (handed .exit)) r ⌝ }
+    ghost { CircuitFile × CircuitFile × Tables }
+    requires { λ α. ⌜ (
+      firstEdition (now pattern),
+      firstEdition (now board),
+      tables (now masks) (now offsets) (now targets),
+    ) ≡ α ⌝ }
+    requires { λ α. ⌜ Opened 0 (α .0) (α .1) read (α .2) (now whole) (now «component_of») (now sizes) ⌝ }
+    requires { λ α. ⌜ (longestLine ≤ length (now out)) × (now handed ≡ 0) ⌝ }
+    ensures { λ α r. ⌜ ReportHanded (α .0) (α .1) (now (handed .exit)) r ⌝ }
 {
     let mut found: u16 = 0;
     loop {
@@ -86,8 +94,10 @@ fn print_pieces(
 
 // Opens the two files, of the first edition both, and prints their report.
 pub fn print_report(pattern: &[u8], board: &[u8], out: &mut [u8], handed: &mut usize) -> bool
-    requires { ⌜ (longestLine ≤ length (now out)) × (now handed ≡ 0) ⌝ }
-    ensures { λ r. ⌜ ReportHanded (firstEdition (now (pattern .entry))) (firstEdition (now (board .entry))) (now (handed .exit)) r ⌝ }
+    ghost { CircuitFile × CircuitFile }
+    requires { λ α. ⌜ (firstEdition (now pattern), firstEdition (now board)) ≡ α ⌝ }
+    requires { λ α. ⌜ (longestLine ≤ length (now out)) × (now handed ≡ 0) ⌝ }
+    ensures { λ α r. ⌜ ReportHanded (α .0) (α .1) (now (handed .exit)) r ⌝ }
 {
     let mut masks = [0u32; MASKS];
     let mut offsets = [0u16; OFFSETS];

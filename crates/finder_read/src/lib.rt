@@ -9,7 +9,8 @@ ghost use Rattle.io.specs.Counts.{Counts};
 ghost use Rattle.finder_read.specs.Cut.{most};
 ghost use Rattle.finder_read.specs.Held.{fileNameOf, heldOf};
 
-// A byte more than the longest file that is accepted in each role: the report of what is read so is the report of the files (proofs/Cut).
+// A byte more than the longest file that is accepted in each role: the report of what is read so is the report of the files
+// (finder/proofs/Cut).
 pub const PATTERN_BYTES: usize = 4 + 2 * Pattern::MAX_NODES + 4 * Pattern::MAX_LINKS + 1;
 
 pub const BOARD_BYTES: usize = 4 + 2 * Board::MAX_NODES + 4 * Board::MAX_LINKS + 1;

@@ -5,10 +5,11 @@ use Rattle.graph.specs.Circuit.{Circuit}
 use Rattle.table.specs.Prepared.{Tables}
 use Rattle.place.specs.Spread.{matched, Spread}
 use Rattle.report_pieces.specs.declared.PutPiece.{PutPiece}
-use Rattle.report_pieces.specs.Pieces.{Piece, Wrote}
+use Rattle.report_pieces.specs.Pieces.{linesPiece, Wrote}
 use Rattle.report_texts.specs.declared.Span.{Span}
 use Rattle.report_texts.specs.Texts.{bodyText, under}
 use Rattle.report_locate.specs.Source.{Source}
+use Rattle.report_centres.specs.declared.Resume.{Resume}
 
 -- The text of the component with a number stands in the buffer, before `at`: for each centre with the number it is what follows the colon in the line of the
 -- component.
@@ -24,7 +25,8 @@ pub record Kept (t : Tables) (table componentOf out : List ℕ) (at : ℕ) (text
   pub long : length texts ≡ 1024
   pub noted : (number : ℕ) → number < 512 → (under texts number .to ≡ 0 → ⊥) → TextNoted t table componentOf out at number (under texts number)
 
--- this holds of a piece of every pattern and board that lines are put from
-abbrev pub EveryWrote : Tables → List ℕ → ℕ → (Circuit → Circuit → Piece) → List ℕ → List ℕ → PutPiece → Type 0
-EveryWrote t table r piece before after part =
-    (pattern board : Circuit) → Source pattern board t table r → Wrote before (piece pattern board) after part
+-- the piece of every pattern and board that lines are put from is put
+abbrev pub EveryWrote : Tables → List ℕ → Resume → List ℕ → List ℕ → PutPiece → Type 0
+EveryWrote t table resume before after part =
+    (pattern board : Circuit) → Source pattern board t table (resume .radius) →
+    Wrote before (linesPiece pattern board (resume .from) (resume .found) (length before)) after part

@@ -1,4 +1,4 @@
-// The lines of one centre after another, put at the front of a buffer.
+// The lines of one centre after another, and the last line, put at the front of a buffer.
 use base_text::make_names;
 use file_format::Board;
 use place::Around;
@@ -8,19 +8,20 @@ use report_locate::put_new;
 use report_pieces::PutPiece;
 use report_pieces::counted;
 use report_pieces::goes_on;
+use report_pieces::put_last;
 use report_texts::Span;
 use report_texts::head_bytes;
 use report_texts::known;
 use report_texts::note;
 use report_texts::put_again;
+ghost use mathlib.Core.Path.{_≡_};
 ghost use Prim.Native.Nat.{_+_, _≤_, _<_};
 ghost use lib.ListN.{length};
 ghost use Rattle.base_text.specs.Text.{Names};
-ghost use Rattle.table.specs.Prepared.{tables};
+ghost use Rattle.table.specs.Prepared.{Tables, tables};
 ghost use Rattle.place.specs.Spread.{matched};
 ghost use Rattle.place_components.specs.Components.{Components};
 ghost use Rattle.report.specs.Lines.{longestLine};
-ghost use Rattle.report_pieces.specs.Pieces.{centresPiece};
 ghost use Rattle.report_locate.specs.Source.{SourceOfSome, EveryLine};
 ghost use Rattle.report_centres.specs.Centres.{Kept, EveryWrote};
 
@@ -45,14 +46,19 @@ fn put_centre(
     texts: &mut [u32],
     out: &mut [u8],
 ) -> usize
-    requires { ⌜ SourceOfSome (tables (now masks) (now offsets) (now targets)) (now whole) (line .around .radius) ⌝ }
-    requires { ⌜ Components (length (now whole)) (matched (tables (now masks) (now offsets) (now targets)) (now whole)) (now whole) (now «component_of») (now sizes) ⌝ }
-    requires { ⌜ line .around .centre < length (now whole) ⌝ }
-    requires { ⌜ Names (now names) × (length (now whole) ≤ length (now names)) ⌝ }
-    requires { ⌜ line .at + longestLine ≤ length (now out) ⌝ }
-    requires { ⌜ Kept (tables (now masks) (now offsets) (now targets)) (now whole) (now «component_of») (now out) (line .at) (now texts) ⌝ }
-    ensures { λ r. ⌜ EveryLine (tables (now (masks .entry)) (now (offsets .entry)) (now (targets .entry))) (now (whole .entry)) (line .around) (now (out .entry)) (line .at) (now (out .exit)) r ⌝ }
-    ensures { λ r. ⌜ Kept (tables (now (masks .entry)) (now (offsets .entry)) (now (targets .entry))) (now (whole .entry)) (now («component_of» .entry)) (now (out .exit)) r (now (texts .exit)) ⌝ }
+    ghost { Tables }
+    requires { λ α. ⌜ tables (now masks) (now offsets) (now targets) ≡ α ⌝ }
+    requires { λ α. ⌜ SourceOfSome α (now whole) (line .around .radius) ⌝ }
+    requires { λ α. ⌜ Components (length (now whole)) (matched α (now whole))
+        (now whole) (now «component_of») (now sizes) ⌝ }
+    requires { λ α. ⌜ line .around .centre < length (now whole) ⌝ }
+    requires { λ α. ⌜ Names (now names) × (length (now whole) ≤ length (now names)) ⌝ }
+    requires { λ α. ⌜ line .at + longestLine ≤ length (now out) ⌝ }
+    requires { λ α. ⌜ Kept α (now whole) (now «component_of») (now out) (line .at) (now texts) ⌝ }
+    ensures { λ α r. ⌜ EveryLine α (now (whole .entry)) (line .around)
+        (now (out .entry)) (line .at) (now (out .exit)) r ⌝ }
+    ensures { λ α r. ⌜ Kept α (now (whole .entry)) (now («component_of» .entry))
+        (now (out .exit)) r (now (texts .exit)) ⌝ }
 {
     let c = line.around.centre as usize;
     if whole[c] == 0 {
@@ -99,8 +105,8 @@ fn put_centre(
     end
 }
 
-// The lines of the centres from where a piece goes on, as long as there is room for the longest line.
-pub fn put_centres(
+// The lines of the centres from where a piece goes on, as long as there is room for the longest line, and the last line where the centres are done.
+pub fn put_lines(
     masks: &[u32],
     offsets: &[u16],
     targets: &[u16],
@@ -110,9 +116,12 @@ pub fn put_centres(
     resume: Resume,
     out: &mut [u8],
 ) -> PutPiece
-    requires { ⌜ SourceOfSome (tables (now masks) (now offsets) (now targets)) (now whole) (resume .radius) ⌝ }
-    requires { ⌜ Components (length (now whole)) (matched (tables (now masks) (now offsets) (now targets)) (now whole)) (now whole) (now «component_of») (now sizes) ⌝ }
-    ensures { λ p. ⌜ EveryWrote (tables (now (masks .entry)) (now (offsets .entry)) (now (targets .entry))) (now (whole .entry)) (resume .radius) (λ pattern board. centresPiece pattern board (resume .from) (resume .found) (length (now (out .entry)))) (now (out .entry)) (now (out .exit)) p ⌝ }
+    ghost { Tables }
+    requires { λ α. ⌜ tables (now masks) (now offsets) (now targets) ≡ α ⌝ }
+    requires { λ α. ⌜ SourceOfSome α (now whole) (resume .radius) ⌝ }
+    requires { λ α. ⌜ Components (length (now whole)) (matched α (now whole))
+        (now whole) (now «component_of») (now sizes) ⌝ }
+    ensures { λ α p. ⌜ EveryWrote α (now (whole .entry)) resume (now (out .entry)) (now (out .exit)) p ⌝ }
 {
     let mut names = [0u32; Board::MAX_NODES];
     make_names(&mut names);
@@ -142,9 +151,10 @@ pub fn put_centres(
         at = next;
         c += 1;
     }
-    PutPiece {
+    let part = PutPiece {
         next: c,
         found: count,
         size: at,
-    }
+    };
+    put_last(part, n, out)
 }

@@ -11,7 +11,7 @@ ghost use mathlib.Core.Path.{_≡_};
 ghost use Prim.Native.Nat.{_+_, _≤_, _<_};
 ghost use lib.ListN.{length, getD};
 ghost use Rattle.base_text.specs.Text.{Names};
-ghost use Rattle.table.specs.Prepared.{tables};
+ghost use Rattle.table.specs.Prepared.{Tables, tables};
 ghost use Rattle.report.specs.Lines.{longestLine};
 ghost use Rattle.report_locate.specs.Source.{SourceOfSome, CentreLabelled, BallHolds, EveryKnown, EveryLine};
 
@@ -37,10 +37,12 @@ pub fn holds(
     dist: &mut [u16],
     queue: &mut [u16],
 ) -> ComponentHeld
-    requires { ⌜ SourceOfSome (tables (now masks) (now offsets) (now targets)) (now whole) (around .radius) ⌝ }
-    requires { ⌜ CentreLabelled (tables (now masks) (now offsets) (now targets)) (now whole) (now «component_of») size (around .centre) ⌝ }
-    requires { ⌜ (length (now dist) ≡ length (now whole)) × (length (now queue) ≡ length (now whole)) ⌝ }
-    ensures { λ h. ⌜ BallHolds (tables (now (masks .entry)) (now (offsets .entry)) (now (targets .entry))) (now (whole .entry)) around (now (queue .exit)) h ⌝ }
+    ghost { Tables }
+    requires { λ α. ⌜ tables (now masks) (now offsets) (now targets) ≡ α ⌝ }
+    requires { λ α. ⌜ SourceOfSome α (now whole) (around .radius) ⌝ }
+    requires { λ α. ⌜ CentreLabelled α (now whole) (now «component_of») size (around .centre) ⌝ }
+    requires { λ α. ⌜ (length (now dist) ≡ length (now whole)) × (length (now queue) ≡ length (now whole)) ⌝ }
+    ensures { λ α h. ⌜ BallHolds α (now (whole .entry)) around (now (queue .exit)) h ⌝ }
 {
     let c = around.centre;
     let r = around.radius;
@@ -74,11 +76,14 @@ fn locate(
     queue: &mut [u16],
     sets: &mut [u32],
 ) -> bool
-    requires { ⌜ SourceOfSome (tables (now masks) (now offsets) (now targets)) (now whole) (around .radius) ⌝ }
-    requires { ⌜ (around .centre < length (now whole)) × (getD (now whole) (around .centre) 0 ≡ 0 → ⊥) ⌝ }
-    requires { ⌜ BallHolds (tables (now masks) (now offsets) (now targets)) (now whole) around (now queue) ball ⌝ }
-    requires { ⌜ (length (now dist) ≡ length (now whole)) × (length (now queue) ≡ length (now whole)) × (length (now sets) ≡ length (now whole)) ⌝ }
-    ensures { λ b. ⌜ EveryKnown (tables (now (masks .entry)) (now (offsets .entry)) (now (targets .entry))) (now (whole .entry)) around (now (dist .exit)) (now (sets .exit)) b ⌝ }
+    ghost { Tables }
+    requires { λ α. ⌜ tables (now masks) (now offsets) (now targets) ≡ α ⌝ }
+    requires { λ α. ⌜ SourceOfSome α (now whole) (around .radius) ⌝ }
+    requires { λ α. ⌜ (around .centre < length (now whole)) × (getD (now whole) (around .centre) 0 ≡ 0 → ⊥) ⌝ }
+    requires { λ α. ⌜ BallHolds α (now whole) around (now queue) ball ⌝ }
+    requires { λ α. ⌜ (length (now dist) ≡ length (now whole)) × (length (now queue) ≡ length (now whole))
+        × (length (now sets) ≡ length (now whole)) ⌝ }
+    ensures { λ α b. ⌜ EveryKnown α (now (whole .entry)) around (now (dist .exit)) (now (sets .exit)) b ⌝ }
 {
     let kept = ball.kept;
     if ball.all {
@@ -123,13 +128,17 @@ pub fn put_new(
     queue: &mut [u16],
     out: &mut [u8],
 ) -> usize
-    requires { ⌜ SourceOfSome (tables (now masks) (now offsets) (now targets)) (now whole) (line .around .radius) ⌝ }
-    requires { ⌜ (line .around .centre < length (now whole)) × (getD (now whole) (line .around .centre) 0 ≡ 0 → ⊥) ⌝ }
-    requires { ⌜ BallHolds (tables (now masks) (now offsets) (now targets)) (now whole) (line .around) (now queue) ball ⌝ }
-    requires { ⌜ (length (now dist) ≡ length (now whole)) × (length (now queue) ≡ length (now whole)) ⌝ }
-    requires { ⌜ Names (now names) × (length (now whole) ≤ length (now names)) ⌝ }
-    requires { ⌜ line .at + longestLine ≤ length (now out) ⌝ }
-    ensures { λ r. ⌜ EveryLine (tables (now (masks .entry)) (now (offsets .entry)) (now (targets .entry))) (now (whole .entry)) (line .around) (now (out .entry)) (line .at) (now (out .exit)) r ⌝ }
+    ghost { Tables }
+    requires { λ α. ⌜ tables (now masks) (now offsets) (now targets) ≡ α ⌝ }
+    requires { λ α. ⌜ SourceOfSome α (now whole) (line .around .radius) ⌝ }
+    requires { λ α. ⌜ (line .around .centre < length (now whole))
+        × (getD (now whole) (line .around .centre) 0 ≡ 0 → ⊥) ⌝ }
+    requires { λ α. ⌜ BallHolds α (now whole) (line .around) (now queue) ball ⌝ }
+    requires { λ α. ⌜ (length (now dist) ≡ length (now whole)) × (length (now queue) ≡ length (now whole)) ⌝ }
+    requires { λ α. ⌜ Names (now names) × (length (now whole) ≤ length (now names)) ⌝ }
+    requires { λ α. ⌜ line .at + longestLine ≤ length (now out) ⌝ }
+    ensures { λ α r. ⌜ EveryLine α (now (whole .entry)) (line .around)
+        (now (out .entry)) (line .at) (now (out .exit)) r ⌝ }
 {
     let mut table = [0u32; Board::MAX_NODES];
     let sets = &mut table[..whole.len()];

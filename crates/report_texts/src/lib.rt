@@ -134,7 +134,8 @@ pub struct Span {
 pub fn put_again(c: usize, text: Span, out: &mut [u8], at: usize) -> usize
     requires { ⌜ (text .from ≤ text .to) × (text .to ≤ at) ⌝ }
     requires { ⌜ Fits (now out) at (headText c ++ part (text .from) (text .to - text .from) (now out)) ⌝ }
-    ensures { λ r. ⌜ Put (now (out .entry)) at (headText c ++ part (text .from) (text .to - text .from) (now (out .entry))) (now (out .exit)) r ⌝ }
+    ensures { λ r. ⌜ Put (now (out .entry)) at
+        (headText c ++ part (text .from) (text .to - text .from) (now (out .entry))) (now (out .exit)) r ⌝ }
 {
     let body = put_head(c, out, at);
     put_copy(text.from, text.to, out, body)

@@ -1,6 +1,6 @@
 -- `finder::report_held` meets its contract. Assumes nothing.
 use Rattle.base_lists.specs.Kit.{needs, not-false, not-true}
-use Rattle.finder.specs.Printing.{ReportRan}
+use Rattle.finder.specs.Run.{ReportRan}
 use Rattle.finder.proofs.Ending.{ran-begun}
 use Rattle.finder.proofs.report_held.Statement.{statement}
 use Rattle.finder.proofs.report_held.Tie as tie

@@ -1,18 +1,21 @@
--- `report_centres::put_centres` meets its contract. The loop's invariant: the lines of the centres before c are put and those with a place
+-- `report_centres::put_lines` meets its contract. The loop's invariant: the lines of the centres before c are put and those with a place
 -- counted (Progress), of every pattern and board that lines are put from. The measure is how many centres are left. Assumes nothing.
-use Rattle.base_lists.specs.Kit.{now, _≡_, true, _≤_, _<_, _+_, _-_, lit≤, length, arith, needs, leb-true}
+use Rattle.base_lists.specs.Kit.{now, _≡_, _∙_, true, _≤_, _<_, _+_, _-_, lit≤, length, arith, needs, leb-true}
 use Rattle.base_text.proofs.Text.{put-length}
 use Rattle.graph.specs.Circuit.{Circuit}
+use Rattle.file_format.specs.declared.Role.the-variants.{Board}
+use Rattle.file_format.specs.Circuit.{Bounded}
 use Rattle.table.specs.Prepared.{tables}
 use Rattle.report.specs.Lines.{longestLine}
-use Rattle.report_pieces.specs.Pieces.{roomy}
+use Rattle.report_pieces.specs.Pieces.{roomy, centresPiece, linesPiece, Wrote}
 use Rattle.report_locate.specs.Source.{Source}
 use Rattle.report_locate.proofs.Centre.{source-long, source-few}
 use Rattle.report_centres.specs.Centres.{Kept}
 use Rattle.report_centres.proofs.OnceMore.{kept-start}
-use Rattle.report_pieces.proofs.Progress.{Progress, progress-start, progress-small, progress-goes, progress-step, progress-end}
-use Rattle.report_centres.proofs.put_centres.Statement.{statement}
-use Rattle.report_centres.proofs.put_centres.Tie as tie
+use Rattle.report_pieces.proofs.Progress.{Progress, progress-start, progress-small, progress-goes, progress-step, progress-end, piece-small}
+use Rattle.report_pieces.proofs.Pieces.{wrote-within, closed-wrote}
+use Rattle.report_centres.proofs.put_lines.Statement.{statement}
+use Rattle.report_centres.proofs.put_lines.Tie as tie
 
 abbrev Inv-loop : tie.InvT-loop
 Inv-loop masks offsets links whole componentOf sizes resume out₀ names n c₀ count₀ texts₀ at₀ out c count texts at =
@@ -65,8 +68,8 @@ goes c pattern board s =
 more : (c : tie.Then1 Inv-loop μ-loop) → turn c .loop .c < length (now (start c .args .whole))
 more c = let s = start c .pre .0 in rw (source-long (s .source)) (goes c _ _ (s .source) .0)
 
-cast-t22 : tie.Need-cast-t22 Inv-loop μ-loop
-cast-t22 c = omega (arith, more c, source-few (start c .pre .0 .source))
+cast-t23 : tie.Need-cast-t23 Inv-loop μ-loop
+cast-t23 c = omega (arith, more c, source-few (start c .pre .0 .source))
 
 slice-aggregate-put-centre : tie.Need-slice-aggregate-put-centre Inv-loop μ-loop
 slice-aggregate-put-centre c = search needs
@@ -112,15 +115,41 @@ loop-again c =
 abbrev left : tie.Else1 Inv-loop μ-loop → tie.At-loop Inv-loop μ-loop
 left c = c .before .before
 
-same-length : tie.Need-same-length Inv-loop μ-loop
-same-length c = put-length (stands (left c) .put)
-
-returns : tie.Need-returns Inv-loop μ-loop
-returns c pattern board s =
+-- the lines of the centres are put
+lined : (c : tie.Else1 Inv-loop μ-loop) →
+    let a = entry (left c .before) .args in
+    (pattern board : Circuit) → Source pattern board (tables (now (a .masks)) (now (a .offsets)) (now (a .targets))) (now (a .whole)) (a .resume .radius)
+    → Wrote (now (a .out)) (centresPiece pattern board (a .resume .from) (a .resume .found) (length (now (a .out)))) (left c .loop .out)
+    (record { next = left c .loop .c; found = left c .loop .count; size = left c .loop .at })
+lined c pattern board s =
     progress-end _ _ _ _ (left c .loop .inv .0 pattern board s) _ (rw (source-long s) at (c .before .goes-on .ensures)) (c .if1 .left)
 
-pub put-centres-spec : {M : Type 1} → statement M
-put-centres-spec =
+-- and so few of them count
+few : (c : tie.Else1 Inv-loop μ-loop) (pattern board : Circuit) → Bounded Board board →
+    let a = entry (left c .before) .args in centresPiece pattern board (a .resume .from) (a .resume .found) (length (now (a .out))) .found < 100000
+few c pattern board b = piece-small pattern board _ _ b (left c .before .struct-known .given .1 .1 .0 .fits) _
+
+put-last-requires : tie.Need-put-last-requires Inv-loop μ-loop
+put-last-requires c κs =
+    let here = c .before in
+    let source = entry (left here .before) .pre .0 .source in
+    let wrote = lined here _ _ source in
+    (wrote-within wrote, rw (wrote .found) (few here _ _ (source .drawn .nodes)), omega (arith, source-few source))
+
+same-length : tie.Need-same-length Inv-loop μ-loop
+same-length c =
+    let done = c .before .before in
+    done .put-last .kept .1 .1 .0 ∙ put-length (stands (left (done .before .before)) .put)
+
+returns : tie.Need-returns Inv-loop μ-loop
+unfolding linesPiece
+returns c pattern board s =
+    let here = c .before .before .before .before in
+    closed-wrote _ (few here _ _ (s .drawn .nodes)) (omega (arith, s .drawn .nodes .nodes)) (lined here pattern board s)
+    (rw (source-long s) at (c .before .before .put-last .ensures))
+
+pub put-lines-spec : {M : Type 1} → statement M
+put-lines-spec =
     tie.close
     (tie.spec
     Inv-loop
@@ -130,7 +159,7 @@ put-centres-spec =
     cast-count
     loop-holds
     goes-on-requires
-    cast-t22
+    cast-t23
     slice-aggregate-put-centre
     slice-aggregate-put-centre-2
     put-centre-requires
@@ -138,5 +167,6 @@ put-centres-spec =
     add-c
     loop-less
     loop-again
+    put-last-requires
     same-length
     returns)
