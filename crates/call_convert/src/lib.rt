@@ -58,9 +58,11 @@ fn convert_circuit(
     ends: &[u16],
     out: &mut [u8],
 ) -> ConvertAnswer
-    requires { ⌜ first (circuitConditions role to (now kinds) (now packages) (now starts) (now ends)) ≡ Verdict.accept ⌝ }
+    requires { ⌜ first (circuitConditions role to (now kinds) (now packages) (now starts) (now ends))
+        ≡ Verdict.accept ⌝ }
     ensures { λ r. ⌜ record { reply = convertReply r; out = now (out .exit) }
-        ≡ convertOn role to (now (kinds .entry)) (now (packages .entry)) (now (starts .entry)) (now (ends .entry)) (now (out .entry)) ⌝ }
+        ≡ convertOn role to (now (kinds .entry)) (now (packages .entry)) (now (starts .entry)) (now (ends .entry))
+        (now (out .entry)) ⌝ }
 {
     if loses(to, packages) {
         return ConvertAnswer::Refused(refusal(role, 12));
@@ -84,9 +86,11 @@ fn convert_through(
     ends: &mut [u16],
     out: &mut [u8],
 ) -> ConvertAnswer
-    requires { ⌜ (512 ≤ length (now kinds)) × (512 ≤ length (now packages)) × (4096 ≤ length (now starts)) × (4096 ≤ length (now ends)) ⌝ }
+    requires { ⌜ (512 ≤ length (now kinds)) × (512 ≤ length (now packages)) × (4096 ≤ length (now starts))
+        × (4096 ≤ length (now ends)) ⌝ }
     requires { ⌜ Below 1 (now packages) ⌝ }
-    ensures { λ r. ⌜ record { reply = convertReply r; out = now (out .exit) } ≡ converting role to (inEdition from (now (file .entry))) (now (out .entry)) ⌝ }
+    ensures { λ r. ⌜ record { reply = convertReply r; out = now (out .exit) }
+        ≡ converting role to (inEdition from (now (file .entry))) (now (out .entry)) ⌝ }
 {
     let answer = read(role, from, file, kinds, packages, starts, ends);
     match answer {
@@ -106,7 +110,8 @@ fn convert_through(
 // Converts a file of one edition, in a role, to another: the new file's length, with the new file at the front of the bytes lent; or the
 // refusal, which leaves every byte as it was.
 pub fn convert(role: Role, from: Edition, to: Edition, file: &[u8], out: &mut [u8]) -> ConvertAnswer
-    ensures { λ r. ⌜ record { reply = convertReply r; out = now (out .exit) } ≡ converting role to (inEdition from (now (file .entry))) (now (out .entry)) ⌝ }
+    ensures { λ r. ⌜ record { reply = convertReply r; out = now (out .exit) }
+        ≡ converting role to (inEdition from (now (file .entry))) (now (out .entry)) ⌝ }
 {
     let mut kinds = [0u16; Board::MAX_NODES];
     let mut packages = [0u16; Board::MAX_NODES];

@@ -37,10 +37,13 @@ fn quotient(
     ms: &mut [u16],
     me: &mut [u16],
 ) -> Pattern
-    requires { ⌜ first (circuitConditions role.Pattern editions.First (now labels) [] (now starts) (now ends)) ≡ Verdict.accept ⌝ }
-    requires { ⌜ (length (now classes) ≡ length (now labels)) × (length (now table) ≡ length (now labels)) × (length (now rows) ≡ 32) ⌝ }
+    requires { ⌜ first (circuitConditions role.Pattern editions.First (now labels) [] (now starts) (now ends))
+        ≡ Verdict.accept ⌝ }
+    requires { ⌜ (length (now classes) ≡ length (now labels)) × (length (now table) ≡ length (now labels))
+        × (length (now rows) ≡ 32) ⌝ }
     requires { ⌜ (32 ≤ length (now mk)) × (256 ≤ length (now ms)) × (256 ≤ length (now me)) ⌝ }
-    ensures { λ r. ⌜ Quotient (circuit (now (labels .entry)) (now (starts .entry)) (now (ends .entry))) (now (classes .exit)) (now (mk .exit)) (now (ms .exit)) (now (me .exit)) r ⌝ }
+    ensures { λ r. ⌜ Quotient (circuit (now (labels .entry)) (now (starts .entry)) (now (ends .entry)))
+        (now (classes .exit)) (now (mk .exit)) (now (ms .exit)) (now (me .exit)) r ⌝ }
 {
     match_circuits(
         Ways::Both,
@@ -69,10 +72,13 @@ pub fn merge_circuit(
     classes: &mut [u8],
     out: &mut [u8],
 ) -> MergeAnswer
-    requires { ⌜ first (circuitConditions role.Pattern editions.First (now labels) [] (now starts) (now ends)) ≡ Verdict.accept ⌝ }
-    requires { ⌜ (length (now classes) ≡ length (now labels)) × (lengthOf edition (length (now labels)) (length (now starts)) ≤ length (now out)) ⌝ }
+    requires { ⌜ first (circuitConditions role.Pattern editions.First (now labels) [] (now starts) (now ends))
+        ≡ Verdict.accept ⌝ }
+    requires { ⌜ (length (now classes) ≡ length (now labels))
+        × (lengthOf edition (length (now labels)) (length (now starts)) ≤ length (now out)) ⌝ }
     requires { ⌜ LabelsFit edition (now labels) ⌝ }
-    ensures { λ r. ⌜ MergedFrom edition (circuit (now (labels .entry)) (now (starts .entry)) (now (ends .entry))) r (now (classes .exit)) (now (out .entry)) (now (out .exit)) ⌝ }
+    ensures { λ r. ⌜ MergedFrom edition (circuit (now (labels .entry)) (now (starts .entry)) (now (ends .entry))) r
+        (now (classes .exit)) (now (out .entry)) (now (out .exit)) ⌝ }
 {
     let mut table = [0u32; Pattern::MAX_NODES];
     let mut rows = [0u32; Pattern::MAX_NODES];

@@ -83,7 +83,8 @@ pub fn load_bounded(
 ) -> FileRead
     requires { ⌜ TablesRoom role.AnyPattern (circuit (now labels) (now starts) (now ends)) ⌝ }
     requires { ⌜ 256 ≤ length (now bounds) ⌝ }
-    ensures { λ r. ⌜ BoundsLoaded (now (file .entry)) r (circuit (now (labels .exit)) (now (starts .exit)) (now (ends .exit))) (now (bounds .exit)) ⌝ }
+    ensures { λ r. ⌜ BoundsLoaded (now (file .entry)) r
+        (circuit (now (labels .exit)) (now (starts .exit)) (now (ends .exit))) (now (bounds .exit)) ⌝ }
 {
     let number = size_number(file);
     if number != 0 {

@@ -40,9 +40,12 @@ fn store_two(first: &[u16], second: &[u16], at: usize, out: &mut [u8])
 
 // The circuit's file, at the front of bytes that have room for it. `packages` are those that the edition has.
 pub fn put_fields(kinds: &[u16], packages: &[u16], starts: &[u16], ends: &[u16], out: &mut [u8])
-    requires { ⌜ (length (now kinds) < 65536) × (length (now starts) < 65536) × (length (now starts) ≡ length (now ends)) ⌝ }
+    requires { ⌜ (length (now kinds) < 65536) × (length (now starts) < 65536)
+        × (length (now starts) ≡ length (now ends)) ⌝ }
     requires { ⌜ 4 + 2 * length (now kinds) + 2 * length (now packages) + 4 * length (now starts) ≤ length (now out) ⌝ }
-    ensures { λ r. ⌜ now (out .exit) ≡ filled accept (stretchBytes (now (kinds .entry)) (now (packages .entry)) (now (starts .entry)) (now (ends .entry))) (now (out .entry)) ⌝ }
+    ensures { λ r. ⌜ now (out .exit)
+        ≡ filled accept (stretchBytes (now (kinds .entry)) (now (packages .entry)) (now (starts .entry))
+        (now (ends .entry))) (now (out .entry)) ⌝ }
 {
     let n = kinds.len();
     store_field(n as u16, 0, out);

@@ -27,8 +27,10 @@ pub fn fill_links(
 )
     requires { ⌜ length (now file) ≡ lengthOf edition n m ⌝ }
     requires { ⌜ (m ≤ length (now starts)) × (m ≤ length (now ends)) ⌝ }
-    ensures { λ r. ⌜ now (starts .exit) ≡ fields (drop (startsAt edition n) (now (file .entry))) m ++ drop m (now (starts .entry)) ⌝ }
-    ensures { λ r. ⌜ now (ends .exit) ≡ fields (drop (endsAt edition n m) (now (file .entry))) m ++ drop m (now (ends .entry)) ⌝ }
+    ensures { λ r. ⌜ now (starts .exit)
+        ≡ fields (drop (startsAt edition n) (now (file .entry))) m ++ drop m (now (starts .entry)) ⌝ }
+    ensures { λ r. ⌜ now (ends .exit)
+        ≡ fields (drop (endsAt edition n m) (now (file .entry))) m ++ drop m (now (ends .entry)) ⌝ }
 {
     let at = 4 + 2 * n + 2 * package_count(edition, n);
     store_two(file, at, m, starts, m, ends);
@@ -61,10 +63,12 @@ pub fn fill_fitting(
     starts: &mut [u16],
     ends: &mut [u16],
 ) -> ReadAnswer
-    requires { ⌜ (n ≡ nodesOf (inEdition edition (now file))) × (m ≡ linksOf (inEdition edition (now file))) × (length (now file) ≡ lengthOf edition n m) ⌝ }
+    requires { ⌜ (n ≡ nodesOf (inEdition edition (now file))) × (m ≡ linksOf (inEdition edition (now file)))
+        × (length (now file) ≡ lengthOf edition n m) ⌝ }
     ensures { λ r. ⌜ ((role : Role) → first (fileConditions role (inEdition edition (now (file .entry)))) ≡ accept
         → record { answer = r; reply = readReply r; kinds = now (kinds .exit); packages = now (packages .exit); starts = now (starts .exit); ends = now (ends .exit) }
-        ≡ reading role (inEdition edition (now (file .entry))) (now (kinds .entry)) (now (packages .entry)) (now (starts .entry)) (now (ends .entry))) ⌝ }
+        ≡ reading role (inEdition edition (now (file .entry))) (now (kinds .entry)) (now (packages .entry))
+        (now (starts .entry)) (now (ends .entry))) ⌝ }
 {
     let short = ReadAnswer::Refused(TOO_SHORT);
     if kinds.len() < n {

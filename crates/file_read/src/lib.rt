@@ -43,7 +43,8 @@ pub fn load(
     ends: &mut [u16],
 ) -> FileRead
     requires { ⌜ TablesRoom role (circuit (now labels) (now starts) (now ends)) ⌝ }
-    ensures { λ r. ⌜ Loaded role (inEdition edition (now (file .entry))) r (circuit (now (labels .exit)) (now (starts .exit)) (now (ends .exit))) ⌝ }
+    ensures { λ r. ⌜ Loaded role (inEdition edition (now (file .entry))) r
+        (circuit (now (labels .exit)) (now (starts .exit)) (now (ends .exit))) ⌝ }
 {
     let number = size_number(role, edition, file);
     if number != 0 {
@@ -77,7 +78,8 @@ pub fn read(
     ends: &mut [u16],
 ) -> ReadAnswer
     ensures { λ r. ⌜ record { answer = r; reply = readReply r; kinds = now (kinds .exit); packages = now (packages .exit); starts = now (starts .exit); ends = now (ends .exit) }
-        ≡ reading role (inEdition edition (now (file .entry))) (now (kinds .entry)) (now (packages .entry)) (now (starts .entry)) (now (ends .entry)) ⌝ }
+        ≡ reading role (inEdition edition (now (file .entry))) (now (kinds .entry)) (now (packages .entry))
+        (now (starts .entry)) (now (ends .entry)) ⌝ }
 {
     let mut l = [0u32; Board::MAX_NODES];
     let mut s = [0u16; Board::MAX_LINKS];

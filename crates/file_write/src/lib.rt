@@ -40,7 +40,8 @@ pub fn write(
     out: &mut [u8],
 ) -> WriteAnswer
     ensures { λ r. ⌜ record { answer = r; reply = writeReply r; out = now (out .exit) }
-        ≡ writing role edition (now (kinds .entry)) (now (packages .entry)) (now (starts .entry)) (now (ends .entry)) (now (out .entry)) ⌝ }
+        ≡ writing role edition (now (kinds .entry)) (now (packages .entry)) (now (starts .entry))
+        (now (ends .entry)) (now (out .entry)) ⌝ }
 {
     let n = kinds.len();
     let number = circuit_number(role, edition, n, packages.len(), starts, ends);
@@ -65,7 +66,8 @@ pub fn write_first(
     out: &mut [u8],
 ) -> WriteAnswer
     ensures { λ r. ⌜ record { answer = r; reply = writeReply r; out = now (out .exit) }
-        ≡ writing role editions.First (now (kinds .entry)) [] (now (starts .entry)) (now (ends .entry)) (now (out .entry)) ⌝ }
+        ≡ writing role editions.First (now (kinds .entry)) [] (now (starts .entry)) (now (ends .entry))
+        (now (out .entry)) ⌝ }
 {
     write(role, Edition::First, kinds, &kinds[0..0], starts, ends, out)
 }
@@ -81,9 +83,11 @@ fn write_parts(
     ends: &[u16],
     out: &mut [u8],
 ) -> WriteAnswer
-    requires { ⌜ (length (now kinds) ≡ length (now labels)) × (length (now packages) ≡ length (now labels)) × LabelsFit edition (now labels) ⌝ }
+    requires { ⌜ (length (now kinds) ≡ length (now labels)) × (length (now packages) ≡ length (now labels))
+        × LabelsFit edition (now labels) ⌝ }
     ensures { λ r. ⌜ record { answer = r; reply = writeReply r; out = now (out .exit) }
-        ≡ writing role edition (kindsFor edition (now (labels .entry))) (packagesIn (now (labels .entry))) (now (starts .entry)) (now (ends .entry)) (now (out .entry)) ⌝ }
+        ≡ writing role edition (kindsFor edition (now (labels .entry))) (packagesIn (now (labels .entry)))
+        (now (starts .entry)) (now (ends .entry)) (now (out .entry)) ⌝ }
 {
     split(labels, kinds, packages);
     write(role, edition, kinds, packages, starts, ends, out)
@@ -100,7 +104,8 @@ pub fn write_circuit(
 ) -> WriteAnswer
     requires { ⌜ (length (now labels) ≤ 512) × LabelsFit edition (now labels) ⌝ }
     ensures { λ r. ⌜ record { answer = r; reply = writeReply r; out = now (out .exit) }
-        ≡ writing role edition (kindsFor edition (now (labels .entry))) (packagesIn (now (labels .entry))) (now (starts .entry)) (now (ends .entry)) (now (out .entry)) ⌝ }
+        ≡ writing role edition (kindsFor edition (now (labels .entry))) (packagesIn (now (labels .entry)))
+        (now (starts .entry)) (now (ends .entry)) (now (out .entry)) ⌝ }
 {
     let mut kinds = [0u16; Board::MAX_NODES];
     let mut packages = [0u16; Board::MAX_NODES];

@@ -41,8 +41,10 @@ fn join(sets: &mut [u32], u: u16, v: u16)
 // The balls at radius 1, one for each entry of the table: the node, and what a link joins it to.
 fn neighbourhoods(starts: &[u16], ends: &[u16], near: &mut [u32])
     requires { ⌜ (length (now starts) ≡ length (now ends)) × (length (now near) ≤ 32) ⌝ }
-    requires { ⌜ T (all (λ v. ltb v (length (now near))) (now starts)) × T (all (λ v. ltb v (length (now near))) (now ends)) ⌝ }
-    ensures { λ _. ⌜ now (near .exit) ≡ balls (length (now (near .entry))) (now (starts .entry)) (now (ends .entry)) 1 ⌝ }
+    requires { ⌜ T (all (λ v. ltb v (length (now near))) (now starts))
+        × T (all (λ v. ltb v (length (now near))) (now ends)) ⌝ }
+    ensures { λ _. ⌜ now (near .exit)
+        ≡ balls (length (now (near .entry))) (now (starts .entry)) (now (ends .entry)) 1 ⌝ }
 {
     singles(near);
     let mut i = 0;
@@ -107,7 +109,8 @@ fn first_spanning(near: &[u32], old: &mut [u32], new: &mut [u32]) -> u16
 // The radius of a circuit with a node for each entry of the tables, which are scratch.
 fn measure(starts: &[u16], ends: &[u16], near: &mut [u32], old: &mut [u32], new: &mut [u32]) -> u16
     requires { ⌜ (length (now starts) ≡ length (now ends)) × (length (now near) ≤ 32) ⌝ }
-    requires { ⌜ T (all (λ v. ltb v (length (now near))) (now starts)) × T (all (λ v. ltb v (length (now near))) (now ends)) ⌝ }
+    requires { ⌜ T (all (λ v. ltb v (length (now near))) (now starts))
+        × T (all (λ v. ltb v (length (now near))) (now ends)) ⌝ }
     requires { ⌜ (length (now old) ≡ length (now near)) × (length (now new) ≡ length (now near)) ⌝ }
     ensures { λ r. ⌜ r ≡ radius (length (now (near .entry))) (now (starts .entry)) (now (ends .entry)) ⌝ }
 {

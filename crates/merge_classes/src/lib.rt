@@ -50,7 +50,8 @@ pub fn number_classes(table: &[u32], classes: &mut [u8]) -> usize
 pub fn leader_labels(table: &[u32], labels: &[u32], out: &mut [u32])
     requires { ⌜ SelfTable (now table) ⌝ }
     requires { ⌜ (length (now labels) ≡ length (now table)) × (length (now table) ≤ length (now out)) ⌝ }
-    ensures { λ r. ⌜ now (out .exit) ≡ sets (now (out .entry)) 0 (leaderLabels (now (table .entry)) (now (labels .entry))) ⌝ }
+    ensures { λ r. ⌜ now (out .exit)
+        ≡ sets (now (out .entry)) 0 (leaderLabels (now (table .entry)) (now (labels .entry))) ⌝ }
 {
     let mut next = 0;
     let mut u = 0;
