@@ -19,7 +19,7 @@ use Rattle.table.specs.Reply.{noCounts}
 use Rattle.place.specs.declared.PlaceAnswer.the-variants.{Refused}
 use Rattle.place.specs.Match.{radiusOf}
 use Rattle.place.specs.Outcome.{PlaceOutcome, placeReply, placeAround}
-use Rattle.place_circuits.specs.Ball.{SomeDrawn, EveryDrawn}
+use Rattle.place_circuits.specs.Drawn.{SomeDrawn, EveryDrawn}
 use Rattle.call_decide.specs.declared.Reach.{Reach}
 use Rattle.call_decide.specs.Decide.{placeConditions, radiusFor}
 use Rattle.call_place.specs.Call.{inputConditions, decided, placeAt, placeOn}

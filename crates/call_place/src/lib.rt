@@ -28,7 +28,7 @@ ghost use Rattle.table.specs.Prepared.{tables};
 ghost use Rattle.table.specs.Reply.{noCounts};
 ghost use Rattle.place.specs.Match.{radiusOf};
 ghost use Rattle.place.specs.Outcome.{placeReply};
-ghost use Rattle.place_circuits.specs.Ball.{placedAs, SomeDrawn, EveryDrawn};
+ghost use Rattle.place_circuits.specs.Drawn.{placedAs, SomeDrawn, EveryDrawn};
 ghost use Rattle.call_decide.specs.Decide.{radiusFor};
 ghost use Rattle.call_place.specs.Call.{placeOn, placeAt};
 

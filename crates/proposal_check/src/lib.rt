@@ -24,7 +24,7 @@ ghost use Rattle.graph.specs.Net.{NetRoom};
 ghost use Rattle.graph.specs.Search.{ball};
 ghost use Rattle.table.specs.Prepared.{tables};
 ghost use Rattle.proposal.specs.Check.{inRow, checks};
-ghost use Rattle.place_circuits.specs.Ball.{SomeTabled};
+ghost use Rattle.place_ball.specs.Ball.{SomeTabled};
 ghost use Rattle.proposal_check.specs.Tabled.{SomePattern, EveryFills, EveryJoined};
 
 // Whether every marked node is in the ball around the centre at the radius, in the whole board. The neighbour tables

@@ -7,7 +7,7 @@ use Rattle.table.specs.Prepared.{tables, Tables, Prepared}
 use Rattle.place.specs.Match.{placeLinks}
 use Rattle.place.proofs.Find.{drawn-tabled, tabled-links}
 use Rattle.place.proofs.Outcome.{around-none, around-some}
-use Rattle.place_circuits.specs.Ball.{PlacedIn}
+use Rattle.place_ball.specs.Ball.{PlacedIn}
 use Rattle.place_circuits.proofs.Marked.{sets-room, place-room, cut-ready, cut-long, cut-list, cut-fit, marked-nodes, marked-table, marked-links, dist-room, copied}
 use Rattle.place_circuits.proofs.place_circuits.Statement.{statement}
 use Rattle.place_circuits.proofs.place_circuits.Tie as tie

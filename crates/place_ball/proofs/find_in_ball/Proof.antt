@@ -1,4 +1,4 @@
--- `place_circuits::find_in_ball` meets its contract: the nodes that the search lists are the ball, and the pairs of
+-- `place_ball::find_in_ball` meets its contract: the nodes that the search lists are the ball, and the pairs of
 -- equal kinds in it are a first table. What the search finds are the ball's distances, and no other search writes over
 -- them. Assumes nothing.
 use Rattle.base_lists.specs.Kit.{now, _∙_, sym, ap, List, ℕ, _≤_, length, take, length-take-le, arith, needs}
@@ -11,8 +11,8 @@ use Rattle.table.specs.Row.{bothWays}
 use Rattle.table.proofs.Begun.{started-begins, kept-first, refined}
 use Rattle.place.specs.Find.{Tabled, Sought}
 use Rattle.place.proofs.Find.{tabled-net, ball-short, ball-list, ball-marks, ball-measured, ball-sought}
-use Rattle.place_circuits.proofs.find_in_ball.Statement.{statement}
-use Rattle.place_circuits.proofs.find_in_ball.Tie as tie
+use Rattle.place_ball.proofs.find_in_ball.Statement.{statement}
+use Rattle.place_ball.proofs.find_in_ball.Tie as tie
 
 abbrev tablesOf : tie.Start → Tables
 tablesOf s = tables (now (s .args .masks)) (now (s .args .offsets)) (now (s .args .targets))
