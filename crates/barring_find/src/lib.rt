@@ -2,10 +2,9 @@
 use crate::dropping::drop_links;
 use crate::trial::bars;
 use barring::BarAnswer;
+use barring::placed;
 use file_format::Board;
-use file_format::File;
 use file_format::Pattern;
-use file_format::Refusal;
 use graph::marked::count;
 use graph_neighbours::tables::OFFSETS;
 use graph_neighbours::tables::TARGETS;
@@ -66,10 +65,7 @@ fn least_in_ball(
     let all = [1u8; Pattern::MAX_LINKS];
     let m = starts.len();
     if !bars(nodes, starts, ends, offsets, targets, first, w, &all[..m]) {
-        return BarAnswer::Refused(Refusal {
-            number: 15,
-            file: File::Neither,
-        });
+        return placed();
     }
     drop_links(
         nodes,

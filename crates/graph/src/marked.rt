@@ -1,7 +1,7 @@
 // Links chosen by a byte for each: 1 for chosen.
 ghost use mathlib.Core.Path.{_≡_};
 ghost use Prim.Native.Nat.{_≤_};
-ghost use lib.ListN.{length, take};
+ghost use lib.ListN.{length, take, replicate};
 ghost use Rattle.base_lists.specs.Below.{countBelow};
 ghost use Rattle.graph.specs.Chosen.{picked};
 ghost use Rattle.graph.specs.Search.{inside};
@@ -36,4 +36,15 @@ pub fn count(marks: &[u8]) -> usize
         j += 1;
     }
     k
+}
+
+// Sets every byte to x.
+pub fn fill(bytes: &mut [u8], x: u8)
+    ensures { λ _. ⌜ now (bytes .exit) ≡ replicate (length (now (bytes .entry))) x ⌝ }
+{
+    let mut i = 0;
+    while i < bytes.len() {
+        bytes[i] = x;
+        i += 1;
+    }
 }

@@ -37,6 +37,10 @@ module _ {adj : ℕ → List ℕ} {r n q : ℕ} {f : Frontier} {s : SearchState}
       let k = go .gone .standing in
       (k .inside, k .reached, k .early, k .within, omega (arith, tail-le _ _ _ (go .kept), go .long), omega (arith, go .kept .within, go .room), go .few)
 
+  -- not all of the level has been looked from
+  pub going-left : (g .looked ≡ g .level → ⊥) → g .looked < g .level
+  going-left h = omega (arith, near, h)
+
   size : g .tail ≡ length (stateOf dist queue (g .tail) .reached)
   size = sym (reached-length _ _ _ (go .kept))
 

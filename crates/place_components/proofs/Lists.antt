@@ -1,6 +1,6 @@
 -- Lists without repeats: one whose entries all occur in another is not longer, so that where it is as long it has all of the other's; and those of
 -- a list's nodes that pass a test. Assumes nothing.
-use Rattle.base_lists.specs.Kit.{_≡_, _∙_, sym, ap, refl, subst, Bool, false, true, cond, List, [], _∷_, _++_, ℕ, _≤_, _<_, _+_, suc, zero, zero-le, suc-le-suc, not-suc-le-zero, le-of-suc-le-suc, zero-lt-suc, le-step, add-one, T, eqb, eqb-refl, length, getD, take, length-append, List·getD-append, take-suc, arith, ne-eqb}
+use Rattle.base_lists.specs.Kit.{_≡_, _∙_, sym, ap, refl, subst, Bool, false, true, cond, List, [], _∷_, _++_, ℕ, _≤_, _<_, _+_, suc, zero, suc-le-suc, not-suc-le-zero, le-of-suc-le-suc, zero-lt-suc, T, eqb, eqb-refl, length, getD, length-append, List·getD-append, arith, ne-eqb}
 use Rattle.base_lists.specs.List.{Occurs, Below}
 use Rattle.base_lists.specs.Below.{leastBelow}
 use Rattle.base_lists.proofs.Below.{leastBelow-is, countBelow-all}

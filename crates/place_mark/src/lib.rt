@@ -1,5 +1,6 @@
 // Marking the place in the lent tables from the list of its nodes. Each table is cleared, and then written at the nodes of the list and at
 // their links only: a node's links are a stretch of the file's order.
+use graph::marked::fill;
 use graph_neighbours::neighbours::Direction;
 use graph_neighbours::neighbours::neighbours_in;
 use place::parts::driven_parts;
@@ -7,7 +8,7 @@ use table_first::copy;
 ghost use mathlib.Core.Bool.{cond};
 ghost use mathlib.Core.Path.{_≡_};
 ghost use Prim.Native.Nat.{suc, _≤_, _<_};
-ghost use lib.ListN.{length, getD, replicate};
+ghost use lib.ListN.{length, getD};
 ghost use Rattle.base_bits.specs.Bits.{intersects};
 ghost use Rattle.base_lists.specs.List.{Below};
 ghost use Rattle.graph.specs.Net.{forwardOffsets};
@@ -15,23 +16,12 @@ ghost use Rattle.table.specs.Fill.{marksOf, NodeList, tableAt};
 ghost use Rattle.table.specs.Prepared.{tables, Ready};
 ghost use Rattle.place.specs.Bytes.{LinksFit, markedEnds, markStart, linkMarks};
 
-// Sets every byte to 0.
-fn clear(bytes: &mut [u8])
-    ensures { λ _. ⌜ now (bytes .exit) ≡ replicate (length (now (bytes .entry))) 0 ⌝ }
-{
-    let mut i = 0;
-    while i < bytes.len() {
-        bytes[i] = 0;
-        i += 1;
-    }
-}
-
 // A byte for each node, 1 for those of the list.
 fn mark_nodes(list: &[u16], bytes: &mut [u8])
     requires { ⌜ Below (length (now bytes)) (now list) ⌝ }
     ensures { λ _. ⌜ now (bytes .exit) ≡ marksOf (length (now (bytes .entry))) (now (list .entry)) ⌝ }
 {
-    clear(bytes);
+    fill(bytes, 0);
     let mut i = 0;
     while i < list.len() {
         let v = list[i] as usize;
@@ -99,7 +89,7 @@ fn mark_links(
     requires { ⌜ LinksFit (length (now sets)) (now offsets) (now bytes) ⌝ }
     ensures { λ _. ⌜ now (bytes .exit) ≡ linkMarks (length (now (bytes .entry))) (tables (now (masks .entry)) (now (offsets .entry)) (now (targets .entry))) (now (sets .entry)) (now (list .entry)) ⌝ }
 {
-    clear(bytes);
+    fill(bytes, 0);
     let mut i = 0;
     while i < list.len() {
         let v = list[i] as usize;

@@ -31,44 +31,26 @@ pub fn settle(
     marks: &mut [u16],
     todo: &mut [u16],
     changed: &mut [u16],
-    next: &mut [u32],
+    new: &mut [u32],
 ) -> Rest
     requires { ⌜ Due (tables (now masks) (now offsets) (now targets)) (now table) (now first) ⌝ }
     requires { ⌜ started ≡ pairs (now table) ⌝ }
     requires { ⌜ (now marks ≡ replicate (length (now table)) far) × (length (now todo) ≡ length (now table)) ⌝ }
-    requires { ⌜ (length (now changed) ≡ length (now table)) × (length (now next) ≡ length (now table)) ⌝ }
+    requires { ⌜ (length (now changed) ≡ length (now table)) × (length (now new) ≡ length (now table)) ⌝ }
     ensures { λ r. ⌜ Settled (tables (now (masks .entry)) (now (offsets .entry)) (now (targets .entry))) (now (table .entry)) (now (table .exit)) (r .kept) (r .rounds) ⌝ }
     ensures { λ _. ⌜ now (marks .exit) ≡ now (marks .entry) ⌝ }
 {
     let mut kept = started;
     let mut rounds: u32 = 0;
     let one_way = all_empty(&masks[FORWARD_MASKS..MASKS]);
-    let mut n = changes(
-        one_way,
-        first,
-        masks,
-        offsets,
-        targets,
-        table,
-        changed,
-        next,
-    );
+    let mut n = changes(one_way, first, masks, offsets, targets, table, changed, new);
     while n != 0 {
-        kept = write(&changed[..n], &next[..n], table, kept);
+        kept = write(&changed[..n], &new[..n], table, kept);
         rounds += 1;
         let k = list_beside(&changed[..n], offsets, targets, table, marks, todo);
-        let listed = &todo[..k];
-        n = changes(
-            one_way,
-            listed,
-            masks,
-            offsets,
-            targets,
-            table,
-            changed,
-            next,
-        );
-        unmark(listed, marks);
+        let list = &todo[..k];
+        n = changes(one_way, list, masks, offsets, targets, table, changed, new);
+        unmark(list, marks);
     }
     Rest { kept, rounds }
 }

@@ -13,12 +13,11 @@ allOccur nodes parts t = allBelow parts (λ u. anyBelow nodes (λ v. inTable t u
 unfoldable pub allOrNone : ℕ → ℕ → List ℕ → List ℕ
 allOrNone nodes parts t = cond (allOccur nodes parts t) t (tabulate nodes (λ v. 0))
 
-module _ {D : Type 0} (p : Problem D) where
-  unfoldable pub answerOf : List ℕ
-  answerOf = allOrNone (p .nodes) (p .parts) (lastOf p)
+unfoldable pub answerOf : {D : Type 0} → Problem D → List ℕ
+answerOf p = allOrNone (p .nodes) (p .parts) (lastOf p)
 
-  unfoldable pub answerKept : ℕ
-  answerKept = pairs answerOf
+unfoldable pub answerKept : {D : Type 0} → Problem D → ℕ
+answerKept p = pairs (answerOf p)
 
-  unfoldable pub answerStruck : ℕ
-  answerStruck = startedOf p - answerKept
+unfoldable pub answerStruck : {D : Type 0} → Problem D → ℕ
+answerStruck p = startedOf p - answerKept p

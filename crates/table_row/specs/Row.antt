@@ -62,21 +62,20 @@ rowOf p = rowFrom p (startOf p)
 
 -- "started, the pairs of R0; kept, the pairs left; struck, started minus kept; rounds, how many sets differ from the one before". A set
 -- that differs from the one before has fewer pairs, so that the row has come to its last set after as many steps as it started with pairs.
-module _ {D : Type 0} (p : Problem D) where
-  unfoldable pub startedOf : ℕ
-  startedOf = pairs (startOf p)
+unfoldable pub startedOf : {D : Type 0} → Problem D → ℕ
+startedOf p = pairs (startOf p)
 
-  unfoldable pub lastOf : List ℕ
-  lastOf = rowOf p startedOf
+unfoldable pub lastOf : {D : Type 0} → Problem D → List ℕ
+lastOf p = rowOf p (startedOf p)
 
-  unfoldable pub keptOf : ℕ
-  keptOf = pairs lastOf
+unfoldable pub keptOf : {D : Type 0} → Problem D → ℕ
+keptOf p = pairs (lastOf p)
 
-  unfoldable pub struckOf : ℕ
-  struckOf = startedOf - keptOf
+unfoldable pub struckOf : {D : Type 0} → Problem D → ℕ
+struckOf p = startedOf p - keptOf p
 
-  unfoldable pub roundsOf : ℕ
-  roundsOf = countBelow startedOf (λ k. not (same (rowOf p (suc k)) (rowOf p k)))
+unfoldable pub roundsOf : {D : Type 0} → Problem D → ℕ
+roundsOf p = countBelow (startedOf p) (λ k. not (same (rowOf p (suc k)) (rowOf p k)))
 
 -- ---- rows that fall
 

@@ -17,7 +17,8 @@ bars-requires c κs = let p = c .before .before .before .before .before .before 
 returns : tie.Need-returns
 returns c =
     λ partLabels board r t.
-    around-placed _ board _ r _ (is-placed _ board (t .parts .parallel) (t .parts .links) _ r (c .before .bars .ensures partLabels board r t) (not-true _ (c .if1 .taken)))
+    around-placed _ board _ r _ (c .placed .ensures)
+    (is-placed _ board (t .parts .parallel) (t .parts .links) _ r (c .before .before .bars .ensures partLabels board r t) (not-true _ (c .before .if1 .taken)))
 
 -- there are as many bytes as links
 long : (c : tie.After-drop-links) → length (c .drop-links .last .1 .1 .1 .1 .1 .1 .1 .0) ≡ length (now (c .before .before .before .before .before .before .before .before .before .before .before .before .args .starts))
@@ -52,6 +53,6 @@ returns-2 c =
 pub least-in-ball-spec : {M : Type 1} → statement M
 least-in-ball-spec =
     tie.close
-    (tie.spec (λ c. search needs) slice-aggregate-bars bars-requires returns (λ c. search needs)
+    (tie.spec (λ c. search needs) slice-aggregate-bars bars-requires (λ c κs. search needs) returns (λ c. search needs)
     slice-aggregate-drop-links drop-links-requires (λ c. search needs) slice-aggregate-count (λ c κs. search needs)
     (λ c. search needs) returns-2)

@@ -1,6 +1,6 @@
 -- `graph_gather::search_until` meets its contract. The loop's invariant: the search has gone on from the centre (graph_search/proofs/Going) to the state that the
 -- tables stand for, and so many of the nodes reached have the number. The measure is how many nodes are not reached. Assumes nothing.
-use Rattle.base_lists.specs.Kit.{now, _≡_, _∙_, sym, ap, refl, List, ℕ, _≤_, _-_, length, getD, take, length-take-le, take-take, arith, needs, eq-eqb}
+use Rattle.base_lists.specs.Kit.{now, _≡_, _∙_, sym, ap, List, ℕ, _≤_, _-_, length, getD, take, length-take-le, take-take, arith, needs, eq-eqb}
 use Rattle.graph.specs.Bfs.{SearchState, start, adjacent, stateOf}
 use Rattle.graph.proofs.BfsSteps.{tail-le, reached-length}
 use Rattle.graph.proofs.Net.{net-few}

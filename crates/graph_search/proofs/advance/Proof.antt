@@ -1,9 +1,9 @@
 -- `graph_search::advance` meets its contract. The loop's invariant: the search has gone on (proofs/Going) to the state that the tables stand for. The measure is how
 -- many levels and how many nodes are left. Assumes nothing.
-use Rattle.base_lists.specs.Kit.{now, _∙_, sym, _<_, _+_, _-_, length, arith, needs}
+use Rattle.base_lists.specs.Kit.{_∙_, sym, _+_, _-_, length, arith, needs}
 use Rattle.graph.specs.Bfs.{adjacent, stateOf}
 use Rattle.graph.proofs.Net.{net-few}
-use Rattle.graph_search.proofs.Going.{Going, going-none, near, going-node, going-next, going-more, going-level, going-end, going-enough}
+use Rattle.graph_search.proofs.Going.{Going, going-none, near, going-left, going-node, going-next, going-more, going-level, going-end, going-enough}
 use Rattle.graph_search.proofs.advance.Statement.{statement}
 use Rattle.graph_search.proofs.advance.Tie as tie
 
@@ -37,15 +37,12 @@ loop-again c = going-level (done (c .before) .loop .inv) (c .before .before .if1
 
 -- ---- a node of the level has not been looked from
 
-next : (c : tie.Else1 Inv-loop μ-loop) → c .before .before .loop .looked < c .before .before .loop .level
-next c = omega (arith, near (c .before .before .loop .inv), c .if1 .left)
-
 expand-requires : tie.Need-expand-requires Inv-loop μ-loop
 expand-requires c κs =
     let here = c .before .before .before in
     let go = here .before .before .loop .inv in
     let p = here .before .before .before .before .before .before .before .pre in
-    (rw (go .long) (p .0), (go .kept, (going-node go (next here), omega (arith, near go))))
+    (rw (go .long) (p .0), (go .kept, (going-node go (going-left go (here .if1 .left)), omega (arith, near go))))
 
 abbrev there : tie.After-slice-known5 Inv-loop μ-loop → tie.Else1 Inv-loop μ-loop
 there c = c .before .before .before .before .before .before .before .before
@@ -53,7 +50,8 @@ there c = c .before .before .before .before .before .before .before .before
 loop-again-2 : tie.Need-loop-again-2 Inv-loop μ-loop
 loop-again-2 c =
     let call = c .before .before .before .before .expand in
-    going-next (there c .before .before .loop .inv) (next (there c)) (call .ensures) (call .kept .1 .1 .1 .1 .0) (call .kept .1 .1 .1 .1 .1 .0)
+    let go = there c .before .before .loop .inv in
+    going-next go (going-left go (there c .if1 .left)) (call .ensures) (call .kept .1 .1 .1 .1 .0) (call .kept .1 .1 .1 .1 .1 .0)
 
 -- ---- there are enough
 
@@ -65,9 +63,9 @@ advance-spec =
     tie.close
     (tie.spec Inv-loop μ-loop loop-holds (λ c κs. search needs) (λ c. done (c .before) .loop .inv .long)
     (λ c. done (c .before) .loop .inv .room) returns (λ c. omega (arith, near (done (c .before) .loop .inv))) loop-less
-    loop-again (λ c. omega (arith, near (c .before .before .loop .inv), next c))
-    (λ c. omega (arith, near (c .before .before .before .loop .inv), c .before .before .before .loop .inv .room, next (c .before)))
+    loop-again (λ c. omega (arith, near (c .before .before .loop .inv), c .if1 .left))
+    (λ c. omega (arith, near (c .before .before .before .loop .inv), c .before .before .before .loop .inv .room, c .before .if1 .left))
     (λ c. omega (arith, c .slice-known3 .given (c .before .before .before .loop .looked))) expand-requires
-    (λ c. omega (arith, near (there c .before .before .loop .inv), next (there c)))
-    (λ c. omega (arith, near (there c .before .before .loop .inv), next (there c))) loop-again-2
+    (λ c. omega (arith, near (there c .before .before .loop .inv), there c .if1 .left))
+    (λ c. omega (arith, near (there c .before .before .loop .inv), there c .if1 .left)) loop-again-2
     (λ c. c .before .loop .inv .long) (λ c. c .before .loop .inv .room) returns-2)

@@ -1,10 +1,10 @@
 -- `place_component::reach` meets its contract. It begins with the state in which only the centre is reached. The loop's invariant: the search has gone on from there
 -- (graph_search/proofs/Going) to the state that the tables stand for. The measure is how many levels and how many nodes are left. Assumes nothing.
-use Rattle.base_lists.specs.Kit.{now, _≡_, _∙_, sym, _<_, _+_, _-_, length, arith, needs}
+use Rattle.base_lists.specs.Kit.{_∙_, sym, _+_, _-_, length, arith, needs}
 use Rattle.graph.specs.Bfs.{start}
 use Rattle.graph.proofs.Net.{net-few}
 use Rattle.graph_search.proofs.Onward.{centre}
-use Rattle.graph_search.proofs.Going.{Going, going-centre, near, going-node, going-next, going-more, going-level, until-end, until-enough}
+use Rattle.graph_search.proofs.Going.{Going, going-centre, near, going-left, going-node, going-next, going-more, going-level, until-end, until-enough}
 use Rattle.table.specs.Prepared.{tables}
 use Rattle.place.specs.Spread.{matched}
 use Rattle.place_component.proofs.reach.Statement.{statement}
@@ -47,15 +47,12 @@ loop-again c = going-level (done (c .before) .loop .inv) (c .before .before .if1
 
 -- ---- a node of the level has not been looked from
 
-next : (c : tie.Else1 Inv-loop μ-loop) → c .before .before .loop .looked < c .before .before .loop .level
-next c = omega (arith, near (c .before .before .loop .inv), c .if1 .left)
-
 expand-requires : tie.Need-expand-requires Inv-loop μ-loop
 expand-requires c κs =
     let here = c .before .before .before in
     let at = here .before .before in
     let go = at .loop .inv in
-    (go .kept, (begun at .pre .0, (sym (go .long), (going-node go (next here), omega (arith, near go)))))
+    (go .kept, (begun at .pre .0, (sym (go .long), (going-node go (going-left go (here .if1 .left)), omega (arith, near go)))))
 
 abbrev there : tie.After-slice-known7 Inv-loop μ-loop → tie.Else1 Inv-loop μ-loop
 there c = c .before .before .before .before .before .before .before .before
@@ -63,7 +60,8 @@ there c = c .before .before .before .before .before .before .before .before
 loop-again-2 : tie.Need-loop-again-2 Inv-loop μ-loop
 loop-again-2 c =
     let call = c .before .before .before .before .expand in
-    going-next (there c .before .before .loop .inv) (next (there c)) (call .ensures) (call .kept .1 .1 .1 .1 .1 .1 .0) (call .kept .1 .1 .1 .1 .1 .1 .1 .0)
+    let go = there c .before .before .loop .inv in
+    going-next go (going-left go (there c .if1 .left)) (call .ensures) (call .kept .1 .1 .1 .1 .1 .1 .0) (call .kept .1 .1 .1 .1 .1 .1 .1 .0)
 
 -- ---- there are enough
 
@@ -77,10 +75,10 @@ reach-spec =
     (λ c. let at = done (c .before) in at .loop .inv .long ∙ begun at .pre .1 .1 .0)
     (λ c. let at = done (c .before) in at .loop .inv .room ∙ begun at .pre .1 .1 .0 ∙ begun at .pre .1 .1 .1) returns
     (λ c. omega (arith, near (done (c .before) .loop .inv))) loop-less loop-again
-    (λ c. omega (arith, near (c .before .before .loop .inv), next c))
-    (λ c. omega (arith, near (c .before .before .before .loop .inv), c .before .before .before .loop .inv .room, next (c .before)))
+    (λ c. omega (arith, near (c .before .before .loop .inv), c .if1 .left))
+    (λ c. omega (arith, near (c .before .before .before .loop .inv), c .before .before .before .loop .inv .room, c .before .if1 .left))
     (λ c. omega (arith, c .slice-known5 .given (c .before .before .before .loop .looked))) expand-requires
-    (λ c. omega (arith, near (there c .before .before .loop .inv), next (there c)))
-    (λ c. omega (arith, near (there c .before .before .loop .inv), next (there c))) loop-again-2
+    (λ c. omega (arith, near (there c .before .before .loop .inv), there c .if1 .left))
+    (λ c. omega (arith, near (there c .before .before .loop .inv), there c .if1 .left)) loop-again-2
     (λ c. c .before .loop .inv .long ∙ begun (c .before) .pre .1 .1 .0)
     (λ c. c .before .loop .inv .room ∙ begun (c .before) .pre .1 .1 .0 ∙ begun (c .before) .pre .1 .1 .1) returns-2)

@@ -25,7 +25,7 @@ after-three f = f .before .before .before .before .before .before .before .befor
 -- ---- the calls' tables
 
 abbrev near : tie.Start → ℕ → List ℕ
-near s = neighboursIn (s .args .direction) (now (s .args .offsets)) (now (s .args .targets))
+near s = neighboursIn (s .args .way) (now (s .args .offsets)) (now (s .args .targets))
 
 abbrev Layers : tie.Start → ℕ → List ℕ → Type 0
 Layers s h layer = layer ≡ layerOf (near s) (now (s .args .old)) h
