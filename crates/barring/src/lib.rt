@@ -1,5 +1,5 @@
-// The least of a pattern's links that still says that there is no place around a centre: what is answered. What it means, and how it is computed,
-// is in specs/ and proofs/.
+// The least of a pattern's links that still says that there is no place around a centre: what is answered. What it
+// means, and how it is computed, is in specs/ and proofs/.
 use file_format::File;
 use file_format::Refusal;
 ghost use mathlib.Core.Bool.{true};

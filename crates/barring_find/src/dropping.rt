@@ -5,7 +5,8 @@ ghost use mathlib.Core.Path.{_≡_};
 ghost use lib.ListN.{length};
 ghost use Rattle.barring_find.specs.Trial.{SomeTried, EveryLeast};
 
-// Starts from all links, goes through them in their order, and drops each one without which the rest still bars: a byte per link, 1 for kept.
+// Starts from all links, goes through them in their order, and drops each one without which the rest still bars: a byte
+// per link, 1 for kept.
 pub fn drop_links(
     nodes: &[u16],
     starts: &[u16],
@@ -18,7 +19,8 @@ pub fn drop_links(
 )
     requires { ⌜ SomeTried (now starts) (now ends) (now offsets) (now targets) w (now nodes) (now first) ⌝ }
     requires { ⌜ length (now starts) ≡ length (now marks) ⌝ }
-    ensures { λ _. ⌜ EveryLeast (now (starts .entry)) (now (ends .entry)) (now (offsets .entry)) (now (targets .entry)) w (now (nodes .entry)) (now (first .entry)) (now (marks .exit)) ⌝ }
+    ensures { λ _. ⌜ EveryLeast (now (starts .entry)) (now (ends .entry)) (now (offsets .entry)) (now (targets .entry))
+        w (now (nodes .entry)) (now (first .entry)) (now (marks .exit)) ⌝ }
 {
     fill(marks, 1);
     let mut i = 0;

@@ -27,16 +27,19 @@ fn further(
     new: &mut [u32],
 )
     requires { ⌜ Net (length (now old)) (now offsets) (now targets) ⌝ }
-    requires { ⌜ (length (now masks) ≡ 32) × (length (now layer) ≡ length (now old)) × (length (now next) ≡ length (now old)) × (length (now new) ≡ length (now old)) ⌝ }
-    ensures { λ _. ⌜ now (next .exit) ≡ nextLayer (neighboursIn way (now (offsets .entry)) (now (targets .entry))) (now (old .entry)) (now (layer .entry)) ⌝ }
-    ensures { λ _. ⌜ now (new .exit) ≡ passTable (neighboursIn way (now (offsets .entry)) (now (targets .entry))) (now (masks .entry)) (now (next .exit)) (now (new .entry)) ⌝ }
+    requires { ⌜ (length (now masks) ≡ 32) × (length (now layer) ≡ length (now old))
+        × (length (now next) ≡ length (now old)) × (length (now new) ≡ length (now old)) ⌝ }
+    ensures { λ _. ⌜ now (next .exit) ≡ nextLayer (neighboursIn way (now (offsets .entry)) (now (targets .entry)))
+        (now (old .entry)) (now (layer .entry)) ⌝ }
+    ensures { λ _. ⌜ now (new .exit) ≡ passTable (neighboursIn way (now (offsets .entry)) (now (targets .entry)))
+        (now (masks .entry)) (now (next .exit)) (now (new .entry)) ⌝ }
 {
     widen(way, offsets, targets, old, layer, next);
     pass(way, masks, offsets, targets, next, new);
 }
 
-// The passes of one direction, for the bounds up to `top`. For bound 1 the ends of paths are the neighbours; for each further bound they are
-// those of a layer that reaches one link further. The two tables for layers are scratch.
+// The passes of one direction, for the bounds up to `top`. For bound 1 the ends of paths are the neighbours; for each
+// further bound they are those of a layer that reaches one link further. The two tables for layers are scratch.
 fn strike_way(
     way: Direction,
     top: usize,
@@ -48,9 +51,12 @@ fn strike_way(
     next: &mut [u32],
     new: &mut [u32],
 )
-    requires { ⌜ (length (now masks) ≡ 128) × Net (length (now old)) (now offsets) (now targets) × (1 ≤ top) × (top ≤ 4) ⌝ }
-    requires { ⌜ (length (now layer) ≡ length (now old)) × (length (now next) ≡ length (now old)) × (length (now new) ≡ length (now old)) ⌝ }
-    ensures { λ _. ⌜ now (new .exit) ≡ passes (neighboursIn way (now (offsets .entry)) (now (targets .entry))) (now (masks .entry)) (now (old .entry)) top (now (new .entry)) ⌝ }
+    requires { ⌜ (length (now masks) ≡ 128) × Net (length (now old)) (now offsets) (now targets) × (1 ≤ top)
+        × (top ≤ 4) ⌝ }
+    requires { ⌜ (length (now layer) ≡ length (now old)) × (length (now next) ≡ length (now old))
+        × (length (now new) ≡ length (now old)) ⌝ }
+    ensures { λ _. ⌜ now (new .exit) ≡ passes (neighboursIn way (now (offsets .entry)) (now (targets .entry)))
+        (now (masks .entry)) (now (old .entry)) top (now (new .entry)) ⌝ }
 {
     pass(way, &masks[0..32], offsets, targets, old, new);
     if top < 2 {
@@ -90,7 +96,8 @@ fn count(table: &[u32]) -> u32
     sum
 }
 
-// Writes the next set of each node into `new`, each from the table `old` whole, and returns how many pairs these sets have.
+// Writes the next set of each node into `new`, each from the table `old` whole, and returns how many pairs these sets
+// have.
 pub fn strike(
     masks: &[u32],
     offsets: &[u16],
@@ -102,8 +109,11 @@ pub fn strike(
     new: &mut [u32],
 ) -> u32
     requires { ⌜ BoundedReady (tables (now masks) (now offsets) (now targets)) top (now old) ⌝ }
-    requires { ⌜ (length (now layer) ≡ length (now old)) × (length (now next) ≡ length (now old)) × (length (now new) ≡ length (now old)) ⌝ }
-    ensures { λ r. ⌜ (now (new .exit) ≡ roundTable (tables (now (masks .entry)) (now (offsets .entry)) (now (targets .entry))) top (now (old .entry))) × (r ≡ pairs (now (new .exit))) ⌝ }
+    requires { ⌜ (length (now layer) ≡ length (now old)) × (length (now next) ≡ length (now old))
+        × (length (now new) ≡ length (now old)) ⌝ }
+    ensures { λ r. ⌜ (now (new .exit) ≡ roundTable
+        (tables (now (masks .entry)) (now (offsets .entry)) (now (targets .entry))) top (now (old .entry)))
+        × (r ≡ pairs (now (new .exit))) ⌝ }
 {
     copy(old, new);
     strike_way(

@@ -74,7 +74,8 @@ fn convert_circuit(
     }
 }
 
-// The call, with tables for the circuit of any file. A first-edition file has no packages, so that those of the table, all 0, are taken.
+// The call, with tables for the circuit of any file. A first-edition file has no packages, so that those of the table,
+// all 0, are taken.
 fn convert_through(
     role: Role,
     from: Edition,
@@ -107,8 +108,8 @@ fn convert_through(
     }
 }
 
-// Converts a file of one edition, in a role, to another: the new file's length, with the new file at the front of the bytes lent; or the
-// refusal, which leaves every byte as it was.
+// Converts a file of one edition, in a role, to another: the new file's length, with the new file at the front of the
+// bytes lent; or the refusal, which leaves every byte as it was.
 pub fn convert(role: Role, from: Edition, to: Edition, file: &[u8], out: &mut [u8]) -> ConvertAnswer
     ensures { λ r. ⌜ record { reply = convertReply r; out = now (out .exit) }
         ≡ converting role to (inEdition from (now (file .entry))) (now (out .entry)) ⌝ }

@@ -24,8 +24,8 @@ ghost use Rattle.file_write.specs.Writing.{circuitConditions};
 ghost use Rattle.call_merge.specs.Call.{MergedFrom};
 ghost use Rattle.merge_classes.specs.Passes.{Quotient};
 
-// The class of each part, and the merged pattern at the front of three tables; returns its size. The pattern's table on itself and the
-// rows of linked classes are scratch.
+// The class of each part, and the merged pattern at the front of three tables; returns its size. The pattern's table on
+// itself and the rows of linked classes are scratch.
 fn quotient(
     labels: &[u32],
     starts: &[u16],
@@ -62,8 +62,8 @@ fn quotient(
     Pattern::new(count, links)
 }
 
-// The class of each part, and the merged file at the front of bytes that have room for the pattern's own file. A merged pattern is a
-// pattern, so that writing it is not refused.
+// The class of each part, and the merged file at the front of bytes that have room for the pattern's own file. A merged
+// pattern is a pattern, so that writing it is not refused.
 pub fn merge_circuit(
     edition: Edition,
     labels: &[u32],

@@ -1,4 +1,5 @@
-// Two files opened for their report: read, and matched on the whole board, so that the pieces of a long report read and match once.
+// Two files opened for their report: read, and matched on the whole board, so that the pieces of a long report read and
+// match once.
 use call_prepare::Reading;
 use call_prepare::read_prepared;
 use file_format::Board;
@@ -17,8 +18,8 @@ ghost use Rattle.file_format.specs.Layout.{inEdition};
 ghost use Rattle.table.specs.Prepared.{Tables, tables};
 ghost use Rattle.call_open.specs.Opened.{LinesRoom, SomePrepared, EveryOpened, Opened};
 
-// Leaves the whole board's match table and its components at the fronts of the tables, for the lines from the centre `from` on of two files that were read and
-// prepared; nothing is matched where a file is refused, or no lines are left.
+// Leaves the whole board's match table and its components at the fronts of the tables, for the lines from the centre
+// `from` on of two files that were read and prepared; nothing is matched where a file is refused, or no lines are left.
 fn fill_lines(
     from: usize,
     read: Pair,
@@ -59,8 +60,9 @@ fn fill_lines(
     );
 }
 
-// Opens two files for the pieces of their report from the centre `from` on: reads them, and leaves what the lines are put from, the whole board's match
-// table and its components among it, at the fronts of the tables. Past the last line nothing is left to put, and nothing is matched.
+// Opens two files for the pieces of their report from the centre `from` on: reads them, and leaves what the lines are
+// put from, the whole board's match table and its components among it, at the fronts of the tables. Past the last line
+// nothing is left to put, and nothing is matched.
 pub fn open(
     from: usize,
     editions: Editions,

@@ -113,7 +113,8 @@ pub fn place(
     table: &mut [u32],
     distances: &mut [u16],
 ) -> PlaceAnswer
-    ensures { λ a. ⌜ placedAs a (now (nodes .exit)) (now («link_bytes» .exit)) (now (table .exit)) (now (distances .exit))
+    ensures { λ a. ⌜ placedAs a (now (nodes .exit)) (now («link_bytes» .exit)) (now (table .exit))
+        (now (distances .exit))
         ≡ placeAt (inEdition (question .editions .pattern) (now (pattern .entry)))
         (inEdition (question .editions .board) (now (board .entry))) (question .centre)
         (radiusFor (question .reach) (radiusOf (circuitOf (inEdition (question .editions .pattern)

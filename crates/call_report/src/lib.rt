@@ -112,10 +112,10 @@ pub fn put(
     ))
 }
 
-// A piece of the report, from the centre `from` on, before which `found` centres had a place, at the front of the buffer: the lines of as
-// many centres as there is room for, and the last line where the centres are done; the first piece is from 0 with 0 found. Nothing is put
-// exactly when the report is at its end. A buffer that is too short, for the line of a refused file or for the longest line, is refused and
-// left as it was.
+// A piece of the report, from the centre `from` on, before which `found` centres had a place, at the front of the
+// buffer: the lines of as many centres as there is room for, and the last line where the centres are done; the first
+// piece is from 0 with 0 found. Nothing is put exactly when the report is at its end. A buffer that is too short, for
+// the line of a refused file or for the longest line, is refused and left as it was.
 pub fn report(
     editions: Editions,
     pattern: &[u8],

@@ -37,7 +37,8 @@ pub fn open(
         (inEdition (editions .board) (now (board .entry)))
         (state (now (fixed .entry)) (now (offsets .entry)) (now (numbers .entry)) (now (ends .entry))
         (now (sets .entry))) (openVerdict r)
-        (state (now (fixed .exit)) (now (offsets .exit)) (now (numbers .exit)) (now (ends .exit)) (now (sets .exit))) ⌝ }
+        (state (now (fixed .exit)) (now (offsets .exit)) (now (numbers .exit)) (now (ends .exit))
+        (now (sets .exit))) ⌝ }
 {
     let mut pk = [0u32; Pattern::MAX_NODES];
     let mut ps = [0u16; Pattern::MAX_LINKS];

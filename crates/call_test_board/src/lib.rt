@@ -23,10 +23,12 @@ fn refused(number: u8) -> TestBoardAnswer
     })
 }
 
-// Makes the board of n nodes with kinds below k, and of m links drawn, those drawn twice being one, that a seed gives. Its file stands at the front
-// of the bytes lent, and the answer is its length; or the refusal, which leaves every byte as it was.
+// Makes the board of n nodes with kinds below k, and of m links drawn, those drawn twice being one, that a seed gives.
+// Its file stands at the front of the bytes lent, and the answer is its length; or the refusal, which leaves every byte
+// as it was.
 pub fn test_board(seed: u32, n: u32, m: u32, k: u32, out: &mut [u8]) -> TestBoardAnswer
-    ensures { λ r. ⌜ record { reply = testBoardReply r; out = now (out .exit) } ≡ makingTestBoard seed n m k (now (out .entry)) ⌝ }
+    ensures { λ r. ⌜ record { reply = testBoardReply r; out = now (out .exit) }
+        ≡ makingTestBoard seed n m k (now (out .entry)) ⌝ }
 {
     let fits = in_range(n, m, k);
     let nodes = n as usize;

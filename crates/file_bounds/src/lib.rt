@@ -72,8 +72,8 @@ fn refused_bounded(number: u8) -> FileRead
     }
 }
 
-// Reads a pattern file of the third edition, connected or not, into tables that have room for every one: the verdict; and of an accepted file
-// N and M, with the labels, the starts, the ends and the bounds at the front of the tables.
+// Reads a pattern file of the third edition, connected or not, into tables that have room for every one: the verdict;
+// and of an accepted file N and M, with the labels, the starts, the ends and the bounds at the front of the tables.
 pub fn load_bounded(
     file: &[u8],
     labels: &mut [u32],

@@ -36,8 +36,8 @@ pub struct Links {
     pub radius: u16,
 }
 
-// The links of a circuit in a role, tested. One search finds whether a pattern is connected, and its radius, which decides 11. Reading and
-// writing both call it.
+// The links of a circuit in a role, tested. One search finds whether a pattern is connected, and its radius, which
+// decides 11. Reading and writing both call it.
 pub fn test_links(role: Role, n: usize, starts: &[u16], ends: &[u16]) -> Links
     requires { ⌜ T (inRange role n (length (now starts))) × (length (now starts) ≡ length (now ends)) ⌝ }
     ensures { λ r. ⌜ LinksTested role n (now (starts .entry)) (now (ends .entry)) (r .number) (r .radius) ⌝ }

@@ -65,7 +65,8 @@ fn package_at(part: &[u8], p: usize, i: usize) -> u32
     field_at(part, i) as u32
 }
 
-// The labels of k nodes, from the stretch of their kinds and one of p packages: each is the kind and 65,536 times the package.
+// The labels of k nodes, from the stretch of their kinds and one of p packages: each is the kind and 65,536 times the
+// package.
 pub fn store_labels(kinds: &[u8], k: usize, packages: &[u8], p: usize, out: &mut [u32])
     requires { ⌜ (2 * k ≤ length (now kinds)) × (2 * p ≤ length (now packages)) × (k ≤ length (now out)) ⌝ }
     ensures { λ r. ⌜ now (out .exit)

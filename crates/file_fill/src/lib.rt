@@ -51,8 +51,9 @@ pub fn fill_labels(edition: Edition, file: &[u8], n: usize, m: usize, labels: &m
     );
 }
 
-// The answer on an accepted file of n nodes and m links: 8 where a table is too short, and then no table is changed; else N and M, with the
-// stretches at the front of the tables. A first-edition file has no packages, so that their table is left as it is, however short.
+// The answer on an accepted file of n nodes and m links: 8 where a table is too short, and then no table is changed;
+// else N and M, with the stretches at the front of the tables. A first-edition file has no packages, so that their
+// table is left as it is, however short.
 pub fn fill_fitting(
     edition: Edition,
     file: &[u8],

@@ -6,7 +6,8 @@ ghost use Rattle.base_lists.specs.List.{all};
 ghost use Rattle.file_format.specs.Links.{packed, numbersRise};
 ghost use Rattle.file_format.specs.Refusals.{linkOrderNumber};
 
-// Each number is below n: the greatest is. There is one way out of the loop, so that the compiler looks at several numbers at a time.
+// Each number is below n: the greatest is. There is one way out of the loop, so that the compiler looks at several
+// numbers at a time.
 fn all_below(numbers: &[u16], n: usize) -> bool
     ensures { λ r. ⌜ r ≡ all (λ v. ltb v n) (now (numbers .entry)) ⌝ }
 {
@@ -32,7 +33,8 @@ fn number_of(start: u16, end: u16) -> u32
     start as u32 * 65536 + end as u32
 }
 
-// The links rise strictly: the number of each is below that of the next. Each is made once, and compared once with the one before.
+// The links rise strictly: the number of each is below that of the next. Each is made once, and compared once with the
+// one before.
 fn links_rise(starts: &[u16], ends: &[u16]) -> bool
     requires { ⌜ length (now starts) ≡ length (now ends) ⌝ }
     ensures { λ r. ⌜ r ≡ numbersRise (now (starts .entry)) (now (ends .entry)) ⌝ }

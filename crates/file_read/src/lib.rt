@@ -31,9 +31,9 @@ fn refused_read(role: Role, number: u8) -> FileRead
     }
 }
 
-// Reads a file for a call that goes on with its circuit, into tables that have room for every file of the role: the verdict; and of an
-// accepted file N and M, with the labels, the starts and the ends at the front of the tables, and a pattern's radius. The links are stored
-// once, and tested where they stand.
+// Reads a file for a call that goes on with its circuit, into tables that have room for every file of the role: the
+// verdict; and of an accepted file N and M, with the labels, the starts and the ends at the front of the tables, and a
+// pattern's radius. The links are stored once, and tested where they stand.
 pub fn load(
     role: Role,
     edition: Edition,
@@ -66,8 +66,9 @@ pub fn load(
     }
 }
 
-// Reads a file of an edition in a role: N and M, with the kinds, the packages where the edition has them, the starts and the ends at the
-// front of the four tables; or the refusal, which leaves every table as it was. The file is read into tables of the call's own first.
+// Reads a file of an edition in a role: N and M, with the kinds, the packages where the edition has them, the starts
+// and the ends at the front of the four tables; or the refusal, which leaves every table as it was. The file is read
+// into tables of the call's own first.
 pub fn read(
     role: Role,
     edition: Edition,

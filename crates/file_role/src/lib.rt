@@ -1,5 +1,5 @@
-// What a role asks of a file or a circuit: its range, its length, whether it is to be connected, and how wide it may be; and the file that
-// its refusals name.
+// What a role asks of a file or a circuit: its range, its length, whether it is to be connected, and how wide it may
+// be; and the file that its refusals name.
 ghost use mathlib.Core.Bool.{cond};
 ghost use mathlib.Core.Path.{_≡_};
 ghost use Prim.Native.Nat.{_<_};

@@ -28,8 +28,8 @@ pub enum WriteAnswer {
     Refused(Refusal),
 }
 
-// Writes a circuit's file of an edition in a role to the front of the bytes lent: the file's length; or the refusal, which leaves every byte
-// as it was.
+// Writes a circuit's file of an edition in a role to the front of the bytes lent: the file's length; or the refusal,
+// which leaves every byte as it was.
 pub fn write(
     role: Role,
     edition: Edition,

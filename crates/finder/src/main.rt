@@ -1,6 +1,7 @@
-// The report program: reads `pattern.cir` and `board.cir` in the folder it is run in, an absent file as an empty one, and prints the report.
-// Standard output has the report's lines and nothing else. Where a file is there and cannot be read, or the report cannot be written whole, a
-// line on standard error says so; what was printed is then a front of the report.
+// The report program: reads `pattern.cir` and `board.cir` in the folder it is run in, an absent file as an empty one,
+// and prints the report. Standard output has the report's lines and nothing else. Where a file is there and cannot be
+// read, or the report cannot be written whole, a line on standard error says so; what was printed is then a front of
+// the report.
 use finder_print::print_report;
 use finder_read::BOARD_BYTES;
 use finder_read::Files;
@@ -65,8 +66,8 @@ fn report_held(
     ended(print_report(&pattern[..parts], &board[..nodes], out, handed))
 }
 
-// Reads the two files and prints their report, by way of buffers that are lent as arrays: so their lengths are known by their types, and no proof counts
-// their bytes.
+// Reads the two files and prints their report, by way of buffers that are lent as arrays: so their lengths are known by
+// their types, and no proof counts their bytes.
 fn report_files(
     pattern: &mut [u8; PATTERN_BYTES],
     board: &mut [u8; BOARD_BYTES],

@@ -20,9 +20,9 @@ ghost use Rattle.report.specs.Lines.{longestLine};
 ghost use Rattle.call_open.specs.Opened.{Opened};
 ghost use Rattle.finder_print.specs.Handed.{GoesOn, ReportHanded};
 
-// Hands the bytes that come next to standard output: those of the report's items after the ones that were handed over up to another, and notes how
-// far that is. (An item is a line for each centre, which may be empty, or the last line.) The answer says whether they were taken; where they were
-// not, nothing is handed over any more.
+// Hands the bytes that come next to standard output: those of the report's items after the ones that were handed over
+// up to another, and notes how far that is. (An item is a line for each centre, which may be empty, or the last line.)
+// The answer says whether they were taken; where they were not, nothing is handed over any more.
 fn hand(pattern: &[u8], board: &[u8], handed: &mut usize, next: usize, bytes: &[u8]) -> bool
     ghost { CircuitFile × CircuitFile }
     requires { λ α. ⌜ (firstEdition (now pattern), firstEdition (now board)) ≡ α ⌝ }
@@ -37,8 +37,8 @@ fn hand(pattern: &[u8], board: &[u8], handed: &mut usize, next: usize, bytes: &[
     true
 }
 
-// Prints the report of two files that were opened piece by piece, by way of the buffer, until nothing is left of it or a write fails. The answer says
-// whether all of it was handed over.
+// Prints the report of two files that were opened piece by piece, by way of the buffer, until nothing is left of it or
+// a write fails. The answer says whether all of it was handed over.
 fn print_pieces(
     pattern: &[u8],
     board: &[u8],

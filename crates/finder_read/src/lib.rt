@@ -1,4 +1,5 @@
-// What the report program reads: `pattern.cir` and `board.cir` in the folder it is run in, an absent file as an empty one.
+// What the report program reads: `pattern.cir` and `board.cir` in the folder it is run in, an absent file as an empty
+// one.
 use file_format::Board;
 use file_format::Pattern;
 use file_format::Role;
@@ -9,13 +10,14 @@ ghost use Rattle.io.specs.Counts.{Counts};
 ghost use Rattle.finder_read.specs.Cut.{most};
 ghost use Rattle.finder_read.specs.Held.{fileNameOf, heldOf};
 
-// A byte more than the longest file that is accepted in each role: the report of what is read so is the report of the files
-// (finder/proofs/Cut).
+// A byte more than the longest file that is accepted in each role: the report of what is read so is the report of the
+// files (finder/proofs/Cut).
 pub const PATTERN_BYTES: usize = 4 + 2 * Pattern::MAX_NODES + 4 * Pattern::MAX_LINKS + 1;
 
 pub const BOARD_BYTES: usize = 4 + 2 * Board::MAX_NODES + 4 * Board::MAX_LINKS + 1;
 
-// What is held of a file: whether it could be read, or counts as empty, and how many of its bytes stand at the front of the buffer.
+// What is held of a file: whether it could be read, or counts as empty, and how many of its bytes stand at the front of
+// the buffer.
 pub struct FileHeld {
     pub there: bool,
     pub size: usize,
@@ -44,7 +46,8 @@ fn as_read(found: FileFound) -> FileHeld
     }
 }
 
-// The bytes of the file in a role, by its name, none where it is absent, in a buffer of a byte more than the longest that is accepted.
+// The bytes of the file in a role, by its name, none where it is absent, in a buffer of a byte more than the longest
+// that is accepted.
 fn load(role: Role, name: &[u8], buf: &mut [u8]) -> FileHeld
     requires { ⌜ (now name ≡ fileNameOf role) × (length (now buf) ≡ most role) ⌝ }
     ensures { λ r. ⌜ Counts (r .size) (now (buf .exit)) ⌝ }

@@ -1,5 +1,5 @@
-// Directed graphs: what walks, distances, balls and the radius are, and what neighbour tables and the search over them come to. The code here
-// reads, copies and fills the entries that a search leaves.
+// Directed graphs: what walks, distances, balls and the radius are, and what neighbour tables and the search over them
+// come to. The code here reads, copies and fills the entries that a search leaves.
 ghost use mathlib.Core.List.{_++_};
 ghost use mathlib.Core.Path.{_≡_};
 ghost use Prim.Native.Nat.{_≤_};

@@ -9,7 +9,8 @@ ghost use Rattle.graph.specs.Search.{inside};
 // Moves the marked entries to the front, in their order, and returns how many there are.
 pub fn choose(marks: &[u8], xs: &mut [u16]) -> usize
     requires { ⌜ length (now marks) ≡ length (now xs) ⌝ }
-    ensures { λ k. ⌜ (k ≤ length (now (xs .exit))) × (take k (now (xs .exit)) ≡ picked (now (marks .entry)) (now (xs .entry))) ⌝ }
+    ensures { λ k. ⌜ (k ≤ length (now (xs .exit)))
+        × (take k (now (xs .exit)) ≡ picked (now (marks .entry)) (now (xs .entry))) ⌝ }
 {
     let mut k = 0;
     let mut i = 0;

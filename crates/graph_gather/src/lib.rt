@@ -24,11 +24,14 @@ fn counted(number: u16, x: u16, count: usize) -> usize
     count
 }
 
-// Moves those of the first k nodes that have the number x to the front of the queue, in their order. Returns how many they are.
+// Moves those of the first k nodes that have the number x to the front of the queue, in their order. Returns how many
+// they are.
 pub fn keep(numbers: &[u16], x: u16, k: usize, queue: &mut [u16]) -> usize
-    requires { ⌜ (k ≤ length (now queue)) × (length (now queue) ≤ 65536) × Below (length (now numbers)) (take k (now queue)) ⌝ }
+    requires { ⌜ (k ≤ length (now queue)) × (length (now queue) ≤ 65536)
+        × Below (length (now numbers)) (take k (now queue)) ⌝ }
     ensures { λ j. ⌜ j ≤ length (now (queue .exit)) ⌝ }
-    ensures { λ j. ⌜ take j (now (queue .exit)) ≡ having (numbered (now (numbers .entry)) x) (take k (now (queue .entry))) ⌝ }
+    ensures { λ j. ⌜ take j (now (queue .exit))
+        ≡ having (numbered (now (numbers .entry)) x) (take k (now (queue .entry))) ⌝ }
 {
     let mut kept = 0;
     let mut i = 0;
@@ -44,7 +47,8 @@ pub fn keep(numbers: &[u16], x: u16, k: usize, queue: &mut [u16]) -> usize
 
 // How many nodes of a list have the number x, where `count` of the first `from` have it.
 fn count_from(numbers: &[u16], x: u16, from: usize, count: usize, nodes: &[u16]) -> usize
-    requires { ⌜ (from ≤ length (now nodes)) × (length (now nodes) ≤ 65536) × Below (length (now numbers)) (now nodes) ⌝ }
+    requires { ⌜ (from ≤ length (now nodes)) × (length (now nodes) ≤ 65536)
+        × Below (length (now numbers)) (now nodes) ⌝ }
     requires { ⌜ count ≡ length (having (numbered (now numbers) x) (take from (now nodes))) ⌝ }
     ensures { λ k. ⌜ k ≡ length (having (numbered (now (numbers .entry)) x) (now (nodes .entry))) ⌝ }
 {
@@ -58,8 +62,9 @@ fn count_from(numbers: &[u16], x: u16, from: usize, count: usize, nodes: &[u16])
     found
 }
 
-// Searches from c, which has the number x, as far as distance r, and stops as soon as `size` nodes that have the number are reached. Returns how many nodes are
-// reached; they stand first in the queue. Numbers are looked at where the search has reached as many nodes more as are still wanted.
+// Searches from c, which has the number x, as far as distance r, and stops as soon as `size` nodes that have the number
+// are reached. Returns how many nodes are reached; they stand first in the queue. Numbers are looked at where the
+// search has reached as many nodes more as are still wanted.
 pub fn search_until(
     offsets: &[u16],
     targets: &[u16],
@@ -76,7 +81,9 @@ pub fn search_until(
     requires { ⌜ (length (now dist) ≡ length (now queue)) × (length (now numbers) ≡ length (now dist)) ⌝ }
     requires { ⌜ (getD (now numbers) c 0 ≡ x) × (size ≤ 65536) ⌝ }
     ensures { λ k. ⌜ Searching (now (dist .exit)) (now (queue .exit)) k ⌝ }
-    ensures { λ k. ⌜ Until (adjacent (now (offsets .entry)) (now (targets .entry))) (length (now (dist .entry))) c r (size ≤ length (having (numbered (now (numbers .entry)) x) (take k (now (queue .exit))))) (stateOf (now (dist .exit)) (now (queue .exit)) k) ⌝ }
+    ensures { λ k. ⌜ Until (adjacent (now (offsets .entry)) (now (targets .entry))) (length (now (dist .entry))) c r
+        (size ≤ length (having (numbered (now (numbers .entry)) x) (take k (now (queue .exit)))))
+        (stateOf (now (dist .exit)) (now (queue .exit)) k) ⌝ }
 {
     begin(c, dist, queue);
     let mut from = CENTRE;

@@ -61,7 +61,8 @@ pub extern "C" fn heronditch_session_open(
         (told (now (board .entry)) «board_edition»)
         (state (now (fixed .entry)) (now (offsets .entry)) (now (numbers .entry)) (now (ends .entry))
         (now (sets .entry))) r
-        (state (now (fixed .exit)) (now (offsets .exit)) (now (numbers .exit)) (now (ends .exit)) (now (sets .exit))) ⌝ }
+        (state (now (fixed .exit)) (now (offsets .exit)) (now (numbers .exit)) (now (ends .exit))
+        (now (sets .exit))) ⌝ }
 {
     of_open(call_session::open(
         editions_of(pattern_edition, board_edition),

@@ -36,7 +36,8 @@ pub extern "C" fn heronditch_place_editions(
     table: &mut [u32],
     distances: &mut [u16],
 ) -> Counted
-    ensures { λ r. ⌜ placedAs r (now (nodes .exit)) (now («link_bytes» .exit)) (now (table .exit)) (now (distances .exit))
+    ensures { λ r. ⌜ placedAs r (now (nodes .exit)) (now («link_bytes» .exit)) (now (table .exit))
+        (now (distances .exit))
         ≡ hostPlace (placeAt (told (now (pattern .entry)) «pattern_edition») (told (now (board .entry)) «board_edition»)
         centre (radiusOf (circuitOf (told (now (pattern .entry)) «pattern_edition»)))
         (now (nodes .entry)) (now («link_bytes» .entry)) (now (table .entry)) (now (distances .entry))) ⌝ }
@@ -63,7 +64,8 @@ pub extern "C" fn heronditch_place_within_editions(
     table: &mut [u32],
     distances: &mut [u16],
 ) -> Counted
-    ensures { λ r. ⌜ placedAs r (now (nodes .exit)) (now («link_bytes» .exit)) (now (table .exit)) (now (distances .exit))
+    ensures { λ r. ⌜ placedAs r (now (nodes .exit)) (now («link_bytes» .exit)) (now (table .exit))
+        (now (distances .exit))
         ≡ hostPlace (placeAt (told (now (pattern .entry)) «pattern_edition») (told (now (board .entry)) «board_edition»)
         centre radius
         (now (nodes .entry)) (now («link_bytes» .entry)) (now (table .entry)) (now (distances .entry))) ⌝ }
@@ -88,7 +90,8 @@ pub extern "C" fn heronditch_place(
     table: &mut [u32],
     distances: &mut [u16],
 ) -> Counted
-    ensures { λ r. ⌜ placedAs r (now (nodes .exit)) (now («link_bytes» .exit)) (now (table .exit)) (now (distances .exit))
+    ensures { λ r. ⌜ placedAs r (now (nodes .exit)) (now («link_bytes» .exit)) (now (table .exit))
+        (now (distances .exit))
         ≡ hostPlace (placeAt (firstEdition (now (pattern .entry))) (firstEdition (now (board .entry))) centre
         (radiusOf (circuitOf (firstEdition (now (pattern .entry)))))
         (now (nodes .entry)) (now («link_bytes» .entry)) (now (table .entry)) (now (distances .entry))) ⌝ }
@@ -119,7 +122,8 @@ pub extern "C" fn heronditch_place_within(
     table: &mut [u32],
     distances: &mut [u16],
 ) -> Counted
-    ensures { λ r. ⌜ placedAs r (now (nodes .exit)) (now («link_bytes» .exit)) (now (table .exit)) (now (distances .exit))
+    ensures { λ r. ⌜ placedAs r (now (nodes .exit)) (now («link_bytes» .exit)) (now (table .exit))
+        (now (distances .exit))
         ≡ hostPlace (placeAt (firstEdition (now (pattern .entry))) (firstEdition (now (board .entry))) centre radius
         (now (nodes .entry)) (now («link_bytes» .entry)) (now (table .entry)) (now (distances .entry))) ⌝ }
 {

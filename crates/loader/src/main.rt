@@ -1,5 +1,6 @@
-// The program that makes a test board: takes the four numbers as words, seed, N, M and K, and writes the board's file to standard output. Where a
-// word is no number, or a number is out of its range, it says so on standard error and writes nothing to standard output.
+// The program that makes a test board: takes the four numbers as words, seed, N, M and K, and writes the board's file
+// to standard output. Where a word is no number, or a number is out of its range, it says so on standard error and
+// writes nothing to standard output.
 use call_test_board::TestBoardAnswer;
 use file_format::Board;
 use loader_words::Asked;
@@ -19,7 +20,8 @@ ghost use Rattle.loader.specs.Printing.{WriteTried, Handed, TestBoardRan
 // The longest file of a test board.
 const BYTES: usize = 4 + 2 * Board::MAX_NODES + 4 * Board::MAX_LINKS;
 
-// What came of the words: the test board's file was handed whole to standard output; or that failed; or a number was out of its range; or a word was none.
+// What came of the words: the test board's file was handed whole to standard output; or that failed; or a number was
+// out of its range; or a word was none.
 enum Printed {
     Whole,
     Failed,

@@ -1,4 +1,5 @@
-// The words that the program `loader` is told: the four that ask for a test board, each a number in decimal digits, below 2^32.
+// The words that the program `loader` is told: the four that ask for a test board, each a number in decimal digits,
+// below 2^32.
 ghost use mathlib.Core.Path.{_≡_};
 ghost use lib.Dec.{eqb};
 ghost use Rattle.loader_words.specs.Words.{wordOf, isDigit, heardOf, Heard, WordsHeard, askedBy};
@@ -8,7 +9,8 @@ pub enum Word {
     NoNumber,
 }
 
-// An argument: its index, what the system answered when it was asked for, C's errno and a length, and the number that it is.
+// An argument: its index, what the system answered when it was asked for, C's errno and a length, and the number that
+// it is.
 pub struct Argument {
     index: usize,
     error: i32,

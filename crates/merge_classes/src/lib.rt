@@ -23,8 +23,8 @@ fn leader(table: &[u32], u: usize) -> usize
     table.len()
 }
 
-// Numbers the classes by their smallest part: a part that leads its class has the next number, another part that of its leader. Returns
-// how many classes there are.
+// Numbers the classes by their smallest part: a part that leads its class has the next number, another part that of its
+// leader. Returns how many classes there are.
 pub fn number_classes(table: &[u32], classes: &mut [u8]) -> usize
     requires { ⌜ SelfTable (now table) ⌝ }
     requires { ⌜ length (now classes) ≡ length (now table) ⌝ }

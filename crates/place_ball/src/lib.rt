@@ -36,8 +36,10 @@ pub fn find_in_ball(
 ) -> InBall
     requires { ⌜ SomeTabled (now «part_labels») (now «node_labels») (tables (now masks) (now offsets) (now targets)) ⌝ }
     requires { ⌜ around .centre < length (now «node_labels») ⌝ }
-    requires { ⌜ (length (now dist) ≡ length (now «node_labels»)) × (length (now queue) ≡ length (now «node_labels»)) ⌝ }
-    requires { ⌜ (length (now sets) ≡ length (now «node_labels»)) × (length (now spare) ≡ length (now «node_labels»)) ⌝ }
+    requires { ⌜ (length (now dist) ≡ length (now «node_labels»))
+        × (length (now queue) ≡ length (now «node_labels»)) ⌝ }
+    requires { ⌜ (length (now sets) ≡ length (now «node_labels»))
+        × (length (now spare) ≡ length (now «node_labels»)) ⌝ }
     ensures { λ a. ⌜ EveryPlaced (now («part_labels» .entry)) (now («node_labels» .entry))
         (tables (now (masks .entry)) (now (offsets .entry)) (now (targets .entry))) around (now (dist .exit))
         (now (queue .exit)) (now (sets .exit)) a ⌝ }

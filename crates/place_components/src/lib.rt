@@ -1,4 +1,5 @@
-// The components of a match graph: each node gets the number of its component, once for all; and those nodes of a centre's component that its ball has.
+// The components of a match graph: each node gets the number of its component, once for all; and those nodes of a
+// centre's component that its ball has.
 use file_format::Board;
 use graph::UNREACHED;
 use graph::fill;
@@ -17,7 +18,8 @@ ghost use Rattle.graph.specs.Search.{far};
 ghost use Rattle.table.specs.Fill.{fillAt};
 ghost use Rattle.table.specs.Prepared.{tables};
 ghost use Rattle.place.specs.Spread.{matched};
-ghost use Rattle.place_components.specs.Components.{MatchTable, ComponentsBefore, Components, sameComponent, Gathered};
+ghost use Rattle.place_components.specs.Components.{MatchTable, ComponentsBefore, Components, sameComponent};
+ghost use Rattle.place_components.specs.Components.{Gathered};
 
 // Sets the entry of each node of a list to x.
 fn store_each(nodes: &[u16], x: u16, table: &mut [u16])
@@ -35,7 +37,8 @@ fn store_each(nodes: &[u16], x: u16, table: &mut [u16])
 // Sets the entry of each node of a list to 0, and every other entry to `UNREACHED`.
 pub fn mark(nodes: &[u16], dist: &mut [u16])
     requires { ⌜ Below (length (now dist)) (now nodes) ⌝ }
-    ensures { λ _. ⌜ now (dist .exit) ≡ fillAt (λ v. 0) (now (nodes .entry)) (replicate (length (now (dist .entry))) far) ⌝ }
+    ensures { λ _. ⌜ now (dist .exit) ≡ fillAt (λ v. 0) (now (nodes .entry))
+        (replicate (length (now (dist .entry))) far) ⌝ }
 {
     fill(dist, UNREACHED);
     store_each(nodes, 0, dist);
@@ -51,7 +54,8 @@ fn begins(set: u32, number: u16) -> bool
     number == UNREACHED
 }
 
-// Where a component begins with node f, its nodes get the number f, and under f stands how many they are. `dist` and `queue` are scratch.
+// Where a component begins with node f, its nodes get the number f, and under f stands how many they are. `dist` and
+// `queue` are scratch.
 fn number_from(
     masks: &[u32],
     offsets: &[u16],
@@ -66,8 +70,12 @@ fn number_from(
     requires { ⌜ MatchTable (tables (now masks) (now offsets) (now targets)) (now sets) ⌝ }
     requires { ⌜ f < length (now sets) ⌝ }
     requires { ⌜ (length (now dist) ≡ length (now sets)) × (length (now queue) ≡ length (now sets)) ⌝ }
-    requires { ⌜ ComponentsBefore (length (now sets)) (matched (tables (now masks) (now offsets) (now targets)) (now sets)) (now sets) f (now «component_of») (now sizes) ⌝ }
-    ensures { λ _. ⌜ ComponentsBefore (length (now (sets .entry))) (matched (tables (now (masks .entry)) (now (offsets .entry)) (now (targets .entry))) (now (sets .entry))) (now (sets .entry)) (f + 1) (now («component_of» .exit)) (now (sizes .exit)) ⌝ }
+    requires { ⌜ ComponentsBefore (length (now sets))
+        (matched (tables (now masks) (now offsets) (now targets)) (now sets)) (now sets) f (now «component_of»)
+        (now sizes) ⌝ }
+    ensures { λ _. ⌜ ComponentsBefore (length (now (sets .entry)))
+        (matched (tables (now (masks .entry)) (now (offsets .entry)) (now (targets .entry))) (now (sets .entry)))
+        (now (sets .entry)) (f + 1) (now («component_of» .exit)) (now (sizes .exit)) ⌝ }
 {
     if !begins(sets[f], component_of[f]) {
         return;
@@ -78,7 +86,8 @@ fn number_from(
     sizes[f] = k as u16;
 }
 
-// Leaves in `component_of` for each node whose set is not empty the number of its component, and in `sizes` under the number how many nodes that has.
+// Leaves in `component_of` for each node whose set is not empty the number of its component, and in `sizes` under the
+// number how many nodes that has.
 pub fn components(
     masks: &[u32],
     offsets: &[u16],
@@ -90,7 +99,9 @@ pub fn components(
     requires { ⌜ MatchTable (tables (now masks) (now offsets) (now targets)) (now sets) ⌝ }
     requires { ⌜ length (now sets) ≤ 512 ⌝ }
     requires { ⌜ (length (now «component_of») ≡ length (now sets)) × (length (now sizes) ≡ length (now sets)) ⌝ }
-    ensures { λ _. ⌜ Components (length (now (sets .entry))) (matched (tables (now (masks .entry)) (now (offsets .entry)) (now (targets .entry))) (now (sets .entry))) (now (sets .entry)) (now («component_of» .exit)) (now (sizes .exit)) ⌝ }
+    ensures { λ _. ⌜ Components (length (now (sets .entry)))
+        (matched (tables (now (masks .entry)) (now (offsets .entry)) (now (targets .entry))) (now (sets .entry)))
+        (now (sets .entry)) (now («component_of» .exit)) (now (sizes .exit)) ⌝ }
 {
     let mut distances = [0u16; Board::MAX_NODES];
     let mut nodes = [0u16; Board::MAX_NODES];
@@ -115,8 +126,8 @@ pub fn components(
     }
 }
 
-// Leaves first in the queue those nodes with c's number that are at most r of the board's links away, or all `size` nodes that have it, which may be found
-// nearer; and returns how many they are. `dist` is scratch.
+// Leaves first in the queue those nodes with c's number that are at most r of the board's links away, or all `size`
+// nodes that have it, which may be found nearer; and returns how many they are. `dist` is scratch.
 pub fn gather(
     offsets: &[u16],
     targets: &[u16],
@@ -131,7 +142,9 @@ pub fn gather(
     requires { ⌜ c < length (now dist) ⌝ }
     requires { ⌜ (length (now dist) ≡ length (now queue)) × (length (now «component_of») ≡ length (now dist)) ⌝ }
     requires { ⌜ size ≤ 65536 ⌝ }
-    ensures { λ k. ⌜ (k ≤ length (now (queue .exit))) × Gathered (adjacent (now (offsets .entry)) (now (targets .entry))) (length (now (dist .entry))) c r (sameComponent (now («component_of» .entry)) c) size (take k (now (queue .exit))) ⌝ }
+    ensures { λ k. ⌜ (k ≤ length (now (queue .exit)))
+        × Gathered (adjacent (now (offsets .entry)) (now (targets .entry))) (length (now (dist .entry))) c r
+        (sameComponent (now («component_of» .entry)) c) size (take k (now (queue .exit))) ⌝ }
 {
     let at = c as usize;
     let x = component_of[at];

@@ -76,8 +76,10 @@ fn find_joined(
 ) -> bool
     requires { ⌜ SomeTabled (now «part_labels») (now «node_labels») (tables (now masks) (now offsets) (now targets)) ⌝ }
     requires { ⌜ (length (now «node_labels») ≤ 512) × (c < length (now «node_labels»)) ⌝ }
-    requires { ⌜ (length (now dist) ≡ length (now «node_labels»)) × (length (now queue) ≡ length (now «node_labels»)) ⌝ }
-    requires { ⌜ (length (now sets) ≡ length (now «node_labels»)) × (length (now spare) ≡ length (now «node_labels»)) ⌝ }
+    requires { ⌜ (length (now dist) ≡ length (now «node_labels»))
+        × (length (now queue) ≡ length (now «node_labels»)) ⌝ }
+    requires { ⌜ (length (now sets) ≡ length (now «node_labels»))
+        × (length (now spare) ≡ length (now «node_labels»)) ⌝ }
     ensures { λ a. ⌜ EveryJoined (now («part_labels» .entry)) (now («node_labels» .entry))
         (tables (now (masks .entry)) (now (offsets .entry)) (now (targets .entry))) c (now (dist .exit))
         (now (sets .exit)) a ⌝ }

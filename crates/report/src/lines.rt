@@ -1,5 +1,5 @@
-// The report's lines, each put into a table of bytes from an offset on; the offset after the line is returned. `names` has a name for each
-// node.
+// The report's lines, each put into a table of bytes from an offset on; the offset after the line is returned. `names`
+// has a name for each node.
 ghost use mathlib.Core.List.{List};
 ghost use mathlib.Core.Path.{_≡_};
 ghost use Prim.Native.Nat.{ℕ, _+_, _≤_, _<_};

@@ -32,8 +32,9 @@ pub struct Resume {
     pub found: u16,
 }
 
-// A centre's line, nothing where there is no place around it. A centre that the whole board's table leaves empty has none. The text of a component is made
-// once, and noted: `texts` has under a number where it begins, and `Board::MAX_NODES` further on where it ends.
+// A centre's line, nothing where there is no place around it. A centre that the whole board's table leaves empty has
+// none. The text of a component is made once, and noted: `texts` has under a number where it begins, and
+// `Board::MAX_NODES` further on where it ends.
 fn put_centre(
     names: &[u32],
     masks: &[u32],
@@ -105,7 +106,8 @@ fn put_centre(
     end
 }
 
-// The lines of the centres from where a piece goes on, as long as there is room for the longest line, and the last line where the centres are done.
+// The lines of the centres from where a piece goes on, as long as there is room for the longest line, and the last line
+// where the centres are done.
 pub fn put_lines(
     masks: &[u32],
     offsets: &[u16],

@@ -1,4 +1,5 @@
-// The place around a centre, from the centre's component on the whole board: how much of it the ball has, the place, and its line.
+// The place around a centre, from the centre's component on the whole board: how much of it the ball has, the place,
+// and its line.
 use file_format::Board;
 use place::Around;
 use place_around::find;
@@ -15,17 +16,19 @@ ghost use Rattle.table.specs.Prepared.{Tables, tables};
 ghost use Rattle.report.specs.Lines.{longestLine};
 ghost use Rattle.report_locate.specs.Source.{SourceOfSome, CentreLabelled, BallHolds, EveryKnown, EveryLine};
 
-// Components of at most so many nodes are searched along their matching links first, and not along all links of the board.
+// Components of at most so many nodes are searched along their matching links first, and not along all links of the
+// board.
 const FEW: usize = 64;
 
-// How much of the centre's component on the whole board its ball has: all of it or not, and how many nodes, which stand first in a queue.
+// How much of the centre's component on the whole board its ball has: all of it or not, and how many nodes, which stand
+// first in a queue.
 pub struct ComponentHeld {
     pub all: bool,
     pub kept: usize,
 }
 
-// Whether the ball around a centre holds the whole of the centre's component, which has `size` nodes, and those of its nodes that the ball has: they are left
-// first in the queue. `dist` is scratch.
+// Whether the ball around a centre holds the whole of the centre's component, which has `size` nodes, and those of its
+// nodes that the ball has: they are left first in the queue. `dist` is scratch.
 pub fn holds(
     masks: &[u32],
     offsets: &[u16],
@@ -62,9 +65,10 @@ pub fn holds(
     }
 }
 
-// Whether there is a place around a centre, of whose ball it is known how much of the centre's component it has. Where it has all, the place is the component with
-// its matching links; else striking goes on in ball and component alone, from the whole board's sets: what lies outside the component supports nothing inside
-// it. Where there is a place, `dist` is left with `UNREACHED` outside it, and `sets` with its sets. `queue` is scratch.
+// Whether there is a place around a centre, of whose ball it is known how much of the centre's component it has. Where
+// it has all, the place is the component with its matching links; else striking goes on in ball and component alone,
+// from the whole board's sets: what lies outside the component supports nothing inside it. Where there is a place,
+// `dist` is left with `UNREACHED` outside it, and `sets` with its sets. `queue` is scratch.
 fn locate(
     masks: &[u32],
     offsets: &[u16],
@@ -115,7 +119,8 @@ pub struct Line {
     pub at: usize,
 }
 
-// The line of a centre whose ball is known, nothing where there is no place around it. `dist` and `queue` are as that was found out with them, and scratch.
+// The line of a centre whose ball is known, nothing where there is no place around it. `dist` and `queue` are as that
+// was found out with them, and scratch.
 pub fn put_new(
     names: &[u32],
     masks: &[u32],

@@ -1,4 +1,5 @@
-// How a piece of a report is put: how far its lines have come, how many of them count, and the last line; and the one line of a refused file.
+// How a piece of a report is put: how far its lines have come, how many of them count, and the last line; and the one
+// line of a refused file.
 use file_format::Refusal;
 use report::lines::put_end;
 use report::lines::put_refusal;
@@ -13,7 +14,8 @@ ghost use Rattle.report_pieces.specs.Pieces.{roomy, refusalPiece, Wrote,
 // No line of a report is longer: a buffer has to be as long, and a line is put where so many bytes are left.
 pub const LONGEST: usize = 34829;
 
-// A piece that was put: where to go on, how many centres before that one have a place, and how many bytes the piece has.
+// A piece that was put: where to go on, how many centres before that one have a place, and how many bytes the piece
+// has.
 pub struct PutPiece {
     pub next: usize,
     pub found: usize,

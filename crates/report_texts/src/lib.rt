@@ -1,5 +1,6 @@
-// The pieces of a line of the report, each put into a table of bytes from an offset on; the offset after the piece is returned. A line has a head, the
-// nodes and the links of its place. For another centre its head is put anew, and what follows is copied from where it stands in the buffer.
+// The pieces of a line of the report, each put into a table of bytes from an offset on; the offset after the piece is
+// returned. A line has a head, the nodes and the links of its place. For another centre its head is put anew, and what
+// follows is copied from where it stands in the buffer.
 ghost use mathlib.Core.Bool.{cond};
 ghost use mathlib.Core.List.{List, _++_};
 ghost use mathlib.Core.Path.{_≡_};
@@ -141,7 +142,8 @@ pub fn put_again(c: usize, text: Span, out: &mut [u8], at: usize) -> usize
     put_copy(text.from, text.to, out, body)
 }
 
-// The text that a centre's line has after its colon, as far as it is known: where the ball holds the centre's component, that which is noted under its number.
+// The text that a centre's line has after its colon, as far as it is known: where the ball holds the centre's
+// component, that which is noted under its number.
 pub fn known(all: bool, number: usize, texts: &[u32]) -> Span
     requires { ⌜ (number < 512) × (length (now texts) ≡ 1024) ⌝ }
     ensures { λ r. ⌜ r ≡ cond all (under (now (texts .entry)) number) (record { from = 0; to = 0 }) ⌝ }

@@ -1,7 +1,8 @@
-// The shelf program: reads `p00.cir` to `p15.cir` in the folder it is run in, second-edition pattern files, up to the first that is absent, and prints
-// the numbers of those that are accepted in the order of their circuits. Standard output has these lines and nothing else. Where a file is there
-// and cannot be read, nothing is printed, and a line on standard error says so; so it does where the lines cannot be written whole, and what was
-// printed is then a front of them.
+// The shelf program: reads `p00.cir` to `p15.cir` in the folder it is run in, second-edition pattern files, up to the
+// first that is absent, and prints the numbers of those that are accepted in the order of their circuits. Standard
+// output has these lines and nothing else. Where a file is there and cannot be read, nothing is printed, and a line on
+// standard error says so; so it does where the lines cannot be written whole, and what was printed is then a front of
+// them.
 use call_shelf::FILES;
 use call_shelf::ShelfAnswer;
 use shelf_files::SHELF_BYTES;
@@ -18,16 +19,16 @@ ghost use Rattle.shelf_files.specs.declared.Taken.the-variants as taken;
 ghost use Rattle.shelf.specs.Printing.{printedOf, ShelfHanded, shelfEnded, ShelfRan};
 ghost use Rattle.shelf_files.specs.Reading.{mostBytes, shelfEnd};
 
-// How a run ended: so many files were read and their lines handed whole to standard output; or a write failed; or the file of this number cannot be
-// read.
+// How a run ended: so many files were read and their lines handed whole to standard output; or a write failed; or the
+// file of this number cannot be read.
 enum End {
     Whole(usize),
     Broken(usize),
     NoFile(usize),
 }
 
-// Hands the lines to standard output, which are the text of the files that were read, and notes how many bytes they are. The answer says whether they
-// were taken. Nothing was handed over before.
+// Hands the lines to standard output, which are the text of the files that were read, and notes how many bytes they
+// are. The answer says whether they were taken. Nothing was handed over before.
 fn hand(bytes: &[u8], notes: &[u32], handed: &mut usize, text: &[u8]) -> bool
     requires { ⌜ (now handed ≡ 0) × (now text ≡ printedOf (now bytes) (now notes)) ⌝ }
     ensures { λ r. ⌜ now (handed .exit) ≡ cond r (length (now (text .entry))) 0 ⌝ }
@@ -35,8 +36,8 @@ fn hand(bytes: &[u8], notes: &[u32], handed: &mut usize, text: &[u8]) -> bool
     output::hand(handed, text)
 }
 
-// Puts the files in order and hands their lines on, by way of a table for their numbers and a buffer for the lines. The answer says whether they were
-// taken whole.
+// Puts the files in order and hands their lines on, by way of a table for their numbers and a buffer for the lines. The
+// answer says whether they were taken whole.
 fn print_shelf(
     bytes: &[u8],
     notes: &[u32],

@@ -1,5 +1,5 @@
-// The files of a shelf, read one after another: `p00.cir` to `p15.cir` in the folder of the program, up to the first that is absent. Their bytes lie one
-// behind another, and of each is noted what became of it.
+// The files of a shelf, read one after another: `p00.cir` to `p15.cir` in the folder of the program, up to the first
+// that is absent. Their bytes lie one behind another, and of each is noted what became of it.
 use call_shelf::FILES;
 use file_format::Pattern;
 use input::FileFound;
@@ -20,7 +20,8 @@ const ABSENT: u32 = 65536;
 
 const UNREADABLE: u32 = 65537;
 
-// How the reading goes on after a file: with the next one, whose bytes go to this place; or the shelf ends here; or the program gives up.
+// How the reading goes on after a file: with the next one, whose bytes go to this place; or the shelf ends here; or the
+// program gives up.
 enum Next {
     Further(usize),
     Ends,
@@ -78,8 +79,8 @@ fn note(found: FileFound) -> u32
     }
 }
 
-// Reads the i-th file to a place of the bytes, behind those of the files before it, and notes what became of it. All of those are there, and their
-// bytes stay.
+// Reads the i-th file to a place of the bytes, behind those of the files before it, and notes what became of it. All of
+// those are there, and their bytes stay.
 fn read_one(i: usize, at: usize, bytes: &mut [u8], notes: &mut [u32]) -> FileFound
     requires { ⌜ (i < length (now notes)) × (i < 100) × (at ≤ 65536) × (at + mostBytes ≤ length (now bytes)) ⌝ }
     requires { ⌜ FileReached (now notes) i at ⌝ }

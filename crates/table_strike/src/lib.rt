@@ -1,5 +1,6 @@
-// Striking at one node. A part stays at a node when each part that it drives occurs at some node that the node drives, and the same backward.
-// Which parts occur there is one union of sets for each direction, so a look at a node costs its links and its pairs once.
+// Striking at one node. A part stays at a node when each part that it drives occurs at some node that the node drives,
+// and the same backward. Which parts occur there is one union of sets for each direction, so a look at a node costs its
+// links and its pairs once.
 use base_bits::union_at;
 use graph_neighbours::neighbours::Direction;
 use graph_neighbours::neighbours::neighbours_in;
@@ -31,7 +32,8 @@ pub fn all_empty(masks: &[u32]) -> bool
 fn reach_back(one_way: bool, offsets: &[u16], targets: &[u16], sets: &[u32], v: usize) -> u32
     requires { ⌜ Net (length (now sets)) (now offsets) (now targets) ⌝ }
     requires { ⌜ v < length (now sets) ⌝ }
-    ensures { λ r. ⌜ r ≡ cond «one_way» 0 (unionAt (now (sets .entry)) (driving (now (offsets .entry)) (now (targets .entry)) v)) ⌝ }
+    ensures { λ r. ⌜ r ≡ cond «one_way» 0
+        (unionAt (now (sets .entry)) (driving (now (offsets .entry)) (now (targets .entry)) v)) ⌝ }
 {
     if one_way {
         return 0;
@@ -89,7 +91,8 @@ pub fn strike_node(
     requires { ⌜ «one_way» ≡ allEmpty (predOf (now masks)) ⌝ }
     requires { ⌜ Ready (tables (now masks) (now offsets) (now targets)) (now old) ⌝ }
     requires { ⌜ v < length (now old) ⌝ }
-    ensures { λ r. ⌜ r ≡ strikeNode (tables (now (masks .entry)) (now (offsets .entry)) (now (targets .entry))) (now (old .entry)) v ⌝ }
+    ensures { λ r. ⌜ r ≡ strikeNode (tables (now (masks .entry)) (now (offsets .entry)) (now (targets .entry)))
+        (now (old .entry)) v ⌝ }
 {
     let set = old[v];
     if set == 0 {
