@@ -42,36 +42,36 @@ EMPTY_FOR_A_GAP = """    if size == 0 {
     }
     FileFound::Bytes(size)
 """
-READS = """    let first = load(Role::Pattern, b"pattern.cir", pattern);
-    let second = load(Role::Board, b"board.cir", board);
+READS = """    let first = load(Role::Pattern, b"pattern.cir", &mut pattern[..]);
+    let second = load(Role::Board, b"board.cir", &mut board[..]);
 """
-NAMES_SWAPPED = """    let first = load(Role::Pattern, b"board.cir", pattern);
-    let second = load(Role::Board, b"pattern.cir", board);
+NAMES_SWAPPED = """    let first = load(Role::Pattern, b"board.cir", &mut pattern[..]);
+    let second = load(Role::Board, b"pattern.cir", &mut board[..]);
 """
 FINDER = [
-    Wrong("the two names swapped", "finder", READS, NAMES_SWAPPED),
-    Wrong("a line more", "finder", "    ended(print_report(", '    output::write_whole(b"hello\\n");\n    ended(print_report('),
+    Wrong("the two names swapped", "finder", READS, NAMES_SWAPPED, "finder_read"),
+    Wrong("a line more", "finder", "    let answer = output", '    output::write_whole(b"hello\\n");\n    let answer = output', "finder_print"),
     Wrong("silent", "finder", "    let run = report_files(", "    return;\n    let run = report_files("),
-    Wrong("nothing opened", "finder", "    as_read(input::load(name, buf))", "    as_read(FileFound::Absent)"),
-    Wrong("nothing printed", "finder", "output::write_whole(bytes)", "Output::Written(bytes.len())"),
-    Wrong("a piece twice", "finder", "output::write_whole(bytes)", "output::write_whole(bytes);\n    output::write_whole(bytes)"),
+    Wrong("nothing opened", "finder", "    as_read(input::load(name, buf))", "    as_read(FileFound::Absent)", "finder_read"),
+    Wrong("nothing printed", "finder", "output::write_whole(bytes)", "Output::Written(bytes.len())", "finder_print"),
+    Wrong("a piece twice", "finder", "output::write_whole(bytes)", "output::write_whole(bytes);\n    output::write_whole(bytes)", "finder_print"),
 ]
 SHELF = [
     Wrong("the other standard stream", "shelf", "libc::write(fd, rest)", "libc::write(2, rest)", "output"),
     Wrong("a file that opens taken for one that does not", "shelf", "    fd >= 0", "    fd >= 64", "input"),
     Wrong("silent", "shelf", "    shelve(&mut", "    return;\n    shelve(&mut"),
-    Wrong("nothing opened", "shelf", "    input::load(name, buf)", "    FileFound::Absent"),
-    Wrong("nothing printed", "shelf", "output::write_whole(text)", "Output::Written(text.len())"),
-    Wrong("the lines twice", "shelf", "output::write_whole(text)", "output::write_whole(text);\n    output::write_whole(text)"),
-    Wrong("a line more", "shelf", "    let answer = output::write_whole(text)", '    output::write_whole(b"99\\n");\n    let answer = output::write_whole(text)'),
-    Wrong("a gap read over", "shelf", "    let found = load(i, &mut bytes[at..end]);", GAP_READ_OVER),
+    Wrong("nothing opened", "shelf", "    input::load(name, buf)", "    FileFound::Absent", "shelf_files"),
+    Wrong("nothing printed", "shelf", "output::hand(handed, text)", "true"),
+    Wrong("the lines twice", "shelf", "output::hand(handed, text)", "output::write_whole(text);\n    output::hand(handed, text)"),
+    Wrong("a line more", "shelf", "    output::hand(handed, text)", '    output::write_whole(b"99\\n");\n    output::hand(handed, text)'),
+    Wrong("a gap read over", "shelf", "    let found = load(i, &mut bytes[at..end]);", GAP_READ_OVER, "shelf_files"),
     Wrong("an empty file taken for a gap", "shelf", "    FileFound::Bytes(size)\n", EMPTY_FOR_A_GAP, "input"),
 ]
 LOADER = [
     Wrong("silent", "loader", "    let run = print_asked_for(", "    return;\n    let run = print_asked_for("),
-    Wrong("a word read twice", "loader", "    let second = hear(2, n);", "    let second = hear(3, n);"),
-    Wrong("nothing printed", "loader", "output::write_whole(bytes)", "Output::Written(bytes.len())"),
-    Wrong("the file twice", "loader", "output::write_whole(bytes)", "output::write_whole(bytes);\n    output::write_whole(bytes)"),
+    Wrong("a word read twice", "loader", "    let second = hear(2, n);", "    let second = hear(3, n);", "loader_words"),
+    Wrong("nothing printed", "loader", "output::hand(handed, bytes)", "true"),
+    Wrong("the file twice", "loader", "    if output::hand(handed, bytes)", "    output::write_whole(bytes);\n    if output::hand(handed, bytes)"),
 ]
 
 
@@ -122,7 +122,7 @@ def fail_reading(crates: pathlib.Path) -> None:
 
 
 CONDITIONS = [
-    (store_seventeen, Wrong("the 17th file read", "shelf", "    while i < FILES {", "    while i < FILES + 1 {")),
+    (store_seventeen, Wrong("the 17th file read", "shelf", "    while i < FILES {", "    while i < FILES + 1 {", "shelf_files")),
     (store_long, Wrong("a full buffer read on, and another not", "shelf", "    if size == room {", "    if size != room {", "input")),
     (close_input, Wrong("a file that opens as 0 taken for unreadable", "shelf", "    fd >= 0", "    fd >= 1", "input")),
     (fail_reading, Wrong("a last read of no byte", "shelf", "    let mut more = [0u8; 1];", "    let mut more = [0u8; 0];", "input")),

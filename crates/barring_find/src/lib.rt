@@ -2,10 +2,9 @@
 use crate::dropping::drop_links;
 use crate::trial::bars;
 use barring::BarAnswer;
+use barring::placed;
 use file_format::Board;
-use file_format::File;
 use file_format::Pattern;
-use file_format::Refusal;
 use graph::marked::count;
 use graph_neighbours::tables::OFFSETS;
 use graph_neighbours::tables::TARGETS;
@@ -26,7 +25,8 @@ ghost use Rattle.barring_find.specs.Trial.{SomeTried, EveryAround};
 pub mod dropping;
 pub mod trial;
 
-// Lists the nodes in the ball, and fills the first table with the pairs that agree there. Returns how many nodes there are.
+// Lists the nodes in the ball, and fills the first table with the pairs that agree there. Returns how many nodes there
+// are.
 fn first_in_ball(
     part_labels: &[u32],
     node_labels: &[u32],
@@ -39,16 +39,18 @@ fn first_in_ball(
 ) -> usize
     requires { ⌜ (length (now «part_labels») ≤ 32) × SomeNetted (now «node_labels») (now offsets) (now targets) ⌝ }
     requires { ⌜ around .centre < length (now «node_labels») ⌝ }
-    requires { ⌜ (length (now dist) ≡ length (now «node_labels»)) × (length (now queue) ≡ length (now «node_labels»)) × (length (now first) ≡ length (now «node_labels»)) ⌝ }
-    ensures { λ k. ⌜ EveryListed (now («part_labels» .entry)) (now («node_labels» .entry)) (now (offsets .entry)) (now (targets .entry)) around (now (queue .exit)) (now (first .exit)) k ⌝ }
+    requires { ⌜ (length (now dist) ≡ length (now «node_labels»)) × (length (now queue) ≡ length (now «node_labels»))
+        × (length (now first) ≡ length (now «node_labels»)) ⌝ }
+    ensures { λ k. ⌜ EveryListed (now («part_labels» .entry)) (now («node_labels» .entry)) (now (offsets .entry))
+        (now (targets .entry)) around (now (queue .exit)) (now (first .exit)) k ⌝ }
 {
     let k = search(offsets, targets, around.centre, around.radius, dist, queue);
     start(&queue[..k], part_labels, node_labels, first);
     k
 }
 
-// The kept links in a ball, and how many they are; or number 15 where the centre has a place, which leaves the bytes as they were. All links
-// together bar exactly where it has none.
+// The kept links in a ball, and how many they are; or number 15 where the centre has a place, which leaves the bytes as
+// they were. All links together bar exactly where it has none.
 fn least_in_ball(
     nodes: &[u16],
     starts: &[u16],
@@ -61,15 +63,13 @@ fn least_in_ball(
 ) -> BarAnswer
     requires { ⌜ SomeTried (now starts) (now ends) (now offsets) (now targets) w (now nodes) (now first) ⌝ }
     requires { ⌜ length (now starts) ≤ length (now out) ⌝ }
-    ensures { λ a. ⌜ EveryAround (now (starts .entry)) (now (ends .entry)) (now (offsets .entry)) (now (targets .entry)) w (now (nodes .entry)) (now (first .entry)) (now (out .entry)) (now (out .exit)) a ⌝ }
+    ensures { λ a. ⌜ EveryAround (now (starts .entry)) (now (ends .entry)) (now (offsets .entry)) (now (targets .entry))
+        w (now (nodes .entry)) (now (first .entry)) (now (out .entry)) (now (out .exit)) a ⌝ }
 {
     let all = [1u8; Pattern::MAX_LINKS];
     let m = starts.len();
     if !bars(nodes, starts, ends, offsets, targets, first, w, &all[..m]) {
-        return BarAnswer::Refused(Refusal {
-            number: 15,
-            file: File::Neither,
-        });
+        return placed();
     }
     drop_links(
         nodes,
@@ -84,8 +84,8 @@ fn least_in_ball(
     BarAnswer::Kept(count(&out[..m]))
 }
 
-// The kept links around a centre, in the ball at a radius: a byte for each link of the pattern, first in `out`, and how many are 1; or number 15.
-// The board's neighbour tables, the ball and the pairs that agree in it are made once.
+// The kept links around a centre, in the ball at a radius: a byte for each link of the pattern, first in `out`, and how
+// many are 1; or number 15. The board's neighbour tables, the ball and the pairs that agree in it are made once.
 pub fn bar_circuits(
     part_labels: &[u32],
     part_starts: &[u16],
@@ -101,7 +101,8 @@ pub fn bar_circuits(
     requires { λ α. ⌜ Bounded role.Pattern (α .0) × Bounded role.Board (α .1) ⌝ }
     requires { λ α. ⌜ around .centre < length (now «node_labels») ⌝ }
     requires { λ α. ⌜ length (now «part_starts») ≤ length (now out) ⌝ }
-    ensures { λ α a. ⌜ record { reply = barReply a; out = now (out .exit) } ≡ barAround (α .0) (α .1) (around .centre) (around .radius) (now (out .entry)) ⌝ }
+    ensures { λ α a. ⌜ record { reply = barReply a; out = now (out .exit) }
+        ≡ barAround (α .0) (α .1) (around .centre) (around .radius) (now (out .entry)) ⌝ }
 {
     let mut offsets = [0u16; OFFSETS];
     let mut targets = [0u16; TARGETS];

@@ -1,4 +1,5 @@
-// Whether some of a pattern's links bar: the largest set of pairs that meets kinds and those links alone has no pair with the centre.
+// Whether some of a pattern's links bar: the largest set of pairs that meets kinds and those links alone has no pair
+// with the centre.
 use file_format::Board;
 use file_format::Pattern;
 use graph::marked::choose;
@@ -17,7 +18,8 @@ ghost use Rattle.barring_find.specs.Trial.{SomeBegun, EveryEmpty, SomeTr
 // Copies the entries whose byte is 1, in their order, to the front of `out`, and returns how many there are.
 fn chosen_of(xs: &[u16], marks: &[u8], out: &mut [u16]) -> usize
     requires { ⌜ (length (now xs) ≡ length (now marks)) × (length (now xs) ≤ length (now out)) ⌝ }
-    ensures { λ k. ⌜ (k ≤ length (now (out .exit))) × (take k (now (out .exit)) ≡ picked (now (marks .entry)) (now (xs .entry))) ⌝ }
+    ensures { λ k. ⌜ (k ≤ length (now (out .exit)))
+        × (take k (now (out .exit)) ≡ picked (now (marks .entry)) (now (xs .entry))) ⌝ }
 {
     graph::copy(xs, out);
     let m = marks.len();
@@ -26,10 +28,12 @@ fn chosen_of(xs: &[u16], marks: &[u8], out: &mut [u16]) -> usize
 
 // The masks of the links whose byte is 1.
 fn chosen_masks(starts: &[u16], ends: &[u16], marks: &[u8], masks: &mut [u32])
-    requires { ⌜ (length (now starts) ≡ length (now ends)) × (length (now starts) ≤ 256) × (length (now starts) ≡ length (now marks)) ⌝ }
+    requires { ⌜ (length (now starts) ≡ length (now ends)) × (length (now starts) ≤ 256)
+        × (length (now starts) ≡ length (now marks)) ⌝ }
     requires { ⌜ Below 32 (now starts) × Below 32 (now ends) ⌝ }
     requires { ⌜ length (now masks) ≡ 64 ⌝ }
-    ensures { λ _. ⌜ Masked (picked (now (marks .entry)) (now (starts .entry))) (picked (now (marks .entry)) (now (ends .entry))) (now (masks .exit)) ⌝ }
+    ensures { λ _. ⌜ Masked (picked (now (marks .entry)) (now (starts .entry)))
+        (picked (now (marks .entry)) (now (ends .entry))) (now (masks .exit)) ⌝ }
 {
     let mut from = [0u16; Pattern::MAX_LINKS];
     let mut to = [0u16; Pattern::MAX_LINKS];
@@ -38,7 +42,8 @@ fn chosen_masks(starts: &[u16], ends: &[u16], marks: &[u8], masks: &mut [u32])
     pattern_masks(&from[..k], &to[..l], masks);
 }
 
-// Strikes from the pairs that agree, and says whether node w is in none that is left. The two tables of sets are scratch.
+// Strikes from the pairs that agree, and says whether node w is in none that is left. The two tables of sets are
+// scratch.
 fn empty_at(
     nodes: &[u16],
     masks: &[u32],
@@ -52,14 +57,16 @@ fn empty_at(
     requires { ⌜ SomeBegun (tables (now masks) (now offsets) (now targets)) (now nodes) (now first) ⌝ }
     requires { ⌜ w < length (now first) ⌝ }
     requires { ⌜ (length (now sets) ≡ length (now first)) × (length (now spare) ≡ length (now first)) ⌝ }
-    ensures { λ r. ⌜ EveryEmpty (tables (now (masks .entry)) (now (offsets .entry)) (now (targets .entry))) (now (nodes .entry)) (now (first .entry)) w r ⌝ }
+    ensures { λ r. ⌜ EveryEmpty (tables (now (masks .entry)) (now (offsets .entry)) (now (targets .entry)))
+        (now (nodes .entry)) (now (first .entry)) w r ⌝ }
 {
     let started = copy(nodes, first, sets);
     refine(nodes, masks, offsets, targets, sets, spare, started);
     sets[w] == 0
 }
 
-// Whether the links whose byte is 1 bar. The list has the nodes in the ball around w, and the first table the pairs that agree there.
+// Whether the links whose byte is 1 bar. The list has the nodes in the ball around w, and the first table the pairs
+// that agree there.
 pub fn bars(
     nodes: &[u16],
     starts: &[u16],
@@ -72,7 +79,8 @@ pub fn bars(
 ) -> bool
     requires { ⌜ SomeTried (now starts) (now ends) (now offsets) (now targets) w (now nodes) (now first) ⌝ }
     requires { ⌜ length (now starts) ≡ length (now marks) ⌝ }
-    ensures { λ r. ⌜ EveryBars (now (starts .entry)) (now (ends .entry)) (now (offsets .entry)) (now (targets .entry)) w (now (nodes .entry)) (now (first .entry)) (now (marks .entry)) r ⌝ }
+    ensures { λ r. ⌜ EveryBars (now (starts .entry)) (now (ends .entry)) (now (offsets .entry)) (now (targets .entry)) w
+        (now (nodes .entry)) (now (first .entry)) (now (marks .entry)) r ⌝ }
 {
     let mut masks = [0u32; MASKS];
     let mut sets = [0u32; Board::MAX_NODES];

@@ -4,7 +4,8 @@ ghost use mathlib.Core.Path.{_≡_};
 ghost use Prim.Native.Nat.{_^_, _≤_, _<_};
 ghost use lib.ListN.{length, drop, replicate};
 ghost use Rattle.base_lists.specs.List.{Below};
-ghost use Rattle.base_bits.specs.Bits.{bit, subsetOf, intersects, firstOf, withoutFirst, sizeOf, unionAt, unionOver};
+ghost use Rattle.base_bits.specs.Bits.{bit, subsetOf, intersects, firstOf, withoutFirst, sizeOf, unionAt};
+ghost use Rattle.base_bits.specs.Bits.{unionOver};
 
 // Whether part u is in the set.
 pub fn has(set: u32, u: u32) -> bool

@@ -1,5 +1,6 @@
 pub mod Tests
 pub mod Tables
+pub mod Filling
 pub mod Rows
 pub mod Below
 pub mod Ranks

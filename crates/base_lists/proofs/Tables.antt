@@ -102,12 +102,15 @@ pub sets-append : (old : List ℕ) (at : ℕ) (xs ys : List ℕ) → sets (sets 
 sets-append old at [] ys = rw add-zero
 sets-append old at (x ∷ xs) ys = rw (add-suc, ← suc-add) (sets-append (set old at x) (suc at) xs ys)
 
--- ---- the table of 0 alone
+-- ---- the table of one entry alone
+
+pub replicate-rule : (n x : ℕ) → replicate n x ≡ tabulate n (λ v. x)
+unfolding tabulate
+replicate-rule zero x = refl
+replicate-rule (suc n) x = ap (λ (l : List ℕ). x ∷ l) (replicate-rule n x)
 
 pub replicate-tabulate : (n : ℕ) → replicate n 0 ≡ tabulate n (λ v. 0)
-unfolding tabulate
-replicate-tabulate zero = refl
-replicate-tabulate (suc n) = ap (λ (l : List ℕ). 0 ∷ l) (replicate-tabulate n)
+replicate-tabulate n = replicate-rule n 0
 
 -- ---- entries before and among those stored
 

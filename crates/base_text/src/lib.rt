@@ -1,5 +1,5 @@
 // Text into a table of bytes: each function writes from an offset on and returns the offset after what it wrote.
-ghost use mathlib.Core.List.{List};
+ghost use mathlib.Core.List.{List, _++_};
 ghost use mathlib.Core.Path.{_≡_};
 ghost use Prim.Native.Nat.{_+_, _≤_, _<_};
 ghost use lib.ListN.{length};
@@ -50,16 +50,38 @@ fn put_two(x: usize, out: &mut [u8], at: usize) -> usize
     put_digit(x % 10, out, next)
 }
 
-// A number in decimal: what is left of it after its last digit, where there is more than one, and then that digit.
+// A number of at most three digits.
+fn put_three(x: usize, out: &mut [u8], at: usize) -> usize
+    requires { ⌜ x < 1000 ⌝ }
+    requires { ⌜ Fits (now out) at (decimal x) ⌝ }
+    ensures { λ r. ⌜ Put (now (out .entry)) at (decimal x) (now (out .exit)) r ⌝ }
+{
+    if x < 100 {
+        return put_two(x, out, at);
+    }
+    let next = put_two(x / 10, out, at);
+    put_digit(x % 10, out, next)
+}
+
+// A number in decimal: what is left of it after its last digit, where there are more than three, and then that digit.
 pub fn put_number(x: usize, out: &mut [u8], at: usize) -> usize
     requires { ⌜ Fits (now out) at (decimal x) ⌝ }
     ensures { λ r. ⌜ Put (now (out .entry)) at (decimal x) (now (out .exit)) r ⌝ }
 {
-    if x < 10 {
-        return put_digit(x, out, at);
+    if x < 1000 {
+        return put_three(x, out, at);
     }
     let next = put_number(x / 10, out, at);
     put_digit(x % 10, out, next)
+}
+
+// A word, and a number after it.
+pub fn put_numbered(word: &[u8], x: usize, out: &mut [u8], at: usize) -> usize
+    requires { ⌜ Fits (now out) at (now word ++ decimal x) ⌝ }
+    ensures { λ r. ⌜ Put (now (out .entry)) at (now (word .entry) ++ decimal x) (now (out .exit)) r ⌝ }
+{
+    let next = put_bytes(word, out, at);
+    put_number(x, out, next)
 }
 
 // The four bytes of a number, the low one first. Compiled, that is one store.

@@ -1,5 +1,5 @@
-// Layers: which parts occur within a number of links from each node. Each is made from the one before, so that a link is looked at once for
-// each layer, whatever the number of paths.
+// Layers: which parts occur within a number of links from each node. Each is made from the one before, so that a link
+// is looked at once for each layer, whatever the number of paths.
 use base_bits::union_at;
 use graph_neighbours::neighbours::Direction;
 use graph_neighbours::neighbours::neighbours_in;
@@ -20,7 +20,8 @@ pub fn widen(
 )
     requires { ⌜ Net (length (now old)) (now offsets) (now targets) ⌝ }
     requires { ⌜ (length (now layer) ≡ length (now old)) × (length (now next) ≡ length (now old)) ⌝ }
-    ensures { λ _. ⌜ now (next .exit) ≡ nextLayer (neighboursIn direction (now (offsets .entry)) (now (targets .entry))) (now (old .entry)) (now (layer .entry)) ⌝ }
+    ensures { λ _. ⌜ now (next .exit) ≡ nextLayer (neighboursIn direction (now (offsets .entry)) (now (targets .entry)))
+        (now (old .entry)) (now (layer .entry)) ⌝ }
 {
     let mut v = 0;
     while v < next.len() {

@@ -1,5 +1,5 @@
-// One pass, for one direction and one bound: a part stays at a node when each part that it has a link of this bound to occurs at the end of
-// some path from the node.
+// One pass, for one direction and one bound: a part stays at a node when each part that it has a link of this bound to
+// occurs at the end of some path from the node.
 use base_bits::union_at;
 use graph_neighbours::neighbours::Direction;
 use graph_neighbours::neighbours::neighbours_in;
@@ -28,7 +28,8 @@ fn covered(set: u32, masks: &[u32], f: u32) -> u32
     kept
 }
 
-// What is left of the set of node v. The layer has, at each neighbour, the parts at the ends of the rest of the paths through it.
+// What is left of the set of node v. The layer has, at each neighbour, the parts at the ends of the rest of the paths
+// through it.
 fn pass_node(
     direction: Direction,
     masks: &[u32],
@@ -38,8 +39,10 @@ fn pass_node(
     v: usize,
     set: u32,
 ) -> u32
-    requires { ⌜ (length (now masks) ≡ 32) × Net (length (now layer)) (now offsets) (now targets) × (v < length (now layer)) ⌝ }
-    ensures { λ r. ⌜ r ≡ keptWithin (now (masks .entry)) (unionAt (now (layer .entry)) (neighboursIn direction (now (offsets .entry)) (now (targets .entry)) v)) set ⌝ }
+    requires { ⌜ (length (now masks) ≡ 32) × Net (length (now layer)) (now offsets) (now targets)
+        × (v < length (now layer)) ⌝ }
+    ensures { λ r. ⌜ r ≡ keptWithin (now (masks .entry))
+        (unionAt (now (layer .entry)) (neighboursIn direction (now (offsets .entry)) (now (targets .entry)) v)) set ⌝ }
 {
     if set == 0 {
         return 0;
@@ -57,8 +60,10 @@ pub fn pass(
     layer: &[u32],
     new: &mut [u32],
 )
-    requires { ⌜ (length (now masks) ≡ 32) × Net (length (now layer)) (now offsets) (now targets) × (length (now new) ≡ length (now layer)) ⌝ }
-    ensures { λ _. ⌜ now (new .exit) ≡ passTable (neighboursIn direction (now (offsets .entry)) (now (targets .entry))) (now (masks .entry)) (now (layer .entry)) (now (new .entry)) ⌝ }
+    requires { ⌜ (length (now masks) ≡ 32) × Net (length (now layer)) (now offsets) (now targets)
+        × (length (now new) ≡ length (now layer)) ⌝ }
+    ensures { λ _. ⌜ now (new .exit) ≡ passTable (neighboursIn direction (now (offsets .entry)) (now (targets .entry)))
+        (now (masks .entry)) (now (layer .entry)) (now (new .entry)) ⌝ }
 {
     let mut v = 0;
     while v < new.len() {

@@ -24,11 +24,14 @@ fn keys_of(bounds: &[u16], parts: &[u16], keys: &mut [u16])
     }
 }
 
-// The masks in one direction: for each bound and part the set of the values that stand beside them. The keys are scratch.
+// The masks in one direction: for each bound and part the set of the values that stand beside them. The keys are
+// scratch.
 fn way_masks(bounds: &[u16], parts: &[u16], values: &[u16], keys: &mut [u16], masks: &mut [u32])
     requires { ⌜ InBounds (now bounds) × Below 32 (now parts) × Below 32 (now values) ⌝ }
-    requires { ⌜ (length (now bounds) ≡ length (now parts)) × (length (now keys) ≡ length (now parts)) × (length (now parts) ≡ length (now values)) × (length (now masks) ≡ 128) ⌝ }
-    ensures { λ _. ⌜ now (masks .exit) ≡ masksOf 128 (keyed (now (bounds .entry)) (now (parts .entry))) (now (values .entry)) ⌝ }
+    requires { ⌜ (length (now bounds) ≡ length (now parts)) × (length (now keys) ≡ length (now parts))
+        × (length (now parts) ≡ length (now values)) × (length (now masks) ≡ 128) ⌝ }
+    ensures { λ _. ⌜ now (masks .exit) ≡ masksOf 128 (keyed (now (bounds .entry)) (now (parts .entry)))
+        (now (values .entry)) ⌝ }
 {
     keys_of(bounds, parts, keys);
     masks_of(keys, values, masks);
@@ -37,7 +40,8 @@ fn way_masks(bounds: &[u16], parts: &[u16], values: &[u16], keys: &mut [u16], ma
 // The masks of a pattern in both directions, by bound and part.
 pub fn bound_masks(bounds: &[u16], starts: &[u16], ends: &[u16], masks: &mut [u32])
     requires { ⌜ InBounds (now bounds) × Below 32 (now starts) × Below 32 (now ends) ⌝ }
-    requires { ⌜ (length (now bounds) ≡ length (now starts)) × (length (now starts) ≡ length (now ends)) × (length (now starts) ≤ 256) × (length (now masks) ≡ 256) ⌝ }
+    requires { ⌜ (length (now bounds) ≡ length (now starts)) × (length (now starts) ≡ length (now ends))
+        × (length (now starts) ≤ 256) × (length (now masks) ≡ 256) ⌝ }
     ensures { λ _. ⌜ BoundMasked (now (bounds .entry)) (now (starts .entry)) (now (ends .entry)) (now (masks .exit)) ⌝ }
 {
     let mut forth = [0u16; Pattern::MAX_LINKS];

@@ -17,7 +17,7 @@ ghost use Rattle.bounded_strike.specs.Round.{passes, roundTable, Bounded
 
 // One bound more in one direction: the layer that reaches one link further, and the pass over it.
 fn further(
-    direction: Direction,
+    way: Direction,
     masks: &[u32],
     offsets: &[u16],
     targets: &[u16],
@@ -27,63 +27,51 @@ fn further(
     new: &mut [u32],
 )
     requires { ⌜ Net (length (now old)) (now offsets) (now targets) ⌝ }
-    requires { ⌜ (length (now masks) ≡ 32) × (length (now layer) ≡ length (now old)) × (length (now next) ≡ length (now old)) × (length (now new) ≡ length (now old)) ⌝ }
-    ensures { λ _. ⌜ now (next .exit) ≡ nextLayer (neighboursIn direction (now (offsets .entry)) (now (targets .entry))) (now (old .entry)) (now (layer .entry)) ⌝ }
-    ensures { λ _. ⌜ now (new .exit) ≡ passTable (neighboursIn direction (now (offsets .entry)) (now (targets .entry))) (now (masks .entry)) (now (next .exit)) (now (new .entry)) ⌝ }
+    requires { ⌜ (length (now masks) ≡ 32) × (length (now layer) ≡ length (now old))
+        × (length (now next) ≡ length (now old)) × (length (now new) ≡ length (now old)) ⌝ }
+    ensures { λ _. ⌜ now (next .exit) ≡ nextLayer (neighboursIn way (now (offsets .entry)) (now (targets .entry)))
+        (now (old .entry)) (now (layer .entry)) ⌝ }
+    ensures { λ _. ⌜ now (new .exit) ≡ passTable (neighboursIn way (now (offsets .entry)) (now (targets .entry)))
+        (now (masks .entry)) (now (next .exit)) (now (new .entry)) ⌝ }
 {
-    widen(direction, offsets, targets, old, layer, next);
-    pass(direction, masks, offsets, targets, next, new);
+    widen(way, offsets, targets, old, layer, next);
+    pass(way, masks, offsets, targets, next, new);
 }
 
-// The passes of one direction, for the bounds up to `top`. For bound 1 the ends of paths are the neighbours; for each further bound they are
-// those of a layer that reaches one link further. The two tables for layers are scratch.
+// The passes of one direction, for the bounds up to `top`. For bound 1 the ends of paths are the neighbours; for each
+// further bound they are those of a layer that reaches one link further. The two tables for layers are scratch.
 fn strike_way(
-    direction: Direction,
+    way: Direction,
+    top: usize,
     masks: &[u32],
     offsets: &[u16],
     targets: &[u16],
-    top: usize,
     old: &[u32],
     layer: &mut [u32],
     next: &mut [u32],
     new: &mut [u32],
 )
-    requires { ⌜ (length (now masks) ≡ 128) × Net (length (now old)) (now offsets) (now targets) × (1 ≤ top) × (top ≤ 4) ⌝ }
-    requires { ⌜ (length (now layer) ≡ length (now old)) × (length (now next) ≡ length (now old)) × (length (now new) ≡ length (now old)) ⌝ }
-    ensures { λ _. ⌜ now (new .exit) ≡ passes (neighboursIn direction (now (offsets .entry)) (now (targets .entry))) (now (masks .entry)) (now (old .entry)) top (now (new .entry)) ⌝ }
+    requires { ⌜ (length (now masks) ≡ 128) × Net (length (now old)) (now offsets) (now targets) × (1 ≤ top)
+        × (top ≤ 4) ⌝ }
+    requires { ⌜ (length (now layer) ≡ length (now old)) × (length (now next) ≡ length (now old))
+        × (length (now new) ≡ length (now old)) ⌝ }
+    ensures { λ _. ⌜ now (new .exit) ≡ passes (neighboursIn way (now (offsets .entry)) (now (targets .entry)))
+        (now (masks .entry)) (now (old .entry)) top (now (new .entry)) ⌝ }
 {
-    pass(direction, &masks[0..32], offsets, targets, old, new);
+    pass(way, &masks[0..32], offsets, targets, old, new);
     if top < 2 {
         return;
     }
-    further(
-        direction,
-        &masks[32..64],
-        offsets,
-        targets,
-        old,
-        old,
-        layer,
-        new,
-    );
+    further(way, &masks[32..64], offsets, targets, old, old, layer, new);
     if top < 3 {
         return;
     }
-    further(
-        direction,
-        &masks[64..96],
-        offsets,
-        targets,
-        old,
-        layer,
-        next,
-        new,
-    );
+    further(way, &masks[64..96], offsets, targets, old, layer, next, new);
     if top < 4 {
         return;
     }
     further(
-        direction,
+        way,
         &masks[96..128],
         offsets,
         targets,
@@ -108,7 +96,8 @@ fn count(table: &[u32]) -> u32
     sum
 }
 
-// Writes the next set of each node into `new`, each from the table `old` whole, and returns how many pairs these sets have.
+// Writes the next set of each node into `new`, each from the table `old` whole, and returns how many pairs these sets
+// have.
 pub fn strike(
     masks: &[u32],
     offsets: &[u16],
@@ -120,16 +109,19 @@ pub fn strike(
     new: &mut [u32],
 ) -> u32
     requires { ⌜ BoundedReady (tables (now masks) (now offsets) (now targets)) top (now old) ⌝ }
-    requires { ⌜ (length (now layer) ≡ length (now old)) × (length (now next) ≡ length (now old)) × (length (now new) ≡ length (now old)) ⌝ }
-    ensures { λ r. ⌜ (now (new .exit) ≡ roundTable (tables (now (masks .entry)) (now (offsets .entry)) (now (targets .entry))) top (now (old .entry))) × (r ≡ pairs (now (new .exit))) ⌝ }
+    requires { ⌜ (length (now layer) ≡ length (now old)) × (length (now next) ≡ length (now old))
+        × (length (now new) ≡ length (now old)) ⌝ }
+    ensures { λ r. ⌜ (now (new .exit) ≡ roundTable
+        (tables (now (masks .entry)) (now (offsets .entry)) (now (targets .entry))) top (now (old .entry)))
+        × (r ≡ pairs (now (new .exit))) ⌝ }
 {
     copy(old, new);
     strike_way(
         Direction::Forward,
+        top,
         &masks[..WAY_MASKS],
         offsets,
         targets,
-        top,
         old,
         layer,
         next,
@@ -137,10 +129,10 @@ pub fn strike(
     );
     strike_way(
         Direction::Backward,
+        top,
         &masks[WAY_MASKS..BOUND_MASKS],
         offsets,
         targets,
-        top,
         old,
         layer,
         next,

@@ -34,9 +34,11 @@ fn match_prepared(
     top: usize,
     table: &mut [u32],
 ) -> Counts
-    requires { ⌜ SomeBoundedPattern (now «part_labels») (now «node_labels») (tables (now masks) (now offsets) (now targets)) top ⌝ }
+    requires { ⌜ SomeBoundedPattern (now «part_labels») (now «node_labels»)
+        (tables (now masks) (now offsets) (now targets)) top ⌝ }
     requires { ⌜ length (now table) ≡ length (now «node_labels») ⌝ }
-    ensures { λ r. ⌜ EveryRow (now («part_labels» .entry)) (now («node_labels» .entry)) (tables (now (masks .entry)) (now (offsets .entry)) (now (targets .entry))) top (now (table .exit)) r ⌝ }
+    ensures { λ r. ⌜ EveryRow (now («part_labels» .entry)) (now («node_labels» .entry))
+        (tables (now (masks .entry)) (now (offsets .entry)) (now (targets .entry))) top (now (table .exit)) r ⌝ }
 {
     let mut nodes = [0u16; Board::MAX_NODES];
     let mut spare = [0u32; Board::MAX_NODES];
@@ -59,8 +61,9 @@ fn match_prepared(
     counted(started, end)
 }
 
-// The answer on a whole board: the same with masks and neighbour tables of its own, and with the table all 0 where some part is left without a
-// node. Where every bound is 1, what is asked is what the pattern without bounds asks, and that is answered as it always was.
+// The answer on a whole board: the same with masks and neighbour tables of its own, and with the table all 0 where some
+// part is left without a node. Where every bound is 1, what is asked is what the pattern without bounds asks, and that
+// is answered as it always was.
 pub fn match_bounded(
     part_labels: &[u32],
     part_starts: &[u16],
@@ -75,7 +78,10 @@ pub fn match_bounded(
     requires { ⌜ Bounds (circuit (now «part_labels») (now «part_starts») (now «part_ends»)) (now bounds) ⌝ }
     requires { ⌜ Bounded role.Board (circuit (now «node_labels») (now «node_starts») (now «node_ends»)) ⌝ }
     requires { ⌜ length (now table) ≡ length (now «node_labels») ⌝ }
-    ensures { λ r. ⌜ BoundedAnswer (circuit (now («part_labels» .entry)) (now («part_starts» .entry)) (now («part_ends» .entry))) (now (bounds .entry)) (circuit (now («node_labels» .entry)) (now («node_starts» .entry)) (now («node_ends» .entry))) (now (table .exit)) r ⌝ }
+    ensures { λ r. ⌜ BoundedAnswer (circuit (now («part_labels» .entry)) (now («part_starts» .entry))
+        (now («part_ends» .entry))) (now (bounds .entry))
+        (circuit (now («node_labels» .entry)) (now («node_starts» .entry)) (now («node_ends» .entry)))
+        (now (table .exit)) r ⌝ }
 {
     let top = largest_bound(bounds);
     if top < 2 {

@@ -1,5 +1,5 @@
--- What the promise of the call means: 15 exactly where the centre has a place; else the bytes mark links that bar, of which none can be spared.
--- Assumes nothing.
+-- What the promise of the call means: 15 exactly where the centre has a place; else the bytes mark links that bar, of
+-- which none can be spared. Assumes nothing.
 use Rattle.base_lists.specs.Kit.{_≡_, _∙_, sym, ap, _↔_, ⊎-elim, List, [], _∷_, _++_, ℕ, _≤_, _<_, T, length, take, drop, take-at, drop-at, le-ltb, lt-ltb}
 use Rattle.base_lists.proofs.Tests.{T-true, T-false, false-T, decide}
 use Rattle.graph.specs.Chosen.{ChosenLink}

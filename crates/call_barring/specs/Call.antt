@@ -1,4 +1,5 @@
--- The call that finds the least that still says none, whole: the reply, and the lent bytes' later content, from the inputs alone.
+-- The call that finds the least that still says none, whole: the reply, and the lent bytes' later content, from the
+-- inputs alone.
 use Rattle.base_lists.specs.Kit.{Bool, List, [], _∷_, _++_, ℕ, length}
 use Rattle.graph.specs.Circuit.{Circuit}
 use Rattle.file_format.specs.Circuit.{circuitOf}

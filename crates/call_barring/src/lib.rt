@@ -1,5 +1,5 @@
-// The call that finds the least of a pattern's links that still says that there is no place around a centre: a pattern file, the board of another
-// file and a centre.
+// The call that finds the least of a pattern's links that still says that there is no place around a centre: a pattern
+// file, the board of another file and a centre.
 use barring::BarAnswer;
 use barring_find::bar_circuits;
 use file_format::Board;
@@ -20,46 +20,40 @@ ghost use Rattle.graph.specs.Circuit.{Circuit, circuit};
 ghost use Rattle.barring.specs.Outcome.{barReply};
 ghost use Rattle.call_barring.specs.Call.{barOn, barCall};
 
-// The call on two circuits that were read. Everything is tested before anything is written to the lent bytes.
+// The call on two circuits that were read: labels, starts and ends of the pattern's, then of the board's. Everything is
+// tested before anything is written to the lent bytes.
 fn bar_on(
-    part_labels: &[u32],
-    part_starts: &[u16],
-    part_ends: &[u16],
-    node_labels: &[u32],
-    node_starts: &[u16],
-    node_ends: &[u16],
+    pk: &[u32],
+    ps: &[u16],
+    pe: &[u16],
+    nk: &[u32],
+    ns: &[u16],
+    ne: &[u16],
     asked: Asked,
     out: &mut [u8],
 ) -> BarAnswer
     ghost { Circuit × Circuit }
-    requires { λ α. ⌜ (circuit (now «part_labels») (now «part_starts») (now «part_ends»), circuit (now «node_labels») (now «node_starts») (now «node_ends»)) ≡ α ⌝ }
+    requires { λ α. ⌜ (circuit (now pk) (now ps) (now pe), circuit (now nk) (now ns) (now ne)) ≡ α ⌝ }
     requires { λ α. ⌜ Bounded role.Pattern (α .0) × Bounded role.Board (α .1) ⌝ }
-    ensures { λ α a. ⌜ record { reply = barReply a; out = now (out .exit) } ≡ barOn (asked .radius) (α .0) (α .1) (asked .centre) (now (out .entry)) ⌝ }
+    ensures { λ α a. ⌜ record { reply = barReply a; out = now (out .exit) }
+        ≡ barOn (asked .radius) (α .0) (α .1) (asked .centre) (now (out .entry)) ⌝ }
 {
     let centre = asked.centre;
-    if node_labels.len() <= centre {
+    if nk.len() <= centre {
         return BarAnswer::Refused(OUTSIDE);
     }
-    if out.len() < part_starts.len() {
+    if out.len() < ps.len() {
         return BarAnswer::Refused(TOO_SHORT);
     }
-    bar_circuits(
-        part_labels,
-        part_starts,
-        part_ends,
-        node_labels,
-        node_starts,
-        node_ends,
-        Around {
-            centre: centre as u16,
-            radius: asked.radius,
-        },
-        out,
-    )
+    let around = Around {
+        centre: centre as u16,
+        radius: asked.radius,
+    };
+    bar_circuits(pk, ps, pe, nk, ns, ne, around, out)
 }
 
-// The least of the pattern's links that still says that there is no place around the centre at the pattern's radius: a byte per pattern link, 1 for
-// kept, first in `out`, and how many are 1; or the refusal, which leaves `out` as it was.
+// The least of the pattern's links that still says that there is no place around the centre at the pattern's radius: a
+// byte per pattern link, 1 for kept, first in `out`, and how many are 1; or the refusal, which leaves `out` as it was.
 pub fn bar(
     editions: Editions,
     pattern: &[u8],
@@ -68,7 +62,8 @@ pub fn bar(
     out: &mut [u8],
 ) -> BarAnswer
     ensures { λ a. ⌜ record { reply = barReply a; out = now (out .exit) }
-        ≡ barCall (inEdition (editions .pattern) (now (pattern .entry))) (inEdition (editions .board) (now (board .entry))) centre (now (out .entry)) ⌝ }
+        ≡ barCall (inEdition (editions .pattern) (now (pattern .entry)))
+        (inEdition (editions .board) (now (board .entry))) centre (now (out .entry)) ⌝ }
 {
     let mut pk = [0u32; Pattern::MAX_NODES];
     let mut ps = [0u16; Pattern::MAX_LINKS];

@@ -1,6 +1,6 @@
--- What the exported call's promise means: a refusal is one of the conditions; else the table holds the largest bounded simulation of the pattern
--- in the board, and the counts are those of the row. All bounds 1 give what the second edition gives.
--- Assumes nothing.
+-- What the exported call's promise means: a refusal is one of the conditions; else the table holds the largest bounded
+-- simulation of the pattern in the board, and the counts are those of the row. All bounds 1 give what the second
+-- edition gives. Assumes nothing.
 use Rattle.base_lists.specs.Kit.{_≡_, _∙_, sym, refl, List, [], _∷_, _++_, map, append-assoc, ℕ, _≤_, _+_, length, take, drop, take-at, drop-at, arith, le-ltb}
 use lib.Count.{ones}
 use Rattle.base_lists.specs.List.{sum}
@@ -144,8 +144,8 @@ module _ (pattern : List ℕ) (board : CircuitFile) (table : List ℕ) (long : l
   unfolding boundedConditions
   drawn e = first-parts (thirdConditions pattern) _ e .0
 
-  -- "With all bounds 1 the table and counts are those of the second edition": the whole reply and the table, refusals too, for every byte string of
-  -- the third edition's length
+  -- "With all bounds 1 the table and counts are those of the second edition": the whole reply and the table, refusals
+  -- too, for every byte string of the third edition's length
   pub ones-second : boundedMatching pattern board table ≡ matching (beforeBounds pattern) board table
   unfolding boundedMatching matchingBy
   ones-second =

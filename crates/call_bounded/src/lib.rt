@@ -1,4 +1,5 @@
-// The match-table call for patterns with bounds: a third-edition pattern file on the whole board of another file, of either edition.
+// The match-table call for patterns with bounds: a third-edition pattern file on the whole board of another file, of
+// either edition.
 use bounded_whole::match_bounded;
 use call_match::TableAnswer;
 use file_bounds::load_bounded;
@@ -18,7 +19,8 @@ ghost use Rattle.bounded.specs.Problem.{Bounds};
 ghost use Rattle.call_match.specs.Call.{replyOf};
 ghost use Rattle.call_bounded.specs.Call.{boundedOn, boundedMatching};
 
-// The call on a pattern with bounds and a board that were read. The table's length is tested before anything is written to it.
+// The call on a pattern with bounds and a board that were read. The table's length is tested before anything is written
+// to it.
 fn match_on(
     part_labels: &[u32],
     part_starts: &[u16],
@@ -33,7 +35,9 @@ fn match_on(
     requires { ⌜ Bounds (circuit (now «part_labels») (now «part_starts») (now «part_ends»)) (now bounds) ⌝ }
     requires { ⌜ Bounded role.Board (circuit (now «node_labels») (now «node_starts») (now «node_ends»)) ⌝ }
     ensures { λ r. ⌜ record { reply = replyOf r; table = now (table .exit) }
-        ≡ boundedOn (circuit (now («part_labels» .entry)) (now («part_starts» .entry)) (now («part_ends» .entry))) (now (bounds .entry)) (circuit (now («node_labels» .entry)) (now («node_starts» .entry)) (now («node_ends» .entry))) (now (table .entry)) ⌝ }
+        ≡ boundedOn (circuit (now («part_labels» .entry)) (now («part_starts» .entry)) (now («part_ends» .entry)))
+        (now (bounds .entry)) (circuit (now («node_labels» .entry)) (now («node_starts» .entry))
+        (now («node_ends» .entry))) (now (table .entry)) ⌝ }
 {
     let n = node_labels.len();
     if table.len() < n {
@@ -51,9 +55,10 @@ fn match_on(
     ))
 }
 
-// Matches the pattern of a third-edition file, connected or not, on the whole board of another file: a link of the pattern with bound h is met
-// by a directed path of 1 to h links of the board. The four counts, with the largest such set at the front of the table, a 32-bit number per
-// node, which is all 0 where some part is left without a node; or the refusal, which leaves the table as it was.
+// Matches the pattern of a third-edition file, connected or not, on the whole board of another file: a link of the
+// pattern with bound h is met by a directed path of 1 to h links of the board. The four counts, with the largest such
+// set at the front of the table, a 32-bit number per node, which is all 0 where some part is left without a node; or
+// the refusal, which leaves the table as it was.
 pub fn match_bounds(
     edition: Edition,
     pattern: &[u8],

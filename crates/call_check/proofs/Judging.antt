@@ -1,17 +1,20 @@
--- What the call comes to, by cases: a refused file, a centre outside, bytes of another length, or yes or no. Assumes nothing.
-use Rattle.base_lists.specs.Kit.{_≡_, _∙_, sym, ap, refl, Bool, false, true, List, [], _∷_, ℕ, _≤_, _<_, length, eq-eqb, ne-eqb, le-ltb, lt-ltb}
+-- What the call comes to, by cases: a refused file, a centre outside, bytes of another length, or yes or no. Assumes
+-- nothing.
+use Rattle.base_lists.specs.Kit.{_≡_, _∙_, sym, ap, refl, Bool, false, true, List, [], _∷_, ℕ, length}
 use Rattle.graph.specs.Circuit.{Circuit}
 use Rattle.graph.specs.Search.{radius}
-use Rattle.file_format.specs.declared.File.the-variants.{Neither}
 use Rattle.file_format.specs.declared.Role.the-variants.{Pattern}
 use Rattle.file_format.specs.declared.Refusal.{Refusal}
 use Rattle.file_format.specs.Circuit.{circuitOf}
 use Rattle.file_format.specs.Layout.{CircuitFile, startsOf, endsOf}
-use Rattle.file_format.specs.Reading.{prefix}
-use Rattle.file_format.specs.Refusals.{accept, refuse, first, centreOutside, otherLength}
+use Rattle.file_format.specs.declared.FileVerdict.{FileVerdict}
+use Rattle.file_format.specs.declared.FileVerdict.the-variants as file
+use Rattle.file_format.specs.Reading.{prefix, verdictOf}
+use Rattle.file_format.specs.Refusals.{Verdict, accept, refuse, first}
 use Rattle.file_format.specs.Reply.{Reply, reply}
 use Rattle.file_format.proofs.Fields.{length-labels, length-starts}
 use Rattle.file_format.proofs.Refusals.{first-accept, first-refuse}
+use Rattle.call_decide.specs.Decide.{bytesConditions}
 use Rattle.file_pair.specs.declared.Pair.{Pair}
 use Rattle.file_pair.specs.Pair.{pairConditions, BothRead}
 use Rattle.file_pair.proofs.Both.{pair-radius}
@@ -24,28 +27,26 @@ use Rattle.call_check.specs.Call.{yesValue, checkAnswered, checkReply, c
 -- ---- two circuits
 
 module _ (r : ℕ) (p b : Circuit) (w : ℕ) (nodes links : List ℕ) where
-  pub on-centre : length (b .labels) ≤ w → checkReply (Refused (record { number = 7; file = Neither })) ≡ checkOn r p b w nodes links
-  unfolding checkReply checkOn first centreOutside reply
-  on-centre h = rw (le-ltb _ _ h)
+  -- the verdict on the centre and the bytes
+  abbrev told : Verdict
+  told = first (bytesConditions (length (b .labels)) (length (b .starts)) w (length nodes) (length links))
 
-  module _ (inside : w < length (b .labels)) where
-    pub on-nodes : (length nodes ≡ length (b .labels) → ⊥) → checkReply (Refused (record { number = 3; file = Neither })) ≡ checkOn r p b w nodes links
-    unfolding checkReply checkOn first centreOutside otherLength reply
-    on-nodes f = rw (lt-ltb _ _ inside, ne-eqb _ _ f)
+  pub on-refused : {v : FileVerdict} {x : Refusal} → verdictOf v ≡ told → v ≡ file.Refused x → checkReply (Refused x) ≡ checkOn r p b w nodes links
+  unfolding checkReply checkOn reply verdictOf
+  on-refused says e = rw (sym says ∙ ap verdictOf e)
 
-    module _ (same : length nodes ≡ length (b .labels)) where
-      pub on-links : (length links ≡ length (b .starts) → ⊥) → checkReply (Refused (record { number = 3; file = Neither })) ≡ checkOn r p b w nodes links
-      unfolding checkReply checkOn first centreOutside otherLength reply
-      on-links f = rw (lt-ltb _ _ inside, eq-eqb _ _ same, ne-eqb _ _ f)
+  on-accepted : {v : FileVerdict} → verdictOf v ≡ told → v ≡ file.Accepted → told ≡ accept
+  unfolding verdictOf
+  on-accepted says e = sym says ∙ ap verdictOf e
 
-      pub on-judged : length links ≡ length (b .starts) → {a : CheckAnswer} {t : Bool} → a ≡ checkAnswered t → t ≡ checks p b w r nodes links →
-          checkReply a ≡ checkOn r p b w nodes links
-      unfolding checkOn first centreOutside otherLength reply checkReply checkAnswered
-      on-judged e {t = t} q s = ap checkReply q ∙ value t ∙ rw (lt-ltb _ _ inside, eq-eqb _ _ same, eq-eqb _ _ e, s)
-        where
-          value : (t : Bool) → checkReply (checkAnswered t) ≡ reply accept (yesValue t ∷ [])
-          value true = refl
-          value false = refl
+  pub on-judged : {v : FileVerdict} → verdictOf v ≡ told → v ≡ file.Accepted → {a : CheckAnswer} {t : Bool} → a ≡ checkAnswered t → t ≡ checks p b w r nodes links →
+      checkReply a ≡ checkOn r p b w nodes links
+  unfolding checkOn reply checkReply checkAnswered
+  on-judged says e {t = t} q s = ap checkReply q ∙ value t ∙ rw (on-accepted says e, s)
+    where
+      value : (t : Bool) → checkReply (checkAnswered t) ≡ reply accept (yesValue t ∷ [])
+      value true = refl
+      value false = refl
 
 -- ---- two files
 

@@ -1,5 +1,5 @@
--- What the promise of the exported call means: a refusal is a condition on the inputs; else yes exactly when the bytes mark a perfect subgraph
--- around the centre at the pattern's radius. Assumes nothing.
+-- What the promise of the exported call means: a refusal is a condition on the inputs; else yes exactly when the bytes
+-- mark a perfect subgraph around the centre at the pattern's radius. Assumes nothing.
 use Rattle.base_lists.specs.Kit.{_≡_, _∙_, sym, ap, _↔_, ⊎-elim, _⊎_, inl, inr, Iff·trans, Bool, false, true, List, [], _∷_, ℕ, _<_, T, eqb, ltb, length, getD, arith, eq-eqb, lt-ltb, eqb-true, not-false, ltb-true}
 use Rattle.base_lists.proofs.Tests.{T-true, T-false, decide}
 use Rattle.graph.specs.Circuit.{Circuit, circuitGraph}
@@ -100,8 +100,9 @@ module _ (pattern board : CircuitFile) (w : ℕ) (nodes links : List ℕ) where
         apart : says-no ≡ says-yes → ⊥
         apart e = let z : _≡_ {A = ℕ} 0 1 = ap (λ (o : Reply). getD (o .values) 0 0) e in omega arith
 
-    -- Yes exactly when every byte is 0 or 1, every marked link has both its ends marked, and what is marked is a perfect subgraph around the
-    -- centre at the pattern's radius. The answer depends on the bytes alone: "Whoever proposed it, a yes means the same".
+    -- Yes exactly when every byte is 0 or 1, every marked link has both its ends marked, and what is marked is a
+    -- perfect subgraph around the centre at the pattern's radius. The answer depends on the bytes alone: "Whoever
+    -- proposed it, a yes means the same".
     pub yes-iff : (result ≡ says-yes) ↔ PerfectMarks P B w (radiusOf P) nodes links
     yes-iff = Iff·trans result-yes (checks-iff admissible w (radiusOf P) nodes links (accepted-bounded (parts .1) .parallel))
 

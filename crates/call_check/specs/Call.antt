@@ -4,8 +4,9 @@ use Rattle.graph.specs.Circuit.{Circuit}
 use Rattle.file_format.specs.declared.Role.the-variants.{Pattern}
 use Rattle.file_format.specs.Circuit.{circuitOf}
 use Rattle.file_format.specs.Layout.{CircuitFile, nodesOf, linksOf}
-use Rattle.file_format.specs.Refusals.{Condition, accept, refuse, first, centreOutside, otherLength}
+use Rattle.file_format.specs.Refusals.{Condition, accept, refuse, first}
 use Rattle.file_format.specs.Reply.{Reply, reply}
+use Rattle.call_decide.specs.Decide.{bytesConditions}
 use Rattle.file_pair.specs.Pair.{pairConditions}
 use Rattle.place.specs.Match.{radiusOf}
 use Rattle.proposal.specs.Check.{checks}
@@ -26,11 +27,7 @@ unfoldable pub checkAnswered : Bool → CheckAnswer
 checkAnswered true = Yes
 checkAnswered false = No
 
--- 7 for the centre; "Node or link bytes of another length than N and M are 3 with neither file named, checked after 7."
-abbrev pub bytesConditions : ℕ → ℕ → ℕ → ℕ → ℕ → List Condition
-bytesConditions n m w nodes links = centreOutside n w ∷ otherLength n nodes ∷ otherLength m links ∷ []
-
--- the conditions on both files, then those
+-- the conditions on both files, then those on the centre and the bytes
 unfoldable pub checkConditions : CircuitFile → CircuitFile → ℕ → ℕ → ℕ → List Condition
 checkConditions pattern board w nodes links = pairConditions Pattern pattern board ++ bytesConditions (nodesOf board) (linksOf board) w nodes links
 

@@ -1,7 +1,8 @@
-// The call that checks a place from elsewhere: a pattern file, a board file, a centre, a byte per node and a byte per link.
+// The call that checks a place from elsewhere: a pattern file, a board file, a centre, a byte per node and a byte per
+// link.
+use call_decide::bytes::bytes_verdict;
 use file_format::Board;
 use file_format::Editions;
-use file_format::File;
 use file_format::FileVerdict;
 use file_format::Pattern;
 use file_format::Refusal;
@@ -13,7 +14,6 @@ use proposal_check::check_circuits;
 ghost use mathlib.Core.Path.{_≡_};
 ghost use Rattle.file_format.specs.Circuit.{Drawn};
 ghost use Rattle.file_format.specs.Layout.{inEdition};
-ghost use Rattle.file_format.specs.declared.File.the-variants.{Neither};
 ghost use Rattle.graph.specs.Circuit.{Circuit, circuit};
 ghost use Rattle.call_check.specs.Call.{checkAnswered, checkReply, checkOn, checkCall};
 
@@ -22,16 +22,6 @@ pub enum CheckAnswer {
     Yes,
     No,
     Refused(Refusal),
-}
-
-// A refusal that means neither file.
-fn refused(number: u8) -> CheckAnswer
-    ensures { λ a. ⌜ a ≡ CheckAnswer.Refused (record { number = number; file = Neither }) ⌝ }
-{
-    CheckAnswer::Refused(Refusal {
-        number,
-        file: File::Neither,
-    })
 }
 
 // The answer to a question that was put.
@@ -44,48 +34,34 @@ fn judged(is: bool) -> CheckAnswer
     CheckAnswer::No
 }
 
-// The call on two circuits that were read.
+// The call on two circuits that were read: labels, starts and ends of the pattern's, then of the board's.
 fn check_on(
-    part_labels: &[u32],
-    part_starts: &[u16],
-    part_ends: &[u16],
-    node_labels: &[u32],
-    node_starts: &mut [u16],
-    node_ends: &mut [u16],
+    pk: &[u32],
+    ps: &[u16],
+    pe: &[u16],
+    nk: &[u32],
+    ns: &mut [u16],
+    ne: &mut [u16],
     asked: Asked,
     nodes: &[u8],
     link_bytes: &[u8],
 ) -> CheckAnswer
     ghost { Circuit × Circuit }
-    requires { λ α. ⌜ (circuit (now «part_labels») (now «part_starts») (now «part_ends»), circuit (now «node_labels») (now «node_starts») (now «node_ends»)) ≡ α ⌝ }
+    requires { λ α. ⌜ (circuit (now pk) (now ps) (now pe), circuit (now nk) (now ns) (now ne)) ≡ α ⌝ }
     requires { λ α. ⌜ Drawn (α .0) (α .1) ⌝ }
-    ensures { λ α a. ⌜ checkReply a ≡ checkOn (asked .radius) (α .0) (α .1) (asked .centre) (now (nodes .entry)) (now («link_bytes» .entry)) ⌝ }
+    ensures { λ α a. ⌜ checkReply a
+        ≡ checkOn (asked .radius) (α .0) (α .1) (asked .centre) (now (nodes .entry)) (now («link_bytes» .entry)) ⌝ }
 {
-    let n = node_labels.len();
     let centre = asked.centre;
-    if n <= centre {
-        return refused(7);
+    let verdict = bytes_verdict(nk.len(), ns.len(), centre, nodes.len(), link_bytes.len());
+    if let FileVerdict::Refused(x) = verdict {
+        return CheckAnswer::Refused(x);
     }
-    if nodes.len() != n {
-        return refused(3);
-    }
-    if link_bytes.len() != node_starts.len() {
-        return refused(3);
-    }
-    judged(check_circuits(
-        part_labels,
-        part_starts,
-        part_ends,
-        node_labels,
-        node_starts,
-        node_ends,
-        Around {
-            centre: centre as u16,
-            radius: asked.radius,
-        },
-        nodes,
-        link_bytes,
-    ))
+    let around = Around {
+        centre: centre as u16,
+        radius: asked.radius,
+    };
+    judged(check_circuits(pk, ps, pe, nk, ns, ne, around, nodes, link_bytes))
 }
 
 // Whether the bytes are a perfect subgraph around the centre at the pattern's radius, largest or not, each
@@ -98,7 +74,8 @@ pub fn check(
     nodes: &[u8],
     link_bytes: &[u8],
 ) -> CheckAnswer
-    ensures { λ a. ⌜ checkReply a ≡ checkCall (inEdition (editions .pattern) (now (pattern .entry))) (inEdition (editions .board) (now (board .entry))) centre (now (nodes .entry)) (now («link_bytes» .entry)) ⌝ }
+    ensures { λ a. ⌜ checkReply a ≡ checkCall (inEdition (editions .pattern) (now (pattern .entry)))
+        (inEdition (editions .board) (now (board .entry))) centre (now (nodes .entry)) (now («link_bytes» .entry)) ⌝ }
 {
     let mut pk = [0u32; Pattern::MAX_NODES];
     let mut ps = [0u16; Pattern::MAX_LINKS];

@@ -8,13 +8,13 @@ ghost use Rattle.file_format.specs.Layout.{inEdition};
 ghost use Rattle.file_format.specs.Refusals.{Verdict, first, lostPackage};
 ghost use Rattle.file_write.specs.Writing.{circuitConditions};
 ghost use Rattle.call_convert.specs.Call.{convertReply, convertOn, converting};
-use file_check::refusal;
 use file_format::Board;
 use file_format::Edition;
 use file_format::ReadAnswer;
 use file_format::Refusal;
 use file_format::Role;
 use file_read::read;
+use file_role::refusal;
 use file_write::WriteAnswer;
 use file_write::write;
 
@@ -58,9 +58,11 @@ fn convert_circuit(
     ends: &[u16],
     out: &mut [u8],
 ) -> ConvertAnswer
-    requires { ⌜ first (circuitConditions role to (now kinds) (now packages) (now starts) (now ends)) ≡ Verdict.accept ⌝ }
+    requires { ⌜ first (circuitConditions role to (now kinds) (now packages) (now starts) (now ends))
+        ≡ Verdict.accept ⌝ }
     ensures { λ r. ⌜ record { reply = convertReply r; out = now (out .exit) }
-        ≡ convertOn role to (now (kinds .entry)) (now (packages .entry)) (now (starts .entry)) (now (ends .entry)) (now (out .entry)) ⌝ }
+        ≡ convertOn role to (now (kinds .entry)) (now (packages .entry)) (now (starts .entry)) (now (ends .entry))
+        (now (out .entry)) ⌝ }
 {
     if loses(to, packages) {
         return ConvertAnswer::Refused(refusal(role, 12));
@@ -72,7 +74,8 @@ fn convert_circuit(
     }
 }
 
-// The call, with tables for the circuit of any file. A first-edition file has no packages, so that those of the table, all 0, are taken.
+// The call, with tables for the circuit of any file. A first-edition file has no packages, so that those of the table,
+// all 0, are taken.
 fn convert_through(
     role: Role,
     from: Edition,
@@ -84,9 +87,11 @@ fn convert_through(
     ends: &mut [u16],
     out: &mut [u8],
 ) -> ConvertAnswer
-    requires { ⌜ (512 ≤ length (now kinds)) × (512 ≤ length (now packages)) × (4096 ≤ length (now starts)) × (4096 ≤ length (now ends)) ⌝ }
+    requires { ⌜ (512 ≤ length (now kinds)) × (512 ≤ length (now packages)) × (4096 ≤ length (now starts))
+        × (4096 ≤ length (now ends)) ⌝ }
     requires { ⌜ Below 1 (now packages) ⌝ }
-    ensures { λ r. ⌜ record { reply = convertReply r; out = now (out .exit) } ≡ converting role to (inEdition from (now (file .entry))) (now (out .entry)) ⌝ }
+    ensures { λ r. ⌜ record { reply = convertReply r; out = now (out .exit) }
+        ≡ converting role to (inEdition from (now (file .entry))) (now (out .entry)) ⌝ }
 {
     let answer = read(role, from, file, kinds, packages, starts, ends);
     match answer {
@@ -103,10 +108,11 @@ fn convert_through(
     }
 }
 
-// Converts a file of one edition, in a role, to another: the new file's length, with the new file at the front of the bytes lent; or the
-// refusal, which leaves every byte as it was.
+// Converts a file of one edition, in a role, to another: the new file's length, with the new file at the front of the
+// bytes lent; or the refusal, which leaves every byte as it was.
 pub fn convert(role: Role, from: Edition, to: Edition, file: &[u8], out: &mut [u8]) -> ConvertAnswer
-    ensures { λ r. ⌜ record { reply = convertReply r; out = now (out .exit) } ≡ converting role to (inEdition from (now (file .entry))) (now (out .entry)) ⌝ }
+    ensures { λ r. ⌜ record { reply = convertReply r; out = now (out .exit) }
+        ≡ converting role to (inEdition from (now (file .entry))) (now (out .entry)) ⌝ }
 {
     let mut kinds = [0u16; Board::MAX_NODES];
     let mut packages = [0u16; Board::MAX_NODES];

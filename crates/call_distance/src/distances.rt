@@ -14,12 +14,15 @@ use graph_neighbours::tables::TARGETS;
 use graph_neighbours::tables::neighbour_tables;
 use graph_search::search;
 
-// The distances from node c, up to r, one for each entry of `dist`: 65,535 where it is more. The neighbour tables and the queue are its own.
+// The distances from node c, up to r, one for each entry of `dist`: 65,535 where it is more. The neighbour tables and
+// the queue are its own.
 fn measure(starts: &[u16], ends: &[u16], c: u16, r: u16, dist: &mut [u16])
     requires { ⌜ (length (now starts) ≡ length (now ends)) × (length (now starts) ≤ 4096) ⌝ }
-    requires { ⌜ T (all (λ v. ltb v (length (now dist))) (now starts)) × T (all (λ v. ltb v (length (now dist))) (now ends)) ⌝ }
+    requires { ⌜ T (all (λ v. ltb v (length (now dist))) (now starts)) ×
+        T (all (λ v. ltb v (length (now dist))) (now ends)) ⌝ }
     requires { ⌜ (c < length (now dist)) × (length (now dist) ≤ 512) ⌝ }
-    ensures { λ _. ⌜ now (dist .exit) ≡ distances (length (now (dist .entry))) (now (starts .entry)) (now (ends .entry)) c r ⌝ }
+    ensures { λ _. ⌜ now (dist .exit)
+        ≡ distances (length (now (dist .entry))) (now (starts .entry)) (now (ends .entry)) c r ⌝ }
 {
     let mut offsets = [0u16; OFFSETS];
     let mut targets = [0u16; TARGETS];
@@ -33,7 +36,8 @@ fn measure(starts: &[u16], ends: &[u16], c: u16, r: u16, dist: &mut [u16])
 pub fn fill_ball(labels: &[u32], starts: &[u16], ends: &[u16], c: u16, r: u16, out: &mut [u16])
     requires { ⌜ Bounded role.Board (record { labels = now labels; starts = now starts; ends = now ends }) ⌝ }
     requires { ⌜ (c < length (now labels)) × (length (now labels) ≤ length (now out)) ⌝ }
-    ensures { λ _. ⌜ now (out .exit) ≡ distances (length (now (labels .entry))) (now (starts .entry)) (now (ends .entry)) c r ++ drop (length (now (labels .entry))) (now (out .entry)) ⌝ }
+    ensures { λ _. ⌜ now (out .exit) ≡ distances (length (now (labels .entry))) (now (starts .entry))
+        (now (ends .entry)) c r ++ drop (length (now (labels .entry))) (now (out .entry)) ⌝ }
 {
     let n = labels.len();
     measure(starts, ends, c, r, &mut out[..n]);

@@ -43,8 +43,8 @@ pub fn radius(edition: Edition, file: &[u8]) -> RadiusAnswer
     RadiusAnswer::Radius(width)
 }
 
-// The ball around a node of a board: the distance of each node from the centre, and 65,535 outside, first in `out`; or the refusal, which
-// leaves `out` as it was.
+// The ball around a node of a board: the distance of each node from the centre, and 65,535 outside, first in `out`; or
+// the refusal, which leaves `out` as it was.
 pub fn ball(
     edition: Edition,
     file: &[u8],
@@ -52,7 +52,8 @@ pub fn ball(
     radius: u16,
     out: &mut [u16],
 ) -> BallAnswer
-    ensures { λ r. ⌜ record { reply = ballReply r; out = now (out .exit) } ≡ ballCall (inEdition edition (now (file .entry))) centre radius (now (out .entry)) ⌝ }
+    ensures { λ r. ⌜ record { reply = ballReply r; out = now (out .exit) }
+        ≡ ballCall (inEdition edition (now (file .entry))) centre radius (now (out .entry)) ⌝ }
 {
     let mut nk = [0u32; Board::MAX_NODES];
     let mut ns = [0u16; Board::MAX_LINKS];

@@ -1,5 +1,5 @@
--- What the exported call's promise means: a refusal is one of the conditions; else the table holds the largest dual simulation of the
--- pattern in the board, and the counts are those of the row. Assumes nothing.
+-- What the exported call's promise means: a refusal is one of the conditions; else the table holds the largest dual
+-- simulation of the pattern in the board, and the counts are those of the row. Assumes nothing.
 use Rattle.base_lists.specs.Kit.{_≡_, _∙_, sym, ap, refl, subst, _↔_, ⊎-elim, Bool, false, true, cond, not, List, _++_, map, ℕ, _≤_, _<_, _+_, _-_, T, eqb, ltb, length, getD, take, drop, List·getD-append, take-at, drop-at, getD-take, getD-append-add, arith, le-ltb}
 use lib.Count.{ones}
 use Rattle.base_lists.specs.List.{sum}
@@ -144,7 +144,8 @@ module _ (ways : List Direction) (pattern board : CircuitFile) (table : List ℕ
     unfolding answerCountsBy
     counts-ones = rw (counts-are, prefix-is) (answer-ones ways (circuitOf pattern) (circuitOf board) (everything (circuitOf board)) most)
 
-    -- The first N entries are the largest set that is closed along the directions chosen and in which each part occurs, unless it is empty.
+    -- The first N entries are the largest set that is closed along the directions chosen and in which each part occurs,
+    -- unless it is empty.
     pub prefix-along :
         LargestOccurring (circuitGraph (circuitOf pattern) .Node)
         (Candidate (circuitGraph (circuitOf pattern)) (KindsMatch (circuitOf pattern) (circuitOf board)) (circuitGraph (circuitOf board)))
@@ -156,7 +157,8 @@ module _ (ways : List Direction) (pattern board : CircuitFile) (table : List ℕ
 -- ---- both directions
 
 module _ (pattern board : CircuitFile) (table : List ℕ) (ok : matching pattern board table .reply .verdict ≡ accept) where
-  -- along both directions that is the largest dual simulation of the pattern in the board, whether the pattern is connected or not:
+  -- along both directions that is the largest dual simulation of the pattern in the board, whether the pattern is
+  -- connected or not:
   pub prefix-largest :
       Largest (circuitGraph (circuitOf pattern)) (KindsMatch (circuitOf pattern) (circuitOf board)) (circuitGraph (circuitOf board))
       (InTable (take (nodesOf board) (matching pattern board table .table)))
@@ -192,8 +194,8 @@ within-more xs ys zs same inside u v m = ⊎-elim prefix past (lt-or-le v (lengt
         ap (λ (k : ℕ). getD (ys ++ zs) k 0) (omega (arith, same)) ∙ getD-append-add ys zs (v - length xs) 0 in
         subst (λ (k : ℕ). T (bit k u)) (here ∙ sym there) m
 
--- "Its table contains the two-way table for each pattern and board": all of it, for the same files and the same table lent. Where the calls are
--- refused, and past the entries that they fill, the two tables are the same.
+-- "Its table contains the two-way table for each pattern and board": all of it, for the same files and the same table
+-- lent. Where the calls are refused, and past the entries that they fill, the two tables are the same.
 pub contains-two-way :
     (ways : List Direction) (pattern board : CircuitFile) (table : List ℕ) →
     InTable (matching pattern board table .table) ⊆ InTable (matchingBy ways pattern board table .table)
@@ -276,8 +278,8 @@ unfolding countsReply filled
 same-outcome accept p b table plain = let a = plain refl in rw (sym (a .counted), sym (a .last))
 same-outcome (refuse x) p b table plain = refl
 
--- "Connected patterns get the table and counts they always got": the whole reply and the table are those of the call that document 01 has,
--- wherever that does not give 6.
+-- "Connected patterns get the table and counts they always got": the whole reply and the table are those of the call
+-- that document 01 has, wherever that does not give 6.
 pub as-before :
     (pattern board : CircuitFile) (table : List ℕ) → (connectedMatching pattern board table .reply .verdict ≡ turned Pattern 6 → ⊥) →
     matching pattern board table ≡ connectedMatching pattern board table

@@ -17,8 +17,8 @@ use Rattle.table.specs.Refine.{countsOf}
 use Rattle.table.specs.Reply.{MatchReply, noCounts, countsReply}
 use Rattle.table.specs.Row.{bothWays, oneWay, lastTable}
 
--- "Rising numbers are the order, the pattern's .. before the board's. Needed: .. match table N". "the whole-board call applies neither 6 nor
--- 11": the pattern may be any, connected or not.
+-- "Rising numbers are the order, the pattern's .. before the board's. Needed: .. match table N". "the whole-board call
+-- applies neither 6 nor 11": the pattern may be any, connected or not.
 unfoldable pub matchConditions : CircuitFile → CircuitFile → ℕ → List Condition
 matchConditions pattern board lent = pairConditions AnyPattern pattern board ++ (shortTable (nodesOf board) lent ∷ [])
 
@@ -32,8 +32,8 @@ pub record TableOutcome : Type 0 where
   pub reply : MatchReply
   pub table : List ℕ
 
--- The pattern on the whole board: the four counts, and at the front of the table, whose entries past N stay, the last set of the row, or all
--- 0 where some part is left without a node. On a refusal the whole table stays.
+-- The pattern on the whole board: the four counts, and at the front of the table, whose entries past N stay, the last
+-- set of the row, or all 0 where some part is left without a node. On a refusal the whole table stays.
 abbrev pub matchedBy : List Direction → Verdict → Circuit → Circuit → List ℕ → TableOutcome
 matchedBy ways verdict p b table =
     record { reply = countsReply verdict (answerCountsBy ways p b (everything b)); table = filled verdict (answerBy ways p b (everything b)) table }
@@ -67,7 +67,8 @@ unfoldable pub connectedConditions : CircuitFile → CircuitFile → ℕ → Lis
 connectedConditions pattern board lent =
     (without 11 (fileConditions Pattern pattern) ++ fileConditions Board board) ++ (shortTable (nodesOf board) lent ∷ [])
 
--- the last set of the row, with its counts. proofs/Promise: "Connected patterns get the table and counts they always got."
+-- the last set of the row, with its counts. proofs/Promise: "Connected patterns get the table and counts they always
+-- got."
 abbrev pub rowOutcome : Verdict → Circuit → Circuit → List ℕ → TableOutcome
 rowOutcome verdict p b table =
     record { reply = countsReply verdict (countsOf p b (everything b)); table = filled verdict (lastTable p b (everything b)) table }

@@ -37,7 +37,9 @@ fn match_on(
     table: &mut [u32],
 ) -> TableAnswer
     requires { ⌜ SomeLinks (now «part_labels») (now «node_labels») (tables (now masks) (now offsets) (now targets)) ⌝ }
-    ensures { λ r. ⌜ EveryMatch (now («part_labels» .entry)) (now («node_labels» .entry)) (tables (now (masks .entry)) (now (offsets .entry)) (now (targets .entry))) (now (table .entry)) (record { reply = replyOf r; table = now (table .exit) }) ⌝ }
+    ensures { λ r. ⌜ EveryMatch (now («part_labels» .entry)) (now («node_labels» .entry))
+        (tables (now (masks .entry)) (now (offsets .entry)) (now (targets .entry))) (now (table .entry))
+        (record { reply = replyOf r; table = now (table .exit) }) ⌝ }
 {
     let n = node_labels.len();
     if table.len() < n {
@@ -62,7 +64,8 @@ fn match_files(
     table: &mut [u32],
 ) -> TableAnswer
     ensures { λ r. ⌜ record { reply = replyOf r; table = now (table .exit) }
-        ≡ matchingBy (waysOf ways) (inEdition (editions .pattern) (now (pattern .entry))) (inEdition (editions .board) (now (board .entry))) (now (table .entry)) ⌝ }
+        ≡ matchingBy (waysOf ways) (inEdition (editions .pattern) (now (pattern .entry)))
+        (inEdition (editions .board) (now (board .entry))) (now (table .entry)) ⌝ }
 {
     let mut pk = [0u32; Pattern::MAX_NODES];
     let mut nk = [0u32; Board::MAX_NODES];
@@ -92,9 +95,9 @@ fn match_files(
     match_on(&pk[..parts], &nk[..n], &masks, &offsets, &targets, table)
 }
 
-// Matches the pattern of one file, connected or not, on the whole board of another: the four counts, with the largest dual simulation at the
-// front of the table, a 32-bit number per node, which is all 0 where some part is left without a node; or the refusal, which leaves the table
-// as it was.
+// Matches the pattern of one file, connected or not, on the whole board of another: the four counts, with the largest
+// dual simulation at the front of the table, a 32-bit number per node, which is all 0 where some part is left without a
+// node; or the refusal, which leaves the table as it was.
 pub fn match_table(
     editions: Editions,
     pattern: &[u8],
@@ -102,7 +105,8 @@ pub fn match_table(
     table: &mut [u32],
 ) -> TableAnswer
     ensures { λ r. ⌜ record { reply = replyOf r; table = now (table .exit) }
-        ≡ matching (inEdition (editions .pattern) (now (pattern .entry))) (inEdition (editions .board) (now (board .entry))) (now (table .entry)) ⌝ }
+        ≡ matching (inEdition (editions .pattern) (now (pattern .entry)))
+        (inEdition (editions .board) (now (board .entry))) (now (table .entry)) ⌝ }
 {
     match_files(Ways::Both, editions, pattern, board, table)
 }
@@ -115,7 +119,8 @@ pub fn match_one_way(
     table: &mut [u32],
 ) -> TableAnswer
     ensures { λ r. ⌜ record { reply = replyOf r; table = now (table .exit) }
-        ≡ oneWayMatching (inEdition (editions .pattern) (now (pattern .entry))) (inEdition (editions .board) (now (board .entry))) (now (table .entry)) ⌝ }
+        ≡ oneWayMatching (inEdition (editions .pattern) (now (pattern .entry)))
+        (inEdition (editions .board) (now (board .entry))) (now (table .entry)) ⌝ }
 {
     match_files(Ways::Forward, editions, pattern, board, table)
 }

@@ -5,9 +5,9 @@ use file_format::Pattern;
 use file_format::Role;
 use file_write::WriteAnswer;
 use merge_classes::leader_labels;
-use merge_classes::links::mark_rows;
-use merge_classes::links::scan;
 use merge_classes::number_classes;
+use merge_links::mark_rows;
+use merge_links::scan;
 use table::Ways;
 use table_whole::match_circuits;
 ghost use mathlib.Core.List.{[]};
@@ -24,8 +24,8 @@ ghost use Rattle.file_write.specs.Writing.{circuitConditions};
 ghost use Rattle.call_merge.specs.Call.{MergedFrom};
 ghost use Rattle.merge_classes.specs.Passes.{Quotient};
 
-// The class of each part, and the merged pattern at the front of three tables; returns its size. The pattern's table on itself and the
-// rows of linked classes are scratch.
+// The class of each part, and the merged pattern at the front of three tables; returns its size. The pattern's table on
+// itself and the rows of linked classes are scratch.
 fn quotient(
     labels: &[u32],
     starts: &[u16],
@@ -37,10 +37,13 @@ fn quotient(
     ms: &mut [u16],
     me: &mut [u16],
 ) -> Pattern
-    requires { ⌜ first (circuitConditions role.Pattern editions.First (now labels) [] (now starts) (now ends)) ≡ Verdict.accept ⌝ }
-    requires { ⌜ (length (now classes) ≡ length (now labels)) × (length (now table) ≡ length (now labels)) × (length (now rows) ≡ 32) ⌝ }
+    requires { ⌜ first (circuitConditions role.Pattern editions.First (now labels) [] (now starts) (now ends))
+        ≡ Verdict.accept ⌝ }
+    requires { ⌜ (length (now classes) ≡ length (now labels)) × (length (now table) ≡ length (now labels))
+        × (length (now rows) ≡ 32) ⌝ }
     requires { ⌜ (32 ≤ length (now mk)) × (256 ≤ length (now ms)) × (256 ≤ length (now me)) ⌝ }
-    ensures { λ r. ⌜ Quotient (circuit (now (labels .entry)) (now (starts .entry)) (now (ends .entry))) (now (classes .exit)) (now (mk .exit)) (now (ms .exit)) (now (me .exit)) r ⌝ }
+    ensures { λ r. ⌜ Quotient (circuit (now (labels .entry)) (now (starts .entry)) (now (ends .entry)))
+        (now (classes .exit)) (now (mk .exit)) (now (ms .exit)) (now (me .exit)) r ⌝ }
 {
     match_circuits(
         Ways::Both,
@@ -59,8 +62,8 @@ fn quotient(
     Pattern::new(count, links)
 }
 
-// The class of each part, and the merged file at the front of bytes that have room for the pattern's own file. A merged pattern is a
-// pattern, so that writing it is not refused.
+// The class of each part, and the merged file at the front of bytes that have room for the pattern's own file. A merged
+// pattern is a pattern, so that writing it is not refused.
 pub fn merge_circuit(
     edition: Edition,
     labels: &[u32],
@@ -69,10 +72,13 @@ pub fn merge_circuit(
     classes: &mut [u8],
     out: &mut [u8],
 ) -> MergeAnswer
-    requires { ⌜ first (circuitConditions role.Pattern editions.First (now labels) [] (now starts) (now ends)) ≡ Verdict.accept ⌝ }
-    requires { ⌜ (length (now classes) ≡ length (now labels)) × (lengthOf edition (length (now labels)) (length (now starts)) ≤ length (now out)) ⌝ }
+    requires { ⌜ first (circuitConditions role.Pattern editions.First (now labels) [] (now starts) (now ends))
+        ≡ Verdict.accept ⌝ }
+    requires { ⌜ (length (now classes) ≡ length (now labels))
+        × (lengthOf edition (length (now labels)) (length (now starts)) ≤ length (now out)) ⌝ }
     requires { ⌜ LabelsFit edition (now labels) ⌝ }
-    ensures { λ r. ⌜ MergedFrom edition (circuit (now (labels .entry)) (now (starts .entry)) (now (ends .entry))) r (now (classes .exit)) (now (out .entry)) (now (out .exit)) ⌝ }
+    ensures { λ r. ⌜ MergedFrom edition (circuit (now (labels .entry)) (now (starts .entry)) (now (ends .entry))) r
+        (now (classes .exit)) (now (out .entry)) (now (out .exit)) ⌝ }
 {
     let mut table = [0u32; Pattern::MAX_NODES];
     let mut rows = [0u32; Pattern::MAX_NODES];

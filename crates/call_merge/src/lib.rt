@@ -19,11 +19,12 @@ pub enum MergeAnswer {
     Refused(Refusal),
 }
 
-// Merges the parts of a pattern file that match each other: the number of classes and the merged file's length, with the class of each
-// part, a byte each, and the merged file at the front of the two tables; or the refusal, which leaves them as they were. The file is read
-// and both lengths are tested before anything is written to the lent tables.
+// Merges the parts of a pattern file that match each other: the number of classes and the merged file's length, with
+// the class of each part, a byte each, and the merged file at the front of the two tables; or the refusal, which leaves
+// them as they were. The file is read and both lengths are tested before anything is written to the lent tables.
 pub fn merge(edition: Edition, pattern: &[u8], classes: &mut [u8], out: &mut [u8]) -> MergeAnswer
-    ensures { λ r. ⌜ record { reply = mergeReply r; classes = now (classes .exit); out = now (out .exit) } ≡ merging (inEdition edition (now (pattern .entry))) (now (classes .entry)) (now (out .entry)) ⌝ }
+    ensures { λ r. ⌜ record { reply = mergeReply r; classes = now (classes .exit); out = now (out .exit) }
+        ≡ merging (inEdition edition (now (pattern .entry))) (now (classes .entry)) (now (out .entry)) ⌝ }
 {
     let mut pk = [0u32; Pattern::MAX_NODES];
     let mut ps = [0u16; Pattern::MAX_LINKS];

@@ -1,12 +1,14 @@
 -- What the call comes to, by cases: a refused file, a centre outside, a short table, or what is found. Assumes nothing.
-use Rattle.base_lists.specs.Kit.{_≡_, _∙_, ap, List, ℕ, _≤_, _<_, length, take, le-ltb, lt-ltb}
+use Rattle.base_lists.specs.Kit.{_≡_, _∙_, sym, ap, List, ℕ, length, take}
 use Rattle.graph.specs.Circuit.{Circuit}
 use Rattle.file_format.specs.declared.Role.the-variants.{Pattern}
-use Rattle.file_format.specs.declared.File.the-variants.{Neither}
+use Rattle.file_format.specs.declared.FileVerdict.{FileVerdict}
+use Rattle.file_format.specs.declared.FileVerdict.the-variants as file
 use Rattle.file_format.specs.declared.Refusal.{Refusal}
 use Rattle.file_format.specs.Circuit.{circuitOf}
 use Rattle.file_format.specs.Layout.{CircuitFile, nodesOf, linksOf, startsOf, endsOf}
-use Rattle.file_format.specs.Refusals.{Verdict, accept, refuse, first, centreOutside}
+use Rattle.file_format.specs.Reading.{verdictOf}
+use Rattle.file_format.specs.Refusals.{Verdict, accept, refuse, first}
 use Rattle.file_format.proofs.Fields.{length-labels, length-starts}
 use Rattle.file_format.proofs.Refusals.{first-accept, first-refuse}
 use Rattle.file_pair.specs.declared.Pair.{Pair}
@@ -17,9 +19,10 @@ use Rattle.table.specs.Reply.{noCounts}
 use Rattle.place.specs.declared.PlaceAnswer.the-variants.{Refused}
 use Rattle.place.specs.Match.{radiusOf}
 use Rattle.place.specs.Outcome.{PlaceOutcome, placeReply, placeAround}
-use Rattle.place_circuits.specs.Ball.{SomeDrawn, EveryDrawn}
-use Rattle.call_place.specs.declared.Reach.{Reach}
-use Rattle.call_place.specs.Call.{tooShort, roomConditions, placeConditions, inputConditions, decided, placeAt, radiusFor, placeOn}
+use Rattle.place_circuits.specs.Drawn.{SomeDrawn, EveryDrawn}
+use Rattle.call_decide.specs.declared.Reach.{Reach}
+use Rattle.call_decide.specs.Decide.{placeConditions, radiusFor}
+use Rattle.call_place.specs.Call.{inputConditions, decided, placeAt, placeOn}
 use Rattle.call_prepare.specs.Read.{BothPrepared}
 use Rattle.call_prepare.proofs.Ready.{ready-prepared, ready-radius}
 
@@ -37,10 +40,6 @@ module _ (r : ℕ) (p b : Circuit) (w : ℕ) (nodes links table distances : List
   abbrev own : Verdict
   own = first (placeConditions (length (b .labels)) (length (b .starts)) w (length nodes) (length links) (length table) (length distances))
 
-  -- what the test of the tables' lengths says, for a board of m links
-  abbrev room : ℕ → Verdict
-  room m = first (roomConditions (length (b .labels)) m (length nodes) (length links) (length table) (length distances))
-
   refused : {x : Refusal} → own ≡ refuse x → untouched x nodes links table distances ≡ result
   unfolding placeOn decided placeReply
   refused e = rw e
@@ -49,21 +48,19 @@ module _ (r : ℕ) (p b : Circuit) (w : ℕ) (nodes links table distances : List
   unfolding placeOn decided
   searched e q = q ∙ rw e
 
-  pub on-centre : length (b .labels) ≤ w → untouched (record { number = 7; file = Neither }) nodes links table distances ≡ result
-  unfolding first centreOutside
-  on-centre h = refused (rw (le-ltb _ _ h))
+  -- the verdict on the centre and the tables' lengths, for a board of m links
+  module _ {m : ℕ} (last : m ≡ length (b .starts)) where
+    abbrev told : Verdict
+    told = first (placeConditions (length (b .labels)) m w (length nodes) (length links) (length table) (length distances))
 
-  module _ (inside : w < length (b .labels)) {m : ℕ} (last : m ≡ length (b .starts)) where
-    -- the centre is a node: the tables decide
-    by-room : {v : Verdict} → room m ≡ v → own ≡ v
-    unfolding first centreOutside
-    by-room e = rw (lt-ltb _ _ inside, ← last) e
+    pub on-refused : {v : FileVerdict} {x : Refusal} → verdictOf v ≡ told → v ≡ file.Refused x → untouched x nodes links table distances ≡ result
+    unfolding verdictOf
+    on-refused says e = refused (rw last at (sym says ∙ ap verdictOf e))
 
-    pub on-short : room m ≡ refuse tooShort → untouched tooShort nodes links table distances ≡ result
-    on-short e = refused (by-room e)
-
-    pub on-placed : room m ≡ accept → {o : PlaceOutcome} → o ≡ placeAround p b w r nodes links table distances → o ≡ result
-    on-placed e = searched (by-room e)
+    pub on-placed : {v : FileVerdict} → verdictOf v ≡ told → v ≡ file.Accepted → {o : PlaceOutcome}
+        → o ≡ placeAround p b w r nodes links table distances → o ≡ result
+    unfolding verdictOf
+    on-placed says e = searched (rw last at (sym says ∙ ap verdictOf e))
 
 -- ---- two files that were read
 

@@ -1,5 +1,6 @@
--- What the promise of the exported calls means: a refusal is a condition on the inputs, or there is no perfect subgraph; else what the
--- tables mark is the place, and the table is the largest dual simulation in it. Assumes nothing.
+-- What the promise of the exported calls means: a refusal is a condition on the inputs, or there is no perfect
+-- subgraph; else what the tables mark is the place, and the table is the largest dual simulation in it. Assumes
+-- nothing.
 use Rattle.base_lists.specs.Kit.{_≡_, _∙_, sym, ap, _↔_, ⊎-elim, _⊎_, inl, inr, List, _++_, ℕ, _≤_, _<_, T, ltb, length, getD, take, drop, List·getD-append, take-at, drop-at, arith, lt-ltb, not-false, ltb-true}
 use Rattle.base_lists.proofs.Tests.{T-true, T-false, decide}
 use Rattle.graph.specs.Circuit.{Circuit, circuitGraph}
@@ -27,7 +28,7 @@ use Rattle.table.specs.Row.{InTable}
 use Rattle.place.specs.Match.{ballOf, distancesOf, found, placeNodes, placeLinks, placeTable, markedGraph}
 use Rattle.place.specs.Outcome.{PlaceOutcome, placeVerdict, placeAround}
 use Rattle.call_place.specs.Call.{inputConditions, decided, placeAt}
-use Rattle.call_place.proofs.Rooms.{room-holds, room-enough}
+use Rattle.call_decide.proofs.Rooms.{room-holds, room-enough}
 use Rattle.place.proofs.Accepted.{accepted-admissible}
 use Rattle.place.proofs.Ball.{Admissible}
 use Rattle.place.proofs.Marks.{nodes-marks, links-marks, length-table, length-ballDistances}
@@ -73,7 +74,8 @@ module _ (pattern board : CircuitFile) (w r : ℕ) (nodes links table distances 
   abbrev result : PlaceOutcome
   result = placeAt pattern board w r nodes links table distances
 
-  -- A condition on the inputs that holds, and no other holds before it, refuses: "All lent tables keep their content; counts are 0".
+  -- A condition on the inputs that holds, and no other holds before it, refuses: "All lent tables keep their content;
+  -- counts are 0".
   pub input-refused :
       (x : Refusal) → first inputs ≡ refuse x →
       (result .reply .verdict ≡ refuse x) × (result .reply .counts ≡ noCounts) × (result .nodes ≡ nodes) × (result .links ≡ links) × (result .table ≡ table) × (result .distances ≡ distances)
@@ -130,7 +132,8 @@ module _ (pattern board : CircuitFile) (w r : ℕ) (nodes links table distances 
 
     -- ---- no place
 
-    -- The call is accepted, or refused with 9; 9 exactly when there is no perfect subgraph around the centre at the radius.
+    -- The call is accepted, or refused with 9; 9 exactly when there is no perfect subgraph around the centre at the
+    -- radius.
     pub accept-or-nine : (result .reply .verdict ≡ accept) ⊎ (result .reply .verdict ≡ refuse nine)
     accept-or-nine = ⊎-elim (λ t. inl (verdict-is ∙ verdict-found P B w r t)) (λ f. inr (verdict-is ∙ verdict-none P B w r f)) (decide (found P B w r))
 
@@ -209,7 +212,8 @@ module _ (pattern board : CircuitFile) (w r : ℕ) (nodes links table distances 
       pub distances-rest : drop (nodesOf board) (result .distances) ≡ drop (nodesOf board) distances
       distances-rest = rw distances-are (drop-at (distancesOf B w r) _ (nodesOf board) distances-size ∙ ap (λ (k : ℕ). drop k distances) distances-size)
 
-      -- "each node's distance from the centre, and 65,535 for a node outside the ball", "whether a node is in the place or not"
+      -- "each node's distance from the centre, and 65,535 for a node outside the ball", "whether a node is in the place
+      -- or not"
       pub distances-mean : (v : ℕ) → v < nodesOf board → DistanceEntry (circuitGraph B) w r v (getD (result .distances) v 0)
       unfolding circuitGraph distancesOf
       distances-mean v h =

@@ -1,36 +1,22 @@
 -- The calls that find a place, whole: the reply, and each lent table's later content, from the inputs alone.
-use Rattle.base_lists.specs.Kit.{List, [], _∷_, _++_, ℕ, length}
+use Rattle.base_lists.specs.Kit.{List, _++_, ℕ, length}
 use Rattle.graph.specs.Circuit.{Circuit}
 use Rattle.file_format.specs.declared.Role.the-variants.{Pattern}
-use Rattle.file_format.specs.declared.File.the-variants.{Neither}
-use Rattle.file_format.specs.declared.Refusal.{Refusal}
 use Rattle.file_format.specs.Circuit.{circuitOf}
 use Rattle.file_format.specs.Layout.{CircuitFile, nodesOf, linksOf}
-use Rattle.file_format.specs.Refusals.{Condition, Verdict, accept, refuse, first, centreOutside, shortTable}
+use Rattle.file_format.specs.Refusals.{Condition, Verdict, accept, refuse, first}
 use Rattle.file_pair.specs.Pair.{pairConditions}
 use Rattle.table.specs.Reply.{noCounts}
+use Rattle.call_decide.specs.Decide.{placeConditions}
 use Rattle.place.specs.Outcome.{PlaceOutcome, placeAround}
-use Rattle.call_place.specs.declared.Reach.{Reach}
-use Rattle.call_place.specs.declared.Reach.the-variants.{Own, Given}
-
--- number 8, of neither file
-abbrev pub tooShort : Refusal
-tooShort = record { number = 8; file = Neither }
-
--- 8 for the tables: "Needed: .. place N, M, N", and N distances, whose "length counts under 8" (document 02, Ask 2)
-unfoldable pub roomConditions : ℕ → ℕ → ℕ → ℕ → ℕ → ℕ → List Condition
-roomConditions n m nodes links table distances = shortTable n nodes ∷ shortTable m links ∷ shortTable n table ∷ shortTable n distances ∷ []
-
--- 7 for the centre, then 8
-abbrev pub placeConditions : ℕ → ℕ → ℕ → ℕ → ℕ → ℕ → ℕ → List Condition
-placeConditions n m w nodes links table distances = centreOutside n w ∷ roomConditions n m nodes links table distances
 
 -- the pattern's 1 to 6 and 11 before the board's, then 7 and 8
 unfoldable pub inputConditions : CircuitFile → CircuitFile → ℕ → ℕ → ℕ → ℕ → ℕ → List Condition
 inputConditions pattern board w nodes links table distances =
     pairConditions Pattern pattern board ++ placeConditions (nodesOf board) (linksOf board) w nodes links table distances
 
--- "All lent tables keep their content; counts are 0" where a condition on the inputs holds; else it is as the place has it
+-- "All lent tables keep their content; counts are 0" where a condition on the inputs holds; else it is as the place has
+-- it
 unfoldable pub decided : Verdict → List ℕ → List ℕ → List ℕ → List ℕ → PlaceOutcome → PlaceOutcome
 decided accept nodes links table distances placed = placed
 decided (refuse x) nodes links table distances placed =
@@ -41,11 +27,6 @@ unfoldable pub placeAt : CircuitFile → CircuitFile → ℕ → ℕ → List �
 placeAt pattern board w r nodes links table distances =
     decided (first (inputConditions pattern board w (length nodes) (length links) (length table) (length distances))) nodes links table distances
     (placeAround (circuitOf pattern) (circuitOf board) w r nodes links table distances)
-
--- "One call uses the pattern's radius, one a radius given."
-unfoldable pub radiusFor : Reach → ℕ → ℕ
-radiusFor Own own = own
-radiusFor (Given r) own = r
 
 -- the call on two circuits that were read, at a radius
 unfoldable pub placeOn : ℕ → Circuit → Circuit → ℕ → List ℕ → List ℕ → List ℕ → List ℕ → PlaceOutcome

@@ -1,41 +1,36 @@
-// The place calls: a pattern file, the board of another file and a centre, at the pattern's radius or at a radius given.
+// The place calls: a pattern file, the board of another file and a centre, at the pattern's radius or at a radius
+// given.
+use call_decide::Lengths;
+use call_decide::Reach;
+use call_decide::no_counts;
+use call_decide::place_verdict;
+use call_decide::radius_for;
 use call_prepare::Reading;
 use call_prepare::read_prepared;
 use file_format::Board;
 use file_format::Editions;
 use file_format::FileVerdict;
-use file_format::OUTSIDE;
 use file_format::Pattern;
-use file_format::Refusal;
 use file_format::Role;
-use file_format::TOO_SHORT;
 use graph_neighbours::tables::OFFSETS;
 use graph_neighbours::tables::TARGETS;
 use place::Around;
 use place::Asked;
 use place::PlaceAnswer;
 use place_circuits::place_circuits;
-use table::Counts;
 use table::MASKS;
 use table::Ways;
-ghost use mathlib.Core.Bool.{cond};
 ghost use mathlib.Core.Path.{_≡_};
 ghost use Rattle.file_format.specs.Circuit.{circuitOf};
 ghost use Rattle.file_format.specs.Layout.{inEdition};
 ghost use Rattle.file_format.specs.Reading.{verdictOf};
-ghost use Rattle.file_format.specs.Refusals.{accept, refuse, first};
 ghost use Rattle.table.specs.Prepared.{tables};
 ghost use Rattle.table.specs.Reply.{noCounts};
 ghost use Rattle.place.specs.Match.{radiusOf};
 ghost use Rattle.place.specs.Outcome.{placeReply};
-ghost use Rattle.place_circuits.specs.Ball.{SomeDrawn, EveryDrawn};
-ghost use Rattle.call_place.specs.Call.{tooShort, roomConditions, radiusFor, placeOn, placeAt};
-
-// At which radius a place is asked for: the pattern's own, or one given.
-pub enum Reach {
-    Own,
-    Given(u16),
-}
+ghost use Rattle.place_circuits.specs.Drawn.{placedAs, SomeDrawn, EveryDrawn};
+ghost use Rattle.call_decide.specs.Decide.{radiusFor};
+ghost use Rattle.call_place.specs.Call.{placeOn, placeAt};
 
 // What is asked of two files: around which node of the board, in which editions, and at which radius.
 pub struct Question {
@@ -44,74 +39,18 @@ pub struct Question {
     pub reach: Reach,
 }
 
-// The radius that is asked for, where the pattern's own is known.
-fn radius_for(reach: Reach, own: u16) -> u16
-    ensures { λ r. ⌜ r ≡ radiusFor reach own ⌝ }
-{
-    match reach {
-        Reach::Own => own,
-        Reach::Given(r) => r,
-    }
-}
-
-// The counts of a call in which nothing is searched.
-fn no_counts() -> Counts
-    ensures { λ r. ⌜ r ≡ noCounts ⌝ }
-{
-    Counts {
-        started: 0,
-        kept: 0,
-        struck: 0,
-        rounds: 0,
-    }
-}
-
-// The answer that turns a call away before anything is searched.
-fn refused_place(x: Refusal) -> PlaceAnswer
-    ensures { λ r. ⌜ r ≡ PlaceAnswer.Refused x noCounts ⌝ }
-{
-    PlaceAnswer::Refused(x, no_counts())
-}
-
 // The answer by the verdict on two files alone: nothing is searched, and nothing counted.
 fn answer_by(verdict: FileVerdict) -> PlaceAnswer
     ensures { λ r. ⌜ placeReply r ≡ record { verdict = verdictOf verdict; counts = noCounts } ⌝ }
 {
     match verdict {
         FileVerdict::Accepted => PlaceAnswer::Placed(no_counts()),
-        FileVerdict::Refused(x) => refused_place(x),
+        FileVerdict::Refused(x) => PlaceAnswer::Refused(x, no_counts()),
     }
 }
 
-// How many entries each of the four lent tables has.
-struct Lengths {
-    pub nodes: usize,
-    pub links: usize,
-    pub table: usize,
-    pub distances: usize,
-}
-
-// Whether all four have what a board of n nodes and m links needs.
-fn roomy(n: usize, m: usize, lent: Lengths) -> bool
-    ensures { λ r. ⌜ first (roomConditions n m (lent .nodes) (lent .links) (lent .table) (lent .distances)) ≡ cond r accept (refuse tooShort) ⌝ }
-{
-    if lent.nodes < n {
-        return false;
-    }
-    if lent.links < m {
-        return false;
-    }
-    if lent.table < n {
-        return false;
-    }
-    if lent.distances < n {
-        return false;
-    }
-    true
-}
-
-// The call on two circuits that were read and prepared. Everything is tested, and the place found, before anything is written to the lent
-// tables. The last offset is how many links the board has.
+// The call on two circuits that were read and prepared. Everything is tested, and the place found, before anything is
+// written to the lent tables. The last offset is how many links the board has.
 fn find_on(
     part_labels: &[u32],
     node_labels: &[u32],
@@ -125,9 +64,11 @@ fn find_on(
     distances: &mut [u16],
 ) -> PlaceAnswer
     requires { ⌜ SomeDrawn (now «part_labels») (now «node_labels») (tables (now masks) (now offsets) (now targets)) ⌝ }
-    ensures { λ a. ⌜ EveryDrawn (now («part_labels» .entry)) (now («node_labels» .entry)) (tables (now (masks .entry)) (now (offsets .entry)) (now (targets .entry)))
-        (record { reply = placeReply a; nodes = now (nodes .exit); links = now («link_bytes» .exit); table = now (table .exit); distances = now (distances .exit) })
-        (λ pattern board. placeOn (asked .radius) pattern board (asked .centre) (now (nodes .entry)) (now («link_bytes» .entry)) (now (table .entry)) (now (distances .entry))) ⌝ }
+    ensures { λ a. ⌜ EveryDrawn (now («part_labels» .entry)) (now («node_labels» .entry))
+        (tables (now (masks .entry)) (now (offsets .entry)) (now (targets .entry)))
+        (placedAs a (now (nodes .exit)) (now («link_bytes» .exit)) (now (table .exit)) (now (distances .exit)))
+        (λ pattern board. placeOn (asked .radius) pattern board (asked .centre) (now (nodes .entry))
+        (now («link_bytes» .entry)) (now (table .entry)) (now (distances .entry))) ⌝ }
 {
     let n = node_labels.len();
     let m = offsets[n] as usize;
@@ -137,14 +78,11 @@ fn find_on(
         table: table.len(),
         distances: distances.len(),
     };
-    let room = roomy(n, m, lent);
     let centre = asked.centre;
-    if n <= centre {
-        return refused_place(OUTSIDE);
-    }
-    if !room {
-        return refused_place(TOO_SHORT);
-    }
+    let verdict = place_verdict(n, m, centre, lent);
+    let FileVerdict::Accepted = verdict else {
+        return answer_by(verdict);
+    };
     let around = Around {
         centre: centre as u16,
         radius: asked.radius,
@@ -163,9 +101,9 @@ fn find_on(
     )
 }
 
-// The place around the centre, at the pattern's radius or at one given: the ball's four counts, with a byte per board node and one per board link, 1 in
-// the place and else 0, a set of parts per node, and each node's distance from the centre, 65,535 outside the ball, at the front of the four
-// tables; or the refusal, which leaves them as they were.
+// The place around the centre, at the pattern's radius or at one given: the ball's four counts, with a byte per board
+// node and one per board link, 1 in the place and else 0, a set of parts per node, and each node's distance from the
+// centre, 65,535 outside the ball, at the front of the four tables; or the refusal, which leaves them as they were.
 pub fn place(
     question: Question,
     pattern: &[u8],
@@ -175,9 +113,12 @@ pub fn place(
     table: &mut [u32],
     distances: &mut [u16],
 ) -> PlaceAnswer
-    ensures { λ a. ⌜ record { reply = placeReply a; nodes = now (nodes .exit); links = now («link_bytes» .exit); table = now (table .exit); distances = now (distances .exit) }
-        ≡ placeAt (inEdition (question .editions .pattern) (now (pattern .entry))) (inEdition (question .editions .board) (now (board .entry))) (question .centre)
-        (radiusFor (question .reach) (radiusOf (circuitOf (inEdition (question .editions .pattern) (now (pattern .entry))))))
+    ensures { λ a. ⌜ placedAs a (now (nodes .exit)) (now («link_bytes» .exit)) (now (table .exit))
+        (now (distances .exit))
+        ≡ placeAt (inEdition (question .editions .pattern) (now (pattern .entry)))
+        (inEdition (question .editions .board) (now (board .entry))) (question .centre)
+        (radiusFor (question .reach) (radiusOf (circuitOf (inEdition (question .editions .pattern)
+        (now (pattern .entry))))))
         (now (nodes .entry)) (now («link_bytes» .entry)) (now (table .entry)) (now (distances .entry)) ⌝ }
 {
     let mut pk = [0u32; Pattern::MAX_NODES];

@@ -27,8 +27,8 @@ pub record AsPattern (r : Role) : Type 0 where
   pub nodes : maxNodes r ≡ maxNodes Pattern
   pub links : maxLinks r ≡ maxLinks Pattern
 
--- Both files are accepted, their labels stand in the tables, their links are prepared along the directions that count, and the radius of a pattern that is
--- connected is known.
+-- Both files are accepted, their labels stand in the tables, their links are prepared along the directions that count,
+-- and the radius of a pattern that is connected is known.
 pub record BothPrepared (r : Role) (ways : List Direction) (pattern board : CircuitFile) (read : Pair) (partLabels nodeLabels : List ℕ) (t : Tables) : Type 0 where
   pub parts : LabelsStand pattern (read .parts) partLabels
   pub nodes : LabelsStand board (read .nodes) nodeLabels

@@ -23,7 +23,8 @@ pub struct Reading {
     pub editions: Editions,
 }
 
-// Reads both files, and makes of their links what the search looks up; or the first refusal. The labels are left at the front of their tables.
+// Reads both files, and makes of their links what the search looks up; or the first refusal. The labels are left at the
+// front of their tables.
 pub fn read_prepared(
     reading: Reading,
     pattern: &[u8],
@@ -37,7 +38,10 @@ pub fn read_prepared(
     requires { ⌜ AsPattern (reading .role) ⌝ }
     requires { ⌜ (length (now pk) ≡ 32) × (length (now nk) ≡ 512) ⌝ }
     requires { ⌜ (length (now masks) ≡ 64) × NetRoom (now offsets) (now targets) ⌝ }
-    ensures { λ r. ⌜ PairPrepared (reading .role) (waysOf (reading .ways)) (inEdition (reading .editions .pattern) (now (pattern .entry))) (inEdition (reading .editions .board) (now (board .entry))) r (now (pk .exit)) (now (nk .exit)) (tables (now (masks .exit)) (now (offsets .exit)) (now (targets .exit))) ⌝ }
+    ensures { λ r. ⌜ PairPrepared (reading .role) (waysOf (reading .ways))
+        (inEdition (reading .editions .pattern) (now (pattern .entry)))
+        (inEdition (reading .editions .board) (now (board .entry))) r (now (pk .exit)) (now (nk .exit))
+        (tables (now (masks .exit)) (now (offsets .exit)) (now (targets .exit))) ⌝ }
 {
     let role = reading.role;
     let editions = reading.editions;

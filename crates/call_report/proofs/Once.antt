@@ -10,8 +10,8 @@ use Rattle.file_format.specs.Refusals.{Verdict, accept, refuse}
 use Rattle.report.specs.Lines.{longestLine}
 use Rattle.report.specs.Report.{centreLine, reportOf}
 use Rattle.report.proofs.Lengths.{centre-length}
-use Rattle.report_centres.specs.Pieces.{Piece, roomy, ends, closed, linesFrom, linesTaken, centresPiece, linesPiece}
-use Rattle.call_report.specs.Call.{filesVerdict, refusalPiece, pieceFor, pieceOf, reporting}
+use Rattle.report_pieces.specs.Pieces.{Piece, roomy, ends, closed, linesFrom, linesTaken, centresPiece, linesPiece, refusalPiece}
+use Rattle.call_report.specs.Call.{filesVerdict, pieceFor, pieceOf, reporting}
 use Rattle.call_report.specs.Whole.{itemsFor, itemsOf, pieceNext, pieceText}
 use Rattle.call_report.proofs.Promise.{board-bounded, call-follows, next-is, items-whole}
 use Rattle.call_report.proofs.Whole.{prefix-start, places-start}

@@ -12,8 +12,8 @@ use Rattle.file_format.specs.declared.Refusal.{Refusal}
 use Rattle.file_format.specs.Refusals.{Verdict, accept, refuse}
 use Rattle.report.specs.Lines.{longestLine}
 use Rattle.report.specs.Report.{hasPlace, centreLine, endLine, refusalLine, linesOf, reportFor}
-use Rattle.call_report.specs.Call.{refusalPiece, pieceFor}
-use Rattle.report_centres.specs.Pieces.{linesFrom, placesFrom, roomy, linesTaken, Piece, centresPiece, ends, closed, linesPiece}
+use Rattle.call_report.specs.Call.{pieceFor}
+use Rattle.report_pieces.specs.Pieces.{linesFrom, placesFrom, roomy, linesTaken, Piece, centresPiece, ends, closed, linesPiece, refusalPiece}
 use Rattle.call_report.specs.Whole.{itemsFor, prefixFor, placesFor, PieceFollows}
 
 -- the lines that end a report are not empty

@@ -1,12 +1,11 @@
 -- The report call, whole: its reply and the buffer's later content, from the inputs alone. A report may be far longer than a buffer, so it is
 -- put piece by piece: a call puts the lines of the centres from a centre on, as long as there is room for the longest line, and answers
 -- where to go on. proofs/Promise shows that the pieces, one after another, are the report.
-use Rattle.base_lists.specs.Kit.{cond, List, [], _∷_, ℕ, eqb, length}
+use Rattle.base_lists.specs.Kit.{List, [], _∷_, ℕ, length}
 use Rattle.graph.specs.Circuit.{Circuit}
 use Rattle.file_format.specs.declared.Role.the-variants.{Pattern}
 use Rattle.file_format.specs.declared.FileVerdict.{FileVerdict}
 use Rattle.file_format.specs.declared.FileVerdict.the-variants as told
-use Rattle.file_format.specs.declared.Refusal.{Refusal}
 use Rattle.file_format.specs.Circuit.{circuitOf}
 use Rattle.file_format.specs.Layout.{CircuitFile}
 use Rattle.file_format.specs.Reading.{filled}
@@ -14,15 +13,9 @@ use Rattle.file_format.specs.Refusals.{Verdict, accept, refuse, first, shortTab
 use Rattle.file_format.specs.Reply.{Reply, reply}
 use Rattle.file_pair.specs.Pair.{pairConditions}
 use Rattle.report.specs.Lines.{longestLine, longestRefusal}
-use Rattle.report.specs.Report.{refusalLine}
-use Rattle.report_centres.specs.Pieces.{Piece, linesPiece}
+use Rattle.report_pieces.specs.Pieces.{Piece, linesPiece, refusalPiece}
 use Rattle.call_report.specs.declared.ReportAnswer.{ReportAnswer}
 use Rattle.call_report.specs.declared.ReportAnswer.the-variants as answer
-
--- "A refused file gives one line": that is the whole report
-unfoldable pub refusalPiece : Refusal → ℕ → ℕ → Piece
-refusalPiece x from found =
-    cond (eqb from 0) (record { text = refusalLine x; next = 1; found = found }) (record { text = []; next = from; found = found })
 
 -- whether a file is refused; "the pattern's 1 to 6 before the board's"
 abbrev pub filesVerdict : CircuitFile → CircuitFile → Verdict

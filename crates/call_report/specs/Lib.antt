@@ -1,3 +1,3 @@
 pub mod Call
-pub mod Opened
+pub mod Reported
 pub mod Whole

@@ -1,38 +1,28 @@
 // The report call: the report of a pattern file on a board file, put piece by piece into a lent buffer.
-use call_prepare::Reading;
-use call_prepare::read_prepared;
+use call_open::open;
 use file_format::Board;
 use file_format::Editions;
 use file_format::FileVerdict;
-use file_format::Pattern;
 use file_format::Refusal;
-use file_format::Role;
 use file_format::TOO_SHORT;
 use file_pair::Pair;
 use graph_neighbours::tables::OFFSETS;
 use graph_neighbours::tables::TARGETS;
-use place_components::components;
-use report::lines::put_refusal;
-use report_centres::LONGEST;
-use report_centres::PutPiece;
 use report_centres::Resume;
-use report_centres::put_centres;
-use report_centres::put_last;
+use report_centres::put_lines;
+use report_pieces::LONGEST;
+use report_pieces::PutPiece;
+use report_pieces::put_nothing;
+use report_pieces::put_refused;
 use table::MASKS;
-use table::Ways;
-use table_whole::match_tables;
 ghost use mathlib.Core.Path.{_≡_};
-ghost use Prim.Native.Nat.{_≤_};
-ghost use lib.ListN.{length};
-ghost use Rattle.call_report.specs.Call.{refusalPiece, outcomeFor, outcomeBy, reportReply, reporting};
+ghost use Rattle.call_report.specs.Call.{outcomeFor, outcomeBy, reportReply, reporting};
 ghost use Rattle.file_format.specs.Layout.{inEdition};
 ghost use Rattle.report.specs.Lines.{longestRefusal};
-ghost use Rattle.report_centres.specs.Pieces.{linesPiece, SourceOfSome, Wrote, EveryWrote};
-ghost use Rattle.place.specs.Spread.{matched};
-ghost use Rattle.place_components.specs.Components.{Components};
-ghost use Rattle.table.specs.Prepared.{tables};
-ghost use Rattle.graph.specs.Net.{NetRoom};
-ghost use Rattle.call_report.specs.Opened.{Opened, SomeOpened, EveryReported};
+ghost use Rattle.report_pieces.specs.Pieces.{refusalPiece};
+ghost use Rattle.table.specs.Prepared.{Tables, tables};
+ghost use Rattle.call_open.specs.Opened.{SomeOpened};
+ghost use Rattle.call_report.specs.Reported.{EveryReported};
 ghost use Rattle.file_format.specs.declared.File.the-variants as file;
 ghost use Rattle.call_report.specs.declared.ReportAnswer.the-variants as answer;
 
@@ -52,36 +42,10 @@ fn too_short() -> ReportAnswer
     ReportAnswer::Refused(TOO_SHORT)
 }
 
-// Nothing: the report is at its end.
-fn put_nothing(from: usize, found: u16) -> PutPiece
-    ensures { λ r. ⌜ r ≡ record { next = from; found = found; size = 0 } ⌝ }
-{
-    PutPiece {
-        next: from,
-        found: found as usize,
-        size: 0,
-    }
-}
-
-// The line of a refused file, which is the whole report.
-fn put_refused(x: Refusal, from: usize, found: u16, out: &mut [u8]) -> PutPiece
-    requires { ⌜ longestRefusal ≤ length (now out) ⌝ }
-    ensures { λ r. ⌜ Wrote (now (out .entry)) (refusalPiece x from found) (now (out .exit)) r ⌝ }
-{
-    if from != 0 {
-        return put_nothing(from, found);
-    }
-    let size = put_refusal(x, out, 0);
-    PutPiece {
-        next: 1,
-        found: found as usize,
-        size,
-    }
-}
-
 // What the call comes to where a file is refused.
 fn answer_refused(x: Refusal, from: usize, found: u16, out: &mut [u8]) -> ReportAnswer
-    ensures { λ a. ⌜ record { reply = reportReply a; out = now (out .exit) } ≡ outcomeFor longestRefusal (refusalPiece x from found) (now (out .entry)) ⌝ }
+    ensures { λ a. ⌜ record { reply = reportReply a; out = now (out .exit) }
+        ≡ outcomeFor longestRefusal (refusalPiece x from found) (now (out .entry)) ⌝ }
 {
     if out.len() < LONGEST_REFUSAL {
         return too_short();
@@ -91,97 +55,13 @@ fn answer_refused(x: Refusal, from: usize, found: u16, out: &mut [u8]) -> Report
 
 // What the call comes to by the verdict on the two files alone.
 fn answer_by(verdict: FileVerdict, from: usize, found: u16, out: &mut [u8]) -> ReportAnswer
-    ensures { λ a. ⌜ record { reply = reportReply a; out = now (out .exit) } ≡ outcomeBy verdict from found (now (out .entry)) ⌝ }
+    ensures { λ a. ⌜ record { reply = reportReply a; out = now (out .exit) }
+        ≡ outcomeBy verdict from found (now (out .entry)) ⌝ }
 {
     match verdict {
         FileVerdict::Accepted => ReportAnswer::Put(put_nothing(from, found)),
         FileVerdict::Refused(x) => answer_refused(x, from, found, out),
     }
-}
-
-// The lines of the centres from where a piece goes on, and the last line where the centres are done.
-fn put_lines(
-    masks: &[u32],
-    offsets: &[u16],
-    targets: &[u16],
-    whole: &[u32],
-    component_of: &[u16],
-    sizes: &[u16],
-    resume: Resume,
-    out: &mut [u8],
-) -> PutPiece
-    requires { ⌜ SourceOfSome (tables (now masks) (now offsets) (now targets)) (now whole) (resume .radius) ⌝ }
-    requires { ⌜ Components (length (now whole)) (matched (tables (now masks) (now offsets) (now targets)) (now whole)) (now whole) (now «component_of») (now sizes) ⌝ }
-    ensures { λ p. ⌜ EveryWrote (tables (now (masks .entry)) (now (offsets .entry)) (now (targets .entry))) (now (whole .entry)) (resume .radius) (λ pattern board. linesPiece pattern board (resume .from) (resume .found) (length (now (out .entry)))) (now (out .entry)) (now (out .exit)) p ⌝ }
-{
-    let part = put_centres(
-        masks,
-        offsets,
-        targets,
-        whole,
-        component_of,
-        sizes,
-        resume,
-        out,
-    );
-    put_last(part, whole.len(), out)
-}
-
-// Opens two files for the pieces of their report from the centre `from` on: reads them, and leaves what the lines are put from, the whole board's match
-// table and its components among it, at the fronts of the tables. Past the last line nothing is left to put, and nothing is matched.
-pub fn open(
-    from: usize,
-    editions: Editions,
-    pattern: &[u8],
-    board: &[u8],
-    masks: &mut [u32],
-    offsets: &mut [u16],
-    targets: &mut [u16],
-    whole: &mut [u32],
-    component_of: &mut [u16],
-    sizes: &mut [u16],
-) -> Pair
-    requires { ⌜ (length (now masks) ≡ 64) × NetRoom (now offsets) (now targets) ⌝ }
-    requires { ⌜ (length (now whole) ≡ 512) × (length (now «component_of») ≡ 512) × (length (now sizes) ≡ 512) ⌝ }
-    ensures { λ r. ⌜ Opened from (inEdition (editions .pattern) (now (pattern .entry))) (inEdition (editions .board) (now (board .entry))) r (tables (now (masks .exit)) (now (offsets .exit)) (now (targets .exit))) (now (whole .exit)) (now («component_of» .exit)) (now (sizes .exit)) ⌝ }
-{
-    let mut pk = [0u32; Pattern::MAX_NODES];
-    let mut nk = [0u32; Board::MAX_NODES];
-    let reading = Reading {
-        role: Role::Pattern,
-        ways: Ways::Both,
-        editions,
-    };
-    let read = read_prepared(
-        reading,
-        pattern,
-        board,
-        &mut pk,
-        &mut nk,
-        masks,
-        offsets,
-        targets,
-    );
-    let verdict = read.verdict;
-    let FileVerdict::Accepted = verdict else {
-        return read;
-    };
-    let n = read.nodes;
-    if n < from {
-        return read;
-    }
-    let parts = read.parts;
-    let table = &mut whole[..n];
-    match_tables(&pk[..parts], &nk[..n], masks, offsets, targets, table);
-    components(
-        masks,
-        offsets,
-        targets,
-        table,
-        &mut component_of[..n],
-        &mut sizes[..n],
-    );
-    read
 }
 
 // A piece of the report of two files that were opened, as `report` puts it.
@@ -197,8 +77,12 @@ pub fn put(
     found: u16,
     out: &mut [u8],
 ) -> ReportAnswer
-    requires { ⌜ SomeOpened from read (tables (now masks) (now offsets) (now targets)) (now whole) (now «component_of») (now sizes) ⌝ }
-    ensures { λ a. ⌜ EveryReported from found read (tables (now (masks .entry)) (now (offsets .entry)) (now (targets .entry))) (now (whole .entry)) (now («component_of» .entry)) (now (sizes .entry)) (now (out .entry)) (record { reply = reportReply a; out = now (out .exit) }) ⌝ }
+    ghost { Tables }
+    requires { λ α. ⌜ tables (now masks) (now offsets) (now targets) ≡ α ⌝ }
+    requires { λ α. ⌜ SomeOpened from read α (now whole) (now «component_of») (now sizes) ⌝ }
+    ensures { λ α a. ⌜ EveryReported from found read α
+        (now (whole .entry)) (now («component_of» .entry)) (now (sizes .entry))
+        (now (out .entry)) (record { reply = reportReply a; out = now (out .exit) }) ⌝ }
 {
     let verdict = read.verdict;
     let FileVerdict::Accepted = verdict else {
@@ -228,10 +112,10 @@ pub fn put(
     ))
 }
 
-// A piece of the report, from the centre `from` on, before which `found` centres had a place, at the front of the buffer: the lines of as
-// many centres as there is room for, and the last line where the centres are done; the first piece is from 0 with 0 found. Nothing is put
-// exactly when the report is at its end. A buffer that is too short, for the line of a refused file or for the longest line, is refused and
-// left as it was.
+// A piece of the report, from the centre `from` on, before which `found` centres had a place, at the front of the
+// buffer: the lines of as many centres as there is room for, and the last line where the centres are done; the first
+// piece is from 0 with 0 found. Nothing is put exactly when the report is at its end. A buffer that is too short, for
+// the line of a refused file or for the longest line, is refused and left as it was.
 pub fn report(
     editions: Editions,
     pattern: &[u8],
@@ -241,7 +125,9 @@ pub fn report(
     out: &mut [u8],
 ) -> ReportAnswer
     ensures { λ a. ⌜ record { reply = reportReply a; out = now (out .exit) }
-        ≡ reporting (inEdition (editions .pattern) (now (pattern .entry))) (inEdition (editions .board) (now (board .entry))) from found (now (out .entry)) ⌝ }
+        ≡ reporting (inEdition (editions .pattern) (now (pattern .entry)))
+        (inEdition (editions .board) (now (board .entry)))
+        from found (now (out .entry)) ⌝ }
 {
     let mut masks = [0u32; MASKS];
     let mut offsets = [0u16; OFFSETS];

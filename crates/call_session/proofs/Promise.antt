@@ -21,7 +21,8 @@ module _ {pattern board : CircuitFile} {before opened : State} (begun : OpenProm
   abbrev machine : Machine
   machine = machineAfter (fresh (circuitOf pattern) (circuitOf board)) linkIndices
 
-  -- "For every list of cuts from a fresh session, after it .. each reply in the list is the machine's": and the tables hold the machine.
+  -- "For every list of cuts from a fresh session, after it .. each reply in the list is the machine's": and the tables
+  -- hold the machine.
   pub session-run : (rs ≡ replies (fresh (circuitOf pattern) (circuitOf board)) linkIndices) × Holds machine after
   session-run = run-holds linkIndices rs (fresh (circuitOf pattern) (circuitOf board)) (begun .opened refl) cuts
 

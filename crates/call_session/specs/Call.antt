@@ -41,7 +41,8 @@ openState pattern board s =
       sets = lastTable pattern board (everything board) ++ drop n (s .sets);
     }
 
--- The reply; where it is 'open', the tables hold a fresh machine on the two circuits, by these entries, and a refusal leaves them as they were.
+-- The reply; where it is 'open', the tables hold a fresh machine on the two circuits, by these entries, and a refusal
+-- leaves them as they were.
 pub record OpenPromise (pattern board : CircuitFile) (before : State) (reply : Verdict) (after : State) : Type 0 where
   pub replied : reply ≡ first (openConditions pattern board)
   pub opened : reply ≡ accept → Holds (fresh (circuitOf pattern) (circuitOf board)) after

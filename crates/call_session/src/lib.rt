@@ -20,7 +20,8 @@ pub enum OpenAnswer {
     Refused(Refusal),
 }
 
-// Opens a session: reads both files, and fills the tables with the pattern's masks, the board's links and the largest dual simulation.
+// Opens a session: reads both files, and fills the tables with the pattern's masks, the board's links and the largest
+// dual simulation.
 pub fn open(
     editions: Editions,
     pattern: &[u8],
@@ -32,9 +33,12 @@ pub fn open(
     sets: &mut [u32],
 ) -> OpenAnswer
     requires { ⌜ StateRoom (state (now fixed) (now offsets) (now numbers) (now ends) (now sets)) ⌝ }
-    ensures { λ r. ⌜ OpenPromise (inEdition (editions .pattern) (now (pattern .entry))) (inEdition (editions .board) (now (board .entry)))
-        (state (now (fixed .entry)) (now (offsets .entry)) (now (numbers .entry)) (now (ends .entry)) (now (sets .entry))) (openVerdict r)
-        (state (now (fixed .exit)) (now (offsets .exit)) (now (numbers .exit)) (now (ends .exit)) (now (sets .exit))) ⌝ }
+    ensures { λ r. ⌜ OpenPromise (inEdition (editions .pattern) (now (pattern .entry)))
+        (inEdition (editions .board) (now (board .entry)))
+        (state (now (fixed .entry)) (now (offsets .entry)) (now (numbers .entry)) (now (ends .entry))
+        (now (sets .entry))) (openVerdict r)
+        (state (now (fixed .exit)) (now (offsets .exit)) (now (numbers .exit)) (now (ends .exit))
+        (now (sets .exit))) ⌝ }
 {
     let mut pk = [0u32; Pattern::MAX_NODES];
     let mut ps = [0u16; Pattern::MAX_LINKS];

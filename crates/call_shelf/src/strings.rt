@@ -16,7 +16,8 @@ fn step(at: usize, size: u32, end: usize) -> usize
     end
 }
 
-// The i-th of the byte strings that lie one after another, as long as the lengths say, as far as there are bytes; none past the last.
+// The i-th of the byte strings that lie one after another, as long as the lengths say, as far as there are bytes; none
+// past the last.
 pub fn string_at<'a>(bytes: &'a [u8], lengths: &[u32], i: usize) -> &'a [u8]
     ensures { λ r. ⌜ now r ≡ getD (cutInto (now (bytes .entry)) (now (lengths .entry))) i List.[] ⌝ }
 {

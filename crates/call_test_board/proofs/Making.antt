@@ -24,7 +24,7 @@ use Rattle.test_board.specs.Board as testBoard
 use Rattle.test_board.specs.Board.{InRange, kindsDrawn, pairsDrawn, isPair, testBoard}
 use Rattle.test_board.proofs.Generator.{length-draws, draws-lt}
 use Rattle.test_board.proofs.Board.{testBoard-nodes, testBoard-parallel, testBoard-links, board-below, board-rises}
-use Rattle.test_board.specs.Marks.{AllBelow}
+use Rattle.test_board_links.specs.Marks.{AllBelow}
 use Rattle.call_test_board.specs.declared.TestBoardAnswer.{TestBoardAnswer}
 use Rattle.call_test_board.specs.declared.TestBoardAnswer.the-variants.{Refused}
 use Rattle.call_test_board.specs.Call.{testBoardBytes, testBoardConditions, testBoardReply, makingTestBoard, MadeFrom}

@@ -2,8 +2,8 @@
 use crate::make::make;
 use file_format::File;
 use file_format::Refusal;
+use test_board::in_range;
 ghost use mathlib.Core.Path.{_≡_};
-ghost use Rattle.test_board.specs.Board.{sizesInRange};
 ghost use Rattle.call_test_board.specs.Call.{testBoardReply, makingTestBoard};
 
 mod make;
@@ -12,25 +12,6 @@ mod make;
 pub enum TestBoardAnswer {
     Made(usize),
     Refused(Refusal),
-}
-
-// Whether the numbers of nodes, links and kinds are in their ranges.
-fn in_range(n: u32, m: u32, k: u32) -> bool
-    ensures { λ r. ⌜ r ≡ sizesInRange n m k ⌝ }
-{
-    if n < 1 {
-        return false;
-    }
-    if n > 512 {
-        return false;
-    }
-    if m > 4096 {
-        return false;
-    }
-    if k < 1 {
-        return false;
-    }
-    k <= 65536
 }
 
 fn refused(number: u8) -> TestBoardAnswer
@@ -42,10 +23,12 @@ fn refused(number: u8) -> TestBoardAnswer
     })
 }
 
-// Makes the board of n nodes with kinds below k, and of m links drawn, those drawn twice being one, that a seed gives. Its file stands at the front
-// of the bytes lent, and the answer is its length; or the refusal, which leaves every byte as it was.
+// Makes the board of n nodes with kinds below k, and of m links drawn, those drawn twice being one, that a seed gives.
+// Its file stands at the front of the bytes lent, and the answer is its length; or the refusal, which leaves every byte
+// as it was.
 pub fn test_board(seed: u32, n: u32, m: u32, k: u32, out: &mut [u8]) -> TestBoardAnswer
-    ensures { λ r. ⌜ record { reply = testBoardReply r; out = now (out .exit) } ≡ makingTestBoard seed n m k (now (out .entry)) ⌝ }
+    ensures { λ r. ⌜ record { reply = testBoardReply r; out = now (out .exit) }
+        ≡ makingTestBoard seed n m k (now (out .entry)) ⌝ }
 {
     let fits = in_range(n, m, k);
     let nodes = n as usize;

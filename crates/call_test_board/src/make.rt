@@ -4,7 +4,7 @@ use file_format::Board;
 use file_format::Role;
 use file_write::WriteAnswer;
 use test_board::draw_test_board;
-use test_board::pairs::collect_links;
+use test_board_links::collect_links;
 ghost use Prim.Native.Nat.{_≤_};
 ghost use lib.ListN.{length};
 ghost use Rattle.file_format.specs.declared.Edition.the-variants as editions;
@@ -12,8 +12,8 @@ ghost use Rattle.file_format.specs.Layout.{lengthOf};
 ghost use Rattle.test_board.specs.Board.{InRange};
 ghost use Rattle.call_test_board.specs.Call.{MadeFrom};
 
-// Draws a test board and writes its file to the front of bytes that have room for the file of as many links as are drawn. A test board is a board, so that
-// writing it is not refused.
+// Draws a test board and writes its file to the front of bytes that have room for the file of as many links as are
+// drawn. A test board is a board, so that writing it is not refused.
 pub fn make(seed: u32, n: usize, m: usize, k: usize, out: &mut [u8]) -> TestBoardAnswer
     requires { ⌜ InRange n m k × (lengthOf editions.First n m ≤ length (now out)) ⌝ }
     ensures { λ r. ⌜ MadeFrom seed n m k r (now (out .entry)) (now (out .exit)) ⌝ }

@@ -1,4 +1,5 @@
--- The four counts are those of the row of sets in a graph H, of which a circuit with some nodes taken is a presentation. Assumes nothing.
+-- The four counts are those of the row of sets in a graph H, of which a circuit with some nodes taken is a
+-- presentation. Assumes nothing.
 use Rattle.base_lists.specs.Kit.{_≡_, _∙_, sym, ap, subst, _↔_, Iff·rfl, Iff·trans, List, map, ℕ, _≤_, suc, zero, le-of-eq, length, arith}
 use lib.Count.{ones}
 use Rattle.base_lists.specs.List.{sum}

@@ -49,8 +49,9 @@ use Rattle.demands.proofs.Merged.{ready-sound, merged-same, radius-fits
 
 -- ---- Demand 1
 
--- "From the file readers to the last report line, every call ends with a fixed reply for every byte string, centre and table size. It refuses
--- under the numbered conditions of document 01 and no other; a refusal returns its number and the file concerned, and changes no lent table."
+-- "From the file readers to the last report line, every call ends with a fixed reply for every byte string, centre and
+-- table size. It refuses under the numbered conditions of document 01 and no other; a refusal returns its number and
+-- the file concerned, and changes no lent table."
 pub demand-1 : Demand1
 demand-1 = decided-1
 
@@ -106,8 +107,9 @@ was-read role file ks ps ss es e =
     let v : first (readConditions role file (length ks) (length ps) (length ss) (length es)) ≡ accept = sym (reply-verdict _ _) ∙ e in
     rw v
 
--- "The match table is the largest dual simulation, pair by pair as 01 reads it: each of its pairs holds, and every dual simulation lies inside
--- it. Counts and rounds are those of 01's row of sets. A circuit written reads back as itself; an accepted file writes back to its own bytes."
+-- "The match table is the largest dual simulation, pair by pair as 01 reads it: each of its pairs holds, and every dual
+-- simulation lies inside it. Counts and rounds are those of 01's row of sets. A circuit written reads back as itself;
+-- an accepted file writes back to its own bytes."
 pub demand-2 : Demand2
 unfolding placed readReply
 demand-2 =
@@ -179,9 +181,10 @@ radius-computed pattern a r is = radius-unique (accepted-radius a) is
 merge-accepts : {pattern : CircuitFile} {classes out : List ℕ} → Accepted Pattern pattern → Enough pattern classes out → merging pattern classes out .reply .verdict ≡ accept
 merge-accepts {pattern} {classes} {out} a room = merge-call.accepts pattern classes out (accepted-verdict a) (room .bytes) (room .file)
 
--- "For every accepted pattern, board and centre, with tables long enough, 9 is given exactly when there is no perfect subgraph around the centre
--- at the radius; else what is marked is one, and contains every other. The merged pattern, run at the first pattern's radius, is refused with 9
--- exactly when the first is, and else marks the same nodes and links."
+-- "For every accepted pattern, board and centre, with tables long enough, 9 is given exactly when there is no perfect
+-- subgraph around the centre at the radius; else what is marked is one, and contains every other. The merged pattern,
+-- run at the first pattern's radius, is refused with 9 exactly when the first is, and else marks the same nodes and
+-- links."
 pub demand-3 : Demand3
 unfolding placedOwn
 demand-3 =

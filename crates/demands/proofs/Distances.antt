@@ -1,4 +1,5 @@
--- Document 02, Ask 2, holds: each entry is a distance or 65,535, in the ball lookup and in both place calls. Assumes nothing.
+-- Document 02, Ask 2, holds: each entry is a distance or 65,535, in the ball lookup and in both place calls. Assumes
+-- nothing.
 use Rattle.base_lists.specs.Kit.{_≡_, _∙_, sym, ap, refl, subst, List, ℕ, length, getD, drop, drop-at}
 use Rattle.graph.specs.Circuit.{circuitGraph, graphOf}
 use Rattle.graph.specs.Graph.{Graph, Distance, DistanceEntry}

@@ -24,8 +24,7 @@ use Rattle.call_test_board.specs.Call.{testBoardConditions, makingTestBoard}
 use Rattle.call_distance.specs.Calls.{ballConditions}
 use Rattle.call_bounded.specs.Call.{boundedConditions, boundedMatching}
 use Rattle.call_barring.specs.Call.{hasPlace, barInputs, barCall}
-use Rattle.call_file.specs.Told.{asRole}
-use Rattle.heronditch_told.specs.Told.{editionOf, isThird, roleOf, directionOf}
+use Rattle.heronditch_told.specs.Told.{editionOf, isThird, roleOf, directionOf, asRole}
 use Rattle.demands.specs.Cutting.{cutReplies}
 use Rattle.demands.specs.Examples.{AllHold}
 use Rattle.demands.specs.Files.{refused, ReadT, ReadB, R1, R2, R3, R4, R5, R6, R7, R8, secondT, ReadSecond, thirdT, ReadThird, packedFile, looped, R3Editions, R10, rowOf14, R11, R12, R13, R14, R15, byEdition, ToldEdition, ToldThird, ToldRole, ToldDirection, fileExamples}

@@ -28,7 +28,8 @@ use Rattle.merge.proofs.Accepted.{merged-content, merged-radius-le}
 use Rattle.merge.proofs.Content.{accepted-content, content-radius}
 use Rattle.call_convert.specs.Call.{convertConditions, converting}
 use Rattle.call_distance.specs.Calls.{radiusCall}
-use Rattle.call_place.specs.Call.{roomConditions, inputConditions, placeAt}
+use Rattle.call_decide.specs.Decide.{roomConditions}
+use Rattle.call_place.specs.Call.{inputConditions, placeAt}
 use Rattle.call_place.proofs.Promise.{input-refused}
 use Rattle.call_check.specs.Call.{checkConditions, checkCall}
 use Rattle.call_barring.specs.Call.{barInputs}
@@ -161,8 +162,9 @@ module _ (pattern : CircuitFile) (lent out : List ℕ) (ok : merging pattern len
   merged-taken : Accepted Pattern (mergedFile pattern (merging pattern lent out))
   merged-taken = rw (file-is pattern lent out ok) (merged-accepted (pattern-accepted pattern lent out ok))
 
--- "Twelve becomes the limit. Users keep every guarantee about places and merging for patterns up to it; a merged pattern never has the larger
--- radius. Turned away: 11, pattern radius above 12, checked in every call that checks 6, after it and before the board's 1."
+-- "Twelve becomes the limit. Users keep every guarantee about places and merging for patterns up to it; a merged
+-- pattern never has the larger radius. Turned away: 11, pattern radius above 12, checked in every call that checks 6,
+-- after it and before the board's 1."
 pub radius-twelve : Limit
 radius-twelve =
     record {

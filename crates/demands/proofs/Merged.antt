@@ -1,5 +1,5 @@
--- Demand 3 on merging: what the merging call writes, handed to the place call with a radius given, is refused with 9 exactly when the first
--- pattern is at that radius, and else marks the same nodes and links. Assumes nothing.
+-- Demand 3 on merging: what the merging call writes, handed to the place call with a radius given, is refused with 9
+-- exactly when the first pattern is at that radius, and else marks the same nodes and links. Assumes nothing.
 use Rattle.base_lists.specs.Kit.{_≡_, _∙_, sym, ap, ⊎-elim, Bool, cond, List, [], _∷_, ℕ, _<_, length, arith}
 use Rattle.graph.specs.Circuit.{circuitGraph, graphOf}
 use Rattle.graph.proofs.Distance.{distance-below}

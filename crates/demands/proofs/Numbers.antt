@@ -16,7 +16,8 @@ use Rattle.call_test_board.specs.Call.{testBoardConditions}
 use Rattle.call_distance.specs.Calls.{ballConditions}
 use Rattle.call_match.specs.Call.{matchConditions}
 use Rattle.call_bounded.specs.Call.{boundedConditions}
-use Rattle.call_place.specs.Call.{roomConditions, inputConditions}
+use Rattle.call_decide.specs.Decide.{roomConditions}
+use Rattle.call_place.specs.Call.{inputConditions}
 use Rattle.call_check.specs.Call.{checkConditions}
 use Rattle.call_barring.specs.Call.{hasPlace, barInputs}
 use Rattle.call_merge.specs.Call.{mergeConditions}

@@ -1,5 +1,6 @@
--- What a line of the report means, by the place call at the pattern's radius: where the call accepts, the centre has a line, with the nodes and
--- the links that the call marks; where it gives 9, it has none. call_place/proofs/Promise says what the call's answers mean. Assumes nothing.
+-- What a line of the report means, by the place call at the pattern's radius: where the call accepts, the centre has a
+-- line, with the nodes and the links that the call marks; where it gives 9, it has none. call_place/proofs/Promise says
+-- what the call's answers mean. Assumes nothing.
 use Rattle.base_lists.specs.Kit.{_≡_, _∙_, sym, _↔_, List, [], _++_, ℕ, le-trans, T, take}
 use Rattle.base_lists.specs.Below.{countBelow, concatBelow}
 use Rattle.base_lists.proofs.Tests.{T-true, T-false}

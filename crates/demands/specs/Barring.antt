@@ -1,5 +1,5 @@
--- Ask 14, "The least that still says none", quoted over what is proved of it: `Ask14`. proofs/Barring proves it. The contract of the call equates its
--- reply and what it leaves with `barCall` of the inputs alone.
+-- Ask 14, "The least that still says none", quoted over what is proved of it: `Ask14`. proofs/Barring proves it. The
+-- contract of the call equates its reply and what it leaves with `barCall` of the inputs alone.
 use Rattle.base_lists.specs.Kit.{_≡_, _↔_, List, [], _∷_, ℕ, _≤_, T, length, take, drop}
 use Rattle.graph.specs.Chosen.{ChosenLink}
 use Rattle.graph.specs.Graph.{Radius}
@@ -19,8 +19,8 @@ use Rattle.demands.specs.Demands.{graph, equal, Lent, Ready, placedOwn, 
 abbrev pub fifteen : Refusal
 fifteen = record { number = 15; file = Neither }
 
--- a set of the pattern's links bars the centre: "in the ball at the full pattern's radius the largest set of pairs that meets kinds, packages and those
--- links alone, all parts kept and none required to occur, has no pair with the centre"
+-- a set of the pattern's links bars the centre: "in the ball at the full pattern's radius the largest set of pairs that
+-- meets kinds, packages and those links alone, all parts kept and none required to occur, has no pair with the centre"
 abbrev pub Barring : CircuitFile → CircuitFile → ℕ → Relation → Type 1
 Barring pattern board w L = Bars (graph pattern) (equal pattern board) (graph board) w L
 
@@ -29,10 +29,10 @@ abbrev pub Marked : CircuitFile → List ℕ → Relation
 Marked pattern out = ChosenLink (circuitOf pattern) (take (linksOf pattern) out)
 
 pub record Ask14 : Type 1 where
-  -- (On every input: the conditions of the files, 7, "the pattern's M bytes, length under 8", "15, the centre has a place, checked after 8": specs/Demands
-  -- `bars`.)
-  -- "When a centre gives 9": on every accepted pattern, board and centre, with bytes long enough, there is an answer exactly where the place call at the
-  -- pattern's radius gives 9, and 15 exactly where it finds a place.
+  -- (On every input: the conditions of the files, 7, "the pattern's M bytes, length under 8", "15, the centre has a
+  -- place, checked after 8": specs/Demands `bars`.) "When a centre gives 9": on every accepted pattern, board and
+  -- centre, with bytes long enough, there is an answer exactly where the place call at the pattern's radius gives 9,
+  -- and 15 exactly where it finds a place.
   pub answers : (pattern board : CircuitFile) (w : ℕ) (lent : Lent) (out : List ℕ) → Ready pattern board w lent → linksOf pattern ≤ length out →
       (barCall pattern board w out .reply .verdict ≡ accept) ↔ (placedOwn pattern board w lent .reply .verdict ≡ refuse nine)
   pub turned : (pattern board : CircuitFile) (w : ℕ) (lent : Lent) (out : List ℕ) → Ready pattern board w lent → linksOf pattern ≤ length out →
@@ -43,8 +43,9 @@ pub record Ask14 : Type 1 where
   -- The procedure's test of a choice of links, by a byte for each, is that they bar.
   pub tests : (pattern board : CircuitFile) (w r : ℕ) (marks : List ℕ) → Accepted Pattern pattern → Accepted Board board → Radius (graph pattern) r →
       T (bars (circuitOf pattern) (circuitOf board) w r marks) ↔ Barring pattern board w (ChosenLink (circuitOf pattern) marks)
-  -- "go through them in file order and drop each one without which the rest still bars. The answer is a byte per link, 1 for kept": the bytes are those of
-  -- that procedure, those past the pattern's M stay, and "the reply is how many are 1".
+  -- "go through them in file order and drop each one without which the rest still bars. The answer is a byte per link,
+  -- 1 for kept": the bytes are those of that procedure, those past the pattern's M stay, and "the reply is how many are
+  -- 1".
   pub bytes : (pattern board : CircuitFile) (w : ℕ) (out : List ℕ) → barCall pattern board w out .reply .verdict ≡ accept → (r : ℕ) → Radius (graph pattern) r →
       take (linksOf pattern) (barCall pattern board w out .out) ≡ least (circuitOf pattern) (circuitOf board) w r
   pub rest : (pattern board : CircuitFile) (w : ℕ) (out : List ℕ) → drop (linksOf pattern) (barCall pattern board w out .out) ≡ drop (linksOf pattern) out

@@ -1,9 +1,10 @@
--- The three demands, each quoted over what is proved of it: `Demand1`, `Demand2`, `Demand3`. proofs/Demands proves them, and docs/PROMISES.md
--- lists the definitions that they speak in.
+-- The three demands, each quoted over what is proved of it: `Demand1`, `Demand2`, `Demand3`. proofs/Demands proves
+-- them, and docs/PROMISES.md lists the definitions that they speak in.
 --
--- A call's contract is an equation that asks nothing of its inputs: its reply and each lent table at exit are those of a definition applied to
--- the inputs alone (`reading`, `writing`, `radiusCall`, `ballCall`, `matching`, `placeAt`, `merging`, `reporting`). That a call ends, and with a
--- fixed reply, is that contract, proved of the code. The demands here are about the replies and tables themselves.
+-- A call's contract is an equation that asks nothing of its inputs: its reply and each lent table at exit are those of
+-- a definition applied to the inputs alone (`reading`, `writing`, `radiusCall`, `ballCall`, `matching`, `placeAt`,
+-- `merging`, `reporting`). That a call ends, and with a fixed reply, is that contract, proved of the code. The demands
+-- here are about the replies and tables themselves.
 use Rattle.base_lists.specs.Kit.{_≡_, _↔_, _&&_, not, List, [], _∷_, _++_, map, ℕ, _≤_, _<_, _-_, suc, T, ltb, length, getD, take, drop, replicate}
 use lib.Count.{ones}
 use Rattle.base_lists.specs.List.{Below, sum}
@@ -64,7 +65,8 @@ graph file = circuitGraph (circuitOf file)
 abbrev pub equal : CircuitFile → CircuitFile → Relation
 equal pattern board = KindsMatch (circuitOf pattern) (circuitOf board)
 
--- the four tables that are lent to a place call: a byte per node, a byte per link, a set of parts per node, a distance per node
+-- the four tables that are lent to a place call: a byte per node, a byte per link, a set of parts per node, a distance
+-- per node
 pub record Lent : Type 0 where
   pub nodes : List ℕ
   pub links : List ℕ
@@ -94,11 +96,13 @@ pub record Ready (pattern board : CircuitFile) (w : ℕ) (lent : Lent) : Type 0 
 
 -- ---- Demand 1
 
--- "From the file readers to the last report line, every call ends with a fixed reply for every byte string, centre and table size. It refuses
--- under the numbered conditions of document 01 and no other; a refusal returns its number and the file concerned, and changes no lent table."
+-- "From the file readers to the last report line, every call ends with a fixed reply for every byte string, centre and
+-- table size. It refuses under the numbered conditions of document 01 and no other; a refusal returns its number and
+-- the file concerned, and changes no lent table."
 
--- A call that numbered conditions decide: each of them is one of the fifteen (specs/Numbers); the call is refused by a number and a file exactly when they
--- are those of the first condition that holds, it is accepted exactly when none holds, and a refusal leaves what is `Kept`.
+-- A call that numbered conditions decide: each of them is one of the fifteen (specs/Numbers); the call is refused by a
+-- number and a file exactly when they are those of the first condition that holds, it is accepted exactly when none
+-- holds, and a refusal leaves what is `Kept`.
 pub record Decided (conditions : List Condition) (verdict : Verdict) (Kept : Type 0) : Type 0 where
   pub numbered : EachNumbered conditions
   pub refused : (x : Refusal) → (verdict ≡ refuse x) ↔ FirstHolding conditions x
@@ -116,7 +120,8 @@ Counting conditions answer Kept = Decided conditions (answer .verdict) ((answer 
 unfoldable pub nine : Refusal
 nine = record { number = 9; file = Neither }
 
--- the conditions of the place calls: those of the inputs, and 9 "no place around the centre" (demand 3 says what that is)
+-- the conditions of the place calls: those of the inputs, and 9 "no place around the centre" (demand 3 says what that
+-- is)
 unfoldable pub placedConditions : CircuitFile → CircuitFile → ℕ → ℕ → Lent → List Condition
 placedConditions pattern board w r lent =
     inputConditions pattern board w (length (lent .nodes)) (length (lent .links)) (length (lent .table)) (length (lent .distances))
@@ -137,13 +142,14 @@ ReadsAs role file =
     (kinds packages starts ends : List ℕ) → nodesOf file ≤ length kinds → packageCount (file .edition) (nodesOf file) ≤ length packages →
     linksOf file ≤ length starts → linksOf file ≤ length ends → reading role file kinds packages starts ends .reply .verdict ≡ accept
 
--- a session that was opened on two files, and in which links were then cut, by the calls' promises: the places cut, one after another, and the tables after it
+-- a session that was opened on two files, and in which links were then cut, by the calls' promises: the places cut, one
+-- after another, and the tables after it
 unfoldable pub Running : CircuitFile → CircuitFile → List ℕ → State → Type 0
 Running pattern board places after =
     (before : State) × (opened : State) × (said : List Verdict) × OpenPromise pattern board before accept opened × Cuts opened places said after
 
--- Each call, on every input. The neighbour lookup refuses nothing; in C, where its stretch is copied out, it is refused by 8 (heronditch/specs/Host
--- `hostNeighbours`).
+-- Each call, on every input. The neighbour lookup refuses nothing; in C, where its stretch is copied out, it is refused
+-- by 8 (heronditch/specs/Host `hostNeighbours`).
 pub record Demand1 : Type 0 where
   pub reads : (role : Role) (file : CircuitFile) (kinds packages starts ends : List ℕ) → let result = reading role file kinds packages starts ends in
       Replies (readConditions role file (length kinds) (length packages) (length starts) (length ends)) (result .reply) (Unread kinds packages starts ends result)
@@ -194,15 +200,17 @@ pub record Demand1 : Type 0 where
 
 -- ---- Demand 2
 
--- "The match table is the largest dual simulation, pair by pair as 01 reads it: each of its pairs holds, and every dual simulation lies inside
--- it. Counts and rounds are those of 01's row of sets. A circuit written reads back as itself; an accepted file writes back to its own bytes."
+-- "The match table is the largest dual simulation, pair by pair as 01 reads it: each of its pairs holds, and every dual
+-- simulation lies inside it. Counts and rounds are those of 01's row of sets. A circuit written reads back as itself;
+-- an accepted file writes back to its own bytes."
 
--- The row: "R0 is the set of pairs with equal kinds. Each further set keeps those pairs of the last whose links have partners in the last."
+-- The row: "R0 is the set of pairs with equal kinds. Each further set keeps those pairs of the last whose links have
+-- partners in the last."
 abbrev pub Sets : Graph → Relation → Graph → ℕ → Relation
 Sets P Agree H = Row (Along (P .Link)) (Along (H .Link)) (Candidate P Agree H)
 
--- "started, the pairs of R0; .. rounds, how many sets differ from the one before": each set before `rounds` has a pair that the next one has
--- not, and no later one has. Pairs are counted as one bits of tables that hold the sets.
+-- "started, the pairs of R0; .. rounds, how many sets differ from the one before": each set before `rounds` has a pair
+-- that the next one has not, and no later one has. Pairs are counted as one bits of tables that hold the sets.
 pub record RowRun (sets : ℕ → Relation) (begun rounds : ℕ) : Type 0 where
   pub table : ℕ → List ℕ
   pub holds : (k u v : ℕ) → InTable (table k) u v ↔ sets k u v
@@ -216,8 +224,9 @@ pub record RowCounts (sets : ℕ → Relation) (counts : Counts) : Type 0 where
   pub kept : counts .kept ≡ sum (map ones (run .table (counts .rounds)))
   pub struck : counts .struck ≡ counts .started - counts .kept
 
--- What a whole-board call comes to, by its row of sets and by what is the largest: the row is run to its end; its last set is the table, and "If some
--- part is left without a node, the table is all 0, kept is 0, struck equals started, and rounds count as before." Entries past N stay.
+-- What a whole-board call comes to, by its row of sets and by what is the largest: the row is run to its end; its last
+-- set is the table, and "If some part is left without a node, the table is all 0, kept is 0, struck equals started, and
+-- rounds count as before." Entries past N stay.
 pub record Matched (sets : ℕ → Relation) (Best : Relation → Type 1) (parts n : ℕ) (lent : List ℕ) (result : TableOutcome) : Type 1 where
   pub accepted : result .reply .verdict ≡ accept
   pub largest : Best (InTable (take n (result .table)))
@@ -266,9 +275,10 @@ pub record Demand2 : Type 1 where
 
 -- ---- Demand 3
 
--- "For every accepted pattern, board and centre, with tables long enough, 9 is given exactly when there is no perfect subgraph around the centre
--- at the radius; else what is marked is one, and contains every other. The merged pattern, run at the first pattern's radius, is refused with 9
--- exactly when the first is, and else marks the same nodes and links."
+-- "For every accepted pattern, board and centre, with tables long enough, 9 is given exactly when there is no perfect
+-- subgraph around the centre at the radius; else what is marked is one, and contains every other. The merged pattern,
+-- run at the first pattern's radius, is refused with 9 exactly when the first is, and else marks the same nodes and
+-- links."
 
 -- the subgraph of the board that the first N node bytes and the first M link bytes mark
 abbrev pub marked : CircuitFile → PlaceOutcome → Graph
@@ -291,15 +301,16 @@ pub record Enough (pattern : CircuitFile) (classes out : List ℕ) : Type 0 wher
 unfoldable pub mergedFile : CircuitFile → MergeOutcome → CircuitFile
 mergedFile pattern m = inEdition (pattern .edition) (take (getD (m .reply .values) 1 0) (m .out))
 
--- "The merged pattern has a part per class, of the same kind, and a link from class a to class b, b equal to a included, where some member of a has a
--- link to some member of b.", and "The merged part takes its class's package": a file so made of the parts' classes, or of any groups. It is accepted.
+-- "The merged pattern has a part per class, of the same kind, and a link from class a to class b, b equal to a
+-- included, where some member of a has a link to some member of b.", and "The merged part takes its class's package": a
+-- file so made of the parts' classes, or of any groups. It is accepted.
 pub record Made (pattern : CircuitFile) (group : ℕ → ℕ) (file : CircuitFile) : Type 0 where
   pub accepted : Accepted Pattern file
   pub quotient : SameGraph (graph file) (QuotientGraph (graph pattern) group)
   pub kinds : (u : ℕ) → u < nodesOf pattern → getD (labelsOf file) (group u) 0 ≡ getD (labelsOf pattern) u 0
 
--- "It compares whether 9 is given and, where it is not, the first N node bytes and the first M link bytes, N and M being the board's; counts
--- and match tables may differ.": the verdicts are the same.
+-- "It compares whether 9 is given and, where it is not, the first N node bytes and the first M link bytes, N and M
+-- being the board's; counts and match tables may differ.": the verdicts are the same.
 pub record SameFound (n m : ℕ) (a b : PlaceOutcome) : Type 0 where
   pub verdict : a .reply .verdict ≡ b .reply .verdict
   pub nodes : (a .reply .verdict ≡ refuse nine → ⊥) → take n (a .nodes) ≡ take n (b .nodes)

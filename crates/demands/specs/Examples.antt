@@ -1,4 +1,5 @@
--- Document 01's examples E1 to E9, and those of the requests that came after, as statements about the definitions, in a single list. proofs/Examples proves the list.
+-- Document 01's examples E1 to E9, and those of the requests that came after, as statements about the definitions, in a
+-- single list. proofs/Examples proves the list.
 use Rattle.base_lists.specs.Kit.{_≡_, List, [], _∷_, ℕ, _<_, T}
 use Rattle.graph.specs.Circuit.{Circuit}
 use Rattle.file_format.specs.declared.File.the-variants.{Neither}
@@ -95,8 +96,8 @@ AnyNotMerged = (selfTable tenAndAny ≡ 1 ∷ 2 ∷ 6 ∷ []) × (classes tenAnd
 unfoldable pub AnyAround : Type 0
 AnyAround = (w : ℕ) → w < 6 → T (found anyPart circuitB w (radiusOf anyPart))
 
--- A pattern of one link from kind 10 to kind 20 around node 0 of B at radius 2: its place has nodes 0 and 1, and node 2 has its distance, "whether
--- a node is in the place or not"; at radius 1 it has 65,535.
+-- A pattern of one link from kind 10 to kind 20 around node 0 of B at radius 2: its place has nodes 0 and 1, and node 2
+-- has its distance, "whether a node is in the place or not"; at radius 1 it has 65,535.
 unfoldable pub Probed : Type 0
 Probed =
     (placeNodes oneLink circuitB 0 2 ≡ 1 ∷ 1 ∷ 0 ∷ 0 ∷ 0 ∷ 0 ∷ [])

@@ -1,5 +1,6 @@
--- Document 01's examples of files, T and B as bytes, and the table of refusals; T in the editions that document 02 adds, an example of each number that it
--- adds, and of the numbers that a host program tells. As statements about the definitions, in a single list: proofs/Files proves the list.
+-- Document 01's examples of files, T and B as bytes, and the table of refusals; T in the editions that document 02
+-- adds, an example of each number that it adds, and of the numbers that a host program tells. As statements about the
+-- definitions, in a single list: proofs/Files proves the list.
 use Rattle.base_lists.specs.Kit.{_≡_, false, true, List, [], _∷_, _++_, ℕ}
 use Rattle.file_format.specs.declared.Edition.the-variants.{First, Second}
 use Rattle.file_format.specs.declared.File.{File}
@@ -19,8 +20,7 @@ use Rattle.call_test_board.specs.Call.{makingTestBoard}
 use Rattle.call_distance.specs.Calls.{ballConditions}
 use Rattle.call_bounded.specs.Call.{boundedMatching}
 use Rattle.call_barring.specs.Call.{barCall}
-use Rattle.call_file.specs.Told.{asRole}
-use Rattle.heronditch_told.specs.Told.{told, isThird, roleOf, directionOf}
+use Rattle.heronditch_told.specs.Told.{told, isThird, roleOf, directionOf, asRole}
 use Rattle.demands.specs.Cutting.{cutReplies}
 use Rattle.demands.specs.Examples.{Statements, done, _also_}
 

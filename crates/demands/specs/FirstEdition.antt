@@ -1,6 +1,7 @@
--- What files of the first edition get, said in the layout of document 01 alone, which knows of no packages: `FirstEdition`. proofs/FirstEdition
--- proves it. Every call is made of what stands here, what a file is asked for, the circuit that it holds and the bytes that are written, and of which part
--- and node are equal (specs/Packages). "a first-edition file counts as having all packages 0"
+-- What files of the first edition get, said in the layout of document 01 alone, which knows of no packages:
+-- `FirstEdition`. proofs/FirstEdition proves it. Every call is made of what stands here, what a file is asked for, the
+-- circuit that it holds and the bytes that are written, and of which part and node are equal (specs/Packages). "a
+-- first-edition file counts as having all packages 0"
 use Rattle.base_lists.specs.Kit.{_≡_, not, List, [], _∷_, _++_, ℕ, _+_, _*_, eqb, ltb, length, drop}
 use Rattle.graph.specs.Circuit.{Circuit}
 use Rattle.file_format.specs.declared.Edition.the-variants.{First}

@@ -1,6 +1,7 @@
--- Ask 11 of document 02, quoted over what is proved of it: "Users of the merged pattern want to know that nothing more could be joined."
--- proofs/Groupings proves `NothingMore`, proofs/GroupingExamples the two examples at the end. Of `grouped` only what `makes` says of it has to be
--- known: one definition, of which the merged pattern is the instance for the classes (merge/specs/Merged).
+-- Ask 11 of document 02, quoted over what is proved of it: "Users of the merged pattern want to know that nothing more
+-- could be joined." proofs/Groupings proves `NothingMore`, proofs/GroupingExamples the two examples at the end. Of
+-- `grouped` only what `makes` says of it has to be known: one definition, of which the merged pattern is the instance
+-- for the classes (merge/specs/Merged).
 use Rattle.base_lists.specs.Kit.{_≡_, List, [], _∷_, ℕ, _≤_, length, getD}
 use Rattle.simulation.specs.Grouping.{Grouping, AsEachMember}
 use Rattle.file_format.specs.declared.Role.the-variants.{Pattern, Board}
@@ -28,8 +29,8 @@ groupedFile pattern group k = inEdition (pattern .edition) (circuitBytes (patter
 unfoldable pub Matches : CircuitFile → CircuitFile → ℕ → ℕ → Type 0
 Matches pattern board u v = (lent : List ℕ) → nodesOf board ≤ length lent → InTable (matching pattern board lent .table) u v
 
--- "Suppose that, for each group, each single member of it and every accepted board, a node matches the group exactly when it matches that
--- member in the first pattern's table."
+-- "Suppose that, for each group, each single member of it and every accepted board, a node matches the group exactly
+-- when it matches that member in the first pattern's table."
 pub record Supposed (pattern : CircuitFile) (group : ℕ → ℕ) (k : ℕ) : Type 0 where
   pub on : (board : CircuitFile) → Accepted Board board →
       AsEachMember (graph pattern) group (graph board) (Matches pattern board) (Matches (groupedFile pattern group k) board)
@@ -76,8 +77,8 @@ fileE8 =
 unfoldable pub joined : ℕ → ℕ
 joined u = getD (0 ∷ 1 ∷ 1 ∷ 2 ∷ []) u 0
 
--- They do not match each other: part 2 drives part 3, part 1 drives nothing. The pattern that this grouping makes is T, and on E8 itself, as a
--- board, node 1 matches part 1, and not the group.
+-- They do not match each other: part 2 drives part 3, part 1 drives nothing. The pattern that this grouping makes is T,
+-- and on E8 itself, as a board, node 1 matches part 1, and not the group.
 pub record JoinedE8 : Type 0 where
   pub accepted : Accepted Pattern fileE8
   pub groups : Groups fileE8 joined 3

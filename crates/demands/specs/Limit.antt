@@ -1,6 +1,7 @@
--- Ask 5 of document 02, radius twelve, of what the calls reply: `Limit`. proofs/Limit proves it. "Twelve becomes the limit. Users keep every
--- guarantee about places and merging for patterns up to it; a merged pattern never has the larger radius. Turned away: 11, pattern radius
--- above 12, checked in every call that checks 6, after it and before the board's 1."
+-- Ask 5 of document 02, radius twelve, of what the calls reply: `Limit`. proofs/Limit proves it. "Twelve becomes the
+-- limit. Users keep every guarantee about places and merging for patterns up to it; a merged pattern never has the
+-- larger radius. Turned away: 11, pattern radius above 12, checked in every call that checks 6, after it and before the
+-- board's 1."
 use Rattle.base_lists.specs.Kit.{_≡_, _↔_, List, [], _∷_, ℕ, _≤_, _<_, length}
 use Rattle.base_text.specs.Text.{bytes}
 use Rattle.graph.specs.Circuit.{graphOf}
@@ -68,8 +69,9 @@ reportBefore pattern board = reportFor (before (pairConditions Pattern pattern b
 
 -- ---- the request
 
--- A pattern that is turned away with 11 is so by every call that checks 6, whatever the board, the centre, the radius given and the tables. (Comparing and
--- the shelf ask the same of each file: specs/Demands `compares`, specs/Shelf `refusedFirst`, `refusedSecond`, `accepts`. Writing: `written` below.)
+-- A pattern that is turned away with 11 is so by every call that checks 6, whatever the board, the centre, the radius
+-- given and the tables. (Comparing and the shelf ask the same of each file: specs/Demands `compares`, specs/Shelf
+-- `refusedFirst`, `refusedSecond`, `accepts`. Writing: `written` below.)
 pub record TurnedAway (pattern : CircuitFile) : Type 0 where
   pub reads : (kinds packages starts ends : List ℕ) → reading Pattern pattern kinds packages starts ends .reply .verdict ≡ refuse eleven
   pub measures : radiusCall pattern .verdict ≡ refuse eleven
@@ -89,7 +91,8 @@ pub record AsBefore (pattern : CircuitFile) : Type 0 where
   pub reports : (board : CircuitFile) → reportOf pattern board ≡ reportBefore pattern board
 
 pub record Limit : Type 1 where
-  -- "11, pattern radius above 12 .., after it": exactly the patterns of which 1 to 6 do not hold, and whose radius is above 12
+  -- "11, pattern radius above 12 .., after it": exactly the patterns of which 1 to 6 do not hold, and whose radius is
+  -- above 12
   pub wide : (file : CircuitFile) →
       (first (fileConditions Pattern file) ≡ refuse eleven) ↔ ((before (fileConditions Pattern file) ≡ accept) × ((r : ℕ) × Radius (graph file) r × (12 < r)))
   -- "Twelve becomes the limit."

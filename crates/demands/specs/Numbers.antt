@@ -1,6 +1,7 @@
--- The numbers of refusal, 1 to 15, in one list: document 01's table and what document 02 adds to it. "This, and whatever later requests turn away, joins
--- demand 1's conditions and document 01's table." Each line is a condition that some call is asked for: its number, the file that it means (that of the
--- role in which a file is read or written, or neither) and when it holds. What the tests of 4, 5, 6 and 11 mean, and whether there is a place (9 and 15), the
+-- The numbers of refusal, 1 to 15, in one list: document 01's table and what document 02 adds to it. "This, and
+-- whatever later requests turn away, joins demand 1's conditions and document 01's table." Each line is a condition
+-- that some call is asked for: its number, the file that it means (that of the role in which a file is read or written,
+-- or neither) and when it holds. What the tests of 4, 5, 6 and 11 mean, and whether there is a place (9 and 15), the
 -- demands say (specs/Demands). In which order a call tries them is its list.
 use Rattle.base_lists.specs.Kit.{Bool, _&&_, not, List, [], _∷_, ℕ, eqb, ltb, length}
 use Rattle.graph.specs.Search.{connected}
@@ -23,7 +24,8 @@ pub data Numbered : Condition → Type 0 where
   three : (role : Role) (file : CircuitFile) → Numbered (record { number = 3; file = fileOf role; holds = not (eqb (length (file .bytes)) (lengthOf (file .edition) (nodesOf file) (linksOf file))) })
   -- in the third "4 + 4N + 6M";
   three-third : (role : Role) (bytes : List ℕ) → Numbered (record { number = 3; file = fileOf role; holds = not (eqb (length bytes) (boundedLength (field bytes 0) (field bytes 2))) })
-  -- "on writing, as many starts as ends not given"; "Writing the second with as many packages as kinds not given is 3.";
+  -- "on writing, as many starts as ends not given"; "Writing the second with as many packages as kinds not given is
+  -- 3.";
   three-writing : (role : Role) (e : Edition) (kinds packages starts ends : List ℕ) →
       Numbered (record { number = 3; file = fileOf role; holds = not (eqb (length starts) (length ends) && packagesGiven e kinds packages) })
   -- "Node or link bytes of another length than N and M are 3 with neither file named"

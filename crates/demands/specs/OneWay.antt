@@ -1,5 +1,5 @@
--- Ask 8, each of its sentences quoted over what is proved of it: `Ask8`. proofs/OneWay proves it. What the whole-board call comes to is specs/Demands
--- `Matched`; here links are followed in the directions chosen.
+-- Ask 8, each of its sentences quoted over what is proved of it: `Ask8`. proofs/OneWay proves it. What the whole-board
+-- call comes to is specs/Demands `Matched`; here links are followed in the directions chosen.
 use Rattle.base_lists.specs.Kit.{_≡_, List, ℕ, _≤_, length}
 use Rattle.graph.specs.Graph.{Graph}
 use Rattle.simulation.specs.Closed.{Relation, _⊆_, Row}
@@ -28,8 +28,8 @@ pub record Ask8 : Type 1 where
       (matchingBy ways pattern board table)
   -- with both variants read off from that."
   pub twoWays : (pattern board : CircuitFile) (S : Relation) → LargestAlong bothWays pattern board S → Largest (graph pattern) (equal pattern board) (graph board) S
-  -- "a variant whose pairs need partners along forward links only (graph simulation, source document 000), over the whole board, with the all-0
-  -- rule and the refusals of Ask 7 and the four counts"
+  -- "a variant whose pairs need partners along forward links only (graph simulation, source document 000), over the
+  -- whole board, with the all-0 rule and the refusals of Ask 7 and the four counts"
   pub oneWays : (pattern board : CircuitFile) (S : Relation) → LargestAlong oneWay pattern board S →
       LargestGraphSimulation (graph pattern) (equal pattern board) (graph board) S
   pub refusals : (pattern board : CircuitFile) (table : List ℕ) →

@@ -1,5 +1,5 @@
--- Ask 9, "Check a place from elsewhere", quoted over what is proved of it: `Ask9`. proofs/Proposals proves it. The contract of the call equates
--- its reply with `checkCall` of the inputs alone.
+-- Ask 9, "Check a place from elsewhere", quoted over what is proved of it: `Ask9`. proofs/Proposals proves it. The
+-- contract of the call equates its reply with `checkCall` of the inputs alone.
 use Rattle.base_lists.specs.Kit.{_≡_, _↔_, _⊎_, List, [], _∷_, ℕ, _<_, length, take}
 use Rattle.graph.specs.Graph.{Contains, Radius}
 use Rattle.file_format.specs.declared.Role.the-variants.{Pattern, Board}
@@ -19,8 +19,8 @@ says-yes = record { verdict = accept; values = 1 ∷ [] }
 abbrev pub says-no : Reply
 says-no = record { verdict = accept; values = 0 ∷ [] }
 
--- "Given a pattern, a board, a centre, a byte per node and a byte per link": both files accepted, the centre on the board, as many bytes as
--- nodes and links
+-- "Given a pattern, a board, a centre, a byte per node and a byte per link": both files accepted, the centre on the
+-- board, as many bytes as nodes and links
 pub record Offered (pattern board : CircuitFile) (w : ℕ) (nodes links : List ℕ) : Type 0 where
   pub drawn : Accepted Pattern pattern
   pub given : Accepted Board board
@@ -29,11 +29,12 @@ pub record Offered (pattern board : CircuitFile) (w : ℕ) (nodes links : List �
   pub linkBytes : length links ≡ linksOf board
 
 pub record Ask9 : Type 1 where
-  -- ("Node or link bytes of another length than N and M are 3 with neither file named, checked after 7.": specs/Demands `checks`.) Else yes or no:
+  -- ("Node or link bytes of another length than N and M are 3 with neither file named, checked after 7.": specs/Demands
+  -- `checks`.) Else yes or no:
   pub answers : (pattern board : CircuitFile) (w : ℕ) (nodes links : List ℕ) → Offered pattern board w nodes links →
       (checkCall pattern board w nodes links ≡ says-yes) ⊎ (checkCall pattern board w nodes links ≡ says-no)
-  -- "say yes exactly when these are a perfect subgraph around the centre at the pattern's radius, largest or not. Bytes other than 0 and 1, or a
-  -- link whose ends are not both marked, give no. Whoever proposed it, a yes means the same"
+  -- "say yes exactly when these are a perfect subgraph around the centre at the pattern's radius, largest or not. Bytes
+  -- other than 0 and 1, or a link whose ends are not both marked, give no. Whoever proposed it, a yes means the same"
   pub exactly : (pattern board : CircuitFile) (w : ℕ) (nodes links : List ℕ) → Offered pattern board w nodes links → (r : ℕ) → Radius (graph pattern) r →
       (checkCall pattern board w nodes links ≡ says-yes) ↔ PerfectMarks (circuitOf pattern) (circuitOf board) w r nodes links
   -- "and every place the finder returns at that radius gets a yes."

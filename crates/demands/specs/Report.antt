@@ -1,5 +1,6 @@
--- The report, quoted over what is proved of its text: `Reported`. proofs/Report proves it. The contract of the call equates its reply and what it leaves with
--- `reporting` of the inputs alone; it is refused by 8 alone (specs/Demands `reports`). The program that reads the files: crate finder.
+-- The report, quoted over what is proved of its text: `Reported`. proofs/Report proves it. The contract of the call
+-- equates its reply and what it leaves with `reporting` of the inputs alone; it is refused by 8 alone (specs/Demands
+-- `reports`). The program that reads the files: crate finder.
 use Rattle.base_lists.specs.Kit.{_≡_, _↔_, List, [], _++_, ℕ, _≤_, T, length, take}
 use Rattle.base_lists.specs.Below.{countBelow, concatBelow}
 use Rattle.file_format.specs.declared.Refusal.{Refusal}
@@ -13,7 +14,8 @@ use Rattle.call_report.specs.Whole.{called}
 use Rattle.demands.specs.Demands.{Lent, Ready, placedOwn, nine}
 
 pub record Reported : Type 0 where
-  -- calls one after another, from 0 with 0 found, each with a buffer that holds the longest line: their pieces, one after another, are the report
+  -- calls one after another, from 0 with 0 found, each with a buffer that holds the longest line: their pieces, one
+  -- after another, are the report
   pub whole : (pattern board : CircuitFile) (buffers : ℕ → List ℕ) → ((k : ℕ) → longestLine ≤ length (buffers k)) → (k : ℕ) → 513 ≤ k →
       called pattern board buffers k .text ≡ reportOf pattern board
   -- "A refused file gives one line, as `refused 3 pattern`."
@@ -21,8 +23,8 @@ pub record Reported : Type 0 where
   -- "Per centre with a place, rising: .. Last: `end`, how many centres have a place, `of`, N."
   pub lines : (pattern board : CircuitFile) → filesVerdict pattern board ≡ accept → let P = circuitOf pattern in let B = circuitOf board in
       reportOf pattern board ≡ concatBelow (nodesOf board) (centreLine P B) ++ endLine (countBelow (nodesOf board) (hasPlace P B)) (nodesOf board)
-  -- The line of a centre, by the place call at the pattern's radius: "`place`, the centre, a colon, each node, a slash, each link ..; nodes rise, links are
-  -- in file order", those that the call marks;
+  -- The line of a centre, by the place call at the pattern's radius: "`place`, the centre, a colon, each node, a slash,
+  -- each link ..; nodes rise, links are in file order", those that the call marks;
   pub place : (pattern board : CircuitFile) (w : ℕ) (lent : Lent) → Ready pattern board w lent → let result = placedOwn pattern board w lent in
       result .reply .verdict ≡ accept →
       centreLine (circuitOf pattern) (circuitOf board) w

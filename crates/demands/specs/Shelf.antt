@@ -1,5 +1,6 @@
--- Ask 10, "A shelf in order", quoted over what is proved of it: `Ask10`. proofs/Shelf proves it. The contracts of the two calls equate their replies, and
--- what they leave, with `comparing` and `shelving` of the inputs alone. (The program that reads the files: crate shelf.)
+-- Ask 10, "A shelf in order", quoted over what is proved of it: `Ask10`. proofs/Shelf proves it. The contracts of the
+-- two calls equate their replies, and what they leave, with `comparing` and `shelving` of the inputs alone. (The
+-- program that reads the files: crate shelf.)
 use Rattle.base_lists.specs.Kit.{_≡_, _↔_, _⊎_, List, [], _∷_, ℕ, T, length, take, drop}
 use Rattle.base_lists.specs.List.{Below}
 use Rattle.file_format.specs.declared.Edition.the-variants.{Second}
@@ -31,7 +32,8 @@ fileFor c = fileBytes Second (c .kinds) (c .packages) (c .starts) (c .ends)
 abbrev pub ranked : List (List ℕ) → ℕ → ℕ → Order
 ranked files i j = compareFiles (fileAt files i) (fileAt files j)
 
--- the numbers of a shelf: those of the accepted files and no others, each once, "in order ..; of equal circuits the lower number stands first"
+-- the numbers of a shelf: those of the accepted files and no others, each once, "in order ..; of equal circuits the
+-- lower number stands first"
 abbrev pub ShelfOrder : List (List ℕ) → List ℕ → Type 0
 ShelfOrder files numbers = InOrder (acceptedIn files) (ranked files) (length files) numbers
 
@@ -46,8 +48,8 @@ pub record Ask10 : Type 0 where
   pub total : (a b : Whole) → (compareWhole a b ≡ Less) ⊎ ((a ≡ b) ⊎ (compareWhole b a ≡ Less))
   pub antisymmetric : (a b : Whole) → compareWhole a b ≡ Less → compareWhole b a ≡ Less → ⊥
   pub transitive : (a b c : Whole) → compareWhole a b ≡ Less → compareWhole b c ≡ Less → compareWhole a c ≡ Less
-  -- and two circuits rank equal exactly when their second-edition files are the same bytes.": any two circuits with a package for each node and an end for
-  -- each start, and any two accepted files
+  -- and two circuits rank equal exactly when their second-edition files are the same bytes.": any two circuits with a
+  -- package for each node and an end for each start, and any two accepted files
   pub circuits : (a b : Whole) → Parallel a → Parallel b → (compareWhole a b ≡ Equal) ↔ (fileFor a ≡ fileFor b)
   pub files : (a b : List ℕ) → PatternFile a → PatternFile b → (compareFiles a b ≡ Equal) ↔ (a ≡ b)
   -- ---- the comparison of two files
@@ -61,13 +63,13 @@ pub record Ask10 : Type 0 where
   -- ---- the shelf
   -- "accepted ones": read as second-edition patterns without refusal
   pub accepts : (files : List (List ℕ)) (i : ℕ) → T (acceptedIn files i) ↔ Accepted Pattern (secondEdition (fileAt files i))
-  -- "the .. numbers of accepted ones in order ..; of equal circuits the lower number stands first.": the shelf is such a list, such a list has no number
-  -- twice, and there is no other such list
+  -- "the .. numbers of accepted ones in order ..; of equal circuits the lower number stands first.": the shelf is such
+  -- a list, such a list has no number twice, and there is no other such list
   pub ordered : (files : List (List ℕ)) → ShelfOrder files (shelfOf files)
   pub once : (files : List (List ℕ)) (x : ℕ) (xs : List ℕ) → Sorted (ranked files) (x ∷ xs) → In x xs → ⊥
   pub only : (files : List (List ℕ)) (numbers : List ℕ) → ShelfOrder files numbers → numbers ≡ shelfOf files
-  -- the call puts these numbers at the front of the table lent and leaves the rest (it is refused by 8 where the table is too short for them: specs/Demands
-  -- `shelves`)
+  -- the call puts these numbers at the front of the table lent and leaves the rest (it is refused by 8 where the table
+  -- is too short for them: specs/Demands `shelves`)
   pub put : (bytes lengths order : List ℕ) → shelving bytes lengths order .reply .verdict ≡ accept →
       let numbers = shelfOf (filesIn bytes lengths) in
       (shelving bytes lengths order .reply .values ≡ length numbers ∷ [])

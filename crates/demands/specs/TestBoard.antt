@@ -1,5 +1,6 @@
--- Ask 3, "A test load anyone can make again", quoted over what is proved of it: `Ask3`. proofs/TestBoard proves it. "Turned away: 10, one of the four numbers out
--- of its range, checked ahead of 8", and "An output under 4 + 2N + 4M bytes, M as given, is 8.": specs/Demands `loads`.
+-- Ask 3, "A test load anyone can make again", quoted over what is proved of it: `Ask3`. proofs/TestBoard proves it.
+-- "Turned away: 10, one of the four numbers out of its range, checked ahead of 8", and "An output under 4 + 2N + 4M
+-- bytes, M as given, is 8.": specs/Demands `loads`.
 use Rattle.base_lists.specs.Kit.{_≡_, _↔_, List, [], _∷_, ℕ, T, length, getD, take, drop}
 use Rattle.graph.specs.Circuit.{HasLink}
 use Rattle.file_format.specs.declared.Role.the-variants.{Board}
@@ -20,7 +21,8 @@ pub record TestBoardMade (seed n m k : ℕ) (out : List ℕ) (file : CircuitFile
   pub nodes : nodesOf file ≡ n
   -- "Draw N kinds below K,
   pub kinds : kindsOf file ≡ draws seed k n
-  -- then M times a start and an end below N. The file's links are the pairs drawn, each once, in the file's order." (an accepted file's links rise strictly)
+  -- then M times a start and an end below N. The file's links are the pairs drawn, each once, in the file's order." (an
+  -- accepted file's links rise strictly)
   pub links : (a b : ℕ) → HasLink (startsOf file) (endsOf file) a b ↔ PairDrawn seed n m a b
   -- "The reply is the file's length, and bytes past it stay."
   pub replied : makingTestBoard seed n m k out .reply .values ≡ length (file .bytes) ∷ []

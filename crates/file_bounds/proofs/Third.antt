@@ -1,6 +1,6 @@
 -- The conditions on a file of the third edition, one after another; and what they say of the file of the second edition before the bounds.
 -- Assumes nothing.
-use Rattle.base_lists.specs.Kit.{_≡_, _∙_, sym, ap, refl, subst, ap₂, Bool, false, true, cond, not, List, [], _∷_, _++_, ℕ, _≤_, _<_, _+_, _*_, T, eqb, ltb, length, take, drop, length-take-le, getD-take, arith, eq-eqb, ne-eqb, le-ltb, lt-ltb, eqb-true, ltb-false, eqb-false}
+use Rattle.base_lists.specs.Kit.{_≡_, _∙_, sym, ap, refl, subst, ap₂, Bool, false, true, cond, not, List, [], _∷_, _++_, ℕ, _≤_, _+_, _*_, T, eqb, ltb, length, take, drop, length-take-le, getD-take, arith, eq-eqb, ne-eqb, le-ltb, eqb-true, ltb-false, eqb-false}
 use Rattle.base_lists.proofs.Tests.{true-T, T-true, not-true-false}
 use Rattle.file_format.specs.declared.Edition.the-variants.{Second}
 use Rattle.graph.specs.Circuit.{Circuit}
@@ -18,25 +18,6 @@ use Rattle.file_format.proofs.Fields.{length-fields}
 use Rattle.file_bounds.specs.Third.{boundsAt, boundedLength, beforeBounds, boundsOf, boundsFit, boundOutside, thirdConditions, thirdSize, BoundsLoaded}
 
 module _ (bytes : List ℕ) where
-  -- ---- the size, as the code tests it
-
-  pub third-1 : length bytes < 4 → thirdSize bytes ≡ 1
-  unfolding thirdSize
-  third-1 a = simp (lt-ltb _ _ a)
-
-  module _ (n m : ℕ) (isN : n ≡ field bytes 0) (isM : m ≡ field bytes 2) (a : 4 ≤ length bytes) where
-    pub third-2 : inRange AnyPattern n m ≡ false → thirdSize bytes ≡ 2
-    unfolding thirdSize
-    third-2 b = simp (le-ltb _ _ a, rw (isN, isM) at b)
-
-    pub third-3 : inRange AnyPattern n m ≡ true → (length bytes ≡ boundedLength n m → ⊥) → thirdSize bytes ≡ 3
-    unfolding thirdSize
-    third-3 b e = simp (le-ltb _ _ a, rw (isN, isM) at b, ne-eqb _ _ (rw (isN, isM) at e))
-
-    pub third-0 : inRange AnyPattern n m ≡ true → length bytes ≡ boundedLength n m → thirdSize bytes ≡ 0
-    unfolding thirdSize
-    third-0 b e = simp (le-ltb _ _ a, rw (isN, isM) at b, eq-eqb _ _ (rw (isN, isM) at e))
-
   -- ---- the verdict
 
   abbrev rest : List Condition

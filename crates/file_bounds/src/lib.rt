@@ -1,6 +1,4 @@
 // Reading a pattern file of the third edition: a file of the second edition, and a bound for each link after it.
-use file_check::in_range;
-use file_check::refusal;
 use file_fields::field_at;
 use file_fields::store_at;
 use file_format::Edition;
@@ -8,6 +6,9 @@ use file_format::FileRead;
 use file_format::FileVerdict;
 use file_format::Role;
 use file_read::load;
+use file_role::counts_number;
+use file_role::length_of;
+use file_role::refusal;
 ghost use mathlib.Core.Path.{_≡_};
 ghost use Prim.Native.Nat.{_+_, _*_, _≤_};
 ghost use lib.ListN.{length, take, drop};
@@ -27,13 +28,8 @@ fn size_number(file: &[u8]) -> u8
     }
     let n = field_at(file, 0) as usize;
     let m = field_at(file, 1) as usize;
-    if !in_range(Role::AnyPattern, n, m) {
-        return 2;
-    }
-    if file.len() != 4 + 4 * n + 6 * m {
-        return 3;
-    }
-    0
+    let asked = length_of(Edition::Second, n, m) + 2 * m;
+    counts_number(Role::AnyPattern, n, m, file.len(), asked)
 }
 
 // Every bound is from 1 to 4.
@@ -76,8 +72,8 @@ fn refused_bounded(number: u8) -> FileRead
     }
 }
 
-// Reads a pattern file of the third edition, connected or not, into tables that have room for every one: the verdict; and of an accepted file
-// N and M, with the labels, the starts, the ends and the bounds at the front of the tables.
+// Reads a pattern file of the third edition, connected or not, into tables that have room for every one: the verdict;
+// and of an accepted file N and M, with the labels, the starts, the ends and the bounds at the front of the tables.
 pub fn load_bounded(
     file: &[u8],
     labels: &mut [u32],
@@ -87,7 +83,8 @@ pub fn load_bounded(
 ) -> FileRead
     requires { ⌜ TablesRoom role.AnyPattern (circuit (now labels) (now starts) (now ends)) ⌝ }
     requires { ⌜ 256 ≤ length (now bounds) ⌝ }
-    ensures { λ r. ⌜ BoundsLoaded (now (file .entry)) r (circuit (now (labels .exit)) (now (starts .exit)) (now (ends .exit))) (now (bounds .exit)) ⌝ }
+    ensures { λ r. ⌜ BoundsLoaded (now (file .entry)) r
+        (circuit (now (labels .exit)) (now (starts .exit)) (now (ends .exit))) (now (bounds .exit)) ⌝ }
 {
     let number = size_number(file);
     if number != 0 {

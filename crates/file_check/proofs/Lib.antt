@@ -1,1 +1,1 @@
-pub mod LinkTests
+pub mod Widths

@@ -43,6 +43,17 @@ pub fn store_at(file: &[u8], at: usize, k: usize, out: &mut [u16])
     store(stretch(file, at, k), k, out);
 }
 
+// The k fields that begin at an offset, and the j behind them, each stretch stored in its table.
+pub fn store_two(file: &[u8], at: usize, k: usize, first: &mut [u16], j: usize, second: &mut [u16])
+    requires { ⌜ (at + 2 * k + 2 * j ≤ length (now file)) × (k ≤ length (now first)) × (j ≤ length (now second)) ⌝ }
+    ensures { λ r. ⌜ now (first .exit) ≡ fields (drop at (now (file .entry))) k ++ drop k (now (first .entry)) ⌝ }
+    ensures { λ r. ⌜ now (second .exit)
+        ≡ fields (drop (at + 2 * k) (now (file .entry))) j ++ drop j (now (second .entry)) ⌝ }
+{
+    store_at(file, at, k, first);
+    store_at(file, at + 2 * k, j, second);
+}
+
 // The i-th of a stretch of p packages; 0 where there are not so many.
 fn package_at(part: &[u8], p: usize, i: usize) -> u32
     requires { ⌜ 2 * p ≤ length (now part) ⌝ }
@@ -54,10 +65,12 @@ fn package_at(part: &[u8], p: usize, i: usize) -> u32
     field_at(part, i) as u32
 }
 
-// The labels of k nodes, from the stretch of their kinds and one of p packages: each is the kind and 65,536 times the package.
+// The labels of k nodes, from the stretch of their kinds and one of p packages: each is the kind and 65,536 times the
+// package.
 pub fn store_labels(kinds: &[u8], k: usize, packages: &[u8], p: usize, out: &mut [u32])
     requires { ⌜ (2 * k ≤ length (now kinds)) × (2 * p ≤ length (now packages)) × (k ≤ length (now out)) ⌝ }
-    ensures { λ r. ⌜ now (out .exit) ≡ labels (fields (now (kinds .entry)) k) (fields (now (packages .entry)) p) ++ drop k (now (out .entry)) ⌝ }
+    ensures { λ r. ⌜ now (out .exit)
+        ≡ labels (fields (now (kinds .entry)) k) (fields (now (packages .entry)) p) ++ drop k (now (out .entry)) ⌝ }
 {
     for i in 0..k {
         let kind = field_at(kinds, i) as u32;

@@ -31,7 +31,8 @@ pub const TOO_SHORT: Refusal = Refusal {
     file: File::Neither,
 };
 
-// What a file is read or written as. A pattern is connected; the whole-board match tables take any pattern, connected or not.
+// What a file is read or written as. A pattern is connected; the whole-board match tables take any pattern, connected
+// or not.
 pub enum Role {
     Pattern,
     Board,

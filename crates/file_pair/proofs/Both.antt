@@ -1,4 +1,5 @@
--- What reading a pattern file and a board file comes to, by cases, and what a call on both knows of it. Assumes nothing.
+-- What reading a pattern file and a board file comes to, by cases, and what a call on both knows of it. Assumes
+-- nothing.
 use mathlib.Core.Path.{_≡_, sym, ap, _∙_}
 use Rattle.graph.specs.Circuit.{Circuit}
 use Rattle.graph.specs.Rising.{LinksRise}

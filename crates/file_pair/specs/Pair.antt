@@ -11,8 +11,8 @@ use Rattle.file_format.specs.Reading.{verdictOf, Stands}
 use Rattle.file_format.specs.Refusals.{Condition, accept, first, asksConnected, fileConditions}
 use Rattle.file_pair.specs.declared.Pair.{Pair}
 
--- "Rising numbers are the order, the pattern's 1 to 6 before the board's"; 11 comes "after it and before the board's 1". The first file is read in the role told: as a pattern, or as any
--- pattern, connected or not.
+-- "Rising numbers are the order, the pattern's 1 to 6 before the board's"; 11 comes "after it and before the board's
+-- 1". The first file is read in the role told: as a pattern, or as any pattern, connected or not.
 unfoldable pub pairConditions : Role → CircuitFile → CircuitFile → List Condition
 pairConditions r pattern board = fileConditions r pattern ++ fileConditions role.Board board
 

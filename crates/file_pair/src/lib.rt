@@ -10,8 +10,8 @@ ghost use Rattle.file_format.specs.Reading.{TablesRoom};
 ghost use Rattle.file_format.specs.declared.Role.the-variants as roles;
 ghost use Rattle.file_pair.specs.Pair.{PairRead};
 
-// What reading the two comes to: both are accepted, or why one was turned away; and where both are accepted the pattern's N and M and, if it
-// has to be connected, its radius, and the board's N and M.
+// What reading the two comes to: both are accepted, or why one was turned away; and where both are accepted the
+// pattern's N and M and, if it has to be connected, its radius, and the board's N and M.
 pub struct Pair {
     pub verdict: FileVerdict,
     pub parts: usize,
@@ -35,7 +35,8 @@ fn refused_pair(verdict: FileVerdict) -> Pair
     }
 }
 
-// Reads the pattern, in the role told, then the board, each in its edition: their sizes, with the two circuits at the front of the tables, three for each; or the first refusal.
+// Reads the pattern, in the role told, then the board, each in its edition: their sizes, with the two circuits at the
+// front of the tables, three for each; or the first refusal.
 pub fn read_pair(
     role: Role,
     editions: Editions,
@@ -48,9 +49,12 @@ pub fn read_pair(
     ns: &mut [u16],
     ne: &mut [u16],
 ) -> Pair
-    requires { ⌜ TablesRoom role (circuit (now pk) (now ps) (now pe)) × TablesRoom roles.Board (circuit (now nk) (now ns) (now ne)) ⌝ }
-    ensures { λ r. ⌜ PairRead role (inEdition (editions .pattern) (now (pattern .entry))) (inEdition (editions .board) (now (board .entry))) r
-        (circuit (now (pk .exit)) (now (ps .exit)) (now (pe .exit))) (circuit (now (nk .exit)) (now (ns .exit)) (now (ne .exit))) ⌝ }
+    requires { ⌜ TablesRoom role (circuit (now pk) (now ps) (now pe)) ×
+        TablesRoom roles.Board (circuit (now nk) (now ns) (now ne)) ⌝ }
+    ensures { λ r. ⌜ PairRead role (inEdition (editions .pattern) (now (pattern .entry)))
+        (inEdition (editions .board) (now (board .entry))) r
+        (circuit (now (pk .exit)) (now (ps .exit)) (now (pe .exit)))
+        (circuit (now (nk .exit)) (now (ns .exit)) (now (ne .exit))) ⌝ }
 {
     let edition = editions.pattern;
     let drawn = load(role, edition, pattern, pk, ps, pe);

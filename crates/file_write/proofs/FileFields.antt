@@ -7,7 +7,7 @@ use Rattle.file_format.specs.declared.Edition.{Edition}
 use Rattle.file_format.specs.Layout.{CircuitFile, inEdition, field, fields, nodesOf, linksOf, kindsOf, packagesOf, startsOf, endsOf, lengthOf, packagesAt, packageCount, startsAt, endsAt}
 use Rattle.file_format.proofs.Fields.{length-kinds, length-packages, length-starts, package-count-le}
 use Rattle.file_write.specs.Bytes.{bytesOf, stretchBytes, fileBytes}
-use Rattle.file_write.proofs.Stores.{length-bytes, bytes-append}
+use Rattle.file_bytes.proofs.Stores.{length-bytes, bytes-append}
 
 -- ---- a stretch, field by field
 

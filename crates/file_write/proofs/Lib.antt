@@ -1,4 +1,3 @@
-pub mod Stores
 pub mod FileFields
 pub mod Writing
 pub mod RoundTrip

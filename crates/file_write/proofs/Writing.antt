@@ -1,5 +1,5 @@
 -- What the writing call comes to, by cases of the verdict. Assumes nothing.
-use Rattle.base_lists.specs.Kit.{_≡_, refl, false, true, _&&_, List, ℕ, _≤_, _<_, T, eqb, eqb→eq, length, eq-eqb, ne-eqb, le-ltb, lt-ltb, ltb-false}
+use Rattle.base_lists.specs.Kit.{_≡_, refl, Bool, false, true, cond, _&&_, not, List, ℕ, _≤_, _<_, T, eqb, eqb→eq, length, eq-eqb, le-ltb, lt-ltb, ltb-false}
 use Rattle.base_lists.proofs.Tests.{not-true-false, both-left, both-right}
 use Rattle.file_format.specs.declared.File.the-variants.{Neither}
 use Rattle.file_format.specs.declared.Refusal.{Refusal}
@@ -7,50 +7,35 @@ use Rattle.file_format.specs.declared.Edition.{Edition}
 use Rattle.file_format.specs.declared.Role.{Role}
 use Rattle.file_format.specs.Layout.{packageCount, lengthOf}
 use Rattle.file_format.specs.Reading.{filled}
-use Rattle.file_format.specs.Refusals.{Verdict, accept, refuse, first, linkConditions, shortTable}
+use Rattle.file_format.specs.Refusals.{Verdict, accept, refuse, first, linkConditions, linkNumber, shortTable}
 use Rattle.file_format.specs.Reply.{reply}
-use Rattle.file_format.specs.Role.{inRange, fileOf}
-use Rattle.file_format.proofs.Refusals.{turned, first-accept, first-refuse, first-parts, first-holds}
+use Rattle.file_format.specs.Role.{inRange}
+use Rattle.file_format.proofs.Refusals.{turned, byNumber, verdict-number, first-accept, first-refuse, first-parts, first-holds}
+use Rattle.file_check.specs.Circuit.{circuitNumber}
 use Rattle.file_write.specs.declared.WriteAnswer.the-variants.{Written, Refused}
 use Rattle.file_write.specs.Bytes.{fileBytes}
 use Rattle.file_write.specs.Writing.{packagesGiven, circuitConditions, writeConditions, writeAnswer, writing, writeReply}
 
 -- ---- the answer and its verdict
 
-pub answer-turned : (r : Role) (k size : ℕ) (v : Verdict) → v ≡ turned r k → writeAnswer v size ≡ Refused (record { number = k; file = fileOf r })
-unfolding writeAnswer turned
-answer-turned r k size v e = rw e
-
-pub answer-accept : (size : ℕ) (v : Verdict) → v ≡ accept → writeAnswer v size ≡ Written size
-unfolding writeAnswer
-answer-accept size v e = rw e
-
-pub answer-refused : (size : ℕ) (v : Verdict) (x : Refusal) → writeAnswer v size ≡ Refused x → v ≡ refuse x
-unfolding writeAnswer
-answer-refused size accept x e = cc
-answer-refused size (refuse y) x e = cc
-
 pub answer-written : (size : ℕ) (v : Verdict) (k : ℕ) → writeAnswer v size ≡ Written k → (v ≡ accept) × (k ≡ size)
 unfolding writeAnswer
 answer-written size accept k e = (refl, cc)
 answer-written size (refuse y) k e = (cc, cc)
 
--- ---- the conditions on a circuit, one after another: the range, as many starts as ends, the links
+-- ---- the conditions on a circuit: the range, as many starts as ends, the links
 
 module _ (r : Role) (e : Edition) (kinds packages starts ends : List ℕ) where
-  pub verdict-2 : inRange r (length kinds) (length starts) ≡ false → first (circuitConditions r e kinds packages starts ends) ≡ turned r 2
-  unfolding first circuitConditions turned
-  verdict-2 b = simp b
-
-  pub verdict-3 : inRange r (length kinds) (length starts) ≡ true → (length starts ≡ length ends → ⊥)
-      → first (circuitConditions r e kinds packages starts ends) ≡ turned r 3
-  unfolding first circuitConditions turned
-  verdict-3 b d = simp (b, ne-eqb _ _ d)
-
-  pub verdict-3-packages : inRange r (length kinds) (length starts) ≡ true → length starts ≡ length ends
-      → (packageCount e (length packages) ≡ packageCount e (length kinds) → ⊥) → first (circuitConditions r e kinds packages starts ends) ≡ turned r 3
-  unfolding first circuitConditions packagesGiven turned
-  verdict-3-packages b d f = simp (b, eq-eqb _ _ d, ne-eqb _ _ f)
+  -- the first of the conditions is the one that the circuit's number says
+  pub circuit-verdict : first (circuitConditions r e kinds packages starts ends) ≡ byNumber r (circuitNumber r e (length kinds) (length packages) starts ends)
+  unfolding first circuitConditions packagesGiven circuitNumber byNumber turned
+  circuit-verdict = go (inRange r (length kinds) (length starts)) (eqb (length starts) (length ends) && packagesGiven e kinds packages)
+    where
+      go : (x y : Bool) → cond (not x) (turned r 2) (cond (not y) (turned r 3) (first (linkConditions r (length kinds) starts ends)))
+          ≡ byNumber r (cond x (cond y (linkNumber r (length kinds) starts ends) 3) 2)
+      go true true = verdict-number r (length kinds) starts ends
+      go true false = refl
+      go false y = refl
 
   pub verdict-links : inRange r (length kinds) (length starts) ≡ true → length starts ≡ length ends → packageCount e (length packages) ≡ packageCount e (length kinds)
       → first (circuitConditions r e kinds packages starts ends) ≡ first (linkConditions r (length kinds) starts ends)

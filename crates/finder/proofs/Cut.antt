@@ -8,7 +8,7 @@ use Rattle.file_format.specs.Refusals.{Condition, Verdict, accept, refuse, firs
 use Rattle.file_format.proofs.Refusals.{first-accept, first-refuse}
 use Rattle.file_format.proofs.Cut.{cut-verdict, accepted-whole}
 use Rattle.report.specs.Report.{reportFor, reportOf}
-use Rattle.finder.specs.Cut.{cut}
+use Rattle.finder_read.specs.Cut.{cut}
 
 -- The report of what is read of two files is theirs.
 pub cut-report : (pattern board : List ℕ) → reportOf (firstEdition (cut Pattern pattern)) (firstEdition (cut Board board)) ≡ reportOf (firstEdition pattern) (firstEdition board)

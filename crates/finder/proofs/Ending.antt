@@ -1,8 +1,9 @@
 -- How a run ends. Assumes nothing.
 use Rattle.base_lists.specs.Kit.{_≡_, Bool, false, true, List, ℕ, take}
 use Rattle.file_format.specs.Layout.{firstEdition}
-use Rattle.finder.specs.declared.Files.{Files}
-use Rattle.finder.specs.Printing.{ReportHanded, reportEnd, ReportRan}
+use Rattle.finder_read.specs.declared.Files.{Files}
+use Rattle.finder_print.specs.Handed.{ReportHanded}
+use Rattle.finder.specs.Run.{reportEnd, ReportRan}
 
 -- one in which both files could be read, and so many items were handed over
 pub ran-begun : (pattern board : List ℕ) (k : ℕ) (files : Files) (whole : Bool) → files .pattern .there ≡ true → files .board .there ≡ true

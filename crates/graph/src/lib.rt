@@ -1,9 +1,9 @@
-// Directed graphs: what walks, distances, balls and the radius are, and what neighbour tables and the search over them come to. The code here
-// reads and copies the entries that a search leaves.
+// Directed graphs: what walks, distances, balls and the radius are, and what neighbour tables and the search over them
+// come to. The code here reads, copies and fills the entries that a search leaves.
 ghost use mathlib.Core.List.{_++_};
 ghost use mathlib.Core.Path.{_≡_};
 ghost use Prim.Native.Nat.{_≤_};
-ghost use lib.ListN.{length, drop};
+ghost use lib.ListN.{length, drop, replicate};
 ghost use Rattle.graph.specs.Search.{reached};
 
 pub mod marked;
@@ -26,6 +26,17 @@ pub fn copy(part: &[u16], out: &mut [u16])
     let mut i = 0;
     while i < part.len() {
         out[i] = part[i];
+        i += 1;
+    }
+}
+
+// Sets every entry to x.
+pub fn fill(s: &mut [u16], x: u16)
+    ensures { λ _. ⌜ now (s .exit) ≡ replicate (length (now (s .entry))) x ⌝ }
+{
+    let mut i = 0;
+    while i < s.len() {
+        s[i] = x;
         i += 1;
     }
 }

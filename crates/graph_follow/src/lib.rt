@@ -1,4 +1,5 @@
-// Following links to nodes by their sets, a number of at most 32 bits each. Nodes that are reached are marked and listed once, as in a search.
+// Following links to nodes by their sets, a number of at most 32 bits each. Nodes that are reached are marked and
+// listed once, as in a search.
 use graph_neighbours::neighbours::Direction;
 use graph_neighbours::neighbours::neighbours_in;
 use graph_search::visit;
@@ -28,7 +29,8 @@ fn look(
     requires { ⌜ v < length (now dist) ⌝ }
     requires { ⌜ length (now sets) ≡ length (now dist) ⌝ }
     requires { ⌜ d < far ⌝ }
-    ensures { λ r. ⌜ Searched (now (dist .exit)) (now (queue .exit)) r (look d set (now (sets .entry)) (stateOf (now (dist .entry)) (now (queue .entry)) tail) v) ⌝ }
+    ensures { λ r. ⌜ Searched (now (dist .exit)) (now (queue .exit)) r
+        (look d set (now (sets .entry)) (stateOf (now (dist .entry)) (now (queue .entry)) tail) v) ⌝ }
 {
     let i = v as usize;
     if base_bits::meets(set, sets[i]) {
@@ -51,7 +53,9 @@ pub fn follow(
     requires { ⌜ Below (length (now dist)) (now part) ⌝ }
     requires { ⌜ length (now sets) ≡ length (now dist) ⌝ }
     requires { ⌜ d < far ⌝ }
-    ensures { λ r. ⌜ Searched (now (dist .exit)) (now (queue .exit)) r (scan d (stateOf (now (dist .entry)) (now (queue .entry)) from) (meeting set (now (sets .entry)) (now (part .entry)))) ⌝ }
+    ensures { λ r. ⌜ Searched (now (dist .exit)) (now (queue .exit)) r
+        (scan d (stateOf (now (dist .entry)) (now (queue .entry)) from)
+        (meeting set (now (sets .entry)) (now (part .entry)))) ⌝ }
 {
     let mut tail = from;
     let mut i = 0;
@@ -76,7 +80,9 @@ fn wake_beside(
     requires { ⌜ Net (length (now sets)) (now offsets) (now targets) ⌝ }
     requires { ⌜ length (now sets) ≡ length (now marks) ⌝ }
     requires { ⌜ v < length (now sets) ⌝ }
-    ensures { λ r. ⌜ Searched (now (marks .exit)) (now (todo .exit)) r (scan 0 (stateOf (now (marks .entry)) (now (todo .entry)) from) (nodesBeside (now (offsets .entry)) (now (targets .entry)) (now (sets .entry)) v)) ⌝ }
+    ensures { λ r. ⌜ Searched (now (marks .exit)) (now (todo .exit)) r
+        (scan 0 (stateOf (now (marks .entry)) (now (todo .entry)) from)
+        (nodesBeside (now (offsets .entry)) (now (targets .entry)) (now (sets .entry)) v)) ⌝ }
 {
     let tail = follow(
         neighbours_in(Direction::Forward, offsets, targets, v),
@@ -111,7 +117,9 @@ pub fn list_beside(
     requires { ⌜ Net (length (now sets)) (now offsets) (now targets) ⌝ }
     requires { ⌜ length (now sets) ≡ length (now marks) ⌝ }
     requires { ⌜ Below (length (now sets)) (now changed) ⌝ }
-    ensures { λ r. ⌜ Searched (now (marks .exit)) (now (todo .exit)) r (level (nodesBeside (now (offsets .entry)) (now (targets .entry)) (now (sets .entry))) 0 (stateOf (now (marks .entry)) (now (todo .entry)) 0) (now (changed .entry))) ⌝ }
+    ensures { λ r. ⌜ Searched (now (marks .exit)) (now (todo .exit)) r
+        (level (nodesBeside (now (offsets .entry)) (now (targets .entry)) (now (sets .entry))) 0
+        (stateOf (now (marks .entry)) (now (todo .entry)) 0) (now (changed .entry))) ⌝ }
 {
     let mut tail = 0;
     let mut i = 0;

@@ -16,8 +16,8 @@ pub enum Direction {
     Backward,
 }
 
-// The stretch of one link table that belongs to node v: from offset v up to offset v + 1. It is empty where v has no two offsets, or
-// where they fall back or pass the table's end, so every input has an answer.
+// The stretch of one link table that belongs to node v: from offset v up to offset v + 1. It is empty where v has no
+// two offsets, or where they fall back or pass the table's end, so every input has an answer.
 pub fn stretch<'a>(offsets: &[u16], table: &'a [u16], v: usize) -> &'a [u16]
     ensures { λ r. ⌜ now r ≡ stretch (now (offsets .entry)) (now (table .entry)) v ⌝ }
 {
@@ -48,7 +48,8 @@ pub fn neighbours<'a>(
     backward: &'a [u16],
     v: usize,
 ) -> &'a [u16]
-    ensures { λ r. ⌜ now r ≡ neighboursOf direction (now («forward_offsets» .entry)) (now (forward .entry)) (now («backward_offsets» .entry)) (now (backward .entry)) v ⌝ }
+    ensures { λ r. ⌜ now r ≡ neighboursOf direction (now («forward_offsets» .entry)) (now (forward .entry))
+        (now («backward_offsets» .entry)) (now (backward .entry)) v ⌝ }
 {
     match direction {
         Direction::Forward => stretch(forward_offsets, forward, v),
@@ -58,7 +59,8 @@ pub fn neighbours<'a>(
 
 // The stretch of one link table that belongs to node v, where its two offsets are known to be sound.
 fn sound_stretch<'a>(offsets: &[u16], table: &'a [u16], v: usize) -> &'a [u16]
-    requires { ⌜ (suc v < length (now offsets)) × (getD (now offsets) v 0 ≤ getD (now offsets) (suc v) 0) × (getD (now offsets) (suc v) 0 ≤ length (now table)) ⌝ }
+    requires { ⌜ (suc v < length (now offsets)) × (getD (now offsets) v 0 ≤ getD (now offsets) (suc v) 0)
+        × (getD (now offsets) (suc v) 0 ≤ length (now table)) ⌝ }
     ensures { λ r. ⌜ now r ≡ stretch (now (offsets .entry)) (now (table .entry)) v ⌝ }
 {
     let end = v + 1;
@@ -67,7 +69,8 @@ fn sound_stretch<'a>(offsets: &[u16], table: &'a [u16], v: usize) -> &'a [u16]
     &table[from..to]
 }
 
-// The neighbours of node v in the direction asked for, from tables that are handed on as two lists. No test is made: v is a node.
+// The neighbours of node v in the direction asked for, from tables that are handed on as two lists. No test is made: v
+// is a node.
 pub fn neighbours_in<'a>(
     direction: Direction,
     offsets: &[u16],

@@ -1,5 +1,5 @@
-// The neighbour tables of a circuit, as they are handed on: one list has the offsets of the forward table and then those of the backward
-// one, another the two link tables.
+// The neighbour tables of a circuit, as they are handed on: one list has the offsets of the forward table and then
+// those of the backward one, another the two link tables.
 ghost use mathlib.Core.Path.{_≡_};
 ghost use Prim.Native.Nat.{_≤_};
 ghost use lib.Dec.{T, ltb};
@@ -9,7 +9,8 @@ ghost use Rattle.graph.specs.Net.{NetRoom, NetOf};
 ghost use Rattle.graph_neighbours.specs.Grouped.{Grouped};
 use crate::group::group;
 
-// The entries of the two lists, and how many of them are the forward table's: room for 512 nodes and for 4,096 links each way.
+// The entries of the two lists, and how many of them are the forward table's: room for 512 nodes and for 4,096 links
+// each way.
 pub const OFFSETS: usize = 1026;
 
 pub const TARGETS: usize = 8192;
@@ -18,7 +19,8 @@ pub const FORWARD_OFFSETS: usize = 513;
 
 pub const FORWARD_TARGETS: usize = 4096;
 
-// Fills one half of each list by grouping `forward` by the links' starts, and the other by grouping `backward` by their ends.
+// Fills one half of each list by grouping `forward` by the links' starts, and the other by grouping `backward` by their
+// ends.
 pub fn group_both(
     n: usize,
     starts: &[u16],
@@ -33,7 +35,8 @@ pub fn group_both(
     requires { ⌜ (length (now starts) ≤ 4096) × (length (now ends) ≤ 4096) ⌝ }
     requires { ⌜ (length (now starts) ≡ length (now forward)) × (length (now ends) ≡ length (now backward)) ⌝ }
     requires { ⌜ T (all (λ v. ltb v n) (now starts)) × T (all (λ v. ltb v n) (now ends)) ⌝ }
-    ensures { λ _. ⌜ Grouped n (now (starts .entry)) (now (ends .entry)) (now (forward .entry)) (now (backward .entry)) (now (offsets .entry)) (now (targets .entry)) (now (offsets .exit)) (now (targets .exit)) ⌝ }
+    ensures { λ _. ⌜ Grouped n (now (starts .entry)) (now (ends .entry)) (now (forward .entry)) (now (backward .entry))
+        (now (offsets .entry)) (now (targets .entry)) (now (offsets .exit)) (now (targets .exit)) ⌝ }
 {
     group(
         n,

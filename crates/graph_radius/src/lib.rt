@@ -1,4 +1,5 @@
-// A circuit's radius, by sets of nodes as 32-bit numbers: the balls around all its nodes grow by one link a round, until each has every node.
+// A circuit's radius, by sets of nodes as 32-bit numbers: the balls around all its nodes grow by one link a round,
+// until each has every node.
 ghost use mathlib.Core.Path.{_≡_};
 ghost use Prim.Native.Nat.{_^_, _≤_, _<_};
 ghost use lib.Dec.{T, ltb};
@@ -41,8 +42,10 @@ fn join(sets: &mut [u32], u: u16, v: u16)
 // The balls at radius 1, one for each entry of the table: the node, and what a link joins it to.
 fn neighbourhoods(starts: &[u16], ends: &[u16], near: &mut [u32])
     requires { ⌜ (length (now starts) ≡ length (now ends)) × (length (now near) ≤ 32) ⌝ }
-    requires { ⌜ T (all (λ v. ltb v (length (now near))) (now starts)) × T (all (λ v. ltb v (length (now near))) (now ends)) ⌝ }
-    ensures { λ _. ⌜ now (near .exit) ≡ balls (length (now (near .entry))) (now (starts .entry)) (now (ends .entry)) 1 ⌝ }
+    requires { ⌜ T (all (λ v. ltb v (length (now near))) (now starts))
+        × T (all (λ v. ltb v (length (now near))) (now ends)) ⌝ }
+    ensures { λ _. ⌜ now (near .exit)
+        ≡ balls (length (now (near .entry))) (now (starts .entry)) (now (ends .entry)) 1 ⌝ }
 {
     singles(near);
     let mut i = 0;
@@ -80,8 +83,8 @@ fn all_full(sets: &[u32], full: u32) -> bool
     true
 }
 
-// The first radius at which every ball has every node, from the balls at radius 1 and those at radius 0; 65535 where none has up to
-// radius n. The two tables take turns.
+// The first radius at which every ball has every node, from the balls at radius 1 and those at radius 0; 65535 where
+// none has up to radius n. The two tables take turns.
 fn first_spanning(near: &[u32], old: &mut [u32], new: &mut [u32]) -> u16
     requires { ⌜ (length (now near) ≤ 32) × Below (2 ^ length (now near)) (now near) ⌝ }
     requires { ⌜ (length (now old) ≡ length (now near)) × (length (now new) ≡ length (now near)) ⌝ }
@@ -107,7 +110,8 @@ fn first_spanning(near: &[u32], old: &mut [u32], new: &mut [u32]) -> u16
 // The radius of a circuit with a node for each entry of the tables, which are scratch.
 fn measure(starts: &[u16], ends: &[u16], near: &mut [u32], old: &mut [u32], new: &mut [u32]) -> u16
     requires { ⌜ (length (now starts) ≡ length (now ends)) × (length (now near) ≤ 32) ⌝ }
-    requires { ⌜ T (all (λ v. ltb v (length (now near))) (now starts)) × T (all (λ v. ltb v (length (now near))) (now ends)) ⌝ }
+    requires { ⌜ T (all (λ v. ltb v (length (now near))) (now starts))
+        × T (all (λ v. ltb v (length (now near))) (now ends)) ⌝ }
     requires { ⌜ (length (now old) ≡ length (now near)) × (length (now new) ≡ length (now near)) ⌝ }
     ensures { λ r. ⌜ r ≡ radius (length (now (near .entry))) (now (starts .entry)) (now (ends .entry)) ⌝ }
 {
@@ -116,7 +120,8 @@ fn measure(starts: &[u16], ends: &[u16], near: &mut [u32], old: &mut [u32], new:
     first_spanning(near, old, new)
 }
 
-// The radius of a circuit of at most 32 nodes: the largest distance between two of them, 65535 where two are not joined.
+// The radius of a circuit of at most 32 nodes: the largest distance between two of them, 65535 where two are not
+// joined.
 pub fn radius(n: usize, starts: &[u16], ends: &[u16]) -> u16
     requires { ⌜ (length (now starts) ≡ length (now ends)) × (n ≤ 32) ⌝ }
     requires { ⌜ T (all (λ v. ltb v n) (now starts)) × T (all (λ v. ltb v n) (now ends)) ⌝ }

@@ -1,6 +1,6 @@
 -- A search that goes on from where it stands: what is left of it is the same after each look and after each level, so that from the centre it finds what `bfs` finds,
 -- or the first of that. Assumes nothing.
-use Rattle.base_lists.specs.Kit.{_≡_, _∙_, sym, ap, refl, subst, ⊎-elim, _⊎_, inl, inr, Bool, false, true, _||_, List, _++_, ℕ, _≤_, _<_, _+_, _-_, le-refl, le-trans, lt-of-not-le, not-suc-le-zero, sub-zero, eqb, length, getD, take, drop, take-append-drop, min-le-right, length-take, length-take-le, take-take, getD-take, take-length, arith, eqb-true, eqb-false}
+use Rattle.base_lists.specs.Kit.{_≡_, _∙_, sym, ap, refl, subst, ⊎-elim, _⊎_, inl, inr, Bool, false, true, _||_, List, _++_, ℕ, _≤_, _<_, _+_, _-_, le-refl, le-trans, not-suc-le-zero, sub-zero, eqb, length, getD, take, drop, take-append-drop, min-le-right, length-take, length-take-le, take-take, getD-take, take-length, arith, eqb-true, eqb-false}
 use Rattle.base_lists.specs.List.{Occurs, Below}
 use Rattle.base_lists.proofs.Tests.{false-T}
 use Rattle.graph.specs.Bfs.{SearchState, scan, level, levels, start, bfs, Adjacency}
@@ -170,10 +170,10 @@ module _ (n c : ℕ) {adj : ℕ → List ℕ} {r size : ℕ} {g : Frontier} {s t
   pub advanced-all : g .tail < size → t ≡ bfs adj n c r
   advanced-all h = a .all h ∙ from-centre r
 
-  -- and where it stops it has reached the first of the nodes up to some distance
-  pub advanced-until : Until adj n c r (size ≤ g .tail) t
+  -- and where it stops it has reached the first of the nodes up to some distance: all of them, unless there is enough
+  pub advanced-until : {Enough : Type 0} → ((Enough → ⊥) → t ≡ bfs adj n c r) → Until adj n c r Enough t
   unfolding onward
-  advanced-until =
+  advanced-until whole =
       let end = level adj (g .depth) t (drop (g .looked) (take (g .level) (t .reached))) in
       let m = length (t .reached) in
       let same : take m (end .reached) ≡ t .reached = extends-take m t end (extends-level adj (g .depth) t _) (le-refl m) ∙ take-length (t .reached) in
@@ -185,7 +185,7 @@ module _ (n c : ℕ) {adj : ℕ → List ℕ} {r size : ℕ} {g : Frontier} {s t
             ap (λ (ns : List ℕ). ns ++ drop m (end .reached)) (sym same) ∙ take-append-drop m (end .reached)
             ∙ ap (λ (u : SearchState). u .reached)
             (sym (levels-none adj (g .depth - g .depth) (g .depth) (g .level) end (omega arith)) ∙ a .same (g .depth) (le-refl _) ∙ from-centre (g .depth));
-        all = λ few. advanced-all (lt-of-not-le few);
+        all = whole;
       }
 
 -- ---- as far as walks lead

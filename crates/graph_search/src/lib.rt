@@ -1,26 +1,29 @@
-// Breadth-first search over neighbour tables, level by level, directions ignored. Any tables will do in which each node's stretches have
-// nodes only. The tables of distances have an entry for each node and no more, and so has the queue, which is scratch: the nodes reached
-// so far, in order, `tail` of them.
+// Breadth-first search over neighbour tables, level by level, directions ignored. Any tables will do in which each
+// node's stretches have nodes only. The tables of distances have an entry for each node and no more, and so has the
+// queue, which is scratch: the nodes reached so far, in order, `tail` of them.
 use graph::UNREACHED;
+use graph::fill;
 use graph_neighbours::neighbours::Direction;
 use graph_neighbours::neighbours::neighbours_in;
 ghost use mathlib.Core.Bool.{_||_};
 ghost use mathlib.Core.Path.{_≡_};
 ghost use Prim.Native.Nat.{_<_};
 ghost use lib.Dec.{eqb};
-ghost use lib.ListN.{length, replicate};
+ghost use lib.ListN.{length};
 ghost use Rattle.base_lists.specs.List.{Below};
 ghost use Rattle.graph.specs.Bfs.{visit, scan, start, bfs, adjacent, stateOf, Searching, Searched, Found};
 ghost use Rattle.graph.specs.Net.{Net};
 ghost use Rattle.graph.specs.Search.{far};
 ghost use Rattle.graph_search.specs.Until.{Standing, Advanced};
 
-// Looks at node v from a node at distance d - 1: where v is not reached yet, it is now, at distance d, and joins the queue.
+// Looks at node v from a node at distance d - 1: where v is not reached yet, it is now, at distance d, and joins the
+// queue.
 pub fn visit(v: u16, d: u16, dist: &mut [u16], queue: &mut [u16], tail: usize) -> usize
     requires { ⌜ Searching (now dist) (now queue) tail ⌝ }
     requires { ⌜ v < length (now dist) ⌝ }
     requires { ⌜ d < far ⌝ }
-    ensures { λ r. ⌜ Searched (now (dist .exit)) (now (queue .exit)) r (visit d (stateOf (now (dist .entry)) (now (queue .entry)) tail) v) ⌝ }
+    ensures { λ r. ⌜ Searched (now (dist .exit)) (now (queue .exit)) r
+        (visit d (stateOf (now (dist .entry)) (now (queue .entry)) tail) v) ⌝ }
 {
     let i = v as usize;
     if dist[i] == UNREACHED {
@@ -37,7 +40,8 @@ fn scan(part: &[u16], d: u16, dist: &mut [u16], queue: &mut [u16], from: usize) 
     requires { ⌜ Searching (now dist) (now queue) from ⌝ }
     requires { ⌜ Below (length (now dist)) (now part) ⌝ }
     requires { ⌜ d < far ⌝ }
-    ensures { λ r. ⌜ Searched (now (dist .exit)) (now (queue .exit)) r (scan d (stateOf (now (dist .entry)) (now (queue .entry)) from) (now (part .entry))) ⌝ }
+    ensures { λ r. ⌜ Searched (now (dist .exit)) (now (queue .exit)) r
+        (scan d (stateOf (now (dist .entry)) (now (queue .entry)) from) (now (part .entry))) ⌝ }
 {
     let mut tail = from;
     let mut i = 0;
@@ -62,7 +66,9 @@ pub fn expand(
     requires { ⌜ Searching (now dist) (now queue) from ⌝ }
     requires { ⌜ v < length (now dist) ⌝ }
     requires { ⌜ d < far ⌝ }
-    ensures { λ r. ⌜ Searched (now (dist .exit)) (now (queue .exit)) r (scan d (stateOf (now (dist .entry)) (now (queue .entry)) from) (adjacent (now (offsets .entry)) (now (targets .entry)) v)) ⌝ }
+    ensures { λ r. ⌜ Searched (now (dist .exit)) (now (queue .exit)) r
+        (scan d (stateOf (now (dist .entry)) (now (queue .entry)) from)
+        (adjacent (now (offsets .entry)) (now (targets .entry)) v)) ⌝ }
 {
     let driven = neighbours_in(Direction::Forward, offsets, targets, v);
     let tail = scan(driven, d, dist, queue, from);
@@ -70,8 +76,9 @@ pub fn expand(
     scan(driving, d, dist, queue, tail)
 }
 
-// Where a search stands: of the `tail` nodes that it has reached the first `level` are at a distance less than `depth`, and the neighbours of the first
-// `looked` of those have been looked at. The neighbours of the others are the nodes at distance `depth`.
+// Where a search stands: of the `tail` nodes that it has reached the first `level` are at a distance less than `depth`,
+// and the neighbours of the first `looked` of those have been looked at. The neighbours of the others are the nodes at
+// distance `depth`.
 pub struct Frontier {
     pub looked: usize,
     pub level: usize,
@@ -114,7 +121,9 @@ pub fn advance(
     requires { ⌜ Searching (now dist) (now queue) (from .tail) ⌝ }
     requires { ⌜ Standing r from ⌝ }
     ensures { λ f. ⌜ Searching (now (dist .exit)) (now (queue .exit)) (f .tail) ⌝ }
-    ensures { λ f. ⌜ Advanced (adjacent (now (offsets .entry)) (now (targets .entry))) r size from (stateOf (now (dist .entry)) (now (queue .entry)) (from .tail)) f (stateOf (now (dist .exit)) (now (queue .exit)) (f .tail)) ⌝ }
+    ensures { λ f. ⌜ Advanced (adjacent (now (offsets .entry)) (now (targets .entry))) r size from
+        (stateOf (now (dist .entry)) (now (queue .entry)) (from .tail)) f
+        (stateOf (now (dist .exit)) (now (queue .exit)) (f .tail)) ⌝ }
 {
     let mut looked = from.looked;
     let mut level = from.level;
@@ -146,17 +155,6 @@ pub fn advance(
     }
 }
 
-// Sets every entry to x.
-pub fn fill(s: &mut [u16], x: u16)
-    ensures { λ _. ⌜ now (s .exit) ≡ replicate (length (now (s .entry))) x ⌝ }
-{
-    let mut i = 0;
-    while i < s.len() {
-        s[i] = x;
-        i += 1;
-    }
-}
-
 // Sets the tables up for a search from the centre c, which alone is reached, and alone in the queue.
 pub fn begin(c: u16, dist: &mut [u16], queue: &mut [u16])
     requires { ⌜ c < length (now dist) ⌝ }
@@ -169,8 +167,8 @@ pub fn begin(c: u16, dist: &mut [u16], queue: &mut [u16])
     queue[0] = c;
 }
 
-// The distances of the nodes from the centre c, up to r: `dist[v]` is the distance of node v, and `UNREACHED` where it is more than r.
-// Returns how many nodes it reached; they stand first in the queue, nearest first.
+// The distances of the nodes from the centre c, up to r: `dist[v]` is the distance of node v, and `UNREACHED` where it
+// is more than r. Returns how many nodes it reached; they stand first in the queue, nearest first.
 pub fn search(
     offsets: &[u16],
     targets: &[u16],
@@ -182,7 +180,8 @@ pub fn search(
     requires { ⌜ Net (length (now dist)) (now offsets) (now targets) ⌝ }
     requires { ⌜ c < length (now dist) ⌝ }
     requires { ⌜ length (now dist) ≡ length (now queue) ⌝ }
-    ensures { λ k. ⌜ Found k (now (dist .exit)) (now (queue .exit)) (bfs (adjacent (now (offsets .entry)) (now (targets .entry))) (length (now (dist .entry))) c r) ⌝ }
+    ensures { λ k. ⌜ Found k (now (dist .exit)) (now (queue .exit))
+        (bfs (adjacent (now (offsets .entry)) (now (targets .entry))) (length (now (dist .entry))) c r) ⌝ }
 {
     begin(c, dist, queue);
     let end = advance(offsets, targets, CENTRE, r, ALL, dist, queue);

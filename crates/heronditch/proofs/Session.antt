@@ -86,8 +86,9 @@ host-cuts (link ∷ links) (r ∷ rs) before after (s, cut, rest) =
       end ∙ ap (λ (t : State). cutsTables t links) (cut .tables),
     )
 
--- "For every list of cuts from a fresh session, after it .. each reply in the list is the machine's": and the table read out is the machine's, which is the largest
--- dual simulation in the nodes with its links (session/proofs/Run: machine-largest).
+-- "For every list of cuts from a fresh session, after it .. each reply in the list is the machine's": and the table
+-- read out is the machine's, which is the largest dual simulation in the nodes with its links (session/proofs/Run:
+-- machine-largest).
 module _ {pattern board : CircuitFile} {before opened : State} {r : HostReply} (begun : HostOpen pattern board before r opened)
     (fine : r .number ≡ 0) (links : List ℕ) (rs : List HostReply) (after : State) (cuts : HostCuts opened links rs after) where
   abbrev machine : Machine

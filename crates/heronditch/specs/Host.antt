@@ -1,11 +1,9 @@
--- The calls as a host program sees them: each reply is a struct of numbers, in which number 0 stands for acceptance. What is below gives
--- document 01's reply in that form; the calls themselves are those of the crates below.
-use Rattle.base_lists.specs.Kit.{cond, List, [], _∷_, ℕ, length}
+-- The calls as a host program sees them: each reply is a struct of numbers, in which number 0 stands for acceptance.
+-- What is below gives document 01's reply in that form; the calls themselves are those of the crates below.
+use Rattle.base_lists.specs.Kit.{cond, List, ℕ}
 use Rattle.file_format.specs.Layout.{CircuitFile}
-use Rattle.file_format.specs.Reading.{ReadOutcome, filled}
-use Rattle.file_format.specs.Refusals.{first, shortTable}
-use Rattle.file_format.specs.Reply as files
-use Rattle.heronditch_reply.specs.Replies.{verdictNumber, meantFile, slots, counted, pieced}
+use Rattle.file_format.specs.Reading.{ReadOutcome}
+use Rattle.heronditch_reply.specs.Replies.{HostOut, verdictNumber, meantFile, slots, counted, pieced}
 use Rattle.call_convert.specs.Call.{ConvertOutcome}
 use Rattle.call_distance.specs.Calls.{BallOutcome}
 use Rattle.file_write.specs.Writing.{WriteOutcome}
@@ -32,12 +30,12 @@ pub record HostRead : Type 0 where
   pub starts : List ℕ
   pub ends : List ℕ
 
+abbrev pub readAs : HostReply → List ℕ → List ℕ → List ℕ → List ℕ → HostRead
+readAs r kinds packages starts ends =
+    record { reply = r; kinds = kinds; packages = packages; starts = starts; ends = ends }
+
 unfoldable pub hostRead : ReadOutcome → HostRead
 hostRead o = record { reply = slots (o .reply); kinds = o .kinds; packages = o .packages; starts = o .starts; ends = o .ends }
-
-pub record HostOut : Type 0 where
-  pub reply : HostReply
-  pub out : List ℕ
 
 unfoldable pub hostWrite : WriteOutcome → HostOut
 hostWrite o = record { reply = slots (o .reply); out = o .out }
@@ -52,7 +50,8 @@ pub record HostTable : Type 0 where
   pub reply : Counted
   pub table : List ℕ
 
--- The whole-board call, told the pattern's edition by a number: "Only Ask 7's whole-board call takes this edition", the third.
+-- The whole-board call, told the pattern's edition by a number: "Only Ask 7's whole-board call takes this edition", the
+-- third.
 unfoldable pub matchingTold : List ℕ → ℕ → CircuitFile → List ℕ → TableOutcome
 matchingTold pattern edition board table = cond (isThird edition) (boundedMatching pattern board table) (matching (told pattern edition) board table)
 
@@ -65,6 +64,10 @@ pub record HostPlace : Type 0 where
   pub links : List ℕ
   pub table : List ℕ
   pub distances : List ℕ
+
+abbrev pub placedAs : Counted → List ℕ → List ℕ → List ℕ → List ℕ → HostPlace
+placedAs r nodes links table distances =
+    record { reply = r; nodes = nodes; links = links; table = table; distances = distances }
 
 unfoldable pub hostPlace : PlaceOutcome → HostPlace
 hostPlace o = record { reply = counted (o .reply); nodes = o .nodes; links = o .links; table = o .table; distances = o .distances }
@@ -98,10 +101,3 @@ hostCompare answer =
 
 unfoldable pub hostShelf : ShelfOutcome → HostOut
 hostShelf o = record { reply = slots (o .reply); out = o .order }
-
--- The neighbour lookup hands out a stretch of one of two tables. C has no form for that: the stretch is copied to the front of the lent
--- table, and its length replied; 8 where it does not fit.
-unfoldable pub hostNeighbours : List ℕ → List ℕ → HostOut
-hostNeighbours part out =
-    let verdict = first (shortTable (length part) (length out) ∷ []) in
-    record { reply = slots (files.reply verdict (length part ∷ [])); out = filled verdict part out }

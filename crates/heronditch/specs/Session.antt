@@ -13,7 +13,8 @@ use Rattle.session.specs.Tables.{nodesIn, cutAnswered, cutTables, readVerdict, 
 use Rattle.heronditch_reply.specs.declared.HostReply.{HostReply}
 use Rattle.heronditch_reply.specs.Replies.{slots}
 
--- opening: refused by the conditions on the two files, which leaves the tables as they were; else the tables hold a fresh machine
+-- opening: refused by the conditions on the two files, which leaves the tables as they were; else the tables hold a
+-- fresh machine
 pub record HostOpen (pattern board : CircuitFile) (before : State) (r : HostReply) (after : State) : Type 0 where
   pub replied : r ≡ slots (reply (first (openConditions pattern board)) [])
   pub opened : first (openConditions pattern board) ≡ accept → Holds (fresh (circuitOf pattern) (circuitOf board)) after

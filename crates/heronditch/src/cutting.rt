@@ -1,4 +1,5 @@
-// A session: cutting links while searching. It lives in five tables of fixed size that are lent to each call; library/host.c has them in one struct.
+// A session: cutting links while searching. It lives in five tables of fixed size that are lent to each call;
+// library/host.c has them in one struct.
 ghost use mathlib.Core.List.{[]};
 ghost use mathlib.Core.Path.{_≡_};
 ghost use Rattle.call_session.specs.Call.{openVerdict};
@@ -56,9 +57,12 @@ pub extern "C" fn heronditch_session_open(
     ends: &mut [u16; 8192],
     sets: &mut [u32; 512],
 ) -> HostReply
-    ensures { λ r. ⌜ HostOpen (told (now (pattern .entry)) «pattern_edition») (told (now (board .entry)) «board_edition»)
-        (state (now (fixed .entry)) (now (offsets .entry)) (now (numbers .entry)) (now (ends .entry)) (now (sets .entry))) r
-        (state (now (fixed .exit)) (now (offsets .exit)) (now (numbers .exit)) (now (ends .exit)) (now (sets .exit))) ⌝ }
+    ensures { λ r. ⌜ HostOpen (told (now (pattern .entry)) «pattern_edition»)
+        (told (now (board .entry)) «board_edition»)
+        (state (now (fixed .entry)) (now (offsets .entry)) (now (numbers .entry)) (now (ends .entry))
+        (now (sets .entry))) r
+        (state (now (fixed .exit)) (now (offsets .exit)) (now (numbers .exit)) (now (ends .exit))
+        (now (sets .exit))) ⌝ }
 {
     of_open(call_session::open(
         editions_of(pattern_edition, board_edition),
@@ -72,7 +76,8 @@ pub extern "C" fn heronditch_session_open(
     ))
 }
 
-// Cuts a link, told by its index in the board's file, from 0: 14 where it is out already or not there, which changes nothing.
+// Cuts a link, told by its index in the board's file, from 0: 14 where it is out already or not there, which changes
+// nothing.
 #[no_mangle]
 pub extern "C" fn heronditch_session_cut(
     fixed: &[u32; 66],
@@ -82,8 +87,10 @@ pub extern "C" fn heronditch_session_cut(
     sets: &mut [u32; 512],
     link: usize,
 ) -> HostReply
-    ensures { λ r. ⌜ HostCut (state (now (fixed .entry)) (now (offsets .entry)) (now (numbers .entry)) (now (ends .entry)) (now (sets .entry))) link r
-        (state (now (fixed .entry)) (now (offsets .entry)) (now (numbers .entry)) (now (ends .exit)) (now (sets .exit))) ⌝ }
+    ensures { λ r. ⌜ HostCut (state (now (fixed .entry)) (now (offsets .entry)) (now (numbers .entry))
+        (now (ends .entry)) (now (sets .entry))) link r
+        (state (now (fixed .entry)) (now (offsets .entry)) (now (numbers .entry)) (now (ends .exit)) (now (sets .exit)))
+        ⌝ }
 {
     of_cut(session_cut::cut(
         &fixed[..],

@@ -4,32 +4,30 @@ ghost use Rattle.file_format.specs.Reading.{reading};
 ghost use Rattle.file_write.specs.Writing.{writing};
 ghost use Rattle.graph_neighbours.specs.Lookup.{neighboursOf};
 ghost use Rattle.call_convert.specs.Call.{converting};
-ghost use Rattle.call_file.specs.Told.{asRole};
 ghost use Rattle.call_distance.specs.Calls.{radiusCall, ballCall};
 ghost use Rattle.call_test_board.specs.Call.{makingTestBoard};
 ghost use Rattle.call_merge.specs.Call.{merging};
-ghost use Rattle.heronditch.specs.Host.{hostRead, hostWrite, hostConvert, hostBall, hostMerge, hostTestBoard, hostNeighbours};
-ghost use Rattle.heronditch_reply.specs.Replies.{slots};
-ghost use Rattle.heronditch_told.specs.Told.{told, editionOf, roleOf, directionOf};
-use call_file::as_role;
-use file_format::TOO_SHORT;
-use graph::copy;
+ghost use Rattle.heronditch.specs.Host.{readAs, hostRead, hostWrite, hostConvert, hostBall, hostMerge};
+ghost use Rattle.heronditch.specs.Host.{hostTestBoard};
+ghost use Rattle.heronditch_reply.specs.Replies.{slots, hostNeighbours};
+ghost use Rattle.heronditch_told.specs.Told.{told, editionOf, roleOf, directionOf, asRole};
+use crate::replies::of_ball;
+use crate::replies::of_convert;
+use crate::replies::of_merge;
+use crate::replies::of_radius;
+use crate::replies::of_test_board;
+use crate::replies::of_write;
 use graph_neighbours::neighbours::neighbours;
 use heronditch_reply::HostReply;
-use heronditch_reply::accepted;
-use heronditch_reply::of_ball;
-use heronditch_reply::of_convert;
-use heronditch_reply::of_merge;
-use heronditch_reply::of_radius;
+use heronditch_reply::copy_out;
 use heronditch_reply::of_read;
-use heronditch_reply::of_test_board;
-use heronditch_reply::of_write;
-use heronditch_reply::refused;
+use heronditch_told::as_role;
 use heronditch_told::direction_of;
 use heronditch_told::edition_of;
 use heronditch_told::role_of;
 
-// Reads a file in a role: N kinds, in the second edition N packages, M link starts and M link ends. Replies with N and M.
+// Reads a file in a role: N kinds, in the second edition N packages, M link starts and M link ends. Replies with N and
+// M.
 #[no_mangle]
 pub extern "C" fn heronditch_read(
     role: u32,
@@ -40,8 +38,9 @@ pub extern "C" fn heronditch_read(
     starts: &mut [u16],
     ends: &mut [u16],
 ) -> HostReply
-    ensures { λ r. ⌜ record { reply = r; kinds = now (kinds .exit); packages = now (packages .exit); starts = now (starts .exit); ends = now (ends .exit) }
-        ≡ hostRead (reading (asRole (roleOf role)) (told (now (file .entry)) edition) (now (kinds .entry)) (now (packages .entry)) (now (starts .entry)) (now (ends .entry))) ⌝ }
+    ensures { λ r. ⌜ readAs r (now (kinds .exit)) (now (packages .exit)) (now (starts .exit)) (now (ends .exit))
+        ≡ hostRead (reading (asRole (roleOf role)) (told (now (file .entry)) edition) (now (kinds .entry))
+        (now (packages .entry)) (now (starts .entry)) (now (ends .entry))) ⌝ }
 {
     of_read(file_read::read(
         as_role(role_of(role)),
@@ -66,7 +65,8 @@ pub extern "C" fn heronditch_write(
     out: &mut [u8],
 ) -> HostReply
     ensures { λ r. ⌜ record { reply = r; out = now (out .exit) }
-        ≡ hostWrite (writing (asRole (roleOf role)) (editionOf edition) (now (kinds .entry)) (now (packages .entry)) (now (starts .entry)) (now (ends .entry)) (now (out .entry))) ⌝ }
+        ≡ hostWrite (writing (asRole (roleOf role)) (editionOf edition) (now (kinds .entry)) (now (packages .entry))
+        (now (starts .entry)) (now (ends .entry)) (now (out .entry))) ⌝ }
 {
     of_write(file_write::write(
         as_role(role_of(role)),
@@ -89,7 +89,8 @@ pub extern "C" fn heronditch_convert(
     out: &mut [u8],
 ) -> HostReply
     ensures { λ r. ⌜ record { reply = r; out = now (out .exit) }
-        ≡ hostConvert (converting (asRole (roleOf role)) (editionOf «to_edition») (told (now (file .entry)) edition) (now (out .entry))) ⌝ }
+        ≡ hostConvert (converting (asRole (roleOf role)) (editionOf «to_edition») (told (now (file .entry)) edition)
+        (now (out .entry))) ⌝ }
 {
     of_convert(call_convert::convert(
         as_role(role_of(role)),
@@ -109,24 +110,14 @@ pub extern "C" fn heronditch_test_board(
     k: u32,
     out: &mut [u8],
 ) -> HostReply
-    ensures { λ r. ⌜ record { reply = r; out = now (out .exit) } ≡ hostTestBoard (makingTestBoard seed n m k (now (out .entry))) ⌝ }
+    ensures { λ r. ⌜ record { reply = r; out = now (out .exit) }
+        ≡ hostTestBoard (makingTestBoard seed n m k (now (out .entry))) ⌝ }
 {
     of_test_board(call_test_board::test_board(seed, n, m, k, out))
 }
 
-// A stretch of a table, copied out.
-fn copy_out(part: &[u16], out: &mut [u16]) -> HostReply
-    ensures { λ r. ⌜ record { reply = r; out = now (out .exit) } ≡ hostNeighbours (now (part .entry)) (now (out .entry)) ⌝ }
-{
-    if out.len() < part.len() {
-        return refused(TOO_SHORT);
-    }
-    copy(part, out);
-    accepted(part.len(), 0)
-}
-
-// Looks up what a node drives, or what drives it: a stretch of the forward or of the backward table, copied to the front of `out`. Replies with its
-// length.
+// Looks up what a node drives, or what drives it: a stretch of the forward or of the backward table, copied to the
+// front of `out`. Replies with its length.
 #[no_mangle]
 pub extern "C" fn heronditch_neighbours<'a>(
     direction: u32,
@@ -138,7 +129,8 @@ pub extern "C" fn heronditch_neighbours<'a>(
     out: &mut [u16],
 ) -> HostReply
     ensures { λ r. ⌜ record { reply = r; out = now (out .exit) }
-        ≡ hostNeighbours (neighboursOf (directionOf direction) (now («forward_offsets» .entry)) (now (forward .entry)) (now («backward_offsets» .entry)) (now (backward .entry)) node) (now (out .entry)) ⌝ }
+        ≡ hostNeighbours (neighboursOf (directionOf direction) (now («forward_offsets» .entry)) (now (forward .entry))
+        (now («backward_offsets» .entry)) (now (backward .entry)) node) (now (out .entry)) ⌝ }
 {
     let part = neighbours(
         direction_of(direction),
@@ -159,7 +151,8 @@ pub extern "C" fn heronditch_radius(pattern: &[u8], pattern_edition: u32) -> Hos
     of_radius(call_distance::radius(edition_of(pattern_edition), pattern))
 }
 
-// Measures the ball around a node of the board: each node's distance from the centre, 65,535 outside the ball. Replies with N.
+// Measures the ball around a node of the board: each node's distance from the centre, 65,535 outside the ball. Replies
+// with N.
 #[no_mangle]
 pub extern "C" fn heronditch_ball(
     board: &[u8],
@@ -174,8 +167,8 @@ pub extern "C" fn heronditch_ball(
     of_ball(call_distance::ball(edition_of(board_edition), board, centre, radius, out))
 }
 
-// Merges the parts of a pattern that match each other: each part's class, and the merged pattern's file, of the pattern's edition. Replies with the
-// number of classes and that file's length.
+// Merges the parts of a pattern that match each other: each part's class, and the merged pattern's file, of the
+// pattern's edition. Replies with the number of classes and that file's length.
 #[no_mangle]
 pub extern "C" fn heronditch_merge(
     pattern: &[u8],
@@ -184,7 +177,8 @@ pub extern "C" fn heronditch_merge(
     out: &mut [u8],
 ) -> HostReply
     ensures { λ r. ⌜ record { reply = r; classes = now (classes .exit); out = now (out .exit) }
-        ≡ hostMerge (merging (told (now (pattern .entry)) «pattern_edition») (now (classes .entry)) (now (out .entry))) ⌝ }
+        ≡ hostMerge (merging (told (now (pattern .entry)) «pattern_edition») (now (classes .entry)) (now (out .entry)))
+        ⌝ }
 {
     of_merge(call_merge::merge(edition_of(pattern_edition), pattern, classes, out))
 }

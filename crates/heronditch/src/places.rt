@@ -7,25 +7,23 @@ ghost use Rattle.call_place.specs.Call.{placeAt};
 ghost use Rattle.call_check.specs.Call.{checkCall};
 ghost use Rattle.call_barring.specs.Call.{barCall};
 ghost use Rattle.call_report.specs.Call.{reporting};
-ghost use Rattle.heronditch.specs.Host.{hostPlace, hostBar, hostReport};
+ghost use Rattle.heronditch.specs.Host.{placedAs, hostPlace, hostBar, hostReport};
 ghost use Rattle.heronditch_reply.specs.Replies.{slots};
 ghost use Rattle.heronditch_told.specs.Told.{told};
+use crate::replies::of_bar;
+use crate::replies::of_check;
+use crate::replies::of_place;
+use crate::replies::of_report;
+use call_decide::Reach;
 use call_place::Question;
-use call_place::Reach;
 use heronditch_reply::Counted;
 use heronditch_reply::HostReply;
 use heronditch_reply::Piece;
-use heronditch_reply::of_bar;
-use heronditch_reply::of_check;
-use heronditch_reply::of_place;
-use heronditch_reply::of_report;
 use heronditch_told::editions_of;
+use heronditch_told::first_edition;
 
-// The number of the first edition, which document 02's C call and report still read.
-const FIRST: u32 = 1;
-
-// Finds the pattern around a node of the board, at the pattern's radius: the place's nodes and links, its table, and each node's distance from the
-// centre. The counts are those of the whole ball.
+// Finds the pattern around a node of the board, at the pattern's radius: the place's nodes and links, its table, and
+// each node's distance from the centre. The counts are those of the whole ball.
 #[no_mangle]
 pub extern "C" fn heronditch_place_editions(
     pattern: &[u8],
@@ -34,21 +32,22 @@ pub extern "C" fn heronditch_place_editions(
     board_edition: u32,
     centre: usize,
     nodes: &mut [u8],
-    links: &mut [u8],
+    link_bytes: &mut [u8],
     table: &mut [u32],
     distances: &mut [u16],
 ) -> Counted
-    ensures { λ r. ⌜ record { reply = r; nodes = now (nodes .exit); links = now (links .exit); table = now (table .exit); distances = now (distances .exit) }
-        ≡ hostPlace (placeAt (told (now (pattern .entry)) «pattern_edition») (told (now (board .entry)) «board_edition») centre
-        (radiusOf (circuitOf (told (now (pattern .entry)) «pattern_edition»)))
-        (now (nodes .entry)) (now (links .entry)) (now (table .entry)) (now (distances .entry))) ⌝ }
+    ensures { λ r. ⌜ placedAs r (now (nodes .exit)) (now («link_bytes» .exit)) (now (table .exit))
+        (now (distances .exit))
+        ≡ hostPlace (placeAt (told (now (pattern .entry)) «pattern_edition») (told (now (board .entry)) «board_edition»)
+        centre (radiusOf (circuitOf (told (now (pattern .entry)) «pattern_edition»)))
+        (now (nodes .entry)) (now («link_bytes» .entry)) (now (table .entry)) (now (distances .entry))) ⌝ }
 {
-    let question = Question {
+    let asked = Question {
         centre,
         editions: editions_of(pattern_edition, board_edition),
         reach: Reach::Own,
     };
-    of_place(call_place::place(question, pattern, board, nodes, links, table, distances))
+    of_place(call_place::place(asked, pattern, board, nodes, link_bytes, table, distances))
 }
 
 // The same at a radius given.
@@ -61,46 +60,51 @@ pub extern "C" fn heronditch_place_within_editions(
     centre: usize,
     radius: u16,
     nodes: &mut [u8],
-    links: &mut [u8],
+    link_bytes: &mut [u8],
     table: &mut [u32],
     distances: &mut [u16],
 ) -> Counted
-    ensures { λ r. ⌜ record { reply = r; nodes = now (nodes .exit); links = now (links .exit); table = now (table .exit); distances = now (distances .exit) }
-        ≡ hostPlace (placeAt (told (now (pattern .entry)) «pattern_edition») (told (now (board .entry)) «board_edition») centre radius
-        (now (nodes .entry)) (now (links .entry)) (now (table .entry)) (now (distances .entry))) ⌝ }
+    ensures { λ r. ⌜ placedAs r (now (nodes .exit)) (now («link_bytes» .exit)) (now (table .exit))
+        (now (distances .exit))
+        ≡ hostPlace (placeAt (told (now (pattern .entry)) «pattern_edition») (told (now (board .entry)) «board_edition»)
+        centre radius
+        (now (nodes .entry)) (now («link_bytes» .entry)) (now (table .entry)) (now (distances .entry))) ⌝ }
 {
-    let question = Question {
+    let asked = Question {
         centre,
         editions: editions_of(pattern_edition, board_edition),
         reach: Reach::Given(radius),
     };
-    of_place(call_place::place(question, pattern, board, nodes, links, table, distances))
+    of_place(call_place::place(asked, pattern, board, nodes, link_bytes, table, distances))
 }
 
-// Finds the pattern around a node of the board, at the pattern's radius, in files of the first edition: "the C call still read[s] the first".
+// Finds the pattern around a node of the board, at the pattern's radius, in files of the first edition: "the C call
+// still read[s] the first".
 #[no_mangle]
 pub extern "C" fn heronditch_place(
     pattern: &[u8],
     board: &[u8],
     centre: usize,
     nodes: &mut [u8],
-    links: &mut [u8],
+    link_bytes: &mut [u8],
     table: &mut [u32],
     distances: &mut [u16],
 ) -> Counted
-    ensures { λ r. ⌜ record { reply = r; nodes = now (nodes .exit); links = now (links .exit); table = now (table .exit); distances = now (distances .exit) }
+    ensures { λ r. ⌜ placedAs r (now (nodes .exit)) (now («link_bytes» .exit)) (now (table .exit))
+        (now (distances .exit))
         ≡ hostPlace (placeAt (firstEdition (now (pattern .entry))) (firstEdition (now (board .entry))) centre
         (radiusOf (circuitOf (firstEdition (now (pattern .entry)))))
-        (now (nodes .entry)) (now (links .entry)) (now (table .entry)) (now (distances .entry))) ⌝ }
+        (now (nodes .entry)) (now («link_bytes» .entry)) (now (table .entry)) (now (distances .entry))) ⌝ }
 {
+    let first = first_edition();
     heronditch_place_editions(
         pattern,
-        FIRST,
+        first,
         board,
-        FIRST,
+        first,
         centre,
         nodes,
-        links,
+        link_bytes,
         table,
         distances,
     )
@@ -114,30 +118,32 @@ pub extern "C" fn heronditch_place_within(
     centre: usize,
     radius: u16,
     nodes: &mut [u8],
-    links: &mut [u8],
+    link_bytes: &mut [u8],
     table: &mut [u32],
     distances: &mut [u16],
 ) -> Counted
-    ensures { λ r. ⌜ record { reply = r; nodes = now (nodes .exit); links = now (links .exit); table = now (table .exit); distances = now (distances .exit) }
+    ensures { λ r. ⌜ placedAs r (now (nodes .exit)) (now («link_bytes» .exit)) (now (table .exit))
+        (now (distances .exit))
         ≡ hostPlace (placeAt (firstEdition (now (pattern .entry))) (firstEdition (now (board .entry))) centre radius
-        (now (nodes .entry)) (now (links .entry)) (now (table .entry)) (now (distances .entry))) ⌝ }
+        (now (nodes .entry)) (now («link_bytes» .entry)) (now (table .entry)) (now (distances .entry))) ⌝ }
 {
+    let first = first_edition();
     heronditch_place_within_editions(
         pattern,
-        FIRST,
+        first,
         board,
-        FIRST,
+        first,
         centre,
         radius,
         nodes,
-        links,
+        link_bytes,
         table,
         distances,
     )
 }
 
-// Checks a place from elsewhere: replies with 1 where the marked nodes and links are a perfect subgraph around the centre at the pattern's radius,
-// largest or not, and else with 0.
+// Checks a place from elsewhere: replies with 1 where the marked nodes and links are a perfect subgraph around the
+// centre at the pattern's radius, largest or not, and else with 0.
 #[no_mangle]
 pub extern "C" fn heronditch_check(
     pattern: &[u8],
@@ -146,10 +152,11 @@ pub extern "C" fn heronditch_check(
     board_edition: u32,
     centre: usize,
     nodes: &[u8],
-    links: &[u8],
+    link_bytes: &[u8],
 ) -> HostReply
-    ensures { λ r. ⌜ r ≡ slots (checkCall (told (now (pattern .entry)) «pattern_edition») (told (now (board .entry)) «board_edition») centre
-        (now (nodes .entry)) (now (links .entry))) ⌝ }
+    ensures { λ r. ⌜ r ≡ slots (checkCall (told (now (pattern .entry)) «pattern_edition»)
+        (told (now (board .entry)) «board_edition») centre
+        (now (nodes .entry)) (now («link_bytes» .entry))) ⌝ }
 {
     of_check(call_check::check(
         editions_of(pattern_edition, board_edition),
@@ -157,11 +164,12 @@ pub extern "C" fn heronditch_check(
         board,
         centre,
         nodes,
-        links,
+        link_bytes,
     ))
 }
 
-// Says why there is no place around a node of the board, by few of the pattern's links: a byte for each, 1 for kept. Replies with how many are 1.
+// Says why there is no place around a node of the board, by few of the pattern's links: a byte for each, 1 for kept.
+// Replies with how many are 1.
 #[no_mangle]
 pub extern "C" fn heronditch_bar(
     pattern: &[u8],
@@ -172,7 +180,8 @@ pub extern "C" fn heronditch_bar(
     out: &mut [u8],
 ) -> HostReply
     ensures { λ r. ⌜ record { reply = r; out = now (out .exit) }
-        ≡ hostBar (barCall (told (now (pattern .entry)) «pattern_edition») (told (now (board .entry)) «board_edition») centre (now (out .entry))) ⌝ }
+        ≡ hostBar (barCall (told (now (pattern .entry)) «pattern_edition») (told (now (board .entry)) «board_edition»)
+        centre (now (out .entry))) ⌝ }
 {
     of_bar(call_barring::bar(
         editions_of(pattern_edition, board_edition),
@@ -182,7 +191,8 @@ pub extern "C" fn heronditch_bar(
         out,
     ))
 }
-// Puts a piece of the report of a pattern on a board: the lines of the centres from a node on, and the last line where the centres are done.
+// Puts a piece of the report of a pattern on a board: the lines of the centres from a node on, and the last line where
+// the centres are done.
 #[no_mangle]
 pub extern "C" fn heronditch_report_editions(
     pattern: &[u8],
@@ -194,7 +204,8 @@ pub extern "C" fn heronditch_report_editions(
     out: &mut [u8],
 ) -> Piece
     ensures { λ r. ⌜ record { reply = r; out = now (out .exit) }
-        ≡ hostReport (reporting (told (now (pattern .entry)) «pattern_edition») (told (now (board .entry)) «board_edition») from found (now (out .entry))) ⌝ }
+        ≡ hostReport (reporting (told (now (pattern .entry)) «pattern_edition»)
+        (told (now (board .entry)) «board_edition») from found (now (out .entry))) ⌝ }
 {
     of_report(call_report::report(
         editions_of(pattern_edition, board_edition),
@@ -216,7 +227,9 @@ pub extern "C" fn heronditch_report(
     out: &mut [u8],
 ) -> Piece
     ensures { λ r. ⌜ record { reply = r; out = now (out .exit) }
-        ≡ hostReport (reporting (firstEdition (now (pattern .entry))) (firstEdition (now (board .entry))) from found (now (out .entry))) ⌝ }
+        ≡ hostReport (reporting (firstEdition (now (pattern .entry))) (firstEdition (now (board .entry))) from found
+        (now (out .entry))) ⌝ }
 {
-    heronditch_report_editions(pattern, FIRST, board, FIRST, from, found, out)
+    let first = first_edition();
+    heronditch_report_editions(pattern, first, board, first, from, found, out)
 }

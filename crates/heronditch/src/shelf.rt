@@ -12,8 +12,8 @@ use heronditch_reply::accepted;
 use heronditch_reply::refused;
 use order::Order;
 
-// The same as a reply without values, with which of the two files is meant (1 the first, 2 the second) and the order found (1 less, 2 equal,
-// 3 greater).
+// The same as a reply without values, with which of the two files is meant (1 the first, 2 the second) and the order
+// found (1 less, 2 equal, 3 greater).
 #[repr(C)]
 pub struct Comparison {
     pub number: u32,
@@ -82,10 +82,12 @@ pub extern "C" fn heronditch_compare(first: &[u8], second: &[u8]) -> Comparison
     of_compare(call_shelf::compare::compare(first, second))
 }
 
-// Puts a shelf of second-edition patterns in order, by their numbers; those that are refused are passed over. Replies with how many are accepted.
+// Puts a shelf of second-edition patterns in order, by their numbers; those that are refused are passed over. Replies
+// with how many are accepted.
 #[no_mangle]
 pub extern "C" fn heronditch_shelf(bytes: &[u8], lengths: &[u32], order: &mut [u8]) -> HostReply
-    ensures { λ r. ⌜ record { reply = r; out = now (order .exit) } ≡ hostShelf (shelving (now (bytes .entry)) (now (lengths .entry)) (now (order .entry))) ⌝ }
+    ensures { λ r. ⌜ record { reply = r; out = now (order .exit) } ≡ hostShelf
+        (shelving (now (bytes .entry)) (now (lengths .entry)) (now (order .entry))) ⌝ }
 {
     of_shelf(call_shelf::shelf(bytes, lengths, order))
 }

@@ -1,35 +1,16 @@
 // Replies as a host program sees them: structs of numbers, in place of the enums.
 ghost use mathlib.Core.Path.{_≡_};
 ghost use Rattle.file_format.specs.Reply.{readReply};
-ghost use Rattle.call_check.specs.Call.{checkReply};
-ghost use Rattle.call_convert.specs.Call.{convertReply};
-ghost use Rattle.call_distance.specs.Calls.{radiusReply, ballReply};
-ghost use Rattle.file_write.specs.Writing.{writeReply};
-ghost use Rattle.call_match.specs.Call.{replyOf};
-ghost use Rattle.place.specs.Outcome.{placeReply};
-ghost use Rattle.barring.specs.Outcome.{barReply};
-ghost use Rattle.call_merge.specs.Call.{mergeReply};
-ghost use Rattle.call_test_board.specs.Call.{testBoardReply};
-ghost use Rattle.call_report.specs.Call.{reportReply};
-ghost use Rattle.heronditch_reply.specs.Replies.{fileNumber, slots, counted, pieced};
-use barring::BarAnswer;
-use call_check::CheckAnswer;
-use call_convert::ConvertAnswer;
-use call_distance::BallAnswer;
-use call_distance::RadiusAnswer;
-use call_match::TableAnswer;
-use call_merge::MergeAnswer;
-use call_report::ReportAnswer;
-use call_test_board::TestBoardAnswer;
+ghost use Rattle.heronditch_reply.specs.Replies.{fileNumber, slots, countedAs, hostNeighbours};
 use file_format::File;
 use file_format::ReadAnswer;
 use file_format::Refusal;
-use file_write::WriteAnswer;
-use place::PlaceAnswer;
-use report_centres::PutPiece;
+use file_format::TOO_SHORT;
+use graph::copy;
 use table::Counts;
 
-// Number 0 for acceptance or the refusal's number; the file that it means (0 neither, 1 pattern, 2 board); the values replied with.
+// Number 0 for acceptance or the refusal's number; the file that it means (0 neither, 1 pattern, 2 board); the values
+// replied with.
 #[repr(C)]
 pub struct HostReply {
     pub number: u32,
@@ -49,7 +30,8 @@ pub struct Counted {
     pub rounds: u32,
 }
 
-// The same with where the report goes on after a piece, how many centres before that have a place, and how many bytes were put.
+// The same with where the report goes on after a piece, how many centres before that have a place, and how many bytes
+// were put.
 #[repr(C)]
 pub struct Piece {
     pub number: u32,
@@ -102,55 +84,9 @@ pub fn of_read(answer: ReadAnswer) -> HostReply
     }
 }
 
-pub fn of_write(answer: WriteAnswer) -> HostReply
-    ensures { λ r. ⌜ r ≡ slots (writeReply answer) ⌝ }
-{
-    match answer {
-        WriteAnswer::Written(size) => accepted(size, 0),
-        WriteAnswer::Refused(x) => refused(x),
-    }
-}
-
-pub fn of_convert(answer: ConvertAnswer) -> HostReply
-    ensures { λ r. ⌜ r ≡ slots (convertReply answer) ⌝ }
-{
-    match answer {
-        ConvertAnswer::Converted(size) => accepted(size, 0),
-        ConvertAnswer::Refused(x) => refused(x),
-    }
-}
-
-pub fn of_radius(answer: RadiusAnswer) -> HostReply
-    ensures { λ r. ⌜ r ≡ slots (radiusReply answer) ⌝ }
-{
-    match answer {
-        RadiusAnswer::Radius(d) => accepted(d, 0),
-        RadiusAnswer::Refused(x) => refused(x),
-    }
-}
-
-pub fn of_ball(answer: BallAnswer) -> HostReply
-    ensures { λ r. ⌜ r ≡ slots (ballReply answer) ⌝ }
-{
-    match answer {
-        BallAnswer::Ball(n) => accepted(n, 0),
-        BallAnswer::Refused(x) => refused(x),
-    }
-}
-
-pub fn of_check(answer: CheckAnswer) -> HostReply
-    ensures { λ r. ⌜ r ≡ slots (checkReply answer) ⌝ }
-{
-    match answer {
-        CheckAnswer::Yes => accepted(1, 0),
-        CheckAnswer::No => accepted(0, 0),
-        CheckAnswer::Refused(x) => refused(x),
-    }
-}
-
 // Four counts, with a number and a file.
-fn with_counts(number: u32, file: u32, k: Counts) -> Counted
-    ensures { λ r. ⌜ r ≡ record { number = number; file = file; started = k .started; kept = k .kept; struck = k .struck; rounds = k .rounds } ⌝ }
+pub fn with_counts(number: u32, file: u32, k: Counts) -> Counted
+    ensures { λ r. ⌜ r ≡ countedAs number file k ⌝ }
 {
     Counted {
         number,
@@ -163,79 +99,28 @@ fn with_counts(number: u32, file: u32, k: Counts) -> Counted
 }
 
 // A refusal with counts, as number 9 has them.
-fn refused_with(x: Refusal, k: Counts) -> Counted
-    ensures { λ r. ⌜ r ≡ record { number = x .number; file = fileNumber (x .file); started = k .started; kept = k .kept; struck = k .struck; rounds = k .rounds } ⌝ }
+pub fn refused_with(x: Refusal, k: Counts) -> Counted
+    ensures { λ r. ⌜ r ≡ countedAs (x .number) (fileNumber (x .file)) k ⌝ }
 {
     let file = x.file;
     with_counts(x.number as u32, file_number(file), k)
 }
 
-pub fn of_match(answer: TableAnswer) -> Counted
-    ensures { λ r. ⌜ r ≡ counted (replyOf answer) ⌝ }
-{
-    match answer {
-        TableAnswer::Matched(k) => with_counts(0, 0, k),
-        TableAnswer::Refused(x) => refused_with(
-            x,
-            Counts {
-                started: 0,
-                kept: 0,
-                struck: 0,
-                rounds: 0,
-            },
-        ),
-    }
-}
-
-pub fn of_place(answer: PlaceAnswer) -> Counted
-    ensures { λ r. ⌜ r ≡ counted (placeReply answer) ⌝ }
-{
-    match answer {
-        PlaceAnswer::Placed(k) => with_counts(0, 0, k),
-        PlaceAnswer::Refused(x, k) => refused_with(x, k),
-    }
-}
-
-pub fn of_bar(answer: BarAnswer) -> HostReply
-    ensures { λ r. ⌜ r ≡ slots (barReply answer) ⌝ }
-{
-    match answer {
-        BarAnswer::Kept(k) => accepted(k, 0),
-        BarAnswer::Refused(x) => refused(x),
-    }
-}
-
-pub fn of_merge(answer: MergeAnswer) -> HostReply
-    ensures { λ r. ⌜ r ≡ slots (mergeReply answer) ⌝ }
-{
-    match answer {
-        MergeAnswer::Merged(count, size) => accepted(count, size),
-        MergeAnswer::Refused(x) => refused(x),
-    }
-}
-
-pub fn of_test_board(answer: TestBoardAnswer) -> HostReply
-    ensures { λ r. ⌜ r ≡ slots (testBoardReply answer) ⌝ }
-{
-    match answer {
-        TestBoardAnswer::Made(size) => accepted(size, 0),
-        TestBoardAnswer::Refused(x) => refused(x),
-    }
-}
-
-fn put_piece(part: PutPiece) -> Piece
-    ensures { λ r. ⌜ r ≡ record { number = 0; file = 0; next = part .next; found = part .found; size = part .size } ⌝ }
+// A piece that was put.
+pub fn put_piece(next: usize, found: usize, size: usize) -> Piece
+    ensures { λ r. ⌜ r ≡ record { number = 0; file = 0; next = next; found = found; size = size } ⌝ }
 {
     Piece {
         number: 0,
         file: 0,
-        next: part.next,
-        found: part.found,
-        size: part.size,
+        next,
+        found,
+        size,
     }
 }
 
-fn refused_piece(x: Refusal) -> Piece
+// A piece that was refused.
+pub fn refused_piece(x: Refusal) -> Piece
     ensures { λ r. ⌜ r ≡ record { number = x .number; file = fileNumber (x .file); next = 0; found = 0; size = 0 } ⌝ }
 {
     let file = x.file;
@@ -248,11 +133,14 @@ fn refused_piece(x: Refusal) -> Piece
     }
 }
 
-pub fn of_report(answer: ReportAnswer) -> Piece
-    ensures { λ r. ⌜ r ≡ pieced (reportReply answer) ⌝ }
+// A stretch of a table, copied out.
+pub fn copy_out(part: &[u16], out: &mut [u16]) -> HostReply
+    ensures { λ r. ⌜ record { reply = r; out = now (out .exit) } ≡ hostNeighbours (now (part .entry)) (now (out .entry))
+        ⌝ }
 {
-    match answer {
-        ReportAnswer::Put(part) => put_piece(part),
-        ReportAnswer::Refused(x) => refused_piece(x),
+    if out.len() < part.len() {
+        return refused(TOO_SHORT);
     }
+    copy(part, out);
+    accepted(part.len(), 0)
 }

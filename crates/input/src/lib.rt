@@ -1,5 +1,5 @@
-// Careful reading. A file is read by its name into a buffer, until the buffer is full or the file ends, and the answer says what became of it. What the
-// system answers is judged by functions of their own, each with an equation.
+// Careful reading. A file is read by its name into a buffer, until the buffer is full or the file ends, and the answer
+// says what became of it. What the system answers is judged by functions of their own, each with an equation.
 ghost use mathlib.Core.Bool.{true};
 ghost use mathlib.Core.Path.{_≡_};
 ghost use Prim.Native.Nat.{_≤_};
@@ -7,7 +7,8 @@ ghost use lib.Dec.{ltb};
 ghost use lib.ListN.{length};
 ghost use Rattle.input.specs.Reading.{isOpen, isAbsent, unopenedOf, endedOf, Tells, Within};
 
-// What became of reading a file: so many of its bytes stand at the front of the buffer; or there is no such name; or it cannot be read.
+// What became of reading a file: so many of its bytes stand at the front of the buffer; or there is no such name; or it
+// cannot be read.
 pub enum FileFound {
     Bytes(usize),
     Absent,
@@ -48,8 +49,8 @@ fn unopened(error: i32) -> FileFound
     FileFound::Unreadable
 }
 
-// What became of an open file whose reading stopped after so many bytes, ahead of the buffer's end, and of which one read more answered this: 0 is the
-// file's end, and anything else a read that failed.
+// What became of an open file whose reading stopped after so many bytes, ahead of the buffer's end, and of which one
+// read more answered this: 0 is the file's end, and anything else a read that failed.
 fn ended(size: usize, more: isize) -> FileFound
     ensures { λ r. ⌜ r ≡ endedOf size more ⌝ }
 {
@@ -66,8 +67,8 @@ fn read_more(fd: i32, more: &mut [u8]) -> isize
     libc::read(fd, more)
 }
 
-// What became of an open file of which so many bytes were read, to where there is this much room: a read that failed is told from the end by one
-// read more. It is not absent, and be it empty; and where the buffer is full, it was read.
+// What became of an open file of which so many bytes were read, to where there is this much room: a read that failed is
+// told from the end by one read more. It is not absent, and be it empty; and where the buffer is full, it was read.
 fn outcome(fd: i32, size: usize, room: usize) -> FileFound
     ensures { λ r. ⌜ Tells size room r ⌝ }
 {

@@ -10,8 +10,8 @@ use Rattle.call_test_board.specs.declared.TestBoardAnswer.{TestBoardAnswer}
 use Rattle.call_test_board.specs.declared.TestBoardAnswer.the-variants.{Made, Refused}
 use Rattle.call_test_board.specs.Call.{testBoardBytes, testBoardReply, TestBoardOutcome, makingTestBoard}
 use Rattle.call_test_board.proofs.Promise.{board-made, board-replied, prefix-file}
-use Rattle.loader.specs.declared.words.Word.the-variants.{Number, NoNumber}
-use Rattle.loader.specs.declared.Asked.{Asked}
+use Rattle.loader_words.specs.declared.Word.the-variants.{Number, NoNumber}
+use Rattle.loader_words.specs.declared.Asked.{Asked}
 use Rattle.loader.specs.declared.Printed.{Printed}
 use Rattle.loader.specs.declared.Printed.the-variants.{Whole, Failed, OutOfRange, NoNumbers}
 use Rattle.loader.specs.Printing.{WriteTried, Handed, Given, TestBoardRan}

@@ -1,55 +1,32 @@
-// The program that makes a test board: takes the four numbers as words, seed, N, M and K, and writes the board's file to standard output. Where a
-// word is no number, or a number is out of its range, it says so on standard error and writes nothing to standard output.
-use crate::words::Word;
-use crate::words::number;
+// The program that makes a test board: takes the four numbers as words, seed, N, M and K, and writes the board's file
+// to standard output. Where a word is no number, or a number is out of its range, it says so on standard error and
+// writes nothing to standard output.
 use call_test_board::TestBoardAnswer;
 use file_format::Board;
-use output::Output;
+use loader_words::Asked;
+use loader_words::Told;
+use loader_words::Word;
+use loader_words::asked_by;
+use loader_words::read_words;
 ghost use mathlib.Core.Path.{_≡_};
 ghost use Prim.Native.Nat.{_≤_};
-ghost use lib.Dec.{eqb};
 ghost use lib.ListN.{length};
 ghost use Rattle.file_format.specs.declared.Edition.the-variants as editions;
 ghost use Rattle.file_format.specs.Layout.{lengthOf};
 ghost use Rattle.call_test_board.specs.Call.{testBoardBytes};
-ghost use Rattle.loader.specs.Printing.{heardOf, Heard, WordsHeard, askedBy, WriteTried, Handed, TestBoardRan};
-
-mod words;
+ghost use Rattle.loader_words.specs.Words.{WordsHeard, askedBy};
+ghost use Rattle.loader.specs.Printing.{WriteTried, Handed, TestBoardRan};
 
 // The longest file of a test board.
 const BYTES: usize = 4 + 2 * Board::MAX_NODES + 4 * Board::MAX_LINKS;
 
-// The four words that ask for a test board.
-struct Asked {
-    seed: Word,
-    n: Word,
-    m: Word,
-    k: Word,
-}
-
-// What came of the words: the test board's file was handed whole to standard output; or that failed; or a number was out of its range; or a word was none.
+// What came of the words: the test board's file was handed whole to standard output; or that failed; or a number was
+// out of its range; or a word was none.
 enum Printed {
     Whole,
     Failed,
     OutOfRange,
     NoNumbers,
-}
-
-// An argument: its index, what the system answered when it was asked for, C's errno and a length, and the number that it is.
-struct Argument {
-    index: usize,
-    error: i32,
-    size: usize,
-    word: Word,
-}
-
-// What the program was told: how many arguments, its own name among them, and the four behind that.
-struct Told {
-    count: usize,
-    seed: Argument,
-    n: Argument,
-    m: Argument,
-    k: Argument,
 }
 
 // What the program was told, and what came of it.
@@ -63,12 +40,10 @@ fn hand(seed: u32, n: u32, m: u32, k: u32, handed: &mut usize, bytes: &[u8]) -> 
     requires { ⌜ (now handed ≡ 0) × (now bytes ≡ testBoardBytes seed n m k) ⌝ }
     ensures { λ r. ⌜ WriteTried (length (now (bytes .entry))) (now (handed .exit)) r ⌝ }
 {
-    let answer = output::write_whole(bytes);
-    let Output::Written(size) = answer else {
-        return Printed::Failed;
-    };
-    *handed = size;
-    Printed::Whole
+    if output::hand(handed, bytes) {
+        return Printed::Whole;
+    }
+    Printed::Failed
 }
 
 // Makes the test board in a buffer that is long enough for each, and hands it on.
@@ -88,79 +63,6 @@ fn print_test_board(
         return Printed::OutOfRange;
     };
     hand(seed, n, m, k, handed, &out[..size])
-}
-
-// The number that an argument is, from what the system answered when it was asked for: 0 where the word is whole.
-fn number_of(error: i32, word: &[u8]) -> Word
-    ensures { λ r. ⌜ r ≡ heardOf error (now (word .entry)) ⌝ }
-{
-    if error != 0 {
-        return Word::NoNumber;
-    }
-    number(word)
-}
-
-// Asks the system for an argument by its index, into a lent buffer, and hears what number it is.
-fn hear(index: usize, buf: &mut [u8]) -> Argument
-    ensures { λ r. ⌜ Heard index (now (buf .exit)) r ⌝ }
-{
-    let size = os::arg(index, buf);
-    let error = os::errno();
-    let word = number_of(error, &buf[..size]);
-    Argument {
-        index,
-        error,
-        size,
-        word,
-    }
-}
-
-// Whether a program was told four words besides its own name.
-fn are_four(arguments: usize) -> bool
-    ensures { λ r. ⌜ r ≡ eqb arguments 5 ⌝ }
-{
-    arguments == 5
-}
-
-// The words that the program was told, each read into a buffer of its own: none are numbers where they are not four.
-fn read_words(seed: &mut [u8], n: &mut [u8], m: &mut [u8], k: &mut [u8]) -> Told
-    ensures { λ r. ⌜ WordsHeard (now (seed .exit)) (now (n .exit)) (now (m .exit)) (now (k .exit)) r ⌝ }
-{
-    let count = os::arg_count();
-    let first = hear(1, seed);
-    let second = hear(2, n);
-    let third = hear(3, m);
-    let fourth = hear(4, k);
-    Told {
-        count,
-        seed: first,
-        n: second,
-        m: third,
-        k: fourth,
-    }
-}
-
-// The four words that ask for a test board: none are numbers where they are not four.
-fn asked_by(told: Told) -> Asked
-    ensures { λ r. ⌜ r ≡ askedBy told ⌝ }
-{
-    if !are_four(told.count) {
-        return Asked {
-            seed: Word::NoNumber,
-            n: Word::NoNumber,
-            m: Word::NoNumber,
-            k: Word::NoNumber,
-        };
-    }
-    let first = told.seed;
-    let seed = first.word;
-    let second = told.n;
-    let n = second.word;
-    let third = told.m;
-    let m = third.word;
-    let fourth = told.k;
-    let k = fourth.word;
-    Asked { seed, n, m, k }
 }
 
 // The test board that four words ask for.

@@ -1,3 +1,2 @@
 pub mod Leaders
 pub mod Numbering
-pub mod Scanning

@@ -6,8 +6,6 @@ ghost use lib.Seq.{sets};
 ghost use Rattle.merge.specs.Merged.{leader};
 ghost use Rattle.merge_classes.specs.Passes.{SelfTable, leaderCount, classNumbers, leaderLabels};
 
-pub mod links;
-
 // The smallest part of u's class: the first of the parts that u's set has whose own set has u.
 fn leader(table: &[u32], u: usize) -> usize
     requires { ⌜ SelfTable (now table) ⌝ }
@@ -25,8 +23,8 @@ fn leader(table: &[u32], u: usize) -> usize
     table.len()
 }
 
-// Numbers the classes by their smallest part: a part that leads its class has the next number, another part that of its leader. Returns
-// how many classes there are.
+// Numbers the classes by their smallest part: a part that leads its class has the next number, another part that of its
+// leader. Returns how many classes there are.
 pub fn number_classes(table: &[u32], classes: &mut [u8]) -> usize
     requires { ⌜ SelfTable (now table) ⌝ }
     requires { ⌜ length (now classes) ≡ length (now table) ⌝ }
@@ -52,7 +50,8 @@ pub fn number_classes(table: &[u32], classes: &mut [u8]) -> usize
 pub fn leader_labels(table: &[u32], labels: &[u32], out: &mut [u32])
     requires { ⌜ SelfTable (now table) ⌝ }
     requires { ⌜ (length (now labels) ≡ length (now table)) × (length (now table) ≤ length (now out)) ⌝ }
-    ensures { λ r. ⌜ now (out .exit) ≡ sets (now (out .entry)) 0 (leaderLabels (now (table .entry)) (now (labels .entry))) ⌝ }
+    ensures { λ r. ⌜ now (out .exit)
+        ≡ sets (now (out .entry)) 0 (leaderLabels (now (table .entry)) (now (labels .entry))) ⌝ }
 {
     let mut next = 0;
     let mut u = 0;

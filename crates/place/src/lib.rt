@@ -5,7 +5,8 @@ use table::Rest;
 
 pub mod parts;
 
-// The four counts of the ball, or why the call was turned away, with counts of 0 or, where there is no place, the ball's.
+// The four counts of the ball, or why the call was turned away, with counts of 0 or, where there is no place, the
+// ball's.
 pub enum PlaceAnswer {
     Placed(Counts),
     Refused(Refusal, Counts),

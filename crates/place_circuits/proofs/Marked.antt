@@ -13,8 +13,8 @@ use Rattle.place.specs.Find.{Located}
 use Rattle.place.specs.Match.{distancesOf, placeNodes, placeLinks, placeTable}
 use Rattle.place.proofs.Find.{located-nodes, located-links, located-table}
 use Rattle.place.proofs.Marks.{length-ballDistances}
-use Rattle.place_circuits.specs.declared.InBall.{InBall}
-use Rattle.place_circuits.specs.Ball.{PlacedIn}
+use Rattle.place_ball.specs.declared.InBall.{InBall}
+use Rattle.place_ball.specs.Ball.{PlacedIn}
 
 module _ {pattern board : Circuit} {t : Tables} {around : Around} {dist queue sets : List ℕ} {a : InBall}
     (drawn : Drawn pattern board) (p : Prepared pattern board t) (b : PlacedIn pattern board t around dist queue sets a) (f : a .found ≡ true)

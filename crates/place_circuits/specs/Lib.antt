@@ -1,1 +1,1 @@
-pub mod Ball
+pub mod Drawn

@@ -1,78 +1,21 @@
-// The place of a pattern around a centre of a board, both read and prepared: from the kinds, and from the tables that are made of the links.
+// The place of a pattern around a centre of a board, both read and prepared: from the kinds, and from the tables that
+// are made of the links.
 use file_format::Board;
 use file_format::File;
 use file_format::Refusal;
 use graph::copy;
-use graph_search::search;
 use place::Around;
 use place::PlaceAnswer;
-use place_around::find;
+use place_ball::find_in_ball;
 use place_mark::mark;
-use table::Counts;
-use table::counted;
-use table_first::start;
-ghost use mathlib.Core.Path.{_≡_};
 ghost use Prim.Native.Nat.{_≤_, _<_};
 ghost use lib.ListN.{length, getD};
 ghost use Rattle.table.specs.Prepared.{tables};
-ghost use Rattle.place.specs.Outcome.{placeReply, placeAround};
-ghost use Rattle.place_circuits.specs.Ball.{SomeTabled, EveryPlaced, SomeDrawn, EveryDrawn};
+ghost use Rattle.place.specs.Outcome.{placeAround};
+ghost use Rattle.place_circuits.specs.Drawn.{placedAs, SomeDrawn, EveryDrawn};
 
-// Whether there is a place in a ball, how many nodes it has, and the ball's counts.
-pub struct InBall {
-    pub found: bool,
-    pub size: usize,
-    pub counts: Counts,
-}
-
-// Finds the place from the ball's pairs of equal kinds, and leaves the ball's distances in `dist`. The searches clear their entries whole, and the
-// first table and the rounds both tables of sets; all other work is in the ball.
-fn find_in_ball(
-    part_labels: &[u32],
-    node_labels: &[u32],
-    masks: &[u32],
-    offsets: &[u16],
-    targets: &[u16],
-    around: Around,
-    dist: &mut [u16],
-    queue: &mut [u16],
-    sets: &mut [u32],
-    spare: &mut [u32],
-) -> InBall
-    requires { ⌜ SomeTabled (now «part_labels») (now «node_labels») (tables (now masks) (now offsets) (now targets)) ⌝ }
-    requires { ⌜ around .centre < length (now «node_labels») ⌝ }
-    requires { ⌜ (length (now dist) ≡ length (now «node_labels»)) × (length (now queue) ≡ length (now «node_labels»)) ⌝ }
-    requires { ⌜ (length (now sets) ≡ length (now «node_labels»)) × (length (now spare) ≡ length (now «node_labels»)) ⌝ }
-    ensures { λ a. ⌜ EveryPlaced (now («part_labels» .entry)) (now («node_labels» .entry)) (tables (now (masks .entry)) (now (offsets .entry)) (now (targets .entry))) around (now (dist .exit)) (now (queue .exit)) (now (sets .exit)) a ⌝ }
-{
-    let mut joined = [0u16; Board::MAX_NODES];
-    let n = node_labels.len();
-    let apart = &mut joined[..n];
-    let c = around.centre;
-    let k = search(offsets, targets, c, around.radius, dist, queue);
-    let started = start(&queue[..k], part_labels, node_labels, sets);
-    let place = find(
-        masks,
-        offsets,
-        targets,
-        c,
-        k,
-        started,
-        apart,
-        queue,
-        sets,
-        spare,
-    );
-    let rest = place.rest;
-    InBall {
-        found: place.found,
-        size: place.size,
-        counts: counted(started, rest),
-    }
-}
-
-// The place around a centre: the ball's counts, and the four lent tables written; or number 9 with the ball's counts, which leaves those
-// tables as they were. The last offset is how many links the board has.
+// The place around a centre: the ball's counts, and the four lent tables written; or number 9 with the ball's counts,
+// which leaves those tables as they were. The last offset is how many links the board has.
 pub fn place_circuits(
     part_labels: &[u32],
     node_labels: &[u32],
@@ -87,11 +30,15 @@ pub fn place_circuits(
 ) -> PlaceAnswer
     requires { ⌜ SomeDrawn (now «part_labels») (now «node_labels») (tables (now masks) (now offsets) (now targets)) ⌝ }
     requires { ⌜ around .centre < length (now «node_labels») ⌝ }
-    requires { ⌜ (length (now «node_labels») ≤ length (now nodes)) × (getD (now offsets) (length (now «node_labels»)) 0 ≤ length (now bytes)) ⌝ }
-    requires { ⌜ (length (now «node_labels») ≤ length (now table)) × (length (now «node_labels») ≤ length (now distances)) ⌝ }
-    ensures { λ a. ⌜ EveryDrawn (now («part_labels» .entry)) (now («node_labels» .entry)) (tables (now (masks .entry)) (now (offsets .entry)) (now (targets .entry)))
-        (record { reply = placeReply a; nodes = now (nodes .exit); links = now (bytes .exit); table = now (table .exit); distances = now (distances .exit) })
-        (λ pattern board. placeAround pattern board (around .centre) (around .radius) (now (nodes .entry)) (now (bytes .entry)) (now (table .entry)) (now (distances .entry))) ⌝ }
+    requires { ⌜ (length (now «node_labels») ≤ length (now nodes)) ×
+        (getD (now offsets) (length (now «node_labels»)) 0 ≤ length (now bytes)) ⌝ }
+    requires { ⌜ (length (now «node_labels») ≤ length (now table)) ×
+        (length (now «node_labels») ≤ length (now distances)) ⌝ }
+    ensures { λ a. ⌜ EveryDrawn (now («part_labels» .entry)) (now («node_labels» .entry))
+        (tables (now (masks .entry)) (now (offsets .entry)) (now (targets .entry)))
+        (placedAs a (now (nodes .exit)) (now (bytes .exit)) (now (table .exit)) (now (distances .exit)))
+        (λ pattern board. placeAround pattern board (around .centre) (around .radius) (now (nodes .entry))
+        (now (bytes .entry)) (now (table .entry)) (now (distances .entry))) ⌝ }
 {
     let mut dist = [0u16; Board::MAX_NODES];
     let mut queue = [0u16; Board::MAX_NODES];

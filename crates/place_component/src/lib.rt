@@ -1,5 +1,6 @@
-// The search along matching links, followed either way; what it reaches, as far as it goes, is the component of the centre. A link matches where some part of its end's set is
-// driven by some part of its start's, so that one union of masks for each direction serves all links of a node, and each costs one test.
+// The search along matching links, followed either way; what it reaches, as far as it goes, is the component of the
+// centre. A link matches where some part of its end's set is driven by some part of its start's, so that one union of
+// masks for each direction serves all links of a node, and each costs one test.
 use graph::UNREACHED;
 use graph_follow::follow;
 use graph_neighbours::neighbours::Direction;
@@ -35,7 +36,9 @@ pub fn expand(
     requires { ⌜ length (now sets) ≡ length (now dist) ⌝ }
     requires { ⌜ v < length (now dist) ⌝ }
     requires { ⌜ d < far ⌝ }
-    ensures { λ r. ⌜ Searched (now (dist .exit)) (now (queue .exit)) r (scan d (stateOf (now (dist .entry)) (now (queue .entry)) from) (matched (tables (now (masks .entry)) (now (offsets .entry)) (now (targets .entry))) (now (sets .entry)) v)) ⌝ }
+    ensures { λ r. ⌜ Searched (now (dist .exit)) (now (queue .exit)) r
+        (scan d (stateOf (now (dist .entry)) (now (queue .entry)) from)
+        (matched (tables (now (masks .entry)) (now (offsets .entry)) (now (targets .entry))) (now (sets .entry)) v)) ⌝ }
 {
     let set = sets[v];
     let driven = driven_parts(masks, set);
@@ -60,8 +63,8 @@ pub fn expand(
     )
 }
 
-// Searches from the centre c as far as distance r, level by level, and stops as soon as it has reached `size` nodes. Returns how many it has reached; they stand
-// first in the queue. It goes on as `graph_search::advance` does.
+// Searches from the centre c as far as distance r, level by level, and stops as soon as it has reached `size` nodes.
+// Returns how many it has reached; they stand first in the queue. It goes on as `graph_search::advance` does.
 pub fn reach(
     masks: &[u32],
     offsets: &[u16],
@@ -77,7 +80,9 @@ pub fn reach(
     requires { ⌜ c < length (now dist) ⌝ }
     requires { ⌜ (length (now sets) ≡ length (now dist)) × (length (now dist) ≡ length (now queue)) ⌝ }
     ensures { λ k. ⌜ Searching (now (dist .exit)) (now (queue .exit)) k ⌝ }
-    ensures { λ k. ⌜ Until (matched (tables (now (masks .entry)) (now (offsets .entry)) (now (targets .entry))) (now (sets .entry))) (length (now (dist .entry))) c r (size ≤ k) (stateOf (now (dist .exit)) (now (queue .exit)) k) ⌝ }
+    ensures { λ k. ⌜ Until (matched (tables (now (masks .entry)) (now (offsets .entry)) (now (targets .entry)))
+        (now (sets .entry))) (length (now (dist .entry))) c r (size ≤ k)
+        (stateOf (now (dist .exit)) (now (queue .exit)) k) ⌝ }
 {
     begin(c, dist, queue);
     let mut looked = 0;
@@ -100,8 +105,8 @@ pub fn reach(
     tail
 }
 
-// Leaves in `dist` an entry for each node, `UNREACHED` where it is not in the component of the centre c. Returns how many nodes that has;
-// they stand first in the queue.
+// Leaves in `dist` an entry for each node, `UNREACHED` where it is not in the component of the centre c. Returns how
+// many nodes that has; they stand first in the queue.
 pub fn component(
     masks: &[u32],
     offsets: &[u16],
@@ -114,7 +119,9 @@ pub fn component(
     requires { ⌜ Ready (tables (now masks) (now offsets) (now targets)) (now sets) ⌝ }
     requires { ⌜ c < length (now dist) ⌝ }
     requires { ⌜ (length (now sets) ≡ length (now dist)) × (length (now dist) ≡ length (now queue)) ⌝ }
-    ensures { λ k. ⌜ Found k (now (dist .exit)) (now (queue .exit)) (bfs (matched (tables (now (masks .entry)) (now (offsets .entry)) (now (targets .entry))) (now (sets .entry))) (length (now (dist .entry))) c far) ⌝ }
+    ensures { λ k. ⌜ Found k (now (dist .exit)) (now (queue .exit))
+        (bfs (matched (tables (now (masks .entry)) (now (offsets .entry)) (now (targets .entry))) (now (sets .entry)))
+        (length (now (dist .entry))) c far) ⌝ }
 {
     reach(
         masks,

@@ -1,6 +1,6 @@
 -- Lists without repeats: one whose entries all occur in another is not longer, so that where it is as long it has all of the other's; and those of
 -- a list's nodes that pass a test. Assumes nothing.
-use Rattle.base_lists.specs.Kit.{_≡_, _∙_, sym, ap, refl, subst, Bool, false, true, cond, List, [], _∷_, _++_, ℕ, _≤_, _<_, _+_, suc, zero, zero-le, suc-le-suc, not-suc-le-zero, le-of-suc-le-suc, zero-lt-suc, le-step, add-one, T, eqb, eqb-refl, length, getD, take, length-append, List·getD-append, take-suc, arith, ne-eqb}
+use Rattle.base_lists.specs.Kit.{_≡_, _∙_, sym, ap, refl, subst, Bool, false, true, cond, List, [], _∷_, _++_, ℕ, _≤_, _<_, _+_, suc, zero, suc-le-suc, not-suc-le-zero, le-of-suc-le-suc, zero-lt-suc, T, eqb, eqb-refl, length, getD, length-append, List·getD-append, arith, ne-eqb}
 use Rattle.base_lists.specs.List.{Occurs, Below}
 use Rattle.base_lists.specs.Below.{leastBelow}
 use Rattle.base_lists.proofs.Below.{leastBelow-is, countBelow-all}
@@ -8,7 +8,8 @@ use Rattle.base_lists.proofs.Ranks.{count-images}
 use Rattle.base_lists.proofs.Tests.{true-T, false-T}
 use Rattle.graph.proofs.BfsScan.{elem, elem-occurs, occurs-elem}
 use Rattle.table.specs.Fill.{Distinct, NodeList}
-use Rattle.place_components.specs.Components.{having}
+use Rattle.graph_gather.specs.Having.{having}
+use Rattle.graph_gather.proofs.Having.{having-short}
 
 -- ---- no entry twice
 
@@ -109,42 +110,11 @@ module _ (p : ℕ → Bool) where
       go true r = distinct-cons x (having p xs) (λ o. distinct-first x xs d (having-from xs x o .0)) r
       go false r = r
 
-  pub having-short : (xs : List ℕ) → length (having p xs) ≤ length xs
-  unfolding having
-  having-short [] = zero-le
-  having-short (x ∷ xs) = go (p x) (having-short xs)
-    where
-      go : (b : Bool) → length (having p xs) ≤ length xs → length (cond b (x ∷ having p xs) (having p xs)) ≤ suc (length xs)
-      go true h = suc-le-suc h
-      go false h = le-step h
-
   pub having-list : {n : ℕ} {xs : List ℕ} → NodeList n xs → NodeList n (having p xs)
   unfolding Below
   having-list {n} {xs} l =
       record {
         below = λ i h. let (j, k, e) = having-from xs (getD (having p xs) i 0) (i, h, refl) .0 in subst (λ (v : ℕ). v < n) e (l .below j k);
         distinct = having-distinct xs (l .distinct);
-        short = omega (arith, having-short xs, l .short);
+        short = omega (arith, having-short p xs, l .short);
       }
-
-  -- one node more
-  pub having-more : (xs : List ℕ) (v : ℕ) → having p (xs ++ (v ∷ [])) ≡ having p xs ++ cond (p v) (v ∷ []) []
-  unfolding having
-  having-more [] v = refl
-  having-more (x ∷ xs) v = go (p x) (having-more xs v)
-    where
-      go : (b : Bool) → having p (xs ++ (v ∷ [])) ≡ having p xs ++ cond (p v) (v ∷ []) []
-          → cond b (x ∷ having p (xs ++ (v ∷ []))) (having p (xs ++ (v ∷ []))) ≡ cond b (x ∷ having p xs) (having p xs) ++ cond (p v) (v ∷ []) []
-      go true e = ap (λ (l : List ℕ). x ∷ l) e
-      go false e = e
-
-  -- the same, counted
-  pub having-count : (xs : List ℕ) (i : ℕ) → i < length xs → length (having p (take (i + 1) xs)) ≡ length (having p (take i xs)) + cond (p (getD xs i 0)) 1 0
-  having-count xs i h =
-      rw (add-one i)
-      (ap (λ (l : List ℕ). length (having p l)) (take-suc xs i 0 h) ∙ ap length (having-more (take i xs) (getD xs i 0))
-      ∙ length-append (having p (take i xs)) _ ∙ ap (λ (k : ℕ). length (having p (take i xs)) + k) (go (p (getD xs i 0))))
-    where
-      go : (b : Bool) → length (cond b (getD xs i 0 ∷ []) []) ≡ cond b 1 0
-      go true = refl
-      go false = refl

@@ -1,17 +1,13 @@
 -- The components of a match graph, each node with the number of its component: what naming them leaves, and what a search along all links gathers of
 -- them. An adjacency function says what is joined to a node, directions ignored.
-use Rattle.base_lists.specs.Kit.{_≡_, Bool, cond, List, [], _∷_, ℕ, _≤_, _<_, _^_, eqb, length, getD}
+use Rattle.base_lists.specs.Kit.{_≡_, Bool, List, ℕ, _≤_, _<_, _^_, length, getD}
 use Rattle.graph.specs.Bfs.{SearchState}
 use Rattle.graph.specs.Circuit.{Circuit}
 use Rattle.graph_search.specs.Until.{Until}
+use Rattle.graph_gather.specs.Having.{having, numbered}
 use Rattle.table.specs.Prepared.{Tables}
 use Rattle.place.specs.Find.{Tabled}
 use Rattle.place.specs.Spread.{Reached, Spread, Lists}
-
--- those of a list's nodes that pass a test
-unfoldable pub having : (ℕ → Bool) → List ℕ → List ℕ
-having p [] = []
-having p (v ∷ vs) = cond (p v) (v ∷ having p vs) (having p vs)
 
 -- a table of sets of some pattern and board, over their tables
 pub record MatchTable (t : Tables) (sets : List ℕ) : Type 0 where
@@ -56,7 +52,7 @@ pub record Components (n : ℕ) (adj : ℕ → List ℕ) (sets componentOf sizes
 
 -- a node has c's number
 abbrev pub sameComponent : List ℕ → ℕ → ℕ → Bool
-sameComponent componentOf c v = eqb (getD componentOf v 0) (getD componentOf c 0)
+sameComponent componentOf c = numbered componentOf (getD componentOf c 0)
 
 -- Those that pass a test of the nodes that a search from c up to distance r reaches, or of the first of them, where so many of those pass it.
 pub record Gathered (adj : ℕ → List ℕ) (n c r : ℕ) (p : ℕ → Bool) (size : ℕ) (nodes : List ℕ) : Type 0 where

@@ -1,5 +1,6 @@
-// Marking the place in the lent tables from the list of its nodes. Each table is cleared, and then written at the nodes of the list and at
-// their links only: a node's links are a stretch of the file's order.
+// Marking the place in the lent tables from the list of its nodes. Each table is cleared, and then written at the nodes
+// of the list and at their links only: a node's links are a stretch of the file's order.
+use graph::marked::fill;
 use graph_neighbours::neighbours::Direction;
 use graph_neighbours::neighbours::neighbours_in;
 use place::parts::driven_parts;
@@ -7,7 +8,7 @@ use table_first::copy;
 ghost use mathlib.Core.Bool.{cond};
 ghost use mathlib.Core.Path.{_≡_};
 ghost use Prim.Native.Nat.{suc, _≤_, _<_};
-ghost use lib.ListN.{length, getD, replicate};
+ghost use lib.ListN.{length, getD};
 ghost use Rattle.base_bits.specs.Bits.{intersects};
 ghost use Rattle.base_lists.specs.List.{Below};
 ghost use Rattle.graph.specs.Net.{forwardOffsets};
@@ -15,23 +16,12 @@ ghost use Rattle.table.specs.Fill.{marksOf, NodeList, tableAt};
 ghost use Rattle.table.specs.Prepared.{tables, Ready};
 ghost use Rattle.place.specs.Bytes.{LinksFit, markedEnds, markStart, linkMarks};
 
-// Sets every byte to 0.
-fn clear(bytes: &mut [u8])
-    ensures { λ _. ⌜ now (bytes .exit) ≡ replicate (length (now (bytes .entry))) 0 ⌝ }
-{
-    let mut i = 0;
-    while i < bytes.len() {
-        bytes[i] = 0;
-        i += 1;
-    }
-}
-
 // A byte for each node, 1 for those of the list.
 fn mark_nodes(list: &[u16], bytes: &mut [u8])
     requires { ⌜ Below (length (now bytes)) (now list) ⌝ }
     ensures { λ _. ⌜ now (bytes .exit) ≡ marksOf (length (now (bytes .entry))) (now (list .entry)) ⌝ }
 {
-    clear(bytes);
+    fill(bytes, 0);
     let mut i = 0;
     while i < list.len() {
         let v = list[i] as usize;
@@ -54,7 +44,8 @@ fn link_byte(driven: u32, set: u32, byte: u8) -> u8
 fn mark_ends(ends: &[u16], driven: u32, sets: &[u32], bytes: &mut [u8])
     requires { ⌜ length (now ends) ≡ length (now bytes) ⌝ }
     requires { ⌜ Below (length (now sets)) (now ends) ⌝ }
-    ensures { λ _. ⌜ now (bytes .exit) ≡ markedEnds driven (now (sets .entry)) (now (ends .entry)) (now (bytes .entry)) ⌝ }
+    ensures { λ _. ⌜ now (bytes .exit) ≡ markedEnds driven (now (sets .entry)) (now (ends .entry))
+        (now (bytes .entry)) ⌝ }
 {
     let mut k = 0;
     while k < ends.len() {
@@ -76,7 +67,9 @@ fn mark_start(
     requires { ⌜ Ready (tables (now masks) (now offsets) (now targets)) (now sets) ⌝ }
     requires { ⌜ v < length (now sets) ⌝ }
     requires { ⌜ getD (forwardOffsets (now offsets)) (suc v) 0 ≤ length (now bytes) ⌝ }
-    ensures { λ _. ⌜ now (bytes .exit) ≡ markStart (tables (now (masks .entry)) (now (offsets .entry)) (now (targets .entry))) (now (sets .entry)) v (now (bytes .entry)) ⌝ }
+    ensures { λ _. ⌜ now (bytes .exit) ≡ markStart
+        (tables (now (masks .entry)) (now (offsets .entry)) (now (targets .entry))) (now (sets .entry)) v
+        (now (bytes .entry)) ⌝ }
 {
     let ends = neighbours_in(Direction::Forward, offsets, targets, v);
     let driven = driven_parts(masks, sets[v]);
@@ -97,9 +90,11 @@ fn mark_links(
     requires { ⌜ Ready (tables (now masks) (now offsets) (now targets)) (now sets) ⌝ }
     requires { ⌜ NodeList (length (now sets)) (now list) ⌝ }
     requires { ⌜ LinksFit (length (now sets)) (now offsets) (now bytes) ⌝ }
-    ensures { λ _. ⌜ now (bytes .exit) ≡ linkMarks (length (now (bytes .entry))) (tables (now (masks .entry)) (now (offsets .entry)) (now (targets .entry))) (now (sets .entry)) (now (list .entry)) ⌝ }
+    ensures { λ _. ⌜ now (bytes .exit) ≡ linkMarks (length (now (bytes .entry)))
+        (tables (now (masks .entry)) (now (offsets .entry)) (now (targets .entry))) (now (sets .entry))
+        (now (list .entry)) ⌝ }
 {
-    clear(bytes);
+    fill(bytes, 0);
     let mut i = 0;
     while i < list.len() {
         let v = list[i] as usize;
@@ -124,8 +119,11 @@ pub fn mark(
     requires { ⌜ LinksFit (length (now sets)) (now offsets) (now bytes) ⌝ }
     requires { ⌜ (length (now nodes) ≡ length (now sets)) × (length (now table) ≡ length (now sets)) ⌝ }
     ensures { λ _. ⌜ now (nodes .exit) ≡ marksOf (length (now (sets .entry))) (now (list .entry)) ⌝ }
-    ensures { λ _. ⌜ now (bytes .exit) ≡ linkMarks (length (now (bytes .entry))) (tables (now (masks .entry)) (now (offsets .entry)) (now (targets .entry))) (now (sets .entry)) (now (list .entry)) ⌝ }
-    ensures { λ _. ⌜ now (table .exit) ≡ tableAt (length (now (sets .entry))) (λ v. getD (now (sets .entry)) v 0) (now (list .entry)) ⌝ }
+    ensures { λ _. ⌜ now (bytes .exit) ≡ linkMarks (length (now (bytes .entry)))
+        (tables (now (masks .entry)) (now (offsets .entry)) (now (targets .entry))) (now (sets .entry))
+        (now (list .entry)) ⌝ }
+    ensures { λ _. ⌜ now (table .exit) ≡ tableAt (length (now (sets .entry))) (λ v. getD (now (sets .entry)) v 0)
+        (now (list .entry)) ⌝ }
 {
     mark_nodes(list, nodes);
     mark_links(masks, offsets, targets, sets, list, bytes);

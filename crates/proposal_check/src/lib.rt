@@ -24,10 +24,11 @@ ghost use Rattle.graph.specs.Net.{NetRoom};
 ghost use Rattle.graph.specs.Search.{ball};
 ghost use Rattle.table.specs.Prepared.{tables};
 ghost use Rattle.proposal.specs.Check.{inRow, checks};
-ghost use Rattle.place_circuits.specs.Ball.{SomeTabled};
+ghost use Rattle.place_ball.specs.Ball.{SomeTabled};
 ghost use Rattle.proposal_check.specs.Tabled.{SomePattern, EveryFills, EveryJoined};
 
-// Whether every marked node is in the ball around the centre at the radius, in the whole board. The neighbour tables are scratch.
+// Whether every marked node is in the ball around the centre at the radius, in the whole board. The neighbour tables
+// are scratch.
 fn near(
     starts: &[u16],
     ends: &[u16],
@@ -39,8 +40,10 @@ fn near(
     requires { ⌜ NetRoom (now offsets) (now targets) ⌝ }
     requires { ⌜ (length (now nodes) ≤ 512) × (around .centre < length (now nodes)) ⌝ }
     requires { ⌜ (length (now starts) ≡ length (now ends)) × (length (now starts) ≤ 4096) ⌝ }
-    requires { ⌜ T (all (λ v. ltb v (length (now nodes))) (now starts)) × T (all (λ v. ltb v (length (now nodes))) (now ends)) ⌝ }
-    ensures { λ r. ⌜ r ≡ inRow (ball (length (now (nodes .entry))) (now (starts .entry)) (now (ends .entry)) (around .centre) (around .radius)) (now (nodes .entry)) ⌝ }
+    requires { ⌜ T (all (λ v. ltb v (length (now nodes))) (now starts)) × T
+        (all (λ v. ltb v (length (now nodes))) (now ends)) ⌝ }
+    ensures { λ r. ⌜ r ≡ inRow (ball (length (now (nodes .entry))) (now (starts .entry)) (now (ends .entry))
+        (around .centre) (around .radius)) (now (nodes .entry)) ⌝ }
 {
     let n = nodes.len();
     let mut dist = [0u16; Board::MAX_NODES];
@@ -57,8 +60,8 @@ fn near(
     in_row(&dist[..n], nodes)
 }
 
-// Whether there is a place around c among all that links join to c: no walk needs more links than there are nodes. Where there is one, `dist` is
-// left with `UNREACHED` outside it, and `sets` with the table of those nodes.
+// Whether there is a place around c among all that links join to c: no walk needs more links than there are nodes.
+// Where there is one, `dist` is left with `UNREACHED` outside it, and `sets` with the table of those nodes.
 fn find_joined(
     part_labels: &[u32],
     node_labels: &[u32],
@@ -73,25 +76,18 @@ fn find_joined(
 ) -> bool
     requires { ⌜ SomeTabled (now «part_labels») (now «node_labels») (tables (now masks) (now offsets) (now targets)) ⌝ }
     requires { ⌜ (length (now «node_labels») ≤ 512) × (c < length (now «node_labels»)) ⌝ }
-    requires { ⌜ (length (now dist) ≡ length (now «node_labels»)) × (length (now queue) ≡ length (now «node_labels»)) ⌝ }
-    requires { ⌜ (length (now sets) ≡ length (now «node_labels»)) × (length (now spare) ≡ length (now «node_labels»)) ⌝ }
-    ensures { λ a. ⌜ EveryJoined (now («part_labels» .entry)) (now («node_labels» .entry)) (tables (now (masks .entry)) (now (offsets .entry)) (now (targets .entry))) c (now (dist .exit)) (now (sets .exit)) a ⌝ }
+    requires { ⌜ (length (now dist) ≡ length (now «node_labels»))
+        × (length (now queue) ≡ length (now «node_labels»)) ⌝ }
+    requires { ⌜ (length (now sets) ≡ length (now «node_labels»))
+        × (length (now spare) ≡ length (now «node_labels»)) ⌝ }
+    ensures { λ a. ⌜ EveryJoined (now («part_labels» .entry)) (now («node_labels» .entry))
+        (tables (now (masks .entry)) (now (offsets .entry)) (now (targets .entry))) c (now (dist .exit))
+        (now (sets .exit)) a ⌝ }
 {
     let n = node_labels.len();
     let k = search(offsets, targets, c, n as u16, dist, queue);
-    let started = start(&queue[..k], part_labels, node_labels, sets);
-    let place = find(
-        masks,
-        offsets,
-        targets,
-        c,
-        k,
-        started,
-        dist,
-        queue,
-        sets,
-        spare,
-    );
+    let p = start(&queue[..k], part_labels, node_labels, sets);
+    let place = find(masks, offsets, targets, c, k, p, dist, queue, sets, spare);
     place.found
 }
 
@@ -107,10 +103,14 @@ fn fills(
     c: u16,
     nodes: &[u8],
 ) -> bool
-    requires { ⌜ SomePattern (now «part_labels») (circuit (now «node_labels») (now starts) (now ends)) (tables (now masks) (now offsets) (now targets)) ⌝ }
+    requires { ⌜ SomePattern (now «part_labels») (circuit (now «node_labels») (now starts) (now ends))
+        (tables (now masks) (now offsets) (now targets)) ⌝ }
     requires { ⌜ length (now starts) ≡ length (now ends) ⌝ }
-    requires { ⌜ (length (now «node_labels») ≤ 512) × (c < length (now «node_labels»)) × (length (now nodes) ≡ length (now «node_labels»)) ⌝ }
-    ensures { λ r. ⌜ EveryFills (now («part_labels» .entry)) (circuit (now («node_labels» .entry)) (now (starts .entry)) (now (ends .entry))) (tables (now (masks .entry)) (now (offsets .entry)) (now (targets .entry))) c (now (nodes .entry)) r ⌝ }
+    requires { ⌜ (length (now «node_labels») ≤ 512) × (c < length (now «node_labels»)) ×
+        (length (now nodes) ≡ length (now «node_labels»)) ⌝ }
+    ensures { λ r. ⌜ EveryFills (now («part_labels» .entry))
+        (circuit (now («node_labels» .entry)) (now (starts .entry)) (now (ends .entry)))
+        (tables (now (masks .entry)) (now (offsets .entry)) (now (targets .entry))) c (now (nodes .entry)) r ⌝ }
 {
     let n = node_labels.len();
     let mut dist = [0u16; Board::MAX_NODES];
@@ -138,8 +138,8 @@ fn fills(
     links_placed(masks, starts, ends, &dist[..n], &sets[..n])
 }
 
-// Whether the node bytes and the link bytes mark a perfect subgraph around the centre at the radius, largest or not. The board's links are left
-// with the marked ones in front: those are matched as a board of their own.
+// Whether the node bytes and the link bytes mark a perfect subgraph around the centre at the radius, largest or not.
+// The board's links are left with the marked ones in front: those are matched as a board of their own.
 pub fn check_circuits(
     part_labels: &[u32],
     part_starts: &[u16],
@@ -152,11 +152,17 @@ pub fn check_circuits(
     bytes: &[u8],
 ) -> bool
     ghost { Circuit × Circuit }
-    requires { λ α. ⌜ (circuit (now «part_labels») (now «part_starts») (now «part_ends»), circuit (now «node_labels») (now «node_starts») (now «node_ends»)) ≡ α ⌝ }
+    requires { λ α. ⌜ (
+      circuit (now «part_labels») (now «part_starts») (now «part_ends»),
+      circuit (now «node_labels»)
+          (now «node_starts») (now «node_ends»),
+    ) ≡ α ⌝ }
     requires { λ α. ⌜ Drawn (α .0) (α .1) ⌝ }
     requires { λ α. ⌜ around .centre < length (now «node_labels») ⌝ }
-    requires { λ α. ⌜ (length (now nodes) ≡ length (now «node_labels»)) × (length (now bytes) ≡ length (now «node_starts»)) ⌝ }
-    ensures { λ α r. ⌜ r ≡ checks (α .0) (α .1) (around .centre) (around .radius) (now (nodes .entry)) (now (bytes .entry)) ⌝ }
+    requires { λ α. ⌜ (length (now nodes) ≡ length (now «node_labels»)) ×
+        (length (now bytes) ≡ length (now «node_starts»)) ⌝ }
+    ensures { λ α r. ⌜ r ≡ checks (α .0) (α .1) (around .centre) (around .radius) (now (nodes .entry))
+        (now (bytes .entry)) ⌝ }
 {
     let n = node_labels.len();
     let c = around.centre;

@@ -45,7 +45,8 @@ fn both_marked(nodes: &[u8], v: u16, w: u16) -> bool
 fn ends_marked(starts: &[u16], ends: &[u16], nodes: &[u8], link_bytes: &[u8]) -> bool
     requires { ⌜ (length (now «link_bytes») ≡ length (now starts)) × (length (now «link_bytes») ≡ length (now ends)) ⌝ }
     requires { ⌜ Below (length (now nodes)) (now starts) × Below (length (now nodes)) (now ends) ⌝ }
-    ensures { λ r. ⌜ r ≡ endsMarked (now (starts .entry)) (now (ends .entry)) (now (nodes .entry)) (now («link_bytes» .entry)) ⌝ }
+    ensures { λ r. ⌜ r ≡ endsMarked (now (starts .entry)) (now (ends .entry)) (now (nodes .entry))
+        (now («link_bytes» .entry)) ⌝ }
 {
     let mut i = 0;
     while i < link_bytes.len() {
@@ -70,7 +71,9 @@ pub fn marks_subgraph(
     requires { ⌜ (length (now «link_bytes») ≡ length (now starts)) × (length (now «link_bytes») ≡ length (now ends)) ⌝ }
     requires { ⌜ Below (length (now nodes)) (now starts) × Below (length (now nodes)) (now ends) ⌝ }
     requires { ⌜ centre < length (now nodes) ⌝ }
-    ensures { λ r. ⌜ ((kinds : List ℕ) → r ≡ marksSubgraph (circuit kinds (now (starts .entry)) (now (ends .entry))) centre (now (nodes .entry)) (now («link_bytes» .entry))) ⌝ }
+    ensures { λ r. ⌜ ((kinds : List ℕ) → r
+        ≡ marksSubgraph (circuit kinds (now (starts .entry)) (now (ends .entry))) centre (now (nodes .entry))
+        (now («link_bytes» .entry))) ⌝ }
 {
     if !bits(nodes) {
         return false;
@@ -101,7 +104,8 @@ pub fn in_row(dist: &[u16], nodes: &[u8]) -> bool
     true
 }
 
-// Whether a link is in the place that was found: its start was reached, and what its start's parts drive has a part of its end's set.
+// Whether a link is in the place that was found: its start was reached, and what its start's parts drive has a part of
+// its end's set.
 fn link_placed(masks: &[u32], dist: &[u16], sets: &[u32], v: u16, w: u16) -> bool
     requires { ⌜ (length (now masks) ≡ 64) × (length (now dist) ≡ length (now sets)) ⌝ }
     requires { ⌜ (v < length (now sets)) × (w < length (now sets)) ⌝ }
@@ -120,7 +124,9 @@ pub fn links_placed(masks: &[u32], starts: &[u16], ends: &[u16], dist: &[u16], s
     requires { ⌜ (length (now masks) ≡ 64) × (length (now dist) ≡ length (now sets)) ⌝ }
     requires { ⌜ length (now starts) ≡ length (now ends) ⌝ }
     requires { ⌜ Below (length (now sets)) (now starts) × Below (length (now sets)) (now ends) ⌝ }
-    ensures { λ r. ⌜ r ≡ allBelow (length (now (starts .entry))) (inside (linkBytes (now (starts .entry)) (now (ends .entry)) (succOf (now (masks .entry))) (now (dist .entry)) (now (sets .entry)))) ⌝ }
+    ensures { λ r. ⌜ r ≡ allBelow (length (now (starts .entry)))
+        (inside (linkBytes (now (starts .entry)) (now (ends .entry)) (succOf (now (masks .entry))) (now (dist .entry))
+        (now (sets .entry)))) ⌝ }
 {
     let mut i = 0;
     while i < starts.len() {

@@ -17,9 +17,10 @@ use Rattle.table.specs.Prepared.{succOf, Tables, Prepared}
 use Rattle.place.specs.Bytes.{nodeBytes, drivenBy, linkByte, linkBytes}
 use Rattle.place.specs.Match.{radiusOf}
 use Rattle.place.specs.Find.{Located}
-use Rattle.report.specs.Lines.{nodeText, nodesText, linkText, drivenText, startText, linksText, lineText}
-use Rattle.report.specs.Report.{markedItems, linkItem, nodeItems, linkItems, placeLine, hasPlace, centreLine}
+use Rattle.report_texts.specs.Texts.{linkItem, nodeText, nodesText, linkText, drivenText, startText, linksText, lineText}
+use Rattle.report.specs.Report.{markedItems, nodeItems, linkItems, placeLine, hasPlace, centreLine}
 use Rattle.report.proofs.Order.{from, links-by-start}
+use Rattle.report.proofs.Pieces.{line-place}
 
 -- ---- marked items, by a test
 
@@ -102,10 +103,10 @@ pub centre-located :
     Below (length (board .labels)) (board .starts) → LinksRise (board .starts) (board .ends) → (c : ℕ) {dist sets place : List ℕ} →
     hasPlace pattern board c ≡ true → Located pattern board t c (radiusOf pattern) dist sets place →
     lineText t dist sets c ≡ centreLine pattern board c
-unfolding centreLine lineText
+unfolding centreLine
 centre-located {pattern} {board} {t} p parallel starts rise c {dist} {sets} e l =
     rw e
-    (ap₂ (placeLine c) (sym (nodes-text dist) ∙ ap nodeItems (l .bytes))
+    (line-place t dist sets c ∙ ap₂ (placeLine c) (sym (nodes-text dist) ∙ ap nodeItems (l .bytes))
     (sym
     (links-order (board .starts) (board .ends) t dist sets parallel (rw (l .size) starts) rise
     (λ v h. p .net .drives v (subst (λ m. v < m) (l .size) h)))

@@ -16,7 +16,8 @@ use Rattle.file_format.specs.Refusals.{Verdict, accept, first, linkConditions, 
 use Rattle.table.specs.Examples.{rowComputed, circuitT, circuitB}
 use Rattle.place.specs.Match.{radiusOf, ballOf, ballTable, found, matches, linkMatches, matchStarts, matchEnds, component, placeNodes, placeLinks}
 use Rattle.place.proofs.Examples.{Shows, radius-T, E3-0, E3-1, E3-2, E4-none}
-use Rattle.report.specs.Report.{markedItems, linkItem, nodeItems, linkItems, placeLine, hasPlace, centreLine, endLine, fileWord, refusalLine, linesOf, reportFor, reportOf}
+use Rattle.report_texts.specs.Texts.{linkItem}
+use Rattle.report.specs.Report.{markedItems, nodeItems, linkItems, placeLine, hasPlace, centreLine, endLine, fileWord, refusalLine, linesOf, reportFor, reportOf}
 
 -- both files are accepted, and hold T and B
 T-and-B : first (fileConditions Pattern (firstEdition fileT) ++ fileConditions Board (firstEdition fileB)) ≡ accept

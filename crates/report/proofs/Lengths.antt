@@ -15,7 +15,8 @@ use Rattle.file_format.proofs.Accepted.{starts-below, ends-below}
 use Rattle.place.specs.Match.{radiusOf, placeNodes, placeLinks}
 use Rattle.place.proofs.Marks.{nodes-marks, links-marks}
 use Rattle.report.specs.Lines.{longestLine}
-use Rattle.report.specs.Report.{markedItems, linkItem, nodeItems, linkItems, placeLine, hasPlace, centreLine, endLine, fileWord, refusalLine}
+use Rattle.report_texts.specs.Texts.{linkItem}
+use Rattle.report.specs.Report.{markedItems, nodeItems, linkItems, placeLine, hasPlace, centreLine, endLine, fileWord, refusalLine}
 
 -- a space before an item
 space : {b : ℕ} (text : List ℕ) → length text ≤ b → length (bytes " " ++ text) ≤ 1 + b

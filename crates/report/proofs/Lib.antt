@@ -1,4 +1,3 @@
-pub mod Concat
 pub mod Pieces
 pub mod Order
 pub mod Centre

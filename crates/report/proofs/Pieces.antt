@@ -1,40 +1,15 @@
--- The lines and their items piece by piece, as the program puts them. Assumes nothing.
-use Rattle.base_lists.specs.Kit.{_≡_, false, true, List, [], _∷_, _++_, append-assoc, ℕ, _≤_, _+_, length, getD, length-append, arith}
-use Rattle.base_bits.specs.Bits.{intersects, unionOver}
-use Rattle.base_text.specs.Text.{bytes, decimal, Fits}
+-- The lines and their items piece by piece, as the program puts them, and the room that is left after a piece. Assumes nothing.
+use Rattle.base_lists.specs.Kit.{_≡_, false, true, List, [], _++_, append-assoc, ℕ, _≤_, _<_, _+_, suc, _^_, length, getD, length-append, arith}
+use Rattle.base_bits.specs.Bits.{unionOver}
+use Rattle.base_text.specs.Text.{bytes, decimal, Put, Fits}
+use Rattle.base_text.proofs.Text.{put-length, length-decimal}
 use Rattle.graph.specs.Net.{driven}
 use Rattle.graph.specs.Search.{reached}
 use Rattle.file_format.specs.declared.Refusal.{Refusal}
 use Rattle.table.specs.Prepared.{succOf, Tables}
 use Rattle.place.specs.Bytes.{drivenBy}
-use Rattle.report.specs.Report.{linkItem, placeLine, endLine, fileWord, refusalLine}
-use Rattle.report.specs.Lines.{nodeText, linkText, drivenText, startText}
-
--- ---- items
-
--- a node that the search missed has none; one that it reached has a space and its number
-pub node-missed : (dist : List ℕ) (v : ℕ) → reached (getD dist v 0) ≡ false → nodeText dist v ≡ []
-unfolding nodeText
-node-missed dist v e = rw e
-
-pub node-reached : (dist : List ℕ) (v : ℕ) → reached (getD dist v 0) ≡ true → nodeText dist v ≡ bytes " " ++ decimal v
-unfolding nodeText
-node-reached dist v e = rw e
-
--- a link that does not match has none; one that does has a space, its start, a hyphen and its end
-pub link-apart : (driven set v w : ℕ) → intersects driven set ≡ false → linkText driven set v w ≡ []
-unfolding linkText
-link-apart driven set v w e = rw e
-
-pub link-meets : (driven set v w : ℕ) → intersects driven set ≡ true → linkText driven set v w ≡ bytes " " ++ (decimal v ++ (bytes "-" ++ decimal w))
-unfolding linkText linkItem
-link-meets driven set v w e = rw e (simp append-assoc)
-
--- the room for a link that matches, in bytes
-pub link-room : {o : List ℕ} {at : ℕ} (v w : ℕ) → Fits o at (bytes " " ++ (decimal v ++ (bytes "-" ++ decimal w))) →
-    at + (1 + (length (decimal v) + (1 + length (decimal w)))) ≤ length o
-unfolding bytes
-link-room v w f = omega (arith, f .room, length-append (decimal v) (45 ∷ decimal w))
+use Rattle.report_texts.specs.Texts.{nodesText, drivenText, startText, linksText, headText, bodyText, lineText}
+use Rattle.report.specs.Report.{placeLine, endLine, fileWord, refusalLine}
 
 module _ (t : Tables) (dist sets : List ℕ) (v : ℕ) where
   -- a node that the search missed starts no link of the place; one that it reached starts those of its stretch that match
@@ -49,15 +24,31 @@ module _ (t : Tables) (dist sets : List ℕ) (v : ℕ) where
 
 -- ---- lines, from the first piece to the last
 
-pub line-pieces : (c : ℕ) (nodes links : List ℕ) →
-    placeLine c nodes links ≡ bytes "place " ++ (decimal c ++ (bytes ":" ++ (nodes ++ (bytes " /" ++ (links ++ bytes "\n")))))
-unfolding placeLine
-line-pieces c nodes links = simp append-assoc
+pub line-place : (t : Tables) (dist sets : List ℕ) (c : ℕ) → lineText t dist sets c ≡ placeLine c (nodesText dist) (linksText t dist sets)
+unfolding lineText headText bodyText placeLine
+line-place t dist sets c = simp append-assoc
 
-pub end-pieces : (k n : ℕ) → endLine k n ≡ bytes "end " ++ (decimal k ++ (bytes " of " ++ (decimal n ++ bytes "\n")))
+pub end-pieces : (k n : ℕ) → endLine k n ≡ (bytes "end " ++ decimal k) ++ ((bytes " of " ++ decimal n) ++ bytes "\n")
 unfolding endLine
 end-pieces k n = simp append-assoc
 
-pub refusal-pieces : (x : Refusal) → refusalLine x ≡ bytes "refused " ++ (decimal (x .number) ++ (fileWord (x .file) ++ bytes "\n"))
+pub refusal-pieces : (x : Refusal) → refusalLine x ≡ (bytes "refused " ++ decimal (x .number)) ++ (fileWord (x .file) ++ bytes "\n")
 unfolding refusalLine
 refusal-pieces x = simp append-assoc
+
+-- ---- room
+
+-- a word and a number of some digits
+pub numbered-length : (word : List ℕ) (d x : ℕ) → x < 10 ^ suc d → length (word ++ decimal x) ≤ length word + suc d
+numbered-length word d x h = omega (arith, length-append word (decimal x), length-decimal d x h)
+
+pub fits-numbered : {o : List ℕ} {at : ℕ} (word : List ℕ) (d x : ℕ) → x < 10 ^ suc d → at + (length word + suc d) ≤ length o → Fits o at (word ++ decimal x)
+fits-numbered word d x h l = record { room = omega (arith, numbered-length word d x h) }
+
+-- room for two texts is, when another text that is no longer stands for the first, room for the second
+pub fits-after : {o o1 xs : List ℕ} {at p : ℕ} (zs ys : List ℕ) → length xs ≤ length zs → Put o at xs o1 p → Fits o at (zs ++ ys) → Fits o1 p ys
+fits-after zs ys h f g = record { room = omega (arith, g .room, length-append zs ys, put-length f, f .end) }
+
+-- a text of at most k bytes leaves the rest of the room
+pub room-left : {o o1 xs : List ℕ} {at p : ℕ} (k m : ℕ) → Put o at xs o1 p → length xs ≤ k → at + (k + m) ≤ length o → p + m ≤ length o1
+room-left k m f h l = omega (arith, put-length f, f .end)

@@ -12,14 +12,11 @@ use Rattle.file_format.specs.Circuit.{circuitOf}
 use Rattle.file_format.specs.Layout.{CircuitFile}
 use Rattle.file_format.specs.Refusals.{Verdict, accept, refuse, first, fileConditions}
 use Rattle.place.specs.Match.{radiusOf, found, placeNodes, placeLinks}
+use Rattle.report_texts.specs.Texts.{linkItem}
 
 -- the items whose bytes are 1, in their order: "a space stands before each item but the first and the colon"
 unfoldable pub markedItems : List ℕ → (ℕ → List ℕ) → List ℕ
 markedItems marks item = concatBelow (length marks) (λ i. cond (inside marks i) (bytes " " ++ item i) [])
-
--- "each link as its start, a hyphen and its end"
-unfoldable pub linkItem : ℕ → ℕ → List ℕ
-linkItem v w = decimal v ++ bytes "-" ++ decimal w
 
 -- "each node", from a byte per node: "nodes rise"
 unfoldable pub nodeItems : List ℕ → List ℕ

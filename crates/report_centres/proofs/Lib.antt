@@ -1,5 +1,1 @@
-pub mod Centre
-pub mod Component
 pub mod OnceMore
-pub mod Pieces
-pub mod Progress

@@ -13,12 +13,13 @@ use Rattle.place.proofs.Spread.{spread-from}
 use Rattle.place_components.specs.Components.{Components}
 use Rattle.place_components.proofs.ComponentNumbers.{match-adjacency, spread-same}
 use Rattle.report.specs.Report.{centreLine}
-use Rattle.report_texts.specs.Texts.{headText, bodyText}
+use Rattle.report_texts.specs.Texts.{headText, bodyText, under, noting}
 use Rattle.report_texts.proofs.Texts.{line-split, body-same, put-before, put-second}
-use Rattle.report_centres.specs.declared.Span.{Span}
-use Rattle.report_centres.specs.Pieces.{Source, Entire, TextNoted, under, noting, Kept}
-use Rattle.report_centres.proofs.Centre.{source-line}
-use Rattle.report_centres.proofs.Component.{source-match, held-found, held-located}
+use Rattle.report_texts.specs.declared.Span.{Span}
+use Rattle.report_locate.specs.Source.{Source, Entire}
+use Rattle.report_locate.proofs.Centre.{source-line}
+use Rattle.report_locate.proofs.Component.{source-match, held-found, held-located}
+use Rattle.report_centres.specs.Centres.{TextNoted, Kept}
 
 -- ---- the same text for each centre of a component
 

@@ -1,5 +1,6 @@
-// Cutting links while searching: a cut, and reading the table out. Both take tables of any content, and what they make of it are equations
-// (session/specs/Tables); where the tables hold a machine, that is the machine's reply, and its table.
+// Cutting links while searching: a cut, and reading the table out. Both take tables of any content, and what they make
+// of it are equations (session/specs/Tables); where the tables hold a machine, that is the machine's reply, and its
+// table.
 use base_bits::clear;
 use base_bits::copy;
 use base_bits::size;
@@ -58,7 +59,8 @@ fn take_out(ends: &mut [u16], nodes: usize, link_index: usize) -> Taken
     Taken::Link(start, end)
 }
 
-// Cuts the link at a place of the board's file, and strikes on from the last table: only the link's two ends can change at first.
+// Cuts the link at a place of the board's file, and strikes on from the last table: only the link's two ends can change
+// at first.
 pub fn cut(
     fixed: &[u32],
     offsets: &[u16],
@@ -68,8 +70,10 @@ pub fn cut(
     link_index: usize,
 ) -> CutAnswer
     requires { ⌜ StateRoom (state (now fixed) (now offsets) (now numbers) (now ends) (now sets)) ⌝ }
-    ensures { λ r. ⌜ CutMade (state (now (fixed .entry)) (now (offsets .entry)) (now (numbers .entry)) (now (ends .entry)) (now (sets .entry))) «link_index» (cutVerdict r)
-        (state (now (fixed .entry)) (now (offsets .entry)) (now (numbers .entry)) (now (ends .exit)) (now (sets .exit))) ⌝ }
+    ensures { λ r. ⌜ CutMade (state (now (fixed .entry)) (now (offsets .entry)) (now (numbers .entry))
+        (now (ends .entry)) (now (sets .entry))) «link_index» (cutVerdict r)
+        (state (now (fixed .entry)) (now (offsets .entry)) (now (numbers .entry)) (now (ends .exit))
+        (now (sets .exit))) ⌝ }
 {
     let n = at_most(512, fixed[65] as usize);
     let taken = take_out(ends, n, link_index);
@@ -110,7 +114,8 @@ fn all_or_none(parts: usize, table: &mut [u32])
 // Reads the session's table out: the sets, or all 0 where some part is left without a node.
 pub fn read_out(fixed: &[u32], sets: &[u32], table: &mut [u32]) -> OutAnswer
     requires { ⌜ (length (now fixed) ≡ 66) × (length (now sets) ≡ 512) ⌝ }
-    ensures { λ r. ⌜ ReadMade (now (fixed .entry)) (now (sets .entry)) (now (table .entry)) (outReply r) (now (table .exit)) ⌝ }
+    ensures { λ r. ⌜ ReadMade (now (fixed .entry)) (now (sets .entry)) (now (table .entry)) (outReply r)
+        (now (table .exit)) ⌝ }
 {
     let n = at_most(512, fixed[65] as usize);
     if table.len() < n {

@@ -2,9 +2,9 @@
 use file_format::Board;
 use graph::UNREACHED;
 use graph::copy;
+use graph::fill;
 use graph_neighbours::tables::FORWARD_TARGETS;
 use graph_neighbours::tables::group_both;
-use graph_search::fill;
 use table::MASKS;
 use table_prepare::masks::pattern_masks;
 use table_prepare::nodes::list_all;
@@ -16,7 +16,8 @@ ghost use Rattle.base_lists.specs.List.{all, Below};
 ghost use Rattle.graph.specs.Net.{NetRoom};
 ghost use Rattle.session_open.specs.Open.{padded, LinksNumbered, Ended, Fixed};
 
-// Fills the numbers of the links of each node: of those that start there, and of those that end there. `order` has room for the numbers of all links.
+// Fills the numbers of the links of each node: of those that start there, and of those that end there. `order` has room
+// for the numbers of all links.
 fn order_links(
     n: usize,
     starts: &[u16],
@@ -30,7 +31,8 @@ fn order_links(
     requires { ⌜ (length (now starts) ≡ length (now ends)) × (length (now starts) ≤ 4096) ⌝ }
     requires { ⌜ T (all (λ v. ltb v n) (now starts)) × T (all (λ v. ltb v n) (now ends)) ⌝ }
     requires { ⌜ length (now order) ≡ 4096 ⌝ }
-    ensures { λ _. ⌜ LinksNumbered n (now (starts .entry)) (now (ends .entry)) (now (offsets .entry)) (now (numbers .entry)) (now (offsets .exit)) (now (numbers .exit)) ⌝ }
+    ensures { λ _. ⌜ LinksNumbered n (now (starts .entry)) (now (ends .entry)) (now (offsets .entry))
+        (now (numbers .entry)) (now (offsets .exit)) (now (numbers .exit)) ⌝ }
 {
     let m = starts.len();
     list_all(&mut order[..m]);
@@ -69,7 +71,8 @@ pub fn store_links(
     requires { ⌜ n ≤ 512 ⌝ }
     requires { ⌜ (length (now starts) ≡ length (now ends)) × (length (now starts) ≤ 4096) ⌝ }
     requires { ⌜ T (all (λ v. ltb v n) (now starts)) × T (all (λ v. ltb v n) (now ends)) ⌝ }
-    ensures { λ _. ⌜ LinksNumbered n (now (starts .entry)) (now (ends .entry)) (now (offsets .entry)) (now (numbers .entry)) (now (offsets .exit)) (now (numbers .exit)) ⌝ }
+    ensures { λ _. ⌜ LinksNumbered n (now (starts .entry)) (now (ends .entry)) (now (offsets .entry))
+        (now (numbers .entry)) (now (offsets .exit)) (now (numbers .exit)) ⌝ }
     ensures { λ _. ⌜ Ended (now (starts .entry)) (now (ends .entry)) (now (out .exit)) ⌝ }
 {
     let mut order = [0u16; Board::MAX_LINKS];

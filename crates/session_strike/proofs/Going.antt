@@ -1,5 +1,5 @@
 -- The loop that goes on from a table: what it keeps, that it ends, and that it leads to the last table. Assumes nothing.
-use Rattle.base_lists.specs.Kit.{_≡_, _∙_, sym, ap, refl, Bool, false, true, cond, not, List, ℕ, _≤_, _<_, suc, zero, eqb, ltb, length, getD, set, arith, le-ltb, lt-ltb, eqb-true, not-true, ltb-false, eqb-false, ltb-true}
+use Rattle.base_lists.specs.Kit.{_≡_, _∙_, sym, ap, ap₂, refl, Bool, false, true, cond, not, List, ℕ, _≤_, _<_, suc, zero, eqb, ltb, length, getD, set, arith, le-ltb, lt-ltb, eqb-true, not-true, ltb-false, eqb-false, ltb-true}
 use Rattle.base_lists.proofs.Below.{leastBelow-at}
 use Rattle.base_lists.proofs.Tests.{T-true, T-false, false-T}
 use Rattle.base_bits.proofs.Counts.{size-less}
@@ -212,8 +212,15 @@ module _ (masks : List ℕ) (moves : Direction → ℕ → List ℕ) where
     pub going-word : j < 16 → zero < getD marks j 0
     going-word h = rw (g .first) (word-some masks moves (g .stands) (more h))
 
-    module _ (h : j < 16) {sets′ marks′ : List ℕ} (e : sets′ ≡ lookSets masks moves sets (nodeAt marks j))
-        (q : marks′ ≡ lookMarks masks moves sets (unmark marks j) (nodeAt marks j)) where
+    -- a mark is taken away, and its node looked at
+    module _ (h : j < 16) {taken sets′ marks′ : List ℕ} {v : ℕ} (m : (taken ≡ unmark marks j) × (v ≡ nodeAt marks j))
+        (looked : (sets′ ≡ lookSets masks moves sets v) × (marks′ ≡ lookMarks masks moves sets taken v)) where
+      e : sets′ ≡ lookSets masks moves sets (nodeAt marks j)
+      e = looked .0 ∙ ap (lookSets masks moves sets) (m .1)
+
+      q : marks′ ≡ lookMarks masks moves sets (unmark marks j) (nodeAt marks j)
+      q = looked .1 ∙ ap₂ (lookMarks masks moves sets) (m .0) (m .1)
+
       pub going-less : left sets′ marks′ < left sets marks
       going-less = rw (e, q, g .first) (left-less masks moves (g .stands) (more h))
 

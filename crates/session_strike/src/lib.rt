@@ -1,5 +1,6 @@
-// Striking on from a table, node by node, where links of the board may have been taken out. What is read here may be of any content: an index that
-// is read is tested before it is used, and an entry that is no node's number is passed over, as that of a link which is out.
+// Striking on from a table, node by node, where links of the board may have been taken out. What is read here may be of
+// any content: an index that is read is tested before it is used, and an entry that is no node's number is passed over,
+// as that of a link which is out.
 use base_bits::first;
 use base_bits::single;
 use base_bits::without_first;
@@ -10,16 +11,16 @@ use graph_neighbours::tables::FORWARD_OFFSETS;
 use graph_neighbours::tables::FORWARD_TARGETS;
 use graph_neighbours::tables::OFFSETS;
 use graph_neighbours::tables::TARGETS;
-use table::FORWARD_MASKS;
-use table::MASKS;
-use table_strike::surviving;
+use table_strike::parts_left;
 ghost use mathlib.Core.Path.{_≡_};
 ghost use Prim.Native.Nat.{_+_, _*_, _/_, _≤_, _<_};
 ghost use lib.ListN.{length, getD};
 ghost use Rattle.base_bits.specs.Bits.{unionAt};
 ghost use Rattle.graph.specs.Search.{far};
 ghost use Rattle.graph_neighbours.specs.Lookup.{neighboursIn};
-ghost use Rattle.session_strike.specs.Moves.{MovesRoom, beyond, movesIn, nextSetAt, mark, markOne, markAll, markBeside, nodeAt, unmark, lookSets, lookMarks, firstWord, settled, settledFrom};
+ghost use Rattle.session_strike.specs.Moves.{MovesRoom, beyond, movesIn, nextSetAt, mark, markOne, markAll};
+ghost use Rattle.session_strike.specs.Moves.{markBeside, nodeAt, unmark, lookSets, lookMarks, firstWord, settled};
+ghost use Rattle.session_strike.specs.Moves.{settledFrom};
 
 // How many numbers have the marks of all nodes, 32 to a number.
 const MARKS: usize = 16;
@@ -84,7 +85,8 @@ fn next_set(
     v: usize,
 ) -> u32
     requires { ⌜ MovesRoom (now masks) (now offsets) (now numbers) (now ends) ⌝ }
-    ensures { λ r. ⌜ r ≡ nextSetAt (now (masks .entry)) (movesIn (now (offsets .entry)) (now (numbers .entry)) (now (ends .entry))) (now (sets .entry)) v ⌝ }
+    ensures { λ r. ⌜ r ≡ nextSetAt (now (masks .entry))
+        (movesIn (now (offsets .entry)) (now (numbers .entry)) (now (ends .entry))) (now (sets .entry)) v ⌝ }
 {
     let set = set_at(sets, v);
     if set == 0 {
@@ -100,13 +102,7 @@ fn next_set(
         &ends[FORWARD_TARGETS..TARGETS],
         sets,
     );
-    surviving(
-        set,
-        &masks[..FORWARD_MASKS],
-        &masks[FORWARD_MASKS..MASKS],
-        f,
-        b,
-    )
+    parts_left(masks, set, f, b)
 }
 
 // Marks node v.
@@ -131,7 +127,8 @@ fn mark_one(n: usize, w: usize, marks: &mut [u32])
 // Marks the nodes at the other ends of some links.
 fn mark_ends(numbers: &[u16], ends: &[u16], n: usize, marks: &mut [u32])
     requires { ⌜ (n ≤ 512) × (length (now marks) ≡ 16) ⌝ }
-    ensures { λ _. ⌜ now (marks .exit) ≡ markAll n (now (marks .entry)) (beyond (now (ends .entry)) (now (numbers .entry))) ⌝ }
+    ensures { λ _. ⌜ now (marks .exit) ≡ markAll n (now (marks .entry))
+        (beyond (now (ends .entry)) (now (numbers .entry))) ⌝ }
 {
     let mut j = 0;
     while j < numbers.len() {
@@ -151,7 +148,8 @@ fn mark_beside(
 )
     requires { ⌜ (length (now offsets) ≡ 1026) × (length (now numbers) ≡ 8192) × (length (now ends) ≡ 8192) ⌝ }
     requires { ⌜ (n ≤ 512) × (length (now marks) ≡ 16) ⌝ }
-    ensures { λ _. ⌜ now (marks .exit) ≡ markBeside n (movesIn (now (offsets .entry)) (now (numbers .entry)) (now (ends .entry))) (now (marks .entry)) v ⌝ }
+    ensures { λ _. ⌜ now (marks .exit) ≡ markBeside n
+        (movesIn (now (offsets .entry)) (now (numbers .entry)) (now (ends .entry))) (now (marks .entry)) v ⌝ }
 {
     mark_ends(
         links_of(Direction::Forward, offsets, numbers, v),
@@ -179,8 +177,11 @@ fn look(
 )
     requires { ⌜ MovesRoom (now masks) (now offsets) (now numbers) (now ends) ⌝ }
     requires { ⌜ (length (now sets) ≤ 512) × (length (now marks) ≡ 16) ⌝ }
-    ensures { λ _. ⌜ now (sets .exit) ≡ lookSets (now (masks .entry)) (movesIn (now (offsets .entry)) (now (numbers .entry)) (now (ends .entry))) (now (sets .entry)) v ⌝ }
-    ensures { λ _. ⌜ now (marks .exit) ≡ lookMarks (now (masks .entry)) (movesIn (now (offsets .entry)) (now (numbers .entry)) (now (ends .entry))) (now (sets .entry)) (now (marks .entry)) v ⌝ }
+    ensures { λ _. ⌜ now (sets .exit) ≡ lookSets (now (masks .entry))
+        (movesIn (now (offsets .entry)) (now (numbers .entry)) (now (ends .entry))) (now (sets .entry)) v ⌝ }
+    ensures { λ _. ⌜ now (marks .exit) ≡ lookMarks (now (masks .entry))
+        (movesIn (now (offsets .entry)) (now (numbers .entry)) (now (ends .entry))) (now (sets .entry))
+        (now (marks .entry)) v ⌝ }
 {
     let set = next_set(masks, offsets, numbers, ends, sets, v);
     if set == set_at(sets, v) {
@@ -206,29 +207,18 @@ fn find(marks: &[u32]) -> usize
     j
 }
 
-// Takes the first mark of word j away, and looks at its node.
-fn look_next(
-    masks: &[u32],
-    offsets: &[u16],
-    numbers: &[u16],
-    ends: &[u16],
-    sets: &mut [u32],
-    marks: &mut [u32],
-    j: usize,
-)
-    requires { ⌜ MovesRoom (now masks) (now offsets) (now numbers) (now ends) ⌝ }
-    requires { ⌜ (length (now sets) ≤ 512) × (length (now marks) ≡ 16) ⌝ }
-    requires { ⌜ (j < 16) × (0 < getD (now marks) j 0) ⌝ }
-    ensures { λ _. ⌜ now (sets .exit) ≡ lookSets (now (masks .entry)) (movesIn (now (offsets .entry)) (now (numbers .entry)) (now (ends .entry))) (now (sets .entry)) (nodeAt (now (marks .entry)) j) ⌝ }
-    ensures { λ _. ⌜ now (marks .exit) ≡ lookMarks (now (masks .entry)) (movesIn (now (offsets .entry)) (now (numbers .entry)) (now (ends .entry))) (now (sets .entry)) (unmark (now (marks .entry)) j) (nodeAt (now (marks .entry)) j) ⌝ }
+// Takes the first mark of word j away, and returns its node.
+fn unmark(marks: &mut [u32], j: usize) -> usize
+    requires { ⌜ (length (now marks) ≡ 16) × (j < 16) × (0 < getD (now marks) j 0) ⌝ }
+    ensures { λ r. ⌜ (now (marks .exit) ≡ unmark (now (marks .entry)) j) × (r ≡ nodeAt (now (marks .entry)) j) ⌝ }
 {
     let word = marks[j];
-    let v = 32 * j + first(word) as usize;
     marks[j] = without_first(word);
-    look(masks, offsets, numbers, ends, sets, marks, v);
+    32 * j + first(word) as usize
 }
 
-// Goes on from a table until no node is marked. A node that is looked at and changes marks the nodes beside it; nothing else is looked at.
+// Goes on from a table until no node is marked. A node that is looked at and changes marks the nodes beside it; nothing
+// else is looked at.
 fn strike_marked(
     masks: &[u32],
     offsets: &[u16],
@@ -239,11 +229,14 @@ fn strike_marked(
 )
     requires { ⌜ MovesRoom (now masks) (now offsets) (now numbers) (now ends) ⌝ }
     requires { ⌜ (length (now sets) ≤ 512) × (length (now marks) ≡ 16) ⌝ }
-    ensures { λ _. ⌜ now (sets .exit) ≡ settled (now (masks .entry)) (movesIn (now (offsets .entry)) (now (numbers .entry)) (now (ends .entry))) (now (sets .entry)) (now (marks .entry)) ⌝ }
+    ensures { λ _. ⌜ now (sets .exit) ≡ settled (now (masks .entry))
+        (movesIn (now (offsets .entry)) (now (numbers .entry)) (now (ends .entry))) (now (sets .entry))
+        (now (marks .entry)) ⌝ }
 {
     let mut j = find(marks);
     while j < MARKS {
-        look_next(masks, offsets, numbers, ends, sets, marks, j);
+        let v = unmark(marks, j);
+        look(masks, offsets, numbers, ends, sets, marks, v);
         j = find(marks);
     }
 }
@@ -260,7 +253,8 @@ pub fn strike_from(
 )
     requires { ⌜ MovesRoom (now masks) (now offsets) (now numbers) (now ends) ⌝ }
     requires { ⌜ length (now sets) ≤ 512 ⌝ }
-    ensures { λ _. ⌜ now (sets .exit) ≡ settledFrom (now (masks .entry)) (movesIn (now (offsets .entry)) (now (numbers .entry)) (now (ends .entry))) (now (sets .entry)) x y ⌝ }
+    ensures { λ _. ⌜ now (sets .exit) ≡ settledFrom (now (masks .entry))
+        (movesIn (now (offsets .entry)) (now (numbers .entry)) (now (ends .entry))) (now (sets .entry)) x y ⌝ }
 {
     let mut marks = [0u32; MARKS];
     let n = sets.len();

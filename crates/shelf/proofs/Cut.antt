@@ -17,7 +17,7 @@ use Rattle.order.proofs.Sorting.{sort-same}
 use Rattle.order.specs.Files.{compareFiles}
 use Rattle.call_shelf.specs.Text.{shelfText}
 use Rattle.call_shelf.specs.Shelf.{isAccepted, fileAt, acceptedIn, shelfOf}
-use Rattle.shelf.specs.Reading.{cutEach}
+use Rattle.shelf_files.specs.Reading.{cutEach}
 use Rattle.shelf.specs.Printing.{shelfTextOf}
 
 -- what reading a file as a second-edition pattern finds

@@ -12,13 +12,13 @@ use Rattle.file_format.specs.Cut.{cut}
 use Rattle.call_shelf.specs.Strings.{cutInto}
 use Rattle.input.specs.declared.FileFound.{FileFound}
 use Rattle.input.specs.declared.FileFound.the-variants as found
-use Rattle.shelf.specs.declared.Taken.{Taken}
-use Rattle.shelf.specs.declared.Taken.the-variants as taken
-use Rattle.shelf.specs.Reading.{mostBytes, noteMeans, answers, endFrom, shelfEnd, cutEach}
+use Rattle.shelf_files.specs.declared.Taken.{Taken}
+use Rattle.shelf_files.specs.declared.Taken.the-variants as taken
+use Rattle.shelf_files.specs.Reading.{mostBytes, noteMeans, answers, endFrom, shelfEnd, cutEach}
 use Rattle.shelf.specs.Printing.{shelfTextOf, printedAt, printedOf}
 use Rattle.shelf.specs.Folder.{Entry, file, absent, unreadable, onShelf, allReadable, textIn, FolderTold}
 use Rattle.shelf.proofs.Cut.{cut-text}
-use Rattle.shelf.proofs.Reading.{answered-noted}
+use Rattle.shelf_files.proofs.Reading.{answered-noted}
 
 -- what is noted of a file says how long what is read of it is
 said : (note : ℕ) (content : List ℕ) → note ≡ length (cut Second Pattern content) → noteMeans note ≡ found.Bytes note

@@ -1,4 +1,3 @@
 pub mod Cut
 pub mod Printing
-pub mod Reading
 pub mod Folder

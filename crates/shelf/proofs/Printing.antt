@@ -20,8 +20,8 @@ use Rattle.call_shelf.specs.Text.{shelfText}
 use Rattle.call_shelf.proofs.Text.{length-text}
 use Rattle.call_shelf.specs.declared.ShelfAnswer.{ShelfAnswer}
 use Rattle.call_shelf.specs.declared.ShelfAnswer.the-variants.{Ordered}
-use Rattle.shelf.specs.declared.Taken.the-variants as taken
-use Rattle.shelf.specs.Reading.{shelfEnd}
+use Rattle.shelf_files.specs.declared.Taken.the-variants as taken
+use Rattle.shelf_files.specs.Reading.{shelfEnd}
 use Rattle.shelf.specs.Printing.{printedOf, ShelfHanded, shelfEnded, ShelfRan}
 use Rattle.call_shelf.specs.Shelf.{fileAt, acceptedIn, shelfOf, shelfReply, ShelfOutcome, shelvingOf, shelving}
 

@@ -8,7 +8,7 @@ use Rattle.file_format.specs.declared.Edition.the-variants.{Second}
 use Rattle.file_format.specs.declared.Role.the-variants.{Pattern}
 use Rattle.file_format.specs.Cut.{cut}
 use Rattle.input.specs.declared.FileFound.the-variants as found
-use Rattle.shelf.specs.Reading.{noted}
+use Rattle.shelf_files.specs.Reading.{noted}
 use Rattle.shelf.specs.Printing.{shelfTextOf}
 
 -- what there is under a name: a file with these bytes, be they none; no such name; or what cannot be read

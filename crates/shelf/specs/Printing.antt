@@ -9,9 +9,9 @@ use Rattle.call_shelf.specs.Text.{shelfText}
 use Rattle.call_shelf.specs.Shelf.{shelfOf}
 use Rattle.shelf.specs.declared.End.{End}
 use Rattle.shelf.specs.declared.End.the-variants as end
-use Rattle.shelf.specs.declared.Taken.{Taken}
-use Rattle.shelf.specs.declared.Taken.the-variants as taken
-use Rattle.shelf.specs.Reading.{shelfEnd}
+use Rattle.shelf_files.specs.declared.Taken.{Taken}
+use Rattle.shelf_files.specs.declared.Taken.the-variants as taken
+use Rattle.shelf_files.specs.Reading.{shelfEnd}
 
 -- what is printed of files
 unfoldable pub shelfTextOf : List (List ℕ) → List ℕ

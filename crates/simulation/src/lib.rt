@@ -1,1 +1,2 @@
-// What it means to match: dual simulation, match graph, perfect subgraph, quotient. There is no code here: see specs/ and proofs/.
+// What it means to match: dual simulation, match graph, perfect subgraph, quotient. There is no code here: see specs/
+// and proofs/.

@@ -33,8 +33,8 @@ fn none_kept(counts: Counts) -> Counts
     }
 }
 
-// The table and the counts of a row, where every part has to occur: as they are, or the table cleared and no pair kept. A table of so many
-// parts has them all when the union of its sets has as many.
+// The table and the counts of a row, where every part has to occur: as they are, or the table cleared and no pair kept.
+// A table of so many parts has them all when the union of its sets has as many.
 pub fn all_or_none(parts: usize, table: &mut [u32], counts: Counts) -> Counts
     requires { ⌜ parts ≤ 32 ⌝ }
     requires { ⌜ SetsFit (length (now table)) parts (now table) ⌝ }

@@ -11,7 +11,8 @@ ghost use Rattle.graph.specs.Net.{NetRoom, NetOf};
 ghost use Rattle.table.specs.Prepared.{MaskedBy};
 ghost use Rattle.table.specs.Row.{waysOf};
 
-// Fills what the rounds look up: the pattern's masks in the directions that count, and the neighbour tables of a board of n nodes.
+// Fills what the rounds look up: the pattern's masks in the directions that count, and the neighbour tables of a board
+// of n nodes.
 pub fn prepare_along(
     ways: Ways,
     n: usize,
@@ -23,12 +24,16 @@ pub fn prepare_along(
     offsets: &mut [u16],
     targets: &mut [u16],
 )
-    requires { ⌜ (length (now «part_starts») ≡ length (now «part_ends»)) × Below 32 (now «part_starts») × Below 32 (now «part_ends») ⌝ }
-    requires { ⌜ (n ≤ 512) × (length (now «node_starts») ≡ length (now «node_ends»)) × (length (now «node_starts») ≤ 4096) ⌝ }
+    requires { ⌜ (length (now «part_starts») ≡ length (now «part_ends»)) × Below 32 (now «part_starts»)
+        × Below 32 (now «part_ends») ⌝ }
+    requires { ⌜ (n ≤ 512) × (length (now «node_starts») ≡ length (now «node_ends»))
+        × (length (now «node_starts») ≤ 4096) ⌝ }
     requires { ⌜ T (all (λ v. ltb v n) (now «node_starts»)) × T (all (λ v. ltb v n) (now «node_ends»)) ⌝ }
     requires { ⌜ (length (now masks) ≡ 64) × NetRoom (now offsets) (now targets) ⌝ }
-    ensures { λ _. ⌜ MaskedBy (waysOf ways) (now («part_starts» .entry)) (now («part_ends» .entry)) (now (masks .exit)) ⌝ }
-    ensures { λ _. ⌜ NetOf n (now («node_starts» .entry)) (now («node_ends» .entry)) (now (offsets .exit)) (now (targets .exit)) ⌝ }
+    ensures { λ _. ⌜ MaskedBy (waysOf ways) (now («part_starts» .entry)) (now («part_ends» .entry))
+        (now (masks .exit)) ⌝ }
+    ensures { λ _. ⌜ NetOf n (now («node_starts» .entry)) (now («node_ends» .entry)) (now (offsets .exit))
+        (now (targets .exit)) ⌝ }
 {
     neighbour_tables(n, node_starts, node_ends, offsets, targets);
     masks_along(ways, part_starts, part_ends, masks);

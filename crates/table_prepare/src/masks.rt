@@ -12,8 +12,8 @@ use table::FORWARD_MASKS;
 use table::MASKS;
 use table::Ways;
 
-// For each part the set of the values that stand beside it among the keys: with the link starts as keys and the ends as values the parts
-// that it drives, with the two swapped the parts that drive it.
+// For each part the set of the values that stand beside it among the keys: with the link starts as keys and the ends as
+// values the parts that it drives, with the two swapped the parts that drive it.
 pub fn masks_of(keys: &[u16], values: &[u16], out: &mut [u32])
     requires { ⌜ length (now keys) ≡ length (now values) ⌝ }
     requires { ⌜ Below (length (now out)) (now keys) ⌝ }
@@ -29,11 +29,13 @@ pub fn masks_of(keys: &[u16], values: &[u16], out: &mut [u32])
     }
 }
 
-// One half of the masks, by the links followed in one direction: those of a direction that counts, and empty ones of another.
+// One half of the masks, by the links followed in one direction: those of a direction that counts, and empty ones of
+// another.
 fn half_of(counts: bool, keys: &[u16], values: &[u16], out: &mut [u32])
     requires { ⌜ (length (now keys) ≡ length (now values)) × Below 32 (now keys) × Below 32 (now values) ⌝ }
     requires { ⌜ length (now out) ≡ 32 ⌝ }
-    ensures { λ _. ⌜ now (out .exit) ≡ masksOf 32 (cond counts (now (keys .entry)) []) (cond counts (now (values .entry)) []) ⌝ }
+    ensures { λ _. ⌜ now (out .exit) ≡ masksOf 32 (cond counts (now (keys .entry)) [])
+        (cond counts (now (values .entry)) []) ⌝ }
 {
     if counts {
         masks_of(keys, values, out);
@@ -52,7 +54,8 @@ fn backwards_count(ways: Ways) -> bool
     }
 }
 
-// Both halves of the masks of a pattern's links: for each part those that it drives, and then for each those that drive it, where they count.
+// Both halves of the masks of a pattern's links: for each part those that it drives, and then for each those that drive
+// it, where they count.
 pub fn masks_along(ways: Ways, starts: &[u16], ends: &[u16], masks: &mut [u32])
     requires { ⌜ (length (now starts) ≡ length (now ends)) × Below 32 (now starts) × Below 32 (now ends) ⌝ }
     requires { ⌜ length (now masks) ≡ 64 ⌝ }

@@ -1,5 +1,5 @@
-// The two halves of a round of striking, over those nodes that may change in it: the next sets are listed first, each from the table whole, and
-// then written.
+// The two halves of a round of striking, over those nodes that may change in it: the next sets are listed first, each
+// from the table whole, and then written.
 use graph::UNREACHED;
 use table_strike::strike_node;
 ghost use mathlib.Core.Path.{_≡_};
@@ -16,7 +16,8 @@ ghost use Rattle.table_round.specs.Pending.{ChangeNoted, Pending, SetsPu
 // Lists node v with its next set, where that is not the set that it has.
 fn note(v: u16, set: u32, old: u32, changed: &mut [u16], next: &mut [u32], k: usize) -> usize
     requires { ⌜ (k < length (now changed)) × (k < length (now next)) ⌝ }
-    ensures { λ r. ⌜ ChangeNoted v set old k (now (changed .entry)) (now (next .entry)) (now (changed .exit)) (now (next .exit)) r ⌝ }
+    ensures { λ r. ⌜ ChangeNoted v set old k (now (changed .entry)) (now (next .entry)) (now (changed .exit))
+        (now (next .exit)) r ⌝ }
 {
     if set == old {
         return k;
@@ -41,7 +42,8 @@ pub fn changes(
     requires { ⌜ Ready (tables (now masks) (now offsets) (now targets)) (now old) ⌝ }
     requires { ⌜ Below (length (now old)) (now todo) ⌝ }
     requires { ⌜ (length (now todo) ≤ length (now changed)) × (length (now todo) ≤ length (now next)) ⌝ }
-    ensures { λ r. ⌜ Pending (strikeNode (tables (now (masks .entry)) (now (offsets .entry)) (now (targets .entry))) (now (old .entry))) (now (old .entry)) (now (todo .entry)) (now (changed .exit)) (now (next .exit)) r ⌝ }
+    ensures { λ r. ⌜ Pending (strikeNode (tables (now (masks .entry)) (now (offsets .entry)) (now (targets .entry)))
+        (now (old .entry))) (now (old .entry)) (now (todo .entry)) (now (changed .exit)) (now (next .exit)) r ⌝ }
 {
     let mut k = 0;
     let mut i = 0;

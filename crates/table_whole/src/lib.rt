@@ -32,7 +32,8 @@ pub fn match_tables(
 ) -> Counts
     requires { ⌜ SomeLinks (now «part_labels») (now «node_labels») (tables (now masks) (now offsets) (now targets)) ⌝ }
     requires { ⌜ length (now table) ≡ length (now «node_labels») ⌝ }
-    ensures { λ r. ⌜ EveryMatched (now («part_labels» .entry)) (now («node_labels» .entry)) (tables (now (masks .entry)) (now (offsets .entry)) (now (targets .entry))) (now (table .exit)) r ⌝ }
+    ensures { λ r. ⌜ EveryMatched (now («part_labels» .entry)) (now («node_labels» .entry))
+        (tables (now (masks .entry)) (now (offsets .entry)) (now (targets .entry))) (now (table .exit)) r ⌝ }
 {
     let mut listed = [0u16; Board::MAX_NODES];
     let mut second = [0u32; Board::MAX_NODES];
@@ -56,7 +57,8 @@ pub fn match_whole(
 ) -> Counts
     requires { ⌜ SomeLinks (now «part_labels») (now «node_labels») (tables (now masks) (now offsets) (now targets)) ⌝ }
     requires { ⌜ length (now table) ≡ length (now «node_labels») ⌝ }
-    ensures { λ r. ⌜ EveryAnswered (now («part_labels» .entry)) (now («node_labels» .entry)) (tables (now (masks .entry)) (now (offsets .entry)) (now (targets .entry))) (now (table .exit)) r ⌝ }
+    ensures { λ r. ⌜ EveryAnswered (now («part_labels» .entry)) (now («node_labels» .entry))
+        (tables (now (masks .entry)) (now (offsets .entry)) (now (targets .entry))) (now (table .exit)) r ⌝ }
 {
     let counts = match_tables(part_labels, node_labels, masks, offsets, targets, table);
     all_or_none(part_labels.len(), table, counts)

@@ -1,16 +1,33 @@
-// The numbers that a test board draws.
+// The numbers that a test board is asked for by, and those that it draws.
 ghost use mathlib.Core.List.{_++_};
 ghost use mathlib.Core.Path.{_≡_};
 ghost use Prim.Native.Nat.{_*_, _/_, _%_, _^_, _<_, _≤_};
 ghost use lib.ListN.{length, drop};
 ghost use Rattle.test_board.specs.Generator.{step, draw, stepped, draws};
-ghost use Rattle.test_board.specs.Board.{kindsDrawn, pairsDrawn};
-
-pub mod pairs;
+ghost use Rattle.test_board.specs.Board.{sizesInRange, kindsDrawn, pairsDrawn};
 
 const FACTOR: u32 = 1664525;
 
 const ADDED: u32 = 1013904223;
+
+// Whether the numbers of nodes, links and kinds are in their ranges.
+pub fn in_range(n: u32, m: u32, k: u32) -> bool
+    ensures { λ r. ⌜ r ≡ sizesInRange n m k ⌝ }
+{
+    if n < 1 {
+        return false;
+    }
+    if n > 512 {
+        return false;
+    }
+    if m > 4096 {
+        return false;
+    }
+    if k < 1 {
+        return false;
+    }
+    k <= 65536
+}
 
 // The product of two numbers, mod 2^32.
 fn wrapping_mul(a: u32, b: u32) -> u32

@@ -10,12 +10,6 @@ use Rattle.barring_find.proofs.Around.{listed-tried}
 use Rattle.barring_find.proofs.bar_circuits.Statement.{statement}
 use Rattle.barring_find.proofs.bar_circuits.Tie as tie
 
-slice-aggregate-neighbour-tables : tie.Need-slice-aggregate-neighbour-tables
-slice-aggregate-neighbour-tables c = search needs
-
-slice-aggregate-neighbour-tables-2 : tie.Need-slice-aggregate-neighbour-tables-2
-slice-aggregate-neighbour-tables-2 c = search needs
-
 neighbour-tables-requires : tie.Need-neighbour-tables-requires
 neighbour-tables-requires c κs =
     let board = c .before .before .before .before .before .before .before .before .before .pre .0 .1 in
@@ -25,26 +19,11 @@ neighbour-tables-requires c κs =
 most : (s : tie.Start) → length (now (s .args .node-labels)) ≤ 512
 most s = s .pre .0 .1 .nodes
 
-slice-aggregate-first-in-ball : tie.Need-slice-aggregate-first-in-ball
-slice-aggregate-first-in-ball c = search needs
-
-slice-aggregate-first-in-ball-2 : tie.Need-slice-aggregate-first-in-ball-2
-slice-aggregate-first-in-ball-2 c = search needs
-
-array-borrow-prefix-dist : tie.Need-array-borrow-prefix-dist
-array-borrow-prefix-dist c = search needs
-
 slice-aggregate-first-in-ball-3 : tie.Need-slice-aggregate-first-in-ball-3
 slice-aggregate-first-in-ball-3 c = sym (length-take-le _ _ (most (c .before .before .before .before .before .before .before .before .before .before .before .before .before .before .before)))
 
-array-borrow-prefix-queue : tie.Need-array-borrow-prefix-queue
-array-borrow-prefix-queue c = search needs
-
 slice-aggregate-first-in-ball-4 : tie.Need-slice-aggregate-first-in-ball-4
 slice-aggregate-first-in-ball-4 c = sym (length-take-le _ _ (most (c .before .before .before .before .before .before .before .before .before .before .before .before .before .before .before .before)))
-
-array-borrow-prefix-first : tie.Need-array-borrow-prefix-first
-array-borrow-prefix-first c = search needs
 
 slice-aggregate-first-in-ball-5 : tie.Need-slice-aggregate-first-in-ball-5
 slice-aggregate-first-in-ball-5 c = sym (length-take-le _ _ (most (c .before .before .before .before .before .before .before .before .before .before .before .before .before .before .before .before .before)))
@@ -90,12 +69,6 @@ array-share-prefix-queue c = let d = c .before .before .before in length-append-
 slice-aggregate-least-in-ball : tie.Need-slice-aggregate-least-in-ball
 slice-aggregate-least-in-ball c = let d = c .before .before .before .before in sym (length-take-le _ _ (length-append-le _ (d .first-in-ball .last .1 .1 .1 .1 .1 .1 .0) _ (listed d .short)))
 
-slice-aggregate-least-in-ball-2 : tie.Need-slice-aggregate-least-in-ball-2
-slice-aggregate-least-in-ball-2 c = search needs
-
-slice-aggregate-least-in-ball-3 : tie.Need-slice-aggregate-least-in-ball-3
-slice-aggregate-least-in-ball-3 c = search needs
-
 array-share-prefix-first : tie.Need-array-share-prefix-first
 array-share-prefix-first c = let d = c .before .before .before .before .before .before in length-append-room _ (d .first-in-ball .last .1 .1 .1 .1 .1 .1 .1 .0) _ (sized d)
 
@@ -110,35 +83,15 @@ least-in-ball-requires c κs =
     let s = c .before .before .before .before .before .before .before .before .before .before .before .before .before .before .before .before .before .before .before .before .before .before .before .before .before .before in
     (record { partLabels = _; board = _; radius = _; tried = trial (c .before .before .before .before .before .before .before .before) _ _ }, s .pre .1 .1)
 
-same-length : tie.Need-same-length
-same-length c = search needs
-
 returns : tie.Need-returns
 returns c = c .before .before .least-in-ball .ensures _ _ _ (trial (c .before .before .before .before .before .before .before .before .before .before .before) _ _)
 
 pub bar-circuits-spec : {M : Type 1} → statement M
 bar-circuits-spec =
     tie.close
-    (tie.spec
-    slice-aggregate-neighbour-tables
-    slice-aggregate-neighbour-tables-2
-    neighbour-tables-requires
-    slice-aggregate-first-in-ball
-    slice-aggregate-first-in-ball-2
-    array-borrow-prefix-dist
-    slice-aggregate-first-in-ball-3
-    array-borrow-prefix-queue
-    slice-aggregate-first-in-ball-4
-    array-borrow-prefix-first
-    slice-aggregate-first-in-ball-5
-    first-in-ball-requires
-    array-share-prefix-queue
-    slice-aggregate-least-in-ball
-    slice-aggregate-least-in-ball-2
-    slice-aggregate-least-in-ball-3
-    array-share-prefix-first
-    slice-aggregate-least-in-ball-4
-    cast-least-in-ball
-    least-in-ball-requires
-    same-length
-    returns)
+    (tie.spec (λ c. search needs) (λ c. search needs) neighbour-tables-requires (λ c. search needs)
+    (λ c. search needs) (λ c. search needs) slice-aggregate-first-in-ball-3 (λ c. search needs)
+    slice-aggregate-first-in-ball-4 (λ c. search needs) slice-aggregate-first-in-ball-5 first-in-ball-requires
+    array-share-prefix-queue slice-aggregate-least-in-ball (λ c. search needs) (λ c. search needs)
+    array-share-prefix-first slice-aggregate-least-in-ball-4 cast-least-in-ball least-in-ball-requires
+    (λ c. search needs) returns)

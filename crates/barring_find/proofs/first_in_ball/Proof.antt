@@ -33,15 +33,6 @@ start-requires c κs =
     let list = netted-list (p .0 .1 .netted) (s .args .around .centre) _ (p .1 .0) (rw (p .1 .1 .0) at (c .before .before .before .before .before .before .search .ensures)) in
     (p .0 .0, (rw (p .1 .1 .2) list, list .below))
 
-same-length : tie.Need-same-length
-same-length c = search needs
-
-same-length-2 : tie.Need-same-length-2
-same-length-2 c = search needs
-
-same-length-3 : tie.Need-same-length-3
-same-length-3 c = search needs
-
 returns : tie.Need-returns
 returns c =
     let s = c .before .before .before .before .before .before .before .before .before .before .before .before .before .before .before .before .before .before .before in
@@ -61,12 +52,5 @@ returns c =
 pub first-in-ball-spec : {M : Type 1} → statement M
 first-in-ball-spec =
     tie.close
-    (tie.spec
-    search-requires
-    slice-reshare-prefix-start
-    slice-aggregate-start
-    start-requires
-    same-length
-    same-length-2
-    same-length-3
-    returns)
+    (tie.spec search-requires slice-reshare-prefix-start slice-aggregate-start start-requires (λ c. search needs)
+    (λ c. search needs) (λ c. search needs) returns)

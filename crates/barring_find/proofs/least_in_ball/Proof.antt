@@ -8,9 +8,6 @@ use Rattle.barring_find.proofs.Around.{is-placed, is-none}
 use Rattle.barring_find.proofs.least_in_ball.Statement.{statement}
 use Rattle.barring_find.proofs.least_in_ball.Tie as tie
 
-array-share-prefix-all : tie.Need-array-share-prefix-all
-array-share-prefix-all c = search needs
-
 slice-aggregate-bars : tie.Need-slice-aggregate-bars
 slice-aggregate-bars c = sym (length-take-le _ _ (c .before .before .before .before .before .before .before .before .pre .0 .tried .parts .links))
 
@@ -20,7 +17,8 @@ bars-requires c κs = let p = c .before .before .before .before .before .before 
 returns : tie.Need-returns
 returns c =
     λ partLabels board r t.
-    around-placed _ board _ r _ (is-placed _ board (t .parts .parallel) (t .parts .links) _ r (c .before .bars .ensures partLabels board r t) (not-true _ (c .if1 .taken)))
+    around-placed _ board _ r _ (c .placed .ensures)
+    (is-placed _ board (t .parts .parallel) (t .parts .links) _ r (c .before .before .bars .ensures partLabels board r t) (not-true _ (c .before .if1 .taken)))
 
 -- there are as many bytes as links
 long : (c : tie.After-drop-links) → length (c .drop-links .last .1 .1 .1 .1 .1 .1 .1 .0) ≡ length (now (c .before .before .before .before .before .before .before .before .before .before .before .before .args .starts))
@@ -30,26 +28,14 @@ long c = c .drop-links .kept .1 .1 .1 .1 .1 .1 .1 .0 ∙ length-take-le _ _ (c .
 kept-after : {marks least : List ℕ} {m : ℕ} (out : List ℕ) → length marks ≡ m → marks ≡ least → marks ++ drop m out ≡ least ++ drop (length least) out
 kept-after {marks} {least} out l e = ap (λ (n : ℕ). marks ++ drop n out) (sym l ∙ ap length e) ∙ ap (λ (xs : List ℕ). xs ++ drop (length least) out) e
 
-slice-relend-prefix-drop-links : tie.Need-slice-relend-prefix-drop-links
-slice-relend-prefix-drop-links c = search needs
-
 slice-aggregate-drop-links : tie.Need-slice-aggregate-drop-links
 slice-aggregate-drop-links c = sym (length-take-le _ _ (c .before .before .before .before .before .before .before .before .before .before .before .pre .1))
 
 drop-links-requires : tie.Need-drop-links-requires
 drop-links-requires c κs = let p = c .before .before .before .before .before .before .before .before .before .before .before .pre in (p .0, sym (length-take-le _ _ (p .1)))
 
-slice-reshare-prefix-count : tie.Need-slice-reshare-prefix-count
-slice-reshare-prefix-count c = search needs
-
 slice-aggregate-count : tie.Need-slice-aggregate-count
 slice-aggregate-count c = let d = c .before .before .before in length-take-append _ (d .drop-links .last .1 .1 .1 .1 .1 .1 .1 .0) _ (long d)
-
-count-requires : tie.Need-count-requires
-count-requires c κs = search needs
-
-same-length : tie.Need-same-length
-same-length c = search needs
 
 returns-2 : tie.Need-returns-2
 unfolding keptCount
@@ -67,16 +53,6 @@ returns-2 c =
 pub least-in-ball-spec : {M : Type 1} → statement M
 least-in-ball-spec =
     tie.close
-    (tie.spec
-    array-share-prefix-all
-    slice-aggregate-bars
-    bars-requires
-    returns
-    slice-relend-prefix-drop-links
-    slice-aggregate-drop-links
-    drop-links-requires
-    slice-reshare-prefix-count
-    slice-aggregate-count
-    count-requires
-    same-length
-    returns-2)
+    (tie.spec (λ c. search needs) slice-aggregate-bars bars-requires (λ c κs. search needs) returns (λ c. search needs)
+    slice-aggregate-drop-links drop-links-requires (λ c. search needs) slice-aggregate-count (λ c κs. search needs)
+    (λ c. search needs) returns-2)

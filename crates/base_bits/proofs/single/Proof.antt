@@ -4,11 +4,8 @@ use Rattle.base_bits.proofs.Digits.{one-shl}
 use Rattle.base_bits.proofs.single.Statement.{statement}
 use Rattle.base_bits.proofs.single.Tie as tie
 
-shl-result : tie.Need-shl-result
-shl-result c = search needs
-
 returns : tie.Need-returns
 returns c = one-shl 32 (c .args .u) (c .pre)
 
 pub single-spec : {M : Type 1} → statement M
-single-spec = tie.close (tie.spec shl-result returns)
+single-spec = tie.close (tie.spec (λ c. search needs) returns)

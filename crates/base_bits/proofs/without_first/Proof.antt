@@ -4,11 +4,8 @@ use Rattle.base_bits.proofs.Members.{without-and}
 use Rattle.base_bits.proofs.without_first.Statement.{statement}
 use Rattle.base_bits.proofs.without_first.Tie as tie
 
-sub-result : tie.Need-sub-result
-sub-result c = search needs
-
 returns : tie.Need-returns
 returns c = without-and (c .args .set) (omega arith) (c .fits .set .fits)
 
 pub without-first-spec : {M : Type 1} → statement M
-without-first-spec = tie.close (tie.spec sub-result returns)
+without-first-spec = tie.close (tie.spec (λ c. search needs) returns)

@@ -5,23 +5,8 @@ use Rattle.base_text.proofs.Text.{put-then, put-same, fits-same, name-a
 use Rattle.base_text.proofs.put_name.Statement.{statement}
 use Rattle.base_text.proofs.put_name.Tie as tie
 
-put-byte-requires : tie.Need-put-byte-requires
-put-byte-requires c κs = search needs
-
-put-two-requires : tie.Need-put-two-requires
-put-two-requires c κs = search needs
-
-same-length : tie.Need-same-length
-same-length c = search needs
-
 returns : tie.Need-returns
 returns c = put-then (c .before .before .before .before .before .before .put-byte .ensures) (c .before .before .put-two .ensures)
-
-mul-put-four : tie.Need-mul-put-four
-mul-put-four c = search needs
-
-shared-slice-read-put-four : tie.Need-shared-slice-read-put-four
-shared-slice-read-put-four c = search needs
 
 add-put-four : tie.Need-add-put-four
 add-put-four c =
@@ -40,9 +25,6 @@ text s h =
 put-four-requires : tie.Need-put-four-requires
 put-four-requires c κs = let s = c .before .before .before .before .before in fits-same (sym (text s (omega arith))) (s .pre .1 .1)
 
-same-length-2 : tie.Need-same-length-2
-same-length-2 c = search needs
-
 returns-2 : tie.Need-returns-2
 returns-2 c =
     put-same (text (c .before .before .before .before .before .before .before .before) (omega arith)) (c .before .before .put-four .ensures)
@@ -50,14 +32,5 @@ returns-2 c =
 pub put-name-spec : {M : Type 1} → statement M
 put-name-spec =
     tie.close
-    (tie.spec
-    put-byte-requires
-    put-two-requires
-    same-length
-    returns
-    mul-put-four
-    shared-slice-read-put-four
-    add-put-four
-    put-four-requires
-    same-length-2
-    returns-2)
+    (tie.spec (λ c κs. search needs) (λ c κs. search needs) (λ c. search needs) returns (λ c. search needs)
+    (λ c. search needs) add-put-four put-four-requires (λ c. search needs) returns-2)

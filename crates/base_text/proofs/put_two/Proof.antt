@@ -9,9 +9,6 @@ put-digit-requires c κs =
     let s = c .before .before .before in
     (omega arith, fits-same (decimal-digit (s .args .x) (omega arith)) (s .pre .1))
 
-same-length : tie.Need-same-length
-same-length c = search needs
-
 returns : tie.Need-returns
 returns c =
     let s = c .before .before .before .before .before .before in
@@ -27,9 +24,6 @@ put-digit-requires-3 c κs =
     let s = c .before .before .before .before .before .before .before in
     (omega arith, fits-then (c .before .before .before .put-digit2 .ensures) (fits-same (decimal-two (s .args .x) (omega arith) (s .pre .0)) (s .pre .1)))
 
-same-length-2 : tie.Need-same-length-2
-same-length-2 c = search needs
-
 returns-2 : tie.Need-returns-2
 returns-2 c =
     let s = c .before .before .before .before .before .before .before .before .before .before in
@@ -39,11 +33,5 @@ returns-2 c =
 pub put-two-spec : {M : Type 1} → statement M
 put-two-spec =
     tie.close
-    (tie.spec
-    put-digit-requires
-    same-length
-    returns
-    put-digit-requires-2
-    put-digit-requires-3
-    same-length-2
-    returns-2)
+    (tie.spec put-digit-requires (λ c. search needs) returns put-digit-requires-2 put-digit-requires-3
+    (λ c. search needs) returns-2)

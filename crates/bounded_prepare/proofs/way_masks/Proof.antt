@@ -22,12 +22,6 @@ masks-of-requires c κs =
       (rw (k .keys-of .ensures, p .1 .3) (keyed-below (now (s .args .bounds)) (now (s .args .parts)) (p .0 .0) (p .1 .0) (p .0 .1)), p .0 .2),
     )
 
-same-length : tie.Need-same-length
-same-length c = search needs
-
-same-length-2 : tie.Need-same-length-2
-same-length-2 c = search needs
-
 returns : tie.Need-returns
 returns c =
     let k = c .before .before .before .before .before .before .before in
@@ -36,4 +30,5 @@ returns c =
     ∙ ap₂ (λ (n : ℕ) (keys : List ℕ). masksOf n keys (now (s .args .values))) (s .pre .1 .3) (k .keys-of .ensures)
 
 pub way-masks-spec : {M : Type 1} → statement M
-way-masks-spec = tie.close (tie.spec keys-of-requires masks-of-requires same-length same-length-2 returns)
+way-masks-spec =
+    tie.close (tie.spec keys-of-requires masks-of-requires (λ c. search needs) (λ c. search needs) returns)

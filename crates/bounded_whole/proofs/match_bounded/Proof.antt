@@ -11,13 +11,7 @@ use Rattle.bounded_whole.proofs.Settle.{bound-prepared, row-fits, row-a
 use Rattle.bounded_whole.proofs.match_bounded.Statement.{statement}
 use Rattle.bounded_whole.proofs.match_bounded.Tie as tie
 
-largest-bound-requires : tie.Need-largest-bound-requires
-largest-bound-requires c κs = search needs
-
 -- ---- every bound is 1
-
-match-circuits-requires : tie.Need-match-circuits-requires
-match-circuits-requires c κs = search needs
 
 abbrev start : tie.After-largest-bound → tie.Start
 start c = c .before .before .before .before .before .before .before .before .before
@@ -27,9 +21,6 @@ all-or-none-requires c κs =
     let matched = c .before .before .before in
     (start (matched .before .before .before) .pre .0 .nodes, refined-fits _ _ _ _ (matched .match-circuits .ensures))
 
-same-length : tie.Need-same-length
-same-length c = search needs
-
 returns : tie.Need-returns
 returns c =
     let ruled = c .before .before in
@@ -38,9 +29,6 @@ returns c =
     ones-answer (start (test .before) .pre .1 .0) (test .before .largest-bound .ensures) (test .if1 .taken) (answered _ _ _ _ (matched .match-circuits .ensures) (ruled .all-or-none .ensures))
 
 -- ---- or not
-
-slice-aggregate-bound-masks : tie.Need-slice-aggregate-bound-masks
-slice-aggregate-bound-masks c = search needs
 
 bound-masks-requires : tie.Need-bound-masks-requires
 bound-masks-requires c κs =
@@ -55,25 +43,10 @@ bound-masks-requires c κs =
       (each .each, pattern .parallel, pattern .links, refl),
     )
 
-slice-aggregate-neighbour-tables : tie.Need-slice-aggregate-neighbour-tables
-slice-aggregate-neighbour-tables c = search needs
-
-slice-aggregate-neighbour-tables-2 : tie.Need-slice-aggregate-neighbour-tables-2
-slice-aggregate-neighbour-tables-2 c = search needs
-
 neighbour-tables-requires : tie.Need-neighbour-tables-requires
 neighbour-tables-requires c κs =
     let board = start (c .before .before .before .before .before .before) .pre .1 .1 .0 in
     (record { inOffsets = refl; inTargets = refl }, (board .nodes, ((board .parallel, board .links), (bounded-starts board, bounded-ends board))))
-
-slice-aggregate-match-prepared : tie.Need-slice-aggregate-match-prepared
-slice-aggregate-match-prepared c = search needs
-
-slice-aggregate-match-prepared-2 : tie.Need-slice-aggregate-match-prepared-2
-slice-aggregate-match-prepared-2 c = search needs
-
-slice-aggregate-match-prepared-3 : tie.Need-slice-aggregate-match-prepared-3
-slice-aggregate-match-prepared-3 c = search needs
 
 -- what is prepared is of the pattern, its bounds and the board
 made : (c : tie.After-neighbour-tables) →
@@ -100,9 +73,6 @@ all-or-none-requires-2 c κs =
     let matched = c .before .before .before in
     (start (tabled matched .before .before .before .before .before .before .before) .pre .0 .nodes, row-fits _ _ _ (matched .match-prepared .ensures _ _ _ _ _ (made (tabled matched))))
 
-same-length-2 : tie.Need-same-length-2
-same-length-2 c = search needs
-
 returns-2 : tie.Need-returns-2
 returns-2 c =
     let ruled = c .before .before in
@@ -112,21 +82,7 @@ returns-2 c =
 pub match-bounded-spec : {M : Type 1} → statement M
 match-bounded-spec =
     tie.close
-    (tie.spec
-    largest-bound-requires
-    match-circuits-requires
-    all-or-none-requires
-    same-length
-    returns
-    slice-aggregate-bound-masks
-    bound-masks-requires
-    slice-aggregate-neighbour-tables
-    slice-aggregate-neighbour-tables-2
-    neighbour-tables-requires
-    slice-aggregate-match-prepared
-    slice-aggregate-match-prepared-2
-    slice-aggregate-match-prepared-3
-    match-prepared-requires
-    all-or-none-requires-2
-    same-length-2
-    returns-2)
+    (tie.spec (λ c κs. search needs) (λ c κs. search needs) all-or-none-requires (λ c. search needs) returns
+    (λ c. search needs) bound-masks-requires (λ c. search needs) (λ c. search needs) neighbour-tables-requires
+    (λ c. search needs) (λ c. search needs) (λ c. search needs) match-prepared-requires all-or-none-requires-2
+    (λ c. search needs) returns-2)

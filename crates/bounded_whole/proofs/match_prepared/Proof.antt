@@ -101,9 +101,6 @@ counted-requires c κs =
     let some = entry (begun f) .pre .0 in
     whole-few _ _ _ (some .prepared) (made f (some .partStarts) (some .partEnds) (some .bounds) (some .nodeStarts) (some .nodeEnds)) (f .start .ensures .size) (r .refine .ensures)
 
-same-length : tie.Need-same-length
-same-length c = search needs
-
 returns : tie.Need-returns
 returns c =
     let r = c .before .before .before .before .before .before in
@@ -114,20 +111,7 @@ returns c =
 pub match-prepared-spec : {M : Type 1} → statement M
 match-prepared-spec =
     tie.close
-    (tie.spec
-    array-borrow-prefix-nodes
-    slice-aggregate-list-all
-    list-all-requires
-    array-share-prefix-nodes
-    slice-aggregate-start
-    start-requires
-    array-borrow-prefix-spare
-    slice-aggregate-refine
-    array-borrow-prefix-layer
-    slice-aggregate-refine-2
-    array-borrow-prefix-next
-    slice-aggregate-refine-3
-    refine-requires
-    counted-requires
-    same-length
-    returns)
+    (tie.spec array-borrow-prefix-nodes slice-aggregate-list-all list-all-requires array-share-prefix-nodes
+    slice-aggregate-start start-requires array-borrow-prefix-spare slice-aggregate-refine array-borrow-prefix-layer
+    slice-aggregate-refine-2 array-borrow-prefix-next slice-aggregate-refine-3 refine-requires counted-requires
+    (λ c. search needs) returns)

@@ -1,4 +1,5 @@
--- `call_barring::bar` meets its contract: a file is refused, or the kept links of the two circuits that were read are found. Assumes nothing.
+-- `call_barring::bar` meets its contract: a file is refused, or the kept links of the two circuits that were read are
+-- found. Assumes nothing.
 use Rattle.base_lists.specs.Kit.{now, sym, needs}
 use Rattle.graph.specs.Circuit.{Circuit}
 use Rattle.file_format.specs.Layout.{inEdition}
@@ -21,27 +22,6 @@ parts c = let l = c .read-pair .last .1 .1 .1 .1 in record { labels = l .0; star
 
 abbrev nodes : tie.After-read-pair → Circuit
 nodes c = let l = c .read-pair .last .1 .1 .1 .1 .1 .1 .1 in record { labels = l .0; starts = l .1 .0; ends = l .1 .1 .0 }
-
-slice-aggregate-read-pair : tie.Need-slice-aggregate-read-pair
-slice-aggregate-read-pair c = search needs
-
-slice-aggregate-read-pair-2 : tie.Need-slice-aggregate-read-pair-2
-slice-aggregate-read-pair-2 c = search needs
-
-slice-aggregate-read-pair-3 : tie.Need-slice-aggregate-read-pair-3
-slice-aggregate-read-pair-3 c = search needs
-
-slice-aggregate-read-pair-4 : tie.Need-slice-aggregate-read-pair-4
-slice-aggregate-read-pair-4 c = search needs
-
-slice-aggregate-read-pair-5 : tie.Need-slice-aggregate-read-pair-5
-slice-aggregate-read-pair-5 c = search needs
-
-slice-aggregate-read-pair-6 : tie.Need-slice-aggregate-read-pair-6
-slice-aggregate-read-pair-6 c = search needs
-
-read-pair-requires : tie.Need-read-pair-requires
-read-pair-requires c κs = search needs
 
 -- both were read
 abbrev reading : tie.After-enum-told → tie.After-read-pair
@@ -95,17 +75,8 @@ bar-on-requires c κs =
     let read = both (c .before .before .before .before .before .before .before) in
     (pattern-bounded read, board-bounded read)
 
-enum-known-verdict : tie.Need-enum-known-verdict
-enum-known-verdict c = search needs
-
 returns : tie.Need-returns
 returns c = bar-refused _ _ _ _ (refused-pair (c .before .before .before .before .before .before .before .before .before .read-pair .ensures) (c .before .verdict .given .1))
-
-enum-told : tie.Need-enum-told
-enum-told c = search needs
-
-same-length : tie.Need-same-length
-same-length c = search needs
 
 returns-2 : tie.Need-returns-2
 returns-2 c =
@@ -116,29 +87,9 @@ returns-2 c =
 pub bar-spec : {M : Type 1} → statement M
 bar-spec =
     tie.close
-    (tie.spec
-    slice-aggregate-read-pair
-    slice-aggregate-read-pair-2
-    slice-aggregate-read-pair-3
-    slice-aggregate-read-pair-4
-    slice-aggregate-read-pair-5
-    slice-aggregate-read-pair-6
-    read-pair-requires
-    enum-known-verdict
-    returns
-    enum-told
-    array-share-prefix-pk
-    slice-aggregate-bar-on
-    array-share-prefix-ps
-    slice-aggregate-bar-on-2
-    array-share-prefix-pe
-    slice-aggregate-bar-on-3
-    array-share-prefix-nk
-    slice-aggregate-bar-on-4
-    array-share-prefix-ns
-    slice-aggregate-bar-on-5
-    array-share-prefix-ne
-    slice-aggregate-bar-on-6
-    bar-on-requires
-    same-length
+    (tie.spec (λ c. search needs) (λ c. search needs) (λ c. search needs) (λ c. search needs) (λ c. search needs)
+    (λ c. search needs) (λ c κs. search needs) (λ c. search needs) returns (λ c. search needs) array-share-prefix-pk
+    slice-aggregate-bar-on array-share-prefix-ps slice-aggregate-bar-on-2 array-share-prefix-pe
+    slice-aggregate-bar-on-3 array-share-prefix-nk slice-aggregate-bar-on-4 array-share-prefix-ns
+    slice-aggregate-bar-on-5 array-share-prefix-ne slice-aggregate-bar-on-6 bar-on-requires (λ c. search needs)
     returns-2)

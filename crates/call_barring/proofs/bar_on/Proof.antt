@@ -1,4 +1,5 @@
--- `call_barring::bar_on` meets its contract: the centre is outside, there are too few bytes, or the kept links are found. Assumes nothing.
+-- `call_barring::bar_on` meets its contract: the centre is outside, there are too few bytes, or the kept links are
+-- found. Assumes nothing.
 use Rattle.base_lists.specs.Kit.{arith, needs}
 use Rattle.call_barring.proofs.Finding.{on-centre, on-short, on-around}
 use Rattle.call_barring.proofs.bar_on.Statement.{statement}
@@ -14,14 +15,11 @@ returns-2 c = on-short _ _ _ _ _ (c .before .if1 .left) (c .if2 .taken)
 abbrev entry : tie.Else2 → tie.Start
 entry c = c .before .before .before .before .before .before .before .before .before
 
-cast-t17 : tie.Need-cast-t17
-cast-t17 c = omega (arith, c .before .if1 .left, entry c .pre .1 .nodes)
+cast-t18 : tie.Need-cast-t18
+cast-t18 c = omega (arith, c .before .if1 .left, entry c .pre .1 .nodes)
 
 bar-circuits-requires : tie.Need-bar-circuits-requires
 bar-circuits-requires c κs = let here = c .before in (entry here .pre, (here .before .if1 .left, here .if2 .left))
-
-same-length : tie.Need-same-length
-same-length c = search needs
 
 returns-3 : tie.Need-returns-3
 returns-3 c =
@@ -30,4 +28,4 @@ returns-3 c =
     on-around _ _ _ _ _ (here .before .if1 .left) (here .if2 .left) (found .bar-circuits .ensures)
 
 pub bar-on-spec : {M : Type 1} → statement M
-bar-on-spec = tie.close (tie.spec returns returns-2 cast-t17 bar-circuits-requires same-length returns-3)
+bar-on-spec = tie.close (tie.spec returns returns-2 cast-t18 bar-circuits-requires (λ c. search needs) returns-3)

@@ -1,4 +1,5 @@
--- `call_bounded::match_bounds` meets its contract: a file is refused, or the two circuits that were read are matched. Assumes nothing.
+-- `call_bounded::match_bounds` meets its contract: a file is refused, or the two circuits that were read are matched.
+-- Assumes nothing.
 use Rattle.base_lists.specs.Kit.{now, _≡_, sym, List, ℕ, needs}
 use Rattle.graph.specs.Circuit.{Circuit}
 use Rattle.file_format.specs.declared.Role.the-variants.{Board}
@@ -53,52 +54,13 @@ given c = loaded-accepted (reading c .load .ensures) (c .enum-told2 .given .1)
 stands : (c : tie.After-enum-told2) → let r = reading c .load .result in Stands (board (reading c)) (r .nodes) (r .links) (nodes (reading c))
 stands c = reading c .load .ensures .held (given c) .stands
 
-slice-aggregate-load-bounded : tie.Need-slice-aggregate-load-bounded
-slice-aggregate-load-bounded c = search needs
-
-slice-aggregate-load-bounded-2 : tie.Need-slice-aggregate-load-bounded-2
-slice-aggregate-load-bounded-2 c = search needs
-
-slice-aggregate-load-bounded-3 : tie.Need-slice-aggregate-load-bounded-3
-slice-aggregate-load-bounded-3 c = search needs
-
-slice-aggregate-load-bounded-4 : tie.Need-slice-aggregate-load-bounded-4
-slice-aggregate-load-bounded-4 c = search needs
-
-load-bounded-requires : tie.Need-load-bounded-requires
-load-bounded-requires c κs = search needs
-
-enum-known-verdict : tie.Need-enum-known-verdict
-enum-known-verdict c = search needs
-
 returns : tie.Need-returns
 returns c = pattern-refused _ _ _ (third-refused (c .before .before .before .before .before .before .before .load-bounded .ensures) (c .before .verdict .given .1))
-
-enum-told : tie.Need-enum-told
-enum-told c = search needs
-
-slice-aggregate-load : tie.Need-slice-aggregate-load
-slice-aggregate-load c = search needs
-
-slice-aggregate-load-2 : tie.Need-slice-aggregate-load-2
-slice-aggregate-load-2 c = search needs
-
-slice-aggregate-load-3 : tie.Need-slice-aggregate-load-3
-slice-aggregate-load-3 c = search needs
-
-load-requires : tie.Need-load-requires
-load-requires c κs = search needs
-
-enum-known-verdict-2 : tie.Need-enum-known-verdict-2
-enum-known-verdict-2 c = search needs
 
 returns-2 : tie.Need-returns-2
 returns-2 c =
     let read = c .before .before .before .before .before .before in
     board-refused _ _ _ (third read) (loaded-refused (read .load .ensures) (c .before .verdict2 .given .1))
-
-enum-told-2 : tie.Need-enum-told-2
-enum-told-2 c = search needs
 
 array-share-prefix-pk : tie.Need-array-share-prefix-pk
 array-share-prefix-pk c = stands-room (held (reading c) .stands) .0
@@ -148,9 +110,6 @@ match-on-requires c κs =
     let read = reading here in
     (held-bounded _ (third read) (held read), (held-bounds _ (third read) (held read), stands-bounded (stands here) Board (given here)))
 
-same-length : tie.Need-same-length
-same-length c = search needs
-
 returns-3 : tie.Need-returns-3
 returns-3 c =
     let matched = c .before .before in
@@ -160,36 +119,10 @@ returns-3 c =
 pub match-bounds-spec : {M : Type 1} → statement M
 match-bounds-spec =
     tie.close
-    (tie.spec
-    slice-aggregate-load-bounded
-    slice-aggregate-load-bounded-2
-    slice-aggregate-load-bounded-3
-    slice-aggregate-load-bounded-4
-    load-bounded-requires
-    enum-known-verdict
-    returns
-    enum-told
-    slice-aggregate-load
-    slice-aggregate-load-2
-    slice-aggregate-load-3
-    load-requires
-    enum-known-verdict-2
-    returns-2
-    enum-told-2
-    array-share-prefix-pk
-    slice-aggregate-match-on
-    array-share-prefix-ps
-    slice-aggregate-match-on-2
-    array-share-prefix-pe
-    slice-aggregate-match-on-3
-    array-share-prefix-pb
-    slice-aggregate-match-on-4
-    array-share-prefix-nk
-    slice-aggregate-match-on-5
-    array-share-prefix-ns
-    slice-aggregate-match-on-6
-    array-share-prefix-ne
-    slice-aggregate-match-on-7
-    match-on-requires
-    same-length
-    returns-3)
+    (tie.spec (λ c. search needs) (λ c. search needs) (λ c. search needs) (λ c. search needs) (λ c κs. search needs)
+    (λ c. search needs) returns (λ c. search needs) (λ c. search needs) (λ c. search needs) (λ c. search needs)
+    (λ c κs. search needs) (λ c. search needs) returns-2 (λ c. search needs) array-share-prefix-pk
+    slice-aggregate-match-on array-share-prefix-ps slice-aggregate-match-on-2 array-share-prefix-pe
+    slice-aggregate-match-on-3 array-share-prefix-pb slice-aggregate-match-on-4 array-share-prefix-nk
+    slice-aggregate-match-on-5 array-share-prefix-ns slice-aggregate-match-on-6 array-share-prefix-ne
+    slice-aggregate-match-on-7 match-on-requires (λ c. search needs) returns-3)

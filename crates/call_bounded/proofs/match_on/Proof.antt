@@ -7,9 +7,6 @@ use Rattle.call_bounded.proofs.match_on.Tie as tie
 returns : tie.Need-returns
 returns c = on-short _ _ _ _ (c .if1 .taken)
 
-slice-relend-prefix-match-bounded : tie.Need-slice-relend-prefix-match-bounded
-slice-relend-prefix-match-bounded c = search needs
-
 slice-aggregate-match-bounded : tie.Need-slice-aggregate-match-bounded
 slice-aggregate-match-bounded c = sym (length-take-le _ _ (c .before .if1 .left))
 
@@ -19,9 +16,6 @@ match-bounded-requires c κs =
     let p = test .before .before .before .before .before .before .before .before .before .pre in
     (p .0, (p .1 .0, (p .1 .1, length-take-le _ _ (test .if1 .left))))
 
-same-length : tie.Need-same-length
-same-length c = search needs
-
 returns-2 : tie.Need-returns-2
 returns-2 c =
     let matched = c .before .before in
@@ -30,10 +24,5 @@ returns-2 c =
 pub match-on-spec : {M : Type 1} → statement M
 match-on-spec =
     tie.close
-    (tie.spec
-    returns
-    slice-relend-prefix-match-bounded
-    slice-aggregate-match-bounded
-    match-bounded-requires
-    same-length
+    (tie.spec returns (λ c. search needs) slice-aggregate-match-bounded match-bounded-requires (λ c. search needs)
     returns-2)

@@ -1,4 +1,5 @@
--- `call_check::check` meets its contract: a file is refused, or what is proposed is judged on the two circuits that were read. Assumes nothing.
+-- `call_check::check` meets its contract: a file is refused, or what is proposed is judged on the two circuits that
+-- were read. Assumes nothing.
 use Rattle.base_lists.specs.Kit.{now, sym, needs}
 use Rattle.graph.specs.Circuit.{Circuit}
 use Rattle.file_format.specs.declared.Role.the-variants.{Pattern}
@@ -22,35 +23,8 @@ parts c = let l = c .read-pair .last .1 .1 .1 .1 in record { labels = l .0; star
 abbrev nodes : tie.After-read-pair → Circuit
 nodes c = let l = c .read-pair .last .1 .1 .1 .1 .1 .1 .1 in record { labels = l .0; starts = l .1 .0; ends = l .1 .1 .0 }
 
-slice-aggregate-read-pair : tie.Need-slice-aggregate-read-pair
-slice-aggregate-read-pair c = search needs
-
-slice-aggregate-read-pair-2 : tie.Need-slice-aggregate-read-pair-2
-slice-aggregate-read-pair-2 c = search needs
-
-slice-aggregate-read-pair-3 : tie.Need-slice-aggregate-read-pair-3
-slice-aggregate-read-pair-3 c = search needs
-
-slice-aggregate-read-pair-4 : tie.Need-slice-aggregate-read-pair-4
-slice-aggregate-read-pair-4 c = search needs
-
-slice-aggregate-read-pair-5 : tie.Need-slice-aggregate-read-pair-5
-slice-aggregate-read-pair-5 c = search needs
-
-slice-aggregate-read-pair-6 : tie.Need-slice-aggregate-read-pair-6
-slice-aggregate-read-pair-6 c = search needs
-
-read-pair-requires : tie.Need-read-pair-requires
-read-pair-requires c κs = search needs
-
-enum-known-verdict : tie.Need-enum-known-verdict
-enum-known-verdict c = search needs
-
 returns : tie.Need-returns
 returns c = check-refused _ _ _ _ _ (refused-pair (c .before .before .before .before .before .before .before .before .before .read-pair .ensures) (c .before .verdict .given .1))
-
-enum-told : tie.Need-enum-told
-enum-told c = search needs
 
 -- both were read
 abbrev reading : tie.After-enum-told → tie.After-read-pair
@@ -108,28 +82,8 @@ returns-2 c = check-read _ _ _ _ _ (both (c .before .before .before .before .bef
 pub check-spec : {M : Type 1} → statement M
 check-spec =
     tie.close
-    (tie.spec
-    slice-aggregate-read-pair
-    slice-aggregate-read-pair-2
-    slice-aggregate-read-pair-3
-    slice-aggregate-read-pair-4
-    slice-aggregate-read-pair-5
-    slice-aggregate-read-pair-6
-    read-pair-requires
-    enum-known-verdict
-    returns
-    enum-told
-    array-share-prefix-pk
-    slice-aggregate-check-on
-    array-share-prefix-ps
-    slice-aggregate-check-on-2
-    array-share-prefix-pe
-    slice-aggregate-check-on-3
-    array-share-prefix-nk
-    slice-aggregate-check-on-4
-    array-borrow-prefix-ns
-    slice-aggregate-check-on-5
-    array-borrow-prefix-ne
-    slice-aggregate-check-on-6
-    check-on-requires
-    returns-2)
+    (tie.spec (λ c. search needs) (λ c. search needs) (λ c. search needs) (λ c. search needs) (λ c. search needs)
+    (λ c. search needs) (λ c κs. search needs) (λ c. search needs) returns (λ c. search needs) array-share-prefix-pk
+    slice-aggregate-check-on array-share-prefix-ps slice-aggregate-check-on-2 array-share-prefix-pe
+    slice-aggregate-check-on-3 array-share-prefix-nk slice-aggregate-check-on-4 array-borrow-prefix-ns
+    slice-aggregate-check-on-5 array-borrow-prefix-ne slice-aggregate-check-on-6 check-on-requires returns-2)

@@ -6,17 +6,8 @@ use Rattle.call_convert.proofs.Converting.{asConverted, on-lost, on-wri
 use Rattle.call_convert.proofs.convert_circuit.Statement.{statement}
 use Rattle.call_convert.proofs.convert_circuit.Tie as tie
 
-loses-requires : tie.Need-loses-requires
-loses-requires c κs = search needs
-
-refusal-requires : tie.Need-refusal-requires
-refusal-requires c κs = search needs
-
 returns : tie.Need-returns
 returns c = rw (c .refusal .ensures) (on-lost _ _ _ _ _ _ _ (sym (c .before .before .loses .ensures) ∙ c .before .if1 .taken))
-
-write-requires : tie.Need-write-requires
-write-requires c κs = search needs
 
 -- what was written is what the call comes to
 abbrev start : tie.After-write → tie.Start
@@ -29,24 +20,12 @@ done :
     ≡ convertOn (a .role) (a .to) (now (a .kinds)) (now (a .packages)) (now (a .starts)) (now (a .ends)) (now (a .out))
 done c = on-written _ _ _ _ _ _ _ (sym (c .before .before .before .loses .ensures) ∙ c .before .before .if1 .left) (start c .pre) _ _ (c .write .ensures)
 
-enum-known-written : tie.Need-enum-known-written
-enum-known-written c = search needs
-
-enum-known-written-2 : tie.Need-enum-known-written-2
-enum-known-written-2 c = search needs
-
-same-length : tie.Need-same-length
-same-length c = search needs
-
 returns-2 : tie.Need-returns-2
 unfolding asConverted
 returns-2 c =
     let told = c .before in
     let write = told .before .before .before .before in
     ap (λ (a : WriteAnswer). record { reply = convertReply (asConverted a); out = write .write .last .1 .1 .1 .1 .1 .1 .0 }) (sym (told .written .given .1)) ∙ done write
-
-same-length-2 : tie.Need-same-length-2
-same-length-2 c = search needs
 
 returns-3 : tie.Need-returns-3
 unfolding asConverted
@@ -58,14 +37,5 @@ returns-3 c =
 pub convert-circuit-spec : {M : Type 1} → statement M
 convert-circuit-spec =
     tie.close
-    (tie.spec
-    loses-requires
-    refusal-requires
-    returns
-    write-requires
-    enum-known-written
-    enum-known-written-2
-    same-length
-    returns-2
-    same-length-2
-    returns-3)
+    (tie.spec (λ c κs. search needs) (λ c κs. search needs) returns (λ c κs. search needs) (λ c. search needs)
+    (λ c. search needs) (λ c. search needs) returns-2 (λ c. search needs) returns-3)

@@ -21,12 +21,6 @@ stood c =
     let s = entry (reading c) in
     whole-read _ _ _ _ _ _ _ (s .pre .0) (reading c .read .ensures) (s .pre .1) (c .answer .given .1)
 
-read-requires : tie.Need-read-requires
-read-requires c κs = search needs
-
-enum-known-answer : tie.Need-enum-known-answer
-enum-known-answer c = search needs
-
 slice-reshare-prefix-convert-circuit : tie.Need-slice-reshare-prefix-convert-circuit
 slice-reshare-prefix-convert-circuit c = length-take-room _ _ (whole-sizes (stood (c .before)) .0)
 
@@ -54,38 +48,8 @@ slice-aggregate-convert-circuit-4 c = sym (whole-sizes (stood (c .before .before
 convert-circuit-requires : tie.Need-convert-circuit-requires
 convert-circuit-requires c κs = whole-circuit (stood (c .before .before .before .before .before .before)) _
 
-enum-known-answer-2 : tie.Need-enum-known-answer-2
-enum-known-answer-2 c = search needs
-
-same-length : tie.Need-same-length
-same-length c = search needs
-
-same-length-2 : tie.Need-same-length-2
-same-length-2 c = search needs
-
-same-length-3 : tie.Need-same-length-3
-same-length-3 c = search needs
-
-same-length-4 : tie.Need-same-length-4
-same-length-4 c = search needs
-
-same-length-5 : tie.Need-same-length-5
-same-length-5 c = search needs
-
 returns : tie.Need-returns
 returns c = whole-converted (stood (c .before .before .before .before .before .before .before .before .before)) _ _ (c .before .before .convert-circuit .ensures)
-
-same-length-6 : tie.Need-same-length-6
-same-length-6 c = search needs
-
-same-length-7 : tie.Need-same-length-7
-same-length-7 c = search needs
-
-same-length-8 : tie.Need-same-length-8
-same-length-8 c = search needs
-
-same-length-9 : tie.Need-same-length-9
-same-length-9 c = search needs
 
 returns-2 : tie.Need-returns-2
 returns-2 c =
@@ -95,27 +59,9 @@ returns-2 c =
 pub convert-through-spec : {M : Type 1} → statement M
 convert-through-spec =
     tie.close
-    (tie.spec
-    read-requires
-    enum-known-answer
-    slice-reshare-prefix-convert-circuit
-    slice-aggregate-convert-circuit
-    slice-reshare-prefix-convert-circuit-2
-    slice-aggregate-convert-circuit-2
-    slice-reshare-prefix-convert-circuit-3
-    slice-aggregate-convert-circuit-3
-    slice-reshare-prefix-convert-circuit-4
-    slice-aggregate-convert-circuit-4
-    convert-circuit-requires
-    enum-known-answer-2
-    same-length
-    same-length-2
-    same-length-3
-    same-length-4
-    same-length-5
-    returns
-    same-length-6
-    same-length-7
-    same-length-8
-    same-length-9
-    returns-2)
+    (tie.spec (λ c κs. search needs) (λ c. search needs) slice-reshare-prefix-convert-circuit
+    slice-aggregate-convert-circuit slice-reshare-prefix-convert-circuit-2 slice-aggregate-convert-circuit-2
+    slice-reshare-prefix-convert-circuit-3 slice-aggregate-convert-circuit-3 slice-reshare-prefix-convert-circuit-4
+    slice-aggregate-convert-circuit-4 convert-circuit-requires (λ c. search needs) (λ c. search needs)
+    (λ c. search needs) (λ c. search needs) (λ c. search needs) (λ c. search needs) returns (λ c. search needs)
+    (λ c. search needs) (λ c. search needs) (λ c. search needs) returns-2)

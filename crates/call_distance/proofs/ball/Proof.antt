@@ -1,4 +1,5 @@
--- `call_distance::ball` meets its contract: the file is refused, or the centre is, or the table, or the ball is filled in. Assumes nothing.
+-- `call_distance::ball` meets its contract: the file is refused, or the centre is, or the table, or the ball is filled
+-- in. Assumes nothing.
 use Rattle.base_lists.specs.Kit.{now, _≡_, sym, arith, needs}
 use Rattle.graph.specs.Circuit.{Circuit, circuit}
 use Rattle.file_format.specs.declared.Role.the-variants.{Board}
@@ -32,27 +33,9 @@ sound c = loaded-accepted (reading c .load .ensures) (c .enum-told .given .1)
 held : (c : tie.After-enum-told) → let read = reading c .load .result in Stands (given (reading c)) (read .nodes) (read .links) (tables (reading c))
 held c = reading c .load .ensures .held (sound c) .stands
 
-slice-aggregate-load : tie.Need-slice-aggregate-load
-slice-aggregate-load c = search needs
-
-slice-aggregate-load-2 : tie.Need-slice-aggregate-load-2
-slice-aggregate-load-2 c = search needs
-
-slice-aggregate-load-3 : tie.Need-slice-aggregate-load-3
-slice-aggregate-load-3 c = search needs
-
-load-requires : tie.Need-load-requires
-load-requires c κs = search needs
-
-enum-known-verdict : tie.Need-enum-known-verdict
-enum-known-verdict c = search needs
-
 returns : tie.Need-returns
 unfolding ballReply
 returns c = sym (ball-refused _ _ _ _ _ (loaded-refused (c .before .before .before .before .before .before .load .ensures) (c .before .verdict .given .1)))
-
-enum-told : tie.Need-enum-told
-enum-told c = search needs
 
 returns-2 : tie.Need-returns-2
 unfolding ballReply
@@ -94,9 +77,6 @@ fill-ball-requires c κs =
     let l = held (c .before .before .before .before .before .before) in
     (stands-bounded l Board (sound (c .before .before .before .before .before .before)), (rw (stands-size l .0) (omega arith), rw (stands-size l .0) (omega arith)))
 
-same-length : tie.Need-same-length
-same-length c = search needs
-
 returns-4 : tie.Need-returns-4
 unfolding ballReply
 returns-4 c =
@@ -106,23 +86,7 @@ returns-4 c =
 pub ball-spec : {M : Type 1} → statement M
 ball-spec =
     tie.close
-    (tie.spec
-    slice-aggregate-load
-    slice-aggregate-load-2
-    slice-aggregate-load-3
-    load-requires
-    enum-known-verdict
-    returns
-    enum-told
-    returns-2
-    returns-3
-    array-share-prefix-nk
-    slice-aggregate-fill-ball
-    array-share-prefix-ns
-    slice-aggregate-fill-ball-2
-    array-share-prefix-ne
-    slice-aggregate-fill-ball-3
-    cast-fill-ball
-    fill-ball-requires
-    same-length
-    returns-4)
+    (tie.spec (λ c. search needs) (λ c. search needs) (λ c. search needs) (λ c κs. search needs) (λ c. search needs)
+    returns (λ c. search needs) returns-2 returns-3 array-share-prefix-nk slice-aggregate-fill-ball
+    array-share-prefix-ns slice-aggregate-fill-ball-2 array-share-prefix-ne slice-aggregate-fill-ball-3
+    cast-fill-ball fill-ball-requires (λ c. search needs) returns-4)

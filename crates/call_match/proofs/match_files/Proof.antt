@@ -1,4 +1,5 @@
--- `call_match::match_files` meets its contract: a file is refused, or the two circuits that were read and prepared are matched. Assumes nothing.
+-- `call_match::match_files` meets its contract: a file is refused, or the two circuits that were read and prepared are
+-- matched. Assumes nothing.
 use Rattle.base_lists.specs.Kit.{now, sym, refl, length-take-le, needs}
 use Rattle.file_format.specs.declared.Role.the-variants.{AnyPattern}
 use Rattle.file_format.specs.Layout.{inEdition}
@@ -12,35 +13,14 @@ use Rattle.call_match.proofs.match_files.Tie as tie
 
 -- ---- the two files
 
-slice-aggregate-read-prepared : tie.Need-slice-aggregate-read-prepared
-slice-aggregate-read-prepared c = search needs
-
-slice-aggregate-read-prepared-2 : tie.Need-slice-aggregate-read-prepared-2
-slice-aggregate-read-prepared-2 c = search needs
-
-slice-aggregate-read-prepared-3 : tie.Need-slice-aggregate-read-prepared-3
-slice-aggregate-read-prepared-3 c = search needs
-
-slice-aggregate-read-prepared-4 : tie.Need-slice-aggregate-read-prepared-4
-slice-aggregate-read-prepared-4 c = search needs
-
-slice-aggregate-read-prepared-5 : tie.Need-slice-aggregate-read-prepared-5
-slice-aggregate-read-prepared-5 c = search needs
-
 read-prepared-requires : tie.Need-read-prepared-requires
 read-prepared-requires c κs =
     (record { nodes = refl; links = refl }, ((refl, refl), (refl, record { inOffsets = refl; inTargets = refl })))
-
-enum-known-verdict : tie.Need-enum-known-verdict
-enum-known-verdict c = search needs
 
 returns : tie.Need-returns
 returns c =
     let told = c .before in
     matching-refused _ _ _ _ (turned-pair (told .before .before .before .before .before .before .before .read-prepared .ensures) (told .verdict .given .1))
-
-enum-told : tie.Need-enum-told
-enum-told c = search needs
 
 -- both were read and prepared
 abbrev reading : tie.After-enum-told → tie.After-read-prepared
@@ -68,20 +48,8 @@ array-share-prefix-nk c = ready (c .before) .nodes .room
 slice-aggregate-match-on-2 : tie.Need-slice-aggregate-match-on-2
 slice-aggregate-match-on-2 c = sym (length-take-le _ _ (ready (c .before .before) .nodes .room))
 
-slice-aggregate-match-on-3 : tie.Need-slice-aggregate-match-on-3
-slice-aggregate-match-on-3 c = search needs
-
-slice-aggregate-match-on-4 : tie.Need-slice-aggregate-match-on-4
-slice-aggregate-match-on-4 c = search needs
-
-slice-aggregate-match-on-5 : tie.Need-slice-aggregate-match-on-5
-slice-aggregate-match-on-5 c = search needs
-
 match-on-requires : tie.Need-match-on-requires
 match-on-requires c κs = ready-links (ready (c .before .before .before .before .before .before))
-
-same-length : tie.Need-same-length
-same-length c = search needs
 
 returns-2 : tie.Need-returns-2
 returns-2 c =
@@ -92,23 +60,7 @@ returns-2 c =
 pub match-files-spec : {M : Type 1} → statement M
 match-files-spec =
     tie.close
-    (tie.spec
-    slice-aggregate-read-prepared
-    slice-aggregate-read-prepared-2
-    slice-aggregate-read-prepared-3
-    slice-aggregate-read-prepared-4
-    slice-aggregate-read-prepared-5
-    read-prepared-requires
-    enum-known-verdict
-    returns
-    enum-told
-    array-share-prefix-pk
-    slice-aggregate-match-on
-    array-share-prefix-nk
-    slice-aggregate-match-on-2
-    slice-aggregate-match-on-3
-    slice-aggregate-match-on-4
-    slice-aggregate-match-on-5
-    match-on-requires
-    same-length
-    returns-2)
+    (tie.spec (λ c. search needs) (λ c. search needs) (λ c. search needs) (λ c. search needs) (λ c. search needs)
+    read-prepared-requires (λ c. search needs) returns (λ c. search needs) array-share-prefix-pk
+    slice-aggregate-match-on array-share-prefix-nk slice-aggregate-match-on-2 (λ c. search needs)
+    (λ c. search needs) (λ c. search needs) match-on-requires (λ c. search needs) returns-2)

@@ -7,9 +7,6 @@ use Rattle.call_match.proofs.match_on.Tie as tie
 returns : tie.Need-returns
 returns c ways partStarts partEnds nodeStarts nodeEnds p = on-short _ _ _ _ (c .if1 .taken)
 
-slice-relend-prefix-match-whole : tie.Need-slice-relend-prefix-match-whole
-slice-relend-prefix-match-whole c = search needs
-
 slice-aggregate-match-whole : tie.Need-slice-aggregate-match-whole
 slice-aggregate-match-whole c = sym (length-take-le _ _ (c .before .if1 .left))
 
@@ -17,9 +14,6 @@ match-whole-requires : tie.Need-match-whole-requires
 match-whole-requires c κs =
     let test = c .before in
     (test .before .before .before .before .before .before .before .pre, length-take-le _ _ (test .if1 .left))
-
-same-length : tie.Need-same-length
-same-length c = search needs
 
 returns-2 : tie.Need-returns-2
 returns-2 c ways partStarts partEnds nodeStarts nodeEnds p =
@@ -29,10 +23,5 @@ returns-2 c ways partStarts partEnds nodeStarts nodeEnds p =
 pub match-on-spec : {M : Type 1} → statement M
 match-on-spec =
     tie.close
-    (tie.spec
-    returns
-    slice-relend-prefix-match-whole
-    slice-aggregate-match-whole
-    match-whole-requires
-    same-length
+    (tie.spec returns (λ c. search needs) slice-aggregate-match-whole match-whole-requires (λ c. search needs)
     returns-2)

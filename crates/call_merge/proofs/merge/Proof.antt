@@ -33,26 +33,8 @@ sound c = loaded-accepted (reading c .load .ensures) (c .enum-told .given .1)
 held : (c : tie.After-enum-told) → let read = reading c .load .result in Stands (given (reading c)) (read .nodes) (read .links) (tables (reading c))
 held c = reading c .load .ensures .held (sound c) .stands
 
-slice-aggregate-load : tie.Need-slice-aggregate-load
-slice-aggregate-load c = search needs
-
-slice-aggregate-load-2 : tie.Need-slice-aggregate-load-2
-slice-aggregate-load-2 c = search needs
-
-slice-aggregate-load-3 : tie.Need-slice-aggregate-load-3
-slice-aggregate-load-3 c = search needs
-
-load-requires : tie.Need-load-requires
-load-requires c κs = search needs
-
-enum-known-verdict : tie.Need-enum-known-verdict
-enum-known-verdict c = search needs
-
 returns : tie.Need-returns
 returns c = merging-file _ _ _ _ (loaded-refused (c .before .before .before .before .before .before .load .ensures) (c .before .verdict .given .1))
-
-enum-told : tie.Need-enum-told
-enum-told c = search needs
 
 -- ---- the lent tables
 
@@ -87,9 +69,6 @@ array-share-prefix-pe c = stands-room (held (read (c .before .before))) .2
 slice-aggregate-merge-circuit-3 : tie.Need-slice-aggregate-merge-circuit-3
 slice-aggregate-merge-circuit-3 c = sym (stands-size (held (read (c .before .before .before))) .2)
 
-slice-relend-prefix-merge-circuit : tie.Need-slice-relend-prefix-merge-circuit
-slice-relend-prefix-merge-circuit c = search needs
-
 slice-aggregate-merge-circuit-4 : tie.Need-slice-aggregate-merge-circuit-4
 slice-aggregate-merge-circuit-4 c = sym (length-take-le _ _ (c .before .before .before .before .before .if1 .left))
 
@@ -111,12 +90,6 @@ merge-circuit-requires c κs =
       ),
     )
 
-same-length : tie.Need-same-length
-same-length c = search needs
-
-same-length-2 : tie.Need-same-length-2
-same-length-2 c = search needs
-
 returns-4 : tie.Need-returns-4
 returns-4 c =
     let merged = c .before .before .before .before in
@@ -126,25 +99,8 @@ returns-4 c =
 pub merge-spec : {M : Type 1} → statement M
 merge-spec =
     tie.close
-    (tie.spec
-    slice-aggregate-load
-    slice-aggregate-load-2
-    slice-aggregate-load-3
-    load-requires
-    enum-known-verdict
-    returns
-    enum-told
-    returns-2
-    returns-3
-    array-share-prefix-pk
-    slice-aggregate-merge-circuit
-    array-share-prefix-ps
-    slice-aggregate-merge-circuit-2
-    array-share-prefix-pe
-    slice-aggregate-merge-circuit-3
-    slice-relend-prefix-merge-circuit
-    slice-aggregate-merge-circuit-4
-    merge-circuit-requires
-    same-length
-    same-length-2
-    returns-4)
+    (tie.spec (λ c. search needs) (λ c. search needs) (λ c. search needs) (λ c κs. search needs) (λ c. search needs)
+    returns (λ c. search needs) returns-2 returns-3 array-share-prefix-pk slice-aggregate-merge-circuit
+    array-share-prefix-ps slice-aggregate-merge-circuit-2 array-share-prefix-pe slice-aggregate-merge-circuit-3
+    (λ c. search needs) slice-aggregate-merge-circuit-4 merge-circuit-requires (λ c. search needs)
+    (λ c. search needs) returns-4)

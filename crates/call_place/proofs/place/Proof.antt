@@ -1,5 +1,5 @@
--- `call_place::place` meets its contract: a file is refused, or the place is sought on the two circuits that were read and prepared. Assumes
--- nothing.
+-- `call_place::place` meets its contract: a file is refused, or the place is sought on the two circuits that were read
+-- and prepared. Assumes nothing.
 use Rattle.base_lists.specs.Kit.{now, sym, refl, length-take-le, needs}
 use Rattle.file_format.specs.declared.Role.the-variants.{Pattern}
 use Rattle.file_format.specs.Layout.{inEdition}
@@ -13,41 +13,14 @@ use Rattle.call_place.proofs.Finding.{ready-drawn, find-refused, find-r
 use Rattle.call_place.proofs.place.Statement.{statement}
 use Rattle.call_place.proofs.place.Tie as tie
 
-slice-aggregate-read-prepared : tie.Need-slice-aggregate-read-prepared
-slice-aggregate-read-prepared c = search needs
-
-slice-aggregate-read-prepared-2 : tie.Need-slice-aggregate-read-prepared-2
-slice-aggregate-read-prepared-2 c = search needs
-
-slice-aggregate-read-prepared-3 : tie.Need-slice-aggregate-read-prepared-3
-slice-aggregate-read-prepared-3 c = search needs
-
-slice-aggregate-read-prepared-4 : tie.Need-slice-aggregate-read-prepared-4
-slice-aggregate-read-prepared-4 c = search needs
-
-slice-aggregate-read-prepared-5 : tie.Need-slice-aggregate-read-prepared-5
-slice-aggregate-read-prepared-5 c = search needs
-
 read-prepared-requires : tie.Need-read-prepared-requires
 read-prepared-requires c κs = (record { nodes = refl; links = refl }, ((refl, refl), (refl, record { inOffsets = refl; inTargets = refl })))
-
-enum-told : tie.Need-enum-told
-enum-told c = search needs
-
-enum-told-2 : tie.Need-enum-told-2
-enum-told-2 c = search needs
-
-answer-by-requires : tie.Need-answer-by-requires
-answer-by-requires c κs = search needs
 
 returns : tie.Need-returns
 unfolding verdictOf placeReply
 returns c =
     let told = c .before .enum-told2 .given .1 in
     rw (c .answer-by .ensures, told) (find-refused _ _ _ _ _ _ _ _ (turned-pair (c .before .before .before .before .before .before .before .before .read-prepared .ensures) told))
-
-radius-for-requires : tie.Need-radius-for-requires
-radius-for-requires c κs = search needs
 
 -- both were read and prepared
 ready : (c : tie.After-enum-told) →
@@ -69,29 +42,8 @@ array-share-prefix-nk c = ready (c .before .before) .nodes .room
 slice-aggregate-find-on-2 : tie.Need-slice-aggregate-find-on-2
 slice-aggregate-find-on-2 c = sym (length-take-le _ _ (ready (c .before .before .before) .nodes .room))
 
-slice-aggregate-find-on-3 : tie.Need-slice-aggregate-find-on-3
-slice-aggregate-find-on-3 c = search needs
-
-slice-aggregate-find-on-4 : tie.Need-slice-aggregate-find-on-4
-slice-aggregate-find-on-4 c = search needs
-
-slice-aggregate-find-on-5 : tie.Need-slice-aggregate-find-on-5
-slice-aggregate-find-on-5 c = search needs
-
 find-on-requires : tie.Need-find-on-requires
 find-on-requires c κs = ready-drawn (ready (c .before .before .before .before .before .before .before .before .before .before))
-
-same-length : tie.Need-same-length
-same-length c = search needs
-
-same-length-2 : tie.Need-same-length-2
-same-length-2 c = search needs
-
-same-length-3 : tie.Need-same-length-3
-same-length-3 c = search needs
-
-same-length-4 : tie.Need-same-length-4
-same-length-4 c = search needs
 
 returns-2 : tie.Need-returns-2
 returns-2 c =
@@ -101,28 +53,8 @@ returns-2 c =
 pub place-spec : {M : Type 1} → statement M
 place-spec =
     tie.close
-    (tie.spec
-    slice-aggregate-read-prepared
-    slice-aggregate-read-prepared-2
-    slice-aggregate-read-prepared-3
-    slice-aggregate-read-prepared-4
-    slice-aggregate-read-prepared-5
-    read-prepared-requires
-    enum-told
-    enum-told-2
-    answer-by-requires
-    returns
-    radius-for-requires
-    array-share-prefix-pk
-    slice-aggregate-find-on
-    array-share-prefix-nk
-    slice-aggregate-find-on-2
-    slice-aggregate-find-on-3
-    slice-aggregate-find-on-4
-    slice-aggregate-find-on-5
-    find-on-requires
-    same-length
-    same-length-2
-    same-length-3
-    same-length-4
-    returns-2)
+    (tie.spec (λ c. search needs) (λ c. search needs) (λ c. search needs) (λ c. search needs) (λ c. search needs)
+    read-prepared-requires (λ c. search needs) (λ c. search needs) (λ c κs. search needs) returns
+    (λ c κs. search needs) array-share-prefix-pk slice-aggregate-find-on array-share-prefix-nk
+    slice-aggregate-find-on-2 (λ c. search needs) (λ c. search needs) (λ c. search needs) find-on-requires
+    (λ c. search needs) (λ c. search needs) (λ c. search needs) (λ c. search needs) returns-2)

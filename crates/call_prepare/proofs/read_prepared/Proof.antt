@@ -1,4 +1,5 @@
--- `call_prepare::read_prepared` meets its contract: a file is refused, or what is prepared is of the two circuits that were read. Assumes nothing.
+-- `call_prepare::read_prepared` meets its contract: a file is refused, or what is prepared is of the two circuits that
+-- were read. Assumes nothing.
 use denote.Ref.{now}
 use mathlib.Core.Path.{sym}
 use native.Mathlib.Omega.{arith}
@@ -29,36 +30,12 @@ nodes c = let l = c .read-pair .last .1 .1 .1 .1 .1 .1 .1 in record { labels = l
 abbrev reading : tie.After-ne2 → tie.After-read-pair
 reading c = c .before .before .before .before .before .before .before .before
 
-slice-aggregate-read-pair : tie.Need-slice-aggregate-read-pair
-slice-aggregate-read-pair c = search needs
-
-slice-aggregate-read-pair-2 : tie.Need-slice-aggregate-read-pair-2
-slice-aggregate-read-pair-2 c = search needs
-
-slice-aggregate-read-pair-3 : tie.Need-slice-aggregate-read-pair-3
-slice-aggregate-read-pair-3 c = search needs
-
-slice-aggregate-read-pair-4 : tie.Need-slice-aggregate-read-pair-4
-slice-aggregate-read-pair-4 c = search needs
-
 read-pair-requires : tie.Need-read-pair-requires
 read-pair-requires c κs =
     let p = c .before .before .before .before .before .before .before .before .before .before .before .before .before .before .pre in (
       record { forKinds = omega (arith, p .0 .nodes, p .1 .0 .0); forStarts = omega (arith, p .0 .links); forEnds = omega (arith, p .0 .links) },
       record { forKinds = omega (arith, p .1 .0 .1); forStarts = search needs; forEnds = search needs },
     )
-
-enum-told : tie.Need-enum-told
-enum-told c = search needs
-
-enum-told-2 : tie.Need-enum-told-2
-enum-told-2 c = search needs
-
-same-length : tie.Need-same-length
-same-length c = search needs
-
-same-length-2 : tie.Need-same-length-2
-same-length-2 c = search needs
 
 returns : tie.Need-returns
 returns c = pair-turned (reading (c .before .before) .read-pair .ensures) (c .enum-told2 .given .1)
@@ -112,21 +89,6 @@ prepare-along-requires c κs =
       ),
     )
 
-same-length-3 : tie.Need-same-length-3
-same-length-3 c = search needs
-
-same-length-4 : tie.Need-same-length-4
-same-length-4 c = search needs
-
-same-length-5 : tie.Need-same-length-5
-same-length-5 c = search needs
-
-same-length-6 : tie.Need-same-length-6
-same-length-6 c = search needs
-
-same-length-7 : tie.Need-same-length-7
-same-length-7 c = search needs
-
 returns-2 : tie.Need-returns-2
 returns-2 c =
     let done = c .before .before .before .before .before .before in
@@ -140,29 +102,8 @@ returns-2 c =
 pub read-prepared-spec : {M : Type 1} → statement M
 read-prepared-spec =
     tie.close
-    (tie.spec
-    slice-aggregate-read-pair
-    slice-aggregate-read-pair-2
-    slice-aggregate-read-pair-3
-    slice-aggregate-read-pair-4
-    read-pair-requires
-    enum-told
-    enum-told-2
-    same-length
-    same-length-2
-    returns
-    array-share-prefix-ps
-    slice-aggregate-prepare-along
-    array-share-prefix-pe
-    slice-aggregate-prepare-along-2
-    array-share-prefix-ns
-    slice-aggregate-prepare-along-3
-    array-share-prefix-ne
-    slice-aggregate-prepare-along-4
-    prepare-along-requires
-    same-length-3
-    same-length-4
-    same-length-5
-    same-length-6
-    same-length-7
-    returns-2)
+    (tie.spec (λ c. search needs) (λ c. search needs) (λ c. search needs) (λ c. search needs) read-pair-requires
+    (λ c. search needs) (λ c. search needs) (λ c. search needs) (λ c. search needs) returns array-share-prefix-ps
+    slice-aggregate-prepare-along array-share-prefix-pe slice-aggregate-prepare-along-2 array-share-prefix-ns
+    slice-aggregate-prepare-along-3 array-share-prefix-ne slice-aggregate-prepare-along-4 prepare-along-requires
+    (λ c. search needs) (λ c. search needs) (λ c. search needs) (λ c. search needs) (λ c. search needs) returns-2)

@@ -4,20 +4,12 @@ use Rattle.call_report.proofs.Outcome.{outcome-short, outcome-put}
 use Rattle.call_report.proofs.answer_refused.Statement.{statement}
 use Rattle.call_report.proofs.answer_refused.Tie as tie
 
-too-short-requires : tie.Need-too-short-requires
-too-short-requires c κs = search needs
-
 returns : tie.Need-returns
 returns c = outcome-short _ _ _ (c .too-short .ensures) (c .before .if1 .taken)
-
-put-refused-requires : tie.Need-put-refused-requires
-put-refused-requires c κs = search needs
-
-same-length : tie.Need-same-length
-same-length c = search needs
 
 returns-2 : tie.Need-returns-2
 returns-2 c = let put = c .before .before in outcome-put _ _ _ (put .before .before .if1 .left) (put .put-refused .ensures)
 
 pub answer-refused-spec : {M : Type 1} → statement M
-answer-refused-spec = tie.close (tie.spec too-short-requires returns put-refused-requires same-length returns-2)
+answer-refused-spec =
+    tie.close (tie.spec (λ c κs. search needs) returns (λ c κs. search needs) (λ c. search needs) returns-2)

@@ -3,27 +3,15 @@
 use Rattle.base_lists.specs.Kit.{now, _∙_, sym, refl, length-take-le, needs}
 use Rattle.file_format.specs.Circuit.{circuitOf}
 use Rattle.table.specs.Prepared.{tables}
-use Rattle.report_centres.proofs.Pieces.{past-wrote}
+use Rattle.report_pieces.proofs.Pieces.{past-wrote}
 use Rattle.call_report.specs.Call.{outcomeBy}
-use Rattle.call_report.specs.Opened.{OpenedBoth}
-use Rattle.call_report.proofs.Opened.{opened-turned, opened-accepted, opened-both}
+use Rattle.call_open.specs.Opened.{OpenedBoth}
+use Rattle.call_open.proofs.Opened.{opened-turned, opened-accepted, opened-both}
 use Rattle.call_report.proofs.Outcome.{outcome-short, outcome-put, reporting-refused, reporting-lines}
 use Rattle.call_report.proofs.put.Statement.{statement}
 use Rattle.call_report.proofs.put.Tie as tie
 
-enum-told : tie.Need-enum-told
-enum-told c = search needs
-
 -- ---- a file is refused
-
-enum-told-2 : tie.Need-enum-told-2
-enum-told-2 c = search needs
-
-answer-by-requires : tie.Need-answer-by-requires
-answer-by-requires c κs = search needs
-
-same-length : tie.Need-same-length
-same-length c = search needs
 
 returns : tie.Need-returns
 unfolding outcomeBy
@@ -45,18 +33,12 @@ both : (c : tie.After-enum-told) →
     (now (a .whole)) (now (a .component-of)) (now (a .sizes))
 both c = opened-both (start c .pre .opened) (c .enum-told .given .1)
 
-too-short-requires : tie.Need-too-short-requires
-too-short-requires c κs = search needs
-
 returns-2 : tie.Need-returns-2
 returns-2 c pattern board o =
     let test = c .before in
     outcome-short _ _ _ (c .too-short .ensures) (test .if1 .taken) ∙ reporting-lines _ _ _ _ _ (opened-accepted o (test .before .enum-told .given .1))
 
 -- ---- past the last line
-
-put-nothing-requires : tie.Need-put-nothing-requires
-put-nothing-requires c κs = search needs
 
 returns-3 : tie.Need-returns-3
 returns-3 c pattern board o =
@@ -86,9 +68,6 @@ put-lines-requires c κs =
     let lines = both (test .before .before) .lines (test .if2 .left) in
     (record { pattern = _; board = _; source = lines .source }, lines .components)
 
-same-length-2 : tie.Need-same-length-2
-same-length-2 c = search needs
-
 returns-4 : tie.Need-returns-4
 returns-4 c pattern board o =
     let put = c .before .before in
@@ -100,19 +79,6 @@ returns-4 c pattern board o =
 pub put-spec : {M : Type 1} → statement M
 put-spec =
     tie.close
-    (tie.spec
-    enum-told
-    enum-told-2
-    answer-by-requires
-    same-length
-    returns
-    too-short-requires
-    returns-2
-    put-nothing-requires
-    returns-3
-    slice-aggregate-put-lines
-    slice-aggregate-put-lines-2
-    slice-aggregate-put-lines-3
-    put-lines-requires
-    same-length-2
-    returns-4)
+    (tie.spec (λ c. search needs) (λ c. search needs) (λ c κs. search needs) (λ c. search needs) returns
+    (λ c κs. search needs) returns-2 (λ c κs. search needs) returns-3 slice-aggregate-put-lines
+    slice-aggregate-put-lines-2 slice-aggregate-put-lines-3 put-lines-requires (λ c. search needs) returns-4)

@@ -1,4 +1,5 @@
--- `call_session::open` meets its contract: a file is refused, or the tables are filled from the two circuits that were read. Assumes nothing.
+-- `call_session::open` meets its contract: a file is refused, or the tables are filled from the two circuits that were
+-- read. Assumes nothing.
 use Rattle.base_lists.specs.Kit.{now, _≡_, _∙_, sym, length, take, length-take-le, arith, needs}
 use Rattle.graph.specs.Circuit.{Circuit}
 use Rattle.file_format.specs.Layout.{inEdition}
@@ -42,35 +43,8 @@ fits c =
 
 -- ---- what is filled
 
-slice-aggregate-read-pair : tie.Need-slice-aggregate-read-pair
-slice-aggregate-read-pair c = search needs
-
-slice-aggregate-read-pair-2 : tie.Need-slice-aggregate-read-pair-2
-slice-aggregate-read-pair-2 c = search needs
-
-slice-aggregate-read-pair-3 : tie.Need-slice-aggregate-read-pair-3
-slice-aggregate-read-pair-3 c = search needs
-
-slice-aggregate-read-pair-4 : tie.Need-slice-aggregate-read-pair-4
-slice-aggregate-read-pair-4 c = search needs
-
-slice-aggregate-read-pair-5 : tie.Need-slice-aggregate-read-pair-5
-slice-aggregate-read-pair-5 c = search needs
-
-slice-aggregate-read-pair-6 : tie.Need-slice-aggregate-read-pair-6
-slice-aggregate-read-pair-6 c = search needs
-
-read-pair-requires : tie.Need-read-pair-requires
-read-pair-requires c κs = search needs
-
-enum-known-verdict : tie.Need-enum-known-verdict
-enum-known-verdict c = search needs
-
 returns : tie.Need-returns
 returns c = open-refused (refused-pair (c .before .before .before .before .before .before .before .before .before .read-pair .ensures) (c .before .verdict .given .1))
-
-enum-told : tie.Need-enum-told
-enum-told c = search needs
 
 array-share-prefix-ps : tie.Need-array-share-prefix-ps
 array-share-prefix-ps c = stands-room (both c .drawn) .1
@@ -165,21 +139,6 @@ match-circuits-requires c κs =
     let read = both told in
     (bounded-any (pattern-bounded read), (board-bounded read, fits told ∙ sym (stands-size (read .given) .0)))
 
-same-length : tie.Need-same-length
-same-length c = search needs
-
-same-length-2 : tie.Need-same-length-2
-same-length-2 c = search needs
-
-same-length-3 : tie.Need-same-length-3
-same-length-3 c = search needs
-
-same-length-4 : tie.Need-same-length-4
-same-length-4 c = search needs
-
-same-length-5 : tie.Need-same-length-5
-same-length-5 c = search needs
-
 returns-2 : tie.Need-returns-2
 returns-2 c =
     let matched = c .before .before in
@@ -202,45 +161,13 @@ returns-2 c =
 pub open-spec : {M : Type 1} → statement M
 open-spec =
     tie.close
-    (tie.spec
-    slice-aggregate-read-pair
-    slice-aggregate-read-pair-2
-    slice-aggregate-read-pair-3
-    slice-aggregate-read-pair-4
-    slice-aggregate-read-pair-5
-    slice-aggregate-read-pair-6
-    read-pair-requires
-    enum-known-verdict
-    returns
-    enum-told
-    array-share-prefix-ps
-    slice-aggregate-store-fixed
-    array-share-prefix-pe
-    slice-aggregate-store-fixed-2
-    store-fixed-requires
-    array-share-prefix-ns
-    slice-aggregate-store-links
-    array-share-prefix-ne
-    slice-aggregate-store-links-2
-    store-links-requires
-    array-share-prefix-pk
-    slice-aggregate-match-circuits
-    array-share-prefix-ps-2
-    slice-aggregate-match-circuits-2
-    array-share-prefix-pe-2
-    slice-aggregate-match-circuits-3
-    array-share-prefix-nk
-    slice-aggregate-match-circuits-4
-    array-share-prefix-ns-2
-    slice-aggregate-match-circuits-5
-    array-share-prefix-ne-2
-    slice-aggregate-match-circuits-6
-    slice-relend-prefix-match-circuits
-    slice-aggregate-match-circuits-7
-    match-circuits-requires
-    same-length
-    same-length-2
-    same-length-3
-    same-length-4
-    same-length-5
-    returns-2)
+    (tie.spec (λ c. search needs) (λ c. search needs) (λ c. search needs) (λ c. search needs) (λ c. search needs)
+    (λ c. search needs) (λ c κs. search needs) (λ c. search needs) returns (λ c. search needs) array-share-prefix-ps
+    slice-aggregate-store-fixed array-share-prefix-pe slice-aggregate-store-fixed-2 store-fixed-requires
+    array-share-prefix-ns slice-aggregate-store-links array-share-prefix-ne slice-aggregate-store-links-2
+    store-links-requires array-share-prefix-pk slice-aggregate-match-circuits array-share-prefix-ps-2
+    slice-aggregate-match-circuits-2 array-share-prefix-pe-2 slice-aggregate-match-circuits-3 array-share-prefix-nk
+    slice-aggregate-match-circuits-4 array-share-prefix-ns-2 slice-aggregate-match-circuits-5
+    array-share-prefix-ne-2 slice-aggregate-match-circuits-6 slice-relend-prefix-match-circuits
+    slice-aggregate-match-circuits-7 match-circuits-requires (λ c. search needs) (λ c. search needs)
+    (λ c. search needs) (λ c. search needs) (λ c. search needs) returns-2)

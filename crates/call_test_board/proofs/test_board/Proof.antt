@@ -7,9 +7,6 @@ use Rattle.call_test_board.proofs.Making.{loading-outside, loading-shor
 use Rattle.call_test_board.proofs.test_board.Statement.{statement}
 use Rattle.call_test_board.proofs.test_board.Tie as tie
 
-in-range-requires : tie.Need-in-range-requires
-in-range-requires c κs = search needs
-
 -- what the test of the ranges says
 outside : (c : tie.After-in-range) → not (c .in-range .result) ≡ true → let a = c .before .before .args in sizesInRange (a .n) (a .m) (a .k) ≡ false
 outside c e = sym (c .in-range .ensures) ∙ not-true _ e
@@ -17,28 +14,10 @@ outside c e = sym (c .in-range .ensures) ∙ not-true _ e
 inside : (c : tie.After-in-range) → not (c .in-range .result) ≡ false → let a = c .before .before .args in sizesInRange (a .n) (a .m) (a .k) ≡ true
 inside c e = sym (c .in-range .ensures) ∙ not-false _ e
 
-mul-is-short : tie.Need-mul-is-short
-mul-is-short c = search needs
-
-add-is-short : tie.Need-add-is-short
-add-is-short c = search needs
-
-mul-is-short-2 : tie.Need-mul-is-short-2
-mul-is-short-2 c = search needs
-
-add-is-short-2 : tie.Need-add-is-short-2
-add-is-short-2 c = search needs
-
-refused-requires : tie.Need-refused-requires
-refused-requires c κs = search needs
-
 returns : tie.Need-returns
 returns c =
     let a = c .before .before .before .before .args in
     rw (c .refused .ensures) (loading-outside (a .seed) (a .n) (a .m) (a .k) (now (a .out)) (outside (c .before .before) (c .before .if1 .taken)))
-
-refused-requires-2 : tie.Need-refused-requires-2
-refused-requires-2 c κs = search needs
 
 returns-2 : tie.Need-returns-2
 returns-2 c =
@@ -55,9 +34,6 @@ make-requires c κs =
     let room : 4 + 2 * a .n + 4 * a .m ≤ length (now (a .out)) = ltb-false _ _ (c .before .if2 .left) in
     (in-range (a .n) (a .m) (a .k) (true-T (inside at (c .before .before .if1 .left))), omega arith)
 
-same-length : tie.Need-same-length
-same-length c = search needs
-
 returns-3 : tie.Need-returns-3
 returns-3 c =
     let made = c .before .before in
@@ -70,16 +46,5 @@ returns-3 c =
 pub test-board-spec : {M : Type 1} → statement M
 test-board-spec =
     tie.close
-    (tie.spec
-    in-range-requires
-    mul-is-short
-    add-is-short
-    mul-is-short-2
-    add-is-short-2
-    refused-requires
-    returns
-    refused-requires-2
-    returns-2
-    make-requires
-    same-length
-    returns-3)
+    (tie.spec (λ c κs. search needs) (λ c. search needs) (λ c. search needs) (λ c. search needs) (λ c. search needs)
+    (λ c κs. search needs) returns (λ c κs. search needs) returns-2 make-requires (λ c. search needs) returns-3)

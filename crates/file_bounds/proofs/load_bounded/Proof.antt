@@ -32,12 +32,6 @@ counted c = c .before .before .before .before .before
 abbrev prefix : tie.After-read-bounds → tie.After-load
 prefix c = c .before .before .before .before .before .before .before .before .before .before
 
-size-number-requires : tie.Need-size-number-requires
-size-number-requires c κs = search needs
-
-refused-bounded-requires : tie.Need-refused-bounded-requires
-refused-bounded-requires c κs = search needs
-
 returns : tie.Need-returns
 returns c =
     let number = c .before .before .size-number .ensures in
@@ -46,49 +40,13 @@ returns c =
 field-at-requires : tie.Need-field-at-requires
 field-at-requires c κs = omega (arith, third-sized _ (none c) .0)
 
-cast-n : tie.Need-cast-n
-cast-n c = search needs
-
 field-at-requires-2 : tie.Need-field-at-requires-2
 field-at-requires-2 c κs = omega (arith, third-sized _ (none (c .before)) .0)
-
-cast-m : tie.Need-cast-m
-cast-m c = search needs
-
-mul-at : tie.Need-mul-at
-mul-at c = search needs
-
-add-at : tie.Need-add-at
-add-at c = search needs
-
-mul-at-2 : tie.Need-mul-at-2
-mul-at-2 c = search needs
-
-add-at-2 : tie.Need-add-at-2
-add-at-2 c = search needs
 
 slice-aggregate-load : tie.Need-slice-aggregate-load
 slice-aggregate-load c =
     let here = c .before in
     sym (length-take-le _ _ (omega (arith, nodes-are here, links-are here, third-sized _ (none (sizes here)) .2)))
-
-load-requires : tie.Need-load-requires
-load-requires c κs = search needs
-
-enum-told : tie.Need-enum-told
-enum-told c = search needs
-
-enum-told-2 : tie.Need-enum-told-2
-enum-told-2 c = search needs
-
-same-length : tie.Need-same-length
-same-length c = search needs
-
-same-length-2 : tie.Need-same-length-2
-same-length-2 c = search needs
-
-same-length-3 : tie.Need-same-length-3
-same-length-3 c = search needs
 
 returns-2 : tie.Need-returns-2
 returns-2 c =
@@ -103,39 +61,12 @@ read-bounds-requires c κs =
     let (_, _, few) = range-orders AnyPattern (field file 0) (field file 2) range in
     (omega (arith, nodes-are here, links-are here, size), omega (arith, links-are here, few, start (sizes here) .pre .1))
 
-refused-bounded-requires-2 : tie.Need-refused-bounded-requires-2
-refused-bounded-requires-2 c κs = search needs
-
-same-length-4 : tie.Need-same-length-4
-same-length-4 c = search needs
-
-same-length-5 : tie.Need-same-length-5
-same-length-5 c = search needs
-
-same-length-6 : tie.Need-same-length-6
-same-length-6 c = search needs
-
-same-length-7 : tie.Need-same-length-7
-same-length-7 c = search needs
-
 returns-3 : tie.Need-returns-3
 returns-3 c =
     let bounds = c .before .before .before .before in
     let here = counted (prefix bounds) in
     loaded-bounds-refused _ _ _ (nodes-are here) (links-are here) (none (sizes here)) (prefix bounds .load .ensures) (bounds .before .before .enum-told .given .1)
     (bounds .read-bounds .ensures .0) (not-true _ (c .before .if2 .taken)) (c .refused-bounded2 .ensures)
-
-same-length-8 : tie.Need-same-length-8
-same-length-8 c = search needs
-
-same-length-9 : tie.Need-same-length-9
-same-length-9 c = search needs
-
-same-length-10 : tie.Need-same-length-10
-same-length-10 c = search needs
-
-same-length-11 : tie.Need-same-length-11
-same-length-11 c = search needs
 
 returns-4 : tie.Need-returns-4
 returns-4 c =
@@ -147,35 +78,9 @@ returns-4 c =
 pub load-bounded-spec : {M : Type 1} → statement M
 load-bounded-spec =
     tie.close
-    (tie.spec
-    size-number-requires
-    refused-bounded-requires
-    returns
-    field-at-requires
-    cast-n
-    field-at-requires-2
-    cast-m
-    mul-at
-    add-at
-    mul-at-2
-    add-at-2
-    slice-aggregate-load
-    load-requires
-    enum-told
-    enum-told-2
-    same-length
-    same-length-2
-    same-length-3
-    returns-2
-    read-bounds-requires
-    refused-bounded-requires-2
-    same-length-4
-    same-length-5
-    same-length-6
-    same-length-7
-    returns-3
-    same-length-8
-    same-length-9
-    same-length-10
-    same-length-11
-    returns-4)
+    (tie.spec (λ c κs. search needs) (λ c κs. search needs) returns field-at-requires (λ c. search needs)
+    field-at-requires-2 (λ c. search needs) (λ c. search needs) (λ c. search needs) (λ c. search needs)
+    (λ c. search needs) slice-aggregate-load (λ c κs. search needs) (λ c. search needs) (λ c. search needs)
+    (λ c. search needs) (λ c. search needs) (λ c. search needs) returns-2 read-bounds-requires
+    (λ c κs. search needs) (λ c. search needs) (λ c. search needs) (λ c. search needs) (λ c. search needs) returns-3
+    (λ c. search needs) (λ c. search needs) (λ c. search needs) (λ c. search needs) returns-4)

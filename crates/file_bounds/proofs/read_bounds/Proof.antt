@@ -5,20 +5,8 @@ use Rattle.file_bounds.specs.Third.{boundsFit}
 use Rattle.file_bounds.proofs.read_bounds.Statement.{statement}
 use Rattle.file_bounds.proofs.read_bounds.Tie as tie
 
-store-at-requires : tie.Need-store-at-requires
-store-at-requires c κs = search needs
-
-slice-reshare-prefix-all-within : tie.Need-slice-reshare-prefix-all-within
-slice-reshare-prefix-all-within c = search needs
-
 slice-aggregate-all-within : tie.Need-slice-aggregate-all-within
 slice-aggregate-all-within c = sym (length-take-le _ _ (omega arith))
-
-all-within-requires : tie.Need-all-within-requires
-all-within-requires c κs = search needs
-
-same-length : tie.Need-same-length
-same-length c = search needs
 
 returns : tie.Need-returns
 returns c =
@@ -28,10 +16,5 @@ returns c =
 pub read-bounds-spec : {M : Type 1} → statement M
 read-bounds-spec =
     tie.close
-    (tie.spec
-    store-at-requires
-    slice-reshare-prefix-all-within
-    slice-aggregate-all-within
-    all-within-requires
-    same-length
-    returns)
+    (tie.spec (λ c κs. search needs) (λ c. search needs) slice-aggregate-all-within (λ c κs. search needs)
+    (λ c. search needs) returns)

@@ -4,16 +4,13 @@ use Rattle.base_lists.specs.Kit.{_∙_, sym, needs, not-false, not-true}
 use Rattle.base_lists.proofs.Tests.{true-T, false-T}
 use Rattle.file_format.proofs.Accepted.{starts-below, ends-below}
 use Rattle.file_format.proofs.Refusals.{ordered, number-order, range-asked}
-use Rattle.file_check.proofs.LinkTests.{pattern-number, unasked-number}
+use Rattle.file_check.proofs.Widths.{pattern-number, unasked-number}
 use Rattle.file_check.proofs.test_links.Statement.{statement}
 use Rattle.file_check.proofs.test_links.Tie as tie
 use Rattle.file_check.proofs.test_links.Reads as reads
 use Rattle.file_check.proofs.test_links.Lts as lts
-use Rattle.file_check.proofs.order_number.Reads as order-number-reads
+use Rattle.file_links.proofs.order_number.Reads as order-number-reads
 use Rattle.graph_radius.proofs.radius.Reads as radius-reads
-
-order-number-requires : tie.Need-order-number-requires
-order-number-requires c κs = search needs
 
 returns : tie.Need-returns
 returns c =
@@ -22,9 +19,6 @@ returns c =
       number = order .ensures ∙ sym (number-order _ _ _ _ (λ e. c .if1 .taken (order .ensures ∙ e)));
       measured = λ e. absurd (c .if1 .taken e);
     }
-
-asks-connected-requires : tie.Need-asks-connected-requires
-asks-connected-requires c κs = search needs
 
 returns-2 : tie.Need-returns-2
 returns-2 c =
@@ -41,9 +35,6 @@ radius-requires c κs =
     let (_, few, _) = range-asked _ _ _ (true-T (sym (c .before .asks-connected .ensures) ∙ not-false _ (c .if2 .left))) (start .pre .0) in
     ((start .pre .1, few), (starts-below _ _ _ below, ends-below _ _ _ below))
 
-width-number-requires : tie.Need-width-number-requires
-width-number-requires c κs = search needs
-
 returns-3 : tie.Need-returns-3
 returns-3 c =
     let start = c .before .before .before .before .before .before .before .before in
@@ -56,4 +47,6 @@ returns-3 c =
 
 pub test-links-spec : {M : Type 1} → statement M
 test-links-spec =
-    tie.close (tie.spec order-number-requires returns asks-connected-requires returns-2 radius-requires width-number-requires returns-3)
+    tie.close
+    (tie.spec (λ c κs. search needs) returns (λ c κs. search needs) returns-2 radius-requires (λ c κs. search needs)
+    returns-3)

@@ -11,16 +11,10 @@ returns c =
     let past : length (fields (now (a .part)) (a .p)) ≤ a .i = omega (arith, length-fields (now (a .part)) (a .p)) in
     (sym (List·getD-eq-default (fields (now (a .part)) (a .p)) 0 past), omega arith)
 
-field-at-requires : tie.Need-field-at-requires
-field-at-requires c κs = search needs
-
-cast-result : tie.Need-cast-result
-cast-result c = search needs
-
 returns-2 : tie.Need-returns-2
 returns-2 c =
     let a = c .before .before .before .args in
     (c .field-at .ensures ∙ sym (getD-fields (now (a .part)) (a .p) (a .i) (omega arith)), omega arith)
 
 pub package-at-spec : {M : Type 1} → statement M
-package-at-spec = tie.close (tie.spec returns field-at-requires cast-result returns-2)
+package-at-spec = tie.close (tie.spec returns (λ c κs. search needs) (λ c. search needs) returns-2)

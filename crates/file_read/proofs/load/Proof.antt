@@ -61,12 +61,6 @@ standing c =
     let e = c .fill-links .ensures in
     filled-stands _ _ _ _ _ _ _ _ _ (nodes-are (counted c)) (links-are (counted c)) (c .before .before .before .before .before .fill-labels .ensures) (e .0) (e .1)
 
-size-number-requires : tie.Need-size-number-requires
-size-number-requires c κs = search needs
-
-refused-read-requires : tie.Need-refused-read-requires
-refused-read-requires c κs = search needs
-
 returns : tie.Need-returns
 returns c =
     let number = c .before .before .size-number .ensures in
@@ -75,14 +69,8 @@ returns c =
 field-at-requires : tie.Need-field-at-requires
 field-at-requires c κs = omega (arith, sized _ _ (none c) .0)
 
-cast-n : tie.Need-cast-n
-cast-n c = search needs
-
 field-at-requires-2 : tie.Need-field-at-requires-2
 field-at-requires-2 c κs = omega (arith, sized _ _ (none (c .before)) .0)
-
-cast-m : tie.Need-cast-m
-cast-m c = search needs
 
 fill-labels-requires : tie.Need-fill-labels-requires
 fill-labels-requires c κs =
@@ -122,31 +110,10 @@ test-links-requires c κs =
     let range = same-range (start .args .role) _ _ (nodesOf (given start)) (linksOf (given start)) (nodes-are here) (links-are here) (sized _ _ (none (sizes here)) .1) in
     (subst (λ (k : ℕ). T (inRange (start .args .role) (here .before .field-at .result) k)) (sym starts) range, starts ∙ sym ends)
 
-refused-read-requires-2 : tie.Need-refused-read-requires-2
-refused-read-requires-2 c κs = search needs
-
-same-length : tie.Need-same-length
-same-length c = search needs
-
-same-length-2 : tie.Need-same-length-2
-same-length-2 c = search needs
-
-same-length-3 : tie.Need-same-length-3
-same-length-3 c = search needs
-
 returns-2 : tie.Need-returns-2
 returns-2 c =
     let filled = c .before .before .before .before .before .before .before .before .before .before in
     links-turned _ _ _ _ _ (standing filled) (none (sizes (counted filled))) _ _ (c .before .before .before .test-links .ensures) _ (c .refused-read2 .ensures) (c .before .if2 .taken)
-
-same-length-4 : tie.Need-same-length-4
-same-length-4 c = search needs
-
-same-length-5 : tie.Need-same-length-5
-same-length-5 c = search needs
-
-same-length-6 : tie.Need-same-length-6
-same-length-6 c = search needs
 
 returns-3 : tie.Need-returns-3
 returns-3 c =
@@ -156,27 +123,8 @@ returns-3 c =
 pub load-spec : {M : Type 1} → statement M
 load-spec =
     tie.close
-    (tie.spec
-    size-number-requires
-    refused-read-requires
-    returns
-    field-at-requires
-    cast-n
-    field-at-requires-2
-    cast-m
-    fill-labels-requires
-    fill-links-requires
-    slice-reshare-prefix-test-links
-    slice-aggregate-test-links
-    slice-reshare-prefix-test-links-2
-    slice-aggregate-test-links-2
-    test-links-requires
-    refused-read-requires-2
-    same-length
-    same-length-2
-    same-length-3
-    returns-2
-    same-length-4
-    same-length-5
-    same-length-6
-    returns-3)
+    (tie.spec (λ c κs. search needs) (λ c κs. search needs) returns field-at-requires (λ c. search needs)
+    field-at-requires-2 (λ c. search needs) fill-labels-requires fill-links-requires slice-reshare-prefix-test-links
+    slice-aggregate-test-links slice-reshare-prefix-test-links-2 slice-aggregate-test-links-2 test-links-requires
+    (λ c κs. search needs) (λ c. search needs) (λ c. search needs) (λ c. search needs) returns-2 (λ c. search needs)
+    (λ c. search needs) (λ c. search needs) returns-3)

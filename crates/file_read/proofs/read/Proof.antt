@@ -7,23 +7,8 @@ use borrow.Author.Needs.{needs}
 use Rattle.file_read.proofs.read.Statement.{statement}
 use Rattle.file_read.proofs.read.Tie as tie
 
-slice-aggregate-load : tie.Need-slice-aggregate-load
-slice-aggregate-load c = search needs
-
-slice-aggregate-load-2 : tie.Need-slice-aggregate-load-2
-slice-aggregate-load-2 c = search needs
-
-slice-aggregate-load-3 : tie.Need-slice-aggregate-load-3
-slice-aggregate-load-3 c = search needs
-
 load-requires : tie.Need-load-requires
 load-requires c κs = let (n, m) = role-bounds (c .before .before .before .before .before .before .before .before .args .role) in record { forKinds = n; forStarts = m; forEnds = m }
-
-enum-known-verdict : tie.Need-enum-known-verdict
-enum-known-verdict c = search needs
-
-enum-told : tie.Need-enum-told
-enum-told c = search needs
 
 fill-fitting-requires : tie.Need-fill-fitting-requires
 fill-fitting-requires c κs =
@@ -32,18 +17,6 @@ fill-fitting-requires c κs =
     let sound = loaded-accepted load (told .enum-told .given .1) in
     let s = load .held sound .stands in
     (s .nodes, s .links, accepted _ _ sound .size ∙ sym (ap₂ (lengthOf (told .before .before .before .before .before .before .before .before .before .before .before .before .before .before .args .edition)) (s .nodes) (s .links)))
-
-same-length : tie.Need-same-length
-same-length c = search needs
-
-same-length-2 : tie.Need-same-length-2
-same-length-2 c = search needs
-
-same-length-3 : tie.Need-same-length-3
-same-length-3 c = search needs
-
-same-length-4 : tie.Need-same-length-4
-same-length-4 c = search needs
 
 returns : tie.Need-returns
 returns c =
@@ -57,17 +30,6 @@ returns-2 c = sym (reading-refused _ _ _ _ _ _ _ (loaded-refused (c .before .bef
 pub read-spec : {M : Type 1} → statement M
 read-spec =
     tie.close
-    (tie.spec
-    slice-aggregate-load
-    slice-aggregate-load-2
-    slice-aggregate-load-3
-    load-requires
-    enum-known-verdict
-    enum-told
-    fill-fitting-requires
-    same-length
-    same-length-2
-    same-length-3
-    same-length-4
-    returns
-    returns-2)
+    (tie.spec (λ c. search needs) (λ c. search needs) (λ c. search needs) load-requires (λ c. search needs)
+    (λ c. search needs) fill-fitting-requires (λ c. search needs) (λ c. search needs) (λ c. search needs)
+    (λ c. search needs) returns returns-2)

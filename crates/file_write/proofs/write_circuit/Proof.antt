@@ -3,14 +3,8 @@ use Rattle.base_lists.specs.Kit.{sym, length-take-le, needs}
 use Rattle.file_write.proofs.write_circuit.Statement.{statement}
 use Rattle.file_write.proofs.write_circuit.Tie as tie
 
-array-borrow-prefix-kinds : tie.Need-array-borrow-prefix-kinds
-array-borrow-prefix-kinds c = search needs
-
 slice-aggregate-write-parts : tie.Need-slice-aggregate-write-parts
 slice-aggregate-write-parts c = sym (length-take-le _ _ (c .before .before .before .before .before .pre .0))
-
-array-borrow-prefix-packages : tie.Need-array-borrow-prefix-packages
-array-borrow-prefix-packages c = search needs
 
 slice-aggregate-write-parts-2 : tie.Need-slice-aggregate-write-parts-2
 slice-aggregate-write-parts-2 c = sym (length-take-le _ _ (c .before .before .before .before .before .before .pre .0))
@@ -20,20 +14,8 @@ write-parts-requires c κs =
     let start = c .before .before .before .before .before .before .before in
     (length-take-le _ _ (start .pre .0), length-take-le _ _ (start .pre .0), start .pre .1)
 
-same-length : tie.Need-same-length
-same-length c = search needs
-
-returns : tie.Need-returns
-returns c = search needs
-
 pub write-circuit-spec : {M : Type 1} → statement M
 write-circuit-spec =
     tie.close
-    (tie.spec
-    array-borrow-prefix-kinds
-    slice-aggregate-write-parts
-    array-borrow-prefix-packages
-    slice-aggregate-write-parts-2
-    write-parts-requires
-    same-length
-    returns)
+    (tie.spec (λ c. search needs) slice-aggregate-write-parts (λ c. search needs) slice-aggregate-write-parts-2
+    write-parts-requires (λ c. search needs) (λ c. search needs))

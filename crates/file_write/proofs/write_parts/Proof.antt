@@ -4,21 +4,6 @@ use Rattle.base_lists.specs.Kit.{needs}
 use Rattle.file_write.proofs.write_parts.Statement.{statement}
 use Rattle.file_write.proofs.write_parts.Tie as tie
 
-split-requires : tie.Need-split-requires
-split-requires c κs = search needs
-
-write-requires : tie.Need-write-requires
-write-requires c κs = search needs
-
-same-length : tie.Need-same-length
-same-length c = search needs
-
-same-length-2 : tie.Need-same-length-2
-same-length-2 c = search needs
-
-same-length-3 : tie.Need-same-length-3
-same-length-3 c = search needs
-
 returns : tie.Need-returns
 returns c =
     let parts = c .before .before .before .before .before .before .before .before .before .before in
@@ -28,4 +13,5 @@ returns c =
 pub write-parts-spec : {M : Type 1} → statement M
 write-parts-spec =
     tie.close
-    (tie.spec split-requires write-requires same-length same-length-2 same-length-3 returns)
+    (tie.spec (λ c κs. search needs) (λ c κs. search needs) (λ c. search needs) (λ c. search needs)
+    (λ c. search needs) returns)

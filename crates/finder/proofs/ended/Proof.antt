@@ -1,5 +1,5 @@
 -- `finder::ended` meets its contract. Assumes nothing.
-use Rattle.finder.specs.Printing.{reportEnd}
+use Rattle.finder.specs.Run.{reportEnd}
 use Rattle.finder.proofs.ended.Statement.{statement}
 use Rattle.finder.proofs.ended.Tie as tie
 

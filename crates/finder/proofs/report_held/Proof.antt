@@ -1,6 +1,6 @@
 -- `finder::report_held` meets its contract. Assumes nothing.
 use Rattle.base_lists.specs.Kit.{needs, not-false, not-true}
-use Rattle.finder.specs.Printing.{ReportRan}
+use Rattle.finder.specs.Run.{ReportRan}
 use Rattle.finder.proofs.Ending.{ran-begun}
 use Rattle.finder.proofs.report_held.Statement.{statement}
 use Rattle.finder.proofs.report_held.Tie as tie
@@ -13,21 +13,6 @@ returns-2 : tie.Need-returns-2
 unfolding ReportRan
 returns-2 c = (not-false _ (c .before .before .if1 .left), not-true _ (c .if2 .taken), c .before .before .before .before .before .before .before .before .before .pre .1 .1)
 
-slice-aggregate-print-report : tie.Need-slice-aggregate-print-report
-slice-aggregate-print-report c = search needs
-
-slice-aggregate-print-report-2 : tie.Need-slice-aggregate-print-report-2
-slice-aggregate-print-report-2 c = search needs
-
-print-report-requires : tie.Need-print-report-requires
-print-report-requires c κs = search needs
-
-ended-requires : tie.Need-ended-requires
-ended-requires c κs = search needs
-
-same-length : tie.Need-same-length
-same-length c = search needs
-
 returns-3 : tie.Need-returns-3
 returns-3 c =
     let start = c .before .before .before .before .before .before .before .before .before .before .before .before .before .before .before .before .before in
@@ -37,12 +22,5 @@ returns-3 c =
 pub report-held-spec : {M : Type 1} → statement M
 report-held-spec =
     tie.close
-    (tie.spec
-    returns
-    returns-2
-    slice-aggregate-print-report
-    slice-aggregate-print-report-2
-    print-report-requires
-    ended-requires
-    same-length
-    returns-3)
+    (tie.spec returns returns-2 (λ c. search needs) (λ c. search needs) (λ c κs. search needs)
+    (λ c κs. search needs) (λ c. search needs) returns-3)

@@ -6,24 +6,6 @@ use Rattle.graph_follow.proofs.Following.{look-taken, look-left}
 use Rattle.graph_follow.proofs.look.Statement.{statement}
 use Rattle.graph_follow.proofs.look.Tie as tie
 
-mul-meets : tie.Need-mul-meets
-mul-meets c = search needs
-
-shared-slice-read-meets : tie.Need-shared-slice-read-meets
-shared-slice-read-meets c = search needs
-
-meets-requires : tie.Need-meets-requires
-meets-requires c κs = search needs
-
-visit-requires : tie.Need-visit-requires
-visit-requires c κs = search needs
-
-same-length : tie.Need-same-length
-same-length c = search needs
-
-same-length-2 : tie.Need-same-length-2
-same-length-2 c = search needs
-
 returns : tie.Need-returns
 returns c =
     let a = c .before .before .before .before .before .before .before .before .before .before .before .before .before .args in
@@ -37,4 +19,7 @@ returns-2 c =
     record { state = sym (look-left (a .set) (now (a .sets)) (a .d) s (a .v) (sym (c .before .meets .ensures) ∙ c .if1 .left)); kept = c .before .before .before .before .before .before .pre .0 }
 
 pub look-spec : {M : Type 1} → statement M
-look-spec = tie.close (tie.spec mul-meets shared-slice-read-meets meets-requires visit-requires same-length same-length-2 returns returns-2)
+look-spec =
+    tie.close
+    (tie.spec (λ c. search needs) (λ c. search needs) (λ c κs. search needs) (λ c κs. search needs)
+    (λ c. search needs) (λ c. search needs) returns returns-2)

@@ -25,12 +25,6 @@ follow-requires-2 c κs =
     let long = s .pre .1 .1 .0 ∙ sym (first .kept .1 .1 .1 .1 .0) in
     (first .ensures .kept, (rw (← long, c .before .before .neighbours-in2 .ensures) (neighbours-below _ (s .pre .1 .0) _ (s .pre .1 .1 .1)), (long, omega arith)))
 
-same-length : tie.Need-same-length
-same-length c = search needs
-
-same-length-2 : tie.Need-same-length-2
-same-length-2 c = search needs
-
 returns : tie.Need-returns
 unfolding neighboursIn
 returns c =
@@ -46,11 +40,5 @@ returns c =
 pub wake-beside-spec : {M : Type 1} → statement M
 wake-beside-spec =
     tie.close
-    (tie.spec
-    neighbours-in-requires
-    follow-requires
-    neighbours-in-requires-2
-    follow-requires-2
-    same-length
-    same-length-2
-    returns)
+    (tie.spec neighbours-in-requires follow-requires neighbours-in-requires-2 follow-requires-2 (λ c. search needs)
+    (λ c. search needs) returns)

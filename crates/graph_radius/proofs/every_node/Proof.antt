@@ -6,9 +6,6 @@ use Rattle.graph_radius.proofs.Spanning.{every-node}
 use Rattle.graph_radius.proofs.every_node.Statement.{statement}
 use Rattle.graph_radius.proofs.every_node.Tie as tie
 
-shl-result : tie.Need-shl-result
-shl-result c = search needs
-
 sub-result : tie.Need-sub-result
 sub-result c =
     let n = c .args .n in
@@ -26,4 +23,4 @@ returns c =
     omega (arith, one-shl 64 n (omega arith), every-node n)
 
 pub every-node-spec : {M : Type 1} → statement M
-every-node-spec = tie.close (tie.spec shl-result sub-result cast-result returns)
+every-node-spec = tie.close (tie.spec (λ c. search needs) sub-result cast-result returns)

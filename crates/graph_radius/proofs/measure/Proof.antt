@@ -5,26 +5,11 @@ use Rattle.graph_radius.proofs.Spanning.{finds-radius}
 use Rattle.graph_radius.proofs.measure.Statement.{statement}
 use Rattle.graph_radius.proofs.measure.Tie as tie
 
-neighbourhoods-requires : tie.Need-neighbourhoods-requires
-neighbourhoods-requires c κs = search needs
-
-singles-requires : tie.Need-singles-requires
-singles-requires c κs = search needs
-
 first-spanning-requires : tie.Need-first-spanning-requires
 first-spanning-requires c κs =
     let start = c .before .before .before .before .before .before .before .before .before .before .before .before .before .before .before .before in
     let near = c .before .before .before .before .before .before .before .before .before .neighbourhoods in
     ((omega (arith, near .kept .1 .1 .0, start .pre .0), balls-below _ _ _ 1 _ (near .ensures)), (omega (arith, near .kept .1 .1 .0, start .pre .1 .1, c .before .before .before .before .before .singles .kept .0), omega (arith, near .kept .1 .1 .0, start .pre .1 .1)))
-
-same-length : tie.Need-same-length
-same-length c = search needs
-
-same-length-2 : tie.Need-same-length-2
-same-length-2 c = search needs
-
-same-length-3 : tie.Need-same-length-3
-same-length-3 c = search needs
 
 returns : tie.Need-returns
 returns c =
@@ -35,11 +20,5 @@ returns c =
 pub measure-spec : {M : Type 1} → statement M
 measure-spec =
     tie.close
-    (tie.spec
-    neighbourhoods-requires
-    singles-requires
-    first-spanning-requires
-    same-length
-    same-length-2
-    same-length-3
-    returns)
+    (tie.spec (λ c κs. search needs) (λ c κs. search needs) first-spanning-requires (λ c. search needs)
+    (λ c. search needs) (λ c. search needs) returns)

@@ -9,20 +9,11 @@ use Rattle.graph_radius.proofs.radius.Tie as tie
 cut : (n : ℕ) → n ≤ 32 → length {A = ℕ} (take n (replicate 32 0)) ≡ n
 cut n h = length-take-le {A = ℕ} n (replicate 32 0) h
 
-array-borrow-prefix-near : tie.Need-array-borrow-prefix-near
-array-borrow-prefix-near c = search needs
-
 slice-aggregate-measure : tie.Need-slice-aggregate-measure
 slice-aggregate-measure c = sym (cut _ (c .before .before .before .pre .0 .1))
 
-array-borrow-prefix-old : tie.Need-array-borrow-prefix-old
-array-borrow-prefix-old c = search needs
-
 slice-aggregate-measure-2 : tie.Need-slice-aggregate-measure-2
 slice-aggregate-measure-2 c = sym (cut _ (c .before .before .before .before .pre .0 .1))
-
-array-borrow-prefix-new : tie.Need-array-borrow-prefix-new
-array-borrow-prefix-new c = search needs
 
 slice-aggregate-measure-3 : tie.Need-slice-aggregate-measure-3
 slice-aggregate-measure-3 c = sym (cut _ (c .before .before .before .before .before .pre .0 .1))
@@ -51,12 +42,5 @@ returns c =
 pub radius-spec : {M : Type 1} → statement M
 radius-spec =
     tie.close
-    (tie.spec
-    array-borrow-prefix-near
-    slice-aggregate-measure
-    array-borrow-prefix-old
-    slice-aggregate-measure-2
-    array-borrow-prefix-new
-    slice-aggregate-measure-3
-    measure-requires
-    returns)
+    (tie.spec (λ c. search needs) slice-aggregate-measure (λ c. search needs) slice-aggregate-measure-2
+    (λ c. search needs) slice-aggregate-measure-3 measure-requires returns)

@@ -4,18 +4,6 @@ use Rattle.graph.proofs.BfsSteps.{started}
 use Rattle.graph_search.proofs.begin.Statement.{statement}
 use Rattle.graph_search.proofs.begin.Tie as tie
 
-fill-requires : tie.Need-fill-requires
-fill-requires c κs = search needs
-
-mul-dist : tie.Need-mul-dist
-mul-dist c = search needs
-
-slice-write-dist : tie.Need-slice-write-dist
-slice-write-dist c = search needs
-
-slice-write-queue : tie.Need-slice-write-queue
-slice-write-queue c = search needs
-
 same-length : tie.Need-same-length
 same-length c = simp length-set (c .before .before .fill .kept .0)
 
@@ -31,11 +19,5 @@ returns c =
 pub begin-spec : {M : Type 1} → statement M
 begin-spec =
     tie.close
-    (tie.spec
-    fill-requires
-    mul-dist
-    slice-write-dist
-    slice-write-queue
-    same-length
-    same-length-2
-    returns)
+    (tie.spec (λ c κs. search needs) (λ c. search needs) (λ c. search needs) (λ c. search needs) same-length
+    same-length-2 returns)

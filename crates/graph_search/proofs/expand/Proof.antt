@@ -7,28 +7,16 @@ use Rattle.base_lists.specs.Kit.{needs}
 use Rattle.graph_search.proofs.expand.Statement.{statement}
 use Rattle.graph_search.proofs.expand.Tie as tie
 
-neighbours-in-requires : tie.Need-neighbours-in-requires
-neighbours-in-requires c κs = search needs
-
 scan-requires : tie.Need-scan-requires
 scan-requires c κs =
     let p = c .before .before .before .before .before .before .before .pre in
     (p .1 .0, (rw (c .before .before .neighbours-in .ensures) (neighbours-below _ (p .0) _ (p .1 .1 .0)), p .1 .1 .1))
-
-neighbours-in-requires-2 : tie.Need-neighbours-in-requires-2
-neighbours-in-requires-2 c κs = search needs
 
 scan-requires-2 : tie.Need-scan-requires-2
 scan-requires-2 c κs =
     let p = c .before .before .before .before .before .before .before .before .before .before .before .before .before .before .before .pre in
     let first = c .before .before .before .before .before .before .before .scan in
     (first .ensures .kept, (rw (first .kept .1 .1 .0, c .before .before .neighbours-in2 .ensures) (neighbours-below _ (p .0) _ (p .1 .1 .0)), p .1 .1 .1))
-
-same-length : tie.Need-same-length
-same-length c = search needs
-
-same-length-2 : tie.Need-same-length-2
-same-length-2 c = search needs
 
 returns : tie.Need-returns
 unfolding neighboursIn
@@ -43,11 +31,5 @@ returns c =
 pub expand-spec : {M : Type 1} → statement M
 expand-spec =
     tie.close
-    (tie.spec
-    neighbours-in-requires
-    scan-requires
-    neighbours-in-requires-2
-    scan-requires-2
-    same-length
-    same-length-2
-    returns)
+    (tie.spec (λ c κs. search needs) scan-requires (λ c κs. search needs) scan-requires-2 (λ c. search needs)
+    (λ c. search needs) returns)

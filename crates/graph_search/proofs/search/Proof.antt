@@ -6,20 +6,11 @@ use Rattle.graph_search.proofs.Onward.{centre-standing, advanced-all}
 use Rattle.graph_search.proofs.search.Statement.{statement}
 use Rattle.graph_search.proofs.search.Tie as tie
 
-begin-requires : tie.Need-begin-requires
-begin-requires c κs = search needs
-
 advance-requires : tie.Need-advance-requires
 advance-requires c κs =
     let begun = c .before .before .before .before .before .before .begin in
     let p = c .before .before .before .before .before .before .before .before .before .before .before .before .before .pre in
     (rw (begun .kept .1 .0) (p .0), (begun .ensures .kept, centre-standing _))
-
-same-length : tie.Need-same-length
-same-length c = search needs
-
-same-length-2 : tie.Need-same-length-2
-same-length-2 c = search needs
 
 returns : tie.Need-returns
 returns c =
@@ -34,10 +25,4 @@ returns c =
 
 pub search-spec : {M : Type 1} → statement M
 search-spec =
-    tie.close
-    (tie.spec
-    begin-requires
-    advance-requires
-    same-length
-    same-length-2
-    returns)
+    tie.close (tie.spec (λ c κs. search needs) advance-requires (λ c. search needs) (λ c. search needs) returns)

@@ -3,14 +3,8 @@ use borrow.Author.Needs.{needs}
 use Rattle.heronditch_reply.proofs.refused_piece.Statement.{statement}
 use Rattle.heronditch_reply.proofs.refused_piece.Tie as tie
 
-cast-t3 : tie.Need-cast-t3
-cast-t3 c = search needs
-
-file-number-requires : tie.Need-file-number-requires
-file-number-requires c κs = search needs
-
 returns : tie.Need-returns
 returns c = rw (c .file-number .ensures)
 
 pub refused-piece-spec : {M : Type 1} → statement M
-refused-piece-spec = tie.close (tie.spec cast-t3 file-number-requires returns)
+refused-piece-spec = tie.close (tie.spec (λ c. search needs) (λ c κs. search needs) returns)

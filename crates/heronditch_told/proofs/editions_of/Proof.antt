@@ -3,14 +3,8 @@ use borrow.Author.Needs.{needs}
 use Rattle.heronditch_told.proofs.editions_of.Statement.{statement}
 use Rattle.heronditch_told.proofs.editions_of.Tie as tie
 
-edition-of-requires : tie.Need-edition-of-requires
-edition-of-requires c κs = search needs
-
-edition-of-requires-2 : tie.Need-edition-of-requires-2
-edition-of-requires-2 c κs = search needs
-
 returns : tie.Need-returns
 returns c = (c .before .edition-of .ensures, c .edition-of2 .ensures)
 
 pub editions-of-spec : {M : Type 1} → statement M
-editions-of-spec = tie.close (tie.spec edition-of-requires edition-of-requires-2 returns)
+editions-of-spec = tie.close (tie.spec (λ c κs. search needs) (λ c κs. search needs) returns)

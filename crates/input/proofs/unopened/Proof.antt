@@ -6,9 +6,6 @@ use Rattle.input.specs.Reading.{isAbsent, unopenedOf}
 use Rattle.input.proofs.unopened.Statement.{statement}
 use Rattle.input.proofs.unopened.Tie as tie
 
-absent-requires : tie.Need-absent-requires
-absent-requires c κs = search needs
-
 returns : tie.Need-returns
 unfolding unopenedOf
 returns c = rw (ap isAbsent (sym (toZ-ofZ (c .before .before .fits .error))) ∙ sym (c .before .absent .ensures) ∙ c .if1 .taken)
@@ -18,4 +15,4 @@ unfolding unopenedOf
 returns-2 c = rw (ap isAbsent (sym (toZ-ofZ (c .before .before .fits .error))) ∙ sym (c .before .absent .ensures) ∙ c .if1 .left)
 
 pub unopened-spec : {M : Type 1} → statement M
-unopened-spec = tie.close (tie.spec absent-requires returns returns-2)
+unopened-spec = tie.close (tie.spec (λ c κs. search needs) returns returns-2)

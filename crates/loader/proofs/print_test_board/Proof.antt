@@ -7,18 +7,6 @@ use Rattle.loader.proofs.Printing.{tried-told, made-range, made-prefix,
 use Rattle.loader.proofs.print_test_board.Statement.{statement}
 use Rattle.loader.proofs.print_test_board.Tie as tie
 
-test-board-requires : tie.Need-test-board-requires
-test-board-requires c κs = search needs
-
-enum-known-answer : tie.Need-enum-known-answer
-enum-known-answer c = search needs
-
-enum-told : tie.Need-enum-told
-enum-told c = search needs
-
-same-length : tie.Need-same-length
-same-length c = search needs
-
 abbrev start : tie.After-test-board → tie.Start
 start c = c .before .before .before
 
@@ -55,9 +43,6 @@ slice-aggregate-hand c = sym (size (c .before .before .before))
 hand-requires : tie.Need-hand-requires
 hand-requires c κs = (start (loaded (c .before .before .before)) .pre .1, prefix (c .before .before .before))
 
-same-length-2 : tie.Need-same-length-2
-same-length-2 c = search needs
-
 returns-2 : tie.Need-returns-2
 returns-2 c =
     let told = c .before .before .before .before in
@@ -68,14 +53,5 @@ returns-2 c =
 pub print-test-board-spec : {M : Type 1} → statement M
 print-test-board-spec =
     tie.close
-    (tie.spec
-    test-board-requires
-    enum-known-answer
-    enum-told
-    same-length
-    returns
-    slice-reshare-prefix-hand
-    slice-aggregate-hand
-    hand-requires
-    same-length-2
-    returns-2)
+    (tie.spec (λ c κs. search needs) (λ c. search needs) (λ c. search needs) (λ c. search needs) returns
+    slice-reshare-prefix-hand slice-aggregate-hand hand-requires (λ c. search needs) returns-2)

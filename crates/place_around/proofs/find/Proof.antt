@@ -37,15 +37,6 @@ mul-if1 c = omega (arith, centre (c .before .before .before .before))
 slice-read-if1 : tie.Need-slice-read-if1
 slice-read-if1 c = centre (c .before .before .before .before .before)
 
-same-length : tie.Need-same-length
-same-length c = search needs
-
-same-length-2 : tie.Need-same-length-2
-same-length-2 c = search needs
-
-same-length-3 : tie.Need-same-length-3
-same-length-3 c = search needs
-
 returns : tie.Need-returns
 returns c =
     let end = c .before .before .before .before .before .before in
@@ -62,18 +53,6 @@ component-requires c κs =
       (rw (lengths .0, sought-long g) (g .centre), (kept ∙ sym (lengths .0), lengths .0 ∙ sym (lengths .1))),
     )
 
-same-length-4 : tie.Need-same-length-4
-same-length-4 c = search needs
-
-same-length-5 : tie.Need-same-length-5
-same-length-5 c = search needs
-
-same-length-6 : tie.Need-same-length-6
-same-length-6 c = search needs
-
-same-length-7 : tie.Need-same-length-7
-same-length-7 c = search needs
-
 returns-2 : tie.Need-returns-2
 returns-2 c =
     let end = c .before .before .before .before .before .before .before .before .before .before .before .before .before .before in
@@ -88,19 +67,6 @@ returns-2 c =
 pub find-spec : {M : Type 1} → statement M
 find-spec =
     tie.close
-    (tie.spec
-    slice-reshare-prefix-refine
-    slice-aggregate-refine
-    refine-requires
-    mul-if1
-    slice-read-if1
-    same-length
-    same-length-2
-    same-length-3
-    returns
-    component-requires
-    same-length-4
-    same-length-5
-    same-length-6
-    same-length-7
-    returns-2)
+    (tie.spec slice-reshare-prefix-refine slice-aggregate-refine refine-requires mul-if1 slice-read-if1
+    (λ c. search needs) (λ c. search needs) (λ c. search needs) returns component-requires (λ c. search needs)
+    (λ c. search needs) (λ c. search needs) (λ c. search needs) returns-2)

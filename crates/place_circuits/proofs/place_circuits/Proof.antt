@@ -1,5 +1,5 @@
--- `place_circuits::place_circuits` meets its contract: the place is found in the ball, and where there is one it is marked, and the ball's
--- distances are copied. Assumes nothing.
+-- `place_circuits::place_circuits` meets its contract: the place is found in the ball, and where there is one it is
+-- marked, and the ball's distances are copied. Assumes nothing.
 use Rattle.base_lists.specs.Kit.{now, _∙_, sym, ap, List, [], _++_, ℕ, _≤_, length, getD, take, drop, length-take-le, arith, needs, not-false, not-true}
 use Rattle.graph.specs.Circuit.{circuit}
 use Rattle.file_format.specs.Circuit.{Drawn}
@@ -7,7 +7,7 @@ use Rattle.table.specs.Prepared.{tables, Tables, Prepared}
 use Rattle.place.specs.Match.{placeLinks}
 use Rattle.place.proofs.Find.{drawn-tabled, tabled-links}
 use Rattle.place.proofs.Outcome.{around-none, around-some}
-use Rattle.place_circuits.specs.Ball.{PlacedIn}
+use Rattle.place_ball.specs.Ball.{PlacedIn}
 use Rattle.place_circuits.proofs.Marked.{sets-room, place-room, cut-ready, cut-long, cut-list, cut-fit, marked-nodes, marked-table, marked-links, dist-room, copied}
 use Rattle.place_circuits.proofs.place_circuits.Statement.{statement}
 use Rattle.place_circuits.proofs.place_circuits.Tie as tie
@@ -176,18 +176,6 @@ copy-requires c κs =
     let w = s .pre .0 in
     rw (length-take-le _ _ (dist-room (w .drawn) (w .prepared) (some left) (not-false _ (left .if1 .left)) _ [])) (s .pre .1 .1 .1 .1)
 
-same-length : tie.Need-same-length
-same-length c = search needs
-
-same-length-2 : tie.Need-same-length-2
-same-length-2 c = search needs
-
-same-length-3 : tie.Need-same-length-3
-same-length-3 c = search needs
-
-same-length-4 : tie.Need-same-length-4
-same-length-4 c = search needs
-
 returns-2 : tie.Need-returns-2
 returns-2 c =
     let left = c .before .before .before .before .before .before .before .before .before .before .before .before .before .before .before .before .before in
@@ -210,36 +198,10 @@ returns-2 c =
 pub place-circuits-spec : {M : Type 1} → statement M
 place-circuits-spec =
     tie.close
-    (tie.spec
-    mul-m
-    shared-slice-read-m
-    cast-m
-    array-borrow-prefix-dist
-    slice-aggregate-find-in-ball
-    array-borrow-prefix-queue
-    slice-aggregate-find-in-ball-2
-    array-borrow-prefix-sets
-    slice-aggregate-find-in-ball-3
-    array-borrow-prefix-spare
-    slice-aggregate-find-in-ball-4
-    find-in-ball-requires
-    returns
-    array-share-prefix-sets
-    slice-aggregate-mark
-    array-share-prefix-queue
-    slice-aggregate-mark-2
-    slice-relend-prefix-mark
-    slice-aggregate-mark-3
-    slice-relend-prefix-mark-2
-    slice-aggregate-mark-4
-    slice-relend-prefix-mark-3
-    slice-aggregate-mark-5
-    mark-requires
-    array-share-prefix-dist
-    slice-aggregate-copy
-    copy-requires
-    same-length
-    same-length-2
-    same-length-3
-    same-length-4
-    returns-2)
+    (tie.spec mul-m shared-slice-read-m cast-m array-borrow-prefix-dist slice-aggregate-find-in-ball
+    array-borrow-prefix-queue slice-aggregate-find-in-ball-2 array-borrow-prefix-sets slice-aggregate-find-in-ball-3
+    array-borrow-prefix-spare slice-aggregate-find-in-ball-4 find-in-ball-requires returns array-share-prefix-sets
+    slice-aggregate-mark array-share-prefix-queue slice-aggregate-mark-2 slice-relend-prefix-mark
+    slice-aggregate-mark-3 slice-relend-prefix-mark-2 slice-aggregate-mark-4 slice-relend-prefix-mark-3
+    slice-aggregate-mark-5 mark-requires array-share-prefix-dist slice-aggregate-copy copy-requires
+    (λ c. search needs) (λ c. search needs) (λ c. search needs) (λ c. search needs) returns-2)

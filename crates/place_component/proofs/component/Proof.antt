@@ -5,15 +5,6 @@ use Rattle.graph.proofs.Net.{net-few}
 use Rattle.place_component.proofs.component.Statement.{statement}
 use Rattle.place_component.proofs.component.Tie as tie
 
-reach-requires : tie.Need-reach-requires
-reach-requires c κs = search needs
-
-same-length : tie.Need-same-length
-same-length c = search needs
-
-same-length-2 : tie.Need-same-length-2
-same-length-2 c = search needs
-
 returns : tie.Need-returns
 returns c =
     let done = c .before .before .before .before in
@@ -25,4 +16,4 @@ returns c =
     found _ _ _ _ (record { state = call .ensures .1 .all (λ h. not-le-of-lt all h); kept = k })
 
 pub component-spec : {M : Type 1} → statement M
-component-spec = tie.close (tie.spec reach-requires same-length same-length-2 returns)
+component-spec = tie.close (tie.spec (λ c κs. search needs) (λ c. search needs) (λ c. search needs) returns)

@@ -9,18 +9,6 @@ use Rattle.place.proofs.Spread.{matched-scan}
 use Rattle.place_component.proofs.expand.Statement.{statement}
 use Rattle.place_component.proofs.expand.Tie as tie
 
-mul-set : tie.Need-mul-set
-mul-set c = search needs
-
-shared-slice-read-set : tie.Need-shared-slice-read-set
-shared-slice-read-set c = search needs
-
-driven-parts-requires : tie.Need-driven-parts-requires
-driven-parts-requires c κs = search needs
-
-driving-parts-requires : tie.Need-driving-parts-requires
-driving-parts-requires c κs = search needs
-
 -- the tables are over the nodes of the search
 net : (s : tie.Start) → Net (length (now (s .args .dist))) (now (s .args .offsets)) (now (s .args .targets))
 net s = rw (← s .pre .1 .1 .0) (s .pre .1 .0 .net)
@@ -43,12 +31,6 @@ follow-requires-2 c κs =
     let e = first .kept .1 .1 .1 .1 .0 in
     (first .ensures .kept, (rw (e, c .before .before .neighbours-in2 .ensures) (neighbours-below _ (net s) _ (s .pre .1 .1 .1 .0)), (s .pre .1 .1 .0 ∙ sym e, s .pre .1 .1 .1 .1)))
 
-same-length : tie.Need-same-length
-same-length c = search needs
-
-same-length-2 : tie.Need-same-length-2
-same-length-2 c = search needs
-
 returns : tie.Need-returns
 unfolding neighboursIn
 returns c =
@@ -65,15 +47,6 @@ returns c =
 pub expand-spec : {M : Type 1} → statement M
 expand-spec =
     tie.close
-    (tie.spec
-    mul-set
-    shared-slice-read-set
-    driven-parts-requires
-    driving-parts-requires
-    neighbours-in-requires
-    follow-requires
-    neighbours-in-requires-2
-    follow-requires-2
-    same-length
-    same-length-2
-    returns)
+    (tie.spec (λ c. search needs) (λ c. search needs) (λ c κs. search needs) (λ c κs. search needs)
+    neighbours-in-requires follow-requires neighbours-in-requires-2 follow-requires-2 (λ c. search needs)
+    (λ c. search needs) returns)

@@ -1,11 +1,10 @@
--- `place_component::reach` meets its contract. It begins with the state in which only the centre is reached. The loop's invariant: the search has gone on from there to
--- the state that the tables stand for. The measure is how many levels and how many nodes are left. Assumes nothing.
-use Rattle.base_lists.specs.Kit.{now, _≡_, _∙_, sym, ap, refl, _≤_, _<_, _+_, _-_, length, getD-take, arith, needs}
-use Rattle.graph.specs.Bfs.{SearchState, start, stateOf, Searching}
-use Rattle.graph.proofs.BfsSteps.{tail-le, reached-length, queue-node}
+-- `place_component::reach` meets its contract. It begins with the state in which only the centre is reached. The loop's invariant: the search has gone on from there
+-- (graph_search/proofs/Going) to the state that the tables stand for. The measure is how many levels and how many nodes are left. Assumes nothing.
+use Rattle.base_lists.specs.Kit.{_∙_, sym, _+_, _-_, length, arith, needs}
+use Rattle.graph.specs.Bfs.{start}
 use Rattle.graph.proofs.Net.{net-few}
-use Rattle.graph_search.specs.Until.{Advanced}
-use Rattle.graph_search.proofs.Onward.{either, neither, centre, centre-standing, advanced-none, advanced-next, advanced-level, advanced-end, advanced-enough, advanced-until}
+use Rattle.graph_search.proofs.Onward.{centre}
+use Rattle.graph_search.proofs.Going.{Going, going-centre, near, going-left, going-node, going-next, going-more, going-level, until-end, until-enough}
 use Rattle.table.specs.Prepared.{tables}
 use Rattle.place.specs.Spread.{matched}
 use Rattle.place_component.proofs.reach.Statement.{statement}
@@ -13,173 +12,73 @@ use Rattle.place_component.proofs.reach.Tie as tie
 
 abbrev Inv-loop : tie.InvT-loop
 Inv-loop masks offsets targets sets c r size dist₀ queue₀ looked₀ level₀ tail₀ depth₀ dist queue looked level tail depth =
-    (length dist ≡ length sets)
-    × (length queue ≡ length sets)
-    × Searching dist queue tail
-    × Advanced (matched (tables masks offsets targets) sets) r 0 centre (start (length sets) c)
-    (record { looked = looked; level = level; tail = tail; depth = depth }) (stateOf dist queue tail)
+    Going (matched (tables masks offsets targets) sets) r (length sets) (length sets) centre (start (length sets) c)
+    dist queue (record { looked = looked; level = level; tail = tail; depth = depth })
 
 abbrev μ-loop : tie.MeasureT-loop
 μ-loop masks offsets targets sets c r size dist₀ queue₀ looked₀ level₀ tail₀ depth₀ dist queue looked level tail depth = (r - depth) + (length sets - looked)
 
-begin-requires : tie.Need-begin-requires Inv-loop μ-loop
-begin-requires c κs = search needs
-
 loop-holds : tie.Need-loop-holds Inv-loop μ-loop
 loop-holds c =
     let s = c .before .before .before .before .before .before .before .before .before .before .before .before .before in
-    let e = s .pre .1 .1 .0 in
-    let first = c .before .before .before .before .begin in (
-      first .kept .1 .0 ∙ sym e,
-      first .kept .1 .1 .0 ∙ sym (s .pre .1 .1 .1) ∙ sym e,
-      first .ensures .kept,
-      rw (first .ensures .state, e) (advanced-none (centre-standing (s .args .r))),
-    )
+    let first = c .before .before .before .before .begin in
+    let e = sym (s .pre .1 .1 .0) in
+    going-centre _ (net-few (s .pre .0 .net)) (first .kept .1 .0 ∙ e) (first .kept .1 .1 .0 ∙ sym (s .pre .1 .1 .1) ∙ e) (rw e at (first .ensures))
 
 abbrev begun : tie.At-loop Inv-loop μ-loop → tie.Start Inv-loop μ-loop
 begun c = c .before .before .before .before .before .before .before .before .before .before .before .before .before .before
 
--- ---- a turn
+-- ---- a level is done
 
--- there are nodes for all levels and for all steps of the queue
-near : (c : tie.At-loop Inv-loop μ-loop) → let l = c .loop in
-    (l .looked ≤ l .level) × (l .level ≤ l .tail) × (l .depth ≤ l .level) × (l .tail ≤ length (now (begun c .args .sets))) × (l .tail ≤ length (l .queue)) × (length (now (begun c .args .sets)) < 65535)
-near c =
-    let l = c .loop in
-    let k = l .inv .3 .standing in
-    (k .inside, k .reached, k .early, omega (arith, tail-le _ _ _ (l .inv .2), l .inv .0), l .inv .2 .within, omega (arith, net-few (begun c .pre .0 .net)))
-
--- a level is done
-
-ended-requires : tie.Need-ended-requires Inv-loop μ-loop
-ended-requires c κs = search needs
-
--- the tables are as long as before
-long : (c : tie.At-loop Inv-loop μ-loop) → (length (c .loop .dist) ≡ length (now (begun c .args .dist))) × (length (c .loop .queue) ≡ length (now (begun c .args .queue)))
-long c = let p = begun c .pre .1 .1 in (c .loop .inv .0 ∙ p .0, c .loop .inv .1 ∙ p .0 ∙ p .1)
-
-same-length : tie.Need-same-length Inv-loop μ-loop
-same-length c = long (c .before .before .before .before) .0
-
-same-length-2 : tie.Need-same-length-2 Inv-loop μ-loop
-same-length-2 c = long (c .before .before .before .before) .1
+abbrev done : tie.After-ended Inv-loop μ-loop → tie.At-loop Inv-loop μ-loop
+done c = c .before .before .before
 
 returns : tie.Need-returns Inv-loop μ-loop
 returns c =
-    let at = c .before .before .before .before in
-    let l = at .loop in
-    let k = l .inv .2 in
-    let end = advanced-end (l .inv .3) (sym (reached-length _ _ _ k)) (c .before .before .if1 .taken) (begun at .args .size) (either _ _ _ _ (sym (c .before .ended .ensures) ∙ c .if2 .taken)) in
-    (k, rw (← begun at .pre .1 .1 .0) (advanced-until _ _ refl end))
-
--- the next level begins
-more : (c : tie.Else2 Inv-loop μ-loop) → let at = c .before .before .before .before in (at .loop .level < at .loop .tail) × (at .loop .depth < begun at .args .r)
-more c =
-    let at = c .before .before .before .before in
-    let l = at .loop in
-    let left = neither (l .level) (l .tail) (l .depth) (begun at .args .r) (sym (c .before .ended .ensures) ∙ c .if2 .left) in
-    (omega (arith, near at, left .0), omega (arith, l .inv .3 .standing .within, left .1))
-
-add-depth : tie.Need-add-depth Inv-loop μ-loop
-add-depth c = omega (arith, near (c .before .before .before .before))
+    let at = done (c .before) in
+    let go = at .loop .inv in
+    (go .kept, rw (← begun at .pre .1 .1 .0) (until-end go (c .before .before .if1 .taken) (sym (c .before .ended .ensures) ∙ c .if2 .taken)))
 
 loop-less : tie.Need-loop-less Inv-loop μ-loop
-loop-less c = omega (arith, more c)
+loop-less c = omega (arith, going-more (done (c .before) .loop .inv) (c .before .before .if1 .taken) (sym (c .before .ended .ensures) ∙ c .if2 .left))
 
 loop-again : tie.Need-loop-again Inv-loop μ-loop
-loop-again c =
-    let l = c .before .before .before .before .loop in
-    let k = l .inv .2 in
-    (l .inv .0, l .inv .1, k, advanced-level (l .inv .3) (sym (reached-length _ _ _ k)) (c .before .before .if1 .taken) (more c .0) (more c .1))
+loop-again c = going-level (done (c .before) .loop .inv) (c .before .before .if1 .taken) (sym (c .before .ended .ensures) ∙ c .if2 .left)
 
--- a node of the level has not been looked from
-
-abbrev onto : tie.Else1 Inv-loop μ-loop → tie.At-loop Inv-loop μ-loop
-onto c = c .before .before
-
-next : (c : tie.Else1 Inv-loop μ-loop) → onto c .loop .looked < onto c .loop .level
-next c = omega (arith, near (onto c), c .if1 .left)
-
-mul-v : tie.Need-mul-v Inv-loop μ-loop
-mul-v c = omega (arith, near (onto c), next c)
-
-slice-read-v : tie.Need-slice-read-v Inv-loop μ-loop
-slice-read-v c = omega (arith, near (onto (c .before)), next (c .before))
-
-cast-v : tie.Need-cast-v Inv-loop μ-loop
-cast-v c = omega (arith, c .slice-known5 .given (onto (c .before) .loop .looked))
+-- ---- a node of the level has not been looked from
 
 expand-requires : tie.Need-expand-requires Inv-loop μ-loop
 expand-requires c κs =
     let here = c .before .before .before in
-    let at = onto here in
-    let l = at .loop in
-    (l .inv .2, (begun at .pre .0, (sym (l .inv .0), (queue-node _ _ _ (l .inv .2) (l .looked) (omega (arith, near at, next here)), omega (arith, near at)))))
+    let at = here .before .before in
+    let go = at .loop .inv in
+    (go .kept, (begun at .pre .0, (sym (go .long), (going-node go (going-left go (here .if1 .left)), omega (arith, near go)))))
 
 abbrev there : tie.After-slice-known7 Inv-loop μ-loop → tie.Else1 Inv-loop μ-loop
 there c = c .before .before .before .before .before .before .before .before
 
-add-looked : tie.Need-add-looked Inv-loop μ-loop
-add-looked c = omega (arith, near (onto (there c)), next (there c))
-
-loop-less-2 : tie.Need-loop-less-2 Inv-loop μ-loop
-loop-less-2 c = omega (arith, near (onto (there c)), next (there c))
-
 loop-again-2 : tie.Need-loop-again-2 Inv-loop μ-loop
-unfolding stateOf
 loop-again-2 c =
-    let here = there c in
-    let at = onto here in
-    let l = at .loop in
     let call = c .before .before .before .before .expand in
-    let k = l .inv .2 in
-    let entry = sym (getD-take (l .tail) (l .queue) (l .looked) 0 (omega (arith, near at, next here))) in
-    let size = sym (reached-length _ _ _ (call .ensures .kept)) in (
-      call .kept .1 .1 .1 .1 .1 .1 .0 ∙ l .inv .0,
-      call .kept .1 .1 .1 .1 .1 .1 .1 .0 ∙ l .inv .1,
-      call .ensures .kept,
-      rw (call .ensures .state)
-          (advanced-next (l .inv .3) (sym (reached-length _ _ _ k)) _ (next here) entry (call .result) (size ∙ ap (λ (t : SearchState). length (t .reached)) (call .ensures .state))),
-    )
+    let go = there c .before .before .loop .inv in
+    going-next go (going-left go (there c .if1 .left)) (call .ensures) (call .kept .1 .1 .1 .1 .1 .1 .0) (call .kept .1 .1 .1 .1 .1 .1 .1 .0)
 
--- ---- the end
-
-same-length-3 : tie.Need-same-length-3 Inv-loop μ-loop
-same-length-3 c = long (c .before) .0
-
-same-length-4 : tie.Need-same-length-4 Inv-loop μ-loop
-same-length-4 c = long (c .before) .1
+-- ---- there are enough
 
 returns-2 : tie.Need-returns-2 Inv-loop μ-loop
-returns-2 c =
-    let at = c .before in
-    let l = at .loop in
-    let k = l .inv .2 in
-    let end = advanced-enough (l .inv .3) (sym (reached-length _ _ _ k)) (begun at .args .size) (c .loop-test .left) in
-    (k, rw (← begun at .pre .1 .1 .0) (advanced-until _ _ refl end))
+returns-2 c = let go = c .before .loop .inv in (go .kept, rw (← begun (c .before) .pre .1 .1 .0) (until-enough go (c .loop-test .left)))
 
 pub reach-spec : {M : Type 1} → statement M
 reach-spec =
     tie.close
-    (tie.spec
-    Inv-loop
-    μ-loop
-    begin-requires
-    loop-holds
-    ended-requires
-    same-length
-    same-length-2
-    returns
-    add-depth
-    loop-less
-    loop-again
-    mul-v
-    slice-read-v
-    cast-v
-    expand-requires
-    add-looked
-    loop-less-2
-    loop-again-2
-    same-length-3
-    same-length-4
-    returns-2)
+    (tie.spec Inv-loop μ-loop (λ c κs. search needs) loop-holds (λ c κs. search needs)
+    (λ c. let at = done (c .before) in at .loop .inv .long ∙ begun at .pre .1 .1 .0)
+    (λ c. let at = done (c .before) in at .loop .inv .room ∙ begun at .pre .1 .1 .0 ∙ begun at .pre .1 .1 .1) returns
+    (λ c. omega (arith, near (done (c .before) .loop .inv))) loop-less loop-again
+    (λ c. omega (arith, near (c .before .before .loop .inv), c .if1 .left))
+    (λ c. omega (arith, near (c .before .before .before .loop .inv), c .before .before .before .loop .inv .room, c .before .if1 .left))
+    (λ c. omega (arith, c .slice-known5 .given (c .before .before .before .loop .looked))) expand-requires
+    (λ c. omega (arith, near (there c .before .before .loop .inv), there c .if1 .left))
+    (λ c. omega (arith, near (there c .before .before .loop .inv), there c .if1 .left)) loop-again-2
+    (λ c. c .before .loop .inv .long ∙ begun (c .before) .pre .1 .1 .0)
+    (λ c. c .before .loop .inv .room ∙ begun (c .before) .pre .1 .1 .0 ∙ begun (c .before) .pre .1 .1 .1) returns-2)

@@ -13,21 +13,6 @@ use Rattle.place_components.proofs.ComponentNumbers.{match-ready, match
 use Rattle.place_components.proofs.number_from.Statement.{statement}
 use Rattle.place_components.proofs.number_from.Tie as tie
 
-mul-begins : tie.Need-mul-begins
-mul-begins c = search needs
-
-shared-slice-read-begins : tie.Need-shared-slice-read-begins
-shared-slice-read-begins c = search needs
-
-mul-begins-2 : tie.Need-mul-begins-2
-mul-begins-2 c = search needs
-
-slice-read-begins : tie.Need-slice-read-begins
-slice-read-begins c = search needs
-
-begins-requires : tie.Need-begins-requires
-begins-requires c κs = search needs
-
 abbrev start : tie.After-begins → tie.Start
 start c = c .before .before .before .before .before .before .before .before .before .before .before
 
@@ -92,24 +77,6 @@ cast-sizes c =
     let known = done c in
     omega (arith, listed known .1, known .component .kept .1 .1 .1 .1 .1 .1 .0, begun (here known) .pre .1 .1 .0, few (here known))
 
-mul-sizes : tie.Need-mul-sizes
-mul-sizes c = search needs
-
-slice-write-sizes : tie.Need-slice-write-sizes
-slice-write-sizes c = search needs
-
-same-length : tie.Need-same-length
-same-length c = search needs
-
-same-length-2 : tie.Need-same-length-2
-same-length-2 c = search needs
-
-same-length-3 : tie.Need-same-length-3
-same-length-3 c = search needs
-
-same-length-4 : tie.Need-same-length-4
-same-length-4 c = search needs
-
 returns-2 : tie.Need-returns-2
 returns-2 c =
     let known = done c in
@@ -127,23 +94,7 @@ returns-2 c =
 pub number-from-spec : {M : Type 1} → statement M
 number-from-spec =
     tie.close
-    (tie.spec
-    mul-begins
-    shared-slice-read-begins
-    mul-begins-2
-    slice-read-begins
-    begins-requires
-    returns
-    cast-c
-    component-requires
-    slice-reshare-prefix-store-each
-    slice-aggregate-store-each
-    store-each-requires
-    cast-sizes
-    mul-sizes
-    slice-write-sizes
-    same-length
-    same-length-2
-    same-length-3
-    same-length-4
-    returns-2)
+    (tie.spec (λ c. search needs) (λ c. search needs) (λ c. search needs) (λ c. search needs) (λ c κs. search needs)
+    returns cast-c component-requires slice-reshare-prefix-store-each slice-aggregate-store-each store-each-requires
+    cast-sizes (λ c. search needs) (λ c. search needs) (λ c. search needs) (λ c. search needs) (λ c. search needs)
+    (λ c. search needs) returns-2)

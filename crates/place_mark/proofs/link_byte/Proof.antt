@@ -3,9 +3,6 @@ use Rattle.base_lists.specs.Kit.{_∙_, sym, needs}
 use Rattle.place_mark.proofs.link_byte.Statement.{statement}
 use Rattle.place_mark.proofs.link_byte.Tie as tie
 
-meets-requires : tie.Need-meets-requires
-meets-requires c κs = search needs
-
 returns : tie.Need-returns
 returns c = simp (sym (c .before .meets .ensures) ∙ c .if1 .taken)
 
@@ -13,4 +10,4 @@ returns-2 : tie.Need-returns-2
 returns-2 c = simp (sym (c .before .meets .ensures) ∙ c .if1 .left)
 
 pub link-byte-spec : {M : Type 1} → statement M
-link-byte-spec = tie.close (tie.spec meets-requires returns returns-2)
+link-byte-spec = tie.close (tie.spec (λ c κs. search needs) returns returns-2)

@@ -13,15 +13,6 @@ mark-links-requires c κs = let p = c .before .before .before .before .before .b
 copy-requires : tie.Need-copy-requires
 copy-requires c κs = let p = c .before .before .before .before .before .before .before .before .before .before .before .before .before .before .before .before .before .pre in (rw (p .1 .1 .1 .1) (p .1 .0), p .1 .0 .below)
 
-same-length : tie.Need-same-length
-same-length c = search needs
-
-same-length-2 : tie.Need-same-length-2
-same-length-2 c = search needs
-
-same-length-3 : tie.Need-same-length-3
-same-length-3 c = search needs
-
 returns : tie.Need-returns
 returns c =
     let s = c .before .before .before .before .before .before .before .before .before .before .before .before .before .before .before .before .before .before .before .before in
@@ -34,4 +25,7 @@ returns c =
     )
 
 pub mark-spec : {M : Type 1} → statement M
-mark-spec = tie.close (tie.spec mark-nodes-requires mark-links-requires copy-requires same-length same-length-2 same-length-3 returns)
+mark-spec =
+    tie.close
+    (tie.spec mark-nodes-requires mark-links-requires copy-requires (λ c. search needs) (λ c. search needs)
+    (λ c. search needs) returns)

@@ -19,8 +19,8 @@ abbrev μ-loop : tie.MeasureT-loop
 abbrev tablesOf : tie.Start Inv-loop μ-loop → Tables
 tablesOf s = tables (now (s .args .masks)) (now (s .args .offsets)) (now (s .args .targets))
 
-clear-requires : tie.Need-clear-requires Inv-loop μ-loop
-clear-requires c κs = search needs
+fill-requires : tie.Need-fill-requires Inv-loop μ-loop
+fill-requires c κs = search needs
 
 loop-holds : tie.Need-loop-holds Inv-loop μ-loop
 loop-holds c = (omega arith, refl, refl)
@@ -40,7 +40,7 @@ mark-start-requires c κs =
     let s = c .before .before .before .before .before .before .before .before .before .before .before .before .before .before in
     let loop = c .before .before .before .loop in
     let node = s .pre .1 .0 .below (loop .i) (omega arith) in
-    (s .pre .0, (node, rw (loop .inv .1, c .before .before .before .before .before .before .clear .kept .0) (s .pre .1 .1 _ node)))
+    (s .pre .0, (node, rw (loop .inv .1, c .before .before .before .before .before .before .fill .kept .0) (s .pre .1 .1 _ node)))
 
 add-i : tie.Need-add-i Inv-loop μ-loop
 add-i c = omega arith
@@ -70,9 +70,9 @@ returns c =
     let list = now (s .args .list) in
     sym (starts-end (tablesOf s) (now (s .args .sets)) list (loop .bytes) (loop .i) (c .loop-test .left))
     ∙ loop .inv .2
-    ∙ starts-marks (tablesOf s) (now (s .args .sets)) _ list _ (c .before .before .before .before .clear .ensures)
+    ∙ starts-marks (tablesOf s) (now (s .args .sets)) _ list _ (c .before .before .before .before .fill .ensures)
 
 pub mark-links-spec : {M : Type 1} → statement M
 mark-links-spec =
     tie.close
-    (tie.spec Inv-loop μ-loop clear-requires loop-holds mul-v shared-slice-read-v cast-v mark-start-requires add-i loop-less loop-again same-length returns)
+    (tie.spec Inv-loop μ-loop fill-requires loop-holds mul-v shared-slice-read-v cast-v mark-start-requires add-i loop-less loop-again same-length returns)

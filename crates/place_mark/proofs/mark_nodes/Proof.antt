@@ -14,8 +14,8 @@ Inv-loop list bytes₀ i₀ bytes i =
 abbrev μ-loop : tie.MeasureT-loop
 μ-loop list bytes₀ i₀ bytes i = length list - i
 
-clear-requires : tie.Need-clear-requires Inv-loop μ-loop
-clear-requires c κs = search needs
+fill-requires : tie.Need-fill-requires Inv-loop μ-loop
+fill-requires c κs = search needs
 
 loop-holds : tie.Need-loop-holds Inv-loop μ-loop
 loop-holds c = (omega arith, refl, refl)
@@ -33,7 +33,7 @@ slice-write-bytes : tie.Need-slice-write-bytes Inv-loop μ-loop
 unfolding Below
 slice-write-bytes c =
     let loop = c .before .before .loop in
-    rw (loop .inv .1, c .before .before .before .before .before .clear .kept .0) (c .before .before .before .before .before .before .before .before .before .pre (loop .i) (omega arith))
+    rw (loop .inv .1, c .before .before .before .before .before .fill .kept .0) (c .before .before .before .before .before .before .before .before .before .pre (loop .i) (omega arith))
 
 add-i : tie.Need-add-i Inv-loop μ-loop
 add-i c = omega arith
@@ -53,9 +53,9 @@ returns : tie.Need-returns Inv-loop μ-loop
 returns c =
     let loop = c .before .loop in
     let list = now (c .before .before .before .before .before .before .before .before .args .list) in
-    sym (fill-end (λ v. 1) list (loop .bytes) (loop .i) (c .loop-test .left)) ∙ loop .inv .2 ∙ ones-marks _ list _ (c .before .before .before .before .clear .ensures)
+    sym (fill-end (λ v. 1) list (loop .bytes) (loop .i) (c .loop-test .left)) ∙ loop .inv .2 ∙ ones-marks _ list _ (c .before .before .before .before .fill .ensures)
 
 pub mark-nodes-spec : {M : Type 1} → statement M
 mark-nodes-spec =
     tie.close
-    (tie.spec Inv-loop μ-loop clear-requires loop-holds mul-v shared-slice-read-v cast-v slice-write-bytes add-i loop-less loop-again same-length returns)
+    (tie.spec Inv-loop μ-loop fill-requires loop-holds mul-v shared-slice-read-v cast-v slice-write-bytes add-i loop-less loop-again same-length returns)

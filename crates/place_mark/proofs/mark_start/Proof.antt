@@ -14,18 +14,6 @@ tablesOf s = tables (now (s .args .masks)) (now (s .args .offsets)) (now (s .arg
 neighbours-in-requires : tie.Need-neighbours-in-requires
 neighbours-in-requires c κs = let s = c .before .before .before .before .before in record { nodes = _; net = s .pre .0 .net; node = s .pre .1 .0 }
 
-mul-driven-parts : tie.Need-mul-driven-parts
-mul-driven-parts c = search needs
-
-shared-slice-read-driven-parts : tie.Need-shared-slice-read-driven-parts
-shared-slice-read-driven-parts c = search needs
-
-driven-parts-requires : tie.Need-driven-parts-requires
-driven-parts-requires c κs = search needs
-
-mul-from : tie.Need-mul-from
-mul-from c = search needs
-
 shared-slice-read-from : tie.Need-shared-slice-read-from
 shared-slice-read-from c = let s = c .before .before .before .before .before .before .before .before .before in omega (arith, net-few (s .pre .0 .net), s .pre .0 .net .room .inOffsets, s .pre .1 .0)
 
@@ -42,12 +30,6 @@ bounds c =
 add-to : tie.Need-add-to
 add-to c = omega (arith, bounds c)
 
-sub-mark-ends : tie.Need-sub-mark-ends
-sub-mark-ends c = search needs
-
-part-mark-ends-start : tie.Need-part-mark-ends-start
-part-mark-ends-start c = search needs
-
 part-mark-ends-end : tie.Need-part-mark-ends-end
 part-mark-ends-end c = bounds c
 
@@ -62,9 +44,6 @@ mark-ends-requires c κs =
       rw (listed .ensures) (neighbours-below _ (s .pre .0 .net) _ (s .pre .1 .0)),
     )
 
-same-length : tie.Need-same-length
-same-length c = search needs
-
 returns : tie.Need-returns
 unfolding neighboursIn
 returns c =
@@ -76,18 +55,6 @@ returns c =
 pub mark-start-spec : {M : Type 1} → statement M
 mark-start-spec =
     tie.close
-    (tie.spec
-    neighbours-in-requires
-    mul-driven-parts
-    shared-slice-read-driven-parts
-    driven-parts-requires
-    mul-from
-    shared-slice-read-from
-    cast-from
-    add-to
-    sub-mark-ends
-    part-mark-ends-start
-    part-mark-ends-end
-    mark-ends-requires
-    same-length
-    returns)
+    (tie.spec neighbours-in-requires (λ c. search needs) (λ c. search needs) (λ c κs. search needs)
+    (λ c. search needs) shared-slice-read-from cast-from add-to (λ c. search needs) (λ c. search needs)
+    part-mark-ends-end mark-ends-requires (λ c. search needs) returns)

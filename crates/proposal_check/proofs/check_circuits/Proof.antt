@@ -1,13 +1,11 @@
--- `proposal_check::check_circuits` meets its contract: the tests one after another; what is left of the links is a board of its own. Assumes nothing.
+-- `proposal_check::check_circuits` meets its contract: the tests one after another; what is left of the links is a
+-- board of its own. Assumes nothing.
 use Rattle.base_lists.specs.Kit.{_∙_, sym, length-take-le, needs, not-false, not-true}
 use Rattle.base_lists.proofs.Entries.{all-below, below-wider}
 use Rattle.file_format.proofs.Accepted.{bounded-starts, bounded-ends}
 use Rattle.proposal_check.proofs.Marked.{marks-not, near-not, fills-left, left-parallel, left-sizes, left-nodes, left-tabled}
 use Rattle.proposal_check.proofs.check_circuits.Statement.{statement}
 use Rattle.proposal_check.proofs.check_circuits.Tie as tie
-
-cast-marks-subgraph : tie.Need-cast-marks-subgraph
-cast-marks-subgraph c = search needs
 
 marks-subgraph-requires : tie.Need-marks-subgraph-requires
 marks-subgraph-requires c κs =
@@ -17,20 +15,8 @@ marks-subgraph-requires c κs =
       (rw (p .1 .1 .0) (all-below _ _ (bounded-starts board), all-below _ _ (bounded-ends board)), rw (p .1 .1 .0) (p .1 .0)),
     )
 
-same-length : tie.Need-same-length
-same-length c = search needs
-
-same-length-2 : tie.Need-same-length-2
-same-length-2 c = search needs
-
 returns : tie.Need-returns
 returns c = marks-not _ _ _ _ _ _ (sym (c .before .marks-subgraph .ensures _) ∙ not-true _ (c .if1 .taken))
-
-slice-aggregate-near : tie.Need-slice-aggregate-near
-slice-aggregate-near c = search needs
-
-slice-aggregate-near-2 : tie.Need-slice-aggregate-near-2
-slice-aggregate-near-2 c = search needs
 
 near-requires : tie.Need-near-requires
 near-requires c κs =
@@ -38,44 +24,17 @@ near-requires c κs =
     let board = p .0 .nodes in
     (search needs, (rw (p .1 .1 .0) (board .nodes, p .1 .0), ((board .parallel, board .links), rw (p .1 .1 .0) (bounded-starts board, bounded-ends board))))
 
-same-length-3 : tie.Need-same-length-3
-same-length-3 c = search needs
-
-same-length-4 : tie.Need-same-length-4
-same-length-4 c = search needs
-
 returns-2 : tie.Need-returns-2
 returns-2 c =
     let s = c .before .before .before .before .before .before .before .before .before .before .before .before .before .before .before .before .before .before .before .before in
     near-not _ _ _ _ _ _ (sym (c .before .before .before .before .before .before .before .before .before .marks-subgraph .ensures _) ∙ not-false _ (c .before .before .before .before .before .before .before .before .if1 .left)) (s .pre .1 .1 .0)
     (sym (c .before .before .before .near .ensures) ∙ not-true _ (c .if2 .taken))
 
-choose-requires : tie.Need-choose-requires
-choose-requires c κs = search needs
-
-choose-requires-2 : tie.Need-choose-requires-2
-choose-requires-2 c κs = search needs
-
-slice-reshare-prefix-prepare-along : tie.Need-slice-reshare-prefix-prepare-along
-slice-reshare-prefix-prepare-along c = search needs
-
 slice-aggregate-prepare-along : tie.Need-slice-aggregate-prepare-along
 slice-aggregate-prepare-along c = sym (length-take-le _ _ (c .before .before .before .before .before .before .before .choose .ensures .0))
 
-slice-reshare-prefix-prepare-along-2 : tie.Need-slice-reshare-prefix-prepare-along-2
-slice-reshare-prefix-prepare-along-2 c = search needs
-
 slice-aggregate-prepare-along-2 : tie.Need-slice-aggregate-prepare-along-2
 slice-aggregate-prepare-along-2 c = sym (length-take-le _ _ (c .before .before .before .before .choose2 .ensures .0))
-
-slice-aggregate-prepare-along-3 : tie.Need-slice-aggregate-prepare-along-3
-slice-aggregate-prepare-along-3 c = search needs
-
-slice-aggregate-prepare-along-4 : tie.Need-slice-aggregate-prepare-along-4
-slice-aggregate-prepare-along-4 c = search needs
-
-slice-aggregate-prepare-along-5 : tie.Need-slice-aggregate-prepare-along-5
-slice-aggregate-prepare-along-5 c = search needs
 
 prepare-along-requires : tie.Need-prepare-along-requires
 prepare-along-requires c κs =
@@ -87,23 +46,8 @@ prepare-along-requires c κs =
     let e = c .before .before .before .before .before .before .before .choose2 .ensures .1 in
     ((pattern .parallel, starts, ends), (left-sizes p _ s e, (left-nodes p _ s e, search needs)))
 
-slice-aggregate-fills : tie.Need-slice-aggregate-fills
-slice-aggregate-fills c = search needs
-
-slice-aggregate-fills-2 : tie.Need-slice-aggregate-fills-2
-slice-aggregate-fills-2 c = search needs
-
-slice-aggregate-fills-3 : tie.Need-slice-aggregate-fills-3
-slice-aggregate-fills-3 c = search needs
-
-slice-reshare-prefix-fills : tie.Need-slice-reshare-prefix-fills
-slice-reshare-prefix-fills c = search needs
-
 slice-aggregate-fills-4 : tie.Need-slice-aggregate-fills-4
 slice-aggregate-fills-4 c = sym (length-take-le _ _ (c .before .before .before .before .before .before .before .before .before .before .before .before .before .before .before .before .before .before .before .choose .ensures .0))
-
-slice-reshare-prefix-fills-2 : tie.Need-slice-reshare-prefix-fills-2
-slice-reshare-prefix-fills-2 c = search needs
 
 slice-aggregate-fills-5 : tie.Need-slice-aggregate-fills-5
 slice-aggregate-fills-5 c = sym (length-take-le _ _ (c .before .before .before .before .before .before .before .before .before .before .before .before .before .before .before .before .choose2 .ensures .0))
@@ -118,12 +62,6 @@ fills-requires c κs =
       (left-parallel (p .0) _ s e, (p .0 .nodes .nodes, p .1 .0, p .1 .1 .0)),
     )
 
-same-length-5 : tie.Need-same-length-5
-same-length-5 c = search needs
-
-same-length-6 : tie.Need-same-length-6
-same-length-6 c = search needs
-
 returns-3 : tie.Need-returns-3
 returns-3 c =
     let p = c .before .before .before .before .before .before .before .before .before .before .before .before .before .before .before .before .before .before .before .before .before .before .before .before .before .before .before .before .before .before .before .before .before .before .before .before .before .before .before .before .before .before .before .pre in
@@ -137,36 +75,10 @@ returns-3 c =
 pub check-circuits-spec : {M : Type 1} → statement M
 check-circuits-spec =
     tie.close
-    (tie.spec
-    cast-marks-subgraph
-    marks-subgraph-requires
-    same-length
-    same-length-2
-    returns
-    slice-aggregate-near
-    slice-aggregate-near-2
-    near-requires
-    same-length-3
-    same-length-4
-    returns-2
-    choose-requires
-    choose-requires-2
-    slice-reshare-prefix-prepare-along
-    slice-aggregate-prepare-along
-    slice-reshare-prefix-prepare-along-2
-    slice-aggregate-prepare-along-2
-    slice-aggregate-prepare-along-3
-    slice-aggregate-prepare-along-4
-    slice-aggregate-prepare-along-5
-    prepare-along-requires
-    slice-aggregate-fills
-    slice-aggregate-fills-2
-    slice-aggregate-fills-3
-    slice-reshare-prefix-fills
-    slice-aggregate-fills-4
-    slice-reshare-prefix-fills-2
-    slice-aggregate-fills-5
-    fills-requires
-    same-length-5
-    same-length-6
-    returns-3)
+    (tie.spec (λ c. search needs) marks-subgraph-requires (λ c. search needs) (λ c. search needs) returns
+    (λ c. search needs) (λ c. search needs) near-requires (λ c. search needs) (λ c. search needs) returns-2
+    (λ c κs. search needs) (λ c κs. search needs) (λ c. search needs) slice-aggregate-prepare-along
+    (λ c. search needs) slice-aggregate-prepare-along-2 (λ c. search needs) (λ c. search needs) (λ c. search needs)
+    prepare-along-requires (λ c. search needs) (λ c. search needs) (λ c. search needs) (λ c. search needs)
+    slice-aggregate-fills-4 (λ c. search needs) slice-aggregate-fills-5 fills-requires (λ c. search needs)
+    (λ c. search needs) returns-3)

@@ -1,4 +1,5 @@
--- `proposal_check::fills` meets its contract: the place is found in the board's own links, and compared with what is marked. Assumes nothing.
+-- `proposal_check::fills` meets its contract: the place is found in the board's own links, and compared with what is
+-- marked. Assumes nothing.
 use Rattle.base_lists.specs.Kit.{now, _≡_, _∙_, sym, subst, ℕ, length, length-take-le, needs, not-false, not-true}
 use Rattle.base_lists.specs.List.{Below}
 use Rattle.table.specs.Prepared.{succOf}
@@ -7,26 +8,14 @@ use Rattle.proposal_check.proofs.Marked.{found-not, row-not, row-left}
 use Rattle.proposal_check.proofs.fills.Statement.{statement}
 use Rattle.proposal_check.proofs.fills.Tie as tie
 
-array-borrow-prefix-dist : tie.Need-array-borrow-prefix-dist
-array-borrow-prefix-dist c = search needs
-
 slice-aggregate-find-joined : tie.Need-slice-aggregate-find-joined
 slice-aggregate-find-joined c = sym (length-take-le _ _ (c .before .before .before .before .before .before .before .before .before .pre .1 .1 .0))
-
-array-borrow-prefix-queue : tie.Need-array-borrow-prefix-queue
-array-borrow-prefix-queue c = search needs
 
 slice-aggregate-find-joined-2 : tie.Need-slice-aggregate-find-joined-2
 slice-aggregate-find-joined-2 c = sym (length-take-le _ _ (c .before .before .before .before .before .before .before .before .before .before .pre .1 .1 .0))
 
-array-borrow-prefix-sets : tie.Need-array-borrow-prefix-sets
-array-borrow-prefix-sets c = search needs
-
 slice-aggregate-find-joined-3 : tie.Need-slice-aggregate-find-joined-3
 slice-aggregate-find-joined-3 c = sym (length-take-le _ _ (c .before .before .before .before .before .before .before .before .before .before .before .pre .1 .1 .0))
-
-array-borrow-prefix-spare : tie.Need-array-borrow-prefix-spare
-array-borrow-prefix-spare c = search needs
 
 slice-aggregate-find-joined-4 : tie.Need-slice-aggregate-find-joined-4
 slice-aggregate-find-joined-4 c = sym (length-take-le _ _ (c .before .before .before .before .before .before .before .before .before .before .before .before .pre .1 .1 .0))
@@ -110,24 +99,8 @@ returns-3 c =
 pub fills-spec : {M : Type 1} → statement M
 fills-spec =
     tie.close
-    (tie.spec
-    array-borrow-prefix-dist
-    slice-aggregate-find-joined
-    array-borrow-prefix-queue
-    slice-aggregate-find-joined-2
-    array-borrow-prefix-sets
-    slice-aggregate-find-joined-3
-    array-borrow-prefix-spare
-    slice-aggregate-find-joined-4
-    find-joined-requires
-    returns
-    array-share-prefix-dist
-    slice-aggregate-in-row
-    in-row-requires
-    returns-2
-    array-share-prefix-dist-2
-    slice-aggregate-links-placed
-    array-share-prefix-sets
-    slice-aggregate-links-placed-2
-    links-placed-requires
-    returns-3)
+    (tie.spec (λ c. search needs) slice-aggregate-find-joined (λ c. search needs) slice-aggregate-find-joined-2
+    (λ c. search needs) slice-aggregate-find-joined-3 (λ c. search needs) slice-aggregate-find-joined-4
+    find-joined-requires returns array-share-prefix-dist slice-aggregate-in-row in-row-requires returns-2
+    array-share-prefix-dist-2 slice-aggregate-links-placed array-share-prefix-sets slice-aggregate-links-placed-2
+    links-placed-requires returns-3)

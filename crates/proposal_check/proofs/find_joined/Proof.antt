@@ -1,5 +1,5 @@
--- `proposal_check::find_joined` meets its contract: the nodes that the search lists are all that links join to the centre, and the pairs of
--- equal kinds among them are a first table. Assumes nothing.
+-- `proposal_check::find_joined` meets its contract: the nodes that the search lists are all that links join to the
+-- centre, and the pairs of equal kinds among them are a first table. Assumes nothing.
 use Rattle.base_lists.specs.Kit.{now, _∙_, sym, List, ℕ, _≤_, length, take, length-take-le, needs}
 use Rattle.graph.specs.Bfs.{bfs, adjacent, Found}
 use Rattle.graph.specs.Circuit.{circuit}
@@ -13,9 +13,6 @@ use Rattle.proposal_check.proofs.find_joined.Tie as tie
 
 abbrev tablesOf : tie.Start → Tables
 tablesOf s = tables (now (s .args .masks)) (now (s .args .offsets)) (now (s .args .targets))
-
-cast-search : tie.Need-cast-search
-cast-search c = search needs
 
 search-requires : tie.Need-search-requires
 search-requires c κs =
@@ -74,18 +71,6 @@ find-requires c κs =
       ),
     )
 
-same-length : tie.Need-same-length
-same-length c = search needs
-
-same-length-2 : tie.Need-same-length-2
-same-length-2 c = search needs
-
-same-length-3 : tie.Need-same-length-3
-same-length-3 c = search needs
-
-same-length-4 : tie.Need-same-length-4
-same-length-4 c = search needs
-
 returns : tie.Need-returns
 returns c =
     let s = c .before .before .before .before .before .before .before .before .before .before .before .before .before .before .before .before .before .before .before .before .before .before .before .before .before .before .before .before .before .before .before .before .before .before in
@@ -97,15 +82,5 @@ returns c =
 pub find-joined-spec : {M : Type 1} → statement M
 find-joined-spec =
     tie.close
-    (tie.spec
-    cast-search
-    search-requires
-    slice-reshare-prefix-start
-    slice-aggregate-start
-    start-requires
-    find-requires
-    same-length
-    same-length-2
-    same-length-3
-    same-length-4
-    returns)
+    (tie.spec (λ c. search needs) search-requires slice-reshare-prefix-start slice-aggregate-start start-requires
+    find-requires (λ c. search needs) (λ c. search needs) (λ c. search needs) (λ c. search needs) returns)

@@ -12,14 +12,8 @@ use Rattle.proposal_check.proofs.near.Tie as tie
 neighbour-tables-requires : tie.Need-neighbour-tables-requires
 neighbour-tables-requires c κs = let p = c .before .before .before .before .before .before .before .pre in (p .0, (p .1 .0 .0, (p .1 .1 .0, p .1 .1 .1)))
 
-array-borrow-prefix-dist : tie.Need-array-borrow-prefix-dist
-array-borrow-prefix-dist c = search needs
-
 slice-aggregate-search : tie.Need-slice-aggregate-search
 slice-aggregate-search c = sym (length-take-le _ _ (c .before .before .before .before .before .before .before .before .before .before .before .before .before .before .before .pre .1 .0 .0))
-
-array-borrow-prefix-queue : tie.Need-array-borrow-prefix-queue
-array-borrow-prefix-queue c = search needs
 
 slice-aggregate-search-2 : tie.Need-slice-aggregate-search-2
 slice-aggregate-search-2 c = sym (length-take-le _ _ (c .before .before .before .before .before .before .before .before .before .before .before .before .before .before .before .before .pre .1 .0 .0))
@@ -44,12 +38,6 @@ slice-aggregate-in-row c = sym (cut-long (c .before .before .before .search .las
 in-row-requires : tie.Need-in-row-requires
 in-row-requires c κs = sym (cut-long (c .before .before .before .search .last .1 .1 .1 .1 .0) _ (long (c .before .before .before)))
 
-same-length : tie.Need-same-length
-same-length c = search needs
-
-same-length-2 : tie.Need-same-length-2
-same-length-2 c = search needs
-
 returns : tie.Need-returns
 returns c =
     let s = c .before .before .before .before .before .before .before .before .before .before .before .before .before .before .before .before .before .before .before .before .before in
@@ -61,16 +49,6 @@ returns c =
 pub near-spec : {M : Type 1} → statement M
 near-spec =
     tie.close
-    (tie.spec
-    neighbour-tables-requires
-    array-borrow-prefix-dist
-    slice-aggregate-search
-    array-borrow-prefix-queue
-    slice-aggregate-search-2
-    search-requires
-    array-share-prefix-dist
-    slice-aggregate-in-row
-    in-row-requires
-    same-length
-    same-length-2
-    returns)
+    (tie.spec neighbour-tables-requires (λ c. search needs) slice-aggregate-search (λ c. search needs)
+    slice-aggregate-search-2 search-requires array-share-prefix-dist slice-aggregate-in-row in-row-requires
+    (λ c. search needs) (λ c. search needs) returns)

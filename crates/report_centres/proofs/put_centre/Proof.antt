@@ -7,22 +7,13 @@ use Rattle.place.specs.Spread.{matched}
 use Rattle.place_components.specs.Components.{ComponentAt}
 use Rattle.report.specs.Report.{centreLine}
 use Rattle.report.proofs.Lengths.{centre-fits}
-use Rattle.report_texts.specs.Texts.{headText}
-use Rattle.report_centres.specs.declared.Span.{Span}
-use Rattle.report_centres.specs.Pieces.{TextNoted, under, Kept}
-use Rattle.report_centres.proofs.Centre.{source-long, source-few, whole-missed}
+use Rattle.report_texts.specs.declared.Span.{Span}
+use Rattle.report_texts.specs.Texts.{headText, under}
+use Rattle.report_locate.proofs.Centre.{source-long, source-few, whole-missed}
+use Rattle.report_centres.specs.Centres.{TextNoted, Kept}
 use Rattle.report_centres.proofs.OnceMore.{again-line, noted-after, kept-after, kept-more}
 use Rattle.report_centres.proofs.put_centre.Statement.{statement}
 use Rattle.report_centres.proofs.put_centre.Tie as tie
-
-cast-c : tie.Need-cast-c
-cast-c c = search needs
-
-mul-if1 : tie.Need-mul-if1
-mul-if1 c = search needs
-
-shared-slice-read-if1 : tie.Need-shared-slice-read-if1
-shared-slice-read-if1 c = search needs
 
 returns : tie.Need-returns
 returns c = (λ pattern board s. put-same (sym (whole-missed s _ (c .if1 .taken))) put-nothing, c .before .before .before .before .before .before .before .before .before .before .before .before .pre .1 .1 .1 .1 .1)
@@ -143,12 +134,6 @@ put-again-requires c κs =
       fits-same (sym (again-line (p .0 .source) _ (p .1 .1 .0) (there known .if1 .left) k refl (known .holds .ensures .whole (tests here .0)))) (record { room = roomy known }),
     )
 
-same-length : tie.Need-same-length
-same-length c = search needs
-
-same-length-2 : tie.Need-same-length-2
-same-length-2 c = search needs
-
 returns-2 : tie.Need-returns-2
 returns-2 c =
     let here = c .before .before .before .before .before .before in
@@ -213,12 +198,6 @@ note-requires c κs =
     let known = looked (here .before) in
     (omega (arith, named (there known), begun known .pre .1 .1 .0), begun known .pre .1 .1 .1 .1 .1 .long, omega (arith, c .before .before .head-bytes .ensures, fresh here .order))
 
-same-length-3 : tie.Need-same-length-3
-same-length-3 c = search needs
-
-same-length-4 : tie.Need-same-length-4
-same-length-4 c = search needs
-
 returns-3 : tie.Need-returns-3
 returns-3 c =
     let here = c .before .before .before .before .before .before in
@@ -231,46 +210,15 @@ returns-3 c =
 
 -- it is not
 
-same-length-5 : tie.Need-same-length-5
-same-length-5 c = search needs
-
-same-length-6 : tie.Need-same-length-6
-same-length-6 c = search needs
-
 returns-4 : tie.Need-returns-4
 returns-4 c = (put (c .before) .put-new .ensures, kept (c .before))
 
 pub put-centre-spec : {M : Type 1} → statement M
 put-centre-spec =
     tie.close
-    (tie.spec
-    cast-c
-    mul-if1
-    shared-slice-read-if1
-    returns
-    mul-number
-    shared-slice-read-number
-    cast-number
-    mul-size
-    shared-slice-read-size
-    cast-size
-    array-borrow-prefix-distances
-    slice-aggregate-dist
-    array-borrow-prefix-nodes
-    slice-aggregate-queue
-    holds-requires
-    known-requires
-    put-again-requires
-    same-length
-    same-length-2
-    returns-2
-    put-new-requires
-    head-bytes-requires
-    add-from
-    note-requires
-    same-length-3
-    same-length-4
-    returns-3
-    same-length-5
-    same-length-6
+    (tie.spec (λ c. search needs) (λ c. search needs) (λ c. search needs) returns mul-number
+    shared-slice-read-number cast-number mul-size shared-slice-read-size cast-size array-borrow-prefix-distances
+    slice-aggregate-dist array-borrow-prefix-nodes slice-aggregate-queue holds-requires known-requires
+    put-again-requires (λ c. search needs) (λ c. search needs) returns-2 put-new-requires head-bytes-requires
+    add-from note-requires (λ c. search needs) (λ c. search needs) returns-3 (λ c. search needs) (λ c. search needs)
     returns-4)

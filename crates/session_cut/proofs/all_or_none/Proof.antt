@@ -5,29 +5,11 @@ use Rattle.session.specs.Tables.{occurOrNone}
 use Rattle.session_cut.proofs.all_or_none.Statement.{statement}
 use Rattle.session_cut.proofs.all_or_none.Tie as tie
 
-occurring-requires : tie.Need-occurring-requires
-occurring-requires c κs = search needs
-
-size-requires : tie.Need-size-requires
-size-requires c κs = search needs
-
-cast-if1 : tie.Need-cast-if1
-cast-if1 c = search needs
-
-same-length : tie.Need-same-length
-same-length c = search needs
-
 returns : tie.Need-returns
 unfolding occurOrNone
 returns c =
     let sized = ap sizeOf (sym (c .before .before .occurring .ensures)) ∙ sym (c .before .size .ensures) in
     rw (eq-eqb _ _ (sized ∙ c .if1 .taken))
-
-clear-requires : tie.Need-clear-requires
-clear-requires c κs = search needs
-
-same-length-2 : tie.Need-same-length-2
-same-length-2 c = search needs
 
 returns-2 : tie.Need-returns-2
 unfolding occurOrNone
@@ -39,12 +21,5 @@ returns-2 c =
 pub all-or-none-spec : {M : Type 1} → statement M
 all-or-none-spec =
     tie.close
-    (tie.spec
-    occurring-requires
-    size-requires
-    cast-if1
-    same-length
-    returns
-    clear-requires
-    same-length-2
-    returns-2)
+    (tie.spec (λ c κs. search needs) (λ c κs. search needs) (λ c. search needs) (λ c. search needs) returns
+    (λ c κs. search needs) (λ c. search needs) returns-2)

@@ -22,26 +22,8 @@ few c = omega (arith, number c, bounded-le 512 (getD (now (entry c .args .fixed)
 taking : (c : tie.After-take-out) → TakenOut (now (entry c .args .ends)) (nodesIn (now (entry c .args .fixed))) (entry c .args .link-index) (c .take-out .result) (c .take-out .last .0)
 taking c = subst (λ (n : ℕ). TakenOut (now (entry c .args .ends)) n (entry c .args .link-index) (c .take-out .result) (c .take-out .last .0)) (number c) (c .take-out .ensures)
 
-shared-slice-read-at-most : tie.Need-shared-slice-read-at-most
-shared-slice-read-at-most c = search needs
-
 cast-at-most : tie.Need-cast-at-most
 cast-at-most c = omega (arith, c .shared-slice-known4 .given 65)
-
-at-most-requires : tie.Need-at-most-requires
-at-most-requires c κs = search needs
-
-take-out-requires : tie.Need-take-out-requires
-take-out-requires c κs = search needs
-
-enum-known-taken : tie.Need-enum-known-taken
-enum-known-taken c = search needs
-
-enum-told : tie.Need-enum-told
-enum-told c = search needs
-
-same-length : tie.Need-same-length
-same-length c = search needs
 
 returns : tie.Need-returns
 returns c =
@@ -80,12 +62,6 @@ strike-from-requires c κs =
       omega (arith, few called, length-take-le n (now (start .args .sets)) room),
     )
 
-same-length-2 : tie.Need-same-length-2
-same-length-2 c = search needs
-
-same-length-3 : tie.Need-same-length-3
-same-length-3 c = search needs
-
 returns-2 : tie.Need-returns-2
 returns-2 c =
     let struck = c .before .before in
@@ -102,19 +78,6 @@ returns-2 c =
 pub cut-spec : {M : Type 1} → statement M
 cut-spec =
     tie.close
-    (tie.spec
-    shared-slice-read-at-most
-    cast-at-most
-    at-most-requires
-    take-out-requires
-    enum-known-taken
-    enum-told
-    same-length
-    returns
-    slice-aggregate-strike-from
-    slice-relend-prefix-strike-from
-    slice-aggregate-strike-from-2
-    strike-from-requires
-    same-length-2
-    same-length-3
-    returns-2)
+    (tie.spec (λ c. search needs) cast-at-most (λ c κs. search needs) (λ c κs. search needs) (λ c. search needs)
+    (λ c. search needs) (λ c. search needs) returns slice-aggregate-strike-from slice-relend-prefix-strike-from
+    slice-aggregate-strike-from-2 strike-from-requires (λ c. search needs) (λ c. search needs) returns-2)

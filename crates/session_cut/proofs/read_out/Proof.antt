@@ -12,14 +12,8 @@ entry c = c .before .before .before .before .before
 few : (c : tie.After-at-most) → c .at-most .result ≤ length (now (entry c .args .sets))
 few c = omega (arith, c .at-most .ensures, bounded-le 512 (getD (now (entry c .args .fixed)) 65 0), entry c .pre .1)
 
-shared-slice-read-at-most : tie.Need-shared-slice-read-at-most
-shared-slice-read-at-most c = search needs
-
 cast-at-most : tie.Need-cast-at-most
 cast-at-most c = omega (arith, c .shared-slice-known3 .given 65)
-
-at-most-requires : tie.Need-at-most-requires
-at-most-requires c κs = search needs
 
 returns : tie.Need-returns
 returns c = short-made _ _ _ (rw (c .before .at-most .ensures) at (c .if1 .taken))
@@ -33,28 +27,13 @@ copy-requires c κs =
     let long = length-take-le (called .at-most .result) (now (entry called .args .sets)) (few called) in
     omega (arith, c .before .before .if1 .left)
 
-shared-slice-read-at-most-2 : tie.Need-shared-slice-read-at-most-2
-shared-slice-read-at-most-2 c = search needs
-
 cast-at-most-2 : tie.Need-cast-at-most-2
 cast-at-most-2 c = omega (arith, c .shared-slice-known4 .given 64)
-
-at-most-requires-2 : tie.Need-at-most-requires-2
-at-most-requires-2 c κs = search needs
-
-slice-relend-prefix-all-or-none : tie.Need-slice-relend-prefix-all-or-none
-slice-relend-prefix-all-or-none c = search needs
 
 slice-aggregate-all-or-none : tie.Need-slice-aggregate-all-or-none
 slice-aggregate-all-or-none c =
     let copied = c .before .before .before .before .before in
     sym (length-take-le _ _ (omega (arith, copied .copy .kept .1 .0, copied .before .before .before .if1 .left)))
-
-all-or-none-requires : tie.Need-all-or-none-requires
-all-or-none-requires c κs = search needs
-
-same-length : tie.Need-same-length
-same-length c = search needs
 
 returns-2 : tie.Need-returns-2
 returns-2 c =
@@ -67,18 +46,6 @@ returns-2 c =
 pub read-out-spec : {M : Type 1} → statement M
 read-out-spec =
     tie.close
-    (tie.spec
-    shared-slice-read-at-most
-    cast-at-most
-    at-most-requires
-    returns
-    slice-aggregate-copy
-    copy-requires
-    shared-slice-read-at-most-2
-    cast-at-most-2
-    at-most-requires-2
-    slice-relend-prefix-all-or-none
-    slice-aggregate-all-or-none
-    all-or-none-requires
-    same-length
-    returns-2)
+    (tie.spec (λ c. search needs) cast-at-most (λ c κs. search needs) returns slice-aggregate-copy copy-requires
+    (λ c. search needs) cast-at-most-2 (λ c κs. search needs) (λ c. search needs) slice-aggregate-all-or-none
+    (λ c κs. search needs) (λ c. search needs) returns-2)

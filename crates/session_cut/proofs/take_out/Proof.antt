@@ -13,12 +13,6 @@ use Rattle.session_cut.proofs.take_out.Tie as tie
 returns : tie.Need-returns
 returns c = gone-place _ _ _ (c .if1 .taken)
 
-mul-end : tie.Need-mul-end
-mul-end c = search needs
-
-slice-read-end : tie.Need-slice-read-end
-slice-read-end c = search needs
-
 cast-end : tie.Need-cast-end
 cast-end c = omega (arith, c .slice-known .given (c .before .before .args .link-index))
 
@@ -30,32 +24,11 @@ returns-2 c =
     let few = c .before .before .if1 .left in
     gone-end ends (start .args .nodes) linkIndex few (subst (λ (x : ℕ). start .args .nodes ≤ x) (getD-any ends linkIndex 0 far (omega (arith, start .pre))) (c .if2 .taken))
 
-add-back : tie.Need-add-back
-add-back c = search needs
-
-mul-start : tie.Need-mul-start
-mul-start c = search needs
-
-slice-read-start : tie.Need-slice-read-start
-slice-read-start c = search needs
-
 cast-start : tie.Need-cast-start
 cast-start c = omega (arith, c .slice-known2 .given (4096 + c .before .before .before .before .args .link-index))
 
-mul-ends : tie.Need-mul-ends
-mul-ends c = search needs
-
-slice-write-ends : tie.Need-slice-write-ends
-slice-write-ends c = search needs
-
-mul-ends-2 : tie.Need-mul-ends-2
-mul-ends-2 c = search needs
-
 slice-write-ends-2 : tie.Need-slice-write-ends-2
 slice-write-ends-2 c = simp length-set (omega (arith, c .before .before .before .before .pre))
-
-same-length : tie.Need-same-length
-same-length c = search needs
 
 returns-3 : tie.Need-returns-3
 returns-3 c =
@@ -71,19 +44,6 @@ returns-3 c =
 pub take-out-spec : {M : Type 1} → statement M
 take-out-spec =
     tie.close
-    (tie.spec
-    returns
-    mul-end
-    slice-read-end
-    cast-end
-    returns-2
-    add-back
-    mul-start
-    slice-read-start
-    cast-start
-    mul-ends
-    slice-write-ends
-    mul-ends-2
-    slice-write-ends-2
-    same-length
-    returns-3)
+    (tie.spec returns (λ c. search needs) (λ c. search needs) cast-end returns-2 (λ c. search needs)
+    (λ c. search needs) (λ c. search needs) cast-start (λ c. search needs) (λ c. search needs) (λ c. search needs)
+    slice-write-ends-2 (λ c. search needs) returns-3)

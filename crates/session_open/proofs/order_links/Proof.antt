@@ -19,9 +19,6 @@ listed c =
     let all = c .list-all .ensures ∙ ap allNodes (room (entry c)) in
     (ap length all ∙ length-all (length (now (entry c .args .starts))), all)
 
-slice-relend-prefix-list-all : tie.Need-slice-relend-prefix-list-all
-slice-relend-prefix-list-all c = search needs
-
 slice-aggregate-list-all : tie.Need-slice-aggregate-list-all
 slice-aggregate-list-all c = sym (room (c .before .before .before .before .before .before))
 
@@ -29,9 +26,6 @@ list-all-requires : tie.Need-list-all-requires
 list-all-requires c κs =
     let s = c .before .before .before .before .before .before in
     omega (arith, room s, s .pre .1 .1 .0 .1)
-
-slice-reshare-prefix-listed : tie.Need-slice-reshare-prefix-listed
-slice-reshare-prefix-listed c = search needs
 
 slice-aggregate-listed : tie.Need-slice-aggregate-listed
 slice-aggregate-listed c =
@@ -47,15 +41,6 @@ group-both-requires c κs =
     let order = ap length all ∙ length-all (length (now (s .args .starts))) in
     (p .0, (p .1 .0, ((p .1 .1 .0 .1, omega (arith, p .1 .1 .0)), ((sym order, sym (p .1 .1 .0 .0) ∙ sym order), p .1 .1 .1 .0))))
 
-same-length : tie.Need-same-length
-same-length c = search needs
-
-same-length-2 : tie.Need-same-length-2
-same-length-2 c = search needs
-
-same-length-3 : tie.Need-same-length-3
-same-length-3 c = search needs
-
 returns : tie.Need-returns
 returns c =
     let called = c .before .before .before .before .before .before .before .before .before .before in
@@ -67,14 +52,5 @@ returns c =
 pub order-links-spec : {M : Type 1} → statement M
 order-links-spec =
     tie.close
-    (tie.spec
-    slice-relend-prefix-list-all
-    slice-aggregate-list-all
-    list-all-requires
-    slice-reshare-prefix-listed
-    slice-aggregate-listed
-    group-both-requires
-    same-length
-    same-length-2
-    same-length-3
-    returns)
+    (tie.spec (λ c. search needs) slice-aggregate-list-all list-all-requires (λ c. search needs)
+    slice-aggregate-listed group-both-requires (λ c. search needs) (λ c. search needs) (λ c. search needs) returns)

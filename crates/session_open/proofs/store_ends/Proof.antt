@@ -5,9 +5,6 @@ use Rattle.session_open.proofs.Filling.{ended, second-half}
 use Rattle.session_open.proofs.store_ends.Statement.{statement}
 use Rattle.session_open.proofs.store_ends.Tie as tie
 
-slice-relend-prefix-store-values : tie.Need-slice-relend-prefix-store-values
-slice-relend-prefix-store-values c = search needs
-
 slice-aggregate-store-values : tie.Need-slice-aggregate-store-values
 slice-aggregate-store-values c =
     let s = c .before .before .before .before in
@@ -17,21 +14,6 @@ store-values-requires : tie.Need-store-values-requires
 store-values-requires c κs =
     let s = c .before .before .before .before in
     rw (length-take-le 4096 (now (s .args .out)) (omega (arith, s .pre .2))) (omega (arith, s .pre .0, s .pre .1))
-
-sub-store-values : tie.Need-sub-store-values
-sub-store-values c = search needs
-
-part-store-values-start : tie.Need-part-store-values-start
-part-store-values-start c = search needs
-
-part-store-values-end : tie.Need-part-store-values-end
-part-store-values-end c = search needs
-
-store-values-requires-2 : tie.Need-store-values-requires-2
-store-values-requires-2 c κs = search needs
-
-same-length : tie.Need-same-length
-same-length c = search needs
 
 returns : tie.Need-returns
 returns c =
@@ -47,13 +29,5 @@ returns c =
 pub store-ends-spec : {M : Type 1} → statement M
 store-ends-spec =
     tie.close
-    (tie.spec
-    slice-relend-prefix-store-values
-    slice-aggregate-store-values
-    store-values-requires
-    sub-store-values
-    part-store-values-start
-    part-store-values-end
-    store-values-requires-2
-    same-length
-    returns)
+    (tie.spec (λ c. search needs) slice-aggregate-store-values store-values-requires (λ c. search needs)
+    (λ c. search needs) (λ c. search needs) (λ c κs. search needs) (λ c. search needs) returns)

@@ -4,9 +4,6 @@ use Rattle.session_open.proofs.Filling.{fixed-stored}
 use Rattle.session_open.proofs.store_fixed.Statement.{statement}
 use Rattle.session_open.proofs.store_fixed.Tie as tie
 
-slice-relend-prefix-pattern-masks : tie.Need-slice-relend-prefix-pattern-masks
-slice-relend-prefix-pattern-masks c = search needs
-
 slice-aggregate-pattern-masks : tie.Need-slice-aggregate-pattern-masks
 slice-aggregate-pattern-masks c =
     let s = c .before .before .before .before in
@@ -17,24 +14,12 @@ pattern-masks-requires c κs =
     let s = c .before .before .before .before in
     (s .pre .0, length-take-le 64 (now (s .args .fixed)) (omega (arith, s .pre .1 .1)))
 
-cast-fixed : tie.Need-cast-fixed
-cast-fixed c = search needs
-
-slice-write-fixed : tie.Need-slice-write-fixed
-slice-write-fixed c = search needs
-
-cast-fixed-2 : tie.Need-cast-fixed-2
-cast-fixed-2 c = search needs
-
 slice-write-fixed-2 : tie.Need-slice-write-fixed-2
 slice-write-fixed-2 c =
     let s = c .before .before .before .before .before .before .before in
     let room = s .pre .1 .1 in
     let long = c .before .before .pattern-masks .kept .1 .1 .0 ∙ length-take-le 64 (now (s .args .fixed)) (omega arith) in
     simp (length-set, length-append, length-drop) (omega arith)
-
-same-length : tie.Need-same-length
-same-length c = search needs
 
 returns : tie.Need-returns
 returns c =
@@ -47,13 +32,5 @@ returns c =
 pub store-fixed-spec : {M : Type 1} → statement M
 store-fixed-spec =
     tie.close
-    (tie.spec
-    slice-relend-prefix-pattern-masks
-    slice-aggregate-pattern-masks
-    pattern-masks-requires
-    cast-fixed
-    slice-write-fixed
-    cast-fixed-2
-    slice-write-fixed-2
-    same-length
-    returns)
+    (tie.spec (λ c. search needs) slice-aggregate-pattern-masks pattern-masks-requires (λ c. search needs)
+    (λ c. search needs) (λ c. search needs) slice-write-fixed-2 (λ c. search needs) returns)

@@ -4,15 +4,6 @@ use Rattle.session_open.specs.Open.{padded}
 use Rattle.session_open.proofs.store_values.Statement.{statement}
 use Rattle.session_open.proofs.store_values.Tie as tie
 
-fill-requires : tie.Need-fill-requires
-fill-requires c κs = search needs
-
-copy-requires : tie.Need-copy-requires
-copy-requires c κs = search needs
-
-same-length : tie.Need-same-length
-same-length c = search needs
-
 returns : tie.Need-returns
 unfolding padded
 returns c =
@@ -22,4 +13,4 @@ returns c =
     copied .copy .ensures ∙ ap (λ (l : List ℕ). now (a .values) ++ drop (length (now (a .values))) l) (filled .fill .ensures)
 
 pub store-values-spec : {M : Type 1} → statement M
-store-values-spec = tie.close (tie.spec fill-requires copy-requires same-length returns)
+store-values-spec = tie.close (tie.spec (λ c κs. search needs) (λ c κs. search needs) (λ c. search needs) returns)

@@ -5,26 +5,11 @@ use Rattle.graph.specs.Search.{far}
 use Rattle.session_strike.proofs.end_of.Statement.{statement}
 use Rattle.session_strike.proofs.end_of.Tie as tie
 
-mul-i : tie.Need-mul-i
-mul-i c = search needs
-
-shared-slice-read-i : tie.Need-shared-slice-read-i
-shared-slice-read-i c = search needs
-
 cast-i : tie.Need-cast-i
 cast-i c = omega (arith, c .shared-slice-known .given (c .before .args .j))
 
-cast-result : tie.Need-cast-result
-cast-result c = search needs
-
 returns : tie.Need-returns
 returns c = sym (List·getD-eq-default (now (c .before .before .args .ends)) far (c .if1 .taken))
-
-mul-result : tie.Need-mul-result
-mul-result c = search needs
-
-shared-slice-read-result : tie.Need-shared-slice-read-result
-shared-slice-read-result c = search needs
 
 cast-result-2 : tie.Need-cast-result-2
 cast-result-2 c =
@@ -39,4 +24,5 @@ returns-2 c =
 pub end-of-spec : {M : Type 1} → statement M
 end-of-spec =
     tie.close
-    (tie.spec mul-i shared-slice-read-i cast-i cast-result returns mul-result shared-slice-read-result cast-result-2 returns-2)
+    (tie.spec (λ c. search needs) (λ c. search needs) cast-i (λ c. search needs) returns (λ c. search needs)
+    (λ c. search needs) cast-result-2 returns-2)

@@ -5,15 +5,6 @@ use Rattle.session_strike.proofs.Looking.{look-same, look-other, next-o
 use Rattle.session_strike.proofs.look.Statement.{statement}
 use Rattle.session_strike.proofs.look.Tie as tie
 
-next-set-requires : tie.Need-next-set-requires
-next-set-requires c κs = search needs
-
-set-at-requires : tie.Need-set-at-requires
-set-at-requires c κs = search needs
-
-same-length : tie.Need-same-length
-same-length c = search needs
-
 returns : tie.Need-returns
 returns c =
     let tested = c .before in
@@ -21,21 +12,6 @@ returns c =
     let a = called .before .before .before .before .before .before .before .before .args in
     look-same (now (a .masks)) (movesIn (now (a .offsets)) (now (a .numbers)) (now (a .ends))) (now (a .sets)) (a .v) (now (a .marks))
     (sym (called .next-set .ensures) ∙ c .if1 .taken ∙ tested .set-at .ensures)
-
-mul-sets : tie.Need-mul-sets
-mul-sets c = search needs
-
-slice-write-sets : tie.Need-slice-write-sets
-slice-write-sets c = search needs
-
-mark-beside-requires : tie.Need-mark-beside-requires
-mark-beside-requires c κs = search needs
-
-same-length-2 : tie.Need-same-length-2
-same-length-2 c = search needs
-
-same-length-3 : tie.Need-same-length-3
-same-length-3 c = search needs
 
 returns-2 : tie.Need-returns-2
 returns-2 c =
@@ -50,9 +26,6 @@ returns-2 c =
       marking .mark-beside .ensures ∙ ap (λ (n : ℕ). markBeside n moves (now (a .marks)) (a .v)) (length-set (now (a .sets)) (a .v) _) ∙ other .1,
     )
 
-same-length-4 : tie.Need-same-length-4
-same-length-4 c = search needs
-
 returns-3 : tie.Need-returns-3
 returns-3 c =
     let tested = c .before .before in
@@ -64,16 +37,6 @@ returns-3 c =
 pub look-spec : {M : Type 1} → statement M
 look-spec =
     tie.close
-    (tie.spec
-    next-set-requires
-    set-at-requires
-    same-length
-    returns
-    mul-sets
-    slice-write-sets
-    mark-beside-requires
-    same-length-2
-    same-length-3
-    returns-2
-    same-length-4
+    (tie.spec (λ c κs. search needs) (λ c κs. search needs) (λ c. search needs) returns (λ c. search needs)
+    (λ c. search needs) (λ c κs. search needs) (λ c. search needs) (λ c. search needs) returns-2 (λ c. search needs)
     returns-3)

@@ -7,39 +7,6 @@ use Rattle.session_strike.specs.Moves.{beyond, movesIn, markAll, markBes
 use Rattle.session_strike.proofs.mark_beside.Statement.{statement}
 use Rattle.session_strike.proofs.mark_beside.Tie as tie
 
-links-of-requires : tie.Need-links-of-requires
-links-of-requires c κs = search needs
-
-sub-mark-ends : tie.Need-sub-mark-ends
-sub-mark-ends c = search needs
-
-part-mark-ends-start : tie.Need-part-mark-ends-start
-part-mark-ends-start c = search needs
-
-part-mark-ends-end : tie.Need-part-mark-ends-end
-part-mark-ends-end c = search needs
-
-mark-ends-requires : tie.Need-mark-ends-requires
-mark-ends-requires c κs = search needs
-
-links-of-requires-2 : tie.Need-links-of-requires-2
-links-of-requires-2 c κs = search needs
-
-sub-mark-ends-2 : tie.Need-sub-mark-ends-2
-sub-mark-ends-2 c = search needs
-
-part-mark-ends-start-2 : tie.Need-part-mark-ends-start-2
-part-mark-ends-start-2 c = search needs
-
-part-mark-ends-end-2 : tie.Need-part-mark-ends-end-2
-part-mark-ends-end-2 c = search needs
-
-mark-ends-requires-2 : tie.Need-mark-ends-requires-2
-mark-ends-requires-2 c κs = search needs
-
-same-length : tie.Need-same-length
-same-length c = search needs
-
 returns : tie.Need-returns
 unfolding part neighboursIn movesIn driven driving markBeside
 returns c =
@@ -56,16 +23,6 @@ returns c =
 pub mark-beside-spec : {M : Type 1} → statement M
 mark-beside-spec =
     tie.close
-    (tie.spec
-    links-of-requires
-    sub-mark-ends
-    part-mark-ends-start
-    part-mark-ends-end
-    mark-ends-requires
-    links-of-requires-2
-    sub-mark-ends-2
-    part-mark-ends-start-2
-    part-mark-ends-end-2
-    mark-ends-requires-2
-    same-length
-    returns)
+    (tie.spec (λ c κs. search needs) (λ c. search needs) (λ c. search needs) (λ c. search needs)
+    (λ c κs. search needs) (λ c κs. search needs) (λ c. search needs) (λ c. search needs) (λ c. search needs)
+    (λ c κs. search needs) (λ c. search needs) returns)

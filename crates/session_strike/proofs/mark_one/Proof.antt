@@ -4,12 +4,6 @@ use Rattle.session_strike.specs.Moves.{markOne}
 use Rattle.session_strike.proofs.mark_one.Statement.{statement}
 use Rattle.session_strike.proofs.mark_one.Tie as tie
 
-mark-requires : tie.Need-mark-requires
-mark-requires c κs = search needs
-
-same-length : tie.Need-same-length
-same-length c = search needs
-
 returns : tie.Need-returns
 unfolding markOne
 returns c =
@@ -22,4 +16,4 @@ unfolding markOne
 returns-2 c = rw (le-ltb _ _ (c .if1 .left))
 
 pub mark-one-spec : {M : Type 1} → statement M
-mark-one-spec = tie.close (tie.spec mark-requires same-length returns returns-2)
+mark-one-spec = tie.close (tie.spec (λ c κs. search needs) (λ c. search needs) returns returns-2)

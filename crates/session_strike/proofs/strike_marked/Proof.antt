@@ -12,61 +12,48 @@ Inv-loop masks offsets numbers ends sets₀ marks₀ j₀ sets marks j = Going m
 abbrev μ-loop : tie.MeasureT-loop
 μ-loop masks offsets numbers ends sets₀ marks₀ j₀ sets marks j = left sets marks
 
-find-requires : tie.Need-find-requires Inv-loop μ-loop
-find-requires c κs = search needs
-
 loop-holds : tie.Need-loop-holds Inv-loop μ-loop
 loop-holds c =
     let known = c .before .before in
     let start = known .before .before .before .before .before .before in
     going-start _ _ (start .pre .1 .1) (λ i. omega (arith, known .before .slice-known .given i)) (λ i. omega (arith, known .slice-known2 .given i)) (c .find .ensures)
 
-look-next-requires : tie.Need-look-next-requires Inv-loop μ-loop
-look-next-requires c κs =
-    let loop = c .before .before .before in
-    let start = loop .before .before .before .before .before .before .before .before .before in
+unmark-requires : tie.Need-unmark-requires Inv-loop μ-loop
+unmark-requires c κs =
+    let loop = c .before .before in
     let g = loop .loop .inv in
     let more : loop .loop .j < 16 = omega arith in
-    (start .pre .0, ((omega (arith, g .long, start .pre .1 .0), g .stands .room), (more, going-word _ _ g more)))
+    (g .stands .room, more, going-word _ _ g more)
 
-find-requires-2 : tie.Need-find-requires-2 Inv-loop μ-loop
-find-requires-2 c κs = search needs
+look-requires : tie.Need-look-requires Inv-loop μ-loop
+look-requires c κs =
+    let taken = c .before .before .before .before in
+    let loop = taken .before .before .before in
+    let start = loop .before .before .before .before .before .before .before .before .before in
+    let g = loop .loop .inv in
+    (start .pre .0, (omega (arith, g .long, start .pre .1 .0), taken .unmark .kept .0 ∙ g .stands .room))
+
+abbrev taken : tie.After-look Inv-loop μ-loop → tie.After-unmark Inv-loop μ-loop
+taken c = c .before .before .before .before .before
 
 loop-less : tie.Need-loop-less Inv-loop μ-loop
 loop-less c =
     let called = c .before .before .before .before .before .before in
-    let loop = called .before .before .before .before in
-    going-less _ _ (loop .loop .inv) (omega arith) (called .look-next .ensures .0) (called .look-next .ensures .1)
+    going-less _ _ (taken called .before .before .before .loop .inv) (omega arith) (taken called .unmark .ensures) (called .look .ensures)
 
 loop-again : tie.Need-loop-again Inv-loop μ-loop
 loop-again c =
     let called = c .before .before .before .before .before .before in
-    let loop = called .before .before .before .before in
-    going-next _ _ (loop .loop .inv) (omega arith) (called .look-next .ensures .0) (called .look-next .ensures .1) (c .find2 .ensures)
-
-same-length : tie.Need-same-length Inv-loop μ-loop
-same-length c = c .before .loop .inv .long
+    going-next _ _ (taken called .before .before .before .loop .inv) (omega arith) (taken called .unmark .ensures) (called .look .ensures) (c .find2 .ensures)
 
 same-length-2 : tie.Need-same-length-2 Inv-loop μ-loop
 same-length-2 c =
     let loop = c .before in
     loop .loop .inv .stands .room ∙ sym (loop .before .before .before .before .before .before .before .before .before .pre .1 .1)
 
-returns : tie.Need-returns Inv-loop μ-loop
-returns c = going-end _ _ (c .before .loop .inv) (omega arith)
-
 pub strike-marked-spec : {M : Type 1} → statement M
 strike-marked-spec =
     tie.close
-    (tie.spec
-    Inv-loop
-    μ-loop
-    find-requires
-    loop-holds
-    look-next-requires
-    find-requires-2
-    loop-less
-    loop-again
-    same-length
-    same-length-2
-    returns)
+    (tie.spec Inv-loop μ-loop (λ c κs. search needs) loop-holds unmark-requires look-requires (λ c κs. search needs)
+    loop-less loop-again (λ c. c .before .loop .inv .long) same-length-2
+    (λ c. going-end _ _ (c .before .loop .inv) (omega arith)))

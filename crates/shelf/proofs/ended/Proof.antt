@@ -8,15 +8,9 @@ returns : tie.Need-returns
 unfolding shelfEnded
 returns c = rw (c .if1 .taken)
 
-slice-aggregate-fail : tie.Need-slice-aggregate-fail
-slice-aggregate-fail c = search needs
-
-fail-requires : tie.Need-fail-requires
-fail-requires c κs = search needs
-
 returns-2 : tie.Need-returns-2
 unfolding shelfEnded
 returns-2 c = rw (c .before .before .if1 .left)
 
 pub ended-spec : {M : Type 1} → statement M
-ended-spec = tie.close (tie.spec returns slice-aggregate-fail fail-requires returns-2)
+ended-spec = tie.close (tie.spec returns (λ c. search needs) (λ c κs. search needs) returns-2)

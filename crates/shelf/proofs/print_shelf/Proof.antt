@@ -10,9 +10,9 @@ use Rattle.base_text.specs.Text.{Fits}
 use Rattle.call_shelf.specs.Strings.{cutInto}
 use Rattle.call_shelf.specs.Text.{shelfText}
 use Rattle.call_shelf.specs.Shelf.{shelfOf}
-use Rattle.shelf.specs.declared.Taken.{Taken}
+use Rattle.shelf_files.specs.declared.Taken.{Taken}
 use Rattle.shelf.specs.Printing.{shelfTextOf, printedAt, printedOf, ShelfHanded}
-use Rattle.shelf.proofs.Reading.{few-files}
+use Rattle.shelf_files.proofs.Reading.{few-files}
 use Rattle.shelf.proofs.Printing.{ordered-numbers, ordered-few, text-room, text-prefix, text-size, handed-prefix}
 use borrow.Author.Needs.{needs}
 use Rattle.shelf.proofs.print_shelf.Statement.{statement}
@@ -65,18 +65,6 @@ fits c = text-room _ _ (omega (arith, size c, few c, ordered-few (now (start (ca
 slice-aggregate-shelf : tie.Need-slice-aggregate-shelf
 slice-aggregate-shelf c = sym (length-take-le _ _ (read (c .before .before .before .before .before)))
 
-shelf-requires : tie.Need-shelf-requires
-shelf-requires c κs = search needs
-
-enum-known-answer : tie.Need-enum-known-answer
-enum-known-answer c = search needs
-
-enum-told : tie.Need-enum-told
-enum-told c = search needs
-
-same-length : tie.Need-same-length
-same-length c = search needs
-
 returns : tie.Need-returns
 unfolding ShelfHanded
 returns c = start (c .before .before .before .before) .pre .1 .2
@@ -117,12 +105,6 @@ hand-requires c κs =
     let put = c .before .before .before .before in
     (start (call (put .before .before .before .before)) .pre .1 .2, prefix put)
 
-same-length-2 : tie.Need-same-length-2
-same-length-2 c = search needs
-
-same-length-3 : tie.Need-same-length-3
-same-length-3 c = search needs
-
 returns-2 : tie.Need-returns-2
 returns-2 c =
     let put = c .before .before .before .before .before in
@@ -131,19 +113,6 @@ returns-2 c =
 pub print-shelf-spec : {M : Type 1} → statement M
 print-shelf-spec =
     tie.close
-    (tie.spec
-    slice-aggregate-shelf
-    shelf-requires
-    enum-known-answer
-    enum-told
-    same-length
-    returns
-    slice-reshare-prefix-put-numbers
-    slice-aggregate-put-numbers
-    put-numbers-requires
-    slice-reshare-prefix-hand
-    slice-aggregate-hand
-    hand-requires
-    same-length-2
-    same-length-3
-    returns-2)
+    (tie.spec slice-aggregate-shelf (λ c κs. search needs) (λ c. search needs) (λ c. search needs)
+    (λ c. search needs) returns slice-reshare-prefix-put-numbers slice-aggregate-put-numbers put-numbers-requires
+    slice-reshare-prefix-hand slice-aggregate-hand hand-requires (λ c. search needs) (λ c. search needs) returns-2)

@@ -3,10 +3,10 @@ use mathlib.Core.Path.{_≡_, sym, _∙_}
 use native.Mathlib.Omega.{arith}
 use lib.ListN.{length}
 use Rattle.call_shelf.specs.Shelf.{mostFiles}
-use Rattle.shelf.specs.declared.Taken.the-variants as taken
-use Rattle.shelf.specs.Reading.{shelfEnd}
+use Rattle.shelf_files.specs.declared.Taken.the-variants as taken
+use Rattle.shelf_files.specs.Reading.{shelfEnd}
 use Rattle.shelf.specs.Printing.{ShelfRan}
-use Rattle.shelf.proofs.Reading.{unreadable-under}
+use Rattle.shelf_files.proofs.Reading.{unreadable-under}
 use Rattle.shelf.proofs.Printing.{ran-begun}
 use borrow.Author.Needs.{needs}
 use Rattle.shelf.proofs.shelve.Statement.{statement}
@@ -15,12 +15,6 @@ use Rattle.shelf.proofs.shelve.Tie as tie
 -- there are 16 notes
 sixteen : (c : tie.After-read-all) → length (c .read-all .last .1 .0) ≡ mostFiles
 sixteen c = omega (arith, c .read-all .kept .1 .0, c .before .before .before .before .before .before .before .pre .0 .1)
-
-read-all-requires : tie.Need-read-all-requires
-read-all-requires c κs = search needs
-
-enum-known-taken : tie.Need-enum-known-taken
-enum-known-taken c = search needs
 
 -- how the reading ended, by the notes
 files : (c : tie.After-known-told) → shelfEnd (c .before .before .before .before .before .before .before .read-all .last .1 .0) ≡ taken.Files (c .before .taken .given .0 .0)
@@ -31,40 +25,16 @@ print-shelf-requires c κs =
     let t = c .before .before .before .before .before in
     ((sixteen (t .before .before .before .before .before .before .before), files t), (omega arith, omega arith, c .before .before .before .before .before .before .before .before .before .before .before .before .before .before .before .before .before .before .before .pre .1 .2))
 
-ended-requires : tie.Need-ended-requires
-ended-requires c κs = search needs
-
-enum-known-taken-2 : tie.Need-enum-known-taken-2
-enum-known-taken-2 c = search needs
-
 cannot-read-requires : tie.Need-cannot-read-requires
 cannot-read-requires c κs =
     let t = c .before in
     let all = t .before .before .before .before .before .before in
     omega (arith, sixteen all, unreadable-under (all .read-all .last .1 .0) (t .taken2 .given .0 .0) (sym (all .read-all .ensures) ∙ t .taken2 .given .1))
 
-same-length : tie.Need-same-length
-same-length c = search needs
-
-same-length-2 : tie.Need-same-length-2
-same-length-2 c = search needs
-
-same-length-3 : tie.Need-same-length-3
-same-length-3 c = search needs
-
-same-length-4 : tie.Need-same-length-4
-same-length-4 c = search needs
-
 returns : tie.Need-returns
 returns c =
     let print = c .before .before .before .before .before in
     rw (c .ended .ensures) (ran-begun _ _ _ _ _ _ (files (print .before .before .before .before .before .before)) (print .print-shelf .ensures))
-
-same-length-5 : tie.Need-same-length-5
-same-length-5 c = search needs
-
-same-length-6 : tie.Need-same-length-6
-same-length-6 c = search needs
 
 returns-2 : tie.Need-returns-2
 unfolding ShelfRan
@@ -75,18 +45,6 @@ returns-2 c =
 pub shelve-spec : {M : Type 1} → statement M
 shelve-spec =
     tie.close
-    (tie.spec
-    read-all-requires
-    enum-known-taken
-    print-shelf-requires
-    ended-requires
-    enum-known-taken-2
-    cannot-read-requires
-    same-length
-    same-length-2
-    same-length-3
-    same-length-4
-    returns
-    same-length-5
-    same-length-6
-    returns-2)
+    (tie.spec (λ c κs. search needs) (λ c. search needs) print-shelf-requires (λ c κs. search needs)
+    (λ c. search needs) cannot-read-requires (λ c. search needs) (λ c. search needs) (λ c. search needs)
+    (λ c. search needs) returns (λ c. search needs) (λ c. search needs) returns-2)

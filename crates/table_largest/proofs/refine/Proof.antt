@@ -41,12 +41,6 @@ settle-requires c κs =
       (start .pre .1 .1 .1, ((take-replicate _ 512 far h, length-take-le _ _ h), (length-take-le _ _ h, start .pre .1 .1 .0))),
     )
 
-same-length : tie.Need-same-length
-same-length c = search needs
-
-same-length-2 : tie.Need-same-length-2
-same-length-2 c = search needs
-
 returns : tie.Need-returns
 returns c =
     let start = c .before .before .before .before .before .before .before .before .before .before .before .before .before .before .before .before .before .before .before in
@@ -55,14 +49,6 @@ returns c =
 pub refine-spec : {M : Type 1} → statement M
 refine-spec =
     tie.close
-    (tie.spec
-    array-borrow-prefix-marks
-    slice-aggregate-settle
-    array-borrow-prefix-todo
-    slice-aggregate-settle-2
-    array-borrow-prefix-changed
-    slice-aggregate-settle-3
-    settle-requires
-    same-length
-    same-length-2
+    (tie.spec array-borrow-prefix-marks slice-aggregate-settle array-borrow-prefix-todo slice-aggregate-settle-2
+    array-borrow-prefix-changed slice-aggregate-settle-3 settle-requires (λ c. search needs) (λ c. search needs)
     returns)

@@ -36,18 +36,6 @@ asked loop = loop .before .before .before .before .before .before .before .befor
 abbrev entry : tie.At-loop Inv-loop μ-loop → tie.Start Inv-loop μ-loop
 entry loop = begun (asked loop)
 
-sub-all-empty : tie.Need-sub-all-empty Inv-loop μ-loop
-sub-all-empty c = search needs
-
-part-all-empty-start : tie.Need-part-all-empty-start Inv-loop μ-loop
-part-all-empty-start c = search needs
-
-part-all-empty-end : tie.Need-part-all-empty-end Inv-loop μ-loop
-part-all-empty-end c = search needs
-
-all-empty-requires : tie.Need-all-empty-requires Inv-loop μ-loop
-all-empty-requires c κs = search needs
-
 changes-requires : tie.Need-changes-requires Inv-loop μ-loop
 unfolding part
 changes-requires c κs =
@@ -72,7 +60,7 @@ loop-holds c =
     )
 
 -- the nodes that change fit their lists
-room : (loop : tie.At-loop Inv-loop μ-loop) → (loop .loop .n ≤ length (loop .loop .changed)) × (loop .loop .n ≤ length (loop .loop .next))
+room : (loop : tie.At-loop Inv-loop μ-loop) → (loop .loop .n ≤ length (loop .loop .changed)) × (loop .loop .n ≤ length (loop .loop .new))
 room loop =
     let inv = loop .loop .inv in
     (omega (arith, noticed-few (inv .0) (inv .1), inv .3, inv .5), omega (arith, noticed-few (inv .0) (inv .1), inv .3, inv .6))
@@ -136,11 +124,11 @@ list-beside-requires c κs =
       ),
     )
 
-slice-reshare-prefix-listed : tie.Need-slice-reshare-prefix-listed Inv-loop μ-loop
-slice-reshare-prefix-listed c = c .before .before .before .before .list-beside .ensures .kept .within
+slice-reshare-prefix-list : tie.Need-slice-reshare-prefix-list Inv-loop μ-loop
+slice-reshare-prefix-list c = c .before .before .before .before .list-beside .ensures .kept .within
 
-slice-aggregate-listed : tie.Need-slice-aggregate-listed Inv-loop μ-loop
-slice-aggregate-listed c = sym (length-take-le _ _ (c .before .before .before .before .before .list-beside .ensures .kept .within))
+slice-aggregate-list : tie.Need-slice-aggregate-list Inv-loop μ-loop
+slice-aggregate-list c = sym (length-take-le _ _ (c .before .before .before .before .before .list-beside .ensures .kept .within))
 
 -- what lies beside the nodes that changed is to be looked at
 due : (c : tie.After-list-beside Inv-loop μ-loop) →
@@ -189,9 +177,6 @@ loop-again c =
       call .kept .1 .1 .1 .1 .1 .1 .1 .0 ∙ inv .6,
     )
 
-same-length : tie.Need-same-length Inv-loop μ-loop
-same-length c = c .before .loop .inv .3
-
 same-length-2 : tie.Need-same-length-2 Inv-loop μ-loop
 same-length-2 c =
     let loop = c .before in
@@ -215,33 +200,8 @@ returns c =
 pub settle-spec : {M : Type 1} → statement M
 settle-spec =
     tie.close
-    (tie.spec
-    Inv-loop
-    μ-loop
-    sub-all-empty
-    part-all-empty-start
-    part-all-empty-end
-    all-empty-requires
-    changes-requires
-    loop-holds
-    slice-reshare-prefix-write
-    slice-aggregate-write
-    slice-reshare-prefix-write-2
-    slice-aggregate-write-2
-    write-requires
-    add-rounds
-    slice-reshare-prefix-list-beside
-    slice-aggregate-list-beside
-    list-beside-requires
-    slice-reshare-prefix-listed
-    slice-aggregate-listed
-    changes-requires-2
-    unmark-requires
-    loop-less
-    loop-again
-    same-length
-    same-length-2
-    same-length-3
-    same-length-4
-    same-length-5
-    returns)
+    (tie.spec Inv-loop μ-loop (λ c. search needs) (λ c. search needs) (λ c. search needs) (λ c κs. search needs)
+    changes-requires loop-holds slice-reshare-prefix-write slice-aggregate-write slice-reshare-prefix-write-2
+    slice-aggregate-write-2 write-requires add-rounds slice-reshare-prefix-list-beside slice-aggregate-list-beside
+    list-beside-requires slice-reshare-prefix-list slice-aggregate-list changes-requires-2 unmark-requires loop-less
+    loop-again (λ c. c .before .loop .inv .3) same-length-2 same-length-3 same-length-4 same-length-5 returns)

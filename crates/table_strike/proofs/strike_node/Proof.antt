@@ -1,6 +1,5 @@
 -- `table_strike::strike_node` meets its contract. Of an empty set nothing survives, so that its neighbours need no look. Assumes nothing.
-use Rattle.base_lists.specs.Kit.{now, _∙_, sym, ap, drop, length-drop, length-take-le, arith, needs}
-use Rattle.base_lists.specs.List.{part}
+use Rattle.base_lists.specs.Kit.{now, _∙_, sym, ap, needs}
 use Rattle.base_bits.specs.Bits.{unionAt}
 use Rattle.graph_neighbours.specs.declared.neighbours.Direction.the-variants.{Forward}
 use Rattle.graph_neighbours.specs.Lookup.{neighboursIn}
@@ -12,12 +11,6 @@ use Rattle.table_strike.proofs.strike_node.Tie as tie
 
 abbrev tablesOf : tie.Start → Tables
 tablesOf start = tables (now (start .args .masks)) (now (start .args .offsets)) (now (start .args .targets))
-
-mul-set : tie.Need-mul-set
-mul-set c = search needs
-
-shared-slice-read-set : tie.Need-shared-slice-read-set
-shared-slice-read-set c = search needs
 
 returns : tie.Need-returns
 returns c =
@@ -42,56 +35,20 @@ reach-back-requires c κs =
     let start = entry (c .before .before) in
     (start .pre .1 .0 .net, start .pre .1 .1)
 
--- ---- the two halves of the masks
-
-slice-aggregate-surviving : tie.Need-slice-aggregate-surviving
-slice-aggregate-surviving c =
-    let start = entry (c .before .before .before .before) in
-    let long = start .pre .1 .0 .masks in
-    sym (length-take-le 32 (now (start .args .masks)) (omega arith))
-
-sub-surviving : tie.Need-sub-surviving
-sub-surviving c = search needs
-
-part-surviving-start : tie.Need-part-surviving-start
-part-surviving-start c = search needs
-
-part-surviving-end : tie.Need-part-surviving-end
-part-surviving-end c = search needs
-
-surviving-requires : tie.Need-surviving-requires
-surviving-requires c κs =
-    let start = entry (c .before .before .before .before .before) in
-    let masks = now (start .args .masks) in
-    let long = start .pre .1 .0 .masks in
-    let small = start .pre .1 .0 .small (start .args .v) in (
-      rw (length-take-le 32 masks (omega arith)) small,
-      rw (length-take-le 32 (drop 32 masks) (omega (arith, length-drop 32 masks))) small,
-    )
+-- ---- those that stay
 
 returns-2 : tie.Need-returns-2
-unfolding part neighboursIn
+unfolding neighboursIn
 returns-2 c =
-    let back = c .before .before .before in
+    let back = c .before in
     let out = back .before in
     let start = entry (out .before .before) in
     let old = now (start .args .old) in
     strike-unions (tablesOf start) old (start .args .v) (start .pre .0) (out .union-at .ensures ∙ ap (unionAt old) (out .before .neighbours-in .ensures))
-    (back .reach-back .ensures) (c .surviving .ensures)
+    (back .reach-back .ensures) (c .parts-left .ensures)
 
 pub strike-node-spec : {M : Type 1} → statement M
 strike-node-spec =
     tie.close
-    (tie.spec
-    mul-set
-    shared-slice-read-set
-    returns
-    neighbours-in-requires
-    union-at-requires
-    reach-back-requires
-    slice-aggregate-surviving
-    sub-surviving
-    part-surviving-start
-    part-surviving-end
-    surviving-requires
-    returns-2)
+    (tie.spec (λ c. search needs) (λ c. search needs) returns neighbours-in-requires union-at-requires
+    reach-back-requires (λ c κs. entry (c .before .before .before) .pre .1 .0 .masks) returns-2)

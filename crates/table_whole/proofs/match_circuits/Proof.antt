@@ -16,15 +16,6 @@ use Rattle.base_lists.proofs.Entries.{all-below, below-wider}
 abbrev entry : tie.After-targets → tie.Start
 entry c = c .before .before .before .before .before .before .before .before .before .before
 
-slice-aggregate-prepare-along : tie.Need-slice-aggregate-prepare-along
-slice-aggregate-prepare-along c = search needs
-
-slice-aggregate-prepare-along-2 : tie.Need-slice-aggregate-prepare-along-2
-slice-aggregate-prepare-along-2 c = search needs
-
-slice-aggregate-prepare-along-3 : tie.Need-slice-aggregate-prepare-along-3
-slice-aggregate-prepare-along-3 c = search needs
-
 prepare-along-requires : tie.Need-prepare-along-requires
 prepare-along-requires c κs =
     let p = entry c .pre in
@@ -49,15 +40,6 @@ made c = prepared (entry (c .before) .pre .0) (c .prepare-along .ensures .0) (c 
 
 -- ---- the match
 
-slice-aggregate-match-tables : tie.Need-slice-aggregate-match-tables
-slice-aggregate-match-tables c = search needs
-
-slice-aggregate-match-tables-2 : tie.Need-slice-aggregate-match-tables-2
-slice-aggregate-match-tables-2 c = search needs
-
-slice-aggregate-match-tables-3 : tie.Need-slice-aggregate-match-tables-3
-slice-aggregate-match-tables-3 c = search needs
-
 abbrev ready : tie.After-match-tables-arg → tie.After-prepare-along
 ready c = c .before .before .before .before .before .before .before
 
@@ -65,9 +47,6 @@ match-tables-requires : tie.Need-match-tables-requires
 match-tables-requires c κs =
     let tabled = ready c in
     (record { ways = _; partStarts = _; partEnds = _; nodeStarts = _; nodeEnds = _; prepared = made tabled }, entry (tabled .before) .pre .1 .1)
-
-same-length : tie.Need-same-length
-same-length c = search needs
 
 returns : tie.Need-returns
 returns c =
@@ -77,14 +56,5 @@ returns c =
 pub match-circuits-spec : {M : Type 1} → statement M
 match-circuits-spec =
     tie.close
-    (tie.spec
-    slice-aggregate-prepare-along
-    slice-aggregate-prepare-along-2
-    slice-aggregate-prepare-along-3
-    prepare-along-requires
-    slice-aggregate-match-tables
-    slice-aggregate-match-tables-2
-    slice-aggregate-match-tables-3
-    match-tables-requires
-    same-length
-    returns)
+    (tie.spec (λ c. search needs) (λ c. search needs) (λ c. search needs) prepare-along-requires (λ c. search needs)
+    (λ c. search needs) (λ c. search needs) match-tables-requires (λ c. search needs) returns)

@@ -86,9 +86,6 @@ counted-requires c κs =
     let w = first .start .ensures in
     omega (arith, kept-first _ _ _ _ long w (p .parts) (end .refine .ensures _ _ _ p (started-begins _ _ _ _ long w)))
 
-same-length : tie.Need-same-length
-same-length c = search needs
-
 returns : tie.Need-returns
 returns c =
     let end = rested (c .before) in
@@ -104,14 +101,5 @@ returns c =
 pub match-tables-spec : {M : Type 1} → statement M
 match-tables-spec =
     tie.close
-    (tie.spec
-    array-borrow-prefix-listed
-    slice-aggregate-nodes
-    array-borrow-prefix-second
-    slice-aggregate-spare
-    list-all-requires
-    start-requires
-    refine-requires
-    counted-requires
-    same-length
-    returns)
+    (tie.spec array-borrow-prefix-listed slice-aggregate-nodes array-borrow-prefix-second slice-aggregate-spare
+    list-all-requires start-requires refine-requires counted-requires (λ c. search needs) returns)

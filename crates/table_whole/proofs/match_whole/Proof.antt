@@ -4,17 +4,11 @@ use Rattle.table.proofs.Answer.{refined-fits, answered}
 use Rattle.table_whole.proofs.match_whole.Statement.{statement}
 use Rattle.table_whole.proofs.match_whole.Tie as tie
 
-match-tables-requires : tie.Need-match-tables-requires
-match-tables-requires c κs = search needs
-
 all-or-none-requires : tie.Need-all-or-none-requires
 all-or-none-requires c κs =
     let matched = c .before .before .before in
     let some = matched .before .before .before .before .before .before .before .before .pre .0 .prepared in
     (some .parts, refined-fits _ _ _ _ (matched .match-tables .ensures _ _ _ _ _ some))
-
-same-length : tie.Need-same-length
-same-length c = search needs
 
 returns : tie.Need-returns
 returns c ways partStarts partEnds nodeStarts nodeEnds p =
@@ -22,4 +16,4 @@ returns c ways partStarts partEnds nodeStarts nodeEnds p =
     answered _ _ _ _ (ruled .before .before .before .before .match-tables .ensures _ _ _ _ _ p) (ruled .all-or-none .ensures)
 
 pub match-whole-spec : {M : Type 1} → statement M
-match-whole-spec = tie.close (tie.spec match-tables-requires all-or-none-requires same-length returns)
+match-whole-spec = tie.close (tie.spec (λ c κs. search needs) all-or-none-requires (λ c. search needs) returns)

@@ -4,18 +4,6 @@ use Rattle.test_board.specs.Generator.{step, draw}
 use Rattle.test_board.proofs.draw.Statement.{statement}
 use Rattle.test_board.proofs.draw.Tie as tie
 
-step-requires : tie.Need-step-requires
-step-requires c κs = search needs
-
-top-requires : tie.Need-top-requires
-top-requires c κs = search needs
-
-cast-t5 : tie.Need-cast-t5
-cast-t5 c = search needs
-
-rem-t6 : tie.Need-rem-t6
-rem-t6 c = search needs
-
 cast-t7 : tie.Need-cast-t7
 cast-t7 c = omega (arith, mod-le (c .top .result) (c .before .before .args .k))
 
@@ -27,4 +15,6 @@ returns c =
     (stepped, ap (λ (x : ℕ). x % k) (c .top .ensures ∙ ap (λ (s : ℕ). s / 2 ^ 16) stepped))
 
 pub draw-spec : {M : Type 1} → statement M
-draw-spec = tie.close (tie.spec step-requires top-requires cast-t5 rem-t6 cast-t7 returns)
+draw-spec =
+    tie.close
+    (tie.spec (λ c κs. search needs) (λ c κs. search needs) (λ c. search needs) (λ c. search needs) cast-t7 returns)

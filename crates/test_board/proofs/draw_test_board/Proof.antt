@@ -5,21 +5,6 @@ use Rattle.test_board.specs.Board.{kindsDrawn, pairsDrawn}
 use Rattle.test_board.proofs.draw_test_board.Statement.{statement}
 use Rattle.test_board.proofs.draw_test_board.Tie as tie
 
-draw-all-requires : tie.Need-draw-all-requires
-draw-all-requires c κs = search needs
-
-mul-draw-all : tie.Need-mul-draw-all
-mul-draw-all c = search needs
-
-draw-all-requires-2 : tie.Need-draw-all-requires-2
-draw-all-requires-2 c κs = search needs
-
-same-length : tie.Need-same-length
-same-length c = search needs
-
-same-length-2 : tie.Need-same-length-2
-same-length-2 c = search needs
-
 returns : tie.Need-returns
 unfolding kindsDrawn pairsDrawn
 returns c =
@@ -34,4 +19,5 @@ returns c =
 pub draw-test-board-spec : {M : Type 1} → statement M
 draw-test-board-spec =
     tie.close
-    (tie.spec draw-all-requires mul-draw-all draw-all-requires-2 same-length same-length-2 returns)
+    (tie.spec (λ c κs. search needs) (λ c. search needs) (λ c κs. search needs) (λ c. search needs)
+    (λ c. search needs) returns)

@@ -4,15 +4,9 @@ use Rattle.test_board.specs.Generator.{step}
 use Rattle.test_board.proofs.step.Statement.{statement}
 use Rattle.test_board.proofs.step.Tie as tie
 
-wrapping-mul-requires : tie.Need-wrapping-mul-requires
-wrapping-mul-requires c κs = search needs
-
-wrapping-add-u32-requires : tie.Need-wrapping-add-u32-requires
-wrapping-add-u32-requires c κs = search needs
-
 returns : tie.Need-returns
 unfolding step
 returns c = omega (arith, c .wrapping-add-u32 .ensures, c .before .wrapping-mul .ensures)
 
 pub step-spec : {M : Type 1} → statement M
-step-spec = tie.close (tie.spec wrapping-mul-requires wrapping-add-u32-requires returns)
+step-spec = tie.close (tie.spec (λ c κs. search needs) (λ c κs. search needs) returns)

@@ -9,11 +9,5 @@ small x h = omega arith
 mul-result : tie.Need-mul-result
 mul-result c = omega (arith, mul-le-mul {n₂ = 4294967295} {m₂ = 4294967295} (small (c .args .a) (omega arith)) (small (c .args .b) (omega arith)))
 
-cast-result : tie.Need-cast-result
-cast-result c = search needs
-
-returns : tie.Need-returns
-returns c = search needs
-
 pub wrapping-mul-spec : {M : Type 1} → statement M
-wrapping-mul-spec = tie.close (tie.spec mul-result cast-result returns)
+wrapping-mul-spec = tie.close (tie.spec mul-result (λ c. search needs) (λ c. search needs))

@@ -11,11 +11,11 @@ Inv-loop nodes starts ends offsets targets first w marks₀ i₀ marks i = Dropp
 abbrev μ-loop : tie.MeasureT-loop
 μ-loop nodes starts ends offsets targets first w marks₀ i₀ marks i = length marks₀ - i
 
-choose-all-requires : tie.Need-choose-all-requires Inv-loop μ-loop
-choose-all-requires c κs = search needs
+fill-requires : tie.Need-fill-requires Inv-loop μ-loop
+fill-requires c κs = search needs
 
 loop-holds : tie.Need-loop-holds Inv-loop μ-loop
-loop-holds c = (dropping-all _ _ _ _ _ _ _ (c .before .before .before .before .before .before .before .before .before .before .before .pre .1) (c .before .before .choose-all .ensures), refl)
+loop-holds c = (dropping-all _ _ _ _ _ _ _ (c .before .before .before .before .before .before .before .before .before .before .before .pre .1) (c .before .before .fill .ensures), refl)
 
 slice-write-marks : tie.Need-slice-write-marks Inv-loop μ-loop
 slice-write-marks c = search needs
@@ -44,7 +44,7 @@ loop-again c =
     (c .if1 .came)
 
 same-length : tie.Need-same-length Inv-loop μ-loop
-same-length c = c .before .loop .inv .1 ∙ c .before .before .before .before .choose-all .kept .0
+same-length c = c .before .loop .inv .1 ∙ c .before .before .before .before .fill .kept .0
 
 returns : tie.Need-returns Inv-loop μ-loop
 returns c = dropping-end _ _ _ _ _ _ _ (c .before .loop .inv .0) (c .loop-test .left)
@@ -55,7 +55,7 @@ drop-links-spec =
     (tie.spec
     Inv-loop
     μ-loop
-    choose-all-requires
+    fill-requires
     loop-holds
     slice-write-marks
     bars-requires

@@ -9,17 +9,11 @@ use Rattle.barring_find.proofs.trial.bars.Tie as tie
 most : (s : tie.Start) → length (now (s .args .first)) ≤ 512
 most s = let t = s .pre .0 .tried in subst (λ (n : ℕ). n ≤ 512) (sym (tried-long t)) (t .most)
 
-slice-aggregate-chosen-masks : tie.Need-slice-aggregate-chosen-masks
-slice-aggregate-chosen-masks c = search needs
-
 chosen-masks-requires : tie.Need-chosen-masks-requires
 chosen-masks-requires c κs =
     let s = c .before .before .before .before .before .before .before .before in
     let t = s .pre .0 .tried in
     ((t .parts .parallel, t .parts .links, s .pre .1), ((tried-starts t, tried-ends t), refl))
-
-slice-aggregate-empty-at : tie.Need-slice-aggregate-empty-at
-slice-aggregate-empty-at c = search needs
 
 array-borrow-prefix-sets : tie.Need-array-borrow-prefix-sets
 array-borrow-prefix-sets c = most (c .before .before .before .before .before .before .before .before .before .before .before)
@@ -50,13 +44,5 @@ returns c =
 pub bars-spec : {M : Type 1} → statement M
 bars-spec =
     tie.close
-    (tie.spec
-    slice-aggregate-chosen-masks
-    chosen-masks-requires
-    slice-aggregate-empty-at
-    array-borrow-prefix-sets
-    slice-aggregate-empty-at-2
-    array-borrow-prefix-spare
-    slice-aggregate-empty-at-3
-    empty-at-requires
-    returns)
+    (tie.spec (λ c. search needs) chosen-masks-requires (λ c. search needs) array-borrow-prefix-sets
+    slice-aggregate-empty-at-2 array-borrow-prefix-spare slice-aggregate-empty-at-3 empty-at-requires returns)

@@ -8,18 +8,6 @@ use Rattle.barring_find.proofs.Tried.{masked-same}
 use Rattle.barring_find.proofs.trial.chosen_masks.Statement.{statement}
 use Rattle.barring_find.proofs.trial.chosen_masks.Tie as tie
 
-slice-aggregate-chosen-of : tie.Need-slice-aggregate-chosen-of
-slice-aggregate-chosen-of c = search needs
-
-chosen-of-requires : tie.Need-chosen-of-requires
-chosen-of-requires c κs = search needs
-
-slice-aggregate-chosen-of-2 : tie.Need-slice-aggregate-chosen-of-2
-slice-aggregate-chosen-of-2 c = search needs
-
-chosen-of-requires-2 : tie.Need-chosen-of-requires-2
-chosen-of-requires-2 c κs = search needs
-
 -- what is picked stands at the front of the two lists
 abbrev entry : tie.After-chosen-of → tie.Start
 entry c = c .before .before .before .before .before .before
@@ -65,24 +53,12 @@ pattern-masks-requires c κs =
       s .pre .1 .1,
     )
 
-same-length : tie.Need-same-length
-same-length c = search needs
-
 returns : tie.Need-returns
 returns c = masked-same (prefix (c .before .before .before .before .before .before .before .before .before .before)) (prefix-2 (c .before .before .before .before .before .before .before)) (c .before .before .pattern-masks .ensures)
 
 pub chosen-masks-spec : {M : Type 1} → statement M
 chosen-masks-spec =
     tie.close
-    (tie.spec
-    slice-aggregate-chosen-of
-    chosen-of-requires
-    slice-aggregate-chosen-of-2
-    chosen-of-requires-2
-    array-share-prefix-from
-    slice-aggregate-pattern-masks
-    array-share-prefix-to
-    slice-aggregate-pattern-masks-2
-    pattern-masks-requires
-    same-length
-    returns)
+    (tie.spec (λ c. search needs) (λ c κs. search needs) (λ c. search needs) (λ c κs. search needs)
+    array-share-prefix-from slice-aggregate-pattern-masks array-share-prefix-to slice-aggregate-pattern-masks-2
+    pattern-masks-requires (λ c. search needs) returns)

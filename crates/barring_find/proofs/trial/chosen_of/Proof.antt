@@ -6,9 +6,6 @@ use Rattle.graph.specs.Chosen.{picked}
 use Rattle.barring_find.proofs.trial.chosen_of.Statement.{statement}
 use Rattle.barring_find.proofs.trial.chosen_of.Tie as tie
 
-copy-requires : tie.Need-copy-requires
-copy-requires c κs = search needs
-
 -- ---- the copy
 
 abbrev entry : tie.After-copy → tie.Start
@@ -22,17 +19,11 @@ prefix c = ap (take (length (now (entry c .args .marks)))) (c .copy .ensures) �
 
 -- ---- of which the marked ones are moved to the front
 
-slice-relend-prefix-choose : tie.Need-slice-relend-prefix-choose
-slice-relend-prefix-choose c = search needs
-
 slice-aggregate-choose : tie.Need-slice-aggregate-choose
 slice-aggregate-choose c = sym (length-take-le _ _ (room (c .before .before .before)))
 
 choose-requires : tie.Need-choose-requires
 choose-requires c κs = sym (length-take-le _ _ (room (c .before .before .before)))
-
-same-length : tie.Need-same-length
-same-length c = search needs
 
 returns : tie.Need-returns
 returns c =
@@ -46,10 +37,5 @@ returns c =
 pub chosen-of-spec : {M : Type 1} → statement M
 chosen-of-spec =
     tie.close
-    (tie.spec
-    copy-requires
-    slice-relend-prefix-choose
-    slice-aggregate-choose
-    choose-requires
-    same-length
+    (tie.spec (λ c κs. search needs) (λ c. search needs) slice-aggregate-choose choose-requires (λ c. search needs)
     returns)

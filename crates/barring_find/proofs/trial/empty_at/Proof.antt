@@ -25,18 +25,6 @@ refine-requires c κs =
       (subst (λ (n : ℕ). NodeList n (now (s .args .nodes))) (sym long) (b .list), (s .pre .1 .1 .1 ∙ begun-long b ∙ sym long, w .size)),
     )
 
-mul-result : tie.Need-mul-result
-mul-result c = search needs
-
-slice-read-result : tie.Need-slice-read-result
-slice-read-result c = search needs
-
-same-length : tie.Need-same-length
-same-length c = search needs
-
-same-length-2 : tie.Need-same-length-2
-same-length-2 c = search needs
-
 returns : tie.Need-returns
 returns c =
     let s = c .before .before .before .before .before .before .before .before .before .before .before .before .before .before .before .before .before .before .before in
@@ -47,11 +35,5 @@ returns c =
 pub empty-at-spec : {M : Type 1} → statement M
 empty-at-spec =
     tie.close
-    (tie.spec
-    copy-requires
-    refine-requires
-    mul-result
-    slice-read-result
-    same-length
-    same-length-2
-    returns)
+    (tie.spec copy-requires refine-requires (λ c. search needs) (λ c. search needs) (λ c. search needs)
+    (λ c. search needs) returns)

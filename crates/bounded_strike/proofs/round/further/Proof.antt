@@ -4,23 +4,13 @@ use Rattle.graph.specs.Net.{Net}
 use Rattle.bounded_strike.proofs.round.further.Statement.{statement}
 use Rattle.bounded_strike.proofs.round.further.Tie as tie
 
-widen-requires : tie.Need-widen-requires
-widen-requires c κs = search needs
-
 pass-requires : tie.Need-pass-requires
 pass-requires c κs =
     let start = c .before .before .before .before .before .before .before .before .before .before .before .before .before in
     let long = c .before .before .before .before .widen .kept .1 .1 .1 .1 .1 .0 ∙ start .pre .1 .2 in
     (start .pre .1 .0, subst (λ (n : ℕ). Net n (now (start .args .offsets)) (now (start .args .targets))) (sym long) (start .pre .0), start .pre .1 .3 ∙ sym long)
 
-same-length : tie.Need-same-length
-same-length c = search needs
-
-same-length-2 : tie.Need-same-length-2
-same-length-2 c = search needs
-
-returns : tie.Need-returns
-returns c = search needs
-
 pub further-spec : {M : Type 1} → statement M
-further-spec = tie.close (tie.spec widen-requires pass-requires same-length same-length-2 returns)
+further-spec =
+    tie.close
+    (tie.spec (λ c κs. search needs) pass-requires (λ c. search needs) (λ c. search needs) (λ c. search needs))

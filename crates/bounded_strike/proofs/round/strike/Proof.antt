@@ -61,9 +61,6 @@ made s =
 
 -- ---- the needs
 
-copy-requires : tie.Need-copy-requires
-copy-requires c κs = search needs
-
 slice-aggregate-strike-way : tie.Need-slice-aggregate-strike-way
 slice-aggregate-strike-way c = sym (half (c .before .before .before .before .before .before .before .before .before .before .before .before))
 
@@ -72,15 +69,6 @@ strike-way-requires c κs =
     let k = c .before .before .before .before .before .before in
     let s = entry k in
     ((half s, s .pre .0 .net, s .pre .0 .some, s .pre .0 .most), (s .pre .1 .0, s .pre .1 .1, copy-long k))
-
-sub-strike-way : tie.Need-sub-strike-way
-sub-strike-way c = search needs
-
-part-strike-way-start : tie.Need-part-strike-way-start
-part-strike-way-start c = search needs
-
-part-strike-way-end : tie.Need-part-strike-way-end
-part-strike-way-end c = search needs
 
 strike-way-requires-2 : tie.Need-strike-way-requires-2
 strike-way-requires-2 c κs =
@@ -95,31 +83,12 @@ count-requires c κs =
     let b = c .before .before .before .before .before .before .before in
     omega (arith, back-long b, entry (copied (forth b)) .pre .0 .short)
 
-same-length : tie.Need-same-length
-same-length c = search needs
-
-same-length-2 : tie.Need-same-length-2
-same-length-2 c = search needs
-
-same-length-3 : tie.Need-same-length-3
-same-length-3 c = search needs
-
 returns : tie.Need-returns
 returns c = (made (c .before .before .before .before .before .before .before .before), c .count .ensures)
 
 pub strike-spec : {M : Type 1} → statement M
 strike-spec =
     tie.close
-    (tie.spec
-    copy-requires
-    slice-aggregate-strike-way
-    strike-way-requires
-    sub-strike-way
-    part-strike-way-start
-    part-strike-way-end
-    strike-way-requires-2
-    count-requires
-    same-length
-    same-length-2
-    same-length-3
-    returns)
+    (tie.spec (λ c κs. search needs) slice-aggregate-strike-way strike-way-requires (λ c. search needs)
+    (λ c. search needs) (λ c. search needs) strike-way-requires-2 count-requires (λ c. search needs)
+    (λ c. search needs) (λ c. search needs) returns)

@@ -25,7 +25,7 @@ after-three f = f .before .before .before .before .before .before .before .befor
 -- ---- the calls' tables
 
 abbrev near : tie.Start → ℕ → List ℕ
-near s = neighboursIn (s .args .direction) (now (s .args .offsets)) (now (s .args .targets))
+near s = neighboursIn (s .args .way) (now (s .args .offsets)) (now (s .args .targets))
 
 abbrev Layers : tie.Start → ℕ → List ℕ → Type 0
 Layers s h layer = layer ≡ layerOf (near s) (now (s .args .old)) h
@@ -90,34 +90,10 @@ bound-masks s e at h = length-take-le 32 (drop at (now (s .args .masks))) (omega
 
 -- ---- the needs
 
-sub-pass : tie.Need-sub-pass
-sub-pass c = search needs
-
-part-pass-start : tie.Need-part-pass-start
-part-pass-start c = search needs
-
-part-pass-end : tie.Need-part-pass-end
-part-pass-end c = search needs
-
-pass-requires : tie.Need-pass-requires
-pass-requires c κs = search needs
-
-same-length : tie.Need-same-length
-same-length c = search needs
-
 returns : tie.Need-returns
 returns c =
     let s = entry (c .before .before .before) in
     upto s 1 (omega (arith, s .pre .0 .2, c .if1 .taken)) (one-passed (c .before .before .before))
-
-sub-further : tie.Need-sub-further
-sub-further c = search needs
-
-part-further-start : tie.Need-part-further-start
-part-further-start c = search needs
-
-part-further-end : tie.Need-part-further-end
-part-further-end c = search needs
 
 further-requires : tie.Need-further-requires
 further-requires c κs =
@@ -125,26 +101,11 @@ further-requires c κs =
     let s = entry p in
     (s .pre .0 .1, (bound-masks s (s .pre .0 .0) 32 (omega arith), refl, s .pre .1 .0, one-long p ∙ s .pre .1 .2))
 
-same-length-2 : tie.Need-same-length-2
-same-length-2 c = search needs
-
-same-length-3 : tie.Need-same-length-3
-same-length-3 c = search needs
-
 returns-2 : tie.Need-returns-2
 returns-2 c =
     let f = c .before .before .before .before .before in
     let s = entry (after-one f) in
     upto s 2 (omega (arith, c .if2 .taken, c .before .before .before .before .before .before .before .before .before .if1 .left)) (two-passed f)
-
-sub-further-2 : tie.Need-sub-further-2
-sub-further-2 c = search needs
-
-part-further-start-2 : tie.Need-part-further-start-2
-part-further-start-2 c = search needs
-
-part-further-end-2 : tie.Need-part-further-end-2
-part-further-end-2 c = search needs
 
 further-requires-2 : tie.Need-further-requires-2
 further-requires-2 c κs =
@@ -152,26 +113,11 @@ further-requires-2 c κs =
     let s = entry (after-one f) in
     (s .pre .0 .1, (bound-masks s (s .pre .0 .0) 64 (omega arith), f .further .kept .1 .1 .1 .1 .1 .1 .0 ∙ s .pre .1 .0, s .pre .1 .1, two-long f ∙ s .pre .1 .2))
 
-same-length-4 : tie.Need-same-length-4
-same-length-4 c = search needs
-
-same-length-5 : tie.Need-same-length-5
-same-length-5 c = search needs
-
-same-length-6 : tie.Need-same-length-6
-same-length-6 c = search needs
-
 returns-3 : tie.Need-returns-3
 returns-3 c =
     let f = c .before .before .before .before .before in
     let s = entry (after-one (after-two f)) in
     upto s 3 (omega (arith, c .if3 .taken, c .before .before .before .before .before .before .before .before .before .before .if2 .left)) (three-passed f)
-
-sub-further-3 : tie.Need-sub-further-3
-sub-further-3 c = search needs
-
-part-further-start-3 : tie.Need-part-further-start-3
-part-further-start-3 c = search needs
 
 part-further-end-3 : tie.Need-part-further-end-3
 part-further-end-3 c = omega (arith, entry (after-one (after-two (c .before .before .before .before .before))) .pre .0 .0)
@@ -182,12 +128,6 @@ further-requires-3 c κs =
     let g = after-two f in
     let s = entry (after-one g) in
     (s .pre .0 .1, (bound-masks s (s .pre .0 .0) 96 (omega arith), f .further2 .kept .1 .1 .1 .1 .1 .1 .0 ∙ s .pre .1 .1, g .further .kept .1 .1 .1 .1 .1 .1 .0 ∙ s .pre .1 .0, three-long f ∙ s .pre .1 .2))
-
-same-length-7 : tie.Need-same-length-7
-same-length-7 c = search needs
-
-same-length-8 : tie.Need-same-length-8
-same-length-8 c = search needs
 
 same-length-9 : tie.Need-same-length-9
 same-length-9 c = let f = c .before .before .before .before in f .further3 .kept .1 .1 .1 .1 .1 .1 .1 .0 ∙ three-long (after-three f)
@@ -201,33 +141,8 @@ returns-4 c =
 pub strike-way-spec : {M : Type 1} → statement M
 strike-way-spec =
     tie.close
-    (tie.spec
-    sub-pass
-    part-pass-start
-    part-pass-end
-    pass-requires
-    same-length
-    returns
-    sub-further
-    part-further-start
-    part-further-end
-    further-requires
-    same-length-2
-    same-length-3
-    returns-2
-    sub-further-2
-    part-further-start-2
-    part-further-end-2
-    further-requires-2
-    same-length-4
-    same-length-5
-    same-length-6
-    returns-3
-    sub-further-3
-    part-further-start-3
-    part-further-end-3
-    further-requires-3
-    same-length-7
-    same-length-8
-    same-length-9
-    returns-4)
+    (tie.spec (λ c. search needs) (λ c. search needs) (λ c. search needs) (λ c κs. search needs) (λ c. search needs)
+    returns (λ c. search needs) (λ c. search needs) (λ c. search needs) further-requires (λ c. search needs)
+    (λ c. search needs) returns-2 (λ c. search needs) (λ c. search needs) (λ c. search needs) further-requires-2
+    (λ c. search needs) (λ c. search needs) (λ c. search needs) returns-3 (λ c. search needs) (λ c. search needs)
+    part-further-end-3 further-requires-3 (λ c. search needs) (λ c. search needs) same-length-9 returns-4)

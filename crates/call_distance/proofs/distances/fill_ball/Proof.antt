@@ -1,4 +1,5 @@
--- `call_distance::distances::fill_ball` meets its contract: the distances are written into the front of the lent table. Assumes nothing.
+-- `call_distance::distances::fill_ball` meets its contract: the distances are written into the front of the lent table.
+-- Assumes nothing.
 use Rattle.base_lists.specs.Kit.{now, _∙_, sym, ap, List, _++_, ℕ, _≤_, _<_, T, ltb, length, drop, length-take-le, needs}
 use Rattle.base_lists.specs.List.{all}
 use Rattle.base_lists.proofs.Parts.{length-take-for}
@@ -25,9 +26,6 @@ measure-requires c κs =
           ((bounded-starts board, bounded-ends board), (s .pre .1 .0, board .nodes)),
     )
 
-same-length : tie.Need-same-length
-same-length c = search needs
-
 returns : tie.Need-returns
 returns c =
     let s = c .before .before .before .before .before .before .before .before in
@@ -39,9 +37,4 @@ returns c =
 pub fill-ball-spec : {M : Type 1} → statement M
 fill-ball-spec =
     tie.close
-    (tie.spec
-    slice-relend-prefix-measure
-    slice-aggregate-measure
-    measure-requires
-    same-length
-    returns)
+    (tie.spec slice-relend-prefix-measure slice-aggregate-measure measure-requires (λ c. search needs) returns)

@@ -31,18 +31,6 @@ array-borrow-prefix-table c = most-parts (content (entry c))
 slice-aggregate-quotient : tie.Need-slice-aggregate-quotient
 slice-aggregate-quotient c = sym (length-take-le _ _ (most-parts (content (entry (c .before)))))
 
-slice-aggregate-quotient-2 : tie.Need-slice-aggregate-quotient-2
-slice-aggregate-quotient-2 c = search needs
-
-slice-aggregate-quotient-3 : tie.Need-slice-aggregate-quotient-3
-slice-aggregate-quotient-3 c = search needs
-
-slice-aggregate-quotient-4 : tie.Need-slice-aggregate-quotient-4
-slice-aggregate-quotient-4 c = search needs
-
-slice-aggregate-quotient-5 : tie.Need-slice-aggregate-quotient-5
-slice-aggregate-quotient-5 c = search needs
-
 abbrev start : tie.After-me → tie.Start
 start c = entry (c .before .before .before .before .before)
 
@@ -110,18 +98,6 @@ file c =
     let s = start (madeBefore c .before) in
     c .write-circuit .ensures ∙ written (content s) (s .args .edition) _ _ _ _ (madeBefore c .quotient .ensures .content) (s .pre .1 .0 .1)
 
-enum-known-written : tie.Need-enum-known-written
-enum-known-written c = search needs
-
-enum-known-written-2 : tie.Need-enum-known-written-2
-enum-known-written-2 c = search needs
-
-same-length : tie.Need-same-length
-same-length c = search needs
-
-same-length-2 : tie.Need-same-length-2
-same-length-2 c = search needs
-
 returns : tie.Need-returns
 returns c =
     let told = c .before in
@@ -133,12 +109,6 @@ returns c =
       written = ap (λ (o : WriteOutcome). o .out) (file write);
     }
 
-same-length-3 : tie.Need-same-length-3
-same-length-3 c = search needs
-
-same-length-4 : tie.Need-same-length-4
-same-length-4 c = search needs
-
 returns-2 : tie.Need-returns-2
 returns-2 c =
     let told = c .before in
@@ -148,26 +118,8 @@ returns-2 c =
 pub merge-circuit-spec : {M : Type 1} → statement M
 merge-circuit-spec =
     tie.close
-    (tie.spec
-    array-borrow-prefix-table
-    slice-aggregate-quotient
-    slice-aggregate-quotient-2
-    slice-aggregate-quotient-3
-    slice-aggregate-quotient-4
-    slice-aggregate-quotient-5
-    quotient-requires
-    array-share-prefix-mk
-    slice-aggregate-write-circuit
-    array-share-prefix-ms
-    slice-aggregate-write-circuit-2
-    array-share-prefix-me
-    slice-aggregate-write-circuit-3
-    write-circuit-requires
-    enum-known-written
-    enum-known-written-2
-    same-length
-    same-length-2
-    returns
-    same-length-3
-    same-length-4
-    returns-2)
+    (tie.spec array-borrow-prefix-table slice-aggregate-quotient (λ c. search needs) (λ c. search needs)
+    (λ c. search needs) (λ c. search needs) quotient-requires array-share-prefix-mk slice-aggregate-write-circuit
+    array-share-prefix-ms slice-aggregate-write-circuit-2 array-share-prefix-me slice-aggregate-write-circuit-3
+    write-circuit-requires (λ c. search needs) (λ c. search needs) (λ c. search needs) (λ c. search needs) returns
+    (λ c. search needs) (λ c. search needs) returns-2)

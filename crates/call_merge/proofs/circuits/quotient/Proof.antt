@@ -100,31 +100,10 @@ scan-requires c κs =
     let fit = links-fit (content start) (rows call) _ (row-marks call) all in
     ((omega arith, omega arith), (le-trans fit (start .pre .1 .1 .1), le-trans fit (start .pre .1 .1 .2)))
 
-new-requires : tie.Need-new-requires
-new-requires c κs = search needs
-
 -- ---- the merged pattern
 
 abbrev scanned : tie.After-new → tie.After-scan
 scanned c = c .before .before .before .before .before
-
-same-length : tie.Need-same-length
-same-length c = search needs
-
-same-length-2 : tie.Need-same-length-2
-same-length-2 c = search needs
-
-same-length-3 : tie.Need-same-length-3
-same-length-3 c = search needs
-
-same-length-4 : tie.Need-same-length-4
-same-length-4 c = search needs
-
-same-length-5 : tie.Need-same-length-5
-same-length-5 c = search needs
-
-same-length-6 : tie.Need-same-length-6
-same-length-6 c = search needs
 
 returns : tie.Need-returns
 returns c =
@@ -147,17 +126,6 @@ returns c =
 pub quotient-spec : {M : Type 1} → statement M
 quotient-spec =
     tie.close
-    (tie.spec
-    match-circuits-requires
-    number-classes-requires
-    leader-labels-requires
-    mark-rows-requires
-    scan-requires
-    new-requires
-    same-length
-    same-length-2
-    same-length-3
-    same-length-4
-    same-length-5
-    same-length-6
-    returns)
+    (tie.spec match-circuits-requires number-classes-requires leader-labels-requires mark-rows-requires
+    scan-requires (λ c κs. search needs) (λ c. search needs) (λ c. search needs) (λ c. search needs)
+    (λ c. search needs) (λ c. search needs) (λ c. search needs) returns)

@@ -4,27 +4,6 @@ use Rattle.call_shelf.proofs.CompareAnswer.{first-refused, second-refus
 use Rattle.call_shelf.proofs.compare.compare.Statement.{statement}
 use Rattle.call_shelf.proofs.compare.compare.Tie as tie
 
-judge-requires : tie.Need-judge-requires
-judge-requires c κs = search needs
-
-judge-requires-2 : tie.Need-judge-requires-2
-judge-requires-2 c κs = search needs
-
-enum-known-one : tie.Need-enum-known-one
-enum-known-one c = search needs
-
-enum-told : tie.Need-enum-told
-enum-told c = search needs
-
-enum-known-other : tie.Need-enum-known-other
-enum-known-other c = search needs
-
-enum-told-2 : tie.Need-enum-told-2
-enum-told-2 c = search needs
-
-compare-fields-requires : tie.Need-compare-fields-requires
-compare-fields-requires c κs = search needs
-
 returns : tie.Need-returns
 returns c =
     let j = c .before .before .before in
@@ -45,14 +24,5 @@ returns-3 c =
 pub compare-spec : {M : Type 1} → statement M
 compare-spec =
     tie.close
-    (tie.spec
-    judge-requires
-    judge-requires-2
-    enum-known-one
-    enum-told
-    enum-known-other
-    enum-told-2
-    compare-fields-requires
-    returns
-    returns-2
-    returns-3)
+    (tie.spec (λ c κs. search needs) (λ c κs. search needs) (λ c. search needs) (λ c. search needs)
+    (λ c. search needs) (λ c. search needs) (λ c κs. search needs) returns returns-2 returns-3)

@@ -24,16 +24,10 @@ put-bytes : {o o1 o2 o3 : List ℕ} {at p q r : ℕ} (x : ℕ) → Put o at (ten
 unfolding lineOf
 put-bytes x a b c = put-then a (put-then b c)
 
-add-put-byte : tie.Need-add-put-byte
-add-put-byte c = search needs
-
 put-byte-requires : tie.Need-put-byte-requires
 put-byte-requires c κs =
     let s = c .before .before in
     fits-first _ _ (in-bytes (s .args .x) (s .pre))
-
-add-put-byte-2 : tie.Need-add-put-byte-2
-add-put-byte-2 c = search needs
 
 put-byte-requires-2 : tie.Need-put-byte-requires-2
 put-byte-requires-2 c κs =
@@ -48,9 +42,6 @@ put-byte-requires-3 c κs =
     let s = one .before .before .before in
     fits-then (two .put-byte2 .ensures) (fits-then (one .put-byte .ensures) (in-bytes (s .args .x) (s .pre)))
 
-same-length : tie.Need-same-length
-same-length c = search needs
-
 returns : tie.Need-returns
 returns c =
     let three = c .before .before in
@@ -60,4 +51,6 @@ returns c =
 
 pub put-line-spec : {M : Type 1} → statement M
 put-line-spec =
-    tie.close (tie.spec add-put-byte put-byte-requires add-put-byte-2 put-byte-requires-2 put-byte-requires-3 same-length returns)
+    tie.close
+    (tie.spec (λ c. search needs) put-byte-requires (λ c. search needs) put-byte-requires-2 put-byte-requires-3
+    (λ c. search needs) returns)

@@ -4,12 +4,6 @@ use Rattle.call_shelf.specs.Strings.{capped}
 use Rattle.call_shelf.proofs.strings.step.Statement.{statement}
 use Rattle.call_shelf.proofs.strings.step.Tie as tie
 
-sub-if1 : tie.Need-sub-if1
-sub-if1 c = search needs
-
-add-result : tie.Need-add-result
-add-result c = search needs
-
 returns : tie.Need-returns
 unfolding capped
 returns c =
@@ -23,4 +17,4 @@ returns-2 c =
     (rw (lt-leb (a .at + a .size) (a .end) (omega arith)), omega arith, omega arith)
 
 pub step-spec : {M : Type 1} → statement M
-step-spec = tie.close (tie.spec sub-if1 add-result returns returns-2)
+step-spec = tie.close (tie.spec (λ c. search needs) (λ c. search needs) returns returns-2)

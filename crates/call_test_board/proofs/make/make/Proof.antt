@@ -8,27 +8,12 @@ use Rattle.file_write.specs.declared.WriteAnswer.the-variants.{Written}
 use Rattle.file_write.specs.Writing.{WriteOutcome, writeReply}
 use Rattle.test_board.specs.Board.{testBoard}
 use Rattle.test_board.proofs.Board.{testBoard-nodes, testBoard-parallel}
-use Rattle.test_board.specs.Marks.{AllBelow}
+use Rattle.test_board_links.specs.Marks.{AllBelow}
 use Rattle.call_test_board.specs.declared.TestBoardAnswer.the-variants.{Made}
 use Rattle.call_test_board.specs.Call.{testBoardBytes}
 use Rattle.call_test_board.proofs.Making.{pairs-below, links-count, fronts, written, written-size, written-not-refused}
 use Rattle.call_test_board.proofs.make.make.Statement.{statement}
 use Rattle.call_test_board.proofs.make.make.Tie as tie
-
-slice-aggregate-draw-test-board : tie.Need-slice-aggregate-draw-test-board
-slice-aggregate-draw-test-board c = search needs
-
-slice-aggregate-draw-test-board-2 : tie.Need-slice-aggregate-draw-test-board-2
-slice-aggregate-draw-test-board-2 c = search needs
-
-draw-test-board-requires : tie.Need-draw-test-board-requires
-draw-test-board-requires c κs = search needs
-
-slice-aggregate-collect-links : tie.Need-slice-aggregate-collect-links
-slice-aggregate-collect-links c = search needs
-
-slice-aggregate-collect-links-2 : tie.Need-slice-aggregate-collect-links-2
-slice-aggregate-collect-links-2 c = search needs
 
 abbrev entry : tie.After-draw-test-board → tie.Start
 entry c = c .before .before .before .before
@@ -85,9 +70,6 @@ sizes c =
       ap length (e .2) ∙ sym (testBoard-parallel (s .args .seed) (s .args .n) (s .args .m) (s .args .k)) ∙ sym count,
     )
 
-array-share-prefix-kinds : tie.Need-array-share-prefix-kinds
-array-share-prefix-kinds c = search needs
-
 slice-aggregate-write-first : tie.Need-slice-aggregate-write-first
 slice-aggregate-write-first c = sym (sizes (c .before .before .before) .0)
 
@@ -102,9 +84,6 @@ array-share-prefix-ends c = length-take-room _ _ (sizes (c .before .before .befo
 
 slice-aggregate-write-first-3 : tie.Need-slice-aggregate-write-first-3
 slice-aggregate-write-first-3 c = sym (sizes (c .before .before .before .before .before) .2)
-
-write-first-requires : tie.Need-write-first-requires
-write-first-requires c κs = search needs
 
 abbrev collected : tie.After-write-first → tie.After-collect-links
 collected c = c .before .before .before .before .before .before .before
@@ -122,15 +101,6 @@ file c =
     let s = start (collected c) in
     c .write-first .ensures ∙ written (s .args .seed) (s .args .n) (s .args .m) (s .args .k) (s .pre .0) _ _ _ _ (content (collected c)) (s .pre .1)
 
-enum-known-written : tie.Need-enum-known-written
-enum-known-written c = search needs
-
-enum-known-written-2 : tie.Need-enum-known-written-2
-enum-known-written-2 c = search needs
-
-same-length : tie.Need-same-length
-same-length c = search needs
-
 returns : tie.Need-returns
 returns c =
     let told = c .before in
@@ -139,9 +109,6 @@ returns c =
       answered = ap Made (written-size _ (outcome write) _ (file write) _ (told .written .given .1));
       written = ap (λ (o : WriteOutcome). o .out) (file write);
     }
-
-same-length-2 : tie.Need-same-length-2
-same-length-2 c = search needs
 
 returns-2 : tie.Need-returns-2
 returns-2 c =
@@ -152,23 +119,7 @@ returns-2 c =
 pub make-spec : {M : Type 1} → statement M
 make-spec =
     tie.close
-    (tie.spec
-    slice-aggregate-draw-test-board
-    slice-aggregate-draw-test-board-2
-    draw-test-board-requires
-    slice-aggregate-collect-links
-    slice-aggregate-collect-links-2
-    collect-links-requires
-    array-share-prefix-kinds
-    slice-aggregate-write-first
-    array-share-prefix-starts
-    slice-aggregate-write-first-2
-    array-share-prefix-ends
-    slice-aggregate-write-first-3
-    write-first-requires
-    enum-known-written
-    enum-known-written-2
-    same-length
-    returns
-    same-length-2
-    returns-2)
+    (tie.spec (λ c. search needs) (λ c. search needs) (λ c κs. search needs) (λ c. search needs) (λ c. search needs)
+    collect-links-requires (λ c. search needs) slice-aggregate-write-first array-share-prefix-starts
+    slice-aggregate-write-first-2 array-share-prefix-ends slice-aggregate-write-first-3 (λ c κs. search needs)
+    (λ c. search needs) (λ c. search needs) (λ c. search needs) returns (λ c. search needs) returns-2)

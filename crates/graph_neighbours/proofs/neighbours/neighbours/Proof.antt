@@ -3,18 +3,6 @@ use Rattle.base_lists.specs.Kit.{needs}
 use Rattle.graph_neighbours.proofs.neighbours.neighbours.Statement.{statement}
 use Rattle.graph_neighbours.proofs.neighbours.neighbours.Tie as tie
 
-enum-told : tie.Need-enum-told
-enum-told c = search needs
-
-stretch-requires : tie.Need-stretch-requires
-stretch-requires c κs = search needs
-
-enum-told-2 : tie.Need-enum-told-2
-enum-told-2 c = search needs
-
-stretch-requires-2 : tie.Need-stretch-requires-2
-stretch-requires-2 c κs = search needs
-
 returns : tie.Need-returns
 returns c = rw (c .before .enum-told .given .1) (c .stretch .ensures)
 
@@ -22,4 +10,7 @@ returns-2 : tie.Need-returns-2
 returns-2 c = rw (c .before .enum-told2 .given .1) (c .stretch2 .ensures)
 
 pub neighbours-spec : {M : Type 1} → statement M
-neighbours-spec = tie.close (tie.spec enum-told stretch-requires enum-told-2 stretch-requires-2 returns returns-2)
+neighbours-spec =
+    tie.close
+    (tie.spec (λ c. search needs) (λ c κs. search needs) (λ c. search needs) (λ c κs. search needs) returns
+    returns-2)

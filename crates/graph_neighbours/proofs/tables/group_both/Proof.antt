@@ -5,14 +5,8 @@ use Rattle.graph_neighbours.proofs.Grouped.{grouped-both}
 use Rattle.graph_neighbours.proofs.tables.group_both.Statement.{statement}
 use Rattle.graph_neighbours.proofs.tables.group_both.Tie as tie
 
-slice-relend-prefix-group : tie.Need-slice-relend-prefix-group
-slice-relend-prefix-group c = search needs
-
 slice-aggregate-group : tie.Need-slice-aggregate-group
 slice-aggregate-group c = let s = c .before .before .before .before .before .before .before in sym (length-take-le 513 (now (s .args .offsets)) (omega (arith, s .pre .0 .inOffsets)))
-
-slice-relend-prefix-group-2 : tie.Need-slice-relend-prefix-group-2
-slice-relend-prefix-group-2 c = search needs
 
 slice-aggregate-group-2 : tie.Need-slice-aggregate-group-2
 slice-aggregate-group-2 c = let s = c .before .before .before .before .before .before .before .before in sym (length-take-le 4096 (now (s .args .targets)) (omega (arith, s .pre .0 .inTargets)))
@@ -25,24 +19,6 @@ group-requires c κs =
     let l = length-take-le 4096 (now (s .args .targets)) (omega (arith, p .0 .inTargets)) in
     (p .1 .1 .1 .0 .0, (p .1 .1 .1 .1 .0, (omega (arith, p .1 .1 .0 .0), (omega (arith, p .1 .0), omega (arith, p .1 .1 .0 .0)))))
 
-sub-group : tie.Need-sub-group
-sub-group c = search needs
-
-part-group-start : tie.Need-part-group-start
-part-group-start c = search needs
-
-part-group-end : tie.Need-part-group-end
-part-group-end c = search needs
-
-sub-group-2 : tie.Need-sub-group-2
-sub-group-2 c = search needs
-
-part-group-start-2 : tie.Need-part-group-start-2
-part-group-start-2 c = search needs
-
-part-group-end-2 : tie.Need-part-group-end-2
-part-group-end-2 c = search needs
-
 group-requires-2 : tie.Need-group-requires-2
 group-requires-2 c κs =
     let s = c .before .before .before .before .before .before .before .before .before .before .before .before .before .before .before in
@@ -51,12 +27,6 @@ group-requires-2 c κs =
     let o = length-take-le 513 (now (s .args .offsets)) (omega (arith, p .0 .inOffsets)) in
     let l = length-take-le 4096 (now (s .args .targets)) (omega (arith, p .0 .inTargets)) in
     (p .1 .1 .1 .0 .1, (p .1 .1 .1 .1 .1, (omega (arith, p .1 .1 .0 .1), (simp (length-take, length-drop, length-append) (omega (arith, p .1 .0)), simp (length-take, length-drop, length-append) (omega (arith, p .1 .1 .0 .1))))))
-
-same-length : tie.Need-same-length
-same-length c = search needs
-
-same-length-2 : tie.Need-same-length-2
-same-length-2 c = search needs
 
 returns : tie.Need-returns
 returns c =
@@ -79,19 +49,6 @@ returns c =
 pub group-both-spec : {M : Type 1} → statement M
 group-both-spec =
     tie.close
-    (tie.spec
-    slice-relend-prefix-group
-    slice-aggregate-group
-    slice-relend-prefix-group-2
-    slice-aggregate-group-2
-    group-requires
-    sub-group
-    part-group-start
-    part-group-end
-    sub-group-2
-    part-group-start-2
-    part-group-end-2
-    group-requires-2
-    same-length
-    same-length-2
-    returns)
+    (tie.spec (λ c. search needs) slice-aggregate-group (λ c. search needs) slice-aggregate-group-2 group-requires
+    (λ c. search needs) (λ c. search needs) (λ c. search needs) (λ c. search needs) (λ c. search needs)
+    (λ c. search needs) group-requires-2 (λ c. search needs) (λ c. search needs) returns)

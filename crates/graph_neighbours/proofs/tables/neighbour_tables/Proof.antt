@@ -10,16 +10,10 @@ group-both-requires c κs =
     let p = c .before .before .before .before .before .before .pre in
     (p .0, (p .1 .0, ((p .1 .1 .0 .1, omega (arith, p .1 .1 .0)), ((p .1 .1 .0 .0, sym (p .1 .1 .0 .0)), p .1 .1 .1))))
 
-same-length : tie.Need-same-length
-same-length c = search needs
-
-same-length-2 : tie.Need-same-length-2
-same-length-2 c = search needs
-
 returns : tie.Need-returns
 returns c =
     let p = c .before .before .before .before .before .before .before .before .before .before .before .pre in
     net-grouped (c .before .before .before .before .group-both .ensures) (p .1 .1 .0 .0) (p .1 .1 .1 .0) (p .1 .1 .1 .1)
 
 pub neighbour-tables-spec : {M : Type 1} → statement M
-neighbour-tables-spec = tie.close (tie.spec group-both-requires same-length same-length-2 returns)
+neighbour-tables-spec = tie.close (tie.spec group-both-requires (λ c. search needs) (λ c. search needs) returns)

@@ -1,17 +1,9 @@
--- `heronditch::cutting::heronditch_session_open` meets its contract: the call of the crate below, its answer as numbers. Assumes nothing.
+-- `heronditch::cutting::heronditch_session_open` meets its contract: the call of the crate below, its answer as
+-- numbers. Assumes nothing.
 use Rattle.heronditch.proofs.Session.{host-open}
 use Rattle.base_lists.specs.Kit.{needs}
 use Rattle.heronditch.proofs.cutting.heronditch_session_open.Statement.{statement}
 use Rattle.heronditch.proofs.cutting.heronditch_session_open.Tie as tie
-
-editions-of-requires : tie.Need-editions-of-requires
-editions-of-requires c κs = search needs
-
-open-requires : tie.Need-open-requires
-open-requires c κs = search needs
-
-of-open-requires : tie.Need-of-open-requires
-of-open-requires c κs = search needs
 
 returns : tie.Need-returns
 returns c =
@@ -20,4 +12,4 @@ returns c =
 
 pub heronditch-session-open-spec : {M : Type 1} → statement M
 heronditch-session-open-spec =
-    tie.close (tie.spec editions-of-requires open-requires of-open-requires returns)
+    tie.close (tie.spec (λ c κs. search needs) (λ c κs. search needs) (λ c κs. search needs) returns)

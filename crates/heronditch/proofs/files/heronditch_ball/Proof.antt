@@ -1,20 +1,9 @@
--- `heronditch::files::heronditch_ball` meets its contract: the call of the crate below, its reply as numbers. Assumes nothing.
+-- `heronditch::files::heronditch_ball` meets its contract: the call of the crate below, its reply as numbers. Assumes
+-- nothing.
 use Rattle.base_lists.specs.Kit.{ap, needs}
 use Rattle.heronditch.specs.Host.{hostBall}
 use Rattle.heronditch.proofs.files.heronditch_ball.Statement.{statement}
 use Rattle.heronditch.proofs.files.heronditch_ball.Tie as tie
-
-edition-of-requires : tie.Need-edition-of-requires
-edition-of-requires c κs = search needs
-
-ball-requires : tie.Need-ball-requires
-ball-requires c κs = search needs
-
-of-ball-requires : tie.Need-of-ball-requires
-of-ball-requires c κs = search needs
-
-same-length : tie.Need-same-length
-same-length c = search needs
 
 returns : tie.Need-returns
 unfolding hostBall
@@ -23,4 +12,5 @@ returns c =
 
 pub heronditch-ball-spec : {M : Type 1} → statement M
 heronditch-ball-spec =
-    tie.close (tie.spec edition-of-requires ball-requires of-ball-requires same-length returns)
+    tie.close
+    (tie.spec (λ c κs. search needs) (λ c κs. search needs) (λ c κs. search needs) (λ c. search needs) returns)

@@ -1,17 +1,9 @@
--- `heronditch::files::heronditch_radius` meets its contract: the call of the crate below, its reply as numbers. Assumes nothing.
+-- `heronditch::files::heronditch_radius` meets its contract: the call of the crate below, its reply as numbers. Assumes
+-- nothing.
 use Rattle.base_lists.specs.Kit.{ap, needs}
 use Rattle.heronditch_reply.specs.Replies.{slots}
 use Rattle.heronditch.proofs.files.heronditch_radius.Statement.{statement}
 use Rattle.heronditch.proofs.files.heronditch_radius.Tie as tie
-
-edition-of-requires : tie.Need-edition-of-requires
-edition-of-requires c κs = search needs
-
-radius-requires : tie.Need-radius-requires
-radius-requires c κs = search needs
-
-of-radius-requires : tie.Need-of-radius-requires
-of-radius-requires c κs = search needs
 
 returns : tie.Need-returns
 returns c =
@@ -19,4 +11,4 @@ returns c =
 
 pub heronditch-radius-spec : {M : Type 1} → statement M
 heronditch-radius-spec =
-    tie.close (tie.spec edition-of-requires radius-requires of-radius-requires returns)
+    tie.close (tie.spec (λ c κs. search needs) (λ c κs. search needs) (λ c κs. search needs) returns)

@@ -1,20 +1,9 @@
--- `heronditch::places::heronditch_bar` meets its contract: the call of the crate below, its reply as numbers. Assumes nothing.
+-- `heronditch::places::heronditch_bar` meets its contract: the call of the crate below, its reply as numbers. Assumes
+-- nothing.
 use Rattle.base_lists.specs.Kit.{ap, needs}
 use Rattle.heronditch.specs.Host.{hostBar}
 use Rattle.heronditch.proofs.places.heronditch_bar.Statement.{statement}
 use Rattle.heronditch.proofs.places.heronditch_bar.Tie as tie
-
-editions-of-requires : tie.Need-editions-of-requires
-editions-of-requires c κs = search needs
-
-bar-requires : tie.Need-bar-requires
-bar-requires c κs = search needs
-
-of-bar-requires : tie.Need-of-bar-requires
-of-bar-requires c κs = search needs
-
-same-length : tie.Need-same-length
-same-length c = search needs
 
 returns : tie.Need-returns
 unfolding hostBar
@@ -23,4 +12,5 @@ returns c =
 
 pub heronditch-bar-spec : {M : Type 1} → statement M
 heronditch-bar-spec =
-    tie.close (tie.spec editions-of-requires bar-requires of-bar-requires same-length returns)
+    tie.close
+    (tie.spec (λ c κs. search needs) (λ c κs. search needs) (λ c κs. search needs) (λ c. search needs) returns)

@@ -1,17 +1,9 @@
--- `heronditch::places::heronditch_check` meets its contract: the call of the crate below, its reply as numbers. Assumes nothing.
+-- `heronditch::places::heronditch_check` meets its contract: the call of the crate below, its reply as numbers. Assumes
+-- nothing.
 use Rattle.base_lists.specs.Kit.{ap, needs}
 use Rattle.heronditch_reply.specs.Replies.{slots}
 use Rattle.heronditch.proofs.places.heronditch_check.Statement.{statement}
 use Rattle.heronditch.proofs.places.heronditch_check.Tie as tie
-
-editions-of-requires : tie.Need-editions-of-requires
-editions-of-requires c κs = search needs
-
-check-requires : tie.Need-check-requires
-check-requires c κs = search needs
-
-of-check-requires : tie.Need-of-check-requires
-of-check-requires c κs = search needs
 
 returns : tie.Need-returns
 returns c =
@@ -19,4 +11,4 @@ returns c =
 
 pub heronditch-check-spec : {M : Type 1} → statement M
 heronditch-check-spec =
-    tie.close (tie.spec editions-of-requires check-requires of-check-requires returns)
+    tie.close (tie.spec (λ c κs. search needs) (λ c κs. search needs) (λ c κs. search needs) returns)

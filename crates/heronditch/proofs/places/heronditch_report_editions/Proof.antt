@@ -1,20 +1,9 @@
--- `heronditch::places::heronditch_report_editions` meets its contract: the call of the crate below, its reply as numbers. Assumes nothing.
+-- `heronditch::places::heronditch_report_editions` meets its contract: the call of the crate below, its reply as
+-- numbers. Assumes nothing.
 use Rattle.base_lists.specs.Kit.{ap, needs}
 use Rattle.heronditch.specs.Host.{hostReport}
 use Rattle.heronditch.proofs.places.heronditch_report_editions.Statement.{statement}
 use Rattle.heronditch.proofs.places.heronditch_report_editions.Tie as tie
-
-editions-of-requires : tie.Need-editions-of-requires
-editions-of-requires c κs = search needs
-
-report-requires : tie.Need-report-requires
-report-requires c κs = search needs
-
-of-report-requires : tie.Need-of-report-requires
-of-report-requires c κs = search needs
-
-same-length : tie.Need-same-length
-same-length c = search needs
 
 returns : tie.Need-returns
 unfolding hostReport
@@ -24,4 +13,4 @@ returns c =
 pub heronditch-report-editions-spec : {M : Type 1} → statement M
 heronditch-report-editions-spec =
     tie.close
-    (tie.spec editions-of-requires report-requires of-report-requires same-length returns)
+    (tie.spec (λ c κs. search needs) (λ c κs. search needs) (λ c κs. search needs) (λ c. search needs) returns)

@@ -1,17 +1,9 @@
--- `heronditch::shelf::heronditch_shelf` meets its contract: the call of the crate below, its reply as numbers. Assumes nothing.
+-- `heronditch::shelf::heronditch_shelf` meets its contract: the call of the crate below, its reply as numbers. Assumes
+-- nothing.
 use Rattle.base_lists.specs.Kit.{ap, needs}
 use Rattle.heronditch.specs.Host.{hostShelf}
 use Rattle.heronditch.proofs.shelf.heronditch_shelf.Statement.{statement}
 use Rattle.heronditch.proofs.shelf.heronditch_shelf.Tie as tie
-
-shelf-requires : tie.Need-shelf-requires
-shelf-requires c κs = search needs
-
-of-shelf-requires : tie.Need-of-shelf-requires
-of-shelf-requires c κs = search needs
-
-same-length : tie.Need-same-length
-same-length c = search needs
 
 returns : tie.Need-returns
 unfolding hostShelf
@@ -19,4 +11,4 @@ returns c = rw (c .of-shelf .ensures) (ap hostShelf (c .before .before .before .
 
 pub heronditch-shelf-spec : {M : Type 1} → statement M
 heronditch-shelf-spec =
-    tie.close (tie.spec shelf-requires of-shelf-requires same-length returns)
+    tie.close (tie.spec (λ c κs. search needs) (λ c κs. search needs) (λ c. search needs) returns)

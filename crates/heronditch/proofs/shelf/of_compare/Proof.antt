@@ -6,37 +6,10 @@ use Rattle.base_lists.specs.Kit.{needs}
 use Rattle.heronditch.proofs.shelf.of_compare.Statement.{statement}
 use Rattle.heronditch.proofs.shelf.of_compare.Tie as tie
 
-enum-known-answer : tie.Need-enum-known-answer
-enum-known-answer c = search needs
-
-order-number-requires : tie.Need-order-number-requires
-order-number-requires c κs = search needs
-
-enum-known-answer-2 : tie.Need-enum-known-answer-2
-enum-known-answer-2 c = search needs
-
-refused-requires : tie.Need-refused-requires
-refused-requires c κs = search needs
-
-which-number-requires : tie.Need-which-number-requires
-which-number-requires c κs = search needs
-
-returns : tie.Need-returns
-unfolding hostCompare verdictNumber meantFile compareReply
-returns c = rw (c .before .before .answer .given .1, c .order-number .ensures)
-
-returns-2 : tie.Need-returns-2
-unfolding hostCompare verdictNumber meantFile compareReply
-returns-2 c = rw (c .before .before .before .answer2 .given .1, c .before .refused .ensures, c .which-number .ensures)
-
 pub of-compare-spec : {M : Type 1} → statement M
+unfolding hostCompare verdictNumber meantFile compareReply
 of-compare-spec =
     tie.close
-    (tie.spec
-    enum-known-answer
-    order-number-requires
-    enum-known-answer-2
-    refused-requires
-    which-number-requires
-    returns
-    returns-2)
+    (tie.spec (λ c. search needs) (λ c κs. search needs) (λ c. search needs) (λ c κs. search needs)
+    (λ c κs. search needs) (λ c. rw (c .before .before .answer .given .1, c .order-number .ensures))
+    (λ c. rw (c .before .before .before .answer2 .given .1, c .before .refused .ensures, c .which-number .ensures)))

@@ -4,12 +4,6 @@ use Rattle.base_lists.specs.Kit.{needs}
 use Rattle.heronditch.proofs.shelf.which_number.Statement.{statement}
 use Rattle.heronditch.proofs.shelf.which_number.Tie as tie
 
-enum-told : tie.Need-enum-told
-enum-told c = search needs
-
-enum-told-2 : tie.Need-enum-told-2
-enum-told-2 c = search needs
-
 returns : tie.Need-returns
 unfolding whichNumber
 returns c = rw (c .enum-told .given .1)
@@ -19,4 +13,4 @@ unfolding whichNumber
 returns-2 c = rw (c .enum-told2 .given .1)
 
 pub which-number-spec : {M : Type 1} → statement M
-which-number-spec = tie.close (tie.spec enum-told enum-told-2 returns returns-2)
+which-number-spec = tie.close (tie.spec (λ c. search needs) (λ c. search needs) returns returns-2)

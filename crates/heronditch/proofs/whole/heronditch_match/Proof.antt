@@ -1,47 +1,29 @@
 -- `heronditch::whole::heronditch_match` meets its contract: the third edition, or another. Assumes nothing.
-use Rattle.base_lists.specs.Kit.{ap, needs, le-ltb, lt-ltb}
+use Rattle.base_lists.specs.Kit.{sym, ap, _∙_, needs}
 use Rattle.heronditch.specs.Host.{hostMatch, matchingTold}
-use Rattle.heronditch_told.specs.Told.{isThird}
 use Rattle.heronditch.proofs.whole.heronditch_match.Statement.{statement}
 use Rattle.heronditch.proofs.whole.heronditch_match.Tie as tie
 
-heronditch-match-third-requires : tie.Need-heronditch-match-third-requires
-heronditch-match-third-requires c κs = search needs
-
-same-length : tie.Need-same-length
-same-length c = search needs
-
 returns : tie.Need-returns
-unfolding hostMatch matchingTold isThird
-returns c = rw (lt-ltb _ _ (c .before .before .before .before .if1 .taken)) (c .before .before .heronditch-match-third .ensures)
-
-editions-of-requires : tie.Need-editions-of-requires
-editions-of-requires c κs = search needs
-
-match-table-requires : tie.Need-match-table-requires
-match-table-requires c κs = search needs
-
-of-match-requires : tie.Need-of-match-requires
-of-match-requires c κs = search needs
-
-same-length-2 : tie.Need-same-length-2
-same-length-2 c = search needs
+unfolding hostMatch matchingTold
+returns c =
+    let test = c .before .before .before .before in
+    rw (sym (test .before .is-third .ensures) ∙ test .if1 .taken) (c .before .before .heronditch-match-third .ensures)
 
 returns-2 : tie.Need-returns-2
-unfolding hostMatch matchingTold isThird
+unfolding hostMatch matchingTold
 returns-2 c =
-    rw (c .of-match .ensures, ← c .before .before .before .before .before .editions-of .ensures .0, ← c .before .before .before .before .before .editions-of .ensures .1, le-ltb _ _ (c .before .before .before .before .before .before .if1 .left))
+    let told = c .before .before .before .before .before in
+    rw (
+      c .of-match .ensures,
+      ← told .editions-of .ensures .0,
+      ← told .editions-of .ensures .1,
+      sym (told .before .before .is-third .ensures) ∙ told .before .if1 .left,
+    )
     (ap hostMatch (c .before .before .before .match-table .ensures))
 
 pub heronditch-match-spec : {M : Type 1} → statement M
 heronditch-match-spec =
     tie.close
-    (tie.spec
-    heronditch-match-third-requires
-    same-length
-    returns
-    editions-of-requires
-    match-table-requires
-    of-match-requires
-    same-length-2
-    returns-2)
+    (tie.spec (λ c κs. search needs) (λ c κs. search needs) (λ c. search needs) returns (λ c κs. search needs)
+    (λ c κs. search needs) (λ c κs. search needs) (λ c. search needs) returns-2)

@@ -1,20 +1,9 @@
--- `heronditch::whole::heronditch_match_one_way` meets its contract: the call of the crate below, its reply as numbers. Assumes nothing.
+-- `heronditch::whole::heronditch_match_one_way` meets its contract: the call of the crate below, its reply as numbers.
+-- Assumes nothing.
 use Rattle.base_lists.specs.Kit.{ap, needs}
 use Rattle.heronditch.specs.Host.{hostMatch}
 use Rattle.heronditch.proofs.whole.heronditch_match_one_way.Statement.{statement}
 use Rattle.heronditch.proofs.whole.heronditch_match_one_way.Tie as tie
-
-editions-of-requires : tie.Need-editions-of-requires
-editions-of-requires c κs = search needs
-
-match-one-way-requires : tie.Need-match-one-way-requires
-match-one-way-requires c κs = search needs
-
-of-match-requires : tie.Need-of-match-requires
-of-match-requires c κs = search needs
-
-same-length : tie.Need-same-length
-same-length c = search needs
 
 returns : tie.Need-returns
 unfolding hostMatch
@@ -24,4 +13,4 @@ returns c =
 pub heronditch-match-one-way-spec : {M : Type 1} → statement M
 heronditch-match-one-way-spec =
     tie.close
-    (tie.spec editions-of-requires match-one-way-requires of-match-requires same-length returns)
+    (tie.spec (λ c κs. search needs) (λ c κs. search needs) (λ c κs. search needs) (λ c. search needs) returns)

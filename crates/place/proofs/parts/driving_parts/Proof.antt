@@ -4,15 +4,6 @@ use Rattle.base_lists.specs.List.{part}
 use Rattle.place.proofs.parts.driving_parts.Statement.{statement}
 use Rattle.place.proofs.parts.driving_parts.Tie as tie
 
-sub-union-of : tie.Need-sub-union-of
-sub-union-of c = search needs
-
-part-union-of-start : tie.Need-part-union-of-start
-part-union-of-start c = search needs
-
-part-union-of-end : tie.Need-part-union-of-end
-part-union-of-end c = search needs
-
 union-of-requires : tie.Need-union-of-requires
 union-of-requires c κs =
     let s = c .before .before in
@@ -25,5 +16,4 @@ returns c = c .union-of .ensures
 
 pub driving-parts-spec : {M : Type 1} → statement M
 driving-parts-spec =
-    tie.close
-    (tie.spec sub-union-of part-union-of-start part-union-of-end union-of-requires returns)
+    tie.close (tie.spec (λ c. search needs) (λ c. search needs) (λ c. search needs) union-of-requires returns)

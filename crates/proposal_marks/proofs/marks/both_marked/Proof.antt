@@ -4,12 +4,6 @@ use Rattle.graph.specs.Search.{inside}
 use Rattle.proposal_marks.proofs.marks.both_marked.Statement.{statement}
 use Rattle.proposal_marks.proofs.marks.both_marked.Tie as tie
 
-shared-slice-read-if1 : tie.Need-shared-slice-read-if1
-shared-slice-read-if1 c = search needs
-
-shared-slice-read-result : tie.Need-shared-slice-read-result
-shared-slice-read-result c = search needs
-
 returns : tie.Need-returns
 unfolding inside
 returns c = rw (eq-eqb _ 1 (c .before .if1 .taken))
@@ -19,5 +13,4 @@ unfolding inside
 returns-2 c = rw (ne-eqb _ 1 (c .if1 .left))
 
 pub both-marked-spec : {M : Type 1} → statement M
-both-marked-spec =
-    tie.close (tie.spec shared-slice-read-if1 shared-slice-read-result returns returns-2)
+both-marked-spec = tie.close (tie.spec (λ c. search needs) (λ c. search needs) returns returns-2)

@@ -1,70 +1,57 @@
 -- `report::lines::put_end` meets its contract, word by word. Assumes nothing.
 use Rattle.base_lists.specs.Kit.{sym, _≤_, _+_, length, arith, needs}
 use Rattle.base_text.specs.Text.{bytes}
-use Rattle.base_text.proofs.Text.{put-then, put-same, length-decimal}
-use Rattle.report.proofs.Concat.{fits-number, room-left}
-use Rattle.report.proofs.Pieces.{end-pieces}
+use Rattle.base_text.proofs.Text.{put-then, put-same}
+use Rattle.report.proofs.Pieces.{end-pieces, numbered-length, fits-numbered, room-left}
 use Rattle.report.proofs.lines.put_end.Statement.{statement}
 use Rattle.report.proofs.lines.put_end.Tie as tie
 
-slice-aggregate-put-bytes : tie.Need-slice-aggregate-put-bytes
-slice-aggregate-put-bytes c = search needs
+abbrev start : tie.After-put-numbered → tie.Start
+start c = c .before .before .before .before
 
-put-bytes-requires : tie.Need-put-bytes-requires
-put-bytes-requires c κs = record { room = omega (arith, c .before .before .before .pre .1) }
+abbrev count : tie.After-put-numbered2 → tie.After-put-numbered
+count c = c .before .before .before .before .before
+
+put-numbered-requires : tie.Need-put-numbered-requires
+unfolding bytes
+put-numbered-requires c κs =
+    let s = c .before .before .before in
+    fits-numbered (bytes "end ") 4 _ (omega (arith, s .pre .0)) (omega (arith, s .pre .1))
 
 -- ---- the room that is left after each piece
 
-room-count : (c : tie.After-put-bytes) → c .put-bytes .result + 20 ≤ length (c .put-bytes .last .1 .0)
-room-count c = room-left 4 20 (c .put-bytes .ensures) (omega arith) (omega (arith, c .before .before .before .before .pre .1))
+room-of : (c : tie.After-put-numbered) → c .put-numbered .result + 10 ≤ length (c .put-numbered .last .1 .1 .0)
+unfolding bytes
+room-of c =
+    let s = start c in
+    room-left 9 10 (c .put-numbered .ensures) (numbered-length (bytes "end ") 4 _ (omega (arith, s .pre .0)))
+    (omega (arith, s .pre .1))
 
-put-number-requires : tie.Need-put-number-requires
-put-number-requires c κs = fits-number _ (omega arith) (omega (arith, room-count (c .before .before .before)))
+put-numbered-requires-2 : tie.Need-put-numbered-requires-2
+unfolding bytes
+put-numbered-requires-2 c κs =
+    let here = c .before .before .before .before in
+    let s = start here in
+    fits-numbered (bytes " of ") 4 _ (omega (arith, s .pre .0)) (omega (arith, room-of here))
 
-room-of : (c : tie.After-put-number) → c .put-number .result + 15 ≤ length (c .put-number .last .1 .0)
-room-of c = room-left 5 15 (c .put-number .ensures) (length-decimal 4 _ (omega arith)) (room-count (c .before .before .before .before))
-
-slice-aggregate-put-bytes-2 : tie.Need-slice-aggregate-put-bytes-2
-slice-aggregate-put-bytes-2 c = search needs
-
-put-bytes-requires-2 : tie.Need-put-bytes-requires-2
-put-bytes-requires-2 c κs = record { room = omega (arith, room-of (c .before .before .before .before)) }
-
-room-all : (c : tie.After-put-bytes2) → c .put-bytes2 .result + 11 ≤ length (c .put-bytes2 .last .1 .0)
-room-all c = room-left 4 11 (c .put-bytes2 .ensures) (omega arith) (room-of (c .before .before .before .before .before))
-
-put-number-requires-2 : tie.Need-put-number-requires-2
-put-number-requires-2 c κs = fits-number _ (omega arith) (omega (arith, room-all (c .before .before .before)))
-
-room-end : (c : tie.After-put-number2) → c .put-number2 .result + 6 ≤ length (c .put-number2 .last .1 .0)
-room-end c = room-left 5 6 (c .put-number2 .ensures) (length-decimal 4 _ (omega arith)) (room-all (c .before .before .before .before))
-
-put-byte-requires : tie.Need-put-byte-requires
-put-byte-requires c κs = record { room = omega (arith, room-end (c .before .before .before)) }
-
-same-length : tie.Need-same-length
-same-length c = search needs
+room-end : (c : tie.After-put-numbered2) → c .put-numbered2 .result + 1 ≤ length (c .put-numbered2 .last .1 .1 .0)
+unfolding bytes
+room-end c =
+    let s = start (count c) in
+    room-left 9 1 (c .put-numbered2 .ensures) (numbered-length (bytes " of ") 4 _ (omega (arith, s .pre .0)))
+    (room-of (count c))
 
 returns : tie.Need-returns
 unfolding bytes
 returns c =
-    let a = c .before .before .before .before .before .before .before .before .before .before .before .before .before .before .before .before .before .before .before .before .before .before .before .args in
+    let end = c .before .before in
+    let of = end .before .before .before .before in
+    let a = start (count of) .args in
     put-same (sym (end-pieces (a .k) (a .n)))
-    (put-then (c .before .before .before .before .before .before .before .before .before .before .before .before .before .before .before .before .before .before .before .put-bytes .ensures)
-    (put-then (c .before .before .before .before .before .before .before .before .before .before .before .before .before .before .before .put-number .ensures)
-    (put-then (c .before .before .before .before .before .before .before .before .before .before .put-bytes2 .ensures)
-    (put-then (c .before .before .before .before .before .before .put-number2 .ensures) (c .before .before .put-byte .ensures)))))
+    (put-then (count of .put-numbered .ensures) (put-then (of .put-numbered2 .ensures) (end .put-byte .ensures)))
 
 pub put-end-spec : {M : Type 1} → statement M
 put-end-spec =
     tie.close
-    (tie.spec
-    slice-aggregate-put-bytes
-    put-bytes-requires
-    put-number-requires
-    slice-aggregate-put-bytes-2
-    put-bytes-requires-2
-    put-number-requires-2
-    put-byte-requires
-    same-length
-    returns)
+    (tie.spec (λ c. search needs) put-numbered-requires (λ c. search needs) put-numbered-requires-2
+    (λ c κs. record { room = omega (arith, room-end (c .before .before .before)) }) (λ c. search needs) returns)

@@ -6,36 +6,15 @@ use Rattle.report.specs.Report.{fileWord}
 use Rattle.report.proofs.lines.put_file.Statement.{statement}
 use Rattle.report.proofs.lines.put_file.Tie as tie
 
-enum-told : tie.Need-enum-told
-enum-told c = search needs
-
-slice-aggregate-put-bytes : tie.Need-slice-aggregate-put-bytes
-slice-aggregate-put-bytes c = search needs
-
 put-bytes-requires : tie.Need-put-bytes-requires
 put-bytes-requires c κs = record { room = omega (arith, c .before .before .before .before .before .pre) }
-
-enum-told-2 : tie.Need-enum-told-2
-enum-told-2 c = search needs
-
-slice-aggregate-put-bytes-2 : tie.Need-slice-aggregate-put-bytes-2
-slice-aggregate-put-bytes-2 c = search needs
 
 put-bytes-requires-2 : tie.Need-put-bytes-requires-2
 put-bytes-requires-2 c κs = record { room = omega (arith, c .before .before .before .before .before .pre) }
 
-enum-told-3 : tie.Need-enum-told-3
-enum-told-3 c = search needs
-
-same-length : tie.Need-same-length
-same-length c = search needs
-
 returns : tie.Need-returns
 unfolding fileWord bytes
 returns c = put-same (sym (ap fileWord (c .before .before .before .before .before .enum-told .given .1))) (c .before .before .put-bytes .ensures)
-
-same-length-2 : tie.Need-same-length-2
-same-length-2 c = search needs
 
 returns-2 : tie.Need-returns-2
 unfolding fileWord bytes
@@ -48,16 +27,5 @@ returns-3 c = put-same (sym (ap fileWord (c .enum-told3 .given .1))) put-nothing
 pub put-file-spec : {M : Type 1} → statement M
 put-file-spec =
     tie.close
-    (tie.spec
-    enum-told
-    slice-aggregate-put-bytes
-    put-bytes-requires
-    enum-told-2
-    slice-aggregate-put-bytes-2
-    put-bytes-requires-2
-    enum-told-3
-    same-length
-    returns
-    same-length-2
-    returns-2
-    returns-3)
+    (tie.spec (λ c. search needs) (λ c. search needs) put-bytes-requires (λ c. search needs) (λ c. search needs)
+    put-bytes-requires-2 (λ c. search needs) (λ c. search needs) returns (λ c. search needs) returns-2 returns-3)

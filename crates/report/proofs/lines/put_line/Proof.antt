@@ -1,114 +1,79 @@
 -- `report::lines::put_line` meets its contract, piece by piece. Assumes nothing.
-use Rattle.base_lists.specs.Kit.{now, _≡_, sym, List, _++_, ℕ, arith, needs}
-use Rattle.base_text.specs.Text.{bytes, Fits, decimal}
-use Rattle.base_text.proofs.Text.{put-then, put-same, fits-same, fits-less, fits-first, fits-then}
+use Rattle.base_lists.specs.Kit.{now, List, _++_, ℕ, arith, needs}
+use Rattle.base_text.specs.Text.{bytes, Fits}
+use Rattle.base_text.proofs.Text.{put-then, fits-less, fits-first, fits-then}
 use Rattle.table.specs.Prepared.{tables}
-use Rattle.report.specs.Lines.{nodesText, linksText, lineText}
-use Rattle.report.proofs.Concat.{fits-after}
-use Rattle.report.proofs.Pieces.{line-pieces}
+use Rattle.report_texts.specs.Texts.{nodesText, linksText, bodyText, lineText}
+use Rattle.report.proofs.Pieces.{fits-after}
 use Rattle.report.proofs.lines.put_line.Statement.{statement}
 use Rattle.report.proofs.lines.put_line.Tie as tie
 
--- the two parts of the line that the tables give
-abbrev nodes : tie.Start → List ℕ
-nodes s = nodesText (now (s .args .dist))
-
+-- the links
 abbrev links : tie.Start → List ℕ
 links s = let a = s .args in linksText (tables (now (a .masks)) (now (a .offsets)) (now (a .targets))) (now (a .dist)) (now (a .sets))
 
-pieces : (s : tie.Start) → let a = s .args in
-    lineText (tables (now (a .masks)) (now (a .offsets)) (now (a .targets))) (now (a .dist)) (now (a .sets)) (a .c)
-    ≡ bytes "place " ++ (decimal (a .c) ++ (bytes ":" ++ (nodes s ++ (bytes " /" ++ (links s ++ bytes "\n")))))
-unfolding lineText
-pieces s = line-pieces (s .args .c) (nodes s) (links s)
+abbrev start : tie.After-put-head → tie.Start
+start c = c .before .before .before .before .before .before .before .before .before
 
-slice-aggregate-put-bytes : tie.Need-slice-aggregate-put-bytes
-slice-aggregate-put-bytes c = search needs
+abbrev head : tie.After-put-nodes → tie.After-put-head
+head c = c .before .before .before .before
+
+abbrev nodes : tie.After-put-bytes → tie.After-put-nodes
+nodes c = c .before .before .before .before .before
+
+abbrev slash : tie.After-put-links → tie.After-put-bytes
+slash c = c .before .before .before .before
 
 -- ---- the room, before each piece
 
-room : (s : tie.Start) → let a = s .args in
-    Fits (now (a .out)) (a .at) (bytes "place " ++ (decimal (a .c) ++ (bytes ":" ++ (nodes s ++ (bytes " /" ++ (links s ++ bytes "\n"))))))
-room s = fits-same (pieces s) (s .pre .1 .1 .1)
+put-head-requires : tie.Need-put-head-requires
+unfolding lineText
+put-head-requires c κs = fits-first _ _ (c .before .before .before .before .before .before .before .before .pre .1 .1 .1)
+
+room : (c : tie.After-put-head) →
+    Fits (c .put-head .last .1 .0) (c .put-head .result) (nodesText (now (start c .args .dist)) ++ (bytes " /" ++ (links (start c) ++ bytes "\n")))
+unfolding lineText bodyText
+room c = fits-then (c .put-head .ensures) (start c .pre .1 .1 .1)
+
+put-nodes-requires : tie.Need-put-nodes-requires
+put-nodes-requires c κs = let here = c .before .before .before in (start here .pre .0, fits-first _ _ (room here))
+
+room-slash : (c : tie.After-put-nodes) →
+    Fits (c .put-nodes .last .1 .1 .0) (c .put-nodes .result) (bytes " /" ++ (links (start (head c)) ++ bytes "\n"))
+room-slash c = fits-then (c .put-nodes .ensures) (room (head c))
 
 put-bytes-requires : tie.Need-put-bytes-requires
 unfolding bytes
-put-bytes-requires c κs = fits-first (bytes "place ") _ (room (c .before .before .before .before .before .before .before .before .before))
+put-bytes-requires c κs =
+    fits-less _ (omega arith) (fits-first (bytes " /") _ (room-slash (c .before .before .before .before)))
 
-room-centre : (c : tie.After-put-bytes) → let s = c .before .before .before .before .before .before .before .before .before .before in
-    Fits (c .put-bytes .last .1 .0) (c .put-bytes .result) (decimal (s .args .c) ++ (bytes ":" ++ (nodes s ++ (bytes " /" ++ (links s ++ bytes "\n")))))
+room-links : (c : tie.After-put-bytes) →
+    Fits (c .put-bytes .last .1 .0) (c .put-bytes .result) (links (start (head (nodes c))) ++ bytes "\n")
 unfolding bytes
-room-centre c = fits-then (c .put-bytes .ensures) (room (c .before .before .before .before .before .before .before .before .before .before))
+room-links c = fits-after (bytes " /") _ (omega arith) (c .put-bytes .ensures) (room-slash (nodes c))
 
-put-number-requires : tie.Need-put-number-requires
-put-number-requires c κs = fits-first _ _ (room-centre (c .before .before .before))
-
-room-colon : (c : tie.After-put-number) → let s = c .before .before .before .before .before .before .before .before .before .before .before .before .before .before in
-    Fits (c .put-number .last .1 .0) (c .put-number .result) (bytes ":" ++ (nodes s ++ (bytes " /" ++ (links s ++ bytes "\n"))))
-room-colon c = fits-then (c .put-number .ensures) (room-centre (c .before .before .before .before))
+put-links-requires : tie.Need-put-links-requires
+put-links-requires c κs =
+    let here = c .before .before .before in
+    let p = start (head (nodes here)) .pre in
+    (p .0, (p .1 .0, (p .1 .1 .0, fits-first _ _ (room-links here))))
 
 put-byte-requires : tie.Need-put-byte-requires
 unfolding bytes
-put-byte-requires c κs = fits-first (bytes ":") _ (room-colon (c .before .before .before))
-
-room-nodes : (c : tie.After-put-byte) → let s = c .before .before .before .before .before .before .before .before .before .before .before .before .before .before .before .before .before .before in
-    Fits (c .put-byte .last .1 .0) (c .put-byte .result) (nodes s ++ (bytes " /" ++ (links s ++ bytes "\n")))
-unfolding bytes
-room-nodes c = fits-then (c .put-byte .ensures) (room-colon (c .before .before .before .before))
-
-put-nodes-requires : tie.Need-put-nodes-requires
-put-nodes-requires c κs =
-    let s = c .before .before .before .before .before .before .before .before .before .before .before .before .before .before .before .before .before .before .before .before .before in
-    (s .pre .0, fits-first _ _ (room-nodes (c .before .before .before)))
-
-room-slash : (c : tie.After-put-nodes) → let s = c .before .before .before .before .before .before .before .before .before .before .before .before .before .before .before .before .before .before .before .before .before .before in
-    Fits (c .put-nodes .last .1 .1 .0) (c .put-nodes .result) (bytes " /" ++ (links s ++ bytes "\n"))
-room-slash c = fits-then (c .put-nodes .ensures) (room-nodes (c .before .before .before .before))
-
-slice-aggregate-put-bytes-2 : tie.Need-slice-aggregate-put-bytes-2
-slice-aggregate-put-bytes-2 c = search needs
-
-put-bytes-requires-2 : tie.Need-put-bytes-requires-2
-unfolding bytes
-put-bytes-requires-2 c κs = fits-less _ (omega arith) (fits-first (bytes " /") _ (room-slash (c .before .before .before .before)))
-
-room-links : (c : tie.After-put-bytes2) → Fits (c .put-bytes2 .last .1 .0) (c .put-bytes2 .result) (links (c .before .before .before .before .before .before .before .before .before .before .before .before .before .before .before .before .before .before .before .before .before .before .before .before .before .before .before) ++ bytes "\n")
-unfolding bytes
-room-links c = fits-after (bytes " /") _ (omega arith) (c .put-bytes2 .ensures) (room-slash (c .before .before .before .before .before))
-
-put-links-requires : tie.Need-put-links-requires
-put-links-requires c κs = let p = c .before .before .before .before .before .before .before .before .before .before .before .before .before .before .before .before .before .before .before .before .before .before .before .before .before .before .before .before .before .before .pre in (p .0, (p .1 .0, (p .1 .1 .0, fits-first _ _ (room-links (c .before .before .before)))))
-
-put-byte-requires-2 : tie.Need-put-byte-requires-2
-unfolding bytes
-put-byte-requires-2 c κs = fits-then (c .before .before .before .put-links .ensures) (room-links (c .before .before .before .before .before .before .before))
-
-same-length : tie.Need-same-length
-same-length c = search needs
+put-byte-requires c κs = let all = c .before .before .before in fits-then (all .put-links .ensures) (room-links (slash all))
 
 returns : tie.Need-returns
-unfolding bytes
+unfolding lineText bodyText bytes
 returns c =
-    put-same (sym (pieces (c .before .before .before .before .before .before .before .before .before .before .before .before .before .before .before .before .before .before .before .before .before .before .before .before .before .before .before .before .before .before .before .before .before .before .before .before .before)))
-    (put-then (c .before .before .before .before .before .before .before .before .before .before .before .before .before .before .before .before .before .before .before .before .before .before .before .before .before .before .before .put-bytes .ensures)
-    (put-then (c .before .before .before .before .before .before .before .before .before .before .before .before .before .before .before .before .before .before .before .before .before .before .before .put-number .ensures)
-    (put-then (c .before .before .before .before .before .before .before .before .before .before .before .before .before .before .before .before .before .before .before .put-byte .ensures)
-    (put-then (c .before .before .before .before .before .before .before .before .before .before .before .before .before .before .before .put-nodes .ensures)
-    (put-then (c .before .before .before .before .before .before .before .before .before .before .put-bytes2 .ensures)
-    (put-then (c .before .before .before .before .before .before .put-links .ensures) (c .before .before .put-byte2 .ensures)))))))
+    let end = c .before .before in
+    let all = end .before .before .before .before in
+    let here = nodes (slash all) in
+    put-then (head here .put-head .ensures)
+    (put-then (here .put-nodes .ensures)
+    (put-then (slash all .put-bytes .ensures) (put-then (all .put-links .ensures) (end .put-byte .ensures))))
 
 pub put-line-spec : {M : Type 1} → statement M
 put-line-spec =
     tie.close
-    (tie.spec
-    slice-aggregate-put-bytes
-    put-bytes-requires
-    put-number-requires
-    put-byte-requires
-    put-nodes-requires
-    slice-aggregate-put-bytes-2
-    put-bytes-requires-2
-    put-links-requires
-    put-byte-requires-2
-    same-length
-    returns)
+    (tie.spec put-head-requires put-nodes-requires (λ c. search needs) put-bytes-requires put-links-requires
+    put-byte-requires (λ c. search needs) returns)

@@ -6,8 +6,8 @@ use Rattle.base_lists.proofs.Concat.{concatBelow-next}
 use Rattle.base_text.specs.Text.{Put}
 use Rattle.base_text.proofs.Text.{put-nothing, put-then, put-same, put-length, fits-then}
 use Rattle.table.specs.Prepared.{tables}
-use Rattle.report.specs.Lines.{startText, linksText}
-use Rattle.report.proofs.Concat.{fits-piece}
+use Rattle.report_texts.specs.Texts.{startText, linksText}
+use Rattle.report_texts.proofs.Items.{fits-piece}
 use Rattle.report.proofs.lines.put_links.Statement.{statement}
 use Rattle.report.proofs.lines.put_links.Tie as tie
 

@@ -5,8 +5,8 @@ use Rattle.base_lists.specs.Below.{concatBelow}
 use Rattle.base_lists.proofs.Concat.{concatBelow-next}
 use Rattle.base_text.specs.Text.{Put}
 use Rattle.base_text.proofs.Text.{put-nothing, put-then, put-same, put-length, fits-then}
-use Rattle.report.specs.Lines.{nodeText, nodesText}
-use Rattle.report.proofs.Concat.{fits-piece}
+use Rattle.report_texts.specs.Texts.{nodeText, nodesText}
+use Rattle.report_texts.proofs.Items.{fits-piece}
 use Rattle.report.proofs.lines.put_nodes.Statement.{statement}
 use Rattle.report.proofs.lines.put_nodes.Tie as tie
 

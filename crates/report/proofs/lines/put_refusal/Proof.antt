@@ -1,32 +1,29 @@
 -- `report::lines::put_refusal` meets its contract, word by word. Assumes nothing.
 use Rattle.base_lists.specs.Kit.{sym, _≤_, _+_, length, arith, needs}
 use Rattle.base_text.specs.Text.{bytes}
-use Rattle.base_text.proofs.Text.{put-then, put-same, length-decimal}
-use Rattle.report.proofs.Concat.{fits-number, room-left}
+use Rattle.base_text.proofs.Text.{put-then, put-same}
 use Rattle.report.proofs.Lengths.{word-length}
-use Rattle.report.proofs.Pieces.{refusal-pieces}
+use Rattle.report.proofs.Pieces.{refusal-pieces, numbered-length, fits-numbered, room-left}
 use Rattle.report.proofs.lines.put_refusal.Statement.{statement}
 use Rattle.report.proofs.lines.put_refusal.Tie as tie
 
-slice-aggregate-put-bytes : tie.Need-slice-aggregate-put-bytes
-slice-aggregate-put-bytes c = search needs
+abbrev start : tie.After-put-numbered → tie.Start
+start c = c .before .before .before .before .before
 
-put-bytes-requires : tie.Need-put-bytes-requires
-put-bytes-requires c κs = record { room = omega (arith, c .before .before .before .pre) }
+put-numbered-requires : tie.Need-put-numbered-requires
+unfolding bytes
+put-numbered-requires c κs =
+    let s = c .before .before .before .before in
+    fits-numbered (bytes "refused ") 2 (s .args .x .number) (omega arith) (omega (arith, s .pre))
 
 -- ---- the room that is left after each piece
 
-room-number : (c : tie.After-put-bytes) → c .put-bytes .result + 12 ≤ length (c .put-bytes .last .1 .0)
-room-number c = room-left 8 12 (c .put-bytes .ensures) (omega arith) (omega (arith, c .before .before .before .before .pre))
-
-cast-put-number : tie.Need-cast-put-number
-cast-put-number c = search needs
-
-put-number-requires : tie.Need-put-number-requires
-put-number-requires c κs = fits-number _ (omega arith) (omega (arith, room-number (c .before .before .before .before)))
-
-room-file : (c : tie.After-put-number) → c .put-number .result + 9 ≤ length (c .put-number .last .1 .0)
-room-file c = room-left 3 9 (c .put-number .ensures) (length-decimal 2 _ (omega arith)) (room-number (c .before .before .before .before .before))
+room-file : (c : tie.After-put-numbered) → c .put-numbered .result + 9 ≤ length (c .put-numbered .last .1 .1 .0)
+unfolding bytes
+room-file c =
+    let s = start c in
+    room-left 11 9 (c .put-numbered .ensures) (numbered-length (bytes "refused ") 2 (s .args .x .number) (omega arith))
+    (omega (arith, s .pre))
 
 put-file-requires : tie.Need-put-file-requires
 put-file-requires c κs = omega (arith, room-file (c .before .before .before))
@@ -34,29 +31,18 @@ put-file-requires c κs = omega (arith, room-file (c .before .before .before))
 room-end : (c : tie.After-put-file) → c .put-file .result + 1 ≤ length (c .put-file .last .1 .0)
 room-end c = room-left 8 1 (c .put-file .ensures) (word-length _) (room-file (c .before .before .before .before))
 
-put-byte-requires : tie.Need-put-byte-requires
-put-byte-requires c κs = record { room = omega (arith, room-end (c .before .before .before)) }
-
-same-length : tie.Need-same-length
-same-length c = search needs
-
 returns : tie.Need-returns
 unfolding bytes
 returns c =
-    put-same (sym (refusal-pieces (c .before .before .before .before .before .before .before .before .before .before .before .before .before .before .before .before .before .before .before .args .x)))
-    (put-then (c .before .before .before .before .before .before .before .before .before .before .before .before .before .before .before .put-bytes .ensures)
-    (put-then (c .before .before .before .before .before .before .before .before .before .before .put-number .ensures)
-    (put-then (c .before .before .before .before .before .before .put-file .ensures) (c .before .before .put-byte .ensures))))
+    let end = c .before .before in
+    let file = end .before .before .before .before in
+    let number = file .before .before .before .before in
+    put-same (sym (refusal-pieces (start number .args .x)))
+    (put-then (number .put-numbered .ensures) (put-then (file .put-file .ensures) (end .put-byte .ensures)))
 
 pub put-refusal-spec : {M : Type 1} → statement M
 put-refusal-spec =
     tie.close
-    (tie.spec
-    slice-aggregate-put-bytes
-    put-bytes-requires
-    cast-put-number
-    put-number-requires
-    put-file-requires
-    put-byte-requires
-    same-length
-    returns)
+    (tie.spec (λ c. search needs) (λ c. search needs) put-numbered-requires put-file-requires
+    (λ c κs. record { room = omega (arith, room-end (c .before .before .before)) })
+    (λ c. search needs) returns)

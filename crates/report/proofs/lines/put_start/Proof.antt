@@ -4,7 +4,7 @@ use Rattle.base_text.proofs.Text.{put-nothing, put-same, fits-same}
 use Rattle.graph_neighbours.specs.Lookup.{neighboursIn}
 use Rattle.graph_neighbours.proofs.Lookup.{neighbours-below}
 use Rattle.table.specs.Prepared.{tables, Tables}
-use Rattle.report.specs.Lines.{startText, drivenText}
+use Rattle.report_texts.specs.Texts.{startText, drivenText}
 use Rattle.report.proofs.Pieces.{start-missed, start-reached}
 use Rattle.report.proofs.lines.put_start.Statement.{statement}
 use Rattle.report.proofs.lines.put_start.Tie as tie
@@ -12,28 +12,10 @@ use Rattle.report.proofs.lines.put_start.Tie as tie
 abbrev tablesOf : tie.Start → Tables
 tablesOf s = tables (now (s .args .masks)) (now (s .args .offsets)) (now (s .args .targets))
 
-mul-is-reached : tie.Need-mul-is-reached
-mul-is-reached c = search needs
-
-shared-slice-read-is-reached : tie.Need-shared-slice-read-is-reached
-shared-slice-read-is-reached c = search needs
-
-is-reached-requires : tie.Need-is-reached-requires
-is-reached-requires c κs = search needs
-
 returns : tie.Need-returns
 returns c =
     let s = c .before .before .before .before .before .before .before .before .before .before in
     put-same (sym (start-missed (tablesOf s) (now (s .args .dist)) (now (s .args .sets)) (s .args .v) (sym (c .before .is-reached .ensures) ∙ not-true _ (c .if1 .taken)))) put-nothing
-
-mul-driven-parts : tie.Need-mul-driven-parts
-mul-driven-parts c = search needs
-
-shared-slice-read-driven-parts : tie.Need-shared-slice-read-driven-parts
-shared-slice-read-driven-parts c = search needs
-
-driven-parts-requires : tie.Need-driven-parts-requires
-driven-parts-requires c κs = search needs
 
 neighbours-in-requires : tie.Need-neighbours-in-requires
 neighbours-in-requires c κs =
@@ -58,24 +40,12 @@ put-driven-requires c κs =
       (rw (c .before .neighbours-in .ensures) (neighbours-below _ (p .1 .1 .0 .net) _ (rw (p .1 .0) (p .1 .1 .1 .0))), fits-same (text (c .before)) (p .1 .1 .1 .1)),
     )
 
-same-length : tie.Need-same-length
-same-length c = search needs
-
 returns-2 : tie.Need-returns-2
 returns-2 c = put-same (sym (text (c .before .before .before .before))) (c .before .before .put-driven .ensures)
 
 pub put-start-spec : {M : Type 1} → statement M
 put-start-spec =
     tie.close
-    (tie.spec
-    mul-is-reached
-    shared-slice-read-is-reached
-    is-reached-requires
-    returns
-    mul-driven-parts
-    shared-slice-read-driven-parts
-    driven-parts-requires
-    neighbours-in-requires
-    put-driven-requires
-    same-length
+    (tie.spec (λ c. search needs) (λ c. search needs) (λ c κs. search needs) returns (λ c. search needs)
+    (λ c. search needs) (λ c κs. search needs) neighbours-in-requires put-driven-requires (λ c. search needs)
     returns-2)

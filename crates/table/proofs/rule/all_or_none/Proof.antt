@@ -6,37 +6,16 @@ use Rattle.table.proofs.AllParts.{ruled-all, ruled-none}
 use Rattle.table.proofs.rule.all_or_none.Statement.{statement}
 use Rattle.table.proofs.rule.all_or_none.Tie as tie
 
-occurring-requires : tie.Need-occurring-requires
-occurring-requires c κs = search needs
-
-size-requires : tie.Need-size-requires
-size-requires c κs = search needs
-
 -- how many parts the union has
 sized : (c : tie.After-size)
     → sizeOf (unionAll (now (c .before .before .before .before .args .table))) ≡ c .size .result
 sized c = ap sizeOf (sym (c .before .occurring .ensures)) ∙ sym (c .size .ensures)
-
-cast-if1 : tie.Need-cast-if1
-cast-if1 c = search needs
-
-same-length : tie.Need-same-length
-same-length c = search needs
 
 -- the union of the sets has as many parts as the table
 returns : tie.Need-returns
 returns c =
     let start = c .before .before .before .before .before in
     ruled-all _ (start .pre .0) _ (start .pre .1) _ (sized (c .before) ∙ c .if1 .taken)
-
-clear-requires : tie.Need-clear-requires
-clear-requires c κs = search needs
-
-none-kept-requires : tie.Need-none-kept-requires
-none-kept-requires c κs = search needs
-
-same-length-2 : tie.Need-same-length-2
-same-length-2 c = search needs
 
 returns-2 : tie.Need-returns-2
 returns-2 c =
@@ -48,4 +27,5 @@ returns-2 c =
 pub all-or-none-spec : {M : Type 1} → statement M
 all-or-none-spec =
     tie.close
-    (tie.spec occurring-requires size-requires cast-if1 same-length returns clear-requires none-kept-requires same-length-2 returns-2)
+    (tie.spec (λ c κs. search needs) (λ c κs. search needs) (λ c. search needs) (λ c. search needs) returns
+    (λ c κs. search needs) (λ c κs. search needs) (λ c. search needs) returns-2)

@@ -8,28 +8,8 @@ neighbour-tables-requires c κs =
     let p = c .before .before .before .before .before .before .before .before .before .pre in
     (p .1 .1 .1 .1, (p .1 .0 .0, ((p .1 .0 .1, p .1 .0 .2), p .1 .1 .0)))
 
-masks-along-requires : tie.Need-masks-along-requires
-masks-along-requires c κs = search needs
-
-same-length : tie.Need-same-length
-same-length c = search needs
-
-same-length-2 : tie.Need-same-length-2
-same-length-2 c = search needs
-
-same-length-3 : tie.Need-same-length-3
-same-length-3 c = search needs
-
-returns : tie.Need-returns
-returns c = search needs
-
 pub prepare-along-spec : {M : Type 1} → statement M
 prepare-along-spec =
     tie.close
-    (tie.spec
-    neighbour-tables-requires
-    masks-along-requires
-    same-length
-    same-length-2
-    same-length-3
-    returns)
+    (tie.spec neighbour-tables-requires (λ c κs. search needs) (λ c. search needs) (λ c. search needs)
+    (λ c. search needs) (λ c. search needs))

@@ -4,12 +4,6 @@ use Rattle.table.specs.Row.{among}
 use Rattle.table_prepare.proofs.masks.backwards_count.Statement.{statement}
 use Rattle.table_prepare.proofs.masks.backwards_count.Tie as tie
 
-enum-told : tie.Need-enum-told
-enum-told c = search needs
-
-enum-told-2 : tie.Need-enum-told-2
-enum-told-2 c = search needs
-
 returns : tie.Need-returns
 unfolding among
 returns c = search needs
@@ -19,4 +13,4 @@ unfolding among
 returns-2 c = search needs
 
 pub backwards-count-spec : {M : Type 1} → statement M
-backwards-count-spec = tie.close (tie.spec enum-told enum-told-2 returns returns-2)
+backwards-count-spec = tie.close (tie.spec (λ c. search needs) (λ c. search needs) returns returns-2)

@@ -13,12 +13,6 @@ masks-of-requires c κs =
     let s = c .before .before .before .before .before in
     (s .pre .0 .0, (rw (s .pre .1) (s .pre .0 .1), s .pre .0 .2))
 
-clear-requires : tie.Need-clear-requires
-clear-requires c κs = search needs
-
-same-length : tie.Need-same-length
-same-length c = search needs
-
 returns : tie.Need-returns
 returns c =
     let made = c .before .before in
@@ -26,9 +20,6 @@ returns c =
     made .masks-of .ensures
     ∙ ap (λ (k : ℕ). masksOf k (now (s .args .keys)) (now (s .args .values))) (s .pre .1)
     ∙ ap (λ (b : Bool). Half b (now (s .args .keys)) (now (s .args .values))) (sym (made .before .before .if1 .taken))
-
-same-length-2 : tie.Need-same-length-2
-same-length-2 c = search needs
 
 returns-2 : tie.Need-returns-2
 returns-2 c =
@@ -40,4 +31,4 @@ returns-2 c =
 pub half-of-spec : {M : Type 1} → statement M
 half-of-spec =
     tie.close
-    (tie.spec masks-of-requires clear-requires same-length returns same-length-2 returns-2)
+    (tie.spec masks-of-requires (λ c κs. search needs) (λ c. search needs) returns (λ c. search needs) returns-2)

@@ -8,13 +8,7 @@ use Rattle.table_prepare.proofs.masks.masks_along.Tie as tie
 abbrev entry : tie.After-half-of-arg → tie.Start
 entry c = c .before .before .before .before .before
 
-backwards-count-requires : tie.Need-backwards-count-requires
-backwards-count-requires c κs = search needs
-
 -- ---- the first half
-
-slice-relend-prefix-half-of : tie.Need-slice-relend-prefix-half-of
-slice-relend-prefix-half-of c = search needs
 
 half : (masks : List ℕ) → length masks ≡ 64 → length (take 32 masks) ≡ 32
 half masks long = length-take-le 32 masks (omega arith)
@@ -26,15 +20,6 @@ half-of-requires : tie.Need-half-of-requires
 half-of-requires c κs = (entry c .pre .0, half (now (entry c .args .masks)) (entry c .pre .1))
 
 -- ---- the second half
-
-sub-half-of : tie.Need-sub-half-of
-sub-half-of c = search needs
-
-part-half-of-start : tie.Need-part-half-of-start
-part-half-of-start c = search needs
-
-part-half-of-end : tie.Need-part-half-of-end
-part-half-of-end c = search needs
 
 half-2 : (xs masks : List ℕ) → length xs ≡ 32 → length masks ≡ 64 → length (take 32 (drop 32 (xs ++ drop 32 masks))) ≡ 32
 half-2 xs masks first long = simp (length-take, length-drop, length-append) (omega arith)
@@ -54,9 +39,6 @@ half-of-requires-2 c κs =
       half-2 (first .half-of .last .1 .1 .1 .0) masks (first .half-of .kept .1 .1 .1 .0 ∙ half masks (p .1)) (p .1),
     )
 
-same-length : tie.Need-same-length
-same-length c = search needs
-
 returns : tie.Need-returns
 returns c =
     let second = c .before .before in
@@ -68,14 +50,5 @@ returns c =
 pub masks-along-spec : {M : Type 1} → statement M
 masks-along-spec =
     tie.close
-    (tie.spec
-    backwards-count-requires
-    slice-relend-prefix-half-of
-    slice-aggregate-half-of
-    half-of-requires
-    sub-half-of
-    part-half-of-start
-    part-half-of-end
-    half-of-requires-2
-    same-length
-    returns)
+    (tie.spec (λ c κs. search needs) (λ c. search needs) slice-aggregate-half-of half-of-requires
+    (λ c. search needs) (λ c. search needs) (λ c. search needs) half-of-requires-2 (λ c. search needs) returns)

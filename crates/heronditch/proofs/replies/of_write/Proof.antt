@@ -1,0 +1,14 @@
+-- `heronditch::replies::of_write` meets its contract, case by case. Assumes nothing.
+use Rattle.file_write.specs.Writing.{writeReply}
+use Rattle.heronditch_reply.specs.Replies.{slots, verdictNumber, meantFile}
+use Rattle.base_lists.specs.Kit.{needs}
+use Rattle.heronditch.proofs.replies.of_write.Statement.{statement}
+use Rattle.heronditch.proofs.replies.of_write.Tie as tie
+
+pub of-write-spec : {M : Type 1} → statement M
+unfolding slots verdictNumber meantFile writeReply
+of-write-spec =
+    tie.close
+    (tie.spec (λ c. search needs) (λ c κs. search needs) (λ c. search needs) (λ c κs. search needs)
+    (λ c. rw (c .before .before .answer .given .1, c .accepted .ensures))
+    (λ c. rw (c .before .before .answer2 .given .1, c .refused .ensures)))
