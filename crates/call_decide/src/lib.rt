@@ -50,7 +50,7 @@ pub struct Lengths {
 }
 
 // Whether all four have what a board of n nodes and m links needs.
-fn roomy(n: usize, m: usize, lent: Lengths) -> bool
+fn tables_fit(n: usize, m: usize, lent: Lengths) -> bool
     ensures { λ r. ⌜ first (roomConditions n m (lent .nodes) (lent .links) (lent .table) (lent .distances))
         ≡ cond r accept (refuse tooShort) ⌝ }
 {
@@ -74,7 +74,7 @@ pub fn place_verdict(n: usize, m: usize, centre: usize, lent: Lengths) -> FileVe
     ensures { λ r. ⌜ verdictOf r
         ≡ first (placeConditions n m centre (lent .nodes) (lent .links) (lent .table) (lent .distances)) ⌝ }
 {
-    let room = roomy(n, m, lent);
+    let room = tables_fit(n, m, lent);
     if n <= centre {
         return FileVerdict::Refused(OUTSIDE);
     }

@@ -68,7 +68,7 @@ fn load(i: usize, buf: &mut [u8]) -> FileFound
 }
 
 // What is noted of a file.
-fn note(found: FileFound) -> u32
+fn note_file(found: FileFound) -> u32
     requires { ⌜ Within mostBytes found ⌝ }
     ensures { λ r. ⌜ r ≡ noted found ⌝ }
 {
@@ -89,7 +89,7 @@ fn read_one(i: usize, at: usize, bytes: &mut [u8], notes: &mut [u32]) -> FileFou
 {
     let end = at + FILE_BYTES;
     let found = load(i, &mut bytes[at..end]);
-    notes[i] = note(found);
+    notes[i] = note_file(found);
     found
 }
 

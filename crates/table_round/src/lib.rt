@@ -14,7 +14,7 @@ ghost use Rattle.table_strike.specs.Strike.{allEmpty, strikeNode};
 ghost use Rattle.table_round.specs.Pending.{ChangeNoted, Pending, SetsPut};
 
 // Lists node v with its next set, where that is not the set that it has.
-fn note(v: u16, set: u32, old: u32, changed: &mut [u16], next: &mut [u32], k: usize) -> usize
+fn note_change(v: u16, set: u32, old: u32, changed: &mut [u16], next: &mut [u32], k: usize) -> usize
     requires { ⌜ (k < length (now changed)) × (k < length (now next)) ⌝ }
     ensures { λ r. ⌜ ChangeNoted v set old k (now (changed .entry)) (now (next .entry)) (now (changed .exit))
         (now (next .exit)) r ⌝ }
@@ -50,7 +50,7 @@ pub fn changes(
     while i < todo.len() {
         let v = todo[i] as usize;
         let set = strike_node(one_way, masks, offsets, targets, old, v);
-        k = note(todo[i], set, old[v], changed, next, k);
+        k = note_change(todo[i], set, old[v], changed, next, k);
         i += 1;
     }
     k

@@ -12,11 +12,11 @@ unfolding verdictOf first centreOutside
 returns c = rw (le-ltb _ _ (c .if1 .taken))
 
 -- what the test of the lengths comes to
-tested : (c : tie.After-roomy) (b : Bool) → c .roomy .result ≡ b →
+tested : (c : tie.After-tables-fit) (b : Bool) → c .tables-fit .result ≡ b →
     let a = c .before .args in
     let lent = a .lent in
     cond b accept (refuse tooShort) ≡ first (roomConditions (a .n) (a .m) (lent .nodes) (lent .links) (lent .table) (lent .distances))
-tested c b e = sym (c .roomy .ensures ∙ ap (λ (x : Bool). cond x accept (refuse tooShort)) e)
+tested c b e = sym (c .tables-fit .ensures ∙ ap (λ (x : Bool). cond x accept (refuse tooShort)) e)
 
 returns-2 : tie.Need-returns-2
 unfolding verdictOf first centreOutside

@@ -15,14 +15,14 @@ use Rattle.shelf_files.proofs.read_one.Tie as tie
 room : (c : tie.After-load) → Within mostBytes (c .load .result)
 room c = within-more (c .load .result) (length (c .load .last .1 .0)) mostBytes (omega (arith, simp (length-take, length-drop) at (c .load .kept .1 .0))) (c .load .ensures)
 
-note-requires : tie.Need-note-requires
-note-requires c κs = room (c .before .before)
+note-file-requires : tie.Need-note-file-requires
+note-file-requires c κs = room (c .before .before)
 
 returns : tie.Need-returns
 returns c =
     let load = c .before .before .before in
     let start = load .before .before .before .before in (
-      (room load, ap (set (now (start .args .notes)) (start .args .i)) (c .note .ensures)),
+      (room load, ap (set (now (start .args .notes)) (start .args .i)) (c .note-file .ensures)),
       take-at (take (start .args .at) (now (start .args .bytes))) _ (start .args .at) (length-take-le (start .args .at) (now (start .args .bytes)) (omega arith)),
     )
 
@@ -30,4 +30,4 @@ pub read-one-spec : {M : Type 1} → statement M
 read-one-spec =
     tie.close
     (tie.spec (λ c. search needs) (λ c. search needs) (λ c. search needs) (λ c. search needs) (λ c κs. search needs)
-    note-requires (λ c. search needs) (λ c. search needs) (λ c. search needs) (λ c. search needs) returns)
+    note-file-requires (λ c. search needs) (λ c. search needs) (λ c. search needs) (λ c. search needs) returns)

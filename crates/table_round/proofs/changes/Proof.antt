@@ -37,20 +37,20 @@ node c = entry (c .before) .pre .1 .1 .0 (c .before .loop .i) (omega arith)
 strike-node-requires : tie.Need-strike-node-requires Inv-loop μ-loop
 strike-node-requires c κs = (entry (c .before .before) .pre .0, (entry (c .before .before) .pre .1 .0, node (c .before)))
 
-mul-note : tie.Need-mul-note Inv-loop μ-loop
-mul-note c = search needs
+mul-note-change : tie.Need-mul-note-change Inv-loop μ-loop
+mul-note-change c = search needs
 
-shared-slice-read-note : tie.Need-shared-slice-read-note Inv-loop μ-loop
-shared-slice-read-note c = search needs
+shared-slice-read-note-change : tie.Need-shared-slice-read-note-change Inv-loop μ-loop
+shared-slice-read-note-change c = search needs
 
-mul-note-2 : tie.Need-mul-note-2 Inv-loop μ-loop
-mul-note-2 c = omega (arith, node (c .before .before .before), c .before .before .shared-slice-known6 .given (c .before .before .before .before .loop .i))
+mul-note-change-2 : tie.Need-mul-note-change-2 Inv-loop μ-loop
+mul-note-change-2 c = omega (arith, node (c .before .before .before), c .before .before .shared-slice-known6 .given (c .before .before .before .before .loop .i))
 
-shared-slice-read-note-2 : tie.Need-shared-slice-read-note-2 Inv-loop μ-loop
-shared-slice-read-note-2 c = node (c .before .before .before .before)
+shared-slice-read-note-change-2 : tie.Need-shared-slice-read-note-change-2 Inv-loop μ-loop
+shared-slice-read-note-change-2 c = node (c .before .before .before .before)
 
-note-requires : tie.Need-note-requires Inv-loop μ-loop
-note-requires c κs =
+note-change-requires : tie.Need-note-change-requires Inv-loop μ-loop
+note-change-requires c κs =
     let loop = c .before .before .before .before .before .before .before in
     let start = entry loop in
     let g = loop .loop .inv .2 in
@@ -69,7 +69,7 @@ loop-again c =
     let start = entry loop in
     let g = loop .loop .inv .2 in
     let more = c .before .before .before .before .before .before .before .before .before .before .before .loop-test .taken in
-    let call = c .before .before .before .before .note in (
+    let call = c .before .before .before .before .note-change in (
       call .kept .1 .1 .1 .0 ∙ loop .loop .inv .0,
       call .kept .1 .1 .1 .1 .0 ∙ loop .loop .inv .1,
       listing-next _ _ g (omega arith) (omega (arith, loop .loop .inv .0, start .pre .1 .1 .1 .0, g .few))
@@ -96,11 +96,11 @@ changes-spec =
     shared-slice-read-v
     cast-v
     strike-node-requires
-    mul-note
-    shared-slice-read-note
-    mul-note-2
-    shared-slice-read-note-2
-    note-requires
+    mul-note-change
+    shared-slice-read-note-change
+    mul-note-change-2
+    shared-slice-read-note-change-2
+    note-change-requires
     add-i
     loop-less
     loop-again

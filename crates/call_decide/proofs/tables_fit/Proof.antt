@@ -1,9 +1,9 @@
--- `call_decide::roomy` meets its contract: the first table that is too short decides, or none is. Assumes nothing.
+-- `call_decide::tables_fit` meets its contract: the first table that is too short decides, or none is. Assumes nothing.
 use Rattle.base_lists.specs.Kit.{le-ltb, lt-ltb}
 use Rattle.file_format.specs.Refusals.{first, shortTable}
 use Rattle.call_decide.specs.Decide.{roomConditions}
-use Rattle.call_decide.proofs.roomy.Statement.{statement}
-use Rattle.call_decide.proofs.roomy.Tie as tie
+use Rattle.call_decide.proofs.tables_fit.Statement.{statement}
+use Rattle.call_decide.proofs.tables_fit.Tie as tie
 
 returns : tie.Need-returns
 unfolding roomConditions first shortTable
@@ -25,5 +25,5 @@ returns-5 : tie.Need-returns-5
 unfolding roomConditions first shortTable
 returns-5 c = simp (le-ltb _ _ (c .before .before .before .before .before .before .if1 .left), le-ltb _ _ (c .before .before .before .before .if2 .left), le-ltb _ _ (c .before .before .if3 .left), le-ltb _ _ (c .if4 .left))
 
-pub roomy-spec : {M : Type 1} → statement M
-roomy-spec = tie.close (tie.spec returns returns-2 returns-3 returns-4 returns-5)
+pub tables-fit-spec : {M : Type 1} → statement M
+tables-fit-spec = tie.close (tie.spec returns returns-2 returns-3 returns-4 returns-5)

@@ -1,8 +1,8 @@
--- `shelf_files::note` meets its contract. Assumes nothing.
+-- `shelf_files::note_file` meets its contract. Assumes nothing.
 use native.Mathlib.Omega.{arith}
 use borrow.Author.Needs.{needs}
-use Rattle.shelf_files.proofs.note.Statement.{statement}
-use Rattle.shelf_files.proofs.note.Tie as tie
+use Rattle.shelf_files.proofs.note_file.Statement.{statement}
+use Rattle.shelf_files.proofs.note_file.Tie as tie
 
 cast-result : tie.Need-cast-result
 cast-result c = let room = rw (c .before .found .given .1) at (c .before .before .before .pre) in omega arith
@@ -16,7 +16,7 @@ returns-2 c = rw (c .enum-told .given .1)
 returns-3 : tie.Need-returns-3
 returns-3 c = rw (c .enum-told2 .given .1)
 
-pub note-spec : {M : Type 1} → statement M
-note-spec =
+pub note-file-spec : {M : Type 1} → statement M
+note-file-spec =
     tie.close
     (tie.spec (λ c. search needs) cast-result (λ c. search needs) (λ c. search needs) returns returns-2 returns-3)

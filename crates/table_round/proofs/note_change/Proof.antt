@@ -1,7 +1,7 @@
--- `table_round::note` meets its contract. Assumes nothing.
+-- `table_round::note_change` meets its contract. Assumes nothing.
 use Rattle.base_lists.specs.Kit.{arith, needs, eq-eqb, ne-eqb}
-use Rattle.table_round.proofs.note.Statement.{statement}
-use Rattle.table_round.proofs.note.Tie as tie
+use Rattle.table_round.proofs.note_change.Statement.{statement}
+use Rattle.table_round.proofs.note_change.Tie as tie
 
 returns : tie.Need-returns
 returns c =
@@ -15,8 +15,8 @@ returns-2 c =
     let e = ne-eqb (a .set) (a .old) (c .if1 .left) in
     record { count = rw e; nodes = rw e; sets = rw e }
 
-pub note-spec : {M : Type 1} → statement M
-note-spec =
+pub note-change-spec : {M : Type 1} → statement M
+note-change-spec =
     tie.close
     (tie.spec returns (λ c. search needs) (λ c. search needs) (λ c. search needs) (λ c. search needs)
     (λ c. search needs) (λ c. search needs) (λ c. search needs) returns-2)
