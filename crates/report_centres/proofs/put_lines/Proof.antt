@@ -1,5 +1,6 @@
 -- `report_centres::put_lines` meets its contract. The loop's invariant: the lines of the centres before c are put and those with a place
--- counted (Progress), of every pattern and board that lines are put from. The measure is how many centres are left. Assumes nothing.
+-- counted (Progress), of every pattern and board that lines are put from; and the scratch tables are as long as the board's. The measure is how
+-- many centres are left. Assumes nothing.
 use Rattle.base_lists.specs.Kit.{now, _≡_, _∙_, sym, true, _≤_, _<_, _+_, _-_, lit≤, length, length-take-le, arith, needs, leb-true}
 use Rattle.base_text.proofs.Text.{put-length}
 use Rattle.graph.specs.Circuit.{Circuit}
@@ -26,8 +27,13 @@ Inv-loop masks offsets links whole componentOf sizes resume out₀ names n dist�
 abbrev μ-loop : tie.MeasureT-loop
 μ-loop masks offsets links whole componentOf sizes resume out₀ names n dist₀ queue₀ c₀ count₀ texts₀ at₀ out dist queue c count texts at = length whole - c
 
+-- the names are made
+abbrev begun : tie.After-names2 Inv-loop μ-loop → tie.Start Inv-loop μ-loop
+begun c = c .before .before .before .before .before .before .before .before .before .before
+
+-- the scratch tables are, too
 abbrev entry : tie.After-struct-known Inv-loop μ-loop → tie.Start Inv-loop μ-loop
-entry c = c .before .before .before .before .before .before .before .before .before .before .before .before .before
+entry c = begun (c .before .before .before)
 
 slice-aggregate-make-names : tie.Need-slice-aggregate-make-names Inv-loop μ-loop
 slice-aggregate-make-names c = search needs
@@ -36,27 +42,27 @@ make-names-requires : tie.Need-make-names-requires Inv-loop μ-loop
 make-names-requires c κs = lit≤ tt
 
 -- the scratch tables have room for the board
-scratch : (s : tie.Start Inv-loop μ-loop) → length (now (s .args .whole)) ≤ 512
-scratch s = source-few (s .pre .0 .source)
+scratch : (c : tie.After-names2 Inv-loop μ-loop) → length (now (begun c .args .whole)) ≤ 512
+scratch c = source-few (begun c .pre .0 .source)
 
 array-borrow-prefix-distances : tie.Need-array-borrow-prefix-distances Inv-loop μ-loop
-array-borrow-prefix-distances c = scratch (c .before .before .before .before .before .before .before .before .before .before)
+array-borrow-prefix-distances c = scratch c
 
 slice-aggregate-dist : tie.Need-slice-aggregate-dist Inv-loop μ-loop
-slice-aggregate-dist c = sym (length-take-le _ _ (scratch (c .before .before .before .before .before .before .before .before .before .before .before)))
+slice-aggregate-dist c = sym (length-take-le _ _ (scratch (c .before)))
 
 array-borrow-prefix-nodes : tie.Need-array-borrow-prefix-nodes Inv-loop μ-loop
-array-borrow-prefix-nodes c = scratch (c .before .before .before .before .before .before .before .before .before .before .before)
+array-borrow-prefix-nodes c = scratch (c .before)
 
 slice-aggregate-queue : tie.Need-slice-aggregate-queue Inv-loop μ-loop
-slice-aggregate-queue c = sym (length-take-le _ _ (scratch (c .before .before .before .before .before .before .before .before .before .before .before .before)))
+slice-aggregate-queue c = sym (length-take-le _ _ (scratch (c .before .before)))
 
 cast-count : tie.Need-cast-count Inv-loop μ-loop
 cast-count c = search needs
 
 loop-holds : tie.Need-loop-holds Inv-loop μ-loop
 loop-holds c =
-    let h = scratch (entry c) in
+    let h = scratch (c .before .before .before) in
     (λ pattern board s. progress-start _ _ _ _ _, (length-take-le _ _ h, length-take-le _ _ h), kept-start)
 
 -- where the loop stands, of the pattern and the board that there are
@@ -105,24 +111,26 @@ put-centre-requires c κs =
     let room : turn here .loop .at + longestLine ≤ length (now (start here .args .out)) = leb-true _ _ (goes here _ _ (p .0 .source) .1) in
     (p .0, (p .1, (more here, (inv .1, ((named .ensures, omega (arith, named .kept .0, source-few (p .0 .source))), (omega (arith, put-length (stands (turn here) .put)), inv .2))))))
 
+-- the centre's line is put
+
+abbrev turned : tie.After-slice-known4 Inv-loop μ-loop → tie.Then1 Inv-loop μ-loop
+turned c = c .before .before .before .before .before .before .before .before .before .before .before .before .before
+
 counted-requires : tie.Need-counted-requires Inv-loop μ-loop
 counted-requires c κs =
-    let here = c .before .before .before .before .before .before .before .before .before .before .before .before .before in
+    let here = turned c in
     let s = start here in
     progress-small _ _ _ _ (stands (turn here)) (s .pre .0 .source .drawn .nodes) (turn here .before .struct-known .given .1 .1 .0 .fits)
 
-abbrev turned : tie.After-counted Inv-loop μ-loop → tie.Then1 Inv-loop μ-loop
-turned c = c .before .before .before .before .before .before .before .before .before .before .before .before .before .before
-
 add-c : tie.Need-add-c Inv-loop μ-loop
-add-c c = omega (arith, more (turned c), source-few (start (turned c) .pre .0 .source))
+add-c c = let here = turned (c .before) in omega (arith, more here, source-few (start here .pre .0 .source))
 
 loop-less : tie.Need-loop-less Inv-loop μ-loop
-loop-less c = omega (arith, more (turned c))
+loop-less c = omega (arith, more (turned (c .before)))
 
 loop-again : tie.Need-loop-again Inv-loop μ-loop
 loop-again c =
-    let here = turned c in
+    let here = turned (c .before) in
     let inv = turn here .loop .inv in
     let call = c .before .before .before .before .before .before .before .before .put-centre in
     let put = call .ensures in (
