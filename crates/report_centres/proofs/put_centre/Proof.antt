@@ -117,6 +117,12 @@ put-again-requires c κs =
       fits-same (sym (again-line (p .0 .source) _ (p .1 .1 .0) (there known .if1 .left) k refl (known .holds .ensures .whole (tests here .0)))) (record { room = roomy known }),
     )
 
+same-length : tie.Need-same-length
+same-length c = ball (c .before .before .before .before) .holds .kept .1 .1 .1 .1 .1 .1 .1 .0
+
+same-length-2 : tie.Need-same-length-2
+same-length-2 c = ball (c .before .before .before .before) .holds .kept .1 .1 .1 .1 .1 .1 .1 .1 .0
+
 returns-2 : tie.Need-returns-2
 returns-2 c =
     let here = c .before .before .before .before in
@@ -158,6 +164,14 @@ kept c =
     let p = begun (looked c) .pre in
     kept-after (p .1 .1 .1 .1 .1 .1) (put c .put-new .ensures _ _ (p .0 .source)) (omega (arith, p .1 .1 .1 .1 .1 .0))
 
+-- the tables that are lent are as long as before
+lent : (c : tie.After-slice-known10) → let a = begun (looked c) .args in
+    (length (put c .put-new .last .1 .1 .1 .1 .1 .1 .1 .0) ≡ length (now (a .dist))) × (length (put c .put-new .last .1 .1 .1 .1 .1 .1 .1 .1 .0) ≡ length (now (a .queue)))
+lent c =
+    let first = looked c .holds .kept in
+    let then = put c .put-new .kept in
+    (then .1 .1 .1 .1 .1 .1 .1 .0 ∙ first .1 .1 .1 .1 .1 .1 .1 .0, then .1 .1 .1 .1 .1 .1 .1 .1 .0 ∙ first .1 .1 .1 .1 .1 .1 .1 .1 .0)
+
 -- it is the component's
 
 fresh : (c : tie.Then3) → let here = c .before in let a = begun (looked here) .args in
@@ -181,6 +195,12 @@ note-requires c κs =
     let known = looked (here .before) in
     (omega (arith, named (there known), begun known .pre .1 .1 .0), begun known .pre .1 .1 .1 .1 .1 .1 .long, omega (arith, c .before .before .head-bytes .ensures, fresh here .order))
 
+same-length-5 : tie.Need-same-length-5
+same-length-5 c = lent (c .before .before .before .before .before .before .before) .0
+
+same-length-6 : tie.Need-same-length-6
+same-length-6 c = lent (c .before .before .before .before .before .before .before) .1
+
 returns-3 : tie.Need-returns-3
 returns-3 c =
     let here = c .before .before .before .before .before .before in
@@ -193,6 +213,12 @@ returns-3 c =
 
 -- it is not
 
+same-length-9 : tie.Need-same-length-9
+same-length-9 c = lent (c .before) .0
+
+same-length-10 : tie.Need-same-length-10
+same-length-10 c = lent (c .before) .1
+
 returns-4 : tie.Need-returns-4
 returns-4 c = (put (c .before) .put-new .ensures, kept (c .before))
 
@@ -201,7 +227,7 @@ put-centre-spec =
     tie.close
     (tie.spec (λ c. search needs) (λ c. search needs) (λ c. search needs) returns mul-number
     shared-slice-read-number cast-number mul-size shared-slice-read-size cast-size holds-requires known-requires
-    put-again-requires (λ c. search needs) (λ c. search needs) (λ c. search needs) (λ c. search needs) returns-2
-    put-new-requires head-bytes-requires add-from note-requires (λ c. search needs) (λ c. search needs)
-    (λ c. search needs) (λ c. search needs) returns-3 (λ c. search needs) (λ c. search needs)
-    (λ c. search needs) (λ c. search needs) returns-4)
+    put-again-requires same-length same-length-2 (λ c. search needs) (λ c. search needs) returns-2 put-new-requires
+    head-bytes-requires add-from note-requires same-length-5 same-length-6 (λ c. search needs)
+    (λ c. search needs) returns-3 same-length-9 same-length-10 (λ c. search needs) (λ c. search needs)
+    returns-4)
