@@ -14,8 +14,8 @@ use Rattle.file_format.specs.Reply.{Reply, reply}
 use Rattle.file_pair.specs.Pair.{pairConditions}
 use Rattle.report.specs.Lines.{longestLine, longestRefusal}
 use Rattle.report_pieces.specs.Pieces.{Piece, linesPiece, refusalPiece}
-use Rattle.call_report.specs.declared.ReportAnswer.{ReportAnswer}
-use Rattle.call_report.specs.declared.ReportAnswer.the-variants as answer
+use Rattle.report_answer.specs.declared.ReportAnswer.{ReportAnswer}
+use Rattle.report_answer.specs.declared.ReportAnswer.the-variants as answer
 
 -- whether a file is refused; "the pattern's 1 to 6 before the board's"
 abbrev pub filesVerdict : CircuitFile → CircuitFile → Verdict

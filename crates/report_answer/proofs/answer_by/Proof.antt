@@ -1,8 +1,8 @@
--- `call_report::answer_by` meets its contract, by cases on the verdict. Assumes nothing.
+-- `report_answer::answer_by` meets its contract, by cases on the verdict. Assumes nothing.
 use Rattle.base_lists.specs.Kit.{needs}
-use Rattle.call_report.specs.Call.{reportReply, outcomeBy}
-use Rattle.call_report.proofs.answer_by.Statement.{statement}
-use Rattle.call_report.proofs.answer_by.Tie as tie
+use Rattle.report_answer.specs.Call.{reportReply, outcomeBy}
+use Rattle.report_answer.proofs.answer_by.Statement.{statement}
+use Rattle.report_answer.proofs.answer_by.Tie as tie
 
 returns : tie.Need-returns
 unfolding reportReply outcomeBy

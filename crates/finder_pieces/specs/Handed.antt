@@ -2,7 +2,7 @@
 use Rattle.base_lists.specs.Kit.{_≡_, Bool, false, true, List, _++_, ℕ, _≤_}
 use Rattle.file_format.specs.Layout.{CircuitFile}
 use Rattle.report.specs.Report.{reportOf}
-use Rattle.call_report.specs.Whole.{itemsOf, prefixOf}
+use Rattle.report_answer.specs.Whole.{itemsOf, prefixOf}
 
 -- bytes that go on with a report: after the text of its first items they make that of the items up to a later one
 unfoldable pub GoesOn : CircuitFile → CircuitFile → ℕ → ℕ → List ℕ → Type 0

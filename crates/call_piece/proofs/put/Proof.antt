@@ -1,15 +1,15 @@
--- `call_report::put` meets its contract: the line of a refused file is put, or nothing past the last line, or a piece of the lines, where there is
+-- `call_piece::put` meets its contract: the line of a refused file is put, or nothing past the last line, or a piece of the lines, where there is
 -- room. Assumes nothing.
 use Rattle.base_lists.specs.Kit.{now, _∙_, sym, refl, length-take-le, needs}
 use Rattle.file_format.specs.Circuit.{circuitOf}
 use Rattle.table.specs.Prepared.{tables}
 use Rattle.report_pieces.proofs.Pieces.{past-wrote}
-use Rattle.call_report.specs.Call.{outcomeBy}
+use Rattle.report_answer.specs.Call.{outcomeBy}
 use Rattle.call_open.specs.Opened.{OpenedBoth}
 use Rattle.call_open.proofs.Opened.{opened-turned, opened-accepted, opened-both}
-use Rattle.call_report.proofs.Outcome.{outcome-short, outcome-put, reporting-refused, reporting-lines}
-use Rattle.call_report.proofs.put.Statement.{statement}
-use Rattle.call_report.proofs.put.Tie as tie
+use Rattle.report_answer.proofs.Outcome.{outcome-short, outcome-put, reporting-refused, reporting-lines}
+use Rattle.call_piece.proofs.put.Statement.{statement}
+use Rattle.call_piece.proofs.put.Tie as tie
 
 -- ---- a file is refused
 

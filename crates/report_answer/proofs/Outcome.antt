@@ -10,9 +10,9 @@ use Rattle.file_format.specs.Refusals.{accept, refuse, first, shortTable}
 use Rattle.file_format.specs.Reply.{reply}
 use Rattle.report.specs.Lines.{longestLine, longestRefusal}
 use Rattle.report_pieces.specs.declared.PutPiece.{PutPiece}
-use Rattle.call_report.specs.declared.ReportAnswer.{ReportAnswer}
-use Rattle.call_report.specs.declared.ReportAnswer.the-variants as answer
-use Rattle.call_report.specs.Call.{filesVerdict, pieceFor, pieceOf, reportReply, needFor, outcomeFor, reporting}
+use Rattle.report_answer.specs.declared.ReportAnswer.{ReportAnswer}
+use Rattle.report_answer.specs.declared.ReportAnswer.the-variants as answer
+use Rattle.report_answer.specs.Call.{filesVerdict, pieceFor, pieceOf, reportReply, needFor, outcomeFor, reporting}
 use Rattle.report_pieces.specs.Pieces.{Piece, linesPiece, refusalPiece, Wrote}
 
 -- ---- a piece

@@ -11,10 +11,10 @@ use Rattle.report.specs.Lines.{longestLine}
 use Rattle.report.specs.Report.{centreLine, reportOf}
 use Rattle.report.proofs.Lengths.{centre-length}
 use Rattle.report_pieces.specs.Pieces.{Piece, roomy, ends, closed, linesFrom, linesTaken, centresPiece, linesPiece, refusalPiece}
-use Rattle.call_report.specs.Call.{filesVerdict, pieceFor, pieceOf, reporting}
-use Rattle.call_report.specs.Whole.{itemsFor, itemsOf, pieceNext, pieceText}
-use Rattle.call_report.proofs.Promise.{board-bounded, call-follows, next-is, items-whole}
-use Rattle.call_report.proofs.Whole.{prefix-start, places-start}
+use Rattle.report_answer.specs.Call.{filesVerdict, pieceFor, pieceOf, reporting}
+use Rattle.report_answer.specs.Whole.{itemsFor, itemsOf, pieceNext, pieceText}
+use Rattle.report_answer.proofs.Promise.{board-bounded, call-follows, next-is, items-whole}
+use Rattle.report_answer.proofs.Whole.{prefix-start, places-start}
 
 -- the last line follows where the centres are done and there is room
 closed-next : (n room : ℕ) (p : Piece) → p .next ≡ n → length (p .text) + longestLine ≤ room → closed n room p .next ≡ suc n

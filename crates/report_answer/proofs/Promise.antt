@@ -15,12 +15,12 @@ use Rattle.file_pair.specs.Pair.{pairConditions}
 use Rattle.report.specs.Lines.{longestLine}
 use Rattle.report.specs.Report.{reportOf}
 use Rattle.report_pieces.specs.declared.PutPiece.{PutPiece}
-use Rattle.call_report.specs.declared.ReportAnswer.{ReportAnswer}
-use Rattle.call_report.specs.declared.ReportAnswer.the-variants as answer
-use Rattle.call_report.specs.Call.{filesVerdict, pieceOf, reportReply, ReportOutcome, needFor, outcomeFor, reporting}
+use Rattle.report_answer.specs.declared.ReportAnswer.{ReportAnswer}
+use Rattle.report_answer.specs.declared.ReportAnswer.the-variants as answer
+use Rattle.report_answer.specs.Call.{filesVerdict, pieceOf, reportReply, ReportOutcome, needFor, outcomeFor, reporting}
 use Rattle.report_pieces.specs.Pieces.{Piece}
-use Rattle.call_report.specs.Whole.{itemsFor, placesFor, itemsOf, prefixOf, placesOf, PieceFollows, pieceNext, foundOf, pieceSize, pieceText, Stage, called}
-use Rattle.call_report.proofs.Whole.{piece-follows, piece-none, prefix-start, places-start, prefix-all, places-small}
+use Rattle.report_answer.specs.Whole.{itemsFor, placesFor, itemsOf, prefixOf, placesOf, PieceFollows, pieceNext, foundOf, pieceSize, pieceText, Stage, called}
+use Rattle.report_answer.proofs.Whole.{piece-follows, piece-none, prefix-start, places-start, prefix-all, places-small}
 
 -- ---- the two cases of the answer, told apart by what document 01 says of them
 

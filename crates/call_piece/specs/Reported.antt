@@ -4,7 +4,7 @@ use Rattle.file_format.specs.Layout.{CircuitFile}
 use Rattle.file_pair.specs.declared.Pair.{Pair}
 use Rattle.table.specs.Prepared.{Tables}
 use Rattle.call_open.specs.Opened.{Opened}
-use Rattle.call_report.specs.Call.{ReportOutcome, reporting}
+use Rattle.report_answer.specs.Call.{ReportOutcome, reporting}
 
 -- the call's outcome, of every two files that were opened so
 abbrev pub EveryReported : ℕ → ℕ → Pair → Tables → List ℕ → List ℕ → List ℕ → List ℕ → ReportOutcome → Type 0

@@ -1,19 +1,19 @@
--- `finder_print::print_pieces` meets its contract, and ends. The loop's invariant: the next piece starts at an item of the report, and as many centres
+-- `finder_pieces::print_pieces` meets its contract, and ends. The loop's invariant: the next piece starts at an item of the report, and as many centres
 -- before it have a place as are counted. The measure is how many items are left. Assumes nothing.
 use Rattle.base_lists.specs.Kit.{now, _≡_, _∙_, sym, refl, _≤_, _-_, zero-le, length, length-take-le, arith, needs, not-false, not-true}
 use Rattle.file_format.specs.Layout.{firstEdition}
 use Rattle.table.specs.Prepared.{tables}
 use Rattle.report.specs.Lines.{longestLine}
-use Rattle.call_report.specs.declared.ReportAnswer.the-variants as answer
-use Rattle.call_report.specs.Call.{reportReply, ReportOutcome, reporting}
+use Rattle.report_answer.specs.declared.ReportAnswer.the-variants as answer
+use Rattle.report_answer.specs.Call.{reportReply, ReportOutcome, reporting}
 use Rattle.call_open.specs.Opened.{Opened}
-use Rattle.call_report.specs.Whole.{itemsOf, placesOf}
+use Rattle.report_answer.specs.Whole.{itemsOf, placesOf}
 use Rattle.call_open.proofs.Opened.{opened-later}
-use Rattle.call_report.proofs.Promise.{places-few, put-within, put-follows, put-text, put-none}
-use Rattle.call_report.proofs.Whole.{places-start}
-use Rattle.finder_print.specs.Handed.{GoesOn, ReportHanded}
-use Rattle.finder_print.proofs.print_pieces.Statement.{statement}
-use Rattle.finder_print.proofs.print_pieces.Tie as tie
+use Rattle.report_answer.proofs.Promise.{places-few, put-within, put-follows, put-text, put-none}
+use Rattle.report_answer.proofs.Whole.{places-start}
+use Rattle.finder_pieces.specs.Handed.{GoesOn, ReportHanded}
+use Rattle.finder_pieces.proofs.print_pieces.Statement.{statement}
+use Rattle.finder_pieces.proofs.print_pieces.Tie as tie
 
 abbrev Inv-loop : tie.InvT-loop
 Inv-loop pattern board read masks offsets links whole componentOf sizes out₀ handed₀ found₀ out handed found =

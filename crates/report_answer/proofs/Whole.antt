@@ -12,9 +12,9 @@ use Rattle.file_format.specs.declared.Refusal.{Refusal}
 use Rattle.file_format.specs.Refusals.{Verdict, accept, refuse}
 use Rattle.report.specs.Lines.{longestLine}
 use Rattle.report.specs.Report.{hasPlace, centreLine, endLine, refusalLine, linesOf, reportFor}
-use Rattle.call_report.specs.Call.{pieceFor}
+use Rattle.report_answer.specs.Call.{pieceFor}
 use Rattle.report_pieces.specs.Pieces.{linesFrom, placesFrom, roomy, linesTaken, Piece, centresPiece, ends, closed, linesPiece, refusalPiece}
-use Rattle.call_report.specs.Whole.{itemsFor, prefixFor, placesFor, PieceFollows}
+use Rattle.report_answer.specs.Whole.{itemsFor, prefixFor, placesFor, PieceFollows}
 
 -- the lines that end a report are not empty
 end-some : (k n : ℕ) → 0 < length (endLine k n)

@@ -1,8 +1,8 @@
--- `call_report::answer_refused` meets its contract: the line of a refused file is put, where there is room for it. Assumes nothing.
+-- `report_answer::answer_refused` meets its contract: the line of a refused file is put, where there is room for it. Assumes nothing.
 use Rattle.base_lists.specs.Kit.{needs}
-use Rattle.call_report.proofs.Outcome.{outcome-short, outcome-put}
-use Rattle.call_report.proofs.answer_refused.Statement.{statement}
-use Rattle.call_report.proofs.answer_refused.Tie as tie
+use Rattle.report_answer.proofs.Outcome.{outcome-short, outcome-put}
+use Rattle.report_answer.proofs.answer_refused.Statement.{statement}
+use Rattle.report_answer.proofs.answer_refused.Tie as tie
 
 returns : tie.Need-returns
 returns c = outcome-short _ _ _ (c .too-short .ensures) (c .before .if1 .taken)

@@ -7,7 +7,7 @@ use Rattle.file_format.specs.Circuit.{circuitOf}
 use Rattle.file_format.specs.Layout.{CircuitFile}
 use Rattle.file_format.specs.Refusals.{Verdict, accept, refuse}
 use Rattle.report.specs.Report.{hasPlace, centreLine, refusalLine, linesOf}
-use Rattle.call_report.specs.Call.{filesVerdict, ReportOutcome, reporting}
+use Rattle.report_answer.specs.Call.{filesVerdict, ReportOutcome, reporting}
 use Rattle.report_pieces.specs.Pieces.{Piece}
 
 -- ---- the items
