@@ -1,12 +1,12 @@
--- `call_merge::circuits::quotient` meets its contract: the pattern is matched on itself, its classes are numbered, and the merged pattern's kinds
+-- `merge_quotient::through` meets its contract: the pattern is matched on itself, its classes are numbered, and the merged pattern's kinds
 -- and links are stored. Assumes nothing.
 use Rattle.base_lists.specs.Kit.{now, _≡_, _∙_, sym, List, ℕ, le-trans, le-of-eq, length, arith, needs}
 use Rattle.graph.specs.Circuit.{Circuit, circuit}
 use Rattle.merge.specs.Merged.{selfTable, classCount, classes}
 use Rattle.merge.proofs.Content.{PatternContent, content-bounded, content-board, most-parts}
-use Rattle.call_merge.proofs.Quotient.{Rows, sound-content, matched-self, table-size, table-ready, count-is, numbers-are, starts-classed, classes-below, rows-are, links-count, links-fit, classes-few, tables-merged}
-use Rattle.call_merge.proofs.circuits.quotient.Statement.{statement}
-use Rattle.call_merge.proofs.circuits.quotient.Tie as tie
+use Rattle.merge_quotient.proofs.Passes.{Rows, sound-content, matched-self, table-size, table-ready, count-is, numbers-are, starts-classed, classes-below, rows-are, links-count, links-fit, classes-few, tables-merged}
+use Rattle.merge_quotient.proofs.through.Statement.{statement}
+use Rattle.merge_quotient.proofs.through.Tie as tie
 
 -- ---- the pattern
 
@@ -123,8 +123,8 @@ returns c =
           (kind .leader-labels .ensures) (scan .scan .ensures .1 .0) (scan .scan .ensures .1 .1) (start .pre .1 .1 .0) (start .pre .1 .1 .1) (start .pre .1 .1 .2));
     }
 
-pub quotient-spec : {M : Type 1} → statement M
-quotient-spec =
+pub through-spec : {M : Type 1} → statement M
+through-spec =
     tie.close
     (tie.spec match-circuits-requires number-classes-requires leader-labels-requires mark-rows-requires
     scan-requires (λ c κs. search needs) (λ c. search needs) (λ c. search needs) (λ c. search needs)

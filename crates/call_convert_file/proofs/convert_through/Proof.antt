@@ -1,9 +1,9 @@
--- `call_convert::convert_through` meets its contract: the file is refused, or its circuit, at the front of the tables, is converted. Assumes nothing.
+-- `call_convert_file::convert_through` meets its contract: the file is refused, or its circuit, at the front of the tables, is converted. Assumes nothing.
 use Rattle.base_lists.specs.Kit.{now, sym, needs}
 use Rattle.base_lists.proofs.Parts.{length-take-room}
 use Rattle.call_convert.proofs.Converting.{Whole, converting-refused, whole-turned, whole-read, whole-sizes, whole-circuit, whole-converted}
-use Rattle.call_convert.proofs.convert_through.Statement.{statement}
-use Rattle.call_convert.proofs.convert_through.Tie as tie
+use Rattle.call_convert_file.proofs.convert_through.Statement.{statement}
+use Rattle.call_convert_file.proofs.convert_through.Tie as tie
 
 abbrev entry : tie.After-read → tie.Start
 entry c = c .before .before .before .before .before .before .before .before .before .before .before
