@@ -6,13 +6,13 @@ use report_locate::Line;
 use report_locate::holds;
 use report_locate::put_new;
 use report_pieces::PutPiece;
-use report_pieces::counted;
+use report_pieces::count_put;
 use report_pieces::goes_on;
 use report_pieces::put_last;
 use report_texts::Span;
 use report_texts::head_bytes;
 use report_texts::known;
-use report_texts::note;
+use report_texts::note_text;
 use report_texts::put_again;
 ghost use mathlib.Core.Path.{_≡_};
 ghost use Prim.Native.Nat.{_+_, _≤_, _<_};
@@ -99,7 +99,7 @@ fn put_centre(
     );
     if ball.all {
         let from = line.at + head_bytes(c);
-        note(number, Span { from, to: end }, texts);
+        note_text(number, Span { from, to: end }, texts);
     }
     end
 }
@@ -153,7 +153,7 @@ pub fn put_lines(
             &mut texts,
             out,
         );
-        count = counted(count, at, next);
+        count = count_put(count, at, next);
         at = next;
         c += 1;
     }

@@ -189,8 +189,8 @@ head-bytes-requires c = let p = begun (looked (c .before)) .pre in omega (arith,
 add-from : tie.Need-add-from
 add-from c = omega (arith, c .before .head-bytes .ensures, fresh (c .before .before) .order)
 
-note-requires : tie.Need-note-requires
-note-requires c κs =
+note-text-requires : tie.Need-note-text-requires
+note-text-requires c κs =
     let here = c .before .before .before in
     let known = looked (here .before) in
     (omega (arith, named (there known), begun known .pre .1 .1 .0), begun known .pre .1 .1 .1 .1 .1 .1 .long, omega (arith, c .before .before .head-bytes .ensures, fresh here .order))
@@ -208,7 +208,7 @@ returns-3 c =
     let a = begun known .args in
     let e = c .before .before .before .before .before .head-bytes .ensures in (
       put (here .before) .put-new .ensures,
-      rw (c .before .before .note .ensures, e) (kept-more (kept (here .before)) (number (there known)) (omega (arith, named (there known))) _ (fresh here)),
+      rw (c .before .before .note-text .ensures, e) (kept-more (kept (here .before)) (number (there known)) (omega (arith, named (there known))) _ (fresh here)),
     )
 
 -- it is not
@@ -228,6 +228,6 @@ put-centre-spec =
     (tie.spec (λ c. search needs) (λ c. search needs) (λ c. search needs) returns mul-number
     shared-slice-read-number cast-number mul-size shared-slice-read-size cast-size holds-requires known-requires
     put-again-requires same-length same-length-2 (λ c. search needs) (λ c. search needs) returns-2 put-new-requires
-    head-bytes-requires add-from note-requires same-length-5 same-length-6 (λ c. search needs)
+    head-bytes-requires add-from note-text-requires same-length-5 same-length-6 (λ c. search needs)
     (λ c. search needs) returns-3 same-length-9 same-length-10 (λ c. search needs) (λ c. search needs)
     returns-4)

@@ -116,8 +116,8 @@ put-centre-requires c κs =
 abbrev turned : tie.After-slice-known4 Inv-loop μ-loop → tie.Then1 Inv-loop μ-loop
 turned c = c .before .before .before .before .before .before .before .before .before .before .before .before .before
 
-counted-requires : tie.Need-counted-requires Inv-loop μ-loop
-counted-requires c κs =
+count-put-requires : tie.Need-count-put-requires Inv-loop μ-loop
+count-put-requires c κs =
     let here = turned c in
     let s = start here in
     progress-small _ _ _ _ (stands (turn here)) (s .pre .0 .source .drawn .nodes) (turn here .before .struct-known .given .1 .1 .0 .fits)
@@ -136,7 +136,7 @@ loop-again c =
     let put = call .ensures in (
       λ pattern board s.
           let (more, spacious) = goes here pattern board s in
-          progress-step _ _ _ _ (inv .0 pattern board s) (s .drawn .nodes) more spacious (put .0 pattern board s) (c .counted .ensures),
+          progress-step _ _ _ _ (inv .0 pattern board s) (s .drawn .nodes) more spacious (put .0 pattern board s) (c .count-put .ensures),
       (omega (arith, call .kept .1 .1 .1 .1 .1 .1 .1 .1 .0, inv .1 .0), omega (arith, call .kept .1 .1 .1 .1 .1 .1 .1 .1 .1 .0, inv .1 .1)),
       put .1,
     )
@@ -198,7 +198,7 @@ put-lines-spec =
     slice-aggregate-put-centre
     slice-aggregate-put-centre-2
     put-centre-requires
-    counted-requires
+    count-put-requires
     add-c
     loop-less
     loop-again

@@ -1,8 +1,8 @@
--- `report_texts::note` meets its contract. Assumes nothing.
+-- `report_texts::note_text` meets its contract. Assumes nothing.
 use Rattle.base_lists.specs.Kit.{now, length-set, arith, needs, le-ltb, lt-ltb}
 use Rattle.report_texts.specs.Texts.{noting}
-use Rattle.report_texts.proofs.note.Statement.{statement}
-use Rattle.report_texts.proofs.note.Tie as tie
+use Rattle.report_texts.proofs.note_text.Statement.{statement}
+use Rattle.report_texts.proofs.note_text.Tie as tie
 
 returns : tie.Need-returns
 unfolding noting
@@ -23,8 +23,8 @@ returns-2 : tie.Need-returns-2
 unfolding noting
 returns-2 c = rw (le-ltb _ _ (c .before .before .if1 .left))
 
-pub note-spec : {M : Type 1} → statement M
-note-spec =
+pub note-text-spec : {M : Type 1} → statement M
+note-text-spec =
     tie.close
     (tie.spec returns cast-texts (λ c. search needs) (λ c. search needs) cast-texts-2 (λ c. search needs)
     (λ c. search needs) slice-write-texts-2 (λ c. search needs) returns-2)
