@@ -139,11 +139,30 @@ match-circuits-requires c κs =
     let read = both told in
     (bounded-any (pattern-bounded read), (board-bounded read, fits told ∙ sym (stands-size (read .given) .0)))
 
+-- the calls that filled, seen from the last
+abbrev linked : tie.After-match-circuits → tie.After-store-links
+linked c = c .before .before .before .before .before .before .before .before .before .before .before .before .before .before
+
+abbrev stored : tie.After-store-links → tie.After-store-fixed
+stored c = c .before .before .before .before .before .before .before .before
+
+same-length : tie.Need-same-length
+same-length c = stored (linked (c .before .before)) .store-fixed .kept .1 .1 .1 .1 .0
+
+same-length-2 : tie.Need-same-length-2
+same-length-2 c = linked (c .before .before) .store-links .kept .1 .1 .1 .0
+
+same-length-3 : tie.Need-same-length-3
+same-length-3 c = linked (c .before .before) .store-links .kept .1 .1 .1 .1 .0
+
+same-length-4 : tie.Need-same-length-4
+same-length-4 c = linked (c .before .before) .store-links .kept .1 .1 .1 .1 .1 .0
+
 returns-2 : tie.Need-returns-2
 returns-2 c =
     let matched = c .before .before in
-    let linked = c .before .before .before .before .before .before .before .before .before .before .before .before .before .before .before .before in
-    let fixed = linked .before .before .before .before .before .before .before .before in
+    let linked = linked matched in
+    let fixed = stored linked in
     let told = fixed .before .before .before .before in
     let read = both told in
     let old = entry (reading told) .args in
@@ -169,5 +188,5 @@ open-spec =
     slice-aggregate-match-circuits-2 array-share-prefix-pe-2 slice-aggregate-match-circuits-3 array-share-prefix-nk
     slice-aggregate-match-circuits-4 array-share-prefix-ns-2 slice-aggregate-match-circuits-5
     array-share-prefix-ne-2 slice-aggregate-match-circuits-6 slice-relend-prefix-match-circuits
-    slice-aggregate-match-circuits-7 match-circuits-requires (λ c. search needs) (λ c. search needs)
-    (λ c. search needs) (λ c. search needs) (λ c. search needs) returns-2)
+    slice-aggregate-match-circuits-7 match-circuits-requires same-length same-length-2
+    same-length-3 same-length-4 (λ c. search needs) returns-2)
