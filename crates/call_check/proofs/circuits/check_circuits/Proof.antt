@@ -1,11 +1,11 @@
--- `proposal_check::check_circuits` meets its contract: the tests one after another; what is left of the links is a
+-- `call_check::circuits::check_circuits` meets its contract: the tests one after another; what is left of the links is a
 -- board of its own. Assumes nothing.
 use Rattle.base_lists.specs.Kit.{_∙_, sym, length-take-le, needs, not-false, not-true}
 use Rattle.base_lists.proofs.Entries.{all-below, below-wider}
 use Rattle.file_format.proofs.Accepted.{bounded-starts, bounded-ends}
 use Rattle.proposal_check.proofs.Marked.{marks-not, near-not, fills-left, left-parallel, left-sizes, left-nodes, left-tabled}
-use Rattle.proposal_check.proofs.check_circuits.Statement.{statement}
-use Rattle.proposal_check.proofs.check_circuits.Tie as tie
+use Rattle.call_check.proofs.circuits.check_circuits.Statement.{statement}
+use Rattle.call_check.proofs.circuits.check_circuits.Tie as tie
 
 marks-subgraph-requires : tie.Need-marks-subgraph-requires
 marks-subgraph-requires c κs =
