@@ -13,6 +13,10 @@ use Rattle.call_session.proofs.Opening.{fresh-holds, fresh-state, patte
 use Rattle.call_session.proofs.open.Statement.{statement}
 use Rattle.call_session.proofs.open.Tie as tie
 
+-- back from a call to the one before it, or to the start of the function
+abbrev before-store-fixed : tie.After-store-fixed → tie.After-enum-told
+before-store-fixed c = c .before .before .before .before
+
 -- ---- the two files
 
 abbrev entry : tie.After-read-pair → tie.Start
@@ -81,7 +85,7 @@ slice-aggregate-store-links-2 c = sym (stands-size (both (c .before .before .bef
 
 store-links-requires : tie.Need-store-links-requires
 store-links-requires c κs =
-    let told = c .before .before .before .before .before .before .before .before .before .before .before in
+    let told = before-store-fixed (c .before .before .before .before .before .before .before) in
     let read = both told in
     let n = board-bounded read in
     let size = stands-size (read .given) .0 in

@@ -6,16 +6,26 @@ use Rattle.graph_search.proofs.Onward.{centre-standing, advanced-all}
 use Rattle.graph_search.proofs.search.Statement.{statement}
 use Rattle.graph_search.proofs.search.Tie as tie
 
+-- back from a call to the one before it, or to the start of the function
+abbrev entry : tie.After-slice-known2 → tie.Start
+entry c = c .before .before .before .before
+
+abbrev before-begin : tie.After-begin → tie.After-slice-known2
+before-begin c = c .before .before .before
+
+abbrev before-advance : tie.After-advance → tie.After-begin
+before-advance c = c .before .before .before .before .before .before .before
+
 advance-requires : tie.Need-advance-requires
 advance-requires c κs =
     let begun = c .before .before .before .before .before .before .begin in
-    let p = c .before .before .before .before .before .before .before .before .before .before .before .before .before .pre in
+    let p = entry (before-begin (c .before .before .before .before .before .before)) .pre in
     (rw (begun .kept .1 .0) (p .0), (begun .ensures .kept, centre-standing _))
 
 returns : tie.Need-returns
 returns c =
     let call = c .before .before .before .before .advance in
-    let first = c .before .before .before .before .before .before .before .before .before .before .before in
+    let first = before-advance (c .before .before .before .before) in
     let begun = first .begin in
     let few = net-few (first .before .before .before .before .before .before .before .pre .0) in
     let k = call .ensures .0 in

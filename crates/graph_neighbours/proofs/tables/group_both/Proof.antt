@@ -5,6 +5,16 @@ use Rattle.graph_neighbours.proofs.Grouped.{grouped-both}
 use Rattle.graph_neighbours.proofs.tables.group_both.Statement.{statement}
 use Rattle.graph_neighbours.proofs.tables.group_both.Tie as tie
 
+-- back from a call to the one before it, or to the start of the function
+abbrev entry : tie.After-slice-known2 → tie.Start
+entry c = c .before .before .before .before .before .before
+
+abbrev before-group : tie.After-group → tie.After-slice-known2
+before-group c = c .before .before .before
+
+abbrev before-group2 : tie.After-group2 → tie.After-group
+before-group2 c = c .before .before .before .before .before .before .before
+
 slice-aggregate-group : tie.Need-slice-aggregate-group
 slice-aggregate-group c = let s = c .before .before .before .before .before .before .before in sym (length-take-le 513 (now (s .args .offsets)) (omega (arith, s .pre .0 .inOffsets)))
 
@@ -21,7 +31,7 @@ group-requires c κs =
 
 group-requires-2 : tie.Need-group-requires-2
 group-requires-2 c κs =
-    let s = c .before .before .before .before .before .before .before .before .before .before .before .before .before .before .before in
+    let s = entry (before-group (c .before .before .before .before .before .before)) in
     let p = s .pre in
     let first = c .before .before .before .before .before .before .group .kept in
     let o = length-take-le 513 (now (s .args .offsets)) (omega (arith, p .0 .inOffsets)) in
@@ -30,10 +40,10 @@ group-requires-2 c κs =
 
 returns : tie.Need-returns
 returns c =
-    let s = c .before .before .before .before .before .before .before .before .before .before .before .before .before .before .before .before .before .before .before .before in
+    let s = entry (before-group (before-group2 (c .before .before .before .before))) in
     let p = s .pre in
     let a = s .args in
-    let one = c .before .before .before .before .before .before .before .before .before .before .before .group in
+    let one = before-group2 (c .before .before .before .before) .group in
     let two = c .before .before .before .before .group2 in
     let o = one .kept .1 .1 .1 .0 ∙ length-take-le 513 (now (a .offsets)) (omega (arith, p .0 .inOffsets)) in
     let l = one .kept .1 .1 .1 .1 .0 ∙ length-take-le 4096 (now (a .targets)) (omega (arith, p .0 .inTargets)) in
