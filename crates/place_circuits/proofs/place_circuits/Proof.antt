@@ -12,19 +12,6 @@ use Rattle.place_circuits.proofs.Marked.{sets-room, place-room, cut-rea
 use Rattle.place_circuits.proofs.place_circuits.Statement.{statement}
 use Rattle.place_circuits.proofs.place_circuits.Tie as tie
 
--- back from a call to the one before it, or to the start of the function
-abbrev entry : tie.After-shared-slice-known6 → tie.Start
-entry c = c .before .before .before .before .before .before .before .before .before .before
-
-abbrev before-find-in-ball : tie.After-find-in-ball → tie.After-shared-slice-known6
-before-find-in-ball c = c .before .before .before .before .before
-
-abbrev before-mark : tie.After-mark → tie.Else1
-before-mark c = c .before .before .before .before .before .before
-
-abbrev before-copy : tie.After-copy → tie.After-mark
-before-copy c = c .before .before .before .before .before .before .before .before .before
-
 -- a board has at most 512 nodes
 few : (s : tie.Start) → length (now (s .args .node-labels)) ≤ 512
 few s = s .pre .0 .drawn .nodes .nodes
@@ -37,39 +24,39 @@ mul-m c = omega (arith, few (c .before .before .before .before .before .before .
 
 shared-slice-read-m : tie.Need-shared-slice-read-m
 shared-slice-read-m c =
-    let s = entry c in
+    let s = c .before .before .before .before .before .before .before .before .before .before in
     omega (arith, few s, s .pre .0 .prepared .net .room .inOffsets)
 
 cast-m : tie.Need-cast-m
-cast-m c = omega (arith, c .shared-slice-known6 .given (length (now (entry c .args .node-labels))))
+cast-m c = omega (arith, c .shared-slice-known6 .given (length (now (c .before .before .before .before .before .before .before .before .before .before .args .node-labels))))
 
 array-borrow-prefix-dist : tie.Need-array-borrow-prefix-dist
-array-borrow-prefix-dist c = few (entry c)
+array-borrow-prefix-dist c = few (c .before .before .before .before .before .before .before .before .before .before)
 
 slice-aggregate-find-in-ball : tie.Need-slice-aggregate-find-in-ball
-slice-aggregate-find-in-ball c = sym (length-take-le _ _ (few (entry (c .before))))
+slice-aggregate-find-in-ball c = sym (length-take-le _ _ (few (c .before .before .before .before .before .before .before .before .before .before .before)))
 
 array-borrow-prefix-queue : tie.Need-array-borrow-prefix-queue
-array-borrow-prefix-queue c = few (entry (c .before))
+array-borrow-prefix-queue c = few (c .before .before .before .before .before .before .before .before .before .before .before)
 
 slice-aggregate-find-in-ball-2 : tie.Need-slice-aggregate-find-in-ball-2
-slice-aggregate-find-in-ball-2 c = sym (length-take-le _ _ (few (entry (c .before .before))))
+slice-aggregate-find-in-ball-2 c = sym (length-take-le _ _ (few (c .before .before .before .before .before .before .before .before .before .before .before .before)))
 
 array-borrow-prefix-sets : tie.Need-array-borrow-prefix-sets
-array-borrow-prefix-sets c = few (entry (c .before .before))
+array-borrow-prefix-sets c = few (c .before .before .before .before .before .before .before .before .before .before .before .before)
 
 slice-aggregate-find-in-ball-3 : tie.Need-slice-aggregate-find-in-ball-3
-slice-aggregate-find-in-ball-3 c = sym (length-take-le _ _ (few (entry (c .before .before .before))))
+slice-aggregate-find-in-ball-3 c = sym (length-take-le _ _ (few (c .before .before .before .before .before .before .before .before .before .before .before .before .before)))
 
 array-borrow-prefix-spare : tie.Need-array-borrow-prefix-spare
-array-borrow-prefix-spare c = few (entry (c .before .before .before))
+array-borrow-prefix-spare c = few (c .before .before .before .before .before .before .before .before .before .before .before .before .before)
 
 slice-aggregate-find-in-ball-4 : tie.Need-slice-aggregate-find-in-ball-4
-slice-aggregate-find-in-ball-4 c = sym (length-take-le _ _ (few (entry (c .before .before .before .before))))
+slice-aggregate-find-in-ball-4 c = sym (length-take-le _ _ (few (c .before .before .before .before .before .before .before .before .before .before .before .before .before .before)))
 
 find-in-ball-requires : tie.Need-find-in-ball-requires
 find-in-ball-requires c κs =
-    let s = entry (c .before .before .before .before) in
+    let s = c .before .before .before .before .before .before .before .before .before .before .before .before .before .before in
     let some = s .pre .0 in
     let size = few s in (
       record {
@@ -90,7 +77,7 @@ find-in-ball-requires c κs =
 
 -- what is found, of every pattern and board that the tables are of
 placed : (c : tie.After-find-in-ball) (ps pe ns ne : List ℕ) →
-    let s = entry (before-find-in-ball c) in
+    let s = c .before .before .before .before .before .before .before .before .before .before .before .before .before .before .before in
     let a = s .args in
     let found = c .find-in-ball .last .1 .1 .1 .1 .1 .1 in
     Drawn (circuit (now (a .part-labels)) ps pe) (circuit (now (a .node-labels)) ns ne) →
@@ -172,29 +159,29 @@ mark-requires c κs =
 
 array-share-prefix-dist : tie.Need-array-share-prefix-dist
 array-share-prefix-dist c =
-    let left = entry (c .before .before) in
+    let left = c .before .before .before .before .before .before .before .before .before .before .before .before in
     let w = start left .pre .0 in
     dist-room (w .drawn) (w .prepared) (some left) (not-false _ (left .if1 .left)) _ []
 
 slice-aggregate-copy : tie.Need-slice-aggregate-copy
 slice-aggregate-copy c =
-    let left = entry (c .before .before .before) in
+    let left = c .before .before .before .before .before .before .before .before .before .before .before .before .before in
     let w = start left .pre .0 in
     sym (length-take-le _ _ (dist-room (w .drawn) (w .prepared) (some left) (not-false _ (left .if1 .left)) _ []))
 
 copy-requires : tie.Need-copy-requires
 copy-requires c κs =
-    let left = before-mark (c .before .before .before .before .before .before .before .before) in
+    let left = c .before .before .before .before .before .before .before .before .before .before .before .before .before .before in
     let s = start left in
     let w = s .pre .0 in
     rw (length-take-le _ _ (dist-room (w .drawn) (w .prepared) (some left) (not-false _ (left .if1 .left)) _ [])) (s .pre .1 .1 .1 .1)
 
 returns-2 : tie.Need-returns-2
 returns-2 c =
-    let left = before-mark (before-copy (c .before .before)) in
+    let left = c .before .before .before .before .before .before .before .before .before .before .before .before .before .before .before .before .before in
     let s = start left in
     let f = not-false _ (left .if1 .left) in
-    let made = before-copy (c .before .before) .mark .ensures in
+    let made = c .before .before .before .before .before .before .before .before .before .before .before .mark .ensures in
     let a = s .args in
     let n = length (now (a .node-labels)) in
     let m = getD (now (a .offsets)) n 0 in
