@@ -50,11 +50,11 @@ NAMES_SWAPPED = """    let first = load(Role::Pattern, b"board.cir", &mut patter
 """
 FINDER = [
     Wrong("the two names swapped", "finder", READS, NAMES_SWAPPED, "finder_read"),
-    Wrong("a line more", "finder", "    let answer = output", '    output::write_whole(b"hello\\n");\n    let answer = output', "finder_print"),
+    Wrong("a line more", "finder", "    let answer = output", '    output::write_whole(b"hello\\n");\n    let answer = output', "finder_pieces"),
     Wrong("silent", "finder", "    let run = report_files(", "    return;\n    let run = report_files("),
     Wrong("nothing opened", "finder", "    as_read(input::load(name, buf))", "    as_read(FileFound::Absent)", "finder_read"),
-    Wrong("nothing printed", "finder", "output::write_whole(bytes)", "Output::Written(bytes.len())", "finder_print"),
-    Wrong("a piece twice", "finder", "output::write_whole(bytes)", "output::write_whole(bytes);\n    output::write_whole(bytes)", "finder_print"),
+    Wrong("nothing printed", "finder", "output::write_whole(bytes)", "Output::Written(bytes.len())", "finder_pieces"),
+    Wrong("a piece twice", "finder", "output::write_whole(bytes)", "output::write_whole(bytes);\n    output::write_whole(bytes)", "finder_pieces"),
 ]
 SHELF = [
     Wrong("the other standard stream", "shelf", "libc::write(fd, rest)", "libc::write(2, rest)", "output"),

@@ -1,5 +1,6 @@
 // The call that checks a place from elsewhere: a pattern file, a board file, a centre, a byte per node and a byte per
 // link.
+use crate::circuits::check_circuits;
 use call_decide::bytes::bytes_verdict;
 use file_format::Board;
 use file_format::Editions;
@@ -10,12 +11,13 @@ use file_format::Role;
 use file_pair::read_pair;
 use place::Around;
 use place::Asked;
-use proposal_check::check_circuits;
 ghost use mathlib.Core.Path.{_≡_};
 ghost use Rattle.file_format.specs.Circuit.{Drawn};
 ghost use Rattle.file_format.specs.Layout.{inEdition};
 ghost use Rattle.graph.specs.Circuit.{Circuit, circuit};
 ghost use Rattle.call_check.specs.Call.{checkAnswered, checkReply, checkOn, checkCall};
+
+mod circuits;
 
 // Yes or no, or why the call was turned away.
 pub enum CheckAnswer {

@@ -1,11 +1,12 @@
 -- What the conditions on a centre and on the lengths of what is lent say. Assumes nothing.
 use Rattle.base_lists.specs.Kit.{_≡_, _∙_, sym, ap, ℕ, _≤_, _<_, le-ltb, ltb-false, ltb-true, eqb-true, not-false}
 use Rattle.file_format.specs.declared.FileVerdict.{FileVerdict}
-use Rattle.file_format.specs.declared.FileVerdict.the-variants.{Accepted}
+use Rattle.file_format.specs.declared.FileVerdict.the-variants.{Accepted, Refused}
+use Rattle.file_format.specs.declared.Refusal.{Refusal}
 use Rattle.file_format.specs.Reading.{verdictOf}
-use Rattle.file_format.specs.Refusals.{accept, first, centreOutside, shortTable, otherLength}
+use Rattle.file_format.specs.Refusals.{accept, refuse, first, centreOutside, shortTable, otherLength}
 use Rattle.file_format.proofs.Refusals.{first-holds}
-use Rattle.call_decide.specs.Decide.{roomConditions, placeConditions, bytesConditions}
+use Rattle.call_decide.specs.Decide.{roomConditions, placeConditions, ballRoom, bytesConditions}
 
 module _ (n m nodes links table distances : ℕ) where
   -- none holds exactly where all four are long enough
@@ -40,3 +41,17 @@ bytes-hold n m w nodes links says e =
     let (b, e₂) = first-holds _ _ e₁ in
     let (c, _) = first-holds _ _ e₂ in
     (ltb-true w n (not-false _ a), (eqb-true nodes n (not-false _ b), eqb-true links m (not-false _ c)))
+
+-- what the verdict on a ball says: the centre is a node, and there is an entry for each node
+module _ (n w lent : ℕ) {v : FileVerdict} (says : verdictOf v ≡ first (ballRoom n w lent)) where
+  pub ball-holds : v ≡ Accepted → (w < n) × (n ≤ lent)
+  unfolding centreOutside shortTable verdictOf
+  ball-holds e =
+      let (a, e₁) = first-holds _ _ (sym says ∙ ap verdictOf e) in
+      let (b, _) = first-holds _ _ e₁ in
+      (ltb-true w n (not-false _ a), ltb-false lent n b)
+
+  -- or what refuses it
+  pub ball-refuses : {x : Refusal} → v ≡ Refused x → first (ballRoom n w lent) ≡ refuse x
+  unfolding verdictOf
+  ball-refuses e = sym says ∙ ap verdictOf e

@@ -24,6 +24,10 @@ roomConditions n m nodes links table distances =
 abbrev pub placeConditions : ℕ → ℕ → ℕ → ℕ → ℕ → ℕ → ℕ → List Condition
 placeConditions n m w nodes links table distances = centreOutside n w ∷ roomConditions n m nodes links table distances
 
+-- 7 for the centre, then 8 for the one table of a ball: "Needed: .. ball N"
+abbrev pub ballRoom : ℕ → ℕ → ℕ → List Condition
+ballRoom n w lent = centreOutside n w ∷ shortTable n lent ∷ []
+
 -- 7 for the centre; "Node or link bytes of another length than N and M are 3 with neither file named, checked after 7."
 abbrev pub bytesConditions : ℕ → ℕ → ℕ → ℕ → ℕ → List Condition
 bytesConditions n m w nodes links = centreOutside n w ∷ otherLength n nodes ∷ otherLength m links ∷ []

@@ -11,6 +11,7 @@ ghost use Rattle.file_format.specs.Refusals.{accept, refuse, first};
 ghost use Rattle.table.specs.Reply.{noCounts};
 ghost use Rattle.call_decide.specs.Decide.{radiusFor, tooShort, roomConditions, placeConditions};
 
+pub mod ball;
 pub mod bytes;
 
 // At which radius a place is asked for: the pattern's own, or one given.

@@ -3,7 +3,6 @@ use Rattle.base_lists.specs.Kit.{_≡_, sym, ap, List, [], _∷_, _++_, ℕ, _�
 use Rattle.graph.specs.Circuit.{Circuit}
 use Rattle.graph.specs.Search.{distances, radius}
 use Rattle.graph.proofs.Distance.{length-distances}
-use Rattle.file_format.specs.declared.File.the-variants.{Neither}
 use Rattle.file_format.specs.declared.Refusal.{Refusal}
 use Rattle.file_format.specs.declared.Role.the-variants.{Pattern, Board}
 use Rattle.file_format.specs.Layout.{CircuitFile, nodesOf, startsOf, endsOf}
@@ -12,6 +11,7 @@ use Rattle.file_format.specs.Refusals.{accept, refuse, first, fileConditions, c
 use Rattle.file_format.specs.Reply.{reply}
 use Rattle.file_format.proofs.Fields.{length-labels}
 use Rattle.file_format.proofs.Refusals.{first-accept, first-refuse}
+use Rattle.call_decide.specs.Decide.{ballRoom}
 use Rattle.call_distance.specs.Calls.{radiusCall, ballConditions, ballEntries, ballCall}
 
 -- ---- the radius
@@ -35,15 +35,10 @@ module _ (file : CircuitFile) (centre r : ℕ) (out : List ℕ) where
   ball-refused x e = rw (first-refuse _ _ x e)
 
   module _ (e : first (fileConditions Board file) ≡ accept) where
-    pub ball-outside : nodesOf file ≤ centre
-        → ballCall file centre r out ≡ record { reply = record { verdict = refuse (record { number = 7; file = Neither }); values = [] }; out = out }
-    unfolding ballCall ballConditions first centreOutside reply filled
-    ball-outside h = rw (first-accept _ _ e) (simp (le-ltb _ _ h))
-
-    pub ball-short : centre < nodesOf file → length out < nodesOf file
-        → ballCall file centre r out ≡ record { reply = record { verdict = refuse (record { number = 8; file = Neither }); values = [] }; out = out }
-    unfolding ballCall ballConditions first centreOutside shortTable reply filled
-    ball-short h l = rw (first-accept _ _ e) (simp (lt-ltb _ _ h, lt-ltb _ _ l))
+    pub ball-turned : {x : Refusal} → first (ballRoom (nodesOf file) centre (length out)) ≡ refuse x
+        → ballCall file centre r out ≡ record { reply = record { verdict = refuse x; values = [] }; out = out }
+    unfolding ballCall ballConditions reply filled
+    ball-turned v = rw (first-accept _ _ e, v)
 
     pub ball-filled : centre < nodesOf file → nodesOf file ≤ length out
         → ballCall file centre r out

@@ -3,14 +3,13 @@ ghost use mathlib.Core.Path.{_≡_};
 ghost use Rattle.file_format.specs.Layout.{inEdition};
 ghost use Rattle.call_distance.specs.Calls.{radiusReply, radiusCall, ballReply, ballCall};
 use crate::distances::fill_ball;
+use call_decide::ball::ball_verdict;
 use file_format::Board;
 use file_format::Edition;
 use file_format::FileVerdict;
-use file_format::OUTSIDE;
 use file_format::Pattern;
 use file_format::Refusal;
 use file_format::Role;
-use file_format::TOO_SHORT;
 use file_read::load;
 
 pub mod distances;
@@ -65,11 +64,9 @@ pub fn ball(
     }
     let n = read.nodes;
     let m = read.links;
-    if n <= centre {
-        return BallAnswer::Refused(OUTSIDE);
-    }
-    if out.len() < n {
-        return BallAnswer::Refused(TOO_SHORT);
+    let decided = ball_verdict(n, centre, out.len());
+    if let FileVerdict::Refused(x) = decided {
+        return BallAnswer::Refused(x);
     }
     fill_ball(&nk[..n], &ns[..m], &ne[..m], centre as u16, radius, out);
     BallAnswer::Ball(n)

@@ -1,3 +1,2 @@
-pub mod Quotient
 pub mod Merging
 pub mod Promise

@@ -21,10 +21,12 @@ use Rattle.file_write.specs.Writing.{circuitConditions}
 use Rattle.merge.specs.Merged.{classes}
 use Rattle.merge.proofs.Content.{accepted-content}
 use Rattle.merge.proofs.Classes.{length-classes}
+use Rattle.merge_file.specs.declared.MergedFile.{MergedFile}
+use Rattle.merge_file.specs.Merged.{MergedFrom}
 use Rattle.call_merge.specs.declared.MergeAnswer.{MergeAnswer}
 use Rattle.call_merge.specs.declared.MergeAnswer.the-variants.{Refused}
-use Rattle.call_merge.specs.Call.{mergeConditions, mergeReply, merging, MergedFrom}
-use Rattle.call_merge.proofs.Quotient.{content-sound}
+use Rattle.call_merge.specs.Call.{mergeConditions, answerOf, mergeReply, mergedBytes, merging}
+use Rattle.merge_file.proofs.Written.{content-sound}
 
 -- ---- the pattern that was read
 
@@ -82,12 +84,12 @@ module _ (file : CircuitFile) (lent out : List ℕ) where
 
   merged :
       first (mergeConditions file (length lent) (length out)) ≡ accept →
-      {answer : MergeAnswer} {bytes after : List ℕ} → MergedFrom (file .edition) (circuitOf file) answer bytes out after →
-      record { reply = mergeReply answer; classes = bytes ++ drop (nodesOf file) lent; out = after } ≡ merging file lent out
-  unfolding merging mergeReply reply filled
+      {made : MergedFile} {bytes after : List ℕ} → MergedFrom (file .edition) (circuitOf file) made bytes out after →
+      record { reply = mergeReply (answerOf (made .classes) (made .written)); classes = bytes ++ drop (nodesOf file) lent; out = after } ≡ merging file lent out
+  unfolding merging mergeReply answerOf mergedBytes reply filled
   merged e m =
       let size : length (classes (circuitOf file)) ≡ nodesOf file = length-classes (circuitOf file) ∙ length-labels file in
-      rw (e, m .answered, m .numbered, m .written, size)
+      rw (e, m .counted, m .answered, m .numbered, m .stored, size)
 
   -- ---- as the call goes
 
@@ -110,8 +112,9 @@ module _ (file : CircuitFile) (lent out : List ℕ) where
       merging-out h = refused _ (verdict-out sound (rw (← drawn .nodes) enough) h)
 
       pub merging-merged :
-          length (file .bytes) ≤ length out → {answer : MergeAnswer} {bytes after : List ℕ} → MergedFrom (file .edition) (prefix n m t) answer bytes out after →
+          length (file .bytes) ≤ length out → {answer : MergeAnswer} {made : MergedFile} {bytes after : List ℕ} → answer ≡ answerOf (made .classes) (made .written) →
+          MergedFrom (file .edition) (prefix n m t) made bytes out after →
           record { reply = mergeReply answer; classes = bytes ++ drop n lent; out = after } ≡ merging file lent out
-      merging-merged h made =
-          rw (drawn .nodes)
+      merging-merged h told made =
+          rw (drawn .nodes, told)
           (merged (verdict-accept sound (rw (← drawn .nodes) enough) h) (rw (drawn .content) at made))

@@ -34,7 +34,7 @@ use Rattle.call_merge.specs.declared.MergeAnswer.{MergeAnswer}
 use Rattle.call_merge.specs.declared.MergeAnswer.the-variants.{Merged, Refused}
 use Rattle.call_merge.specs.Call.{mergeConditions, mergeReply, mergedBytes, merging}
 use Rattle.call_merge.specs.Classes.{classByte, Smallest}
-use Rattle.call_merge.proofs.Quotient.{content-range, content-sound-in}
+use Rattle.merge_file.proofs.Written.{content-range, content-sound-in}
 use Rattle.call_merge.proofs.Merging.{verdict-accept}
 
 -- ---- the two cases of the answer, told apart by what document 01 says of them

@@ -1,5 +1,5 @@
 -- The merging call, whole: its reply and the later content of both lent tables, from the inputs alone.
-use Rattle.base_lists.specs.Kit.{_≡_, List, [], _∷_, _++_, ℕ, length}
+use Rattle.base_lists.specs.Kit.{List, [], _∷_, _++_, ℕ, length}
 use Rattle.graph.specs.Circuit.{Circuit}
 use Rattle.file_format.specs.declared.Edition.{Edition}
 use Rattle.file_format.specs.declared.Role.the-variants.{Pattern}
@@ -8,6 +8,8 @@ use Rattle.file_format.specs.Layout.{CircuitFile, nodesOf}
 use Rattle.file_format.specs.Reading.{filled}
 use Rattle.file_format.specs.Refusals.{Condition, accept, refuse, first, fileConditions, shortTable}
 use Rattle.file_format.specs.Reply.{Reply, reply}
+use Rattle.file_write.specs.declared.WriteAnswer.{WriteAnswer}
+use Rattle.file_write.specs.declared.WriteAnswer.the-variants as write-answer
 use Rattle.file_write.specs.Bytes.{circuitBytes}
 use Rattle.merge.specs.Merged.{classCount, classes, merged}
 use Rattle.call_merge.specs.declared.MergeAnswer.{MergeAnswer}
@@ -20,6 +22,11 @@ mergedBytes e p = circuitBytes e (merged p)
 -- the pattern's 1 to 6 and 11, then 8: "Needed: .. merging N classes and the first pattern's file length"
 unfoldable pub mergeConditions : CircuitFile → ℕ → ℕ → List Condition
 mergeConditions file classes out = fileConditions Pattern file ++ (shortTable (nodesOf file) classes ∷ shortTable (length (file .bytes)) out ∷ [])
+
+-- the answer of the call, from the number of classes and the answer of writing the merged pattern
+unfoldable pub answerOf : ℕ → WriteAnswer → MergeAnswer
+answerOf count (write-answer.Written size) = Merged count size
+answerOf count (write-answer.Refused x) = Refused x
 
 -- "replies with the number of classes and that file's length": number and values of each case of the answer
 unfoldable pub mergeReply : MergeAnswer → Reply
@@ -43,9 +50,3 @@ merging file lent out =
       classes = filled verdict (classes p) lent;
       out = filled verdict (mergedBytes (file .edition) p) out;
     }
-
--- what merging a pattern that was read leaves: the answer, the class bytes, and the bytes of the merged file at the front of those lent
-pub record MergedFrom (e : Edition) (p : Circuit) (answer : MergeAnswer) (bytes before after : List ℕ) : Type 0 where
-  pub answered : answer ≡ Merged (classCount p) (length (mergedBytes e p))
-  pub numbered : bytes ≡ classes p
-  pub written : after ≡ filled accept (mergedBytes e p) before

@@ -1,5 +1,4 @@
 // The merging call: the merged pattern of a pattern file.
-use crate::circuits::merge_circuit;
 use file_format::Edition;
 use file_format::FileVerdict;
 use file_format::Pattern;
@@ -7,16 +6,29 @@ use file_format::Refusal;
 use file_format::Role;
 use file_format::TOO_SHORT;
 use file_read::load;
+use file_write::WriteAnswer;
+use merge_file::MergedFile;
+use merge_file::merge_circuit;
 ghost use mathlib.Core.Path.{_≡_};
 ghost use Rattle.file_format.specs.Layout.{inEdition};
-ghost use Rattle.call_merge.specs.Call.{mergeReply, merging};
-
-mod circuits;
+ghost use Rattle.call_merge.specs.Call.{answerOf, mergeReply, merging};
 
 // What merging a pattern comes to: the number of classes and the merged file's length, or why it was turned away.
 pub enum MergeAnswer {
     Merged(usize, usize),
     Refused(Refusal),
+}
+
+// The answer of the call, from what merging the pattern came to.
+fn answer_of(made: MergedFile) -> MergeAnswer
+    ensures { λ r. ⌜ r ≡ answerOf (made .classes) (made .written) ⌝ }
+{
+    let classes = made.classes;
+    let written = made.written;
+    match written {
+        WriteAnswer::Written(length) => MergeAnswer::Merged(classes, length),
+        WriteAnswer::Refused(x) => MergeAnswer::Refused(x),
+    }
 }
 
 // Merges the parts of a pattern file that match each other: the number of classes and the merged file's length, with
@@ -42,12 +54,12 @@ pub fn merge(edition: Edition, pattern: &[u8], classes: &mut [u8], out: &mut [u8
     if out.len() < pattern.len() {
         return MergeAnswer::Refused(TOO_SHORT);
     }
-    merge_circuit(
+    answer_of(merge_circuit(
         edition,
         &pk[..n],
         &ps[..m],
         &pe[..m],
         &mut classes[..n],
         out,
-    )
+    ))
 }

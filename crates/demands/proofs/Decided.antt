@@ -41,7 +41,7 @@ use Rattle.order.specs.declared.Order.{Order}
 use Rattle.order.specs.Files.{secondEdition, compareFiles}
 use Rattle.call_shelf.specs.Compare.{comparedBy, comparing, compareReply}
 use Rattle.call_shelf.specs.Shelf.{shelvingOf, shelving}
-use Rattle.call_report.specs.Call.{reporting, needFor, filesVerdict, outcomeFor}
+use Rattle.report_answer.specs.Call.{reporting, needFor, filesVerdict, outcomeFor}
 use Rattle.session.specs.Machine.{Machine, fresh, isLeft, cutReply, machineAfter}
 use Rattle.session.specs.Session.{CutPromise, ReadPromise}
 use Rattle.session.specs.State.{State, Holds}

@@ -14,8 +14,8 @@ use Rattle.place.specs.Match.{radiusOf, found}
 use Rattle.place.specs.Outcome.{PlaceOutcome, placeVerdict}
 use Rattle.call_place.proofs.Promise.{verdict-is, found-verdict, none-verdict, nodes-prefix, links-prefix}
 use Rattle.report.specs.Report.{nodeItems, linkItems, placeLine, hasPlace, centreLine, endLine, refusalLine, linesOf, reportFor, reportOf}
-use Rattle.call_report.specs.Call.{filesVerdict}
-use Rattle.call_report.proofs.Promise.{items-few, report-whole}
+use Rattle.report_answer.specs.Call.{filesVerdict}
+use Rattle.report_answer.proofs.Promise.{items-few, report-whole}
 use Rattle.demands.specs.Demands.{Lent, Ready, placed, placedOwn, nine}
 use Rattle.demands.specs.Report.{Reported}
 use Rattle.demands.proofs.Merged.{ready-sound}

@@ -41,7 +41,7 @@ use Rattle.call_match.specs.Call.{TableOutcome, matchConditions, matchingBy, ma
 use Rattle.call_place.specs.Call.{inputConditions, placeAt}
 use Rattle.call_merge.specs.Call.{MergeOutcome, mergeConditions, merging}
 use Rattle.call_merge.specs.Classes.{classByte, Smallest}
-use Rattle.call_report.specs.Call.{reporting, needFor, filesVerdict}
+use Rattle.report_answer.specs.Call.{reporting, needFor, filesVerdict}
 use Rattle.call_test_board.specs.Call.{testBoardConditions, makingTestBoard}
 use Rattle.call_bounded.specs.Call.{boundedConditions, boundedMatching}
 use Rattle.call_check.specs.Call.{checkConditions, checkCall}

@@ -9,8 +9,8 @@ use Rattle.file_format.specs.Layout.{CircuitFile, nodesOf, linksOf, startsOf, e
 use Rattle.file_format.specs.Refusals.{accept, refuse}
 use Rattle.report.specs.Lines.{longestLine}
 use Rattle.report.specs.Report.{nodeItems, linkItems, placeLine, hasPlace, centreLine, endLine, refusalLine, reportOf}
-use Rattle.call_report.specs.Call.{filesVerdict}
-use Rattle.call_report.specs.Whole.{called}
+use Rattle.report_answer.specs.Call.{filesVerdict}
+use Rattle.report_answer.specs.Whole.{called}
 use Rattle.demands.specs.Demands.{Lent, Ready, placedOwn, nine}
 
 pub record Reported : Type 0 where

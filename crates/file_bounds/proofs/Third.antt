@@ -5,6 +5,7 @@ use Rattle.base_lists.proofs.Tests.{true-T, T-true, not-true-false}
 use Rattle.file_format.specs.declared.Edition.the-variants.{Second}
 use Rattle.graph.specs.Circuit.{Circuit}
 use Rattle.file_format.specs.declared.FileRead.{FileRead}
+use Rattle.file_format.specs.declared.FileVerdict.{FileVerdict}
 use Rattle.file_format.specs.declared.FileVerdict.the-variants as verdict
 use Rattle.file_format.specs.declared.Refusal.{Refusal}
 use Rattle.file_format.specs.declared.Role.the-variants.{AnyPattern}
@@ -13,9 +14,9 @@ use Rattle.file_format.specs.Refusals.{Condition, Verdict, accept, refuse, firs
 use Rattle.file_format.specs.Reading.{verdictOf, Loaded}
 use Rattle.file_format.specs.Role.{inRange, fileOf}
 use Rattle.file_format.proofs.Reading.{loaded-accepted, loaded-refused}
-use Rattle.file_format.proofs.Refusals.{turned, turned-accept, accept-not-refuse, verdict-number, verdict-links, verdict-turned, size-0, first-accept, first-refuse, first-parts, first-holds, accepted}
+use Rattle.file_format.proofs.Refusals.{turned, turned-accept, verdict-number, verdict-links, verdict-turned, size-0, first-accept, first-refuse, first-parts, first-holds, accepted}
 use Rattle.file_format.proofs.Fields.{length-fields}
-use Rattle.file_bounds.specs.Third.{boundsAt, boundedLength, beforeBounds, boundsOf, boundsFit, boundOutside, thirdConditions, thirdSize, BoundsLoaded}
+use Rattle.file_bounds.specs.Third.{boundsAt, boundedLength, beforeBounds, boundsOf, boundsFit, boundOutside, thirdConditions, thirdSize, judgedBy, BoundsLoaded}
 
 module _ (bytes : List ℕ) where
   -- ---- the verdict
@@ -190,24 +191,20 @@ module _ (bytes : List ℕ) (n m : ℕ) (isN : n ≡ field bytes 0) (isM : m ≡
     prefix-loaded : Loaded AnyPattern (beforeBounds bytes) read tables
     prefix-loaded = subst (λ (f : CircuitFile). Loaded AnyPattern f read tables) prefix-is l
 
-    pub loaded-prefix-refused : {bounds : List ℕ} {x : Refusal} → read .verdict ≡ verdict.Refused x → BoundsLoaded bytes read tables bounds
-    unfolding verdictOf
-    loaded-prefix-refused e =
-        let away = prefix-refused bytes h (loaded-refused prefix-loaded e) in
-        record { verdict = ap verdictOf e ∙ sym away; held = λ a. absurd (accept-not-refuse (sym a ∙ away)) }
+    module _ {fits : Bool} (f : fits ≡ boundsFit (fields (drop (4 + 4 * n + 4 * m) bytes) m)) where
+      judged-says : (v : FileVerdict) → read .verdict ≡ v → (b : Bool) → fits ≡ b → verdictOf (judgedBy v b) ≡ first (thirdConditions bytes)
+      unfolding judgedBy verdictOf turned
+      judged-says (verdict.Refused x) e b q = sym (prefix-refused bytes h (loaded-refused prefix-loaded e))
+      judged-says verdict.Accepted e true q = sym (bounds-accepted bytes h (loaded-accepted prefix-loaded e) (ap boundsFit (sym bounds-are) ∙ sym f ∙ q))
+      judged-says verdict.Accepted e false q = sym (bounds-refused bytes h (loaded-accepted prefix-loaded e) (ap boundsFit (sym bounds-are) ∙ sym f ∙ q))
 
-    module _ (e : read .verdict ≡ verdict.Accepted) {fits : Bool} (f : fits ≡ boundsFit (fields (drop (4 + 4 * n + 4 * m) bytes) m)) where
-      pub loaded-bounds-refused : fits ≡ false → {bounds : List ℕ} {answer : FileRead} → answer .verdict ≡ verdict.Refused (record { number = 13; file = fileOf AnyPattern })
-          → BoundsLoaded bytes answer tables bounds
-      loaded-bounds-refused b q =
-          turned-loaded bytes _ tables _ 13 q (bounds-refused bytes h (loaded-accepted prefix-loaded e) (ap boundsFit (sym bounds-are) ∙ sym f ∙ b))
-
-      pub loaded-bounds : fits ≡ true → {bounds : List ℕ} → take m bounds ≡ fields (drop (4 + 4 * n + 4 * m) bytes) m → BoundsLoaded bytes read tables bounds
-      unfolding verdictOf
-      loaded-bounds b {bounds} t =
-          let sound = loaded-accepted prefix-loaded e in
-          let stands = prefix-loaded .held sound .stands in
+      pub loaded-judged : {v : FileVerdict} → v ≡ judgedBy (read .verdict) fits → {bounds : List ℕ} → take m bounds ≡ fields (drop (4 + 4 * n + 4 * m) bytes) m
+          → BoundsLoaded bytes (record { verdict = v; nodes = read .nodes; links = read .links; radius = read .radius }) tables bounds
+      loaded-judged e {bounds} t =
           record {
-            verdict = ap verdictOf e ∙ sym (bounds-accepted bytes h sound (ap boundsFit (sym bounds-are) ∙ sym f ∙ b));
-            held = λ _. record { stands = stands; bounded = ap (λ (k : ℕ). take k bounds) (stands .links ∙ links-prefix bytes ∙ sym isM) ∙ t ∙ bounds-are };
+            verdict = ap verdictOf e ∙ judged-says (read .verdict) refl fits refl;
+            held = λ a.
+                let sound = first-parts (fileConditions AnyPattern (beforeBounds bytes)) _ (sym (third-second bytes h) ∙ a) .0 in
+                let stands = prefix-loaded .held sound .stands in
+                record { stands = stands; bounded = ap (λ (k : ℕ). take k bounds) (stands .links ∙ links-prefix bytes ∙ sym isM) ∙ t ∙ bounds-are };
           }

@@ -1,9 +1,11 @@
 -- The third edition of a pattern file: a file of the second edition, and a bound for each link after it.
-use Rattle.base_lists.specs.Kit.{_≡_, Bool, cond, _&&_, not, List, [], _∷_, _++_, ℕ, _+_, _*_, eqb, ltb, leb, length, take, drop}
+use Rattle.base_lists.specs.Kit.{_≡_, Bool, false, true, cond, _&&_, not, List, [], _∷_, _++_, ℕ, _+_, _*_, eqb, ltb, leb, length, take, drop}
 use Rattle.base_lists.specs.List.{all}
 use Rattle.graph.specs.Circuit.{Circuit}
 use Rattle.file_format.specs.declared.Edition.the-variants.{Second}
 use Rattle.file_format.specs.declared.FileRead.{FileRead}
+use Rattle.file_format.specs.declared.FileVerdict.{FileVerdict}
+use Rattle.file_format.specs.declared.FileVerdict.the-variants.{Accepted, Refused}
 use Rattle.file_format.specs.declared.Role.the-variants.{AnyPattern}
 use Rattle.file_format.specs.Layout.{CircuitFile, inEdition, field, fields, lengthOf, startsOf, endsOf}
 use Rattle.file_format.specs.Reading.{verdictOf, Stands}
@@ -53,6 +55,12 @@ thirdSize bytes =
     let n = field bytes 0 in
     let m = field bytes 2 in
     cond (ltb (length bytes) 4) 1 (cond (inRange AnyPattern n m) (cond (eqb (length bytes) (boundedLength n m)) 0 3) 2)
+
+-- the verdict on a file of a sound size, from that on what stands before the bounds and from whether all bounds fit
+unfoldable pub judgedBy : FileVerdict → Bool → FileVerdict
+judgedBy (Refused x) fits = Refused x
+judgedBy Accepted true = Accepted
+judgedBy Accepted false = Refused (record { number = 13; file = fileOf AnyPattern })
 
 -- ---- such a file that was read
 

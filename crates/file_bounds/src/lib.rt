@@ -17,7 +17,7 @@ ghost use Rattle.file_format.specs.Layout.{fields};
 ghost use Rattle.file_format.specs.Reading.{TablesRoom};
 ghost use Rattle.file_format.specs.Role.{fileOf};
 ghost use Rattle.file_format.specs.declared.Role.the-variants as role;
-ghost use Rattle.file_bounds.specs.Third.{boundsFit, thirdSize, BoundsLoaded};
+ghost use Rattle.file_bounds.specs.Third.{boundsFit, thirdSize, judgedBy, BoundsLoaded};
 
 // 1, 2 or 3, the first that the file's size gives, or 0.
 fn size_number(file: &[u8]) -> u8
@@ -72,6 +72,20 @@ fn refused_bounded(number: u8) -> FileRead
     }
 }
 
+// The verdict on a file, from that on what stands before its bounds: 13 where that was accepted and a bound is not from
+// 1 to 4.
+fn judged(before: FileVerdict, fits: bool) -> FileVerdict
+    ensures { λ r. ⌜ r ≡ judgedBy before fits ⌝ }
+{
+    let FileVerdict::Accepted = before else {
+        return before;
+    };
+    if fits {
+        return before;
+    }
+    FileVerdict::Refused(refusal(Role::AnyPattern, 13))
+}
+
 // Reads a pattern file of the third edition, connected or not, into tables that have room for every one: the verdict;
 // and of an accepted file N and M, with the labels, the starts, the ends and the bounds at the front of the tables.
 pub fn load_bounded(
@@ -101,12 +115,12 @@ pub fn load_bounded(
         starts,
         ends,
     );
+    let fits = read_bounds(file, at, m, bounds);
     let verdict = read.verdict;
-    let FileVerdict::Accepted = verdict else {
-        return read;
-    };
-    if !read_bounds(file, at, m, bounds) {
-        return refused_bounded(13);
+    FileRead {
+        verdict: judged(verdict, fits),
+        nodes: read.nodes,
+        links: read.links,
+        radius: read.radius,
     }
-    read
 }

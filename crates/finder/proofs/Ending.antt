@@ -2,7 +2,7 @@
 use Rattle.base_lists.specs.Kit.{_≡_, Bool, false, true, List, ℕ, take}
 use Rattle.file_format.specs.Layout.{firstEdition}
 use Rattle.finder_read.specs.declared.Files.{Files}
-use Rattle.finder_print.specs.Handed.{ReportHanded}
+use Rattle.finder_pieces.specs.Handed.{ReportHanded}
 use Rattle.finder.specs.Run.{reportEnd, ReportRan}
 
 -- one in which both files could be read, and so many items were handed over

@@ -2,7 +2,7 @@
 use Rattle.base_lists.specs.Kit.{_≡_, Bool, false, true, List, ℕ, take}
 use Rattle.file_format.specs.Layout.{firstEdition}
 use Rattle.finder_read.specs.declared.Files.{Files}
-use Rattle.finder_print.specs.Handed.{ReportHanded}
+use Rattle.finder_pieces.specs.Handed.{ReportHanded}
 use Rattle.finder.specs.declared.End.{End}
 use Rattle.finder.specs.declared.End.the-variants as end
 

@@ -14,7 +14,7 @@ ghost use Rattle.graph_search.specs.Until.{Until};
 ghost use Rattle.graph_gather.specs.Having.{having, numbered};
 
 // One more, where the number is x.
-fn counted(number: u16, x: u16, count: usize) -> usize
+fn count_equal(number: u16, x: u16, count: usize) -> usize
     requires { ⌜ count < 65536 ⌝ }
     ensures { λ k. ⌜ k ≡ count + cond (eqb number x) 1 0 ⌝ }
 {
@@ -39,7 +39,7 @@ pub fn keep(numbers: &[u16], x: u16, k: usize, queue: &mut [u16]) -> usize
         let v = queue[i];
         let at = v as usize;
         queue[kept] = v;
-        kept = counted(numbers[at], x, kept);
+        kept = count_equal(numbers[at], x, kept);
         i += 1;
     }
     kept
@@ -56,7 +56,7 @@ fn count_from(numbers: &[u16], x: u16, from: usize, count: usize, nodes: &[u16])
     let mut i = from;
     while i < nodes.len() {
         let at = nodes[i] as usize;
-        found = counted(numbers[at], x, found);
+        found = count_equal(numbers[at], x, found);
         i += 1;
     }
     found

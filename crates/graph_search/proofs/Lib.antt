@@ -1,2 +1,3 @@
+pub mod Full
 pub mod Onward
 pub mod Going

@@ -1,9 +1,9 @@
 -- A search that goes on from where it stands: what is left of it is the same after each look and after each level, so that from the centre it finds what `bfs` finds,
 -- or the first of that. Assumes nothing.
-use Rattle.base_lists.specs.Kit.{_≡_, _∙_, sym, ap, refl, subst, ⊎-elim, _⊎_, inl, inr, Bool, false, true, _||_, List, _++_, ℕ, _≤_, _<_, _+_, _-_, le-refl, le-trans, not-suc-le-zero, sub-zero, eqb, length, getD, take, drop, take-append-drop, min-le-right, length-take, length-take-le, take-take, getD-take, take-length, arith, eqb-true, eqb-false}
+use Rattle.base_lists.specs.Kit.{_≡_, _∙_, sym, ap, refl, subst, ⊎-elim, _⊎_, inl, inr, Bool, false, true, _||_, List, _++_, ℕ, _≤_, _<_, _+_, _-_, suc, zero, le-refl, le-trans, not-suc-le-zero, sub-zero, eqb, length, getD, take, drop, take-append-drop, min-le-right, length-take, length-take-le, take-take, getD-take, take-length, arith, eqb-true, eqb-false}
 use Rattle.base_lists.specs.List.{Occurs, Below}
 use Rattle.base_lists.proofs.Tests.{false-T}
-use Rattle.graph.specs.Bfs.{SearchState, scan, level, levels, start, bfs, Adjacency}
+use Rattle.graph.specs.Bfs.{SearchState, scan, level, levels, start, bfs, missing, Adjacency}
 use Rattle.graph.specs.Graph.{Walk}
 use Rattle.graph.specs.Search.{far}
 use Rattle.graph.proofs.Bfs.{bfs-measured, bfs-ready}
@@ -12,6 +12,7 @@ use Rattle.graph.proofs.Reached.{bfs-listed}
 use Rattle.graph.proofs.BfsSteps.{level-next, level-end, levels-next, levels-none, levels-end, extends-scan, extends-level, extends-length, extends-take}
 use Rattle.graph_search.specs.declared.Frontier.{Frontier}
 use Rattle.graph_search.specs.Until.{onward, Standing, Advanced, Until}
+use Rattle.graph_search.proofs.Full.{onward-full}
 
 -- ---- the two tests at the end of a level
 
@@ -169,6 +170,18 @@ module _ (n c : ℕ) {adj : ℕ → List ℕ} {r size : ℕ} {g : Frontier} {s t
   -- so it has found all where it has not reached so many nodes,
   pub advanced-all : g .tail < size → t ≡ bfs adj n c r
   advanced-all h = a .all h ∙ from-centre r
+
+  -- and where it has reached every node
+  advanced-full : missing (t .dist) ≡ 0 → t ≡ bfs adj n c r
+  advanced-full full = sym (onward-full full adj r g) ∙ a .same r (a .standing .within) ∙ from-centre r
+
+  -- So a search that stops at as many nodes as there are finds all.
+  pub advanced-every : g .tail + missing (t .dist) ≡ size → t ≡ bfs adj n c r
+  advanced-every = go (missing (t .dist)) refl
+    where
+      go : (k : ℕ) → missing (t .dist) ≡ k → g .tail + k ≡ size → t ≡ bfs adj n c r
+      go zero p h = advanced-full p
+      go (suc k) p h = advanced-all (omega (arith, h))
 
   -- and where it stops it has reached the first of the nodes up to some distance: all of them, unless there is enough
   pub advanced-until : {Enough : Type 0} → ((Enough → ⊥) → t ≡ bfs adj n c r) → Until adj n c r Enough t

@@ -168,7 +168,8 @@ pub fn begin(c: u16, dist: &mut [u16], queue: &mut [u16])
 }
 
 // The distances of the nodes from the centre c, up to r: `dist[v]` is the distance of node v, and `UNREACHED` where it
-// is more than r. Returns how many nodes it reached; they stand first in the queue, nearest first.
+// is more than r. Returns how many nodes it reached; they stand first in the queue, nearest first. Where all are
+// reached it stops: no neighbour that is still to be looked at can change anything.
 pub fn search(
     offsets: &[u16],
     targets: &[u16],
@@ -184,6 +185,7 @@ pub fn search(
         (bfs (adjacent (now (offsets .entry)) (now (targets .entry))) (length (now (dist .entry))) c r) ⌝ }
 {
     begin(c, dist, queue);
-    let end = advance(offsets, targets, CENTRE, r, ALL, dist, queue);
+    let n = dist.len();
+    let end = advance(offsets, targets, CENTRE, r, n, dist, queue);
     end.tail
 }

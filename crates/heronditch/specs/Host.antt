@@ -13,7 +13,7 @@ use Rattle.place.specs.Outcome.{PlaceOutcome}
 use Rattle.barring.specs.Outcome.{BarOutcome}
 use Rattle.call_merge.specs.Call.{MergeOutcome}
 use Rattle.call_test_board.specs.Call.{TestBoardOutcome}
-use Rattle.call_report.specs.Call.{ReportOutcome}
+use Rattle.report_answer.specs.Call.{ReportOutcome}
 use Rattle.call_shelf.specs.declared.compare.CompareAnswer.{CompareAnswer}
 use Rattle.call_shelf.specs.Compare.{compareReply}
 use Rattle.call_shelf.specs.Shelf.{ShelfOutcome}

@@ -92,7 +92,7 @@ pub extern "C" fn heronditch_convert(
         ≡ hostConvert (converting (asRole (roleOf role)) (editionOf «to_edition») (told (now (file .entry)) edition)
         (now (out .entry))) ⌝ }
 {
-    of_convert(call_convert::convert(
+    of_convert(call_convert_file::convert(
         as_role(role_of(role)),
         edition_of(edition),
         edition_of(to_edition),

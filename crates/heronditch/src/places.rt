@@ -6,7 +6,7 @@ ghost use Rattle.place.specs.Match.{radiusOf};
 ghost use Rattle.call_place.specs.Call.{placeAt};
 ghost use Rattle.call_check.specs.Call.{checkCall};
 ghost use Rattle.call_barring.specs.Call.{barCall};
-ghost use Rattle.call_report.specs.Call.{reporting};
+ghost use Rattle.report_answer.specs.Call.{reporting};
 ghost use Rattle.heronditch.specs.Host.{placedAs, hostPlace, hostBar, hostReport};
 ghost use Rattle.heronditch_reply.specs.Replies.{slots};
 ghost use Rattle.heronditch_told.specs.Told.{told};

@@ -9,7 +9,7 @@ ghost use Rattle.place.specs.Outcome.{placeReply};
 ghost use Rattle.barring.specs.Outcome.{barReply};
 ghost use Rattle.call_merge.specs.Call.{mergeReply};
 ghost use Rattle.call_test_board.specs.Call.{testBoardReply};
-ghost use Rattle.call_report.specs.Call.{reportReply};
+ghost use Rattle.report_answer.specs.Call.{reportReply};
 ghost use Rattle.heronditch_reply.specs.Replies.{slots, counted, pieced};
 use barring::BarAnswer;
 use call_check::CheckAnswer;
@@ -18,7 +18,6 @@ use call_distance::BallAnswer;
 use call_distance::RadiusAnswer;
 use call_match::TableAnswer;
 use call_merge::MergeAnswer;
-use call_report::ReportAnswer;
 use call_test_board::TestBoardAnswer;
 use file_write::WriteAnswer;
 use heronditch_reply::Counted;
@@ -31,6 +30,7 @@ use heronditch_reply::refused_piece;
 use heronditch_reply::refused_with;
 use heronditch_reply::with_counts;
 use place::PlaceAnswer;
+use report_answer::ReportAnswer;
 use table::Counts;
 
 pub fn of_write(answer: WriteAnswer) -> HostReply

@@ -1,35 +1,28 @@
-// Checking a proposed place on a pattern and a board that were read.
+// What a check of a proposed place asks of a board: that the marked nodes are near, and that the marked links fill them.
 use file_format::Board;
-use graph::marked::choose;
-use graph_neighbours::tables::OFFSETS;
-use graph_neighbours::tables::TARGETS;
 use graph_neighbours::tables::neighbour_tables;
 use graph_search::search;
 use place::Around;
 use place_around::find;
 use proposal_marks::marks::in_row;
 use proposal_marks::marks::links_placed;
-use proposal_marks::marks::marks_subgraph;
-use table::Ways;
 use table_first::start;
-use table_prepare::lookups::prepare_along;
 ghost use mathlib.Core.Path.{_≡_};
 ghost use Prim.Native.Nat.{_≤_, _<_};
 ghost use lib.Dec.{T, ltb};
 ghost use lib.ListN.{length};
 ghost use Rattle.base_lists.specs.List.{all};
-ghost use Rattle.file_format.specs.Circuit.{Drawn};
-ghost use Rattle.graph.specs.Circuit.{Circuit, circuit};
+ghost use Rattle.graph.specs.Circuit.{circuit};
 ghost use Rattle.graph.specs.Net.{NetRoom};
 ghost use Rattle.graph.specs.Search.{ball};
 ghost use Rattle.table.specs.Prepared.{tables};
-ghost use Rattle.proposal.specs.Check.{inRow, checks};
+ghost use Rattle.proposal.specs.Check.{inRow};
 ghost use Rattle.place_ball.specs.Ball.{SomeTabled};
 ghost use Rattle.proposal_check.specs.Tabled.{SomePattern, EveryFills, EveryJoined};
 
 // Whether every marked node is in the ball around the centre at the radius, in the whole board. The neighbour tables
 // are scratch.
-fn near(
+pub fn near(
     starts: &[u16],
     ends: &[u16],
     around: Around,
@@ -92,7 +85,7 @@ fn find_joined(
 }
 
 // Whether the place around the centre in a board has all the marked nodes and all links.
-fn fills(
+pub fn fills(
     part_labels: &[u32],
     node_labels: &[u32],
     masks: &[u32],
@@ -136,74 +129,4 @@ fn fills(
         return false;
     }
     links_placed(masks, starts, ends, &dist[..n], &sets[..n])
-}
-
-// Whether the node bytes and the link bytes mark a perfect subgraph around the centre at the radius, largest or not.
-// The board's links are left with the marked ones in front: those are matched as a board of their own.
-pub fn check_circuits(
-    part_labels: &[u32],
-    part_starts: &[u16],
-    part_ends: &[u16],
-    node_labels: &[u32],
-    node_starts: &mut [u16],
-    node_ends: &mut [u16],
-    around: Around,
-    nodes: &[u8],
-    bytes: &[u8],
-) -> bool
-    ghost { Circuit × Circuit }
-    requires { λ α. ⌜ (
-      circuit (now «part_labels») (now «part_starts») (now «part_ends»),
-      circuit (now «node_labels»)
-          (now «node_starts») (now «node_ends»),
-    ) ≡ α ⌝ }
-    requires { λ α. ⌜ Drawn (α .0) (α .1) ⌝ }
-    requires { λ α. ⌜ around .centre < length (now «node_labels») ⌝ }
-    requires { λ α. ⌜ (length (now nodes) ≡ length (now «node_labels»)) ×
-        (length (now bytes) ≡ length (now «node_starts»)) ⌝ }
-    ensures { λ α r. ⌜ r ≡ checks (α .0) (α .1) (around .centre) (around .radius) (now (nodes .entry))
-        (now (bytes .entry)) ⌝ }
-{
-    let n = node_labels.len();
-    let c = around.centre;
-    if !marks_subgraph(node_starts, node_ends, c as usize, nodes, bytes) {
-        return false;
-    }
-    let mut masks = [0u32; 64];
-    let mut offsets = [0u16; OFFSETS];
-    let mut targets = [0u16; TARGETS];
-    if !near(
-        node_starts,
-        node_ends,
-        around,
-        nodes,
-        &mut offsets,
-        &mut targets,
-    ) {
-        return false;
-    }
-    let m = choose(bytes, node_starts);
-    let k = choose(bytes, node_ends);
-    prepare_along(
-        Ways::Both,
-        n,
-        part_starts,
-        part_ends,
-        &node_starts[..m],
-        &node_ends[..k],
-        &mut masks,
-        &mut offsets,
-        &mut targets,
-    );
-    fills(
-        part_labels,
-        node_labels,
-        &masks,
-        &offsets,
-        &targets,
-        &node_starts[..m],
-        &node_ends[..k],
-        c,
-        nodes,
-    )
 }

@@ -6,13 +6,13 @@ use report_locate::Line;
 use report_locate::holds;
 use report_locate::put_new;
 use report_pieces::PutPiece;
-use report_pieces::counted;
+use report_pieces::count_put;
 use report_pieces::goes_on;
 use report_pieces::put_last;
 use report_texts::Span;
 use report_texts::head_bytes;
 use report_texts::known;
-use report_texts::note;
+use report_texts::note_text;
 use report_texts::put_again;
 ghost use mathlib.Core.Path.{_≡_};
 ghost use Prim.Native.Nat.{_+_, _≤_, _<_};
@@ -34,7 +34,7 @@ pub struct Resume {
 
 // A centre's line, nothing where there is no place around it. A centre that the whole board's table leaves empty has
 // none. The text of a component is made once, and noted: `texts` has under a number where it begins, and
-// `Board::MAX_NODES` further on where it ends.
+// `Board::MAX_NODES` further on where it ends. `dist` and `queue` are scratch.
 fn put_centre(
     names: &[u32],
     masks: &[u32],
@@ -44,6 +44,8 @@ fn put_centre(
     component_of: &[u16],
     sizes: &[u16],
     line: Line,
+    dist: &mut [u16],
+    queue: &mut [u16],
     texts: &mut [u32],
     out: &mut [u8],
 ) -> usize
@@ -53,6 +55,7 @@ fn put_centre(
     requires { λ α. ⌜ Components (length (now whole)) (matched α (now whole))
         (now whole) (now «component_of») (now sizes) ⌝ }
     requires { λ α. ⌜ line .around .centre < length (now whole) ⌝ }
+    requires { λ α. ⌜ (length (now dist) ≡ length (now whole)) × (length (now queue) ≡ length (now whole)) ⌝ }
     requires { λ α. ⌜ Names (now names) × (length (now whole) ≤ length (now names)) ⌝ }
     requires { λ α. ⌜ line .at + longestLine ≤ length (now out) ⌝ }
     requires { λ α. ⌜ Kept α (now whole) (now «component_of») (now out) (line .at) (now texts) ⌝ }
@@ -67,11 +70,6 @@ fn put_centre(
     }
     let number = component_of[c] as usize;
     let size = sizes[number] as usize;
-    let mut distances = [0u16; Board::MAX_NODES];
-    let mut nodes = [0u16; Board::MAX_NODES];
-    let n = whole.len();
-    let dist = &mut distances[..n];
-    let queue = &mut nodes[..n];
     let ball = holds(
         masks,
         offsets,
@@ -101,7 +99,7 @@ fn put_centre(
     );
     if ball.all {
         let from = line.at + head_bytes(c);
-        note(number, Span { from, to: end }, texts);
+        note_text(number, Span { from, to: end }, texts);
     }
     end
 }
@@ -127,7 +125,11 @@ pub fn put_lines(
 {
     let mut names = [0u32; Board::MAX_NODES];
     make_names(&mut names);
+    let mut distances = [0u16; Board::MAX_NODES];
+    let mut nodes = [0u16; Board::MAX_NODES];
     let n = whole.len();
+    let dist = &mut distances[..n];
+    let queue = &mut nodes[..n];
     let mut c = resume.from;
     let mut count = resume.found as usize;
     let mut texts = [0u32; 2 * Board::MAX_NODES];
@@ -146,10 +148,12 @@ pub fn put_lines(
             component_of,
             sizes,
             Line { around, at },
+            dist,
+            queue,
             &mut texts,
             out,
         );
-        count = counted(count, at, next);
+        count = count_put(count, at, next);
         at = next;
         c += 1;
     }

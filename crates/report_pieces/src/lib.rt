@@ -42,7 +42,7 @@ pub fn goes_on(c: usize, n: usize, at: usize, room: usize) -> bool
 }
 
 // One more, where something was put.
-pub fn counted(count: usize, at: usize, next: usize) -> usize
+pub fn count_put(count: usize, at: usize, next: usize) -> usize
     requires { ⌜ count < 100000 ⌝ }
     ensures { λ r. ⌜ r ≡ count + cond (eqb next at) 0 1 ⌝ }
 {

@@ -157,7 +157,7 @@ pub fn known(all: bool, number: usize, texts: &[u32]) -> Span
 }
 
 // A component's text noted under its number, where its end is a number of 32 bits.
-pub fn note(number: usize, text: Span, texts: &mut [u32])
+pub fn note_text(number: usize, text: Span, texts: &mut [u32])
     requires { ⌜ (number < 512) × (length (now texts) ≡ 1024) × (text .from ≤ text .to) ⌝ }
     ensures { λ _. ⌜ now (texts .exit) ≡ noting (now (texts .entry)) number text ⌝ }
 {

@@ -10,6 +10,16 @@ use Rattle.barring_find.proofs.Around.{listed-tried}
 use Rattle.barring_find.proofs.bar_circuits.Statement.{statement}
 use Rattle.barring_find.proofs.bar_circuits.Tie as tie
 
+-- back from a call to the one before it, or to the start of the function
+abbrev before-neighbour-tables : tie.After-neighbour-tables → tie.Start
+before-neighbour-tables c = c .before .before .before .before .before .before .before .before .before .before
+
+abbrev before-first-in-ball : tie.After-first-in-ball → tie.After-neighbour-tables
+before-first-in-ball c = c .before .before .before .before .before .before .before .before
+
+abbrev before-least-in-ball : tie.After-least-in-ball → tie.After-first-in-ball
+before-least-in-ball c = c .before .before .before .before .before .before .before .before .before
+
 neighbour-tables-requires : tie.Need-neighbour-tables-requires
 neighbour-tables-requires c κs =
     let board = c .before .before .before .before .before .before .before .before .before .pre .0 .1 in
@@ -20,24 +30,24 @@ most : (s : tie.Start) → length (now (s .args .node-labels)) ≤ 512
 most s = s .pre .0 .1 .nodes
 
 slice-aggregate-first-in-ball-3 : tie.Need-slice-aggregate-first-in-ball-3
-slice-aggregate-first-in-ball-3 c = sym (length-take-le _ _ (most (c .before .before .before .before .before .before .before .before .before .before .before .before .before .before .before)))
+slice-aggregate-first-in-ball-3 c = sym (length-take-le _ _ (most (before-neighbour-tables (c .before .before .before .before .before))))
 
 slice-aggregate-first-in-ball-4 : tie.Need-slice-aggregate-first-in-ball-4
-slice-aggregate-first-in-ball-4 c = sym (length-take-le _ _ (most (c .before .before .before .before .before .before .before .before .before .before .before .before .before .before .before .before)))
+slice-aggregate-first-in-ball-4 c = sym (length-take-le _ _ (most (before-neighbour-tables (c .before .before .before .before .before .before))))
 
 slice-aggregate-first-in-ball-5 : tie.Need-slice-aggregate-first-in-ball-5
-slice-aggregate-first-in-ball-5 c = sym (length-take-le _ _ (most (c .before .before .before .before .before .before .before .before .before .before .before .before .before .before .before .before .before)))
+slice-aggregate-first-in-ball-5 c = sym (length-take-le _ _ (most (before-neighbour-tables (c .before .before .before .before .before .before .before))))
 
 -- the tables are those of the board
 made : (c : tie.After-neighbour-tables) →
-    let a = c .before .before .before .before .before .before .before .before .before .before .args in
+    let a = before-neighbour-tables c .args in
     let l = c .neighbour-tables .last .1 .1 .1 in
     Netted (circuit (now (a .node-labels)) (now (a .node-starts)) (now (a .node-ends))) (l .0) (l .1 .0)
-made c = bounded-netted (c .before .before .before .before .before .before .before .before .before .before .pre .0 .1) (c .neighbour-tables .ensures)
+made c = bounded-netted (before-neighbour-tables c .pre .0 .1) (c .neighbour-tables .ensures)
 
 first-in-ball-requires : tie.Need-first-in-ball-requires
 first-in-ball-requires c κs =
-    let s = c .before .before .before .before .before .before .before .before .before .before .before .before .before .before .before .before .before in (
+    let s = before-neighbour-tables (c .before .before .before .before .before .before .before) in (
       (s .pre .0 .0 .nodes, record { nodeStarts = _; nodeEnds = _; netted = made (c .before .before .before .before .before .before .before) }),
       (s .pre .1 .0, (length-take-le _ _ (most s), length-take-le _ _ (most s), length-take-le _ _ (most s))),
     )
@@ -76,15 +86,15 @@ slice-aggregate-least-in-ball-4 : tie.Need-slice-aggregate-least-in-ball-4
 slice-aggregate-least-in-ball-4 c = let d = c .before .before .before .before .before .before .before in length-take-append _ (d .first-in-ball .last .1 .1 .1 .1 .1 .1 .1 .0) _ (sized d)
 
 cast-least-in-ball : tie.Need-cast-least-in-ball
-cast-least-in-ball c = let s = c .before .before .before .before .before .before .before .before .before .before .before .before .before .before .before .before .before .before .before .before .before .before .before .before .before in omega (arith, s .pre .1 .0, most s)
+cast-least-in-ball c = let s = before-neighbour-tables (before-first-in-ball (c .before .before .before .before .before .before .before)) in omega (arith, s .pre .1 .0, most s)
 
 least-in-ball-requires : tie.Need-least-in-ball-requires
 least-in-ball-requires c κs =
-    let s = c .before .before .before .before .before .before .before .before .before .before .before .before .before .before .before .before .before .before .before .before .before .before .before .before .before .before in
+    let s = before-neighbour-tables (before-first-in-ball (c .before .before .before .before .before .before .before .before)) in
     (record { partLabels = _; board = _; radius = _; tried = trial (c .before .before .before .before .before .before .before .before) _ _ }, s .pre .1 .1)
 
 returns : tie.Need-returns
-returns c = c .before .before .least-in-ball .ensures _ _ _ (trial (c .before .before .before .before .before .before .before .before .before .before .before) _ _)
+returns c = c .before .before .least-in-ball .ensures _ _ _ (trial (before-least-in-ball (c .before .before)) _ _)
 
 pub bar-circuits-spec : {M : Type 1} → statement M
 bar-circuits-spec =

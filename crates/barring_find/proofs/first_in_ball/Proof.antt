@@ -6,6 +6,16 @@ use Rattle.barring_find.proofs.Netted.{netted-net, netted-short, netted
 use Rattle.barring_find.proofs.first_in_ball.Statement.{statement}
 use Rattle.barring_find.proofs.first_in_ball.Tie as tie
 
+-- back from a call to the one before it, or to the start of the function
+abbrev entry : tie.After-slice-known3 → tie.Start
+entry c = c .before .before .before .before .before .before .before
+
+abbrev before-search : tie.After-search → tie.After-slice-known3
+before-search c = c .before .before .before
+
+abbrev before-start : tie.After-start → tie.After-search
+before-start c = c .before .before .before .before .before .before .before
+
 search-requires : tie.Need-search-requires
 search-requires c κs =
     let p = c .before .before .before .before .before .before .before .before .before .pre in
@@ -15,7 +25,7 @@ search-requires c κs =
 -- no more nodes are listed than the queue has room for
 short : (c : tie.After-search) → c .search .result ≤ length (c .search .last .1 .1 .1 .1 .1 .0)
 short c =
-    let s = c .before .before .before .before .before .before .before .before .before .before in
+    let s = entry (before-search c) in
     let p = s .pre in
     rw (c .search .kept .1 .1 .1 .1 .1 .0, p .1 .1 .1)
     (netted-short (p .0 .1 .netted) (s .args .around .centre) _ (p .1 .0) (rw (p .1 .1 .0) at (c .search .ensures)))
@@ -28,14 +38,14 @@ slice-aggregate-start c = sym (length-take-le _ _ (short (c .before .before .bef
 
 start-requires : tie.Need-start-requires
 start-requires c κs =
-    let s = c .before .before .before .before .before .before .before .before .before .before .before .before .before .before .before .before in
+    let s = entry (before-search (c .before .before .before .before .before .before)) in
     let p = s .pre in
     let list = netted-list (p .0 .1 .netted) (s .args .around .centre) _ (p .1 .0) (rw (p .1 .1 .0) at (c .before .before .before .before .before .before .search .ensures)) in
     (p .0 .0, (rw (p .1 .1 .2) list, list .below))
 
 returns : tie.Need-returns
 returns c =
-    let s = c .before .before .before .before .before .before .before .before .before .before .before .before .before .before .before .before .before .before .before in
+    let s = entry (before-search (before-start (c .before .before))) in
     let p = s .pre in
     let w = s .args .around .centre in
     let r = s .args .around .radius in

@@ -8,6 +8,16 @@ use Rattle.barring_find.proofs.Around.{is-placed, is-none}
 use Rattle.barring_find.proofs.least_in_ball.Statement.{statement}
 use Rattle.barring_find.proofs.least_in_ball.Tie as tie
 
+-- back from a call to the one before it, or to the start of the function
+abbrev entry : tie.After-slice-known → tie.Start
+entry c = c .before .before .before .before .before .before .before
+
+abbrev before-bars : tie.After-bars → tie.After-slice-known
+before-bars c = c .before .before
+
+abbrev before-drop-links : tie.After-drop-links → tie.After-bars
+before-drop-links c = c .before .before .before
+
 slice-aggregate-bars : tie.Need-slice-aggregate-bars
 slice-aggregate-bars c = sym (length-take-le _ _ (c .before .before .before .before .before .before .before .before .pre .0 .tried .parts .links))
 
@@ -21,18 +31,18 @@ returns c =
     (is-placed _ board (t .parts .parallel) (t .parts .links) _ r (c .before .before .bars .ensures partLabels board r t) (not-true _ (c .before .if1 .taken)))
 
 -- there are as many bytes as links
-long : (c : tie.After-drop-links) → length (c .drop-links .last .1 .1 .1 .1 .1 .1 .1 .0) ≡ length (now (c .before .before .before .before .before .before .before .before .before .before .before .before .args .starts))
-long c = c .drop-links .kept .1 .1 .1 .1 .1 .1 .1 .0 ∙ length-take-le _ _ (c .before .before .before .before .before .before .before .before .before .before .before .before .pre .1)
+long : (c : tie.After-drop-links) → length (c .drop-links .last .1 .1 .1 .1 .1 .1 .1 .0) ≡ length (now (entry (before-bars (before-drop-links c)) .args .starts))
+long c = c .drop-links .kept .1 .1 .1 .1 .1 .1 .1 .0 ∙ length-take-le _ _ (entry (before-bars (before-drop-links c)) .pre .1)
 
 -- what stands past them is as it was
 kept-after : {marks least : List ℕ} {m : ℕ} (out : List ℕ) → length marks ≡ m → marks ≡ least → marks ++ drop m out ≡ least ++ drop (length least) out
 kept-after {marks} {least} out l e = ap (λ (n : ℕ). marks ++ drop n out) (sym l ∙ ap length e) ∙ ap (λ (xs : List ℕ). xs ++ drop (length least) out) e
 
 slice-aggregate-drop-links : tie.Need-slice-aggregate-drop-links
-slice-aggregate-drop-links c = sym (length-take-le _ _ (c .before .before .before .before .before .before .before .before .before .before .before .pre .1))
+slice-aggregate-drop-links c = sym (length-take-le _ _ (entry (before-bars (c .before .before)) .pre .1))
 
 drop-links-requires : tie.Need-drop-links-requires
-drop-links-requires c κs = let p = c .before .before .before .before .before .before .before .before .before .before .before .pre in (p .0, sym (length-take-le _ _ (p .1)))
+drop-links-requires c κs = let p = entry (before-bars (c .before .before)) .pre in (p .0, sym (length-take-le _ _ (p .1)))
 
 slice-aggregate-count : tie.Need-slice-aggregate-count
 slice-aggregate-count c = let d = c .before .before .before in length-take-append _ (d .drop-links .last .1 .1 .1 .1 .1 .1 .1 .0) _ (long d)

@@ -5,6 +5,13 @@ use Rattle.base_text.proofs.Text.{put-then, put-same, fits-same, fits-f
 use Rattle.base_text.proofs.put_three.Statement.{statement}
 use Rattle.base_text.proofs.put_three.Tie as tie
 
+-- back from a call to the one before it, or to the start of the function
+abbrev before-put-two2 : tie.After-put-two2 → tie.Start
+before-put-two2 c = c .before .before .before .before
+
+abbrev before-put-digit : tie.After-put-digit → tie.After-put-two2
+before-put-digit c = c .before .before .before .before
+
 put-two-requires-2 : tie.Need-put-two-requires-2
 put-two-requires-2 c κs =
     let s = c .before .before .before in
@@ -17,7 +24,7 @@ put-digit-requires c κs =
 
 returns-2 : tie.Need-returns-2
 returns-2 c =
-    let s = c .before .before .before .before .before .before .before .before .before .before in
+    let s = before-put-two2 (before-put-digit (c .before .before)) in
     put-same (sym (decimal-more (s .args .x) (omega arith)))
     (put-then (c .before .before .before .before .before .before .put-two2 .ensures) (c .before .before .put-digit .ensures))
 

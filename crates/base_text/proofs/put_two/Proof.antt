@@ -4,6 +4,13 @@ use Rattle.base_text.proofs.Text.{put-then, put-same, fits-same, fits-f
 use Rattle.base_text.proofs.put_two.Statement.{statement}
 use Rattle.base_text.proofs.put_two.Tie as tie
 
+-- back from a call to the one before it, or to the start of the function
+abbrev before-put-digit2 : tie.After-put-digit2 → tie.Start
+before-put-digit2 c = c .before .before .before .before
+
+abbrev before-put-digit3 : tie.After-put-digit3 → tie.After-put-digit2
+before-put-digit3 c = c .before .before .before .before
+
 put-digit-requires : tie.Need-put-digit-requires
 put-digit-requires c κs =
     let s = c .before .before .before in
@@ -26,7 +33,7 @@ put-digit-requires-3 c κs =
 
 returns-2 : tie.Need-returns-2
 returns-2 c =
-    let s = c .before .before .before .before .before .before .before .before .before .before in
+    let s = before-put-digit2 (before-put-digit3 (c .before .before)) in
     put-same (sym (decimal-two (s .args .x) (omega arith) (s .pre .0)))
     (put-then (c .before .before .before .before .before .before .put-digit2 .ensures) (c .before .before .put-digit3 .ensures))
 

@@ -63,22 +63,22 @@ made f partStarts partEnds bounds nodeStarts nodeEnds =
     (prefix-all _ _ _ (listed l)) (f .start .ensures)
 
 array-borrow-prefix-spare : tie.Need-array-borrow-prefix-spare
-array-borrow-prefix-spare c = few (c .before .before .before .before .before .before .before .before .before .before .before .before .before .before .before)
+array-borrow-prefix-spare c = few (entry (begun (c .before .before .before)))
 
 slice-aggregate-refine : tie.Need-slice-aggregate-refine
-slice-aggregate-refine c = sym (length-take-le _ _ (few (c .before .before .before .before .before .before .before .before .before .before .before .before .before .before .before .before)))
+slice-aggregate-refine c = sym (length-take-le _ _ (few (entry (begun (c .before .before .before .before)))))
 
 array-borrow-prefix-layer : tie.Need-array-borrow-prefix-layer
-array-borrow-prefix-layer c = few (c .before .before .before .before .before .before .before .before .before .before .before .before .before .before .before .before)
+array-borrow-prefix-layer c = few (entry (begun (c .before .before .before .before)))
 
 slice-aggregate-refine-2 : tie.Need-slice-aggregate-refine-2
-slice-aggregate-refine-2 c = sym (length-take-le _ _ (few (c .before .before .before .before .before .before .before .before .before .before .before .before .before .before .before .before .before)))
+slice-aggregate-refine-2 c = sym (length-take-le _ _ (few (entry (begun (c .before .before .before .before .before)))))
 
 array-borrow-prefix-next : tie.Need-array-borrow-prefix-next
-array-borrow-prefix-next c = few (c .before .before .before .before .before .before .before .before .before .before .before .before .before .before .before .before .before)
+array-borrow-prefix-next c = few (entry (begun (c .before .before .before .before .before)))
 
 slice-aggregate-refine-3 : tie.Need-slice-aggregate-refine-3
-slice-aggregate-refine-3 c = sym (length-take-le _ _ (few (c .before .before .before .before .before .before .before .before .before .before .before .before .before .before .before .before .before .before)))
+slice-aggregate-refine-3 c = sym (length-take-le _ _ (few (entry (begun (c .before .before .before .before .before .before)))))
 
 refine-requires : tie.Need-refine-requires
 refine-requires c κs =

@@ -92,9 +92,9 @@ merge-circuit-requires c κs =
 
 returns-4 : tie.Need-returns-4
 returns-4 c =
-    let merged = c .before .before .before .before in
+    let merged = c .before .before .before .before .before in
     let here = enough (merged .before) in
-    merging-merged _ _ _ (sound (read here)) (held (read here)) (here .before .if1 .left) (here .if2 .left) (merged .merge-circuit .ensures)
+    merging-merged _ _ _ (sound (read here)) (held (read here)) (here .before .if1 .left) (here .if2 .left) (c .answer-of .ensures) (merged .merge-circuit .ensures)
 
 pub merge-spec : {M : Type 1} → statement M
 merge-spec =
@@ -103,4 +103,4 @@ merge-spec =
     returns (λ c. search needs) returns-2 returns-3 array-share-prefix-pk slice-aggregate-merge-circuit
     array-share-prefix-ps slice-aggregate-merge-circuit-2 array-share-prefix-pe slice-aggregate-merge-circuit-3
     (λ c. search needs) slice-aggregate-merge-circuit-4 merge-circuit-requires (λ c. search needs)
-    (λ c. search needs) returns-4)
+    (λ c. search needs) (λ c. search needs) returns-4)

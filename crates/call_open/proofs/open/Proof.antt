@@ -3,12 +3,16 @@ use Rattle.base_lists.specs.Kit.{refl, needs}
 use Rattle.call_open.proofs.open.Statement.{statement}
 use Rattle.call_open.proofs.open.Tie as tie
 
+-- back from a call to the one before it, or to the start of the function
+abbrev entry : tie.After-slice-known6 → tie.Start
+entry c = c .before .before .before .before .before .before .before .before
+
 -- the files are read
 abbrev start : tie.After-read-prepared → tie.Start
 start c = c .before .before .before .before .before .before .before .before .before .before .before .before .before .before
 
 read-prepared-requires : tie.Need-read-prepared-requires
-read-prepared-requires c κs = (record { nodes = refl; links = refl }, ((refl, refl), c .before .before .before .before .before .before .before .before .before .before .before .before .before .pre .0))
+read-prepared-requires c κs = (record { nodes = refl; links = refl }, ((refl, refl), entry (c .before .before .before .before .before) .pre .0))
 
 -- and what lines are put from is made
 abbrev reading : tie.After-fill-lines-arg6 → tie.After-read-prepared

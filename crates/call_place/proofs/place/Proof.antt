@@ -13,6 +13,16 @@ use Rattle.call_place.proofs.Finding.{ready-drawn, find-refused, find-r
 use Rattle.call_place.proofs.place.Statement.{statement}
 use Rattle.call_place.proofs.place.Tie as tie
 
+-- back from a call to the one before it, or to the start of the function
+abbrev entry : tie.After-slice-known4 → tie.Start
+entry c = c .before .before .before .before .before .before
+
+abbrev before-read-prepared : tie.After-read-prepared → tie.After-slice-known4
+before-read-prepared c = c .before .before .before .before .before .before .before
+
+abbrev before-enum-told : tie.After-enum-told → tie.After-read-prepared
+before-enum-told c = c .before .before .before .before .before .before .before
+
 read-prepared-requires : tie.Need-read-prepared-requires
 read-prepared-requires c κs = (record { nodes = refl; links = refl }, ((refl, refl), (refl, record { inOffsets = refl; inTargets = refl })))
 
@@ -24,7 +34,7 @@ returns c =
 
 -- both were read and prepared
 ready : (c : tie.After-enum-told) →
-    let a = c .before .before .before .before .before .before .before .before .before .before .before .before .before .before .before .before .before .before .before .before .args in
+    let a = entry (before-read-prepared (before-enum-told c)) .args in
     let read = c .before .before .before .before .before .before .before .read-prepared in
     let l = read .last .1 .1 .1 in
     BothPrepared Pattern bothWays (inEdition (a .question .editions .pattern) (now (a .pattern))) (inEdition (a .question .editions .board) (now (a .board))) (read .result) (l .0) (l .1 .0) (tables (l .1 .1 .0) (l .1 .1 .1 .0) (l .1 .1 .1 .1 .0))

@@ -1,10 +1,7 @@
 -- `call_report::report` meets its contract: the files are opened, and a piece is put from what that leaves. Assumes nothing.
-use Rattle.base_lists.specs.Kit.{refl, needs}
+use Rattle.base_lists.specs.Kit.{needs}
 use Rattle.call_report.proofs.report.Statement.{statement}
 use Rattle.call_report.proofs.report.Tie as tie
-
-open-requires : tie.Need-open-requires
-open-requires c κs = ((refl, record { inOffsets = refl; inTargets = refl }), (refl, refl, refl))
 
 -- the files were opened
 abbrev opened : tie.After-put-arg → tie.After-open
@@ -20,5 +17,5 @@ pub report-spec : {M : Type 1} → statement M
 report-spec =
     tie.close
     (tie.spec (λ c. search needs) (λ c. search needs) (λ c. search needs) (λ c. search needs) (λ c. search needs)
-    (λ c. search needs) open-requires (λ c. search needs) (λ c. search needs) (λ c. search needs)
+    (λ c. search needs) (λ c κs. search needs) (λ c. search needs) (λ c. search needs) (λ c. search needs)
     (λ c. search needs) (λ c. search needs) (λ c. search needs) put-requires (λ c. search needs) returns)

@@ -13,6 +13,10 @@ use Rattle.call_session.proofs.Opening.{fresh-holds, fresh-state, patte
 use Rattle.call_session.proofs.open.Statement.{statement}
 use Rattle.call_session.proofs.open.Tie as tie
 
+-- back from a call to the one before it, or to the start of the function
+abbrev before-store-fixed : tie.After-store-fixed → tie.After-enum-told
+before-store-fixed c = c .before .before .before .before
+
 -- ---- the two files
 
 abbrev entry : tie.After-read-pair → tie.Start
@@ -81,7 +85,7 @@ slice-aggregate-store-links-2 c = sym (stands-size (both (c .before .before .bef
 
 store-links-requires : tie.Need-store-links-requires
 store-links-requires c κs =
-    let told = c .before .before .before .before .before .before .before .before .before .before .before in
+    let told = before-store-fixed (c .before .before .before .before .before .before .before) in
     let read = both told in
     let n = board-bounded read in
     let size = stands-size (read .given) .0 in
@@ -139,11 +143,30 @@ match-circuits-requires c κs =
     let read = both told in
     (bounded-any (pattern-bounded read), (board-bounded read, fits told ∙ sym (stands-size (read .given) .0)))
 
+-- the calls that filled, seen from the last
+abbrev linked : tie.After-match-circuits → tie.After-store-links
+linked c = c .before .before .before .before .before .before .before .before .before .before .before .before .before .before
+
+abbrev stored : tie.After-store-links → tie.After-store-fixed
+stored c = c .before .before .before .before .before .before .before .before
+
+same-length : tie.Need-same-length
+same-length c = stored (linked (c .before .before)) .store-fixed .kept .1 .1 .1 .1 .0
+
+same-length-2 : tie.Need-same-length-2
+same-length-2 c = linked (c .before .before) .store-links .kept .1 .1 .1 .0
+
+same-length-3 : tie.Need-same-length-3
+same-length-3 c = linked (c .before .before) .store-links .kept .1 .1 .1 .1 .0
+
+same-length-4 : tie.Need-same-length-4
+same-length-4 c = linked (c .before .before) .store-links .kept .1 .1 .1 .1 .1 .0
+
 returns-2 : tie.Need-returns-2
 returns-2 c =
     let matched = c .before .before in
-    let linked = c .before .before .before .before .before .before .before .before .before .before .before .before .before .before .before .before in
-    let fixed = linked .before .before .before .before .before .before .before .before in
+    let linked = linked matched in
+    let fixed = stored linked in
     let told = fixed .before .before .before .before in
     let read = both told in
     let old = entry (reading told) .args in
@@ -169,5 +192,5 @@ open-spec =
     slice-aggregate-match-circuits-2 array-share-prefix-pe-2 slice-aggregate-match-circuits-3 array-share-prefix-nk
     slice-aggregate-match-circuits-4 array-share-prefix-ns-2 slice-aggregate-match-circuits-5
     array-share-prefix-ne-2 slice-aggregate-match-circuits-6 slice-relend-prefix-match-circuits
-    slice-aggregate-match-circuits-7 match-circuits-requires (λ c. search needs) (λ c. search needs)
-    (λ c. search needs) (λ c. search needs) (λ c. search needs) returns-2)
+    slice-aggregate-match-circuits-7 match-circuits-requires same-length same-length-2
+    same-length-3 same-length-4 (λ c. search needs) returns-2)

@@ -1,10 +1,10 @@
 -- `file_bounds::load_bounded` meets its contract: 1 to 3 by the size, then the file before the bounds, then the bounds. Assumes nothing.
-use Rattle.base_lists.specs.Kit.{now, _≡_, _∙_, sym, ap, length-take-le, arith, needs, not-false, not-true}
+use Rattle.base_lists.specs.Kit.{now, _≡_, _∙_, sym, ap, length-take-le, arith, needs}
 use Rattle.file_format.specs.declared.Role.the-variants.{AnyPattern}
 use Rattle.file_format.specs.Layout.{field}
 use Rattle.file_format.proofs.Refusals.{turned, range-orders}
 use Rattle.file_bounds.specs.Third.{thirdSize}
-use Rattle.file_bounds.proofs.Third.{third-sized, third-turned, turned-loaded, loaded-prefix-refused, loaded-bounds-refused, loaded-bounds}
+use Rattle.file_bounds.proofs.Third.{third-sized, third-turned, turned-loaded, loaded-judged}
 use Rattle.file_bounds.proofs.load_bounded.Statement.{statement}
 use Rattle.file_bounds.proofs.load_bounded.Tie as tie
 
@@ -28,10 +28,6 @@ links-are c = c .field-at2 .ensures
 abbrev counted : tie.After-load → tie.After-field-at2
 counted c = c .before .before .before .before .before
 
--- and the bounds
-abbrev prefix : tie.After-read-bounds → tie.After-load
-prefix c = c .before .before .before .before .before .before .before .before .before .before
-
 returns : tie.Need-returns
 returns c =
     let number = c .before .before .size-number .ensures in
@@ -48,39 +44,26 @@ slice-aggregate-load c =
     let here = c .before in
     sym (length-take-le _ _ (omega (arith, nodes-are here, links-are here, third-sized _ (none (sizes here)) .2)))
 
-returns-2 : tie.Need-returns-2
-returns-2 c =
-    let read = c .before .before .before .before .before .before .before .before in
-    loaded-prefix-refused _ _ _ (nodes-are (counted read)) (links-are (counted read)) (none (sizes (counted read))) (read .load .ensures) (c .enum-told2 .given .1)
-
 read-bounds-requires : tie.Need-read-bounds-requires
 read-bounds-requires c κs =
-    let here = counted (c .before .before .before .before .before .before .before .before .before) in
+    let here = counted (c .before .before .before .before .before .before .before) in
     let file = now (start (sizes here) .args .file) in
     let (_, range, size) = third-sized file (none (sizes here)) in
     let (_, _, few) = range-orders AnyPattern (field file 0) (field file 2) range in
     (omega (arith, nodes-are here, links-are here, size), omega (arith, links-are here, few, start (sizes here) .pre .1))
 
-returns-3 : tie.Need-returns-3
-returns-3 c =
-    let bounds = c .before .before .before .before in
-    let here = counted (prefix bounds) in
-    loaded-bounds-refused _ _ _ (nodes-are here) (links-are here) (none (sizes here)) (prefix bounds .load .ensures) (bounds .before .before .enum-told .given .1)
-    (bounds .read-bounds .ensures .0) (not-true _ (c .before .if2 .taken)) (c .refused-bounded2 .ensures)
-
-returns-4 : tie.Need-returns-4
-returns-4 c =
+returns-2 : tie.Need-returns-2
+returns-2 c =
     let bounds = c .before .before .before in
-    let here = counted (prefix bounds) in
-    loaded-bounds _ _ _ (nodes-are here) (links-are here) (none (sizes here)) (prefix bounds .load .ensures) (bounds .before .before .enum-told .given .1)
-    (bounds .read-bounds .ensures .0) (not-false _ (c .if2 .left)) (bounds .read-bounds .ensures .1)
+    let read = bounds .before .before .before .before .before .before .before .before in
+    let here = counted read in
+    loaded-judged _ _ _ (nodes-are here) (links-are here) (none (sizes here)) (read .load .ensures) (bounds .read-bounds .ensures .0) (c .judged .ensures)
+    (bounds .read-bounds .ensures .1)
 
 pub load-bounded-spec : {M : Type 1} → statement M
 load-bounded-spec =
     tie.close
     (tie.spec (λ c κs. search needs) (λ c κs. search needs) returns field-at-requires (λ c. search needs)
     field-at-requires-2 (λ c. search needs) (λ c. search needs) (λ c. search needs) (λ c. search needs)
-    (λ c. search needs) slice-aggregate-load (λ c κs. search needs) (λ c. search needs) (λ c. search needs)
-    (λ c. search needs) (λ c. search needs) (λ c. search needs) returns-2 read-bounds-requires
-    (λ c κs. search needs) (λ c. search needs) (λ c. search needs) (λ c. search needs) (λ c. search needs) returns-3
-    (λ c. search needs) (λ c. search needs) (λ c. search needs) (λ c. search needs) returns-4)
+    (λ c. search needs) slice-aggregate-load (λ c κs. search needs) read-bounds-requires
+    (λ c. search needs) (λ c. search needs) (λ c. search needs) (λ c. search needs) (λ c. search needs) returns-2)

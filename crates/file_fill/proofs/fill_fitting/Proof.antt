@@ -8,6 +8,13 @@ use borrow.Author.Needs.{needs}
 use Rattle.file_fill.proofs.fill_fitting.Statement.{statement}
 use Rattle.file_fill.proofs.fill_fitting.Tie as tie
 
+-- back from a call to the one before it, or to the start of the function
+abbrev entry : tie.After-slice-known4 → tie.Start
+entry c = c .before .before .before .before .before
+
+abbrev before-package-count : tie.After-package-count → tie.After-slice-known4
+before-package-count c = c .before .before
+
 returns : tie.Need-returns
 returns c = λ role e. sym (reading-short role _ _ _ _ _ e (inl (rw (c .before .before .before .before .before .before .pre .0) at (c .if1 .taken))))
 
@@ -18,7 +25,7 @@ returns-3 : tie.Need-returns-3
 returns-3 c = λ role e. sym (reading-short role _ _ _ _ _ e (inr (inr (inl (rw (c .before .before .before .before .before .before .before .before .before .pre .1) at (c .if3 .taken))))))
 
 returns-4 : tie.Need-returns-4
-returns-4 c = λ role e. sym (reading-short role _ _ _ _ _ e (inr (inr (inr (rw (c .before .before .before .before .before .before .before .before .before .before .pre .1) at (c .if4 .taken))))))
+returns-4 c = λ role e. sym (reading-short role _ _ _ _ _ e (inr (inr (inr (rw (entry (before-package-count (c .before .before .before)) .pre .1) at (c .if4 .taken))))))
 
 returns-5 : tie.Need-returns-5
 unfolding kindsOf packagesOf startsOf endsOf

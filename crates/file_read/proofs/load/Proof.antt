@@ -17,6 +17,13 @@ use borrow.Author.Needs.{needs}
 use Rattle.file_read.proofs.load.Statement.{statement}
 use Rattle.file_read.proofs.load.Tie as tie
 
+-- back from a call to the one before it, or to the start of the function
+abbrev before-test-links : tie.After-test-links → tie.After-fill-links
+before-test-links c = c .before .before .before .before .before .before .before
+
+abbrev before-refused-read2 : tie.After-refused-read2 → tie.After-test-links
+before-refused-read2 c = c .before .before .before
+
 -- the size is sound
 abbrev entry : tie.Else1 → tie.Start
 entry c = c .before .before .before .before .before .before
@@ -112,7 +119,7 @@ test-links-requires c κs =
 
 returns-2 : tie.Need-returns-2
 returns-2 c =
-    let filled = c .before .before .before .before .before .before .before .before .before .before in
+    let filled = before-test-links (before-refused-read2 c) in
     links-turned _ _ _ _ _ (standing filled) (none (sizes (counted filled))) _ _ (c .before .before .before .test-links .ensures) _ (c .refused-read2 .ensures) (c .before .if2 .taken)
 
 returns-3 : tie.Need-returns-3

@@ -4,9 +4,13 @@ use Rattle.base_lists.specs.Kit.{needs}
 use Rattle.file_write.proofs.write_parts.Statement.{statement}
 use Rattle.file_write.proofs.write_parts.Tie as tie
 
+-- back from a call to the one before it, or to the start of the function
+abbrev before-write : tie.After-write → tie.After-split
+before-write c = c .before .before .before .before .before .before .before .before
+
 returns : tie.Need-returns
 returns c =
-    let parts = c .before .before .before .before .before .before .before .before .before .before in
+    let parts = before-write (c .before .before) in
     let start = parts .before .before .before .before .before .before .before .before .before in
     rw (← (kinds-for _ _ (start .pre .2)), ← (parts .split .ensures .0), ← (parts .split .ensures .1)) (c .before .before .write .ensures)
 

@@ -6,9 +6,19 @@ use Rattle.graph_follow.proofs.Following.{look-taken, look-left}
 use Rattle.graph_follow.proofs.look.Statement.{statement}
 use Rattle.graph_follow.proofs.look.Tie as tie
 
+-- back from a call to the one before it, or to the start of the function
+abbrev entry : tie.After-shared-slice-known2 → tie.Start
+entry c = c .before .before .before .before
+
+abbrev before-meets : tie.After-meets → tie.After-shared-slice-known2
+before-meets c = c .before
+
+abbrev before-visit : tie.After-visit → tie.After-meets
+before-visit c = c .before .before .before .before
+
 returns : tie.Need-returns
 returns c =
-    let a = c .before .before .before .before .before .before .before .before .before .before .before .before .before .args in
+    let a = entry (before-meets (before-visit (c .before .before .before .before))) .args in
     let s = stateOf (now (a .dist)) (now (a .queue)) (a .tail) in
     rw (look-taken (a .set) (now (a .sets)) (a .d) s (a .v) (true-T (sym (c .before .before .before .before .before .before .before .before .meets .ensures) ∙ c .before .before .before .before .before .before .before .if1 .taken))) (c .before .before .before .before .visit .ensures)
 

@@ -32,10 +32,10 @@ few c =
     let a = begun (c .before) .args in
     omega (arith, l .inv .1, having-short (numbered (now (a .numbers)) (a .x)) (take (l .i) (now (a .nodes))), length-take-le (l .i) (now (a .nodes)) (l .inv .0))
 
-counted-requires : tie.Need-counted-requires Inv-loop μ-loop
-counted-requires c κs = let here = c .before .before in omega (arith, few here, here .loop-test .taken, begun (here .before) .pre .0 .1)
+count-equal-requires : tie.Need-count-equal-requires Inv-loop μ-loop
+count-equal-requires c κs = let here = c .before .before in omega (arith, few here, here .loop-test .taken, begun (here .before) .pre .0 .1)
 
-abbrev turn : tie.After-counted Inv-loop μ-loop → tie.In-loop Inv-loop μ-loop
+abbrev turn : tie.After-count-equal Inv-loop μ-loop → tie.In-loop Inv-loop μ-loop
 turn c = c .before .before .before
 
 add-i : tie.Need-add-i Inv-loop μ-loop
@@ -47,7 +47,7 @@ loop-again c =
     let l = here .before .loop in
     let a = begun (here .before) .args in
     let e = having-count (numbered (now (a .numbers)) (a .x)) (now (a .nodes)) (l .i) (here .loop-test .taken) in
-    (omega (arith, here .loop-test .taken), omega (arith, c .counted .ensures, l .inv .1, e))
+    (omega (arith, here .loop-test .taken), omega (arith, c .count-equal .ensures, l .inv .1, e))
 
 returns : tie.Need-returns Inv-loop μ-loop
 returns c =
@@ -63,5 +63,5 @@ count-from-spec =
     (tie.spec Inv-loop μ-loop loop-holds (λ c. search needs) (λ c. search needs)
     (λ c. omega (arith, c .shared-slice-known3 .given (c .before .before .loop .i)))
     (λ c. omega (arith, node (c .before), c .shared-slice-known3 .given (c .before .before .loop .i)))
-    (λ c. node (c .before .before)) counted-requires add-i (λ c. omega (arith, turn c .loop-test .taken)) loop-again
+    (λ c. node (c .before .before)) count-equal-requires add-i (λ c. omega (arith, turn c .loop-test .taken)) loop-again
     returns)

@@ -57,7 +57,7 @@ node c =
     subst (λ (v : ℕ). v < length (now (s .args .numbers))) (getD-take (s .args .k) (now (s .args .queue)) (l .i) 0 (c .loop-test .taken) ∙ sym (l .inv .4 (l .i) (le-refl _)))
     (s .pre .2 (l .i) (rw (length-take-le (s .args .k) (now (s .args .queue)) (s .pre .0)) (c .loop-test .taken)))
 
-abbrev turn : tie.After-counted Inv-loop μ-loop → tie.In-loop Inv-loop μ-loop
+abbrev turn : tie.After-count-equal Inv-loop μ-loop → tie.In-loop Inv-loop μ-loop
 turn c = c .before .before .before
 
 loop-again : tie.Need-loop-again Inv-loop μ-loop
@@ -69,9 +69,9 @@ loop-again c =
     let v = getD (l .queue) (l .i) 0 in
     let p : ℕ → Bool = numbered (now (a .numbers)) (a .x) in (
       omega (arith, here .loop-test .taken),
-      omega (arith, c .counted .ensures, cond-le (p v), l .inv .1),
+      omega (arith, c .count-equal .ensures, cond-le (p v), l .inv .1),
       length-set (l .queue) (l .kept) v ∙ l .inv .2,
-      rw (c .counted .ensures) (keep-next p (l .queue) (now (a .queue)) (l .kept) (l .i) v (omega (arith, l .inv .2)) (r .1) (l .inv .4 (l .i) (le-refl _)) (l .inv .3)),
+      rw (c .count-equal .ensures) (keep-next p (l .queue) (now (a .queue)) (l .kept) (l .i) v (omega (arith, l .inv .2)) (r .1) (l .inv .4 (l .i) (le-refl _)) (l .inv .3)),
       λ j h. getD-set-other (l .queue) (l .kept) j v 0 (λ e. omega (arith, l .inv .1)) ∙ l .inv .4 j (omega arith),
     )
 

@@ -7,6 +7,19 @@ use Rattle.base_lists.specs.Kit.{needs}
 use Rattle.graph_search.proofs.expand.Statement.{statement}
 use Rattle.graph_search.proofs.expand.Tie as tie
 
+-- back from a call to the one before it, or to the start of the function
+abbrev entry : tie.After-slice-known2 → tie.Start
+entry c = c .before .before .before .before
+
+abbrev before-neighbours-in : tie.After-neighbours-in → tie.After-slice-known2
+before-neighbours-in c = c .before
+
+abbrev before-scan : tie.After-scan → tie.After-neighbours-in
+before-scan c = c .before .before .before
+
+abbrev before-neighbours-in2 : tie.After-neighbours-in2 → tie.After-scan
+before-neighbours-in2 c = c .before .before .before .before .before
+
 scan-requires : tie.Need-scan-requires
 scan-requires c κs =
     let p = c .before .before .before .before .before .before .before .pre in
@@ -14,7 +27,7 @@ scan-requires c κs =
 
 scan-requires-2 : tie.Need-scan-requires-2
 scan-requires-2 c κs =
-    let p = c .before .before .before .before .before .before .before .before .before .before .before .before .before .before .before .pre in
+    let p = entry (before-neighbours-in (before-scan (before-neighbours-in2 (c .before .before)))) .pre in
     let first = c .before .before .before .before .before .before .before .scan in
     (first .ensures .kept, (rw (first .kept .1 .1 .0, c .before .before .neighbours-in2 .ensures) (neighbours-below _ (p .0) _ (p .1 .1 .0)), p .1 .1 .1))
 

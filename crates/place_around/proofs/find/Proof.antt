@@ -9,6 +9,10 @@ use Rattle.place.proofs.Spread.{found-spread}
 use Rattle.place_around.proofs.find.Statement.{statement}
 use Rattle.place_around.proofs.find.Tie as tie
 
+-- back from a call to the one before it, or to the start of the function
+abbrev before-component : tie.After-component → tie.After-refine
+before-component c = c .before .before .before .before .before .before .before .before .before .before
+
 slice-reshare-prefix-refine : tie.Need-slice-reshare-prefix-refine
 slice-reshare-prefix-refine c = omega (arith, c .before .before .before .before .before .before .before .pre .0 .0)
 
@@ -55,7 +59,7 @@ component-requires c κs =
 
 returns-2 : tie.Need-returns-2
 returns-2 c =
-    let end = c .before .before .before .before .before .before .before .before .before .before .before .before .before .before in
+    let end = before-component (c .before .before .before .before) in
     let call = c .before .before .before .before .component in
     λ pattern board r g.
     let e = end .refine .ensures bothWays pattern board (g .tabled .prepared) (g .begins) in

@@ -9,6 +9,25 @@ use Rattle.place.proofs.Spread.{matched-scan}
 use Rattle.place_component.proofs.expand.Statement.{statement}
 use Rattle.place_component.proofs.expand.Tie as tie
 
+-- back from a call to the one before it, or to the start of the function
+abbrev entry : tie.After-shared-slice-known5 → tie.Start
+entry c = c .before .before .before .before .before .before .before
+
+abbrev before-driven-parts : tie.After-driven-parts → tie.After-shared-slice-known5
+before-driven-parts c = c .before
+
+abbrev before-driving-parts : tie.After-driving-parts → tie.After-driven-parts
+before-driving-parts c = c .before
+
+abbrev before-neighbours-in : tie.After-neighbours-in → tie.After-driving-parts
+before-neighbours-in c = c .before
+
+abbrev before-follow : tie.After-follow → tie.After-neighbours-in
+before-follow c = c .before .before .before
+
+abbrev before-neighbours-in2 : tie.After-neighbours-in2 → tie.After-follow
+before-neighbours-in2 c = c .before .before .before .before .before
+
 -- the tables are over the nodes of the search
 net : (s : tie.Start) → Net (length (now (s .args .dist))) (now (s .args .offsets)) (now (s .args .targets))
 net s = rw (← s .pre .1 .1 .0) (s .pre .1 .0 .net)
@@ -18,15 +37,15 @@ neighbours-in-requires c κs = record { nodes = _; net = net (c .before .before 
 
 follow-requires : tie.Need-follow-requires
 follow-requires c κs =
-    let s = c .before .before .before .before .before .before .before .before .before .before .before .before in
+    let s = entry (before-driven-parts (before-driving-parts (before-neighbours-in (c .before .before)))) in
     (s .pre .0, (rw (c .before .before .neighbours-in .ensures) (neighbours-below _ (net s) _ (s .pre .1 .1 .1 .0)), (s .pre .1 .1 .0, s .pre .1 .1 .1 .1)))
 
 neighbours-in-requires-2 : tie.Need-neighbours-in-requires-2
-neighbours-in-requires-2 c κs = record { nodes = _; net = net (c .before .before .before .before .before .before .before .before .before .before .before .before .before .before .before .before .before); node = c .before .before .before .before .before .before .before .before .before .before .before .before .before .before .before .before .before .pre .1 .1 .1 .0 }
+neighbours-in-requires-2 c κs = record { nodes = _; net = net (entry (before-driven-parts (before-driving-parts (before-neighbours-in (before-follow (c .before .before .before .before)))))); node = entry (before-driven-parts (before-driving-parts (before-neighbours-in (before-follow (c .before .before .before .before))))) .pre .1 .1 .1 .0 }
 
 follow-requires-2 : tie.Need-follow-requires-2
 follow-requires-2 c κs =
-    let s = c .before .before .before .before .before .before .before .before .before .before .before .before .before .before .before .before .before .before .before .before in
+    let s = entry (before-driven-parts (before-driving-parts (before-neighbours-in (before-follow (before-neighbours-in2 (c .before .before)))))) in
     let first = c .before .before .before .before .before .before .before .follow in
     let e = first .kept .1 .1 .1 .1 .0 in
     (first .ensures .kept, (rw (e, c .before .before .neighbours-in2 .ensures) (neighbours-below _ (net s) _ (s .pre .1 .1 .1 .0)), (s .pre .1 .1 .0 ∙ sym e, s .pre .1 .1 .1 .1)))

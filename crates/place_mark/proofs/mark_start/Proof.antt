@@ -8,6 +8,19 @@ use Rattle.place_mark.proofs.Marks.{start-at, ends-length, start-marked
 use Rattle.place_mark.proofs.mark_start.Statement.{statement}
 use Rattle.place_mark.proofs.mark_start.Tie as tie
 
+-- back from a call to the one before it, or to the start of the function
+abbrev entry : tie.After-slice-known → tie.Start
+entry c = c .before .before .before .before .before
+
+abbrev before-neighbours-in : tie.After-neighbours-in → tie.After-slice-known
+before-neighbours-in c = c .before
+
+abbrev before-driven-parts : tie.After-driven-parts → tie.After-neighbours-in
+before-driven-parts c = c .before .before
+
+abbrev before-shared-slice-known6 : tie.After-shared-slice-known6 → tie.After-driven-parts
+before-shared-slice-known6 c = c .before
+
 abbrev tablesOf : tie.Start → Tables
 tablesOf s = tables (now (s .args .masks)) (now (s .args .offsets)) (now (s .args .targets))
 
@@ -35,7 +48,7 @@ part-mark-ends-end c = bounds c
 
 mark-ends-requires : tie.Need-mark-ends-requires
 mark-ends-requires c κs =
-    let s = c .before .before .before .before .before .before .before .before .before .before in
+    let s = entry (before-neighbours-in (before-driven-parts (before-shared-slice-known6 (c .before)))) in
     let listed = c .before .before .before .before .neighbours-in in
     let b = bounds (c .before) in
     let a = getD (now (s .args .offsets)) (s .args .v) 0 in

@@ -8,21 +8,34 @@ use Rattle.proposal_check.proofs.Marked.{found-not, row-not, row-left}
 use Rattle.proposal_check.proofs.fills.Statement.{statement}
 use Rattle.proposal_check.proofs.fills.Tie as tie
 
+-- back from a call to the one before it, or to the start of the function
+abbrev entry : tie.After-shared-slice-known8 → tie.Start
+entry c = c .before .before .before .before .before .before .before .before
+
+abbrev before-find-joined : tie.After-find-joined → tie.After-shared-slice-known8
+before-find-joined c = c .before .before .before .before .before
+
+abbrev before-in-row : tie.After-in-row → tie.After-find-joined
+before-in-row c = c .before .before .before .before .before .before .before
+
+abbrev before-links-placed : tie.After-links-placed → tie.After-in-row
+before-links-placed c = c .before .before .before .before
+
 slice-aggregate-find-joined : tie.Need-slice-aggregate-find-joined
 slice-aggregate-find-joined c = sym (length-take-le _ _ (c .before .before .before .before .before .before .before .before .before .pre .1 .1 .0))
 
 slice-aggregate-find-joined-2 : tie.Need-slice-aggregate-find-joined-2
-slice-aggregate-find-joined-2 c = sym (length-take-le _ _ (c .before .before .before .before .before .before .before .before .before .before .pre .1 .1 .0))
+slice-aggregate-find-joined-2 c = sym (length-take-le _ _ (entry (c .before .before) .pre .1 .1 .0))
 
 slice-aggregate-find-joined-3 : tie.Need-slice-aggregate-find-joined-3
-slice-aggregate-find-joined-3 c = sym (length-take-le _ _ (c .before .before .before .before .before .before .before .before .before .before .before .pre .1 .1 .0))
+slice-aggregate-find-joined-3 c = sym (length-take-le _ _ (entry (c .before .before .before) .pre .1 .1 .0))
 
 slice-aggregate-find-joined-4 : tie.Need-slice-aggregate-find-joined-4
-slice-aggregate-find-joined-4 c = sym (length-take-le _ _ (c .before .before .before .before .before .before .before .before .before .before .before .before .pre .1 .1 .0))
+slice-aggregate-find-joined-4 c = sym (length-take-le _ _ (entry (c .before .before .before .before) .pre .1 .1 .0))
 
 find-joined-requires : tie.Need-find-joined-requires
 find-joined-requires c κs =
-    let p = c .before .before .before .before .before .before .before .before .before .before .before .before .pre in
+    let p = entry (c .before .before .before .before) .pre in
     let some = p .0 in
     let room = p .1 .1 .0 in (
       record { partStarts = some .partStarts; partEnds = some .partEnds; nodeStarts = _; nodeEnds = _; tabled = some .tabled },
@@ -39,11 +52,11 @@ returns : tie.Need-returns
 returns c = λ ps pe d. found-not _ _ _ _ (sym (c .before .before .before .before .before .find-joined .ensures ps pe _ _ d .answer) ∙ not-true _ (c .if1 .taken))
 
 -- an entry and a set are left for each node
-dist-long : (c : tie.After-find-joined) → length (c .find-joined .last .1 .1 .1 .1 .1 .1 .0) ≡ length (now (c .before .before .before .before .before .before .before .before .before .before .before .before .before .args .node-labels))
-dist-long c = c .find-joined .kept .1 .1 .1 .1 .1 .1 .0 ∙ length-take-le _ _ (c .before .before .before .before .before .before .before .before .before .before .before .before .before .pre .1 .1 .0)
+dist-long : (c : tie.After-find-joined) → length (c .find-joined .last .1 .1 .1 .1 .1 .1 .0) ≡ length (now (entry (before-find-joined c) .args .node-labels))
+dist-long c = c .find-joined .kept .1 .1 .1 .1 .1 .1 .0 ∙ length-take-le _ _ (entry (before-find-joined c) .pre .1 .1 .0)
 
-sets-long : (c : tie.After-find-joined) → length (c .find-joined .last .1 .1 .1 .1 .1 .1 .1 .1 .0) ≡ length (now (c .before .before .before .before .before .before .before .before .before .before .before .before .before .args .node-labels))
-sets-long c = c .find-joined .kept .1 .1 .1 .1 .1 .1 .1 .1 .0 ∙ length-take-le _ _ (c .before .before .before .before .before .before .before .before .before .before .before .before .before .pre .1 .1 .0)
+sets-long : (c : tie.After-find-joined) → length (c .find-joined .last .1 .1 .1 .1 .1 .1 .1 .1 .0) ≡ length (now (entry (before-find-joined c) .args .node-labels))
+sets-long c = c .find-joined .kept .1 .1 .1 .1 .1 .1 .1 .1 .0 ∙ length-take-le _ _ (entry (before-find-joined c) .pre .1 .1 .0)
 
 array-share-prefix-dist : tie.Need-array-share-prefix-dist
 array-share-prefix-dist c = cut-room (c .before .before .before .before .before .find-joined .last .1 .1 .1 .1 .1 .1 .0) _ (dist-long (c .before .before .before .before .before))
@@ -52,12 +65,12 @@ slice-aggregate-in-row : tie.Need-slice-aggregate-in-row
 slice-aggregate-in-row c = sym (cut-long (c .before .before .before .before .before .before .find-joined .last .1 .1 .1 .1 .1 .1 .0) _ (dist-long (c .before .before .before .before .before .before)))
 
 in-row-requires : tie.Need-in-row-requires
-in-row-requires c κs = c .before .before .before .before .before .before .before .before .before .before .before .before .before .before .before .before .before .before .before .pre .1 .1 .2 ∙ sym (cut-long (c .before .before .before .before .before .before .find-joined .last .1 .1 .1 .1 .1 .1 .0) _ (dist-long (c .before .before .before .before .before .before)))
+in-row-requires c κs = entry (before-find-joined (c .before .before .before .before .before .before)) .pre .1 .1 .2 ∙ sym (cut-long (c .before .before .before .before .before .before .find-joined .last .1 .1 .1 .1 .1 .1 .0) _ (dist-long (c .before .before .before .before .before .before)))
 
 returns-2 : tie.Need-returns-2
 returns-2 c =
     let call = c .before .before .before .before .before .before .before .before in
-    let s = c .before .before .before .before .before .before .before .before .before .before .before .before .before .before .before .before .before .before .before .before .before in
+    let s = entry (before-find-joined (before-in-row (c .before))) in
     let there = not-false _ (c .before .before .before .if1 .left) in
     λ ps pe d.
     let placed = call .find-joined .ensures ps pe _ _ d in
@@ -73,13 +86,13 @@ array-share-prefix-sets : tie.Need-array-share-prefix-sets
 array-share-prefix-sets c = cut-room (c .before .before .before .before .before .before .before .before .before .find-joined .last .1 .1 .1 .1 .1 .1 .1 .1 .0) _ (sets-long (c .before .before .before .before .before .before .before .before .before))
 
 slice-aggregate-links-placed-2 : tie.Need-slice-aggregate-links-placed-2
-slice-aggregate-links-placed-2 c = sym (cut-long (c .before .before .before .before .before .before .before .before .before .before .find-joined .last .1 .1 .1 .1 .1 .1 .1 .1 .0) _ (sets-long (c .before .before .before .before .before .before .before .before .before .before)))
+slice-aggregate-links-placed-2 c = sym (cut-long (before-in-row (c .before .before .before) .find-joined .last .1 .1 .1 .1 .1 .1 .1 .1 .0) _ (sets-long (before-in-row (c .before .before .before))))
 
 links-placed-requires : tie.Need-links-placed-requires
 links-placed-requires c κs =
-    let s = c .before .before .before .before .before .before .before .before .before .before .before .before .before .before .before .before .before .before .before .before .before .before .before in
+    let s = entry (before-find-joined (before-in-row (c .before .before .before))) in
     let t = s .pre .0 .tabled in
-    let call = c .before .before .before .before .before .before .before .before .before .before in
+    let call = before-in-row (c .before .before .before) in
     let dist = cut-long (call .find-joined .last .1 .1 .1 .1 .1 .1 .0) _ (dist-long call) in
     let sets = cut-long (call .find-joined .last .1 .1 .1 .1 .1 .1 .1 .1 .0) _ (sets-long call) in (
       (t .prepared .masked .room, dist ∙ sym sets),
@@ -88,8 +101,8 @@ links-placed-requires c κs =
 
 returns-3 : tie.Need-returns-3
 returns-3 c =
-    let call = c .before .before .before .before .before .before .before .before .before .before .before in
-    let s = c .before .before .before .before .before .before .before .before .before .before .before .before .before .before .before .before .before .before .before .before .before .before .before .before in
+    let call = before-in-row (before-links-placed c) in
+    let s = entry (before-find-joined (before-in-row (before-links-placed c))) in
     let there = not-false _ (c .before .before .before .before .before .before .if1 .left) in
     λ ps pe d.
     let placed = call .find-joined .ensures ps pe _ _ d in

@@ -1,6 +1,6 @@
 -- `report_centres::put_centre` meets its contract: nothing where the whole board's table leaves the centre empty; the text that is noted under the centre's
 -- number, where the ball holds the component; else a new line, whose text is noted where it is the component's. Assumes nothing.
-use Rattle.base_lists.specs.Kit.{now, _≡_, _∙_, sym, ap, refl, subst, Bool, false, true, cond, ℕ, _≤_, _<_, _+_, length, getD, length-take-le, arith, needs}
+use Rattle.base_lists.specs.Kit.{now, _≡_, _∙_, sym, ap, refl, subst, Bool, false, true, cond, ℕ, _≤_, _<_, _+_, length, getD, arith, needs}
 use Rattle.base_text.proofs.Text.{put-nothing, put-same, fits-same}
 use Rattle.table.specs.Prepared.{tables}
 use Rattle.place.specs.Spread.{matched}
@@ -16,12 +16,12 @@ use Rattle.report_centres.proofs.put_centre.Statement.{statement}
 use Rattle.report_centres.proofs.put_centre.Tie as tie
 
 returns : tie.Need-returns
-returns c = (λ pattern board s. put-same (sym (whole-missed s _ (c .if1 .taken))) put-nothing, c .before .before .before .before .before .before .before .before .before .before .before .before .pre .1 .1 .1 .1 .1)
+returns c = (λ pattern board s. put-same (sym (whole-missed s _ (c .if1 .taken))) put-nothing, c .before .before .before .before .before .before .before .before .before .before .before .before .before .before .pre .1 .1 .1 .1 .1 .1)
 
 -- ---- the centre's set is not empty in the whole board's table
 
 abbrev start : tie.Else1 → tie.Start
-start c = c .before .before .before .before .before .before .before .before .before .before .before .before
+start c = c .before .before .before .before .before .before .before .before .before .before .before .before .before .before
 
 -- so it has the number of its component
 abbrev number : tie.Else1 → ℕ
@@ -52,39 +52,22 @@ shared-slice-read-size c = omega (arith, named (c .before .before), start (c .be
 cast-size : tie.Need-cast-size
 cast-size c = let k = labelled (c .before .before) .component in omega (arith, k .count, k .lists .list .short)
 
--- the scratch tables have room for the board
-few : (c : tie.Else1) → length (now (start c .args .whole)) ≤ 512
-few c = named c .1
-
-array-borrow-prefix-distances : tie.Need-array-borrow-prefix-distances
-array-borrow-prefix-distances c = few (c .before .before)
-
-slice-aggregate-dist : tie.Need-slice-aggregate-dist
-slice-aggregate-dist c = sym (length-take-le _ _ (few (c .before .before .before)))
-
-array-borrow-prefix-nodes : tie.Need-array-borrow-prefix-nodes
-array-borrow-prefix-nodes c = few (c .before .before .before)
-
-slice-aggregate-queue : tie.Need-slice-aggregate-queue
-slice-aggregate-queue c = sym (length-take-le _ _ (few (c .before .before .before .before)))
-
 holds-requires : tie.Need-holds-requires
 holds-requires c κs =
-    let here = c .before .before .before .before .before .before in
+    let here = c .before .before .before .before in
     let p = start here .pre in
-    let k = labelled here in
-    let h = few here in (
+    let k = labelled here in (
       p .0,
       (
         record { low = p .1 .1 .0; long = p .1 .0 .long; comp = k .comp; nodes = k .nodes; component = k .component; same = k .same; only = k .only },
-        (length-take-le _ _ h, length-take-le _ _ h),
+        p .1 .1 .1 .0,
       ),
     )
 
 -- ---- how much of the component the ball has is known
 
 abbrev there : tie.After-holds → tie.Else1
-there c = c .before .before .before .before .before .before .before
+there c = c .before .before .before .before .before
 
 abbrev begun : tie.After-holds → tie.Start
 begun c = start (there c)
@@ -95,12 +78,12 @@ roomy : (c : tie.After-holds) → let a = begun c .args in
 roomy c =
     let p = begun c .pre in
     let source = p .0 .source in
-    centre-fits {out = now (begun c .args .out)} _ _ _ (source .drawn .nodes) (rw (source-long source) at (p .1 .1 .0)) (p .1 .1 .1 .1 .0) .room
+    centre-fits {out = now (begun c .args .out)} _ _ _ (source .drawn .nodes) (rw (source-long source) at (p .1 .1 .0)) (p .1 .1 .1 .1 .1 .0) .room
 
 known-requires : tie.Need-known-requires
 known-requires c κs =
     let here = c .before .before .before .before .before in
-    (omega (arith, named (there here), begun here .pre .1 .1 .0), begun here .pre .1 .1 .1 .1 .1 .long)
+    (omega (arith, named (there here), begun here .pre .1 .1 .0), begun here .pre .1 .1 .1 .1 .1 .1 .long)
 
 -- ---- the text that is noted
 
@@ -122,11 +105,11 @@ text c =
     let a = begun (ball c) .args in
     let same = tests c .1 in
     subst (λ (x : Span). TextNoted (tables (now (a .masks)) (now (a .offsets)) (now (a .targets))) (now (a .whole)) (now (a .component-of)) (now (a .out)) (a .line .at) (number (there (ball c))) x) (sym same)
-    (begun (ball c) .pre .1 .1 .1 .1 .1 .noted (number (there (ball c))) (omega (arith, named (there (ball c)))) (λ z. c .if2 .taken (ap (λ (x : Span). x .to) same ∙ z)))
+    (begun (ball c) .pre .1 .1 .1 .1 .1 .1 .noted (number (there (ball c))) (omega (arith, named (there (ball c)))) (λ z. c .if2 .taken (ap (λ (x : Span). x .to) same ∙ z)))
 
 put-again-requires : tie.Need-put-again-requires
 put-again-requires c κs =
-    let here = c .before .before .before in
+    let here = c .before in
     let known = ball here in
     let p = begun known .pre in
     let k = text here in (
@@ -134,14 +117,20 @@ put-again-requires c κs =
       fits-same (sym (again-line (p .0 .source) _ (p .1 .1 .0) (there known .if1 .left) k refl (known .holds .ensures .whole (tests here .0)))) (record { room = roomy known }),
     )
 
+same-length : tie.Need-same-length
+same-length c = ball (c .before .before .before .before) .holds .kept .1 .1 .1 .1 .1 .1 .1 .0
+
+same-length-2 : tie.Need-same-length-2
+same-length-2 c = ball (c .before .before .before .before) .holds .kept .1 .1 .1 .1 .1 .1 .1 .1 .0
+
 returns-2 : tie.Need-returns-2
 returns-2 c =
-    let here = c .before .before .before .before .before .before in
+    let here = c .before .before .before .before in
     let known = ball here in
     let p = begun known .pre in
     let put = c .before .before .put-again .ensures in (
       λ pattern board s. put-same (again-line s _ (p .1 .1 .0) (there known .if1 .left) (text here) refl (known .holds .ensures .whole (tests here .0))) put,
-      kept-after (p .1 .1 .1 .1 .1) put (omega (arith, p .1 .1 .1 .1 .0)),
+      kept-after (p .1 .1 .1 .1 .1 .1) put (omega (arith, p .1 .1 .1 .1 .1 .0)),
     )
 
 -- ---- a new line
@@ -152,28 +141,36 @@ other c = c .before .before .before .before .before .before .before .before
 long : (c : tie.After-holds) → let w = length (now (begun c .args .whole)) in
     (length (c .holds .last .1 .1 .1 .1 .1 .1 .1 .0) ≡ w) × (length (c .holds .last .1 .1 .1 .1 .1 .1 .1 .1 .0) ≡ w)
 long c =
-    let h = few (there c) in
-    (c .holds .kept .1 .1 .1 .1 .1 .1 .1 .0 ∙ length-take-le _ _ h, c .holds .kept .1 .1 .1 .1 .1 .1 .1 .1 .0 ∙ length-take-le _ _ h)
+    let (d, q) = begun c .pre .1 .1 .1 .0 in
+    (c .holds .kept .1 .1 .1 .1 .1 .1 .1 .0 ∙ d, c .holds .kept .1 .1 .1 .1 .1 .1 .1 .1 .0 ∙ q)
 
 put-new-requires : tie.Need-put-new-requires
 put-new-requires c κs =
-    let known = other (c .before) in
+    let known = other (c .before .before .before) in
     let p = begun known .pre in
-    (p .0, ((p .1 .1 .0, there known .if1 .left), (known .holds .ensures, (long known, (p .1 .1 .1 .0, p .1 .1 .1 .1 .0)))))
+    (p .0, ((p .1 .1 .0, there known .if1 .left), (known .holds .ensures, (long known, (p .1 .1 .1 .1 .0, p .1 .1 .1 .1 .1 .0)))))
 
 -- the line is put, and the texts that were noted stand
 
-abbrev put : tie.After-slice-known6 → tie.After-put-new
-put c = c .before .before .before .before
+abbrev put : tie.After-slice-known10 → tie.After-put-new
+put c = c .before .before .before .before .before .before
 
-abbrev looked : tie.After-slice-known6 → tie.After-holds
-looked c = other (put c .before .before)
+abbrev looked : tie.After-slice-known10 → tie.After-holds
+looked c = other (put c .before .before .before .before)
 
-kept : (c : tie.After-slice-known6) → let a = begun (looked c) .args in
+kept : (c : tie.After-slice-known10) → let a = begun (looked c) .args in
     Kept (tables (now (a .masks)) (now (a .offsets)) (now (a .targets))) (now (a .whole)) (now (a .component-of)) (put c .put-new .last .1 .1 .1 .1 .1 .1 .1 .1 .1 .0) (put c .put-new .result) (now (a .texts))
 kept c =
     let p = begun (looked c) .pre in
-    kept-after (p .1 .1 .1 .1 .1) (put c .put-new .ensures _ _ (p .0 .source)) (omega (arith, p .1 .1 .1 .1 .0))
+    kept-after (p .1 .1 .1 .1 .1 .1) (put c .put-new .ensures _ _ (p .0 .source)) (omega (arith, p .1 .1 .1 .1 .1 .0))
+
+-- the tables that are lent are as long as before
+lent : (c : tie.After-slice-known10) → let a = begun (looked c) .args in
+    (length (put c .put-new .last .1 .1 .1 .1 .1 .1 .1 .0) ≡ length (now (a .dist))) × (length (put c .put-new .last .1 .1 .1 .1 .1 .1 .1 .1 .0) ≡ length (now (a .queue)))
+lent c =
+    let first = looked c .holds .kept in
+    let then = put c .put-new .kept in
+    (then .1 .1 .1 .1 .1 .1 .1 .0 ∙ first .1 .1 .1 .1 .1 .1 .1 .0, then .1 .1 .1 .1 .1 .1 .1 .1 .0 ∙ first .1 .1 .1 .1 .1 .1 .1 .1 .0)
 
 -- it is the component's
 
@@ -192,11 +189,17 @@ head-bytes-requires c = let p = begun (looked (c .before)) .pre in omega (arith,
 add-from : tie.Need-add-from
 add-from c = omega (arith, c .before .head-bytes .ensures, fresh (c .before .before) .order)
 
-note-requires : tie.Need-note-requires
-note-requires c κs =
+note-text-requires : tie.Need-note-text-requires
+note-text-requires c κs =
     let here = c .before .before .before in
     let known = looked (here .before) in
-    (omega (arith, named (there known), begun known .pre .1 .1 .0), begun known .pre .1 .1 .1 .1 .1 .long, omega (arith, c .before .before .head-bytes .ensures, fresh here .order))
+    (omega (arith, named (there known), begun known .pre .1 .1 .0), begun known .pre .1 .1 .1 .1 .1 .1 .long, omega (arith, c .before .before .head-bytes .ensures, fresh here .order))
+
+same-length-5 : tie.Need-same-length-5
+same-length-5 c = lent (c .before .before .before .before .before .before .before) .0
+
+same-length-6 : tie.Need-same-length-6
+same-length-6 c = lent (c .before .before .before .before .before .before .before) .1
 
 returns-3 : tie.Need-returns-3
 returns-3 c =
@@ -205,10 +208,16 @@ returns-3 c =
     let a = begun known .args in
     let e = c .before .before .before .before .before .head-bytes .ensures in (
       put (here .before) .put-new .ensures,
-      rw (c .before .before .note .ensures, e) (kept-more (kept (here .before)) (number (there known)) (omega (arith, named (there known))) _ (fresh here)),
+      rw (c .before .before .note-text .ensures, e) (kept-more (kept (here .before)) (number (there known)) (omega (arith, named (there known))) _ (fresh here)),
     )
 
 -- it is not
+
+same-length-9 : tie.Need-same-length-9
+same-length-9 c = lent (c .before) .0
+
+same-length-10 : tie.Need-same-length-10
+same-length-10 c = lent (c .before) .1
 
 returns-4 : tie.Need-returns-4
 returns-4 c = (put (c .before) .put-new .ensures, kept (c .before))
@@ -217,8 +226,8 @@ pub put-centre-spec : {M : Type 1} → statement M
 put-centre-spec =
     tie.close
     (tie.spec (λ c. search needs) (λ c. search needs) (λ c. search needs) returns mul-number
-    shared-slice-read-number cast-number mul-size shared-slice-read-size cast-size array-borrow-prefix-distances
-    slice-aggregate-dist array-borrow-prefix-nodes slice-aggregate-queue holds-requires known-requires
-    put-again-requires (λ c. search needs) (λ c. search needs) returns-2 put-new-requires head-bytes-requires
-    add-from note-requires (λ c. search needs) (λ c. search needs) returns-3 (λ c. search needs) (λ c. search needs)
+    shared-slice-read-number cast-number mul-size shared-slice-read-size cast-size holds-requires known-requires
+    put-again-requires same-length same-length-2 (λ c. search needs) (λ c. search needs) returns-2 put-new-requires
+    head-bytes-requires add-from note-text-requires same-length-5 same-length-6 (λ c. search needs)
+    (λ c. search needs) returns-3 same-length-9 same-length-10 (λ c. search needs) (λ c. search needs)
     returns-4)

@@ -9,9 +9,13 @@ use Rattle.report_locate.proofs.Component.{source-match, reached-lists,
 use Rattle.report_locate.proofs.holds.Statement.{statement}
 use Rattle.report_locate.proofs.holds.Tie as tie
 
+-- back from a call to the one before it, or to the start of the function
+abbrev entry : tie.After-slice-known2 → tie.Start
+entry c = c .before .before .before .before .before .before .before
+
 reach-requires : tie.Need-reach-requires
 reach-requires c κs =
-    let p = c .before .before .before .before .before .before .before .before .before .before .pre in
+    let p = entry (c .before .before .before) .pre in
     let (d, q) = p .1 .1 in
     (match-ready (source-match (p .0 .source)), (rw d (p .1 .0 .low), (sym d, d ∙ sym q)))
 

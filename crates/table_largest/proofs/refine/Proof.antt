@@ -9,6 +9,13 @@ use Rattle.table_largest.proofs.Rounds.{first-due, settled-rested}
 use Rattle.table_largest.proofs.refine.Statement.{statement}
 use Rattle.table_largest.proofs.refine.Tie as tie
 
+-- back from a call to the one before it, or to the start of the function
+abbrev entry : tie.After-slice-known2 → tie.Start
+entry c = c .before .before .before .before .before .before
+
+abbrev before-settle : tie.After-settle → tie.After-slice-known2
+before-settle c = c .before .before .before .before .before .before
+
 -- there are no more nodes than the scratch has entries
 few : (s : tie.Start) → length (now (s .args .table)) ≤ 512
 unfolding problemBy
@@ -30,11 +37,11 @@ array-borrow-prefix-changed : tie.Need-array-borrow-prefix-changed
 array-borrow-prefix-changed c = few (c .before .before .before .before .before .before .before .before .before)
 
 slice-aggregate-settle-3 : tie.Need-slice-aggregate-settle-3
-slice-aggregate-settle-3 c = sym (length-take-le _ _ (few (c .before .before .before .before .before .before .before .before .before .before)))
+slice-aggregate-settle-3 c = sym (length-take-le _ _ (few (entry (c .before .before .before .before))))
 
 settle-requires : tie.Need-settle-requires
 settle-requires c κs =
-    let start = c .before .before .before .before .before .before .before .before .before .before .before in
+    let start = entry (c .before .before .before .before .before) in
     let known = start .pre .0 in
     let h = few start in (
       first-due (known .prepared) (now (start .args .nodes)) (known .begins) (start .pre .1 .0),
@@ -43,7 +50,7 @@ settle-requires c κs =
 
 returns : tie.Need-returns
 returns c =
-    let start = c .before .before .before .before .before .before .before .before .before .before .before .before .before .before .before .before .before .before .before in
+    let start = entry (before-settle (c .before .before .before .before .before .before .before)) in
     λ ways pattern host p b. settled-rested p (now (start .args .nodes)) b (c .before .before .before .before .before .before .before .settle .ensures .0)
 
 pub refine-spec : {M : Type 1} → statement M

@@ -8,6 +8,13 @@ use Rattle.barring_find.proofs.Tried.{masked-same}
 use Rattle.barring_find.proofs.trial.chosen_masks.Statement.{statement}
 use Rattle.barring_find.proofs.trial.chosen_masks.Tie as tie
 
+-- back from a call to the one before it, or to the start of the function
+abbrev before-chosen-of2 : tie.After-chosen-of2 → tie.After-chosen-of
+before-chosen-of2 c = c .before .before .before
+
+abbrev before-pattern-masks : tie.After-pattern-masks → tie.After-chosen-of2
+before-pattern-masks c = c .before .before .before .before .before
+
 -- what is picked stands at the front of the two lists
 abbrev entry : tie.After-chosen-of → tie.Start
 entry c = c .before .before .before .before .before .before
@@ -43,7 +50,7 @@ pattern-masks-requires : tie.Need-pattern-masks-requires
 pattern-masks-requires c κs =
     let from = prefix (c .before .before .before .before .before .before .before) in
     let to = prefix-2 (c .before .before .before .before) in
-    let s = c .before .before .before .before .before .before .before .before .before .before .before .before .before in
+    let s = entry (before-chosen-of2 (c .before .before .before .before)) in
     let marks = now (s .args .marks) in (
       (
         ap length from ∙ picked-parallel marks _ _ (s .pre .0 .0) ∙ sym (ap length to),
@@ -54,7 +61,7 @@ pattern-masks-requires c κs =
     )
 
 returns : tie.Need-returns
-returns c = masked-same (prefix (c .before .before .before .before .before .before .before .before .before .before)) (prefix-2 (c .before .before .before .before .before .before .before)) (c .before .before .pattern-masks .ensures)
+returns c = masked-same (prefix (before-chosen-of2 (before-pattern-masks (c .before .before)))) (prefix-2 (c .before .before .before .before .before .before .before)) (c .before .before .pattern-masks .ensures)
 
 pub chosen-masks-spec : {M : Type 1} → statement M
 chosen-masks-spec =

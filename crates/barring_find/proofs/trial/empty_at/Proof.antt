@@ -7,6 +7,16 @@ use Rattle.barring_find.proofs.Tried.{begun-long, copied-begins, copied
 use Rattle.barring_find.proofs.trial.empty_at.Statement.{statement}
 use Rattle.barring_find.proofs.trial.empty_at.Tie as tie
 
+-- back from a call to the one before it, or to the start of the function
+abbrev entry : tie.After-slice-known2 → tie.Start
+entry c = c .before .before .before .before .before .before .before
+
+abbrev before-copy : tie.After-copy → tie.After-slice-known2
+before-copy c = c .before .before
+
+abbrev before-refine : tie.After-refine → tie.After-copy
+before-refine c = c .before .before .before .before .before
+
 copy-requires : tie.Need-copy-requires
 copy-requires c κs =
     let s = c .before .before .before .before .before .before .before .before in
@@ -17,7 +27,7 @@ copy-requires c κs =
 
 refine-requires : tie.Need-refine-requires
 refine-requires c κs =
-    let s = c .before .before .before .before .before .before .before .before .before .before .before .before .before in
+    let s = entry (before-copy (c .before .before .before .before)) in
     let b = s .pre .0 .begun in
     let w = c .before .before .before .before .copy .ensures in
     let long = copied-long b (s .pre .1 .1 .0) w in (
@@ -27,10 +37,10 @@ refine-requires c κs =
 
 returns : tie.Need-returns
 returns c =
-    let s = c .before .before .before .before .before .before .before .before .before .before .before .before .before .before .before .before .before .before .before in
+    let s = entry (before-copy (before-refine (c .before .before .before .before .before))) in
     λ pattern board b.
     ap (λ (xs : List ℕ). eqb (getD xs (s .args .w) 0) 0)
-    (c .before .before .before .before .before .refine .ensures bothWays pattern board (b .prepared) (copied-begins b (s .pre .1 .1 .0) (c .before .before .before .before .before .before .before .before .before .before .copy .ensures)) .last)
+    (c .before .before .before .before .before .refine .ensures bothWays pattern board (b .prepared) (copied-begins b (s .pre .1 .1 .0) (before-refine (c .before .before .before .before .before) .copy .ensures)) .last)
 
 pub empty-at-spec : {M : Type 1} → statement M
 empty-at-spec =

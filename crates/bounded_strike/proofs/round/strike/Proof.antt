@@ -62,7 +62,7 @@ made s =
 -- ---- the needs
 
 slice-aggregate-strike-way : tie.Need-slice-aggregate-strike-way
-slice-aggregate-strike-way c = sym (half (c .before .before .before .before .before .before .before .before .before .before .before .before))
+slice-aggregate-strike-way c = sym (half (entry (c .before .before .before)))
 
 strike-way-requires : tie.Need-strike-way-requires
 strike-way-requires c κs =

@@ -117,7 +117,7 @@ returns-3 : tie.Need-returns-3
 returns-3 c =
     let f = c .before .before .before .before .before in
     let s = entry (after-one (after-two f)) in
-    upto s 3 (omega (arith, c .if3 .taken, c .before .before .before .before .before .before .before .before .before .before .if2 .left)) (three-passed f)
+    upto s 3 (omega (arith, c .if3 .taken, (c .before .before .before .before .before) .before .before .before .before .before .if2 .left)) (three-passed f)
 
 part-further-end-3 : tie.Need-part-further-end-3
 part-further-end-3 c = omega (arith, entry (after-one (after-two (c .before .before .before .before .before))) .pre .0 .0)

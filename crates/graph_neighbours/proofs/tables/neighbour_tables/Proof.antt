@@ -5,6 +5,13 @@ use Rattle.graph_neighbours.proofs.Grouped.{net-grouped}
 use Rattle.graph_neighbours.proofs.tables.neighbour_tables.Statement.{statement}
 use Rattle.graph_neighbours.proofs.tables.neighbour_tables.Tie as tie
 
+-- back from a call to the one before it, or to the start of the function
+abbrev entry : tie.After-slice-known2 → tie.Start
+entry c = c .before .before .before .before
+
+abbrev before-group-both : tie.After-group-both → tie.After-slice-known2
+before-group-both c = c .before .before .before
+
 group-both-requires : tie.Need-group-both-requires
 group-both-requires c κs =
     let p = c .before .before .before .before .before .before .pre in
@@ -12,7 +19,7 @@ group-both-requires c κs =
 
 returns : tie.Need-returns
 returns c =
-    let p = c .before .before .before .before .before .before .before .before .before .before .before .pre in
+    let p = entry (before-group-both (c .before .before .before .before)) .pre in
     net-grouped (c .before .before .before .before .group-both .ensures) (p .1 .1 .0 .0) (p .1 .1 .1 .0) (p .1 .1 .1 .1)
 
 pub neighbour-tables-spec : {M : Type 1} → statement M

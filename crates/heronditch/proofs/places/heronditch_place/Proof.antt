@@ -4,13 +4,28 @@ use Rattle.base_lists.specs.Kit.{needs}
 use Rattle.heronditch.proofs.places.heronditch_place.Statement.{statement}
 use Rattle.heronditch.proofs.places.heronditch_place.Tie as tie
 
+-- the place was found
+abbrev placed : tie.After-slice-known8 → tie.After-heronditch-place-editions
+placed c = c .before .before .before .before .before .before .before .before
+
+same-length : tie.Need-same-length
+same-length c = placed c .heronditch-place-editions .kept .1 .1 .1 .1 .1 .0
+
+same-length-2 : tie.Need-same-length-2
+same-length-2 c = placed c .heronditch-place-editions .kept .1 .1 .1 .1 .1 .1 .0
+
+same-length-3 : tie.Need-same-length-3
+same-length-3 c = placed c .heronditch-place-editions .kept .1 .1 .1 .1 .1 .1 .1 .0
+
+same-length-4 : tie.Need-same-length-4
+same-length-4 c = placed c .heronditch-place-editions .kept .1 .1 .1 .1 .1 .1 .1 .1 .0
+
 returns : tie.Need-returns
 returns c =
-    let placed = c .before .before .before .before .before .before .before .before in
-    rw (placed .before .before .before .before .before .first-edition .ensures) at (placed .heronditch-place-editions .ensures)
+    rw (placed c .before .before .before .before .before .first-edition .ensures) at (placed c .heronditch-place-editions .ensures)
 
 pub heronditch-place-spec : {M : Type 1} → statement M
 heronditch-place-spec =
     tie.close
-    (tie.spec (λ c κs. search needs) (λ c κs. search needs) (λ c. search needs) (λ c. search needs) (λ c. search needs) (λ c. search needs)
-    returns)
+    (tie.spec (λ c κs. search needs) (λ c κs. search needs)
+    same-length same-length-2 same-length-3 same-length-4 returns)

@@ -1,5 +1,5 @@
 -- `heronditch::replies::of_report` meets its contract, case by case. Assumes nothing.
-use Rattle.call_report.specs.Call.{reportReply}
+use Rattle.report_answer.specs.Call.{reportReply}
 use Rattle.heronditch_reply.specs.Replies.{pieced, verdictNumber, meantFile}
 use Rattle.base_lists.specs.Kit.{needs}
 use Rattle.heronditch.proofs.replies.of_report.Statement.{statement}

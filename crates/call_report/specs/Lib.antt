@@ -1,3 +1,0 @@
-pub mod Call
-pub mod Reported
-pub mod Whole
