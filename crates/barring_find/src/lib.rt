@@ -1,4 +1,6 @@
 // The least of a pattern's links that still says that there is no place around a centre, of circuits that were read.
+#![tactic(auto)]
+
 ghost use Rattle.std.specs.Prelude.{◌≡◌, ◌≤◌, ◌<◌, length};
 ghost use Rattle.file_format.specs.Circuit.{Bounded};
 ghost use Rattle.file_format.specs.declared.Role.TheVariants as role;

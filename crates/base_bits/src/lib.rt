@@ -1,4 +1,6 @@
 // Sets of pattern parts as 32-bit numbers: part u is in the set when bit u is 1.
+#![tactic(auto)]
+
 ghost use Rattle.std.specs.Prelude.{◌++◌, ◌≡◌, ◌^◌, ◌≤◌, ◌<◌, length, drop, replicate};
 ghost use Rattle.base_lists.specs.List.{Below};
 ghost use Rattle.base_bits.specs.Bits.{bit, subset_of, intersects, first_of, without_first, size_of, union_at};

@@ -1,4 +1,6 @@
 // Text into a table of bytes: each function writes from an offset on and returns the offset after what it wrote.
+#![tactic(auto)]
+
 ghost use Rattle.std.specs.Prelude.{List, ◌++◌, ◌≡◌, ◌+◌, ◌≤◌, ◌<◌, length};
 ghost use Rattle.base_text.specs.Text.{Put, Fits, decimal, bytes_of_four, digits_number, Names};
 

@@ -1,1 +1,2 @@
 // Links that a path of a few board links may meet: definitions and laws alone.
+#![tactic(auto)]

@@ -1,4 +1,6 @@
 // What the passes look up: the masks of a pattern with bounds, and the largest bound in use.
+#![tactic(auto)]
+
 ghost use Rattle.std.specs.Prelude.{◌≡◌, ◌≤◌, ◌<◌, length};
 ghost use Rattle.base_lists.specs.List.{Below};
 ghost use Rattle.table.specs.Prepared.{masks_of};

@@ -1,5 +1,7 @@
 // The call that finds the least of a pattern's links that still says that there is no place around a centre: a pattern
 // file, the board of another file and a centre.
+#![tactic(auto)]
+
 ghost use Rattle.std.specs.Prelude.{◌≡◌};
 ghost use Rattle.file_format.specs.Circuit.{Bounded};
 ghost use Rattle.file_format.specs.declared.Role.TheVariants as role;

@@ -1,5 +1,7 @@
 // The match-table call for patterns with bounds: a third-edition pattern file on the whole board of another file, of
 // either edition.
+#![tactic(auto)]
+
 ghost use Rattle.std.specs.Prelude.{◌≡◌};
 ghost use Rattle.file_format.specs.Circuit.{Bounded};
 ghost use Rattle.file_format.specs.Layout.{in_edition};

@@ -1,5 +1,7 @@
 // The call that checks a place from elsewhere: a pattern file, a board file, a centre, a byte per node and a byte per
 // link.
+#![tactic(auto)]
+
 ghost use Rattle.std.specs.Prelude.{◌≡◌};
 ghost use Rattle.file_format.specs.Circuit.{Drawn};
 ghost use Rattle.file_format.specs.Layout.{in_edition};
@@ -15,7 +17,7 @@ use place::{Around, Asked};
 mod circuits;
 
 // Yes or no, or why the call was turned away.
-#[derive(Drop)]
+#[derive(Clone, Copy)]
 pub enum CheckAnswer {
     Yes,
     No,

@@ -1,4 +1,6 @@
 // Converting a circuit that was read to a file of another edition.
+#![tactic(auto)]
+
 ghost use Rattle.std.specs.Prelude.{◌≡◌};
 ghost use Rattle.file_format.specs.declared.Edition.TheVariants as editions;
 ghost use Rattle.file_format.specs.Refusals.{Verdict, first, lost_package};
@@ -10,7 +12,7 @@ use file_role::refusal;
 use file_write::{WriteAnswer, write};
 
 // What converting a file comes to: the new file's length, or why it was turned away.
-#[derive(Drop)]
+#[derive(Clone, Copy)]
 pub enum ConvertAnswer {
     Converted(usize),
     Refused(Refusal),

@@ -1,4 +1,6 @@
 // The converting call: a circuit file from one edition to another.
+#![tactic(auto)]
+
 ghost use Rattle.std.specs.Prelude.{◌≡◌, ◌≤◌, length};
 ghost use Rattle.base_lists.specs.List.{Below};
 ghost use Rattle.file_format.specs.Layout.{in_edition};

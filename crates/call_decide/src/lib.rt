@@ -1,5 +1,7 @@
 // What a call decides by numbers alone once its files are read: the radius that is asked for, and whether it is turned
 // away for its centre or for the length of what is lent to it.
+#![tactic(auto)]
+
 ghost use Rattle.std.specs.Prelude.{cond, ◌≡◌};
 ghost use Rattle.file_format.specs.Reading.{verdict_of};
 ghost use Rattle.file_format.specs.Refusals.{accept, refuse, first};
@@ -13,7 +15,7 @@ pub mod ball;
 pub mod bytes;
 
 // At which radius a place is asked for: the pattern's own, or one given.
-#[derive(Drop)]
+#[derive(Clone, Copy)]
 pub enum Reach {
     Own,
     Given(u16),
@@ -42,7 +44,7 @@ pub fn no_counts() -> Counts
 }
 
 // How many entries each of the four tables has that are lent to a place call.
-#[derive(Drop)]
+#[derive(Clone, Copy)]
 pub struct Lengths {
     pub nodes: usize,
     pub links: usize,

@@ -1,4 +1,6 @@
 // Distances in circuit files: a pattern's radius, and the ball around a node of a board.
+#![tactic(auto)]
+
 ghost use Rattle.std.specs.Prelude.{◌≡◌};
 ghost use Rattle.file_format.specs.Layout.{in_edition};
 ghost use Rattle.call_distance.specs.Calls.{radius_reply, radius_call, ball_reply, ball_call};
@@ -11,14 +13,14 @@ use file_read::load;
 pub mod distances;
 
 // A pattern's radius, or why the file was turned away.
-#[derive(Drop)]
+#[derive(Clone, Copy)]
 pub enum RadiusAnswer {
     Radius(usize),
     Refused(Refusal),
 }
 
 // The board's N, or why the call was turned away.
-#[derive(Drop)]
+#[derive(Clone, Copy)]
 pub enum BallAnswer {
     Ball(usize),
     Refused(Refusal),

@@ -1,4 +1,6 @@
 // The match-table call: a pattern file on the whole board of another file. The pattern may lie in several bits.
+#![tactic(auto)]
+
 ghost use Rattle.std.specs.Prelude.{◌≡◌};
 ghost use Rattle.file_format.specs.Layout.{in_edition};
 ghost use Rattle.table.specs.Prepared.{tables};
@@ -13,7 +15,7 @@ use table::{Counts, MASKS, Ways};
 use table_whole::match_whole;
 
 // What the call comes to: the four counts, or why it was turned away.
-#[derive(Drop)]
+#[derive(Clone, Copy)]
 pub enum TableAnswer {
     Matched(Counts),
     Refused(Refusal),

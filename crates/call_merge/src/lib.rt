@@ -1,4 +1,6 @@
 // The merging call: the merged pattern of a pattern file.
+#![tactic(auto)]
+
 ghost use Rattle.std.specs.Prelude.{◌≡◌};
 ghost use Rattle.file_format.specs.Layout.{in_edition};
 ghost use Rattle.call_merge.specs.Call.{answer_of, merge_reply, merging};
@@ -9,7 +11,7 @@ use file_write::WriteAnswer;
 use merge_file::{MergedFile, merge_circuit};
 
 // What merging a pattern comes to: the number of classes and the merged file's length, or why it was turned away.
-#[derive(Drop)]
+#[derive(Clone, Copy)]
 pub enum MergeAnswer {
     Merged(usize, usize),
     Refused(Refusal),

@@ -1,5 +1,7 @@
 // Two files opened for their report: read, and matched on the whole board, so that the pieces of a long report read and
 // match once.
+#![tactic(auto)]
+
 ghost use Rattle.std.specs.Prelude.{◌≡◌, length};
 ghost use Rattle.graph.specs.Net.{NetRoom};
 ghost use Rattle.file_format.specs.Layout.{in_edition};

@@ -1,5 +1,7 @@
 // The place calls: a pattern file, the board of another file and a centre, at the pattern's radius or at a radius
 // given.
+#![tactic(auto)]
+
 ghost use Rattle.std.specs.Prelude.{◌≡◌};
 ghost use Rattle.file_format.specs.Circuit.{circuit_of};
 ghost use Rattle.file_format.specs.Layout.{in_edition};
@@ -21,7 +23,7 @@ use place_circuits::place_circuits;
 use table::{MASKS, Ways};
 
 // What is asked of two files: around which node of the board, in which editions, and at which radius.
-#[derive(Drop)]
+#[derive(Clone, Copy)]
 pub struct Question {
     pub centre: usize,
     pub editions: Editions,

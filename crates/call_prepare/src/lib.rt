@@ -1,4 +1,6 @@
 // A pattern file and a board file, read for a search: their labels, and what matching looks up, made of their links.
+#![tactic(auto)]
+
 ghost use Rattle.std.specs.Prelude.{◌≡◌, length};
 ghost use Rattle.graph.specs.Net.{NetRoom};
 ghost use Rattle.file_format.specs.Layout.{in_edition};
@@ -12,7 +14,7 @@ use table::Ways;
 use table_prepare::lookups::prepare_along;
 
 // How two files are read for a search: what the first is read as, the directions that count, and the edition of each.
-#[derive(Drop)]
+#[derive(Clone, Copy)]
 pub struct Reading {
     pub role: Role,
     pub ways: Ways,

@@ -1,4 +1,6 @@
 // The report call: the report of a pattern file on a board file, put piece by piece into a lent buffer.
+#![tactic(auto)]
+
 ghost use Rattle.std.specs.Prelude.{◌≡◌};
 ghost use Rattle.file_format.specs.Layout.{in_edition};
 ghost use Rattle.report_answer.specs.Call.{report_reply, reporting};

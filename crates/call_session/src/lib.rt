@@ -1,4 +1,6 @@
 // Opening a session on two files. The pattern may lie in several bits, as in the match-table call.
+#![tactic(auto)]
+
 ghost use Rattle.file_format.specs.Layout.{in_edition};
 ghost use Rattle.session.specs.State.{state, StateRoom};
 ghost use Rattle.call_session.specs.Call.{open_verdict, OpenPromise};
@@ -10,7 +12,7 @@ use table::Ways;
 use table_whole::match_circuits;
 
 // What opening comes to: the tables hold a session, or why it was turned away.
-#[derive(Drop)]
+#[derive(Clone, Copy)]
 pub enum OpenAnswer {
     Open,
     Refused(Refusal),

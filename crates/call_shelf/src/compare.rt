@@ -12,14 +12,14 @@ use order::Order;
 use order::files::compare_fields;
 
 // Which of two files is meant: both are patterns.
-#[derive(Drop)]
+#[derive(Clone, Copy)]
 pub enum Which {
     First,
     Second,
 }
 
 // What comparing two files comes to: how their circuits rank, or why one of the files was turned away, and which.
-#[derive(Drop)]
+#[derive(Clone, Copy)]
 pub enum CompareAnswer {
     Compared(Order),
     Refused(Refusal, Which),

@@ -1,4 +1,6 @@
 // The call that makes a test board: an invented board, the same in every installation, from four numbers.
+#![tactic(auto)]
+
 ghost use Rattle.std.specs.Prelude.{◌≡◌};
 ghost use Rattle.call_test_board.specs.Call.{test_board_reply, making_test_board};
 
@@ -9,7 +11,7 @@ use test_board::in_range;
 mod make;
 
 // What making a test board comes to: the file's length, or why it was turned away.
-#[derive(Drop)]
+#[derive(Clone, Copy)]
 pub enum TestBoardAnswer {
     Made(usize),
     Refused(Refusal),

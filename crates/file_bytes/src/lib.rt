@@ -1,4 +1,6 @@
 // Numbers of 16 bits stored as bytes, low byte first; and the stretches of a circuit's file, one behind another.
+#![tactic(auto)]
+
 ghost use Rattle.std.specs.Prelude.{◌≡◌, [], ◌∷◌, ◌++◌, ◌+◌, ◌*◌, ◌<◌, ◌≤◌, length};
 ghost use Rattle.file_format.specs.Reading.{filled};
 ghost use Rattle.file_format.specs.Refusals.{accept};

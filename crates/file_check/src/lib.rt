@@ -1,4 +1,6 @@
 // The conditions 1 to 6 and 11 on a file or on a circuit, tried in their order. Nothing is written.
+#![tactic(auto)]
+
 ghost use Rattle.std.specs.Prelude.{◌≡◌, T, length};
 ghost use Rattle.file_format.specs.Layout.{in_edition};
 ghost use Rattle.file_format.specs.Reading.{LinksTested};
@@ -24,7 +26,7 @@ pub fn size_number(role: Role, edition: Edition, file: &[u8]) -> u8
 }
 
 // What the links come to: 4, 5, 6 or 11, the first that they give, or 0; and a pattern's radius where they give none.
-#[derive(Drop)]
+#[derive(Clone, Copy)]
 pub struct Links {
     pub number: u8,
     pub radius: u16,

@@ -1,4 +1,6 @@
 // Stretches of a file: parts of its bytes, read as 16-bit fields, low byte first.
+#![tactic(auto)]
+
 ghost use Rattle.std.specs.Prelude.{◌≡◌, ◌++◌, ◌+◌, ◌*◌, ◌<◌, ◌≤◌, length, get_or, drop};
 ghost use Rattle.file_format.specs.Label.{labels};
 ghost use Rattle.file_format.specs.Layout.{field, fields};

@@ -1,4 +1,6 @@
 // The stretches of a file whose size is sound, each stored in its table.
+#![tactic(auto)]
+
 ghost use Rattle.std.specs.Prelude.{◌≡◌, ◌++◌, ◌≤◌, length, drop};
 ghost use Rattle.file_format.specs.Layout.{in_edition, nodes_of, links_of, fields, starts_at, ends_at, length_of, labels_from};
 ghost use Rattle.file_format.specs.Reading.{reading};

@@ -1,10 +1,12 @@
 // Circuit files: the roles, what is in a role's range, and what refuses a file.
+#![tactic(auto)]
+
 ghost use Rattle.std.specs.Prelude.{◌≡◌, ◌&&◌, ◌≤◌, leb};
 ghost use Rattle.file_format.specs.Layout.{package_count};
 ghost use Rattle.file_format.specs.Role.{in_range};
 
 // Which file a refusal means.
-#[derive(Drop)]
+#[derive(Clone, Copy)]
 pub enum File {
     Pattern,
     Board,
@@ -12,7 +14,7 @@ pub enum File {
 }
 
 // Why a call was turned away: the number of the condition, and the file that it means.
-#[derive(Drop)]
+#[derive(Clone, Copy)]
 pub struct Refusal {
     pub number: u8,
     pub file: File,
@@ -32,7 +34,7 @@ pub const TOO_SHORT: Refusal = Refusal {
 
 // What a file is read or written as. A pattern is connected; the whole-board match tables take any pattern, connected
 // or not.
-#[derive(Drop)]
+#[derive(Clone, Copy)]
 pub enum Role {
     Pattern,
     Board,
@@ -40,14 +42,14 @@ pub enum Role {
 }
 
 // Which edition of the circuit file a file is: the first has no packages, the second has one for each node.
-#[derive(Drop)]
+#[derive(Clone, Copy)]
 pub enum Edition {
     First,
     Second,
 }
 
 // The editions of a pattern file and of a board file.
-#[derive(Drop)]
+#[derive(Clone, Copy)]
 pub struct Editions {
     pub pattern: Edition,
     pub board: Edition,
@@ -64,21 +66,21 @@ pub fn package_count(edition: Edition, n: usize) -> usize
 }
 
 // What reading a file comes to: N and M, or why it was turned away.
-#[derive(Drop)]
+#[derive(Clone, Copy)]
 pub enum ReadAnswer {
     Read(usize, usize),
     Refused(Refusal),
 }
 
 // Whether a file is accepted, or why it was turned away.
-#[derive(Drop)]
+#[derive(Clone, Copy)]
 pub enum FileVerdict {
     Accepted,
     Refused(Refusal),
 }
 
 // A file that was read for a call: the verdict; and of an accepted file N and M, and of an accepted pattern the radius.
-#[derive(Drop)]
+#[derive(Clone, Copy)]
 pub struct FileRead {
     pub verdict: FileVerdict,
     pub nodes: usize,
@@ -100,7 +102,7 @@ fn within(nodes: usize, links: usize, least: usize, most: usize, most_links: usi
 }
 
 // The size of a pattern: nodes (parts, as document 01 calls them) and links.
-#[derive(Drop)]
+#[derive(Clone, Copy)]
 pub struct Pattern {
     pub nodes: usize,
     pub links: usize,
@@ -135,7 +137,7 @@ impl Pattern {
 }
 
 // The size of a board: nodes and links.
-#[derive(Drop)]
+#[derive(Clone, Copy)]
 pub struct Board {
     pub nodes: usize,
     pub links: usize,

@@ -1,4 +1,6 @@
 // The conditions 4 and 5 on links: each end is a node, and the links rise. Nothing is written.
+#![tactic(auto)]
+
 ghost use Rattle.std.specs.Prelude.{◌≡◌, ltb, length};
 ghost use Rattle.base_lists.specs.List.{all};
 ghost use Rattle.file_format.specs.Links.{packed, numbers_rise};

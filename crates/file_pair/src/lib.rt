@@ -1,4 +1,6 @@
 // A pattern file and a board file, read for a call on both.
+#![tactic(auto)]
+
 ghost use Rattle.std.specs.Prelude.{◌≡◌};
 ghost use Rattle.graph.specs.Circuit.{circuit};
 ghost use Rattle.file_format.specs.Layout.{in_edition};
@@ -11,7 +13,7 @@ use file_read::load;
 
 // What reading the two comes to: both are accepted, or why one was turned away; and where both are accepted the
 // pattern's N and M and, if it has to be connected, its radius, and the board's N and M.
-#[derive(Drop)]
+#[derive(Clone, Copy)]
 pub struct Pair {
     pub verdict: FileVerdict,
     pub parts: usize,

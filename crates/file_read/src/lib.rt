@@ -1,4 +1,6 @@
 // Reading a circuit file in a role, or refusing it by number.
+#![tactic(auto)]
+
 ghost use Rattle.std.specs.Prelude.{◌≡◌};
 ghost use Rattle.graph.specs.Circuit.{circuit};
 ghost use Rattle.file_format.specs.Layout.{in_edition};

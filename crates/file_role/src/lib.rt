@@ -1,5 +1,7 @@
 // What a role asks of a file or a circuit: its range, its length, whether it is to be connected, and how wide it may
 // be; and the file that its refusals name.
+#![tactic(auto)]
+
 ghost use Rattle.std.specs.Prelude.{cond, ◌≡◌, ◌<◌, eqb};
 ghost use Rattle.file_format.specs.Layout.{length_of};
 ghost use Rattle.file_format.specs.Refusals.{asks_connected, width_number};

@@ -1,4 +1,6 @@
 // Writing circuit files: a circuit as the bytes of its file, or a refusal by number.
+#![tactic(auto)]
+
 ghost use Rattle.std.specs.Prelude.{[], ◌≡◌, ◌≤◌, length};
 ghost use Rattle.file_format.specs.declared.Edition.TheVariants as editions;
 ghost use Rattle.file_format.specs.Label.{packages_in};
@@ -14,7 +16,7 @@ use file_format::{Board, Edition, Refusal, Role, TOO_SHORT, package_count};
 use file_role::{length_of, refusal};
 
 // What writing a circuit comes to: the file's length, or why it was turned away.
-#[derive(Drop)]
+#[derive(Clone, Copy)]
 pub enum WriteAnswer {
     Written(usize),
     Refused(Refusal),

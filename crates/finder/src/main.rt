@@ -2,6 +2,8 @@
 // and prints the report. Standard output has the report's lines and nothing else. Where a file is there and cannot be
 // read, or the report cannot be written whole, a line on standard error says so; what was printed is then a front of
 // the report.
+#![tactic(auto)]
+
 ghost use Rattle.std.specs.Prelude.{◌≡◌, ◌≤◌, length};
 ghost use Rattle.io.specs.Counts.{IsPrefixLen};
 ghost use Rattle.report.specs.Lines.{longest_line};
@@ -14,7 +16,7 @@ use finder_read::{BOARD_BYTES, Files, PATTERN_BYTES, read_files};
 const PIECE_BYTES: usize = 524288;
 
 // How a run ended: the report was handed whole to standard output; or a write failed; or a file cannot be read.
-#[derive(Drop)]
+#[derive(Clone, Copy)]
 enum End {
     Whole,
     Broken,
@@ -23,7 +25,7 @@ enum End {
 }
 
 // What the program read, and how it ended.
-#[derive(Drop)]
+#[derive(Clone, Copy)]
 struct Run {
     files: Files,
     end: End,

@@ -1,4 +1,6 @@
 // The report of two files that were opened, handed to standard output piece by piece.
+#![tactic(auto)]
+
 ghost use Rattle.std.specs.Prelude.{cond, ◌≡◌, ◌≤◌, length};
 ghost use Rattle.file_format.specs.Layout.{CircuitFile, first_edition};
 ghost use Rattle.table.specs.Prepared.{Tables, tables};

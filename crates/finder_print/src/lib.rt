@@ -1,4 +1,6 @@
 // The report of two files, printed: they are opened once, and all pieces are put from what that leaves.
+#![tactic(auto)]
+
 ghost use Rattle.std.specs.Prelude.{◌≡◌, ◌≤◌, length};
 ghost use Rattle.file_format.specs.Layout.{CircuitFile, first_edition};
 ghost use Rattle.report.specs.Lines.{longest_line};

@@ -1,5 +1,7 @@
 // What the report program reads: `pattern.cir` and `board.cir` in the folder it is run in, an absent file as an empty
 // one.
+#![tactic(auto)]
+
 ghost use Rattle.std.specs.Prelude.{◌≡◌, length};
 ghost use Rattle.io.specs.Counts.{IsPrefixLen};
 ghost use Rattle.finder_read.specs.Cut.{most};
@@ -16,14 +18,14 @@ pub const BOARD_BYTES: usize = 4 + 2 * Board::MAX_NODES + 4 * Board::MAX_LINKS +
 
 // What is held of a file: whether it could be read, or counts as empty, and how many of its bytes stand at the front of
 // the buffer.
-#[derive(Drop)]
+#[derive(Clone, Copy)]
 pub struct FileHeld {
     pub there: bool,
     pub size: usize,
 }
 
 // What is held of both files.
-#[derive(Drop)]
+#[derive(Clone, Copy)]
 pub struct Files {
     pub pattern: FileHeld,
     pub board: FileHeld,

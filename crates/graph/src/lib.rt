@@ -1,5 +1,7 @@
 // Directed graphs: what walks, distances, balls and the radius are, and what neighbour tables and the search over them
 // come to. The code here reads, copies and fills the entries that a search leaves.
+#![tactic(auto)]
+
 ghost use Rattle.std.specs.Prelude.{◌++◌, ◌≡◌, ◌≤◌, length, drop, replicate};
 ghost use Rattle.graph.specs.Search.{reached};
 

@@ -1,5 +1,7 @@
 // Following links to nodes by their sets, a number of at most 32 bits each. Nodes that are reached are marked and
 // listed once, as in a search.
+#![tactic(auto)]
+
 ghost use Rattle.std.specs.Prelude.{◌≡◌, ◌<◌, length};
 ghost use Rattle.base_lists.specs.List.{Below};
 ghost use Rattle.graph.specs.Bfs.{scan, level, state_of, Searching, Searched};

@@ -1,4 +1,6 @@
 // A search that stops as soon as it has reached enough nodes with a number. Each node has one, whatever it stands for.
+#![tactic(auto)]
+
 ghost use Rattle.std.specs.Prelude.{cond, ◌≡◌, ◌+◌, ◌≤◌, ◌<◌, eqb, length, get_or, take};
 ghost use Rattle.base_lists.specs.List.{Below};
 ghost use Rattle.graph.specs.Bfs.{adjacent, state_of, Searching};

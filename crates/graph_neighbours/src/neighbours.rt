@@ -7,7 +7,7 @@ ghost use Rattle.graph_neighbours.specs.Lookup.{neighbours_of, neighbours_in};
 use crate::tables::{FORWARD_OFFSETS, FORWARD_TARGETS, OFFSETS, TARGETS};
 
 // Which neighbours of a node are meant: what it drives, or what drives it.
-#[derive(Drop)]
+#[derive(Clone, Copy)]
 pub enum Direction {
     Forward,
     Backward,

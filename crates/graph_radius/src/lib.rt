@@ -1,5 +1,7 @@
 // A circuit's radius, by sets of nodes as 32-bit numbers: the balls around all its nodes grow by one link a round,
 // until each has every node.
+#![tactic(auto)]
+
 ghost use Rattle.std.specs.Prelude.{◌≡◌, ◌^◌, ◌≤◌, ◌<◌, T, ltb, length};
 ghost use Rattle.base_lists.specs.List.{all, tabulate, Below};
 ghost use Rattle.graph.specs.Search.{radius};

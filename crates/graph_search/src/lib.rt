@@ -1,6 +1,8 @@
 // Breadth-first search over neighbour tables, level by level, directions ignored. Any tables will do in which each
 // node's stretches have nodes only. The tables of distances have an entry for each node and no more, and so has the
 // queue, which is scratch: the nodes reached so far, in order, `tail` of them.
+#![tactic(auto)]
+
 ghost use Rattle.std.specs.Prelude.{◌||◌, ◌≡◌, ◌<◌, eqb, length};
 ghost use Rattle.base_lists.specs.List.{Below};
 ghost use Rattle.graph.specs.Bfs.{visit, scan, start, bfs, adjacent, state_of, Searching, Searched, Found};
@@ -74,7 +76,7 @@ pub fn expand(
 // Where a search stands: of the `tail` nodes that it has reached the first `level` are at a distance less than `depth`,
 // and the neighbours of the first `looked` of those have been looked at. The neighbours of the others are the nodes at
 // distance `depth`.
-#[derive(Drop)]
+#[derive(Clone, Copy)]
 pub struct Frontier {
     pub looked: usize,
     pub level: usize,

@@ -1,6 +1,8 @@
 // The calls for programs in other languages, as include/heronditch.h has them: a slice crosses as a pointer and a
 // length, a circuit file as a slice and the number of its edition, and each reply is a struct of numbers. What the
 // numbers stand for is said in heronditch_told.
+#![tactic(auto)]
+
 ghost use Rattle.std.specs.Prelude.{◌≡◌};
 
 pub mod cutting;

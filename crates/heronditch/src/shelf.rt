@@ -13,7 +13,7 @@ use order::Order;
 // The same as a reply without values, with which of the two files is meant (1 the first, 2 the second) and the order
 // found (1 less, 2 equal, 3 greater).
 #[repr(C)]
-#[derive(Drop)]
+#[derive(Clone, Copy)]
 pub struct Comparison {
     pub number: u32,
     pub file: u32,

@@ -1,4 +1,6 @@
 // Replies as a host program sees them: structs of numbers, in place of the enums.
+#![tactic(auto)]
+
 ghost use Rattle.std.specs.Prelude.{◌≡◌};
 ghost use Rattle.file_format.specs.Reply.{read_reply};
 ghost use Rattle.heronditch_reply.specs.Replies.{file_number, slots, counted_as, host_neighbours};
@@ -10,7 +12,7 @@ use table::Counts;
 // Number 0 for acceptance or the refusal's number; the file that it means (0 neither, 1 pattern, 2 board); the values
 // replied with.
 #[repr(C)]
-#[derive(Drop)]
+#[derive(Clone, Copy)]
 pub struct HostReply {
     pub number: u32,
     pub file: u32,
@@ -20,7 +22,7 @@ pub struct HostReply {
 
 // The same with the four counts.
 #[repr(C)]
-#[derive(Drop)]
+#[derive(Clone, Copy)]
 pub struct Counted {
     pub number: u32,
     pub file: u32,
@@ -33,7 +35,7 @@ pub struct Counted {
 // The same with where the report goes on after a piece, how many centres before that have a place, and how many bytes
 // were put.
 #[repr(C)]
-#[derive(Drop)]
+#[derive(Clone, Copy)]
 pub struct Piece {
     pub number: u32,
     pub file: u32,

@@ -1,4 +1,6 @@
 // What a host program tells by a number: an edition, a role, a direction. Every number has an answer.
+#![tactic(auto)]
+
 ghost use Rattle.std.specs.Prelude.{◌≡◌};
 ghost use Rattle.file_format.specs.declared.Edition.TheVariants.{First};
 ghost use Rattle.heronditch_told.specs.Told.{edition_of, is_third, role_of, as_role, direction_of};
@@ -43,7 +45,7 @@ pub fn is_third(number: u32) -> bool
 // What a file is told to be by who asks for it to be read, written or converted: of either, the conditions of its role
 // are asked, of a pattern 6 and 11 too. That a pattern need not be connected is a role of the calls on a whole board
 // alone, and cannot be told.
-#[derive(Drop)]
+#[derive(Clone, Copy)]
 pub enum FileRole {
     Pattern,
     Board,

@@ -1,11 +1,13 @@
 // Careful reading. A file is read by its name into a buffer, until the buffer is full or the file ends, and the answer
 // says what became of it. What the system answers is judged by functions of their own, each with an equation.
+#![tactic(auto)]
+
 ghost use Rattle.std.specs.Prelude.{true, ◌≡◌, ◌≤◌, ltb, length};
 ghost use Rattle.input.specs.Reading.{is_open, is_absent, unopened_of, ended_of, Tells, Within};
 
 // What became of reading a file: so many of its bytes stand at the front of the buffer; or there is no such name; or it
 // cannot be read.
-#[derive(Drop)]
+#[derive(Clone, Copy)]
 pub enum FileFound {
     Bytes(usize),
     Absent,

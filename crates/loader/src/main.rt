@@ -1,6 +1,8 @@
 // The program that makes a test board: takes the four numbers as words, seed, N, M and K, and writes the board's file
 // to standard output. Where a word is no number, or a number is out of its range, it says so on standard error and
 // writes nothing to standard output.
+#![tactic(auto)]
+
 ghost use Rattle.std.specs.Prelude.{◌≡◌, ◌≤◌, length};
 ghost use Rattle.file_format.specs.declared.Edition.TheVariants as editions;
 ghost use Rattle.file_format.specs.Layout.{length_of};
@@ -17,7 +19,7 @@ const BYTES: usize = 4 + 2 * Board::MAX_NODES + 4 * Board::MAX_LINKS;
 
 // What came of the words: the test board's file was handed whole to standard output; or that failed; or a number was
 // out of its range; or a word was none.
-#[derive(Drop)]
+#[derive(Clone, Copy)]
 enum Printed {
     Whole,
     Failed,
@@ -26,7 +28,7 @@ enum Printed {
 }
 
 // What the program was told, and what came of it.
-#[derive(Drop)]
+#[derive(Clone, Copy)]
 struct Run {
     told: Told,
     printed: Printed,

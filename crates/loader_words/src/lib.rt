@@ -1,9 +1,11 @@
 // The words that the program `loader` is told: the four that ask for a test board, each a number in decimal digits,
 // below 2^32.
+#![tactic(auto)]
+
 ghost use Rattle.std.specs.Prelude.{◌≡◌, eqb};
 ghost use Rattle.loader_words.specs.Words.{word_of, is_digit, heard_of, Heard, WordsHeard, asked_by};
 
-#[derive(Drop)]
+#[derive(Clone, Copy)]
 pub enum Word {
     Number(u32),
     NoNumber,
@@ -11,7 +13,7 @@ pub enum Word {
 
 // An argument: its index, what the system answered when it was asked for, C's errno and a length, and the number that
 // it is.
-#[derive(Drop)]
+#[derive(Clone, Copy)]
 pub struct Argument {
     index: usize,
     error: i32,
@@ -20,7 +22,7 @@ pub struct Argument {
 }
 
 // What the program was told: how many arguments, its own name among them, and the four behind that.
-#[derive(Drop)]
+#[derive(Clone, Copy)]
 pub struct Told {
     count: usize,
     seed: Argument,
@@ -30,7 +32,7 @@ pub struct Told {
 }
 
 // The four words that ask for a test board.
-#[derive(Drop)]
+#[derive(Clone, Copy)]
 pub struct Asked {
     pub seed: Word,
     pub n: Word,

@@ -1,1 +1,2 @@
 // The merged pattern: the quotient of a pattern by mutual matching.
+#![tactic(auto)]

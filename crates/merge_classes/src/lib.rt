@@ -1,4 +1,6 @@
 // The classes of a pattern's parts, from its match table on itself.
+#![tactic(auto)]
+
 ghost use Rattle.std.specs.Prelude.{◌≡◌, ◌≤◌, ◌<◌, length};
 ghost use Rattle.std.proofs.lemmas.List.Edits.{sets};
 ghost use Rattle.merge.specs.Merged.{leader};

@@ -1,4 +1,6 @@
 // The merged file of a pattern that was read.
+#![tactic(auto)]
+
 ghost use Rattle.std.specs.Prelude.{[], ◌≡◌, ◌≤◌, length};
 ghost use Rattle.file_format.specs.declared.Edition.TheVariants as editions;
 ghost use Rattle.file_format.specs.declared.Role.TheVariants as role;
@@ -14,7 +16,7 @@ use file_write::{WriteAnswer, write_circuit};
 use merge_quotient::quotient;
 
 // How many classes a pattern has, and what writing the merged pattern came to.
-#[derive(Drop)]
+#[derive(Clone, Copy)]
 pub struct MergedFile {
     pub classes: usize,
     pub written: WriteAnswer,

@@ -1,4 +1,6 @@
 // A pattern's quotient by its classes of parts that match each other: the merged pattern.
+#![tactic(auto)]
+
 ghost use Rattle.std.specs.Prelude.{[], ◌≡◌, ◌≤◌, length};
 ghost use Rattle.file_format.specs.declared.Edition.TheVariants as editions;
 ghost use Rattle.file_format.specs.declared.Role.TheVariants as role;

@@ -1,11 +1,13 @@
 // Careful writing. All of some bytes go to standard output, or the answer says that they did not. A write that takes
 // only some of them is gone on with, and one that was interrupted is tried again. After one that failed nothing more is
 // written: what comes out is always a front of the bytes.
+#![tactic(auto)]
+
 ghost use Rattle.std.specs.Prelude.{true, cond, ◌≡◌, ◌≤◌, pos, length, drop};
 ghost use Rattle.output.specs.Writing.{tried_again, All};
 
 // What came of the writing: as many bytes were taken as there are, or a write failed or could not be completed.
-#[derive(Drop)]
+#[derive(Clone, Copy)]
 pub enum Output {
     Written(usize),
     Failed,

@@ -1,6 +1,8 @@
 // Finding the place around a centre from a first table of its ball: the one way to a place, for a call that asks for
 // one centre and for a report that asks for one after another. No file is read here, and nothing is tested but whether
 // there is a place.
+#![tactic(auto)]
+
 ghost use Rattle.std.specs.Prelude.{◌≡◌, ◌≤◌, length, take};
 ghost use Rattle.table.specs.Prepared.{tables};
 ghost use Rattle.table.specs.Row.{pairs};

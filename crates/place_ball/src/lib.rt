@@ -1,4 +1,6 @@
 // Finding in the ball around a centre of a board, from the kinds, and from the tables that are made of the links.
+#![tactic(auto)]
+
 ghost use Rattle.std.specs.Prelude.{◌≡◌, ◌<◌, length};
 ghost use Rattle.table.specs.Prepared.{tables};
 ghost use Rattle.place_ball.specs.Ball.{SomeTabled, EveryPlaced};
@@ -11,7 +13,7 @@ use table::{Counts, counted};
 use table_first::start;
 
 // Whether there is a place in a ball, how many nodes it has, and the ball's counts.
-#[derive(Drop)]
+#[derive(Clone, Copy)]
 pub struct InBall {
     pub found: bool,
     pub size: usize,

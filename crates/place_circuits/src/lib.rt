@@ -1,5 +1,7 @@
 // The place of a pattern around a centre of a board, both read and prepared: from the kinds, and from the tables that
 // are made of the links.
+#![tactic(auto)]
+
 ghost use Rattle.std.specs.Prelude.{◌≤◌, ◌<◌, length, get_or};
 ghost use Rattle.table.specs.Prepared.{tables};
 ghost use Rattle.place.specs.Outcome.{place_around};

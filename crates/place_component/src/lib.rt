@@ -1,6 +1,8 @@
 // The search along matching links, followed either way; what it reaches, as far as it goes, is the component of the
 // centre. A link matches where some part of its end's set is driven by some part of its start's, so that one union of
 // masks for each direction serves all links of a node, and each costs one test.
+#![tactic(auto)]
+
 ghost use Rattle.std.specs.Prelude.{◌≡◌, ◌≤◌, ◌<◌, length};
 ghost use Rattle.graph.specs.Bfs.{scan, bfs, state_of, Searching, Searched, Found};
 ghost use Rattle.graph.specs.Search.{far};

@@ -1,5 +1,7 @@
 // The components of a match graph: each node gets the number of its component, once for all; and those nodes of a
 // centre's component that its ball has.
+#![tactic(auto)]
+
 ghost use Rattle.std.specs.Prelude.{not, ◌&&◌, ◌≡◌, ◌+◌, ◌≤◌, ◌<◌, eqb, length, take, replicate};
 ghost use Rattle.base_lists.specs.List.{Below};
 ghost use Rattle.graph.specs.Bfs.{adjacent};

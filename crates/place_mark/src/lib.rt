@@ -1,5 +1,7 @@
 // Marking the place in the lent tables from the list of its nodes. Each table is cleared, and then written at the nodes
 // of the list and at their links only: a node's links are a stretch of the file's order.
+#![tactic(auto)]
+
 ghost use Rattle.std.specs.Prelude.{cond, ◌≡◌, suc, ◌≤◌, ◌<◌, length, get_or};
 ghost use Rattle.base_bits.specs.Bits.{intersects};
 ghost use Rattle.base_lists.specs.List.{Below};

@@ -1,4 +1,6 @@
 // What a check of a proposed place asks of a board: that the marked nodes are near, and that the marked links fill them.
+#![tactic(auto)]
+
 ghost use Rattle.std.specs.Prelude.{◌≡◌, ◌≤◌, ◌<◌, T, ltb, length};
 ghost use Rattle.base_lists.specs.List.{all};
 ghost use Rattle.graph.specs.Circuit.{circuit};

@@ -1,4 +1,6 @@
 // What the report call comes to by the verdict on the two files alone, and by the room in the lent buffer.
+#![tactic(auto)]
+
 ghost use Rattle.std.specs.Prelude.{◌≡◌};
 ghost use Rattle.report.specs.Lines.{longest_refusal};
 ghost use Rattle.report_pieces.specs.Pieces.{refusal_piece};
@@ -10,7 +12,7 @@ use file_format::{FileVerdict, Refusal, TOO_SHORT};
 use report_pieces::{PutPiece, put_nothing, put_refused};
 
 // What the call comes to: a piece of the report, or why it was turned away.
-#[derive(Drop)]
+#[derive(Clone, Copy)]
 pub enum ReportAnswer {
     Put(PutPiece),
     Refused(Refusal),

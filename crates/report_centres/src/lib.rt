@@ -1,4 +1,6 @@
 // The lines of one centre after another, and the last line, put at the front of a buffer.
+#![tactic(auto)]
+
 ghost use Rattle.std.specs.Prelude.{◌≡◌, ◌+◌, ◌≤◌, ◌<◌, length};
 ghost use Rattle.base_text.specs.Text.{Names};
 ghost use Rattle.table.specs.Prepared.{Tables, tables};
@@ -16,7 +18,7 @@ use report_pieces::{PutPiece, count_put, goes_on, put_last};
 use report_texts::{Span, head_bytes, known, note_text, put_again};
 
 // Where a piece goes on: with the centre `from`, before which `found` centres had a place, at the pattern's radius.
-#[derive(Drop)]
+#[derive(Clone, Copy)]
 pub struct Resume {
     pub radius: u16,
     pub from: usize,

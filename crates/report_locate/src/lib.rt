@@ -1,5 +1,7 @@
 // The place around a centre, from the centre's component on the whole board: how much of it the ball has, the place,
 // and its line.
+#![tactic(auto)]
+
 ghost use Rattle.std.specs.Prelude.{◌≡◌, ◌+◌, ◌≤◌, ◌<◌, length, get_or};
 ghost use Rattle.base_text.specs.Text.{Names};
 ghost use Rattle.table.specs.Prepared.{Tables, tables};
@@ -20,7 +22,7 @@ const FEW: usize = 64;
 
 // How much of the centre's component on the whole board its ball has: all of it or not, and how many nodes, which stand
 // first in a queue.
-#[derive(Drop)]
+#[derive(Clone, Copy)]
 pub struct ComponentHeld {
     pub all: bool,
     pub kept: usize,
@@ -113,7 +115,7 @@ fn locate(
 }
 
 // Where a line is to be put, and around which centre.
-#[derive(Drop)]
+#[derive(Clone, Copy)]
 pub struct Line {
     pub around: Around,
     pub at: usize,

@@ -1,5 +1,7 @@
 // How a piece of a report is put: how far its lines have come, how many of them count, and the last line; and the one
 // line of a refused file.
+#![tactic(auto)]
+
 ghost use Rattle.std.specs.Prelude.{◌&&◌, cond, ◌≡◌, ◌+◌, ◌≤◌, ◌<◌, eqb, ltb, length};
 ghost use Rattle.report.specs.Lines.{longest_refusal};
 ghost use Rattle.report_pieces.specs.Pieces.{roomy, refusal_piece, Wrote, LastPut};
@@ -12,7 +14,7 @@ pub const LONGEST: usize = 34829;
 
 // A piece that was put: where to go on, how many centres before that one have a place, and how many bytes the piece
 // has.
-#[derive(Drop)]
+#[derive(Clone, Copy)]
 pub struct PutPiece {
     pub next: usize,
     pub found: usize,

@@ -1,6 +1,8 @@
 // The pieces of a line of the report, each put into a table of bytes from an offset on; the offset after the piece is
 // returned. A line has a head, the nodes and the links of its place. For another centre its head is put anew, and what
 // follows is copied from where it stands in the buffer.
+#![tactic(auto)]
+
 ghost use Rattle.std.specs.Prelude.{cond, List, ◌++◌, ◌≡◌, ℕ, ◌+◌, ◌-◌, ◌≤◌, ◌<◌, length, get_or};
 ghost use Rattle.base_lists.specs.List.{Below, part};
 ghost use Rattle.base_text.specs.Text.{Put, Fits, Names};
@@ -121,7 +123,7 @@ pub fn put_copy(from: usize, to: usize, out: &mut [u8], at: usize) -> usize
 }
 
 // Where text stands in the buffer: from `from` up to `to`. There is none where `to` is 0.
-#[derive(Drop)]
+#[derive(Clone, Copy)]
 pub struct Span {
     pub from: usize,
     pub to: usize,

@@ -1,6 +1,8 @@
 // Cutting links while searching: a cut, and reading the table out. Both take tables of any content, and what they make
 // of it are equations (session/specs/Tables); where the tables hold a machine, that is the machine's reply, and its
 // table.
+#![tactic(auto)]
+
 ghost use Rattle.std.specs.Prelude.{◌≡◌, length};
 ghost use Rattle.session.specs.State.{state, StateRoom};
 ghost use Rattle.session.specs.Tables.{bounded, CutMade, occur_or_none, ReadMade};
@@ -15,14 +17,14 @@ use table::MASKS;
 use table::rule::occurring;
 
 // What a cut comes to: the link is out now, or why nothing changed.
-#[derive(Drop)]
+#[derive(Clone, Copy)]
 pub enum CutAnswer {
     Cut,
     Refused(Refusal),
 }
 
 // What a place names: a link that is left, by its start and its end, or none.
-#[derive(Drop)]
+#[derive(Clone, Copy)]
 pub enum Taken {
     Link(usize, usize),
     Gone,
@@ -94,7 +96,7 @@ pub fn cut(
 }
 
 // What reading the table out comes to: how many nodes it has, or why it was turned away.
-#[derive(Drop)]
+#[derive(Clone, Copy)]
 pub enum OutAnswer {
     Table(usize),
     Refused(Refusal),

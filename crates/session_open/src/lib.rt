@@ -1,4 +1,6 @@
 // Filling the tables of a session: the pattern's masks, and the board's links by their numbers.
+#![tactic(auto)]
+
 ghost use Rattle.std.specs.Prelude.{◌≡◌, ◌≤◌, T, ltb, length};
 ghost use Rattle.base_lists.specs.List.{all, Below};
 ghost use Rattle.graph.specs.Net.{NetRoom};

@@ -1,6 +1,8 @@
 // Striking on from a table, node by node, where links of the board may have been taken out. What is read here may be of
 // any content: an index that is read is tested before it is used, and an entry that is no node's number is passed over,
 // as that of a link which is out.
+#![tactic(auto)]
+
 ghost use Rattle.std.specs.Prelude.{◌≡◌, ◌+◌, ◌*◌, ◌/◌, ◌≤◌, ◌<◌, length, get_or};
 ghost use Rattle.base_bits.specs.Bits.{union_at};
 ghost use Rattle.graph.specs.Search.{far};

@@ -3,6 +3,8 @@
 // output has these lines and nothing else. Where a file is there and cannot be read, nothing is printed, and a line on
 // standard error says so; so it does where the lines cannot be written whole, and what was printed is then a front of
 // them.
+#![tactic(auto)]
+
 ghost use Rattle.std.specs.Prelude.{cond, List, ◌≡◌, ℕ, ◌*◌, ◌≤◌, length};
 ghost use Rattle.call_shelf.specs.Shelf.{most_files};
 ghost use Rattle.shelf_files.specs.declared.Taken.TheVariants as taken;
@@ -14,7 +16,7 @@ use shelf_files::{SHELF_BYTES, Taken, cannot_read, read_all};
 
 // How a run ended: so many files were read and their lines handed whole to standard output; or a write failed; or the
 // file of this number cannot be read.
-#[derive(Drop)]
+#[derive(Clone, Copy)]
 enum End {
     Whole(usize),
     Broken(usize),

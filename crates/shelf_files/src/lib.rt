@@ -1,5 +1,7 @@
 // The files of a shelf, read one after another: `p00.cir` to `p15.cir` in the folder of the program, up to the first
 // that is absent. Their bytes lie one behind another, and of each is noted what became of it.
+#![tactic(auto)]
+
 ghost use Rattle.std.specs.Prelude.{◌≡◌, ◌+◌, ◌*◌, ◌<◌, ◌≤◌, length, take, set};
 ghost use Rattle.call_shelf.specs.Shelf.{most_files};
 ghost use Rattle.input.specs.Reading.{Within};
@@ -21,7 +23,7 @@ const UNREADABLE: u32 = 65537;
 
 // How the reading goes on after a file: with the next one, whose bytes go to this place; or the shelf ends here; or the
 // program gives up.
-#[derive(Drop)]
+#[derive(Clone, Copy)]
 enum Next {
     Further(usize),
     Ends,
@@ -29,7 +31,7 @@ enum Next {
 }
 
 // How many files were read, or that the one of this number could not be.
-#[derive(Drop)]
+#[derive(Clone, Copy)]
 pub enum Taken {
     Files(usize),
     Unreadable(usize),

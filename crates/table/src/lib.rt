@@ -1,4 +1,6 @@
 // The match table: what it is, the masks of a pattern and the counts; the all-0 rule (`rule`).
+#![tactic(auto)]
+
 ghost use Rattle.std.specs.Prelude.{◌≡◌, ◌≤◌};
 ghost use Rattle.table.specs.Refine.{counts_from};
 
@@ -10,14 +12,14 @@ pub const MASKS: usize = 64;
 pub const FORWARD_MASKS: usize = 32;
 
 // The links along which a pair needs partners: what a part drives and what drives it, or what it drives alone.
-#[derive(Drop)]
+#[derive(Clone, Copy)]
 pub enum Ways {
     Both,
     Forward,
 }
 
 // The pairs at first, those left and those struck, and how many rounds struck a pair.
-#[derive(Drop)]
+#[derive(Clone, Copy)]
 pub struct Counts {
     pub started: u32,
     pub kept: u32,
@@ -26,7 +28,7 @@ pub struct Counts {
 }
 
 // Where the rounds end: the pairs left, and how many rounds struck a pair.
-#[derive(Drop)]
+#[derive(Clone, Copy)]
 pub struct Rest {
     pub kept: u32,
     pub rounds: u32,

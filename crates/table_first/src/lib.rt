@@ -1,4 +1,6 @@
 // First tables, which striking begins with: the parts that agree with each node, or what another table has.
+#![tactic(auto)]
+
 ghost use Rattle.std.specs.Prelude.{◌≡◌, ◌≤◌, length, get_or};
 ghost use Rattle.base_bits.specs.Bits.{number_of};
 ghost use Rattle.base_lists.specs.List.{Below};

@@ -1,4 +1,6 @@
 // Striking round after round until a round strikes nothing: the largest dual simulation.
+#![tactic(auto)]
+
 ghost use Rattle.std.specs.Prelude.{◌≡◌, length, replicate};
 ghost use Rattle.graph.specs.Search.{far};
 ghost use Rattle.table.specs.Fill.{NodeList};

@@ -1,5 +1,7 @@
 // The two halves of a round of striking, over those nodes that may change in it: the next sets are listed first, each
 // from the table whole, and then written.
+#![tactic(auto)]
+
 ghost use Rattle.std.specs.Prelude.{◌≡◌, ◌≤◌, ◌<◌, length};
 ghost use Rattle.base_lists.specs.List.{Below};
 ghost use Rattle.graph.specs.Search.{far};

@@ -1,6 +1,8 @@
 // Striking at one node. A part stays at a node when each part that it drives occurs at some node that the node drives,
 // and the same backward. Which parts occur there is one union of sets for each direction, so a look at a node costs its
 // links and its pairs once.
+#![tactic(auto)]
+
 ghost use Rattle.std.specs.Prelude.{cond, ◌≡◌, ◌^◌, ◌<◌, length};
 ghost use Rattle.base_bits.specs.Bits.{union_at};
 ghost use Rattle.graph.specs.Net.{Net, driving};

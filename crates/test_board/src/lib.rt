@@ -1,4 +1,6 @@
 // The numbers that a test board is asked for by, and those that it draws.
+#![tactic(auto)]
+
 ghost use Rattle.std.specs.Prelude.{◌≡◌, ◌*◌, ◌/◌, ◌%◌, ◌^◌, ◌<◌, ◌≤◌, ◌++◌, length, drop};
 ghost use Rattle.test_board.specs.Generator.{step, draw, stepped, draws};
 ghost use Rattle.test_board.specs.Board.{sizes_in_range, kinds_drawn, pairs_drawn};
@@ -48,7 +50,7 @@ fn top(s: u32) -> u16
 }
 
 // A state, and what was drawn in reaching it.
-#[derive(Drop)]
+#[derive(Clone, Copy)]
 struct Drawn {
     state: u32,
     value: u16,
