@@ -1,0 +1,17 @@
+-- `file_role::width_number` meets its contract: each return rewrites with the tests that led there. Assumes nothing.
+use Rattle.base_lists.specs.Kit.{eq-eqb, ne_eqb, le-ltb, lt-ltb}
+use Rattle.graph.specs.Search.{far}
+use Rattle.file_format.specs.Refusals.{widest, width_number}
+use Rattle.file_role.proofs.width_number.Goals as goal
+
+pub returns-then-radius-eq65535 : goal.returns-then-radius-eq65535
+unfolding width_number
+returns-then-radius-eq65535 c = simp (eq-eqb c.args.radius far c.if-radius-eq65535.true)
+
+pub returns-then-radius-gt-MAX_RADIUS : goal.returns-then-radius-gt-MAX_RADIUS
+unfolding width_number
+returns-then-radius-gt-MAX_RADIUS c = simp (ne_eqb c.args.radius far c.if-radius-eq65535.false, lt-ltb widest c.args.radius c.if-radius-gt-MAX_RADIUS.true)
+
+pub returns : goal.returns
+unfolding width_number
+returns c = simp (ne_eqb c.args.radius far c.if-radius-eq65535.false, le-ltb widest c.args.radius c.if-radius-gt-MAX_RADIUS.false)
