@@ -4,4 +4,7 @@ use Rattle.file_fill.proofs.fill_links.Goals as goal
 
 pub returns : goal.returns
 returns c =
-    record { starts_after = (rw c.package_count.ensures.0 at (c.store_two.ensures.first_after, c.store_two.ensures.second_after)).0; ends_after = (rw c.package_count.ensures.0 at (c.store_two.ensures.first_after, c.store_two.ensures.second_after)).1 }
+    record {
+      starts_after = rw c.package_count.ensures.0 at c.store_two.ensures.first_after;
+      ends_after = rw c.package_count.ensures.0 at c.store_two.ensures.second_after;
+    }

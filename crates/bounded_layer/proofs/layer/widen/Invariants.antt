@@ -8,7 +8,7 @@ use Rattle.graph_neighbours.specs.Lookup.{neighbours_in}
 use Rattle.bounded_layer.proofs.layer.widen.Given as goal
 
 -- what node v has in the next layer
-pub further : (ℕ → List ℕ) → List ℕ → List ℕ → ℕ → ℕ
+unfoldable pub further : (ℕ → List ℕ) → List ℕ → List ℕ → ℕ → ℕ
 further near old layer v = bit_or (get_or old v 0) (union_at layer (near v))
 
 

@@ -8,7 +8,7 @@ use Rattle.bounded_layer.specs.Pass.{kept_within}
 use Rattle.bounded_layer.proofs.pass.pass.Given as goal
 
 -- what is left at node v
-pub left : (ℕ → List ℕ) → List ℕ → List ℕ → List ℕ → ℕ → ℕ
+unfoldable pub left : (ℕ → List ℕ) → List ℕ → List ℕ → List ℕ → ℕ → ℕ
 left near masks layer new v = kept_within masks (union_at layer (near v)) (get_or new v 0)
 
 
