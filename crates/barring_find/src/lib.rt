@@ -93,13 +93,11 @@ pub fn bar_circuits(
     around: Around,
     out: &mut [u8],
 ) -> BarAnswer
-    ghost g: { Circuit × Circuit }
-    requires node_ends_value { (circuit part_labels.now part_starts.now part_ends.now, circuit node_labels.now node_starts.now node_ends.now) ≡ g }
-    requires bounded { Bounded role.Pattern g.0 × Bounded role.Board g.1 }
+    requires bounded { let p = circuit part_labels.now part_starts.now part_ends.now in let b = circuit node_labels.now node_starts.now node_ends.now in Bounded role.Pattern p × Bounded role.Board b }
     requires centre_in_bounds { around.centre < length node_labels.now }
     requires part_starts_in_bounds { length part_starts.now ≤ length out.old }
-    ensures { record { reply = bar_reply result; out = out.new }
-        ≡ bar_around g.0 g.1 around.centre around.radius out.old }
+    ensures { let p = circuit part_labels.now part_starts.now part_ends.now in let b = circuit node_labels.now node_starts.now node_ends.now in record { reply = bar_reply result; out = out.new }
+        ≡ bar_around p b around.centre around.radius out.old }
 {
     let mut offsets = [0u16; OFFSETS];
     let mut targets = [0u16; TARGETS];

@@ -28,11 +28,9 @@ fn bar_on(
     asked: Asked,
     out: &mut [u8],
 ) -> BarAnswer
-    ghost g: { Circuit × Circuit }
-    requires ne_value { (circuit pk.now ps.now pe.now, circuit nk.now ns.now ne.now) ≡ g }
-    requires bounded { Bounded role.Pattern g.0 × Bounded role.Board g.1 }
-    ensures { record { reply = bar_reply result; out = out.new }
-        ≡ bar_on asked.radius g.0 g.1 asked.centre out.old }
+    requires { let p = circuit pk.now ps.now pe.now in let b = circuit nk.now ns.now ne.now in Bounded role.Pattern p × Bounded role.Board b }
+    ensures { let p = circuit pk.now ps.now pe.now in let b = circuit nk.now ns.now ne.now in record { reply = bar_reply result; out = out.new }
+        ≡ bar_on asked.radius p b asked.centre out.old }
 {
     let centre = asked.centre;
     if nk.len() <= centre {

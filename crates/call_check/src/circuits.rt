@@ -25,17 +25,11 @@ pub fn check_circuits(
     nodes: &[u8],
     bytes: &[u8],
 ) -> bool
-    ghost g: { Circuit × Circuit }
-    requires node_ends_value { (
-      circuit part_labels.now part_starts.now part_ends.now,
-      circuit node_labels.now
-          node_starts.old node_ends.old,
-    ) ≡ g }
-    requires drawn { Drawn g.0 g.1 }
+    requires drawn { let p = circuit part_labels.now part_starts.now part_ends.now in let b = circuit node_labels.now node_starts.old node_ends.old in Drawn p b }
     requires centre_in_bounds { around.centre < length node_labels.now }
     requires nodes_len { (length nodes.now ≡ length node_labels.now) ×
         (length bytes.now ≡ length node_starts.old) }
-    ensures { result ≡ checks g.0 g.1 around.centre around.radius nodes.now
+    ensures { let p = circuit part_labels.now part_starts.now part_ends.now in let b = circuit node_labels.now node_starts.old node_ends.old in result ≡ checks p b around.centre around.radius nodes.now
         bytes.now }
 {
     let n = node_labels.len();

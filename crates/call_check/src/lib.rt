@@ -46,11 +46,9 @@ fn check_on(
     nodes: &[u8],
     link_bytes: &[u8],
 ) -> CheckAnswer
-    ghost g: { Circuit × Circuit }
-    requires ne_value { (circuit pk.now ps.now pe.now, circuit nk.now ns.old ne.old) ≡ g }
-    requires drawn { Drawn g.0 g.1 }
-    ensures { check_reply result
-        ≡ check_on asked.radius g.0 g.1 asked.centre nodes.now link_bytes.now }
+    requires { let p = circuit pk.now ps.now pe.now in let b = circuit nk.now ns.old ne.old in Drawn p b }
+    ensures { let p = circuit pk.now ps.now pe.now in let b = circuit nk.now ns.old ne.old in check_reply result
+        ≡ check_on asked.radius p b asked.centre nodes.now link_bytes.now }
 {
     let centre = asked.centre;
     let verdict = bytes_verdict(nk.len(), ns.len(), centre, nodes.len(), link_bytes.len());

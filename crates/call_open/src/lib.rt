@@ -29,11 +29,9 @@ fn fill_lines(
     component_of: &mut [u16],
     sizes: &mut [u16],
 )
-    ghost g: { Tables }
-    requires targets_value { tables masks.now offsets.now targets.now ≡ g }
-    requires some_prepared { SomePrepared read pk.now nk.now g }
+    requires some_prepared { let t = tables masks.now offsets.now targets.now in SomePrepared read pk.now nk.now t }
     requires lines_room { LinesRoom whole.old component_of.old sizes.old }
-    ensures { EveryOpened from read pk.now nk.now g
+    ensures { let t = tables masks.now offsets.now targets.now in EveryOpened from read pk.now nk.now t
         whole.new component_of.new sizes.new }
 {
     let verdict = read.verdict;

@@ -26,10 +26,8 @@ pub fn put(
     found: u16,
     out: &mut [u8],
 ) -> ReportAnswer
-    ghost g: { Tables }
-    requires targets_value { tables masks.now offsets.now targets.now ≡ g }
-    requires some_opened { SomeOpened from read g whole.now component_of.now sizes.now }
-    ensures { EveryReported from found read g
+    requires { let t = tables masks.now offsets.now targets.now in SomeOpened from read t whole.now component_of.now sizes.now }
+    ensures { let t = tables masks.now offsets.now targets.now in EveryReported from found read t
         whole.now component_of.now sizes.now
         out.old (record { reply = report_reply result; out = out.new }) }
 {

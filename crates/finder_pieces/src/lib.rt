@@ -17,9 +17,7 @@ use report_answer::ReportAnswer;
 // up to another, and notes how far that is. (An item is a line for each centre, which may be empty, or the last line.)
 // The answer says whether they were taken; where they were not, nothing is handed over any more.
 fn hand(pattern: &[u8], board: &[u8], handed: &mut usize, next: usize, bytes: &[u8]) -> bool
-    ghost g: { CircuitFile × CircuitFile }
-    requires board_value { (first_edition pattern.now, first_edition board.now) ≡ g }
-    requires goes_on { GoesOn g.0 g.1 handed.old next bytes.now }
+    requires { let p = first_edition pattern.now in let b = first_edition board.now in GoesOn p b handed.old next bytes.now }
     ensures { handed.new ≡ cond result next handed.old }
 {
     let answer = output::write_whole(bytes);
@@ -45,15 +43,9 @@ pub fn print_pieces(
     out: &mut [u8],
     handed: &mut usize,
 ) -> bool
-    ghost g: { CircuitFile × CircuitFile × Tables }
-    requires targets_value { (
-      first_edition pattern.now,
-      first_edition board.now,
-      tables masks.now offsets.now targets.now,
-    ) ≡ g }
-    requires opened { Opened 0 g.0 g.1 read g.2 whole.now component_of.now sizes.now }
+    requires opened { let p = first_edition pattern.now in let b = first_edition board.now in let t = tables masks.now offsets.now targets.now in Opened 0 p b read t whole.now component_of.now sizes.now }
     requires longest_line_in_bounds { (longest_line ≤ length out.old) × (handed.old ≡ 0) }
-    ensures { ReportHanded g.0 g.1 handed.new result }
+    ensures { let p = first_edition pattern.now in let b = first_edition board.now in ReportHanded p b handed.new result }
 {
     let mut found: u16 = 0;
     loop {

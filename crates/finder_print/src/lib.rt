@@ -14,10 +14,8 @@ use table::MASKS;
 
 // Opens the two files, of the first edition both, and prints their report.
 pub fn print_report(pattern: &[u8], board: &[u8], out: &mut [u8], handed: &mut usize) -> bool
-    ghost g: { CircuitFile × CircuitFile }
-    requires board_value { (first_edition pattern.now, first_edition board.now) ≡ g }
-    requires longest_line_in_bounds { (longest_line ≤ length out.old) × (handed.old ≡ 0) }
-    ensures { ReportHanded g.0 g.1 handed.new result }
+    requires { (longest_line ≤ length out.old) × (handed.old ≡ 0) }
+    ensures { let p = first_edition pattern.now in let b = first_edition board.now in ReportHanded p b handed.new result }
 {
     let mut masks = [0u32; MASKS];
     let mut offsets = [0u16; OFFSETS];

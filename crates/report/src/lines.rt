@@ -41,14 +41,12 @@ fn put_start(
     out: &mut [u8],
     at: usize,
 ) -> usize
-    ghost g: { List ℕ }
-    requires v_value { start_text (tables masks.now offsets.now targets.now) dist.now sets.now v ≡ g }
     requires names { Names names.now × (length dist.now ≤ length names.now) }
     requires sets_len { length sets.now ≡ length dist.now }
     requires ready { Ready (tables masks.now offsets.now targets.now) sets.now }
     requires v_in_bounds { v < length dist.now }
-    requires fits { Fits out.old at g }
-    ensures { Put out.old at g out.new result }
+    requires fits { let text = start_text (tables masks.now offsets.now targets.now) dist.now sets.now v in Fits out.old at text }
+    ensures { let text = start_text (tables masks.now offsets.now targets.now) dist.now sets.now v in Put out.old at text out.new result }
 {
     let there = is_reached(dist[v]);
     if !there {
@@ -70,13 +68,11 @@ fn put_links(
     out: &mut [u8],
     at: usize,
 ) -> usize
-    ghost g: { List ℕ }
-    requires sets_value { links_text (tables masks.now offsets.now targets.now) dist.now sets.now ≡ g }
     requires names { Names names.now × (length dist.now ≤ length names.now) }
     requires sets_len { length sets.now ≡ length dist.now }
     requires ready { Ready (tables masks.now offsets.now targets.now) sets.now }
-    requires fits { Fits out.old at g }
-    ensures { Put out.old at g out.new result }
+    requires fits { let text = links_text (tables masks.now offsets.now targets.now) dist.now sets.now in Fits out.old at text }
+    ensures { let text = links_text (tables masks.now offsets.now targets.now) dist.now sets.now in Put out.old at text out.new result }
 {
     let mut end = at;
     let mut v = 0;
@@ -99,13 +95,11 @@ pub fn put_line(
     out: &mut [u8],
     at: usize,
 ) -> usize
-    ghost g: { List ℕ }
-    requires c_value { line_text (tables masks.now offsets.now targets.now) dist.now sets.now c ≡ g }
     requires names { Names names.now × (length dist.now ≤ length names.now) }
     requires sets_len { length sets.now ≡ length dist.now }
     requires ready { Ready (tables masks.now offsets.now targets.now) sets.now }
-    requires fits { Fits out.old at g }
-    ensures { Put out.old at g out.new result }
+    requires fits { let text = line_text (tables masks.now offsets.now targets.now) dist.now sets.now c in Fits out.old at text }
+    ensures { let text = line_text (tables masks.now offsets.now targets.now) dist.now sets.now c in Put out.old at text out.new result }
 {
     let nodes = put_head(c, out, at);
     let slash = put_nodes(names, dist, out, nodes);

@@ -42,19 +42,17 @@ fn put_centre(
     texts: &mut [u32],
     out: &mut [u8],
 ) -> usize
-    ghost g: { Tables }
-    requires targets_value { tables masks.now offsets.now targets.now ≡ g }
-    requires source_of_some { SourceOfSome g whole.now line.around.radius }
-    requires components { Components (length whole.now) (matched g whole.now)
+    requires source_of_some { let t = tables masks.now offsets.now targets.now in SourceOfSome t whole.now line.around.radius }
+    requires components { let t = tables masks.now offsets.now targets.now in Components (length whole.now) (matched t whole.now)
         whole.now component_of.now sizes.now }
     requires centre_in_bounds { line.around.centre < length whole.now }
     requires dist_len { (length dist.old ≡ length whole.now) × (length queue.old ≡ length whole.now) }
     requires names { Names names.now × (length whole.now ≤ length names.now) }
     requires longest_line_in_bounds { line.at + longest_line ≤ length out.old }
-    requires kept { Kept g whole.now component_of.now out.old line.at texts.old }
-    ensures every_line { EveryLine g whole.now line.around
+    requires kept { let t = tables masks.now offsets.now targets.now in Kept t whole.now component_of.now out.old line.at texts.old }
+    ensures every_line { let t = tables masks.now offsets.now targets.now in EveryLine t whole.now line.around
         out.old line.at out.new result }
-    ensures kept_2 { Kept g whole.now component_of.now
+    ensures kept_2 { let t = tables masks.now offsets.now targets.now in Kept t whole.now component_of.now
         out.new result texts.new }
 {
     let c = line.around.centre as usize;
@@ -100,12 +98,10 @@ pub fn put_lines(
     resume: Resume,
     out: &mut [u8],
 ) -> PutPiece
-    ghost g: { Tables }
-    requires targets_value { tables masks.now offsets.now targets.now ≡ g }
-    requires source_of_some { SourceOfSome g whole.now resume.radius }
-    requires components { Components (length whole.now) (matched g whole.now)
+    requires source_of_some { let t = tables masks.now offsets.now targets.now in SourceOfSome t whole.now resume.radius }
+    requires components { let t = tables masks.now offsets.now targets.now in Components (length whole.now) (matched t whole.now)
         whole.now component_of.now sizes.now }
-    ensures { EveryWrote g whole.now resume out.old out.new result }
+    ensures { let t = tables masks.now offsets.now targets.now in EveryWrote t whole.now resume out.old out.new result }
 {
     let mut names = [0u32; Board::MAX_NODES];
     make_names(&mut names);

@@ -41,12 +41,10 @@ pub fn holds(
     dist: &mut [u16],
     queue: &mut [u16],
 ) -> ComponentHeld
-    ghost g: { Tables }
-    requires targets_value { tables masks.now offsets.now targets.now ≡ g }
-    requires source_of_some { SourceOfSome g whole.now around.radius }
-    requires centre_labelled { CentreLabelled g whole.now component_of.now size around.centre }
+    requires source_of_some { let t = tables masks.now offsets.now targets.now in SourceOfSome t whole.now around.radius }
+    requires centre_labelled { let t = tables masks.now offsets.now targets.now in CentreLabelled t whole.now component_of.now size around.centre }
     requires dist_len { (length dist.old ≡ length whole.now) × (length queue.old ≡ length whole.now) }
-    ensures { BallHolds g whole.now around queue.new result }
+    ensures { let t = tables masks.now offsets.now targets.now in BallHolds t whole.now around queue.new result }
 {
     let c = around.centre;
     let r = around.radius;
@@ -81,14 +79,12 @@ fn locate(
     queue: &mut [u16],
     sets: &mut [u32],
 ) -> bool
-    ghost g: { Tables }
-    requires targets_value { tables masks.now offsets.now targets.now ≡ g }
-    requires source_of_some { SourceOfSome g whole.now around.radius }
+    requires source_of_some { let t = tables masks.now offsets.now targets.now in SourceOfSome t whole.now around.radius }
     requires centre_in_bounds { (around.centre < length whole.now) × (get_or whole.now around.centre 0 ≡ 0 → ⊥) }
-    requires ball_holds { BallHolds g whole.now around queue.old ball }
+    requires ball_holds { let t = tables masks.now offsets.now targets.now in BallHolds t whole.now around queue.old ball }
     requires dist_len { (length dist.old ≡ length whole.now) × (length queue.old ≡ length whole.now)
         × (length sets.old ≡ length whole.now) }
-    ensures { EveryKnown g whole.now around dist.new sets.new result }
+    ensures { let t = tables masks.now offsets.now targets.now in EveryKnown t whole.now around dist.new sets.new result }
 {
     let kept = ball.kept;
     if ball.all {
@@ -135,16 +131,14 @@ pub fn put_new(
     queue: &mut [u16],
     out: &mut [u8],
 ) -> usize
-    ghost g: { Tables }
-    requires targets_value { tables masks.now offsets.now targets.now ≡ g }
-    requires source_of_some { SourceOfSome g whole.now line.around.radius }
+    requires source_of_some { let t = tables masks.now offsets.now targets.now in SourceOfSome t whole.now line.around.radius }
     requires centre_in_bounds { (line.around.centre < length whole.now)
         × (get_or whole.now line.around.centre 0 ≡ 0 → ⊥) }
-    requires ball_holds { BallHolds g whole.now line.around queue.old ball }
+    requires ball_holds { let t = tables masks.now offsets.now targets.now in BallHolds t whole.now line.around queue.old ball }
     requires dist_len { (length dist.old ≡ length whole.now) × (length queue.old ≡ length whole.now) }
     requires names { Names names.now × (length whole.now ≤ length names.now) }
     requires longest_line_in_bounds { line.at + longest_line ≤ length out.old }
-    ensures { EveryLine g whole.now line.around
+    ensures { let t = tables masks.now offsets.now targets.now in EveryLine t whole.now line.around
         out.old line.at out.new result }
 {
     let mut table = [0u32; Board::MAX_NODES];

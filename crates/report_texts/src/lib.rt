@@ -90,12 +90,10 @@ pub fn put_driven(
     out: &mut [u8],
     at: usize,
 ) -> usize
-    ghost g: { List ℕ }
-    requires nodes_value { driven_text driven sets.now v nodes.now ≡ g }
     requires names { Names names.now × (length sets.now ≤ length names.now) × (v < length names.now) }
     requires below { Below (length sets.now) nodes.now }
-    requires fits { Fits out.old at g }
-    ensures { Put out.old at g out.new result }
+    requires fits { let text = driven_text driven sets.now v nodes.now in Fits out.old at text }
+    ensures { let text = driven_text driven sets.now v nodes.now in Put out.old at text out.new result }
 {
     let mut end = at;
     let mut i = 0;

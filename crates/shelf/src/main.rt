@@ -42,11 +42,9 @@ fn print_shelf(
     out: &mut [u8],
     handed: &mut usize,
 ) -> bool
-    ghost g: { List ℕ }
-    requires notes_value { printed_of bytes.now notes.now ≡ g }
     requires notes_len { (length notes.now ≡ most_files) × (shelf_end notes.now ≡ taken.Files count) }
     requires most_files_in_bounds { (most_files ≤ length order.old) × (3 * most_files ≤ length out.old) × (handed.old ≡ 0) }
-    ensures { ShelfHanded g out.new handed.new result }
+    ensures { let text = printed_of bytes.now notes.now in ShelfHanded text out.new handed.new result }
 {
     let answer = call_shelf::shelf(bytes, &notes[..count], order);
     let ShelfAnswer::Ordered(ordered) = answer else {

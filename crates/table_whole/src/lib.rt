@@ -73,12 +73,10 @@ pub fn match_circuits(
     node_ends: &[u16],
     table: &mut [u32],
 ) -> Counts
-    ghost g: { Circuit × Circuit }
-    requires node_ends_value { (circuit part_labels.now part_starts.now part_ends.now, circuit node_labels.now node_starts.now node_ends.now) ≡ g }
-    requires bounded { Bounded role.Pattern g.0 }
-    requires bounded_2 { Bounded role.Board g.1 }
+    requires bounded { let p = circuit part_labels.now part_starts.now part_ends.now in Bounded role.Pattern p }
+    requires bounded_2 { let b = circuit node_labels.now node_starts.now node_ends.now in Bounded role.Board b }
     requires table_len { length table.old ≡ length node_labels.now }
-    ensures { MatchedBy (ways_of ways) g.0 g.1 table.new result }
+    ensures { let p = circuit part_labels.now part_starts.now part_ends.now in let b = circuit node_labels.now node_starts.now node_ends.now in MatchedBy (ways_of ways) p b table.new result }
 {
     let mut masks = [0u32; MASKS];
     let mut offsets = [0u16; OFFSETS];

@@ -30,7 +30,10 @@ pub radius-radius-requires : goal.radius-radius-requires
 radius-radius-requires c =
     let below = (ordered _ _ _ (sym c.order_number-number.ensures ∙ c.if-number-ne0.false)).0 in
     let (_, few, _) = range-asked _ _ _ (true-T (sym c.asks_connected.ensures ∙ c.if-not-asks_connected.false)) c.requires.0 in
-    ((c.requires.1, few), (starts-below _ _ _ below, ends-below _ _ _ below))
+    record {
+      starts_len = (c.requires.1, few);
+      t = (starts-below _ _ _ below, ends-below _ _ _ below);
+    }
 
 pub returns : goal.returns
 returns c =

@@ -57,7 +57,7 @@ count_from-count-requires c =
     let size = length-take-le c.advance-to.result.tail c.advance-to.new.queue c.advance-to.ensures.searching_2.within in
     let (more, same) = longer (goal.at.count_from-count-requires c).After-advance-to in
     let e = c.advance-to.auto.dist ∙ c.loop-count.invariant.0.long in record {
-      from_in_bounds = (omega (arith, size, more), omega (arith, size, tail-le _ _ _ c.advance-to.ensures.searching_2, e, near c.loop-count.invariant.0), rw e (goal.at.count_from-count-requires c).At-loop-count c.advance-to.ensures.searching_2.ready.inside);
+      from_in_bounds = (omega (arith, size, more), omega (arith, size, tail-le _ _ _ c.advance-to.ensures.searching_2, e, near c.loop-count.invariant.0), rw e at c.advance-to.ensures.searching_2.ready.inside);
       count_value = c.loop-count.invariant.1 ∙ ap (λ (ns : List ℕ). length (having (numbered c.args.numbers.now c.args.x) ns)) (sym same ∙ sym (take-take c.loop-count.from.tail c.advance-to.result.tail c.advance-to.new.queue more));
     }
 

@@ -14,7 +14,10 @@ mark_links-requires c = record {
     }
 
 pub copy-requires : goal.copy-requires
-copy-requires c = (rw c.requires.nodes_len.1 c.requires.node_list, c.requires.node_list.below)
+copy-requires c = record {
+      node_list = rw c.requires.nodes_len.1 c.requires.node_list;
+      below = c.requires.node_list.below;
+    }
 
 pub returns : goal.returns
 returns c =

@@ -20,7 +20,7 @@ mark_start-requires c =
     record {
       ready = c.requires.ready;
       v_in_bounds = node;
-      v_in_bounds_2 = rw (c.loop-i.invariant.1, c.fill.auto.s) (c.requires.links_fit _ node);
+      v_in_bounds_2 = rw (c.loop-i.invariant.1, c.fill.auto.bytes) (c.requires.links_fit _ node);
     }
 
 pub overflow_add-i : goal.overflow_add-i

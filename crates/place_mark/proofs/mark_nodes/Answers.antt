@@ -14,7 +14,7 @@ overflow_cast-v c = omega (arith, c.type_inv.list c.loop-i.i)
 pub bounds-bytes-v : goal.bounds-bytes-v
 unfolding Below
 bounds-bytes-v c =
-    rw (c.loop-i.invariant.1, c.fill.auto.s) (c.requires c.loop-i.i (omega arith))
+    rw (c.loop-i.invariant.1, c.fill.auto.bytes) (c.requires c.loop-i.i (omega arith))
 
 pub overflow_add-i : goal.overflow_add-i
 overflow_add-i c = omega arith

@@ -1,13 +1,13 @@
 -- `table_strike::surviving` meets its contract. The loop's invariant: what is kept so far, with the survivors of the parts that are left,
 -- is the survivors of the set. The measure is what is left, as a number. Assumes nothing.
-use Rattle.base_lists.specs.Kit.{◌≡◌, ◌∙◌, sym, ap, ⊎_elim, ℕ, ◌<◌, zero, ◌^◌, length, get_or, arith}
+use Rattle.base_lists.specs.Kit.{◌≡◌, ◌∙◌, sym, ap, ℕ, ◌<◌, zero, ◌^◌, length, get_or, arith}
 use lib.Bits.{bit_or, or_zero_l, or_zero_r}
 use Rattle.base_bits.specs.Bits.{first_of, without_first, subset_of}
 use Rattle.base_bits.proofs.Members.{first-lt, first_below, without-lt}
 use Rattle.table_strike.specs.Strike.{survivors}
 use Rattle.table_strike.proofs.Survivors.{survivors-none, turn-stays, turn-first, turn-second}
 use Rattle.table_strike.proofs.surviving.Goals as goal
-use Rattle.table_strike.proofs.surviving.Goals.{After-first-u, Joined-subset, then-subset}
+use Rattle.table_strike.proofs.surviving.Goals.{After-first-u, Joined-subset, then-subset+then-subset-2, then-subset+else-subset-2, else-subset}
 
 pub loop-left-init : goal.loop-left-init
 loop-left-init c = (omega arith, or_zero_l _)
@@ -59,28 +59,29 @@ joined c =
     let h : c.loop-left.left < 2 ^ 32 = omega arith in
     let u : c.first-u.result ≡ first_of c.loop-left.left = c.first-u.ensures in
     let first = ap (λ (x : ℕ). subset_of (get_or c.args.succ.now x 0) c.args.f) (sym u) ∙ sym c.subset.ensures in
-    ⊎_elim
-    (λ w.
-    ap (λ (k : ℕ). bit_or k rest) (w.5 ∙ ap (bit_or c.loop-left.kept) (w.4.ensures ∙ ap (λ (x : ℕ). 2 ^ x) u))
-    ∙ turn-stays c.args.succ.now c.args.pred.now c.args.f c.args.b c.loop-left.left p h c.loop-left.kept (first ∙ w.0.taken)
-    (ap (λ (x : ℕ). subset_of (get_or c.args.pred.now x 0) c.args.b) (sym u) ∙ sym w.2.ensures ∙ w.3.taken)
-    ∙ c.loop-left.invariant.1)
-    (⊎_elim
-    (λ w.
-    ap (λ (k : ℕ). bit_or k rest) w.4
-    ∙ turn-second c.args.succ.now c.args.pred.now c.args.f c.args.b c.loop-left.left p h c.loop-left.kept
-    (ap (λ (x : ℕ). subset_of (get_or c.args.pred.now x 0) c.args.b) (sym u) ∙ sym w.2.ensures ∙ w.3.left)
-    ∙ c.loop-left.invariant.1)
-    (λ w. ap (λ (k : ℕ). bit_or k rest) w.1 ∙ turn-first c.args.succ.now c.args.pred.now c.args.f c.args.b c.loop-left.left p h c.loop-left.kept (first ∙ w.0.left) ∙ c.loop-left.invariant.1))
-    c.if-subset.branch
+    elim c.if-subset.branch [
+      | then-subset+then-subset-2 w ↦
+          ap (λ (k : ℕ). bit_or k rest) (w.kept-is ∙ ap (bit_or c.loop-left.kept) (w.single-kept.ensures ∙ ap (λ (x : ℕ). 2 ^ x) u))
+          ∙ turn-stays c.args.succ.now c.args.pred.now c.args.f c.args.b c.loop-left.left p h c.loop-left.kept (first ∙ w.if-subset.true)
+          (ap (λ (x : ℕ). subset_of (get_or c.args.pred.now x 0) c.args.b) (sym u) ∙ sym w.subset-then-subset.ensures ∙ w.if-subset-2.true)
+          ∙ c.loop-left.invariant.1
+      | then-subset+else-subset-2 w ↦
+          ap (λ (k : ℕ). bit_or k rest) w.kept-is
+          ∙ turn-second c.args.succ.now c.args.pred.now c.args.f c.args.b c.loop-left.left p h c.loop-left.kept
+          (ap (λ (x : ℕ). subset_of (get_or c.args.pred.now x 0) c.args.b) (sym u) ∙ sym w.subset-then-subset.ensures ∙ w.if-subset-2.false)
+          ∙ c.loop-left.invariant.1
+      | else-subset w ↦
+          ap (λ (k : ℕ). bit_or k rest) w.kept-is
+          ∙ turn-first c.args.succ.now c.args.pred.now c.args.f c.args.b c.loop-left.left p h c.loop-left.kept (first ∙ w.if-subset.false)
+          ∙ c.loop-left.invariant.1
+    ]
 
 pub loop-left-preserved : goal.loop-left-preserved
-loop-left-preserved c =
-    (
-      omega (arith, c.without_first-left.ensures, without-lt c.loop-left.left (omega arith) (omega arith)),
-      ap (λ (x : ℕ). bit_or c.if-subset.kept (survivors c.args.succ.now c.args.pred.now c.args.f c.args.b x)) c.without_first-left.ensures
-          ∙ joined (goal.at.loop-left-preserved c).Joined-subset,
-    )
+loop-left-preserved c = (
+  omega (arith, c.without_first-left.ensures, without-lt c.loop-left.left (omega arith) (omega arith)),
+  ap (λ (x : ℕ). bit_or c.if-subset.kept (survivors c.args.succ.now c.args.pred.now c.args.f c.args.b x)) c.without_first-left.ensures
+      ∙ joined (goal.at.loop-left-preserved c).Joined-subset,
+)
 
 pub returns : goal.returns
 returns c =
