@@ -4,7 +4,7 @@
 #![tactic(auto)]
 
 ghost use Rattle.std.specs.Prelude.{true, cond, ◌≡◌, ◌≤◌, pos, Some, length, drop};
-ghost use Rattle.output.specs.Writing.{tried_again, All};
+ghost use Rattle.output.specs.Writing.{tried_again, number_of, All};
 
 use std::io::Error;
 use std::os::fd::AsRawFd;
@@ -40,9 +40,14 @@ fn again(error: i32) -> bool
     false
 }
 
-// The number of the error of a write that took nothing, 0 where the system gave none.
-fn number_of(error: &Error) -> i32 {
-    error.raw_os_error().unwrap_or(0)
+// C's errno of an error, 0 where it is not the system's.
+pub fn number_of(error: &Error) -> i32
+    ensures { result ≡ number_of error.now }
+{
+    match error.raw_os_error() {
+        Some(number) => number,
+        None => 0,
+    }
 }
 
 // Lets others run before a write is tried again.
@@ -53,8 +58,14 @@ fn pause(error: i32)
 }
 
 // Hands the bytes after the first `done` to standard output until it takes some, and answers how many, 0 where it
-// fails.
-fn take_some<W: Print + AsRawFd>(out: &W, bytes: &[u8], done: usize, rest: &[u8]) -> usize
+// fails. The number of the last error is noted.
+fn take_some<W: Print + AsRawFd>(
+    out: &W,
+    failure: &mut i32,
+    bytes: &[u8],
+    done: usize,
+    rest: &[u8],
+) -> usize
     requires { (W.raw_fd out.now ≡ Some (pos 1)) × (rest.now ≡ drop done bytes.now) }
     ensures { result ≤ length rest.now }
 {
@@ -63,6 +74,7 @@ fn take_some<W: Print + AsRawFd>(out: &W, bytes: &[u8], done: usize, rest: &[u8]
             Ok(taken) => return taken,
             Err(error) => {
                 let number = number_of(&error);
+                *failure = number;
                 if !again(number) {
                     return 0;
                 }
@@ -73,14 +85,15 @@ fn take_some<W: Print + AsRawFd>(out: &W, bytes: &[u8], done: usize, rest: &[u8]
     0
 }
 
-// Writes all of the bytes to standard output, or stops at the first write that fails.
+// Writes all of the bytes to standard output, or stops at the first write that fails, whose error is noted by its
+// number.
 #[tactic(auto, unfolding(crate::specs::Writing::All))]
-pub fn write_whole(rt: &HostRuntime, bytes: &[u8]) -> Output
+pub fn write_whole(rt: &HostRuntime, failure: &mut i32, bytes: &[u8]) -> Output
     ensures { All bytes.now result }
 {
     let mut done: usize = 0;
     while done < bytes.len() {
-        let taken = take_some(&rt.stdout(), bytes, done, &bytes[done..]);
+        let taken = take_some(&rt.stdout(), failure, bytes, done, &bytes[done..]);
         if taken == 0 {
             return Output::Failed;
         }
@@ -92,14 +105,38 @@ pub fn write_whole(rt: &HostRuntime, bytes: &[u8]) -> Output
 // Hands bytes to standard output, to which nothing was handed before, and notes how many there are. The answer says
 // whether they were taken.
 #[tactic(auto, unfolding(crate::specs::Writing::All))]
-pub fn hand(rt: &HostRuntime, handed: &mut usize, bytes: &[u8]) -> bool
+pub fn hand(rt: &HostRuntime, failure: &mut i32, handed: &mut usize, bytes: &[u8]) -> bool
     requires { handed.old ≡ 0 }
     ensures { handed.new ≡ cond result (length bytes.now) 0 }
 {
-    let answer = write_whole(rt, bytes);
+    let answer = write_whole(rt, failure, bytes);
     let Output::Written(size) = answer else {
         return false;
     };
     *handed = size;
     true
+}
+
+// Tells a line on standard error. Where that fails there is nowhere to tell it.
+pub fn tell(rt: &HostRuntime, line: &str) {
+    let _told = eprintln!(rt; "{line}");
+}
+
+// C's words for an error: those that it displays, ahead of its number.
+fn words_of(text: &str) -> &str {
+    match text.split_once(" (os error ") {
+        Some((words, _)) => words,
+        None => text,
+    }
+}
+
+// Tells on standard error what failed, and C's words for the number of the error.
+pub fn fail(rt: &HostRuntime, what: &str, failure: i32) {
+    let error = Error::from_raw_os_error(failure);
+    let Ok(text) = format!(in rt.alloc(); "{error}") else {
+        tell(rt, what);
+        return;
+    };
+    let words = words_of(text.as_str());
+    let _told = eprintln!(rt; "{what}: {words}");
 }
