@@ -13,7 +13,14 @@ use graph_neighbours::tables::{OFFSETS, TARGETS};
 use table::MASKS;
 
 // Opens the two files, of the first edition both, and prints their report.
-pub fn print_report(pattern: &[u8], board: &[u8], out: &mut [u8], handed: &mut usize) -> bool
+pub fn print_report(
+    rt: &HostRuntime,
+    failure: &mut i32,
+    pattern: &[u8],
+    board: &[u8],
+    out: &mut [u8],
+    handed: &mut usize,
+) -> bool
     ghost g: { CircuitFile × CircuitFile }
     requires board_value { (first_edition pattern.now, first_edition board.now) ≡ g }
     requires longest_line_in_bounds { (longest_line ≤ length out.old) × (handed.old ≡ 0) }
@@ -42,6 +49,8 @@ pub fn print_report(pattern: &[u8], board: &[u8], out: &mut [u8], handed: &mut u
         &mut sizes,
     );
     print_pieces(
+        rt,
+        failure,
         pattern,
         board,
         read,
