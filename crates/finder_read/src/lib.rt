@@ -32,6 +32,7 @@ pub struct Files {
 }
 
 // What was read, where an absent file counts as an empty one.
+#[tactic(auto, unfolding(crate::specs::Held::held_of))]
 fn as_read(found: FileFound) -> FileHeld
     ensures { result ≡ held_of found }
 {

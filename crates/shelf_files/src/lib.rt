@@ -56,6 +56,7 @@ fn name_of(i: usize) -> [u8; 7]
 }
 
 // A name as text.
+#[tactic(auto, using(crate::proofs::Reading::text_utf8))]
 fn text_of(name: &[u8]) -> &str
     requires { IsAscii name.now }
     ensures { result.now ≡ name.now }
@@ -72,6 +73,7 @@ fn load_named(rt: &HostRuntime, i: usize, name: &str, buf: &mut [u8]) -> FileFou
 }
 
 // The bytes of the i-th file.
+#[tactic(auto, using(crate::proofs::Reading::name_ascii))]
 fn load(rt: &HostRuntime, i: usize, buf: &mut [u8]) -> FileFound
     requires { i < 100 }
     ensures { Within (length buf.new) result }
@@ -94,6 +96,7 @@ fn note_file(found: FileFound) -> u32
 
 // Reads the i-th file to a place of the bytes, behind those of the files before it, and notes what became of it. All of
 // those are there, and their bytes stay.
+#[tactic(auto, using(crate::proofs::Reading::within_more))]
 fn read_one(rt: &HostRuntime, i: usize, at: usize, bytes: &mut [u8], notes: &mut [u32]) -> FileFound
     requires i_in_bounds { (i < length notes.old) × (i < 100) × (at ≤ 65536) × (at + most_bytes ≤ length bytes.old) }
     requires file_reached { FileReached notes.old i at }
@@ -141,6 +144,7 @@ pub fn read_all(rt: &HostRuntime, bytes: &mut [u8], notes: &mut [u32]) -> Taken
 }
 
 // Tells on standard error that the i-th file cannot be read.
+#[tactic(auto, using(crate::proofs::Reading::name_ascii))]
 pub fn cannot_read(rt: &HostRuntime, i: usize)
     requires { i < 100 }
 {
