@@ -35,6 +35,7 @@ struct Run {
 }
 
 // Hands the file of a test board to standard output, and notes how many bytes it has. Nothing was handed over before.
+#[tactic(auto, unfolding(crate::specs::Printing::WriteTried))]
 fn hand(
     rt: &HostRuntime,
     failure: &mut i32,
