@@ -66,6 +66,7 @@ fn print_shelf(
 }
 
 // How a run ends in which so many files were read, and tells where their lines are not whole.
+#[tactic(auto, unfolding(crate::specs::Printing::shelf_ended))]
 fn ended(rt: &HostRuntime, failure: i32, count: usize, whole: bool) -> End
     ensures { result ≡ shelf_ended count whole }
 {
